@@ -1,0 +1,16 @@
+pub mod Tree
+pub mod Signed
+pub mod Truth
+pub mod Derivations
+pub mod TreeCode
+pub mod View
+pub mod TermFalls
+pub mod LiteralView
+pub mod Lists
+pub mod Equal
+pub mod WellFormed
+pub mod Measure
+pub mod Substitution
+pub mod Clauses
+pub mod Unifiers
+pub mod Printing

@@ -1,0 +1,117 @@
+// Literals, clauses and problems.
+ghost use Rattle.std.specs.Prelude.{◌≡◌, ◌↔◌, IsTrue, [], ◌∷◌, ◌++◌, length, OnOk, OnErr, slice_get, option_map, map};
+ghost use Rattle.inst_logic.specs.LiteralView.{literal};
+
+use crate::list::ListOf;
+use crate::memory::Memory;
+use crate::symbol::{Name, Sym};
+use crate::term::TermList;
+use std::alloc::Global;
+use std::marker::Model;
+
+/// A sign and an atom. Contracts see it as a signed tree by `literal`.
+#[derive(Drop)]
+pub struct Literal {
+    pub positive: bool,
+    pub sym: Sym,
+    pub args: TermList,
+}
+
+/// A disjunction of literals, for all values of its variables. Contracts see the list of its signed trees.
+#[derive(Drop)]
+pub struct Clause {
+    pub(crate) literals: Vec<Literal>,
+}
+
+impl Model for Clause {
+    ghost use Rattle.std.specs.Prelude.{List, map};
+    ghost use Rattle.inst_logic.specs.Tree.{Tree};
+    ghost use Rattle.inst_logic.specs.Signed.{Signed};
+    ghost use Rattle.inst_logic.specs.TreeCode.{clause_code};
+
+    ghost Value = { List (Signed Tree) };
+
+    ghost coded = { clause_code };
+
+    ghost use Rattle.inst_logic.specs.LiteralView.{literal};
+
+    ghost view = { λ a. map literal a.literals.items };
+}
+
+impl Clause {
+    pub fn new(alloc: Global) -> Self
+        ensures { result ≡ [] }
+    {
+        Clause {
+            literals: Vec::new(alloc),
+        }
+    }
+
+    pub fn len(&self) -> usize
+        ensures { result ≡ length self.now }
+    {
+        self.literals.len()
+    }
+
+    pub fn is_empty(&self) -> bool
+        ensures { IsTrue result ↔ (self.now ≡ []) }
+    {
+        self.literals.is_empty()
+    }
+
+    /// Literal `i`, counted from 0.
+    pub fn get(&self, i: usize) -> Option<&Literal>
+        ensures { option_map (λ l. literal l.now) result ≡ slice_get self.now i }
+    {
+        self.literals.get(i)
+    }
+
+    /// Puts `x` at the end. A refused push drops it.
+    pub fn push(&mut self, x: Literal) -> Result<(), Memory>
+        ensures ok { OnOk result (self.new ≡ self.old ++ literal x ∷ []) }
+        ensures err { OnErr result (self.new ≡ self.old) }
+    {
+        self.literals.push(x)?;
+        Ok(())
+    }
+
+    pub fn as_slice(&self) -> &[Literal]
+        ensures { map literal result.now ≡ self.now }
+    {
+        self.literals.as_slice()
+    }
+}
+
+impl From<Vec<Literal>> for Clause {
+    ghost from_gives = { λ literals clause. clause ≡ map literal literals.items };
+
+    fn from(literals: Vec<Literal>) -> Clause {
+        Clause { literals }
+    }
+}
+
+impl From<Clause> for Vec<Literal> {
+    ghost from_gives = { λ clause literals. map literal literals.items ≡ clause };
+
+    fn from(clause: Clause) -> Vec<Literal> {
+        clause.literals
+    }
+}
+
+pub type ClauseList = ListOf<Clause>;
+
+pub type NameList = ListOf<Name>;
+
+pub type ByteList = ListOf<u8>;
+
+/// Places of literals, counted from 1.
+pub type PlaceList = ListOf<usize>;
+
+pub type NumberList = ListOf<usize>;
+
+/// Clauses, with the name of the statement of each at the same place.
+#[derive(Drop)]
+pub struct Problem {
+    pub clauses: ClauseList,
+    pub names: NameList,
+}

@@ -1,0 +1,80 @@
+// The worked row: `p(X3) | q(X1) | p(X3)` becomes `p(X0) | q(X1)`, and its measures.
+ghost use Rattle.std.specs.Prelude.{IsTrue, IfOk};
+ghost use Rattle.inst_logic.specs.View.{tree};
+ghost use Rattle.inst_logic.specs.LiteralView.{literal};
+ghost use Rattle.inst_logic.specs.WellFormed.{tree_is_formed, atom_is_formed};
+
+use crate::equal::same_literal;
+use crate::{
+    Clause, ClauseList, Kind, Literal, Memory, Name, NameList, Problem, Sym, Term, TermList,
+    canonical, function_free, size, weight,
+};
+use std::alloc::Global;
+use std::test::Fail;
+
+fn applied(alloc: Global, name: &[u8], arg: Term) -> Result<Term, Memory>
+    requires { IsTrue (tree_is_formed (tree arg)) }
+    ensures { IfOk result (λ t. IsTrue (tree_is_formed (tree t))) }
+{
+    let mut args = TermList::new(alloc);
+    args.push(arg)?;
+    Ok(Term::App(
+        Sym {
+            kind: Kind::Function,
+            name: Name::of(alloc, name)?,
+            arity: 1,
+        },
+        args,
+    ))
+}
+
+fn atom(alloc: Global, name: &[u8], arg: Term) -> Result<Literal, Memory>
+    requires { IsTrue (tree_is_formed (tree arg)) }
+    ensures { IfOk result (λ l. IsTrue (atom_is_formed (literal l).atom)) }
+{
+    let mut args = TermList::new(alloc);
+    args.push(arg)?;
+    Ok(Literal {
+        positive: true,
+        sym: Sym {
+            kind: Kind::Predicate,
+            name: Name::of(alloc, name)?,
+            arity: 1,
+        },
+        args,
+    })
+}
+
+#[test]
+fn a_clause_is_renumbered(rt: HostRuntime) -> Result<(), Fail> {
+    let alloc = rt.alloc();
+    let mut c = Clause::new(alloc);
+    c.push(atom(alloc, b"p", Term::Var(3))?)?;
+    c.push(atom(alloc, b"q", Term::Var(1))?)?;
+    c.push(atom(alloc, b"p", Term::Var(3))?)?;
+    let d = canonical(alloc, &c)?;
+    assert_eq!(rt; d.len(), 2);
+    let first = d.get(0).ok_or("first")?;
+    assert!(rt; same_literal(first, &atom(alloc, b"p", Term::Var(0))?));
+    let second = d.get(1).ok_or("second")?;
+    assert!(rt; same_literal(second, &atom(alloc, b"q", Term::Var(1))?));
+    assert_eq!(rt; size(&c), 6);
+    Ok(())
+}
+
+#[test]
+fn functions_weigh(rt: HostRuntime) -> Result<(), Fail> {
+    let alloc = rt.alloc();
+    let l = atom(alloc, b"p", applied(alloc, b"f", Term::Var(0))?)?;
+    assert_eq!(rt; weight(&l), 1);
+    let mut c = Clause::new(alloc);
+    c.push(l)?;
+    let mut clauses = ClauseList::new(alloc);
+    clauses.push(c)?;
+    let p = Problem {
+        clauses,
+        names: NameList::new(alloc),
+    };
+    assert!(rt; !function_free(&p));
+    Ok(())
+}
