@@ -1,0 +1,3 @@
+pub mod Valuation
+pub mod Literal
+pub mod Solving

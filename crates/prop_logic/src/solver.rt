@@ -1,0 +1,63 @@
+// What every solver is to the layers above: the boundary on which the engine is proved.
+ghost use Rattle.std.specs.Prelude.{◌≡◌, ◌+◌, ◌∷◌, [], ◌++◌, ℕ, Bool, false, List, length, IsTrue, IsErr, IfOk, OnOk, OnErr};
+ghost use Rattle.inst_logic.specs.declared.signed.Signed.{Signed};
+ghost use Rattle.prop_logic.specs.Literal.{AtomsBelow};
+ghost use Rattle.prop_logic.specs.Solving.{IsAnswer};
+
+use crate::literal::{Derivation, Lit, LitList};
+use crate::valuation::Valuation;
+use inst_logic::Memory;
+
+/// Whether the added clauses and the assumptions can be true together.
+#[derive(Drop, Debug)]
+pub enum Answer {
+    /// A valuation that makes them true.
+    Sat(Valuation),
+    /// Assumptions that can't be true with the clauses, and steps that show it.
+    Unsat {
+        core: LitList,
+        derivation: Derivation,
+    },
+}
+
+/// Clauses over numbered atoms that are added one by one, and the question whether they can be true under assumptions
+/// (Eén and Sörensson, An extensible SAT-solver, 2003). A solver may keep what it learned from one question to the next.
+pub trait Solver: Drop {
+    /// How many atoms there are: their numbers are those below.
+    ghost atoms: { Self → ℕ };
+
+    /// The clauses that were added, in their order. Clause n of them is what `Hint::Added(n)` cites.
+    ghost added: { Self → List (List (Signed ℕ)) };
+
+    /// Whether a call was refused memory. From then on every call is.
+    ghost spent: { Self → Bool };
+
+    /// Makes an atom, and answers its number.
+    fn new_atom(&mut self) -> Result<usize, Memory>
+        ensures number { IfOk result (λ n. n ≡ atoms self.old) }
+        ensures grown { OnOk result (atoms self.new ≡ atoms self.old + 1) }
+        ensures kept { OnOk result (added self.new ≡ added self.old) }
+        ensures ok { OnOk result (spent self.new ≡ false) }
+        ensures err { OnErr result (IsTrue (spent self.new)) }
+        ensures stays_spent { IsTrue (spent self.old) → IsErr result };
+
+    /// Adds a clause, and answers its number, counted from 1.
+    fn add(&mut self, clause: &[Lit]) -> Result<usize, Memory>
+        requires { AtomsBelow (atoms self.old) clause.now }
+        ensures number { IfOk result (λ n. n ≡ length (added self.new)) }
+        ensures grown { OnOk result (added self.new ≡ added self.old ++ clause.now ∷ []) }
+        ensures kept { OnOk result (atoms self.new ≡ atoms self.old) }
+        ensures ok { OnOk result (spent self.new ≡ false) }
+        ensures err { OnErr result (IsTrue (spent self.new)) }
+        ensures stays_spent { IsTrue (spent self.old) → IsErr result };
+
+    /// Whether the clauses and the assumptions can be true together.
+    fn solve(&mut self, assumptions: &[Lit]) -> Result<Answer, Memory>
+        requires { AtomsBelow (atoms self.old) assumptions.now }
+        ensures atoms { atoms self.new ≡ atoms self.old }
+        ensures added { added self.new ≡ added self.old }
+        ensures answer { IfOk result (IsAnswer (atoms self.old) (added self.old) assumptions.now) }
+        ensures ok { OnOk result (spent self.new ≡ false) }
+        ensures err { OnErr result (IsTrue (spent self.new)) }
+        ensures stays_spent { IsTrue (spent self.old) → IsErr result };
+}
