@@ -1,0 +1,6 @@
+pub mod Axioms
+pub mod Abstraction
+pub mod Models
+pub mod Saturation
+pub mod Steps
+pub mod Renamings

@@ -1,0 +1,14 @@
+//! The calculus of instance generation (Ganzinger and Korovin, New directions in instantiation-based theorem proving,
+//! 2003; Korovin, Inst-Gen: a modular approach to instantiation-based automated reasoning, 2013). Its definitions stand in
+//! `specs/`. Its theorems are the contracts of the public functions here, which have empty bodies.
+#![tactic(auto)]
+
+pub mod covering;
+pub mod derivations;
+pub mod model;
+pub mod unifiers;
+
+pub use covering::{covered_when_grown, covered_when_renamed};
+pub use derivations::{refuted_by_numbered_steps, refuted_by_steps, shown_when_renamed};
+pub use model::model_of_saturated;
+pub use unifiers::{closed_by_one, most_general_choice, most_general_exists};
