@@ -1,5 +1,6 @@
 pub mod Axioms
 pub mod Abstraction
+pub mod Entries
 pub mod Models
 pub mod Saturation
 pub mod Steps

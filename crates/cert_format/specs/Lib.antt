@@ -1,0 +1,5 @@
+pub mod Certificate
+pub mod Validity
+pub mod Printable
+pub mod Lines
+pub mod Text

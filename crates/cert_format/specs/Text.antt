@@ -1,0 +1,42 @@
+-- The text of a certificate, format 1, as a list of bytes.
+use Rattle.std.specs.Prelude.{ℕ, ◌+◌, List, [], ◌∷◌, ◌++◌, codes}
+use Rattle.inst_logic.specs.Tree.{Tree}
+use Rattle.inst_logic.specs.Clauses.{TreeClause}
+use Rattle.inst_calculus.specs.Entries.{Entry}
+use Rattle.inst_calculus.specs.Steps.{Step}
+use Rattle.cert_format.specs.Certificate.{Base, Refutation, Saturation}
+use Rattle.cert_format.specs.Lines.{status_line, start_line, end_line, format_line, constant_line, input_line, axiom_line, member_line, selected_line, ground_line, step_line}
+
+-- the lines of the items, numbered from n on
+abbrev pub numbered_lines : {A : Type 0} → (ℕ → A → List ℕ) → ℕ → List A → List ℕ
+numbered_lines text n [] = []
+numbered_lines text n (x ∷ xs) = text n x ++ numbered_lines text (n + 1) xs
+
+-- the same of items with what belongs to each, as far as both go
+abbrev pub paired_lines : {A B : Type 0} → (ℕ → A → B → List ℕ) → ℕ → List A → List B → List ℕ
+paired_lines text n [] ys = []
+paired_lines text n (x ∷ xs) [] = []
+paired_lines text n (x ∷ xs) (y ∷ ys) = text n x y ++ paired_lines text (n + 1) xs ys
+
+abbrev pub input_lines : Base → List ℕ
+input_lines b = paired_lines input_line 1 b.inputs b.names
+
+abbrev pub axiom_lines : Base → List ℕ
+axiom_lines b = numbered_lines axiom_line 1 b.axioms
+
+abbrev pub ground_lines : Refutation → List ℕ
+ground_lines c = numbered_lines ground_line 1 c.grounds
+
+-- the first two lines, with the status, the form and the name
+abbrev pub head_lines : List ℕ → List ℕ → List ℕ → List ℕ
+head_lines status form name = status_line status name ++ start_line form name
+
+abbrev pub refutation_text : List ℕ → Refutation → List ℕ
+refutation_text name c = head_lines (codes "Unsatisfiable") (codes "CNFRefutation") name ++ format_line ++ constant_line c.bot
+    ++ input_lines c.base ++ axiom_lines c.base ++ numbered_lines member_line 1 c.base.members
+    ++ ground_lines c ++ numbered_lines step_line 1 c.steps ++ end_line (codes "CNFRefutation") name
+
+abbrev pub saturation_text : List ℕ → Saturation → List ℕ
+saturation_text name c = head_lines (codes "Satisfiable") (codes "Saturation") name ++ format_line
+    ++ input_lines c.base ++ axiom_lines c.base ++ paired_lines selected_line 1 c.base.members c.places
+    ++ end_line (codes "Saturation") name

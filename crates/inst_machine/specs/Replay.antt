@@ -1,0 +1,53 @@
+-- Replay of a journal, what it leaves of a budget, and the conclusions that stay open.
+use Rattle.std.specs.Prelude.{◌≡◌, ◌≢◌, ℕ, ◌-◌, ◌+◌, List, [], ◌∷◌, All, Contains}
+use Rattle.inst_logic.specs.declared.symbol.Sym.{Sym}
+use Rattle.inst_logic.specs.Measure.{clause_size}
+use Rattle.inst_logic.specs.Clauses.{TreeClause, instance, canonical_form}
+use Rattle.inst_logic.specs.Unifiers.{Sided, IsMostGeneral, IsProper}
+use Rattle.inst_calculus.specs.Models.{Member, clauses}
+use Rattle.inst_calculus.specs.Saturation.{IsCovered}
+use Rattle.inst_calculus.specs.Entries.{Origin, input, inst, Entry, entry_clauses}
+use Rattle.inst_machine.specs.Machine.{State, Event, IsStart, IsRun, IsTrueIn}
+
+-- the journal replays from the clauses to the state
+abbrev pub Replays : Sym → List TreeClause → List Event → State → Type 0
+Replays bot cs journal t = (s : State) × IsStart cs s × IsRun bot s journal t
+
+-- the size of an entry that an inference appended, and nothing for a first entry
+abbrev pub appended_size : Origin → TreeClause → ℕ
+appended_size (input k) c = 0
+appended_size (inst from place partner other) c = clause_size c
+
+-- the sizes of the entries that inferences appended
+abbrev pub spent : List Entry → ℕ
+spent [] = 0
+spent (e ∷ es) = appended_size e.origin e.clause + spent es
+
+-- what the entries leave of the budget, in symbols
+abbrev pub left : ℕ → List Entry → ℕ
+left budget es = budget - spent es
+
+-- the members are the entries with a literal selected whose abstraction is true in the last valuation
+pub record IsSelection (bot : Sym) (s : State) (ms : List Member) : Type 0 where
+  pub entries : clauses ms ≡ entry_clauses s.entries
+  pub listed : All (λ m. Contains m.clause m.selected) ms
+  pub are_true : All (λ m. IsTrueIn bot s m.selected) ms
+
+-- every conclusion at the selected literals is covered
+abbrev pub AreConclusionsCovered : List Member → Type 0
+AreConclusionsCovered ms = (m n : Member) → Contains ms m → Contains ms n → m.selected.positive ≢ n.selected.positive
+    → (s : Sided) → IsMostGeneral s m.selected.atom n.selected.atom → IsProper s.left m.selected.atom
+    → IsCovered (clauses ms) m.clause (instance s.left m.clause)
+
+-- an instance that an inference at the selected literals could append
+pub record IsOpen (ms : List Member) (c : TreeClause) : Type 0 where
+  pub member : Member
+  pub partner : Member
+  pub listed : Contains ms member
+  pub partner_listed : Contains ms partner
+  pub opposite : member.selected.positive ≢ partner.selected.positive
+  pub unifier : Sided
+  pub most_general : IsMostGeneral unifier member.selected.atom partner.selected.atom
+  pub proper : IsProper unifier.left member.selected.atom
+  pub uncovered : ¬ IsCovered (clauses ms) member.clause (instance unifier.left member.clause)
+  pub conclusion : c ≡ canonical_form (instance unifier.left member.clause)
