@@ -1,0 +1,6 @@
+//! The top call of the program: reads the words, and the file that they name, decides it, and writes the answer.
+#![tactic(auto)]
+
+mod decide;
+mod text;
+mod verdict;
