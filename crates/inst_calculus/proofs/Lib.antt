@@ -1,0 +1,12 @@
+pub mod Membership
+pub mod Distinct
+pub mod Trees
+pub mod Terms
+pub mod Unify
+pub mod Clauses
+pub mod CanonicalForms
+pub mod CoveredInstances
+pub mod Choice
+pub mod Weights
+pub mod Truth
+pub mod Saturated
