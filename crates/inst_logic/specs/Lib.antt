@@ -14,3 +14,6 @@ pub mod Substitution
 pub mod Clauses
 pub mod Unifiers
 pub mod Printing
+pub mod Examples
+pub mod Fed
+pub mod EqualLaws
