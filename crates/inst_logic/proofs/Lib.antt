@@ -6,3 +6,4 @@ pub mod Numbering
 pub mod Formed
 pub mod Walks
 pub mod Substitutions
+pub mod ShownLaws
