@@ -10,7 +10,7 @@ use Rattle.inst_logic.specs.Unifiers.{Sided, IsInstanceOf, IsMostGeneral, IsProp
 use Rattle.inst_logic.proofs.SameLemmas.{literal_eq_decides}
 use Rattle.inst_logic.proofs.Substitutions.{subst_subst}
 use Rattle.inst_calculus.specs.Renamings.{IsRenamingOf}
-use Rattle.inst_calculus.specs.Models.{Member, clauses}
+use Rattle.inst_calculus.specs.Models.{Member, member_clauses}
 use Rattle.inst_calculus.specs.Saturation.{IsClosed}
 use Rattle.inst_calculus.proofs.Membership.{◌∈◌, from_map}
 use Rattle.inst_calculus.proofs.Distinct.{from_distinct}
@@ -86,10 +86,10 @@ closed_of_choice ms m n s g c r h = record {
     | inr p ↦ inr ((proper_of_choice m.selected.atom n.selected.atom s r g h n.selected.atom).1 p)
   ];
   left = λ p.
-      covered_when_renamed (clauses ms) m.clause (instance s.left m.clause) (instance r.left m.clause)
+      covered_when_renamed (member_clauses ms) m.clause (instance s.left m.clause) (instance r.left m.clause)
       (c.left ((proper_of_choice m.selected.atom n.selected.atom r s h g m.selected.atom).0 p)) (instance_of_choice m.selected.atom n.selected.atom s r g h m.clause).0;
   right = λ p.
-      covered_when_renamed (clauses ms) n.clause (instance s.right n.clause) (instance r.right n.clause)
+      covered_when_renamed (member_clauses ms) n.clause (instance s.right n.clause) (instance r.right n.clause)
       (c.right ((proper_of_choice m.selected.atom n.selected.atom r s h g n.selected.atom).1 p)) (instance_of_choice m.selected.atom n.selected.atom s r g h n.clause).1;
 }
 

@@ -15,7 +15,7 @@ use Rattle.inst_logic.specs.Unifiers.{Sided, IsUnifier, IsInstanceOf, IsMostGene
 use Rattle.inst_logic.specs.WellFormed.{atom_is_formed, clause_is_formed, AreFormedClauses}
 use Rattle.inst_logic.specs.Truth.{IsTrueLiteral, IsTrueClause}
 use Rattle.inst_logic.proofs.SameLemmas.{literal_eq_decides}
-use Rattle.inst_calculus.specs.Models.{Member, clauses, Supports, IsTrueBy, Makes}
+use Rattle.inst_calculus.specs.Models.{Member, member_clauses, Supports, IsTrueBy, Makes}
 use Rattle.inst_calculus.specs.Saturation.{IsCovered, tautology, variant, shorter, IsClosed, IsSubsumedBy, IsSaturated}
 use Rattle.inst_calculus.proofs.Membership.{◌∈◌, contains_in, in_contains, any_in, in_any, all_in, in_map, from_map, some_or_none, passes}
 use Rattle.inst_calculus.proofs.Distinct.{length_map, length_distinct, distinct_all}
@@ -85,7 +85,7 @@ variant_is_later p c l i rises = go (dec_le (length c) (length (canonical_form (
     go (no k) = inl (omega arith)
     go (yes k) = inr (omega (arith, short, short'), heavier k)
 
-module _ (ms : List Member) (cs : List TreeClause) (formed : AreFormedClauses (clauses ms)) (sat : IsSaturated ms cs) where
+module _ (ms : List Member) (cs : List TreeClause) (formed : AreFormedClauses (member_clauses ms)) (sat : IsSaturated ms cs) where
   selects : (m : Member) → m ∈ ms → m.selected ∈ m.clause
   selects m i = contains_in m.selected m.clause (all_in (λ (x : Member). Contains x.clause x.selected) ms sat.selects m i)
 
@@ -94,7 +94,7 @@ module _ (ms : List Member) (cs : List TreeClause) (formed : AreFormedClauses (c
 
   selected_atom : (m : Member) → m ∈ ms → IsAtomOver IsPredicate IsFunction m.selected.atom
   selected_atom m i =
-      let f : clause_is_formed m.clause ≡ true = passes clause_is_formed (clauses ms) formed m.clause (in_map (λ (x : Member). x.clause) m ms i) in
+      let f : clause_is_formed m.clause ≡ true = passes clause_is_formed (member_clauses ms) formed m.clause (in_map (λ (x : Member). x.clause) m ms i) in
       atom_over_functions m.selected.atom (passes (λ (l : Signed Tree). atom_is_formed l.atom) m.clause f m.selected (selects m i))
 
   module _ (g : TreeClause) (all_false : (l : Signed Tree) → l ∈ g → ¬ IsTrueLiteral (IsTrueBy ms) l) where
@@ -131,10 +131,10 @@ module _ (ms : List Member) (cs : List TreeClause) (formed : AreFormedClauses (c
 
     -- from an instance of m in g that makes its selected literal heavier, and that is covered
     covered_next : (m : Member) → m ∈ ms → (p rest : Substitution) → IsWithin rest (instance p m.clause) g
-        → tree_weight m.selected.atom < tree_weight (subst p m.selected.atom) → IsCovered (clauses ms) m.clause (instance p m.clause) → Next ms g m
+        → tree_weight m.selected.atom < tree_weight (subst p m.selected.atom) → IsCovered (member_clauses ms) m.clause (instance p m.clause) → Next ms g m
     covered_next m i p rest w rises (tautology t) = absurd (no_tautology rest (instance p m.clause) w t)
     covered_next m i p rest w rises (variant d j v) =
-        let (n, u, q) = from_map (λ (x : Member). x.clause) d ms (contains_in d (clauses ms) j) in
+        let (n, u, q) = from_map (λ (x : Member). x.clause) d ms (contains_in d (member_clauses ms) j) in
         let e : canonical_form (instance p m.clause) ≡ n.clause = v ∙ ap canonical_form (sym q) ∙ canonical n u in
         record {
           member = n;
@@ -146,7 +146,7 @@ module _ (ms : List Member) (cs : List TreeClause) (formed : AreFormedClauses (c
           later = transport (λ c. IsLater c m.clause) e (variant_is_later p m.clause m.selected (selects m i) rises);
         }
     covered_next m i p rest w rises (shorter d j l (s, x)) =
-        let (n, u, q) = from_map (λ (y : Member). y.clause) d ms (contains_in d (clauses ms) j) in
+        let (n, u, q) = from_map (λ (y : Member). y.clause) d ms (contains_in d (member_clauses ms) j) in
         record {
           member = n;
           listed = u;
@@ -238,7 +238,7 @@ module _ (ms : List Member) (cs : List TreeClause) (formed : AreFormedClauses (c
         let (m, i, (r, k)) = any_in (λ (x : Member). Subsumes x.clause c) ms h in
         by_length (length m.clause) m i (followed_by r s, within_followed r s m.clause c g (part_within r m.clause c k) w) (omega arith)
 
-pub model_of_saturated : (ms : List Member) (cs : List TreeClause) → AreFormedClauses (clauses ms) → IsSaturated ms cs → (c : TreeClause) → Contains cs c → Makes ms c
+pub model_of_saturated : (ms : List Member) (cs : List TreeClause) → AreFormedClauses (member_clauses ms) → IsSaturated ms cs → (c : TreeClause) → Contains cs c → Makes ms c
 model_of_saturated ms cs formed sat c i s ground = go (some_or_none (IsTrueLiteral (IsTrueBy ms)) (dec_true_literal ms) (instance s c))
   where
     go : ((l : Signed Tree) × (l ∈ instance s c) × IsTrueLiteral (IsTrueBy ms) l) ⊎ ((l : Signed Tree) → l ∈ instance s c → ¬ IsTrueLiteral (IsTrueBy ms) l) → IsTrueClause (IsTrueBy ms) (instance s c)

@@ -3,7 +3,7 @@ use Rattle.std.specs.Prelude.{◌≡◌, ◌≢◌, ◌<◌, ◌⊎◌, List, le
 use Rattle.inst_logic.specs.Signed.{IsTautology}
 use Rattle.inst_logic.specs.Clauses.{TreeClause, instance, Subsumes, AreVariants, IsCanonical}
 use Rattle.inst_logic.specs.Unifiers.{Sided, IsMostGeneral, IsProper}
-use Rattle.inst_calculus.specs.Models.{Member, clauses}
+use Rattle.inst_calculus.specs.Models.{Member, member_clauses}
 
 -- d, an instance of c, is covered by the list: it is a tautology, or a variant of a clause of the list, or some clause of
 -- the list with fewer literals than c has an instance whose literals are all in d.
@@ -16,8 +16,8 @@ pub data IsCovered (cs : List TreeClause) (c d : TreeClause) : Type 0 where
 -- side's instance is covered.
 pub record IsClosed (ms : List Member) (m n : Member) (s : Sided) : Type 0 where
   pub proper : IsProper s.left m.selected.atom ⊎ IsProper s.right n.selected.atom
-  pub left : IsProper s.left m.selected.atom → IsCovered (clauses ms) m.clause (instance s.left m.clause)
-  pub right : IsProper s.right n.selected.atom → IsCovered (clauses ms) n.clause (instance s.right n.clause)
+  pub left : IsProper s.left m.selected.atom → IsCovered (member_clauses ms) m.clause (instance s.left m.clause)
+  pub right : IsProper s.right n.selected.atom → IsCovered (member_clauses ms) n.clause (instance s.right n.clause)
 
 -- the clause is a tautology, or has all literals of an instance of a member's clause among its own
 abbrev pub IsSubsumedBy : List Member → TreeClause → Type 0

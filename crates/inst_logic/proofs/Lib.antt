@@ -8,3 +8,4 @@ pub mod Walks
 pub mod Substitutions
 pub mod Feeding
 pub mod Sets
+pub mod ShownLaws

@@ -4,7 +4,7 @@ use Rattle.inst_logic.specs.declared.symbol.Sym.{Sym}
 use Rattle.inst_logic.specs.Measure.{clause_size}
 use Rattle.inst_logic.specs.Clauses.{TreeClause, instance, canonical_form}
 use Rattle.inst_logic.specs.Unifiers.{Sided, IsMostGeneral, IsProper}
-use Rattle.inst_calculus.specs.Models.{Member, clauses}
+use Rattle.inst_calculus.specs.Models.{Member, member_clauses}
 use Rattle.inst_calculus.specs.Saturation.{IsCovered}
 use Rattle.inst_calculus.specs.Entries.{Origin, input, inst, Entry, entry_clauses}
 use Rattle.inst_machine.specs.Machine.{State, Event, IsStart, IsRun, IsTrueIn}
@@ -29,7 +29,7 @@ left budget es = budget - spent es
 
 -- the members are the entries with a literal selected whose abstraction is true in the last valuation
 pub record IsSelection (bot : Sym) (s : State) (ms : List Member) : Type 0 where
-  pub entries : clauses ms ≡ entry_clauses s.entries
+  pub entries : member_clauses ms ≡ entry_clauses s.entries
   pub listed : All (λ m. Contains m.clause m.selected) ms
   pub are_true : All (λ m. IsTrueIn bot s m.selected) ms
 
@@ -37,7 +37,7 @@ pub record IsSelection (bot : Sym) (s : State) (ms : List Member) : Type 0 where
 abbrev pub AreConclusionsCovered : List Member → Type 0
 AreConclusionsCovered ms = (m n : Member) → Contains ms m → Contains ms n → m.selected.positive ≢ n.selected.positive
     → (s : Sided) → IsMostGeneral s m.selected.atom n.selected.atom → IsProper s.left m.selected.atom
-    → IsCovered (clauses ms) m.clause (instance s.left m.clause)
+    → IsCovered (member_clauses ms) m.clause (instance s.left m.clause)
 
 -- an instance that an inference at the selected literals could append
 pub record IsOpen (ms : List Member) (c : TreeClause) : Type 0 where
@@ -49,5 +49,5 @@ pub record IsOpen (ms : List Member) (c : TreeClause) : Type 0 where
   pub unifier : Sided
   pub most_general : IsMostGeneral unifier member.selected.atom partner.selected.atom
   pub proper : IsProper unifier.left member.selected.atom
-  pub uncovered : ¬ IsCovered (clauses ms) member.clause (instance unifier.left member.clause)
+  pub uncovered : ¬ IsCovered (member_clauses ms) member.clause (instance unifier.left member.clause)
   pub conclusion : c ≡ canonical_form (instance unifier.left member.clause)

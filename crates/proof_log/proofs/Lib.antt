@@ -1,0 +1,5 @@
+pub mod Stamps
+pub mod MarkedSets
+pub mod Hints
+pub mod Steps
+pub mod Verdicts

@@ -1,0 +1,3 @@
+pub mod Marks
+pub mod Propagation
+pub mod Shown
