@@ -38,5 +38,5 @@ selected_at [] ps = []
 selected_at (e ∷ es) [] = []
 selected_at (e ∷ es) (p ∷ ps) = with_selected e.clause (at_number e.clause p) (selected_at es ps)
 
-abbrev pub selection : Saturation → List Member
-selection c = selected_at c.base.members c.places
+abbrev pub selected_members : Saturation → List Member
+selected_members c = selected_at c.base.members c.places

@@ -7,32 +7,32 @@ use Rattle.inst_logic.specs.Printing.{name_text, clause_text, joined}
 use Rattle.inst_calculus.specs.Entries.{Origin, input, inst, Entry}
 use Rattle.inst_calculus.specs.Steps.{Cited, given, earlier, Step}
 
-abbrev pub line : List ℕ → List ℕ
-line text = text ++ 10 ∷ []
+abbrev pub text_line : List ℕ → List ℕ
+text_line text = text ++ 10 ∷ []
 
 -- `% SZS status S for NAME`
 abbrev pub status_line : List ℕ → List ℕ → List ℕ
-status_line status name = line (codes "% SZS status " ++ status ++ codes " for " ++ name)
+status_line status name = text_line (codes "% SZS status " ++ status ++ codes " for " ++ name)
 
 -- `% SZS output start FORM for NAME`
 abbrev pub start_line : List ℕ → List ℕ → List ℕ
-start_line form name = line (codes "% SZS output start " ++ form ++ codes " for " ++ name)
+start_line form name = text_line (codes "% SZS output start " ++ form ++ codes " for " ++ name)
 
 -- `% SZS output end FORM for NAME`
 abbrev pub end_line : List ℕ → List ℕ → List ℕ
-end_line form name = line (codes "% SZS output end " ++ form ++ codes " for " ++ name)
+end_line form name = text_line (codes "% SZS output end " ++ form ++ codes " for " ++ name)
 
 -- `% instgen certificate 1`
 abbrev pub format_line : List ℕ
-format_line = line (codes "% instgen certificate 1")
+format_line = text_line (codes "% instgen certificate 1")
 
 -- `% ground constant C`
 abbrev pub constant_line : Sym → List ℕ
-constant_line bot = line (codes "% ground constant " ++ name_text bot.name)
+constant_line bot = text_line (codes "% ground constant " ++ name_text bot.name)
 
 -- `cnf(LABEL N,ROLE,CLAUSE,NOTE).`, the label a letter
 abbrev pub clause_line : List ℕ → ℕ → List ℕ → TreeClause → List ℕ → List ℕ
-clause_line label n role c note = line (codes "cnf(" ++ label ++ decimal n ++ codes "," ++ role ++ codes "," ++ clause_text c ++ codes "," ++ note ++ codes ").")
+clause_line label n role c note = text_line (codes "cnf(" ++ label ++ decimal n ++ codes "," ++ role ++ codes "," ++ clause_text c ++ codes "," ++ note ++ codes ").")
 
 -- `named(W)`
 abbrev pub input_line : ℕ → TreeClause → List ℕ → List ℕ

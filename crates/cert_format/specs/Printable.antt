@@ -5,7 +5,8 @@ use Rattle.inst_logic.specs.declared.symbol.Sym.{Sym}
 use Rattle.inst_logic.specs.declared.symbol.Kind.{Kind}
 use Rattle.inst_logic.specs.declared.symbol.Kind.TheVariants.{Predicate, Equality, Function}
 use Rattle.inst_logic.specs.Tree.{Tree}
-use Rattle.inst_logic.specs.WellFormed.{is_constant}
+use Rattle.inst_logic.specs.WellFormed.{is_constant, IsFormedClause}
+use Rattle.inst_logic.specs.Substitution.{clause_vars}
 use Rattle.inst_logic.specs.Clauses.{TreeClause, IsCanonical}
 use Rattle.inst_logic.specs.Printing.{is_readable_name}
 use Rattle.inst_calculus.specs.Axioms.{clause_symbols}
@@ -23,9 +24,11 @@ HasReadableName Predicate name = IsTrue (is_readable_name name)
 HasReadableName Equality name = Unit {0}
 HasReadableName Function name = IsTrue (is_readable_name name)
 
--- canonical, with readable names
+-- well formed and canonical, with numbers and names that the format can write
 pub record IsPrintableClause (c : TreeClause) : Type 0 where
+  pub formed : IsFormedClause c
   pub canonical : IsCanonical c
+  pub variables : All IsNumber (clause_vars c)
   pub names : All (λ s. HasReadableName s.kind s.name) (clause_symbols c)
 
 abbrev pub HasNumbers : Origin → Type 0
@@ -43,6 +46,9 @@ pub record IsPrintableBase (b : Base) : Type 0 where
   pub names : All (λ n. IsTrue (is_readable_name n)) b.names
   pub axioms : All IsPrintableClause b.axioms
   pub members : All IsPrintableEntry b.members
+  pub input_count : IsNumber (length b.inputs)
+  pub axiom_count : IsNumber (length b.axioms)
+  pub member_count : IsNumber (length b.members)
 
 abbrev pub cited_number : Cited → ℕ
 cited_number (given n) = n
@@ -60,6 +66,8 @@ pub record IsPrintableRefutation (c : Refutation) : Type 0 where
   pub bot_name : IsTrue (is_readable_name c.bot.name)
   pub grounds : All IsPrintableClause c.grounds
   pub steps : All IsPrintableStep c.steps
+  pub ground_count : IsNumber (length c.grounds)
+  pub step_count : IsNumber (length c.steps)
 
 -- a member has a place
 pub record IsPrintableSaturation (c : Saturation) : Type 0 where

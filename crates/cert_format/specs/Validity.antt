@@ -1,4 +1,5 @@
--- The checks of a certificate in their order, one for each complaint, and validity: every check is passed.
+-- The checks of a certificate in their order, one for each complaint, and validity: every check is passed. Where a check
+-- speaks of a number that only one list has, or of members without a place, an earlier check is not passed there.
 use Rattle.std.specs.Prelude.{◌≡◌, ◌≢◌, ◌⊎◌, ℕ, ◌-◌, ◌<◌, ◌≤◌, max, List, [], length, map, take, IsTrue, Some, Any}
 use Rattle.inst_logic.specs.declared.signed.Signed.{Signed}
 use Rattle.inst_logic.specs.Tree.{Tree}
@@ -13,7 +14,7 @@ use Rattle.inst_calculus.specs.Entries.{Origin, input, inst, Entry, entry_clause
 use Rattle.inst_calculus.specs.Models.{Member}
 use Rattle.inst_calculus.specs.Saturation.{IsClosed}
 use Rattle.inst_calculus.specs.Steps.{Step, cited_clause, EndsEmpty}
-use Rattle.cert_format.specs.Certificate.{Base, Refutation, Saturation, selection}
+use Rattle.cert_format.specs.Certificate.{Base, Refutation, Saturation, selected_members}
 use Rattle.cert_format.specs.declared.complaint.Complaint.{Complaint}
 use Rattle.cert_format.specs.declared.complaint.Complaint.TheVariants.{Axiom, Member as Derived, Bot, Ground, Step as Shown, NotEmpty, Place, Input, Pair}
 
@@ -76,7 +77,7 @@ IsRightInput c k = (d : TreeClause) → at_number (with_axioms c.base.inputs) k 
 -- where the selected literals of the two members have opposite signs and unify, what they conclude is covered
 abbrev pub IsRightPair : Saturation → ℕ → ℕ → Type 0
 IsRightPair c left right = left < right → (m n : Member) → IsSelected c left m → IsSelected c right n → m.selected.positive ≢ n.selected.positive
-    → (s : Sided) → IsMostGeneral s m.selected.atom n.selected.atom → IsClosed (selection c) m n s
+    → (s : Sided) → IsMostGeneral s m.selected.atom n.selected.atom → IsClosed (selected_members c) m n s
 
 -- The refutation passes the check that the complaint names: a complaint applies exactly where its check is not passed.
 abbrev pub RefutationPasses : Refutation → Complaint → Type 0

@@ -1,12 +1,13 @@
 -- The machine: it takes valuations of the abstractions and appends instances, in any order.
-use Rattle.std.specs.Prelude.{◌≡◌, ◌≢◌, ◌⊎◌, ℕ, suc, List, [], ◌∷◌, ◌++◌, Bool, true, false, not, filter, Some, All, Contains, if◌then◌else◌}
+use Rattle.std.specs.Prelude.{◌≡◌, ◌≢◌, ◌⊎◌, ℕ, suc, List, [], ◌∷◌, ◌++◌, Bool, true, false, not, filter, Some, All, AllPairs, Contains, if◌then◌else◌}
 use Rattle.std.specs.List.{list_any}
 use Rattle.inst_logic.specs.declared.symbol.Sym.{Sym}
 use Rattle.inst_logic.specs.declared.signed.Signed.{Signed}
 use Rattle.inst_logic.specs.Tree.{Tree}
 use Rattle.inst_logic.specs.Signed.{IsTautology}
 use Rattle.inst_logic.specs.Equal.{tree_eq}
-use Rattle.inst_logic.specs.Substitution.{subst_literal}
+use Rattle.inst_logic.specs.WellFormed.{IsAtom}
+use Rattle.inst_logic.specs.Substitution.{subst_literal, tree_vars}
 use Rattle.inst_logic.specs.Clauses.{TreeClause, instance, canonical_form}
 use Rattle.inst_logic.specs.Truth.{IsTrueLiteral, IsTrueClause}
 use Rattle.inst_logic.specs.Derivations.{at_number}
@@ -77,10 +78,16 @@ pub data Event : Type 0 where
   solved : List Tree → Event
   inferred : Origin → Event
 
+-- ground atoms, each listed once
+pub record AreChanges (atoms : List Tree) : Type 0 where
+  pub atoms_formed : All IsAtom atoms
+  pub without_variables : All (λ a. tree_vars a ≡ []) atoms
+  pub once : AllPairs (λ a b. a ≢ b) atoms
+
 -- A solve takes a valuation that makes the abstraction of every entry true. An inference appends what it infers. There is
 -- no step to an input clause.
 pub data IsStep (bot : Sym) : State → Event → State → Type 0 where
-  solve : {s t : State} {atoms : List Tree} → t ≡ record { entries = s.entries; valuation = change_all s.valuation atoms; has_solved = true }
+  solve : {s t : State} {atoms : List Tree} → AreChanges atoms → t ≡ record { entries = s.entries; valuation = change_all s.valuation atoms; has_solved = true }
       → IsSettled bot t → IsStep bot s (solved atoms) t
   infer : {s t : State} {from place partner other : ℕ} {clause : TreeClause} → Infers bot s from place partner other clause
       → t ≡ record s { entries = s.entries ++ record { clause = clause; origin = inst from place partner other } ∷ [] }

@@ -6,6 +6,8 @@ use Rattle.inst_logic.specs.Clauses.{TreeClause, instance, canonical_form}
 use Rattle.inst_logic.specs.Unifiers.{Sided, IsMostGeneral, IsProper}
 use Rattle.inst_calculus.specs.Models.{Member, member_clauses}
 use Rattle.inst_calculus.specs.Saturation.{IsCovered}
+use Rattle.inst_calculus.specs.Axioms.{with_axioms}
+use Rattle.inst_calculus.specs.Abstraction.{IsBot}
 use Rattle.inst_calculus.specs.Entries.{Origin, input, inst, Entry, entry_clauses}
 use Rattle.inst_machine.specs.Machine.{State, Event, IsStart, IsRun, IsTrueIn}
 
@@ -13,19 +15,24 @@ use Rattle.inst_machine.specs.Machine.{State, Event, IsStart, IsRun, IsTrueIn}
 abbrev pub Replays : Sym → List TreeClause → List Event → State → Type 0
 Replays bot cs journal t = (s : State) × IsStart cs s × IsRun bot s journal t
 
+-- the journal replays from the problem's clauses and their axioms to the state, with the problem's own constant
+pub record ReplaysFrom (cs : List TreeClause) (bot : Sym) (journal : List Event) (t : State) : Type 0 where
+  pub constant : IsBot cs bot
+  pub replays : Replays bot (with_axioms cs) journal t
+
 -- the size of an entry that an inference appended, and nothing for a first entry
 abbrev pub appended_size : Origin → TreeClause → ℕ
 appended_size (input k) c = 0
 appended_size (inst from place partner other) c = clause_size c
 
 -- the sizes of the entries that inferences appended
-abbrev pub spent : List Entry → ℕ
-spent [] = 0
-spent (e ∷ es) = appended_size e.origin e.clause + spent es
+abbrev pub appended_sizes : List Entry → ℕ
+appended_sizes [] = 0
+appended_sizes (e ∷ es) = appended_size e.origin e.clause + appended_sizes es
 
 -- what the entries leave of the budget, in symbols
-abbrev pub left : ℕ → List Entry → ℕ
-left budget es = budget - spent es
+abbrev pub budget_left : ℕ → List Entry → ℕ
+budget_left budget es = budget - appended_sizes es
 
 -- the members are the entries with a literal selected whose abstraction is true in the last valuation
 pub record IsSelection (bot : Sym) (s : State) (ms : List Member) : Type 0 where

@@ -5,7 +5,7 @@ use Rattle.inst_logic.specs.Clauses.{TreeClause, IsGround, IsInstance}
 use Rattle.inst_logic.specs.Truth.{IsRefuted}
 use Rattle.inst_calculus.specs.Axioms.{equality_axioms, with_axioms}
 use Rattle.inst_calculus.specs.Models.{Makes}
-use Rattle.cert_format.specs.Certificate.{Base, Refutation, Saturation, selection}
+use Rattle.cert_format.specs.Certificate.{Base, Refutation, Saturation, selected_members}
 use Rattle.cert_format.specs.Validity.{IsValidRefutation, IsValidSaturation}
 use Rattle.cert_format.specs.Printable.{IsPrintableRefutation, IsPrintableSaturation}
 use Rattle.cert_format.specs.Text.{refutation_text, saturation_text}
@@ -43,7 +43,7 @@ pub record RefutesProblem (p : Problem) (r : Refutation) : Type 0 where
 
 -- the truth test over the selected literals makes every ground instance of the clauses and axioms true
 abbrev pub SatisfiesProblem : Problem → Saturation → Type 0
-SatisfiesProblem p s = All (Makes (selection s)) (with_axioms p.clauses)
+SatisfiesProblem p s = All (Makes (selected_members s)) (with_axioms p.clauses)
 
 abbrev pub Shows : Problem → Certificate → Type 0
 Shows p (refutation r) = RefutesProblem p r
