@@ -9,18 +9,15 @@ ghost use Rattle.inst_calculus.specs.Steps.{Step, IsShownFrom, EndsEmpty, rename
 /// Where every step is shown and the last is empty, the given clauses are refuted: for numbered atoms.
 pub fn refuted_by_numbered_steps()
     ensures { (gs : List (List (Signed ℕ))) (steps : List (Step ℕ)) → IsShownFrom gs steps → EndsEmpty steps → IsRefuted gs }
-{
-}
+{}
 
 /// The same for ground atoms as trees.
 pub fn refuted_by_steps()
     ensures { (gs : List TreeClause) (steps : List (Step Tree)) → IsShownFrom gs steps → EndsEmpty steps → IsRefuted gs }
-{
-}
+{}
 
 /// Steps are shown exactly where they are with each atom renamed, where different atoms get different names.
 pub fn shown_when_renamed()
     ensures { (f : ℕ → Tree) → ((m n : ℕ) → f m ≡ f n → m ≡ n) → (gs : List (List (Signed ℕ))) (steps : List (Step ℕ))
         → IsShownFrom gs steps ↔ IsShownFrom (map (renamed_clause f) gs) (map (renamed_step f) steps) }
-{
-}
+{}

@@ -10,5 +10,4 @@ ghost use Rattle.inst_calculus.specs.Saturation.{IsSaturated};
 pub fn model_of_saturated()
     ensures { (ms : List Member) (cs : List TreeClause) → AreFormedClauses (clauses ms) → IsSaturated ms cs
         → (c : TreeClause) → Contains cs c → Makes ms c }
-{
-}
+{}

@@ -10,8 +10,7 @@ ghost use Rattle.inst_calculus.specs.Saturation.{IsClosed};
 /// Two trees, renamed apart, that have a unifier have a most general one.
 pub fn most_general_exists()
     ensures { (a b : Tree) (u : Sided) → IsUnifier u a b → (s : Sided) × IsMostGeneral s a b }
-{
-}
+{}
 
 /// Any two most general unifiers of two trees differ by a renaming of variables. So which of them is taken changes neither
 /// whether it is proper, for any tree of either side, nor the canonical form of an instance.
@@ -21,8 +20,7 @@ pub fn most_general_choice()
         → (IsProper s.left t → IsProper r.left t) × (IsProper s.right t → IsProper r.right t) }
     ensures same_instance { (a b : Tree) (s r : Sided) → IsMostGeneral s a b → IsMostGeneral r a b → (c : TreeClause)
         → AreVariants (instance s.left c) (instance r.left c) × AreVariants (instance s.right c) (instance r.right c) }
-{
-}
+{}
 
 /// A pair of selected literals that is closed for one most general unifier is closed for each, in either order.
 pub fn closed_by_one()
@@ -30,5 +28,4 @@ pub fn closed_by_one()
         → (r : Sided) → IsMostGeneral r m.selected.atom n.selected.atom → IsClosed ms m n r }
     ensures other_order { (ms : List Member) (m n : Member) (s : Sided) → IsMostGeneral s m.selected.atom n.selected.atom → IsClosed ms m n s
         → (r : Sided) → IsMostGeneral r n.selected.atom m.selected.atom → IsClosed ms n m r }
-{
-}
+{}
