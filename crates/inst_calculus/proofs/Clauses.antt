@@ -85,3 +85,23 @@ subsumes_within r e d c (s, h) k = (followed_by s r, within_part (followed_by s 
 pub tautology_within : (s : Substitution) (d c : TreeClause) → IsTautology d → IsWithin s d c → IsTautology c
 tautology_within s d c (l, i, j) h =
     (subst_literal s l, in_contains (subst_literal s l) c (h l (contains_in l d i)), in_contains (subst_literal s (complement l)) c (h (complement l) (contains_in (complement l) d j)))
+
+-- q is p followed by a substitution
+abbrev pub Follows : (q p rest : Substitution) → Type 0
+Follows q p rest = (v : ℕ) → q v ≡ subst rest (p v)
+
+module _ (q p rest : Substitution) (follows : Follows q p rest) where
+  pub follows_tree : (t : Tree) → subst q t ≡ subst rest (subst p t)
+  follows_tree t = subst_agree q (followed_by p rest) t (λ v i. follows v) ∙ sym (subst_subst rest p t)
+
+  pub follows_literal : (l : Signed Tree) → subst_literal q l ≡ subst_literal rest (subst_literal p l)
+  follows_literal l = ap (λ t. record { positive = l.positive; atom = t }) (follows_tree l.atom)
+
+  pub follows_literals : (c : TreeClause) → literals_under q c ≡ literals_under rest (literals_under p c)
+  follows_literals c = literals_agree q (followed_by p rest) c (λ v i. follows v) ∙ sym (literals_followed p rest c)
+
+  -- where the instance under q lies in g, the instance under p lies there by the rest
+  pub instance_within : (c g : TreeClause) → IsWithin q c g → IsWithin rest (instance p c) g
+  instance_within c g w l i =
+      let (k, j, e) = from_instance p l c i in
+      equal_in (subst_literal q k) (subst_literal rest l) g (follows_literal k ∙ ap (subst_literal rest) e) (w k j)

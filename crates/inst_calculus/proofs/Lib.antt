@@ -6,3 +6,4 @@ pub mod Unify
 pub mod Clauses
 pub mod CanonicalForms
 pub mod CoveredInstances
+pub mod Choice
