@@ -7,3 +7,6 @@ pub mod Clauses
 pub mod CanonicalForms
 pub mod CoveredInstances
 pub mod Choice
+pub mod Weights
+pub mod Truth
+pub mod Saturated

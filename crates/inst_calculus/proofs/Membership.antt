@@ -1,6 +1,8 @@
 -- Membership of a list by cases on the list, and the way between it and std's words `Contains`, `All` and `Any`, which go
 -- by places.
-use Rattle.std.proofs.Common.{◌≡◌, ℕ, zero, suc, ◌<◌, List, [], ◌∷◌, ◌++◌, ◌⊎◌, inl, inr, refl, sym, ap, subst as transport, map, length, get_or, arith, All, Any, Contains}
+use Rattle.std.proofs.Common.{◌≡◌, ℕ, zero, suc, ◌<◌, List, [], ◌∷◌, ◌++◌, ◌⊎◌, inl, inr, refl, sym, ap, subst as transport, map, length, get_or, arith, All, Any, Contains, Bool, true, ◌∙◌}
+use Rattle.std.specs.List.{list_all}
+use Rattle.inst_logic.proofs.SameLemmas.{and_left, and_right}
 use Rattle.std.proofs.lemmas.List.Elements.{All-contains, Contains-get_or}
 
 infix 50 ◌∈◌
@@ -59,3 +61,19 @@ from_map f y (x ∷ xs) (inr h) = let (z, i, e) = from_map f y xs h in (z, inr i
 
 pub equal_in : {A : Type 0} (x y : A) (xs : List A) → x ≡ y → x ∈ xs → y ∈ xs
 equal_in x y xs e h = transport (λ z. z ∈ xs) e h
+
+-- an item with the property, or none
+pub some_or_none : {A : Type 0} (P : A → Type 0) → ((x : A) → Dec (P x)) → (xs : List A) → ((x : A) × (x ∈ xs) × P x) ⊎ ((x : A) → x ∈ xs → ¬ P x)
+some_or_none P d [] = inr (λ x i. absurd i)
+some_or_none {A} P d (x ∷ xs) = go (d x) (some_or_none P d xs)
+  where
+    go : Dec (P x) → ((y : A) × (y ∈ xs) × P y) ⊎ ((y : A) → y ∈ xs → ¬ P y) → ((y : A) × (y ∈ (x ∷ xs)) × P y) ⊎ ((y : A) → y ∈ (x ∷ xs) → ¬ P y)
+    go (yes p) rest = inl (x, inl refl, p)
+    go (no n) (inl (y, i, p)) = inl (y, inr i, p)
+    go (no n) (inr none_of) = inr (λ y i. elim i [ inl e ↦ λ p. n (transport P e p) | inr j ↦ none_of y j ])
+
+-- a test that all items pass
+pub passes : {A : Type 0} (p : A → Bool) (xs : List A) → list_all p xs ≡ true → (x : A) → x ∈ xs → p x ≡ true
+passes p [] h x i = absurd i
+passes p (y ∷ ys) h x (inl e) = ap p e ∙ and_left (p y) _ h
+passes p (y ∷ ys) h x (inr i) = passes p ys (and_right (p y) _ h) x i
