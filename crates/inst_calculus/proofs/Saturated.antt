@@ -12,15 +12,14 @@ use Rattle.inst_logic.specs.Measure.{tree_weight, clause_weight}
 use Rattle.inst_logic.specs.Substitution.{Substitution, subst, subst_literal, followed_by}
 use Rattle.inst_logic.specs.Clauses.{TreeClause, instance, numbered, order_of, canonical_form, IsCanonical, Subsumes}
 use Rattle.inst_logic.specs.Unifiers.{Sided, IsUnifier, IsInstanceOf, IsMostGeneral, IsProper}
-use Rattle.inst_logic.specs.WellFormed.{atom_is_formed, clause_is_formed, AreFormedClauses}
+use Rattle.inst_logic.specs.WellFormed.{atom_is_formed, clause_is_formed, IsTerm, IsAtom, AreFormedClauses}
 use Rattle.inst_logic.specs.Truth.{IsTrueLiteral, IsTrueClause}
 use Rattle.inst_logic.proofs.SameLemmas.{literal_eq_decides}
 use Rattle.inst_calculus.specs.Models.{Member, clauses, Supports, IsTrueBy, Makes}
 use Rattle.inst_calculus.specs.Saturation.{IsCovered, tautology, variant, shorter, IsClosed, IsSubsumedBy, IsSaturated}
 use Rattle.inst_calculus.proofs.Membership.{◌∈◌, contains_in, in_contains, any_in, in_any, all_in, in_map, from_map, some_or_none, passes}
 use Rattle.inst_calculus.proofs.Distinct.{length_map, length_distinct, distinct_all}
-use Rattle.inst_calculus.proofs.Terms.{IsTermOver, IsAtomOver, IsFunction, IsPredicate, atom_over_functions}
-use Rattle.inst_calculus.proofs.Unify.{most_general_exists, most_general_terms}
+use Rattle.inst_calculus.proofs.Unify.{most_general_exists, most_general_formed}
 use Rattle.inst_calculus.proofs.Clauses.{literals_under, IsWithin, part_within, within_followed, in_instance, length_instance, Follows, instance_within}
 use Rattle.inst_calculus.proofs.CanonicalForms.{unnumbered, canonical_within}
 use Rattle.inst_calculus.proofs.Weights.{proper_grows, proper_or_same_weight, clause_weight_kept, clause_weight_rises, clause_weight_bound}
@@ -92,10 +91,10 @@ module _ (ms : List Member) (cs : List TreeClause) (formed : AreFormedClauses (c
   canonical : (m : Member) → m ∈ ms → canonical_form m.clause ≡ m.clause
   canonical m i = all_in (λ (x : Member). IsCanonical x.clause) ms sat.canonical m i
 
-  selected_atom : (m : Member) → m ∈ ms → IsAtomOver IsPredicate IsFunction m.selected.atom
+  selected_atom : (m : Member) → m ∈ ms → IsAtom m.selected.atom
   selected_atom m i =
       let f : clause_is_formed m.clause ≡ true = passes clause_is_formed (clauses ms) formed m.clause (in_map (λ (x : Member). x.clause) m ms i) in
-      atom_over_functions m.selected.atom (passes (λ (l : Signed Tree). atom_is_formed l.atom) m.clause f m.selected (selects m i))
+      passes (λ (l : Signed Tree). atom_is_formed l.atom) m.clause f m.selected (selects m i)
 
   module _ (g : TreeClause) (all_false : (l : Signed Tree) → l ∈ g → ¬ IsTrueLiteral (IsTrueBy ms) l) where
     partner : (m : Member) → m ∈ ms → (t : Substitution) → IsWithin t m.clause g → Partner ms m (subst t m.selected.atom)
@@ -172,8 +171,8 @@ module _ (ms : List Member) (cs : List TreeClause) (formed : AreFormedClauses (c
         s : Sided
         s = found.0
 
-        terms : (v : ℕ) → IsTermOver IsFunction (s.left v) × IsTermOver IsFunction (s.right v)
-        terms = most_general_terms IsPredicate IsFunction m.selected.atom n.member.selected.atom (selected_atom m i) (selected_atom n.member n.listed) s found.1
+        terms : (v : ℕ) → IsTerm (s.left v) × IsTerm (s.right v)
+        terms = most_general_formed m.selected.atom n.member.selected.atom (selected_atom m i) (selected_atom n.member n.listed) s found.1
 
         f : IsInstanceOf u s
         f = found.1.general u unifier

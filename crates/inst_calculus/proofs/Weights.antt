@@ -9,9 +9,9 @@ use Rattle.inst_logic.specs.Measure.{tree_weight, trees_weight, function_count, 
 use Rattle.inst_logic.specs.Substitution.{Substitution, subst, substs, subst_literal, tree_vars, trees_vars}
 use Rattle.inst_logic.specs.Clauses.{TreeClause}
 use Rattle.inst_logic.specs.Unifiers.{IsProper, IsApplication}
-use Rattle.inst_logic.specs.WellFormed.{is_function_kind}
+use Rattle.inst_logic.specs.WellFormed.{is_function_kind, IsTerm}
+use Rattle.inst_logic.proofs.SameLemmas.{and_left}
 use Rattle.inst_calculus.proofs.Membership.{◌∈◌, in_left, in_right, in_either, contains_in, in_contains, some_or_none}
-use Rattle.inst_calculus.proofs.Terms.{IsTermOver, IsFunction}
 use Rattle.inst_calculus.proofs.Clauses.{literals_under, IsWithin}
 
 mutual
@@ -44,9 +44,9 @@ function_counts Equality h = cc
 function_counts Function h = refl
 
 -- a term that is no variable has a weight
-application_weight : (t : Tree) → IsApplication t → IsTermOver IsFunction t → 0 < tree_weight t
+application_weight : (t : Tree) → IsApplication t → IsTerm t → 0 < tree_weight t
 application_weight (var v) a h = absurd a
-application_weight (app f ts) a h = let e : function_count f.kind ≡ 1 = function_counts f.kind h.0 in omega arith
+application_weight (app f ts) a h = let e : function_count f.kind ≡ 1 = function_counts f.kind (and_left (is_function_kind f.kind) _ h) in omega arith
 
 one_grows : {A B : Type 0} (s : Substitution) (t : Tree) (ts : Trees) → A ⊎ B → (A → tree_weight t < tree_weight (subst s t)) → (B → trees_weight ts < trees_weight (substs s ts))
     → tree_weight t + trees_weight ts < tree_weight (subst s t) + trees_weight (substs s ts)
@@ -64,7 +64,7 @@ mutual
   variable_grows_each s v p (more t ts) i = one_grows s t ts (in_either v (tree_vars t) (trees_vars ts) i) (variable_grows s v p t) (variable_grows_each s v p ts)
 
 -- a proper substitution by terms makes a tree heavier
-pub proper_grows : (s : Substitution) → ((v : ℕ) → IsTermOver IsFunction (s v)) → (t : Tree) → IsProper s t → tree_weight t < tree_weight (subst s t)
+pub proper_grows : (s : Substitution) → ((v : ℕ) → IsTerm (s v)) → (t : Tree) → IsProper s t → tree_weight t < tree_weight (subst s t)
 proper_grows s terms t (v, i, a) = variable_grows s v (application_weight (s v) a (terms v)) t (contains_in v (tree_vars t) i)
 
 dec_application : (t : Tree) → Dec (IsApplication t)
