@@ -1,11 +1,10 @@
 -- Instances of instances, and what instances keep: atoms over given symbols, and so well-formedness.
-use Rattle.std.proofs.Common.{◌≡◌, ℕ, refl, sym, ap, ◌∙◌, subst as transport, Bool, true, Contains, All}
-use Rattle.std.specs.List.{list_all}
+use Rattle.std.proofs.Common.{ℕ, sym, ap, ◌∙◌, subst as transport, Contains}
 use Rattle.inst_logic.specs.declared.signed.Signed.{Signed}
 use Rattle.inst_logic.specs.declared.symbol.Sym.{Sym}
-use Rattle.inst_logic.specs.Tree.{Tree, var}
+use Rattle.inst_logic.specs.Tree.{Tree}
 use Rattle.inst_logic.specs.Equal.{literal_eq}
-use Rattle.inst_logic.specs.Substitution.{Substitution, subst, subst_literal, followed_by}
+use Rattle.inst_logic.specs.Substitution.{Substitution, subst_literal, followed_by}
 use Rattle.inst_logic.specs.Clauses.{TreeClause, instance, IsInstance, Subsumes, IsPart, numbered, order_of, canonical_form}
 use Rattle.inst_logic.specs.WellFormed.{atom_is_formed, IsTerm, IsFormedClause}
 use Rattle.inst_logic.proofs.Formed.{list_all_distinct, literals_stay_formed}

@@ -1,6 +1,6 @@
 -- Membership of a list by cases on the list, and the way between it and std's words `Contains`, `All` and `Any`, which go
 -- by places.
-use Rattle.std.proofs.Common.{◌≡◌, ℕ, zero, suc, ◌<◌, List, [], ◌∷◌, ◌++◌, ◌⊎◌, inl, inr, refl, sym, ap, subst as transport, map, length, get_or, arith, All, Any, Contains, Bool, true, ◌∙◌}
+use Rattle.std.proofs.Common.{◌≡◌, zero, suc, List, [], ◌∷◌, ◌++◌, ◌⊎◌, inl, inr, refl, sym, ap, subst as transport, map, get_or, arith, All, Any, Contains, Bool, true, ◌∙◌}
 use Rattle.std.specs.List.{list_all}
 use Rattle.inst_logic.proofs.SameLemmas.{and_left, and_right}
 use Rattle.std.proofs.lemmas.List.Elements.{All-contains, Contains-get_or}

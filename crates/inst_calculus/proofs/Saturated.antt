@@ -1,11 +1,10 @@
 -- A saturated list of well-formed clauses makes the clauses true that it is saturated for. If no literal of a ground
 -- instance g were true, then from each member with an instance in g one could go on to a member with an instance in g
 -- that has fewer literals or, with as many, is heavier, and so for ever.
-use Rattle.std.proofs.Common.{◌≡◌, ◌≢◌, ℕ, zero, suc, ◌+◌, ◌*◌, ◌<◌, ◌≤◌, List, [], ◌∷◌, ◌⊎◌, inl, inr, refl, sym, ap, ◌∙◌, subst as transport, arith, length, Bool, true, false, mul-le-mul_right, Any, Contains}
+use Rattle.std.proofs.Common.{◌≡◌, ◌≢◌, ℕ, zero, suc, ◌+◌, ◌*◌, ◌<◌, ◌≤◌, List, [], ◌∷◌, ◌⊎◌, inl, inr, refl, sym, ap, ◌∙◌, subst as transport, arith, length, Bool, true, false, mul-le-mul_right, Contains}
 use native.Mathlib.Decide.{dec_le}
 use Rattle.inst_logic.specs.declared.signed.Signed.{Signed}
 use Rattle.inst_logic.specs.Signed.{signed, complement, IsTautology}
-use Rattle.inst_logic.specs.Lists.{distinct}
 use Rattle.inst_logic.specs.Equal.{literal_eq}
 use Rattle.inst_logic.specs.Tree.{Tree}
 use Rattle.inst_logic.specs.Measure.{tree_weight, clause_weight}
@@ -18,9 +17,9 @@ use Rattle.inst_logic.proofs.SameLemmas.{literal_eq_decides}
 use Rattle.inst_calculus.specs.Models.{Member, clauses, Supports, IsTrueBy, Makes}
 use Rattle.inst_calculus.specs.Saturation.{IsCovered, tautology, variant, shorter, IsClosed, IsSubsumedBy, IsSaturated}
 use Rattle.inst_calculus.proofs.Membership.{◌∈◌, contains_in, in_contains, any_in, in_any, all_in, in_map, from_map, some_or_none, passes}
-use Rattle.inst_calculus.proofs.Distinct.{length_map, length_distinct, distinct_all}
+use Rattle.inst_calculus.proofs.Distinct.{length_map, distinct_all}
 use Rattle.inst_calculus.proofs.Unify.{most_general_exists, most_general_formed}
-use Rattle.inst_calculus.proofs.Clauses.{literals_under, IsWithin, part_within, within_followed, in_instance, length_instance, Follows, instance_within}
+use Rattle.inst_calculus.proofs.Clauses.{literals_under, IsWithin, part_within, within_followed, in_instance, length_instance, instance_within}
 use Rattle.inst_calculus.proofs.CanonicalForms.{unnumbered, canonical_within}
 use Rattle.inst_calculus.proofs.Weights.{proper_grows, proper_or_same_weight, clause_weight_kept, clause_weight_rises, clause_weight_bound}
 use Rattle.inst_calculus.proofs.Truth.{IsRival, rival_or_supports, dec_true, dec_true_literal, not_both_false}

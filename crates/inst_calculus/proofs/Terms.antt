@@ -1,10 +1,10 @@
 -- Terms and atoms over a set of symbols.
-use Rattle.std.proofs.Common.{◌≡◌, ℕ, ◌+◌, refl, sym, ap, ◌∙◌, Bool, true, false, not, ◌&&◌, nat_eq, IsTrue}
+use Rattle.std.proofs.Common.{◌≡◌, ℕ, ◌+◌, refl, sym, ap, ◌∙◌, true, not, ◌&&◌, nat_eq}
 use Rattle.std.proofs.lemmas.Bool.Decides.{Decides-eqb}
 use Rattle.inst_logic.specs.declared.symbol.Sym.{Sym}
 use Rattle.inst_logic.specs.Tree.{Tree, var, app, Trees, none, more}
 use Rattle.inst_logic.specs.Substitution.{Substitution, subst, substs}
-use Rattle.inst_logic.specs.WellFormed.{count_of, is_function_kind, symbol_is_formed, tree_is_formed, trees_are_formed, atom_is_formed, IsTerm, IsAtom}
+use Rattle.inst_logic.specs.WellFormed.{count_of, is_function_kind, symbol_is_formed, tree_is_formed, trees_are_formed, IsTerm, IsAtom}
 use Rattle.inst_logic.proofs.SameLemmas.{and_left, and_right, and_both}
 
 -- a tree of symbols of which G holds, each with as many arguments as its arity

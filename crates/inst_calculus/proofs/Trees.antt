@@ -1,5 +1,5 @@
 -- Trees and substitutions: what a substitution makes of a tree depends on the tree's variables alone.
-use Rattle.std.proofs.Common.{◌≡◌, ℕ, List, [], ◌∷◌, ◌++◌, ◌⊎◌, inl, inr, refl, sym, ap, ap₂, ◌∙◌, ⊎_elim, subst as transport, Bool, true, false, Decides}
+use Rattle.std.proofs.Common.{◌≡◌, ℕ, inl, inr, refl, sym, ap, ap₂, ⊎_elim, subst as transport, Bool, true, false, Decides}
 use Rattle.inst_logic.specs.declared.symbol.Sym.{Sym}
 use Rattle.inst_logic.specs.Tree.{Tree, var, app, Trees, none, more}
 use Rattle.inst_logic.specs.Equal.{tree_eq}

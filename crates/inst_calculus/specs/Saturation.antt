@@ -1,5 +1,5 @@
 -- Covered instances, and saturation.
-use Rattle.std.specs.Prelude.{◌≡◌, ◌≢◌, ◌<◌, ◌⊎◌, List, length, All, Any, Contains}
+use Rattle.std.specs.Prelude.{◌≢◌, ◌<◌, ◌⊎◌, List, length, All, Any, Contains}
 use Rattle.inst_logic.specs.Signed.{IsTautology}
 use Rattle.inst_logic.specs.Clauses.{TreeClause, instance, Subsumes, AreVariants, IsCanonical}
 use Rattle.inst_logic.specs.Unifiers.{Sided, IsMostGeneral, IsProper}
