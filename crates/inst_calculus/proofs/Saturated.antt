@@ -1,6 +1,17 @@
--- A saturated list of well-formed clauses makes the clauses true that it is saturated for. If no literal of a ground
--- instance g were true, then from each member with an instance in g one could go on to a member with an instance in g
--- that has fewer literals or, with as many, is heavier, and so for ever.
+-- The model theorem: a saturated list of well-formed clauses makes the clauses true that it is saturated for.
+--
+-- Suppose that no literal of some instance g of such a clause is true. The clause is no tautology, so some member has an
+-- instance whose literals are all in g. From each such member m one can go on to another that is later: it has fewer
+-- literals or, with as many, is heavier. Since weights within g are bounded, this cannot go on for ever.
+--
+-- The step. The selected literal of m is false in g. So there is a partner: a member whose selected literal has the other
+-- sign, has the same instance, and is no lighter. Let s be a most general unifier of the two. If s is proper for m's
+-- literal, m's instance under s is covered: by no tautology, since g would have a literal and its complement; or by a
+-- clause with fewer literals; or by a variant in the list, which is heavier than m or lost literals that became equal. If s
+-- is not proper for m's literal, that literal keeps its weight, and saturation says that s is proper for the partner's. But
+-- then the partner is lighter than the common instance, which is as heavy as m's literal.
+--
+-- Well-formedness serves in one place: what s puts for variables are terms, and a term that is no variable has a weight.
 use Rattle.std.proofs.Common.{◌≡◌, ◌≢◌, ℕ, zero, suc, ◌+◌, ◌*◌, ◌<◌, ◌≤◌, List, [], ◌∷◌, ◌⊎◌, inl, inr, refl, sym, ap, ◌∙◌, subst as transport, arith, length, Bool, true, false, mul-le-mul_right, Contains}
 use native.Mathlib.Decide.{dec_le}
 use Rattle.inst_logic.specs.declared.signed.Signed.{Signed}
