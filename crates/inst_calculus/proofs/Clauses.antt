@@ -1,9 +1,8 @@
 -- Literals and clauses under substitutions: variables, instances, parts and subsumption.
-use Rattle.std.proofs.Common.{◌≡◌, ℕ, List, [], ◌∷◌, ◌++◌, ◌⊎◌, inl, inr, refl, sym, ap, ap₂, ◌∙◌, subst as transport, map, length, ◌≤◌, arith, Contains}
+use Rattle.std.proofs.Common.{◌≡◌, ℕ, [], ◌∷◌, ◌⊎◌, inl, inr, refl, sym, ap, ap₂, ◌∙◌, subst as transport, map, length, ◌≤◌, arith, Contains}
 use Rattle.inst_logic.specs.Tree.{Tree, var}
 use Rattle.inst_logic.specs.declared.signed.Signed.{Signed}
 use Rattle.inst_logic.specs.Signed.{complement, IsTautology}
-use Rattle.inst_logic.specs.Lists.{distinct}
 use Rattle.inst_logic.specs.Equal.{literal_eq}
 use Rattle.inst_logic.specs.Substitution.{Substitution, subst, subst_literal, followed_by, tree_vars, clause_vars}
 use Rattle.inst_logic.specs.Clauses.{TreeClause, instance, IsPart, Subsumes}

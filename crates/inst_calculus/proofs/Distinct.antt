@@ -1,9 +1,9 @@
 -- Lists without repeats, the places of items, and what a function that tells the items apart does to both.
-use Rattle.std.proofs.Common.{◌≡◌, ℕ, suc, ◌+◌, ◌<◌, ◌≤◌, List, [], ◌∷◌, ◌++◌, ◌⊎◌, inl, inr, refl, sym, ap, ◌∙◌, Bool, true, false, cond, not, filter, map, length, get_or, arith, Decides, nat_eq, one-add}
-use Rattle.std.specs.List.{position_or_len}
+use Rattle.std.proofs.Common.{◌≡◌, ℕ, suc, ◌+◌, ◌<◌, ◌≤◌, List, [], ◌∷◌, ◌++◌, fold, ◌||◌, ◌⊎◌, inl, inr, refl, sym, ap, ◌∙◌, Bool, true, false, cond, not, filter, map, length, get_or, arith, Decides, nat_eq, one-add}
+use Rattle.std.specs.List.{position_or_len, list_any}
 use Rattle.std.proofs.lemmas.Bool.Decides.{not_from_Decides, Decides-eqb}
-use Rattle.inst_logic.specs.Lists.{distinct}
-use Rattle.inst_calculus.proofs.Membership.{◌∈◌}
+use Rattle.inst_logic.specs.Lists.{distinct, with_item}
+use Rattle.inst_calculus.proofs.Membership.{◌∈◌, equal_in, in_left}
 
 -- the list without the items equal to x
 abbrev pub without : {A : Type 0} → (A → A → Bool) → A → List A → List A
@@ -118,6 +118,58 @@ module _ {A : Type 0} (same : A → A → Bool) (law : (x y : A) → Decides (sa
   distinct_of_distinct [] h = refl
   distinct_of_distinct (x ∷ xs) h = ap (λ ys. x ∷ without same x ys) (distinct_of_distinct xs h.1) ∙ ap (λ ys. x ∷ ys) (without_absent x xs h.0)
 
+  length_without_less : (x : A) (xs : List A) → x ∈ xs → length (without same x xs) < length xs
+  length_without_less x [] h = absurd h
+  length_without_less x (z ∷ xs) h = go (same x z) (law x z) h (length_without x xs) (length_without_less x xs)
+    where
+      go : (b : Bool) → Decides b (x ≡ z) → (x ≡ z) ⊎ (x ∈ xs) → length (without same x xs) ≤ length xs → (x ∈ xs → length (without same x xs) < length xs)
+          → length (cond (not b) (z ∷ without same x xs) (without same x xs)) < suc (length xs)
+      go true d i l rest = omega arith
+      go false d (inl e) l rest = absurd (not_from_Decides false d refl e)
+      go false d (inr i) l rest = let h : length (without same x xs) < length xs = rest i in omega arith
+
+  -- a list without repeats is no longer than one that has all its items
+  pub length_within : (xs ys : List A) → IsDistinct xs → ((x : A) → x ∈ xs → x ∈ ys) → length xs ≤ length ys
+  length_within [] ys h w = omega arith
+  length_within (x ∷ xs) ys h w =
+      let r : length xs ≤ length (without same x ys) =
+      length_within xs (without same x ys) h.1 (λ y i. without_keeps x y ys (λ e. h.0 (equal_in y x xs (sym e) i)) (w y (inr i))) in
+      let q : length (without same x ys) < length ys = length_without_less x ys (w x (inl refl)) in
+      omega arith
+
+  -- the distinct items of a joined list depend on those of its second part
+  pub distinct_joined : (xs ys zs : List A) → distinct same ys ≡ distinct same zs → distinct same (xs ++ ys) ≡ distinct same (xs ++ zs)
+  distinct_joined [] ys zs e = e
+  distinct_joined (x ∷ xs) ys zs e = ap (λ ws. x ∷ without same x ws) (distinct_joined xs ys zs e)
+
+  with_item_present : (xs : List A) (y : A) → y ∈ xs → with_item same xs y ≡ xs
+  with_item_present xs y i = rw (found xs i) refl
+    where
+      found : (zs : List A) → y ∈ zs → list_any (λ x. same x y) zs ≡ true
+      found [] j = absurd j
+      found (z ∷ zs) (inl e) = rw ((law z y).1 (sym e)) refl
+      found (z ∷ zs) (inr j) = rw (found zs j) (or_true (same z y))
+        where
+          or_true : (b : Bool) → (b || true) ≡ true
+          or_true true = refl
+          or_true false = refl
+
+  in_with_item : (x : A) (xs : List A) (y : A) → x ∈ xs → x ∈ with_item same xs y
+  in_with_item x xs y i = go (list_any (λ z. same z y) xs)
+    where
+      go : (b : Bool) → x ∈ cond b xs (xs ++ y ∷ [])
+      go true = i
+      go false = in_left x xs (y ∷ []) i
+
+  -- items that are there add nothing, and none is lost
+  pub items_present : (xs ys : List A) → ((y : A) → y ∈ ys → y ∈ xs) → fold (with_item same) xs ys ≡ xs
+  items_present xs [] h = refl
+  items_present xs (y ∷ ys) h = ap (λ zs. fold (with_item same) zs ys) (with_item_present xs y (h y (inl refl))) ∙ items_present xs ys (λ z i. h z (inr i))
+
+  pub in_with_items : (x : A) (xs ys : List A) → x ∈ xs → x ∈ fold (with_item same) xs ys
+  in_with_items x xs [] i = i
+  in_with_items x xs (y ∷ ys) i = in_with_items x (with_item same xs y) ys (in_with_item x xs y i)
+
 -- a function that tells x from the other items of the list
 abbrev pub IsApart : {A B : Type 0} → (A → B) → A → List A → Type 0
 IsApart {A} f x xs = (y : A) → y ∈ xs → f x ≡ f y → x ≡ y
@@ -165,3 +217,12 @@ item_at_place v (w ∷ vs) i = go (nat_eq w v) (Decides-eqb w v) i (item_at_plac
     go true d j rest = d.0 refl
     go false d (inl e) rest = absurd (not_from_Decides false d refl (sym e))
     go false d (inr j) rest = rw one-add (rest j)
+
+pub place_below : (v : ℕ) (vs : List ℕ) → v ∈ vs → place v vs < length vs
+place_below v [] i = absurd i
+place_below v (w ∷ vs) i = go (nat_eq w v) (Decides-eqb w v) i (place_below v vs)
+  where
+    go : (b : Bool) → Decides b (w ≡ v) → (v ≡ w) ⊎ (v ∈ vs) → (v ∈ vs → place v vs < length vs) → cond (not b) (1 + place v vs) 0 < suc (length vs)
+    go true d j rest = omega arith
+    go false d (inl e) rest = absurd (not_from_Decides false d refl (sym e))
+    go false d (inr j) rest = let h : place v vs < length vs = rest j in omega arith

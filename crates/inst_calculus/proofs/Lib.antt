@@ -5,8 +5,10 @@ pub mod Terms
 pub mod Unify
 pub mod Clauses
 pub mod CanonicalForms
+pub mod Instances
 pub mod CoveredInstances
 pub mod Choice
 pub mod Weights
 pub mod Truth
 pub mod Saturated
+pub mod Abstractions

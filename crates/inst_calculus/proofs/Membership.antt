@@ -1,8 +1,8 @@
 -- Membership of a list by cases on the list, and the way between it and std's words `Contains`, `All` and `Any`, which go
 -- by places.
-use Rattle.std.proofs.Common.{◌≡◌, ℕ, zero, suc, ◌<◌, List, [], ◌∷◌, ◌++◌, ◌⊎◌, inl, inr, refl, sym, ap, subst as transport, map, length, get_or, arith, All, Any, Contains, Bool, true, ◌∙◌}
+use Rattle.std.proofs.Common.{◌≡◌, zero, suc, List, [], ◌∷◌, ◌++◌, ◌⊎◌, inl, inr, refl, sym, ap, subst as transport, map, get_or, arith, All, Any, Contains, Bool, true, ◌∙◌}
 use Rattle.std.specs.List.{list_all}
-use Rattle.inst_logic.proofs.SameLemmas.{and_left, and_right}
+use Rattle.inst_logic.proofs.SameLemmas.{and_left, and_right, and_both}
 use Rattle.std.proofs.lemmas.List.Elements.{All-contains, Contains-get_or}
 
 infix 50 ◌∈◌
@@ -77,3 +77,7 @@ pub passes : {A : Type 0} (p : A → Bool) (xs : List A) → list_all p xs ≡ t
 passes p [] h x i = absurd i
 passes p (y ∷ ys) h x (inl e) = ap p e ∙ and_left (p y) _ h
 passes p (y ∷ ys) h x (inr i) = passes p ys (and_right (p y) _ h) x i
+
+pub all_pass : {A : Type 0} (p : A → Bool) (xs : List A) → ((x : A) → x ∈ xs → p x ≡ true) → list_all p xs ≡ true
+all_pass p [] h = refl
+all_pass p (y ∷ ys) h = and_both (p y) _ (h y (inl refl)) (all_pass p ys (λ x i. h x (inr i)))

@@ -1,11 +1,11 @@
 -- Terms and atoms over a set of symbols.
-use Rattle.std.proofs.Common.{◌≡◌, ℕ, ◌+◌, refl, sym, ap, ◌∙◌, Bool, true, false, not, ◌&&◌, nat_eq, IsTrue}
+use Rattle.std.proofs.Common.{◌≡◌, ℕ, ◌+◌, refl, sym, ap, ◌∙◌, true, not, ◌&&◌, nat_eq}
 use Rattle.std.proofs.lemmas.Bool.Decides.{Decides-eqb}
 use Rattle.inst_logic.specs.declared.symbol.Sym.{Sym}
 use Rattle.inst_logic.specs.Tree.{Tree, var, app, Trees, none, more}
 use Rattle.inst_logic.specs.Substitution.{Substitution, subst, substs}
-use Rattle.inst_logic.specs.WellFormed.{count_of, is_function_kind, symbol_is_formed, tree_is_formed, trees_are_formed, atom_is_formed}
-use Rattle.inst_logic.proofs.SameLemmas.{and_left, and_right}
+use Rattle.inst_logic.specs.WellFormed.{count_of, is_function_kind, symbol_is_formed, tree_is_formed, trees_are_formed, IsTerm, IsAtom}
+use Rattle.inst_logic.proofs.SameLemmas.{and_left, and_right, and_both}
 
 -- a tree of symbols of which G holds, each with as many arguments as its arity
 abbrev mutual
@@ -26,26 +26,45 @@ abbrev pub IsFunction : Sym → Type 0
 IsFunction f = is_function_kind f.kind ≡ true
 
 abbrev pub IsPredicate : Sym → Type 0
-IsPredicate p = not (is_function_kind p.kind) ≡ true
+IsPredicate p = (not (is_function_kind p.kind) ≡ true) × (symbol_is_formed p ≡ true)
 
--- well-formed terms and atoms are of this form
+-- the well-formed terms and atoms are those over symbols of kind Function, and predicates or equality
 mutual
-  pub term_over_functions : (t : Tree) → tree_is_formed t ≡ true → IsTermOver IsFunction t
-  term_over_functions (var v) h = tt
-  term_over_functions (app f ts) h =
+  pub formed_term_over : (t : Tree) → IsTerm t → IsTermOver IsFunction t
+  formed_term_over (var v) h = tt
+  formed_term_over (app f ts) h =
       let k : (nat_eq (count_of ts) f.arity && trees_are_formed ts) ≡ true = and_right (is_function_kind f.kind) _ h in
-      (and_left (is_function_kind f.kind) _ h, (Decides-eqb (count_of ts) f.arity).0 (and_left (nat_eq (count_of ts) f.arity) _ k), terms_over_functions ts (and_right (nat_eq (count_of ts) f.arity) _ k))
+      (and_left (is_function_kind f.kind) _ h, (Decides-eqb (count_of ts) f.arity).0 (and_left (nat_eq (count_of ts) f.arity) _ k), formed_terms_over ts (and_right (nat_eq (count_of ts) f.arity) _ k))
 
-  pub terms_over_functions : (ts : Trees) → trees_are_formed ts ≡ true → AreTermsOver IsFunction ts
-  terms_over_functions none h = tt
-  terms_over_functions (more t ts) h = (term_over_functions t (and_left (tree_is_formed t) _ h), terms_over_functions ts (and_right (tree_is_formed t) _ h))
+  formed_terms_over : (ts : Trees) → trees_are_formed ts ≡ true → AreTermsOver IsFunction ts
+  formed_terms_over none h = tt
+  formed_terms_over (more t ts) h = (formed_term_over t (and_left (tree_is_formed t) _ h), formed_terms_over ts (and_right (tree_is_formed t) _ h))
 
-pub atom_over_functions : (t : Tree) → atom_is_formed t ≡ true → IsAtomOver IsPredicate IsFunction t
-atom_over_functions (var v) h = cc
-atom_over_functions (app p ts) h =
+mutual
+  pub term_over_formed : (t : Tree) → IsTermOver IsFunction t → IsTerm t
+  term_over_formed (var v) h = refl
+  term_over_formed (app f ts) h =
+      and_both (is_function_kind f.kind) _ h.0 (and_both (nat_eq (count_of ts) f.arity) _ ((Decides-eqb (count_of ts) f.arity).1 h.1) (terms_over_formed ts h.2))
+
+  terms_over_formed : (ts : Trees) → AreTermsOver IsFunction ts → trees_are_formed ts ≡ true
+  terms_over_formed none h = refl
+  terms_over_formed (more t ts) h = and_both (tree_is_formed t) _ (term_over_formed t h.0) (terms_over_formed ts h.1)
+
+pub formed_atom_over : (t : Tree) → IsAtom t → IsAtomOver IsPredicate IsFunction t
+formed_atom_over (var v) h = cc
+formed_atom_over (app p ts) h =
     let k : (symbol_is_formed p && (nat_eq (count_of ts) p.arity && trees_are_formed ts)) ≡ true = and_right (not (is_function_kind p.kind)) _ h in
-    let l : (nat_eq (count_of ts) p.arity && trees_are_formed ts) ≡ true = and_right (symbol_is_formed p) _ k in
-    (and_left (not (is_function_kind p.kind)) _ h, (Decides-eqb (count_of ts) p.arity).0 (and_left (nat_eq (count_of ts) p.arity) _ l), terms_over_functions ts (and_right (nat_eq (count_of ts) p.arity) _ l))
+    let l : (nat_eq (count_of ts) p.arity && trees_are_formed ts) ≡ true = and_right (symbol_is_formed p) _ k in (
+      (and_left (not (is_function_kind p.kind)) _ h, and_left (symbol_is_formed p) _ k),
+      (Decides-eqb (count_of ts) p.arity).0 (and_left (nat_eq (count_of ts) p.arity) _ l),
+      formed_terms_over ts (and_right (nat_eq (count_of ts) p.arity) _ l),
+    )
+
+pub atom_over_formed : (t : Tree) → IsAtomOver IsPredicate IsFunction t → IsAtom t
+atom_over_formed (var v) h = absurd h
+atom_over_formed (app p ts) h =
+    and_both (not (is_function_kind p.kind)) _ h.0.0
+    (and_both (symbol_is_formed p) _ h.0.1 (and_both (nat_eq (count_of ts) p.arity) _ ((Decides-eqb (count_of ts) p.arity).1 h.1) (terms_over_formed ts h.2)))
 
 count_of_substs : (s : Substitution) (ts : Trees) → count_of (substs s ts) ≡ count_of ts
 count_of_substs s none = refl

@@ -1,5 +1,5 @@
 -- Trees and substitutions: what a substitution makes of a tree depends on the tree's variables alone.
-use Rattle.std.proofs.Common.{◌≡◌, ℕ, List, [], ◌∷◌, ◌++◌, ◌⊎◌, inl, inr, refl, sym, ap, ap₂, ◌∙◌, ⊎_elim, subst as transport, Bool, true, false, Decides}
+use Rattle.std.proofs.Common.{◌≡◌, ℕ, inl, inr, refl, sym, ap, ap₂, ⊎_elim, subst as transport, Bool, true, false, Decides}
 use Rattle.inst_logic.specs.declared.symbol.Sym.{Sym}
 use Rattle.inst_logic.specs.Tree.{Tree, var, app, Trees, none, more}
 use Rattle.inst_logic.specs.Equal.{tree_eq}
@@ -67,3 +67,16 @@ pub is_variable : (r : Substitution) (v : ℕ) (t : Tree) → subst r t ≡ var 
 unfolding name_of
 is_variable r v (var w) e = refl
 is_variable r v (app f ts) e = absurd (cc)
+
+-- a variable of an instance comes from what is put for one of the tree's
+mutual
+  pub variable_from : (s : Substitution) (v : ℕ) (t : Tree) → v ∈ tree_vars (subst s t) → (w : ℕ) × (w ∈ tree_vars t) × (v ∈ tree_vars (s w))
+  variable_from s v (var w) i = (w, inl refl, i)
+  variable_from s v (app f ts) i = variable_from_each s v ts i
+
+  variable_from_each : (s : Substitution) (v : ℕ) (ts : Trees) → v ∈ trees_vars (substs s ts) → (w : ℕ) × (w ∈ trees_vars ts) × (v ∈ tree_vars (s w))
+  variable_from_each s v none i = absurd i
+  variable_from_each s v (more t ts) i = elim (in_either v (tree_vars (subst s t)) (trees_vars (substs s ts)) i) [
+    | inl j ↦ let (w, k, h) = variable_from s v t j in (w, in_left w (tree_vars t) (trees_vars ts) k, h)
+    | inr j ↦ let (w, k, h) = variable_from_each s v ts j in (w, in_right w (tree_vars t) (trees_vars ts) k, h)
+  ]

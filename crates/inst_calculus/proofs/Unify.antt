@@ -1,16 +1,17 @@
 -- Two trees that have a unifier have a most general one, which brings in no symbols of its own. By recursion on their
 -- common instance.
-use Rattle.std.proofs.Common.{◌≡◌, ℕ, suc, ◌+◌, ◌*◌, ◌/◌, ◌%◌, ◌≤◌, ◌⊎◌, inl, inr, refl, sym, ap, ap₂, ◌∙◌, subst as transport, arith}
+use Rattle.std.proofs.Common.{◌≡◌, ℕ, ◌+◌, ◌*◌, ◌/◌, ◌%◌, ◌≤◌, ◌⊎◌, inl, inr, refl, sym, ap, ap₂, ◌∙◌, subst as transport, arith}
 use native.Mathlib.Decide.{ℕ_discrete}
 use Rattle.inst_logic.specs.declared.symbol.Sym.{Sym}
 use Rattle.inst_logic.specs.Tree.{Tree, var, app, Trees, none, more}
 use Rattle.inst_logic.specs.Measure.{tree_size, trees_size}
 use Rattle.inst_logic.specs.Substitution.{Substitution, subst, substs, followed_by, tree_vars, trees_vars}
+use Rattle.inst_logic.specs.WellFormed.{IsTerm, IsAtom}
 use Rattle.inst_logic.specs.Unifiers.{Sided, IsUnifier, IsInstanceOf, IsMostGeneral}
 use Rattle.inst_logic.proofs.Substitutions.{subst_subst, substs_substs, subst_var}
 use Rattle.inst_calculus.proofs.Membership.{◌∈◌, in_either}
 use Rattle.inst_calculus.proofs.Trees.{app_symbol, app_trees, more_tree, more_trees, same_tree, subst_agree, substs_agree}
-use Rattle.inst_calculus.proofs.Terms.{IsTermOver, AreTermsOver, IsAtomOver, term_over_subst, terms_over_substs, term_over_from_subst}
+use Rattle.inst_calculus.proofs.Terms.{IsTermOver, AreTermsOver, IsAtomOver, IsFunction, IsPredicate, formed_atom_over, term_over_formed, term_over_subst, terms_over_substs, term_over_from_subst}
 
 inside_more : (s : Substitution) (v : ℕ) (t : Tree) (ts : Trees) → (v ∈ tree_vars t) ⊎ (v ∈ trees_vars ts)
     → (v ∈ tree_vars t → tree_size (s v) ≤ tree_size (subst s t)) → (v ∈ trees_vars ts → tree_size (s v) ≤ trees_size (substs s ts))
@@ -201,3 +202,9 @@ most_general_terms P G (app p ts) (app q us) h k s g v = (
 
     i : IsInstanceOf r s
     i = g.general r unifies
+
+-- what a most general unifier of two well-formed atoms puts for variables is well formed
+pub most_general_formed : (a b : Tree) → IsAtom a → IsAtom b → (s : Sided) → IsMostGeneral s a b → (v : ℕ) → IsTerm (s.left v) × IsTerm (s.right v)
+most_general_formed a b h k s g v =
+    let t = most_general_terms IsPredicate IsFunction a b (formed_atom_over a h) (formed_atom_over b k) s g v in
+    (term_over_formed (s.left v) t.0, term_over_formed (s.right v) t.1)

@@ -1,10 +1,10 @@
 -- Abstractions: clauses with one constant in the place of every variable.
-use Rattle.std.specs.Prelude.{◌≡◌, ℕ, ◌<◌, List, [], ◌∷◌, ◌++◌, Bool, true, false, codes, decimal}
+use Rattle.std.specs.Prelude.{◌≡◌, ℕ, ◌<◌, List, ◌++◌, Bool, true, false, codes, decimal}
 use Rattle.std.specs.List.{list_any}
 use Rattle.std.specs.Str.{bytes_eq}
 use Rattle.inst_logic.specs.declared.symbol.Sym.{Sym}
 use Rattle.inst_logic.specs.declared.symbol.Kind.TheVariants.{Function}
-use Rattle.inst_logic.specs.Tree.{Tree, app, none}
+use Rattle.inst_logic.specs.Tree.{app, none}
 use Rattle.inst_logic.specs.Substitution.{Substitution}
 use Rattle.inst_logic.specs.Clauses.{TreeClause, instance}
 use Rattle.inst_calculus.specs.Axioms.{occurrences}
