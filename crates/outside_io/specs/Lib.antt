@@ -1,0 +1,6 @@
+pub mod Causes
+pub mod FailingCalls
+pub mod Files
+pub mod InMemory
+pub mod RealFiles
+pub mod Taken
