@@ -3,3 +3,4 @@ pub mod Validity
 pub mod Printable
 pub mod Lines
 pub mod Text
+pub mod Examples

@@ -3,5 +3,6 @@
 #![tactic(auto)]
 
 pub mod complaint;
+pub mod examples;
 
 pub use complaint::Complaint;

@@ -12,3 +12,5 @@ pub mod Weights
 pub mod Truth
 pub mod Saturated
 pub mod Abstractions
+pub mod ShortLists
+pub mod Turns

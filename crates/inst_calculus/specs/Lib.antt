@@ -5,3 +5,4 @@ pub mod Models
 pub mod Saturation
 pub mod Steps
 pub mod Renamings
+pub mod Examples

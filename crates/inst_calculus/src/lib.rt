@@ -5,6 +5,7 @@
 
 pub mod covering;
 pub mod derivations;
+pub mod examples;
 pub mod model;
 pub mod unifiers;
 

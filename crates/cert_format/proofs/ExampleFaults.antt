@@ -1,0 +1,87 @@
+-- No complaint on the members of the example certificates.
+use Rattle.std.proofs.Common.{◌≡◌, ℕ, zero, suc, ◌<◌, ◌≤◌, List, [], ◌∷◌, refl, sym, ap, lit<, arith, inr, true}
+use Rattle.std.specs.Prelude.{Contains, ◌⊎◌}
+use Rattle.inst_logic.specs.Tree.{Tree, var}
+use Rattle.inst_logic.specs.declared.signed.Signed.{Signed}
+use Rattle.inst_logic.specs.Derivations.{IsOnlyOutside}
+use Rattle.inst_logic.specs.Substitution.{subst as put}
+use Rattle.inst_logic.specs.Unifiers.{Sided, IsMostGeneral}
+use Rattle.inst_logic.specs.Examples.{p, q, constant_c, yes, no, binding, first_is_c}
+use Rattle.inst_calculus.specs.Entries.{Entry, input}
+use Rattle.inst_calculus.specs.Steps.{Step}
+use Rattle.inst_calculus.specs.Models.{Member}
+use Rattle.inst_calculus.proofs.ShortLists.{each_all, each_number}
+use Rattle.inst_calculus.proofs.Turns.{in_turn, in_turn-even, in_turn-odd}
+use Rattle.cert_format.specs.Validity.{Gives, IsSelected, IsWrongMember}
+use Rattle.cert_format.specs.Examples.{chain_saturation, p_or_not_q, q_always, p_always, not_p_c, instance_refutation, entry}
+use Rattle.cert_format.proofs.Selected.{selected_is}
+
+pub chain_members : (n : ℕ) → ¬ IsWrongMember chain_saturation.base n
+chain_members n (e, i, h) = h (each_number (λ m (x : Entry). Gives chain_saturation.base m x.origin x.clause) chain_saturation.base.members
+    ((p_or_not_q, refl, refl), ((q_always, refl, refl), tt)) n e i)
+
+pub chain_places : (n : ℕ) → 0 < n → n ≤ 2 → ((m : Member) → ¬ IsSelected chain_saturation n m) → ⊥
+chain_places zero l h f = omega arith
+chain_places (suc zero) l h f = f (record { clause = p_or_not_q; selected = yes (p (var 0)) })
+    (record { entry = entry p_or_not_q (input 1); place = 1; entry_at = refl; place_at = refl; clause = refl; selected = refl })
+chain_places (suc (suc zero)) l h f = f (record { clause = q_always; selected = yes (q (var 0)) })
+    (record { entry = entry q_always (input 2); place = 1; entry_at = refl; place_at = refl; clause = refl; selected = refl })
+chain_places (suc (suc (suc n))) l h f = omega arith
+
+pub chain_positive : (n : ℕ) (m : Member) → IsSelected chain_saturation n m → m.selected.positive ≡ true
+chain_positive zero m s = absurd (let e = s.entry_at in cc)
+chain_positive (suc zero) m s = ap (λ (l : Signed Tree). l.positive) (selected_is chain_saturation 1 m s (entry p_or_not_q (input 1)) 1 (yes (p (var 0))) refl refl refl)
+chain_positive (suc (suc zero)) m s = ap (λ (l : Signed Tree). l.positive) (selected_is chain_saturation 2 m s (entry q_always (input 2)) 1 (yes (q (var 0))) refl refl refl)
+chain_positive (suc (suc (suc n))) m s = absurd (let e = s.entry_at in cc)
+
+-- a clause of one literal, with nothing known
+pub only_literal : (l : Signed Tree) → IsOnlyOutside [] (l ∷ []) l
+only_literal l = record {
+  here = (0, lit< tt, refl);
+  outside = λ m. omega (arith, m.1);
+  others = each_all (λ m. Contains [] m ⊎ (m ≡ l)) (l ∷ []) (inr refl, tt);
+}
+
+bound_left : (u : Sided) → u.left 0 ≡ constant_c → (v : ℕ) → u.left v ≡ put (in_turn u.left u.right) (first_is_c v)
+bound_left u h zero = h
+bound_left u h (suc v) = sym (in_turn-even u.left u.right (suc v))
+
+bound : IsMostGeneral binding (p (var 0)) (p constant_c)
+bound = record {
+  unifies = refl;
+  general = λ u h. record {
+    rest = in_turn u.left u.right;
+    left = bound_left u (cc);
+    right = λ v. sym (in_turn-odd u.left u.right v);
+  };
+}
+
+pub instance_members : (steps : List (Step Tree)) (n : ℕ) → ¬ IsWrongMember (instance_refutation steps).base n
+instance_members steps n (e, i, h) = h (each_number (λ m (x : Entry). Gives (instance_refutation steps).base m x.origin x.clause) (instance_refutation steps).base.members (
+  (p_always, refl, refl),
+  (
+    (not_p_c, refl, refl),
+    (
+      (
+        lit< tt,
+        lit< tt,
+        record {
+          entry = entry p_always (input 1);
+          partner_entry = entry not_p_c (input 2);
+          literal = yes (p (var 0));
+          other_literal = no (p constant_c);
+          entry_at = refl;
+          partner_at = refl;
+          literal_at = refl;
+          other_at = refl;
+          opposite = λ d. cc;
+          unifier = binding;
+          most_general = bound;
+          proper = (0, (0, lit< tt, refl), tt);
+          conclusion = refl;
+        },
+      ),
+      tt,
+    ),
+  ),
+) n e i)

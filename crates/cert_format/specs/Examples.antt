@@ -1,0 +1,75 @@
+-- The certificates of the worked examples, and texts by their lines.
+use Rattle.std.specs.Prelude.{ℕ, List, [], ◌∷◌, ◌++◌, codes}
+use Rattle.inst_logic.specs.declared.symbol.Sym.{Sym}
+use Rattle.inst_logic.specs.declared.symbol.Kind.TheVariants.{Function}
+use Rattle.inst_logic.specs.Tree.{Tree, var}
+use Rattle.inst_logic.specs.Clauses.{TreeClause}
+use Rattle.inst_logic.specs.Examples.{p, q, constant_c, constant_bot, yes, no}
+use Rattle.inst_calculus.specs.Entries.{Origin, input, inst, Entry}
+use Rattle.inst_calculus.specs.Steps.{given, Step}
+use Rattle.cert_format.specs.Certificate.{Refutation, Saturation}
+
+-- the lines, each with a line feed behind it
+abbrev pub text_of_lines : List (List ℕ) → List ℕ
+text_of_lines [] = []
+text_of_lines (l ∷ ls) = l ++ 10 ∷ text_of_lines ls
+
+abbrev pub entry : TreeClause → Origin → Entry
+entry c o = record { clause = c; origin = o }
+
+-- without clauses
+abbrev pub empty_saturation : Saturation
+empty_saturation = record { base = record { inputs = []; names = []; axioms = []; members = [] }; places = [] }
+
+-- p(X0) | ~q(X0)
+abbrev pub p_or_not_q : TreeClause
+p_or_not_q = yes (p (var 0)) ∷ no (q (var 0)) ∷ []
+
+-- q(X0)
+abbrev pub q_always : TreeClause
+q_always = yes (q (var 0)) ∷ []
+
+-- the two clauses with their first literals selected
+abbrev pub chain_saturation : Saturation
+chain_saturation = record {
+  base = record {
+    inputs = p_or_not_q ∷ q_always ∷ [];
+    names = codes "a" ∷ codes "b" ∷ [];
+    axioms = [];
+    members = entry p_or_not_q (input 1) ∷ entry q_always (input 2) ∷ [];
+  };
+  places = 1 ∷ 1 ∷ [];
+}
+
+-- p(X0)
+abbrev pub p_always : TreeClause
+p_always = yes (p (var 0)) ∷ []
+
+-- ~p(c)
+abbrev pub not_p_c : TreeClause
+not_p_c = no (p constant_c) ∷ []
+
+-- p(c)
+abbrev pub p_c : TreeClause
+p_c = yes (p constant_c) ∷ []
+
+abbrev pub bot : Sym
+bot = record { kind = Function; name = codes "bot_0"; arity = 0 }
+
+-- p(X0) and ~p(c) with the conclusion p(c), and the steps that are given
+abbrev pub instance_refutation : List (Step Tree) → Refutation
+instance_refutation steps = record {
+  base = record {
+    inputs = p_always ∷ not_p_c ∷ [];
+    names = codes "one" ∷ codes "two" ∷ [];
+    axioms = [];
+    members = entry p_always (input 1) ∷ entry not_p_c (input 2) ∷ entry p_c (inst 1 1 2 1) ∷ [];
+  };
+  bot = bot;
+  grounds = (yes (p constant_bot) ∷ []) ∷ not_p_c ∷ p_c ∷ [];
+  steps = steps;
+}
+
+-- one step to the empty clause, by two ground clauses
+abbrev pub one_step : ℕ → ℕ → List (Step Tree)
+one_step m n = record { clause = []; hints = given m ∷ given n ∷ [] } ∷ []

@@ -1,0 +1,62 @@
+// Worked examples of the definitions, as theorems: each function does nothing, and its clauses are closed facts.
+ghost use Rattle.std.specs.Prelude.{◌≡◌, ◌∷◌, [], codes};
+ghost use Rattle.cert_format.specs.declared.complaint.Complaint.TheVariants.{Step as Shown, NotEmpty};
+ghost use Rattle.cert_format.specs.Validity.{RefutationFault, IsFirstFault, IsValidRefutation, IsValidSaturation};
+ghost use Rattle.cert_format.specs.Printable.{IsPrintableRefutation, IsPrintableSaturation, IsTextName};
+ghost use Rattle.cert_format.specs.Text.{refutation_text, saturation_text};
+ghost use Rattle.cert_format.specs.Examples.{text_of_lines, empty_saturation, chain_saturation, instance_refutation, one_step};
+
+/// Whole texts, byte by byte.
+pub fn texts()
+    ensures empty { saturation_text (codes "r1.p") empty_saturation ≡ text_of_lines (codes "% SZS status Satisfiable for r1.p"
+        ∷ codes "% SZS output start Saturation for r1.p"
+        ∷ codes "% instgen certificate 1"
+        ∷ codes "% SZS output end Saturation for r1.p" ∷ []) }
+    ensures saturation { saturation_text (codes "r9.p") chain_saturation ≡ text_of_lines (codes "% SZS status Satisfiable for r9.p"
+        ∷ codes "% SZS output start Saturation for r9.p"
+        ∷ codes "% instgen certificate 1"
+        ∷ codes "cnf(i1,axiom,p(X0) | ~q(X0),named(a))."
+        ∷ codes "cnf(i2,axiom,q(X0),named(b))."
+        ∷ codes "cnf(m1,plain,p(X0) | ~q(X0),input(1),[selected(1)])."
+        ∷ codes "cnf(m2,plain,q(X0),input(2),[selected(1)])."
+        ∷ codes "% SZS output end Saturation for r9.p" ∷ []) }
+    ensures refutation { refutation_text (codes "r3.p") (instance_refutation (one_step 2 3)) ≡ text_of_lines (codes "% SZS status Unsatisfiable for r3.p"
+        ∷ codes "% SZS output start CNFRefutation for r3.p"
+        ∷ codes "% instgen certificate 1"
+        ∷ codes "% ground constant bot_0"
+        ∷ codes "cnf(i1,axiom,p(X0),named(one))."
+        ∷ codes "cnf(i2,axiom,~p(c),named(two))."
+        ∷ codes "cnf(m1,plain,p(X0),input(1))."
+        ∷ codes "cnf(m2,plain,~p(c),input(2))."
+        ∷ codes "cnf(m3,plain,p(c),inst(m1,1,m2,1))."
+        ∷ codes "cnf(g1,plain,p(bot_0),ground(m1))."
+        ∷ codes "cnf(g2,plain,~p(c),ground(m2))."
+        ∷ codes "cnf(g3,plain,p(c),ground(m3))."
+        ∷ codes "cnf(r1,plain,$false,rup([g2,g3]))."
+        ∷ codes "% SZS output end CNFRefutation for r3.p" ∷ []) }
+{}
+
+/// Certificates with a text, and a name that may stand in it.
+pub fn printable()
+    ensures empty { IsPrintableSaturation empty_saturation }
+    ensures saturation { IsPrintableSaturation chain_saturation }
+    ensures refutation { IsPrintableRefutation (instance_refutation (one_step 2 3)) }
+    ensures name { IsTextName (codes "r3.p") }
+    ensures no_name { ¬ IsTextName [] }
+    ensures line_feed { ¬ IsTextName (114 ∷ 10 ∷ []) }
+    ensures delete { ¬ IsTextName (127 ∷ []) }
+{}
+
+/// Certificates for which no complaint applies.
+pub fn valid()
+    ensures empty { IsValidSaturation empty_saturation }
+    ensures saturation { IsValidSaturation chain_saturation }
+    ensures refutation { IsValidRefutation (instance_refutation (one_step 2 3)) }
+    ensures other_order { IsValidRefutation (instance_refutation (one_step 3 2)) }
+{}
+
+/// What a changed refutation is refused for: `p(bot_0)` and `~p(c)` do not show the empty clause, and without steps nothing does.
+pub fn complaints()
+    ensures step { IsFirstFault (RefutationFault (instance_refutation (one_step 1 2))) (Shown 1) }
+    ensures not_empty { IsFirstFault (RefutationFault (instance_refutation [])) NotEmpty }
+{}

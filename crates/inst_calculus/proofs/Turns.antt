@@ -1,0 +1,30 @@
+-- Two substitutions in turn, over variables of two sides that are kept apart.
+use Rattle.std.proofs.Common.{◌≡◌, ℕ, zero, suc, refl, sym}
+use Rattle.inst_logic.specs.Tree.{Tree}
+use Rattle.inst_logic.specs.Substitution.{Substitution, subst as put}
+use Rattle.inst_logic.specs.Unifiers.{Sided}
+use Rattle.inst_logic.specs.Examples.{twice, even_variable, odd_variable}
+use Rattle.inst_calculus.specs.Examples.{first_is}
+
+-- the first at even numbers, and the second at odd ones
+abbrev pub in_turn : Substitution → Substitution → Substitution
+in_turn l r zero = l zero
+in_turn l r (suc n) = in_turn r (λ v. l (suc v)) n
+
+pub in_turn-even : (l r : Substitution) (v : ℕ) → in_turn l r (twice v) ≡ l v
+in_turn-even l r zero = refl
+in_turn-even l r (suc v) = in_turn-even (λ w. l (suc w)) (λ w. r (suc w)) v
+
+pub in_turn-odd : (l r : Substitution) (v : ℕ) → in_turn l r (suc (twice v)) ≡ r v
+in_turn-odd l r v = in_turn-even r (λ w. l (suc w)) v
+
+-- where variable 0 is bound to a tree that the substitutions in turn give for it
+pub left_from : (u : Sided) (t : Tree) → u.left 0 ≡ put (in_turn u.left u.right) t → (v : ℕ)
+    → u.left v ≡ put (in_turn u.left u.right) (first_is t even_variable v)
+left_from u t h zero = h
+left_from u t h (suc v) = sym (in_turn-even u.left u.right (suc v))
+
+pub right_from : (u : Sided) (t : Tree) → u.right 0 ≡ put (in_turn u.left u.right) t → (v : ℕ)
+    → u.right v ≡ put (in_turn u.left u.right) (first_is t odd_variable v)
+right_from u t h zero = h
+right_from u t h (suc v) = sym (in_turn-odd u.left u.right (suc v))
