@@ -12,3 +12,4 @@ pub mod Weights
 pub mod Truth
 pub mod Saturated
 pub mod Abstractions
+pub mod StepLaws
