@@ -14,3 +14,4 @@ pub mod Saturated
 pub mod Abstractions
 pub mod ShortLists
 pub mod Turns
+pub mod StepLaws

@@ -1,5 +1,5 @@
 // What derivations show.
-ghost use Rattle.std.specs.Prelude.{◌≡◌, ◌↔◌, ℕ, List, map};
+ghost use Rattle.std.specs.Prelude.{◌≡◌, ◌↔◌, ℕ, List, ◌++◌, map};
 ghost use Rattle.inst_logic.specs.Tree.{Tree};
 ghost use Rattle.inst_logic.specs.Clauses.{TreeClause};
 ghost use Rattle.inst_logic.specs.Truth.{IsRefuted};
@@ -20,4 +20,10 @@ pub fn refuted_by_steps()
 pub fn shown_when_renamed()
     ensures { (f : ℕ → Tree) → ((m n : ℕ) → f m ≡ f n → m ≡ n) → (gs : List (List (Signed ℕ))) (steps : List (Step ℕ))
         → IsShownFrom gs steps ↔ IsShownFrom (map (renamed_clause f) gs) (map (renamed_step f) steps) }
+{}
+
+/// Steps that are shown from some given clauses are shown from these with others after them.
+pub fn kept_when_given_grows()
+    ensures numbers { (gs hs : List (List (Signed ℕ))) (steps : List (Step ℕ)) → IsShownFrom gs steps → IsShownFrom (gs ++ hs) steps }
+    ensures trees { (gs hs : List TreeClause) (steps : List (Step Tree)) → IsShownFrom gs steps → IsShownFrom (gs ++ hs) steps }
 {}

@@ -10,6 +10,8 @@ pub mod model;
 pub mod unifiers;
 
 pub use covering::{covered_when_grown, covered_when_renamed};
-pub use derivations::{refuted_by_numbered_steps, refuted_by_steps, shown_when_renamed};
+pub use derivations::{
+    kept_when_given_grows, refuted_by_numbered_steps, refuted_by_steps, shown_when_renamed,
+};
 pub use model::model_of_saturated;
 pub use unifiers::{closed_by_one, most_general_choice, most_general_exists};
