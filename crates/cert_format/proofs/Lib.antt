@@ -1,2 +1,5 @@
 pub mod Selected
 pub mod ExampleFaults
+pub mod Numbers
+pub mod SelectedMembers
+pub mod GroundInstances

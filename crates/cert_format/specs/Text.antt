@@ -1,9 +1,5 @@
 -- The text of a certificate, format 1, as a list of bytes.
 use Rattle.std.specs.Prelude.{ℕ, ◌+◌, List, [], ◌∷◌, ◌++◌, codes}
-use Rattle.inst_logic.specs.Tree.{Tree}
-use Rattle.inst_logic.specs.Clauses.{TreeClause}
-use Rattle.inst_calculus.specs.Entries.{Entry}
-use Rattle.inst_calculus.specs.Steps.{Step}
 use Rattle.cert_format.specs.Certificate.{Base, Refutation, Saturation}
 use Rattle.cert_format.specs.Lines.{status_line, start_line, end_line, format_line, constant_line, input_line, axiom_line, member_line, selected_line, ground_line, step_line}
 

@@ -94,10 +94,10 @@ closed_of_choice ms m n s g c r h = record {
 }
 
 -- the same with left and right exchanged
-swapped : Sided → Sided
+pub swapped : Sided → Sided
 swapped s = record { left = s.right; right = s.left }
 
-swapped_general : (s : Sided) (a b : Tree) → IsMostGeneral s a b → IsMostGeneral (swapped s) b a
+pub swapped_general : (s : Sided) (a b : Tree) → IsMostGeneral s a b → IsMostGeneral (swapped s) b a
 unfolding swapped
 swapped_general s a b g = record {
   unifies = sym g.unifies;
