@@ -25,9 +25,6 @@ number_is_shown given steps n s P h k e iff =
       λ m. iff.1 (subst (λ x. IsShownStep given (take (n - 1) steps) x) (same_Some m.0 s (sym m.1 ∙ at)) m.2),
     )
 
-pub not_number : (given : List (List (Signed ℕ))) (steps : List Step) (n : ℕ) → (n ≤ 0) ⊎ (length steps < n) → IsShownNumber given steps n → ⊥
-not_number given steps n h s = let e = sym (at_number_none steps n h) ∙ s.1 in cc
-
 -- the steps before place i are shown
 abbrev pub AreShownBelow : List (List (Signed ℕ)) → List Step → ℕ → Type 0
 AreShownBelow given steps i = (k : ℕ) → k < i → (s : Step) → slice_get steps k ≡ Some s → IsShownStep given (take k steps) s
