@@ -1,19 +1,18 @@
 -- No complaint on the members of the example certificates.
-use Rattle.std.proofs.Common.{◌≡◌, ℕ, zero, suc, ◌<◌, ◌≤◌, List, [], ◌∷◌, refl, sym, ap, lit<, arith, inr, true}
+use Rattle.std.proofs.Common.{◌≡◌, ℕ, zero, suc, ◌<◌, ◌≤◌, List, [], ◌∷◌, refl, ap, lit<, arith, inr, true}
 use Rattle.std.specs.Prelude.{Contains, ◌⊎◌}
 use Rattle.inst_logic.specs.Tree.{Tree, var}
 use Rattle.inst_logic.specs.declared.signed.Signed.{Signed}
 use Rattle.inst_logic.specs.Derivations.{IsOnlyOutside}
-use Rattle.inst_logic.specs.Substitution.{subst as put}
-use Rattle.inst_logic.specs.Unifiers.{Sided, IsMostGeneral}
-use Rattle.inst_logic.specs.Examples.{p, q, constant_c, yes, no, binding, first_is_c}
+use Rattle.inst_logic.specs.Examples.{p, q, constant_c, yes, no, binding}
 use Rattle.inst_calculus.specs.Entries.{Entry, input}
 use Rattle.inst_calculus.specs.Steps.{Step}
 use Rattle.inst_calculus.specs.Models.{Member}
 use Rattle.inst_calculus.proofs.ShortLists.{each_all, each_number}
-use Rattle.inst_calculus.proofs.Turns.{in_turn, in_turn-even, in_turn-odd}
+use Rattle.inst_calculus.proofs.Turns.{instance_unifier}
 use Rattle.cert_format.specs.Validity.{Gives, IsSelected, IsWrongMember}
-use Rattle.cert_format.specs.Examples.{chain_saturation, p_or_not_q, q_always, p_always, not_p_c, instance_refutation, entry}
+use Rattle.cert_format.specs.Examples.{chain_saturation, p_or_not_q, q_always, instance_refutation}
+use Rattle.inst_calculus.specs.Examples.{entry, p_always, not_p_c}
 use Rattle.cert_format.proofs.Selected.{selected_is}
 
 pub chain_members : (n : ℕ) → ¬ IsWrongMember chain_saturation.base n
@@ -42,20 +41,6 @@ only_literal l = record {
   others = each_all (λ m. Contains [] m ⊎ (m ≡ l)) (l ∷ []) (inr refl, tt);
 }
 
-bound_left : (u : Sided) → u.left 0 ≡ constant_c → (v : ℕ) → u.left v ≡ put (in_turn u.left u.right) (first_is_c v)
-bound_left u h zero = h
-bound_left u h (suc v) = sym (in_turn-even u.left u.right (suc v))
-
-bound : IsMostGeneral binding (p (var 0)) (p constant_c)
-bound = record {
-  unifies = refl;
-  general = λ u h. record {
-    rest = in_turn u.left u.right;
-    left = bound_left u (cc);
-    right = λ v. sym (in_turn-odd u.left u.right v);
-  };
-}
-
 pub instance_members : (steps : List (Step Tree)) (n : ℕ) → ¬ IsWrongMember (instance_refutation steps).base n
 instance_members steps n (e, i, h) = h (each_number (λ m (x : Entry). Gives (instance_refutation steps).base m x.origin x.clause) (instance_refutation steps).base.members (
   (p_always, refl, refl),
@@ -76,7 +61,7 @@ instance_members steps n (e, i, h) = h (each_number (λ m (x : Entry). Gives (in
           other_at = refl;
           opposite = λ d. cc;
           unifier = binding;
-          most_general = bound;
+          most_general = instance_unifier;
           proper = (0, (0, lit< tt, refl), tt);
           conclusion = refl;
         },

@@ -1,21 +1,17 @@
 -- The certificates of the worked examples, and texts by their lines.
 use Rattle.std.specs.Prelude.{ℕ, List, [], ◌∷◌, ◌++◌, codes}
-use Rattle.inst_logic.specs.declared.symbol.Sym.{Sym}
-use Rattle.inst_logic.specs.declared.symbol.Kind.TheVariants.{Function}
 use Rattle.inst_logic.specs.Tree.{Tree, var}
 use Rattle.inst_logic.specs.Clauses.{TreeClause}
-use Rattle.inst_logic.specs.Examples.{p, q, constant_c, constant_bot, yes, no}
-use Rattle.inst_calculus.specs.Entries.{Origin, input, inst, Entry}
+use Rattle.inst_logic.specs.Examples.{p, q, constant_bot, yes, no}
+use Rattle.inst_calculus.specs.Entries.{input, inst}
 use Rattle.inst_calculus.specs.Steps.{given, Step}
+use Rattle.inst_calculus.specs.Examples.{entry, p_always, not_p_c, p_c, bot}
 use Rattle.cert_format.specs.Certificate.{Refutation, Saturation}
 
 -- the lines, each with a line feed behind it
 abbrev pub text_of_lines : List (List ℕ) → List ℕ
 text_of_lines [] = []
 text_of_lines (l ∷ ls) = l ++ 10 ∷ text_of_lines ls
-
-abbrev pub entry : TreeClause → Origin → Entry
-entry c o = record { clause = c; origin = o }
 
 -- without clauses
 abbrev pub empty_saturation : Saturation
@@ -40,21 +36,6 @@ chain_saturation = record {
   };
   places = 1 ∷ 1 ∷ [];
 }
-
--- p(X0)
-abbrev pub p_always : TreeClause
-p_always = yes (p (var 0)) ∷ []
-
--- ~p(c)
-abbrev pub not_p_c : TreeClause
-not_p_c = no (p constant_c) ∷ []
-
--- p(c)
-abbrev pub p_c : TreeClause
-p_c = yes (p constant_c) ∷ []
-
-abbrev pub bot : Sym
-bot = record { kind = Function; name = codes "bot_0"; arity = 0 }
 
 -- p(X0) and ~p(c) with the conclusion p(c), and the steps that are given
 abbrev pub instance_refutation : List (Step Tree) → Refutation

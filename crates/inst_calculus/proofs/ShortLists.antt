@@ -19,6 +19,11 @@ module _ {A : Type 0} (P : A → Type 0) where
   each_all (x ∷ xs) h zero d l = h.0
   each_all (x ∷ xs) h (suc k) d l = each_all xs h.1 k d (omega arith)
 
+-- what stands alone in a list
+pub contains_one : {A : Type 0} (x y : A) → Contains (x ∷ []) y → x ≡ y
+contains_one x y (zero, l, e) = e
+contains_one x y (suc k, l, e) = absurd (omega arith)
+
 pub each_none : {A : Type 0} (P : A → Type 0) (xs : List A) → Each (λ x. ¬ P x) xs → ¬ Any P xs
 each_none P xs h (k, x, l, e, p) = each_at (λ y. ¬ P y) xs h x (k, l, e) p
 

@@ -1,9 +1,9 @@
 -- Two substitutions in turn, over variables of two sides that are kept apart.
 use Rattle.std.proofs.Common.{◌≡◌, ℕ, zero, suc, refl, sym}
-use Rattle.inst_logic.specs.Tree.{Tree}
+use Rattle.inst_logic.specs.Tree.{Tree, var}
 use Rattle.inst_logic.specs.Substitution.{Substitution, subst as put}
-use Rattle.inst_logic.specs.Unifiers.{Sided}
-use Rattle.inst_logic.specs.Examples.{twice, even_variable, odd_variable}
+use Rattle.inst_logic.specs.Unifiers.{Sided, IsMostGeneral}
+use Rattle.inst_logic.specs.Examples.{p, constant_c, twice, even_variable, odd_variable, first_is_c, binding}
 use Rattle.inst_calculus.specs.Examples.{first_is}
 
 -- the first at even numbers, and the second at odd ones
@@ -28,3 +28,18 @@ pub right_from : (u : Sided) (t : Tree) → u.right 0 ≡ put (in_turn u.left u.
     → u.right v ≡ put (in_turn u.left u.right) (first_is t odd_variable v)
 right_from u t h zero = h
 right_from u t h (suc v) = sym (in_turn-odd u.left u.right (suc v))
+
+bound_left : (u : Sided) → u.left 0 ≡ constant_c → (v : ℕ) → u.left v ≡ put (in_turn u.left u.right) (first_is_c v)
+bound_left u h zero = h
+bound_left u h (suc v) = sym (in_turn-even u.left u.right (suc v))
+
+-- p(X0) and p(c)
+pub instance_unifier : IsMostGeneral binding (p (var 0)) (p constant_c)
+instance_unifier = record {
+  unifies = refl;
+  general = λ u h. record {
+    rest = in_turn u.left u.right;
+    left = bound_left u (cc);
+    right = λ v. sym (in_turn-odd u.left u.right v);
+  };
+}

@@ -1,11 +1,14 @@
 -- The symbols, clauses, members and unifiers of the worked examples.
-use Rattle.std.specs.Prelude.{zero, suc, List, [], ◌∷◌, codes}
+use Rattle.std.specs.Prelude.{ℕ, zero, suc, List, [], ◌∷◌, codes}
+use Rattle.inst_logic.specs.declared.symbol.Sym.{Sym}
+use Rattle.inst_logic.specs.declared.symbol.Kind.TheVariants.{Function}
 use Rattle.inst_logic.specs.declared.signed.Signed.{Signed}
 use Rattle.inst_logic.specs.Tree.{Tree, var}
 use Rattle.inst_logic.specs.Substitution.{Substitution}
 use Rattle.inst_logic.specs.Clauses.{TreeClause}
 use Rattle.inst_logic.specs.Unifiers.{Sided}
-use Rattle.inst_logic.specs.Examples.{of_predicate, of_function, p_pair, q, yes, no, even_variable, odd_variable}
+use Rattle.inst_logic.specs.Examples.{of_predicate, of_function, p, p_pair, q, f, equals, constant_c, yes, no, even_variable, odd_variable}
+use Rattle.inst_calculus.specs.Entries.{Origin, Entry}
 use Rattle.inst_calculus.specs.Models.{Member}
 
 abbrev pub constant_a : Tree
@@ -76,3 +79,44 @@ tie_unifier = record { left = first_is constant_b even_variable; right = first_i
 -- the variables of both sides stay, and are kept apart
 abbrev pub apart : Sided
 apart = record { left = even_variable; right = odd_variable }
+
+abbrev pub entry : TreeClause → Origin → Entry
+entry c o = record { clause = c; origin = o }
+
+-- p(X0)
+abbrev pub p_always : TreeClause
+p_always = yes (p (var 0)) ∷ []
+
+-- ~p(c)
+abbrev pub not_p_c : TreeClause
+not_p_c = no (p constant_c) ∷ []
+
+-- p(c)
+abbrev pub p_c : TreeClause
+p_c = yes (p constant_c) ∷ []
+
+-- f(X0) = a
+abbrev pub f_is_a : TreeClause
+f_is_a = yes (equals (f (var 0)) constant_a) ∷ []
+
+-- p(a)
+abbrev pub p_a : TreeClause
+p_a = yes (p constant_a) ∷ []
+
+-- the predicate symbol `bot_0` without arguments, as a clause
+abbrev pub bot_predicate : TreeClause
+bot_predicate = yes (of_predicate (codes "bot_0") []) ∷ []
+
+abbrev pub constant_named : List ℕ → Sym
+constant_named name = record { kind = Function; name = name; arity = 0 }
+
+-- the constant `bot_0`
+abbrev pub bot : Sym
+bot = constant_named (codes "bot_0")
+
+-- the function symbol `g` with two arguments
+abbrev pub g_symbol : Sym
+g_symbol = record { kind = Function; name = codes "g"; arity = 2 }
+
+abbrev pub g : Tree → Tree → Tree
+g t u = of_function (codes "g") (t ∷ u ∷ [])

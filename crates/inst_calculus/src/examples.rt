@@ -1,12 +1,36 @@
 // Worked examples of the definitions, as theorems: each function does nothing, and its clauses are closed facts.
-ghost use Rattle.std.specs.Prelude.{◌≡◌, ◌≢◌, ◌∷◌, []};
+ghost use Rattle.std.specs.Prelude.{◌≡◌, ◌∷◌, [], codes};
 ghost use Rattle.inst_logic.specs.Tree.{var};
 ghost use Rattle.inst_logic.specs.Clauses.{instance};
 ghost use Rattle.inst_logic.specs.Unifiers.{Sided, IsMostGeneral, IsProper};
-ghost use Rattle.inst_logic.specs.Examples.{p_pair, constant_c};
-ghost use Rattle.inst_calculus.specs.Models.{clauses, IsTrueBy, Makes};
+ghost use Rattle.inst_logic.specs.Examples.{p, p_pair, f, equals, constant_c, constant_bot, yes, no};
+ghost use Rattle.inst_calculus.specs.Axioms.{equality_axioms, with_axioms, function_congruence};
+ghost use Rattle.inst_calculus.specs.Abstraction.{IsBot, abstraction};
+ghost use Rattle.inst_calculus.specs.Models.{clauses, IsTrueBy};
 ghost use Rattle.inst_calculus.specs.Saturation.{IsCovered, IsClosed, IsSaturated};
-ghost use Rattle.inst_calculus.specs.Examples.{s, constant_a, constant_b, tie_one, tie_two, tie_members, open_members, third_by_first, fourth_by_first, tie_unifier, apart};
+ghost use Rattle.inst_calculus.specs.Examples.{s, f_is_a, p_a, p_always, not_p_c, bot_predicate, constant_named, bot, g, g_symbol, constant_a, constant_b, tie_one, tie_two, tie_members, open_members, third_by_first, fourth_by_first, tie_unifier, apart};
+
+/// The axioms of equality of `f(X0) = a` and `p(a)` are five. Clauses without equality have none.
+pub fn axioms()
+    ensures five { equality_axioms (f_is_a ∷ p_a ∷ []) ≡ (yes (equals (var 0) (var 0)) ∷ [])
+        ∷ (no (equals (var 0) (var 1)) ∷ yes (equals (var 1) (var 0)) ∷ [])
+        ∷ (no (equals (var 0) (var 1)) ∷ no (equals (var 1) (var 2)) ∷ yes (equals (var 0) (var 2)) ∷ [])
+        ∷ (no (equals (var 0) (var 1)) ∷ yes (equals (f (var 0)) (f (var 1))) ∷ [])
+        ∷ (no (equals (var 0) (var 1)) ∷ no (p (var 0)) ∷ yes (p (var 1)) ∷ []) ∷ [] }
+    ensures none { equality_axioms (p_always ∷ not_p_c ∷ []) ≡ [] }
+    ensures clauses_first { with_axioms (p_always ∷ not_p_c ∷ []) ≡ p_always ∷ not_p_c ∷ [] }
+    ensures two_arguments { function_congruence g_symbol ≡ no (equals (var 0) (var 1)) ∷ no (equals (var 2) (var 3))
+        ∷ yes (equals (g (var 0) (var 2)) (g (var 1) (var 3))) ∷ [] }
+{}
+
+/// The constant for variables is `bot_0`, but `bot_1` where a predicate is named `bot_0`.
+pub fn fresh_constants()
+    ensures first { IsBot (p_always ∷ not_p_c ∷ []) (constant_named (codes "bot_0")) }
+    ensures second { IsBot (bot_predicate ∷ []) (constant_named (codes "bot_1")) }
+    ensures taken { ¬ IsBot (bot_predicate ∷ []) (constant_named (codes "bot_0")) }
+    ensures least { ¬ IsBot (p_always ∷ not_p_c ∷ []) (constant_named (codes "bot_1")) }
+    ensures for_variables { abstraction bot (yes (p (var 0)) ∷ no (p (f (var 1))) ∷ yes (p (var 2)) ∷ []) ≡ yes (p constant_bot) ∷ no (p (f constant_bot)) ∷ [] }
+{}
 
 /// The members are `p(X0,a) | q(X0)` and `~p(b,X0) | s(X0)` with their first literals selected, and `p(b,a) | q(b)` and
 /// `~p(b,a) | s(a)` with their second ones. At `p(b,a)` two selected literals of opposite signs match with weight 1: it is false.

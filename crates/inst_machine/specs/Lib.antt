@@ -1,3 +1,4 @@
 pub mod Machine
 pub mod Replay
 pub mod Bound
+pub mod Examples

@@ -1,21 +1,16 @@
 use Rattle.std.proofs.Common.{◌≡◌, zero, suc, [], ◌∷◌, refl, ap, ◌∙◌, arith, lit<, rules}
-use Rattle.std.specs.Prelude.{Contains}
 use Rattle.inst_logic.specs.Tree.{Tree}
 use Rattle.inst_logic.specs.declared.signed.Signed.{Signed}
 use Rattle.inst_logic.specs.Signed.{complement}
 use Rattle.inst_logic.specs.Examples.{p, constant_c, constant_bot, yes, no}
 use Rattle.inst_calculus.specs.Steps.{given}
+use Rattle.inst_calculus.proofs.ShortLists.{contains_one}
 use Rattle.cert_format.specs.declared.complaint.Complaint.{Complaint}
 use Rattle.cert_format.specs.declared.complaint.Complaint.TheVariants.{Axiom, Member as Derived, Bot, Ground, Step as Shown, NotEmpty, Place, Input, Pair}
 use Rattle.cert_format.specs.Validity.{RefutationFault, IsUnshown, Precedes}
 use Rattle.cert_format.specs.Examples.{instance_refutation, one_step}
 use Rattle.cert_format.proofs.ExampleFaults.{instance_members}
 use Rattle.cert_format.proofs.examples.complaints.Goals as goal
-
--- what stands alone in a list
-alone : {A : Type 0} (x y : A) → Contains (x ∷ []) y → x ≡ y
-alone x y (zero, l, e) = e
-alone x y (suc k, l, e) = absurd (omega arith)
 
 differ : (l : Signed Tree) → yes (p constant_bot) ≡ l → complement l ≡ no (p constant_c) → ⊥
 differ l e d =
@@ -28,7 +23,7 @@ one_two = (
   record { clause = []; hints = given 1 ∷ given 2 ∷ [] },
   refl,
   λ (i, (l, only, all)).
-      differ l (alone (yes (p constant_bot)) l only.here) (alone (complement l) (no (p constant_c)) (all 0 (no (p constant_c)) (lit< tt))),
+      differ l (contains_one (yes (p constant_bot)) l only.here) (contains_one (complement l) (no (p constant_c)) (all 0 (no (p constant_c)) (lit< tt))),
 )
 
 before_step : (other : Complaint) → Precedes other (Shown 1) → ¬ RefutationFault (instance_refutation (one_step 1 2)) other

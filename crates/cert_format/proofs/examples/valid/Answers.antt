@@ -9,7 +9,8 @@ use Rattle.inst_calculus.proofs.ShortLists.{each_all, each_number, EachNumbered}
 use Rattle.cert_format.specs.declared.complaint.Complaint.{Complaint}
 use Rattle.cert_format.specs.declared.complaint.Complaint.TheVariants.{Axiom, Member as Derived, Bot, Ground, Step as Shown, NotEmpty, Place, Input, Pair}
 use Rattle.cert_format.specs.Validity.{SaturationFault, RefutationFault, IsShownAt}
-use Rattle.cert_format.specs.Examples.{chain_saturation, p_or_not_q, q_always, p_c, not_p_c, instance_refutation, one_step, entry}
+use Rattle.cert_format.specs.Examples.{chain_saturation, p_or_not_q, q_always, instance_refutation, one_step}
+use Rattle.inst_calculus.specs.Examples.{entry, not_p_c, p_c}
 use Rattle.cert_format.proofs.ExampleFaults.{chain_members, chain_places, chain_positive, instance_members, only_literal}
 use Rattle.cert_format.proofs.examples.valid.Goals as goal
 

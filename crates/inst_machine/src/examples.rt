@@ -1,0 +1,41 @@
+// Worked examples of the definitions, as theorems: each function does nothing, and its clauses are closed facts.
+ghost use Rattle.std.specs.Prelude.{◌≡◌, ◌∷◌, [], ℕ, List, map};
+ghost use Rattle.inst_logic.specs.Tree.{Tree};
+ghost use Rattle.inst_logic.specs.Truth.{IsRefuted};
+ghost use Rattle.inst_logic.specs.Clauses.{TreeClause};
+ghost use Rattle.inst_logic.specs.Examples.{p, constant_bot};
+ghost use Rattle.inst_calculus.specs.Axioms.{with_axioms};
+ghost use Rattle.inst_calculus.specs.Abstraction.{abstraction};
+ghost use Rattle.inst_calculus.specs.Entries.{input, inst, entry_clauses};
+ghost use Rattle.inst_calculus.specs.Examples.{entry, bot, p_always, not_p_c};
+ghost use Rattle.inst_machine.specs.Machine.{State, IsStart, IsFirst, IsStep, IsSettled, Infers, solved, inferred};
+ghost use Rattle.inst_machine.specs.Replay.{Replays, left};
+ghost use Rattle.inst_machine.specs.Examples.{start_state, solved_state, last_state, events, p_third, q_or_not};
+
+/// The first entries leave out a variant of an earlier one and a tautology. The numbers count all clauses.
+pub fn first_entries()
+    ensures { IsFirst 1 (p_always ∷ p_third ∷ q_or_not ∷ not_p_c ∷ []) [] (entry p_always (input 1) ∷ entry not_p_c (input 4) ∷ []) }
+{}
+
+/// A run on `p(X0)` and `~p(c)`: a valuation makes `p(bot_0)` true and `p(c)` false, then `p(c)` is appended, and no valuation is
+/// left. Of a budget of 5 symbols 3 are left.
+pub fn instance_run()
+    ensures start { IsStart (p_always ∷ not_p_c ∷ []) start_state }
+    ensures solves { IsStep bot start_state (solved (p constant_bot ∷ [])) solved_state }
+    ensures settled { IsSettled bot solved_state }
+    ensures infers { IsStep bot solved_state (inferred (inst 1 1 2 1)) last_state }
+    ensures replays { Replays bot (with_axioms (p_always ∷ not_p_c ∷ [])) events last_state }
+    ensures refuted { IsRefuted (map (abstraction bot) (entry_clauses last_state.entries)) }
+    ensures no_solve { (atoms : List Tree) (t : State) → ¬ IsStep bot last_state (solved atoms) t }
+    ensures budget { left 5 last_state.entries ≡ 3 }
+{}
+
+/// What is no step: a valuation in which `p(bot_0)` is false, an inference before a solve, one whose unifier is proper for the
+/// partner alone, one whose conclusion is there, and an inference of an input clause.
+pub fn no_steps()
+    ensures unsettled { (t : State) → ¬ IsStep bot start_state (solved []) t }
+    ensures before_solve { (c : TreeClause) → ¬ Infers bot start_state 1 1 2 1 c }
+    ensures not_proper { (c : TreeClause) → ¬ Infers bot solved_state 2 1 1 1 c }
+    ensures covered { (c : TreeClause) → ¬ Infers bot last_state 1 1 2 1 c }
+    ensures no_input { (k : ℕ) (t : State) → ¬ IsStep bot solved_state (inferred (input k)) t }
+{}
