@@ -1,0 +1,25 @@
+-- What a loop of writes leaves.
+use Rattle.std.proofs.Common.{◌≡◌, ◌≢◌, [], ℕ, ◌+◌, ◌-◌, ◌<◌, List, length, take, drop, Option, arith, sym, take-append-drop, ap, length-drop}
+use Rattle.std.proofs.lemmas.Grind.{common_steps}
+use Rattle.std.proofs.Math.Seq.{take-add}
+use Rattle.std.proofs.KnownBytes.{Appends-trans, Appends-kept}
+use Rattle.std.specs.Io.KnownBytes.{Appends, Keeps}
+use Rattle.outside_io.specs.Taken.{AppendsProperPrefix}
+
+-- what lies behind i, up to the end
+rest_of : (piece : List ℕ) (i : ℕ) → take (length piece - i) (drop i piece) ≡ drop i piece
+rest_of piece i = grind (arith, common_steps)
+
+pub taken_more : (a b c : Option (List ℕ)) (piece : List ℕ) (i n : ℕ) → Appends a b (take i piece)
+    → Appends b c (take n (take (length piece - i) (drop i piece))) → Appends a c (take (i + n) piece)
+taken_more a b c piece i n before more = rw (take-add i n piece) (Appends-trans a b c _ _ before (rw (rest_of piece i) at more))
+
+-- before the end there is more
+some_left : (piece : List ℕ) (i : ℕ) → i < length piece → drop i piece ≢ []
+some_left piece i h e = absurd (let l = length-drop i piece in let n : length (drop i piece) ≡ 0 = ap length e in omega arith)
+
+-- what was taken before a write that took nothing
+pub taken_front : (a b c : Option (List ℕ)) (piece : List ℕ) (i : ℕ) → i < length piece → Appends a b (take i piece) → Keeps b c
+    → AppendsProperPrefix a c piece
+taken_front a b c piece i h before same =
+    (take i piece, drop i piece, sym (take-append-drop i piece), some_left piece i h, Appends-kept a b c (take i piece) before same)

@@ -1,0 +1,5 @@
+pub mod Causes
+pub mod FailingCalls
+pub mod Files
+pub mod InMemory
+pub mod Taken

@@ -1,0 +1,105 @@
+// Files in memory, and where a reader of them stands.
+ghost use Rattle.std.specs.Prelude.{◌≡◌, ◌≤◌, ◌<◌, ◌-◌, length, take, drop, min, Some, [], position, false};
+ghost use Rattle.outside_io.specs.Files.{Begins, bytes_at, is_named};
+
+use crate::library::{FileList, NamedFile};
+use std::marker::Model;
+
+// The file at `place` is begun, and none where that is past the last; `done` bytes of it were read.
+#[derive(Drop)]
+pub struct FileReader {
+    files: FileList,
+    place: usize,
+    done: usize,
+}
+
+impl Model for FileReader {
+    ghost use Rattle.std.specs.Prelude.{◌≤◌, length, drop};
+    ghost use Rattle.outside_io.specs.Files.{bytes_at};
+    ghost use Rattle.outside_io.specs.InMemory.{Reading};
+
+    ghost Value = { Reading };
+
+    ghost view = { λ a. record { files = a.files; rest = drop a.done (bytes_at a.files a.place) } };
+
+    ghost invariant = { λ a. a.done ≤ length (bytes_at a.files a.place) };
+}
+
+// The first file of this name.
+fn place_of(files: &[NamedFile], name: &[u8]) -> Option<usize>
+    ensures { result ≡ position (is_named name.now) files.now }
+{
+    files.iter().position(|file| file.name.bytes() == name)
+}
+
+// Puts the front of `from`, at most `most` bytes, at the front of `buf`, and answers how many.
+fn put_front(from: &[u8], most: usize, buf: &mut [u8]) -> usize
+    ensures count { result ≡ min (min (length from.now) most) (length buf.new) }
+    ensures bytes { take result buf.new ≡ take result from.now }
+{
+    let count = from.len().min(most).min(buf.len());
+    buf[..count].copy_from_slice(&from[..count]);
+    count
+}
+
+// The bytes of the file at a place, and none past the last.
+fn bytes_of(files: &[NamedFile], place: usize) -> &[u8]
+    ensures { result.now ≡ bytes_at files.now place }
+{
+    match files.get(place) {
+        Some(file) => file.bytes.as_slice(),
+        None => &[],
+    }
+}
+
+impl FileReader {
+    pub fn new(files: FileList) -> FileReader
+        ensures files { result.files ≡ files }
+        ensures rest { result.rest ≡ [] }
+    {
+        let place = files.len();
+        FileReader {
+            files,
+            place,
+            done: 0,
+        }
+    }
+
+    pub fn begin(&mut self, name: &str) -> bool
+        ensures files { self.new.files ≡ self.old.files }
+        ensures begun { Begins (Some self.old.files) name.now (Some self.new.rest) result }
+        ensures not_begun { result ≡ false → self.new.rest ≡ [] }
+    {
+        match place_of(self.files.as_slice(), name.as_bytes()) {
+            Some(place) => {
+                self.done = 0;
+                self.place = place;
+                true
+            }
+            None => {
+                self.finish();
+                false
+            }
+        }
+    }
+
+    pub fn finish(&mut self)
+        ensures files { self.new.files ≡ self.old.files }
+        ensures rest { self.new.rest ≡ [] }
+    {
+        self.done = 0;
+        self.place = self.files.len();
+    }
+
+    pub fn read(&mut self, most: usize, buf: &mut [u8]) -> usize
+        ensures files { self.new.files ≡ self.old.files }
+        ensures count { result ≡ min (min (length self.old.rest) most) (length buf.new) }
+        ensures bytes { take result buf.new ≡ take result self.old.rest }
+        ensures rest { self.new.rest ≡ drop result self.old.rest }
+    {
+        let bytes = bytes_of(self.files.as_slice(), self.place);
+        let count = put_front(&bytes[self.done..], most, buf);
+        self.done += count;
+        count
+    }
+}

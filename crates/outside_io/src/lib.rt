@@ -1,0 +1,21 @@
+// Where files are read from, and where answers are written to.
+#![tactic(auto)]
+
+mod failing_calls;
+mod file_reader;
+mod folder;
+mod library;
+mod memory_library;
+mod memory_sink;
+mod sink;
+mod stdout;
+mod sure;
+
+pub use failing_calls::CallList;
+pub use folder::FolderLibrary;
+pub use library::{Failed, FileList, Library, NamedFile, Trouble};
+pub use memory_library::MemLibrary;
+pub use memory_sink::MemSink;
+pub use sink::{Sink, write_all};
+pub use stdout::OutSink;
+pub use sure::{SureLibrary, SureSink};

@@ -1,0 +1,98 @@
+// Files in memory, of which chosen calls fail.
+ghost use Rattle.std.specs.Prelude.{◌≡◌, ◌≢◌, ◌<◌, ◌↔◌, IsTrue, IsErr, IfOk, Some, [], true, length, min};
+ghost use Rattle.std.specs.Io.{ReadsAtMost};
+ghost use Rattle.std.specs.Io.KnownBytes.{ReadConsumes};
+ghost use Rattle.outside_io.specs.FailingCalls.{fails_next, after_call};
+ghost use Rattle.outside_io.specs.Files.{Begins};
+
+use crate::failing_calls::{CallList, FailingCalls};
+use crate::file_reader::FileReader;
+use crate::library::{Failed, FileList, Library, Trouble};
+use std::alloc::Global;
+use std::marker::Model;
+
+/// Files in memory. The calls of `begin` and `read` that `fail` lists, counted together from 1, answer Failed, and a
+/// read gives at most `most` bytes. After usize::MAX calls none fails. Of two files with one name the first counts.
+#[derive(Drop)]
+pub struct MemLibrary {
+    reader: FileReader,
+    most: usize,
+    failing: FailingCalls,
+}
+
+impl Model for MemLibrary {
+    ghost use Rattle.std.specs.Prelude.{◌<◌};
+    ghost use Rattle.outside_io.specs.InMemory.{LimitedReading};
+
+    ghost Value = { LimitedReading };
+
+    ghost view = { λ a. record { files = a.reader.files; rest = a.reader.rest; most = a.most; failing = a.failing } };
+
+    ghost invariant = { λ a. 0 < a.most };
+}
+
+impl MemLibrary {
+    pub fn new(_alloc: Global, files: FileList, most: usize, fail: CallList) -> MemLibrary
+        requires { 0 < most }
+        ensures files { result.files ≡ files }
+        ensures rest { result.rest ≡ [] }
+        ensures most { result.most ≡ most }
+        ensures fail { result.failing.fail ≡ fail }
+        ensures calls { result.failing.calls ≡ 0 }
+        ensures faults { result.failing.faults ≡ 0 }
+    {
+        MemLibrary {
+            reader: FileReader::new(files),
+            most,
+            failing: FailingCalls::new(fail),
+        }
+    }
+}
+
+impl Library for MemLibrary {
+    ghost files = { λ s. Some s.files };
+
+    ghost rest = { λ s. Some s.rest };
+
+    ghost faults = { λ s. s.failing.faults };
+
+    fn begin(&mut self, name: &str) -> Result<bool, Trouble>
+        ensures files { self.new.files ≡ self.old.files }
+        ensures begun { IfOk result (Begins (Some self.old.files) name.now (Some self.new.rest)) }
+        ensures not_begun { result ≢ Ok true → self.new.rest ≡ [] }
+        ensures failed { result ≡ Err Trouble.Failed ↔ IsTrue (fails_next self.old.failing) }
+        ensures memory { result ≢ Err Trouble.Memory }
+        ensures counted { self.new.failing ≡ after_call self.old.failing }
+        ensures most { self.new.most ≡ self.old.most }
+    {
+        if self.failing.count_call() {
+            self.reader.finish();
+            return Err(Trouble::Failed);
+        }
+        Ok(self.reader.begin(name))
+    }
+
+    fn read(&mut self, buf: &mut [u8]) -> Result<usize, Failed>
+        ensures files { self.new.files ≡ self.old.files }
+        ensures bound { ReadsAtMost result buf.new }
+        ensures count { IfOk result (λ n. n ≡ min (min (length self.old.rest) self.old.most) (length buf.new)) }
+        ensures bytes { ReadConsumes (Some self.old.rest) (Some self.new.rest) result buf.new }
+        ensures failed { IsErr result ↔ IsTrue (fails_next self.old.failing) }
+        ensures counted { self.new.failing ≡ after_call self.old.failing }
+        ensures most { self.new.most ≡ self.old.most }
+    {
+        if self.failing.count_call() {
+            return Err(Failed);
+        }
+        Ok(self.reader.read(self.most, buf))
+    }
+
+    fn finish(&mut self)
+        ensures files { self.new.files ≡ self.old.files }
+        ensures not_begun { self.new.rest ≡ [] }
+        ensures failing { self.new.failing ≡ self.old.failing }
+        ensures most { self.new.most ≡ self.old.most }
+    {
+        self.reader.finish();
+    }
+}
