@@ -1,5 +1,5 @@
 -- What a loop of writes leaves.
-use Rattle.std.proofs.Common.{◌≡◌, ◌≢◌, [], ℕ, ◌+◌, ◌-◌, ◌<◌, List, length, take, drop, Option, arith, sym, take-append-drop, ap, length-drop}
+use Rattle.std.proofs.Common.{◌≡◌, ◌≢◌, [], ℕ, ◌+◌, ◌-◌, ◌<◌, List, length, take, drop, Option, arith, sym, take-append-drop, ap, length-drop, ◌∷◌, ◌++◌, ◌∙◌, append_assoc, refl}
 use Rattle.std.proofs.lemmas.Grind.{common_steps}
 use Rattle.std.proofs.Math.Seq.{take-add}
 use Rattle.std.proofs.KnownBytes.{Appends-trans, Appends-kept}
@@ -14,6 +14,10 @@ pub taken_more : (a b c : Option (List ℕ)) (piece : List ℕ) (i n : ℕ) → 
     → Appends b c (take n (take (length piece - i) (drop i piece))) → Appends a c (take (i + n) piece)
 taken_more a b c piece i n before more = rw (take-add i n piece) (Appends-trans a b c _ _ before (rw (rest_of piece i) at more))
 
+more_left : (x y : List ℕ) → x ≢ [] → x ++ y ≢ []
+more_left [] y h e = h refl
+more_left (n ∷ x) y h e = absurd (cc)
+
 -- before the end there is more
 some_left : (piece : List ℕ) (i : ℕ) → i < length piece → drop i piece ≢ []
 some_left piece i h e = absurd (let l = length-drop i piece in let n : length (drop i piece) ≡ 0 = ap length e in omega arith)
@@ -23,3 +27,13 @@ pub taken_front : (a b c : Option (List ℕ)) (piece : List ℕ) (i : ℕ) → i
     → AppendsProperPrefix a c piece
 taken_front a b c piece i h before same =
     (take i piece, drop i piece, sym (take-append-drop i piece), some_left piece i h, Appends-kept a b c (take i piece) before same)
+
+-- a piece, and then a proper prefix of the next
+pub prefix_after : (a b c : Option (List ℕ)) (x y : List ℕ) → Appends a b x → AppendsProperPrefix b c y → AppendsProperPrefix a c (x ++ y)
+prefix_after a b c x y first second =
+    (x ++ second.0, second.1, ap (λ l. x ++ l) second.2 ∙ sym (append_assoc x second.0 second.1), second.3, Appends-trans a b c x second.0 first second.4)
+
+-- a proper prefix is one of what is longer
+pub prefix_longer : (a b : Option (List ℕ)) (x y : List ℕ) → AppendsProperPrefix a b x → AppendsProperPrefix a b (x ++ y)
+prefix_longer a b x y h =
+    (h.0, h.1 ++ y, ap (λ l. l ++ y) h.2 ∙ append_assoc h.0 h.1 y, more_left h.1 y h.3, h.4)

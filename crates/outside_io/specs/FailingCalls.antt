@@ -19,7 +19,7 @@ one_more n = if nat_lt n (2 ^ 64 - 1) then n + 1 else n
 -- one more call was counted, and one more fault where it fails
 abbrev pub after_call : FailingCalls → FailingCalls
 after_call f = record {
-    fail = f.fail;
-    calls = one_more f.calls;
-    faults = if fails_next f then one_more f.faults else f.faults
-  }
+  fail = f.fail;
+  calls = one_more f.calls;
+  faults = if fails_next f then one_more f.faults else f.faults;
+}

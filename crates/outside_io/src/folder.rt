@@ -8,7 +8,7 @@ use std::io::{ErrorKind, Read};
 use std::marker::Model;
 use std::rt::Files;
 
-/// The files of the system. It tells nothing of what they hold, and counts each error.
+/// The files of the system, by their paths. It tells nothing of what they hold. Contracts see the count of its errors.
 #[derive(Drop)]
 pub struct FolderLibrary<'a, R: Files> {
     rt: &'a R,
@@ -50,6 +50,7 @@ impl<R: Files> Library for FolderLibrary<'_, R> {
                 self.file = Some(file);
                 Ok(true)
             }
+            // a missing file is an answer, and want of memory is no fault
             Err(error) => match error.kind() {
                 ErrorKind::NotFound => Ok(false),
                 ErrorKind::OutOfMemory => Err(Trouble::Memory),

@@ -1,5 +1,5 @@
 // Where files are read from.
-ghost use Rattle.std.specs.Prelude.{◌≡◌, ◌≢◌, ◌≤◌, ℕ, List, Option, true, false, IfOk, OnErr};
+ghost use Rattle.std.specs.Prelude.{◌≡◌, ◌≢◌, ◌≤◌, ℕ, List, Option, true, IfOk, OnErr};
 ghost use Rattle.std.specs.Io.{ReadsAtMost};
 ghost use Rattle.std.specs.Io.KnownBytes.{ReadConsumes, IsAtEnd};
 ghost use Rattle.outside_io.specs.Causes.{Rose};
@@ -12,7 +12,7 @@ use inst_logic::{ByteList, ListOf, Name};
 #[derive(Clone, Copy, Debug, PartialEq, Eq)]
 pub struct Failed;
 
-/// Why a file was not begun, or bytes were not taken.
+/// Why a file was not begun, or bytes were not taken. `Memory` is want of memory and means nothing else.
 #[derive(Clone, Copy, Debug, PartialEq, Eq)]
 pub enum Trouble {
     Failed,
@@ -25,10 +25,14 @@ pub struct NamedFile {
     pub bytes: ByteList,
 }
 
+/// Of two files with one name the first counts.
 pub type FileList = ListOf<NamedFile>;
 
-/// Files by their names. `files` is what they hold, where that is told: of two files with one name the first counts.
-/// `rest` is what is left of the file that was begun, where that is told, and is empty where no file is begun.
+/// Files by their names, of which one at a time is read.
+///
+/// `files` is what they hold, where that is told. `rest` is what is left of the file that was begun, where that is
+/// told, and is empty where no file is begun. `faults` counts the calls that failed. It never falls, and one that
+/// stands at u64::MAX need not rise.
 pub trait Library {
     ghost files: { Self → Option (List NamedFile) };
 
@@ -36,7 +40,7 @@ pub trait Library {
 
     ghost faults: { Self → ℕ };
 
-    /// Finishes a file that was begun before. `Ok(false)`: there is no such file.
+    /// Finishes a file that was begun before, and begins the one of this name. `Ok(false)`: there is none.
     fn begin(&mut self, name: &str) -> Result<bool, Trouble>
         ensures files { files self.new ≡ files self.old }
         ensures begun { IfOk result (Begins (files self.old) name.now (rest self.new)) }
@@ -44,7 +48,8 @@ pub trait Library {
         ensures later { faults self.old ≤ faults self.new }
         ensures failed { result ≡ Err Trouble.Failed → Rose (faults self.old) (faults self.new) };
 
-    /// Puts the next bytes at the front of `buf`. `Ok(0)` with room: the end, or no file is begun.
+    /// Puts the next bytes at the front of `buf`, and answers how many. `Ok(0)` with room: the end of the file, or no
+    /// file is begun.
     fn read(&mut self, buf: &mut [u8]) -> Result<usize, Failed>
         ensures files { files self.new ≡ files self.old }
         ensures bound { ReadsAtMost result buf.new }

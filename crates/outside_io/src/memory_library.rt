@@ -12,7 +12,7 @@ use std::alloc::Global;
 use std::marker::Model;
 
 /// Files in memory. The calls of `begin` and `read` that `fail` lists, counted together from 1, answer Failed, and a
-/// read gives at most `most` bytes. After usize::MAX calls none fails. Of two files with one name the first counts.
+/// read gives at most `most` bytes. After usize::MAX calls none fails.
 #[derive(Drop)]
 pub struct MemLibrary {
     reader: FileReader,

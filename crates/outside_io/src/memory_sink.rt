@@ -45,6 +45,7 @@ impl MemSink {
         }
     }
 
+    /// What was taken.
     pub fn bytes(&self) -> &[u8]
         ensures { result.now ≡ self.now.taken }
     {

@@ -7,7 +7,10 @@ ghost use Rattle.outside_io.specs.Taken.{AppendsProperPrefix};
 
 use crate::library::Trouble;
 
-/// What takes bytes. `taken` is the list of those taken so far, where that is told.
+/// What takes bytes.
+///
+/// `taken` is the list of those taken so far, where that is told. `faults` counts the calls that failed. It never falls,
+/// and one that stands at u64::MAX need not rise.
 pub trait Sink {
     ghost taken: { Self → Option (List ℕ) };
 
@@ -17,14 +20,14 @@ pub trait Sink {
     fn write(&mut self, piece: &[u8]) -> Result<usize, Trouble>
         ensures bound { WritesAtMost result piece.now }
         ensures taken { WriteAppends (taken self.old) (taken self.new) result piece.now }
-        // where nothing of some bytes is taken, that is a fault
+        // where nothing of a piece that is not empty is taken, that is a fault
         ensures some { IfOk result (λ n. 0 < length piece.now → 0 < n) }
         ensures later { faults self.old ≤ faults self.new }
         ensures failed { result ≡ Err Trouble.Failed → Rose (faults self.old) (faults self.new) }
         ensures memory { result ≡ Err Trouble.Memory → faults self.new ≡ faults self.old };
 }
 
-/// Writes the whole piece. After an error, what was taken is a front of it.
+/// Writes the whole piece, in as many calls as that takes. After an error a proper prefix of it was taken.
 pub fn write_all<K: Sink>(out: &mut K, piece: &[u8]) -> Result<(), Trouble>
     ensures ok { OnOk result (Appends (K.taken out.old) (K.taken out.new) piece.now) }
     ensures err { OnErr result (AppendsProperPrefix (K.taken out.old) (K.taken out.new) piece.now) }

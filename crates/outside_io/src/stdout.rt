@@ -5,7 +5,7 @@ use crate::library::Trouble;
 use crate::sink::Sink;
 use std::marker::Model;
 
-/// Standard output. It tells nothing of what it took, and counts each error.
+/// Standard output. It tells nothing of what it took. Contracts see the count of its errors.
 #[derive(Drop)]
 pub struct OutSink<'a, R: Print> {
     rt: &'a R,

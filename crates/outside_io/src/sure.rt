@@ -1,5 +1,8 @@
 // Devices in memory of which no call fails.
-ghost use Rattle.std.specs.Prelude.{◌≡◌, [], Some};
+ghost use Rattle.std.specs.Prelude.{◌≡◌, ◌≢◌, IsOk, IfOk, [], Some, true, length, min};
+ghost use Rattle.std.specs.Io.{ReadsAtMost};
+ghost use Rattle.std.specs.Io.KnownBytes.{ReadConsumes, WriteAppends};
+ghost use Rattle.outside_io.specs.Files.{Begins};
 
 use crate::file_reader::FileReader;
 use crate::library::{Failed, FileList, Library, Trouble};
@@ -7,7 +10,7 @@ use crate::sink::Sink;
 use std::alloc::Global;
 use std::marker::Model;
 
-/// Files in memory. Of two with one name the first counts.
+/// Files in memory, of which no call fails.
 #[derive(Drop)]
 pub struct SureLibrary {
     reader: FileReader,
@@ -39,11 +42,22 @@ impl Library for SureLibrary {
 
     ghost faults = { λ _. 0 };
 
-    fn begin(&mut self, name: &str) -> Result<bool, Trouble> {
+    fn begin(&mut self, name: &str) -> Result<bool, Trouble>
+        ensures files { self.new.files ≡ self.old.files }
+        ensures ok { IsOk result }
+        ensures begun { IfOk result (Begins (Some self.old.files) name.now (Some self.new.rest)) }
+        ensures not_begun { result ≢ Ok true → self.new.rest ≡ [] }
+    {
         Ok(self.reader.begin(name))
     }
 
-    fn read(&mut self, buf: &mut [u8]) -> Result<usize, Failed> {
+    fn read(&mut self, buf: &mut [u8]) -> Result<usize, Failed>
+        ensures files { self.new.files ≡ self.old.files }
+        ensures ok { IsOk result }
+        ensures bound { ReadsAtMost result buf.new }
+        ensures count { IfOk result (λ n. n ≡ min (length self.old.rest) (length buf.new)) }
+        ensures bytes { ReadConsumes (Some self.old.rest) (Some self.new.rest) result buf.new }
+    {
         Ok(self.reader.read(usize::MAX, buf))
     }
 
@@ -52,7 +66,7 @@ impl Library for SureLibrary {
     }
 }
 
-/// Bytes in memory.
+/// Bytes in memory. Contracts see the list of those taken.
 #[derive(Drop)]
 pub struct SureSink {
     bytes: Vec<u8>,
@@ -75,6 +89,7 @@ impl SureSink {
         }
     }
 
+    /// What was taken.
     pub fn bytes(&self) -> &[u8]
         ensures { result.now ≡ self.now }
     {
@@ -87,7 +102,11 @@ impl Sink for SureSink {
 
     ghost faults = { λ _. 0 };
 
-    fn write(&mut self, piece: &[u8]) -> Result<usize, Trouble> {
+    fn write(&mut self, piece: &[u8]) -> Result<usize, Trouble>
+        ensures whole { IfOk result (λ n. n ≡ length piece.now) }
+        ensures taken { WriteAppends (Some self.old) (Some self.new) result piece.now }
+        ensures failed { result ≢ Err Trouble.Failed }
+    {
         match self.bytes.extend_from_slice(piece) {
             Ok(()) => Ok(piece.len()),
             Err(_) => Err(Trouble::Memory),
