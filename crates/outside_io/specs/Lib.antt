@@ -2,4 +2,5 @@ pub mod Causes
 pub mod FailingCalls
 pub mod Files
 pub mod InMemory
+pub mod RealFiles
 pub mod Taken

@@ -1,5 +1,9 @@
 // Real files.
-ghost use Rattle.std.specs.Prelude.{◌≡◌, None};
+ghost use Rattle.std.specs.Prelude.{◌≡◌, ◌≢◌, ◌≤◌, ◌↔◌, IsTrue, IfOk, OnOk, OnErr, None, true, false};
+ghost use Rattle.std.specs.Io.{ReadsAtMost};
+ghost use Rattle.std.specs.Io.KnownBytes.{ReadConsumes};
+ghost use Rattle.outside_io.specs.Causes.{Rose, one_more};
+ghost use Rattle.outside_io.specs.Files.{Begins};
 
 use crate::library::{Failed, Library, Trouble};
 use std::alloc::Global;
@@ -8,7 +12,7 @@ use std::io::{ErrorKind, Read};
 use std::marker::Model;
 use std::rt::Files;
 
-/// The files of the system, by their paths. It tells nothing of what they hold. Contracts see the count of its errors.
+/// The files of the system, by their paths. It tells nothing of what they hold. Its count rises by one at each error.
 #[derive(Drop)]
 pub struct FolderLibrary<'a, R: Files> {
     rt: &'a R,
@@ -17,16 +21,18 @@ pub struct FolderLibrary<'a, R: Files> {
 }
 
 impl<'a, R: Files> Model for FolderLibrary<'a, R> {
-    ghost use Rattle.std.specs.Prelude.{ℕ};
+    ghost use Rattle.std.specs.Prelude.{is_some};
+    ghost use Rattle.outside_io.specs.RealFiles.{RealFiles};
 
-    ghost Value = { ℕ };
+    ghost Value = { RealFiles };
 
-    ghost view = { λ a. a.faults };
+    ghost view = { λ a. record { begun = is_some a.file; faults = a.faults } };
 }
 
 impl<'a, R: Files> FolderLibrary<'a, R> {
     pub fn new(rt: &'a R, _alloc: Global) -> FolderLibrary<'a, R>
-        ensures { result ≡ 0 }
+        ensures not_begun { result.begun ≡ false }
+        ensures faults { result.faults ≡ 0 }
     {
         FolderLibrary {
             rt,
@@ -41,9 +47,16 @@ impl<R: Files> Library for FolderLibrary<'_, R> {
 
     ghost rest = { λ _. None };
 
-    ghost faults = { λ s. s };
+    ghost faults = { λ s. s.faults };
 
-    fn begin(&mut self, name: &str) -> Result<bool, Trouble> {
+    fn begin(&mut self, name: &str) -> Result<bool, Trouble>
+        ensures untold { IfOk result (Begins None name.now None) }
+        ensures begun { IsTrue self.new.begun ↔ (result ≡ Ok true) }
+        ensures later { self.old.faults ≤ self.new.faults }
+        ensures failed { result ≡ Err Trouble.Failed → Rose self.old.faults self.new.faults }
+        ensures one { result ≡ Err Trouble.Failed → self.new.faults ≡ one_more self.old.faults }
+        ensures same { result ≢ Err Trouble.Failed → self.new.faults ≡ self.old.faults }
+    {
         self.file = None;
         match fs::open(self.rt, name) {
             Ok(file) => {
@@ -62,7 +75,16 @@ impl<R: Files> Library for FolderLibrary<'_, R> {
         }
     }
 
-    fn read(&mut self, buf: &mut [u8]) -> Result<usize, Failed> {
+    fn read(&mut self, buf: &mut [u8]) -> Result<usize, Failed>
+        ensures bound { ReadsAtMost result buf.new }
+        ensures untold { ReadConsumes None None result buf.new }
+        ensures begun { self.new.begun ≡ self.old.begun }
+        ensures not_begun { self.old.begun ≡ false → result ≡ Ok 0 }
+        ensures later { self.old.faults ≤ self.new.faults }
+        ensures failed { OnErr result (Rose self.old.faults self.new.faults) }
+        ensures one { OnErr result (self.new.faults ≡ one_more self.old.faults) }
+        ensures same { OnOk result (self.new.faults ≡ self.old.faults) }
+    {
         let Some(file) = &mut self.file else {
             return Ok(0);
         };
@@ -75,7 +97,11 @@ impl<R: Files> Library for FolderLibrary<'_, R> {
         }
     }
 
-    fn finish(&mut self) {
+    fn finish(&mut self)
+        ensures not_begun { self.new.begun ≡ false }
+        ensures later { self.old.faults ≤ self.new.faults }
+        ensures same { self.new.faults ≡ self.old.faults }
+    {
         self.file = None;
     }
 }

@@ -65,7 +65,8 @@ impl Library for MemLibrary {
         ensures counted { self.new.failing ≡ after_call self.old.failing }
         ensures most { self.new.most ≡ self.old.most }
     {
-        if self.failing.count_call() {
+        let fails = self.failing.count_call();
+        if fails {
             self.reader.finish();
             return Err(Trouble::Failed);
         }

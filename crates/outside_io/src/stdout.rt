@@ -1,11 +1,14 @@
 // Standard output.
-ghost use Rattle.std.specs.Prelude.{◌≡◌, None};
+ghost use Rattle.std.specs.Prelude.{◌≡◌, ◌≢◌, ◌≤◌, ◌<◌, IfOk, OnOk, None, length};
+ghost use Rattle.std.specs.Io.{WritesAtMost};
+ghost use Rattle.std.specs.Io.KnownBytes.{WriteAppends};
+ghost use Rattle.outside_io.specs.Causes.{Rose, one_more};
 
 use crate::library::Trouble;
 use crate::sink::Sink;
 use std::marker::Model;
 
-/// Standard output. It tells nothing of what it took. Contracts see the count of its errors.
+/// Standard output. It tells nothing of what it took. Contracts see the count of its errors, which rises by one at each.
 #[derive(Drop)]
 pub struct OutSink<'a, R: Print> {
     rt: &'a R,
@@ -33,7 +36,17 @@ impl<R: Print> Sink for OutSink<'_, R> {
 
     ghost faults = { λ s. s };
 
-    fn write(&mut self, piece: &[u8]) -> Result<usize, Trouble> {
+    fn write(&mut self, piece: &[u8]) -> Result<usize, Trouble>
+        ensures bound { WritesAtMost result piece.now }
+        ensures untold { WriteAppends None None result piece.now }
+        ensures some { IfOk result (λ n. 0 < length piece.now → 0 < n) }
+        ensures later { self.old ≤ self.new }
+        ensures failed { result ≡ Err Trouble.Failed → Rose self.old self.new }
+        ensures one { result ≡ Err Trouble.Failed → self.new ≡ one_more self.old }
+        ensures same { OnOk result (self.new ≡ self.old) }
+        ensures memory { result ≡ Err Trouble.Memory → self.new ≡ self.old }
+        ensures no_memory { result ≢ Err Trouble.Memory }
+    {
         match self.rt.write_some(piece) {
             Ok(count) if count > 0 || piece.is_empty() => Ok(count),
             _ => {

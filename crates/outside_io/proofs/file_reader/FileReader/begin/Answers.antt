@@ -1,4 +1,4 @@
-use Rattle.std.proofs.Common.{refl, sym, ap, ◌∙◌}
+use Rattle.std.proofs.Common.{refl, sym}
 use Rattle.outside_io.proofs.Named.{none_named, some_named}
 use Rattle.outside_io.proofs.file_reader.FileReader.begin.Goals as goal
 
