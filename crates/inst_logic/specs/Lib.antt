@@ -14,3 +14,4 @@ pub mod Substitution
 pub mod Clauses
 pub mod Unifiers
 pub mod Printing
+pub mod Examples

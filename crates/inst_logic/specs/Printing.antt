@@ -1,7 +1,6 @@
 -- Canonical printing of names, terms and clauses, as lists of bytes (the CNF part of the TPTP language).
-use Rattle.std.specs.Prelude.{ℕ, ◌+◌, List, [], ◌∷◌, ◌++◌, Bool, true, false, ◌&&◌, ◌||◌, nat_eq, nat_le, IsTrue, if◌then◌else◌, codes, decimal, map}
+use Rattle.std.specs.Prelude.{ℕ, List, [], ◌∷◌, ◌++◌, Bool, true, false, ◌&&◌, ◌||◌, nat_eq, nat_le, if◌then◌else◌, codes, decimal, map}
 use Rattle.std.specs.List.{list_all}
-use Rattle.inst_logic.specs.declared.symbol.Sym.{Sym}
 use Rattle.inst_logic.specs.declared.symbol.Kind.{Kind}
 use Rattle.inst_logic.specs.declared.symbol.Kind.TheVariants.{Predicate, Equality, Function}
 use Rattle.inst_logic.specs.Tree.{Tree, var, app, Trees, none, more}

@@ -3,11 +3,12 @@
 
 pub mod clause;
 pub mod copies;
+pub mod equal;
+pub mod examples;
 pub mod list;
 pub mod measure;
 pub mod memory;
 pub mod renumber;
-pub mod equal;
 pub mod signed;
 pub mod symbol;
 pub mod term;

@@ -11,8 +11,8 @@ ghost use Rattle.inst_logic.specs.Clauses.{numbered, canonical_form};
 ghost use Rattle.inst_logic.specs.WellFormed.{IsFormedClause};
 
 use crate::clause::{Clause, Literal, NumberList};
-use crate::memory::Memory;
 use crate::equal::same_literal;
+use crate::memory::Memory;
 use crate::term::{Term, TermList};
 use std::alloc::Global;
 
