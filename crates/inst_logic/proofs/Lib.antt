@@ -6,3 +6,5 @@ pub mod Numbering
 pub mod Formed
 pub mod Walks
 pub mod Substitutions
+pub mod Feeding
+pub mod Sets

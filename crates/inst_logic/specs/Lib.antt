@@ -15,3 +15,5 @@ pub mod Clauses
 pub mod Unifiers
 pub mod Printing
 pub mod Examples
+pub mod Fed
+pub mod EqualLaws

@@ -98,15 +98,19 @@ impl From<Clause> for Vec<Literal> {
     }
 }
 
+/// Clauses, counted from 0 by `get` and numbered from 1 wherever they have numbers.
 pub type ClauseList = ListOf<Clause>;
 
+/// Names, in the order of the things that they name.
 pub type NameList = ListOf<Name>;
 
+/// A text or the content of a file.
 pub type ByteList = ListOf<u8>;
 
 /// Places of literals, counted from 1.
 pub type PlaceList = ListOf<usize>;
 
+/// Numbers of clauses, variables or atoms.
 pub type NumberList = ListOf<usize>;
 
 /// Clauses, with the name of the statement of each at the same place.

@@ -5,6 +5,7 @@ pub mod clause;
 pub mod copies;
 pub mod equal;
 pub mod examples;
+pub mod hashes;
 pub mod list;
 pub mod measure;
 pub mod memory;
@@ -19,7 +20,7 @@ pub use clause::{ByteList, Clause, ClauseList, Literal, NameList, NumberList, Pl
 pub use list::ListOf;
 pub use measure::{function_free, size, weight};
 pub use memory::Memory;
-pub use renumber::{canonical, contains};
+pub use renumber::canonical;
 pub use signed::Signed;
 pub use symbol::{Kind, Name, Sym};
 pub use term::{Term, TermList};

@@ -7,6 +7,7 @@ use crate::symbol::Sym;
 use std::alloc::Global;
 use std::marker::Model;
 
+/// A variable by its number, counted from 0, or a symbol with its arguments. Contracts see it as a tree by `tree`.
 #[cycle(terms)]
 #[derive(Drop)]
 pub enum Term {
@@ -14,7 +15,7 @@ pub enum Term {
     App(Sym, TermList),
 }
 
-// A list of terms, seen as the list of their trees.
+/// A list of terms. Contracts see the list of their trees.
 #[cycle(terms)]
 #[derive(Drop)]
 pub struct TermList {

@@ -4,7 +4,6 @@ ghost use Rattle.inst_logic.specs.View.{tree};
 ghost use Rattle.inst_logic.specs.LiteralView.{literal};
 ghost use Rattle.inst_logic.specs.WellFormed.{tree_is_formed, atom_is_formed};
 
-use crate::equal::same_literal;
 use crate::{
     Clause, ClauseList, Kind, Literal, Memory, Name, NameList, Problem, Sym, Term, TermList,
     canonical, function_free, size, weight,
@@ -55,9 +54,9 @@ fn a_clause_is_renumbered(rt: HostRuntime) -> Result<(), Fail> {
     let d = canonical(alloc, &c)?;
     assert_eq!(rt; d.len(), 2);
     let first = d.get(0).ok_or("first")?;
-    assert!(rt; same_literal(first, &atom(alloc, b"p", Term::Var(0))?));
+    assert!(rt; *first == atom(alloc, b"p", Term::Var(0))?);
     let second = d.get(1).ok_or("second")?;
-    assert!(rt; same_literal(second, &atom(alloc, b"q", Term::Var(1))?));
+    assert!(rt; *second == atom(alloc, b"q", Term::Var(1))?);
     assert_eq!(rt; size(&c), 6);
     Ok(())
 }
