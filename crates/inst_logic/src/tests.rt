@@ -1,13 +1,14 @@
-// The worked row: `p(X3) | q(X1) | p(X3)` becomes `p(X0) | q(X1)`, and its measures.
+// The worked row, `p(X3) | q(X1) | p(X3)` becomes `p(X0) | q(X1)`, its measures, and each call that allocates once.
 ghost use Rattle.std.specs.Prelude.{IsTrue, IfOk};
 ghost use Rattle.inst_logic.specs.View.{tree};
 ghost use Rattle.inst_logic.specs.LiteralView.{literal};
 ghost use Rattle.inst_logic.specs.WellFormed.{tree_is_formed, atom_is_formed};
 
 use crate::{
-    Clause, ClauseList, Kind, Literal, Memory, Name, NameList, Problem, Sym, Term, TermList,
-    canonical, function_free, size, weight,
+    Clause, ClauseList, Kind, Literal, Memory, Name, NameList, PlaceList, Problem, Sym, Term,
+    TermList, canonical, function_free, size, weight,
 };
+use indexmap::IndexSet;
 use std::alloc::Global;
 use std::test::Fail;
 
@@ -75,5 +76,49 @@ fn functions_weigh(rt: HostRuntime) -> Result<(), Fail> {
         names: NameList::new(alloc),
     };
     assert!(rt; !function_free(&p));
+    Ok(())
+}
+
+#[test]
+fn copies_are_equal(rt: HostRuntime) -> Result<(), Fail> {
+    let alloc = rt.alloc();
+    let t = applied(alloc, b"f", Term::Var(7))?;
+    assert!(rt; t.clone()? == t);
+    let l = atom(alloc, b"p", t)?;
+    assert!(rt; l.args.clone()? == l.args);
+    assert!(rt; l.sym.clone()? == l.sym);
+    assert!(rt; l.clone()? == l);
+    Ok(())
+}
+
+#[test]
+fn lists_are_made_of_vectors(rt: HostRuntime) -> Result<(), Fail> {
+    let alloc = rt.alloc();
+    let terms: Vec<Term> = TermList::new(alloc).into();
+    let mut l = atom(alloc, b"p", Term::Var(0))?;
+    l.args = TermList::from(terms);
+    assert!(rt; l.args.is_empty());
+    let mut c = Clause::new(alloc);
+    c.push(l)?;
+    let literals: Vec<Literal> = c.into();
+    assert_eq!(rt; literals.len(), 1);
+    assert_eq!(rt; Clause::from(literals).len(), 1);
+    let mut places = PlaceList::new(alloc);
+    places.push(3)?;
+    let numbers: Vec<usize> = places.into();
+    assert_eq!(rt; PlaceList::from(numbers).get(0), Some(&3));
+    Ok(())
+}
+
+#[test]
+fn equal_clauses_hash_alike(rt: HostRuntime) -> Result<(), Fail> {
+    let alloc = rt.alloc();
+    let mut seen: IndexSet<Clause> = IndexSet::new(alloc);
+    for _ in 0..2 {
+        let mut c = Clause::new(alloc);
+        c.push(atom(alloc, b"p", applied(alloc, b"f", Term::Var(1))?)?)?;
+        seen.insert(c)?;
+    }
+    assert_eq!(rt; seen.len(), 1);
     Ok(())
 }
