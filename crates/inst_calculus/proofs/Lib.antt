@@ -13,3 +13,6 @@ pub mod Truth
 pub mod Saturated
 pub mod Abstractions
 pub mod StepLaws
+pub mod EqualityAxioms
+pub mod Congruences
+pub mod GroundConstants
