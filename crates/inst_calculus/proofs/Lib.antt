@@ -15,3 +15,6 @@ pub mod Abstractions
 pub mod ShortLists
 pub mod Turns
 pub mod StepLaws
+pub mod EqualityAxioms
+pub mod Congruences
+pub mod GroundConstants

@@ -3,12 +3,16 @@
 //! `specs/`. Its theorems are the contracts of the public functions here, which have empty bodies.
 #![tactic(auto)]
 
+pub mod abstraction;
+pub mod axioms;
 pub mod covering;
 pub mod derivations;
 pub mod examples;
 pub mod model;
 pub mod unifiers;
 
+pub use abstraction::{bot_exists, bot_is_unique};
+pub use axioms::axioms_keep;
 pub use covering::{covered_when_grown, covered_when_renamed};
 pub use derivations::{
     kept_when_given_grows, refuted_by_numbered_steps, refuted_by_steps, shown_when_renamed,
