@@ -1,3 +1,4 @@
 pub mod Numbers
 pub mod SelectedMembers
+pub mod Members
 pub mod GroundInstances
