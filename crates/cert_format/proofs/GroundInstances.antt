@@ -1,51 +1,22 @@
--- Each member of a valid base is an instance of an input or axiom, and so is each ground clause of a valid refutation.
-use Rattle.std.proofs.Common.{◌≡◌, ℕ, zero, suc, ◌-◌, ◌<◌, List, sym, ap, ◌∙◌, subst as transport, map, take, Some, arith}
-use Rattle.std.specs.Prelude.{All, Any}
-use Rattle.inst_logic.specs.Clauses.{TreeClause, instance, IsInstance, IsGround}
+-- The ground clauses of a valid refutation are instances of inputs and axioms, and are refuted.
+use Rattle.std.proofs.Common.{◌≡◌, suc, ◌-◌, sym, ap, ◌∙◌, subst as transport, map, take, arith}
+use Rattle.std.specs.Prelude.{All}
+use Rattle.inst_logic.specs.Clauses.{TreeClause, IsGround}
 use Rattle.inst_logic.specs.Truth.{IsRefuted}
-use Rattle.inst_logic.specs.Derivations.{at_number, IsShown}
-use Rattle.inst_logic.proofs.ShownLaws.{at_number_contains}
+use Rattle.inst_logic.specs.Derivations.{IsShown}
 use Rattle.inst_calculus.specs.Axioms.{with_axioms}
 use Rattle.inst_calculus.specs.Abstraction.{abstraction, grounding}
-use Rattle.inst_calculus.specs.Entries.{Origin, input, inst, Entry, entry_clauses}
+use Rattle.inst_calculus.specs.Entries.{Entry, entry_clauses}
 use Rattle.inst_calculus.specs.Steps.{cited_clause, IsShownFrom}
-use Rattle.inst_calculus.proofs.Membership.{◌∈◌, contains_in, in_all, any_in, in_any}
+use Rattle.inst_calculus.proofs.Membership.{◌∈◌, in_all}
 use Rattle.inst_calculus.proofs.Abstractions.{abstraction_is_ground}
-use Rattle.inst_calculus.proofs.Instances.{instance_is_instance, canonical_is_instance, instance_of_instance}
+use Rattle.inst_calculus.proofs.Instances.{instance_is_instance}
 use Rattle.inst_calculus.proofs.StepLaws.{refuted_by_steps}
-use Rattle.cert_format.specs.Certificate.{Base, Refutation}
-use Rattle.cert_format.specs.Validity.{Gives, IsRightMember, IsValidRefutation}
+use Rattle.cert_format.specs.Certificate.{Refutation}
+use Rattle.cert_format.specs.Validity.{IsValidRefutation}
 use Rattle.cert_format.specs.declared.complaint.Complaint.TheVariants.{Member as Derived, Ground, Step as Shown, NotEmpty}
+use Rattle.cert_format.proofs.Members.{IsInstanceOfSome, instance_of_some, member_instance}
 use Rattle.cert_format.proofs.Numbers.{in_slice_get, slice_get_of_map}
-
--- an instance of some clause of the list
-abbrev pub IsInstanceOfSome : List TreeClause → TreeClause → Type 0
-IsInstanceOfSome cs d = Any (IsInstance d) cs
-
-instance_of_some : (cs : List TreeClause) (e d : TreeClause) → IsInstance e d → IsInstanceOfSome cs d → IsInstanceOfSome cs e
-instance_of_some cs e d h any =
-    let (c, i, k) = any_in (IsInstance d) cs any in
-    in_any (IsInstance e) c cs i (instance_of_instance e d c h k)
-
--- where the right members are instances up to a number, that member is one
-module _ (base : Base) (right : (n : ℕ) → IsRightMember base n) where
-  given_instance : (n : ℕ) (o : Origin) (c : TreeClause) → ((m : ℕ) → m < n → (e : Entry) → at_number base.members m ≡ Some e → IsInstanceOfSome (with_axioms base.inputs) e.clause)
-      → Gives base n o c → IsInstanceOfSome (with_axioms base.inputs) c
-  given_instance n (input k) c before (d, at, same) =
-      in_any (IsInstance c) d (with_axioms base.inputs) (contains_in d (with_axioms base.inputs) (at_number_contains (with_axioms base.inputs) k d at))
-      (transport (λ (x : TreeClause). IsInstance x d) (sym same) (canonical_is_instance d))
-  given_instance n (inst from place partner other) c before (f, p, h) =
-      let d = instance h.unifier.left h.entry.clause in
-      instance_of_some (with_axioms base.inputs) c h.entry.clause
-      (instance_of_instance c d h.entry.clause (transport (λ (x : TreeClause). IsInstance x d) (sym h.conclusion) (canonical_is_instance d)) (instance_is_instance h.unifier.left h.entry.clause))
-      (before from f h.entry h.entry_at)
-
-  below_instance : (bound n : ℕ) → n < bound → (e : Entry) → at_number base.members n ≡ Some e → IsInstanceOfSome (with_axioms base.inputs) e.clause
-  below_instance zero n h e at = absurd (omega arith)
-  below_instance (suc bound) n h e at = given_instance n e.origin e.clause (λ m k. below_instance bound m (omega arith)) (right n e at)
-
-  pub member_instance : (n : ℕ) (e : Entry) → at_number base.members n ≡ Some e → IsInstanceOfSome (with_axioms base.inputs) e.clause
-  member_instance n = below_instance (suc n) n (omega arith)
 
 module _ (c : Refutation) (valid : IsValidRefutation c) where
   each_ground : (g : TreeClause) → g ∈ c.grounds → IsGround g × IsInstanceOfSome (with_axioms c.base.inputs) g

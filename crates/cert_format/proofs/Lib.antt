@@ -2,4 +2,5 @@ pub mod Selected
 pub mod ExampleFaults
 pub mod Numbers
 pub mod SelectedMembers
+pub mod Members
 pub mod GroundInstances

@@ -11,11 +11,12 @@ ghost use Rattle.cert_format.specs.Certificate.{Refutation, Saturation, selected
 ghost use Rattle.cert_format.specs.Validity.{IsValidRefutation, IsValidSaturation};
 
 /// The members of a valid saturation, with their selected literals, are saturated for the inputs and axioms. So, where the
-/// members are well formed, they make every ground instance of each of these true.
+/// members are well formed, they make every ground instance of each of these true. They are well formed where the inputs are.
 pub fn valid_saturations_are_models()
     ensures saturated { (c : Saturation) → IsValidSaturation c → IsSaturated (selected_members c) (with_axioms c.base.inputs) }
     ensures makes { (c : Saturation) → AreFormedClauses (entry_clauses c.base.members) → IsValidSaturation c
         → All (Makes (selected_members c)) (with_axioms c.base.inputs) }
+    ensures formed { (c : Saturation) → AreFormedClauses c.base.inputs → IsValidSaturation c → AreFormedClauses (entry_clauses c.base.members) }
 {}
 
 /// The ground clauses of a valid refutation are instances of the inputs and axioms, and are refuted.
