@@ -1,0 +1,4 @@
+pub mod Parse
+pub mod Plain
+pub mod Spelling
+pub mod Text
