@@ -1,2 +1,3 @@
 pub mod ShortLists
 pub mod Turns
+pub mod TieMembers

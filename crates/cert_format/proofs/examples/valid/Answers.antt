@@ -9,9 +9,11 @@ use Rattle.inst_calculus.proofs.ShortLists.{each_all, each_number, EachNumbered}
 use Rattle.cert_format.specs.declared.complaint.Complaint.{Complaint}
 use Rattle.cert_format.specs.declared.complaint.Complaint.TheVariants.{Axiom, Member as Derived, Bot, Ground, Step as Shown, NotEmpty, Place, Input, Pair}
 use Rattle.cert_format.specs.Validity.{SaturationFault, RefutationFault, IsShownAt}
-use Rattle.cert_format.specs.Examples.{chain_saturation, p_or_not_q, q_always, instance_refutation, one_step}
+use Rattle.cert_format.specs.Examples.{chain_saturation, p_or_not_q, q_always, instance_refutation, one_step, tie_with, tie_entries}
 use Rattle.inst_calculus.specs.Examples.{entry, not_p_c, p_c}
 use Rattle.cert_format.proofs.ExampleFaults.{chain_members, chain_places, chain_positive, instance_members, only_literal}
+use Rattle.inst_calculus.specs.Examples.{tie_members}
+use Rattle.cert_format.proofs.TieFaults.{tie_members_given, tie_covers, fine_at, tie_places, tie_selected, tie_fine}
 use Rattle.cert_format.proofs.examples.valid.Goals as goal
 
 chain : (k : Complaint) → ¬ SaturationFault chain_saturation k
@@ -55,3 +57,18 @@ pub returns-clause-other_order : goal.returns-clause-other_order
 returns-clause-other_order c = refutation_of (one_step 3 2)
     (((λ e. cc), (yes (p constant_c), only_literal (yes (p constant_c)), each_all (Contains (no (p constant_c) ∷ [])) not_p_c ((0, lit< tt, refl), tt))), tt)
     (one 3 2, refl, refl)
+
+tie : (k : Complaint) → ¬ SaturationFault (tie_with tie_entries (1 ∷ 1 ∷ 2 ∷ 2 ∷ [])) k
+tie (Axiom n) h = h refl
+tie (Derived n) h = tie_members_given (1 ∷ 1 ∷ 2 ∷ 2 ∷ []) n h
+tie Bot h = h
+tie (Ground n) h = h
+tie (Shown n) h = h
+tie NotEmpty h = h
+tie (Place n) (l, h, f) = tie_places n l h f
+tie (Input k) (d, i, t, h) = h (tie_covers k d i)
+tie (Pair l r) h = h.not_closed (fine_at (λ m n. Unit {0}) tie_members tie_fine l h.left_member r h.right_member
+    (tie_selected l h.left_member h.left_selected) (tie_selected r h.right_member h.right_selected) tt h.order h.opposite h.unifier h.most_general)
+
+pub returns-clause-tie : goal.returns-clause-tie
+returns-clause-tie c = tie
