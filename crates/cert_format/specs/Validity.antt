@@ -1,5 +1,5 @@
--- What a certificate is refused for, in order, and validity as the absence of complaints.
-use Rattle.std.specs.Prelude.{◌≡◌, ◌≢◌, ◌⊎◌, ℕ, ◌-◌, ◌<◌, ◌≤◌, max, List, [], length, map, take, false, Some, Any}
+-- The checks of a certificate in their order, one for each complaint, and validity: every check is passed.
+use Rattle.std.specs.Prelude.{◌≡◌, ◌≢◌, ◌⊎◌, ℕ, ◌-◌, ◌<◌, ◌≤◌, max, List, [], length, map, take, IsTrue, Some, Any}
 use Rattle.inst_logic.specs.declared.signed.Signed.{Signed}
 use Rattle.inst_logic.specs.Tree.{Tree}
 use Rattle.inst_logic.specs.WellFormed.{is_constant}
@@ -16,10 +16,6 @@ use Rattle.inst_calculus.specs.Steps.{Step, cited_clause, EndsEmpty}
 use Rattle.cert_format.specs.Certificate.{Base, Refutation, Saturation, selection}
 use Rattle.cert_format.specs.declared.complaint.Complaint.{Complaint}
 use Rattle.cert_format.specs.declared.complaint.Complaint.TheVariants.{Axiom, Member as Derived, Bot, Ground, Step as Shown, NotEmpty, Place, Input, Pair}
-
--- the items of number n differ, or only one of the lists has one
-abbrev pub DiffersAt : {X : Type 0} → List X → List X → ℕ → Type 0
-DiffersAt xs ys n = at_number xs n ≢ at_number ys n
 
 -- the instance of member `from` under the most general unifier of its literal `place` with literal `other` of member `partner`,
 -- which is proper for the first
@@ -43,24 +39,22 @@ abbrev pub Gives : Base → ℕ → Origin → TreeClause → Type 0
 Gives base n (input k) c = (d : TreeClause) × (at_number (with_axioms base.inputs) k ≡ Some d) × (c ≡ canonical_form d)
 Gives base n (inst from place partner other) c = (from < n) × (partner < n) × IsConclusion base.members from place partner other c
 
--- axiom n differs from the axiom that the inputs have there
-abbrev pub IsWrongAxiom : Base → ℕ → Type 0
-IsWrongAxiom base n = DiffersAt base.axioms (equality_axioms base.inputs) n
+-- axiom n is the axiom that the inputs have there, or neither is there
+abbrev pub IsRightAxiom : Base → ℕ → Type 0
+IsRightAxiom base n = at_number base.axioms n ≡ at_number (equality_axioms base.inputs) n
 
--- member n is not what its origin gives
-abbrev pub IsWrongMember : Base → ℕ → Type 0
-IsWrongMember base n = (e : Entry) × (at_number base.members n ≡ Some e) × ¬ Gives base n e.origin e.clause
+-- member n is what its origin gives
+abbrev pub IsRightMember : Base → ℕ → Type 0
+IsRightMember base n = (e : Entry) → at_number base.members n ≡ Some e → Gives base n e.origin e.clause
 
--- ground clause n differs from member n with the constant for every variable
-abbrev pub IsWrongGround : Refutation → ℕ → Type 0
-IsWrongGround c n = DiffersAt c.grounds (map (abstraction c.bot) (entry_clauses c.base.members)) n
+-- ground clause n is member n with the constant for every variable, or neither is there
+abbrev pub IsRightGround : Refutation → ℕ → Type 0
+IsRightGround c n = at_number c.grounds n ≡ at_number (map (abstraction c.bot) (entry_clauses c.base.members)) n
 
--- the step of number n has a hint, and is shown from the ground clauses and the steps before it
-abbrev pub IsShownAt : Refutation → ℕ → Step Tree → Type 0
-IsShownAt c n s = (s.hints ≢ []) × IsShown s.clause (map (cited_clause c.grounds (take (n - 1) c.steps)) s.hints)
-
-abbrev pub IsUnshown : Refutation → ℕ → Type 0
-IsUnshown c n = (s : Step Tree) × (at_number c.steps n ≡ Some s) × ¬ IsShownAt c n s
+-- step n has a hint, and is shown from the ground clauses and the steps before it
+pub record IsRightStep (c : Refutation) (n : ℕ) (s : Step Tree) : Type 0 where
+  pub hinted : s.hints ≢ []
+  pub shown : IsShown s.clause (map (cited_clause c.grounds (take (n - 1) c.steps)) s.hints)
 
 -- member n with the literal at its place
 pub record IsSelected (c : Saturation) (n : ℕ) (m : Member) : Type 0 where
@@ -71,49 +65,42 @@ pub record IsSelected (c : Saturation) (n : ℕ) (m : Member) : Type 0 where
   pub clause : m.clause ≡ entry.clause
   pub selected : at_number entry.clause place ≡ Some m.selected
 
--- member n has no literal at its place, or there is a member n or a place n alone
-abbrev pub IsMisplaced : Saturation → ℕ → Type 0
-IsMisplaced c n = (0 < n) × (n ≤ max (length c.base.members) (length c.places)) × ((m : Member) → ¬ IsSelected c n m)
+-- where there is a member n or a place n, there is member n with a literal at its place
+abbrev pub IsRightPlace : Saturation → ℕ → Type 0
+IsRightPlace c n = 0 < n → n ≤ max (length c.base.members) (length c.places) → (m : Member) × IsSelected c n m
 
--- clause k of the inputs and axioms is no tautology, and no member has an instance whose literals are all in it
-abbrev pub IsUncovered : Saturation → ℕ → Type 0
-IsUncovered c k = (d : TreeClause) × (at_number (with_axioms c.base.inputs) k ≡ Some d) × (¬ IsTautology d) × ¬ Any (λ e. Subsumes e.clause d) c.base.members
+-- clause k of the inputs and axioms is a tautology, or has all literals of an instance of a member among its own
+abbrev pub IsRightInput : Saturation → ℕ → Type 0
+IsRightInput c k = (d : TreeClause) → at_number (with_axioms c.base.inputs) k ≡ Some d → IsTautology d ⊎ Any (λ e. Subsumes e.clause d) c.base.members
 
--- the selected literals of the two members have opposite signs and unify, and a conclusion is not covered
-pub record IsOpenPair (c : Saturation) (left right : ℕ) : Type 0 where
-  pub order : left < right
-  pub left_member : Member
-  pub right_member : Member
-  pub left_selected : IsSelected c left left_member
-  pub right_selected : IsSelected c right right_member
-  pub opposite : left_member.selected.positive ≢ right_member.selected.positive
-  pub unifier : Sided
-  pub most_general : IsMostGeneral unifier left_member.selected.atom right_member.selected.atom
-  pub not_closed : ¬ IsClosed (selection c) left_member right_member unifier
+-- where the selected literals of the two members have opposite signs and unify, what they conclude is covered
+abbrev pub IsRightPair : Saturation → ℕ → ℕ → Type 0
+IsRightPair c left right = left < right → (m n : Member) → IsSelected c left m → IsSelected c right n → m.selected.positive ≢ n.selected.positive
+    → (s : Sided) → IsMostGeneral s m.selected.atom n.selected.atom → IsClosed (selection c) m n s
 
--- the complaint applies to the refutation
-abbrev pub RefutationFault : Refutation → Complaint → Type 0
-RefutationFault c (Axiom n) = IsWrongAxiom c.base n
-RefutationFault c (Derived n) = IsWrongMember c.base n
-RefutationFault c Bot = is_constant c.bot ≡ false
-RefutationFault c (Ground n) = IsWrongGround c n
-RefutationFault c (Shown n) = IsUnshown c n
-RefutationFault c NotEmpty = ¬ EndsEmpty c.steps
-RefutationFault c (Place n) = ⊥
-RefutationFault c (Input k) = ⊥
-RefutationFault c (Pair left right) = ⊥
+-- The refutation passes the check that the complaint names: a complaint applies exactly where its check is not passed.
+abbrev pub RefutationPasses : Refutation → Complaint → Type 0
+RefutationPasses c (Axiom n) = IsRightAxiom c.base n
+RefutationPasses c (Derived n) = IsRightMember c.base n
+RefutationPasses c Bot = IsTrue (is_constant c.bot)
+RefutationPasses c (Ground n) = IsRightGround c n
+RefutationPasses c (Shown n) = (s : Step Tree) → at_number c.steps n ≡ Some s → IsRightStep c n s
+RefutationPasses c NotEmpty = EndsEmpty c.steps
+RefutationPasses c (Place n) = Unit {0}
+RefutationPasses c (Input k) = Unit {0}
+RefutationPasses c (Pair left right) = Unit {0}
 
--- the complaint applies to the saturation
-abbrev pub SaturationFault : Saturation → Complaint → Type 0
-SaturationFault c (Axiom n) = IsWrongAxiom c.base n
-SaturationFault c (Derived n) = IsWrongMember c.base n
-SaturationFault c Bot = ⊥
-SaturationFault c (Ground n) = ⊥
-SaturationFault c (Shown n) = ⊥
-SaturationFault c NotEmpty = ⊥
-SaturationFault c (Place n) = IsMisplaced c n
-SaturationFault c (Input k) = IsUncovered c k
-SaturationFault c (Pair left right) = IsOpenPair c left right
+-- The saturation passes the check that the complaint names.
+abbrev pub SaturationPasses : Saturation → Complaint → Type 0
+SaturationPasses c (Axiom n) = IsRightAxiom c.base n
+SaturationPasses c (Derived n) = IsRightMember c.base n
+SaturationPasses c Bot = Unit {0}
+SaturationPasses c (Ground n) = Unit {0}
+SaturationPasses c (Shown n) = Unit {0}
+SaturationPasses c NotEmpty = Unit {0}
+SaturationPasses c (Place n) = IsRightPlace c n
+SaturationPasses c (Input k) = IsRightInput c k
+SaturationPasses c (Pair left right) = IsRightPair c left right
 
 -- the place of the kind of complaint in the order of the checks
 abbrev pub rank : Complaint → ℕ
@@ -146,13 +133,14 @@ second_number _ = 0
 abbrev pub Precedes : Complaint → Complaint → Type 0
 Precedes j k = (rank j < rank k) ⊎ ((rank j ≡ rank k) × (first_number j < first_number k)) ⊎ ((rank j ≡ rank k) × (first_number j ≡ first_number k) × (second_number j < second_number k))
 
--- the complaint applies, and none that precedes it does
-pub record IsFirstFault (Fault : Complaint → Type 0) (complaint : Complaint) : Type 0 where
-  pub applies : Fault complaint
-  pub first : (other : Complaint) → Precedes other complaint → ¬ Fault other
+-- the check of the complaint is not passed, and each check that precedes it is
+pub record IsFirstComplaint (Passes : Complaint → Type 0) (complaint : Complaint) : Type 0 where
+  pub applies : ¬ Passes complaint
+  pub first : (other : Complaint) → Precedes other complaint → Passes other
 
+-- no complaint applies: every check is passed
 abbrev pub IsValidRefutation : Refutation → Type 0
-IsValidRefutation c = (complaint : Complaint) → ¬ RefutationFault c complaint
+IsValidRefutation c = (complaint : Complaint) → RefutationPasses c complaint
 
 abbrev pub IsValidSaturation : Saturation → Type 0
-IsValidSaturation c = (complaint : Complaint) → ¬ SaturationFault c complaint
+IsValidSaturation c = (complaint : Complaint) → SaturationPasses c complaint
