@@ -1,3 +1,3 @@
 pub mod Selected
-pub mod ExampleFaults
-pub mod TieFaults
+pub mod ExampleMembers
+pub mod TieChecks

@@ -31,8 +31,8 @@ selected_member c n m s e p l i j k =
 
 -- a member whose place has a literal is not misplaced
 pub is_placed : (c : Saturation) (n : ℕ) (e : Entry) (p : ℕ) (l : Signed Tree) → at_number c.base.members n ≡ Some e → at_number c.places n ≡ Some p
-    → at_number e.clause p ≡ Some l → ¬ ((m : Member) → ¬ IsSelected c n m)
-is_placed c n e p l i j k f = f (record { clause = e.clause; selected = l }) (record { entry = e; place = p; entry_at = i; place_at = j; clause = refl; selected = k })
+    → at_number e.clause p ≡ Some l → (m : Member) × IsSelected c n m
+is_placed c n e p l i j k = (record { clause = e.clause; selected = l }, record { entry = e; place = p; entry_at = i; place_at = j; clause = refl; selected = k })
 
 -- a place without a literal selects nothing
 pub none_selected : (c : Saturation) (n : ℕ) (m : Member) → IsSelected c n m → (e : Entry) (p : ℕ)

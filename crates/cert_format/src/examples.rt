@@ -1,7 +1,7 @@
 // Worked examples of the definitions, as theorems: each function does nothing, and its clauses are closed facts.
 ghost use Rattle.std.specs.Prelude.{◌≡◌, ◌∷◌, [], codes};
 ghost use Rattle.cert_format.specs.declared.complaint.Complaint.TheVariants.{Member as Derived, Step as Shown, NotEmpty, Place, Input, Pair};
-ghost use Rattle.cert_format.specs.Validity.{RefutationFault, SaturationFault, IsFirstFault, IsValidRefutation, IsValidSaturation};
+ghost use Rattle.cert_format.specs.Validity.{RefutationPasses, SaturationPasses, IsFirstComplaint, IsValidRefutation, IsValidSaturation};
 ghost use Rattle.cert_format.specs.Printable.{IsPrintableRefutation, IsPrintableSaturation, IsTextName};
 ghost use Rattle.cert_format.specs.Text.{refutation_text, saturation_text};
 ghost use Rattle.cert_format.specs.Examples.{text_of_lines, empty_saturation, chain_saturation, instance_refutation, one_step, tie_with, tie_entries, wrong_entries};
@@ -71,16 +71,16 @@ pub fn valid()
 
 /// What a changed refutation is refused for: `p(bot_0)` and `~p(c)` do not show the empty clause, and without steps nothing does.
 pub fn complaints()
-    ensures step { IsFirstFault (RefutationFault (instance_refutation (one_step 1 2))) (Shown 1) }
-    ensures not_empty { IsFirstFault (RefutationFault (instance_refutation [])) NotEmpty }
+    ensures step { IsFirstComplaint (RefutationPasses (instance_refutation (one_step 1 2))) (Shown 1) }
+    ensures not_empty { IsFirstComplaint (RefutationPasses (instance_refutation [])) NotEmpty }
 {}
 
 /// What changed copies of the saturation of `p(X0,a) | q(X0)` and `~p(b,X0) | s(X0)` are refused for: the first member alone, the
 /// two inputs alone, the last two members with their first literals selected, a wrong third member, and a place past the end.
 pub fn changed_saturations()
-    ensures input { IsFirstFault (SaturationFault (tie_with (entry tie_one (input 1) ∷ []) (1 ∷ []))) (Input 2) }
-    ensures pair { IsFirstFault (SaturationFault (tie_with (entry tie_one (input 1) ∷ entry tie_two (input 2) ∷ []) (1 ∷ 1 ∷ []))) (Pair 1 2) }
-    ensures later_pair { IsFirstFault (SaturationFault (tie_with tie_entries (1 ∷ 1 ∷ 1 ∷ 1 ∷ []))) (Pair 3 4) }
-    ensures member { IsFirstFault (SaturationFault (tie_with wrong_entries (1 ∷ 1 ∷ 2 ∷ 2 ∷ []))) (Derived 3) }
-    ensures place { IsFirstFault (SaturationFault (tie_with tie_entries (3 ∷ 1 ∷ 2 ∷ 2 ∷ []))) (Place 1) }
+    ensures input { IsFirstComplaint (SaturationPasses (tie_with (entry tie_one (input 1) ∷ []) (1 ∷ []))) (Input 2) }
+    ensures pair { IsFirstComplaint (SaturationPasses (tie_with (entry tie_one (input 1) ∷ entry tie_two (input 2) ∷ []) (1 ∷ 1 ∷ []))) (Pair 1 2) }
+    ensures later_pair { IsFirstComplaint (SaturationPasses (tie_with tie_entries (1 ∷ 1 ∷ 1 ∷ 1 ∷ []))) (Pair 3 4) }
+    ensures member { IsFirstComplaint (SaturationPasses (tie_with wrong_entries (1 ∷ 1 ∷ 2 ∷ 2 ∷ []))) (Derived 3) }
+    ensures place { IsFirstComplaint (SaturationPasses (tie_with tie_entries (3 ∷ 1 ∷ 2 ∷ 2 ∷ []))) (Place 1) }
 {}

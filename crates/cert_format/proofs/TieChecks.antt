@@ -1,5 +1,5 @@
 -- What the members of the tied clauses give, cover and select.
-use Rattle.std.proofs.Common.{◌≡◌, ◌≢◌, ℕ, zero, suc, ◌<◌, ◌≤◌, List, [], ◌∷◌, refl, sym, ap, subst as transport, lit<, arith, inl}
+use Rattle.std.proofs.Common.{◌≡◌, ◌≢◌, ℕ, zero, suc, ◌<◌, List, [], ◌∷◌, refl, sym, ap, subst as transport, lit<, arith, inl}
 use Rattle.std.specs.Prelude.{Any, Contains, Some}
 use Rattle.inst_logic.specs.Tree.{var}
 use Rattle.inst_logic.specs.Clauses.{TreeClause, Subsumes}
@@ -14,12 +14,12 @@ use Rattle.inst_calculus.proofs.ShortLists.{EachNumbered, each_all, each_number}
 use Rattle.inst_calculus.proofs.Turns.{tie_most_general, swapped_most_general}
 use Rattle.inst_calculus.proofs.TieMembers.{first_covered, second_covered, first_second}
 use Rattle.cert_format.specs.declared.complaint.Complaint.TheVariants.{Pair}
-use Rattle.cert_format.specs.Validity.{Gives, IsSelected, IsWrongMember, Precedes}
+use Rattle.cert_format.specs.Validity.{Gives, IsSelected, IsRightMember, IsRightPlace, Precedes}
 use Rattle.cert_format.specs.Examples.{tie_with, tie_entries}
 use Rattle.cert_format.proofs.Selected.{selected_member, is_placed}
 
-pub tie_members_given : (ps : List ℕ) (n : ℕ) → ¬ IsWrongMember (tie_with tie_entries ps).base n
-tie_members_given ps n (e, i, h) = h (each_number (λ m (x : Entry). Gives (tie_with tie_entries ps).base m x.origin x.clause) tie_entries (
+pub tie_members_given : (ps : List ℕ) (n : ℕ) → IsRightMember (tie_with tie_entries ps).base n
+tie_members_given ps n e i = (each_number (λ m (x : Entry). Gives (tie_with tie_entries ps).base m x.origin x.clause) tie_entries (
   (tie_one, refl, refl),
   (
     (tie_two, refl, refl),
@@ -89,13 +89,13 @@ fine_at Before ms h l m r n i j = each_number (λ k (x : Member). IsFine Before 
     (each_number (λ k (x : Member). EachNumbered (λ t (y : Member). IsFine Before ms k x (suc t) y) ms) ms h l m i) r n j
 
 -- the second literals of the last two members are selected
-pub tie_places : (n : ℕ) → 0 < n → n ≤ 4 → ¬ ((m : Member) → ¬ IsSelected (tie_with tie_entries (1 ∷ 1 ∷ 2 ∷ 2 ∷ [])) n m)
-tie_places zero l h = omega arith
+pub tie_places : (n : ℕ) → IsRightPlace (tie_with tie_entries (1 ∷ 1 ∷ 2 ∷ 2 ∷ [])) n
+tie_places zero l h = absurd (omega arith)
 tie_places (suc zero) l h = is_placed (tie_with tie_entries (1 ∷ 1 ∷ 2 ∷ 2 ∷ [])) 1 (entry tie_one (input 1)) 1 (yes (p_pair (var 0) constant_a)) refl refl refl
 tie_places (suc (suc zero)) l h = is_placed (tie_with tie_entries (1 ∷ 1 ∷ 2 ∷ 2 ∷ [])) 2 (entry tie_two (input 2)) 1 (no (p_pair constant_b (var 0))) refl refl refl
 tie_places (suc (suc (suc zero))) l h = is_placed (tie_with tie_entries (1 ∷ 1 ∷ 2 ∷ 2 ∷ [])) 3 (entry tie_three (inst 1 1 2 1)) 2 (yes (q constant_b)) refl refl refl
 tie_places (suc (suc (suc (suc zero)))) l h = is_placed (tie_with tie_entries (1 ∷ 1 ∷ 2 ∷ 2 ∷ [])) 4 (entry tie_four (inst 2 1 1 1)) 2 (yes (s constant_a)) refl refl refl
-tie_places (suc (suc (suc (suc (suc n))))) l h = omega arith
+tie_places (suc (suc (suc (suc (suc n))))) l h = absurd (omega arith)
 
 pub tie_selected : (n : ℕ) (m : Member) → IsSelected (tie_with tie_entries (1 ∷ 1 ∷ 2 ∷ 2 ∷ [])) n m → at_number tie_members n ≡ Some m
 tie_selected zero m g = absurd (let e = g.entry_at in cc)
@@ -118,13 +118,13 @@ tie_fine = (
 )
 
 -- the first literals of all members are selected
-pub open_places : (n : ℕ) → 0 < n → n ≤ 4 → ¬ ((m : Member) → ¬ IsSelected (tie_with tie_entries (1 ∷ 1 ∷ 1 ∷ 1 ∷ [])) n m)
-open_places zero l h = omega arith
+pub open_places : (n : ℕ) → IsRightPlace (tie_with tie_entries (1 ∷ 1 ∷ 1 ∷ 1 ∷ [])) n
+open_places zero l h = absurd (omega arith)
 open_places (suc zero) l h = is_placed (tie_with tie_entries (1 ∷ 1 ∷ 1 ∷ 1 ∷ [])) 1 (entry tie_one (input 1)) 1 (yes (p_pair (var 0) constant_a)) refl refl refl
 open_places (suc (suc zero)) l h = is_placed (tie_with tie_entries (1 ∷ 1 ∷ 1 ∷ 1 ∷ [])) 2 (entry tie_two (input 2)) 1 (no (p_pair constant_b (var 0))) refl refl refl
 open_places (suc (suc (suc zero))) l h = is_placed (tie_with tie_entries (1 ∷ 1 ∷ 1 ∷ 1 ∷ [])) 3 (entry tie_three (inst 1 1 2 1)) 1 (yes (p_pair constant_b constant_a)) refl refl refl
 open_places (suc (suc (suc (suc zero)))) l h = is_placed (tie_with tie_entries (1 ∷ 1 ∷ 1 ∷ 1 ∷ [])) 4 (entry tie_four (inst 2 1 1 1)) 1 (no (p_pair constant_b constant_a)) refl refl refl
-open_places (suc (suc (suc (suc (suc n))))) l h = omega arith
+open_places (suc (suc (suc (suc (suc n))))) l h = absurd (omega arith)
 
 pub open_selected : (n : ℕ) (m : Member) → IsSelected (tie_with tie_entries (1 ∷ 1 ∷ 1 ∷ 1 ∷ [])) n m → at_number open_members n ≡ Some m
 open_selected zero m g = absurd (let e = g.entry_at in cc)
