@@ -5,7 +5,7 @@ use Rattle.inst_logic.specs.Clauses.{TreeClause}
 use Rattle.inst_logic.specs.Examples.{p, p_pair, q, constant_bot, yes, no}
 use Rattle.inst_calculus.specs.Entries.{input, inst, Entry}
 use Rattle.inst_calculus.specs.Steps.{given, Step}
-use Rattle.inst_calculus.specs.Examples.{constant_a, constant_b, tie_one, tie_two, tie_three, tie_four, entry, p_always, not_p_c, p_c, bot}
+use Rattle.inst_calculus.specs.Examples.{constant_a, constant_b, tie_one, tie_two, tie_three, tie_four, entry, p_a, p_always, not_p_c, p_c, bot}
 use Rattle.cert_format.specs.Certificate.{Refutation, Saturation}
 
 -- the lines, each with a line feed behind it
@@ -54,6 +54,10 @@ instance_refutation steps = record {
 -- one step to the empty clause, by two ground clauses
 abbrev pub one_step : ℕ → ℕ → List (Step Tree)
 one_step m n = record { clause = []; hints = given m ∷ given n ∷ [] } ∷ []
+
+-- the first ground clause is p(a)
+abbrev pub changed_refutation : Refutation
+changed_refutation = record (instance_refutation (one_step 2 3)) { grounds = p_a ∷ not_p_c ∷ p_c ∷ [] }
 
 -- the tied clauses with these members and places
 abbrev pub tie_with : List Entry → List ℕ → Saturation

@@ -1,10 +1,10 @@
 // Worked examples of the definitions, as theorems: each function does nothing, and its clauses are closed facts.
 ghost use Rattle.std.specs.Prelude.{◌≡◌, ◌∷◌, [], codes};
-ghost use Rattle.cert_format.specs.declared.complaint.Complaint.TheVariants.{Member as Derived, Step as Shown, NotEmpty, Place, Input, Pair};
+ghost use Rattle.cert_format.specs.declared.complaint.Complaint.TheVariants.{Member as Derived, Ground, Step as Shown, NotEmpty, Place, Input, Pair};
 ghost use Rattle.cert_format.specs.Validity.{RefutationPasses, SaturationPasses, IsFirstComplaint, IsValidRefutation, IsValidSaturation};
 ghost use Rattle.cert_format.specs.Printable.{IsPrintableRefutation, IsPrintableSaturation, IsTextName};
 ghost use Rattle.cert_format.specs.Text.{refutation_text, saturation_text};
-ghost use Rattle.cert_format.specs.Examples.{text_of_lines, empty_saturation, chain_saturation, instance_refutation, one_step, tie_with, tie_entries, wrong_entries};
+ghost use Rattle.cert_format.specs.Examples.{text_of_lines, empty_saturation, chain_saturation, instance_refutation, one_step, tie_with, tie_entries, wrong_entries, changed_refutation};
 ghost use Rattle.inst_calculus.specs.Entries.{input};
 ghost use Rattle.inst_calculus.specs.Examples.{entry, tie_one, tie_two};
 
@@ -69,8 +69,10 @@ pub fn valid()
     ensures other_order { IsValidRefutation (instance_refutation (one_step 3 2)) }
 {}
 
-/// What a changed refutation is refused for: `p(bot_0)` and `~p(c)` do not show the empty clause, and without steps nothing does.
+/// What a changed refutation is refused for: `p(a)` is not the first member with the constant for its variable, `p(bot_0)` and
+/// `~p(c)` do not show the empty clause, and without steps nothing does.
 pub fn complaints()
+    ensures clause { IsFirstComplaint (RefutationPasses changed_refutation) (Ground 1) }
     ensures step { IsFirstComplaint (RefutationPasses (instance_refutation (one_step 1 2))) (Shown 1) }
     ensures not_empty { IsFirstComplaint (RefutationPasses (instance_refutation [])) NotEmpty }
 {}

@@ -4,12 +4,13 @@ use Rattle.inst_logic.specs.Tree.{Tree}
 use Rattle.inst_logic.specs.declared.signed.Signed.{Signed}
 use Rattle.inst_logic.specs.Signed.{complement}
 use Rattle.inst_logic.specs.Examples.{p, constant_c, constant_bot, yes, no}
+use Rattle.inst_calculus.specs.Examples.{constant_a}
 use Rattle.inst_calculus.specs.Steps.{given}
 use Rattle.inst_calculus.proofs.ShortLists.{contains_one}
 use Rattle.cert_format.specs.declared.complaint.Complaint.{Complaint}
 use Rattle.cert_format.specs.declared.complaint.Complaint.TheVariants.{Axiom, Member as Derived, Bot, Ground, Step as Shown, NotEmpty, Place, Input, Pair}
 use Rattle.cert_format.specs.Validity.{RefutationPasses, Precedes}
-use Rattle.cert_format.specs.Examples.{instance_refutation, one_step}
+use Rattle.cert_format.specs.Examples.{instance_refutation, one_step, changed_refutation}
 use Rattle.cert_format.proofs.ExampleMembers.{instance_members}
 use Rattle.cert_format.proofs.examples.complaints.Goals as goal
 
@@ -61,3 +62,34 @@ returns-clause-step c = record { applies = not_shown; first = before_step }
 
 pub returns-clause-not_empty : goal.returns-clause-not_empty
 returns-clause-not_empty c = record { applies = λ (s, i, e). let d : None ≡ Some s = i in cc; first = before_end }
+
+wrong_clause : ¬ RefutationPasses changed_refutation (Ground 1)
+wrong_clause h =
+    let literals : yes (p constant_a) ≡ yes (p constant_bot) = cc in
+    let atoms : p constant_a ≡ p constant_bot = ap (λ (m : Signed Tree). m.atom) literals in
+    let e : constant_a ≡ constant_bot = cc in
+    search rules
+
+clause_is_first : (n : ℕ) → ¬ Precedes (Ground (suc n)) (Ground 1)
+clause_is_first n b = grind arith
+
+steps_are_later : (n : ℕ) → ¬ Precedes (Shown n) (Ground 1)
+steps_are_later n b = grind arith
+
+end_is_behind : ¬ Precedes NotEmpty (Ground 1)
+end_is_behind b = grind arith
+
+before_clause : (other : Complaint) → Precedes other (Ground 1) → RefutationPasses changed_refutation other
+before_clause (Axiom n) before = refl
+before_clause (Derived n) before = instance_members (one_step 2 3) n
+before_clause Bot before = refl
+before_clause (Ground zero) before = refl
+before_clause (Ground (suc n)) before = absurd (clause_is_first n before)
+before_clause (Shown n) before = absurd (steps_are_later n before)
+before_clause NotEmpty before = absurd (end_is_behind before)
+before_clause (Place n) before = tt
+before_clause (Input k) before = tt
+before_clause (Pair l r) before = tt
+
+pub returns-clause-clause : goal.returns-clause-clause
+returns-clause-clause c = record { applies = wrong_clause; first = before_clause }
