@@ -4,3 +4,5 @@ pub mod Numbers
 pub mod SelectedMembers
 pub mod Members
 pub mod GroundInstances
+pub mod ExampleMembers
+pub mod TieChecks

@@ -2,10 +2,10 @@
 use Rattle.std.specs.Prelude.{ℕ, List, [], ◌∷◌, ◌++◌, codes}
 use Rattle.inst_logic.specs.Tree.{Tree, var}
 use Rattle.inst_logic.specs.Clauses.{TreeClause}
-use Rattle.inst_logic.specs.Examples.{p, q, constant_bot, yes, no}
-use Rattle.inst_calculus.specs.Entries.{input, inst}
+use Rattle.inst_logic.specs.Examples.{p, p_pair, q, constant_bot, yes, no}
+use Rattle.inst_calculus.specs.Entries.{input, inst, Entry}
 use Rattle.inst_calculus.specs.Steps.{given, Step}
-use Rattle.inst_calculus.specs.Examples.{entry, p_always, not_p_c, p_c, bot}
+use Rattle.inst_calculus.specs.Examples.{constant_a, constant_b, tie_one, tie_two, tie_three, tie_four, entry, p_a, p_always, not_p_c, p_c, bot}
 use Rattle.cert_format.specs.Certificate.{Refutation, Saturation}
 
 -- the lines, each with a line feed behind it
@@ -54,3 +54,22 @@ instance_refutation steps = record {
 -- one step to the empty clause, by two ground clauses
 abbrev pub one_step : ℕ → ℕ → List (Step Tree)
 one_step m n = record { clause = []; hints = given m ∷ given n ∷ [] } ∷ []
+
+-- the first ground clause is p(a)
+abbrev pub changed_refutation : Refutation
+changed_refutation = record (instance_refutation (one_step 2 3)) { grounds = p_a ∷ not_p_c ∷ p_c ∷ [] }
+
+-- the tied clauses with these members and places
+abbrev pub tie_with : List Entry → List ℕ → Saturation
+tie_with members places = record {
+  base = record { inputs = tie_one ∷ tie_two ∷ []; names = codes "one" ∷ codes "two" ∷ []; axioms = []; members = members };
+  places = places;
+}
+
+abbrev pub tie_entries : List Entry
+tie_entries = entry tie_one (input 1) ∷ entry tie_two (input 2) ∷ entry tie_three (inst 1 1 2 1) ∷ entry tie_four (inst 2 1 1 1) ∷ []
+
+-- the third member is p(b,a) | q(a)
+abbrev pub wrong_entries : List Entry
+wrong_entries = entry tie_one (input 1) ∷ entry tie_two (input 2)
+    ∷ entry (yes (p_pair constant_b constant_a) ∷ yes (q constant_a) ∷ []) (inst 1 1 2 1) ∷ entry tie_four (inst 2 1 1 1) ∷ []

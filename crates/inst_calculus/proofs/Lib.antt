@@ -18,3 +18,4 @@ pub mod StepLaws
 pub mod EqualityAxioms
 pub mod Congruences
 pub mod GroundConstants
+pub mod TieMembers

@@ -3,8 +3,8 @@ use Rattle.std.proofs.Common.{◌≡◌, ℕ, zero, suc, refl, sym}
 use Rattle.inst_logic.specs.Tree.{Tree, var}
 use Rattle.inst_logic.specs.Substitution.{Substitution, subst as put}
 use Rattle.inst_logic.specs.Unifiers.{Sided, IsMostGeneral}
-use Rattle.inst_logic.specs.Examples.{p, constant_c, twice, even_variable, odd_variable, first_is_c, binding}
-use Rattle.inst_calculus.specs.Examples.{first_is}
+use Rattle.inst_logic.specs.Examples.{p, p_pair, constant_c, twice, even_variable, odd_variable, first_is_c, binding}
+use Rattle.inst_calculus.specs.Examples.{first_is, constant_a, constant_b, tie_unifier, tie_swapped, apart}
 
 -- the first at even numbers, and the second at odd ones
 abbrev pub in_turn : Substitution → Substitution → Substitution
@@ -40,6 +40,37 @@ instance_unifier = record {
   general = λ u h. record {
     rest = in_turn u.left u.right;
     left = bound_left u (cc);
+    right = λ v. sym (in_turn-odd u.left u.right v);
+  };
+}
+
+pub tie_most_general : IsMostGeneral tie_unifier (p_pair (var 0) constant_a) (p_pair constant_b (var 0))
+tie_most_general = record {
+  unifies = refl;
+  general = λ u h. record {
+    rest = in_turn u.left u.right;
+    left = left_from u constant_b (cc);
+    right = right_from u constant_a (cc);
+  };
+}
+
+pub swapped_most_general : IsMostGeneral tie_swapped (p_pair constant_b (var 0)) (p_pair (var 0) constant_a)
+swapped_most_general = record {
+  unifies = refl;
+  general = λ u h. record {
+    rest = in_turn u.left u.right;
+    left = left_from u constant_a (cc);
+    right = right_from u constant_b (cc);
+  };
+}
+
+-- p(b,a) and p(b,a)
+pub nothing_bound : IsMostGeneral apart (p_pair constant_b constant_a) (p_pair constant_b constant_a)
+nothing_bound = record {
+  unifies = refl;
+  general = λ u h. record {
+    rest = in_turn u.left u.right;
+    left = λ v. sym (in_turn-even u.left u.right v);
     right = λ v. sym (in_turn-odd u.left u.right v);
   };
 }

@@ -76,6 +76,10 @@ first_is t r (suc v) = r (suc v)
 abbrev pub tie_unifier : Sided
 tie_unifier = record { left = first_is constant_b even_variable; right = first_is constant_a odd_variable }
 
+-- unifies `p(b,X0)` with `p(X0,a)`
+abbrev pub tie_swapped : Sided
+tie_swapped = record { left = first_is constant_a even_variable; right = first_is constant_b odd_variable }
+
 -- the variables of both sides stay, and are kept apart
 abbrev pub apart : Sided
 apart = record { left = even_variable; right = odd_variable }

@@ -9,3 +9,7 @@ returns-clause-saturation c = refl
 pub returns-clause-refutation : goal.returns-clause-refutation
 unfolding digits
 returns-clause-refutation c = refl
+
+pub returns-clause-tie : goal.returns-clause-tie
+unfolding digits
+returns-clause-tie c = refl

@@ -1,5 +1,5 @@
--- No complaint on the members of the example certificates.
-use Rattle.std.proofs.Common.{◌≡◌, ℕ, zero, suc, ◌<◌, ◌≤◌, List, [], ◌∷◌, refl, ap, lit<, arith, inr, true}
+-- What the members of the example certificates give and select.
+use Rattle.std.proofs.Common.{◌≡◌, ℕ, zero, suc, List, [], ◌∷◌, refl, ap, lit<, arith, inr, true}
 use Rattle.std.specs.Prelude.{Contains, ◌⊎◌}
 use Rattle.inst_logic.specs.Tree.{Tree, var}
 use Rattle.inst_logic.specs.declared.signed.Signed.{Signed}
@@ -8,24 +8,22 @@ use Rattle.inst_logic.specs.Examples.{p, q, constant_c, yes, no, binding}
 use Rattle.inst_calculus.specs.Entries.{Entry, input}
 use Rattle.inst_calculus.specs.Steps.{Step}
 use Rattle.inst_calculus.specs.Models.{Member}
+use Rattle.inst_calculus.specs.Examples.{entry, p_always, not_p_c}
 use Rattle.inst_calculus.proofs.ShortLists.{each_all, each_number}
 use Rattle.inst_calculus.proofs.Turns.{instance_unifier}
-use Rattle.cert_format.specs.Validity.{Gives, IsSelected, IsWrongMember}
+use Rattle.cert_format.specs.Validity.{Gives, IsSelected, IsRightMember, IsRightPlace}
 use Rattle.cert_format.specs.Examples.{chain_saturation, p_or_not_q, q_always, instance_refutation}
-use Rattle.inst_calculus.specs.Examples.{entry, p_always, not_p_c}
-use Rattle.cert_format.proofs.Selected.{selected_is}
+use Rattle.cert_format.proofs.Selected.{selected_is, is_placed}
 
-pub chain_members : (n : ℕ) → ¬ IsWrongMember chain_saturation.base n
-chain_members n (e, i, h) = h (each_number (λ m (x : Entry). Gives chain_saturation.base m x.origin x.clause) chain_saturation.base.members
+pub chain_members : (n : ℕ) → IsRightMember chain_saturation.base n
+chain_members n e i = (each_number (λ m (x : Entry). Gives chain_saturation.base m x.origin x.clause) chain_saturation.base.members
     ((p_or_not_q, refl, refl), ((q_always, refl, refl), tt)) n e i)
 
-pub chain_places : (n : ℕ) → 0 < n → n ≤ 2 → ((m : Member) → ¬ IsSelected chain_saturation n m) → ⊥
-chain_places zero l h f = omega arith
-chain_places (suc zero) l h f = f (record { clause = p_or_not_q; selected = yes (p (var 0)) })
-    (record { entry = entry p_or_not_q (input 1); place = 1; entry_at = refl; place_at = refl; clause = refl; selected = refl })
-chain_places (suc (suc zero)) l h f = f (record { clause = q_always; selected = yes (q (var 0)) })
-    (record { entry = entry q_always (input 2); place = 1; entry_at = refl; place_at = refl; clause = refl; selected = refl })
-chain_places (suc (suc (suc n))) l h f = omega arith
+pub chain_places : (n : ℕ) → IsRightPlace chain_saturation n
+chain_places zero l h = absurd (omega arith)
+chain_places (suc zero) l h = is_placed chain_saturation 1 (entry p_or_not_q (input 1)) 1 (yes (p (var 0))) refl refl refl
+chain_places (suc (suc zero)) l h = is_placed chain_saturation 2 (entry q_always (input 2)) 1 (yes (q (var 0))) refl refl refl
+chain_places (suc (suc (suc n))) l h = absurd (omega arith)
 
 pub chain_positive : (n : ℕ) (m : Member) → IsSelected chain_saturation n m → m.selected.positive ≡ true
 chain_positive zero m s = absurd (let e = s.entry_at in cc)
@@ -41,8 +39,8 @@ only_literal l = record {
   others = each_all (λ m. Contains [] m ⊎ (m ≡ l)) (l ∷ []) (inr refl, tt);
 }
 
-pub instance_members : (steps : List (Step Tree)) (n : ℕ) → ¬ IsWrongMember (instance_refutation steps).base n
-instance_members steps n (e, i, h) = h (each_number (λ m (x : Entry). Gives (instance_refutation steps).base m x.origin x.clause) (instance_refutation steps).base.members (
+pub instance_members : (steps : List (Step Tree)) (n : ℕ) → IsRightMember (instance_refutation steps).base n
+instance_members steps n e i = (each_number (λ m (x : Entry). Gives (instance_refutation steps).base m x.origin x.clause) (instance_refutation steps).base.members (
   (p_always, refl, refl),
   (
     (not_p_c, refl, refl),
