@@ -6,7 +6,7 @@ ghost use Rattle.inst_logic.specs.Unifiers.{Sided, IsMostGeneral, IsProper};
 ghost use Rattle.inst_logic.specs.Examples.{p, p_pair, f, equals, constant_c, constant_bot, yes, no};
 ghost use Rattle.inst_calculus.specs.Axioms.{equality_axioms, with_axioms, function_congruence};
 ghost use Rattle.inst_calculus.specs.Abstraction.{IsBot, abstraction};
-ghost use Rattle.inst_calculus.specs.Models.{clauses, IsTrueBy};
+ghost use Rattle.inst_calculus.specs.Models.{member_clauses, IsTrueBy};
 ghost use Rattle.inst_calculus.specs.Saturation.{IsCovered, IsClosed, IsSaturated};
 ghost use Rattle.inst_calculus.specs.Examples.{s, f_is_a, p_a, p_always, not_p_c, bot_predicate, constant_named, bot, g, g_symbol, constant_a, constant_b, tie_one, tie_two, tie_members, open_members, third_by_first, fourth_by_first, tie_unifier, apart};
 
@@ -46,8 +46,8 @@ pub fn covered_pair()
     ensures most_general { IsMostGeneral tie_unifier (p_pair (var 0) constant_a) (p_pair constant_b (var 0)) }
     ensures proper_left { IsProper tie_unifier.left (p_pair (var 0) constant_a) }
     ensures proper_right { IsProper tie_unifier.right (p_pair constant_b (var 0)) }
-    ensures covered_left { IsCovered (clauses tie_members) tie_one (instance tie_unifier.left tie_one) }
-    ensures covered_right { IsCovered (clauses tie_members) tie_two (instance tie_unifier.right tie_two) }
+    ensures covered_left { IsCovered (member_clauses tie_members) tie_one (instance tie_unifier.left tie_one) }
+    ensures covered_right { IsCovered (member_clauses tie_members) tie_two (instance tie_unifier.right tie_two) }
 {}
 
 /// With the first literals of the last two members selected, `p(b,a)` and `~p(b,a)` unify, properly on neither side.

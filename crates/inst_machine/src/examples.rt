@@ -9,7 +9,7 @@ ghost use Rattle.inst_calculus.specs.Abstraction.{abstraction};
 ghost use Rattle.inst_calculus.specs.Entries.{input, inst, entry_clauses};
 ghost use Rattle.inst_calculus.specs.Examples.{entry, bot, p_always, not_p_c};
 ghost use Rattle.inst_machine.specs.Machine.{State, IsStart, IsFirst, IsStep, IsSettled, Infers, solved, inferred};
-ghost use Rattle.inst_machine.specs.Replay.{Replays, left};
+ghost use Rattle.inst_machine.specs.Replay.{Replays, budget_left};
 ghost use Rattle.inst_machine.specs.Examples.{start_state, solved_state, last_state, events, p_third, q_or_not};
 
 /// The first entries leave out a variant of an earlier one and a tautology. The numbers count all clauses.
@@ -27,7 +27,7 @@ pub fn instance_run()
     ensures replays { Replays bot (with_axioms (p_always ∷ not_p_c ∷ [])) events last_state }
     ensures refuted { IsRefuted (map (abstraction bot) (entry_clauses last_state.entries)) }
     ensures no_solve { (atoms : List Tree) (t : State) → ¬ IsStep bot last_state (solved atoms) t }
-    ensures budget { left 5 last_state.entries ≡ 3 }
+    ensures budget { budget_left 5 last_state.entries ≡ 3 }
 {}
 
 /// What is no step: a valuation in which `p(bot_0)` is false, an inference before a solve, one whose unifier is proper for the
