@@ -1,5 +1,4 @@
 pub mod Selected
-pub mod ExampleFaults
 pub mod Numbers
 pub mod SelectedMembers
 pub mod Members
