@@ -1,1 +1,2 @@
 pub mod ExampleSteps
+pub mod RunEntries
