@@ -1,2 +1,3 @@
 pub mod ExampleSteps
 pub mod RunEntries
+pub mod GroundInstances
