@@ -1,3 +1,5 @@
 pub mod ExampleSteps
 pub mod RunEntries
 pub mod GroundInstances
+pub mod KeptEntries
+pub mod ClosedRuns
