@@ -3,3 +3,5 @@ pub mod RunEntries
 pub mod GroundInstances
 pub mod KeptEntries
 pub mod ClosedRuns
+pub mod BoundedClauses
+pub mod EntryBound
