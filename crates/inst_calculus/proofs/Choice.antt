@@ -94,18 +94,16 @@ closed_of_choice ms m n s g c r h = record {
 }
 
 -- the same with left and right exchanged
-pub swapped : Sided → Sided
+abbrev pub swapped : Sided → Sided
 swapped s = record { left = s.right; right = s.left }
 
 pub swapped_general : (s : Sided) (a b : Tree) → IsMostGeneral s a b → IsMostGeneral (swapped s) b a
-unfolding swapped
 swapped_general s a b g = record {
   unifies = sym g.unifies;
   general = λ u h. let i = g.general (swapped u) (sym h) in record { rest = i.rest; left = i.right; right = i.left };
 }
 
 swapped_closed : (ms : List Member) (m n : Member) (s : Sided) → IsClosed ms m n s → IsClosed ms n m (swapped s)
-unfolding swapped
 swapped_closed ms m n s c = record {
   proper = elim c.proper [ inl p ↦ inr p | inr p ↦ inl p ];
   left = c.right;

@@ -151,7 +151,7 @@ module _ (f : Sym) (h : is_of_kind is_function_kind f ≡ true) where
         | inr j ↦ or_right (tree_applies l.atom) (clause_applies c) (clause_with c j)
       ]
 
-  clauses_with : (cs : List TreeClause) → f ∈ occurrences cs → list_any clause_applies cs ≡ true
+  pub clauses_with : (cs : List TreeClause) → f ∈ occurrences cs → list_any clause_applies cs ≡ true
   clauses_with [] i = absurd i
   clauses_with (c ∷ cs) i =
       elim (in_either f (clause_symbols c) (occurrences cs) i) [

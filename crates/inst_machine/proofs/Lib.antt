@@ -1,1 +1,7 @@
 pub mod ExampleSteps
+pub mod RunEntries
+pub mod GroundInstances
+pub mod KeptEntries
+pub mod ClosedRuns
+pub mod BoundedClauses
+pub mod EntryBound

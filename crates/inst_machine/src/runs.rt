@@ -24,8 +24,7 @@ pub fn entries_of_runs()
         → All IsCanonical (entry_clauses t.entries) }
     ensures no_variants { (bot : Sym) (cs : List TreeClause) (journal : List Event) (t : State) → AreFormedClauses cs → Replays bot cs journal t
         → AllPairs (λ c d. ¬ AreVariants c d) (entry_clauses t.entries) }
-{
-}
+{}
 
 /// Where no valuation makes the abstractions of the entries of a run true, ground instances of the clauses are refuted: the
 /// abstractions are ground instances.
@@ -35,19 +34,16 @@ pub fn refuted_instances()
     ensures refuted { (bot : Sym) (cs : List TreeClause) (journal : List Event) (t : State) → AreFormedClauses cs → Replays bot cs journal t
         → IsRefuted (map (abstraction bot) (entry_clauses t.entries))
         → (gs : List TreeClause) × All (λ g. IsGround g × (c : TreeClause) × Contains cs c × IsInstance g c) gs × IsRefuted gs }
-{
-}
+{}
 
 /// Where selected literals are true in the last valuation and every conclusion at them is covered, the entries with this
 /// selection are saturated for the clauses.
 pub fn saturated_when_closed()
     ensures { (bot : Sym) (cs : List TreeClause) (journal : List Event) (t : State) → AreFormedClauses cs → Replays bot cs journal t
         → (ms : List Member) → IsSelection bot t ms → AreConclusionsCovered ms → IsSaturated ms cs }
-{
-}
+{}
 
 /// On function-free clauses there is a number that the entries of no run exceed.
 pub fn finitely_many_entries()
     ensures { (bot : Sym) (cs : List TreeClause) → AreFormedClauses cs → IsTrue (is_function_free cs) → (n : ℕ) × IsEntryBound bot cs n }
-{
-}
+{}
