@@ -1,10 +1,16 @@
 //! Propositional clauses over numbered atoms, the trait of their solvers, and a plain solver.
 #![tactic(auto)]
 
+mod analysis;
 pub mod literal;
+pub mod plain;
+mod propagation;
+mod search;
 pub mod solver;
+mod trail;
 pub mod valuation;
 
 pub use literal::{Derivation, Hint, HintList, Lit, LitList, LitLists, Step};
+pub use plain::Plain;
 pub use solver::{Answer, Solver};
 pub use valuation::Valuation;
