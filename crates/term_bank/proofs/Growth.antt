@@ -1,12 +1,11 @@
 -- A bank and a bank that extends it.
-use Rattle.std.proofs.Common.{◌≡◌, ℕ, ◌<◌, ◌≤◌, List, [], ◌∷◌, ◌++◌, ◌-◌, length, map, take, drop, true, refl, ap, ap₂, ◌∙◌, arith, length-drop}
+use Rattle.std.proofs.Common.{◌≡◌, ℕ, ◌<◌, List, [], ◌∷◌, ◌++◌, ◌-◌, length, map, take, drop, true, refl, ap, ap₂, ◌∙◌, arith, length-drop}
 use Rattle.std.specs.List.{list_all}
 use Rattle.std.proofs.lemmas.List.{take_all, take-map, drop-map, length-map}
 use Rattle.inst_logic.specs.declared.symbol.Sym.{Sym}
 use Rattle.term_bank.specs.Forest.{is_formed}
 use Rattle.term_bank.specs.Steps.{applied}
 use Rattle.term_bank.proofs.Walks.{applied_formed}
-use Rattle.std.specs.List.{All}
 use Rattle.std.proofs.lemmas.List.{map_push}
 use Rattle.inst_logic.specs.Tree.{Tree, app, of_list}
 use Rattle.std.proofs.lemmas.List.Elements.{All-head, All-tail, All-weaker, All-take}

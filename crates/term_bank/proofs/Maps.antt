@@ -1,5 +1,5 @@
 -- The entries of a map after an insertion.
-use Rattle.std.proofs.Common.{◌≡◌, ℕ, zero, suc, ◌+◌, ◌<◌, List, [], ◌∷◌, ◌++◌, length, Bool, true, false, cond, refl, ap, ap₂, sym, nat_eq, ◌∙◌, arith, Result, Ok, Err, IfOk, OnOk, ◌⊎◌, inl, inr, get_or}
+use Rattle.std.proofs.Common.{◌≡◌, ℕ, zero, suc, ◌+◌, ◌<◌, List, [], ◌∷◌, length, Bool, true, false, refl, ap, ap₂, sym, nat_eq, ◌∙◌, arith, Result, Ok, Err, IfOk, OnOk, inl, inr, get_or}
 use Rattle.std.specs.Result.{is_err}
 use Rattle.std.specs.Map.{keys_of}
 use Rattle.std.specs.List.{position_or_len}

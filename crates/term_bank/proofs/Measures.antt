@@ -1,5 +1,5 @@
 -- The measures of an application, and what an insertion makes of a bank.
-use Rattle.std.proofs.Common.{◌≡◌, ℕ, zero, suc, ◌+◌, ◌-◌, ◌^◌, ◌<◌, ◌≤◌, min, List, [], ◌∷◌, ◌++◌, length, map, get_or, Bool, true, false, refl, ap, ap₂, sym, ◌∙◌, subst, arith, nat_lt, ◌⊎◌, inl, inr}
+use Rattle.std.proofs.Common.{◌≡◌, ℕ, ◌+◌, ◌-◌, ◌^◌, ◌<◌, min, List, [], ◌∷◌, ◌++◌, length, map, Bool, true, false, refl, ap, ap₂, sym, ◌∙◌, subst, arith, nat_lt, ◌⊎◌, inl, inr}
 use Rattle.std.specs.Prelude.{◌&&◌, sum_by}
 use Rattle.std.specs.List.{All, list_all}
 use Rattle.std.proofs.lemmas.List.{get_or_append_left, get_or_push, length_push}
@@ -8,13 +8,13 @@ use Rattle.std.proofs.lemmas.List.Elements.{All-head, All-tail}
 use Rattle.std.proofs.lemmas.Bool.{lt-ltb}
 use Rattle.inst_logic.proofs.SameLemmas.{and_left, and_right, and_both}
 use Rattle.inst_logic.specs.declared.symbol.Sym.{Sym}
-use Rattle.inst_logic.specs.Tree.{Tree, var, app, Trees, none, more, of_list}
+use Rattle.inst_logic.specs.Tree.{Tree, var, of_list}
 use Rattle.inst_logic.specs.Measure.{tree_size, trees_size, tree_weight, trees_weight, function_count}
 use Rattle.term_bank.specs.declared.node.Node.{Node}
 use Rattle.term_bank.specs.declared.node.Node.TheVariants.{Var, App}
 use Rattle.term_bank.specs.declared.node.Measures.{Measures}
 use Rattle.term_bank.specs.Forest.{is_ground, are_ground, ExtendsTrees, KeepsPlaces, IsFormed, AreFormedTrees, no_symbol, symbol_at, nth}
-use Rattle.term_bank.specs.Nodes.{Entry, no_entry, entry_at, node_tree, trees_of, node_fits, AreMeasuresOf, IsBank, SymbolsGrow, NodesGrow}
+use Rattle.term_bank.specs.Nodes.{Entry, entry_at, node_tree, trees_of, node_fits, AreMeasuresOf, IsBank, SymbolsGrow, NodesGrow}
 use Rattle.term_bank.proofs.Nodes.{below, last_or_before, node_agree, length_trees, tree_at_node, trees_push, trees_symbol, bank_symbol, bank_node}
 
 pub all_below : (n : ℕ) (args : List ℕ) → All (λ i. i < n) args → list_all (λ i. nat_lt i n) args ≡ true

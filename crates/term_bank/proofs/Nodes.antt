@@ -1,12 +1,12 @@
 -- The trees of a bank, as its nodes and its symbols grow.
-use Rattle.std.proofs.Common.{◌≡◌, ℕ, zero, suc, ◌+◌, ◌-◌, ◌^◌, ◌<◌, ◌≤◌, min, List, [], ◌∷◌, ◌++◌, length, map, fold, get_or, Bool, true, false, refl, ap, ap₂, sym, ◌∙◌, subst, arith, nat_lt, ◌⊎◌, inl, inr, add-zero}
+use Rattle.std.proofs.Common.{◌≡◌, ℕ, zero, suc, ◌+◌, ◌<◌, ◌≤◌, List, [], ◌∷◌, ◌++◌, length, map, fold, true, refl, ap, ap₂, sym, ◌∙◌, subst, arith, nat_lt, ◌⊎◌, inl, inr, add-zero}
 use Rattle.std.specs.Prelude.{◌&&◌}
 use Rattle.std.specs.List.{list_all}
-use Rattle.std.proofs.lemmas.List.{get_or_append_left, get_or_push, length_push, length-append}
+use Rattle.std.proofs.lemmas.List.{get_or_append_left, get_or_push, length_push}
 use Rattle.std.proofs.lemmas.List.Sums.{fold_push}
 use Rattle.inst_logic.proofs.SameLemmas.{and_left, and_right}
 use Rattle.inst_logic.specs.declared.symbol.Sym.{Sym}
-use Rattle.inst_logic.specs.Tree.{Tree, var, app, Trees, none, more, of_list, to_list}
+use Rattle.inst_logic.specs.Tree.{Tree, var, app, of_list}
 use Rattle.term_bank.specs.declared.node.Node.{Node}
 use Rattle.term_bank.specs.declared.node.Node.TheVariants.{Var, App}
 use Rattle.term_bank.specs.Forest.{AreDistinct, symbol_at, nth}

@@ -1,22 +1,19 @@
 -- What the fields of a bank say of the tree of an id.
-use Rattle.std.proofs.Common.{◌≡◌, ℕ, zero, suc, ◌+◌, ◌-◌, ◌^◌, ◌<◌, ◌≤◌, min, List, [], ◌∷◌, length, map, get_or, true, refl, ap, sym, ◌∙◌, subst, arith, nat_lt, Some, None, Option, slice_get, Bool, false}
+use Rattle.std.proofs.Common.{◌≡◌, ℕ, ◌<◌, List, [], ◌∷◌, length, map, true, refl, ap, sym, ◌∙◌, subst, arith, nat_lt, Some, Option, slice_get, Bool, false}
 use Rattle.std.specs.Prelude.{option_map}
 use Rattle.std.proofs.lemmas.List.Sums.{position_or_len_is}
 use Rattle.inst_logic.specs.Equal.{sym_eq}
 use Rattle.inst_logic.proofs.SameLemmas.{sym_eq_decides}
-use Rattle.std.specs.Prelude.{◌&&◌}
 use Rattle.std.specs.List.{All, list_all}
 use Rattle.std.proofs.lemmas.List.Elements.{All-nil, All-cons}
 use Rattle.std.proofs.lemmas.Option.{slice_get-get_or}
 use Rattle.inst_logic.proofs.SameLemmas.{and_left, and_right}
 use Rattle.inst_logic.specs.declared.symbol.Sym.{Sym}
-use Rattle.inst_logic.specs.Tree.{Tree, var, app, Trees, none, more, of_list, to_list}
+use Rattle.inst_logic.specs.Tree.{Tree, var, app, of_list, to_list}
 use Rattle.term_bank.specs.declared.node.Node.{Node}
 use Rattle.term_bank.specs.declared.node.Node.TheVariants.{Var, App}
 use Rattle.term_bank.specs.Forest.{Forest, tree_at, number_of, symbol_of, arguments_of, no_symbol, symbol_at, nth}
 use Rattle.term_bank.specs.Nodes.{Entry, entry_at, node_tree, trees_of, node_fits, AreMeasuresOf, IsBank}
-use Rattle.term_bank.specs.Shapes.{shape_of}
-use Rattle.term_bank.specs.declared.bank.Shape.TheVariants.{Var as Variable, App as Application}
 use Rattle.term_bank.proofs.Nodes.{below, length_trees, tree_at_node}
 
 to_of : (ts : List Tree) → to_list (of_list ts) ≡ ts

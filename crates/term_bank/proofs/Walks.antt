@@ -1,18 +1,18 @@
 -- What the steps of an interning walk make.
-use Rattle.std.proofs.Common.{◌≡◌, ℕ, zero, suc, ◌+◌, ◌-◌, ◌*◌, ◌<◌, ◌≤◌, List, [], ◌∷◌, ◌++◌, length, map, take, drop, get_or, Bool, true, false, refl, ap, ap₂, sym, ◌∙◌, subst, arith, length-append, append_assoc, ◌⊎◌, inl, inr}
+use Rattle.std.proofs.Common.{◌≡◌, ℕ, suc, ◌+◌, ◌-◌, ◌*◌, ◌<◌, ◌≤◌, List, [], ◌∷◌, ◌++◌, length, map, take, drop, get_or, Bool, true, false, refl, ap, ap₂, sym, ◌∙◌, arith, length-append, append_assoc, ◌⊎◌, inl, inr}
 use Rattle.std.proofs.Math.Seq.{take-append_seam, drop-append_seam, drop-cons}
 use denote.Bor.{Bor}
 use Rattle.std.proofs.lemmas.List.{take-append-drop}
 use Rattle.std.proofs.lemmas.List.Folds.{list_all-append}
-use Rattle.std.specs.Prelude.{◌&&◌, ◌||◌, IsTrue}
+use Rattle.std.specs.Prelude.{◌||◌}
 use Rattle.std.specs.List.{list_all}
 use Rattle.inst_logic.proofs.SameLemmas.{and_left, and_right, and_both}
 use Rattle.inst_logic.specs.declared.symbol.Sym.{Sym}
 use Rattle.inst_logic.specs.declared.term.Term.{Term}
-use Rattle.inst_logic.specs.Tree.{Tree, var, app, Trees, none, more, of_list}
+use Rattle.inst_logic.specs.Tree.{Tree, app, of_list}
 use Rattle.inst_logic.specs.View.{tree}
-use Rattle.inst_logic.specs.Measure.{tree_size, trees_size}
-use Rattle.inst_logic.specs.WellFormed.{is_function_kind, tree_is_formed, trees_are_formed, atom_is_formed, count_of, symbol_is_formed}
+use Rattle.inst_logic.specs.Measure.{trees_size}
+use Rattle.inst_logic.specs.WellFormed.{is_function_kind, tree_is_formed, trees_are_formed, atom_is_formed, symbol_is_formed}
 use Rattle.term_bank.specs.declared.walk.Step.{Step}
 use Rattle.term_bank.specs.declared.walk.Step.TheVariants.{Visit, Apply}
 use Rattle.term_bank.specs.Forest.{is_formed}

@@ -4,7 +4,7 @@ use Rattle.std.specs.Coded.{Coded, code_by, coded×, coded_bool, coded_list}
 use Rattle.std.specs.List.{All, position_or_len}
 use Rattle.inst_logic.specs.declared.symbol.Sym.{Sym}
 use Rattle.inst_logic.specs.declared.symbol.Kind.TheVariants.{Function}
-use Rattle.inst_logic.specs.Tree.{Tree, var, app, Trees, none, more, of_list, to_list}
+use Rattle.inst_logic.specs.Tree.{Tree, var, app, Trees, none, more, to_list}
 use Rattle.inst_logic.specs.TreeCode.{tree_code, sym_code}
 use Rattle.inst_logic.specs.declared.signed.Signed.{Signed}
 use Rattle.inst_logic.specs.Equal.{sym_eq}

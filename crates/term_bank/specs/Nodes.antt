@@ -1,5 +1,5 @@
 -- The trees that the nodes of a bank stand for.
-use Rattle.std.specs.Prelude.{◌≡◌, ℕ, ◌+◌, ◌-◌, ◌^◌, ◌<◌, min, List, [], ◌∷◌, ◌++◌, length, map, fold, Bool, true, false, IsTrue, nat_lt, ◌&&◌, ◌⊎◌, slice_index_or}
+use Rattle.std.specs.Prelude.{◌≡◌, ℕ, ◌-◌, ◌^◌, ◌<◌, min, List, [], ◌∷◌, ◌++◌, length, map, fold, Bool, true, false, IsTrue, nat_lt, ◌&&◌, ◌⊎◌, slice_index_or}
 use Rattle.std.specs.List.{list_all}
 use Rattle.inst_logic.specs.declared.symbol.Sym.{Sym}
 use Rattle.inst_logic.specs.Tree.{Tree, var, app, of_list}

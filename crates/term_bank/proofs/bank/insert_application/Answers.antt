@@ -1,5 +1,4 @@
-use Rattle.std.proofs.Common.{◌≡◌, ℕ, ◌<◌, ◌≤◌, List, length, map, refl, ap, ◌∙◌, sym, subst, rules, arith, nat_lt, true}
-use Rattle.std.specs.Prelude.{◌&&◌}
+use Rattle.std.proofs.Common.{◌≡◌, ℕ, ◌<◌, List, length, map, ap, ◌∙◌, sym, subst, arith, nat_lt}
 use Rattle.std.specs.List.{All}
 use Rattle.std.proofs.lemmas.Bool.{lt-ltb}
 use Rattle.inst_logic.proofs.SameLemmas.{and_both}
@@ -8,9 +7,9 @@ use Rattle.inst_logic.specs.Tree.{Tree, app, of_list}
 use Rattle.term_bank.specs.declared.node.Node.TheVariants.{App}
 use Rattle.term_bank.specs.declared.node.Measures.{Measures}
 use Rattle.term_bank.specs.Forest.{ExtendsTrees, IsFormed, AreFormedTrees, symbol_at, nth}
-use Rattle.term_bank.specs.Nodes.{Entry, entry_at, trees_of, node_tree, node_fits, AreMeasuresOf, IsBank, NodesGrow}
+use Rattle.term_bank.specs.Nodes.{Entry, entry_at, trees_of, node_tree, AreMeasuresOf, IsBank, NodesGrow}
 use Rattle.term_bank.proofs.Nodes.{length_trees}
-use Rattle.term_bank.proofs.Measures.{symbol_step, node_step, application_measures, known_measures, symbols_kept, all_below, IsBankWith, IsSameBank}
+use Rattle.term_bank.proofs.Measures.{symbol_step, node_step, application_measures, known_measures, symbols_kept, all_below, IsSameBank}
 use Rattle.term_bank.proofs.Maps.{if_ok_both}
 use Rattle.term_bank.proofs.bank.insert_application.Goals as goal
 

@@ -1,9 +1,9 @@
-use Rattle.std.proofs.Common.{◌≡◌, ℕ, ◌<◌, length, refl, ap, ◌∙◌, sym, false}
+use Rattle.std.proofs.Common.{◌≡◌, ℕ, ◌<◌, length, refl}
 use Rattle.inst_logic.specs.Tree.{var}
 use Rattle.term_bank.specs.Forest.{nth}
 use Rattle.term_bank.specs.Nodes.{entry_at, trees_of}
 use Rattle.term_bank.specs.declared.node.Node.TheVariants.{Var}
-use Rattle.term_bank.proofs.Measures.{variable_measures, known_measures, node_step, IsBankWith}
+use Rattle.term_bank.proofs.Measures.{variable_measures, known_measures, node_step}
 use Rattle.term_bank.proofs.Maps.{if_ok_both}
 use Rattle.term_bank.proofs.bank.insert_variable.Goals as goal
 

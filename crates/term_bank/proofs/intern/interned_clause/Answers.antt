@@ -1,8 +1,7 @@
-use Rattle.std.proofs.Common.{◌≡◌, ◌∙◌, sym, ap, refl, arith, map}
+use Rattle.std.proofs.Common.{◌∙◌, ap, refl, arith}
 use Rattle.std.proofs.lemmas.List.{map_more}
 use Rattle.inst_logic.specs.LiteralView.{literal}
 use Rattle.inst_logic.specs.WellFormed.{clause_is_formed}
-use Rattle.term_bank.specs.Forest.{IsClauseOf, clause_at}
 use Rattle.term_bank.proofs.Growth.{extends_trans}
 use Rattle.term_bank.proofs.Clauses.{clause_pushed, clause_within, literal_formed}
 use Rattle.term_bank.proofs.intern.interned_clause.Goals as goal

@@ -1,6 +1,3 @@
-use Rattle.std.proofs.Common.{◌≡◌, ◌∙◌, sym, rules}
-use Rattle.std.specs.List.{position_or_len}
-use Rattle.std.specs.Map.{keys_of}
 use Rattle.term_bank.specs.Nodes.{no_entry}
 use Rattle.term_bank.proofs.Maps.{node_eq, node_same, node_itself, IsInserted, inserted}
 use Rattle.term_bank.proofs.store.node_number.Goals as goal

@@ -1,6 +1,5 @@
-use Rattle.std.proofs.Common.{◌≡◌, sym, ◌∙◌, rules}
+use Rattle.std.proofs.Common.{sym, rules}
 use Rattle.std.proofs.lemmas.List.Quantifiers.{position-Some}
-use Rattle.inst_logic.proofs.SameLemmas.{sym_eq_decides}
 use Rattle.term_bank.specs.Forest.{no_symbol}
 use Rattle.term_bank.proofs.store.symbol_number.Goals as goal
 

@@ -1,4 +1,4 @@
-use Rattle.std.proofs.Common.{◌≡◌, arith, ap, subst, List, sym, drop, ◌-◌}
+use Rattle.std.proofs.Common.{arith, subst, List, sym, drop, ◌-◌}
 use Rattle.term_bank.specs.declared.walk.Step.{Step}
 use Rattle.term_bank.proofs.Walks.{IsPushed, one_more}
 use Rattle.term_bank.proofs.walk.push_terms.Goals as goal

@@ -1,4 +1,4 @@
-use Rattle.std.proofs.Common.{◌≡◌, ◌∙◌, sym, ap, map, arith}
+use Rattle.std.proofs.Common.{◌∙◌, sym, ap, map, arith}
 use Rattle.term_bank.specs.Forest.{tree_at}
 use Rattle.term_bank.specs.Steps.{all_done}
 use Rattle.term_bank.proofs.Growth.{extends_trans}

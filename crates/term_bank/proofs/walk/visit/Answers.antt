@@ -1,4 +1,4 @@
-use Rattle.std.proofs.Common.{◌≡◌, ◌∙◌, ◌++◌, ◌∷◌, [], ap, sym, map, arith}
+use Rattle.std.proofs.Common.{◌∙◌, ap, map, arith}
 use Rattle.inst_logic.specs.Tree.{of_list}
 use Rattle.inst_logic.specs.View.{tree}
 use Rattle.inst_logic.specs.Measure.{tree_size, trees_size}

@@ -1,4 +1,4 @@
-use Rattle.std.proofs.Common.{◌≡◌, List, map, ap, subst}
+use Rattle.std.proofs.Common.{List, map, ap, subst}
 use Rattle.inst_logic.specs.Tree.{Tree, app, of_list}
 use Rattle.term_bank.specs.Forest.{Forest, nth, IsFormed, AreFormedTrees}
 use Rattle.term_bank.specs.Nodes.{trees_of}

@@ -1,4 +1,4 @@
-use Rattle.std.proofs.Common.{◌≡◌, ap, ◌∙◌}
+use Rattle.std.proofs.Common.{ap, ◌∙◌}
 use Rattle.term_bank.specs.declared.node.Measures.{Measures}
 use Rattle.term_bank.specs.Forest.{Forest}
 use Rattle.term_bank.proofs.Readings.{within, measures}

@@ -1,4 +1,4 @@
-use Rattle.std.proofs.Common.{◌≡◌, ap, ◌∙◌, sym}
+use Rattle.std.proofs.Common.{ap, ◌∙◌, sym}
 use Rattle.std.specs.Prelude.{option_map}
 use Rattle.term_bank.specs.Forest.{Forest, symbol_of, number_of}
 use Rattle.term_bank.proofs.Readings.{within, at_variable, number_is, symbol_numbered}

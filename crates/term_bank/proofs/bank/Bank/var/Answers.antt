@@ -1,4 +1,3 @@
-use Rattle.std.proofs.Common.{◌≡◌}
 use Rattle.term_bank.proofs.bank.Bank.var.Goals as goal
 
 pub returns-clause-formed : goal.returns-clause-formed
