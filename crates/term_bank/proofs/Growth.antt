@@ -8,11 +8,8 @@ use Rattle.term_bank.specs.Steps.{applied}
 use Rattle.term_bank.proofs.Walks.{applied_formed}
 use Rattle.std.proofs.lemmas.List.{map_push}
 use Rattle.inst_logic.specs.Tree.{Tree, app, of_list}
-use Rattle.std.proofs.lemmas.List.Elements.{All-head, All-tail, All-weaker, All-take}
+use Rattle.std.proofs.lemmas.List.Elements.{All-head, All-tail, All-take}
 use Rattle.term_bank.specs.Forest.{Forest, tree_at, KeepsPlaces, AreIds, Extends}
-
-pub extends_itself : (f : Forest) → Extends f f
-extends_itself f = record { trees = (omega arith, λ i h. refl); symbols = (omega arith, λ i h. refl) }
 
 keeps_trans : {A : Type 0} (d : A) (xs ys zs : List A) → KeepsPlaces d xs ys → KeepsPlaces d ys zs → KeepsPlaces d xs zs
 keeps_trans d xs ys zs p q = (omega (arith, p.0, q.0), λ i h. q.1 i (omega (arith, p.0)) ∙ p.1 i h)
@@ -24,9 +21,6 @@ pub map_extends : (f g : Forest) (ids : List ℕ) → Extends f g → AreIds f i
 map_extends f g [] e h = refl
 map_extends f g (i ∷ ids) e h =
     ap₂ (λ x xs. x ∷ xs) (e.trees.1 i (All-head (λ i. i < length f.trees) i ids h)) (map_extends f g ids e (All-tail (λ i. i < length f.trees) i ids h))
-
-pub within_extends : (f g : Forest) (ids : List ℕ) → Extends f g → AreIds f ids → AreIds g ids
-within_extends f g ids e h = All-weaker (λ i. i < length f.trees) (λ i. i < length g.trees) (λ i k. omega (arith, e.trees.0)) ids h
 
 -- one more id
 pub map_pushed : (f g : Forest) (ids : List ℕ) (id : ℕ) (t : Tree) → Extends f g → AreIds f ids → tree_at g id ≡ t → map (tree_at g) (ids ++ id ∷ []) ≡ map (tree_at f) ids ++ t ∷ []

@@ -1,6 +1,5 @@
 -- The entries of a map after an insertion.
-use Rattle.std.proofs.Common.{◌≡◌, ℕ, zero, suc, ◌+◌, ◌<◌, List, [], ◌∷◌, length, Bool, true, false, refl, ap, ap₂, sym, nat_eq, ◌∙◌, arith, Result, Ok, Err, IfOk, OnOk, inl, inr, get_or}
-use Rattle.std.specs.Result.{is_err}
+use Rattle.std.proofs.Common.{◌≡◌, ℕ, zero, suc, ◌+◌, ◌<◌, List, [], ◌∷◌, length, Bool, true, false, refl, ap, ap₂, sym, nat_eq, ◌∙◌, arith, Result, Ok, Err, IfOk, inl, inr, get_or}
 use Rattle.std.specs.Map.{keys_of}
 use Rattle.std.specs.List.{position_or_len}
 use Rattle.std.proofs.lemmas.Slice.Eq.{bytes_eq-Decides}
@@ -60,14 +59,6 @@ module _ {K V : Type 0} (eq : K → K → Bool) (same_key : (k l : K) → eq k l
               absent zero p q = let t : eq e.0 x.0 ≡ true = ap (eq e.0) q ∙ itself e.0 in absurd (cc)
               absent (suc i) p q = g.1 i (omega arith) q
 
-pub if_ok : {A E : Type 0} (P Q : A → Type 0) (r : Result A E) → IfOk r P → ((x : A) → P x → Q x) → IfOk r Q
-if_ok P Q (Ok x) p f = f x p
-if_ok P Q (Err e) p f = p
-
 pub if_ok_both : {A E : Type 0} (P Q R : A → Type 0) (r : Result A E) → IfOk r P → IfOk r Q → ((x : A) → P x → Q x → R x) → IfOk r R
 if_ok_both P Q R (Ok x) p q f = f x p q
 if_ok_both P Q R (Err e) p q f = p
-
-pub on_ok : {A E : Type 0} (P : Type 0) (r : Result A E) → is_err r ≡ false → OnOk r P → P
-on_ok P (Ok x) h p = p
-on_ok P (Err e) h p = absurd (cc)
