@@ -1,8 +1,7 @@
 -- Taking a pair of applications apart.
-use Rattle.std.proofs.Common.{◌≡◌, ℕ, zero, suc, ◌+◌, ◌*◌, ◌-◌, ◌<◌, ◌≤◌, max, List, [], ◌∷◌, ◌++◌, ◌⊎◌, inl, inr, length, map, get_or, refl, ap, ap₂, sym, ◌∙◌, subst, arith, Bool, true, false, Option, Some, None}
+use Rattle.std.proofs.Common.{◌≡◌, ℕ, zero, suc, ◌+◌, ◌*◌, ◌-◌, ◌<◌, ◌≤◌, List, [], ◌∷◌, ◌++◌, inl, inr, length, map, get_or, refl, ap, sym, ◌∙◌, subst, arith, Some}
 use Rattle.std.specs.List.{All, IsDistinct}
-use Rattle.std.proofs.lemmas.List.{append-nil, length-append, length_push, length-map, map-append, map_push}
-use Rattle.std.proofs.Math.Nat.{mul-le-mul_left}
+use Rattle.std.proofs.lemmas.List.{length-append, length_push, length-map, map-append, map_push}
 use Rattle.inst_logic.specs.declared.symbol.Sym.{Sym}
 use Rattle.inst_logic.specs.Tree.{Tree, var, app, Trees, none, more, to_list}
 use Rattle.inst_logic.specs.Substitution.{subst as apply, substs as apply_each}
@@ -10,7 +9,7 @@ use Rattle.term_bank.specs.Forest.{Forest, tree_at, arguments_of, symbol_of}
 use Rattle.unify_core.specs.Lists.{◌∈◌}
 use Rattle.inst_logic.specs.Unifiers.{IsApplication}
 use Rattle.unify_core.specs.Solved.{Assignment, Equation, Solves}
-use Rattle.unify_core.specs.Progress.{IsSettled, AreSettled, IsSteady}
+use Rattle.unify_core.specs.Progress.{AreSettled, IsSteady}
 use Rattle.unify_core.specs.Sides.{numbered, on_side, bound_tree}
 use Rattle.unify_core.specs.Pairs.{pairs_of, equation, equations, ArePairs, widest, room, left_to_do, IsApart}
 use Rattle.unify_core.specs.declared.side.Side.{Side}

@@ -1,28 +1,26 @@
 -- Following bindings.
-use Rattle.std.proofs.Common.{◌≡◌, ℕ, zero, suc, ◌+◌, ◌-◌, ◌≤◌, ◌<◌, List, [], ◌∷◌, ◌++◌, ◌⊎◌, inl, inr, refl, ap, sym, ◌∙◌, subst, length, get_or, map, arith, Bool, true, false, cond, nat_eq, Option, Some, None, rules}
+use Rattle.std.proofs.Common.{◌≡◌, ℕ, zero, suc, ◌+◌, ◌≤◌, ◌<◌, List, [], ◌∷◌, ◌++◌, ◌⊎◌, inl, inr, refl, ap, sym, ◌∙◌, subst, length, get_or, arith, Bool, true, false, cond, nat_eq, Option, Some, None, rules}
 use Rattle.std.specs.Map.{lookup, keys_of}
 use Rattle.std.proofs.lemmas.Bool.Decides.{Decides-eqb}
-use Rattle.std.proofs.lemmas.List.{length_push, get_or_append_left, get_or_push, get_or-map, length-map, map_push}
+use Rattle.std.proofs.lemmas.List.{length_push, get_or_append_left, get_or_push, map_push}
 use Rattle.inst_logic.proofs.SameLemmas.{and_left, and_right, and_both}
 use Rattle.inst_logic.specs.declared.symbol.Sym.{Sym}
 use Rattle.inst_logic.specs.Tree.{Tree, var, app, Trees}
 use Rattle.term_bank.specs.Shapes.{shape_of}
 use Rattle.term_bank.specs.declared.bank.Shape.TheVariants.{Var as Variable_, App as Application}
 use Rattle.inst_logic.specs.Substitution.{subst as apply, tree_vars as variables}
-use Rattle.term_bank.specs.Forest.{Forest, tree_at}
+use Rattle.term_bank.specs.Forest.{Forest}
 use Rattle.unify_core.specs.Lists.{◌∈◌}
-use Rattle.unify_core.specs.Solved.{Assignment, Respects, IsKey, IsSolved, IsSolvedBy}
-use Rattle.unify_core.specs.Sides.{Binding, numbered, variable_number, on_side, bound_tree, assignment, assignments}
+use Rattle.unify_core.specs.Solved.{Assignment, Respects, IsKey, IsSolvedBy}
+use Rattle.unify_core.specs.Sides.{Binding, variable_number, bound_tree, assignment, assignments}
 use Rattle.unify_core.specs.Chains.{place, IsLater, IsForward, IsRoot, chain_left, AreBindings}
-use Rattle.unify_core.specs.declared.side.Side.{Side}
-use Rattle.unify_core.specs.declared.side.Side.TheVariants.{Left, Right}
 use Rattle.unify_core.specs.declared.side.Variable.{Variable}
 use Rattle.unify_core.specs.declared.side.Bound.{Bound}
 use denote.Enum.Bare.{same_true, true_same}
 use Rattle.unify_core.specs.contracts.side.Side.{the_type}
 use Rattle.unify_core.specs.Steps.{IsBoundTo, IsNext}
 use Rattle.unify_core.specs.contracts.side.VariablePartialEq.TheImpl as variable
-use Rattle.unify_core.proofs.Lists.{∈-map, map-∈, ∈-push, ∈-last, ∈-get_or}
+use Rattle.unify_core.proofs.Lists.{∈-map, ∈-push}
 use Rattle.unify_core.proofs.Trees.{after}
 use Rattle.unify_core.proofs.Solved.{solved_push, bind_to}
 use Rattle.unify_core.proofs.Sides.{same_variable, key_of}

@@ -1,24 +1,22 @@
 -- The walk of the occurs check, as far as it has come and at its ends.
-use Rattle.std.proofs.Common.{◌≡◌, ℕ, zero, suc, ◌+◌, ◌*◌, ◌-◌, ◌<◌, ◌≤◌, List, [], ◌∷◌, ◌++◌, ◌⊎◌, inl, inr, length, map, get_or, take, refl, ap, sym, ◌∙◌, subst, arith, Bool, true, false, nat_eq, Option, Some, None, MatchOption}
+use Rattle.std.proofs.Common.{◌≡◌, ℕ, ◌+◌, ◌*◌, ◌<◌, ◌≤◌, List, [], ◌∷◌, ◌++◌, inl, inr, length, map, get_or, take, refl, ap, sym, ◌∙◌, subst, arith, Bool, true, false, nat_eq, Option, Some, None, MatchOption}
 use Rattle.std.specs.Prelude.{◌||◌}
 use Rattle.std.specs.List.{list_any, IsDistinct}
 use Rattle.std.proofs.lemmas.Bool.Decides.{Decides-eqb}
-use Rattle.std.proofs.lemmas.List.{take-append-le, take_more, get_or_append_left, take_all, length-append}
+use Rattle.std.proofs.lemmas.List.{take-append-le, take_more, take_all, length-append}
 use Rattle.indexmap.specs.IndexSet.{insert_key}
 use Rattle.inst_logic.specs.Tree.{Tree, var, app, Trees, none, more, to_list}
 use Rattle.inst_logic.specs.Substitution.{subst as apply, substs as apply_each, tree_vars as variables, trees_vars as variables_each}
 use Rattle.term_bank.specs.Forest.{Forest, tree_at}
 use Rattle.unify_core.specs.Lists.{◌∈◌}
-use Rattle.unify_core.specs.Solved.{Assignment, Respects, IsKey, IsWithin, IsClosed, IsSolvedBy}
+use Rattle.unify_core.specs.Solved.{Assignment, IsKey, IsWithin, IsClosed, IsSolvedBy}
 use Rattle.unify_core.specs.Sides.{Binding, numbered, variable_number, on_side, bound_tree, assignment, assignments}
 use Rattle.unify_core.specs.Chains.{AreBindings}
-use Rattle.unify_core.specs.Steps.{IsBoundTo, IsNext}
+use Rattle.unify_core.specs.Steps.{IsNext}
 use Rattle.unify_core.specs.Visits.{LeadsTo, IsStepFrom, IsVisit}
 use Rattle.unify_core.specs.declared.side.Side.{Side}
 use Rattle.unify_core.specs.declared.side.Bound.{Bound}
-use Rattle.unify_core.specs.declared.side.Variable.{Variable}
-use Rattle.unify_core.proofs.Lists.{∈-append_left, ∈-append_right, ∈-append, ∈-map, map-∈, ∈-push, ∈-last, ∈-get_or}
-use Rattle.unify_core.proofs.Trees.{∈-apply, apply-∈}
+use Rattle.unify_core.proofs.Lists.{∈-append_left, ∈-append_right, ∈-append, ∈-map, map-∈, ∈-push, ∈-get_or}
 use Rattle.unify_core.proofs.Solved.{within_apply}
 use Rattle.unify_core.proofs.Chains.{step_within, step_same}
 use Rattle.unify_core.proofs.Sets.{bound_eq, few_bounds}

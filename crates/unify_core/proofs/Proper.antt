@@ -1,23 +1,23 @@
 -- Where a most general unifier is proper.
-use Rattle.std.proofs.Common.{◌≡◌, ℕ, zero, suc, ◌+◌, ◌<◌, ◌≤◌, List, [], ◌∷◌, ◌++◌, ◌⊎◌, inl, inr, length, get_or, map, refl, ap, sym, ◌∙◌, subst, arith, Bool, true, false, cond, nat_eq, Option, Some, None, IfSome, IfNone}
+use Rattle.std.proofs.Common.{◌≡◌, ℕ, suc, ◌<◌, List, [], ◌∷◌, ◌⊎◌, inl, inr, length, get_or, refl, ap, sym, ◌∙◌, subst, arith, Bool, true, false, cond, nat_eq, Option, Some, None, IfSome, IfNone}
 use Rattle.std.specs.Map.{keys_of, lookup}
 use Rattle.std.proofs.lemmas.Bool.Decides.{Decides-eqb}
-use Rattle.inst_logic.specs.Tree.{Tree, var, app, Trees}
+use Rattle.inst_logic.specs.Tree.{Tree, var, app}
 use Rattle.inst_logic.specs.Substitution.{subst as apply, tree_vars as variables}
 use Rattle.term_bank.specs.Forest.{Forest, tree_at}
 use Rattle.unify_core.specs.Lists.{◌∈◌}
-use Rattle.inst_logic.specs.Unifiers.{Sided, IsUnifier, IsMostGeneral, IsProper, IsApplication}
+use Rattle.inst_logic.specs.Unifiers.{Sided, IsMostGeneral, IsProper, IsApplication}
 use Rattle.unify_core.specs.Solved.{Assignment, Respects, IsKey}
 use Rattle.unify_core.specs.Sides.{Binding, numbered, variable_number, on_side, bound_tree, assignment, assignments, of_side, of_pair, IsResolvedBy}
 use Rattle.unify_core.specs.Passed.{IsPassed}
-use Rattle.unify_core.specs.Chains.{AreBindings, IsRoot}
+use Rattle.unify_core.specs.Chains.{IsRoot}
 use Rattle.unify_core.specs.declared.side.Side.{Side}
 use Rattle.unify_core.specs.declared.side.Side.TheVariants.{Left, Right}
 use Rattle.unify_core.specs.declared.side.Variable.{Variable}
 use Rattle.unify_core.specs.declared.side.Bound.{Bound}
-use Rattle.unify_core.proofs.Lists.{Contains-∈, ∈-map, map-∈, ∈-get_or}
+use Rattle.unify_core.proofs.Lists.{Contains-∈, map-∈, ∈-get_or}
 use Rattle.unify_core.proofs.Trees.{apply_agree}
-use Rattle.unify_core.proofs.Sides.{joined, joined_left, joined_right, on_left, on_right, same_variable, key_of}
+use Rattle.unify_core.proofs.Sides.{joined, joined_left, joined_right, on_left, on_right, same_variable}
 use Rattle.unify_core.proofs.Chains.{variable_eq, found, not_found}
 
 joined_side : (u : Sided) (s : Side) (v : ℕ) → joined u (numbered s v) ≡ of_side u s v

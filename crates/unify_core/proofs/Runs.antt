@@ -1,13 +1,13 @@
 -- A run of unification, pair by pair.
-use Rattle.std.proofs.Common.{◌≡◌, ℕ, zero, suc, ◌+◌, ◌<◌, ◌≤◌, List, [], ◌∷◌, ◌++◌, ◌⊎◌, inl, inr, length, map, refl, ap, sym, ◌∙◌, subst, arith, Result, IfOk, true, false}
-use Rattle.std.proofs.lemmas.List.{length_push, map_push, append-nil}
+use Rattle.std.proofs.Common.{◌≡◌, ℕ, ◌+◌, ◌<◌, List, [], ◌∷◌, ◌++◌, inl, inr, length, refl, ap, sym, ◌∙◌, subst, arith}
+use Rattle.std.proofs.lemmas.List.{length_push, map_push}
 use Rattle.inst_logic.specs.Tree.{Tree, var, app}
 use Rattle.inst_logic.specs.Substitution.{subst as apply}
 use Rattle.term_bank.specs.Forest.{Forest, tree_at, AreDistinct}
 use Rattle.unify_core.specs.Lists.{◌∈◌}
 use Rattle.inst_logic.specs.Unifiers.{Sided, IsUnifier, IsMostGeneral}
-use Rattle.unify_core.specs.Solved.{Assignment, Equation, Respects, Solves, IsKey}
-use Rattle.unify_core.specs.Progress.{IsKept, IsSettled, IsSteady, IsProgress}
+use Rattle.unify_core.specs.Solved.{Assignment, Equation, Respects}
+use Rattle.unify_core.specs.Progress.{IsSettled, IsProgress}
 use Rattle.unify_core.specs.Sides.{Binding, numbered, variable_number, on_side, bound_tree, assignment, assignments, IsResolvedBy}
 use Rattle.unify_core.specs.Chains.{AreBindings}
 use Rattle.unify_core.specs.Pairs.{equation, equations, ArePairs, left_to_do, IsApart, IsStep}
@@ -16,7 +16,7 @@ use Rattle.unify_core.specs.declared.side.Side.TheVariants.{Left, Right}
 use Rattle.unify_core.specs.declared.side.Variable.{Variable}
 use Rattle.unify_core.specs.declared.side.Bound.{Bound}
 use Rattle.unify_core.specs.declared.side.Pair.{Pair}
-use Rattle.unify_core.proofs.Lists.{∈-append_left, ∈-map, map-∈, ∈-push, ∈-last}
+use Rattle.unify_core.proofs.Lists.{∈-append_left, ∈-push, ∈-last}
 use Rattle.unify_core.proofs.Solved.{respects_front, respects_last, respects_push, solved_none}
 use Rattle.unify_core.proofs.Progress.{advance, progress_start, progress_end}
 use Rattle.unify_core.proofs.Sides.{resolved, joined, joined_unifies}

@@ -1,19 +1,19 @@
 -- From the variables of both sides as numbers back to each side.
-use Rattle.std.proofs.Common.{◌≡◌, ℕ, suc, ◌+◌, ◌*◌, ◌/◌, ◌%◌, ◌≤◌, List, map, ◌⊎◌, inl, inr, refl, ap, sym, ◌∙◌, subst, arith, Bool, true, false, cond, nat_eq}
+use Rattle.std.proofs.Common.{◌≡◌, ℕ, ◌+◌, ◌*◌, ◌/◌, ◌%◌, List, refl, ap, sym, ◌∙◌, subst, arith, Bool, true, false, cond, nat_eq}
 use Rattle.std.proofs.lemmas.Bool.Decides.{Decides-eqb}
 use Rattle.std.specs.Map.{keys_of}
-use Rattle.inst_logic.specs.Tree.{Tree, var, app}
-use Rattle.inst_logic.specs.Substitution.{subst as apply, tree_vars as variables}
+use Rattle.inst_logic.specs.Tree.{Tree, var}
+use Rattle.inst_logic.specs.Substitution.{subst as apply}
 use Rattle.term_bank.specs.Forest.{Forest, tree_at}
 use Rattle.unify_core.specs.Lists.{◌∈◌}
-use Rattle.inst_logic.specs.Unifiers.{Sided, IsUnifier, IsInstanceOf, IsMostGeneral}
+use Rattle.inst_logic.specs.Unifiers.{Sided, IsUnifier, IsMostGeneral}
 use Rattle.unify_core.specs.Solved.{Assignment, Respects, IsKey, IsSolvedBy}
-use Rattle.unify_core.specs.Sides.{Binding, numbered, variable_number, on_side, bound_tree, assignment, assignments, of_side, IsResolvedBy}
+use Rattle.unify_core.specs.Sides.{Binding, numbered, variable_number, on_side, assignment, assignments, of_side, IsResolvedBy}
 use Rattle.unify_core.specs.declared.side.Side.{Side}
 use Rattle.unify_core.specs.declared.side.Side.TheVariants.{Left, Right}
 use Rattle.unify_core.specs.declared.side.Variable.{Variable}
 use Rattle.unify_core.proofs.Lists.{∈-map, map-∈}
-use Rattle.unify_core.proofs.Trees.{after, apply-apply, apply_agree}
+use Rattle.unify_core.proofs.Trees.{apply-apply, apply_agree}
 
 pub apply_on_side : (u : ℕ → Tree) (s : Side) (t : Tree) → apply u (on_side s t) ≡ apply (λ v. u (numbered s v)) t
 apply_on_side u s t = apply-apply (λ v. var (numbered s v)) u t

@@ -1,5 +1,5 @@
 -- Bindings stay good as the bank grows.
-use Rattle.std.proofs.Common.{◌≡◌, ◌<◌, ◌≤◌, List, [], ◌∷◌, inl, inr, length, refl, ap₂, sym, subst, arith}
+use Rattle.std.proofs.Common.{◌≡◌, ◌<◌, List, [], ◌∷◌, inl, inr, length, refl, ap₂, sym, subst, arith}
 use Rattle.term_bank.specs.Forest.{Forest, Extends}
 use Rattle.unify_core.specs.Lists.{◌∈◌}
 use Rattle.unify_core.specs.Solved.{Assignment, IsSolved}

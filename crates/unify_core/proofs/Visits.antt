@@ -1,26 +1,21 @@
 -- The walk of the occurs check.
-use Rattle.std.proofs.Common.{◌≡◌, ℕ, zero, suc, ◌+◌, ◌*◌, ◌-◌, ◌<◌, ◌≤◌, List, [], ◌∷◌, ◌++◌, ◌⊎◌, inl, inr, length, map, get_or, take, refl, ap, sym, ◌∙◌, subst, arith, Bool, true, false, nat_eq, Option, Some, None}
+use Rattle.std.proofs.Common.{◌≡◌, ℕ, ◌<◌, List, [], ◌∷◌, inl, inr, length, map, ap, sym, ◌∙◌, subst, arith, Option, Some, None}
 use Rattle.std.specs.List.{All}
-use Rattle.std.proofs.lemmas.List.{append-nil, take-append-le, take_more, get_or_append_left, take_all}
+use Rattle.std.proofs.lemmas.List.{append-nil}
 use Rattle.std.proofs.lemmas.List.Elements.{All-head, All-tail}
 use Rattle.indexmap.specs.IndexSet.{insert_key}
 use Rattle.inst_logic.specs.declared.symbol.Sym.{Sym}
-use Rattle.inst_logic.specs.Tree.{Tree, var, app, Trees, none, more, to_list}
-use Rattle.inst_logic.specs.Substitution.{subst as apply, substs as apply_each, tree_vars as variables, trees_vars as variables_each}
+use Rattle.inst_logic.specs.Tree.{Tree, var, app, Trees, to_list}
 use Rattle.term_bank.specs.Forest.{Forest, tree_at, arguments_of}
 use Rattle.unify_core.specs.Lists.{◌∈◌}
-use Rattle.unify_core.specs.Solved.{Assignment, Respects, IsKey, IsWithin, IsClosed, IsSolvedBy}
-use Rattle.unify_core.specs.Sides.{Binding, numbered, variable_number, on_side, bound_tree, assignment, assignments}
-use Rattle.unify_core.specs.Chains.{AreBindings}
-use Rattle.unify_core.specs.Steps.{IsBoundTo, IsNext}
-use Rattle.unify_core.specs.Visits.{LeadsTo, IsStepFrom, IsVisit, AddsTerms}
+use Rattle.unify_core.specs.Sides.{Binding, numbered, variable_number, on_side}
+use Rattle.unify_core.specs.Steps.{IsNext}
+use Rattle.unify_core.specs.Visits.{IsVisit, AddsTerms}
 use Rattle.unify_core.specs.declared.side.Side.{Side}
 use Rattle.unify_core.specs.declared.side.Bound.{Bound}
 use Rattle.unify_core.specs.declared.side.Variable.{Variable}
-use Rattle.unify_core.proofs.Lists.{∈-append_left, ∈-append, ∈-append_right, ∈-map, map-∈, ∈-push, ∈-last, ∈-get_or}
-use Rattle.unify_core.proofs.Trees.{∈-apply, apply-∈}
+use Rattle.unify_core.proofs.Lists.{∈-map}
 use Rattle.unify_core.proofs.Sides.{same_variable}
-use Rattle.unify_core.proofs.Chains.{bound_equal}
 use Rattle.unify_core.proofs.Sets.{bound_eq, bound_same, inserted}
 
 other_variable : (x : Variable) (s : Side) (v : ℕ) → ¬ ((record { side = s; var = v }) ≡ x) → ¬ (on_side s (var v) ≡ var (variable_number x))

@@ -1,11 +1,10 @@
 -- What a walk over the shared terms has seen.
-use Rattle.std.specs.Prelude.{◌≡◌, ℕ, List, map, ◌++◌, Option, None, Some, MatchOption, ◌<◌, length, ◌⊎◌}
-use Rattle.inst_logic.specs.Tree.{Tree, var, app, Trees, to_list}
-use Rattle.inst_logic.specs.Substitution.{tree_vars}
+use Rattle.std.specs.Prelude.{◌≡◌, ℕ, List, map, ◌++◌, Option, Some, MatchOption, ◌<◌, length, ◌⊎◌}
+use Rattle.inst_logic.specs.Tree.{Tree, var, app, to_list}
 use Rattle.term_bank.specs.Forest.{Forest, tree_at}
 use Rattle.unify_core.specs.Lists.{◌∈◌}
-use Rattle.unify_core.specs.Sides.{Binding, bound_tree, on_side}
-use Rattle.unify_core.specs.Steps.{IsBoundTo, IsNext}
+use Rattle.unify_core.specs.Sides.{Binding, on_side}
+use Rattle.unify_core.specs.Steps.{IsNext}
 use Rattle.unify_core.specs.declared.side.Side.{Side}
 use Rattle.unify_core.specs.declared.side.Bound.{Bound}
 

@@ -1,5 +1,4 @@
-use Rattle.std.proofs.Common.{◌≡◌, ap, sym, ◌∙◌}
-use Rattle.unify_core.proofs.Sets.{bound_differs}
+use Rattle.std.proofs.Common.{sym, ◌∙◌}
 use Rattle.unify_core.proofs.Grounds.{same_ground, same_number}
 use Rattle.unify_core.proofs.unify.is_same.Goals as goal
 

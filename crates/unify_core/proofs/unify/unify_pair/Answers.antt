@@ -1,7 +1,4 @@
-use Rattle.std.proofs.Common.{◌≡◌, ◌++◌, ◌∷◌, [], true, sym, ◌∙◌}
 use Rattle.unify_core.proofs.Lists.{if_ok}
-use Rattle.unify_core.specs.Sides.{Binding}
-use Rattle.unify_core.specs.Pairs.{IsApart, IsStep}
 use Rattle.unify_core.proofs.Chains.{shape_variable}
 use Rattle.unify_core.proofs.Runs.{same_variable_term, step_same, step_left, step_right, step_apart}
 use Rattle.unify_core.proofs.unify.unify_pair.Goals as goal
