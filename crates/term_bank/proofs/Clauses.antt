@@ -1,0 +1,36 @@
+-- A clause of ids and its trees, as the bank grows.
+use Rattle.std.proofs.Common.{◌≡◌, ℕ, zero, suc, ◌<◌, List, [], ◌∷◌, ◌++◌, length, map, get_or, true, refl, ap, ap₂, ◌∙◌, arith}
+use Rattle.std.proofs.lemmas.List.{map_push}
+use Rattle.std.proofs.lemmas.List.Elements.{All-head, All-tail, All-weaker, All-push}
+use Rattle.inst_logic.specs.declared.signed.Signed.{Signed}
+use Rattle.inst_logic.specs.declared.clause.Literal.{Literal}
+use Rattle.inst_logic.specs.LiteralView.{literal}
+use Rattle.inst_logic.specs.Tree.{Tree}
+use Rattle.inst_logic.specs.WellFormed.{atom_is_formed, clause_is_formed}
+use Rattle.inst_logic.proofs.SameLemmas.{and_left, and_right}
+use Rattle.term_bank.specs.Forest.{Forest, tree_at, Extends, IsClauseOf, clause_at}
+
+module _ (f g : Forest) (e : Extends f g) where
+  -- an extension keeps the trees of a clause
+  pub clause_extends : (c : List (Signed ℕ)) → IsClauseOf f c → clause_at g c ≡ clause_at f c
+  clause_extends [] h = refl
+  clause_extends (l ∷ c) h =
+      let first : tree_at g l.atom ≡ tree_at f l.atom = e.trees.1 l.atom (All-head (λ (m : Signed ℕ). m.atom < length f.trees) l c h) in
+      let l' : Tree → Signed Tree = λ t. record { positive = l.positive; atom = t } in
+      ap₂ (λ x xs. x ∷ xs) (ap l' first) (clause_extends c (All-tail (λ (m : Signed ℕ). m.atom < length f.trees) l c h))
+
+  -- one more literal
+  pub clause_pushed : (c : List (Signed ℕ)) (l : Signed ℕ) (m : Signed Tree) → IsClauseOf f c → l.positive ≡ m.positive → tree_at g l.atom ≡ m.atom → clause_at g (c ++ l ∷ []) ≡ clause_at f c ++ m ∷ []
+  clause_pushed c l m within sign atom =
+      map_push (λ (k : Signed ℕ). record { positive = k.positive; atom = tree_at g k.atom }) c l
+      ∙ ap₂ (λ xs x. xs ++ x ∷ []) (clause_extends c within) (λ i. record { positive = sign i; atom = atom i })
+
+  pub clause_within : (c : List (Signed ℕ)) (l : Signed ℕ) → IsClauseOf f c → l.atom < length g.trees → IsClauseOf g (c ++ l ∷ [])
+  clause_within c l within last =
+      All-push (λ (m : Signed ℕ). m.atom < length g.trees) c l (All-weaker (λ (m : Signed ℕ). m.atom < length f.trees) (λ (m : Signed ℕ). m.atom < length g.trees) (λ m k. omega (arith, e.trees.0)) c within) last
+
+-- each atom of a formed clause is formed
+pub literal_formed : (ls : List Literal) (i : ℕ) (l : Literal) → i < length ls → l ≡ get_or ls i l → clause_is_formed (map literal ls) ≡ true → atom_is_formed (literal l).atom ≡ true
+literal_formed [] i l within is h = absurd (omega arith)
+literal_formed (x ∷ ls) zero l within is h = ap (λ (y : Literal). atom_is_formed (literal y).atom) is ∙ and_left (atom_is_formed (literal x).atom) _ h
+literal_formed (x ∷ ls) (suc i) l within is h = literal_formed ls i l (omega arith) is (and_right (atom_is_formed (literal x).atom) _ h)

@@ -1,0 +1,7 @@
+pub mod Nodes
+pub mod Maps
+pub mod Measures
+pub mod Readings
+pub mod Walks
+pub mod Growth
+pub mod Clauses

@@ -1,0 +1,209 @@
+// A bank of trees, each stored once and named by its number (hash consing; Ershov, On programming of arithmetic
+// operations, 1958; Goto, Monocopy and associative algorithms in extended Lisp, 1974).
+ghost use Rattle.std.specs.Prelude.{◌≡◌, ℕ, ◌<◌, [], length, false, true, min, map, IfOk, OnOk, OnErr, option_copied, option_map};
+ghost use Rattle.std.specs.List.{All};
+ghost use Rattle.inst_logic.specs.Tree.{var, app, of_list};
+ghost use Rattle.inst_logic.specs.Measure.{tree_size, tree_weight};
+ghost use Rattle.term_bank.specs.Forest.{tree_at, nth, symbol_at, number_of, IsAt, AreIds, AreDistinct, Extends, ExtendsTrees, KeepsPlaces, no_symbol, IsFormed, AreFormed, AreFormedTrees, symbol_of, arguments_of, is_ground};
+ghost use Rattle.term_bank.specs.Nodes.{trees_of, IsBank};
+ghost use Rattle.term_bank.specs.Shapes.{shape_of};
+
+use crate::id::{TermId, copied};
+use crate::node::{Measures, Node};
+use crate::store::{application_measures, measures_at, node_at, node_number, symbol_number};
+use indexmap::{IndexMap, IndexSet};
+use inst_logic::{Memory, Sym};
+use std::alloc::Global;
+use std::marker::Model;
+
+/// Terms and atoms, each tree once. Contracts see the list of its trees by their ids.
+#[derive(Drop)]
+pub struct Bank {
+    pub(crate) alloc: Global,
+    symbols: IndexSet<Sym>,
+    nodes: IndexMap<Node, Measures>,
+    pub(crate) spent: bool,
+}
+
+impl Model for Bank {
+    ghost use Rattle.term_bank.specs.Forest.{Forest, forest_code};
+    ghost use Rattle.term_bank.specs.Nodes.{trees_of, IsBank};
+
+    ghost Value = { Forest };
+
+    ghost coded = { forest_code };
+
+    ghost view = { λ b. record { trees = trees_of b.symbols.keys b.nodes.entries; symbols = b.symbols.keys; spent = b.spent } };
+
+    ghost invariant = { λ b. IsBank b.symbols.keys b.nodes.entries };
+}
+
+/// What stands at the root of a tree.
+#[derive(Clone, Copy, Debug, PartialEq, Eq)]
+pub enum Shape {
+    Var(usize),
+    App,
+}
+
+fn insert_variable(
+    symbols: &IndexSet<Sym>,
+    nodes: &mut IndexMap<Node, Measures>,
+    v: usize,
+) -> Result<TermId, Memory>
+    requires { IsBank symbols.now.keys nodes.old.entries }
+    ensures bank { IsBank symbols.now.keys nodes.new.entries }
+    ensures extends { ExtendsTrees (trees_of symbols.now.keys nodes.old.entries) (trees_of symbols.now.keys nodes.new.entries) }
+    ensures formed { AreFormedTrees (trees_of symbols.now.keys nodes.old.entries) → AreFormedTrees (trees_of symbols.now.keys nodes.new.entries) }
+    ensures at { IfOk result (λ i. (i < length (trees_of symbols.now.keys nodes.new.entries)) × (nth (trees_of symbols.now.keys nodes.new.entries) i ≡ var v)) }
+{
+    let measures = Measures {
+        size: 1,
+        weight: 0,
+        variable_free: false,
+    };
+    node_number(nodes, Node::Var(v), measures)
+}
+
+fn insert_application(
+    alloc: Global,
+    symbols: &mut IndexSet<Sym>,
+    nodes: &mut IndexMap<Node, Measures>,
+    sym: &Sym,
+    args: &[TermId],
+) -> Result<TermId, Memory>
+    requires bank { IsBank symbols.old.keys nodes.old.entries }
+    requires within { All (λ i. i < length (trees_of symbols.old.keys nodes.old.entries)) args.now }
+    ensures bank { IsBank symbols.new.keys nodes.new.entries }
+    ensures extends { ExtendsTrees (trees_of symbols.old.keys nodes.old.entries) (trees_of symbols.new.keys nodes.new.entries) }
+    ensures symbols { KeepsPlaces no_symbol symbols.old.keys symbols.new.keys }
+    ensures formed { AreFormedTrees (trees_of symbols.old.keys nodes.old.entries) → IsFormed (app sym.now (of_list (map (nth (trees_of symbols.old.keys nodes.old.entries)) args.now))) → AreFormedTrees (trees_of symbols.new.keys nodes.new.entries) }
+    ensures at { IfOk result (λ i. (i < length (trees_of symbols.new.keys nodes.new.entries)) × (nth (trees_of symbols.new.keys nodes.new.entries) i ≡ app sym.now (of_list (map (nth (trees_of symbols.old.keys nodes.old.entries)) args.now)))) }
+{
+    let number = symbol_number(symbols, sym)?;
+    let copy = copied(alloc, args)?;
+    let measures = application_measures(nodes, sym.kind, args);
+    node_number(nodes, Node::App(number, copy), measures)
+}
+
+impl Bank {
+    /// An empty bank, which takes no memory.
+    pub fn new(alloc: Global) -> Bank
+        ensures { result ≡ record { trees = []; symbols = []; spent = false } }
+    {
+        Bank {
+            alloc,
+            symbols: IndexSet::new(alloc),
+            nodes: IndexMap::new(alloc),
+            spent: false,
+        }
+    }
+
+    /// How many trees.
+    pub fn len(&self) -> usize
+        ensures len { result ≡ length self.now.trees }
+        ensures distinct { AreDistinct self.now.trees }
+    {
+        self.nodes.len()
+    }
+
+    pub fn var(&mut self, v: usize) -> Result<TermId, Memory>
+        ensures at { IfOk result (λ id. IsAt self.new id (var v)) }
+        ensures extends { Extends self.old self.new }
+        ensures formed { AreFormed self.old → AreFormed self.new }
+        ensures ok { OnOk result ((self.old.spent ≡ false) × (self.new.spent ≡ false)) }
+        ensures err { OnErr result (self.new.spent ≡ true) }
+    {
+        if self.spent {
+            return Err(Memory);
+        }
+        let result = insert_variable(&self.symbols, &mut self.nodes, v);
+        self.spent = result.is_err();
+        result
+    }
+
+    /// The id of an application of the symbol.
+    pub fn app(&mut self, sym: &Sym, args: &[TermId]) -> Result<TermId, Memory>
+        requires { AreIds self.old args.now }
+        ensures at { IfOk result (λ id. IsAt self.new id (app sym.now (of_list (map (tree_at self.old) args.now)))) }
+        ensures extends { Extends self.old self.new }
+        ensures formed { AreFormed self.old → IsFormed (app sym.now (of_list (map (tree_at self.old) args.now))) → AreFormed self.new }
+        ensures ok { OnOk result ((self.old.spent ≡ false) × (self.new.spent ≡ false)) }
+        ensures err { OnErr result (self.new.spent ≡ true) }
+    {
+        if self.spent {
+            return Err(Memory);
+        }
+        let result = insert_application(self.alloc, &mut self.symbols, &mut self.nodes, sym, args);
+        self.spent = result.is_err();
+        result
+    }
+
+    pub fn shape(&self, id: TermId) -> Shape
+        requires { id < length self.now.trees }
+        ensures { result ≡ shape_of (tree_at self.now id) }
+    {
+        match node_at(&self.nodes, id) {
+            Node::Var(v) => Shape::Var(*v),
+            Node::App(_, _) => Shape::App,
+        }
+    }
+
+    /// The symbol of an application, and `None` for a variable.
+    pub fn sym(&self, id: TermId) -> Option<&Sym>
+        requires { id < length self.now.trees }
+        ensures { option_copied result ≡ symbol_of (tree_at self.now id) }
+    {
+        match node_at(&self.nodes, id) {
+            Node::Var(_) => None,
+            Node::App(number, _) => self.symbols.get_index(*number),
+        }
+    }
+
+    /// The number of the symbol of an application: equal symbols, and no others, have equal numbers.
+    pub fn symbol_number(&self, id: TermId) -> Option<usize>
+        requires { id < length self.now.trees }
+        ensures number { result ≡ option_map (number_of self.now.symbols) (symbol_of (tree_at self.now id)) }
+        ensures symbol { option_map (symbol_at self.now.symbols) result ≡ symbol_of (tree_at self.now id) }
+    {
+        match node_at(&self.nodes, id) {
+            Node::Var(_) => None,
+            Node::App(number, _) => Some(*number),
+        }
+    }
+
+    /// The ids of the arguments, and none for a variable.
+    pub fn args(&self, id: TermId) -> &[TermId]
+        requires { id < length self.now.trees }
+        ensures trees { map (tree_at self.now) result.now ≡ arguments_of (tree_at self.now id) }
+        ensures smaller { All (λ i. i < id) result.now }
+    {
+        match node_at(&self.nodes, id) {
+            Node::Var(_) => &[],
+            Node::App(_, args) => args.as_slice(),
+        }
+    }
+
+    /// The number of occurrences of symbols and variables, or `u64::MAX` where it is larger.
+    pub fn size(&self, id: TermId) -> u64
+        requires { id < length self.now.trees }
+        ensures { result ≡ min (tree_size (tree_at self.now id)) u64.MAX }
+    {
+        measures_at(&self.nodes, id).size
+    }
+
+    /// The number of occurrences of symbols of kind Function, or `u64::MAX` where it is larger.
+    pub fn weight(&self, id: TermId) -> u64
+        requires { id < length self.now.trees }
+        ensures { result ≡ min (tree_weight (tree_at self.now id)) u64.MAX }
+    {
+        measures_at(&self.nodes, id).weight
+    }
+
+    /// Whether the tree has no variables.
+    pub fn ground(&self, id: TermId) -> bool
+        requires { id < length self.now.trees }
+        ensures { result ≡ is_ground (tree_at self.now id) }
+    {
+        measures_at(&self.nodes, id).variable_free
+    }
+}

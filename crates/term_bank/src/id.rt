@@ -1,0 +1,50 @@
+// The numbers of interned trees, and clauses over them.
+ghost use Rattle.std.specs.Prelude.{◌≡◌, IfOk};
+
+use inst_logic::{ListOf, Memory, Signed};
+use std::alloc::Global;
+use std::marker::Model;
+
+/// The number of a tree in its bank, counted from 0.
+#[derive(Clone, Copy, Debug, PartialEq, Eq, Hash)]
+pub struct TermId(pub(crate) usize);
+
+impl Model for TermId {
+    ghost use Rattle.std.specs.Prelude.{ℕ};
+
+    ghost Value = { ℕ };
+
+    ghost view = { λ t. t.0 };
+
+    ghost inverse = { λ n. record { 0 = n } };
+}
+
+impl TermId {
+    pub fn number(self) -> usize
+        ensures { result ≡ self }
+    {
+        self.0
+    }
+
+    pub(crate) fn of(number: usize) -> TermId
+        ensures { result ≡ number }
+    {
+        TermId(number)
+    }
+}
+
+pub type TermIdList = ListOf<TermId>;
+
+// A list of these ids.
+pub(crate) fn copied(alloc: Global, ids: &[TermId]) -> Result<TermIdList, Memory>
+    ensures { IfOk result (λ list. list ≡ ids.now) }
+{
+    Ok(TermIdList::from(Vec::from_slice(alloc, ids)?))
+}
+
+pub type IdLiteral = Signed<TermId>;
+
+/// A disjunction of literals, each over the id of its atom.
+pub type IdClause = ListOf<IdLiteral>;
+
+pub type IdClauseList = ListOf<IdClause>;

@@ -1,0 +1,14 @@
+// Interned terms and atoms: a bank stores each tree once, and equal trees have equal ids.
+#![tactic(auto)]
+
+pub mod bank;
+pub mod id;
+pub mod intern;
+mod node;
+mod store;
+#[cfg(test)]
+mod tests;
+mod walk;
+
+pub use bank::{Bank, Shape};
+pub use id::{IdClause, IdClauseList, IdLiteral, TermId, TermIdList};

@@ -1,0 +1,17 @@
+// What a bank stores of each tree.
+use crate::id::TermIdList;
+
+// A variable by its number, or the number of a symbol with the ids of its arguments.
+#[derive(Debug, Drop, PartialEq, Eq, Hash)]
+pub enum Node {
+    Var(usize),
+    App(usize, TermIdList),
+}
+
+// The size and the weight, at most `u64::MAX`, and whether there is no variable.
+#[derive(Clone, Copy, Debug, PartialEq, Eq)]
+pub struct Measures {
+    pub size: u64,
+    pub weight: u64,
+    pub variable_free: bool,
+}

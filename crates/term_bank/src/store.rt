@@ -1,0 +1,91 @@
+// Numbers for symbols and nodes, in the order of first use.
+ghost use Rattle.std.specs.Prelude.{◌≡◌, ℕ, ◌<◌, ◌+◌, min, IfOk, OnErr, length, sum_by};
+ghost use Rattle.std.specs.List.{All, list_all};
+ghost use Rattle.inst_logic.specs.Measure.{function_count};
+ghost use Rattle.term_bank.specs.Forest.{symbol_at};
+ghost use Rattle.term_bank.specs.Nodes.{entry_at, SymbolsGrow, NodesGrow};
+
+use crate::id::TermId;
+use crate::node::{Measures, Node};
+use indexmap::{IndexMap, IndexSet};
+use inst_logic::{Kind, Memory, Sym};
+
+// The number of the symbol. A new one goes last.
+pub fn symbol_number(symbols: &mut IndexSet<Sym>, sym: &Sym) -> Result<usize, Memory>
+    ensures within { IfOk result (λ i. i < length symbols.new.keys) }
+    ensures at { IfOk result (λ i. symbol_at symbols.new.keys i ≡ sym.now) }
+    ensures grown { SymbolsGrow symbols.old.keys symbols.new.keys sym.now }
+{
+    if let Some(i) = symbols.get_index_of(sym) {
+        return Ok(i);
+    }
+    let number = symbols.len();
+    symbols.insert(sym.clone()?)?;
+    Ok(number)
+}
+
+// The number of the node. A new one goes last, and one that is there has these measures.
+pub fn node_number(
+    nodes: &mut IndexMap<Node, Measures>,
+    node: Node,
+    measures: Measures,
+) -> Result<TermId, Memory>
+    requires { (i : ℕ) → i < length nodes.old.entries → (entry_at nodes.old.entries i).0 ≡ node → (entry_at nodes.old.entries i).1 ≡ measures }
+    ensures within { IfOk result (λ i. i < length nodes.new.entries) }
+    ensures at { IfOk result (λ i. (entry_at nodes.new.entries i).0 ≡ node) }
+    ensures grown { NodesGrow nodes.old.entries nodes.new.entries (node, measures) }
+{
+    let (number, _) = nodes.insert_full(node, measures)?;
+    Ok(TermId::of(number))
+}
+
+// What is stored beside the node.
+pub fn measures_at(nodes: &IndexMap<Node, Measures>, id: TermId) -> Measures
+    requires { id < length nodes.now.entries }
+    ensures { result ≡ (entry_at nodes.now.entries id).1 }
+{
+    match nodes.get_index(id.number()) {
+        Some((_, measures)) => *measures,
+        None => unreachable!(),
+    }
+}
+
+pub fn node_at<'a>(nodes: &'a IndexMap<Node, Measures>, id: TermId) -> &'a Node
+    requires { id < length nodes.now.entries }
+    ensures { result.now ≡ (entry_at nodes.now.entries id).0 }
+{
+    match nodes.get_index(id.number()) {
+        Some((node, _)) => node,
+        None => unreachable!(),
+    }
+}
+
+// The measures of an application of a symbol of this kind.
+pub fn application_measures(
+    nodes: &IndexMap<Node, Measures>,
+    kind: Kind,
+    args: &[TermId],
+) -> Measures
+    requires { All (λ i. i < length nodes.now.entries) args.now }
+    ensures size { result.size ≡ min (sum_by (λ i. (entry_at nodes.now.entries i).1.size) args.now + 1) u64.MAX }
+    ensures weight { result.weight ≡ min (sum_by (λ i. (entry_at nodes.now.entries i).1.weight) args.now + function_count kind) u64.MAX }
+    ensures variable_free { result.variable_free ≡ list_all (λ i. (entry_at nodes.now.entries i).1.variable_free) args.now }
+{
+    let mut size: u64 = 1;
+    let mut weight: u64 = match kind {
+        Kind::Function => 1,
+        Kind::Predicate | Kind::Equality => 0,
+    };
+    let mut variable_free = true;
+    for a in args {
+        let measures = measures_at(nodes, *a);
+        size = size.saturating_add(measures.size);
+        weight = weight.saturating_add(measures.weight);
+        variable_free = variable_free && measures.variable_free;
+    }
+    Measures {
+        size,
+        weight,
+        variable_free,
+    }
+}

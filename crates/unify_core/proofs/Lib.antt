@@ -1,0 +1,15 @@
+pub mod Lists
+pub mod Trees
+pub mod Solved
+pub mod Progress
+pub mod Sides
+pub mod Chains
+pub mod Places
+pub mod Sets
+pub mod Visits
+pub mod OccursWalk
+pub mod Apart
+pub mod Runs
+pub mod Proper
+pub mod Stays
+pub mod Grounds

@@ -1,0 +1,10 @@
+pub mod Lists
+pub mod Solved
+pub mod Progress
+pub mod Sides
+pub mod Chains
+pub mod Steps
+pub mod Pairs
+pub mod Visits
+pub mod Bindings
+pub mod Passed

@@ -1,0 +1,155 @@
+// The bindings of the variables of two sides.
+ghost use Rattle.std.specs.Prelude.{◌≡◌, ℕ, ◌<◌, [], length, IfOk, OnOk, OnErr, true, false, IfNone, IfSome, Some, slice_get, slice_index_or};
+ghost use Rattle.std.specs.Map.{keys_of};
+ghost use Rattle.inst_logic.specs.Tree.{Tree};
+ghost use Rattle.inst_logic.specs.Substitution.{subst as apply};
+ghost use Rattle.term_bank.specs.Forest.{tree_at};
+ghost use Rattle.unify_core.specs.Lists.{◌∈◌};
+ghost use Rattle.inst_logic.specs.Unifiers.{Sided, IsUnifier, IsMostGeneral, IsProper, IsApplication};
+ghost use Rattle.unify_core.specs.Sides.{IsResolvedBy, of_side, of_pair};
+ghost use Rattle.unify_core.specs.Chains.{AreBindings};
+ghost use Rattle.unify_core.specs.Passed.{IsPassed, no_binding};
+
+use crate::side::{Bound, Side, Variable};
+use crate::unify::unify_terms;
+use crate::walk::follow;
+use indexmap::IndexMap;
+use inst_logic::Memory;
+use std::alloc::Global;
+use std::marker::Model;
+use term_bank::{Bank, Shape, TermId};
+
+#[derive(Drop)]
+pub struct Bindings {
+    alloc: Global,
+    map: IndexMap<Variable, Bound>,
+    spent: bool,
+}
+
+impl Model for Bindings {
+    ghost use Rattle.unify_core.specs.Bindings.{Bound_list};
+
+    ghost Value = { Bound_list };
+
+    ghost view = { λ b. record { entries = b.map.entries; spent = b.spent } };
+}
+
+impl Bindings {
+    // No bindings, which take no memory.
+    pub fn new(alloc: Global) -> Bindings
+        ensures { result ≡ record { entries = []; spent = false } }
+    {
+        Bindings {
+            alloc,
+            map: IndexMap::new(alloc),
+            spent: false,
+        }
+    }
+
+    pub fn clear(&mut self)
+        ensures entries { self.new.entries ≡ [] }
+        ensures spent { self.new.spent ≡ self.old.spent }
+    {
+        self.map.clear();
+    }
+
+    // Makes the bindings a most general unifier of the terms, the variables of `a` as the left and those of `b` as the right copy.
+    // False comes where there is no unifier, and no bindings are left.
+    pub fn unify(&mut self, bank: &Bank, a: TermId, b: TermId) -> Result<bool, Memory>
+        requires left { a < length bank.now.trees }
+        requires right { b < length bank.now.trees }
+        ensures yes { IfOk result (λ r. r ≡ true → (s : Sided) × IsResolvedBy bank.now self.new.entries s × IsMostGeneral s (tree_at bank.now a) (tree_at bank.now b)) }
+        ensures bindings { IfOk result (λ r. r ≡ true → AreBindings bank.now self.new.entries) }
+        ensures no { IfOk result (λ r. r ≡ false → (s : Sided) → ¬ (IsUnifier s (tree_at bank.now a) (tree_at bank.now b))) }
+        ensures empty { IfOk result (λ r. r ≡ false → self.new.entries ≡ []) }
+        ensures ok { OnOk result ((self.old.spent ≡ false) × (self.new.spent ≡ false)) }
+        ensures err { OnErr result (self.new.spent ≡ true) }
+    {
+        if self.spent {
+            return Err(Memory);
+        }
+        self.map.clear();
+        match unify_terms(self.alloc, bank, &mut self.map, a, b) {
+            Err(e) => {
+                self.spent = true;
+                Err(e)
+            }
+            Ok(true) => Ok(true),
+            Ok(false) => {
+                self.map.clear();
+                Ok(false)
+            }
+        }
+    }
+
+    // The term to which the variable is bound.
+    pub fn get(&self, side: Side, var: usize) -> Option<Bound>
+        ensures some { IfSome result (λ b. (record { side = side; var = var }, b) ∈ self.now.entries) }
+        ensures none { IfNone result (¬ ((record { side = side; var = var }) ∈ keys_of self.now.entries)) }
+    {
+        let variable = Variable { side, var };
+        self.map.get(&variable).copied()
+    }
+
+    // Whether the most general unifier that was found makes a variable of the side a term that is no variable.
+    pub fn proper(&self, bank: &Bank, side: Side) -> bool
+        requires { AreBindings bank.now self.now.entries }
+        ensures yes { result ≡ true → (a b : Tree) (s : Sided) → IsResolvedBy bank.now self.now.entries s → IsMostGeneral s a b → IsProper (of_side s side) (of_pair side a b) }
+        ensures no { result ≡ false → (a b : Tree) (s : Sided) → IsResolvedBy bank.now self.now.entries s → IsMostGeneral s a b → ¬ (IsProper (of_side s side) (of_pair side a b)) }
+    {
+        is_proper(bank, &self.map, side)
+    }
+}
+
+fn entry_at(map: &IndexMap<Variable, Bound>, i: usize) -> (Variable, Bound)
+    requires { i < length map.now.entries }
+    ensures { slice_get map.now.entries i ≡ Some result }
+{
+    match map.get_index(i) {
+        Some((variable, bound)) => (*variable, *bound),
+        None => unreachable!(),
+    }
+}
+
+// Whether the bindings make the term an application.
+fn ends_in_application(bank: &Bank, map: &IndexMap<Variable, Bound>, bound: Bound) -> bool
+    requires bindings { AreBindings bank.now map.now.entries }
+    requires within { bound.term < length bank.now.trees }
+    ensures yes { result ≡ true → (s : Sided) → IsResolvedBy bank.now map.now.entries s → IsApplication (apply (of_side s bound.side) (tree_at bank.now bound.term)) }
+    ensures no { result ≡ false → (s : Sided) → IsResolvedBy bank.now map.now.entries s → ¬ (IsApplication (apply (of_side s bound.side) (tree_at bank.now bound.term))) }
+{
+    let end = follow(bank, map, bound);
+    match bank.shape(end.term) {
+        Shape::App => true,
+        Shape::Var(_) => false,
+    }
+}
+
+// Whether the binding at this place makes a variable of the side an application.
+fn is_made(bank: &Bank, map: &IndexMap<Variable, Bound>, side: Side, i: usize) -> bool
+    requires bindings { AreBindings bank.now map.now.entries }
+    requires within { i < length map.now.entries }
+    ensures yes { result ≡ true → (a b : Tree) (s : Sided) → IsResolvedBy bank.now map.now.entries s → IsMostGeneral s a b → IsProper (of_side s side) (of_pair side a b) }
+    ensures no { result ≡ false → IsPassed bank.now map.now.entries side (slice_index_or map.now.entries i no_binding) }
+{
+    let entry = entry_at(map, i);
+    if entry.0.side == side {
+        ends_in_application(bank, map, entry.1)
+    } else {
+        false
+    }
+}
+
+// Whether the most general unifier of these bindings is proper for the side.
+fn is_proper(bank: &Bank, map: &IndexMap<Variable, Bound>, side: Side) -> bool
+    requires { AreBindings bank.now map.now.entries }
+    ensures yes { result ≡ true → (a b : Tree) (s : Sided) → IsResolvedBy bank.now map.now.entries s → IsMostGeneral s a b → IsProper (of_side s side) (of_pair side a b) }
+    ensures no { result ≡ false → (a b : Tree) (s : Sided) → IsResolvedBy bank.now map.now.entries s → IsMostGeneral s a b → ¬ (IsProper (of_side s side) (of_pair side a b)) }
+{
+    for i in 0..map.len() {
+        if is_made(bank, map, side, i) {
+            return true;
+        }
+    }
+    false
+}

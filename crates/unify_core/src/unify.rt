@@ -1,0 +1,161 @@
+// Unification by a list of pairs. Each pair of terms is taken apart once.
+ghost use Rattle.std.specs.Prelude.{◌≡◌, ℕ, ◌<◌, length, IfOk, true, false, [], Some};
+ghost use Rattle.inst_logic.specs.declared.symbol.Sym.{Sym};
+ghost use Rattle.inst_logic.specs.Tree.{Tree};
+ghost use Rattle.inst_logic.specs.Substitution.{subst as apply};
+ghost use Rattle.term_bank.specs.Forest.{tree_at, symbol_of, AreDistinct};
+ghost use Rattle.inst_logic.specs.Unifiers.{Sided, IsUnifier, IsMostGeneral, IsApplication};
+ghost use Rattle.unify_core.specs.Solved.{Respects};
+ghost use Rattle.unify_core.specs.Sides.{bound_tree, assignments, IsResolvedBy};
+ghost use Rattle.unify_core.specs.Chains.{AreBindings};
+ghost use Rattle.unify_core.specs.Pairs.{ArePairs, IsApart, IsStep};
+
+use crate::bind::bind;
+use crate::pairs::push_pairs;
+use crate::side::{Bound, Pair, Side, Variable};
+use crate::walk::follow;
+use indexmap::{IndexMap, IndexSet};
+use inst_logic::Memory;
+use std::alloc::Global;
+use term_bank::{Bank, Shape, TermId};
+
+// Whether the terms have one symbol, by its number.
+fn same_root(bank: &Bank, a: TermId, b: TermId) -> bool
+    requires left { a < length bank.now.trees }
+    requires right { b < length bank.now.trees }
+    ensures yes { result ≡ true → symbol_of (tree_at bank.now a) ≡ symbol_of (tree_at bank.now b) }
+    ensures no { result ≡ false → ¬ (symbol_of (tree_at bank.now a) ≡ symbol_of (tree_at bank.now b)) }
+{
+    bank.symbol_number(a) == bank.symbol_number(b)
+}
+
+// Whether the terms are equal before any binding: one term of one side, or one term without variables.
+fn is_same(bank: &Bank, left: &Bound, right: &Bound) -> bool
+    requires { left.now.term < length bank.now.trees }
+    ensures yes { result ≡ true → bound_tree bank.now left.now ≡ bound_tree bank.now right.now }
+    ensures no { result ≡ false → ¬ (left.now ≡ right.now) }
+{
+    if *left == *right {
+        return true;
+    }
+    if left.term != right.term {
+        return false;
+    }
+    bank.ground(left.term)
+}
+
+// Adds the pairs of the arguments, where the pair was not taken apart before.
+fn take_apart(
+    bank: &Bank,
+    work: &mut Vec<Pair>,
+    done: &mut IndexSet<Pair>,
+    left: Bound,
+    right: Bound,
+) -> Result<bool, Memory>
+    requires left { left.term < length bank.now.trees }
+    requires right { right.term < length bank.now.trees }
+    requires left_application { IsApplication (tree_at bank.now left.term) }
+    requires right_application { IsApplication (tree_at bank.now right.term) }
+    requires work { ArePairs bank.now work.old.items }
+    requires done { ArePairs bank.now done.old.keys }
+    ensures yes { IfOk result (λ r. r ≡ true → IsApart bank.now work.old.items done.old.keys left right work.new.items done.new.keys) }
+    ensures no { IfOk result (λ r. r ≡ false → (u : ℕ → Tree) → ¬ (apply u (bound_tree bank.now left) ≡ apply u (bound_tree bank.now right))) }
+{
+    let side = left.side;
+    let other = right.side;
+    let xs = bank.args(left.term);
+    let ys = bank.args(right.term);
+    let same = same_root(bank, left.term, right.term);
+    let pair = Pair { left, right };
+    if done.contains(&pair) {
+        return Ok(true);
+    }
+    if !same {
+        return Ok(false);
+    }
+    if xs.len() != ys.len() {
+        return Ok(false);
+    }
+    push_pairs(work, side, xs, other, ys)?;
+    done.insert(pair)?;
+    Ok(true)
+}
+
+// Works on one pair. False comes where no substitution that respects the bindings makes the two equal.
+fn unify_pair(
+    alloc: Global,
+    bank: &Bank,
+    map: &mut IndexMap<Variable, Bound>,
+    work: &mut Vec<Pair>,
+    done: &mut IndexSet<Pair>,
+    pair: Pair,
+) -> Result<bool, Memory>
+    requires once { AreDistinct bank.now.trees }
+    requires bindings { AreBindings bank.now map.old.entries }
+    requires left { pair.left.term < length bank.now.trees }
+    requires right { pair.right.term < length bank.now.trees }
+    requires work { ArePairs bank.now work.old.items }
+    requires done { ArePairs bank.now done.old.keys }
+    ensures yes { IfOk result (λ r. r ≡ true → IsStep bank.now map.old.entries work.old.items done.old.keys pair map.new.entries work.new.items done.new.keys) }
+    ensures no { IfOk result (λ r. r ≡ false → (u : ℕ → Tree) → Respects u (assignments bank.now map.old.entries) → ¬ (apply u (bound_tree bank.now pair.left) ≡ apply u (bound_tree bank.now pair.right))) }
+{
+    let left = follow(bank, map, pair.left);
+    let right = follow(bank, map, pair.right);
+    if is_same(bank, &left, &right) {
+        return Ok(true);
+    }
+    match bank.shape(left.term) {
+        Shape::Var(v) => {
+            let x = Variable {
+                side: left.side,
+                var: v,
+            };
+            bind(alloc, bank, map, x, right)
+        }
+        Shape::App => match bank.shape(right.term) {
+            Shape::Var(v) => {
+                let x = Variable {
+                    side: right.side,
+                    var: v,
+                };
+                bind(alloc, bank, map, x, left)
+            }
+            Shape::App => take_apart(bank, work, done, left, right),
+        },
+    }
+}
+
+// Unifies the terms, the variables of `a` as the left and those of `b` as the right copy.
+pub fn unify_terms(
+    alloc: Global,
+    bank: &Bank,
+    map: &mut IndexMap<Variable, Bound>,
+    a: TermId,
+    b: TermId,
+) -> Result<bool, Memory>
+    requires empty { map.old.entries ≡ [] }
+    requires left { a < length bank.now.trees }
+    requires right { b < length bank.now.trees }
+    ensures yes { IfOk result (λ r. r ≡ true → (s : Sided) × IsResolvedBy bank.now map.new.entries s × IsMostGeneral s (tree_at bank.now a) (tree_at bank.now b)) }
+    ensures bindings { IfOk result (λ r. r ≡ true → AreBindings bank.now map.new.entries) }
+    ensures no { IfOk result (λ r. r ≡ false → (s : Sided) → ¬ (IsUnifier s (tree_at bank.now a) (tree_at bank.now b))) }
+{
+    let _ = bank.len();
+    let mut work: Vec<Pair> = Vec::new(alloc);
+    let mut done: IndexSet<Pair> = IndexSet::new(alloc);
+    let left = Bound {
+        side: Side::Left,
+        term: a,
+    };
+    let right = Bound {
+        side: Side::Right,
+        term: b,
+    };
+    work.push(Pair { left, right })?;
+    while let Some(pair) = work.pop() {
+        if !unify_pair(alloc, bank, map, &mut work, &mut done, pair)? {
+            return Ok(false);
+        }
+    }
+    Ok(true)
+}
