@@ -10,7 +10,7 @@ use Rattle.inst_machine.specs.Machine.{State, IsStep, solve, IsSettled, solved, 
 
 pub solve_settles : {bot : Sym} {s t : State} {atoms : List Tree} → IsStep bot s (solved atoms) t
     → (t ≡ record { entries = s.entries; valuation = change_all s.valuation atoms; has_solved = true }) × IsSettled bot t
-solve_settles (solve e h) = (e, h)
+solve_settles (solve a e h) = (e, h)
 
 not_same : (b : Bool) → ¬ (b ≡ not b)
 not_same true e = cc

@@ -2,6 +2,8 @@ use Rattle.std.proofs.Common.{◌≡◌, ◌<◌, zero, suc, List, [], ◌∷◌
 use Rattle.std.specs.Prelude.{All, Contains, Decides, Bool}
 use Rattle.inst_logic.specs.Tree.{Tree, var}
 use Rattle.inst_logic.specs.Equal.{tree_eq}
+use Rattle.inst_logic.specs.Substitution.{tree_vars}
+use Rattle.inst_logic.specs.WellFormed.{IsAtom}
 use Rattle.inst_logic.specs.Clauses.{TreeClause, AreVariants}
 use Rattle.inst_logic.specs.Truth.{IsTrueLiteral, IsTrueClause}
 use Rattle.inst_logic.specs.Examples.{p, constant_c, constant_bot, yes, no, binding}
@@ -12,7 +14,7 @@ use Rattle.inst_calculus.specs.Saturation.{IsCovered, tautology, variant, shorte
 use Rattle.inst_calculus.specs.Examples.{entry, bot, p_always, not_p_c, p_c}
 use Rattle.inst_calculus.proofs.ShortLists.{each_at, each_all, each_none, contains_one}
 use Rattle.inst_calculus.proofs.Turns.{instance_unifier}
-use Rattle.inst_machine.specs.Machine.{State, IsStart, IsStep, IsSettled, all_read, taken, solve, infer, ended, next, solved, inferred, change_all}
+use Rattle.inst_machine.specs.Machine.{State, IsStart, IsStep, AreChanges, IsSettled, all_read, taken, solve, infer, ended, next, solved, inferred, change_all}
 use Rattle.inst_machine.specs.Examples.{start_state, solved_state, last_state}
 use Rattle.inst_machine.proofs.ExampleSteps.{solve_settles, no_tautology, one_true}
 use Rattle.inst_machine.proofs.examples.instance_run.Goals as goal
@@ -34,8 +36,15 @@ settled : IsSettled bot solved_state
 settled = each_all (λ (e : Entry). IsTrueClause (Contains solved_state.valuation) (abstraction bot e.clause)) solved_state.entries
     ((0, yes (p constant_bot), lit< tt, refl, (0, lit< tt, refl)), ((0, no (p constant_c), lit< tt, refl, not_held), tt))
 
+changes : AreChanges (p constant_bot ∷ [])
+changes = record {
+  atoms_formed = each_all IsAtom (p constant_bot ∷ []) (search rules, tt);
+  without_variables = each_all (λ a. tree_vars a ≡ []) (p constant_bot ∷ []) (refl, tt);
+  once = λ i j d below within. absurd (omega arith);
+}
+
 solves : IsStep bot start_state (solved (p constant_bot ∷ [])) solved_state
-solves = solve refl settled
+solves = solve changes refl settled
 
 uncovered : ¬ IsCovered (p_always ∷ not_p_c ∷ []) p_always p_c
 uncovered (tautology t) = no_tautology (yes (p constant_c)) t
