@@ -1,5 +1,5 @@
--- The clauses of at most so many literals over given predicates, constants and variables lie in a finite list.
-use Rattle.std.proofs.Common.{◌≡◌, ℕ, zero, suc, ◌+◌, ◌<◌, ◌≤◌, List, [], ◌∷◌, ◌++◌, ◌⊎◌, inl, inr, refl, sym, ap, ◌∙◌, subst as transport, arith, map, length, Bool, true, false}
+-- The flat clauses of at most so many literals over given symbols and variables lie in a finite list.
+use Rattle.std.proofs.Common.{◌≡◌, ℕ, zero, suc, ◌<◌, ◌≤◌, List, [], ◌∷◌, ◌++◌, ◌⊎◌, inl, inr, refl, sym, ap, ◌∙◌, subst as transport, arith, map, length, Bool, true, false}
 use native.Mathlib.Decide.{ℕ_discrete}
 use Rattle.inst_logic.specs.declared.symbol.Sym.{Sym}
 use Rattle.inst_logic.specs.declared.signed.Signed.{Signed}
@@ -8,16 +8,8 @@ use Rattle.inst_logic.specs.Substitution.{tree_vars, trees_vars, clause_vars}
 use Rattle.inst_logic.specs.WellFormed.{count_of}
 use Rattle.inst_logic.specs.Clauses.{TreeClause}
 use Rattle.inst_calculus.proofs.Membership.{◌∈◌, in_left, in_right, in_map, equal_in}
-use Rattle.inst_calculus.proofs.Terms.{IsTermOver, AreTermsOver, IsAtomOver}
-use Rattle.inst_calculus.proofs.Instances.{HasAtomsOver}
-
--- a symbol of the list without arguments
-abbrev pub IsConstantOf : List Sym → Sym → Type 0
-IsConstantOf ss f = (f ∈ ss) × (f.arity ≡ 0)
-
--- the atoms have symbols of the list, and variables and constants for arguments
-abbrev pub IsFlatOver : List Sym → TreeClause → Type 0
-IsFlatOver ss c = HasAtomsOver (λ p. p ∈ ss) (IsConstantOf ss) c
+use Rattle.inst_calculus.proofs.Terms.{IsTermOver, AreTermsOver}
+use Rattle.inst_machine.proofs.FlatClauses.{IsConstantOf, IsFlatAtom, IsFlatOver}
 
 -- each item of the first list joined with each of the second
 joins : {A B C : Type 0} → (A → B → C) → List A → List B → List C
@@ -49,14 +41,10 @@ no_trees (more t ts) e = absurd (omega arith)
 
 -- over the symbols ss, with the variables below n
 module _ (ss : List Sym) (n : ℕ) where
-  constants : List Tree
-  constants = map (λ f. app f none) ss
-
-  arguments : List Tree
-  arguments = constants ++ variables_below n
+  abbrev arguments : List Tree
+  arguments = map (λ f. app f none) ss ++ variables_below n
 
   in_arguments : (t : Tree) → IsTermOver (IsConstantOf ss) t → ((v : ℕ) → v ∈ tree_vars t → v < n) → t ∈ arguments
-  unfolding arguments constants
   in_arguments (var v) h w = in_right (var v) (map (λ f. app f none) ss) (variables_below n) (in_variables_below v n (w v (inl refl)))
   in_arguments (app f ts) h w =
       equal_in (app f none) (app f ts) (map (λ f. app f none) ss ++ variables_below n) (ap (app f) (sym (no_trees ts (h.1 ∙ h.0.1))))
@@ -87,14 +75,14 @@ module _ (ss : List Sym) (n : ℕ) where
       (transport (λ (x : Sym). app p ts ∈ map (app x) (argument_lists x.arity)) e (in_map (app p) ts (argument_lists p.arity) j))
   in_atoms_of p ts (q ∷ ps) (inr i) j = in_right (app p ts) (map (app q) (argument_lists q.arity)) (atoms_of ps) (in_atoms_of p ts ps i j)
 
-  in_atoms : (t : Tree) → IsAtomOver (λ p. p ∈ ss) (IsConstantOf ss) t → ((v : ℕ) → v ∈ tree_vars t → v < n) → t ∈ atoms_of ss
+  in_atoms : (t : Tree) → IsFlatAtom ss t → ((v : ℕ) → v ∈ tree_vars t → v < n) → t ∈ atoms_of ss
   in_atoms (var v) h w = absurd h
   in_atoms (app p ts) h w = in_atoms_of p ts ss h.0 (in_argument_lists p.arity ts h.1 h.2 w)
 
-  with_sign : Bool → Tree → Signed Tree
+  abbrev with_sign : Bool → Tree → Signed Tree
   with_sign b a = record { positive = b; atom = a }
 
-  literals : List (Signed Tree)
+  abbrev literals : List (Signed Tree)
   literals = joins with_sign (true ∷ false ∷ []) (atoms_of ss)
 
   in_signs : (b : Bool) → b ∈ (true ∷ false ∷ [])
@@ -102,7 +90,6 @@ module _ (ss : List Sym) (n : ℕ) where
   in_signs false = inr (inl refl)
 
   in_literals : (l : Signed Tree) → l.atom ∈ atoms_of ss → l ∈ literals
-  unfolding literals with_sign
   in_literals l i = in_joins with_sign l.positive l.atom (true ∷ false ∷ []) (atoms_of ss) (in_signs l.positive) i
 
   -- all of at most k literals

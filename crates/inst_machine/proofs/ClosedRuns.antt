@@ -1,7 +1,7 @@
 -- Entries whose selected literals are true in the last valuation are saturated once every conclusion is covered. The unifier
 -- of two selected literals is proper for one of them: otherwise both have one abstraction, which the valuation makes both
 -- true and false.
-use Rattle.std.proofs.Common.{◌≡◌, ◌≢◌, ℕ, List, ◌⊎◌, inl, inr, refl, sym, ap, ◌∙◌, subst as transport, Bool, true, false, All, Any, Contains}
+use Rattle.std.proofs.Common.{◌≡◌, ◌≢◌, ℕ, List, ◌⊎◌, inl, inr, refl, sym, ap, ◌∙◌, subst as transport, Bool, true, false, Contains}
 use Rattle.inst_logic.specs.declared.symbol.Sym.{Sym}
 use Rattle.inst_logic.specs.Signed.{signed, IsTautology}
 use Rattle.inst_logic.specs.Tree.{Tree, var}
@@ -23,11 +23,12 @@ use Rattle.inst_machine.specs.Replay.{Replays, IsSelection, AreConclusionsCovere
 use Rattle.inst_machine.proofs.RunEntries.{entries_are_canonical}
 use Rattle.inst_machine.proofs.KeptEntries.{clause_is_kept}
 
-not_both_signed : (P : Type 0) (a b : Bool) → a ≢ b → signed a P → signed b P → ⊥
-not_both_signed P true true n p q = n refl
-not_both_signed P true false n p q = q p
-not_both_signed P false true n p q = p q
-not_both_signed P false false n p q = n refl
+-- a fact and its denial do not both hold
+opposite_signs_exclude : (P : Type 0) (a b : Bool) → a ≢ b → signed a P → signed b P → ⊥
+opposite_signs_exclude P true true n p q = n refl
+opposite_signs_exclude P true false n p q = q p
+opposite_signs_exclude P false true n p q = p q
+opposite_signs_exclude P false false n p q = n refl
 
 abbrev Renames : Substitution → Tree → Type 0
 Renames s t = (v : ℕ) → v ∈ tree_vars t → (w : ℕ) × (s v ≡ var w)
@@ -36,7 +37,7 @@ module _ (bot : Sym) (t : State) (ms : List Member) (selection : IsSelection bot
   -- two selected literals of opposite signs do not have one abstraction
   no_common_abstraction : (m n : Member) → m ∈ ms → n ∈ ms → m.selected.positive ≢ n.selected.positive → ¬ (subst (grounding bot) m.selected.atom ≡ subst (grounding bot) n.selected.atom)
   no_common_abstraction m n i j opposite e =
-      not_both_signed (Contains t.valuation (subst (grounding bot) n.selected.atom)) m.selected.positive n.selected.positive opposite
+      opposite_signs_exclude (Contains t.valuation (subst (grounding bot) n.selected.atom)) m.selected.positive n.selected.positive opposite
       (transport (λ x. signed m.selected.positive (Contains t.valuation x)) e (all_in (λ (x : Member). IsTrueIn bot t x.selected) ms selection.are_true m i))
       (all_in (λ (x : Member). IsTrueIn bot t x.selected) ms selection.are_true n j)
 

@@ -6,7 +6,7 @@ use Rattle.inst_logic.specs.WellFormed.{AreFormedClauses}
 use Rattle.inst_logic.specs.Truth.{IsRefuted}
 use Rattle.inst_calculus.specs.Abstraction.{grounding, abstraction}
 use Rattle.inst_calculus.specs.Entries.{entry_clauses}
-use Rattle.inst_calculus.proofs.Membership.{◌∈◌, contains_in, in_contains, in_all, from_map}
+use Rattle.inst_calculus.proofs.Membership.{contains_in, in_contains, in_all, from_map}
 use Rattle.inst_calculus.proofs.Abstractions.{abstraction_is_ground}
 use Rattle.inst_calculus.proofs.Instances.{instance_is_instance, instance_of_instance}
 use Rattle.inst_machine.specs.Machine.{State, Event}

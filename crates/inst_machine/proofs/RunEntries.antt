@@ -77,7 +77,7 @@ module _ (cs : List TreeClause) (P G : Sym → Type 0) where
         (transport (λ x. x ∈ entry_clauses before) (sym (h.each d i).canonical ∙ v ∙ canonical_of_canonical c) i))))
 
     module _ (bot : Sym) (s : State) (from place partner other : ℕ) (clause : TreeClause) (h : AreEntriesFrom s.entries) (q : Infers bot s from place partner other clause) where
-      concluded : TreeClause
+      abbrev concluded : TreeClause
       concluded = instance q.unifier.left q.entry.clause
 
       entry_in : q.entry.clause ∈ entry_clauses s.entries
@@ -97,7 +97,6 @@ module _ (cs : List TreeClause) (P G : Sym → Type 0) where
           q.unifier q.most_general v).0
 
       conclusion_gives : IsEntryFrom (canonical_form concluded)
-      unfolding concluded
       conclusion_gives = record {
         from_clause = (
           old.from_clause.0,
@@ -111,11 +110,9 @@ module _ (cs : List TreeClause) (P G : Sym → Type 0) where
       }
 
       conclusion_is_new : (c : TreeClause) → c ∈ entry_clauses s.entries → ¬ AreVariants c (canonical_form concluded)
-      unfolding concluded
       conclusion_is_new c i v = q.uncovered (variant c (in_contains c (entry_clauses s.entries) i) (sym (canonical_of_canonical concluded) ∙ sym v))
 
       inferred_entry : AreEntriesFrom (s.entries ++ record { clause = clause; origin = inst from place partner other } ∷ [])
-      unfolding concluded
       inferred_entry = appended s.entries (record { clause = clause; origin = inst from place partner other }) h (transport IsEntryFrom (sym q.conclusion) conclusion_gives)
           (λ c i. transport (λ d. ¬ AreVariants c d) (sym q.conclusion) (conclusion_is_new c i))
 
