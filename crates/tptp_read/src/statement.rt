@@ -38,6 +38,7 @@ pub enum Statement {
     },
 }
 
+/// The statements of a text, in their order.
 pub type StatementList = ListOf<Statement>;
 
 // A statement of the plain form at this place, and the place after it.
