@@ -8,16 +8,15 @@ ghost use Rattle.unify_core.specs.Chains.{IsRoot, AreBindings};
 
 use crate::occurs::occurs;
 use crate::side::{Bound, Variable};
-use indexmap::IndexMap;
+use indexmap::{IndexMap, IndexSet};
 use inst_logic::Memory;
-use std::alloc::Global;
 use term_bank::Bank;
 
 // Binds the variable to the term, where the variable does not occur in what the bindings make of the term.
 pub fn bind(
-    alloc: Global,
     bank: &Bank,
     map: &mut IndexMap<Variable, Bound>,
+    seen: &mut IndexSet<Bound>,
     x: Variable,
     t: Bound,
 ) -> Result<bool, Memory>
@@ -32,7 +31,7 @@ pub fn bind(
 {
     let copy = x;
     let bound = t;
-    if occurs(alloc, bank, map, copy, bound)? {
+    if occurs(bank, map, seen, copy, bound)? {
         return Ok(false);
     }
     map.insert(x, t)?;

@@ -10,10 +10,10 @@ ghost use Rattle.unify_core.specs.Sides.{IsResolvedBy, of_side, of_pair};
 ghost use Rattle.unify_core.specs.Chains.{AreBindings};
 ghost use Rattle.unify_core.specs.Passed.{IsPassed, no_binding};
 
-use crate::side::{Bound, Side, Variable};
+use crate::side::{Bound, Pair, Side, Variable};
 use crate::unify::unify_terms;
 use crate::walk::follow;
-use indexmap::IndexMap;
+use indexmap::{IndexMap, IndexSet};
 use inst_logic::Memory;
 use std::alloc::Global;
 use std::marker::Model;
@@ -21,8 +21,11 @@ use term_bank::{Bank, Shape, TermId};
 
 #[derive(Drop)]
 pub struct Bindings {
-    alloc: Global,
     map: IndexMap<Variable, Bound>,
+    // Room to work in, kept from call to call.
+    work: Vec<Pair>,
+    done: IndexSet<Pair>,
+    seen: IndexSet<Bound>,
     spent: bool,
 }
 
@@ -40,8 +43,10 @@ impl Bindings {
         ensures { result ≡ record { entries = []; spent = false } }
     {
         Bindings {
-            alloc,
             map: IndexMap::new(alloc),
+            work: Vec::new(alloc),
+            done: IndexSet::new(alloc),
+            seen: IndexSet::new(alloc),
             spent: false,
         }
     }
@@ -69,7 +74,15 @@ impl Bindings {
             return Err(Memory);
         }
         self.map.clear();
-        match unify_terms(self.alloc, bank, &mut self.map, a, b) {
+        match unify_terms(
+            bank,
+            &mut self.map,
+            &mut self.work,
+            &mut self.done,
+            &mut self.seen,
+            a,
+            b,
+        ) {
             Err(e) => {
                 self.spent = true;
                 Err(e)

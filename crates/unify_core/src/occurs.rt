@@ -13,7 +13,6 @@ use crate::side::{Bound, Side, Variable};
 use crate::walk::next;
 use indexmap::{IndexMap, IndexSet};
 use inst_logic::Memory;
-use std::alloc::Global;
 use term_bank::{Bank, Shape, TermId};
 
 // Adds the terms of a side.
@@ -73,11 +72,11 @@ fn visit(
     }
 }
 
-// Whether the variable occurs in what the bindings make of the term.
+// Whether the variable occurs in what the bindings make of the term. `seen` is room to work in.
 pub fn occurs(
-    alloc: Global,
     bank: &Bank,
     map: &IndexMap<Variable, Bound>,
+    seen: &mut IndexSet<Bound>,
     x: Variable,
     t: Bound,
 ) -> Result<bool, Memory>
@@ -87,12 +86,12 @@ pub fn occurs(
     ensures yes { IfOk result (λ r. r ≡ true → (by : ℕ → Tree) → IsSolvedBy (assignments bank.now map.now.entries) by → variable_number x ∈ tree_vars (apply by (bound_tree bank.now t))) }
     ensures no { IfOk result (λ r. r ≡ false → (by : ℕ → Tree) → IsSolvedBy (assignments bank.now map.now.entries) by → ¬ (variable_number x ∈ tree_vars (apply by (bound_tree bank.now t)))) }
 {
-    let mut seen: IndexSet<Bound> = IndexSet::new(alloc);
+    seen.clear();
     seen.insert(t)?;
     let mut i: usize = 0;
     while i < seen.len() {
-        let at = bound_at(&seen, i);
-        if visit(bank, map, x, at, &mut seen)? {
+        let at = bound_at(seen, i);
+        if visit(bank, map, x, at, seen)? {
             return Ok(true);
         }
         i += 1;

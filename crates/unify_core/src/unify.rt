@@ -16,7 +16,6 @@ use crate::side::{Bound, Pair, Side, Variable};
 use crate::walk::follow;
 use indexmap::{IndexMap, IndexSet};
 use inst_logic::Memory;
-use std::alloc::Global;
 use term_bank::{Bank, Shape, TermId};
 
 // Whether the terms have one symbol, by its number.
@@ -83,9 +82,9 @@ fn take_apart(
 
 // Works on one pair. False comes where no substitution that respects the bindings makes the two equal.
 fn unify_pair(
-    alloc: Global,
     bank: &Bank,
     map: &mut IndexMap<Variable, Bound>,
+    seen: &mut IndexSet<Bound>,
     work: &mut Vec<Pair>,
     done: &mut IndexSet<Pair>,
     pair: Pair,
@@ -110,7 +109,7 @@ fn unify_pair(
                 side: left.side,
                 var: v,
             };
-            bind(alloc, bank, map, x, right)
+            bind(bank, map, seen, x, right)
         }
         Shape::App => match bank.shape(right.term) {
             Shape::Var(v) => {
@@ -118,18 +117,21 @@ fn unify_pair(
                     side: right.side,
                     var: v,
                 };
-                bind(alloc, bank, map, x, left)
+                bind(bank, map, seen, x, left)
             }
             Shape::App => take_apart(bank, work, done, left, right),
         },
     }
 }
 
-// Unifies the terms, the variables of `a` as the left and those of `b` as the right copy.
+// Unifies the terms, the variables of `a` as the left and those of `b` as the right copy. `work`, `done` and `seen` are room
+// to work in.
 pub fn unify_terms(
-    alloc: Global,
     bank: &Bank,
     map: &mut IndexMap<Variable, Bound>,
+    work: &mut Vec<Pair>,
+    done: &mut IndexSet<Pair>,
+    seen: &mut IndexSet<Bound>,
     a: TermId,
     b: TermId,
 ) -> Result<bool, Memory>
@@ -141,8 +143,8 @@ pub fn unify_terms(
     ensures no { IfOk result (λ r. r ≡ false → (s : Sided) → ¬ (IsUnifier s (tree_at bank.now a) (tree_at bank.now b))) }
 {
     let _ = bank.len();
-    let mut work: Vec<Pair> = Vec::new(alloc);
-    let mut done: IndexSet<Pair> = IndexSet::new(alloc);
+    work.clear();
+    done.clear();
     let left = Bound {
         side: Side::Left,
         term: a,
@@ -153,7 +155,7 @@ pub fn unify_terms(
     };
     work.push(Pair { left, right })?;
     while let Some(pair) = work.pop() {
-        if !unify_pair(alloc, bank, map, &mut work, &mut done, pair)? {
+        if !unify_pair(bank, map, seen, work, done, pair)? {
             return Ok(false);
         }
     }
