@@ -5,3 +5,4 @@ pub mod PropagationLaws
 pub mod Measure
 pub mod ShownLaws
 pub mod SearchLaws
+pub mod CutLaws

@@ -5,3 +5,4 @@ pub mod Plain
 pub mod Trail
 pub mod Analysis
 pub mod Search
+pub mod Cut

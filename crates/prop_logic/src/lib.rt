@@ -2,11 +2,14 @@
 #![tactic(auto)]
 
 mod analysis;
+mod cut;
 pub mod literal;
 pub mod plain;
 mod propagation;
 mod search;
 pub mod solver;
+#[cfg(test)]
+mod tests;
 mod trail;
 pub mod valuation;
 

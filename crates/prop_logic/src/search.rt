@@ -13,6 +13,7 @@ ghost use Rattle.prop_logic.specs.Analysis.{IsMarked};
 ghost use Rattle.prop_logic.specs.Search.{AreAssumed, ClashesWith, AssumesToo, IsSearch, Continues, Begins, IsOutcome};
 
 use crate::analysis::{Analysis, analyze, clear_marks};
+use crate::cut::cut;
 use crate::literal::{Derivation, Hint, HintList, Lit, LitList, Step};
 use crate::propagation::{Occurrences, propagate, visit_each};
 use crate::solver::Answer;
@@ -357,10 +358,10 @@ fn search_from(
     };
     match search.run(alloc, clauses, assumptions)? {
         Outcome::Sat(valuation) => Ok(Answer::Sat(valuation)),
-        Outcome::Unsat(core) => Ok(Answer::Unsat {
-            core,
-            derivation: search.steps,
-        }),
+        Outcome::Unsat(core) => {
+            let derivation = cut(alloc, search.steps.as_slice())?;
+            Ok(Answer::Unsat { core, derivation })
+        }
     }
 }
 
