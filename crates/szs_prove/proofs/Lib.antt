@@ -1,1 +1,4 @@
 pub mod AtomTables
+pub mod Repeats
+pub mod AtomNames
+pub mod MemberLists

@@ -1,3 +1,5 @@
 pub mod Words
 pub mod Certificates
 pub mod Verdicts
+pub mod Numbering
+pub mod Members

@@ -2,5 +2,7 @@
 #![tactic(auto)]
 
 mod decide;
+mod members;
+mod numbering;
 mod text;
 mod verdict;
