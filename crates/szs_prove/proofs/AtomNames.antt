@@ -1,5 +1,5 @@
 -- What the numbers of a table name: different numbers different atoms, each one of the problem's, and the clauses that were numbered.
-use Rattle.std.proofs.Common.{◌≡◌, ℕ, zero, suc, ◌<◌, List, [], ◌∷◌, ◌++◌, ◌⊎◌, inl, inr, refl, sym, ap, ◌∙◌, subst, map, length, true, Some, None, Option, nat_eq, get_or, arith, ◌↔◌}
+use Rattle.std.proofs.Common.{◌≡◌, ℕ, zero, suc, ◌<◌, ◌≤◌, List, [], ◌∷◌, ◌++◌, ◌⊎◌, inl, inr, refl, sym, ap, ◌∙◌, subst, map, length, true, Some, None, Option, nat_eq, get_or, arith, ◌↔◌}
 use Rattle.std.specs.Prelude.{slice_get, All, Contains}
 use Rattle.std.proofs.lemmas.Option.{same_Some}
 use Rattle.std.proofs.lemmas.Bool.Decides.{Decides-eqb}
@@ -23,6 +23,7 @@ use Rattle.prop_logic.specs.Literal.{AtomsBelow, AllAtomsBelow}
 use Rattle.szs_prove.specs.Verdicts.{atom_at, tree_or_variable}
 use Rattle.szs_prove.specs.Numbering.{positive_of, all_positive, atom_table, IsNumbered, AreNumbered, IsNumbering}
 use Rattle.szs_prove.specs.Members.{HasNoRepeats}
+use Rattle.szs_prove.specs.Loaded.{AreNumbers}
 use Rattle.szs_prove.proofs.Repeats.{distinct_from_map}
 
 -- Places
@@ -163,3 +164,9 @@ pub canonical_no_repeats : (atoms : List Literal) (ns : List (Signed ℕ)) (c : 
 canonical_no_repeats atoms ns c h k =
     distinct_of_distinct (signed_eq nat_eq) (signed_eq_decides nat_eq Decides-eqb) ns
     (distinct_from_map (renamed_literal (atom_at atoms)) ns (subst IsDistinct (sym (clause_named atoms ns c h)) (canonical_distinct c k)))
+
+pub numbers_within : (table : TreeClause) (ns : List (List (Signed ℕ))) (cs : List TreeClause) → AreNumbered table ns cs → (numbers : List ℕ) → All (λ k. (0 < k) × (k ≤ length cs)) numbers → AreNumbers ns numbers
+numbers_within table ns cs h numbers w = subst (λ n. All (λ k. (0 < k) × (k ≤ n)) numbers) (sym (are_numbered_length table ns cs h)) w
+
+pub clauses_below_atoms : (atoms : List Literal) (ns : List (List (Signed ℕ))) (cs : List TreeClause) → AreNumbered (map literal atoms) ns cs → (n : ℕ) → n ≡ length atoms → AllAtomsBelow n ns
+clauses_below_atoms atoms ns cs h n e = subst (λ m. AllAtomsBelow m ns) (length-map atoms literal ∙ sym e) (clauses_below (map literal atoms) ns cs h)

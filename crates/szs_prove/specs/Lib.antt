@@ -3,3 +3,4 @@ pub mod Certificates
 pub mod Verdicts
 pub mod Numbering
 pub mod Members
+pub mod Loaded

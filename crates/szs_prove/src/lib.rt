@@ -2,7 +2,9 @@
 #![tactic(auto)]
 
 mod decide;
+mod loading;
 mod members;
 mod numbering;
+mod places;
 mod text;
 mod verdict;
