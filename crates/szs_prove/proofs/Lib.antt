@@ -5,3 +5,6 @@ pub mod MemberLists
 pub mod TruePlaces
 pub mod PlainBases
 pub mod SatisfiableProblems
+pub mod SameClauses
+pub mod GroundClauses
+pub mod UnsatisfiableProblems

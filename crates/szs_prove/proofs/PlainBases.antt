@@ -34,7 +34,7 @@ use Rattle.szs_prove.proofs.AtomNames.{slice_get_some}
 pub ground_stays : (s : Substitution) (t : Tree) → tree_vars t ≡ [] → put s t ≡ t
 ground_stays s t h = subst_agree s var t (λ v i. absurd (subst (λ vs. v ∈ vs) h i)) ∙ subst_var t
 
-no_item : (vs : List ℕ) → ((v : ℕ) → ¬ (v ∈ vs)) → vs ≡ []
+pub no_item : (vs : List ℕ) → ((v : ℕ) → ¬ (v ∈ vs)) → vs ≡ []
 no_item [] h = refl
 no_item (v ∷ vs) h = absurd (h v (inl refl))
 

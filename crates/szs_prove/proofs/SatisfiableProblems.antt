@@ -59,7 +59,7 @@ place_for v f (i ∷ ks) [] h j k e = absurd h
 place_for v f (i ∷ ks) (p ∷ ps) h zero k e = (p, refl, subst (λ n. IsTruePlace v (f n) p) (same_Some i k e) h.0)
 place_for v f (i ∷ ks) (p ∷ ps) h (suc j) k e = place_for v f ks ps h.1 j k e
 
-image_at : {A B : Type 0} (f : A → B) (xs : List A) (n : ℕ) (x : A) → at_number xs n ≡ Some x → at_number (map f xs) n ≡ Some (f x)
+pub image_at : {A B : Type 0} (f : A → B) (xs : List A) (n : ℕ) (x : A) → at_number xs n ≡ Some x → at_number (map f xs) n ≡ Some (f x)
 image_at f xs zero x e = absurd cc
 image_at f xs (suc n) x e = slice_get-map f xs n ∙ ap (option_map f) e
 
