@@ -8,3 +8,4 @@ pub mod SatisfiableProblems
 pub mod SameClauses
 pub mod GroundClauses
 pub mod UnsatisfiableProblems
+pub mod SymbolNames

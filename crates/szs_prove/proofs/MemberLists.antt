@@ -47,7 +47,7 @@ apart_push (d ∷ cs) c h n = (λ k. elim (in_either d cs (c ∷ []) (contains_i
 pub no_members : (cs : List TreeClause) → AreMembers cs 0 []
 no_members cs = record { within = All-nil (λ k. (0 < k) × (k ≤ 0)); proper = All-nil (λ c. ¬ IsTautology c); apart = tt; covers = λ k c h e. absurd (omega arith) }
 
-below_or_last : (k i : ℕ) → k < suc i → (k < i) ⊎ (k ≡ i)
+pub below_or_last : (k i : ℕ) → k < suc i → (k < i) ⊎ (k ≡ i)
 below_or_last zero zero h = inr refl
 below_or_last zero (suc i) h = inl (omega arith)
 below_or_last (suc k) zero h = absurd (omega arith)

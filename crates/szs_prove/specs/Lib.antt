@@ -4,3 +4,4 @@ pub mod Verdicts
 pub mod Numbering
 pub mod Members
 pub mod Loaded
+pub mod Bot
