@@ -8,6 +8,7 @@ use Rattle.inst_logic.specs.declared.symbol.Sym.{Sym}
 use Rattle.inst_logic.specs.declared.clause.Problem.{Problem}
 use Rattle.inst_logic.specs.declared.clause.Literal.{Literal}
 use Rattle.inst_logic.specs.LiteralView.{literal}
+use Rattle.inst_logic.specs.Signed.{IsTautology}
 use Rattle.inst_logic.specs.Tree.{Tree}
 use Rattle.inst_logic.specs.Equal.{literal_eq}
 use Rattle.inst_logic.specs.EqualLaws.{literal_eq_decides}
@@ -25,7 +26,7 @@ use Rattle.prop_logic.specs.declared.literal.Hint.{Hint}
 use Rattle.prop_logic.specs.declared.literal.Hint.TheVariants as hint
 use Rattle.prop_logic.specs.declared.literal.Step.{Step as NumberedStep}
 use Rattle.prop_logic.specs.Literal.{cited as cited_numbers, IsShownDerivation, AtomsBelow, AllAtomsBelow, StepsBelow}
-use Rattle.prop_logic.specs.Solving.{EndsWith}
+use Rattle.prop_logic.specs.Solving.{EndsWith, IsSubList}
 use Rattle.proof_log.proofs.Steps.{none_inside}
 use Rattle.cert_format.specs.Certificate.{Refutation}
 use Rattle.cert_format.specs.Printable.{IsNumber, cited_number, IsPrintableClause, IsPrintableStep, IsPrintableRefutation}
@@ -93,6 +94,18 @@ module _ (atoms : List Literal) where
   hints_same gs before [] = tt
   hints_same gs before (h ∷ hs) = (hint_same gs before h, hints_same gs before hs)
 
+pub numbered_below : (n : ℕ) (lits : List (List (Signed ℕ))) → AllAtomsBelow n lits → (numbers : List ℕ) → AllAtomsBelow n (map (literals_at lits) numbers)
+numbered_below n lits h numbers = in_all (AtomsBelow n) (map (literals_at lits) numbers) (λ c i.
+    let (k, j, same) = from_map (literals_at lits) c numbers i in subst (AtomsBelow n) same (literals_below n lits h k))
+
+-- without assumptions there is no core, and the empty clause is no tautology
+pub no_core : (core : List (Signed ℕ)) → IsSubList core [] → core ≡ []
+no_core [] h = refl
+no_core (l ∷ core) h = absurd (let e = h.1 in cc)
+
+pub empty_no_tautology : {A : Type 0} → ¬ IsTautology {A = A} []
+empty_no_tautology (l, i, j) = omega (arith, i.1)
+
 -- what hints cite has atoms below n
 cited_below : (n : ℕ) (gs : List (List (Signed ℕ))) (before : List NumberedStep) → AllAtomsBelow n gs → StepsBelow n before → (h : Hint) (c : List (Signed ℕ)) → cited_numbers gs before h ≡ Some c → AtomsBelow n c
 cited_below n gs before a b (hint.Added k) c e = all_in (AtomsBelow n) gs a c (contains_in c gs (at_number_contains gs k c e))
@@ -138,9 +151,7 @@ module _ (p : Problem) (plain : IsPlainProblem p) (few : length p.clauses < 2 ^ 
       (λ k i. sym (subst (λ cs. clause_at cs k ≡ renamed_clause (f atoms) (literals_at lits k)) (clauses_named atoms lits p.clauses numbering.clauses) (clause_of_literals (f atoms) lits k)))
 
   given_below : AllAtomsBelow (length (map literal atoms)) gs
-  given_below = in_all (AtomsBelow (length (map literal atoms))) gs (λ c i.
-      let (k, j, same) = from_map (literals_at lits) c numbers i in
-      subst (AtomsBelow (length (map literal atoms))) same (literals_below (length (map literal atoms)) lits (clauses_below (map literal atoms) lits p.clauses numbering.clauses) k))
+  given_below = numbered_below (length (map literal atoms)) lits (clauses_below (map literal atoms) lits p.clauses numbering.clauses) numbers
 
   first_below : (k : ℕ) → StepsBelow (length (map literal atoms)) (take k steps)
   first_below k = in_all (λ (s : NumberedStep). AtomsBelow (length (map literal atoms)) s.clause) (take k steps)
