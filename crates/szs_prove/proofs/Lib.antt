@@ -1,0 +1,11 @@
+pub mod AtomTables
+pub mod Repeats
+pub mod AtomNames
+pub mod MemberLists
+pub mod TruePlaces
+pub mod PlainBases
+pub mod SatisfiableProblems
+pub mod SameClauses
+pub mod GroundClauses
+pub mod UnsatisfiableProblems
+pub mod SymbolNames

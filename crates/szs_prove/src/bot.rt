@@ -1,0 +1,90 @@
+// The constant for abstractions: the first of `bot_0`, `bot_1`, .. whose name no symbol of the clauses has.
+ghost use Rattle.std.specs.Prelude.{◌≡◌, [], ◌∷◌, map, IsTrue, IfOk, OnOk};
+ghost use Rattle.inst_logic.specs.Tree.{of_list};
+ghost use Rattle.inst_logic.specs.View.{tree};
+ghost use Rattle.inst_logic.specs.Printing.{is_readable_name};
+ghost use Rattle.inst_calculus.specs.Axioms.{tree_symbols, trees_symbols, clause_symbols, occurrences};
+ghost use Rattle.inst_calculus.specs.Abstraction.{IsBot, bot_name};
+ghost use Rattle.szs_prove.specs.Bot.{with_names};
+ghost use Rattle.szs_prove.specs.Verdicts.{constant};
+
+use indexmap::IndexSet;
+use inst_logic::{Clause, ClauseList, Memory, Name, Sym, Term, TermList};
+use itoa::Buffer;
+use std::alloc::Global;
+
+// Adds the names of the term's symbols.
+#[cycle(names)]
+fn collect_term<'a>(names: &mut IndexSet<&'a [u8]>, t: &'a Term) -> Result<(), Memory>
+    ensures { OnOk result (map (λ n. n.now) names.new.keys ≡ with_names (map (λ n. n.now) names.old.keys) (tree_symbols (tree t.now))) }
+{
+    match t {
+        Term::Var(_) => Ok(()),
+        Term::App(sym, args) => collect_application(names, sym, args),
+    }
+}
+
+#[cycle(names)]
+#[tactic(auto, using(inst_logic::proofs::Walks::height_at))]
+fn collect_application<'a>(
+    names: &mut IndexSet<&'a [u8]>,
+    sym: &'a Sym,
+    args: &'a TermList,
+) -> Result<(), Memory>
+    ensures { OnOk result (map (λ n. n.now) names.new.keys ≡ with_names (map (λ n. n.now) names.old.keys) (sym.now ∷ trees_symbols (of_list args.now))) }
+{
+    names.insert(sym.name.bytes())?;
+    for t in args.as_slice() {
+        collect_term(names, t)?;
+    }
+    Ok(())
+}
+
+// Adds the names of the clause's symbols.
+fn collect_clause<'a>(names: &mut IndexSet<&'a [u8]>, c: &'a Clause) -> Result<(), Memory>
+    ensures { OnOk result (map (λ n. n.now) names.new.keys ≡ with_names (map (λ n. n.now) names.old.keys) (clause_symbols c.now)) }
+{
+    for l in c.as_slice() {
+        collect_application(names, &l.sym, &l.args)?;
+    }
+    Ok(())
+}
+
+// The names of the clauses' symbols.
+fn collect_names<'a>(
+    alloc: Global,
+    clauses: &'a ClauseList,
+) -> Result<IndexSet<&'a [u8]>, Memory>
+    ensures { IfOk result (λ names. map (λ n. n.now) names.keys ≡ with_names [] (occurrences clauses.now)) }
+{
+    let mut names = IndexSet::new(alloc);
+    for c in clauses.as_slice() {
+        collect_clause(&mut names, c)?;
+    }
+    Ok(names)
+}
+
+// The name with this number.
+fn name_numbered(alloc: Global, n: usize) -> Result<Vec<u8>, Memory>
+    ensures { IfOk result (λ name. name.items ≡ bot_name n) }
+{
+    let mut buffer = Buffer::new();
+    let mut name = Vec::from_slice(alloc, b"bot_")?;
+    name.extend_from_slice(buffer.format(n).as_bytes())?;
+    Ok(name)
+}
+
+// The name of the constant for abstractions of the clauses.
+pub fn fresh_name(alloc: Global, clauses: &ClauseList) -> Result<Name, Memory>
+    ensures fresh { IfOk result (λ name. IsBot clauses.now (constant name)) }
+    ensures readable { IfOk result (λ name. IsTrue (is_readable_name name)) }
+{
+    let taken = collect_names(alloc, clauses)?;
+    for n in 0..taken.len() + 1 {
+        let name = name_numbered(alloc, n)?;
+        if !taken.contains(name.as_slice()) {
+            return Name::of(alloc, name.as_slice());
+        }
+    }
+    unreachable!()
+}
