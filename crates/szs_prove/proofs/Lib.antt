@@ -1,0 +1,5 @@
+pub mod Exact
+pub mod Loaded
+pub mod Pieces
+pub mod PlainProblems
+pub mod Told

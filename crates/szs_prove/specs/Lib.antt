@@ -1,3 +1,11 @@
-pub mod Words
+pub mod Answered
+pub mod Answers
 pub mod Certificates
+pub mod Exact
+pub mod Loading
+pub mod Piece
+pub mod Pieces
+pub mod Texts
 pub mod Verdicts
+pub mod Words
+pub mod Written

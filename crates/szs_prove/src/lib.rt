@@ -1,6 +1,17 @@
 //! The top call of the program: reads the words, and the file that they name, decides it, and writes the answer.
 #![tactic(auto)]
 
+mod command;
 mod decide;
+mod exit;
+mod file;
+mod load;
+mod piece;
+mod refusal;
+mod stand_in;
 mod text;
 mod verdict;
+mod words;
+
+pub use command::run;
+pub use exit::Exit;
