@@ -9,3 +9,8 @@ pub mod SameClauses
 pub mod GroundClauses
 pub mod UnsatisfiableProblems
 pub mod SymbolNames
+pub mod Exact
+pub mod Loaded
+pub mod Pieces
+pub mod PlainProblems
+pub mod Told

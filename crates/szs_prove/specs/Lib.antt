@@ -1,7 +1,15 @@
-pub mod Words
+pub mod Answered
+pub mod Answers
 pub mod Certificates
+pub mod Exact
+pub mod Loading
+pub mod Piece
+pub mod Pieces
+pub mod Texts
 pub mod Verdicts
 pub mod Numbering
 pub mod Members
 pub mod Loaded
 pub mod Bot
+pub mod Words
+pub mod Written

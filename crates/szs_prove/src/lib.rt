@@ -2,10 +2,21 @@
 #![tactic(auto)]
 
 mod bot;
+mod command;
 mod decide;
+mod exit;
+mod file;
+mod load;
 mod loading;
 mod members;
 mod numbering;
+mod piece;
 mod places;
+mod refusal;
+mod stand_in;
 mod text;
 mod verdict;
+mod words;
+
+pub use command::run;
+pub use exit::Exit;

@@ -1,0 +1,15 @@
+use Rattle.szs_prove.proofs.Exact.{exact, decided, read_fault, write_fault, interrupted, memory}
+use Rattle.szs_prove.proofs.command.run.Goals as goal
+
+pub returns : goal.returns
+returns g c =
+    let a = c.answer.ensures in
+    record {
+      answered = a;
+      exact = exact _ _ _ _ a;
+      decided = decided _ _ _ _ a;
+      read_fault = read_fault _ _ _ _ a;
+      write_fault = write_fault _ _ _ _ a;
+      interrupted = interrupted _ _ _ _ a;
+      memory = memory _ _ _ _ a;
+    }

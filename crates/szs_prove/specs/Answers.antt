@@ -1,0 +1,39 @@
+-- The answers to some words and files: what each says, how it is written, and how the program ends.
+use Rattle.std.specs.Prelude.{ℕ, ◌≡◌, List, Option, None, Some}
+use Rattle.inst_logic.specs.declared.clause.Problem.{Problem}
+use Rattle.outside_io.specs.declared.library.NamedFile.{NamedFile}
+use Rattle.szs_prove.specs.Certificates.{Certificate, Certifies, certificate_text}
+use Rattle.szs_prove.specs.Loading.{Loads, IsUnread}
+use Rattle.szs_prove.specs.Texts.{exit_of, refusal_text}
+use Rattle.szs_prove.specs.Words.{file_of}
+use Rattle.szs_prove.specs.declared.exit.Exit.{Exit}
+use Rattle.szs_prove.specs.declared.exit.Exit.TheVariants.{Decided}
+use Rattle.szs_prove.specs.declared.refusal.Refusal.{Refusal}
+use Rattle.szs_prove.specs.declared.refusal.Refusal.TheVariants.{Usage}
+
+-- a certificate of the problem of the file, or why there is none
+pub data Answer : Type 0 where
+  verdict : Certificate → Answer
+  refusal : Refusal → Answer
+
+-- the words name a file, its problem is p, and the certificate is one of p
+pub record IsVerdict (words : List (List ℕ)) (files : Option (List NamedFile)) (c : Certificate) : Type 0 where
+  pub name : List ℕ
+  pub problem : Problem
+  pub named : file_of words ≡ Some name
+  pub loads : Loads files name problem
+  pub certifies : Certifies problem c
+
+-- the cause of an answer; the count of faults goes from before to now
+abbrev pub IsAnswer : List (List ℕ) → Option (List NamedFile) → ℕ → ℕ → Answer → Type 0
+IsAnswer words files before now (verdict c) = IsVerdict words files c
+IsAnswer words files before now (refusal Usage) = file_of words ≡ None
+IsAnswer words files before now (refusal why) = (name : List ℕ) × (file_of words ≡ Some name) × IsUnread files before now name why
+
+abbrev pub exit_for : Answer → Exit
+exit_for (verdict c) = Decided
+exit_for (refusal why) = exit_of why
+
+abbrev pub text_for : List ℕ → Answer → List ℕ
+text_for name (verdict c) = certificate_text name c
+text_for name (refusal why) = refusal_text name why

@@ -1,0 +1,8 @@
+-- The bytes of a piece of a text.
+use Rattle.std.specs.Prelude.{ℕ, List, decimal}
+use Rattle.szs_prove.specs.declared.piece.Piece.{Piece}
+use Rattle.szs_prove.specs.declared.piece.Piece.TheVariants.{Text, Number}
+
+abbrev pub bytes_of : Piece → List ℕ
+bytes_of (Text text) = text.now
+bytes_of (Number number) = decimal number

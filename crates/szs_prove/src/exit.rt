@@ -1,0 +1,33 @@
+// How the program ends.
+ghost use Rattle.std.specs.Prelude.{◌≡◌};
+ghost use Rattle.szs_prove.specs.Texts.{code_of};
+
+/// How the program ends.
+#[derive(Clone, Copy, Debug, PartialEq, Eq)]
+pub enum Exit {
+    /// The text of a verdict was written whole.
+    Decided,
+    /// The file is not there, is too long, or is not of the form that is read.
+    Refused,
+    /// The words are not read.
+    Usage,
+    ReadFault,
+    WriteFault,
+    Memory,
+}
+
+impl Exit {
+    /// The status of the process.
+    pub fn code(self) -> u8
+        ensures { result ≡ code_of self }
+    {
+        match self {
+            Exit::Decided => 0,
+            Exit::Refused => 2,
+            Exit::Usage => 3,
+            Exit::ReadFault => 4,
+            Exit::WriteFault => 5,
+            Exit::Memory => 6,
+        }
+    }
+}
