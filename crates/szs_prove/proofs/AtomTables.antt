@@ -75,7 +75,7 @@ pub atoms_more : (t u w : TreeClause) (items : List Literal) (i : ℕ) (d : Lite
 atoms_more t u w items i d within e f =
     f ∙ ap (λ x. with_item literal_eq x (positive_of (literal (get_or items i d)))) e
     ∙ sym (ap (fold (with_item literal_eq) t) (ap (map positive_of) (map_more literal items i d within) ∙ map_append positive_of (map literal (take i items)) (literal (get_or items i d) ∷ []))
-      ∙ fold-append (with_item literal_eq) t (map positive_of (map literal (take i items))) (positive_of (literal (get_or items i d)) ∷ []))
+    ∙ fold-append (with_item literal_eq) t (map positive_of (map literal (take i items))) (positive_of (literal (get_or items i d)) ∷ []))
 
 pub numbered_more : (t u : TreeClause) (ns : List (Signed ℕ)) (items : List Literal) (i : ℕ) (d : Literal) (n : Signed ℕ) → i < length items → Grows t u
     → IsNumbered t ns (map literal (take i items)) → IsNumberedLiteral u n (literal (get_or items i d)) → IsNumbered u (ns ++ n ∷ []) (map literal (take (i + 1) items))
@@ -94,8 +94,8 @@ pub table_more : (t u : TreeClause) (items : List TreeClause) (i : ℕ) (d : Tre
 table_more t u items i d within e f =
     f ∙ ap (λ x. fold (with_item literal_eq) x (map positive_of (get_or items i d))) e
     ∙ sym (ap (λ cs. fold (with_item literal_eq) [] (all_positive cs)) (take_more items i d within)
-      ∙ ap (fold (with_item literal_eq) []) (all_positive_push (take i items) (get_or items i d))
-      ∙ fold-append (with_item literal_eq) [] (all_positive (take i items)) (map positive_of (get_or items i d)))
+    ∙ ap (fold (with_item literal_eq) []) (all_positive_push (take i items) (get_or items i d))
+    ∙ fold-append (with_item literal_eq) [] (all_positive (take i items)) (map positive_of (get_or items i d)))
 
 pub are_numbered_more : (t u : TreeClause) (ns : List (List (Signed ℕ))) (items : List TreeClause) (i : ℕ) (d : TreeClause) (n : List (Signed ℕ)) → i < length items → Grows t u
     → AreNumbered t ns (take i items) → IsNumbered u n (get_or items i d) → AreNumbered u (ns ++ n ∷ []) (take (i + 1) items)

@@ -39,10 +39,13 @@ module _ {R : Type 0} (now : R → TreeClause) where
 
 apart_push : (cs : List TreeClause) (c : TreeClause) → AreApart cs → ¬ Contains cs c → AreApart (cs ++ c ∷ [])
 apart_push [] c h n = (λ k. omega (arith, k.1), tt)
-apart_push (d ∷ cs) c h n = (λ k. elim (in_either d cs (c ∷ []) (contains_in d (cs ++ c ∷ []) k)) [
-  | inl i ↦ h.0 (in_contains d cs i)
-  | inr i ↦ elim i [ inl e ↦ n (in_contains c (d ∷ cs) (inl (sym e))) | inr j ↦ j ]
-], apart_push cs c h.1 (λ k. n (in_contains c (d ∷ cs) (inr (contains_in c cs k)))))
+apart_push (d ∷ cs) c h n = (
+  λ k. elim (in_either d cs (c ∷ []) (contains_in d (cs ++ c ∷ []) k)) [
+    | inl i ↦ h.0 (in_contains d cs i)
+    | inr i ↦ elim i [ inl e ↦ n (in_contains c (d ∷ cs) (inl (sym e))) | inr j ↦ j ]
+  ],
+  apart_push cs c h.1 (λ k. n (in_contains c (d ∷ cs) (inr (contains_in c cs k)))),
+)
 
 pub no_members : (cs : List TreeClause) → AreMembers cs 0 []
 no_members cs = record { within = All-nil (λ k. (0 < k) × (k ≤ 0)); proper = All-nil (λ c. ¬ IsTautology c); apart = tt; covers = λ k c h e. absurd (omega arith) }

@@ -34,10 +34,13 @@ any_false p (y ∷ ys) h x i q = by (p y) refl h i (λ g j. any_false p ys g x j
 
 pub distinct_push : {A : Type 0} (xs : List A) (y : A) → IsDistinct xs → ¬ (y ∈ xs) → IsDistinct (xs ++ y ∷ [])
 distinct_push [] y h n = (λ i. i, tt)
-distinct_push (x ∷ xs) y h n = (λ i. elim (in_either x xs (y ∷ []) i) [
-  | inl j ↦ h.0 j
-  | inr j ↦ elim j [ inl e ↦ n (inl (sym e)) | inr k ↦ k ]
-], distinct_push xs y h.1 (λ i. n (inr i)))
+distinct_push (x ∷ xs) y h n = (
+  λ i. elim (in_either x xs (y ∷ []) i) [
+    | inl j ↦ h.0 j
+    | inr j ↦ elim j [ inl e ↦ n (inl (sym e)) | inr k ↦ k ]
+  ],
+  distinct_push xs y h.1 (λ i. n (inr i)),
+)
 
 pub get_or_in : {A : Type 0} (xs : List A) (i : ℕ) (d : A) → i < length xs → get_or xs i d ∈ xs
 get_or_in [] i d h = absurd (omega arith)
@@ -86,7 +89,6 @@ pub opposite : {A : Type 0} (l m : Signed A) → m.atom ≡ l.atom → ¬ (m ≡
 opposite {A} l m e n =
     let s : m.positive ≡ not l.positive = other_sign m.positive l.positive (λ p. n (λ i. record { positive = p i; atom = e i })) in
     λ i. record { positive = s i; atom = e i }
-
 
 pub no_repeats_distinct : (c : List (Signed ℕ)) → HasNoRepeats c → IsDistinct c
 no_repeats_distinct c h = subst IsDistinct h (distinct_is_distinct (signed_eq nat_eq) (signed_eq_decides nat_eq Decides-eqb) c)
