@@ -14,3 +14,5 @@ pub mod Loaded
 pub mod Pieces
 pub mod PlainProblems
 pub mod Told
+pub mod Texts
+pub mod TermLiterals

@@ -2,17 +2,22 @@
 #![tactic(auto)]
 
 mod bot;
+mod clauses;
 mod command;
 mod decide;
 mod exit;
 mod file;
+mod lines;
+mod listing;
 mod load;
 mod loading;
 mod members;
 mod numbering;
 mod piece;
 mod places;
+mod printing;
 mod refusal;
+mod steps;
 mod text;
 mod verdict;
 mod words;

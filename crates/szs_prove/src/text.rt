@@ -1,11 +1,79 @@
 // The text of a verdict's certificate.
-ghost use Rattle.std.specs.Prelude.{◌≡◌, IfOk};
+ghost use Rattle.std.specs.Prelude.{◌≡◌, ◌++◌, IfOk, OnOk, map};
+ghost use Rattle.cert_format.specs.Text.{head_lines, refutation_text, saturation_text};
+ghost use Rattle.cert_format.specs.Lines.{format_line};
 ghost use Rattle.szs_prove.specs.Certificates.{certificate_text};
-ghost use Rattle.szs_prove.specs.Verdicts.{certificate_of};
+ghost use Rattle.szs_prove.specs.Verdicts.{base_with, certificate_of, clause_at, constant, tree_step};
 
+use crate::lines::{push_constant, push_end, push_format, push_start, push_status};
+use crate::listing::{push_grounds, push_inputs, push_members, push_selected_members, push_steps};
 use crate::verdict::Verdict;
-use inst_logic::{Memory, Problem};
+use inst_logic::{Literal, Memory, Name, Problem};
+use prop_logic::Step;
 use std::alloc::Global;
+
+// The lines that every certificate begins with.
+fn push_head(text: &mut Vec<u8>, status: &[u8], form: &[u8], name: &[u8]) -> Result<(), Memory>
+    ensures { OnOk result (text.new.items ≡ text.old.items ++ (head_lines status.now form.now name.now ++ format_line)) }
+{
+    push_status(text, status, name)?;
+    push_start(text, form, name)?;
+    push_format(text)
+}
+
+// The text of the certificate of a satisfiable problem.
+fn saturation(
+    alloc: Global,
+    name: &[u8],
+    problem: &Problem,
+    members: &[usize],
+    places: &[usize],
+) -> Result<Vec<u8>, Memory>
+    ensures { IfOk result (λ text. text.items ≡ saturation_text name.now (record { base = base_with problem.now members.now; places = places.now })) }
+{
+    let mut text = Vec::new(alloc);
+    push_head(&mut text, b"Satisfiable", b"Saturation", name)?;
+    push_inputs(
+        &mut text,
+        problem.clauses.as_slice(),
+        problem.names.as_slice(),
+    )?;
+    push_selected_members(&mut text, problem.clauses.as_slice(), members, places)?;
+    push_end(&mut text, b"Saturation", name)?;
+    Ok(text)
+}
+
+// The text of the certificate of an unsatisfiable problem.
+fn refutation(
+    alloc: Global,
+    name: &[u8],
+    problem: &Problem,
+    members: &[usize],
+    bot: &Name,
+    atoms: &[Literal],
+    steps: &[Step],
+) -> Result<Vec<u8>, Memory>
+    ensures { IfOk result (λ text. text.items ≡ refutation_text name.now (record {
+      base = base_with problem.now members.now;
+      bot = constant bot.now;
+      grounds = map (clause_at problem.now.clauses) members.now;
+      steps = map (tree_step atoms.now) steps.now;
+    })) }
+{
+    let mut text = Vec::new(alloc);
+    push_head(&mut text, b"Unsatisfiable", b"CNFRefutation", name)?;
+    push_constant(&mut text, bot.bytes())?;
+    push_inputs(
+        &mut text,
+        problem.clauses.as_slice(),
+        problem.names.as_slice(),
+    )?;
+    push_members(&mut text, problem.clauses.as_slice(), members)?;
+    push_grounds(&mut text, problem.clauses.as_slice(), members)?;
+    push_steps(alloc, &mut text, atoms, steps)?;
+    push_end(&mut text, b"CNFRefutation", name)?;
+    Ok(text)
+}
 
 /// The whole text of the certificate, in one buffer.
 pub fn verdict_text(
@@ -16,5 +84,23 @@ pub fn verdict_text(
 ) -> Result<Vec<u8>, Memory>
     ensures { IfOk result (λ text. text.items ≡ certificate_text name.now (certificate_of problem.now verdict.now)) }
 {
-    Err(Memory)
+    match verdict {
+        Verdict::Satisfiable { members, places } => {
+            saturation(alloc, name, problem, members.as_slice(), places.as_slice())
+        }
+        Verdict::Unsatisfiable {
+            members,
+            bot,
+            atoms,
+            derivation,
+        } => refutation(
+            alloc,
+            name,
+            problem,
+            members.as_slice(),
+            bot,
+            atoms.as_slice(),
+            derivation.as_slice(),
+        ),
+    }
 }
