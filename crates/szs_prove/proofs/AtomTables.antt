@@ -1,21 +1,21 @@
 -- Tables of atoms: what a new atom leaves, clauses over their numbers, and what the numbers name.
-use Rattle.std.proofs.Common.{◌≡◌, ℕ, zero, suc, ◌+◌, ◌<◌, ◌≤◌, List, [], ◌∷◌, ◌++◌, refl, sym, ap, ap₂, ◌∙◌, subst, map, fold, take, get_or, length, Bool, true, false, cond, Some, None, arith, inl, inr}
-use Rattle.std.specs.Prelude.{slice_get, option_map, All, Contains}
+use Rattle.std.proofs.Common.{◌≡◌, ℕ, ◌+◌, ◌<◌, List, [], ◌∷◌, ◌++◌, refl, sym, ap, ◌∙◌, subst, map, fold, take, get_or, length, Bool, true, false, cond, Some}
+use Rattle.std.specs.Prelude.{slice_get, option_map}
 use Rattle.std.specs.List.{list_any}
 use Rattle.std.proofs.lemmas.List.{map_more, take_more, append-nil}
 use Rattle.std.proofs.lemmas.List.Sums.{fold-append}
-use Rattle.std.proofs.lemmas.Option.{slice_get-map, same_Some}
+use Rattle.std.proofs.lemmas.Option.{slice_get-map}
 use Rattle.inst_logic.specs.declared.signed.Signed.{Signed}
 use Rattle.inst_logic.specs.declared.clause.Literal.{Literal}
 use Rattle.inst_logic.specs.LiteralView.{literal}
 use Rattle.inst_logic.specs.Tree.{Tree}
 use Rattle.inst_logic.specs.Equal.{literal_eq}
 use Rattle.inst_logic.specs.EqualLaws.{literal_eq_decides}
-use Rattle.inst_logic.specs.Lists.{distinct, with_item}
+use Rattle.inst_logic.specs.Lists.{with_item}
 use Rattle.inst_logic.specs.Clauses.{TreeClause}
 use Rattle.inst_logic.proofs.Distinct.{distinct_append}
 use Rattle.inst_logic.proofs.ShownLaws.{slice_get_append}
-use Rattle.szs_prove.specs.Numbering.{positive_of, all_positive, atom_table, IsNumberedLiteral, IsNumbered, AreNumbered, IsNumbering}
+use Rattle.szs_prove.specs.Numbering.{positive_of, all_positive, atom_table, IsNumberedLiteral, IsNumbered, AreNumbered}
 
 -- every item keeps its place
 abbrev pub Grows : TreeClause → TreeClause → Type 0
@@ -75,7 +75,7 @@ pub atoms_more : (t u w : TreeClause) (items : List Literal) (i : ℕ) (d : Lite
 atoms_more t u w items i d within e f =
     f ∙ ap (λ x. with_item literal_eq x (positive_of (literal (get_or items i d)))) e
     ∙ sym (ap (fold (with_item literal_eq) t) (ap (map positive_of) (map_more literal items i d within) ∙ map_append positive_of (map literal (take i items)) (literal (get_or items i d) ∷ []))
-      ∙ fold-append (with_item literal_eq) t (map positive_of (map literal (take i items))) (positive_of (literal (get_or items i d)) ∷ []))
+    ∙ fold-append (with_item literal_eq) t (map positive_of (map literal (take i items))) (positive_of (literal (get_or items i d)) ∷ []))
 
 pub numbered_more : (t u : TreeClause) (ns : List (Signed ℕ)) (items : List Literal) (i : ℕ) (d : Literal) (n : Signed ℕ) → i < length items → Grows t u
     → IsNumbered t ns (map literal (take i items)) → IsNumberedLiteral u n (literal (get_or items i d)) → IsNumbered u (ns ++ n ∷ []) (map literal (take (i + 1) items))
@@ -94,8 +94,8 @@ pub table_more : (t u : TreeClause) (items : List TreeClause) (i : ℕ) (d : Tre
 table_more t u items i d within e f =
     f ∙ ap (λ x. fold (with_item literal_eq) x (map positive_of (get_or items i d))) e
     ∙ sym (ap (λ cs. fold (with_item literal_eq) [] (all_positive cs)) (take_more items i d within)
-      ∙ ap (fold (with_item literal_eq) []) (all_positive_push (take i items) (get_or items i d))
-      ∙ fold-append (with_item literal_eq) [] (all_positive (take i items)) (map positive_of (get_or items i d)))
+    ∙ ap (fold (with_item literal_eq) []) (all_positive_push (take i items) (get_or items i d))
+    ∙ fold-append (with_item literal_eq) [] (all_positive (take i items)) (map positive_of (get_or items i d)))
 
 pub are_numbered_more : (t u : TreeClause) (ns : List (List (Signed ℕ))) (items : List TreeClause) (i : ℕ) (d : TreeClause) (n : List (Signed ℕ)) → i < length items → Grows t u
     → AreNumbered t ns (take i items) → IsNumbered u n (get_or items i d) → AreNumbered u (ns ++ n ∷ []) (take (i + 1) items)

@@ -1,5 +1,5 @@
 -- One more clause among those that were looked at for members.
-use Rattle.std.proofs.Common.{◌≡◌, ℕ, zero, suc, ◌+◌, ◌<◌, ◌≤◌, List, [], ◌∷◌, ◌++◌, ◌⊎◌, inl, inr, refl, sym, ap, ◌∙◌, subst, map, length, Bool, true, false, not, Some, arith, ◌↔◌}
+use Rattle.std.proofs.Common.{◌≡◌, ℕ, zero, suc, ◌<◌, ◌≤◌, List, [], ◌∷◌, ◌++◌, ◌⊎◌, inl, inr, refl, sym, ap, ◌∙◌, subst, map, Bool, true, false, not, Some, arith, ◌↔◌}
 use Rattle.std.specs.List.{list_any}
 use Rattle.std.specs.Prelude.{slice_get, All, Contains}
 use Rattle.std.specs.Cmp.Lexicographic.{pointwise, pointwise_decides}
@@ -12,7 +12,7 @@ use Rattle.inst_logic.specs.Signed.{IsTautology}
 use Rattle.inst_logic.specs.Equal.{literal_eq}
 use Rattle.inst_logic.specs.EqualLaws.{literal_eq_decides}
 use Rattle.inst_logic.specs.Clauses.{TreeClause}
-use Rattle.inst_calculus.proofs.Membership.{◌∈◌, contains_in, in_contains, in_left, in_right, in_either, in_map, from_map, equal_in}
+use Rattle.inst_calculus.proofs.Membership.{contains_in, in_contains, in_left, in_right, in_either, in_map, from_map, equal_in}
 use Rattle.szs_prove.specs.Verdicts.{clause_at, clause_or_empty}
 use Rattle.szs_prove.specs.Members.{IsKept, IsDropped, AreApart, AreMembers}
 use Rattle.szs_prove.proofs.Repeats.{any_true, any_false}
@@ -39,10 +39,13 @@ module _ {R : Type 0} (now : R → TreeClause) where
 
 apart_push : (cs : List TreeClause) (c : TreeClause) → AreApart cs → ¬ Contains cs c → AreApart (cs ++ c ∷ [])
 apart_push [] c h n = (λ k. omega (arith, k.1), tt)
-apart_push (d ∷ cs) c h n = (λ k. elim (in_either d cs (c ∷ []) (contains_in d (cs ++ c ∷ []) k)) [
-  | inl i ↦ h.0 (in_contains d cs i)
-  | inr i ↦ elim i [ inl e ↦ n (in_contains c (d ∷ cs) (inl (sym e))) | inr j ↦ j ]
-], apart_push cs c h.1 (λ k. n (in_contains c (d ∷ cs) (inr (contains_in c cs k)))))
+apart_push (d ∷ cs) c h n = (
+  λ k. elim (in_either d cs (c ∷ []) (contains_in d (cs ++ c ∷ []) k)) [
+    | inl i ↦ h.0 (in_contains d cs i)
+    | inr i ↦ elim i [ inl e ↦ n (in_contains c (d ∷ cs) (inl (sym e))) | inr j ↦ j ]
+  ],
+  apart_push cs c h.1 (λ k. n (in_contains c (d ∷ cs) (inr (contains_in c cs k)))),
+)
 
 pub no_members : (cs : List TreeClause) → AreMembers cs 0 []
 no_members cs = record { within = All-nil (λ k. (0 < k) × (k ≤ 0)); proper = All-nil (λ c. ¬ IsTautology c); apart = tt; covers = λ k c h e. absurd (omega arith) }

@@ -1,17 +1,15 @@
 -- Clauses in which some atom comes twice, and lists without repeats.
-use Rattle.std.proofs.Common.{◌≡◌, ℕ, zero, suc, ◌+◌, ◌<◌, List, [], ◌∷◌, ◌++◌, ◌||◌, ◌⊎◌, inl, inr, refl, sym, ap, ◌∙◌, subst, map, take, get_or, length, Bool, true, false, not, arith, nat_eq, cond, Decides}
+use Rattle.std.proofs.Common.{◌≡◌, ℕ, zero, suc, ◌+◌, ◌<◌, List, [], ◌∷◌, ◌++◌, ◌||◌, ◌⊎◌, inl, inr, refl, sym, ap, ◌∙◌, subst, map, take, get_or, length, Bool, true, false, not, arith, nat_eq, cond}
 use Rattle.std.specs.List.{list_any}
-use Rattle.std.specs.Prelude.{Contains}
 use Rattle.std.proofs.lemmas.List.{map_more}
 use Rattle.std.proofs.lemmas.Bool.{false≢true}
 use Rattle.std.proofs.lemmas.Bool.Decides.{Decides-eqb}
 use Rattle.indexmap.specs.IndexSet.{insert_key}
 use Rattle.inst_logic.specs.declared.signed.Signed.{Signed}
 use Rattle.inst_logic.specs.Signed.{complement, IsTautology}
-use Rattle.inst_logic.specs.Lists.{distinct}
 use Rattle.inst_logic.specs.Equal.{signed_eq}
 use Rattle.inst_logic.specs.EqualLaws.{signed_eq_decides}
-use Rattle.inst_calculus.proofs.Membership.{◌∈◌, contains_in, in_contains, in_left, in_right, in_either, in_map, from_map, equal_in}
+use Rattle.inst_calculus.proofs.Membership.{◌∈◌, contains_in, in_contains, in_either, in_map, from_map, equal_in}
 use Rattle.inst_calculus.proofs.Distinct.{IsDistinct, distinct_is_distinct}
 use Rattle.szs_prove.specs.Members.{HasNoRepeats}
 
@@ -34,10 +32,13 @@ any_false p (y ∷ ys) h x i q = by (p y) refl h i (λ g j. any_false p ys g x j
 
 pub distinct_push : {A : Type 0} (xs : List A) (y : A) → IsDistinct xs → ¬ (y ∈ xs) → IsDistinct (xs ++ y ∷ [])
 distinct_push [] y h n = (λ i. i, tt)
-distinct_push (x ∷ xs) y h n = (λ i. elim (in_either x xs (y ∷ []) i) [
-  | inl j ↦ h.0 j
-  | inr j ↦ elim j [ inl e ↦ n (inl (sym e)) | inr k ↦ k ]
-], distinct_push xs y h.1 (λ i. n (inr i)))
+distinct_push (x ∷ xs) y h n = (
+  λ i. elim (in_either x xs (y ∷ []) i) [
+    | inl j ↦ h.0 j
+    | inr j ↦ elim j [ inl e ↦ n (inl (sym e)) | inr k ↦ k ]
+  ],
+  distinct_push xs y h.1 (λ i. n (inr i)),
+)
 
 pub get_or_in : {A : Type 0} (xs : List A) (i : ℕ) (d : A) → i < length xs → get_or xs i d ∈ xs
 get_or_in [] i d h = absurd (omega arith)
@@ -86,7 +87,6 @@ pub opposite : {A : Type 0} (l m : Signed A) → m.atom ≡ l.atom → ¬ (m ≡
 opposite {A} l m e n =
     let s : m.positive ≡ not l.positive = other_sign m.positive l.positive (λ p. n (λ i. record { positive = p i; atom = e i })) in
     λ i. record { positive = s i; atom = e i }
-
 
 pub no_repeats_distinct : (c : List (Signed ℕ)) → HasNoRepeats c → IsDistinct c
 no_repeats_distinct c h = subst IsDistinct h (distinct_is_distinct (signed_eq nat_eq) (signed_eq_decides nat_eq Decides-eqb) c)

@@ -1,6 +1,6 @@
 -- The names of symbols in a set, and the first name `bot_n` that is not among them.
-use Rattle.std.proofs.Common.{◌≡◌, ℕ, zero, suc, ◌+◌, ◌^◌, ◌<◌, ◌≤◌, List, [], ◌∷◌, ◌++◌, inl, inr, refl, sym, ap, ◌∙◌, subst, map, fold, length, Bool, true, false, arith, ◌⊎◌, ◌/◌, ◌%◌}
-use Rattle.std.specs.Prelude.{codes, decimal, ◌&&◌, nat_le, IsTrue}
+use Rattle.std.proofs.Common.{◌≡◌, ℕ, zero, suc, ◌+◌, ◌^◌, ◌<◌, ◌≤◌, List, [], ◌∷◌, ◌++◌, inl, inr, refl, sym, ap, ◌∙◌, subst, map, fold, length, Bool, true, false, arith, ◌%◌}
+use Rattle.std.specs.Prelude.{codes, decimal, ◌&&◌, IsTrue}
 use Rattle.std.specs.List.{list_any, list_all}
 use Rattle.std.specs.Str.{bytes_eq}
 use Rattle.std.specs.Cmp.{decided}

@@ -1,5 +1,5 @@
 -- Places of true literals.
-use Rattle.std.proofs.Common.{◌≡◌, ℕ, zero, suc, ◌<◌, List, [], ◌∷◌, ◌++◌, refl, sym, ◌∙◌, map, get_or, length, Bool, true, false, Some, arith, ◌↔◌}
+use Rattle.std.proofs.Common.{◌≡◌, ℕ, zero, suc, ◌<◌, List, [], ◌∷◌, ◌++◌, refl, sym, get_or, length, Bool, true, false, Some, arith, ◌↔◌}
 use Rattle.std.specs.Prelude.{slice_get, IsTrue}
 use mathlib.Core.Bool.{beq}
 use Rattle.std.proofs.lemmas.Bool.{false≢true}

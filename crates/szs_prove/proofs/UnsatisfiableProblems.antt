@@ -1,10 +1,9 @@
 -- A derivation of the empty clause from the members' clauses gives a valid refutation.
-use Rattle.std.proofs.Common.{◌≡◌, ℕ, zero, suc, ◌-◌, ◌<◌, ◌≤◌, ◌^◌, List, [], ◌∷◌, ◌++◌, inl, inr, ◌⊎◌, refl, sym, ap, ◌∙◌, subst, map, take, length, Some, None, Option, arith, true}
-use Rattle.std.specs.Prelude.{slice_get, All, Contains, option_map, IsTrue, ◌≢◌}
+use Rattle.std.proofs.Common.{◌≡◌, ℕ, zero, suc, ◌-◌, ◌<◌, ◌≤◌, ◌^◌, List, [], ◌∷◌, inl, inr, refl, sym, ap, ◌∙◌, subst, map, take, length, Some, None, Option, arith}
+use Rattle.std.specs.Prelude.{slice_get, All, option_map, IsTrue, ◌≢◌}
 use Rattle.std.proofs.lemmas.List.{length-map, take-map}
-use Rattle.std.proofs.lemmas.Option.{slice_get-map, same_Some}
+use Rattle.std.proofs.lemmas.Option.{slice_get-map}
 use Rattle.inst_logic.specs.declared.signed.Signed.{Signed}
-use Rattle.inst_logic.specs.declared.symbol.Sym.{Sym}
 use Rattle.inst_logic.specs.declared.clause.Problem.{Problem}
 use Rattle.inst_logic.specs.declared.clause.Literal.{Literal}
 use Rattle.inst_logic.specs.LiteralView.{literal}
@@ -16,10 +15,10 @@ use Rattle.inst_logic.specs.Lists.{distinct}
 use Rattle.inst_logic.specs.Printing.{is_readable_name}
 use Rattle.inst_logic.specs.Clauses.{TreeClause, IsGround, IsCanonical}
 use Rattle.inst_logic.specs.Derivations.{at_number, IsShown}
-use Rattle.inst_logic.proofs.ShownLaws.{at_number_contains, slice_get_take, shown_renamed, renamed, hint_renamed, NameAtoms, HasAtoms}
+use Rattle.inst_logic.proofs.ShownLaws.{at_number_contains, slice_get_take, shown_renamed, hint_renamed, NameAtoms, HasAtoms}
 use Rattle.inst_calculus.specs.Abstraction.{abstraction, grounding}
 use Rattle.inst_calculus.specs.Entries.{Entry, entry_clauses}
-use Rattle.inst_calculus.specs.Steps.{Cited, given, earlier, Step, cited_clause, EndsEmpty, renamed_literal, renamed_clause}
+use Rattle.inst_calculus.specs.Steps.{Step, cited_clause, EndsEmpty, renamed_literal, renamed_clause}
 use Rattle.inst_calculus.proofs.Membership.{◌∈◌, contains_in, in_map, from_map, all_in, in_all}
 use Rattle.inst_calculus.proofs.Distinct.{from_distinct, distinct_is_distinct}
 use Rattle.prop_logic.specs.declared.literal.Hint.{Hint}

@@ -3,7 +3,7 @@ use Rattle.std.specs.Prelude.{◌≡◌, ◌<◌, ◌≤◌, ℕ, ◌⊎◌, Lis
 use Rattle.inst_logic.specs.declared.signed.Signed.{Signed}
 use Rattle.inst_logic.specs.Signed.{IsTautology}
 use Rattle.inst_logic.specs.Lists.{distinct}
-use Rattle.inst_logic.specs.Equal.{signed_eq, literal_eq}
+use Rattle.inst_logic.specs.Equal.{signed_eq}
 use Rattle.inst_logic.specs.Clauses.{TreeClause}
 use Rattle.szs_prove.specs.Verdicts.{clause_at}
 

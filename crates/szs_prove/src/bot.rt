@@ -51,10 +51,7 @@ fn collect_clause<'a>(names: &mut IndexSet<&'a [u8]>, c: &'a Clause) -> Result<(
 }
 
 // The names of the clauses' symbols.
-fn collect_names<'a>(
-    alloc: Global,
-    clauses: &'a ClauseList,
-) -> Result<IndexSet<&'a [u8]>, Memory>
+fn collect_names<'a>(alloc: Global, clauses: &'a ClauseList) -> Result<IndexSet<&'a [u8]>, Memory>
     ensures { IfOk result (λ names. map (λ n. n.now) names.keys ≡ with_names [] (occurrences clauses.now)) }
 {
     let mut names = IndexSet::new(alloc);

@@ -12,7 +12,7 @@ ghost use Rattle.szs_prove.specs.Numbering.{IsNumbering};
 use crate::bot::fresh_name;
 use crate::loading::{clause_numbered, load};
 use crate::members::find_members;
-use crate::numbering::{number_clauses, Numbered};
+use crate::numbering::{Numbered, number_clauses};
 use crate::places::true_places;
 use crate::verdict::Verdict;
 use inst_logic::{Memory, NumberList, Problem};
@@ -113,7 +113,12 @@ pub fn decide<S: Solver>(alloc: Global, problem: &Problem, mut solver: S) -> Res
 {
     let numbered = number_clauses(alloc, &problem.clauses)?;
     let members = find_members(alloc, &problem.clauses, &numbered)?;
-    load(&mut solver, numbered.atoms.len(), &numbered.clauses, &members)?;
+    load(
+        &mut solver,
+        numbered.atoms.len(),
+        &numbered.clauses,
+        &members,
+    )?;
     match solver.solve(&[])? {
         Answer::Sat(valuation) => satisfiable(alloc, problem, &numbered, members, &valuation),
         Answer::Unsat { derivation, .. } => {

@@ -49,7 +49,11 @@ fn consider<'a>(
 }
 
 // The numbers of the members, in order.
-pub fn find_members(alloc: Global, clauses: &ClauseList, numbered: &Numbered) -> Result<NumberList, Memory>
+pub fn find_members(
+    alloc: Global,
+    clauses: &ClauseList,
+    numbered: &Numbered,
+) -> Result<NumberList, Memory>
     requires canonical { All IsCanonical clauses.now }
     requires numbering { IsNumbering clauses.now (map literal numbered.now.atoms) numbered.now.clauses }
     ensures { IfOk result (AreMembers clauses.now (length clauses.now)) }

@@ -32,7 +32,11 @@ fn number_atom(atoms: &mut IndexSet<Literal>, l: &Literal) -> Result<usize, Memo
 }
 
 // The clause over the numbers of its atoms.
-fn number_clause(alloc: Global, atoms: &mut IndexSet<Literal>, c: &Clause) -> Result<LitList, Memory>
+fn number_clause(
+    alloc: Global,
+    atoms: &mut IndexSet<Literal>,
+    c: &Clause,
+) -> Result<LitList, Memory>
     ensures grown { OnOk result (map literal atoms.new.keys ≡ fold (with_item literal_eq) (map literal atoms.old.keys) (map positive_of c.now)) }
     ensures numbered { IfOk result (λ lits. IsNumbered (map literal atoms.new.keys) lits c.now) }
 {

@@ -1,5 +1,4 @@
-use Rattle.std.proofs.Common.{◌≡◌, ◌<◌, ◌≤◌, ◌+◌, length, sym, ap, ◌∙◌, map, subst, arith, add-one}
-use Rattle.std.specs.Prelude.{All}
+use Rattle.std.proofs.Common.{◌<◌, ◌≤◌, ◌+◌, length, sym, ap, ◌∙◌, map, subst, arith, add-one}
 use denote.Bor.{Bor}
 use Rattle.inst_logic.specs.declared.clause.Clause.{Clause}
 use Rattle.inst_logic.specs.LiteralView.{literal}
@@ -27,7 +26,7 @@ bounds-lits-i c =
 pub consider-requires : goal.consider-requires
 consider-requires c =
     let there = at_place (map literal c.args.numbered.now.atoms) c.args.numbered.now.clauses c.args.clauses.now c.requires.numbering.clauses c.as_slice-lits.result.now c.as_slice-clause-items.result.now
-        c.as_slice-lits.ensures c.as_slice-clause-items.ensures c.loop-i.i c.index-lits-i.result c.clause-item.result c.loop-i-test.true c.index-lits-i.is c.clause-item.is in
+    c.as_slice-lits.ensures c.as_slice-clause-items.ensures c.loop-i.i c.index-lits-i.result c.clause-item.result c.loop-i-test.true c.index-lits-i.is c.clause-item.is in
     canonical_no_repeats c.args.numbered.now.atoms c.index-lits-i.result c.clause-item.result there.1
     (All-slice_get IsCanonical c.args.clauses.now c.requires.canonical c.loop-i.i c.clause-item.result there.0)
 
@@ -36,10 +35,10 @@ loop-i-preserved c =
     let cs = c.args.clauses.now in
     let now = λ (r : Bor Clause). r.now in
     let there = at_place (map literal c.args.numbered.now.atoms) c.args.numbered.now.clauses cs c.requires.numbering.clauses c.as_slice-lits.result.now c.as_slice-clause-items.result.now
-        c.as_slice-lits.ensures c.as_slice-clause-items.ensures c.loop-i.i c.index-lits-i.result c.clause-item.result c.loop-i-test.true c.index-lits-i.is c.clause-item.is in
+    c.as_slice-lits.ensures c.as_slice-clause-items.ensures c.loop-i.i c.index-lits-i.result c.clause-item.result c.loop-i-test.true c.index-lits-i.is c.clause-item.is in
     let more = members_more cs c.loop-i.i c.clause-item.result there.0 c.loop-i.members c.loop-i.invariant.members (map now c.loop-i.seen.keys) (map now c.consider.new.seen.keys) c.consider.new.members
-        (c.loop-i.i + 1) c.index-lits-i.result (add-one c.loop-i.i)
-        (same_tautology cs c.args.numbered.now.atoms c.requires.numbering.table_is c.index-lits-i.result c.clause-item.result there.1) c.loop-i.invariant.seen c.in_ok-consider.ensures in
+    (c.loop-i.i + 1) c.index-lits-i.result (add-one c.loop-i.i)
+    (same_tautology cs c.args.numbered.now.atoms c.requires.numbering.table_is c.index-lits-i.result c.clause-item.result there.1) c.loop-i.invariant.seen c.in_ok-consider.ensures in
     record { members = subst (λ n. AreMembers cs n c.consider.new.members) (sym (add-one c.loop-i.i)) more.0; seen = more.1 }
 
 pub returns : goal.returns

@@ -1,4 +1,4 @@
-use Rattle.std.proofs.Common.{◌≡◌, [], ◌∷◌, ◌++◌, get_or, length, sym, ap, ◌∙◌, subst, map, take}
+use Rattle.std.proofs.Common.{[], ◌∷◌, ◌++◌, get_or, sym, subst, map, take}
 use Rattle.std.specs.Prelude.{Contains}
 use Rattle.std.proofs.lemmas.List.{map_more}
 use Rattle.std.proofs.lemmas.List.Elements.{All-contains, Contains-get_or}
