@@ -23,7 +23,7 @@ use Rattle.prop_logic.specs.Literal.{AtomsBelow, AllAtomsBelow}
 use Rattle.szs_prove.specs.Verdicts.{atom_at, tree_or_variable}
 use Rattle.szs_prove.specs.Numbering.{positive_of, all_positive, atom_table, IsNumbered, AreNumbered}
 use Rattle.szs_prove.specs.Members.{HasNoRepeats}
-use Rattle.szs_prove.specs.Loaded.{AreNumbers}
+use Rattle.szs_prove.specs.Places.{AreNumbers}
 use Rattle.szs_prove.proofs.Repeats.{distinct_from_map}
 
 -- Places

@@ -24,7 +24,7 @@ use Rattle.cert_format.specs.Validity.{IsRightAxiom, IsRightMember, Gives}
 use Rattle.szs_prove.specs.Certificates.{IsOf}
 use Rattle.szs_prove.specs.Verdicts.{IsPlainProblem, clause_at, clause_or_empty, base_with}
 use Rattle.szs_prove.specs.Members.{AreMembers}
-use Rattle.szs_prove.specs.Loaded.{literals_at, literals_or_empty}
+use Rattle.szs_prove.specs.Places.{literals_at, literals_or_empty}
 use Rattle.szs_prove.proofs.AtomNames.{slice_get_some}
 
 -- a tree without variables stays as it is

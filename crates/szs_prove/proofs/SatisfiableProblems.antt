@@ -33,7 +33,7 @@ use Rattle.szs_prove.specs.Verdicts.{IsPlainProblem, atom_at, clause_at, base_wi
 use Rattle.szs_prove.specs.declared.verdict.Verdict.TheVariants.{Satisfiable}
 use Rattle.szs_prove.specs.Numbering.{IsNumbering}
 use Rattle.szs_prove.specs.Members.{AreMembers}
-use Rattle.szs_prove.specs.Loaded.{literals_at, literals_or_empty, IsTruePlace, AreTruePlaces}
+use Rattle.szs_prove.specs.Places.{literals_at, literals_or_empty, IsTruePlace, AreTruePlaces}
 use Rattle.szs_prove.proofs.AtomNames.{slice_get_within, slice_get_some, slice_get_in, number_occurs, numbers_apart, clauses_named, clauses_below}
 use Rattle.szs_prove.proofs.PlainBases.{member_of, clause_of_literals, ground_stays, ground_atom, subsumes_itself, axioms_nothing, base_is_of, right_axiom, right_member, printable_base, formed_members}
 
