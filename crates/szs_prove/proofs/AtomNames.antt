@@ -1,6 +1,6 @@
 -- What the numbers of a table name: different numbers different atoms, each one of the problem's, and the clauses that were numbered.
-use Rattle.std.proofs.Common.{◌≡◌, ℕ, zero, suc, ◌<◌, ◌≤◌, List, [], ◌∷◌, ◌++◌, ◌⊎◌, inl, inr, refl, sym, ap, ◌∙◌, subst, map, length, true, Some, None, Option, nat_eq, get_or, arith, ◌↔◌}
-use Rattle.std.specs.Prelude.{slice_get, All, Contains}
+use Rattle.std.proofs.Common.{◌≡◌, ℕ, zero, suc, ◌<◌, ◌≤◌, List, [], ◌∷◌, inl, inr, refl, sym, ap, ◌∙◌, subst, map, length, true, Some, nat_eq, get_or, arith, ◌↔◌}
+use Rattle.std.specs.Prelude.{slice_get, All}
 use Rattle.std.proofs.lemmas.Option.{same_Some}
 use Rattle.std.proofs.lemmas.Bool.Decides.{Decides-eqb}
 use Rattle.std.proofs.lemmas.List.Elements.{All-nil, All-cons}
@@ -14,16 +14,16 @@ use Rattle.inst_logic.specs.Equal.{literal_eq, signed_eq}
 use Rattle.inst_logic.specs.EqualLaws.{literal_eq_decides, signed_eq_decides}
 use Rattle.inst_logic.specs.Substitution.{subst_literal}
 use Rattle.inst_logic.specs.Clauses.{TreeClause, IsCanonical, numbered, order_of}
-use Rattle.inst_logic.proofs.ShownLaws.{shown_renamed, HasAtoms, NameAtoms}
+use Rattle.inst_logic.proofs.ShownLaws.{shown_renamed}
 use Rattle.inst_calculus.specs.Steps.{renamed_literal, renamed_clause}
-use Rattle.inst_calculus.proofs.Membership.{◌∈◌, in_either, from_map, in_map, equal_in}
+use Rattle.inst_calculus.proofs.Membership.{◌∈◌, in_either, from_map, equal_in}
 use Rattle.inst_calculus.proofs.Distinct.{IsDistinct, from_distinct, distinct_is_distinct, distinct_of_distinct}
 use Rattle.cert_format.proofs.Numbers.{slice_get_of_map}
 use Rattle.prop_logic.specs.Literal.{AtomsBelow, AllAtomsBelow}
 use Rattle.szs_prove.specs.Verdicts.{atom_at, tree_or_variable}
-use Rattle.szs_prove.specs.Numbering.{positive_of, all_positive, atom_table, IsNumbered, AreNumbered, IsNumbering}
+use Rattle.szs_prove.specs.Numbering.{positive_of, all_positive, atom_table, IsNumbered, AreNumbered}
 use Rattle.szs_prove.specs.Members.{HasNoRepeats}
-use Rattle.szs_prove.specs.Loaded.{AreNumbers}
+use Rattle.szs_prove.specs.Places.{AreNumbers}
 use Rattle.szs_prove.proofs.Repeats.{distinct_from_map}
 
 -- Places

@@ -1,21 +1,21 @@
 -- Tables of atoms: what a new atom leaves, clauses over their numbers, and what the numbers name.
-use Rattle.std.proofs.Common.{◌≡◌, ℕ, zero, suc, ◌+◌, ◌<◌, ◌≤◌, List, [], ◌∷◌, ◌++◌, refl, sym, ap, ap₂, ◌∙◌, subst, map, fold, take, get_or, length, Bool, true, false, cond, Some, None, arith, inl, inr}
-use Rattle.std.specs.Prelude.{slice_get, option_map, All, Contains}
+use Rattle.std.proofs.Common.{◌≡◌, ℕ, ◌+◌, ◌<◌, List, [], ◌∷◌, ◌++◌, sym, ap, ◌∙◌, subst, map, fold, take, get_or, length, Bool, true, false, cond, Some, append_assoc}
+use Rattle.std.specs.Prelude.{slice_get, option_map}
 use Rattle.std.specs.List.{list_any}
-use Rattle.std.proofs.lemmas.List.{map_more, take_more, append-nil}
+use Rattle.std.proofs.lemmas.List.{map_more, take_more, append-nil, map-append}
 use Rattle.std.proofs.lemmas.List.Sums.{fold-append}
-use Rattle.std.proofs.lemmas.Option.{slice_get-map, same_Some}
+use Rattle.std.proofs.lemmas.Option.{slice_get-map}
 use Rattle.inst_logic.specs.declared.signed.Signed.{Signed}
 use Rattle.inst_logic.specs.declared.clause.Literal.{Literal}
 use Rattle.inst_logic.specs.LiteralView.{literal}
 use Rattle.inst_logic.specs.Tree.{Tree}
 use Rattle.inst_logic.specs.Equal.{literal_eq}
 use Rattle.inst_logic.specs.EqualLaws.{literal_eq_decides}
-use Rattle.inst_logic.specs.Lists.{distinct, with_item}
+use Rattle.inst_logic.specs.Lists.{with_item}
 use Rattle.inst_logic.specs.Clauses.{TreeClause}
 use Rattle.inst_logic.proofs.Distinct.{distinct_append}
 use Rattle.inst_logic.proofs.ShownLaws.{slice_get_append}
-use Rattle.szs_prove.specs.Numbering.{positive_of, all_positive, atom_table, IsNumberedLiteral, IsNumbered, AreNumbered, IsNumbering}
+use Rattle.szs_prove.specs.Numbering.{positive_of, all_positive, atom_table, IsNumberedLiteral, IsNumbered, AreNumbered}
 
 -- every item keeps its place
 abbrev pub Grows : TreeClause → TreeClause → Type 0
@@ -60,21 +60,17 @@ are_numbered_push t [] (m ∷ ms) n c h k = absurd h
 are_numbered_push t (m ∷ ms) [] n c h k = absurd h
 are_numbered_push t (m ∷ ms) (d ∷ ds) n c h k = (h.0, are_numbered_push t ms ds n c h.1 k)
 
-map_append : {A B : Type 0} (f : A → B) (xs ys : List A) → map f (xs ++ ys) ≡ map f xs ++ map f ys
-map_append f [] ys = refl
-map_append f (x ∷ xs) ys = ap (λ zs. f x ∷ zs) (map_append f xs ys)
-
-append_to : {A : Type 0} (xs ys zs : List A) → (xs ++ ys) ++ zs ≡ xs ++ (ys ++ zs)
-append_to [] ys zs = refl
-append_to (x ∷ xs) ys zs = ap (λ ws. x ∷ ws) (append_to xs ys zs)
-
 -- one more literal of a clause
 pub atoms_more : (t u w : TreeClause) (items : List Literal) (i : ℕ) (d : Literal) → i < length items
     → u ≡ fold (with_item literal_eq) t (map positive_of (map literal (take i items))) → w ≡ with_item literal_eq u (positive_of (literal (get_or items i d)))
     → w ≡ fold (with_item literal_eq) t (map positive_of (map literal (take (i + 1) items)))
 atoms_more t u w items i d within e f =
     f ∙ ap (λ x. with_item literal_eq x (positive_of (literal (get_or items i d)))) e
+<<<<<<< HEAD
     ∙ sym (ap (fold (with_item literal_eq) t) (ap (map positive_of) (map_more literal items i d within) ∙ map_append positive_of (map literal (take i items)) (literal (get_or items i d) ∷ []))
+=======
+    ∙ sym (ap (fold (with_item literal_eq) t) (ap (map positive_of) (map_more literal items i d within) ∙ map-append positive_of (map literal (take i items)) (literal (get_or items i d) ∷ []))
+>>>>>>> 76d7a3e0d938088ad3b35198153c45d6495aaf87
     ∙ fold-append (with_item literal_eq) t (map positive_of (map literal (take i items))) (positive_of (literal (get_or items i d)) ∷ []))
 
 pub numbered_more : (t u : TreeClause) (ns : List (Signed ℕ)) (items : List Literal) (i : ℕ) (d : Literal) (n : Signed ℕ) → i < length items → Grows t u
@@ -86,7 +82,7 @@ numbered_more t u ns items i d n within g h k =
 -- one more clause
 all_positive_push : (cs : List TreeClause) (c : TreeClause) → all_positive (cs ++ c ∷ []) ≡ all_positive cs ++ map positive_of c
 all_positive_push [] c = append-nil (map positive_of c)
-all_positive_push (d ∷ cs) c = ap (λ x. map positive_of d ++ x) (all_positive_push cs c) ∙ sym (append_to (map positive_of d) (all_positive cs) (map positive_of c))
+all_positive_push (d ∷ cs) c = ap (λ x. map positive_of d ++ x) (all_positive_push cs c) ∙ sym (append_assoc (map positive_of d) (all_positive cs) (map positive_of c))
 
 pub table_more : (t u : TreeClause) (items : List TreeClause) (i : ℕ) (d : TreeClause) → i < length items
     → t ≡ fold (with_item literal_eq) [] (all_positive (take i items)) → u ≡ fold (with_item literal_eq) t (map positive_of (get_or items i d))

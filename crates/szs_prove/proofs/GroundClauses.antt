@@ -1,5 +1,5 @@
 -- Ground clauses without repeats are in canonical form and stay under every substitution, and clauses of the problem's atoms are printable.
-use Rattle.std.proofs.Common.{◌≡◌, ℕ, List, [], ◌∷◌, ◌++◌, inl, inr, ◌⊎◌, refl, sym, ap, ap₂, ◌∙◌, subst, map, true}
+use Rattle.std.proofs.Common.{◌≡◌, [], ◌∷◌, inl, inr, ◌⊎◌, refl, sym, ap, ap₂, ◌∙◌, subst}
 use Rattle.std.specs.Prelude.{All}
 use Rattle.std.proofs.lemmas.List.Elements.{All-nil}
 use Rattle.inst_logic.specs.declared.signed.Signed.{Signed}
@@ -9,12 +9,12 @@ use Rattle.inst_logic.specs.Tree.{Tree, var}
 use Rattle.inst_logic.specs.Equal.{literal_eq}
 use Rattle.inst_logic.specs.EqualLaws.{literal_eq_decides}
 use Rattle.inst_logic.specs.Lists.{distinct}
-use Rattle.inst_logic.specs.Substitution.{Substitution, subst_literal, clause_vars, tree_vars}
-use Rattle.inst_logic.specs.Clauses.{TreeClause, instance, IsGround, IsCanonical, numbered, order_of}
+use Rattle.inst_logic.specs.Substitution.{Substitution, clause_vars, tree_vars}
+use Rattle.inst_logic.specs.Clauses.{TreeClause, instance, IsGround, numbered, order_of}
 use Rattle.inst_logic.specs.WellFormed.{atom_is_formed, clause_is_formed}
 use Rattle.inst_calculus.specs.Axioms.{tree_symbols, clause_symbols}
-use Rattle.inst_calculus.proofs.Membership.{◌∈◌, all_in, in_all, in_left, in_right, in_either, from_map, passes, all_pass}
-use Rattle.inst_calculus.proofs.Distinct.{IsDistinct, from_distinct, distinct_is_distinct, distinct_of_distinct}
+use Rattle.inst_calculus.proofs.Membership.{◌∈◌, all_in, in_all, in_left, in_right, in_either, passes, all_pass}
+use Rattle.inst_calculus.proofs.Distinct.{IsDistinct, distinct_of_distinct}
 use Rattle.inst_calculus.proofs.Clauses.{literals_under, literals_agree, literal_var, literal_of}
 use Rattle.cert_format.specs.Printable.{IsNumber, HasReadableName, IsPrintableClause}
 use Rattle.szs_prove.specs.Verdicts.{IsPlainProblem}

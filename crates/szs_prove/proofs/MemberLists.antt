@@ -1,20 +1,20 @@
 -- One more clause among those that were looked at for members.
-use Rattle.std.proofs.Common.{◌≡◌, ℕ, zero, suc, ◌+◌, ◌<◌, ◌≤◌, List, [], ◌∷◌, ◌++◌, ◌⊎◌, inl, inr, refl, sym, ap, ◌∙◌, subst, map, length, Bool, true, false, not, Some, arith, ◌↔◌}
+use Rattle.std.proofs.Common.{◌≡◌, ℕ, zero, suc, ◌<◌, ◌≤◌, List, [], ◌∷◌, ◌++◌, ◌⊎◌, inl, inr, refl, sym, ap, ◌∙◌, subst, map, Bool, true, false, not, Some, arith, ◌↔◌}
 use Rattle.std.specs.List.{list_any}
 use Rattle.std.specs.Prelude.{slice_get, All, Contains}
 use Rattle.std.specs.Cmp.Lexicographic.{pointwise, pointwise_decides}
 use Rattle.std.proofs.lemmas.Option.{same_Some}
 use Rattle.std.proofs.lemmas.Bool.{false≢true}
 use Rattle.std.proofs.lemmas.List.{map-append}
-use Rattle.std.proofs.lemmas.List.Elements.{All-nil, All-push, All-weaker}
+use Rattle.std.proofs.lemmas.List.Elements.{All-nil, All-push, All-tail, All-weaker}
 use Rattle.inst_logic.specs.declared.signed.Signed.{Signed}
 use Rattle.inst_logic.specs.Signed.{IsTautology}
 use Rattle.inst_logic.specs.Equal.{literal_eq}
 use Rattle.inst_logic.specs.EqualLaws.{literal_eq_decides}
 use Rattle.inst_logic.specs.Clauses.{TreeClause}
-use Rattle.inst_calculus.proofs.Membership.{◌∈◌, contains_in, in_contains, in_left, in_right, in_either, in_map, from_map, equal_in}
+use Rattle.inst_calculus.proofs.Membership.{contains_in, in_contains, in_left, in_right, in_either, in_map, from_map, equal_in}
 use Rattle.szs_prove.specs.Verdicts.{clause_at, clause_or_empty}
-use Rattle.szs_prove.specs.Members.{IsKept, IsDropped, AreApart, AreMembers}
+use Rattle.szs_prove.specs.Members.{IsKept, IsDropped, AreApart, AreRising, AreMembers}
 use Rattle.szs_prove.proofs.Repeats.{any_true, any_false}
 
 pub not_false : (a b : Bool) → b ≡ not a → b ≡ false → a ≡ true
@@ -46,9 +46,16 @@ apart_push (d ∷ cs) c h n = (
   ],
   apart_push cs c h.1 (λ k. n (in_contains c (d ∷ cs) (inr (contains_in c cs k)))),
 )
+<<<<<<< HEAD
+=======
+
+rising_push : (ns : List ℕ) (n : ℕ) → AreRising ns → All (λ m. m < n) ns → AreRising (ns ++ n ∷ [])
+rising_push [] n h a = (All-nil (λ m. n < m), tt)
+rising_push (m ∷ ns) n h a = (All-push (λ k. m < k) ns n h.0 (a 0 m (omega arith)), rising_push ns n h.1 (All-tail (λ m. m < n) m ns a))
+>>>>>>> 76d7a3e0d938088ad3b35198153c45d6495aaf87
 
 pub no_members : (cs : List TreeClause) → AreMembers cs 0 []
-no_members cs = record { within = All-nil (λ k. (0 < k) × (k ≤ 0)); proper = All-nil (λ c. ¬ IsTautology c); apart = tt; covers = λ k c h e. absurd (omega arith) }
+no_members cs = record { within = All-nil (λ k. (0 < k) × (k ≤ 0)); proper = All-nil (λ c. ¬ IsTautology c); rising = tt; apart = tt; covers = λ k c h e. absurd (omega arith) }
 
 pub below_or_last : (k i : ℕ) → k < suc i → (k < i) ⊎ (k ≡ i)
 below_or_last zero zero h = inr refl
@@ -73,6 +80,7 @@ module _ (cs : List TreeClause) (i : ℕ) (c : TreeClause) (at : slice_get cs i 
   pub members_kept : ¬ IsTautology c → ¬ Contains (map (clause_at cs) numbers) c → AreMembers cs (suc i) (numbers ++ suc i ∷ [])
   members_kept proper fresh = record {
     within = All-push (λ k. (0 < k) × (k ≤ suc i)) numbers (suc i) (All-weaker (λ k. (0 < k) × (k ≤ i)) (λ k. (0 < k) × (k ≤ suc i)) (λ k h. longer k i h) numbers m.within) (omega arith, omega arith);
+    rising = rising_push numbers (suc i) m.rising (All-weaker (λ k. (0 < k) × (k ≤ i)) (λ k. k < suc i) (λ k h. omega (arith, h.1)) numbers m.within);
     proper = subst (All (λ c. ¬ IsTautology c)) (sym more_clauses) (All-push (λ c. ¬ IsTautology c) (map (clause_at cs) numbers) c m.proper proper);
     apart = subst AreApart (sym more_clauses) (apart_push (map (clause_at cs) numbers) c m.apart fresh);
     covers = λ k d h e. subst (λ ds. IsTautology d ⊎ Contains ds d) (sym more_clauses) (elim (below_or_last k i h) [
@@ -88,6 +96,7 @@ module _ (cs : List TreeClause) (i : ℕ) (c : TreeClause) (at : slice_get cs i 
   pub members_dropped : IsTautology c ⊎ Contains (map (clause_at cs) numbers) c → AreMembers cs (suc i) numbers
   members_dropped cause = record {
     within = All-weaker (λ k. (0 < k) × (k ≤ i)) (λ k. (0 < k) × (k ≤ suc i)) (λ k h. longer k i h) numbers m.within;
+    rising = m.rising;
     proper = m.proper;
     apart = m.apart;
     covers = λ k d h e. elim (below_or_last k i h) [

@@ -1,33 +1,30 @@
 -- The base of a certificate of ground clauses without equality: it is the problem's, its members are right, and it is printable.
-use Rattle.std.proofs.Common.{◌≡◌, ℕ, zero, suc, ◌<◌, ◌≤◌, ◌^◌, List, [], ◌∷◌, ◌++◌, inl, inr, refl, sym, ap, ◌∙◌, subst, map, length, Some, None, Option, arith, true}
-use Rattle.std.specs.Prelude.{slice_get, All, Contains, option_map, IsTrue}
-use Rattle.std.specs.List.{list_all}
+use Rattle.std.proofs.Common.{◌≡◌, ℕ, zero, suc, ◌<◌, ◌≤◌, ◌^◌, List, [], ◌∷◌, ◌++◌, inl, refl, sym, ap, ◌∙◌, subst, map, length, Some, None, Option, arith}
+use Rattle.std.specs.Prelude.{slice_get, All, option_map}
 use Rattle.std.proofs.lemmas.List.{append-nil, length-map}
-use Rattle.std.proofs.lemmas.Option.{slice_get-map, same_Some}
+use Rattle.std.proofs.lemmas.Option.{slice_get-map}
 use Rattle.std.proofs.lemmas.List.Elements.{All-nil}
 use Rattle.inst_logic.specs.declared.signed.Signed.{Signed}
 use Rattle.inst_logic.specs.declared.clause.Problem.{Problem}
 use Rattle.inst_logic.specs.Tree.{Tree, var}
-use Rattle.inst_logic.specs.Substitution.{Substitution, subst as put, subst_literal, clause_vars, tree_vars}
-use Rattle.inst_logic.specs.Clauses.{TreeClause, IsGround, IsCanonical, canonical_form, Subsumes}
+use Rattle.inst_logic.specs.Substitution.{Substitution, subst as put, subst_literal, tree_vars}
+use Rattle.inst_logic.specs.Clauses.{TreeClause, IsGround, IsCanonical, Subsumes}
 use Rattle.inst_logic.specs.WellFormed.{clause_is_formed, AreFormedClauses}
 use Rattle.inst_logic.specs.Derivations.{at_number}
 use Rattle.inst_logic.proofs.ShownLaws.{at_number_contains}
 use Rattle.inst_logic.proofs.Substitutions.{subst_var}
-use Rattle.inst_calculus.specs.Axioms.{equality_axioms, with_axioms, clause_symbols}
+use Rattle.inst_calculus.specs.Axioms.{with_axioms, clause_symbols}
 use Rattle.inst_calculus.specs.Entries.{Entry, input, entry_clauses}
 use Rattle.inst_calculus.specs.Steps.{renamed_clause}
-use Rattle.inst_calculus.proofs.Membership.{◌∈◌, contains_in, in_contains, all_in, in_all, in_map, from_map, equal_in, passes, all_pass}
+use Rattle.inst_calculus.proofs.Membership.{◌∈◌, contains_in, all_in, in_all, from_map, equal_in, passes, all_pass}
 use Rattle.inst_calculus.proofs.Trees.{subst_agree}
 use Rattle.inst_calculus.proofs.Clauses.{literal_var, within_part, variable_of}
-use Rattle.cert_format.specs.Certificate.{Base}
 use Rattle.cert_format.specs.Printable.{IsNumber, HasReadableName, IsPrintableClause, IsPrintableEntry, IsPrintableBase}
 use Rattle.cert_format.specs.Validity.{IsRightAxiom, IsRightMember, Gives}
-use Rattle.cert_format.proofs.Numbers.{slice_get_of_map}
 use Rattle.szs_prove.specs.Certificates.{IsOf}
 use Rattle.szs_prove.specs.Verdicts.{IsPlainProblem, clause_at, clause_or_empty, base_with}
 use Rattle.szs_prove.specs.Members.{AreMembers}
-use Rattle.szs_prove.specs.Loaded.{literals_at, literals_or_empty}
+use Rattle.szs_prove.specs.Places.{literals_at, literals_or_empty}
 use Rattle.szs_prove.proofs.AtomNames.{slice_get_some}
 
 -- a tree without variables stays as it is

@@ -1,17 +1,15 @@
 -- Clauses in which some atom comes twice, and lists without repeats.
-use Rattle.std.proofs.Common.{◌≡◌, ℕ, zero, suc, ◌+◌, ◌<◌, List, [], ◌∷◌, ◌++◌, ◌||◌, ◌⊎◌, inl, inr, refl, sym, ap, ◌∙◌, subst, map, take, get_or, length, Bool, true, false, not, arith, nat_eq, cond, Decides}
+use Rattle.std.proofs.Common.{◌≡◌, ℕ, zero, suc, ◌+◌, ◌<◌, List, [], ◌∷◌, ◌++◌, ◌||◌, ◌⊎◌, inl, inr, refl, sym, ap, ◌∙◌, subst, map, take, get_or, length, Bool, true, false, not, arith, nat_eq, cond}
 use Rattle.std.specs.List.{list_any}
-use Rattle.std.specs.Prelude.{Contains}
 use Rattle.std.proofs.lemmas.List.{map_more}
 use Rattle.std.proofs.lemmas.Bool.{false≢true}
 use Rattle.std.proofs.lemmas.Bool.Decides.{Decides-eqb}
 use Rattle.indexmap.specs.IndexSet.{insert_key}
 use Rattle.inst_logic.specs.declared.signed.Signed.{Signed}
 use Rattle.inst_logic.specs.Signed.{complement, IsTautology}
-use Rattle.inst_logic.specs.Lists.{distinct}
 use Rattle.inst_logic.specs.Equal.{signed_eq}
 use Rattle.inst_logic.specs.EqualLaws.{signed_eq_decides}
-use Rattle.inst_calculus.proofs.Membership.{◌∈◌, contains_in, in_contains, in_left, in_right, in_either, in_map, from_map, equal_in}
+use Rattle.inst_calculus.proofs.Membership.{◌∈◌, contains_in, in_contains, in_either, in_map, from_map, equal_in}
 use Rattle.inst_calculus.proofs.Distinct.{IsDistinct, distinct_is_distinct}
 use Rattle.szs_prove.specs.Members.{HasNoRepeats}
 

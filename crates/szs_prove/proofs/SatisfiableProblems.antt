@@ -1,6 +1,6 @@
 -- A valuation that makes the members' clauses true gives a valid saturation.
-use Rattle.std.proofs.Common.{◌≡◌, ℕ, zero, suc, ◌<◌, ◌≤◌, ◌^◌, List, [], ◌∷◌, inl, inr, ◌⊎◌, refl, sym, ap, ◌∙◌, subst, map, length, max, Some, None, Option, arith, Bool, true, false}
-use Rattle.std.specs.Prelude.{slice_get, All, Any, Contains, option_map, ◌≢◌}
+use Rattle.std.proofs.Common.{◌≡◌, ℕ, zero, suc, ◌<◌, ◌^◌, List, [], ◌∷◌, inl, inr, refl, sym, ap, ◌∙◌, subst, map, length, Some, None, Option, arith, Bool, true, false}
+use Rattle.std.specs.Prelude.{slice_get, All, option_map}
 use Rattle.std.proofs.lemmas.List.{length-map}
 use Rattle.std.proofs.lemmas.List.Elements.{All-nil, All-cons}
 use Rattle.std.proofs.lemmas.Option.{slice_get-map, same_Some}
@@ -8,18 +8,16 @@ use Rattle.inst_logic.specs.declared.signed.Signed.{Signed}
 use Rattle.inst_logic.specs.declared.clause.Problem.{Problem}
 use Rattle.inst_logic.specs.declared.clause.Literal.{Literal}
 use Rattle.inst_logic.specs.LiteralView.{literal}
-use Rattle.inst_logic.specs.Signed.{signed, IsTautology}
+use Rattle.inst_logic.specs.Signed.{signed}
 use Rattle.inst_logic.specs.Tree.{Tree}
 use Rattle.inst_logic.specs.Truth.{IsTrueLiteral}
 use Rattle.inst_logic.specs.Substitution.{subst as put, tree_vars}
-use Rattle.inst_logic.specs.Clauses.{TreeClause, IsGround, Subsumes}
+use Rattle.inst_logic.specs.Clauses.{IsGround, Subsumes}
 use Rattle.inst_logic.specs.Derivations.{at_number}
-use Rattle.inst_logic.specs.Unifiers.{Sided, IsMostGeneral}
-use Rattle.inst_calculus.specs.Axioms.{with_axioms}
 use Rattle.inst_calculus.specs.Entries.{Entry}
 use Rattle.inst_calculus.specs.Models.{Member}
 use Rattle.inst_calculus.specs.Steps.{renamed_literal, renamed_clause}
-use Rattle.inst_calculus.proofs.Membership.{◌∈◌, contains_in, in_map, from_map, in_any, all_in, in_all}
+use Rattle.inst_calculus.proofs.Membership.{contains_in, in_map, from_map, in_any, all_in}
 use Rattle.prop_logic.specs.Valuation.{IsHeld}
 use Rattle.prop_logic.specs.Literal.{AtomsBelow, AllAtomsBelow}
 use Rattle.inst_logic.proofs.ShownLaws.{at_number_contains}
@@ -35,7 +33,7 @@ use Rattle.szs_prove.specs.Verdicts.{IsPlainProblem, atom_at, clause_at, base_wi
 use Rattle.szs_prove.specs.declared.verdict.Verdict.TheVariants.{Satisfiable}
 use Rattle.szs_prove.specs.Numbering.{IsNumbering}
 use Rattle.szs_prove.specs.Members.{AreMembers}
-use Rattle.szs_prove.specs.Loaded.{literals_at, literals_or_empty, IsTruePlace, AreTruePlaces}
+use Rattle.szs_prove.specs.Places.{literals_at, literals_or_empty, IsTruePlace, AreTruePlaces}
 use Rattle.szs_prove.proofs.AtomNames.{slice_get_within, slice_get_some, slice_get_in, number_occurs, numbers_apart, clauses_named, clauses_below}
 use Rattle.szs_prove.proofs.PlainBases.{member_of, clause_of_literals, ground_stays, ground_atom, subsumes_itself, axioms_nothing, base_is_of, right_axiom, right_member, printable_base, formed_members}
 

@@ -1,13 +1,13 @@
 -- The names of symbols in a set, and the first name `bot_n` that is not among them.
-use Rattle.std.proofs.Common.{◌≡◌, ℕ, zero, suc, ◌+◌, ◌^◌, ◌<◌, ◌≤◌, List, [], ◌∷◌, ◌++◌, inl, inr, refl, sym, ap, ◌∙◌, subst, map, fold, length, Bool, true, false, arith, ◌⊎◌, ◌/◌, ◌%◌}
-use Rattle.std.specs.Prelude.{codes, decimal, ◌&&◌, nat_le, IsTrue}
+use Rattle.std.proofs.Common.{◌≡◌, ℕ, zero, suc, ◌+◌, ◌^◌, ◌<◌, ◌≤◌, List, [], ◌∷◌, ◌++◌, inl, inr, refl, sym, ap, ◌∙◌, subst, map, fold, length, Bool, true, false, arith, ◌%◌}
+use Rattle.std.specs.Prelude.{codes, decimal, IsTrue}
 use Rattle.std.specs.List.{list_any, list_all}
 use Rattle.std.specs.Str.{bytes_eq}
 use Rattle.std.specs.Cmp.{decided}
-use Rattle.std.proofs.lemmas.Bool.{false≢true}
 use Rattle.std.proofs.lemmas.Bool.Decides.{nat_tests}
 use Rattle.std.proofs.lemmas.Fmt.{decimal_injective, decimal_by_steps}
 use Rattle.std.proofs.lemmas.List.{append_cancel_left, map-append, length-map}
+use Rattle.std.proofs.lemmas.List.Folds.{list_all-append}
 use Rattle.std.proofs.lemmas.List.Sums.{fold-append}
 use Rattle.std.proofs.lemmas.Slice.Eq.{bytes_eq-Decides}
 use Rattle.indexmap.specs.IndexSet.{insert_key}
@@ -21,6 +21,7 @@ use Rattle.inst_logic.specs.Lists.{distinct, with_item}
 use Rattle.inst_logic.specs.Printing.{is_between, is_readable_name}
 use Rattle.inst_logic.specs.Clauses.{TreeClause}
 use Rattle.inst_logic.proofs.Distinct.{distinct_append}
+use Rattle.inst_logic.proofs.SameLemmas.{and_both}
 use Rattle.inst_logic.proofs.Sets.{with_key}
 use Rattle.inst_calculus.specs.Axioms.{tree_symbols, trees_symbols, clause_symbols, occurrences}
 use Rattle.inst_calculus.specs.Abstraction.{is_taken, bot_name}
@@ -131,21 +132,14 @@ some_free cs now keys all n more fits taken =
 
 -- Names of digits
 
-all_append : (p : ℕ → Bool) (xs ys : List ℕ) → list_all p xs ≡ true → list_all p ys ≡ true → list_all p (xs ++ ys) ≡ true
-all_append p [] ys h k = k
-all_append p (x ∷ xs) ys h k = by (p x) refl h (λ g. all_append p xs ys g k)
-  where
-    by : (b : Bool) → p x ≡ b → (b && list_all p xs) ≡ true → (list_all p xs ≡ true → list_all p (xs ++ ys) ≡ true) → (p x && list_all p (xs ++ ys)) ≡ true
-    by true e g rest = ap (λ c. c && list_all p (xs ++ ys)) e ∙ rest g
-    by false e g rest = absurd (false≢true g)
-
 digit_readable : (n : ℕ) → n < 10 → list_all (is_between 32 126) ((48 + n) ∷ []) ≡ true
 digit_readable n h = grind (arith, nat_tests)
 
 decimal_readable : (n : ℕ) → n < 2 ^ 64 → list_all (is_between 32 126) (decimal n) ≡ true
 decimal_readable n h =
     decimal_by_steps (λ n ds. list_all (is_between 32 126) ds ≡ true) digit_readable
-    (λ n ds g e. all_append (is_between 32 126) ds ((48 + n % 10) ∷ []) e (digit_readable (n % 10) (omega arith))) n h
+    (λ n ds g e.
+    list_all-append (is_between 32 126) ds ((48 + n % 10) ∷ []) ∙ and_both (list_all (is_between 32 126) ds) (list_all (is_between 32 126) ((48 + n % 10) ∷ [])) e (digit_readable (n % 10) (omega arith))) n h
 
 pub bot_readable : (n : ℕ) → n < 2 ^ 64 → IsTrue (is_readable_name (bot_name n))
 bot_readable n h = decimal_readable n h

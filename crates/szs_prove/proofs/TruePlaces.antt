@@ -1,11 +1,11 @@
 -- Places of true literals.
-use Rattle.std.proofs.Common.{◌≡◌, ℕ, zero, suc, ◌<◌, List, [], ◌∷◌, ◌++◌, refl, sym, ◌∙◌, map, get_or, length, Bool, true, false, Some, arith, ◌↔◌}
+use Rattle.std.proofs.Common.{◌≡◌, ℕ, zero, suc, ◌<◌, List, [], ◌∷◌, ◌++◌, refl, sym, get_or, length, Bool, true, false, Some, arith, ◌↔◌}
 use Rattle.std.specs.Prelude.{slice_get, IsTrue}
 use mathlib.Core.Bool.{beq}
 use Rattle.std.proofs.lemmas.Bool.{false≢true}
 use Rattle.inst_logic.specs.declared.signed.Signed.{Signed}
 use Rattle.inst_logic.specs.Signed.{signed}
-use Rattle.szs_prove.specs.Loaded.{IsTruePlace, AreTruePlaces}
+use Rattle.szs_prove.specs.Places.{IsTruePlace, AreTruePlaces}
 
 pub slice_get_or : {A : Type 0} (xs : List A) (i : ℕ) (d : A) → i < length xs → slice_get xs i ≡ Some (get_or xs i d)
 slice_get_or [] i d h = absurd (omega arith)

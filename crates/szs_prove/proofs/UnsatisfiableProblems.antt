@@ -1,10 +1,9 @@
 -- A derivation of the empty clause from the members' clauses gives a valid refutation.
-use Rattle.std.proofs.Common.{◌≡◌, ℕ, zero, suc, ◌-◌, ◌<◌, ◌≤◌, ◌^◌, List, [], ◌∷◌, ◌++◌, inl, inr, ◌⊎◌, refl, sym, ap, ◌∙◌, subst, map, take, length, Some, None, Option, arith, true}
-use Rattle.std.specs.Prelude.{slice_get, All, Contains, option_map, IsTrue, ◌≢◌}
+use Rattle.std.proofs.Common.{◌≡◌, ℕ, zero, suc, ◌-◌, ◌<◌, ◌≤◌, ◌^◌, List, [], ◌∷◌, inl, inr, refl, sym, ap, ◌∙◌, subst, map, take, length, Some, None, Option, arith}
+use Rattle.std.specs.Prelude.{slice_get, All, option_map, IsTrue, ◌≢◌}
 use Rattle.std.proofs.lemmas.List.{length-map, take-map}
-use Rattle.std.proofs.lemmas.Option.{slice_get-map, same_Some}
+use Rattle.std.proofs.lemmas.Option.{slice_get-map}
 use Rattle.inst_logic.specs.declared.signed.Signed.{Signed}
-use Rattle.inst_logic.specs.declared.symbol.Sym.{Sym}
 use Rattle.inst_logic.specs.declared.clause.Problem.{Problem}
 use Rattle.inst_logic.specs.declared.clause.Literal.{Literal}
 use Rattle.inst_logic.specs.LiteralView.{literal}
@@ -16,10 +15,11 @@ use Rattle.inst_logic.specs.Lists.{distinct}
 use Rattle.inst_logic.specs.Printing.{is_readable_name}
 use Rattle.inst_logic.specs.Clauses.{TreeClause, IsGround, IsCanonical}
 use Rattle.inst_logic.specs.Derivations.{at_number, IsShown}
-use Rattle.inst_logic.proofs.ShownLaws.{at_number_contains, slice_get_take, shown_renamed, renamed, hint_renamed, NameAtoms, HasAtoms}
+use Rattle.inst_logic.proofs.Numbering.{map_map}
+use Rattle.inst_logic.proofs.ShownLaws.{at_number_contains, slice_get_take, shown_renamed, hint_renamed, NameAtoms, HasAtoms}
 use Rattle.inst_calculus.specs.Abstraction.{abstraction, grounding}
 use Rattle.inst_calculus.specs.Entries.{Entry, entry_clauses}
-use Rattle.inst_calculus.specs.Steps.{Cited, given, earlier, Step, cited_clause, EndsEmpty, renamed_literal, renamed_clause}
+use Rattle.inst_calculus.specs.Steps.{Step, cited_clause, EndsEmpty, renamed_literal, renamed_clause}
 use Rattle.inst_calculus.proofs.Membership.{◌∈◌, contains_in, in_map, from_map, all_in, in_all}
 use Rattle.inst_calculus.proofs.Distinct.{from_distinct, distinct_is_distinct}
 use Rattle.prop_logic.specs.declared.literal.Hint.{Hint}
@@ -39,7 +39,7 @@ use Rattle.szs_prove.specs.Verdicts.{IsPlainProblem, atom_at, clause_at, base_wi
 use Rattle.szs_prove.specs.declared.verdict.Verdict.TheVariants.{Unsatisfiable}
 use Rattle.szs_prove.specs.Numbering.{IsNumbering}
 use Rattle.szs_prove.specs.Members.{AreMembers}
-use Rattle.szs_prove.specs.Loaded.{literals_at}
+use Rattle.szs_prove.specs.Places.{literals_at}
 use Rattle.szs_prove.proofs.AtomNames.{slice_get_within, number_occurs, numbers_apart, clauses_named, clauses_below, canonical_distinct, Occurs}
 use Rattle.szs_prove.proofs.Repeats.{in_take}
 use Rattle.szs_prove.proofs.PlainBases.{member_of, clause_of_literals, base_is_of, right_axiom, right_member, printable_base, printable_clause, member_in}
@@ -51,10 +51,6 @@ use Rattle.szs_prove.proofs.GroundClauses.{ground_instance, atoms_printable}
 map_agree : {A B : Type 0} (f g : A → B) (xs : List A) → ((x : A) → x ∈ xs → f x ≡ g x) → map f xs ≡ map g xs
 map_agree f g [] h = refl
 map_agree f g (x ∷ xs) h = let a = h x (inl refl) in let b = map_agree f g xs (λ y i. h y (inr i)) in λ i. a i ∷ b i
-
-map_of_map : {A B C : Type 0} (g : B → C) (f : A → B) (xs : List A) → map g (map f xs) ≡ map (λ x. g (f x)) xs
-map_of_map g f [] = refl
-map_of_map g f (x ∷ xs) = ap (λ ys. g (f x) ∷ ys) (map_of_map g f xs)
 
 names_itself : {A : Type 0} (o : Option (List (Signed A))) → NameSame o o
 names_itself None = tt
@@ -146,7 +142,7 @@ module _ (p : Problem) (plain : IsPlainProblem p) (few : length p.clauses < 2 ^ 
 
   grounds_named : map (renamed_clause (f atoms)) gs ≡ grounds
   grounds_named =
-      map_of_map (renamed_clause (f atoms)) (literals_at lits) numbers
+      map_map (renamed_clause (f atoms)) (literals_at lits) numbers
       ∙ map_agree (λ k. renamed_clause (f atoms) (literals_at lits k)) (clause_at p.clauses) numbers
       (λ k i. sym (subst (λ cs. clause_at cs k ≡ renamed_clause (f atoms) (literals_at lits k)) (clauses_named atoms lits p.clauses numbering.clauses) (clause_of_literals (f atoms) lits k)))
 
@@ -198,7 +194,7 @@ module _ (p : Problem) (plain : IsPlainProblem p) (few : length p.clauses < 2 ^ 
       let there = member_in p plain few numbers members k i in
       sym (ground_instance (grounding (constant bot)) (clause_at p.clauses k) (all_in IsGround p.clauses plain.ground_clauses (clause_at p.clauses k) there)
       (canonical_distinct (clause_at p.clauses k) (all_in IsCanonical p.clauses plain.canonical (clause_at p.clauses k) there))))
-      ∙ sym (ap (map (abstraction (constant bot))) (map_of_map (λ (e : Entry). e.clause) (member_of p) numbers) ∙ map_of_map (abstraction (constant bot)) (clause_at p.clauses) numbers)
+      ∙ sym (ap (map (abstraction (constant bot))) (map_map (λ (e : Entry). e.clause) (member_of p) numbers) ∙ map_map (abstraction (constant bot)) (clause_at p.clauses) numbers)
 
   right_ground : (n : ℕ) → IsRightGround unsat n
   right_ground n = ap (λ cs. at_number cs n) right_grounds

@@ -9,7 +9,7 @@ pub mod Texts
 pub mod Verdicts
 pub mod Numbering
 pub mod Members
-pub mod Loaded
+pub mod Places
 pub mod Bot
 pub mod Words
 pub mod Written

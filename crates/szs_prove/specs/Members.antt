@@ -3,7 +3,7 @@ use Rattle.std.specs.Prelude.{◌≡◌, ◌<◌, ◌≤◌, ℕ, ◌⊎◌, Lis
 use Rattle.inst_logic.specs.declared.signed.Signed.{Signed}
 use Rattle.inst_logic.specs.Signed.{IsTautology}
 use Rattle.inst_logic.specs.Lists.{distinct}
-use Rattle.inst_logic.specs.Equal.{signed_eq, literal_eq}
+use Rattle.inst_logic.specs.Equal.{signed_eq}
 use Rattle.inst_logic.specs.Clauses.{TreeClause}
 use Rattle.szs_prove.specs.Verdicts.{clause_at}
 
@@ -29,9 +29,15 @@ abbrev pub AreApart : List TreeClause → Type 0
 AreApart [] = Unit {0}
 AreApart (c ∷ cs) = ¬ Contains cs c × AreApart cs
 
--- the members among the first clauses: no two are equal, none is a tautology, and each of the clauses is a tautology or equal to one
+-- each number is greater than those before it
+abbrev pub AreRising : List ℕ → Type 0
+AreRising [] = Unit {0}
+AreRising (n ∷ ns) = All (λ m. n < m) ns × AreRising ns
+
+-- the members among the first clauses, in order: no two are equal, none is a tautology, and each of the clauses is a tautology or equal to one
 pub record AreMembers (cs : List TreeClause) (count : ℕ) (numbers : List ℕ) : Type 0 where
   pub within : All (λ k. (0 < k) × (k ≤ count)) numbers
+  pub rising : AreRising numbers
   pub proper : All (λ c. ¬ IsTautology c) (map (clause_at cs) numbers)
   pub apart : AreApart (map (clause_at cs) numbers)
   pub covers : (k : ℕ) (c : TreeClause) → k < count → slice_get cs k ≡ Some c → IsTautology c ⊎ Contains (map (clause_at cs) numbers) c

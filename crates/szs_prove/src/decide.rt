@@ -5,15 +5,15 @@ ghost use Rattle.prop_logic.specs.Literal.{AllAtomsBelow, StepsBelow, IsShownDer
 ghost use Rattle.prop_logic.specs.Solving.{MakesTrue, Refutes, EndsWith};
 ghost use Rattle.szs_prove.specs.Certificates.{Certifies};
 ghost use Rattle.szs_prove.specs.Verdicts.{IsPlainProblem, certificate_of};
-ghost use Rattle.szs_prove.specs.Loaded.{literals_at, AreNumbers};
+ghost use Rattle.szs_prove.specs.Places.{literals_at, AreNumbers};
 ghost use Rattle.szs_prove.specs.Members.{AreMembers};
 ghost use Rattle.szs_prove.specs.Numbering.{IsNumbering};
 
 use crate::bot::fresh_name;
-use crate::loading::{clause_numbered, load};
 use crate::members::find_members;
 use crate::numbering::{Numbered, number_clauses};
 use crate::places::true_places;
+use crate::solving::{clause_numbered, load};
 use crate::verdict::Verdict;
 use inst_logic::{Memory, NumberList, Problem};
 use proof_log::Checker;
@@ -34,6 +34,7 @@ fn satisfiable(
     requires clauses_true { MakesTrue valuation.now (map (literals_at numbered.now.clauses) members) [] }
     ensures { IfOk result (λ verdict. Certifies problem.now (certificate_of problem.now verdict)) }
 {
+    // Read for their ranges: the certificate's numbers have 64 bits.
     let _clauses = problem.clauses.len();
     let _members = members.len();
     let places = true_places(alloc, valuation, &numbered.clauses, &members)?;
@@ -90,6 +91,7 @@ fn unsatisfiable(
     requires refuted { Refutes (length numbered.atoms) (map (literals_at numbered.clauses) members) [] [] derivation }
     ensures { IfOk result (λ verdict. Certifies problem.now (certificate_of problem.now verdict)) }
 {
+    // Read for their ranges: the certificate's numbers have 64 bits.
     let _clauses = problem.clauses.len();
     let _members = members.len();
     let _steps = derivation.len();

@@ -2,9 +2,9 @@
 ghost use Rattle.std.specs.Prelude.{map, All, IfOk};
 ghost use Rattle.inst_logic.specs.Truth.{IsTrueClause};
 ghost use Rattle.prop_logic.specs.Valuation.{IsHeld};
-ghost use Rattle.szs_prove.specs.Loaded.{literals_at, AreNumbers, IsTruePlace, AreTruePlaces};
+ghost use Rattle.szs_prove.specs.Places.{literals_at, AreNumbers, IsTruePlace, AreTruePlaces};
 
-use crate::loading::clause_numbered;
+use crate::solving::clause_numbered;
 use inst_logic::{Memory, NumberList, PlaceList};
 use prop_logic::{LitList, LitLists, Valuation};
 use std::alloc::Global;

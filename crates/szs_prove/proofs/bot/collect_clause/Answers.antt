@@ -1,4 +1,4 @@
-use Rattle.std.proofs.Common.{◌≡◌, ℕ, List, ap, ◌∙◌, map, fold}
+use Rattle.std.proofs.Common.{ℕ, List, ap, ◌∙◌, map, fold}
 use Rattle.std.proofs.lemmas.List.{take_all}
 use denote.Bor.{Bor}
 use Rattle.inst_logic.specs.LiteralView.{literal}

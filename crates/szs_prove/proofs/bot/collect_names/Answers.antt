@@ -1,4 +1,4 @@
-use Rattle.std.proofs.Common.{◌≡◌, [], ap, ◌∙◌, fold}
+use Rattle.std.proofs.Common.{[], ap, ◌∙◌, fold}
 use Rattle.std.proofs.lemmas.List.{take_all}
 use Rattle.inst_calculus.specs.Axioms.{clause_symbols}
 use Rattle.szs_prove.specs.Bot.{with_names}

@@ -1,4 +1,4 @@
-use Rattle.std.proofs.Common.{◌≡◌, ◌<◌, ◌≤◌, ◌+◌, ◌^◌, ℕ, suc, List, length, true, false, refl, sym, ap, ◌∙◌, subst, map, arith, add-one, Result, Ok, Err, inl, inr}
+use Rattle.std.proofs.Common.{◌≡◌, ◌<◌, ◌≤◌, ◌^◌, ℕ, List, length, true, false, sym, ap, ◌∙◌, subst, arith, add-one, Result, Ok, Err, inl, inr}
 use Rattle.std.specs.Prelude.{IfOk, IsTrue}
 use denote.Bor.{Bor}
 use Rattle.inst_logic.specs.Printing.{is_readable_name}

@@ -1,7 +1,7 @@
 use Rattle.std.proofs.Common.{[], ◌∙◌, length, map, subst}
 use Rattle.inst_logic.specs.LiteralView.{literal}
 use Rattle.prop_logic.specs.Solving.{IsAnswer, Refutes}
-use Rattle.szs_prove.specs.Loaded.{literals_at}
+use Rattle.szs_prove.specs.Places.{literals_at}
 use Rattle.szs_prove.proofs.AtomNames.{numbers_within, clauses_below_atoms}
 use Rattle.szs_prove.proofs.UnsatisfiableProblems.{no_core}
 use Rattle.szs_prove.proofs.decide.decide.Goals as goal

@@ -1,4 +1,4 @@
-use Rattle.std.proofs.Common.{◌≡◌, [], ◌∷◌, ◌++◌, cond, inl, inr, refl, sym, ap, ◌∙◌, map}
+use Rattle.std.proofs.Common.{[], ◌∷◌, ◌++◌, cond, inl, inr, refl, sym, ap, ◌∙◌, map}
 use Rattle.std.proofs.lemmas.List.{map-append}
 use Rattle.std.proofs.lemmas.Bool.{false≢true}
 use denote.Bor.{Bor}

@@ -1,5 +1,4 @@
-use Rattle.std.proofs.Common.{◌≡◌, ◌<◌, ◌≤◌, ◌+◌, length, sym, ap, ◌∙◌, map, subst, arith, add-one}
-use Rattle.std.specs.Prelude.{All}
+use Rattle.std.proofs.Common.{◌<◌, ◌≤◌, ◌+◌, length, sym, ap, ◌∙◌, map, subst, arith, add-one}
 use denote.Bor.{Bor}
 use Rattle.inst_logic.specs.declared.clause.Clause.{Clause}
 use Rattle.inst_logic.specs.LiteralView.{literal}

@@ -1,4 +1,4 @@
-use Rattle.std.proofs.Common.{◌≡◌, map, take}
+use Rattle.std.proofs.Common.{◌≡◌, map}
 use Rattle.szs_prove.specs.Members.{AreMembers}
 use Rattle.szs_prove.specs.Verdicts.{clause_at}
 use Rattle.szs_prove.proofs.members.find_members.Given as goal

@@ -1,4 +1,4 @@
-use Rattle.std.proofs.Common.{◌≡◌, false, ℕ, ◌+◌, [], refl, sym, ap, ◌∙◌, map, take, subst}
+use Rattle.std.proofs.Common.{false, ℕ, refl, sym, ap, ◌∙◌, map, subst}
 use Rattle.std.proofs.lemmas.List.{take_all}
 use Rattle.std.proofs.lemmas.Bool.{false≢true}
 use Rattle.inst_logic.specs.declared.signed.Signed.{Signed}

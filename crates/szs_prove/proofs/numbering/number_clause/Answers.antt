@@ -1,4 +1,4 @@
-use Rattle.std.proofs.Common.{◌≡◌, ◌+◌, refl, sym, ap, ◌∙◌, map, take, fold, subst}
+use Rattle.std.proofs.Common.{◌+◌, refl, sym, ap, ◌∙◌, map, take, fold, subst}
 use Rattle.std.proofs.lemmas.List.{take_all}
 use Rattle.inst_logic.specs.declared.signed.Signed.{Signed}
 use Rattle.inst_logic.specs.LiteralView.{literal}

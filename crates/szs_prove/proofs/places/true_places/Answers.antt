@@ -1,11 +1,11 @@
-use Rattle.std.proofs.Common.{◌≡◌, [], ◌∷◌, ◌++◌, get_or, length, sym, ap, ◌∙◌, subst, map, take}
+use Rattle.std.proofs.Common.{[], ◌∷◌, ◌++◌, get_or, sym, subst, map, take}
 use Rattle.std.specs.Prelude.{Contains}
 use Rattle.std.proofs.lemmas.List.{map_more}
 use Rattle.std.proofs.lemmas.List.Elements.{All-contains, Contains-get_or}
 use Rattle.inst_logic.specs.Truth.{IsTrueClause}
 use Rattle.inst_logic.proofs.ShownLaws.{contains_map}
 use Rattle.prop_logic.specs.Valuation.{IsHeld}
-use Rattle.szs_prove.specs.Loaded.{literals_at, IsTruePlace, AreTruePlaces}
+use Rattle.szs_prove.specs.Places.{literals_at, IsTruePlace, AreTruePlaces}
 use Rattle.szs_prove.proofs.TruePlaces.{true_places_push}
 use Rattle.szs_prove.proofs.places.true_places.Goals as goal
 

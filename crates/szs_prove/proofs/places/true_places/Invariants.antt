@@ -1,5 +1,5 @@
 use Rattle.std.proofs.Common.{map, take}
-use Rattle.szs_prove.specs.Loaded.{literals_at, AreTruePlaces}
+use Rattle.szs_prove.specs.Places.{literals_at, AreTruePlaces}
 use Rattle.szs_prove.proofs.places.true_places.Given as goal
 
 abbrev pub invariant-loop-k : goal.invariant-loop-k

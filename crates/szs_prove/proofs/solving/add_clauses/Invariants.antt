@@ -1,6 +1,6 @@
 use Rattle.std.proofs.Common.{◌≡◌, map, take}
-use Rattle.szs_prove.specs.Loaded.{literals_at}
-use Rattle.szs_prove.proofs.loading.add_clauses.Given as goal
+use Rattle.szs_prove.specs.Places.{literals_at}
+use Rattle.szs_prove.proofs.solving.add_clauses.Given as goal
 
 abbrev pub invariant-loop-k : goal.invariant-loop-k
 invariant-loop-k g l = record {

@@ -1,5 +1,5 @@
 use Rattle.std.proofs.Common.{◌≡◌, ◌+◌}
-use Rattle.szs_prove.proofs.loading.make_atoms.Given as goal
+use Rattle.szs_prove.proofs.solving.make_atoms.Given as goal
 
 abbrev pub invariant-loop : goal.invariant-loop
 invariant-loop g l = record {

@@ -1,8 +1,8 @@
 -- Clauses by their numbers, and places of true literals.
-use Rattle.std.specs.Prelude.{◌≡◌, ◌-◌, ◌<◌, ◌^◌, ◌≤◌, ℕ, List, [], ◌∷◌, Bool, Option, None, Some, All, length, map, take}
+use Rattle.std.specs.Prelude.{◌≡◌, ◌-◌, ◌<◌, ◌^◌, ◌≤◌, ℕ, List, [], ◌∷◌, Bool, Option, None, Some, All, length, take}
 use Rattle.inst_logic.specs.declared.signed.Signed.{Signed}
 use Rattle.inst_logic.specs.Derivations.{at_number}
-use Rattle.inst_logic.specs.Truth.{IsTrueLiteral, IsTrueClause}
+use Rattle.inst_logic.specs.Truth.{IsTrueLiteral}
 use Rattle.prop_logic.specs.Valuation.{IsHeld}
 
 abbrev pub literals_or_empty : Option (List (Signed ℕ)) → List (Signed ℕ)

@@ -1,7 +1,7 @@
 // A solver with the members' clauses.
 ghost use Rattle.std.specs.Prelude.{◌≡◌, ◌<◌, ◌≤◌, ◌+◌, [], length, map, OnOk};
 ghost use Rattle.prop_logic.specs.Literal.{AllAtomsBelow};
-ghost use Rattle.szs_prove.specs.Loaded.{literals_at, AreNumbers};
+ghost use Rattle.szs_prove.specs.Places.{literals_at, AreNumbers};
 
 use inst_logic::{Memory, NumberList};
 use prop_logic::{LitList, LitLists, Solver};
