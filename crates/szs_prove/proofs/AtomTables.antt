@@ -66,11 +66,7 @@ pub atoms_more : (t u w : TreeClause) (items : List Literal) (i : ℕ) (d : Lite
     → w ≡ fold (with_item literal_eq) t (map positive_of (map literal (take (i + 1) items)))
 atoms_more t u w items i d within e f =
     f ∙ ap (λ x. with_item literal_eq x (positive_of (literal (get_or items i d)))) e
-<<<<<<< HEAD
-    ∙ sym (ap (fold (with_item literal_eq) t) (ap (map positive_of) (map_more literal items i d within) ∙ map_append positive_of (map literal (take i items)) (literal (get_or items i d) ∷ []))
-=======
     ∙ sym (ap (fold (with_item literal_eq) t) (ap (map positive_of) (map_more literal items i d within) ∙ map-append positive_of (map literal (take i items)) (literal (get_or items i d) ∷ []))
->>>>>>> 76d7a3e0d938088ad3b35198153c45d6495aaf87
     ∙ fold-append (with_item literal_eq) t (map positive_of (map literal (take i items))) (positive_of (literal (get_or items i d)) ∷ []))
 
 pub numbered_more : (t u : TreeClause) (ns : List (Signed ℕ)) (items : List Literal) (i : ℕ) (d : Literal) (n : Signed ℕ) → i < length items → Grows t u

@@ -46,13 +46,10 @@ apart_push (d ∷ cs) c h n = (
   ],
   apart_push cs c h.1 (λ k. n (in_contains c (d ∷ cs) (inr (contains_in c cs k)))),
 )
-<<<<<<< HEAD
-=======
 
 rising_push : (ns : List ℕ) (n : ℕ) → AreRising ns → All (λ m. m < n) ns → AreRising (ns ++ n ∷ [])
 rising_push [] n h a = (All-nil (λ m. n < m), tt)
 rising_push (m ∷ ns) n h a = (All-push (λ k. m < k) ns n h.0 (a 0 m (omega arith)), rising_push ns n h.1 (All-tail (λ m. m < n) m ns a))
->>>>>>> 76d7a3e0d938088ad3b35198153c45d6495aaf87
 
 pub no_members : (cs : List TreeClause) → AreMembers cs 0 []
 no_members cs = record { within = All-nil (λ k. (0 < k) × (k ≤ 0)); proper = All-nil (λ c. ¬ IsTautology c); rising = tt; apart = tt; covers = λ k c h e. absurd (omega arith) }
