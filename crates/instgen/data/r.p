@@ -1,0 +1,1 @@
+cnf(a,axiom,p | q). cnf(b,axiom,~p).

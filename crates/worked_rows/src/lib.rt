@@ -1,0 +1,5 @@
+//! Worked rows of the program, as tests of its top call over files and an output in memory.
+#![tactic(auto)]
+
+#[cfg(test)]
+mod tests;

@@ -1,0 +1,215 @@
+// What no clause says: that memory, where there is enough, gives answers; and the texts that are printed.
+use inst_logic::{ByteList, Memory, Name};
+use outside_io::{CallList, FileList, MemLibrary, MemSink, NamedFile, SureLibrary, SureSink};
+use std::alloc::Global;
+use std::str;
+use std::test::Fail;
+use szs_prove::{Exit, run};
+
+const LIMIT: usize = 16_777_216;
+
+const SATISFIABLE: &[u8] = b"cnf(a,axiom,p | q). cnf(b,axiom,~p).";
+
+const UNSATISFIABLE: &[u8] = b"cnf(a,axiom,p(c)|q). cnf(b,axiom,~p(c)). cnf(d,axiom,~q).";
+
+const READ_FAULT: &str = "% SZS status OSError for r.p\n% read fault\n";
+
+fn words_of(alloc: Global, texts: &[&str]) -> Result<Vec<String>, Fail> {
+    let mut words = Vec::new(alloc);
+    for text in texts {
+        words.push(String::from_str(alloc, text)?)?;
+    }
+    Ok(words)
+}
+
+// The one file r.p, with these bytes.
+fn file_of(alloc: Global, bytes: &[u8]) -> Result<FileList, Memory> {
+    let mut files = FileList::new(alloc);
+    files.push(NamedFile {
+        name: Name::of(alloc, b"r.p")?,
+        bytes: ByteList::from(bytes.to_vec(alloc)?),
+    })?;
+    Ok(files)
+}
+
+fn calls_of(alloc: Global, number: usize) -> Result<CallList, Memory> {
+    let mut calls = CallList::new(alloc);
+    calls.push(number)?;
+    Ok(calls)
+}
+
+// The exit, and what was written, for these words, where r.p has these bytes.
+fn answer_to(alloc: Global, texts: &[&str], bytes: &[u8]) -> Result<(Exit, SureSink), Fail> {
+    let words = words_of(alloc, texts)?;
+    let mut library = SureLibrary::new(alloc, file_of(alloc, bytes)?);
+    let mut out = SureSink::new(alloc);
+    let exit = run(alloc, words.as_slice(), &mut library, &mut out);
+    Ok((exit, out))
+}
+
+#[test]
+fn an_empty_file(rt: HostRuntime) -> Result<(), Fail> {
+    let (exit, out) = answer_to(rt.alloc(), &["prove", "r.p"], b"")?;
+    assert_eq!(rt; exit, Exit::Decided);
+    assert_eq!(rt;
+        str::from_utf8(out.bytes())?,
+        "\
+% SZS status Satisfiable for r.p
+% SZS output start Saturation for r.p
+% instgen certificate 1
+% SZS output end Saturation for r.p
+"
+    );
+    Ok(())
+}
+
+#[test]
+fn as_many_blanks_as_a_file_may_have(rt: HostRuntime) -> Result<(), Fail> {
+    let alloc = rt.alloc();
+    let mut blanks = vec![in alloc; b' '; LIMIT]?;
+    let (exit, _) = answer_to(alloc, &["prove", "r.p"], blanks.as_slice())?;
+    assert_eq!(rt; exit, Exit::Decided);
+    blanks.push(b' ')?;
+    let (exit, out) = answer_to(alloc, &["prove", "r.p"], blanks.as_slice())?;
+    assert_eq!(rt; exit, Exit::Refused);
+    assert_eq!(rt;
+        str::from_utf8(out.bytes())?,
+        "% SZS status InputError for r.p\n% limit bytes\n"
+    );
+    Ok(())
+}
+
+#[test]
+fn satisfiable_clauses(rt: HostRuntime) -> Result<(), Fail> {
+    let (exit, out) = answer_to(rt.alloc(), &["prove", "r.p"], SATISFIABLE)?;
+    assert_eq!(rt; exit, Exit::Decided);
+    assert_eq!(rt;
+        str::from_utf8(out.bytes())?,
+        "\
+% SZS status Satisfiable for r.p
+% SZS output start Saturation for r.p
+% instgen certificate 1
+cnf(i1,axiom,p | q,named(a)).
+cnf(i2,axiom,~p,named(b)).
+cnf(m1,plain,p | q,input(1),[selected(2)]).
+cnf(m2,plain,~p,input(2),[selected(1)]).
+% SZS output end Saturation for r.p
+"
+    );
+    Ok(())
+}
+
+#[test]
+fn unsatisfiable_clauses(rt: HostRuntime) -> Result<(), Fail> {
+    let (exit, out) = answer_to(rt.alloc(), &["prove", "r.p"], UNSATISFIABLE)?;
+    assert_eq!(rt; exit, Exit::Decided);
+    let text = str::from_utf8(out.bytes())?;
+    assert!(rt;
+        text.starts_with(
+            "\
+% SZS status Unsatisfiable for r.p
+% SZS output start CNFRefutation for r.p
+% instgen certificate 1
+% ground constant bot_0
+cnf(i1,axiom,p(c) | q,named(a)).
+cnf(i2,axiom,~p(c),named(b)).
+cnf(i3,axiom,~q,named(d)).
+cnf(m1,plain,p(c) | q,input(1)).
+cnf(m2,plain,~p(c),input(2)).
+cnf(m3,plain,~q,input(3)).
+cnf(g1,plain,p(c) | q,ground(m1)).
+cnf(g2,plain,~p(c),ground(m2)).
+cnf(g3,plain,~q,ground(m3)).
+cnf(r1,plain,"
+        )
+    );
+    assert!(rt; text.ends_with("])).\n% SZS output end CNFRefutation for r.p\n"));
+    // the last step
+    let Some((_, last)) = text.rsplit_once("cnf(r") else {
+        return Ok(());
+    };
+    assert!(rt; last.contains(",plain,$false,rup(["));
+    Ok(())
+}
+
+#[test]
+fn what_is_not_read(rt: HostRuntime) -> Result<(), Fail> {
+    let alloc = rt.alloc();
+    let (exit, out) = answer_to(
+        alloc,
+        &["prove", "r.p"],
+        b"cnf(a,axiom,p). cnf(b,axiom,p(X)).",
+    )?;
+    assert_eq!(rt; exit.code(), 2);
+    assert_eq!(rt;
+        str::from_utf8(out.bytes())?,
+        "% SZS status Inappropriate for r.p\n% form: statement 2 of r.p\n"
+    );
+    let (exit, out) = answer_to(alloc, &["prove", "s.p"], b"")?;
+    assert_eq!(rt; exit.code(), 2);
+    assert_eq!(rt;
+        str::from_utf8(out.bytes())?,
+        "% SZS status InputError for s.p\n% absent: s.p\n"
+    );
+    Ok(())
+}
+
+#[test]
+fn unread_words(rt: HostRuntime) -> Result<(), Fail> {
+    let alloc = rt.alloc();
+    let rows: [&[&str]; 7] = [
+        &[],
+        &["prove"],
+        &["prove", "r.p", "s.p"],
+        &["prove", ""],
+        &["prove", "-r.p"],
+        &["prove", "r\n.p"],
+        &["check", "r.p"],
+    ];
+    for row in rows {
+        let (exit, out) = answer_to(alloc, row, b"")?;
+        assert_eq!(rt; exit.code(), 3);
+        assert_eq!(rt;
+            str::from_utf8(out.bytes())?,
+            "% SZS status UsageError for instgen\n% usage\n"
+        );
+    }
+    Ok(())
+}
+
+#[test]
+fn a_read_that_fails(rt: HostRuntime) -> Result<(), Fail> {
+    let alloc = rt.alloc();
+    let words = words_of(alloc, &["prove", "r.p"])?;
+    // the file is begun, two reads give its bytes, and a third finds its end
+    for call in 1..5 {
+        let mut library = MemLibrary::new(
+            alloc,
+            file_of(alloc, SATISFIABLE)?,
+            24,
+            calls_of(alloc, call)?,
+        );
+        let mut out = SureSink::new(alloc);
+        let exit = run(alloc, words.as_slice(), &mut library, &mut out);
+        assert_eq!(rt; exit.code(), 4);
+        assert_eq!(rt; str::from_utf8(out.bytes())?, READ_FAULT);
+    }
+    Ok(())
+}
+
+#[test]
+fn a_write_that_fails(rt: HostRuntime) -> Result<(), Fail> {
+    let alloc = rt.alloc();
+    let words = words_of(alloc, &["prove", "r.p"])?;
+    let mut library = MemLibrary::new(
+        alloc,
+        file_of(alloc, UNSATISFIABLE)?,
+        24,
+        CallList::new(alloc),
+    );
+    let mut out = MemSink::new(alloc, 16, calls_of(alloc, 2)?);
+    let exit = run(alloc, words.as_slice(), &mut library, &mut out);
+    assert_eq!(rt; exit.code(), 5);
+    assert_eq!(rt; out.bytes(), b"% SZS status Uns".as_slice());
+    Ok(())
+}
