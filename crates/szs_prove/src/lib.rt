@@ -8,4 +8,6 @@ mod listing;
 mod printing;
 mod steps;
 mod text;
+#[cfg(test)]
+mod text_tests;
 mod verdict;
