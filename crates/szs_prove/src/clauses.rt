@@ -107,7 +107,7 @@ fn push_following_renamed(text: &mut Vec<u8>, rest: &[Signed<Term>]) -> Result<(
     Ok(())
 }
 
-// The same as for a clause.
+// The literals of a step joined by ` | `, or `$false`.
 #[tactic(auto, using(std::proofs::lemmas::Grind::common_steps, crate::proofs::Texts::joined_first))]
 fn push_renamed_clause(text: &mut Vec<u8>, c: &[Signed<Term>]) -> Result<(), Memory>
     ensures { OnOk result (text.new.items ≡ text.old.items ++ clause_text (map (renamed_literal tree) c.now)) }

@@ -19,6 +19,8 @@ mod refusal;
 mod solving;
 mod steps;
 mod text;
+#[cfg(test)]
+mod text_tests;
 mod verdict;
 mod words;
 
