@@ -10,11 +10,10 @@ use crate::decide::decide;
 use crate::exit::Exit;
 use crate::load::load;
 use crate::refusal::{Refusal, exit_after, write_refusal};
-use crate::stand_in::StandIn;
 use crate::text::verdict_text;
 use crate::words::read_words;
 use outside_io::{Library, Sink, write_all};
-use prop_logic::Solver;
+use prop_logic::{Plain, Solver};
 use std::alloc::Global;
 
 // The text of the verdict on this file.
@@ -78,6 +77,5 @@ pub fn run<L: Library, K: Sink>(alloc: Global, words: &[String], files: &mut L, 
     // Where memory is wanted, the text that says so was taken, or a prefix of an answer's text.
     ensures memory { result ≡ Exit.Memory → WantsMemory (map string_bytes words.now) (reading (L.files files.old) (L.faults files.old) (L.faults files.new)) (K.taken out.old) (K.taken out.new) }
 {
-    let solver = StandIn;
-    answer(alloc, words, files, out, solver)
+    answer(alloc, words, files, out, Plain::new(alloc))
 }

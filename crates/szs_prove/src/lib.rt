@@ -13,7 +13,6 @@ mod numbering;
 mod piece;
 mod places;
 mod refusal;
-mod stand_in;
 mod text;
 mod verdict;
 mod words;
