@@ -19,7 +19,7 @@ use Rattle.szs_prove.specs.declared.refusal.Refusal.TheVariants.{Usage, Absent, 
 answer_causes : (words : List (List ℕ)) (files : List NamedFile) (read : Reading) (write : Writing) (answer : Answer)
     → IsAnswer words (Some files) read.before read.now answer → Causes words files read write (exit_for answer)
 answer_causes words files read write (verdict c) h =
-    (h.loads.0, (h.name, h.named, h.loads.1.1), h.loads.1.0, h.loads.2.0, h.loads.2.1)
+    (h.2.loads.0, (h.0, h.1, h.2.loads.1.1), h.2.loads.1.0, h.2.loads.2.0, h.2.loads.2.1)
 answer_causes words files read write (refusal Usage) h = h
 answer_causes words files read write (refusal Absent) h = inl (h.0, h.1, h.2)
 answer_causes words files read write (refusal TooLong) h = inr (inl (h.2.0, (h.0, h.1, h.2.1), h.2.2))
@@ -161,7 +161,7 @@ module _ (words : List (List ℕ)) (read : Reading) (write : Writing) (e : Exit)
     where
       by : (answer : Answer) → IsAnswer words read.files read.before read.now answer → exit_for answer ≡ exit.Decided
           → Appends write.old write.new (text_for (shown_name (file_of words)) answer) → WritesCertificate words read.files write.old write.new
-      by (verdict c) h x t = record { name = h.name; problem = h.problem; certificate = c; named = h.named; loads = h.loads; certifies = h.certifies; written = rw h.named at t }
+      by (verdict c) h x t = record { certificate = c; is_verdict = h; written = rw h.1 at t }
       by (refusal Usage) h x t = absurd (cc)
       by (refusal Absent) h x t = absurd (cc)
       by (refusal TooLong) h x t = absurd (cc)

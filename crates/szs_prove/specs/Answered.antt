@@ -1,10 +1,8 @@
 -- What a run of the program did.
 use Rattle.std.specs.Prelude.{ℕ, ◌≡◌, List, Option}
-use Rattle.inst_logic.specs.declared.clause.Problem.{Problem}
 use Rattle.outside_io.specs.declared.library.NamedFile.{NamedFile}
-use Rattle.szs_prove.specs.Answers.{Answer, IsAnswer, exit_for, text_for}
-use Rattle.szs_prove.specs.Certificates.{Certificate, Certifies, certificate_text}
-use Rattle.szs_prove.specs.Loading.{Loads}
+use Rattle.szs_prove.specs.Answers.{Answer, IsAnswer, IsCertificateFor, exit_for, text_for}
+use Rattle.szs_prove.specs.Certificates.{Certificate, certificate_text}
 use Rattle.szs_prove.specs.Words.{file_of, shown_name}
 use Rattle.szs_prove.specs.Written.{IsWritten}
 use Rattle.szs_prove.specs.declared.exit.Exit.{Exit}
@@ -34,10 +32,6 @@ pub record Answered (words : List (List ℕ)) (read : Reading) (write : Writing)
   pub cause : IsAnswer words read.files read.before read.now answer
   pub written : IsWritten write.old write.new write.before write.now (text_for (shown_name (file_of words)) answer) (exit_for answer) exit
 
--- the text is that of a certificate of the problem of the file of this name
-pub record HasVerdict (files : Option (List NamedFile)) (name text : List ℕ) : Type 0 where
-  pub problem : Problem
-  pub certificate : Certificate
-  pub loads : Loads files name problem
-  pub certifies : Certifies problem certificate
-  pub is : text ≡ certificate_text name certificate
+-- the text is that of a certificate for the file of this name
+abbrev pub HasVerdict : Option (List NamedFile) → List ℕ → List ℕ → Type 0
+HasVerdict files name text = (c : Certificate) × IsCertificateFor files name c × (text ≡ certificate_text name c)

@@ -16,13 +16,15 @@ pub data Answer : Type 0 where
   verdict : Certificate → Answer
   refusal : Refusal → Answer
 
--- the words name a file, its problem is p, and the certificate is one of p
-pub record IsVerdict (words : List (List ℕ)) (files : Option (List NamedFile)) (c : Certificate) : Type 0 where
-  pub name : List ℕ
+-- the certificate is one of the problem of the file of this name
+pub record IsCertificateFor (files : Option (List NamedFile)) (name : List ℕ) (c : Certificate) : Type 0 where
   pub problem : Problem
-  pub named : file_of words ≡ Some name
   pub loads : Loads files name problem
   pub certifies : Certifies problem c
+
+-- the words name a file, and the certificate is one for it
+abbrev pub IsVerdict : List (List ℕ) → Option (List NamedFile) → Certificate → Type 0
+IsVerdict words files c = (name : List ℕ) × (file_of words ≡ Some name) × IsCertificateFor files name c
 
 -- the cause of an answer; the count of faults goes from before to now
 abbrev pub IsAnswer : List (List ℕ) → Option (List NamedFile) → ℕ → ℕ → Answer → Type 0

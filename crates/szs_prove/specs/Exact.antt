@@ -1,7 +1,6 @@
 -- When each exit comes, and what it leaves.
 use Rattle.std.specs.Prelude.{ℕ, ◌≡◌, ◌⊎◌, ◌<◌, ◌≤◌, List, Option, None, Some, ⊤, length}
 use Rattle.std.specs.Io.KnownBytes.{Appends}
-use Rattle.inst_logic.specs.declared.clause.Problem.{Problem}
 use Rattle.outside_io.specs.Causes.{Rose}
 use Rattle.outside_io.specs.Files.{bytes_named}
 use Rattle.outside_io.specs.Taken.{AppendsProperPrefix}
@@ -9,9 +8,9 @@ use Rattle.outside_io.specs.declared.library.NamedFile.{NamedFile}
 use Rattle.tptp_read.specs.declared.statement.Statement.{Statement}
 use Rattle.tptp_read.specs.Text.{Readable, Offends}
 use Rattle.szs_prove.specs.Answered.{Reading, Writing}
-use Rattle.szs_prove.specs.Answers.{Answer, IsAnswer, text_for}
-use Rattle.szs_prove.specs.Certificates.{Certificate, Certifies, certificate_text}
-use Rattle.szs_prove.specs.Loading.{Loads, limit}
+use Rattle.szs_prove.specs.Answers.{Answer, IsAnswer, IsVerdict, text_for}
+use Rattle.szs_prove.specs.Certificates.{Certificate, certificate_text}
+use Rattle.szs_prove.specs.Loading.{limit}
 use Rattle.szs_prove.specs.Texts.{refusal_text}
 use Rattle.szs_prove.specs.Words.{file_of, shown_name}
 use Rattle.szs_prove.specs.declared.exit.Exit.{Exit}
@@ -59,15 +58,11 @@ pub record IsExact (words : List (List ℕ)) (files : List NamedFile) (read : Re
   pub refused : Causes words files read write Refused → IsOrYields read write Refused exit
   pub usage : Causes words files read write Usage → IsOrYields read write Usage exit
 
--- The text of a certificate of the problem of the file that the words name was written, whole.
+-- The text of a certificate for the file that the words name was written, whole.
 pub record WritesCertificate (words : List (List ℕ)) (files : Option (List NamedFile)) (old new : Option (List ℕ)) : Type 0 where
-  pub name : List ℕ
-  pub problem : Problem
   pub certificate : Certificate
-  pub named : file_of words ≡ Some name
-  pub loads : Loads files name problem
-  pub certifies : Certifies problem certificate
-  pub written : Appends old new (certificate_text name certificate)
+  pub is_verdict : IsVerdict words files certificate
+  pub written : Appends old new (certificate_text is_verdict.0 certificate)
 
 -- A proper prefix of the text of an answer with its cause was written.
 pub record IsInterrupted (words : List (List ℕ)) (read : Reading) (old new : Option (List ℕ)) : Type 0 where

@@ -4,7 +4,6 @@ pub mod Certificates
 pub mod Exact
 pub mod Loading
 pub mod Piece
-pub mod Pieces
 pub mod Texts
 pub mod Verdicts
 pub mod Numbering

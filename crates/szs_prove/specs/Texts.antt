@@ -1,5 +1,6 @@
 -- What the program writes, and the status that it ends with.
 use Rattle.std.specs.Prelude.{ℕ, List, [], ◌∷◌, ◌++◌, codes, decimal}
+use Rattle.std.specs.List.{concat}
 use Rattle.szs_prove.specs.declared.exit.Exit.{Exit}
 use Rattle.szs_prove.specs.declared.exit.Exit.TheVariants.{Decided, Refused, Usage, ReadFault, WriteFault, Memory}
 use Rattle.szs_prove.specs.declared.refusal.Refusal.{Refusal}
@@ -30,14 +31,18 @@ status_of (why.Unbuilt k) = codes "Inappropriate"
 status_of why.ReadFault = codes "OSError"
 status_of why.Memory = codes "MemoryOut"
 
--- the second line, where there is one
-abbrev pub reason_line : List ℕ → Refusal → List ℕ
-reason_line name why.Usage = codes "% usage" ++ 10 ∷ []
-reason_line name why.Absent = codes "% absent: " ++ name ++ 10 ∷ []
-reason_line name why.TooLong = codes "% limit bytes" ++ 10 ∷ []
-reason_line name (why.Unbuilt k) = codes "% form: statement " ++ decimal k ++ codes " of " ++ name ++ 10 ∷ []
-reason_line name why.ReadFault = codes "% read fault" ++ 10 ∷ []
-reason_line name why.Memory = []
+-- the pieces of the second line, where there is one
+abbrev pub reason_pieces : List ℕ → Refusal → List (List ℕ)
+reason_pieces name why.Usage = (codes "% usage" ++ 10 ∷ []) ∷ []
+reason_pieces name why.Absent = codes "% absent: " ∷ name ∷ (10 ∷ []) ∷ []
+reason_pieces name why.TooLong = (codes "% limit bytes" ++ 10 ∷ []) ∷ []
+reason_pieces name (why.Unbuilt k) = codes "% form: statement " ∷ decimal k ∷ codes " of " ∷ name ∷ (10 ∷ []) ∷ []
+reason_pieces name why.ReadFault = (codes "% read fault" ++ 10 ∷ []) ∷ []
+reason_pieces name why.Memory = []
+
+-- the status line, and then the reason
+abbrev pub pieces_of : List ℕ → Refusal → List (List ℕ)
+pieces_of name refusal = codes "% SZS status " ∷ status_of refusal ∷ codes " for " ∷ name ∷ (10 ∷ []) ∷ reason_pieces name refusal
 
 abbrev pub refusal_text : List ℕ → Refusal → List ℕ
-refusal_text name refusal = codes "% SZS status " ++ status_of refusal ++ codes " for " ++ name ++ 10 ∷ reason_line name refusal
+refusal_text name refusal = concat (pieces_of name refusal)

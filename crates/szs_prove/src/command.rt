@@ -77,6 +77,5 @@ pub fn run<L: Library, K: Sink>(alloc: Global, words: &[String], files: &mut L, 
     // Where memory is wanted, the text that says so was taken, or a prefix of an answer's text.
     ensures memory { result ≡ Exit.Memory → WantsMemory (map string_bytes words.now) (reading (L.files files.old) (L.faults files.old) (L.faults files.new)) (K.taken out.old) (K.taken out.new) }
 {
-    let solver = Plain::new(alloc);
-    answer(alloc, words, files, out, solver)
+    answer(alloc, words, files, out, Plain::new(alloc))
 }

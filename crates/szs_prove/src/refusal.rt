@@ -1,11 +1,10 @@
 // Answers without a verdict. Their texts take no memory.
-ghost use Rattle.std.specs.Prelude.{◌≡◌, ◌≤◌, ◌<◌, OnOk, OnErr, [], slice_index_or};
+ghost use Rattle.std.specs.Prelude.{◌≡◌, ◌≤◌, OnOk, OnErr, option_map, slice_get};
 ghost use Rattle.std.specs.Io.KnownBytes.{Appends};
 ghost use Rattle.outside_io.specs.Causes.{Rose};
 ghost use Rattle.outside_io.specs.Taken.{AppendsProperPrefix};
 ghost use Rattle.szs_prove.specs.Piece.{bytes_of};
-ghost use Rattle.szs_prove.specs.Pieces.{end_of, lead_of, link_of, number_of, pieces_of, shown_of};
-ghost use Rattle.szs_prove.specs.Texts.{exit_of, refusal_text, status_of};
+ghost use Rattle.szs_prove.specs.Texts.{exit_of, pieces_of, reason_pieces, refusal_text, status_of};
 ghost use Rattle.szs_prove.specs.Written.{IsWritten};
 ghost use Rattle.szs_prove.specs.declared.refusal.Refusal.TheVariants as why;
 
@@ -71,72 +70,37 @@ impl Refusal {
         }
     }
 
-    // What the second line begins with, and nothing where there is none.
-    fn lead(self) -> &'static [u8]
-        ensures { result.now ≡ lead_of self }
+    // Piece `i` of the second line, counted from 0.
+    fn reason_piece<'a>(self, name: &'a [u8], i: usize) -> Option<Piece<'a>>
+        ensures { option_map bytes_of result ≡ slice_get (reason_pieces name.now self) i }
     {
-        match self {
-            Refusal::Usage => b"% usage\n",
-            Refusal::Absent => b"% absent: ",
-            Refusal::TooLong => b"% limit bytes\n",
-            Refusal::Unbuilt { .. } => b"% form: statement ",
-            Refusal::ReadFault => b"% read fault\n",
-            Refusal::Memory => b"",
+        match (self, i) {
+            (Refusal::Usage, 0) => Some(Piece::Text(b"% usage\n")),
+            (Refusal::Absent, 0) => Some(Piece::Text(b"% absent: ")),
+            (Refusal::Absent, 1) => Some(Piece::Text(name)),
+            (Refusal::Absent, 2) => Some(Piece::Text(b"\n")),
+            (Refusal::TooLong, 0) => Some(Piece::Text(b"% limit bytes\n")),
+            (Refusal::Unbuilt { .. }, 0) => Some(Piece::Text(b"% form: statement ")),
+            (Refusal::Unbuilt { statement }, 1) => Some(Piece::Number(statement)),
+            (Refusal::Unbuilt { .. }, 2) => Some(Piece::Text(b" of ")),
+            (Refusal::Unbuilt { .. }, 3) => Some(Piece::Text(name)),
+            (Refusal::Unbuilt { .. }, 4) => Some(Piece::Text(b"\n")),
+            (Refusal::ReadFault, 0) => Some(Piece::Text(b"% read fault\n")),
+            _ => None,
         }
     }
 
-    // What follows the lead: a number, a word behind it, a name, and the end of the line.
-    fn number(self) -> Piece<'static>
-        ensures { bytes_of result ≡ number_of self }
-    {
-        match self {
-            Refusal::Unbuilt { statement } => Piece::Number(statement),
-            _ => Piece::Text(&[]),
-        }
-    }
-
-    fn link(self) -> &'static [u8]
-        ensures { result.now ≡ link_of self }
-    {
-        match self {
-            Refusal::Unbuilt { .. } => b" of ",
-            _ => &[],
-        }
-    }
-
-    fn shown<'a>(self, name: &'a [u8]) -> &'a [u8]
-        ensures { result.now ≡ shown_of self name.now }
-    {
-        match self {
-            Refusal::Absent | Refusal::Unbuilt { .. } => name,
-            _ => &[],
-        }
-    }
-
-    fn end(self) -> &'static [u8]
-        ensures { result.now ≡ end_of self }
-    {
-        match self {
-            Refusal::Absent | Refusal::Unbuilt { .. } => b"\n",
-            _ => &[],
-        }
-    }
-
-    fn piece<'a>(self, name: &'a [u8], i: usize) -> Piece<'a>
-        requires { i < 10 }
-        ensures { bytes_of result ≡ slice_index_or (pieces_of self name.now) i [] }
+    // Piece `i` of the text, counted from 0.
+    fn piece<'a>(self, name: &'a [u8], i: usize) -> Option<Piece<'a>>
+        ensures { option_map bytes_of result ≡ slice_get (pieces_of name.now self) i }
     {
         match i {
-            0 => Piece::Text(b"% SZS status "),
-            1 => Piece::Text(self.status()),
-            2 => Piece::Text(b" for "),
-            3 => Piece::Text(name),
-            4 => Piece::Text(b"\n"),
-            5 => Piece::Text(self.lead()),
-            6 => self.number(),
-            7 => Piece::Text(self.link()),
-            8 => Piece::Text(self.shown(name)),
-            _ => Piece::Text(self.end()),
+            0 => Some(Piece::Text(b"% SZS status ")),
+            1 => Some(Piece::Text(self.status())),
+            2 => Some(Piece::Text(b" for ")),
+            3 => Some(Piece::Text(name)),
+            4 => Some(Piece::Text(b"\n")),
+            _ => self.reason_piece(name, i - 5),
         }
     }
 }
@@ -148,8 +112,10 @@ fn write_text<K: Sink>(out: &mut K, name: &[u8], refusal: Refusal) -> Result<(),
     ensures later { K.faults out.old ≤ K.faults out.new }
     ensures failed { result ≡ Err Trouble.Failed → Rose (K.faults out.old) (K.faults out.new) }
 {
-    for i in 0..10 {
-        write_piece(out, refusal.piece(name, i))?;
+    let mut i = 0;
+    while let Some(piece) = refusal.piece(name, i) {
+        write_piece(out, piece)?;
+        i += 1;
     }
     Ok(())
 }

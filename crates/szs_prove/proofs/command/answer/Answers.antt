@@ -5,9 +5,7 @@ pub returns-in_default : goal.returns-in_default
 returns-in_default g c = usage_told _ _ _ _ c.in_default.ensures c.write_refusal.ensures
 
 pub returns-in-Ok : goal.returns-in-Ok
-returns-in-Ok g c =
-    let v = c.in-Ok.ensures.ok in
-    verdict_told _ _ _ _ _ _ c.in-Some.ensures v (rw c.as_slice.ensures.value at c.write_text.ensures)
+returns-in-Ok g c = verdict_told _ _ _ _ c.in-Some.name.now c.in-Ok.text.items _ c.in-Some.ensures c.in-Ok.ensures.ok c.as_slice.ensures.value c.write_text.ensures
 
 pub returns-in-Err : goal.returns-in-Err
-returns-in-Err g c = refusal_told _ _ _ _ _ _ c.in-Some.ensures c.in-Err.ensures.err (rw c.as_bytes.ensures.value at c.write_refusal-in-Err.ensures)
+returns-in-Err g c = refusal_told _ _ _ _ c.in-Some.name.now _ c.in-Err.refusal c.in-Some.ensures c.in-Err.ensures.err c.as_bytes.ensures.value c.write_refusal-in-Err.ensures
