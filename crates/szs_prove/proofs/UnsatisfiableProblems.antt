@@ -17,7 +17,7 @@ use Rattle.inst_logic.specs.Clauses.{TreeClause, IsGround, IsCanonical}
 use Rattle.inst_logic.specs.Derivations.{at_number, IsShown}
 use Rattle.inst_logic.proofs.Numbering.{map_map}
 use Rattle.inst_logic.proofs.ShownLaws.{at_number_contains, slice_get_take, shown_renamed, hint_renamed, NameAtoms, HasAtoms}
-use Rattle.inst_calculus.specs.Abstraction.{abstraction, grounding}
+use Rattle.inst_calculus.specs.Abstraction.{abstraction, grounding, IsBot}
 use Rattle.inst_calculus.specs.Entries.{Entry, entry_clauses}
 use Rattle.inst_calculus.specs.Steps.{Step, cited_clause, EndsEmpty, renamed_literal, renamed_clause}
 use Rattle.inst_calculus.proofs.Membership.{◌∈◌, contains_in, in_map, from_map, all_in, in_all}
@@ -251,10 +251,10 @@ module _ (p : Problem) (plain : IsPlainProblem p) (few : length p.clauses < 2 ^ 
         step_count = omega arith;
       }
 
-  pub refutation_certifies : Certifies p (certificate_of p (Unsatisfiable numbers bot atoms steps))
-  refutation_certifies = record {
+  pub refutation_certifies : IsBot p.clauses (constant bot) → Certifies p (certificate_of p (Unsatisfiable numbers bot atoms steps))
+  refutation_certifies fresh = record {
     of_problem = base_is_of p plain few numbers members;
     valid = valid;
     printable = printable;
-    shows = record { instances = grounds_are_instances unsat valid; refuted = grounds_are_refuted unsat valid };
+    shows = record { is_bot = fresh; instances = grounds_are_instances unsat valid; refuted = grounds_are_refuted unsat valid };
   }

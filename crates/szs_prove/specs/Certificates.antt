@@ -4,6 +4,7 @@ use Rattle.inst_logic.specs.declared.clause.Problem.{Problem}
 use Rattle.inst_logic.specs.Clauses.{TreeClause, IsGround, IsInstance}
 use Rattle.inst_logic.specs.Truth.{IsRefuted}
 use Rattle.inst_calculus.specs.Axioms.{equality_axioms, with_axioms}
+use Rattle.inst_calculus.specs.Abstraction.{IsBot}
 use Rattle.inst_calculus.specs.Models.{Makes}
 use Rattle.cert_format.specs.Certificate.{Base, Refutation, Saturation, selected_members}
 use Rattle.cert_format.specs.Validity.{IsValidRefutation, IsValidSaturation}
@@ -36,8 +37,10 @@ pub record IsOf (p : Problem) (b : Base) : Type 0 where
   pub names : b.names ≡ p.names
   pub axioms : b.axioms ≡ equality_axioms p.clauses
 
--- the ground clauses are ground instances of the clauses and axioms, and no valuation makes them all true
+-- the constant is the problem's own, the ground clauses are ground instances of the clauses and axioms, and no valuation
+-- makes them all true
 pub record RefutesProblem (p : Problem) (r : Refutation) : Type 0 where
+  pub is_bot : IsBot p.clauses r.bot
   pub instances : All (λ g. IsGround g × Any (IsInstance g) (with_axioms p.clauses)) r.grounds
   pub refuted : IsRefuted r.grounds
 

@@ -19,10 +19,10 @@ mod refusal;
 mod solving;
 mod steps;
 mod text;
-mod verdict;
-mod words;
 #[cfg(test)]
 mod text_tests;
+mod verdict;
+mod words;
 
 pub use command::run;
 pub use exit::Exit;

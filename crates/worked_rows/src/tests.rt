@@ -100,6 +100,30 @@ cnf(m2,plain,~p,input(2),[selected(1)]).
 }
 
 #[test]
+fn tautologies_and_repeats_are_no_members(rt: HostRuntime) -> Result<(), Fail> {
+    let (exit, out) = answer_to(
+        rt.alloc(),
+        &["prove", "r.p"],
+        b"cnf(a,axiom,p). cnf(b,axiom,p). cnf(c,axiom,q|~q).",
+    )?;
+    assert_eq!(rt; exit, Exit::Decided);
+    assert_eq!(rt;
+        str::from_utf8(out.bytes())?,
+        "\
+% SZS status Satisfiable for r.p
+% SZS output start Saturation for r.p
+% instgen certificate 1
+cnf(i1,axiom,p,named(a)).
+cnf(i2,axiom,p,named(b)).
+cnf(i3,axiom,q | ~q,named(c)).
+cnf(m1,plain,p,input(1),[selected(1)]).
+% SZS output end Saturation for r.p
+"
+    );
+    Ok(())
+}
+
+#[test]
 fn unsatisfiable_clauses(rt: HostRuntime) -> Result<(), Fail> {
     let (exit, out) = answer_to(rt.alloc(), &["prove", "r.p"], UNSATISFIABLE)?;
     assert_eq!(rt; exit, Exit::Decided);
