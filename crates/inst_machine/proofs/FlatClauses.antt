@@ -14,6 +14,7 @@ use Rattle.inst_calculus.proofs.Membership.{◌∈◌, in_left, in_right, passes
 use Rattle.inst_calculus.proofs.Terms.{IsTermOver, AreTermsOver, IsAtomOver, IsFunction, IsPredicate}
 use Rattle.inst_calculus.proofs.Instances.{HasAtomsOver, formed_clause_over}
 use Rattle.inst_calculus.proofs.EqualityAxioms.{clauses_with}
+use Rattle.inst_machine.specs.Bound.{total_arity}
 
 -- a symbol of the list without arguments
 abbrev pub IsConstantOf : List Sym → Sym → Type 0
@@ -74,10 +75,6 @@ clauses_are_flat cs formed free c i =
     flat_clause (occurrences cs) (functions_are_constants cs free) c (formed_clause_over c (passes clause_is_formed cs formed c i)) (λ f j. symbol_of_clauses f c cs i j)
 
 -- How many variables a flat clause can have
-
-pub total_arity : List Sym → ℕ
-total_arity [] = 0
-total_arity (p ∷ ps) = p.arity + total_arity ps
 
 within_total_arity : (p : Sym) (ps : List Sym) → p ∈ ps → p.arity ≤ total_arity ps
 unfolding total_arity

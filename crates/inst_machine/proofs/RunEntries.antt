@@ -18,12 +18,9 @@ use Rattle.inst_calculus.proofs.Instances.{instance_is_instance, canonical_is_in
 use Rattle.inst_calculus.proofs.Unify.{most_general_terms}
 use Rattle.inst_machine.specs.Machine.{State, Event, IsFirst, all_read, passed_over, taken, Infers, IsStep, solve, infer, IsRun, ended, next}
 use Rattle.inst_machine.specs.Replay.{Replays}
+use Rattle.inst_machine.specs.Bound.{total_length}
 
 -- no clause is longer than all of them together
-pub total_length : List TreeClause → ℕ
-total_length [] = 0
-total_length (c ∷ cs) = length c + total_length cs
-
 pub within_total_length : (c : TreeClause) (cs : List TreeClause) → c ∈ cs → length c ≤ total_length cs
 unfolding total_length
 within_total_length c [] i = absurd i

@@ -2,7 +2,8 @@
 use Rattle.std.specs.Prelude.{List, [], ◌∷◌, true, false}
 use Rattle.inst_logic.specs.Tree.{var}
 use Rattle.inst_logic.specs.Clauses.{TreeClause}
-use Rattle.inst_logic.specs.Examples.{p, q, constant_bot, yes, no}
+use Rattle.inst_logic.specs.Examples.{p, q, constant_bot, constant_c, yes, no}
+use Rattle.inst_calculus.specs.Models.{Member}
 use Rattle.inst_calculus.specs.Entries.{input, inst}
 use Rattle.inst_calculus.specs.Examples.{entry, p_always, not_p_c, p_c}
 use Rattle.inst_machine.specs.Machine.{State, Event, solved, inferred}
@@ -21,6 +22,10 @@ last_state = record solved_state { entries = entry p_always (input 1) ∷ entry 
 
 abbrev pub events : List Event
 events = solved (p constant_bot ∷ []) ∷ inferred (inst 1 1 2 1) ∷ []
+
+-- the two clauses, each with its literal selected
+abbrev pub selected_members : List Member
+selected_members = record { clause = p_always; selected = yes (p (var 0)) } ∷ record { clause = not_p_c; selected = no (p constant_c) } ∷ []
 
 -- p(X3)
 abbrev pub p_third : TreeClause

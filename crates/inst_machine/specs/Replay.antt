@@ -1,15 +1,16 @@
 -- Replay of a journal, what it leaves of a budget, and the conclusions that stay open.
-use Rattle.std.specs.Prelude.{◌≡◌, ◌≢◌, ℕ, ◌-◌, ◌+◌, List, [], ◌∷◌, All, Contains}
+use Rattle.std.specs.Prelude.{◌≡◌, ◌≢◌, ℕ, ◌-◌, ◌+◌, List, [], ◌∷◌, Some, All, Contains}
 use Rattle.inst_logic.specs.declared.symbol.Sym.{Sym}
 use Rattle.inst_logic.specs.Measure.{clause_size}
-use Rattle.inst_logic.specs.Clauses.{TreeClause, instance, canonical_form}
+use Rattle.inst_logic.specs.Clauses.{TreeClause, instance}
+use Rattle.inst_logic.specs.Derivations.{at_number}
 use Rattle.inst_logic.specs.Unifiers.{Sided, IsMostGeneral, IsProper}
 use Rattle.inst_calculus.specs.Models.{Member, member_clauses}
 use Rattle.inst_calculus.specs.Saturation.{IsCovered}
 use Rattle.inst_calculus.specs.Axioms.{with_axioms}
 use Rattle.inst_calculus.specs.Abstraction.{IsBot}
 use Rattle.inst_calculus.specs.Entries.{Origin, input, inst, Entry, entry_clauses}
-use Rattle.inst_machine.specs.Machine.{State, Event, IsStart, IsRun, IsTrueIn}
+use Rattle.inst_machine.specs.Machine.{State, Event, IsStart, IsRun, IsTrueIn, Infers}
 
 -- the journal replays from the clauses to the state
 abbrev pub Replays : Sym → List TreeClause → List Event → State → Type 0
@@ -46,15 +47,16 @@ AreConclusionsCovered ms = (m n : Member) → Contains ms m → Contains ms n �
     → (s : Sided) → IsMostGeneral s m.selected.atom n.selected.atom → IsProper s.left m.selected.atom
     → IsCovered (member_clauses ms) m.clause (instance s.left m.clause)
 
--- an instance that an inference at the selected literals could append
-pub record IsOpen (ms : List Member) (c : TreeClause) : Type 0 where
+-- an instance that an inference at the selected literals of two members could append
+pub record IsOpenConclusion (bot : Sym) (s : State) (ms : List Member) (c : TreeClause) : Type 0 where
+  pub from : ℕ
+  pub place : ℕ
+  pub partner : ℕ
+  pub other : ℕ
   pub member : Member
-  pub partner : Member
-  pub listed : Contains ms member
-  pub partner_listed : Contains ms partner
-  pub opposite : member.selected.positive ≢ partner.selected.positive
-  pub unifier : Sided
-  pub most_general : IsMostGeneral unifier member.selected.atom partner.selected.atom
-  pub proper : IsProper unifier.left member.selected.atom
-  pub uncovered : ¬ IsCovered (member_clauses ms) member.clause (instance unifier.left member.clause)
-  pub conclusion : c ≡ canonical_form (instance unifier.left member.clause)
+  pub partner_member : Member
+  pub member_at : at_number ms from ≡ Some member
+  pub partner_at : at_number ms partner ≡ Some partner_member
+  pub selected_at : at_number member.clause place ≡ Some member.selected
+  pub other_at : at_number partner_member.clause other ≡ Some partner_member.selected
+  pub infers : Infers bot s from place partner other c

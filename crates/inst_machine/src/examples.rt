@@ -1,5 +1,5 @@
 // Worked examples of the definitions, as theorems: each function does nothing, and its clauses are closed facts.
-ghost use Rattle.std.specs.Prelude.{◌≡◌, ◌∷◌, [], ℕ, List, map};
+ghost use Rattle.std.specs.Prelude.{◌≡◌, ◌∷◌, [], ℕ, List, map, true};
 ghost use Rattle.inst_logic.specs.Tree.{Tree};
 ghost use Rattle.inst_logic.specs.Truth.{IsRefuted};
 ghost use Rattle.inst_logic.specs.Clauses.{TreeClause};
@@ -7,10 +7,10 @@ ghost use Rattle.inst_logic.specs.Examples.{p, constant_bot};
 ghost use Rattle.inst_calculus.specs.Axioms.{with_axioms};
 ghost use Rattle.inst_calculus.specs.Abstraction.{abstraction};
 ghost use Rattle.inst_calculus.specs.Entries.{input, inst, entry_clauses};
-ghost use Rattle.inst_calculus.specs.Examples.{entry, bot, p_always, not_p_c};
+ghost use Rattle.inst_calculus.specs.Examples.{entry, bot, p_always, not_p_c, p_c};
 ghost use Rattle.inst_machine.specs.Machine.{State, IsStart, IsFirst, IsStep, IsSettled, Infers, solved, inferred};
-ghost use Rattle.inst_machine.specs.Replay.{Replays, budget_left};
-ghost use Rattle.inst_machine.specs.Examples.{start_state, solved_state, last_state, events, p_third, q_or_not};
+ghost use Rattle.inst_machine.specs.Replay.{Replays, IsOpenConclusion, budget_left};
+ghost use Rattle.inst_machine.specs.Examples.{start_state, solved_state, last_state, selected_members, events, p_third, q_or_not};
 
 /// The first entries leave out a variant of an earlier one and a tautology. The numbers count all clauses.
 pub fn first_entries()
@@ -25,16 +25,18 @@ pub fn instance_run()
     ensures settled { IsSettled bot solved_state }
     ensures infers { IsStep bot solved_state (inferred (inst 1 1 2 1)) last_state }
     ensures replays { Replays bot (with_axioms (p_always ∷ not_p_c ∷ [])) events last_state }
+    ensures open_conclusion { IsOpenConclusion bot solved_state selected_members p_c }
     ensures refuted { IsRefuted (map (abstraction bot) (entry_clauses last_state.entries)) }
     ensures no_solve { (atoms : List Tree) (t : State) → ¬ IsStep bot last_state (solved atoms) t }
     ensures budget { budget_left 5 last_state.entries ≡ 3 }
 {}
 
-/// What is no step: a valuation in which `p(bot_0)` is false, an inference before a solve, one whose unifier is proper for the
+/// What is no step: a valuation in which `p(bot_0)` is false, an inference before a solve, one of a literal whose abstraction is false, one whose unifier is proper for the
 /// partner alone, one whose conclusion is there, and an inference of an input clause.
 pub fn no_steps()
     ensures unsettled { (t : State) → ¬ IsStep bot start_state (solved []) t }
     ensures before_solve { (c : TreeClause) → ¬ Infers bot start_state 1 1 2 1 c }
+    ensures false_literal { (c : TreeClause) → ¬ Infers bot (record start_state { has_solved = true }) 1 1 2 1 c }
     ensures not_proper { (c : TreeClause) → ¬ Infers bot solved_state 2 1 1 1 c }
     ensures covered { (c : TreeClause) → ¬ Infers bot last_state 1 1 2 1 c }
     ensures no_input { (k : ℕ) (t : State) → ¬ IsStep bot solved_state (inferred (input k)) t }

@@ -1,5 +1,5 @@
 // Laws of the machine's runs.
-ghost use Rattle.std.specs.Prelude.{◌≡◌, ◌≢◌, ◌≤◌, ◌<◌, ℕ, List, IsTrue, map, All, AllPairs, Contains};
+ghost use Rattle.std.specs.Prelude.{◌≡◌, ◌≢◌, ◌≤◌, ◌<◌, ℕ, List, IsTrue, length, map, All, AllPairs, Contains};
 ghost use Rattle.inst_logic.specs.declared.symbol.Sym.{Sym};
 ghost use Rattle.inst_logic.specs.Clauses.{TreeClause, IsCanonical, IsInstance, IsGround, AreVariants};
 ghost use Rattle.inst_logic.specs.Measure.{is_function_free};
@@ -11,7 +11,7 @@ ghost use Rattle.inst_calculus.specs.Saturation.{IsSaturated};
 ghost use Rattle.inst_calculus.specs.Entries.{entry_clauses};
 ghost use Rattle.inst_machine.specs.Machine.{State, Event};
 ghost use Rattle.inst_machine.specs.Replay.{Replays, IsSelection, AreConclusionsCovered};
-ghost use Rattle.inst_machine.specs.Bound.{IsEntryBound};
+ghost use Rattle.inst_machine.specs.Bound.{possible_entries, entry_bound};
 
 /// The entries of a run are instances of the clauses, in canonical form and well formed where the clauses are, and no two
 /// are variants.
@@ -43,7 +43,10 @@ pub fn saturated_when_closed()
         → (ms : List Member) → IsSelection bot t ms → AreConclusionsCovered ms → IsSaturated ms cs }
 {}
 
-/// On function-free clauses there is a number that the entries of no run exceed.
+/// On function-free clauses the entries of every run lie in a finite list of clauses, which its length bounds.
 pub fn finitely_many_entries()
-    ensures { (bot : Sym) (cs : List TreeClause) → AreFormedClauses cs → IsTrue (is_function_free cs) → (n : ℕ) × IsEntryBound bot cs n }
+    ensures listed { (bot : Sym) (cs : List TreeClause) (journal : List Event) (t : State) → AreFormedClauses cs → IsTrue (is_function_free cs) → Replays bot cs journal t
+        → All (Contains (possible_entries cs)) (entry_clauses t.entries) }
+    ensures bounded { (bot : Sym) (cs : List TreeClause) (journal : List Event) (t : State) → AreFormedClauses cs → IsTrue (is_function_free cs) → Replays bot cs journal t
+        → length t.entries ≤ entry_bound cs }
 {}

@@ -14,7 +14,7 @@ use Rattle.inst_calculus.specs.Saturation.{IsCovered, tautology, variant, shorte
 use Rattle.inst_calculus.specs.Examples.{entry, bot, p_always, not_p_c, p_c}
 use Rattle.inst_calculus.proofs.ShortLists.{each_at, each_all, each_none, contains_one}
 use Rattle.inst_calculus.proofs.Turns.{instance_unifier}
-use Rattle.inst_machine.specs.Machine.{State, IsStart, IsStep, AreChanges, IsSettled, all_read, taken, solve, infer, ended, next, solved, inferred, change_all}
+use Rattle.inst_machine.specs.Machine.{State, IsStart, IsStep, Infers, AreChanges, IsSettled, all_read, taken, solve, infer, ended, next, solved, inferred, change_all}
 use Rattle.inst_machine.specs.Examples.{start_state, solved_state, last_state}
 use Rattle.inst_machine.proofs.ExampleSteps.{solve_settles, no_tautology, one_true}
 use Rattle.inst_machine.proofs.examples.instance_run.Goals as goal
@@ -51,8 +51,8 @@ uncovered (tautology t) = no_tautology (yes (p constant_c)) t
 uncovered (variant e i v) = each_at (λ (d : TreeClause). ¬ AreVariants p_c d) (p_always ∷ not_p_c ∷ []) ((λ h. search rules), ((λ h. search rules), tt)) e i v
 uncovered (shorter e i l s) = each_at (λ (d : TreeClause). ¬ (length d < 1)) (p_always ∷ not_p_c ∷ []) ((λ h. omega arith), ((λ h. omega arith), tt)) e i l
 
-infers : IsStep bot solved_state (inferred (inst 1 1 2 1)) last_state
-infers = infer (record {
+inference : Infers bot solved_state 1 1 2 1 p_c
+inference = record {
   entry = entry p_always (input 1);
   partner_entry = entry not_p_c (input 2);
   literal = yes (p (var 0));
@@ -70,7 +70,25 @@ infers = infer (record {
   proper = (0, (0, lit< tt, refl), tt);
   uncovered = uncovered;
   conclusion = refl;
-}) refl
+}
+
+infers : IsStep bot solved_state (inferred (inst 1 1 2 1)) last_state
+infers = infer inference refl
+
+pub returns-clause-open_conclusion : goal.returns-clause-open_conclusion
+returns-clause-open_conclusion c = record {
+  from = 1;
+  place = 1;
+  partner = 2;
+  other = 1;
+  member = record { clause = p_always; selected = yes (p (var 0)) };
+  partner_member = record { clause = not_p_c; selected = no (p constant_c) };
+  member_at = refl;
+  partner_at = refl;
+  selected_at = refl;
+  other_at = refl;
+  infers = inference;
+}
 
 pub returns-clause-start : goal.returns-clause-start
 returns-clause-start c = start

@@ -2,8 +2,10 @@ use Rattle.std.proofs.Common.{◌≡◌, [], ◌∷◌, refl, sym, subst as tran
 use Rattle.std.specs.Prelude.{Contains, Some}
 use Rattle.inst_logic.specs.declared.signed.Signed.{Signed}
 use Rattle.inst_logic.specs.Tree.{Tree, var}
-use Rattle.inst_logic.specs.Substitution.{subst as put}
+use Rattle.inst_logic.specs.Substitution.{subst as put, subst_literal}
+use Rattle.inst_logic.specs.Truth.{IsTrueLiteral}
 use Rattle.inst_logic.specs.Clauses.{instance}
+use Rattle.inst_calculus.specs.Abstraction.{grounding}
 use Rattle.inst_logic.specs.Derivations.{at_number}
 use Rattle.inst_logic.specs.Unifiers.{Sided}
 use Rattle.inst_logic.specs.Examples.{p, constant_c, constant_bot, yes, no}
@@ -24,6 +26,13 @@ returns-clause-unsettled c = λ t s.
 
 same_item : {A : Type 0} (x y : A) → Some x ≡ Some y → x ≡ y
 same_item x y e = cc
+
+pub returns-clause-false_literal : goal.returns-clause-false_literal
+returns-clause-false_literal c = λ d h.
+    let i : entry p_always (input 1) ≡ h.entry = same_item _ _ h.entry_at in
+    let j : yes (p (var 0)) ≡ h.literal = same_item _ _ (transport (λ (x : Entry). at_number x.clause 1 ≡ Some h.literal) (sym i) h.literal_at) in
+    let k : IsTrueLiteral (Contains []) (yes (p constant_bot)) = transport (λ (x : Signed Tree). IsTrueLiteral (Contains []) (subst_literal (grounding bot) x)) (sym j) h.literal_true in
+    omega (arith, k.1)
 
 conclusion_covered : (e : Entry) (l m : Signed Tree) (r : Sided) → entry p_always (input 1) ≡ e → yes (p (var 0)) ≡ l → no (p constant_c) ≡ m
     → put r.left l.atom ≡ put r.right m.atom → IsCovered (entry_clauses last_state.entries) e.clause (instance r.left e.clause)
