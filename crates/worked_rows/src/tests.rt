@@ -157,6 +157,23 @@ cnf(r1,plain,"
 }
 
 #[test]
+fn a_derivation_has_what_its_last_step_needs(rt: HostRuntime) -> Result<(), Fail> {
+    let (exit, out) = answer_to(
+        rt.alloc(),
+        &["prove", "r.p"],
+        b"cnf(a,axiom,spare|more). cnf(b,axiom,spare|~more).
+cnf(c,axiom,p|q). cnf(d,axiom,p|~q). cnf(e,axiom,~p|q). cnf(f,axiom,~p|~q).",
+    )?;
+    assert_eq!(rt; exit, Exit::Decided);
+    let Some((_, steps)) = str::from_utf8(out.bytes())?.split_once("cnf(r1,") else {
+        assert!(rt; false, "no step");
+        return Ok(());
+    };
+    assert!(rt; !steps.contains("spare"));
+    Ok(())
+}
+
+#[test]
 fn what_is_not_read(rt: HostRuntime) -> Result<(), Fail> {
     let alloc = rt.alloc();
     let (exit, out) = answer_to(
