@@ -1,6 +1,6 @@
 -- Flat clauses: those whose atoms have variables and constants for arguments. Function-free clauses are flat over their
 -- symbols, and their literals have a bounded number of variables.
-use Rattle.std.proofs.Common.{◌≡◌, ℕ, ◌+◌, ◌*◌, ◌≤◌, List, [], ◌∷◌, inl, inr, refl, sym, ap, ◌∙◌, subst as transport, arith, length, Bool, true, false, not, nat_eq, ◌&&◌, IsTrue, length-append}
+use Rattle.std.proofs.Common.{◌≡◌, ◌*◌, ◌≤◌, List, [], ◌∷◌, inl, inr, refl, sym, ap, ◌∙◌, subst as transport, arith, length, Bool, true, false, not, nat_eq, ◌&&◌, IsTrue, length-append}
 use Rattle.std.proofs.lemmas.Bool.Decides.{Decides-eqb}
 use Rattle.inst_logic.specs.declared.symbol.Sym.{Sym}
 use Rattle.inst_logic.specs.declared.signed.Signed.{Signed}

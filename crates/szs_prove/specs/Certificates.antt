@@ -1,7 +1,7 @@
 -- The certificates of a problem, of either kind, and what they show.
 use Rattle.std.specs.Prelude.{◌≡◌, ℕ, List, All, Any}
 use Rattle.inst_logic.specs.declared.clause.Problem.{Problem}
-use Rattle.inst_logic.specs.Clauses.{TreeClause, IsGround, IsInstance}
+use Rattle.inst_logic.specs.Clauses.{IsGround, IsInstance}
 use Rattle.inst_logic.specs.Truth.{IsRefuted}
 use Rattle.inst_calculus.specs.Axioms.{equality_axioms, with_axioms}
 use Rattle.inst_calculus.specs.Abstraction.{IsBot}

@@ -4,8 +4,7 @@ use Rattle.inst_logic.specs.declared.symbol.Sym.{Sym}
 use Rattle.inst_logic.specs.declared.symbol.Kind.TheVariants.{Function}
 use Rattle.inst_logic.specs.declared.clause.Literal.{Literal}
 use Rattle.inst_logic.specs.declared.clause.Problem.{Problem}
-use Rattle.inst_logic.specs.declared.signed.Signed.{Signed}
-use Rattle.inst_logic.specs.Tree.{Tree, var, app, none}
+use Rattle.inst_logic.specs.Tree.{Tree, var}
 use Rattle.inst_logic.specs.LiteralView.{literal}
 use Rattle.inst_logic.specs.Equal.{literal_eq}
 use Rattle.inst_logic.specs.Lists.{distinct}
@@ -14,9 +13,9 @@ use Rattle.inst_logic.specs.Clauses.{TreeClause, IsGround, IsCanonical}
 use Rattle.inst_logic.specs.Derivations.{at_number}
 use Rattle.inst_logic.specs.Printing.{is_readable_name}
 use Rattle.inst_calculus.specs.Axioms.{equality_axioms, clause_symbols}
-use Rattle.inst_calculus.specs.Entries.{Entry, input}
+use Rattle.inst_calculus.specs.Entries.{input}
 use Rattle.inst_calculus.specs.Steps.{Cited, given, earlier, Step, renamed_clause}
-use Rattle.cert_format.specs.Certificate.{Base, Refutation, Saturation}
+use Rattle.cert_format.specs.Certificate.{Base}
 use Rattle.cert_format.specs.Printable.{HasReadableName}
 use Rattle.prop_logic.specs.declared.literal.Hint.{Hint}
 use Rattle.prop_logic.specs.declared.literal.Hint.TheVariants as hint

@@ -150,6 +150,7 @@ cnf(r1,plain,"
     assert!(rt; text.ends_with("])).\n% SZS output end CNFRefutation for r.p\n"));
     // the last step
     let Some((_, last)) = text.rsplit_once("cnf(r") else {
+        assert!(rt; false, "no step");
         return Ok(());
     };
     assert!(rt; last.contains(",plain,$false,rup(["));
