@@ -5,3 +5,4 @@ pub mod Readings
 pub mod Walks
 pub mod Growth
 pub mod Clauses
+pub mod GroundTrees

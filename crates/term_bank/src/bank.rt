@@ -1,9 +1,10 @@
 // A bank of trees, each stored once and named by its number (hash consing; Ershov, On programming of arithmetic
 // operations, 1958; Goto, Monocopy and associative algorithms in extended Lisp, 1974).
-ghost use Rattle.std.specs.Prelude.{◌≡◌, ℕ, ◌<◌, [], length, false, true, min, map, IfOk, OnOk, OnErr, option_copied, option_map};
+ghost use Rattle.std.specs.Prelude.{◌≡◌, ◌↔◌, IsTrue, ℕ, ◌<◌, [], length, false, true, min, map, IfOk, OnOk, OnErr, option_copied, option_map};
 ghost use Rattle.std.specs.List.{All};
 ghost use Rattle.inst_logic.specs.Tree.{var, app, of_list};
 ghost use Rattle.inst_logic.specs.Measure.{tree_size, tree_weight};
+ghost use Rattle.inst_logic.specs.Substitution.{tree_vars};
 ghost use Rattle.term_bank.specs.Forest.{tree_at, nth, symbol_at, number_of, IsAt, AreIds, AreDistinct, Extends, ExtendsTrees, KeepsPlaces, no_symbol, IsFormed, AreFormed, AreFormedTrees, symbol_of, arguments_of, is_ground};
 ghost use Rattle.term_bank.specs.Nodes.{trees_of, IsBank};
 ghost use Rattle.term_bank.specs.Shapes.{shape_of};
@@ -98,7 +99,7 @@ impl Bank {
         }
     }
 
-    /// How many trees.
+    /// How many trees. Their ids have the numbers below it, and equal trees have equal ids.
     pub fn len(&self) -> usize
         ensures len { result ≡ length self.now.trees }
         ensures distinct { AreDistinct self.now.trees }
@@ -106,6 +107,7 @@ impl Bank {
         self.nodes.len()
     }
 
+    /// The id of the variable of this number.
     pub fn var(&mut self, v: usize) -> Result<TermId, Memory>
         ensures at { IfOk result (λ id. IsAt self.new id (var v)) }
         ensures extends { Extends self.old self.new }
@@ -138,6 +140,7 @@ impl Bank {
         result
     }
 
+    /// A variable with its number, or an application.
     pub fn shape(&self, id: TermId) -> Shape
         requires { id < length self.now.trees }
         ensures { result ≡ shape_of (tree_at self.now id) }
@@ -202,7 +205,8 @@ impl Bank {
     /// Whether the tree has no variables.
     pub fn ground(&self, id: TermId) -> bool
         requires { id < length self.now.trees }
-        ensures { result ≡ is_ground (tree_at self.now id) }
+        ensures test { result ≡ is_ground (tree_at self.now id) }
+        ensures variables { IsTrue result ↔ (tree_vars (tree_at self.now id) ≡ []) }
     {
         measures_at(&self.nodes, id).variable_free
     }

@@ -20,6 +20,7 @@ impl Model for TermId {
 }
 
 impl TermId {
+    /// Below the length of its bank, and different for different ids.
     pub fn number(self) -> usize
         ensures { result ≡ self }
     {
@@ -33,6 +34,7 @@ impl TermId {
     }
 }
 
+/// A list of ids of one bank.
 pub type TermIdList = ListOf<TermId>;
 
 // A list of these ids.
@@ -42,9 +44,11 @@ pub(crate) fn copied(alloc: Global, ids: &[TermId]) -> Result<TermIdList, Memory
     Ok(TermIdList::from(Vec::from_slice(alloc, ids)?))
 }
 
+/// A sign and the id of an atom.
 pub type IdLiteral = Signed<TermId>;
 
 /// A disjunction of literals, each over the id of its atom.
 pub type IdClause = ListOf<IdLiteral>;
 
+/// A list of clauses over one bank.
 pub type IdClauseList = ListOf<IdClause>;

@@ -1,4 +1,4 @@
-// Interned terms and atoms: a bank stores each tree once, and equal trees have equal ids.
+//! Interned terms and atoms: a bank stores each tree once, and equal trees have equal ids.
 #![tactic(auto)]
 
 pub mod bank;

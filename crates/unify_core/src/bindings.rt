@@ -19,6 +19,7 @@ use std::alloc::Global;
 use std::marker::Model;
 use term_bank::{Bank, Shape, TermId};
 
+/// What the variables of two sides are bound to. After want of memory every call that takes memory wants it.
 #[derive(Drop)]
 pub struct Bindings {
     map: IndexMap<Variable, Bound>,
@@ -38,7 +39,7 @@ impl Model for Bindings {
 }
 
 impl Bindings {
-    // No bindings, which take no memory.
+    /// No bindings, which take no memory.
     pub fn new(alloc: Global) -> Bindings
         ensures { result ≡ record { entries = []; spent = false } }
     {
@@ -51,6 +52,7 @@ impl Bindings {
         }
     }
 
+    /// Forgets the bindings, and keeps the room to work in.
     pub fn clear(&mut self)
         ensures entries { self.new.entries ≡ [] }
         ensures spent { self.new.spent ≡ self.old.spent }
@@ -58,8 +60,8 @@ impl Bindings {
         self.map.clear();
     }
 
-    // Makes the bindings a most general unifier of the terms, the variables of `a` as the left and those of `b` as the right copy.
-    // False comes where there is no unifier, and no bindings are left.
+    /// Makes the bindings a most general unifier of the terms, the variables of `a` as the left and those of `b` as the right
+    /// copy. False comes where there is no unifier, and no bindings are left.
     pub fn unify(&mut self, bank: &Bank, a: TermId, b: TermId) -> Result<bool, Memory>
         requires left { a < length bank.now.trees }
         requires right { b < length bank.now.trees }
@@ -95,7 +97,7 @@ impl Bindings {
         }
     }
 
-    // The term to which the variable is bound.
+    /// The term to which the variable is bound, with the side of its variables. It is not followed further.
     pub fn get(&self, side: Side, var: usize) -> Option<Bound>
         ensures some { IfSome result (λ b. (record { side = side; var = var }, b) ∈ self.now.entries) }
         ensures none { IfNone result (¬ ((record { side = side; var = var }) ∈ keys_of self.now.entries)) }
@@ -104,7 +106,7 @@ impl Bindings {
         self.map.get(&variable).copied()
     }
 
-    // Whether the most general unifier that was found makes a variable of the side a term that is no variable.
+    /// Whether the most general unifier that was found makes a variable of the side a term that is no variable.
     pub fn proper(&self, bank: &Bank, side: Side) -> bool
         requires { AreBindings bank.now self.now.entries }
         ensures yes { result ≡ true → (a b : Tree) (s : Sided) → IsResolvedBy bank.now self.now.entries s → IsMostGeneral s a b → IsProper (of_side s side) (of_pair side a b) }

@@ -1,7 +1,8 @@
-use Rattle.std.proofs.Common.{ap, ◌∙◌}
+use Rattle.std.proofs.Common.{◌≡◌, true, ap, sym, ◌∙◌}
 use Rattle.term_bank.specs.declared.node.Measures.{Measures}
-use Rattle.term_bank.specs.Forest.{Forest}
+use Rattle.term_bank.specs.Forest.{Forest, tree_at, is_ground}
 use Rattle.term_bank.proofs.Readings.{within, measures}
+use Rattle.term_bank.proofs.GroundTrees.{ground_by_variables}
 use Rattle.term_bank.proofs.bank.Bank.ground.Goals as goal
 
 pub measures_at-requires : goal.measures_at-requires
@@ -10,4 +11,9 @@ measures_at-requires c = within c.self.inside.symbols.keys c.self.inside.nodes.e
 pub returns : goal.returns
 returns c =
     let k = measures c.self.inside.symbols.keys c.self.inside.nodes.entries c.args.self.now c.self.invariant (ap (λ (f : Forest). f.trees) c.self.view_is) c.args.id c.requires in
-    ap (λ (x : Measures). x.variable_free) c.measures_at.ensures ∙ k.variable_free
+    let test : c.measures_at.result.variable_free ≡ is_ground (tree_at c.args.self.now c.args.id) = ap (λ (x : Measures). x.variable_free) c.measures_at.ensures ∙ k.variable_free in
+    let by = ground_by_variables (tree_at c.args.self.now c.args.id) in
+    record {
+      test = test;
+      variables = (λ h. by.0 (sym test ∙ h), λ e. test ∙ by.1 e);
+    }
