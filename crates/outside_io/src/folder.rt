@@ -30,6 +30,7 @@ impl<'a, R: Files> Model for FolderLibrary<'a, R> {
 }
 
 impl<'a, R: Files> FolderLibrary<'a, R> {
+    /// No file is begun.
     pub fn new(rt: &'a R, _alloc: Global) -> FolderLibrary<'a, R>
         ensures not_begun { result.begun ≡ false }
         ensures faults { result.faults ≡ 0 }

@@ -1,4 +1,4 @@
-// Where files are read from, and where answers are written to.
+//! Where files are read from, and where answers are written to.
 #![tactic(auto)]
 
 mod failing_calls;

@@ -19,6 +19,7 @@ pub enum Trouble {
     Memory,
 }
 
+/// A file with its name.
 #[derive(Drop, Debug)]
 pub struct NamedFile {
     pub name: Name,

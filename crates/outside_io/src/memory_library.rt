@@ -32,6 +32,8 @@ impl Model for MemLibrary {
 }
 
 impl MemLibrary {
+    /// A read gives at most `most` bytes, which is at least 1. `fail` has the numbers of the calls of `begin` and `read`, counted
+    /// together from 1, that fail.
     pub fn new(_alloc: Global, files: FileList, most: usize, fail: CallList) -> MemLibrary
         requires { 0 < most }
         ensures files { result.files ≡ files }

@@ -30,6 +30,7 @@ impl Model for MemSink {
 }
 
 impl MemSink {
+    /// A write takes at most `most` bytes, which is at least 1. `fail` has the numbers of the calls that fail, from 1.
     pub fn new(alloc: Global, most: usize, fail: CallList) -> MemSink
         requires { 0 < most }
         ensures taken { result.taken ≡ [] }

@@ -24,6 +24,7 @@ impl<'a, R: Print> Model for OutSink<'a, R> {
 }
 
 impl<'a, R: Print> OutSink<'a, R> {
+    /// Nothing is written yet.
     pub fn new(rt: &'a R) -> OutSink<'a, R>
         ensures { result ≡ 0 }
     {

@@ -25,6 +25,7 @@ impl Model for SureLibrary {
 }
 
 impl SureLibrary {
+    /// No file is begun.
     pub fn new(_alloc: Global, files: FileList) -> SureLibrary
         ensures files { result.files ≡ files }
         ensures rest { result.rest ≡ [] }
@@ -81,6 +82,7 @@ impl Model for SureSink {
 }
 
 impl SureSink {
+    /// Nothing is taken yet.
     pub fn new(alloc: Global) -> SureSink
         ensures { result ≡ [] }
     {

@@ -29,7 +29,8 @@ impl From<Memory> for ReadError {
     }
 }
 
-/// The statements of a text of the plain form: `cnf(NAME,ROLE,LITERALS).`, where a literal is a word, with `~` before it
+/// The statements of a text of the plain form: `cnf(NAME,ROLE,LITERALS).`, where NAME is a lower word and ROLE the word of one
+/// of the nine roles, and a literal is a word, with `~` before it
 /// or not, and with up to 1,024 words in parentheses or none, and blanks stand anywhere between.
 pub fn read_text(alloc: Global, text: &[u8]) -> Result<StatementList, ReadError>
     ensures readable { IfOk result (Readable text.now) }
