@@ -4,12 +4,11 @@ ghost use Rattle.inst_logic.specs.Tree.{Tree};
 ghost use Rattle.inst_logic.specs.Truth.{IsRefuted};
 ghost use Rattle.inst_logic.specs.Clauses.{TreeClause};
 ghost use Rattle.inst_logic.specs.Examples.{p, constant_bot};
-ghost use Rattle.inst_calculus.specs.Axioms.{with_axioms};
 ghost use Rattle.inst_calculus.specs.Abstraction.{abstraction};
 ghost use Rattle.inst_calculus.specs.Entries.{input, inst, entry_clauses};
 ghost use Rattle.inst_calculus.specs.Examples.{entry, bot, p_always, not_p_c, p_c};
 ghost use Rattle.inst_machine.specs.Machine.{State, IsStart, IsFirst, IsStep, IsSettled, Infers, solved, inferred};
-ghost use Rattle.inst_machine.specs.Replay.{Replays, IsOpenConclusion, budget_left};
+ghost use Rattle.inst_machine.specs.Replay.{ReplaysFrom, IsOpenConclusion, budget_left};
 ghost use Rattle.inst_machine.specs.Examples.{start_state, solved_state, last_state, selected_members, events, p_third, q_or_not};
 
 /// The first entries leave out a variant of an earlier one and a tautology. The numbers count all clauses.
@@ -24,7 +23,7 @@ pub fn instance_run()
     ensures solves { IsStep bot start_state (solved (p constant_bot ∷ [])) solved_state }
     ensures settled { IsSettled bot solved_state }
     ensures infers { IsStep bot solved_state (inferred (inst 1 1 2 1)) last_state }
-    ensures replays { Replays bot (with_axioms (p_always ∷ not_p_c ∷ [])) events last_state }
+    ensures replays { ReplaysFrom (p_always ∷ not_p_c ∷ []) bot events last_state }
     ensures open_conclusion { IsOpenConclusion bot solved_state selected_members p_c }
     ensures refuted { IsRefuted (map (abstraction bot) (entry_clauses last_state.entries)) }
     ensures no_solve { (atoms : List Tree) (t : State) → ¬ IsStep bot last_state (solved atoms) t }

@@ -1,5 +1,6 @@
 use Rattle.std.proofs.Common.{◌≡◌, ◌<◌, zero, suc, List, [], ◌∷◌, length, refl, subst as transport, lit<, inl, inr, ◌⊎◌, true, false, rules, arith}
 use Rattle.std.specs.Prelude.{All, Contains, Decides, Bool}
+use Rattle.std.specs.Fmt.{digits}
 use Rattle.inst_logic.specs.Tree.{Tree, var}
 use Rattle.inst_logic.specs.Equal.{tree_eq}
 use Rattle.inst_logic.specs.Substitution.{tree_vars}
@@ -103,7 +104,11 @@ pub returns-clause-infers : goal.returns-clause-infers
 returns-clause-infers c = infers
 
 pub returns-clause-replays : goal.returns-clause-replays
-returns-clause-replays c = (start_state, start, next solves (next infers ended))
+unfolding digits
+returns-clause-replays c = record {
+  constant = record { number = 0; symbol = refl; not_taken = refl; least = λ n h. absurd (omega arith) };
+  replays = (start_state, start, next solves (next infers ended));
+}
 
 -- the entries' abstractions are not all true
 none_true : (v : List Tree) → All (λ (e : Entry). IsTrueClause (Contains v) (abstraction bot e.clause)) last_state.entries → ⊥
