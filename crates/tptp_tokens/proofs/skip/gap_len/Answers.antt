@@ -1,0 +1,17 @@
+use Rattle.std.proofs.Common.{◌≡◌, ◌+◌, ◌≤◌, length, drop, arith, length-drop}
+use Rattle.std.proofs.lemmas.List.{take_rest}
+use Rattle.tptp_tokens.specs.Gap.{piece, gap}
+use Rattle.tptp_tokens.proofs.GapLemmas.{gap_goes_on}
+use Rattle.tptp_tokens.proofs.skip.gap_len.Goals as goal
+
+pub loop-n-preserved : goal.loop-n-preserved
+loop-n-preserved c =
+    let bytes = c.args.bytes.now in
+    let n = c.loop-n.n in
+    let k = c.piece_len-k.result in
+    let same = take_rest bytes n in
+    let said = rw same at c.piece_len-k.ensures in
+    record {
+      in_range = omega (arith, said.within, length-drop n bytes);
+      total = gap_goes_on bytes n k _ said.is (omega arith) said.within c.loop-n.invariant.total;
+    }
