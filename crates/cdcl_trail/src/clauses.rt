@@ -1,0 +1,59 @@
+// Clauses by their numbers.
+ghost use Rattle.std.specs.Prelude.{◌≡◌, [], IfOk, OnErr, option_copied};
+ghost use Rattle.cdcl_trail.specs.Clauses.{clause_number, AddsClause};
+
+use inst_logic::Memory;
+use prop_logic::{Lit, LitList};
+use slab::Slab;
+use std::alloc::Global;
+use std::marker::Model;
+
+/// Clauses by numbers, counted from 1, which stay while others are forgotten.
+#[derive(Drop)]
+pub struct Clauses {
+    alloc: Global,
+    clauses: Slab<LitList>,
+}
+
+impl Model for Clauses {
+    ghost use Rattle.std.specs.Prelude.{ℕ, List, Option};
+    ghost use Rattle.inst_logic.specs.declared.signed.Signed.{Signed};
+
+    ghost Value = { List (Option (List (Signed ℕ))) };
+
+    ghost view = { λ c. c.clauses.slots };
+}
+
+impl Clauses {
+    /// No clauses, which take no memory.
+    pub fn new(alloc: Global) -> Clauses
+        ensures { result ≡ [] }
+    {
+        Clauses {
+            alloc,
+            clauses: Slab::new(alloc),
+        }
+    }
+
+    /// Adds a copy of the clause, and answers its number. A refused call leaves the clauses as they were.
+    pub fn add(&mut self, c: &[Lit]) -> Result<usize, Memory>
+        ensures number { IfOk result (AddsClause self.old self.new c.now) }
+        ensures err { OnErr result (self.new ≡ self.old) }
+    {
+        let copy = LitList::from(Vec::from_slice(self.alloc, c)?);
+        match self.clauses.insert(copy) {
+            Ok(key) => Ok(key + 1),
+            Err(_) => Err(Memory),
+        }
+    }
+
+    /// The clause of this number.
+    pub fn get(&self, n: usize) -> Option<&LitList>
+        ensures { option_copied result ≡ clause_number self.now n }
+    {
+        if n == 0 {
+            return None;
+        }
+        self.clauses.get(n - 1)
+    }
+}
