@@ -4,7 +4,7 @@ use Rattle.std.specs.Prelude.{◌&&◌, ◌||◌, ◌==◌, not, IsTrue, if◌th
 use Rattle.std.specs.Option.{option_map_or}
 use Rattle.std.specs.List.{list_all}
 use Rattle.std.specs.Char.{is_ascii_digit, is_ascii_lowercase, is_ascii_uppercase}
-use Rattle.std.proofs.lemmas.Bool.{eqb-true, eqb-false, eq-eqb, ne_eqb, cond_both, or_cases}
+use Rattle.std.proofs.lemmas.Bool.{eqb-true, eqb-false, eq-eqb, ne_eqb, cond_both, or_cases, or_left, or_right}
 use Rattle.std.proofs.lemmas.Bool.Decides.{nat_tests}
 use Rattle.std.proofs.lemmas.List.{drop_at, drop-drop}
 use Rattle.tptp_tokens.specs.declared.kind.TokenKind.{TokenKind}
@@ -226,7 +226,7 @@ exponent_alone n rest e x i h j =
     let some = i.4 in
     rw (whole, q, f, found.1) (real_reached (length (n ++ e ∷ x)) (length i.0) (length i.1) 0 found.0 (omega (arith, length-append n (e ∷ x), found.2, whole_len n i)) (omega (arith, some.0)) (omega (arith, found.2)))
 
-pub real_found : (n ds rest : List ℕ) (e : ℕ) (x : List ℕ) → IsInteger n → AreDigits ds → IsTrue (e == 69 || e == 101) → IsInteger x → Reaches Real (length n + (length ds + 1) + (length x + 1)) (number_at (n ++ (46 ∷ ds ++ (e ∷ x ++ rest))))
+real_found : (n ds rest : List ℕ) (e : ℕ) (x : List ℕ) → IsInteger n → AreDigits ds → IsTrue (e == 69 || e == 101) → IsInteger x → Reaches Real (length n + (length ds + 1) + (length x + 1)) (number_at (n ++ (46 ∷ ds ++ (e ∷ x ++ rest))))
 real_found n ds rest e x i d h j =
     let other = exponent_mark e h in
     let tail = e ∷ x ++ rest in
@@ -237,3 +237,100 @@ real_found n ds rest e x i d h j =
     let found = exponent_found e x rest h j in
     let some = i.4 in
     rw (whole, f, behind, found.1) (real_reached (length n + (length ds + 1) + (length x + 1)) (length i.0) (length i.1) (length (46 ∷ ds)) found.0 (omega (arith, found.2, whole_len n i)) (omega (arith, some.0)) (omega (arith, found.2)))
+
+number_dispatch : (b : ℕ) (bs : List ℕ) → (is_sign b || is_ascii_digit b) ≡ true → token_at (b ∷ bs) ≡ number_at (b ∷ bs)
+unfolding token_at
+number_dispatch b bs e =
+    let no_lower : is_ascii_lowercase b ≡ false = no_letter b e in
+    let no_upper : is_ascii_uppercase b ≡ false = no_capital b e in
+    let no_dollar : (b == 36) ≡ false = no_mark b e in
+    let no_quote : (b == 39) ≡ false = no_single b e in
+    let no_double : (b == 34) ≡ false = no_two b e in
+    rw (no_lower, no_upper, no_dollar, no_quote, no_double, e) refl
+    where
+      no_letter : (b : ℕ) → (is_sign b || is_ascii_digit b) ≡ true → is_ascii_lowercase b ≡ false
+      no_letter b e = grind (arith, nat_tests)
+      no_capital : (b : ℕ) → (is_sign b || is_ascii_digit b) ≡ true → is_ascii_uppercase b ≡ false
+      no_capital b e = grind (arith, nat_tests)
+      no_mark : (b : ℕ) → (is_sign b || is_ascii_digit b) ≡ true → (b == 36) ≡ false
+      no_mark b e = grind (arith, nat_tests)
+      no_single : (b : ℕ) → (is_sign b || is_ascii_digit b) ≡ true → (b == 39) ≡ false
+      no_single b e = grind (arith, nat_tests)
+      no_two : (b : ℕ) → (is_sign b || is_ascii_digit b) ≡ true → (b == 34) ≡ false
+      no_two b e = grind (arith, nat_tests)
+
+parts_dispatch : (sign digits tail : List ℕ) → IsOptionalSign sign → AreDigits digits → token_at (sign ++ (digits ++ tail)) ≡ number_at (sign ++ (digits ++ tail))
+parts_dispatch [] [] tail h d = absurd (omega (arith, d.0))
+parts_dispatch [] (b ∷ bs) tail h d = number_dispatch b (bs ++ tail) (or_right (is_sign b) (is_ascii_digit b) (both_true (is_ascii_digit b) (list_all is_ascii_digit bs) d.1).0)
+parts_dispatch (b ∷ []) digits tail h d = number_dispatch b (digits ++ tail) (or_left (is_sign b) (is_ascii_digit b) h)
+parts_dispatch (b ∷ c ∷ bs) digits tail h d = absurd h
+
+number_begins : (n tail : List ℕ) → IsInteger n → token_at (n ++ tail) ≡ number_at (n ++ tail)
+number_begins n tail i =
+    let at : n ++ tail ≡ i.0 ++ (i.1 ++ tail) = ap (λ (xs : List ℕ). xs ++ tail) i.2 ∙ append_assoc i.0 i.1 tail in
+    ap token_at at ∙ (parts_dispatch i.0 i.1 tail i.3 i.4 ∙ sym (ap number_at at))
+
+-- a number by its text and what follows it
+as_number : (k : TokenKind) (l : ℕ) (n tail bs : List ℕ) → IsInteger n → bs ≡ n ++ tail → Reaches k l (number_at (n ++ tail)) → Reaches k l (token_at bs)
+as_number k l n tail bs i e h = subst (Reaches k l) (sym (ap token_at e ∙ number_begins n tail i)) h
+
+-- marks
+mark_one : (P : ℕ → Type 0) (b m : ℕ) (r : Bool) → P m → (r ≡ true → P b) → (r || b == m) ≡ true → P b
+mark_one P b m r at other e = cases (or_cases r (b == m) e) where
+  cases : ((r ≡ true) ⊎ ((b == m) ≡ true)) → P b
+  cases (inl h) = other h
+  cases (inr h) = subst P (sym (eqb-true b m h)) at
+
+-- what holds of each mark
+mark_each : (P : ℕ → Type 0) (b : ℕ) → P 40 → P 41 → P 44 → P 46 → P 58 → P 61 → P 91 → P 93 → P 124 → P 126 → is_mark b ≡ true → P b
+mark_each P b p0 p1 p2 p3 p4 p5 p6 p7 p8 p9 =
+    mark_one P b 126 _ p9 (mark_one P b 124 _ p8 (mark_one P b 93 _ p7 (mark_one P b 91 _ p6 (mark_one P b 61 _ p5
+    (mark_one P b 58 _ p4 (mark_one P b 46 _ p3 (mark_one P b 44 _ p2 (mark_one P b 41 _ p1 (λ e. subst P (sym (eqb-true b 40 e)) p0)))))))))
+
+mark_found : (b : ℕ) (rest : List ℕ) → is_mark b ≡ true → token_at (b ∷ rest) ≡ Some (Punctuation, 1)
+unfolding token_at
+mark_found b rest e = mark_each (λ (m : ℕ). token_at (m ∷ rest) ≡ Some (Punctuation, 1)) b refl refl refl refl refl refl refl refl refl refl e
+
+unequal_found : (rest : List ℕ) → token_at (33 ∷ 61 ∷ rest) ≡ Some (Punctuation, 2)
+unfolding token_at
+unequal_found rest = refl
+
+between_at : (mark : ℕ) (items text rest : List ℕ) → text ≡ mark ∷ items ++ mark ∷ [] → text ++ rest ≡ mark ∷ items ++ mark ∷ rest
+between_at mark items text rest e = ap (λ (xs : List ℕ). xs ++ rest) e ∙ ap (λ (xs : List ℕ). mark ∷ xs) (append_assoc items (mark ∷ []) rest)
+
+between_len : (mark : ℕ) (items text : List ℕ) → text ≡ mark ∷ items ++ mark ∷ [] → length text ≡ length items + 2
+between_len mark items text e = omega (arith, ap length e, length-append items (mark ∷ []))
+
+same_reach : (k : TokenKind) (l m : ℕ) (o : Option (TokenKind × ℕ)) → l ≡ m → Reaches k m o → Reaches k l o
+same_reach k l m o e h = rw e h
+
+fraction_at : (n f ds rest : List ℕ) → f ≡ 46 ∷ ds → (n ++ f) ++ rest ≡ n ++ (46 ∷ ds ++ rest)
+fraction_at n f ds rest e = append_assoc n f rest ∙ ap (λ (xs : List ℕ). n ++ (xs ++ rest)) e
+
+exponent_at : (n x rest : List ℕ) (e : ℕ) (i : List ℕ) → x ≡ e ∷ i → (n ++ x) ++ rest ≡ n ++ (e ∷ i ++ rest)
+exponent_at n x rest e i h = append_assoc n x rest ∙ ap (λ (xs : List ℕ). n ++ (xs ++ rest)) h
+
+real_at : (n f x ds rest : List ℕ) (e : ℕ) (i : List ℕ) → f ≡ 46 ∷ ds → x ≡ e ∷ i → (n ++ f ++ x) ++ rest ≡ n ++ (46 ∷ ds ++ (e ∷ i ++ rest))
+real_at n f x ds rest e i g h =
+    append_assoc (n ++ f) x rest ∙ (append_assoc n f (x ++ rest) ∙ (ap (λ (xs : List ℕ). n ++ (xs ++ (x ++ rest))) g ∙ ap (λ (xs : List ℕ). n ++ (46 ∷ ds ++ (xs ++ rest))) h))
+
+pub token_found : (k : TokenKind) (text rest : List ℕ) → IsToken k text → Reaches k (length text) (token_at (text ++ rest))
+token_found k text rest (a_lower t h) = lower_found t rest h
+token_found k text rest (a_variable t h) = upper_found t rest h
+token_found k text rest (a_dollar t h) = rw at_dollar (same_reach DollarWord (suc (length t)) (length t + 1) (dollar_at (t ++ rest)) (omega arith) (dollar_found t rest h))
+token_found k text rest (a_double t h) = rw at_dollar (same_reach DollarWord (suc (suc (length t))) (length t + 2) (dollar_at (36 ∷ t ++ rest)) (omega arith) (double_found t rest h))
+token_found k text rest (a_quoted items t h some) = rw (between_at 39 items t rest h.0, between_len 39 items t h.0) (quoted_found items rest h.1 some)
+token_found k text rest (a_distinct items t h) = rw (between_at 34 items t rest h.0, between_len 34 items t h.0) (distinct_found items rest h.1)
+token_found k text rest (an_integer t i) = as_number Integer (length t) t rest (t ++ rest) i refl (integer_found t rest i)
+token_found k text rest (a_rational n d i ds) = as_number Rational (length (n ++ 47 ∷ d)) n (47 ∷ d ++ rest) ((n ++ 47 ∷ d) ++ rest) i (append_assoc n (47 ∷ d) rest) (rational_found n d rest i ds)
+token_found k text rest (a_fraction n f i g) =
+    let same : length (n ++ f) ≡ length (n ++ 46 ∷ g.0) = ap (λ (xs : List ℕ). length (n ++ xs)) g.1 in
+    as_number Real (length (n ++ f)) n (46 ∷ g.0 ++ rest) ((n ++ f) ++ rest) i (fraction_at n f g.0 rest g.1) (same_reach Real _ _ _ same (fraction_found n g.0 rest i g.2))
+token_found k text rest (an_exponent n x i g) =
+    let same : length (n ++ x) ≡ length (n ++ g.0 ∷ g.1) = ap (λ (xs : List ℕ). length (n ++ xs)) g.2 in
+    as_number Real (length (n ++ x)) n (g.0 ∷ g.1 ++ rest) ((n ++ x) ++ rest) i (exponent_at n x rest g.0 g.1 g.2) (same_reach Real _ _ _ same (exponent_alone n rest g.0 g.1 i g.3 g.4))
+token_found k text rest (a_real n f x i g h) =
+    let same : length (n ++ f ++ x) ≡ length n + (length g.0 + 1) + (length h.1 + 1) = omega (arith, length-append (n ++ f) x, length-append n f, ap length g.1, ap length h.2) in
+    as_number Real (length (n ++ f ++ x)) n (46 ∷ g.0 ++ (h.0 ∷ h.1 ++ rest)) ((n ++ f ++ x) ++ rest) i (real_at n f x g.0 rest h.0 h.1 g.1 h.2) (same_reach Real _ _ _ same (real_found n g.0 rest h.0 h.1 i g.2 h.3 h.4))
+token_found k text rest (a_mark b e) = rw (mark_found b rest e) (reached Punctuation 1 1 (omega arith))
+token_found k text rest unequal = rw (unequal_found rest) (reached Punctuation 2 2 (omega arith))
