@@ -1,6 +1,5 @@
 -- What steps print, and how much work they are.
-use Rattle.std.proofs.Common.{◌≡◌, ℕ, ◌+◌, ◌-◌, ◌*◌, ◌<◌, ◌≤◌, List, [], ◌∷◌, ◌++◌, length, map, take, drop, get_or, refl, ap, sym, ◌∙◌, arith, append_assoc, append-nil, codes}
-use Rattle.std.proofs.Math.Seq.{drop-cons}
+use Rattle.std.proofs.Common.{◌≡◌, ℕ, ◌+◌, ◌-◌, ◌*◌, ◌<◌, ◌≤◌, List, [], ◌∷◌, ◌++◌, length, map, take, drop, get_or, ap, sym, ◌∙◌, arith, append_assoc, append-nil, codes}
 use Rattle.std.proofs.lemmas.List.{drop_more, drop_all, take_rest}
 use denote.Bor.{Bor}
 use Rattle.inst_logic.specs.declared.clause.Literal.{Literal}
@@ -42,7 +41,7 @@ one_more before after terms i t lt le is h =
     let at : drop (i - 1) terms ≡ t.now ∷ drop i terms = drop_more terms (i - 1) t.now (omega arith) ∙ (ap (λ (x : Term). x ∷ drop (i - 1 + 1) terms) (sym is) ∙ ap (λ (k : ℕ). t.now ∷ drop k terms) back) in
     let mid = map tree (drop i terms) in
     let text : steps_text (after ++ PrintNext t ∷ []) ≡ (44 ∷ tree_text (tree t.now) ++ more_text (of_list mid)) ++ steps_text before =
-        steps_text_push after (PrintNext t) ∙ (ap (λ (bs : List ℕ). (44 ∷ tree_text (tree t.now)) ++ bs) h.text ∙ sym (append_assoc (44 ∷ tree_text (tree t.now)) (more_text (of_list mid)) (steps_text before))) in
+    steps_text_push after (PrintNext t) ∙ (ap (λ (bs : List ℕ). (44 ∷ tree_text (tree t.now)) ++ bs) h.text ∙ sym (append_assoc (44 ∷ tree_text (tree t.now)) (more_text (of_list mid)) (steps_text before))) in
     record { text = rw at text; size = rw at (omega (arith, steps_size_push after (PrintNext t), h.size)) }
 
 -- the first literal, and what follows it

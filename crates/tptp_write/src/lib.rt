@@ -1,9 +1,9 @@
 //! Canonical printing of names, terms, literals and clauses (the CNF part of the TPTP language).
 #![tactic(auto)]
 
-pub mod clauses;
-pub mod names;
-pub mod terms;
+mod clauses;
+mod names;
+mod terms;
 #[cfg(test)]
 mod tests;
 

@@ -10,7 +10,7 @@ use crate::names::{push_bytes, push_name, push_number};
 use inst_logic::{Memory, Term, TermList};
 
 #[derive(Clone, Copy)]
-pub enum Step<'a> {
+enum Step<'a> {
     // The term is printed.
     Print(&'a Term),
     // A comma and the term are printed.
@@ -32,11 +32,7 @@ fn push_steps<'a>(steps: &mut Vec<Step<'a>>, terms: &'a [Term]) -> Result<(), Me
 }
 
 // Prints the parenthesis before the arguments, and leaves the rest of them to the steps.
-fn open<'a>(
-    text: &mut Vec<u8>,
-    steps: &mut Vec<Step<'a>>,
-    args: &'a TermList,
-) -> Result<(), Memory>
+fn open<'a>(text: &mut Vec<u8>, steps: &mut Vec<Step<'a>>, args: &'a TermList) -> Result<(), Memory>
     ensures text { OnOk result (text.new.items ++ steps_text steps.new.items ≡ text.old.items ++ (arguments_text (of_list args.now) ++ steps_text steps.old.items)) }
     ensures size { OnOk result (steps_size steps.new.items ≤ steps_size steps.old.items + 2 * trees_size (of_list args.now) + 1) }
 {
@@ -52,11 +48,7 @@ fn open<'a>(
 }
 
 // Prints the head of the term, and leaves its arguments to the steps.
-fn print<'a>(
-    text: &mut Vec<u8>,
-    steps: &mut Vec<Step<'a>>,
-    t: &'a Term,
-) -> Result<(), Memory>
+fn print<'a>(text: &mut Vec<u8>, steps: &mut Vec<Step<'a>>, t: &'a Term) -> Result<(), Memory>
     ensures text { OnOk result (text.new.items ++ steps_text steps.new.items ≡ text.old.items ++ (tree_text (tree t.now) ++ steps_text steps.old.items)) }
     ensures size { OnOk result (steps_size steps.new.items + 1 ≤ steps_size steps.old.items + 2 * tree_size (tree t.now)) }
 {
@@ -72,11 +64,7 @@ fn print<'a>(
     }
 }
 
-fn run_step<'a>(
-    text: &mut Vec<u8>,
-    steps: &mut Vec<Step<'a>>,
-    step: Step<'a>,
-) -> Result<(), Memory>
+fn run_step<'a>(text: &mut Vec<u8>, steps: &mut Vec<Step<'a>>, step: Step<'a>) -> Result<(), Memory>
     ensures text { OnOk result (text.new.items ++ steps_text steps.new.items ≡ text.old.items ++ (step_text step.entry ++ steps_text steps.old.items)) }
     ensures size { OnOk result (steps_size steps.new.items + 1 ≤ steps_size steps.old.items + step_size step.entry) }
 {

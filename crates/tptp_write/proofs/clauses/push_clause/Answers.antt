@@ -7,4 +7,4 @@ pub returns-in_ok-push_literal-in-len1-up : goal.returns-in_ok-push_literal-in-l
 returns-in_ok-push_literal-in-len1-up c =
     on_ok_weaker c.push_following.result
     (clause_written c.args.text.now.items c.push_literal.new.text.items c.push_following.new.text.items c.as_slice.result.now c.first-item.result c.args.c.now
-        c.as_slice.ensures (omega (arith, c.in-len1-up.len_at_least)) c.first-item.is c.in_ok-push_literal-in-len1-up.ensures) c.push_following.ensures
+    c.as_slice.ensures (omega (arith, c.in-len1-up.len_at_least)) c.first-item.is c.in_ok-push_literal-in-len1-up.ensures) c.push_following.ensures
