@@ -1,3 +1,4 @@
 pub mod Clauses
 pub mod Propagation
 pub mod Trail
+pub mod Values

@@ -1,5 +1,5 @@
 // Clauses by their numbers.
-ghost use Rattle.std.specs.Prelude.{◌≡◌, [], IfOk, OnErr, option_copied};
+ghost use Rattle.std.specs.Prelude.{◌≡◌, ◌≤◌, [], length, IfOk, OnErr, option_copied};
 ghost use Rattle.cdcl_trail.specs.Clauses.{clause_number, AddsClause};
 
 use inst_logic::Memory;
@@ -55,5 +55,12 @@ impl Clauses {
             return None;
         }
         self.clauses.get(n - 1)
+    }
+
+    // No clause has a number above this one.
+    pub(crate) fn slots(&self) -> usize
+        ensures { length self.now ≤ result }
+    {
+        self.clauses.capacity()
     }
 }
