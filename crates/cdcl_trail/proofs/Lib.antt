@@ -1,0 +1,3 @@
+pub mod PropagationLaws
+pub mod TrailLaws
+pub mod ValuesLaws
