@@ -57,6 +57,10 @@ sign_equal false false = refl
 abbrev pub trail_of : ℕ → ℕ → List Entry → Bool → Trail
 trail_of atoms level entries spent = record { atoms = atoms; level = level; entries = entries; spent = spent }
 
+pub same_trail : (t : Trail) (atoms : ℕ) (entries : List Entry) → IsTrail t → atoms ≡ t.atoms → entries ≡ t.entries → IsTrail (trail_of atoms t.level entries t.spent)
+same_trail t atoms entries v same_atoms same =
+    subst (λ es. IsTrail (trail_of atoms t.level es t.spent)) (sym same) (subst (λ n. IsTrail (trail_of n t.level t.entries t.spent)) (sym same_atoms) v)
+
 pub grown : (t : Trail) (atoms : ℕ) (entries : List Entry) (spent : Bool) → IsTrail t → entries ≡ t.entries → t.atoms ≤ atoms → IsTrail (trail_of atoms t.level entries spent)
 grown t atoms entries spent v same up = subst (λ es. IsTrail (trail_of atoms t.level es spent)) (sym same) (record {
   atoms_below = All-weaker (λ e. e.lit.atom < t.atoms) (λ e. e.lit.atom < atoms) (λ e h. omega (arith, h, up)) t.entries v.atoms_below;
@@ -78,7 +82,7 @@ decided t l v low unset =
       levels = All-push (λ x. x.level ≤ t.level + 1) t.entries e (All-weaker (λ x. x.level ≤ t.level) (λ x. x.level ≤ t.level + 1) (λ x h. omega (arith, h)) t.entries v.levels) (omega arith);
       decided = λ k p q. elim (cases_eq k (t.level + 1)) [
         | inl same ↦ (e, Contains-push t.entries e, sym same, refl)
-        | inr other ↦ let h = v.decided k p (omega (arith, q, other)) in (h.0, Contains-append_left t.entries (e ∷ []) h.0 h.1, h.2.0, h.2.1)
+        | inr other ↦ let h = v.decided k p (omega (arith, q, other)) in (h.0, Contains-append_left t.entries (e ∷ []) h.0 h.1, h.2, h.3)
       ];
       first = all_pairs_push (λ a b. IsDecision b → a.level < b.level) t.entries e v.first
           (All-weaker (λ x. x.level ≤ t.level) (λ x. IsDecision e → x.level < t.level + 1) (λ x h d. omega (arith, h)) t.entries v.levels);
@@ -93,17 +97,17 @@ implied t l n v low unset =
       once = all_pairs_push (λ a b. a.lit.atom ≢ b.lit.atom) t.entries e v.once unset;
       rising = all_pairs_push (λ a b. a.level ≤ b.level) t.entries e v.rising v.levels;
       levels = All-push (λ x. x.level ≤ t.level) t.entries e v.levels (omega arith);
-      decided = λ k p q. let h = v.decided k p q in (h.0, Contains-append_left t.entries (e ∷ []) h.0 h.1, h.2.0, h.2.1);
+      decided = λ k p q. let h = v.decided k p q in (h.0, Contains-append_left t.entries (e ∷ []) h.0 h.1, h.2, h.3);
       first = all_pairs_push (λ a b. IsDecision b → a.level < b.level) t.entries e v.first
           (All-weaker (λ x. x.level ≤ t.level) (λ x. IsDecision e → x.level < t.level) (λ x h d. absurd (none-some n (sym d))) t.entries v.levels);
       above = All-push (λ x. IsDecision x → 0 < x.level) t.entries e v.above (λ d. absurd (none-some n (sym d)));
     }
 
 -- an element that passes is one of those that do
-contains_here : {X : Type 0} (x : X) (xs : List X) → Contains (x ∷ xs) x
+pub contains_here : {X : Type 0} (x : X) (xs : List X) → Contains (x ∷ xs) x
 contains_here x xs = (0, omega arith, refl)
 
-contains_there : {X : Type 0} (y x : X) (xs : List X) → Contains xs x → Contains (y ∷ xs) x
+pub contains_there : {X : Type 0} (y x : X) (xs : List X) → Contains xs x → Contains (y ∷ xs) x
 contains_there y x xs c = (suc c.0, omega (arith, c.1), c.2)
 
 contains_filter : {X : Type 0} (p : X → Bool) (xs : List X) → All (λ x. p x ≡ true → Contains (filter p xs) x) xs
@@ -145,7 +149,7 @@ few_levels (suc n) es each =
     above a b e = grind (arith, nat_tests)
 
 pub level_within : (t : Trail) → IsTrail t → t.level ≤ length t.entries
-level_within t v = few_levels t.level t.entries (λ k p q. let h = v.decided k p q in (h.0, h.1, h.2.0))
+level_within t v = few_levels t.level t.entries (λ k p q. let h = v.decided k p q in (h.0, h.1, h.2))
 
 -- the levels above are taken back
 pub back : (t : Trail) (n : ℕ) (entries : List Entry) (atoms : ℕ) (spent : Bool) → IsTrail t → n ≤ t.level → entries ≡ entries_up_to t.entries n → atoms ≡ t.atoms → IsTrail (trail_of atoms n entries spent)
@@ -158,8 +162,8 @@ back t n entries atoms spent v h same same_atoms =
       levels = All-weaker (λ e. low e ≡ true) (λ e. e.level ≤ n) (λ e k. leb-true e.level n k) (filter low t.entries) (filter_passes low t.entries);
       decided = λ k p q.
           let d = v.decided k p (omega (arith, q, h)) in
-          let passes : low d.0 ≡ true = le-leb d.0.level n (omega (arith, q, d.2.0)) in
-          (d.0, All-contains (λ x. low x ≡ true → Contains (filter low t.entries) x) t.entries d.0 (contains_filter low t.entries) d.1 passes, d.2.0, d.2.1);
+          let passes : low d.0 ≡ true = le-leb d.0.level n (omega (arith, q, d.2)) in
+          (d.0, All-contains (λ x. low x ≡ true → Contains (filter low t.entries) x) t.entries d.0 (contains_filter low t.entries) d.1 passes, d.2, d.3);
       first = AllPairs-filter (λ a b. IsDecision b → a.level < b.level) low t.entries v.first;
       above = All-filter low (λ e. IsDecision e → 0 < e.level) t.entries v.above;
     }))

@@ -40,11 +40,10 @@ impl Clauses {
         ensures number { IfOk result (AddsClause self.old self.new c.now) }
         ensures err { OnErr result (self.new ≡ self.old) }
     {
+        let number = self.clauses.vacant_key().checked_add(1).ok_or(Memory)?;
         let copy = LitList::from(Vec::from_slice(self.alloc, c)?);
-        match self.clauses.insert(copy) {
-            Ok(key) => Ok(key + 1),
-            Err(_) => Err(Memory),
-        }
+        self.clauses.insert(copy)?;
+        Ok(number)
     }
 
     /// The clause of this number.
