@@ -1,9 +1,12 @@
 -- What the values say of a clause.
 use Rattle.std.proofs.Common.{◌≡◌, ◌≢◌, ℕ, suc, zero, ◌+◌, ◌<◌, ◌≤◌, Bool, true, false, not, cond, ◌⊎◌, inl, inr, List, [], ◌∷◌, ◌++◌, length, map, take, get_or, Option, Some, None, refl, sym, ap, ◌∙◌, subst, arith}
-use Rattle.std.specs.Prelude.{All, AllPairs, Contains, ◌==◌}
+use Rattle.std.specs.Prelude.{All, AllPairs, Contains, ◌==◌, ◌&&◌}
 use Rattle.std.proofs.lemmas.List.Elements.{All-nil, All-cons, All-head, All-tail, All-push, All-weaker, All-contains, All-map, All-contains_itself, Contains-push, Contains-append_left}
 use Rattle.std.proofs.lemmas.Option.{none-some, same_Some}
-use Rattle.std.proofs.lemmas.Bool.{eqb-true, eqb-false}
+use Rattle.std.proofs.lemmas.Bool.{eqb-true, eqb-false, eq-eqb}
+use Rattle.std.proofs.Math.Dec.{eqb}
+use Rattle.std.specs.Bool.{beq}
+use Rattle.prop_logic.proofs.ListLaws.{Contains-take}
 use Rattle.inst_logic.specs.declared.signed.Signed.{Signed}
 use Rattle.inst_logic.specs.Signed.{complement}
 use Rattle.cdcl_trail.specs.declared.entry.Entry.{Entry}
@@ -160,3 +163,23 @@ rests_stable clauses es once rests = record {
   no_conflict = λ n k. rest_no_conflict es k.0 once (rests n k.0 k.1) k.2;
   no_unit = λ n c l at unset unit. rest_no_unit es c l once (rests n c at) unset unit;
 }
+
+-- literals that the comparison tells apart
+pub unequal : (a l : Signed ℕ) → (beq a.positive l.positive && eqb a.atom l.atom) ≡ false → a ≢ l
+unequal a l h e =
+    let p : beq a.positive l.positive ≡ true = same_sign a.positive l.positive (ap (λ x. x.positive) e) in
+    let q : eqb a.atom l.atom ≡ true = eq-eqb a.atom l.atom (ap (λ x. x.atom) e) in
+    let k : (beq a.positive l.positive && eqb a.atom l.atom) ≡ true = rw p q in
+    let bad : true ≡ false = sym k ∙ h in
+    absurd cc
+  where
+    same_sign : (p q : Bool) → p ≡ q → beq p q ≡ true
+    same_sign true true e = refl
+    same_sign true false e = absurd cc
+    same_sign false true e = absurd cc
+    same_sign false false e = refl
+
+-- what holds of the first literals
+pub rest_of_first : (es : List Entry) (clause : List (Signed ℕ)) (n : ℕ) → HasRest es (take n clause) → HasRest es clause
+rest_of_first es clause n (inl t) = inl (t.0, Contains-take clause n t.0 t.1, t.2)
+rest_of_first es clause n (inr t) = inr (t.0, t.1, Contains-take clause n t.0 t.2, Contains-take clause n t.1 t.3, t.4, t.5, t.6)

@@ -40,10 +40,13 @@ impl Clauses {
         ensures number { IfOk result (AddsClause self.old self.new c.now) }
         ensures err { OnErr result (self.new ≡ self.old) }
     {
-        let number = self.clauses.vacant_key().checked_add(1).ok_or(Memory)?;
+        let key = self.clauses.vacant_key();
+        if key == usize::MAX {
+            return Err(Memory);
+        }
         let copy = LitList::from(Vec::from_slice(self.alloc, c)?);
         self.clauses.insert(copy)?;
-        Ok(number)
+        Ok(key + 1)
     }
 
     /// The clause of this number.

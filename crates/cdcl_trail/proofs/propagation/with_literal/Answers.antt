@@ -4,7 +4,7 @@ use Rattle.cdcl_trail.specs.declared.propagation.Scan.TheVariants.{False, Unit a
 use Rattle.cdcl_trail.specs.Propagation.{IsFalseIn}
 use Rattle.cdcl_trail.specs.Scan.{IsScanned, HasRest}
 use Rattle.cdcl_trail.specs.Trail.{value_of}
-use Rattle.cdcl_trail.proofs.ScanLaws.{step_true, step_false, step_unit, step_other, rest_more}
+use Rattle.cdcl_trail.proofs.ScanLaws.{step_true, step_false, step_unit, step_other, rest_more, unequal}
 use Rattle.cdcl_trail.proofs.propagation.with_literal.Goals as goal
 
 pub returns-in-Some-true : goal.returns-in-Some-true
@@ -22,7 +22,7 @@ returns-in-False c es read s v = step_unit es read c.args.l (subst (IsScanned es
 
 pub returns-else-eq : goal.returns-else-eq
 returns-else-eq c es read s v =
-    let other : c.in-Unit.other ≢ c.args.l = ? in
+    let other : c.in-Unit.other ≢ c.args.l = unequal c.in-Unit.other c.args.l (sym c.eq.ensures ∙ c.if-eq.false) in
     step_other es read c.args.l c.in-Unit.other (subst (IsScanned es read) c.in-Unit.is s) other (sym v ∙ c.in-None.is)
 
 pub returns-in-Rest : goal.returns-in-Rest

@@ -5,4 +5,4 @@ use Rattle.cdcl_trail.proofs.ClausesLaws.{by_number}
 use Rattle.cdcl_trail.proofs.clauses.Clauses.get.Goals as goal
 
 pub returns : goal.returns
-returns c = c.get.ensures ∙ by_number c.self.inside.clauses.slots c.args.n ? ∙ ap (λ s. clause_number s c.args.n) c.self.view_is
+returns c = c.get.ensures ∙ by_number c.self.inside.clauses.slots c.args.n c.if-n-eq0.false ∙ ap (λ s. clause_number s c.args.n) c.self.view_is
