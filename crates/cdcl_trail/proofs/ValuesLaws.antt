@@ -208,7 +208,7 @@ found_is es by_atom a None v at =
 found_is es by_atom a (Some x) v at =
     let f = v.by_entry a x at in
     let all : All (λ y. y.lit.atom ≡ a → y ≡ x) es = All-weaker (λ y. slice_get by_atom y.lit.atom ≡ Some (Some y)) (λ y. y.lit.atom ≡ a → y ≡ x)
-        (λ y t same. same_Some y x (same_Some (Some y) (Some x) (sym t ∙ ap (slice_get by_atom) same ∙ at))) es v.at_atom in
+    (λ y t same. same_Some y x (same_Some (Some y) (Some x) (sym t ∙ ap (slice_get by_atom) same ∙ at))) es v.at_atom in
     sym (find_some es a x all f.0 f.1)
 
 -- one atom more
@@ -267,10 +267,10 @@ pub all_low : (es : List Entry) (e : Entry) (n : ℕ) → AllPairs (λ a b. a.le
 all_low es e n rising h =
     All-push (λ x. x.level ≤ n) es e
     (λ k d within.
-        let size : length (es ++ e ∷ []) ≡ length es + 1 = length_push es e in
-        let up = rising k (length es) d within (omega (arith, size)) in
-        let early : get_or (es ++ e ∷ []) k d ≡ get_or es k d = get_or_from_slice_get (es ++ e ∷ []) k (get_or es k d) d (slice_get_append es (e ∷ []) k (get_or es k d) (slice_get-get_or es k d within)) in
-        let late : get_or (es ++ e ∷ []) (length es) d ≡ e = get_or_from_slice_get (es ++ e ∷ []) (length es) e d (slice_get_last es e) in
-        let a : (get_or (es ++ e ∷ []) k d).level ≡ (get_or es k d).level = ap (λ x. x.level) early in
-        let b : (get_or (es ++ e ∷ []) (length es) d).level ≡ e.level = ap (λ x. x.level) late in
-        omega (arith, up, a, b, h)) h
+    let size : length (es ++ e ∷ []) ≡ length es + 1 = length_push es e in
+    let up = rising k (length es) d within (omega (arith, size)) in
+    let early : get_or (es ++ e ∷ []) k d ≡ get_or es k d = get_or_from_slice_get (es ++ e ∷ []) k (get_or es k d) d (slice_get_append es (e ∷ []) k (get_or es k d) (slice_get-get_or es k d within)) in
+    let late : get_or (es ++ e ∷ []) (length es) d ≡ e = get_or_from_slice_get (es ++ e ∷ []) (length es) e d (slice_get_last es e) in
+    let a : (get_or (es ++ e ∷ []) k d).level ≡ (get_or es k d).level = ap (λ x. x.level) early in
+    let b : (get_or (es ++ e ∷ []) (length es) d).level ≡ e.level = ap (λ x. x.level) late in
+    omega (arith, up, a, b, h)) h
