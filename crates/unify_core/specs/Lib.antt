@@ -2,6 +2,7 @@ pub mod Bindings
 pub mod Chains
 pub mod Lists
 pub mod Matching
+pub mod Meeting
 pub mod Pairs
 pub mod Passed
 pub mod Progress

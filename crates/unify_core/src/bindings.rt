@@ -12,6 +12,7 @@ ghost use Rattle.unify_core.specs.Matching.{AreMatches, IsMatch, HasNoMatch};
 ghost use Rattle.unify_core.specs.Sizes.{IsSizeUnder};
 ghost use Rattle.unify_core.specs.Passed.{IsPassed, no_binding};
 
+use crate::matching::match_terms;
 use crate::side::{Bound, Pair, Side, Variable};
 use crate::unify::unify_terms;
 use crate::walk::follow;
@@ -29,6 +30,7 @@ pub struct Bindings {
     work: Vec<Pair>,
     done: IndexSet<Pair>,
     seen: IndexSet<Bound>,
+    met: IndexMap<TermId, TermId>,
     spent: bool,
 }
 
@@ -50,6 +52,7 @@ impl Bindings {
             work: Vec::new(alloc),
             done: IndexSet::new(alloc),
             seen: IndexSet::new(alloc),
+            met: IndexMap::new(alloc),
             spent: false,
         }
     }
@@ -111,11 +114,21 @@ impl Bindings {
         ensures ok { OnOk result ((self.old.spent ≡ false) × (self.new.spent ≡ false)) }
         ensures err { OnErr result (self.new.spent ≡ true) }
     {
-        let _bank = bank;
-        let _pattern = pattern;
-        let _target = target;
-        self.spent = true;
-        Err(Memory)
+        if self.spent {
+            return Err(Memory);
+        }
+        let kept = self.map.len();
+        match match_terms(bank, &mut self.map, &mut self.met, pattern, target) {
+            Err(e) => {
+                self.spent = true;
+                Err(e)
+            }
+            Ok(true) => Ok(true),
+            Ok(false) => {
+                self.map.truncate(kept);
+                Ok(false)
+            }
+        }
     }
 
     /// The size of the side's clause under the bindings, repeated literals dropped, or `u64::MAX` where it is larger. It counts
