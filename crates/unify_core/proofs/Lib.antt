@@ -17,3 +17,6 @@ pub mod Meetings
 pub mod MatchSteps
 pub mod MatchWalk
 pub mod MatchBindings
+pub mod ClassTable
+pub mod ClassWalk
+pub mod ClassPath

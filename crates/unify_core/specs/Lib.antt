@@ -1,5 +1,7 @@
 pub mod Bindings
 pub mod Chains
+pub mod ClassSteps
+pub mod Classes
 pub mod Lists
 pub mod Matching
 pub mod Meeting
