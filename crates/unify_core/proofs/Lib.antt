@@ -20,3 +20,4 @@ pub mod MatchBindings
 pub mod ClassTable
 pub mod ClassWalk
 pub mod ClassPath
+pub mod Counting

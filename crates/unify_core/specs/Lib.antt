@@ -2,6 +2,7 @@ pub mod Bindings
 pub mod Chains
 pub mod ClassSteps
 pub mod Classes
+pub mod Counts
 pub mod Lists
 pub mod Matching
 pub mod Meeting

@@ -12,8 +12,10 @@ ghost use Rattle.unify_core.specs.Matching.{AreMatches, IsMatch, HasNoMatch};
 ghost use Rattle.unify_core.specs.Sizes.{IsSizeUnder};
 ghost use Rattle.unify_core.specs.Passed.{IsPassed, no_binding};
 
+use crate::classes::Part;
 use crate::matching::match_terms;
 use crate::side::{Bound, Pair, Side, Variable};
+use crate::sizes::{ClassLiteral, clause_size};
 use crate::unify::unify_terms;
 use crate::walk::follow;
 use indexmap::{IndexMap, IndexSet};
@@ -31,6 +33,10 @@ pub struct Bindings {
     done: IndexSet<Pair>,
     seen: IndexSet<Bound>,
     met: IndexMap<TermId, TermId>,
+    classes: IndexMap<Part, u64>,
+    numbers: IndexMap<Bound, usize>,
+    path: Vec<Bound>,
+    counted: IndexSet<ClassLiteral>,
     spent: bool,
 }
 
@@ -53,6 +59,10 @@ impl Bindings {
             done: IndexSet::new(alloc),
             seen: IndexSet::new(alloc),
             met: IndexMap::new(alloc),
+            classes: IndexMap::new(alloc),
+            numbers: IndexMap::new(alloc),
+            path: Vec::new(alloc),
+            counted: IndexSet::new(alloc),
             spent: false,
         }
     }
@@ -141,11 +151,21 @@ impl Bindings {
         ensures ok { OnOk result ((self.old.spent ≡ false) × (self.new.spent ≡ false)) }
         ensures err { OnErr result (self.new.spent ≡ true) }
     {
-        let _bank = bank;
-        let _side = side;
-        let _clause = c;
-        self.spent = true;
-        Err(Memory)
+        if self.spent {
+            return Err(Memory);
+        }
+        let result = clause_size(
+            bank,
+            &self.map,
+            &mut self.classes,
+            &mut self.numbers,
+            &mut self.path,
+            &mut self.counted,
+            side,
+            c,
+        );
+        self.spent = result.is_err();
+        result
     }
 
     /// The term to which the variable is bound, with the side of its variables. It is not followed further.
