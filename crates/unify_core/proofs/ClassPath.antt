@@ -1,9 +1,9 @@
 -- The path of a walk to the classes of terms: what the bindings make of each of its terms is smaller than of those before it,
 -- or as large with fewer bindings to follow, so no term stands on it twice.
-use Rattle.std.proofs.Common.{◌≡◌, ℕ, ◌+◌, ◌*◌, ◌-◌, ◌<◌, ◌≤◌, List, [], ◌∷◌, ◌++◌, ◌⊎◌, inl, inr, length, map, refl, ap, sym, ◌∙◌, subst, arith, Bool, true, false}
+use Rattle.std.proofs.Common.{◌≡◌, ℕ, ◌+◌, ◌*◌, ◌-◌, ◌<◌, ◌≤◌, List, [], ◌∷◌, ◌++◌, ◌⊎◌, inl, inr, length, refl, ap, sym, ◌∙◌, subst, arith, false}
 use Rattle.std.specs.Map.{keys_of}
 use Rattle.std.specs.List.{IsDistinct, AllByRecursion}
-use Rattle.std.proofs.lemmas.List.{length-map, length_push}
+use Rattle.std.proofs.lemmas.List.{length_push}
 use Rattle.std.proofs.lemmas.Map.Keys.{IsDistinct-cons}
 use Rattle.std.proofs.Math.Nat.{mul-le-mul_left}
 use Rattle.inst_logic.specs.Tree.{Tree, var, app, Trees, none, more, to_list}
@@ -13,14 +13,14 @@ use Rattle.term_bank.specs.Forest.{Forest, tree_at}
 use Rattle.unify_core.specs.Lists.{◌∈◌}
 use Rattle.unify_core.specs.Solved.{IsSolvedBy}
 use Rattle.unify_core.specs.Sides.{Binding, numbered, on_side, bound_tree, assignments}
-use Rattle.unify_core.specs.Chains.{chain_left, place, AreBindings}
+use Rattle.unify_core.specs.Chains.{chain_left, AreBindings}
 use Rattle.unify_core.specs.Visits.{IsStepFrom}
 use Rattle.unify_core.specs.ClassSteps.{IsAdvance}
 use Rattle.unify_core.specs.declared.side.Side.{Side}
 use Rattle.unify_core.specs.declared.side.Bound.{Bound}
-use Rattle.unify_core.proofs.Lists.{∈-map, ∈-append_left, ∈-append_right, ∈-push}
+use Rattle.unify_core.proofs.Lists.{∈-append_left, ∈-append_right, ∈-push}
 use Rattle.unify_core.proofs.Chains.{step_within, step_same, step_falls}
-use Rattle.unify_core.proofs.Sets.{bound_eq, bound_same, bound_itself, few_bounds}
+use Rattle.unify_core.proofs.Sets.{bound_eq, bound_same, few_bounds}
 use Rattle.unify_core.proofs.Meetings.{yes_or_no}
 
 abbrev pub rank : Forest → List Binding → (ℕ → Tree) → Bound → ℕ
@@ -67,18 +67,21 @@ IsFalling r (b ∷ bs) = ((c : Bound) → c ∈ bs → r c < r b) × IsFalling r
 
 falling_push : (r : Bound → ℕ) (bs : List Bound) (c : Bound) → IsFalling r bs → ((b : Bound) → b ∈ bs → r c < r b) → IsFalling r (bs ++ c ∷ [])
 falling_push r [] c h k = ((λ d i. absurd i), tt)
-falling_push r (b ∷ bs) c h k =
-    ((λ d i. elim (∈-push d c bs i) [ inl j ↦ h.0 d j | inr e ↦ subst (λ (z : Bound). r z < r b) (sym e) (k b (inl refl)) ]),
-    falling_push r bs c h.1 (λ d i. k d (inr i)))
+falling_push r (b ∷ bs) c h k = (
+  (λ d i. elim (∈-push d c bs i) [ inl j ↦ h.0 d j | inr e ↦ subst (λ (z : Bound). r z < r b) (sym e) (k b (inl refl)) ]),
+  falling_push r bs c h.1 (λ d i. k d (inr i)),
+)
 
 falling_front : (r : Bound → ℕ) (bs : List Bound) (c : Bound) → IsFalling r (bs ++ c ∷ []) → IsFalling r bs × ((b : Bound) → b ∈ bs → r c < r b)
 falling_front r [] c h = (tt, (λ b i. absurd i))
 falling_front r (b ∷ bs) c h =
-    let k = falling_front r bs c h.1 in
-    (((λ d i. h.0 d (∈-append_left d bs (c ∷ []) i)), k.0), (λ d i. elim i [
-      | inl e ↦ subst (λ (z : Bound). r c < r z) (sym e) (h.0 c (∈-append_right c bs (c ∷ []) (inl refl)))
-      | inr j ↦ k.1 d j
-    ]))
+    let k = falling_front r bs c h.1 in (
+      ((λ d i. h.0 d (∈-append_left d bs (c ∷ []) i)), k.0),
+      (λ d i. elim i [
+        | inl e ↦ subst (λ (z : Bound). r c < r z) (sym e) (h.0 c (∈-append_right c bs (c ∷ []) (inl refl)))
+        | inr j ↦ k.1 d j
+      ]),
+    )
 
 no_bounds : IsDistinct bound_eq []
 unfolding IsDistinct
@@ -90,10 +93,13 @@ falling_distinct r (b ∷ bs) h = IsDistinct-cons bound_eq b bs (apart bs h.0) (
   where
     apart : (cs : List Bound) → ((c : Bound) → c ∈ cs → r c < r b) → AllByRecursion (λ y. bound_eq b y ≡ false) cs
     apart [] k = tt
-    apart (c ∷ cs) k = (elim (yes_or_no (bound_eq b c)) [
-      | inl t ↦ (let e = ap r (bound_same b c t) in let l = k c (inl refl) in absurd (omega arith))
-      | inr n ↦ n
-    ], apart cs (λ d i. k d (inr i)))
+    apart (c ∷ cs) k = (
+      elim (yes_or_no (bound_eq b c)) [
+        | inl t ↦ (let e = ap r (bound_same b c t) in let l = k c (inl refl) in absurd (omega arith))
+        | inr n ↦ n
+      ],
+      apart cs (λ d i. k d (inr i)),
+    )
 
 pub record IsPath (f : Forest) (es : List Binding) (from : Bound) (ns : List (Bound × ℕ)) (path : List Bound) : Type 0 where
   pub within : (c : Bound) → c ∈ path → c.term < length f.trees

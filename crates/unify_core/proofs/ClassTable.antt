@@ -1,12 +1,11 @@
 -- The table of classes as it grows.
-use Rattle.std.proofs.Common.{◌≡◌, ℕ, ◌+◌, ◌-◌, ◌^◌, ◌<◌, ◌≤◌, min, List, [], ◌∷◌, ◌++◌, ◌⊎◌, inl, inr, length, refl, ap, ap₂, sym, ◌∙◌, subst, arith, Bool, true, false, nat_eq}
-use Rattle.std.specs.Map.{keys_of}
+use Rattle.std.proofs.Common.{◌≡◌, ℕ, ◌+◌, ◌-◌, ◌^◌, ◌<◌, min, List, [], ◌∷◌, ◌++◌, ◌⊎◌, inl, inr, length, refl, ap, ap₂, sym, ◌∙◌, subst, arith, Bool, true, nat_eq}
 use Rattle.std.proofs.lemmas.List.{get_or_append_left, get_or_push, length_push}
 use Rattle.std.proofs.lemmas.List.Sums.{fold_push}
 use Rattle.std.proofs.lemmas.Bool.Decides.{Decides-eqb}
 use Rattle.inst_logic.proofs.SameLemmas.{and_left, and_right, and_both}
 use Rattle.inst_logic.specs.declared.symbol.Sym.{Sym}
-use Rattle.inst_logic.specs.Tree.{Tree, var, app, Trees, none, more}
+use Rattle.inst_logic.specs.Tree.{Tree, var, app, Trees, none}
 use Rattle.inst_logic.specs.Measure.{tree_size}
 use Rattle.inst_logic.specs.Unifiers.{IsApplication}
 use Rattle.term_bank.specs.Forest.{Forest, nth, symbol_at, number_of, AreDistinct}
@@ -171,8 +170,8 @@ module _ (f : Forest) (cs : List Class) (t : IsTable f cs) (p : Part) (n : ℕ) 
           by (inl a) (inr b) = absurd (other i a (sym (old i a) ∙ e ∙ ap (nth (class_trees f cs ++ part_tree f (class_trees f cs) p ∷ [])) b ∙ at_end))
           by (inr a) (inl b) = absurd (other j b (sym (old j b) ∙ sym e ∙ ap (nth (class_trees f cs ++ part_tree f (class_trees f cs) p ∷ [])) a ∙ at_end))
           by (inr a) (inr b) = a ∙ sym b
+          -- the part is one that is there, or goes last
 
-  -- the part is one that is there, or goes last
 pub same_size : (f : Forest) (cs : List Class) → IsTable f cs → (p : Part) (n : ℕ) → n ≡ min (tree_size (part_tree f (class_trees f cs) p)) (2 ^ 64 - 1)
     → (i : ℕ) → i < length cs → (class_at cs i).0 ≡ p → (class_at cs i).1 ≡ n
 same_size f cs t p n size i h e = t.sizes i h ∙ ap (λ (z : Tree). min (tree_size z) (2 ^ 64 - 1)) (t.trees i h ∙ ap (part_tree f (class_trees f cs)) e) ∙ sym size

@@ -1,20 +1,19 @@
 -- The classes of terms: of an application from those of its arguments, and of a variable from that of its term.
-use Rattle.std.proofs.Common.{◌≡◌, ℕ, ◌+◌, ◌*◌, ◌<◌, ◌≤◌, List, [], ◌∷◌, ◌++◌, ◌⊎◌, inl, inr, length, map, refl, ap, ap₂, sym, ◌∙◌, subst, arith, Bool, true, Option, Some, None}
+use Rattle.std.proofs.Common.{◌≡◌, ℕ, ◌*◌, ◌<◌, ◌≤◌, List, [], ◌∷◌, ◌++◌, inl, inr, length, map, refl, ap, ap₂, sym, ◌∙◌, subst, arith, Bool, true, Option, Some, None}
 use Rattle.std.specs.Map.{lookup, keys_of}
 use Rattle.std.specs.List.{IsDistinct}
-use Rattle.std.proofs.lemmas.List.{length-map, length_push}
-use Rattle.inst_logic.specs.declared.symbol.Sym.{Sym}
+use Rattle.std.proofs.lemmas.List.{length-map}
 use Rattle.inst_logic.specs.Tree.{Tree, var, app, Trees, none, more, to_list, of_list}
 use Rattle.inst_logic.specs.Substitution.{subst as apply, substs as apply_each}
 use Rattle.inst_logic.specs.Unifiers.{Sided, IsApplication}
 use Rattle.term_bank.specs.Forest.{Forest, tree_at, nth, arguments_of}
 use Rattle.unify_core.specs.Lists.{◌∈◌}
 use Rattle.unify_core.specs.Solved.{IsKey}
-use Rattle.unify_core.specs.Sides.{Binding, numbered, variable_number, on_side, bound_tree, assignment, assignments, of_side, IsResolvedBy}
-use Rattle.unify_core.specs.Steps.{IsBoundTo, IsNext}
+use Rattle.unify_core.specs.Sides.{Binding, variable_number, on_side, bound_tree, assignment, assignments, of_side}
+use Rattle.unify_core.specs.Steps.{IsNext}
 use Rattle.unify_core.specs.Visits.{IsStepFrom}
 use Rattle.unify_core.specs.Classes.{Class, with_argument, part_tree, class_trees, IsTable, KeepsClasses, IsClass, IsClassOf, AreClassesOf}
-use Rattle.unify_core.specs.ClassSteps.{under, resolved, IsClassUnder, IsLookUp, IsFreeClass, IsFound, IsAdvance}
+use Rattle.unify_core.specs.ClassSteps.{under, resolved, IsClassUnder, IsLookUp, IsFreeClass, IsFound}
 use Rattle.unify_core.specs.declared.classes.Part.TheVariants.{Argument}
 use Rattle.unify_core.specs.declared.numbering.Found.{Found}
 use Rattle.unify_core.specs.declared.numbering.Found.TheVariants.{Known, Missing}
@@ -53,9 +52,11 @@ argument_over f es cs b c ids k a t h i = let l = t.lengths in (omega (arith, i.
 
 pub argument_more : (f : Forest) (es : List Binding) (cs ds : List Class) (b : Bound) (x : ℕ) (ids : List ℕ) (k a n : ℕ) → IsApplication (tree_at f b.term) → IsClassUnder f es cs b ids k
     → IsClassOf f es cs (record { side = b.side; term = x }) a → IsClass f ds n (part_tree f (class_trees f cs) (Argument a k)) → IsClassUnder f es ds b (x ∷ ids) n
-argument_more f es cs ds b x ids k a n applies h i d =
-    (d.0, subst (λ (z : Tree). IsApplication z) (sym d.1) (with_argument_applies (nth (class_trees f cs) a) (nth (class_trees f cs) k) h.1),
-    λ s r. d.1 ∙ ap₂ with_argument (i.2 s r) (h.2 s r) ∙ under_more (apply (of_side s b.side) (tree_at f x)) (tree_at f b.term) (resolved f s b.side ids) applies)
+argument_more f es cs ds b x ids k a n applies h i d = (
+  d.0,
+  subst (λ (z : Tree). IsApplication z) (sym d.1) (with_argument_applies (nth (class_trees f cs) a) (nth (class_trees f cs) k) h.1),
+  λ s r. d.1 ∙ ap₂ with_argument (i.2 s r) (h.2 s r) ∙ under_more (apply (of_side s b.side) (tree_at f x)) (tree_at f b.term) (resolved f s b.side ids) applies,
+)
 
 each_whole : (f : Forest) (s : Sided) (r : Side) (ids : List ℕ) (ts : Trees) → map (tree_at f) ids ≡ to_list ts → of_list (resolved f s r ids) ≡ apply_each (of_side s r) ts
 each_whole f s r [] none e = refl
@@ -98,10 +99,11 @@ free_found f es cs ns b v o (Known k) within e next is h =
 
 pub bound_found : (f : Forest) (es : List Binding) (cs : List Class) (ns : List (Bound × ℕ)) (b c : Bound) (v : ℕ) (r : Found) → b.term < length f.trees → tree_at f b.term ≡ var v → AreClassesOf f es cs ns
     → IsNext es (bound_tree f b) f (Some c) → IsLookUp ns c r → IsFound f es cs ns b r
-bound_found f es cs ns b c v (Missing d) within e all next h =
-    (subst (λ (z : Bound). ¬ (z ∈ keys_of ns)) (sym h.0) h.1,
-    subst (λ (z : Bound). IsStepFrom f es b.side (tree_at f b.term) (bound_tree f b) z) (sym h.0)
-    (subst (λ (t : Tree). IsStepFrom f es b.side t (on_side b.side t) c) (sym e) (subst (λ (t : Tree). IsNext es (on_side b.side t) f (Some c)) e next)))
+bound_found f es cs ns b c v (Missing d) within e all next h = (
+  subst (λ (z : Bound). ¬ (z ∈ keys_of ns)) (sym h.0) h.1,
+  subst (λ (z : Bound). IsStepFrom f es b.side (tree_at f b.term) (bound_tree f b) z) (sym h.0)
+      (subst (λ (t : Tree). IsStepFrom f es b.side t (on_side b.side t) c) (sym e) (subst (λ (t : Tree). IsNext es (on_side b.side t) f (Some c)) e next)),
+)
 bound_found f es cs ns b c v (Known k) within e all next h =
     let a = all (c, k) h in
     let n = subst (λ (t : Tree). IsNext es (on_side b.side t) f (Some c)) e next in

@@ -1,11 +1,11 @@
 -- The size of a clause as far as its literals are counted.
-use Rattle.std.proofs.Common.{◌≡◌, ℕ, ◌+◌, ◌-◌, ◌^◌, ◌<◌, ◌≤◌, min, List, [], ◌∷◌, ◌++◌, ◌⊎◌, inl, inr, length, map, refl, ap, ap₂, sym, ◌∙◌, subst, arith, Bool, true, false, if◌then◌else◌, sum_by, All}
+use Rattle.std.proofs.Common.{◌≡◌, ℕ, ◌+◌, ◌-◌, ◌^◌, ◌<◌, min, List, [], ◌∷◌, ◌++◌, ◌⊎◌, inl, inr, length, map, refl, ap, ap₂, sym, ◌∙◌, subst, arith, Bool, true, false, if◌then◌else◌}
 use Rattle.std.specs.Prelude.{◌||◌, not}
 use Rattle.std.specs.List.{list_any}
 use Rattle.std.proofs.lemmas.List.{map_push}
 use Rattle.std.proofs.lemmas.List.Sums.{sum_by_push}
 use Rattle.std.proofs.lemmas.Bool.Decides.{Decides-eqb}
-use Rattle.inst_logic.proofs.SameLemmas.{and_right, and_both, literal_eq_decides}
+use Rattle.inst_logic.proofs.SameLemmas.{and_right, literal_eq_decides}
 use Rattle.inst_logic.proofs.Distinct.{distinct_more}
 use Rattle.indexmap.specs.IndexSet.{insert_key}
 use Rattle.inst_logic.specs.Tree.{Tree}
@@ -14,7 +14,7 @@ use Rattle.inst_logic.specs.Equal.{literal_eq}
 use Rattle.inst_logic.specs.Lists.{distinct, with_item}
 use Rattle.inst_logic.specs.Clauses.{instance}
 use Rattle.inst_logic.specs.Measure.{tree_size, clause_size}
-use Rattle.inst_logic.specs.Substitution.{subst as apply, subst_literal}
+use Rattle.inst_logic.specs.Substitution.{subst_literal}
 use Rattle.inst_logic.specs.Unifiers.{Sided}
 use Rattle.term_bank.specs.Forest.{Forest, tree_at, nth, clause_at}
 use Rattle.unify_core.specs.Lists.{◌∈◌}
@@ -70,9 +70,10 @@ added_new ks ls k b is t e = by (list_any (class_literal_eq k) ks) refl
   where
     by : (a : Bool) → list_any (class_literal_eq k) ks ≡ a → (¬ (k ∈ ks)) × (ls ≡ ks ++ k ∷ [])
     by true q = absurd (let m : true ≡ false = sym t ∙ is ∙ ap not q in cc)
-    by false q =
-        ((λ i. let m : true ≡ false = sym (is_any (class_literal_eq k) k ks i (class_literal_itself k)) ∙ q in absurd (cc)),
-        e ∙ ap (λ (z : Bool). if z then ks else ks ++ k ∷ []) q)
+    by false q = (
+      (λ i. let m : true ≡ false = sym (is_any (class_literal_eq k) k ks i (class_literal_itself k)) ∙ q in absurd (cc)),
+      e ∙ ap (λ (z : Bool). if z then ks else ks ++ k ∷ []) q,
+    )
 
 any_literal : (k : ClassLiteral) (ks : List ClassLiteral) → list_any (class_literal_eq k) ks ≡ true → k ∈ ks
 any_literal k [] h = absurd (cc)
@@ -162,8 +163,8 @@ module _ (f : Forest) (es : List Binding) (side : Side) (xs : List (Signed ℕ))
     numbers = numbers;
     within = old_within;
     literals = λ s r. sym (more_of s r ∙ ap (λ (b : Bool). if b then map (literal_of f ds) ks else map (literal_of f ds) ks ++ literal_of f ds (record { positive = l.positive; class = k }) ∷ [])
-      (is_any (λ (x : Signed Tree). literal_eq x (literal_of f ds (record { positive = l.positive; class = k }))) (literal_of f ds (record { positive = l.positive; class = k })) (map (literal_of f ds) ks)
-      (∈-map (literal_of f ds) (record { positive = l.positive; class = k }) ks o.0) ((literal_eq_decides (literal_of f ds (record { positive = l.positive; class = k })) (literal_of f ds (record { positive = l.positive; class = k }))).1 refl)));
+        (is_any (λ (x : Signed Tree). literal_eq x (literal_of f ds (record { positive = l.positive; class = k }))) (literal_of f ds (record { positive = l.positive; class = k })) (map (literal_of f ds) ks)
+        (∈-map (literal_of f ds) (record { positive = l.positive; class = k }) ks o.0) ((literal_eq_decides (literal_of f ds (record { positive = l.positive; class = k })) (literal_of f ds (record { positive = l.positive; class = k }))).1 refl)));
     size = let e = h.size in let q = ap (λ (z : List (Signed Tree)). clause_size z) stay in let z = o.2 in omega arith;
   })
 
@@ -174,9 +175,9 @@ module _ (f : Forest) (es : List Binding) (side : Side) (xs : List (Signed ℕ))
     numbers = numbers;
     within = λ d i. elim (∈-push d (record { positive = l.positive; class = k }) ks i) [ inl a ↦ old_within d a | inr e ↦ subst (λ (z : ClassLiteral). z.class < length ds) (sym e) class.1 ];
     literals = λ s r. pushed ∙ sym (more_of s r ∙ ap (λ (b : Bool). if b then map (literal_of f ds) ks else map (literal_of f ds) ks ++ literal_of f ds (record { positive = l.positive; class = k }) ∷ [])
-      (not_any (λ (x : Signed Tree). literal_eq x (literal_of f ds (record { positive = l.positive; class = k }))) (map (literal_of f ds) ks) differs));
+        (not_any (λ (x : Signed Tree). literal_eq x (literal_of f ds (record { positive = l.positive; class = k }))) (map (literal_of f ds) ks) differs));
     size = let e = h.size in let q = ap (λ (z : List (Signed Tree)). clause_size z) stay in let z = o.2 in
-      let p = ap (λ (z : List (Signed Tree)). clause_size z) pushed ∙ size_push (map (literal_of f ds) ks) (literal_of f ds (record { positive = l.positive; class = k })) in omega arith;
+        let p = ap (λ (z : List (Signed Tree)). clause_size z) pushed ∙ size_push (map (literal_of f ds) ks) (literal_of f ds (record { positive = l.positive; class = k })) in omega arith;
   })
     where
       pushed : map (literal_of f ds) (ks ++ (record { positive = l.positive; class = k }) ∷ []) ≡ map (literal_of f ds) ks ++ literal_of f ds (record { positive = l.positive; class = k }) ∷ []

@@ -1,18 +1,16 @@
 -- What matching binds are bindings of both sides: the right variables stay free, so the terms of the left ones solve them.
-use Rattle.std.proofs.Common.{◌≡◌, ℕ, suc, ◌+◌, ◌*◌, ◌-◌, ◌<◌, ◌≤◌, List, [], ◌∷◌, ◌⊎◌, inl, inr, length, refl, ap, sym, ◌∙◌, subst, arith, Bool, true, false, cond, nat_eq, slice_index_or}
-use Rattle.std.proofs.lemmas.Bool.Decides.{Decides-eqb}
-use Rattle.std.proofs.lemmas.List.{length-map}
+use Rattle.std.proofs.Common.{◌≡◌, ℕ, ◌+◌, ◌*◌, ◌<◌, ◌≤◌, List, [], ◌∷◌, ◌⊎◌, inl, inr, length, refl, ap, sym, ◌∙◌, subst, arith, Bool, true, false, cond, nat_eq, slice_index_or}
 use Rattle.inst_logic.specs.Tree.{Tree, var, app}
-use Rattle.inst_logic.specs.Substitution.{subst as apply, tree_vars as variables}
+use Rattle.inst_logic.specs.Substitution.{subst as apply}
 use Rattle.term_bank.specs.Forest.{Forest, tree_at}
 use Rattle.unify_core.specs.Lists.{◌∈◌}
-use Rattle.unify_core.specs.Solved.{Assignment, Respects, IsKey, IsWithin, IsClosed, IsSolvedBy}
+use Rattle.unify_core.specs.Solved.{Assignment, IsWithin, IsSolvedBy}
 use Rattle.unify_core.specs.Sides.{Binding, numbered, variable_number, on_side, bound_tree, assignment, assignments}
-use Rattle.unify_core.specs.Chains.{place, IsLater, IsForward, AreBindings}
+use Rattle.unify_core.specs.Chains.{place, IsLater, AreBindings}
 use Rattle.unify_core.specs.Matching.{AreMatches}
 use Rattle.unify_core.specs.declared.side.Side.{Side}
-use Rattle.unify_core.specs.declared.side.Side.TheVariants.{Left, Right}
-use Rattle.unify_core.proofs.Lists.{∈-map, map-∈, ∈-get_or}
+use Rattle.unify_core.specs.declared.side.Side.TheVariants.{Right}
+use Rattle.unify_core.proofs.Lists.{map-∈, ∈-get_or}
 use Rattle.unify_core.proofs.Trees.{apply_agree}
 use Rattle.unify_core.proofs.Sides.{apply_on_side, same_variable}
 use Rattle.unify_core.proofs.Meetings.{yes_or_no}
@@ -111,8 +109,8 @@ module _ (f : Forest) (es : List Binding) (m : AreMatches f es) where
     within = m.within;
     once = same_number;
     forward = λ k h.
-      let i = ∈-get_or (assignments f es) k (0, var 0) h in
-      let t = tree (slice_index_or (assignments f es) k (0, var 0)) i in
-      subst (λ (z : Tree). IsLater (assignments f es) k z) (sym t.1) (later t.0 k h);
+        let i = ∈-get_or (assignments f es) k (0, var 0) h in
+        let t = tree (slice_index_or (assignments f es) k (0, var 0)) i in
+        subst (λ (z : Tree). IsLater (assignments f es) k z) (sym t.1) (later t.0 k h);
     solved = record { by = by; solves = solved_by };
   }

@@ -1,5 +1,5 @@
 -- What the work on one node of the pattern keeps.
-use Rattle.std.proofs.Common.{◌≡◌, ℕ, suc, ◌<◌, List, [], ◌∷◌, ◌++◌, ◌⊎◌, inl, inr, length, map, refl, ap, sym, ◌∙◌, subst, arith, Bool, true, false, nat_eq, Option, Some, None}
+use Rattle.std.proofs.Common.{◌≡◌, ℕ, suc, ◌<◌, List, [], ◌∷◌, ◌++◌, inl, inr, length, map, refl, ap, sym, ◌∙◌, subst, arith, true, false, nat_eq, Some}
 use Rattle.std.specs.List.{All}
 use Rattle.std.specs.Map.{keys_of}
 use Rattle.std.proofs.lemmas.Bool.Decides.{Decides-eqb}
@@ -12,10 +12,9 @@ use Rattle.term_bank.specs.Forest.{Forest, tree_at, symbol_of, arguments_of, Are
 use Rattle.unify_core.specs.Lists.{◌∈◌}
 use Rattle.unify_core.specs.Sides.{Binding}
 use Rattle.unify_core.specs.Matching.{AreMatches, Agrees}
-use Rattle.unify_core.specs.Meeting.{Meeting, meetings, AddsMeetings, IsClash, AreMeetings, Meets, CannotMeet, IsOpened, match_of, IsBoundNow, IsBoundElse, AreMet, IsMet, IsPartOf, IsMatchStep}
-use Rattle.unify_core.specs.declared.side.Side.TheVariants.{Left, Right}
+use Rattle.unify_core.specs.Meeting.{Meeting, meetings, IsClash, AreMeetings, CannotMeet, IsOpened, match_of, IsBoundNow, IsBoundElse, IsMet, IsPartOf, IsMatchStep}
+use Rattle.unify_core.specs.declared.side.Side.TheVariants.{Left}
 use Rattle.unify_core.specs.declared.side.Variable.{Variable}
-use Rattle.unify_core.specs.declared.side.Bound.{Bound}
 use Rattle.unify_core.proofs.Lists.{∈-append_right, ∈-push, ∈-map}
 use Rattle.unify_core.proofs.Trees.{apply_var}
 use Rattle.unify_core.proofs.Grounds.{ground_apply}

@@ -1,10 +1,9 @@
 -- The walk over the pattern, as far as it has come and at its ends.
-use Rattle.std.proofs.Common.{◌≡◌, ℕ, ◌+◌, ◌<◌, ◌≤◌, List, [], ◌∷◌, ◌++◌, ◌⊎◌, inl, inr, length, get_or, take, map, refl, ap, ap₂, sym, ◌∙◌, subst, arith, Bool, true, false, nat_eq, append_assoc}
+use Rattle.std.proofs.Common.{◌≡◌, ℕ, ◌+◌, ◌<◌, ◌≤◌, List, [], ◌∷◌, ◌++◌, ◌⊎◌, inl, inr, length, get_or, take, refl, ap, ap₂, sym, ◌∙◌, subst, arith, true, false, nat_eq, append_assoc}
 use Rattle.std.specs.Map.{keys_of}
 use Rattle.std.specs.List.{IsDistinct}
 use Rattle.std.proofs.lemmas.List.{append-nil, take-append-le, take_more, take_all, length-append, length-map}
 use Rattle.std.proofs.lemmas.Map.Steps.{length-le_from_distinct_below}
-use Rattle.inst_logic.specs.declared.symbol.Sym.{Sym}
 use Rattle.inst_logic.specs.Tree.{Tree, var, app, Trees, none, more}
 use Rattle.inst_logic.specs.Substitution.{Substitution, subst as apply, substs as apply_each, tree_vars as variables, trees_vars as variables_each}
 use Rattle.term_bank.specs.Forest.{Forest, tree_at, is_ground, are_ground}
@@ -12,9 +11,9 @@ use Rattle.inst_logic.proofs.SameLemmas.{and_left, and_right}
 use Rattle.unify_core.specs.Lists.{◌∈◌}
 use Rattle.unify_core.specs.Sides.{Binding}
 use Rattle.unify_core.specs.Matching.{AreMatches, Agrees, IsBound, IsMatch, HasNoMatch}
-use Rattle.unify_core.specs.Meeting.{Meeting, AreMeetings, Meets, AreMet, IsMet, IsAgreed, IsMatchStep}
+use Rattle.unify_core.specs.Meeting.{Meeting, AreMeetings, Meets, AreMet, IsAgreed, IsMatchStep}
 use Rattle.unify_core.proofs.Lists.{∈-append, ∈-append_left, ∈-push, ∈-get_or, map-∈}
-use Rattle.unify_core.proofs.Trees.{apply_var, ∈-apply}
+use Rattle.unify_core.proofs.Trees.{apply_var}
 use Rattle.unify_core.proofs.Grounds.{ground_apply}
 use Rattle.unify_core.proofs.Sets.{any_in}
 use Rattle.unify_core.proofs.Meetings.{lone}

@@ -1,8 +1,8 @@
 -- Laws of look-ups and of meetings.
-use Rattle.std.proofs.Common.{◌≡◌, ℕ, zero, suc, ◌+◌, ◌<◌, List, [], ◌∷◌, ◌++◌, ◌⊎◌, inl, inr, length, get_or, take, map, refl, ap, ap₂, sym, ◌∙◌, subst, arith, add-one, Bool, true, false, cond, Option, Some, None, append_assoc}
+use Rattle.std.proofs.Common.{◌≡◌, ℕ, zero, suc, ◌+◌, ◌<◌, List, [], ◌∷◌, ◌++◌, ◌⊎◌, inl, inr, length, get_or, take, map, refl, ap, sym, ◌∙◌, subst, arith, add-one, Bool, true, false, cond, Some, None, append_assoc}
 use Rattle.std.specs.Map.{lookup, keys_of}
 use Rattle.std.proofs.lemmas.List.{append-nil}
-use Rattle.inst_logic.specs.Tree.{Tree, var, app, Trees, none, more, to_list}
+use Rattle.inst_logic.specs.Tree.{Tree, Trees, none, more, to_list}
 use Rattle.inst_logic.specs.Substitution.{Substitution, subst as apply, substs as apply_each, tree_vars as variables, trees_vars as variables_each}
 use Rattle.term_bank.specs.Forest.{Forest, tree_at}
 use Rattle.unify_core.specs.Lists.{◌∈◌}

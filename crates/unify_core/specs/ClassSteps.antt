@@ -1,7 +1,7 @@
 -- How terms come to their classes: the classes of the terms that a term leads to come first.
 use Rattle.std.specs.Prelude.{◌≡◌, ℕ, ◌*◌, ◌≤◌, ◌<◌, List, [], ◌∷◌, ◌++◌, length, map, ◌⊎◌}
 use Rattle.std.specs.Map.{keys_of}
-use Rattle.inst_logic.specs.Tree.{Tree, var, app, none, of_list}
+use Rattle.inst_logic.specs.Tree.{Tree, var, app, of_list}
 use Rattle.inst_logic.specs.Substitution.{subst as apply}
 use Rattle.inst_logic.specs.Unifiers.{Sided, IsApplication}
 use Rattle.term_bank.specs.Forest.{Forest, tree_at, nth}

@@ -9,7 +9,6 @@ use Rattle.unify_core.specs.Lists.{◌∈◌}
 use Rattle.unify_core.specs.Sides.{Binding}
 use Rattle.unify_core.specs.Matching.{AreMatches, Agrees}
 use Rattle.unify_core.specs.declared.side.Side.TheVariants.{Left, Right}
-use Rattle.unify_core.specs.declared.side.Variable.{Variable}
 
 -- a node of the pattern, and the term that it is to become
 abbrev pub Meeting : Type 0

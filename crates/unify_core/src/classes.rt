@@ -47,11 +47,7 @@ fn part_size(bank: &Bank, classes: &IndexMap<Part, u64>, part: Part) -> u64
 }
 
 // The class of the part, which is added where it is new.
-pub fn class_of(
-    bank: &Bank,
-    classes: &mut IndexMap<Part, u64>,
-    part: Part,
-) -> Result<usize, Memory>
+pub fn class_of(bank: &Bank, classes: &mut IndexMap<Part, u64>, part: Part) -> Result<usize, Memory>
     requires table { IsTable bank.now classes.old.entries }
     requires over { IsPartOver bank.now (class_trees bank.now classes.old.entries) part }
     ensures keeps { OnOk result (KeepsClasses bank.now classes.old.entries classes.new.entries) }

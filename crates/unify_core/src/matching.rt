@@ -16,11 +16,7 @@ use inst_logic::Memory;
 use term_bank::{Bank, Shape, TermId};
 
 // Notes that the node is to become the term. False comes where it is to become another.
-fn meet(
-    met: &mut IndexMap<TermId, TermId>,
-    node: TermId,
-    term: TermId,
-) -> Result<bool, Memory>
+fn meet(met: &mut IndexMap<TermId, TermId>, node: TermId, term: TermId) -> Result<bool, Memory>
     ensures yes { IfOk result (λ r. r ≡ true → AddsMeetings met.old.entries met.new.entries (meetings (node ∷ []) (term ∷ []))) }
     ensures no { IfOk result (λ r. r ≡ false → IsClash met.old.entries (meetings (node ∷ []) (term ∷ []))) }
 {

@@ -1,4 +1,4 @@
-use Rattle.std.proofs.Common.{◌≡◌, ◌<◌, ◌≤◌, length, sym, arith, subst, List, nat_eq, ◌∙◌, ap}
+use Rattle.std.proofs.Common.{sym, arith, List, nat_eq, ◌∙◌, ap}
 use Rattle.std.proofs.lemmas.Option.{get_or_from_slice_get}
 use Rattle.indexmap.specs.IndexMap.{insert_entry}
 use Rattle.unify_core.specs.Meeting.{Meeting}

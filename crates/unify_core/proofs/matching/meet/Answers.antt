@@ -1,5 +1,4 @@
-use Rattle.std.proofs.Common.{sym, ◌∙◌, nat_eq, ap, true, false, rules}
-use Rattle.std.proofs.lemmas.Bool.Decides.{Decides-eqb}
+use Rattle.std.proofs.Common.{sym, ◌∙◌, nat_eq}
 use Rattle.indexmap.proofs.CallerLemmas.{insert_entry-new}
 use Rattle.unify_core.proofs.Meetings.{lookup_in, meet_old, meet_new, meet_clash}
 use Rattle.unify_core.proofs.MatchSteps.{number_same, number_differs}

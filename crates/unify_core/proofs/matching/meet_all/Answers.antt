@@ -1,4 +1,4 @@
-use Rattle.std.proofs.Common.{◌<◌, length, arith, take, sym, ◌∷◌, []}
+use Rattle.std.proofs.Common.{◌<◌, length, arith, take, ◌∷◌, []}
 use Rattle.unify_core.specs.Meeting.{meetings}
 use Rattle.unify_core.proofs.Meetings.{clash_all, adds_then, more_meetings}
 use Rattle.unify_core.proofs.matching.meet_all.Goals as goal

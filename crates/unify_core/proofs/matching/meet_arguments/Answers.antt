@@ -1,6 +1,5 @@
-use Rattle.std.proofs.Common.{rules}
 use Rattle.unify_core.proofs.Lists.{if_ok}
-use Rattle.unify_core.proofs.MatchSteps.{cannot_symbol, cannot_length, cannot_clash}
+use Rattle.unify_core.proofs.MatchSteps.{cannot_length, cannot_clash}
 use Rattle.unify_core.proofs.matching.meet_arguments.Goals as goal
 
 pub returns-then-xs-ys-clause-no : goal.returns-then-xs-ys-clause-no

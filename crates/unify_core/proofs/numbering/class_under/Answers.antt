@@ -1,4 +1,4 @@
-use Rattle.std.proofs.Common.{◌≡◌, ◌∷◌, ◌++◌, [], ◌∙◌, ap, sym, subst, List, ℕ, ◌⊎◌, inl, inr, Option, Some, None, rules}
+use Rattle.std.proofs.Common.{◌≡◌, ◌∷◌, ◌++◌, [], ◌∙◌, ap, sym, subst, List, ℕ, inl, inr, Option, Some, None, rules}
 use Rattle.unify_core.specs.Lists.{◌∈◌}
 use Rattle.unify_core.specs.declared.side.Bound.{Bound}
 use Rattle.unify_core.proofs.Sets.{bound_eq, bound_same, bound_itself}
@@ -17,8 +17,8 @@ loop-at-init c = record {
   keeps = keeps_same c.args.bank.now c.args.classes.now.entries c.requires.table;
   numbers = c.requires.numbers;
   path = path_start c.args.bank.now c.args.map.now.entries c.args.from c.args.numbers.now.entries c.push.new.self.items c.requires.within
-  (lookup_none bound_eq bound_itself c.args.from c.args.numbers.now.entries (absent c.copied.result c.in_default.not-Some (c.copied.ensures ∙ c.get.ensures.value)))
-  (c.in_ok-push.ensures.items ∙ ap (λ (l : List Bound). l ++ c.args.from ∷ []) c.clear.ensures.items);
+      (lookup_none bound_eq bound_itself c.args.from c.args.numbers.now.entries (absent c.copied.result c.in_default.not-Some (c.copied.ensures ∙ c.get.ensures.value)))
+      (c.in_ok-push.ensures.items ∙ ap (λ (l : List Bound). l ++ c.args.from ∷ []) c.clear.ensures.items);
 }
   where
     absent : {o : Option ℕ} (r : Option ℕ) → ((x : ℕ) → ¬ (r ≡ Some x)) → r ≡ o → o ≡ None
@@ -45,7 +45,7 @@ loop-at-preserved c = record {
   keeps = keeps_then c.args.bank.now c.args.classes.now.entries c.loop-at.classes.entries c.advance.new.classes.entries c.loop-at.invariant.keeps c.in_ok-advance.ensures.keeps;
   numbers = c.in_ok-advance.ensures.numbers;
   path = path_go c.args.bank.now c.args.map.now.entries c.requires.bindings c.args.from c.loop-at.numbers.entries c.advance.new.numbers.entries c.loop-at.path.items c.pop.new.self.items c.advance.new.path.items c.in-Some-pop.at
-  c.in-Some-pop.ensures.items c.loop-at.invariant.path c.in_ok-advance.ensures.advance;
+      c.in-Some-pop.ensures.items c.loop-at.invariant.path c.in_ok-advance.ensures.advance;
 }
 
 pub unreachable-requires : goal.unreachable-requires
