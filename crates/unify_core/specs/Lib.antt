@@ -1,7 +1,11 @@
 pub mod Bindings
 pub mod Chains
+pub mod ClassSteps
+pub mod Classes
+pub mod Counts
 pub mod Lists
 pub mod Matching
+pub mod Meeting
 pub mod Pairs
 pub mod Passed
 pub mod Progress

@@ -12,7 +12,10 @@ ghost use Rattle.unify_core.specs.Matching.{AreMatches, IsMatch, HasNoMatch};
 ghost use Rattle.unify_core.specs.Sizes.{IsSizeUnder};
 ghost use Rattle.unify_core.specs.Passed.{IsPassed, no_binding};
 
+use crate::classes::Part;
+use crate::matching::match_terms;
 use crate::side::{Bound, Pair, Side, Variable};
+use crate::sizes::{ClassLiteral, clause_size};
 use crate::unify::unify_terms;
 use crate::walk::follow;
 use indexmap::{IndexMap, IndexSet};
@@ -29,6 +32,11 @@ pub struct Bindings {
     work: Vec<Pair>,
     done: IndexSet<Pair>,
     seen: IndexSet<Bound>,
+    met: IndexMap<TermId, TermId>,
+    classes: IndexMap<Part, u64>,
+    numbers: IndexMap<Bound, usize>,
+    path: Vec<Bound>,
+    counted: IndexSet<ClassLiteral>,
     spent: bool,
 }
 
@@ -50,6 +58,11 @@ impl Bindings {
             work: Vec::new(alloc),
             done: IndexSet::new(alloc),
             seen: IndexSet::new(alloc),
+            met: IndexMap::new(alloc),
+            classes: IndexMap::new(alloc),
+            numbers: IndexMap::new(alloc),
+            path: Vec::new(alloc),
+            counted: IndexSet::new(alloc),
             spent: false,
         }
     }
@@ -101,7 +114,12 @@ impl Bindings {
 
     /// Extends the left bindings by those that make the pattern the target, whose variables, as right ones, are held fixed
     /// (subsumption's one-sided unification; Robinson, 1965). False comes where no extension does, and then they stay.
-    pub fn match_onto(&mut self, bank: &Bank, pattern: TermId, target: TermId) -> Result<bool, Memory>
+    pub fn match_onto(
+        &mut self,
+        bank: &Bank,
+        pattern: TermId,
+        target: TermId,
+    ) -> Result<bool, Memory>
         requires pattern { pattern < length bank.now.trees }
         requires target { target < length bank.now.trees }
         requires matches { AreMatches bank.now self.old.entries }
@@ -111,11 +129,21 @@ impl Bindings {
         ensures ok { OnOk result ((self.old.spent ≡ false) × (self.new.spent ≡ false)) }
         ensures err { OnErr result (self.new.spent ≡ true) }
     {
-        let _bank = bank;
-        let _pattern = pattern;
-        let _target = target;
-        self.spent = true;
-        Err(Memory)
+        if self.spent {
+            return Err(Memory);
+        }
+        let kept = self.map.len();
+        match match_terms(bank, &mut self.map, &mut self.met, pattern, target) {
+            Err(e) => {
+                self.spent = true;
+                Err(e)
+            }
+            Ok(true) => Ok(true),
+            Ok(false) => {
+                self.map.truncate(kept);
+                Ok(false)
+            }
+        }
     }
 
     /// The size of the side's clause under the bindings, repeated literals dropped, or `u64::MAX` where it is larger. It counts
@@ -128,11 +156,21 @@ impl Bindings {
         ensures ok { OnOk result ((self.old.spent ≡ false) × (self.new.spent ≡ false)) }
         ensures err { OnErr result (self.new.spent ≡ true) }
     {
-        let _bank = bank;
-        let _side = side;
-        let _clause = c;
-        self.spent = true;
-        Err(Memory)
+        if self.spent {
+            return Err(Memory);
+        }
+        let result = clause_size(
+            bank,
+            &self.map,
+            &mut self.classes,
+            &mut self.numbers,
+            &mut self.path,
+            &mut self.counted,
+            side,
+            c,
+        );
+        self.spent = result.is_err();
+        result
     }
 
     /// The term to which the variable is bound, with the side of its variables. It is not followed further.
