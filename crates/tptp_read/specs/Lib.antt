@@ -1,6 +1,11 @@
 pub mod Atoms
 pub mod Grammar
+pub mod LexemeView
 pub mod Lexemes
 pub mod Meaning
+pub mod Parse
+pub mod ParseClause
+pub mod ParseForm
+pub mod ParseGeneral
 pub mod Rules
 pub mod Text

@@ -2,7 +2,9 @@
 #![tactic(auto)]
 
 pub mod laws;
+mod lexeme;
 pub mod statement;
+mod stop;
 #[cfg(test)]
 mod tests;
 pub mod text;
