@@ -1,0 +1,9 @@
+pub mod ParseLaws
+pub mod ManyLaws
+pub mod ClauseLaws
+pub mod ItemLaws
+pub mod GeneralLaws
+pub mod Lengths
+pub mod FormLaws
+pub mod Nexts
+pub mod Law
