@@ -24,7 +24,7 @@ IsGeneralAnd ts z = (ts ≡ general z.0 z.1) × (general_fits z.0 ≡ true)
 abbrev pub IsListingAnd : ℕ → List Tok → (General × Generals) × List Tok → Type 0
 IsListingAnd c ts z = (ts ≡ general z.0.0 (generals z.0.1 (mark c ∷ z.1))) × ((general_fits z.0.0 && generals_fit z.0.1) ≡ true)
 
-abbrev IsThingAnd : List Tok → Thing × List Tok → Type 0
+abbrev pub IsThingAnd : List Tok → Thing × List Tok → Type 0
 IsThingAnd ts z = (ts ≡ thing_text z.0 z.1) × (thing_fits z.0 ≡ true)
 
 abbrev pub IsGeneralReader : Reads General → Type 0
@@ -48,7 +48,7 @@ listing_spelled p exact c ts z e =
       | inr v ↦ absurd cc
     ]
 
-thing_spelled : (p : Reads General) → IsGeneralReader p → (ts : List Tok) (z : Thing × List Tok) → thing_with p ts ≡ Some z → IsThingAnd ts z
+pub thing_spelled : (p : Reads General) → IsGeneralReader p → (ts : List Tok) (z : Thing × List Tok) → thing_with p ts ≡ Some z → IsThingAnd ts z
 unfolding thing_with
 thing_spelled p exact [] z e = absurd cc
 thing_spelled p exact (t ∷ ts) z e =

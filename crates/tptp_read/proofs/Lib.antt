@@ -7,3 +7,5 @@ pub mod Lengths
 pub mod FormLaws
 pub mod Nexts
 pub mod Law
+pub mod Skimming
+pub mod Places

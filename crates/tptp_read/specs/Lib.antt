@@ -8,4 +8,5 @@ pub mod ParseClause
 pub mod ParseForm
 pub mod ParseGeneral
 pub mod Rules
+pub mod Skim
 pub mod Text

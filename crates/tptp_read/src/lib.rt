@@ -1,6 +1,7 @@
 //! From bytes to the statements of a problem (the CNF part of the TPTP language).
 #![tactic(auto)]
 
+mod general;
 pub mod laws;
 mod lexeme;
 pub mod statement;
@@ -8,6 +9,7 @@ mod stop;
 #[cfg(test)]
 mod tests;
 pub mod text;
+mod words;
 
 pub use statement::{Role, Statement, StatementList, Which};
 pub use text::{ReadError, read_atom, read_text};

@@ -1,8 +1,8 @@
 -- Text between quotes: what is found is spelled so, and what is spelled so is found.
-use Rattle.std.proofs.Common.{◌≡◌, ℕ, ◌+◌, ◌<◌, ◌≤◌, Bool, true, false, List, [], ◌∷◌, ◌++◌, length, Option, Some, None, refl, sym, ap, ◌∙◌, arith}
+use Rattle.std.proofs.Common.{◌≡◌, ℕ, ◌+◌, Bool, true, false, List, [], ◌∷◌, ◌++◌, length, Option, Some, None, refl, sym, ap, arith}
 use Rattle.std.specs.Prelude.{◌&&◌, ◌||◌, ◌==◌, not, IsTrue}
 use Rattle.std.specs.Option.{option_map}
-use Rattle.std.proofs.lemmas.Bool.{eqb-true, eq-eqb, ne_eqb, cond_both}
+use Rattle.std.proofs.lemmas.Bool.{eqb-true, eq-eqb, cond_both}
 use Rattle.tptp_tokens.specs.Bytes.{is_printed, closing}
 use Rattle.tptp_tokens.specs.Table.{are_items}
 use Rattle.tptp_tokens.proofs.Fronts.{both_true, and_true}
@@ -40,8 +40,8 @@ closing_front mark false (b ∷ bs) =
     cond_both (b == mark) (Some 1) _ (IsClosed mark false (b ∷ bs))
     (λ e. at_mark mark b bs (eqb-true b mark e))
     (λ other. cond_both (is_printed b) (option_map (λ n. n + 1) (closing mark (b == 92) bs)) None (IsClosed mark false (b ∷ bs))
-        (λ printed. more mark b false (b == 92) bs (closing mark (b == 92) bs) (λ items k. and_true (is_printed b) _ printed (and_true (not (b == mark)) _ (not_false (b == mark) other) k)) (closing_front mark (b == 92) bs))
-        (λ e. tt))
+    (λ printed. more mark b false (b == 92) bs (closing mark (b == 92) bs) (λ items k. and_true (is_printed b) _ printed (and_true (not (b == mark)) _ (not_false (b == mark) other) k)) (closing_front mark (b == 92) bs))
+    (λ e. tt))
 
 is_not : (t : Bool) → IsTrue (not t) → t ≡ false
 is_not true e = absurd cc

@@ -1,18 +1,16 @@
 -- What stands first in a text, behind blanks and comments.
-use Rattle.std.proofs.Common.{◌≡◌, ℕ, zero, suc, ◌+◌, ◌-◌, ◌<◌, ◌≤◌, Bool, true, false, ◌⊎◌, inl, inr, List, [], ◌∷◌, ◌++◌, length, take, drop, Option, Some, None, MatchOption, refl, sym, ap, subst, ◌∙◌, arith, length-append, length-drop}
-use Rattle.std.specs.Prelude.{◌&&◌, ◌||◌, ◌==◌, IsTrue, if◌then◌else◌}
+use Rattle.std.proofs.Common.{◌≡◌, ℕ, zero, suc, ◌+◌, ◌-◌, ◌<◌, ◌≤◌, true, ◌⊎◌, inl, inr, List, [], ◌∷◌, ◌++◌, length, take, drop, Option, Some, None, MatchOption, refl, sym, ap, subst, ◌∙◌, arith, length-append, length-drop}
+use Rattle.std.specs.Prelude.{◌==◌}
 use Rattle.std.proofs.lemmas.Bool.{eqb-true, cond_both}
 use Rattle.std.proofs.lemmas.Bool.Decides.{nat_tests}
 use Rattle.std.proofs.lemmas.List.{take-append-drop, take_at, drop_at, drop-drop, length-take-le}
 use Rattle.tptp_tokens.specs.declared.kind.TokenKind.{TokenKind}
-use Rattle.tptp_tokens.specs.declared.kind.Token.{Token}
 use Rattle.tptp_tokens.specs.Bytes.{is_blank, is_no_line_feed, run}
-use Rattle.tptp_tokens.specs.Cut.{token_at}
+use Rattle.tptp_tokens.specs.Scan.{token_at}
 use Rattle.tptp_tokens.specs.Gap.{block, piece, gap}
-use Rattle.tptp_tokens.specs.Table.{IsToken, IsLongest}
-use Rattle.tptp_tokens.specs.Skipped.{Skips}
-use Rattle.tptp_tokens.specs.Stream.{Tok, IsNext, HasNoToken, IsEnd, IsDone, IsDecidedToken, Stream, tok_of, GivesToken}
-use Rattle.tptp_tokens.proofs.Longest.{reaches, cut_is_token, longest, no_token, longest_found}
+use Rattle.tptp_tokens.specs.Table.{IsToken}
+use Rattle.tptp_tokens.specs.Stream.{Tok, IsNext, IsEnd, IsDone, IsDecidedToken, GivesToken}
+use Rattle.tptp_tokens.proofs.Longest.{reaches, scanned_is_token, longest, no_token, longest_found}
 use Rattle.tptp_tokens.proofs.Numbers.{Reaches}
 use Rattle.tptp_tokens.proofs.Skipping.{gap_passed, same_end, done_ends, stays, skips_shorter}
 
@@ -24,6 +22,7 @@ blank_no_token b bs e = blank_each (λ (m : ℕ). token_at (m ∷ bs) ≡ None) 
   blank_each P b h e = pick P b h (blank_is b e) where
     blank_is : (b : ℕ) → is_blank b ≡ true → (b ≡ 9) ⊎ ((b ≡ 10) ⊎ ((b ≡ 11) ⊎ ((b ≡ 12) ⊎ ((b ≡ 13) ⊎ (b ≡ 32)))))
     blank_is b e = grind (arith, nat_tests)
+
     pick : (P : ℕ → Type 0) (b : ℕ) → P 9 × P 10 × P 11 × P 12 × P 13 × P 32 → ((b ≡ 9) ⊎ ((b ≡ 10) ⊎ ((b ≡ 11) ⊎ ((b ≡ 12) ⊎ ((b ≡ 13) ⊎ (b ≡ 32)))))) → P b
     pick P b h (inl e) = subst P (sym e) h.0
     pick P b h (inr (inl e)) = subst P (sym e) h.1
@@ -145,7 +144,7 @@ pub gives : (text : List ℕ) (at g n : ℕ) (k : TokenKind) → at ≤ length t
 gives text at g n k le e found =
     let same = where_token text at g e in
     let rest = drop (at + g) text in
-    let spelled = cut_is_token rest k n (sym found) in
+    let spelled = scanned_is_token rest k n (sym found) in
     let some = token_some rest k n spelled in
     let whole = longest rest k n (sym found) in
     let width : at + g + n - (at + g) ≡ n = omega arith in

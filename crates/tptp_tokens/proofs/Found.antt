@@ -1,7 +1,6 @@
 -- What is spelled as a token is found at the front of a text, or a longer token is.
-use Rattle.std.proofs.Common.{◌≡◌, ℕ, zero, suc, ◌+◌, ◌<◌, ◌≤◌, Bool, true, false, ◌⊎◌, inl, inr, List, [], ◌∷◌, ◌++◌, length, drop, Option, Some, None, refl, sym, ap, subst, ◌∙◌, arith, append_assoc, length-append}
-use Rattle.std.specs.Prelude.{◌&&◌, ◌||◌, ◌==◌, not, IsTrue, if◌then◌else◌}
-use Rattle.std.specs.Option.{option_map_or}
+use Rattle.std.proofs.Common.{◌≡◌, ℕ, suc, ◌+◌, ◌<◌, ◌≤◌, Bool, true, false, ◌⊎◌, inl, inr, List, [], ◌∷◌, ◌++◌, length, drop, Option, Some, None, refl, sym, ap, subst, ◌∙◌, arith, append_assoc, length-append}
+use Rattle.std.specs.Prelude.{◌||◌, ◌==◌, IsTrue}
 use Rattle.std.specs.List.{list_all}
 use Rattle.std.specs.Char.{is_ascii_digit, is_ascii_lowercase, is_ascii_uppercase}
 use Rattle.std.proofs.lemmas.Bool.{eqb-true, eqb-false, eq-eqb, ne_eqb, cond_both, or_cases, or_left, or_right}
@@ -9,12 +8,12 @@ use Rattle.std.proofs.lemmas.Bool.Decides.{nat_tests}
 use Rattle.std.proofs.lemmas.List.{drop_at, drop-drop}
 use Rattle.tptp_tokens.specs.declared.kind.TokenKind.{TokenKind}
 use Rattle.tptp_tokens.specs.declared.kind.TokenKind.TheVariants.{LowerWord, Variable, DollarWord, QuotedWord, DistinctObject, Integer, Rational, Real, Punctuation}
-use Rattle.tptp_tokens.specs.Bytes.{is_word_byte, is_sign, is_mark, run, closing}
-use Rattle.tptp_tokens.specs.Cut.{begins, optional, digits_after, exponent, number_at, dollar_at, quoted_at, distinct_at, token_at}
-use Rattle.tptp_tokens.specs.Table.{are_items, AreDigits, IsOptionalSign, IsInteger, IsFraction, IsExponent, IsLowerWord, IsUpperWord, IsBetween, IsToken, a_lower, a_variable, a_dollar, a_double, a_quoted, a_distinct, an_integer, a_rational, a_fraction, an_exponent, a_real, a_mark, unequal}
-use Rattle.tptp_tokens.proofs.Fronts.{both_true, AllPass, run_more, run_none}
+use Rattle.tptp_tokens.specs.Bytes.{is_word_byte, is_sign, is_mark, run}
+use Rattle.tptp_tokens.specs.Scan.{begins, optional, digits_after, exponent, number_at, dollar_at, quoted_at, distinct_at, token_at}
+use Rattle.tptp_tokens.specs.Table.{are_items, AreDigits, IsOptionalSign, IsInteger, IsLowerWord, IsUpperWord, IsToken, a_lower, a_variable, a_dollar, a_double, a_quoted, a_distinct, an_integer, a_rational, a_fraction, an_exponent, a_real, a_mark, unequal}
+use Rattle.tptp_tokens.proofs.Fronts.{both_true, run_more, run_none}
 use Rattle.tptp_tokens.proofs.Closings.{closing_found}
-use Rattle.tptp_tokens.proofs.Numbers.{Reaches, number_of, number_parts, one_some}
+use Rattle.tptp_tokens.proofs.Numbers.{Reaches, number_of, number_parts}
 
 -- where a token of this length and kind was found
 reached : (k : TokenKind) (n m : ℕ) → n ≤ m → Reaches k n (Some (k, m))
@@ -119,7 +118,7 @@ number_whole sign digits tail h d =
     let whole : run is_ascii_digit (drop (length sign) bs) ≡ n = ap (run is_ascii_digit) at ∙ run_more is_ascii_digit digits tail d.1 in
     let r = run is_ascii_digit tail in
     let after : drop (length sign + n) bs ≡ drop r tail =
-        sym (drop-drop n (length sign) bs) ∙ (ap (λ (xs : List ℕ). drop n xs) at ∙ (sym (drop-drop r (length digits) (digits ++ tail)) ∙ ap (λ (xs : List ℕ). drop r xs) at_tail)) in
+    sym (drop-drop n (length sign) bs) ∙ (ap (λ (xs : List ℕ). drop n xs) at ∙ (sym (drop-drop r (length digits) (digits ++ tail)) ∙ ap (λ (xs : List ℕ). drop r xs) at_tail)) in
     number_parts bs (length sign) n (drop r tail) (sign_len sign digits tail h d) whole after
 
 number_ended : (sign digits tail : List ℕ) → IsOptionalSign sign → AreDigits digits → run is_ascii_digit tail ≡ 0 → number_at (sign ++ (digits ++ tail)) ≡ number_tail (length sign) (length digits) tail
@@ -132,9 +131,9 @@ integer_reached : (l s n q f x : ℕ) → l ≤ s + n → 0 < n → Reaches Inte
 integer_reached l s n q f x le some =
     cond_both (n == 0) None _ (Reaches Integer l) (λ e. let h = eqb-true n 0 e in omega arith)
     (λ _. cond_both (q == 0) _ _ (Reaches Integer l)
-        (λ _. cond_both (f + x == 0) _ _ (Reaches Integer l) (λ _. reached Integer _ _ le)
-            (λ e. let h = eqb-false (f + x) 0 e in (omega arith, λ same. absurd (omega arith))))
-        (λ e. let h = eqb-false q 0 e in (omega arith, λ same. absurd (omega arith))))
+    (λ _. cond_both (f + x == 0) _ _ (Reaches Integer l) (λ _. reached Integer _ _ le)
+    (λ e. let h = eqb-false (f + x) 0 e in (omega arith, λ same. absurd (omega arith))))
+    (λ e. let h = eqb-false q 0 e in (omega arith, λ same. absurd (omega arith))))
 
 integer_found : (text rest : List ℕ) → IsInteger text → Reaches Integer (length text) (number_at (text ++ rest))
 integer_found text rest i =
@@ -247,17 +246,21 @@ number_dispatch b bs e =
     let no_quote : (b == 39) ≡ false = no_single b e in
     let no_double : (b == 34) ≡ false = no_two b e in
     rw (no_lower, no_upper, no_dollar, no_quote, no_double, e) refl
-    where
-      no_letter : (b : ℕ) → (is_sign b || is_ascii_digit b) ≡ true → is_ascii_lowercase b ≡ false
-      no_letter b e = grind (arith, nat_tests)
-      no_capital : (b : ℕ) → (is_sign b || is_ascii_digit b) ≡ true → is_ascii_uppercase b ≡ false
-      no_capital b e = grind (arith, nat_tests)
-      no_mark : (b : ℕ) → (is_sign b || is_ascii_digit b) ≡ true → (b == 36) ≡ false
-      no_mark b e = grind (arith, nat_tests)
-      no_single : (b : ℕ) → (is_sign b || is_ascii_digit b) ≡ true → (b == 39) ≡ false
-      no_single b e = grind (arith, nat_tests)
-      no_two : (b : ℕ) → (is_sign b || is_ascii_digit b) ≡ true → (b == 34) ≡ false
-      no_two b e = grind (arith, nat_tests)
+  where
+    no_letter : (b : ℕ) → (is_sign b || is_ascii_digit b) ≡ true → is_ascii_lowercase b ≡ false
+    no_letter b e = grind (arith, nat_tests)
+
+    no_capital : (b : ℕ) → (is_sign b || is_ascii_digit b) ≡ true → is_ascii_uppercase b ≡ false
+    no_capital b e = grind (arith, nat_tests)
+
+    no_mark : (b : ℕ) → (is_sign b || is_ascii_digit b) ≡ true → (b == 36) ≡ false
+    no_mark b e = grind (arith, nat_tests)
+
+    no_single : (b : ℕ) → (is_sign b || is_ascii_digit b) ≡ true → (b == 39) ≡ false
+    no_single b e = grind (arith, nat_tests)
+
+    no_two : (b : ℕ) → (is_sign b || is_ascii_digit b) ≡ true → (b == 34) ≡ false
+    no_two b e = grind (arith, nat_tests)
 
 parts_dispatch : (sign digits tail : List ℕ) → IsOptionalSign sign → AreDigits digits → token_at (sign ++ (digits ++ tail)) ≡ number_at (sign ++ (digits ++ tail))
 parts_dispatch [] [] tail h d = absurd (omega (arith, d.0))

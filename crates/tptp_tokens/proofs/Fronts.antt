@@ -1,12 +1,10 @@
 -- Fronts of a list of bytes: runs of one class, signs, and digits behind a mark.
-use Rattle.std.proofs.Common.{◌≡◌, ℕ, ◌+◌, ◌<◌, ◌≤◌, Bool, true, false, List, [], ◌∷◌, ◌++◌, length, take, drop, refl, sym, ap, ◌∙◌, arith, append_assoc, length-append}
-use Rattle.std.specs.Prelude.{◌&&◌, ◌||◌, ◌==◌, not, IsTrue}
+use Rattle.std.proofs.Common.{◌≡◌, ℕ, ◌+◌, ◌≤◌, Bool, true, false, List, [], ◌∷◌, ◌++◌, length, take, drop, refl, ap, ◌∙◌, arith, length-append}
+use Rattle.std.specs.Prelude.{◌&&◌, IsTrue}
 use Rattle.std.specs.List.{list_all}
-use Rattle.std.specs.Char.{is_ascii_digit}
-use Rattle.std.proofs.lemmas.Bool.{eqb-true, eq-eqb, ne_eqb}
 use Rattle.std.proofs.lemmas.List.{take_at, drop_at}
 use Rattle.tptp_tokens.specs.Bytes.{is_sign, run}
-use Rattle.tptp_tokens.specs.Cut.{begins, optional}
+use Rattle.tptp_tokens.specs.Scan.{optional}
 use Rattle.tptp_tokens.specs.Table.{IsOptionalSign}
 
 -- a front of this length, of which P holds

@@ -1,21 +1,19 @@
 -- Numbers: what is found is spelled so, and what is spelled so is found.
-use Rattle.std.proofs.Common.{◌≡◌, ℕ, ◌+◌, ◌<◌, ◌≤◌, Bool, true, false, ◌⊎◌, inl, inr, List, [], ◌∷◌, ◌++◌, length, drop, Option, Some, None, refl, sym, ap, ◌∙◌, arith, append_assoc, append-nil, length-append}
-use Rattle.std.specs.Prelude.{◌&&◌, ◌||◌, ◌==◌, not, IsTrue, if◌then◌else◌}
+use Rattle.std.proofs.Common.{◌≡◌, ℕ, ◌+◌, ◌<◌, ◌≤◌, false, ◌⊎◌, inl, inr, List, [], ◌∷◌, ◌++◌, length, drop, Option, Some, None, refl, sym, ap, ◌∙◌, arith, append_assoc, append-nil, length-append}
+use Rattle.std.specs.Prelude.{◌||◌, ◌==◌, IsTrue, if◌then◌else◌}
 use Rattle.std.specs.Char.{is_ascii_digit}
-use Rattle.std.proofs.lemmas.Bool.{eqb-true, eqb-false, eq-eqb, ne_eqb, cond_both}
-use Rattle.std.proofs.lemmas.Bool.Decides.{nat_tests}
-use Rattle.std.proofs.lemmas.List.{drop_at, drop-drop, drop-append-le}
+use Rattle.std.proofs.lemmas.Bool.{eqb-true, eqb-false, cond_both}
 use Rattle.tptp_tokens.specs.declared.kind.TokenKind.{TokenKind}
-use Rattle.tptp_tokens.specs.declared.kind.TokenKind.TheVariants.{LowerWord, Variable, DollarWord, QuotedWord, DistinctObject, Integer, Rational, Real, Punctuation}
+use Rattle.tptp_tokens.specs.declared.kind.TokenKind.TheVariants.{Integer, Rational, Real}
 use Rattle.tptp_tokens.specs.Bytes.{is_sign, run}
-use Rattle.tptp_tokens.specs.Cut.{begins, optional, digits_after, exponent, number_at}
-use Rattle.tptp_tokens.specs.Table.{AreDigits, IsOptionalSign, IsInteger, IsFraction, IsExponent, IsToken, an_integer, a_rational, a_fraction, an_exponent, a_real}
-use Rattle.tptp_tokens.proofs.Fronts.{Front, front_drop, both_true, and_true, AllPass, run_front, run_more, run_none, sign_front}
+use Rattle.tptp_tokens.specs.Scan.{optional, digits_after, exponent, number_at}
+use Rattle.tptp_tokens.specs.Table.{AreDigits, IsOptionalSign, IsInteger, IsExponent, IsToken, an_integer, a_rational, a_fraction, an_exponent, a_real}
+use Rattle.tptp_tokens.proofs.Fronts.{Front, front_drop, AllPass, run_front, sign_front}
 
 -- a token of this kind and length, if any, stands at the front
-abbrev pub IsCut : List ℕ → Option (TokenKind × ℕ) → Type 0
-IsCut bs None = Unit {0}
-IsCut bs (Some z) = Front (IsToken z.0) z.1 bs
+abbrev pub IsScanned : List ℕ → Option (TokenKind × ℕ) → Type 0
+IsScanned bs None = Unit {0}
+IsScanned bs (Some z) = Front (IsToken z.0) z.1 bs
 
 -- at least so long a token was found, and of this kind if not longer
 abbrev pub Reaches : TokenKind → ℕ → Option (TokenKind × ℕ) → Type 0
@@ -44,7 +42,8 @@ nothing_front P bs h = record { front = []; rest = bs; whole = refl; len = refl;
 
 marked_front : (mark b : ℕ) (bs : List ℕ) → b ≡ mark → (n : ℕ) → Front (AllPass is_ascii_digit) n bs → (n == 0) ≡ false → Front (MarkedDigits mark) (n + 1) (b ∷ bs)
 marked_front mark b bs e n h some = record {
-  front = mark ∷ h.front; rest = h.rest;
+  front = mark ∷ h.front;
+  rest = h.rest;
   whole = ap (λ (x : ℕ). x ∷ bs) e ∙ ap (λ (xs : List ℕ). mark ∷ xs) h.whole;
   len = omega (arith, h.len);
   is = inr (h.front, refl, (omega (arith, h.len, one_some n some), h.is));
@@ -55,8 +54,8 @@ digits_after_front mark [] = nothing_front (MarkedDigits mark) [] (inl refl)
 digits_after_front mark (b ∷ bs) =
     cond_both (b == mark) (if run is_ascii_digit bs == 0 then 0 else run is_ascii_digit bs + 1) 0 (λ (n : ℕ). Front (MarkedDigits mark) n (b ∷ bs))
     (λ e. cond_both (run is_ascii_digit bs == 0) 0 (run is_ascii_digit bs + 1) (λ (n : ℕ). Front (MarkedDigits mark) n (b ∷ bs))
-        (λ none. nothing_front (MarkedDigits mark) (b ∷ bs) (inl refl))
-        (λ some. marked_front mark b bs (eqb-true b mark e) (run is_ascii_digit bs) (run_front is_ascii_digit bs) some))
+    (λ none. nothing_front (MarkedDigits mark) (b ∷ bs) (inl refl))
+    (λ some. marked_front mark b bs (eqb-true b mark e) (run is_ascii_digit bs) (run_front is_ascii_digit bs) some))
     (λ e. nothing_front (MarkedDigits mark) (b ∷ bs) (inl refl))
 
 -- an optional sign and digits
@@ -67,7 +66,8 @@ integer_front bs s n es en some =
     let digits = run_front is_ascii_digit sign.rest in
     let same : n ≡ run is_ascii_digit sign.rest = en ∙ ap (run is_ascii_digit) at in
     record {
-      front = sign.front ++ digits.front; rest = digits.rest;
+      front = sign.front ++ digits.front;
+      rest = digits.rest;
       whole = sign.whole ∙ (ap (λ (xs : List ℕ). sign.front ++ xs) digits.whole ∙ sym (append_assoc sign.front digits.front digits.rest));
       len = omega (arith, length-append sign.front digits.front, sign.len, digits.len, same, es);
       is = (sign.front, digits.front, refl, sign.is, (omega (arith, digits.len, same, one_some n some), digits.is));
@@ -78,7 +78,8 @@ OptionalExponent ts = (length ts ≡ 0) ⊎ IsExponent ts
 
 exponent_mark : (b : ℕ) (bs : List ℕ) (s n : ℕ) → IsTrue (b == 69 || b == 101) → Front IsInteger (s + n) bs → Front OptionalExponent (s + n + 1) (b ∷ bs)
 exponent_mark b bs s n e h = record {
-  front = b ∷ h.front; rest = h.rest;
+  front = b ∷ h.front;
+  rest = h.rest;
   whole = ap (λ (xs : List ℕ). b ∷ xs) h.whole;
   len = omega (arith, h.len);
   is = inr (b, h.front, refl, e, h.is);
@@ -91,8 +92,8 @@ exponent_front (b ∷ bs) =
     let n = run is_ascii_digit (drop s bs) in
     cond_both (b == 69 || b == 101) (if n == 0 then 0 else s + n + 1) 0 (λ (m : ℕ). Front OptionalExponent m (b ∷ bs))
     (λ e. cond_both (n == 0) 0 (s + n + 1) (λ (m : ℕ). Front OptionalExponent m (b ∷ bs))
-        (λ none. nothing_front OptionalExponent (b ∷ bs) (inl refl))
-        (λ some. exponent_mark b bs s n e (integer_front bs s n refl refl some)))
+    (λ none. nothing_front OptionalExponent (b ∷ bs) (inl refl))
+    (λ some. exponent_mark b bs s n e (integer_front bs s n refl refl some)))
     (λ e. nothing_front OptionalExponent (b ∷ bs) (inl refl))
 
 -- a number, by its parts
@@ -101,7 +102,8 @@ join bs mid rest xs ys e h = e ∙ (ap (λ (zs : List ℕ). xs ++ zs) h ∙ sym 
 
 two_parts : (k : TokenKind) (bs after : List ℕ) (P : List ℕ → Type 0) (w m : ℕ) → (i : Front IsInteger w bs) → i.rest ≡ after → (t : Front P m after) → IsToken k (i.front ++ t.front) → Front (IsToken k) (w + m) bs
 two_parts k bs after P w m i e t is = record {
-  front = i.front ++ t.front; rest = t.rest;
+  front = i.front ++ t.front;
+  rest = t.rest;
   whole = join bs after t.rest i.front t.front (i.whole ∙ ap (λ (zs : List ℕ). i.front ++ zs) e) t.whole;
   len = omega (arith, length-append i.front t.front, i.len, t.len);
   is = is;
@@ -129,18 +131,19 @@ real_front bs after w f x i e t u some =
     let pos = one_some (f + x) some in
     let at = front_drop (MarkedDigits 46) f after t in
     let both : Front (λ (zs : List ℕ). Unit {0}) (f + x) after = record {
-      front = t.front ++ u.front; rest = u.rest;
+      front = t.front ++ u.front;
+      rest = u.rest;
       whole = join after (drop f after) u.rest t.front u.front (t.whole ∙ ap (λ (zs : List ℕ). t.front ++ zs) (sym at)) u.whole;
       len = omega (arith, length-append t.front u.front, t.len, u.len);
       is = tt;
     } in
     two_parts Real bs after (λ (zs : List ℕ). Unit {0}) w (f + x) i e both
-        (fraction_and_exponent i.front t.front u.front i.is t.is u.is (λ z. omega (arith, t.len, u.len, z, pos)))
+    (fraction_and_exponent i.front t.front u.front i.is t.is u.is (λ z. omega (arith, t.len, u.len, z, pos)))
 
 integer_alone : (bs : List ℕ) (w : ℕ) → Front IsInteger w bs → Front (IsToken Integer) w bs
 integer_alone bs w i = record { front = i.front; rest = i.rest; whole = i.whole; len = i.len; is = an_integer i.front i.is }
 
-pub number_front : (bs : List ℕ) → IsCut bs (number_at bs)
+pub number_front : (bs : List ℕ) → IsScanned bs (number_at bs)
 number_front bs =
     let s = optional is_sign bs in
     let n = run is_ascii_digit (drop s bs) in
@@ -149,13 +152,13 @@ number_front bs =
     let f = digits_after 46 after in
     let x = exponent (drop f after) in
     rw (number_parts bs s n after refl refl refl)
-    (cond_both (n == 0) None (if q == 0 then (if f + x == 0 then Some (Integer, s + n) else Some (Real, s + n + (f + x))) else Some (Rational, s + n + q)) (IsCut bs)
-        (λ none. tt)
-        (λ some.
-            let i = integer_front bs s n refl refl some in
-            let at : i.rest ≡ after = sym (front_drop IsInteger (s + n) bs i) in
-            cond_both (q == 0) (if f + x == 0 then Some (Integer, s + n) else Some (Real, s + n + (f + x))) (Some (Rational, s + n + q)) (IsCut bs)
-            (λ no_quotient. cond_both (f + x == 0) (Some (Integer, s + n)) (Some (Real, s + n + (f + x))) (IsCut bs)
-                (λ no_part. integer_alone bs (s + n) i)
-                (λ part. real_front bs after (s + n) f x i at (digits_after_front 46 after) (exponent_front (drop f after)) part))
-            (λ quotient. rational_front bs after (s + n) q i at (digits_after_front 47 after) quotient)))
+    (cond_both (n == 0) None (if q == 0 then (if f + x == 0 then Some (Integer, s + n) else Some (Real, s + n + (f + x))) else Some (Rational, s + n + q)) (IsScanned bs)
+    (λ none. tt)
+    (λ some.
+    let i = integer_front bs s n refl refl some in
+    let at : i.rest ≡ after = sym (front_drop IsInteger (s + n) bs i) in
+    cond_both (q == 0) (if f + x == 0 then Some (Integer, s + n) else Some (Real, s + n + (f + x))) (Some (Rational, s + n + q)) (IsScanned bs)
+    (λ no_quotient. cond_both (f + x == 0) (Some (Integer, s + n)) (Some (Real, s + n + (f + x))) (IsScanned bs)
+    (λ no_part. integer_alone bs (s + n) i)
+    (λ part. real_front bs after (s + n) f x i at (digits_after_front 46 after) (exponent_front (drop f after)) part))
+    (λ quotient. rational_front bs after (s + n) q i at (digits_after_front 47 after) quotient)))

@@ -1,16 +1,15 @@
 -- Blanks and comments: what is passed is blanks and comments, all of them, and no other place is reached.
-use Rattle.std.proofs.Common.{◌≡◌, ℕ, zero, suc, ◌+◌, ◌-◌, ◌<◌, ◌≤◌, Bool, true, false, ◌⊎◌, inl, inr, List, [], ◌∷◌, ◌++◌, length, drop, Option, Some, None, refl, sym, ap, subst, ◌∙◌, arith, length-append, length-drop, append_assoc, add-one}
-use Rattle.std.specs.Prelude.{◌&&◌, ◌||◌, ◌==◌, not, IsTrue, if◌then◌else◌}
+use Rattle.std.proofs.Common.{◌≡◌, ℕ, zero, suc, ◌+◌, ◌<◌, ◌≤◌, Bool, true, false, List, [], ◌∷◌, ◌++◌, length, drop, Option, Some, None, refl, sym, ap, subst, ◌∙◌, arith, length-append, length-drop, append_assoc, add-one}
+use Rattle.std.specs.Prelude.{◌&&◌, ◌==◌, IsTrue}
 use Rattle.std.specs.Option.{option_map, option_map_or}
 use Rattle.std.specs.List.{list_all}
-use Rattle.std.proofs.lemmas.Bool.{eqb-true, eqb-false, eq-eqb, ne_eqb, cond_both, or_parts, or_from, cases_Bool}
-use Rattle.std.proofs.lemmas.Bool.Decides.{nat_tests}
+use Rattle.std.proofs.lemmas.Bool.{eqb-true, cond_both, or_parts, or_from}
 use Rattle.std.proofs.lemmas.List.{drop_at, drop-drop}
 use Rattle.tptp_tokens.specs.Bytes.{is_blank, is_no_line_feed, run, comment_end}
 use Rattle.tptp_tokens.specs.Gap.{block, piece, gap}
 use Rattle.tptp_tokens.specs.Skipped.{EndsLine, begins_slash, has_end, Skips, nothing, blank, line}
 use Rattle.tptp_tokens.specs.Skipped as skipped
-use Rattle.tptp_tokens.proofs.Fronts.{Front, front_drop, front_within, AllPass, run_front, run_more}
+use Rattle.tptp_tokens.proofs.Fronts.{front_drop, front_within, AllPass, run_front, run_more}
 use Rattle.tptp_tokens.proofs.GapLemmas.{gap_step}
 
 -- the byte before, where it is a star
@@ -68,16 +67,16 @@ comment_found true (b ∷ body) after h none =
     let parts = or_parts (b == 42 && begins_slash body) (has_end body) none in
     let more = comment_found (b == 42) body after (star_next b body parts.0) parts.1 in
     rw (other, more) (ap (λ (n : ℕ). Some n) (omega arith))
-    where
-      star_next : (b : ℕ) (body : List ℕ) → (b == 42 && begins_slash body) ≡ false → (b == 42) ≡ true → begins_slash body ≡ false
-      star_next b body e star = rw star at e
+  where
+    star_next : (b : ℕ) (body : List ℕ) → (b == 42 && begins_slash body) ≡ false → (b == 42) ≡ true → begins_slash body ≡ false
+    star_next b body e star = rw star at e
 comment_found false (b ∷ body) after h none =
     let parts = or_parts (b == 42 && begins_slash body) (has_end body) none in
     let more = comment_found (b == 42) body after (star_next b body parts.0) parts.1 in
     rw more (ap (λ (n : ℕ). Some n) (omega arith))
-    where
-      star_next : (b : ℕ) (body : List ℕ) → (b == 42 && begins_slash body) ≡ false → (b == 42) ≡ true → begins_slash body ≡ false
-      star_next b body e star = rw star at e
+  where
+    star_next : (b : ℕ) (body : List ℕ) → (b == 42 && begins_slash body) ≡ false → (b == 42) ≡ true → begins_slash body ≡ false
+    star_next b body e star = rw star at e
 
 -- a blank or a comment of this length, or nothing
 pub record Piece (bs : List ℕ) (n : ℕ) : Type 0 where
@@ -106,7 +105,7 @@ line_piece b bs e =
     let within = front_within (AllPass is_no_line_feed) n bs h in
     let ends : EndsLine h.rest = rw behind at (ends_line bs) in
     let step : (rest : List ℕ) → Skips (drop (n + 1) (b ∷ bs)) rest → Skips (b ∷ bs) rest =
-        λ rest k. line h.front (b ∷ bs) h.rest rest h.is ends (ap (λ (x : ℕ). x ∷ bs) (eqb-true b 37 e) ∙ ap (λ (xs : List ℕ). 37 ∷ xs) h.whole) (rw (add-one, behind) at k) in
+    λ rest k. line h.front (b ∷ bs) h.rest rest h.is ends (ap (λ (x : ℕ). x ∷ bs) (eqb-true b 37 e) ∙ ap (λ (xs : List ℕ). 37 ∷ xs) h.whole) (rw (add-one, behind) at k) in
     record { within = omega (arith, within); step = λ lt. step }
 
 block_step : (bs : List ℕ) (n : ℕ) → Ended false bs n → Piece (47 ∷ 42 ∷ bs) (n + 2)

@@ -1,8 +1,6 @@
 use Rattle.std.proofs.Common.{◌≡◌, ◌+◌, ◌≤◌, length, drop, None, Some, refl, sym, subst, ◌∙◌}
 use Rattle.std.proofs.lemmas.List.{take_rest}
-use Rattle.tptp_tokens.specs.declared.kind.Token.{Token}
-use Rattle.tptp_tokens.specs.Cut.{token_at}
-use Rattle.tptp_tokens.specs.Gap.{gap}
+use Rattle.tptp_tokens.specs.Scan.{token_at}
 use Rattle.tptp_tokens.specs.Stream.{Stream, IsEnd, GivesToken}
 use Rattle.tptp_tokens.proofs.Decided.{stops, gives}
 use Rattle.tptp_tokens.proofs.stream.Tokens.advance.Goals as goal
