@@ -11,6 +11,8 @@ use Rattle.tptp_read.specs.ParseForm.{expect, note_at}
 use Rattle.tptp_read.specs.Skim.{rest_of, after_general, after_thing, after_listing, after_others, after_bracket, after_note}
 use Rattle.tptp_read.specs.Grammar.{general, thing_text, generals, ended, also}
 use Rattle.tptp_read.specs.Lexemes.{mark}
+use Rattle.tptp_read.specs.Grammar.{Note, unnoted, source, with_empty, with_list}
+use Rattle.tptp_read.proofs.FormLaws.{expect_is}
 use Rattle.tptp_read.proofs.GeneralLaws.{general_len, generals_len, IsGeneralReader, general_spelled, thing_spelled, listing_spelled}
 
 -- a general term takes a token
@@ -297,3 +299,63 @@ thing_token t ts h e = thing_eq t ts ∙ rw (h, e) refl
 
 pub thing_other : (t : Tok) (ts : List Tok) → (is_head t.kind && begins_with 40 ts) ≡ false → is_plain t.kind ≡ false → after_thing (t ∷ ts) ≡ None
 thing_other t ts h e = thing_eq t ts ∙ rw (h, e) refl
+
+-- ---- annotations
+
+abbrev pub note_step : List Tok → Option (List Tok)
+note_step us = cond (begins_with 44 us) (◌>>=◌ {B = List Tok} (expect 91 (behind us)) after_bracket) (Some us)
+
+abbrev Noted : Type 0
+Noted = Note × List Tok
+
+abbrev list_step : ℕ → General → List Tok → Option Noted
+list_step d g us = cond (begins_with 93 us) (Some (with_empty g, behind us)) (◌>>=◌ {B = Noted} (listing_with (general_at d) 93 us) (λ l. Some (with_list g l.0.0 l.0.1, l.1)))
+
+abbrev noted : ℕ → General × List Tok → Option Noted
+noted d g = cond (begins_with 44 g.1) (◌>>=◌ {B = Noted} (expect 91 (behind g.1)) (list_step d g.0)) (Some (source g.0, g.1))
+
+rest_after : {B : Type 0} (r : Option (List Tok)) (f : List Tok → Option (B × List Tok)) (g : List Tok → Option (List Tok)) → ((x : List Tok) → r ≡ Some x → rest_of (f x) ≡ g x) → rest_of (◌>>=◌ {B = B × List Tok} r f) ≡ ◌>>=◌ {B = List Tok} r g
+rest_after None f g h = refl
+rest_after (Some x) f g h = h x refl
+
+expect_len : (b : ℕ) (ts us : List Tok) → expect b ts ≡ Some us → length us ≤ length ts
+expect_len b ts us e = omega (arith, ap length (expect_is b ts us e))
+
+list_is : (d : ℕ) (g : General) (us : List Tok) → length us ≤ d → rest_of (list_step d g us) ≡ after_bracket us
+unfolding after_bracket after_listing
+list_is d g us le =
+    rest_cond (begins_with 93 us) (Some (with_empty g, behind us)) (◌>>=◌ {B = Noted} (listing_with (general_at d) 93 us) (λ l. Some (with_list g l.0.0 l.0.1, l.1)))
+    ∙ ap (λ (r : Option (List Tok)). cond (begins_with 93 us) (Some (behind us)) r)
+        (rest_made (listing_with (general_at d) 93 us) (λ (y : General × Generals). with_list g y.0 y.1)
+        ∙ ap (λ (r : Option Listing). rest_of r) (listing_same (general_at d) (general_at (length us)) (general_spelled d) (suc (length us)) 93 us (fuel_agrees (suc (length us)) d (length us) (omega arith) (omega arith)) (omega arith)))
+
+noted_is : (d : ℕ) (g : General) (us : List Tok) → length us ≤ d → rest_of (noted d (g, us)) ≡ note_step us
+noted_is d g us le =
+    rest_cond (begins_with 44 us) (◌>>=◌ {B = Noted} (expect 91 (behind us)) (list_step d g)) (Some (source g, us))
+    ∙ ap (λ (r : Option (List Tok)). cond (begins_with 44 us) r (Some us))
+        (rest_after (expect 91 (behind us)) (list_step d g) after_bracket (λ x h. list_is d g x (omega (arith, expect_len 91 (behind us) x h, behind_len us))))
+
+note_eq : (d : ℕ) (ts : List Tok) → length ts ≤ d → after_note d ts ≡ cond (begins_with 44 ts) (◌>>=◌ {B = List Tok} (after_general (behind ts)) note_step) (Some ts)
+unfolding after_note note_at after_general
+note_eq d ts le =
+    rest_cond (begins_with 44 ts) (◌>>=◌ {B = Noted} (general_at d (behind ts)) (noted d)) (Some (unnoted, ts))
+    ∙ ap (λ (r : Option (List Tok)). cond (begins_with 44 ts) r (Some ts))
+        (rest_bind (general_at d (behind ts)) (noted d) note_step (λ x h. noted_is d x.0 x.1 (omega (arith, shrinks (general_at d) (general_spelled d) (behind ts) x h, behind_len ts)))
+        ∙ ap (λ (r : Option Read). ◌>>=◌ {B = List Tok} (rest_of r) note_step) (general_fuel d (length (behind ts)) (behind ts) (omega (arith, behind_len ts)) (omega arith)))
+
+pub note_absent : (d : ℕ) (ts : List Tok) → length ts ≤ d → begins_with 44 ts ≡ false → after_note d ts ≡ Some ts
+note_absent d ts le e = note_eq d ts le ∙ rw e refl
+
+pub note_none : (d : ℕ) (ts : List Tok) → length ts ≤ d → begins_with 44 ts ≡ true → after_general (behind ts) ≡ None → after_note d ts ≡ None
+note_none d ts le e h = note_eq d ts le ∙ rw (e, h) refl
+
+pub note_source : (d : ℕ) (ts us : List Tok) → length ts ≤ d → begins_with 44 ts ≡ true → after_general (behind ts) ≡ Some us → begins_with 44 us ≡ false → after_note d ts ≡ Some us
+note_source d ts us le e h f = note_eq d ts le ∙ rw (e, h, f) refl
+
+pub note_shut : (d : ℕ) (ts us : List Tok) → length ts ≤ d → begins_with 44 ts ≡ true → after_general (behind ts) ≡ Some us → begins_with 44 us ≡ true → begins_with 91 (behind us) ≡ false → after_note d ts ≡ None
+unfolding expect
+note_shut d ts us le e h f k = note_eq d ts le ∙ rw (e, h, f, k) refl
+
+pub note_list : (d : ℕ) (ts us : List Tok) → length ts ≤ d → begins_with 44 ts ≡ true → after_general (behind ts) ≡ Some us → begins_with 44 us ≡ true → begins_with 91 (behind us) ≡ true → after_note d ts ≡ after_bracket (behind (behind us))
+unfolding expect
+note_list d ts us le e h f k = note_eq d ts le ∙ rw (e, h, f, k) refl

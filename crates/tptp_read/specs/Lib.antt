@@ -3,6 +3,7 @@ pub mod Grammar
 pub mod LexemeView
 pub mod Lexemes
 pub mod Meaning
+pub mod Names
 pub mod Parse
 pub mod ParseClause
 pub mod ParseForm

@@ -2,8 +2,10 @@
 #![tactic(auto)]
 
 mod general;
+mod include;
 pub mod laws;
 mod lexeme;
+mod notes;
 pub mod statement;
 mod stop;
 #[cfg(test)]
