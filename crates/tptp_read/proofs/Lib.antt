@@ -9,3 +9,4 @@ pub mod Nexts
 pub mod Law
 pub mod Skimming
 pub mod Places
+pub mod Includes
