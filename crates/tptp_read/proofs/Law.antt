@@ -98,6 +98,9 @@ lower_is Real e = absurd cc
 none_some : {A : Type 0} (x : A) → None ≡ Some x → ⊥
 none_some x e = cc
 
+pub word_is : (t : Tok) (w : List ℕ) → is_lower_kind t.kind ≡ true → t.text ≡ w → t ≡ lower w
+word_is t w k e = let kind = lower_is t.kind k in λ i. record { kind = kind i; text = e i }
+
 language_found : (text w : List ℕ) → language_of text ≡ Some w → IsOtherLanguage text w
 unfolding language_of
 language_found text w e =

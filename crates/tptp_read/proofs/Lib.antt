@@ -10,3 +10,4 @@ pub mod Law
 pub mod Skimming
 pub mod Places
 pub mod Includes
+pub mod Fronts

@@ -1,4 +1,5 @@
 pub mod Atoms
+pub mod Fronts
 pub mod Grammar
 pub mod LexemeView
 pub mod Lexemes

@@ -1,6 +1,7 @@
 //! From bytes to the statements of a problem (the CNF part of the TPTP language).
 #![tactic(auto)]
 
+mod front;
 mod general;
 mod include;
 pub mod laws;
