@@ -13,7 +13,7 @@ use Rattle.tptp_read.specs.Meaning.{judged, name_of, Fault}
 use Rattle.tptp_read.specs.Parse.{◌>>=◌, begins_with, behind, many_at}
 use Rattle.tptp_read.specs.ParseForm.{one_of, expect, is_tail, is_quoted, include_at}
 use Rattle.tptp_read.specs.LexemeView.{Fails}
-use Rattle.tptp_read.specs.Names.{in_names, starts}
+use Rattle.tptp_read.specs.Selected.{in_names, starts}
 use Rattle.tptp_read.proofs.ParseLaws.{some_is}
 
 -- ---- names

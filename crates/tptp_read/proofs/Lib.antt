@@ -11,3 +11,5 @@ pub mod Skimming
 pub mod Places
 pub mod Includes
 pub mod Fronts
+pub mod Passes
+pub mod Verdicts

@@ -4,11 +4,13 @@ pub mod Grammar
 pub mod LexemeView
 pub mod Lexemes
 pub mod Meaning
-pub mod Names
 pub mod Parse
 pub mod ParseClause
 pub mod ParseForm
 pub mod ParseGeneral
 pub mod Rules
+pub mod Selected
 pub mod Skim
 pub mod Text
+pub mod Verdicts
+pub mod Words

@@ -37,7 +37,7 @@ fn is_language(word: &[u8]) -> bool
         || word == b"tpi".as_slice()
 }
 
-fn is_lower(kind: TokenKind) -> bool
+pub(crate) fn is_lower(kind: TokenKind) -> bool
     ensures { result ≡ is_lower_kind kind }
 {
     match kind {

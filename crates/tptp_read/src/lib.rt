@@ -1,13 +1,16 @@
 //! From bytes to the statements of a problem (the CNF part of the TPTP language).
 #![tactic(auto)]
 
+mod cnf;
 mod front;
 mod general;
 mod include;
 pub mod laws;
 mod lexeme;
 mod notes;
+mod refusal;
 pub mod statement;
+mod step;
 mod stop;
 #[cfg(test)]
 mod tests;

@@ -1,6 +1,6 @@
 use Rattle.std.proofs.Common.{◌≡◌, ◌∷◌, ◌+◌, ◌≤◌, ◌<◌, drop, length, get_or, true, false, sym, ap, ◌∙◌, refl, arith}
 use Rattle.tptp_read.specs.LexemeView.{tok, toks}
-use Rattle.tptp_read.specs.Names.{starts}
+use Rattle.tptp_read.specs.Selected.{starts}
 use Rattle.tptp_read.specs.Grammar.{is_name}
 use Rattle.tptp_read.proofs.Places.{behind_toks, toks_at, other}
 use Rattle.tptp_read.proofs.Includes.{names_on, names_off, names_done}

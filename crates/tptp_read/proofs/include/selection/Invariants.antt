@@ -4,7 +4,7 @@ use Rattle.tptp_read.specs.Parse.{many_at}
 use Rattle.tptp_read.specs.ParseForm.{one_of}
 use Rattle.tptp_read.specs.Grammar.{is_name}
 use Rattle.tptp_read.specs.LexemeView.{tok, toks}
-use Rattle.tptp_read.specs.Names.{in_names}
+use Rattle.tptp_read.specs.Selected.{in_names}
 use Rattle.tptp_read.proofs.Includes.{IsNames}
 use Rattle.tptp_read.proofs.include.selection.Given as goal
 
