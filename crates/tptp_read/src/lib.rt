@@ -3,11 +3,14 @@
 
 pub mod laws;
 mod lexeme;
+mod numbers;
 pub mod statement;
 mod stop;
+mod terms;
 #[cfg(test)]
 mod tests;
 pub mod text;
+mod words;
 
 pub use statement::{Role, Statement, StatementList, Which};
 pub use text::{ReadError, read_atom, read_text};
