@@ -4,3 +4,5 @@ pub mod ManyLaws
 pub mod ItemLaws
 pub mod Reading
 pub mod NameSets
+pub mod AtomLaws
+pub mod PlainLaws

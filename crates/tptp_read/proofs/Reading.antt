@@ -10,6 +10,7 @@ use Rattle.inst_logic.specs.declared.symbol.Kind.TheVariants.{Function}
 use Rattle.tptp_read.specs.declared.lexeme.Lexeme.{Lexeme}
 use Rattle.tptp_read.specs.declared.stop.Stop.{Stop}
 use Rattle.tptp_read.specs.declared.stop.Stop.TheVariants as stops
+use Rattle.tptp_tokens.specs.declared.kind.TokenKind.TheVariants.{LowerWord}
 use Rattle.tptp_tokens.specs.Stream.{Tok}
 use Rattle.tptp_read.specs.Lexemes.{mark, is_head, is_plain}
 use Rattle.tptp_read.specs.Grammar.{Written, single, applied, term, terms}
@@ -17,6 +18,13 @@ use Rattle.tptp_read.specs.Meaning.{tree_of, trees_of, count, name_of}
 use Rattle.tptp_read.specs.Parse.{◌>>=◌, Reads, begins_with, behind, many_at, writtens, applied_at, term_with, term_at}
 use Rattle.tptp_read.specs.LexemeView.{tok, toks, in_trees, in_lists, Fails}
 use Rattle.tptp_read.proofs.ParseLaws.{IsExact, term_spelled, at_depth, at_zero, term_len, begins_is}
+
+-- a token, where a place has none
+abbrev pub other : Lexeme
+other = record { kind = LowerWord; text = record { ref_ptr = (0, 0); now = [] } }
+
+pub false_and : (a b : Bool) → a ≡ false → (a && b) ≡ false
+false_and a b e = rw e refl
 
 -- a term takes a token
 shorter : (d : ℕ) (ts : List Tok) (z : Written × List Tok) → term_at d ts ≡ Some z → length z.1 < length ts

@@ -9,3 +9,4 @@ pub mod ParseForm
 pub mod ParseGeneral
 pub mod Rules
 pub mod Text
+pub mod Shapes

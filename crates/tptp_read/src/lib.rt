@@ -3,6 +3,7 @@
 
 pub mod laws;
 mod lexeme;
+mod literals;
 mod numbers;
 pub mod statement;
 mod stop;
