@@ -10,3 +10,4 @@ pub mod ParseGeneral
 pub mod Rules
 pub mod Text
 pub mod Shapes
+pub mod Gathered

@@ -1,6 +1,7 @@
 //! From bytes to the statements of a problem (the CNF part of the TPTP language).
 #![tactic(auto)]
 
+mod clause;
 pub mod laws;
 mod lexeme;
 mod literals;
