@@ -6,3 +6,6 @@ pub mod Reading
 pub mod NameSets
 pub mod AtomLaws
 pub mod PlainLaws
+pub mod PlainTokens
+pub mod GatherLaws
+pub mod DisjunctionLaws

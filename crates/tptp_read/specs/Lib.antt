@@ -11,3 +11,4 @@ pub mod Rules
 pub mod Text
 pub mod Shapes
 pub mod Gathered
+pub mod Plain

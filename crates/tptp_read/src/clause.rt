@@ -133,3 +133,69 @@ fn add<'a>(
         }
     }
 }
+
+// Reads a literal.
+fn single<'a>(
+    alloc: Global,
+    vars: &IndexSet<&[u8]>,
+    depth: usize,
+    tokens: &[Lexeme<'a>],
+    at: usize,
+    into: &mut Literals<'a>,
+) -> Result<usize, Stop>
+    ensures is { Gives (λ x. (gathered into.new, toks (drop x tokens.now))) result (seen (λ s. gather (texts vars.now.keys) (gathered into.old) (from_simple s)) (simple_at depth (toks (drop at tokens.now)))) }
+    ensures within { IfOk result (λ x. (at < x) × (x ≤ length tokens.now)) }
+{
+    let (read, after) = literal(alloc, vars, depth, tokens, at)?;
+    add(alloc, into, read, &tokens[at..after])?;
+    Ok(after)
+}
+
+// Reads a literal, or a disjunction in parentheses.
+#[cycle(items)]
+fn item<'a>(
+    alloc: Global,
+    vars: &IndexSet<&[u8]>,
+    nesting: usize,
+    depth: usize,
+    tokens: &[Lexeme<'a>],
+    at: usize,
+    into: &mut Literals<'a>,
+) -> Result<usize, Stop>
+    ensures is { Gives (λ x. (gathered into.new, toks (drop x tokens.now))) result (seen (λ i. fold (gather (texts vars.now.keys)) (gathered into.old) (from_item i)) (item_at nesting depth (toks (drop at tokens.now)))) }
+    ensures within { IfOk result (λ x. (at < x) × (x ≤ length tokens.now)) }
+{
+    if !stands_at(tokens, at, b'(') {
+        return single(alloc, vars, depth, tokens, at, into);
+    }
+    if nesting == 0 {
+        return Err(Stop::Wrong);
+    }
+    let after = item(alloc, vars, nesting - 1, depth, tokens, at + 1, into)?;
+    let after = items(alloc, vars, nesting - 1, depth, tokens, after, into)?;
+    if !stands_at(tokens, after, b')') {
+        return Err(Stop::Wrong);
+    }
+    Ok(after + 1)
+}
+
+// Reads what follows the first of a disjunction.
+#[cycle(items)]
+fn items<'a>(
+    alloc: Global,
+    vars: &IndexSet<&[u8]>,
+    nesting: usize,
+    depth: usize,
+    tokens: &[Lexeme<'a>],
+    at: usize,
+    into: &mut Literals<'a>,
+) -> Result<usize, Stop>
+    ensures is { Gives (λ x. (gathered into.new, toks (drop x tokens.now))) result (seen (λ is. fold (gather (texts vars.now.keys)) (gathered into.old) (from_items (items_of is))) (many_at 124 (item_at nesting depth) (length (toks (drop at tokens.now))) (toks (drop at tokens.now)))) }
+    ensures within { at ≤ length tokens.now → IfOk result (λ x. (at ≤ x) × (x ≤ length tokens.now)) }
+{
+    let mut next = at;
+    while stands_at(tokens, next, b'|') {
+        next = item(alloc, vars, nesting, depth, tokens, next + 1, into)?;
+    }
+    Ok(next)
+}
