@@ -24,11 +24,11 @@ use Rattle.tptp_read.proofs.ParseLaws.{both_true}
 use Rattle.tptp_read.proofs.ItemLaws.{simple_spelled}
 use Rattle.tptp_read.proofs.PlainTokens.{simple_wrote, literal_feature}
 
-or_false : (b : Bool) → b ≡ (b || false)
+pub or_false : (b : Bool) → b ≡ (b || false)
 or_false true = refl
 or_false false = refl
 
-or_none : (o : Option (List ℕ)) → o ≡ or_else o None
+pub or_none : (o : Option (List ℕ)) → o ≡ or_else o None
 or_none (Some x) = refl
 or_none None = refl
 

@@ -9,3 +9,6 @@ pub mod PlainLaws
 pub mod PlainTokens
 pub mod GatherLaws
 pub mod DisjunctionLaws
+pub mod Widths
+pub mod SameNumbers
+pub mod BodyLaws

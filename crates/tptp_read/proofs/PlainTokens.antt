@@ -96,7 +96,7 @@ literal_feature s front rest e fits = sym (feature_plain front) ∙ ap first_fea
 abbrev pub all_of : List Wrote → List Tok
 all_of ws = flat_map all_tokens ws
 
-all_append : (ws vs : List Wrote) → all_of (ws ++ vs) ≡ all_of ws ++ all_of vs
+pub all_append : (ws vs : List Wrote) → all_of (ws ++ vs) ≡ all_of ws ++ all_of vs
 all_append [] vs = refl
 all_append (w ∷ ws) vs = ap (λ l. all_tokens w ++ l) (all_append ws vs) ∙ sym (append_assoc (all_tokens w) (all_of ws) (all_of vs))
 

@@ -12,3 +12,5 @@ pub mod Text
 pub mod Shapes
 pub mod Gathered
 pub mod Plain
+pub mod Bodies
+pub mod Judging

@@ -153,7 +153,7 @@ fn single<'a>(
 
 // Reads a literal, or a disjunction in parentheses.
 #[cycle(items)]
-fn item<'a>(
+pub(crate) fn item<'a>(
     alloc: Global,
     vars: &IndexSet<&[u8]>,
     nesting: usize,
@@ -181,7 +181,7 @@ fn item<'a>(
 
 // Reads what follows the first of a disjunction.
 #[cycle(items)]
-fn items<'a>(
+pub(crate) fn items<'a>(
     alloc: Global,
     vars: &IndexSet<&[u8]>,
     nesting: usize,

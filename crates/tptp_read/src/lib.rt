@@ -1,6 +1,7 @@
 //! From bytes to the statements of a problem (the CNF part of the TPTP language).
 #![tactic(auto)]
 
+mod body;
 mod clause;
 pub mod laws;
 mod lexeme;
@@ -12,6 +13,8 @@ mod terms;
 #[cfg(test)]
 mod tests;
 pub mod text;
+mod value;
+mod width;
 mod words;
 
 pub use statement::{Role, Statement, StatementList, Which};
