@@ -14,15 +14,15 @@ use Rattle.tptp_read.specs.declared.lexeme.Lexeme.{Lexeme}
 use Rattle.tptp_read.specs.declared.stop.Stop.{Stop}
 use Rattle.tptp_read.specs.declared.stop.Stop.TheVariants as stops
 use Rattle.tptp_read.specs.Lexemes.{is_dollar_kind, is_variable_kind, is_feature}
-use Rattle.tptp_read.specs.Grammar.{Written, single, applied, Writtens, none, more, Item, Items, item, items, item_fits, items_fit}
-use Rattle.tptp_read.specs.Meaning.{Wrote, predicate, equal, from_item, from_items, tree_of, trees_of, predicate_of, literal_of, count, is_always, is_truth, is_constant_atom, is_wide, are_wide, wrote_wide, tokens_of, used_tokens, first_feature, variable_names}
+use Rattle.tptp_read.specs.Grammar.{Written, single, applied, Writtens, none, more, Item, Items, item, items, item_fits, items_fit, Note, cnf}
+use Rattle.tptp_read.specs.Meaning.{Wrote, predicate, equal, from_item, from_items, tree_of, trees_of, predicate_of, literal_of, count, is_always, is_truth, is_constant_atom, is_wide, are_wide, wrote_wide, tokens_of, used_tokens, first_feature, variable_names, judged}
 use Rattle.tptp_read.specs.Parse.{◌>>=◌, Reads, many_at}
 use Rattle.tptp_read.specs.ParseClause.{items_of, item_at}
 use Rattle.tptp_read.specs.LexemeView.{tok, toks, Fails}
 use Rattle.tptp_read.specs.Shapes.{seen}
 use Rattle.tptp_read.specs.Plain.{plain, all_tokens}
 use Rattle.tptp_read.specs.Gathered.{Gathered, gather, nothing, or_else, tree_wide, trees_wide, literal_wide}
-use Rattle.tptp_read.specs.Bodies.{Body, body_of, wrotes, disjunction_at}
+use Rattle.tptp_read.specs.Bodies.{Body, body_of, judged_body, wrotes, disjunction_at}
 use Rattle.tptp_read.proofs.ParseLaws.{bind_some, some_is}
 use Rattle.tptp_read.proofs.ManyLaws.{spelled_many}
 use Rattle.tptp_read.proofs.ItemLaws.{item_spelled, all_items_spelled, all_items_fit}
@@ -221,3 +221,7 @@ parts_read vs g h d ts us rest first others =
     let b = seen_some (of_items vs g) (many_at 124 (item_at d d) (length us) us) h rest others in
     let value : of_parts vs (a.0, b.0) ≡ h = fold_more (gather vs) nothing (from_item a.0) (from_items (items_of b.0)) ∙ ap (λ (x : Gathered). of_items vs x b.0) a.2 ∙ b.2 in
     ap (λ r. seen (of_parts vs) r) (parts_are d ts us rest a.0 b.0 a.1 b.1) ∙ ap (λ (x : Gathered). Some (x, rest)) value
+
+-- what is judged of a clause is judged of its body
+pub judged_is : (name role : Tok) (i : Item) (is : Items) (n : Note) → judged (cnf name role i is n) ≡ judged_body name role (body_of (from_item i ++ from_items is))
+judged_is name role i is n = refl

@@ -63,7 +63,7 @@ fn statement<'a>(
     role: Role,
     body: Body<'a>,
 ) -> Result<Statement, Refused<'a>>
-    ensures { Judges result (judged_as (tok name.now) role (body_view body)) }
+    ensures { Judges result (judged_as (tok name.now) role (body_view body.entry)) }
 {
     if let Some(word) = body.literals.feature {
         return Err(Refused::Feature(word));
@@ -89,7 +89,7 @@ pub(crate) fn cnf_value<'a>(
     role: &Lexeme<'a>,
     body: Body<'a>,
 ) -> Result<Statement, Refused<'a>>
-    ensures { Judges result (judged_body (tok name.now) (tok role.now) (body_view body)) }
+    ensures { Judges result (judged_body (tok name.now) (tok role.now) (body_view body.entry)) }
 {
     match role_of(role.text) {
         None => Err(Refused::Role(role.text)),
