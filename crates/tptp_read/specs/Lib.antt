@@ -7,6 +7,7 @@ pub mod Parse
 pub mod ParseClause
 pub mod ParseForm
 pub mod ParseGeneral
+pub mod Names
 pub mod Rules
 pub mod Text
 pub mod Shapes

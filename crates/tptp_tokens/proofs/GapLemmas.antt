@@ -10,7 +10,7 @@ gap_known zero bs le = omega arith
 gap_known (suc k) [] le = absurd (omega arith)
 gap_known (suc k) (b ∷ bs) le = let h = gap_known k bs (omega arith) in omega (arith, h)
 
-gap_step : (n : ℕ) (bs : List ℕ) → piece bs ≡ n → 0 < n → n ≤ length bs → gap bs ≡ n + gap (drop n bs)
+pub gap_step : (n : ℕ) (bs : List ℕ) → piece bs ≡ n → 0 < n → n ≤ length bs → gap bs ≡ n + gap (drop n bs)
 gap_step zero bs e lt le = absurd (omega arith)
 gap_step (suc n) [] e lt le = absurd (omega arith)
 gap_step (suc n) (b ∷ bs) e lt le =

@@ -5,10 +5,8 @@ use Rattle.tptp_tokens.specs.Bytes.{run}
 cons_at : (bs : List ℕ) (n : ℕ) → n < length bs → drop n bs ≡ get_or bs n 0 ∷ drop (n + 1) bs
 cons_at bs n lt = rw (add-one, drop-cons bs n 0) refl
 
-
 pub run_step : (p : ℕ → Bool) (bs : List ℕ) (n : ℕ) → n < length bs → p (get_or bs n 0) ≡ true → run p (drop n bs) ≡ run p (drop (n + 1) bs) + 1
 run_step p bs n lt e = rw (cons_at bs n lt, e) refl
 
 pub run_stop : (p : ℕ → Bool) (bs : List ℕ) (n : ℕ) → n < length bs → p (get_or bs n 0) ≡ false → run p (drop n bs) ≡ 0
 run_stop p bs n lt e = rw (cons_at bs n lt, e) refl
-
