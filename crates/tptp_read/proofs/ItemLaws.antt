@@ -110,7 +110,7 @@ item_spelled_with p exact d ts z e =
             | inl v ↦
                 let inside = others.0 ∙ all_items_spelled b.0.0 b.0.1 ∙ ap (λ us. items (items_of b.0.0) us) (begins_is 41 b.0.1 v.0) in
                 subst (IsItemAnd ts) (some_is (nested a.0.0 (items_of b.0.0), behind b.0.1) z v.1)
-                  (begins_is 40 ts w.0 ∙ ap (λ us. mark 40 ∷ us) (first.0 ∙ ap (λ us. item a.0.0 us) inside), and_both (item_fits a.0.0) (items_fit (items_of b.0.0)) first.1 (sym (all_items_fit b.0.0) ∙ others.1))
+                (begins_is 40 ts w.0 ∙ ap (λ us. mark 40 ∷ us) (first.0 ∙ ap (λ us. item a.0.0 us) inside), and_both (item_fits a.0.0) (items_fit (items_of b.0.0)) first.1 (sym (all_items_fit b.0.0) ∙ others.1))
             | inr v ↦ absurd cc
           ]
       | inr w ↦
@@ -184,6 +184,7 @@ AllItemsAgain p is = AllAgain 124 item item_fits Follows after_or (λ r. refl) p
 
 mutual
   unfolding item_at
+
   pub item_again : (i : Item) (m d : ℕ) (rest : List Tok) → Follows rest → item_fits i ≡ true → item_depth i ≤ m → item_depth i ≤ d → item_at m d (item i rest) ≡ Some (i, rest)
   item_again (simple s) zero d rest f fits le le' = simple_item_again (λ us. None) d s rest f fits le'
   item_again (simple s) (suc m) d rest f fits le le' = simple_item_again (item_at m d) d s rest f fits le'
@@ -194,8 +195,8 @@ mutual
       let all = items_again is m d b.1 (omega arith) (omega arith) in
       let many = many_again 124 item item_fits Follows after_or (λ r. refl) (item_at m d) (length us) (listed_items is) (mark 41 ∷ rest) (after_close rest) refl (omega (arith, items_len is (mark 41 ∷ rest))) all in
       nested_again (item_at m d) d i is rest
-        (item_again i m d us (follows_items is (mark 41 ∷ rest) (after_close rest)) b.0 (omega arith) (omega arith))
-        (subst (λ (vs : List Tok). many_at 124 (item_at m d) (length us) vs ≡ Some (listed_items is, mark 41 ∷ rest)) (items_spelled is (mark 41 ∷ rest)) many)
+      (item_again i m d us (follows_items is (mark 41 ∷ rest) (after_close rest)) b.0 (omega arith) (omega arith))
+      (subst (λ (vs : List Tok). many_at 124 (item_at m d) (length us) vs ≡ Some (listed_items is, mark 41 ∷ rest)) (items_spelled is (mark 41 ∷ rest)) many)
 
   pub items_again : (is : Items) (m d : ℕ) → items_fit is ≡ true → items_depth is ≤ m → items_depth is ≤ d → AllItemsAgain (item_at m d) (listed_items is)
   items_again last m d fits le le' = tt

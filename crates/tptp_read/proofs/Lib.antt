@@ -13,3 +13,13 @@ pub mod Includes
 pub mod Fronts
 pub mod Passes
 pub mod Verdicts
+pub mod Reading
+pub mod NameSets
+pub mod AtomLaws
+pub mod PlainLaws
+pub mod PlainTokens
+pub mod GatherLaws
+pub mod DisjunctionLaws
+pub mod Widths
+pub mod SameNumbers
+pub mod BodyLaws

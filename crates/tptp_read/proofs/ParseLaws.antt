@@ -103,8 +103,8 @@ mutual
       let f1 = both_true (is_head f.kind) (term_fits t && terms_fit ts) fits in
       let f2 = both_true (term_fits t) (terms_fit ts) f1.1 in
       at_depth d (term (applied f t ts) rest) ∙ applied_again (term_at d) f t ts rest f1.0
-        (term_again t d (terms ts (mark 41 ∷ rest)) (omega arith) f2.0 (no_open ts rest))
-        (terms_again ts d (length (terms ts (mark 41 ∷ rest))) rest (omega arith) f2.1 (omega (arith, terms_len ts (mark 41 ∷ rest))))
+      (term_again t d (terms ts (mark 41 ∷ rest)) (omega arith) f2.0 (no_open ts rest))
+      (terms_again ts d (length (terms ts (mark 41 ∷ rest))) rest (omega arith) f2.1 (omega (arith, terms_len ts (mark 41 ∷ rest))))
 
   terms_again : (ts : Writtens) (d n : ℕ) (rest : List Tok) → depths ts ≤ d → terms_fit ts ≡ true → length (listed ts) ≤ n → many_at 44 (term_at d) n (terms ts (mark 41 ∷ rest)) ≡ Some (listed ts, mark 41 ∷ rest)
   terms_again none d n rest le fits enough = many_stops (term_at d) n rest
@@ -189,7 +189,7 @@ applied_spelled p exact f ts us z head opened e =
     elim (chosen (begins_with 41 b.0.1) (Some (applied f a.0.0 (writtens b.0.0), behind b.0.1)) None (Some z) b.2) [
       | inl w ↦
           let spelled : f ∷ ts ≡ f ∷ mark 40 ∷ term a.0.0 (terms (writtens b.0.0) (mark 41 ∷ behind b.0.1)) =
-              ap (λ vs. f ∷ vs) (opened ∙ ap (λ vs. mark 40 ∷ vs) (first.0 ∙ ap (λ vs. term a.0.0 vs) (others.0 ∙ ap (λ vs. terms (writtens b.0.0) vs) (begins_is 41 b.0.1 w.0)))) in
+          ap (λ vs. f ∷ vs) (opened ∙ ap (λ vs. mark 40 ∷ vs) (first.0 ∙ ap (λ vs. term a.0.0 vs) (others.0 ∙ ap (λ vs. terms (writtens b.0.0) vs) (begins_is 41 b.0.1 w.0)))) in
           subst (IsTermAnd (f ∷ ts)) (some_is (applied f a.0.0 (writtens b.0.0), behind b.0.1) z w.1) (spelled, and_both (is_head f.kind) (term_fits a.0.0 && terms_fit (writtens b.0.0)) head (and_both (term_fits a.0.0) (terms_fit (writtens b.0.0)) first.1 others.1))
       | inr w ↦ absurd cc
     ]

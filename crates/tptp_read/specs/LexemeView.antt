@@ -1,6 +1,7 @@
 -- Tokens of the code as tokens of the grammar, and what reading gives in trees.
 use Rattle.std.specs.Prelude.{◌≡◌, ℕ, List, ◌∷◌, ◌++◌, map, Option, Some, None, Result, Ok, Err}
 use Rattle.std.specs.Option.{option_map}
+use Rattle.std.specs.Borrow.{Bor}
 use Rattle.inst_logic.specs.Tree.{Tree}
 use Rattle.inst_logic.specs.View.{tree}
 use Rattle.inst_logic.specs.declared.term.Term.{Term}
@@ -16,6 +17,10 @@ tok l = record { kind = l.kind; text = l.text.now }
 
 abbrev pub toks : List Lexeme → List Tok
 toks ls = map tok ls
+
+-- the bytes of each
+abbrev pub texts : List (Bor (List ℕ)) → List (List ℕ)
+texts ks = map (λ (k : Bor (List ℕ)). k.now) ks
 
 abbrev pub in_trees : List (List ℕ) → Option (Written × List Tok) → Option (Tree × List Tok)
 in_trees vs read = option_map (λ z. (tree_of vs z.0, z.1)) read

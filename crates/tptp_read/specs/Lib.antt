@@ -8,9 +8,15 @@ pub mod Parse
 pub mod ParseClause
 pub mod ParseForm
 pub mod ParseGeneral
+pub mod Names
 pub mod Rules
 pub mod Selected
 pub mod Skim
 pub mod Text
 pub mod Verdicts
 pub mod Words
+pub mod Shapes
+pub mod Gathered
+pub mod Plain
+pub mod Bodies
+pub mod Judging

@@ -20,7 +20,7 @@ negated_with p d ts =
       if begins_with 61 t.1 then (do
         u ← term_at d (behind t.1)
         Some (no_equation t.0 u.0, u.1))
-        else (if is_atom t.0 then Some (no_atom t.0, t.1) else None))
+          else (if is_atom t.0 then Some (no_atom t.0, t.1) else None))
 
 unfoldable pub negated_at : ℕ → ℕ → Reads Negated
 negated_at zero d = negated_with (λ ts. None) d
@@ -36,9 +36,9 @@ simple_at d ts =
       if begins_with 61 t.1 then (do
         u ← term_at d (behind t.1)
         Some (equation t.0 u.0, u.1))
-        else (if is_unequal t.1 then (do
-          u ← term_at d (behind t.1)
-          Some (unequal t.0 u.0, u.1))
+          else (if is_unequal t.1 then (do
+            u ← term_at d (behind t.1)
+            Some (unequal t.0 u.0, u.1))
           else (if is_atom t.0 then Some (atom t.0, t.1) else None)))
 
 abbrev pub items_of : List Item → Items
@@ -66,4 +66,4 @@ sides_at d ts = do
   if begins_with 61 t.1 then (do
     u ← term_at d (behind t.1)
     Some ((t.0, Some u.0), u.1))
-    else Some ((t.0, None), t.1)
+      else Some ((t.0, None), t.1)

@@ -37,7 +37,7 @@ note_at d ts =
         if begins_with 93 us then Some (with_empty g.0, behind us) else (do
           l ← listing_with (general_at d) 93 us
           Some (with_list g.0 l.0.0 l.0.1, l.1)))
-        else Some (source g.0, g.1))
+          else Some (source g.0, g.1))
     else Some (unnoted, ts)
 
 unfoldable pub cnf_at : ℕ → List Tok → Option Form

@@ -34,7 +34,7 @@ general_with p ts =
       if begins_with 58 t.1 then (do
         g ← p (behind t.1)
         Some (pair t.0 g.0, g.1))
-        else Some (thing t.0, t.1))
+          else Some (thing t.0, t.1))
 
 unfoldable pub general_at : ℕ → Reads General
 general_at zero = general_with (λ ts. None)

@@ -9,12 +9,19 @@ pub mod laws;
 mod lexeme;
 mod notes;
 mod refusal;
+mod body;
+mod clause;
+mod literals;
+mod numbers;
 pub mod statement;
 mod step;
 mod stop;
+mod terms;
 #[cfg(test)]
 mod tests;
 pub mod text;
+mod value;
+mod width;
 mod words;
 
 pub use statement::{Role, Statement, StatementList, Which};

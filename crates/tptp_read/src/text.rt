@@ -1,8 +1,9 @@
 // Whole texts, and texts of atoms.
-ghost use Rattle.std.specs.Prelude.{◌≡◌, ◌≤◌, IfOk, IfErr, All, drop, length};
+ghost use Rattle.std.specs.Prelude.{◌≡◌, ◌≤◌, IfOk, IfErr, IsTrue, All, drop, length};
 ghost use Rattle.inst_logic.specs.LiteralView.{literal};
 ghost use Rattle.inst_logic.specs.WellFormed.{IsAtom};
 ghost use Rattle.tptp_read.specs.declared.text.ReadError.TheVariants as errors;
+ghost use Rattle.tptp_read.specs.Names.{HasReadableNames, tree_is_readable};
 ghost use Rattle.tptp_read.specs.Text.{Readable, IsCause, IsFormedStatement};
 ghost use Rattle.tptp_read.specs.Atoms.{ReadsAtom, IsAtomCause};
 
@@ -56,6 +57,7 @@ fn behind(text: &[u8], end: usize) -> &[u8]
 pub fn read_text(alloc: Global, text: &[u8]) -> Result<StatementList, ReadError>
     ensures readable { IfOk result (Readable text.now) }
     ensures formed { IfOk result (All IsFormedStatement) }
+    ensures names { IfOk result (All HasReadableNames) }
     ensures refused { IfErr result (IsCause text.now) }
 {
     let mut list = StatementList::new(alloc);
@@ -76,6 +78,7 @@ pub fn read_text(alloc: Global, text: &[u8]) -> Result<StatementList, ReadError>
 pub fn read_atom(alloc: Global, text: &[u8]) -> Result<Literal, ReadError>
     ensures read { IfOk result (λ l. ReadsAtom text.now (literal l)) }
     ensures formed { IfOk result (λ l. IsAtom (literal l).atom) }
+    ensures names { IfOk result (λ l. IsTrue (tree_is_readable (literal l).atom)) }
     ensures refused { IfErr result (IsAtomCause text.now) }
 {
     let _text = text;

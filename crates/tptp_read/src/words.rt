@@ -1,6 +1,6 @@
 // Marks, and the names of words.
 ghost use Rattle.std.specs.Prelude.{◌≡◌, ◌<◌, IfOk, IsTrue, length, true, false, drop};
-ghost use Rattle.tptp_read.specs.Lexemes.{is_mark_token, is_head, is_plain, is_quoted_kind, is_variable_kind, is_punctuation};
+ghost use Rattle.tptp_read.specs.Lexemes.{is_mark_token, is_head, is_plain, is_quoted_kind, is_variable_kind, is_dollar_kind, is_feature, is_punctuation};
 ghost use Rattle.tptp_read.specs.Parse.{begins_with};
 ghost use Rattle.tptp_read.specs.Meaning.{name_of, unquoted};
 ghost use Rattle.tptp_read.specs.LexemeView.{tok, toks};
@@ -51,6 +51,28 @@ pub(crate) fn is_variable(kind: TokenKind) -> bool
 {
     match kind {
         TokenKind::Variable => true,
+        _ => false,
+    }
+}
+
+pub(crate) fn is_dollar(kind: TokenKind) -> bool
+    ensures { result ≡ is_dollar_kind kind }
+{
+    match kind {
+        TokenKind::DollarWord => true,
+        _ => false,
+    }
+}
+
+pub(crate) fn is_feature(kind: TokenKind) -> bool
+    ensures { result ≡ is_feature kind }
+{
+    match kind {
+        TokenKind::DollarWord
+        | TokenKind::DistinctObject
+        | TokenKind::Integer
+        | TokenKind::Rational
+        | TokenKind::Real => true,
         _ => false,
     }
 }
