@@ -147,11 +147,14 @@ view p = body_of (wrotes p)
 judged_is : (n r : Tok) (p : Item × List Item) (x : Note) → judged (cnf n r p.0 (items_of p.1) x) ≡ judged_body n r (view p)
 judged_is n r p x = refl
 
+whole_is : (d : ℕ) (ts : List Tok) (n r : Tok) (rest us vs : List Tok) (p : Item × List Item) (x : Note) → IsHead ts n r rest → disjunction_at d rest ≡ Some (p, us) → note_at d us ≡ Some (x, vs) → is_tail vs ≡ true → cnf_at d ts ≡ Some (cnf n r p.0 (items_of p.1) x)
+whole_is d ts n r rest us vs p x h e f t = at_head d ts n r rest h ∙ rw (e, f, t) refl
+
 pub cnf_done : (d : ℕ) (ts : List Tok) (n r : Tok) (rest us vs : List Tok) (b : Body) → IsHead ts n r rest → seen view (disjunction_at d rest) ≡ Some (b, us) → after_note d us ≡ Some vs → is_tail vs ≡ true → judged_form (cnf_at d ts) ≡ judged_body n r b
 cnf_done d ts n r rest us vs b h read note tail =
     let p = seen_is view (disjunction_at d rest) b us read in
     let x = noted_is d us vs note in
-    let whole : cnf_at d ts ≡ Some (cnf n r p.0.0 (items_of p.0.1) x.0) = at_head d ts n r rest h ∙ rw (p.1, x.1, tail) refl in
+    let whole = whole_is d ts n r rest us vs p.0 x.0 h p.1 x.1 tail in
     ap judged_form whole ∙ judged_is n r p.0 x.0 ∙ ap (judged_body n r) p.2
 
 pub no_tail : (d : ℕ) (ts : List Tok) (n r : Tok) (rest us vs : List Tok) (b : Body) → IsHead ts n r rest → seen view (disjunction_at d rest) ≡ Some (b, us) → after_note d us ≡ Some vs → is_tail vs ≡ false → judged_form (cnf_at d ts) ≡ Err syntax_fault
