@@ -99,8 +99,8 @@ cnf_spelled d ts f e =
           let items' = is'.0 ∙ all_items_spelled is.0.0 is.0.1 ∙ ap (λ us. items (items_of is.0.0) us) (x'.0 ∙ ap (λ us. note x.0.0 us) (tail_is x.0.1 w.0)) in
           let whole' = expect_is 40 ts a.0 a.1 ∙ ap (λ us. mark 40 ∷ us) (n'.0 ∙ ap (λ us. n.0.0 ∷ us) (expect_is 44 n.0.1 b.0 b.1 ∙ ap (λ us. mark 44 ∷ us) (r'.0 ∙ ap (λ us. r.0.0 ∷ us) (expect_is 44 r.0.1 c.0 c.1 ∙ ap (λ us. mark 44 ∷ us) (i'.0 ∙ ap (λ us. item i.0.0 us) items'))))) in
           let fits = and_both (is_name n.0.0) (is_lower_kind r.0.0.kind && (item_fits i.0.0 && (items_fit (items_of is.0.0) && note_fits x.0.0))) n'.1
-            (and_both (is_lower_kind r.0.0.kind) (item_fits i.0.0 && (items_fit (items_of is.0.0) && note_fits x.0.0)) r'.1
-            (and_both (item_fits i.0.0) (items_fit (items_of is.0.0) && note_fits x.0.0) i'.1 (and_both (items_fit (items_of is.0.0)) (note_fits x.0.0) (sym (all_items_fit is.0.0) ∙ is'.1) x'.1))) in
+          (and_both (is_lower_kind r.0.0.kind) (item_fits i.0.0 && (items_fit (items_of is.0.0) && note_fits x.0.0)) r'.1
+          (and_both (item_fits i.0.0) (items_fit (items_of is.0.0) && note_fits x.0.0) i'.1 (and_both (items_fit (items_of is.0.0)) (note_fits x.0.0) (sym (all_items_fit is.0.0) ∙ is'.1) x'.1))) in
           subst (IsForm (lower (codes "cnf") ∷ ts)) (some_is (cnf n.0.0 r.0.0 i.0.0 (items_of is.0.0) x.0.0) f w.1) (record { spelled = ap (λ us. lower (codes "cnf") ∷ us) (sym whole'); fits = fits })
       | inr w ↦ absurd (none_some f w.1)
     ]
@@ -149,8 +149,8 @@ cnf_again d name role i is n a b fi fis fn di dis dn =
     let us = items is (note n tail) in
     let many = many_again 124 item item_fits Follows after_or (λ r. refl) (item_at d d) (length us) (listed_items is) (note n tail) (note_follows n) (note_no_or n) (omega (arith, items_len is (note n tail))) (items_again is d d fis dis dis) in
     cnf_reads d name role i is n a b (item_again i d d us (follows_items is (note n tail) (note_follows n)) fi di di)
-      (subst (λ (vs : List Tok). many_at 124 (item_at d d) (length us) vs ≡ Some (listed_items is, note n tail)) (items_spelled is (note n tail)) many)
-      (note_again n d tail refl (record { opens = refl; colon = refl }) fn dn)
+    (subst (λ (vs : List Tok). many_at 124 (item_at d d) (length us) vs ≡ Some (listed_items is, note n tail)) (items_spelled is (note n tail)) many)
+    (note_again n d tail refl (record { opens = refl; colon = refl }) fn dn)
 
 -- ---- includes
 
@@ -238,10 +238,10 @@ form_spelled ts f e =
     let k = bind_some (one_of is_lower ts) _ f e in
     let k' = one_is is_lower ts k.0 k.1 in
     let word : (w : List ℕ) → bytes_eq k.0.0.text w ≡ true → ts ≡ lower w ∷ k.0.1 = λ w same.
-      let kind = lower_is k.0.0.kind k'.1 in
-      let text = (bytes_eq-Decides k.0.0.text w).0 same in
-      let tok_is : k.0.0 ≡ lower w = λ i. record { kind = kind i; text = text i } in
-      k'.0 ∙ ap (λ u. u ∷ k.0.1) tok_is in
+    let kind = lower_is k.0.0.kind k'.1 in
+    let text = (bytes_eq-Decides k.0.0.text w).0 same in
+    let tok_is : k.0.0 ≡ lower w = λ i. record { kind = kind i; text = text i } in
+    k'.0 ∙ ap (λ u. u ∷ k.0.1) tok_is in
     elim (chosen (bytes_eq k.0.0.text (codes "cnf")) (cnf_at (length ts) k.0.1) (cond (bytes_eq k.0.0.text (codes "include")) (include_at k.0.1) None) (Some f) k.2) [
       | inl w ↦ subst (λ (us : List Tok). IsForm us f) (sym (word (codes "cnf") w.0)) (cnf_spelled (length ts) k.0.1 f w.1)
       | inr w ↦ elim (chosen (bytes_eq k.0.0.text (codes "include")) (include_at k.0.1) None (Some f) w.1) [
@@ -279,7 +279,7 @@ form_again (cnf name role i is n) e =
     let l1 = item_deep_len i us in
     let l2 = items_deep_len is (note n tail) in
     cnf_word (mark 40 ∷ name ∷ mark 44 ∷ role ∷ mark 44 ∷ item i us)
-      ∙ cnf_again _ name role i is n b1.0 b2.0 b3.0 b4.0 b4.1 (omega (arith, l1, l2)) (omega (arith, l1, l2)) (omega (arith, l1, l2))
+    ∙ cnf_again _ name role i is n b1.0 b2.0 b3.0 b4.0 b4.1 (omega (arith, l1, l2)) (omega (arith, l1, l2)) (omega (arith, l1, l2))
 form_again (whole file) e = include_word (mark 40 ∷ file ∷ tail) ∙ whole_again file e
 form_again (selected file n ns) e =
     let b1 = both_true (is_quoted file) (is_name n && list_all is_name ns) e in

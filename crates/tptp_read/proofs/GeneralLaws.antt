@@ -44,7 +44,7 @@ listing_spelled p exact c ts z e =
       | inl v ↦
           let inside = others.0 ∙ all_spelled b.0.0 b.0.1 ∙ ap (λ us. generals (generals_of b.0.0) us) (begins_is c b.0.1 v.0) in
           subst (IsListingAnd c ts) (some_is (listed_as a.0.0 (generals_of b.0.0) (behind b.0.1)) z v.1)
-            (first.0 ∙ ap (λ us. general a.0.0 us) inside, and_both (general_fits a.0.0) (generals_fit (generals_of b.0.0)) first.1 (sym (all_general_fit b.0.0) ∙ others.1))
+          (first.0 ∙ ap (λ us. general a.0.0 us) inside, and_both (general_fits a.0.0) (generals_fit (generals_of b.0.0)) first.1 (sym (all_general_fit b.0.0) ∙ others.1))
       | inr v ↦ absurd cc
     ]
 
@@ -58,7 +58,7 @@ thing_spelled p exact (t ∷ ts) z e =
           let a = bind_some (listing_with p 41 (behind ts)) (λ l. Some (call t l.0.0 l.0.1, l.1)) z w.1 in
           let inner = listing_spelled p exact 41 (behind ts) a.0 a.1 in
           subst (IsThingAnd (t ∷ ts)) (some_is (call t a.0.0.0 a.0.0.1, a.0.1) z a.2)
-            (ap (λ us. t ∷ us) (begins_is 40 ts both.1 ∙ ap (λ us. mark 40 ∷ us) inner.0), and_both (is_head t.kind) (general_fits a.0.0.0 && generals_fit a.0.0.1) both.0 inner.1)
+          (ap (λ us. t ∷ us) (begins_is 40 ts both.1 ∙ ap (λ us. mark 40 ∷ us) inner.0), and_both (is_head t.kind) (general_fits a.0.0.0 && generals_fit a.0.0.1) both.0 inner.1)
       | inr w ↦ elim (chosen (is_plain t.kind) (Some (token t, ts)) None (Some z) w.1) [
         | inl v ↦ subst (IsThingAnd (t ∷ ts)) (some_is (token t, ts) z v.1) (refl, v.0)
         | inr v ↦ absurd cc
@@ -201,10 +201,11 @@ listing_at p c g gs rest shut other goes first all =
     let us = generals gs (mark c ∷ rest) in
     let many = many_again 44 general general_fits Goes after_comma (λ r. refl) p (length us) (listed_generals gs) (mark c ∷ rest) goes other (omega (arith, generals_many gs (mark c ∷ rest))) all in
     listing_again p c g gs rest shut (first us (goes_all gs (mark c ∷ rest) goes))
-      (subst (λ (vs : List Tok). many_at 44 p (length us) vs ≡ Some (listed_generals gs, mark c ∷ rest)) (generals_spelled gs (mark c ∷ rest)) many)
+    (subst (λ (vs : List Tok). many_at 44 p (length us) vs ≡ Some (listed_generals gs, mark c ∷ rest)) (generals_spelled gs (mark c ∷ rest)) many)
 
 mutual
   unfolding general_at
+
   pub general_again : (g : General) (m : ℕ) (rest : List Tok) → Goes rest → general_fits g ≡ true → general_depth g ≤ m → general_at m (general g rest) ≡ Some (g, rest)
   general_again (thing (token t)) zero rest f fits le = thing_alone (λ us. None) (token t) rest fits f.colon (token_again (λ us. None) t rest fits f.opens)
   general_again (thing (call h g gs)) zero rest f fits le = absurd (omega arith)

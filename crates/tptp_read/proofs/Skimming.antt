@@ -73,10 +73,10 @@ many_same p q s k (suc n) zero (t ∷ ts) agree lk ln lm = absurd (omega arith)
 many_same p q s k (suc n) (suc m) [] agree lk ln lm = refl
 many_same p q s k (suc n) (suc m) (t ∷ ts) agree lk ln lm =
     pick (begins_with 44 (t ∷ ts)) (◌>>=◌ {B = Many} (p ts) (go p n)) (◌>>=◌ {B = Many} (q ts) (go q m)) (Some ([], t ∷ ts)) (λ e.
-      ap (λ (r : Option (General × List Tok)). ◌>>=◌ {B = Many} r (go p n)) (agree ts (omega arith))
-      ∙ on_some (q ts) (go p n) (go q m) (λ x h.
-        let less = shrinks p s ts x (agree ts (omega arith) ∙ h) in
-        ap (λ (r : Option Many). ◌>>=◌ {B = Many} r (λ xs. Some (x.0 ∷ xs.0, xs.1))) (many_same p q s k n m x.1 agree (omega (arith, less)) (omega (arith, less)) (omega (arith, less)))))
+    ap (λ (r : Option (General × List Tok)). ◌>>=◌ {B = Many} r (go p n)) (agree ts (omega arith))
+    ∙ on_some (q ts) (go p n) (go q m) (λ x h.
+    let less = shrinks p s ts x (agree ts (omega arith) ∙ h) in
+    ap (λ (r : Option Many). ◌>>=◌ {B = Many} r (λ xs. Some (x.0 ∷ xs.0, xs.1))) (many_same p q s k n m x.1 agree (omega (arith, less)) (omega (arith, less)) (omega (arith, less)))))
 
 abbrev Listing : Type 0
 Listing = (General × Generals) × List Tok
@@ -92,15 +92,15 @@ unfolding listing_with
 listing_same p q s k c ts agree lt =
     ap (λ (r : Option (General × List Tok)). ◌>>=◌ {B = Listing} r (others_with p c)) (agree ts lt)
     ∙ on_some (q ts) (others_with p c) (others_with q c) (λ x h.
-      let less = shrinks p s ts x (agree ts lt ∙ h) in
-      ap (λ (r : Option Many). ◌>>=◌ {B = Listing} r (close_with c x.0)) (many_same p q s k (length x.1) (length x.1) x.1 agree (omega (arith, less)) (omega arith) (omega arith)))
+    let less = shrinks p s ts x (agree ts lt ∙ h) in
+    ap (λ (r : Option Many). ◌>>=◌ {B = Listing} r (close_with c x.0)) (many_same p q s k (length x.1) (length x.1) x.1 agree (omega (arith, less)) (omega arith) (omega arith)))
 
 thing_same : (p q : Reads General) → Shrinks p → (k : ℕ) (ts : List Tok) → Agree k p q → length ts ≤ k → thing_with p ts ≡ thing_with q ts
 unfolding thing_with
 thing_same p q s k [] agree le = refl
 thing_same p q s k (t ∷ ts) agree le =
     pick (is_head t.kind && begins_with 40 ts) (listing_with p 41 (behind ts) >>= λ l. Some (call t l.0.0 l.0.1, l.1)) (listing_with q 41 (behind ts) >>= λ l. Some (call t l.0.0 l.0.1, l.1)) _ (λ e.
-      ap (λ (r : Option Listing). ◌>>=◌ {B = Thing × List Tok} r (λ l. Some (call t l.0.0 l.0.1, l.1))) (listing_same p q s k 41 (behind ts) agree (omega (arith, behind_len ts))))
+    ap (λ (r : Option Listing). ◌>>=◌ {B = Thing × List Tok} r (λ l. Some (call t l.0.0 l.0.1, l.1))) (listing_same p q s k 41 (behind ts) agree (omega (arith, behind_len ts))))
 
 abbrev Read : Type 0
 Read = General × List Tok
@@ -112,14 +112,14 @@ general_same : (p q : Reads General) → IsGeneralReader p → (k : ℕ) (ts : L
 unfolding general_with
 general_same p q s k ts agree le =
     both_same (begins_with 91 ts) (cond (begins_with 93 (behind ts)) (Some (empty, behind (behind ts))) (listing_with p 93 (behind ts) >>= λ l. Some (filled l.0.0 l.0.1, l.1)))
-      (cond (begins_with 93 (behind ts)) (Some (empty, behind (behind ts))) (listing_with q 93 (behind ts) >>= λ l. Some (filled l.0.0 l.0.1, l.1)))
-      (◌>>=◌ {B = Read} (thing_with p ts) (pair_with p)) (◌>>=◌ {B = Read} (thing_with q ts) (pair_with q))
-      (λ e. ap (λ (r : Option Listing). cond (begins_with 93 (behind ts)) (Some (empty, behind (behind ts))) (◌>>=◌ {B = Read} r (λ l. Some (filled l.0.0 l.0.1, l.1)))) (listing_same p q s k 93 (behind ts) agree (omega (arith, behind_less 91 ts e))))
-      (ap (λ (r : Option (Thing × List Tok)). ◌>>=◌ {B = Read} r (pair_with p)) (thing_same p q s k ts agree le)
-      ∙ on_some (thing_with q ts) (pair_with p) (pair_with q) (λ x h.
-        let less = thing_shrinks p s ts x (thing_same p q s k ts agree le ∙ h) in
-        pick (begins_with 58 x.1) (◌>>=◌ {B = Read} (p (behind x.1)) (λ g. Some (pair x.0 g.0, g.1))) (◌>>=◌ {B = Read} (q (behind x.1)) (λ g. Some (pair x.0 g.0, g.1))) (Some (thing x.0, x.1)) (λ e.
-          ap (λ (r : Option Read). ◌>>=◌ {B = Read} r (λ g. Some (pair x.0 g.0, g.1))) (agree (behind x.1) (omega (arith, less, behind_len x.1))))))
+    (cond (begins_with 93 (behind ts)) (Some (empty, behind (behind ts))) (listing_with q 93 (behind ts) >>= λ l. Some (filled l.0.0 l.0.1, l.1)))
+    (◌>>=◌ {B = Read} (thing_with p ts) (pair_with p)) (◌>>=◌ {B = Read} (thing_with q ts) (pair_with q))
+    (λ e. ap (λ (r : Option Listing). cond (begins_with 93 (behind ts)) (Some (empty, behind (behind ts))) (◌>>=◌ {B = Read} r (λ l. Some (filled l.0.0 l.0.1, l.1)))) (listing_same p q s k 93 (behind ts) agree (omega (arith, behind_less 91 ts e))))
+    (ap (λ (r : Option (Thing × List Tok)). ◌>>=◌ {B = Read} r (pair_with p)) (thing_same p q s k ts agree le)
+    ∙ on_some (thing_with q ts) (pair_with p) (pair_with q) (λ x h.
+    let less = thing_shrinks p s ts x (thing_same p q s k ts agree le ∙ h) in
+    pick (begins_with 58 x.1) (◌>>=◌ {B = Read} (p (behind x.1)) (λ g. Some (pair x.0 g.0, g.1))) (◌>>=◌ {B = Read} (q (behind x.1)) (λ g. Some (pair x.0 g.0, g.1))) (Some (thing x.0, x.1)) (λ e.
+    ap (λ (r : Option Read). ◌>>=◌ {B = Read} r (λ g. Some (pair x.0 g.0, g.1))) (agree (behind x.1) (omega (arith, less, behind_len x.1))))))
   where
     both_same : {A : Type 0} (b : Bool) (x y z w : A) → (b ≡ true → x ≡ y) → z ≡ w → cond b x z ≡ cond b y w
     both_same true x y z w h k = h refl
@@ -178,11 +178,11 @@ general_step t us =
     let p = general_at (length us) in
     rest_cond (begins_with 91 (t ∷ us)) (cond (begins_with 93 us) (Some (empty, behind us)) (◌>>=◌ {B = Read} (listing_with p 93 us) (λ l. Some (filled l.0.0 l.0.1, l.1)))) (◌>>=◌ {B = Read} (thing_with p (t ∷ us)) (pair_with p))
     ∙ ap (λ (r : Option (List Tok)). cond (begins_with 91 (t ∷ us)) r (rest_of (◌>>=◌ {B = Read} (thing_with p (t ∷ us)) (pair_with p))))
-        (rest_cond (begins_with 93 us) (Some (empty, behind us)) (◌>>=◌ {B = Read} (listing_with p 93 us) (λ l. Some (filled l.0.0 l.0.1, l.1)))
-        ∙ ap (λ (r : Option (List Tok)). cond (begins_with 93 us) (Some (behind us)) r) (rest_made (listing_with p 93 us) (λ (y : General × Generals). filled y.0 y.1)))
+    (rest_cond (begins_with 93 us) (Some (empty, behind us)) (◌>>=◌ {B = Read} (listing_with p 93 us) (λ l. Some (filled l.0.0 l.0.1, l.1)))
+    ∙ ap (λ (r : Option (List Tok)). cond (begins_with 93 us) (Some (behind us)) r) (rest_made (listing_with p 93 us) (λ (y : General × Generals). filled y.0 y.1)))
     ∙ ap (λ (r : Option (List Tok)). cond (begins_with 91 (t ∷ us)) (cond (begins_with 93 us) (Some (behind us)) (rest_of (listing_with p 93 us))) r)
-        (rest_bind (thing_with p (t ∷ us)) (pair_with p) colon_step (λ x h. colon_is x (thing_shrinks p (general_spelled (length us)) (t ∷ us) x h))
-        ∙ ap (λ (r : Option (Thing × List Tok)). ◌>>=◌ {B = List Tok} (rest_of r) colon_step) (thing_same p (general_at (suc (length us))) (general_spelled (length us)) (suc (length us)) (t ∷ us) (fuel_agrees (suc (length us)) (length us) (suc (length us)) (omega arith) (omega arith)) (omega arith)))
+    (rest_bind (thing_with p (t ∷ us)) (pair_with p) colon_step (λ x h. colon_is x (thing_shrinks p (general_spelled (length us)) (t ∷ us) x h))
+    ∙ ap (λ (r : Option (Thing × List Tok)). ◌>>=◌ {B = List Tok} (rest_of r) colon_step) (thing_same p (general_at (suc (length us))) (general_spelled (length us)) (suc (length us)) (t ∷ us) (fuel_agrees (suc (length us)) (length us) (suc (length us)) (omega arith) (omega arith)) (omega arith)))
   where
     colon_is : (x : Thing × List Tok) → length x.1 < suc (length us) → rest_of (pair_with (general_at (length us)) x) ≡ colon_step x.1
     colon_is x lt =
@@ -211,8 +211,8 @@ thing_eq t ts =
     let p = general_at (suc (length ts)) in
     rest_cond (is_head t.kind && begins_with 40 ts) (◌>>=◌ {B = Thing × List Tok} (listing_with p 41 (behind ts)) (λ l. Some (call t l.0.0 l.0.1, l.1))) (cond (is_plain t.kind) (Some (token t, ts)) None)
     ∙ ap (λ (r : Option (List Tok)). cond (is_head t.kind && begins_with 40 ts) r (rest_of (cond (is_plain t.kind) (Some (token t, ts)) None)))
-        (rest_made (listing_with p 41 (behind ts)) (λ (y : General × Generals). call t y.0 y.1)
-        ∙ ap (λ (r : Option Listing). rest_of r) (listing_same p (general_at (length (behind ts))) (general_spelled (suc (length ts))) (suc (length (behind ts))) 41 (behind ts) (fuel_agrees (suc (length (behind ts))) (suc (length ts)) (length (behind ts)) (omega (arith, behind_len ts)) (omega arith)) (omega arith)))
+    (rest_made (listing_with p 41 (behind ts)) (λ (y : General × Generals). call t y.0 y.1)
+    ∙ ap (λ (r : Option Listing). rest_of r) (listing_same p (general_at (length (behind ts))) (general_spelled (suc (length ts))) (suc (length (behind ts))) 41 (behind ts) (fuel_agrees (suc (length (behind ts))) (suc (length ts)) (length (behind ts)) (omega (arith, behind_len ts)) (omega arith)) (omega arith)))
     ∙ ap (λ (r : Option (List Tok)). cond (is_head t.kind && begins_with 40 ts) (rest_of (listing_with (general_at (length (behind ts))) 41 (behind ts))) r) (rest_cond (is_plain t.kind) (Some (token t, ts)) None)
 
 pub no_thing : after_thing [] ≡ None
@@ -226,9 +226,9 @@ unfolding after_listing listing_with after_general after_others
 listing_eq c ts =
     let p = general_at (length ts) in
     rest_bind (p ts) (others_with p c) (λ us. ◌>>=◌ {B = List Tok} (rest_of (many_at 44 (general_at (length us)) (length us) us)) (close_step c)) (λ x h.
-      let less = shrinks p (general_spelled (length ts)) ts x h in
-      rest_bind (many_at 44 p (length x.1) x.1) (close_with c x.0) (close_step c) (λ gs k. rest_cond (begins_with c gs.1) (Some ((x.0, generals_of gs.0), behind gs.1)) None)
-      ∙ ap (λ (r : Option Many). ◌>>=◌ {B = List Tok} (rest_of r) (close_step c)) (many_same p (general_at (length x.1)) (general_spelled (length ts)) (length x.1) (length x.1) (length x.1) x.1 (fuel_agrees (length x.1) (length ts) (length x.1) (omega (arith, less)) (omega arith)) (omega arith) (omega arith) (omega arith)))
+    let less = shrinks p (general_spelled (length ts)) ts x h in
+    rest_bind (many_at 44 p (length x.1) x.1) (close_with c x.0) (close_step c) (λ gs k. rest_cond (begins_with c gs.1) (Some ((x.0, generals_of gs.0), behind gs.1)) None)
+    ∙ ap (λ (r : Option Many). ◌>>=◌ {B = List Tok} (rest_of r) (close_step c)) (many_same p (general_at (length x.1)) (general_spelled (length ts)) (length x.1) (length x.1) (length x.1) x.1 (fuel_agrees (length x.1) (length ts) (length x.1) (omega (arith, less)) (omega arith)) (omega arith) (omega arith) (omega arith)))
 
 pub others_eq : (ts : List Tok) → after_others ts ≡ cond (begins_with 44 ts) (◌>>=◌ {B = List Tok} (after_general (behind ts)) after_others) (Some ts)
 unfolding after_others many_at after_general
@@ -238,11 +238,11 @@ others_eq (t ∷ us) =
     let p = general_at (suc k) in
     rest_cond (begins_with 44 (t ∷ us)) (◌>>=◌ {B = Many} (p us) (go p k)) (Some ([], t ∷ us))
     ∙ ap (λ (r : Option (List Tok)). cond (begins_with 44 (t ∷ us)) r (Some (t ∷ us)))
-        (ap (λ (r : Option Read). rest_of (◌>>=◌ {B = Many} r (go p k))) (general_fuel (suc k) k us (omega arith) (omega arith))
-        ∙ rest_bind (general_at k us) (go p k) (λ vs. rest_of (many_at 44 (general_at (length vs)) (length vs) vs)) (λ x h.
-          let less = shrinks (general_at k) (general_spelled k) us x h in
-          rest_made (many_at 44 p k x.1) (λ (xs : List General). x.0 ∷ xs)
-          ∙ ap (λ (r : Option Many). rest_of r) (many_same p (general_at (length x.1)) (general_spelled (suc k)) (length x.1) k (length x.1) x.1 (fuel_agrees (length x.1) (suc k) (length x.1) (omega (arith, less)) (omega arith)) (omega arith) (omega (arith, less)) (omega arith))))
+    (ap (λ (r : Option Read). rest_of (◌>>=◌ {B = Many} r (go p k))) (general_fuel (suc k) k us (omega arith) (omega arith))
+    ∙ rest_bind (general_at k us) (go p k) (λ vs. rest_of (many_at 44 (general_at (length vs)) (length vs) vs)) (λ x h.
+    let less = shrinks (general_at k) (general_spelled k) us x h in
+    rest_made (many_at 44 p k x.1) (λ (xs : List General). x.0 ∷ xs)
+    ∙ ap (λ (r : Option Many). rest_of r) (many_same p (general_at (length x.1)) (general_spelled (suc k)) (length x.1) k (length x.1) x.1 (fuel_agrees (length x.1) (suc k) (length x.1) (omega (arith, less)) (omega arith)) (omega arith) (omega (arith, less)) (omega arith))))
 
 -- ---- the steps, as the code takes them
 
@@ -326,22 +326,22 @@ unfolding after_bracket after_listing
 list_is d g us le =
     rest_cond (begins_with 93 us) (Some (with_empty g, behind us)) (◌>>=◌ {B = Noted} (listing_with (general_at d) 93 us) (λ l. Some (with_list g l.0.0 l.0.1, l.1)))
     ∙ ap (λ (r : Option (List Tok)). cond (begins_with 93 us) (Some (behind us)) r)
-        (rest_made (listing_with (general_at d) 93 us) (λ (y : General × Generals). with_list g y.0 y.1)
-        ∙ ap (λ (r : Option Listing). rest_of r) (listing_same (general_at d) (general_at (length us)) (general_spelled d) (suc (length us)) 93 us (fuel_agrees (suc (length us)) d (length us) (omega arith) (omega arith)) (omega arith)))
+    (rest_made (listing_with (general_at d) 93 us) (λ (y : General × Generals). with_list g y.0 y.1)
+    ∙ ap (λ (r : Option Listing). rest_of r) (listing_same (general_at d) (general_at (length us)) (general_spelled d) (suc (length us)) 93 us (fuel_agrees (suc (length us)) d (length us) (omega arith) (omega arith)) (omega arith)))
 
 noted_is : (d : ℕ) (g : General) (us : List Tok) → length us ≤ d → rest_of (noted d (g, us)) ≡ note_step us
 noted_is d g us le =
     rest_cond (begins_with 44 us) (◌>>=◌ {B = Noted} (expect 91 (behind us)) (list_step d g)) (Some (source g, us))
     ∙ ap (λ (r : Option (List Tok)). cond (begins_with 44 us) r (Some us))
-        (rest_after (expect 91 (behind us)) (list_step d g) after_bracket (λ x h. list_is d g x (omega (arith, expect_len 91 (behind us) x h, behind_len us))))
+    (rest_after (expect 91 (behind us)) (list_step d g) after_bracket (λ x h. list_is d g x (omega (arith, expect_len 91 (behind us) x h, behind_len us))))
 
 note_eq : (d : ℕ) (ts : List Tok) → length ts ≤ d → after_note d ts ≡ cond (begins_with 44 ts) (◌>>=◌ {B = List Tok} (after_general (behind ts)) note_step) (Some ts)
 unfolding after_note note_at after_general
 note_eq d ts le =
     rest_cond (begins_with 44 ts) (◌>>=◌ {B = Noted} (general_at d (behind ts)) (noted d)) (Some (unnoted, ts))
     ∙ ap (λ (r : Option (List Tok)). cond (begins_with 44 ts) r (Some ts))
-        (rest_bind (general_at d (behind ts)) (noted d) note_step (λ x h. noted_is d x.0 x.1 (omega (arith, shrinks (general_at d) (general_spelled d) (behind ts) x h, behind_len ts)))
-        ∙ ap (λ (r : Option Read). ◌>>=◌ {B = List Tok} (rest_of r) note_step) (general_fuel d (length (behind ts)) (behind ts) (omega (arith, behind_len ts)) (omega arith)))
+    (rest_bind (general_at d (behind ts)) (noted d) note_step (λ x h. noted_is d x.0 x.1 (omega (arith, shrinks (general_at d) (general_spelled d) (behind ts) x h, behind_len ts)))
+    ∙ ap (λ (r : Option Read). ◌>>=◌ {B = List Tok} (rest_of r) note_step) (general_fuel d (length (behind ts)) (behind ts) (omega (arith, behind_len ts)) (omega arith)))
 
 pub note_absent : (d : ℕ) (ts : List Tok) → length ts ≤ d → begins_with 44 ts ≡ false → after_note d ts ≡ Some ts
 note_absent d ts le e = note_eq d ts le ∙ rw e refl

@@ -66,7 +66,12 @@ fn closes_at(tokens: &[Lexeme], at: usize) -> bool
 }
 
 // The names behind the first one, each with a comma before it, and where the tokens go on.
-fn selection(alloc: Global, first: &Lexeme, tokens: &[Lexeme], at: usize) -> Result<(NameList, usize), Stop>
+fn selection(
+    alloc: Global,
+    first: &Lexeme,
+    tokens: &[Lexeme],
+    at: usize,
+) -> Result<(NameList, usize), Stop>
     ensures is { Gives (λ x. (x.0, toks (drop x.1 tokens.now))) result (in_names (name_of (tok first.now) ∷ []) (many_at 44 (one_of is_name) (length (toks (drop at tokens.now))) (toks (drop at tokens.now)))) }
     ensures within { at ≤ length tokens.now → IfOk result (λ x. (at ≤ x.1) × (x.1 ≤ length tokens.now)) }
 {

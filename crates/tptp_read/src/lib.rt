@@ -1,18 +1,18 @@
 //! From bytes to the statements of a problem (the CNF part of the TPTP language).
 #![tactic(auto)]
 
+mod body;
+mod clause;
 mod cnf;
 mod front;
 mod general;
 mod include;
 pub mod laws;
 mod lexeme;
-mod notes;
-mod refusal;
-mod body;
-mod clause;
 mod literals;
+mod notes;
 mod numbers;
+mod refusal;
 pub mod statement;
 mod step;
 mod stop;

@@ -42,7 +42,10 @@ fn statement_of<'a>(alloc: Global, tokens: &[Lexeme<'a>]) -> Result<Statement, R
 }
 
 // The first statement, and where the text goes on; nothing where blanks and comments alone are left.
-pub(crate) fn step<'a>(alloc: Global, text: &'a [u8]) -> Result<Option<(Statement, usize)>, Refusal<'a>>
+pub(crate) fn step<'a>(
+    alloc: Global,
+    text: &'a [u8],
+) -> Result<Option<(Statement, usize)>, Refusal<'a>>
     ensures { StepOf text.now result }
 {
     match front_of(alloc, text)? {

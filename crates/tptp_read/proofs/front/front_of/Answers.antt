@@ -62,8 +62,8 @@ returns c =
     let steps = c.in_default.ensures.steps in
     let end = subst (λ (x : List ℕ). IsEnd (drop at x) (drop last x)) same steps.3 in
     unfinished text (drop at text) (drop last text) (toks c.loop-t.found.items) c.loop-t.invariant.so_far end (λ none nil.
-      let long : length text ≤ last = omega (arith, ap length nil, length-drop last text) in
-      elim c.else-is_empty.branch [
-        | else-is_empty-via-then-is_empty+else-place-text w ↦ w.if-place-text.false (omega (arith, long, w.place-then-is_empty.ensures.is, w.place-then-is_empty.ensures.within, ap length (steps.0 ∙ same)))
-        | else-is_empty-via-else-is_empty w ↦ false_true (sym w.if-is_empty.false ∙ c.is_empty.ensures ∙ eq-eqb _ 0 (ap length c.as_slice-2.ensures.value ∙ sym (length-map c.loop-t.found.items tok) ∙ ap length none))
-      ])
+    let long : length text ≤ last = omega (arith, ap length nil, length-drop last text) in
+    elim c.else-is_empty.branch [
+      | else-is_empty-via-then-is_empty+else-place-text w ↦ w.if-place-text.false (omega (arith, long, w.place-then-is_empty.ensures.is, w.place-then-is_empty.ensures.within, ap length (steps.0 ∙ same)))
+      | else-is_empty-via-else-is_empty w ↦ false_true (sym w.if-is_empty.false ∙ c.is_empty.ensures ∙ eq-eqb _ 0 (ap length c.as_slice-2.ensures.value ∙ sym (length-map c.loop-t.found.items tok) ∙ ap length none))
+    ])

@@ -9,6 +9,6 @@ pub returns-then-not-stands_at-2 : goal.returns-then-not-stands_at-2
 returns-then-not-stands_at-2 c = no_tail_stop c.args.tokens.now c.args.at (sym c.stands_at.ensures.is ∙ c.if-not-stands_at.false) (sym c.stands_at-2.ensures.is ∙ c.if-not-stands_at-2.true)
 
 pub returns : goal.returns
-returns c = 
+returns c =
     let within = c.stands_at-2.ensures.within c.if-not-stands_at-2.false in
     tail_at c.args.tokens.now c.args.at (sym c.stands_at.ensures.is ∙ c.if-not-stands_at.false) (sym c.stands_at-2.ensures.is ∙ c.if-not-stands_at-2.false) within
