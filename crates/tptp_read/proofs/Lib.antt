@@ -12,3 +12,5 @@ pub mod DisjunctionLaws
 pub mod Widths
 pub mod SameNumbers
 pub mod BodyLaws
+pub mod Lengths
+pub mod AtomForms

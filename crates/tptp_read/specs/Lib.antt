@@ -15,3 +15,4 @@ pub mod Gathered
 pub mod Plain
 pub mod Bodies
 pub mod Judging
+pub mod AtomReading

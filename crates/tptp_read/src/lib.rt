@@ -1,6 +1,7 @@
 //! From bytes to the statements of a problem (the CNF part of the TPTP language).
 #![tactic(auto)]
 
+mod atom;
 mod body;
 mod clause;
 pub mod laws;

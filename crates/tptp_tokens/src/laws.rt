@@ -1,9 +1,15 @@
 // Laws of tokens.
+ghost use Rattle.std.specs.Prelude.{◌≡◌, ℕ, List, []};
+ghost use Rattle.tptp_tokens.specs.Skipped.{Skips};
+ghost use Rattle.tptp_tokens.specs.Stream.{IsEnd, IsDone, IsDecidedToken};
 
 /// A text begins, behind blanks and comments, with one token and no other, or with none.
 pub fn one_token()
+    ensures { (text : List ℕ) → IsDecidedToken text }
 {}
 
 /// Where nothing but blanks and comments is left, no token begins; and a text ends at one place.
 pub fn one_end()
+    ensures done { (text : List ℕ) → IsDone text → IsEnd text [] }
+    ensures same { (text r s : List ℕ) → IsEnd text r → IsEnd text s → r ≡ s }
 {}

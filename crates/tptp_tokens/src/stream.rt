@@ -38,6 +38,7 @@ impl<'a> Tokens<'a> {
 
     // The next token.
     fn advance(&mut self) -> Option<Token>
+        ensures { Advances self.old result self.new }
     {
         let start = self.at + gap_len(&self.text[self.at..]);
         match token_at(&self.text[start..]) {
@@ -60,6 +61,9 @@ impl<'a> Tokens<'a> {
 impl<'a> Iterator for Tokens<'a> {
     type Item = Token;
 
+    ghost next_gives = { λ s r t. Advances s r t };
+
+    ghost remaining = { λ s. at_most (length s.text - s.at) };
 
     /// The next token, or `None` at the first place where none begins.
     fn next(&mut self) -> Option<Token> {
