@@ -86,9 +86,9 @@ pub record IsReadAs (ts us : List Tok) (clause : List (Signed Tree)) : Type 0 wh
   pub read : simple_at (length ts) ts ≡ Some (simple, us)
   pub literals : literal_of [] (from_simple simple) ≡ clause
 
-pub read_as : (ts us : List Tok) (vs : List (List ℕ)) (c : List (Signed Tree)) (g : Gathered) → vs ≡ [] → c ≡ [] → seen (of_literal vs c) (simple_at (length ts) ts) ≡ Some (g, us) → IsReadAs ts us g.clause
-read_as ts us vs c g none nil e =
-    let a = seen_some (of_literal vs c) (simple_at (length ts) ts) g us e in
+pub read_as : (ts us : List Tok) (vs : List (List ℕ)) (c : List (Signed Tree)) (g : Gathered) (d : ℕ) → d ≡ length ts → vs ≡ [] → c ≡ [] → seen (of_literal vs c) (simple_at d ts) ≡ Some (g, us) → IsReadAs ts us g.clause
+read_as ts us vs c g d long none nil e =
+    let a = seen_some (of_literal vs c) (simple_at (length ts) ts) g us (ap (λ (n : ℕ). seen (of_literal vs c) (simple_at n ts)) (sym long) ∙ e) in
     let value : gather [] (started []) (from_simple a.0) ≡ g = (λ i. gather (sym none i) (started (sym nil i)) (from_simple a.0)) ∙ a.2 in
     record { simple = a.0; read = a.1; literals = ap (λ (x : Gathered). x.clause) value }
 
@@ -108,30 +108,39 @@ same_read ts us s a e f =
 pub form_variable : (ts : List Tok) → has_variable ts ≡ true → (a : Simple) → ¬ IsAtomForm ts a
 form_variable ts e a f = true_false (has_variable ts) e f.variable_free
 
-pub form_fails : (x : Stop) (ts : List Tok) (vs : List (List ℕ)) (c : List (Signed Tree)) (r : Result Literal Stop) → r ≡ Err x → Fails x (seen (of_literal vs c) (simple_at (length ts) ts)) → FormOf ts r
-form_fails stops.Memory ts vs c r e h = subst (λ (y : Result Literal Stop). FormOf ts y) (sym e) tt
-form_fails stops.Wrong ts vs c r e h =
-    subst (λ (y : Result Literal Stop). FormOf ts y) (sym e) (λ a f. some_none (pair a []) (simple_at (length ts) ts) (atom_again ts a f) (seen_fails stops.Wrong (of_literal vs c) (simple_at (length ts) ts) h))
+pub form_fails : (x : Stop) (ts : List Tok) (vs : List (List ℕ)) (c : List (Signed Tree)) (r : Result Literal Stop) (d : ℕ) → d ≡ length ts → r ≡ Err x → Fails x (seen (of_literal vs c) (simple_at d ts)) → FormOf ts r
+form_fails stops.Memory ts vs c r d long e h = subst (λ (y : Result Literal Stop). FormOf ts y) (sym e) tt
+form_fails stops.Wrong ts vs c r d long e h =
+    let none : simple_at (length ts) ts ≡ None = ap (λ (n : ℕ). simple_at n ts) (sym long) ∙ seen_fails stops.Wrong (of_literal vs c) (simple_at d ts) h in
+    subst (λ (y : Result Literal Stop). FormOf ts y) (sym e) (λ a f. some_none (pair a []) (simple_at (length ts) ts) (atom_again ts a f) none)
 
 pub form_more : (ts us : List Tok) (c : List (Signed Tree)) → IsReadAs ts us c → (us ≡ [] → ⊥) → (a : Simple) → ¬ IsAtomForm ts a
 form_more ts us c r some a f = some (same_read ts us r.simple a r.read f).1
 
 pub form_none : (ts us : List Tok) (c : List (Signed Tree)) → IsReadAs ts us c → (length c ≡ 1 → ⊥) → (a : Simple) → ¬ IsAtomForm ts a
-form_none ts us c r no a f =
+form_none ts us c r not_so a f =
     let same = (same_read ts us r.simple a r.read f).0 in
-    no (ap length (sym r.literals) ∙ ap (λ (s : Simple). length (literal_of [] (from_simple s))) same ∙ plain_one a (true_is (is_plain_atom a) f.plain))
+    not_so (ap length (sym r.literals) ∙ ap (λ (s : Simple). length (literal_of [] (from_simple s))) same ∙ plain_one a (true_is (is_plain_atom a) f.plain))
 
 pub form_negative : (ts us : List Tok) (c : List (Signed Tree)) (l : Signed Tree) → IsReadAs ts us c → c ≡ l ∷ [] → l.positive ≡ false → (a : Simple) → ¬ IsAtomForm ts a
-form_negative ts us c l r one no a f =
+form_negative ts us c l r one not_so a f =
     let same = (same_read ts us r.simple a r.read f).0 in
-    true_false l.positive (plain_positive a l (true_is (is_plain_atom a) f.plain) (ap (λ (s : Simple). literal_of [] (from_simple s)) (sym same) ∙ r.literals ∙ one)) no
+    true_false l.positive (plain_positive a l (true_is (is_plain_atom a) f.plain) (ap (λ (s : Simple). literal_of [] (from_simple s)) (sym same) ∙ r.literals ∙ one)) not_so
 
 pub form_is : (ts us : List Tok) (c : List (Signed Tree)) (l : Signed Tree) → has_variable ts ≡ false → IsReadAs ts us c → us ≡ [] → c ≡ l ∷ [] → l.positive ≡ true → (a : Simple) × IsAtomForm ts a × (literal_of [] (from_simple a) ≡ l ∷ [])
-form_is ts us c l free r end one yes =
+form_is ts us c l free r end one is_so =
     let read = r.read ∙ ap (λ (x : List Tok). Some (pair r.simple x)) end in
     let spelled = simple_spelled (length ts) ts (r.simple, []) read in
     let value = r.literals ∙ one in
-    (r.simple, record { spelled = sym spelled.0; fits = is_true (simple_fits r.simple) spelled.1; plain = is_true (is_plain_atom r.simple) (positive_plain r.simple l value yes); variable_free = free }, value)
+    (r.simple, record { spelled = sym spelled.0; fits = is_true (simple_fits r.simple) spelled.1; plain = is_true (is_plain_atom r.simple) (positive_plain r.simple l value is_so); variable_free = free }, value)
 
 pub width_is : (a : Simple) (l : Signed Tree) → literal_of [] (from_simple a) ≡ l ∷ [] → literal_wide l ≡ wrote_wide (from_simple a)
 width_is a l e = sym (or_false_right (literal_wide l)) ∙ sym (ap (list_any literal_wide) e) ∙ width_literal [] (from_simple a)
+
+pub was_false : (b : Bool) → not b ≡ true → b ≡ false
+was_false true e = absurd cc
+was_false false e = refl
+
+pub was_true : (b : Bool) → not b ≡ false → b ≡ true
+was_true true e = refl
+was_true false e = absurd cc
