@@ -1,7 +1,18 @@
 pub mod ParseLaws
-pub mod ClauseLaws
 pub mod ManyLaws
+pub mod ClauseLaws
 pub mod ItemLaws
+pub mod GeneralLaws
+pub mod Lengths
+pub mod FormLaws
+pub mod Nexts
+pub mod Law
+pub mod Skimming
+pub mod Places
+pub mod Includes
+pub mod Fronts
+pub mod Passes
+pub mod Verdicts
 pub mod Reading
 pub mod NameSets
 pub mod AtomLaws
@@ -12,5 +23,5 @@ pub mod DisjunctionLaws
 pub mod Widths
 pub mod SameNumbers
 pub mod BodyLaws
-pub mod Lengths
 pub mod AtomForms
+pub mod AllTokens

@@ -136,7 +136,7 @@ punctuation_is Integer e = absurd cc
 punctuation_is Rational e = absurd cc
 punctuation_is Real e = absurd cc
 
-mark_is : (b : ℕ) (t : Tok) → is_mark_token b t ≡ true → t ≡ mark b
+pub mark_is : (b : ℕ) (t : Tok) → is_mark_token b t ≡ true → t ≡ mark b
 mark_is b t e =
     let both = both_true (is_punctuation t.kind) (bytes_eq t.text (b ∷ [])) e in
     let k = punctuation_is t.kind both.0 in

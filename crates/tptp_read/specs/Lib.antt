@@ -1,4 +1,5 @@
 pub mod Atoms
+pub mod Fronts
 pub mod Grammar
 pub mod LexemeView
 pub mod Lexemes
@@ -9,7 +10,11 @@ pub mod ParseForm
 pub mod ParseGeneral
 pub mod Names
 pub mod Rules
+pub mod Selected
+pub mod Skim
 pub mod Text
+pub mod Verdicts
+pub mod Words
 pub mod Shapes
 pub mod Gathered
 pub mod Plain

@@ -1,14 +1,22 @@
 //! From bytes to the statements of a problem (the CNF part of the TPTP language).
 #![tactic(auto)]
 
+mod all;
 mod atom;
 mod body;
 mod clause;
+mod cnf;
+mod front;
+mod general;
+mod include;
 pub mod laws;
 mod lexeme;
 mod literals;
+mod notes;
 mod numbers;
+mod refusal;
 pub mod statement;
+mod step;
 mod stop;
 mod terms;
 #[cfg(test)]
