@@ -120,7 +120,7 @@ disjunction_plain ts z h =
 
 -- ---- the width
 
-or_false_right : (b : Bool) → (b || false) ≡ b
+pub or_false_right : (b : Bool) → (b || false) ≡ b
 or_false_right true = refl
 or_false_right false = refl
 
@@ -143,7 +143,7 @@ width_atom vs sign (single t) false e = refl
 width_atom vs sign (applied f t ts) true e = absurd cc
 width_atom vs sign (applied f t ts) false e = or_false_right (nat_le 1025 (count ts + 1) || (tree_wide (tree_of vs t) || trees_wide (trees_of vs ts))) ∙ (λ i. nat_le 1025 (count ts + 1) || (width_tree vs t i || width_trees vs ts i))
 
-width_literal : (vs : List (List ℕ)) (w : Wrote) → list_any literal_wide (literal_of vs w) ≡ wrote_wide w
+pub width_literal : (vs : List (List ℕ)) (w : Wrote) → list_any literal_wide (literal_of vs w) ≡ wrote_wide w
 width_literal vs (predicate sign t) = width_atom vs sign t (is_constant_atom t) refl
 width_literal vs (equal sign t u) = or_false_right (tree_wide (tree_of vs t) || (tree_wide (tree_of vs u) || false)) ∙ (λ i. width_tree vs t i || (or_false_right (tree_wide (tree_of vs u)) ∙ width_tree vs u) i)
 

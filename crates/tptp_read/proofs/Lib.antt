@@ -24,3 +24,5 @@ pub mod DisjunctionLaws
 pub mod Widths
 pub mod SameNumbers
 pub mod BodyLaws
+pub mod AtomForms
+pub mod AllTokens

@@ -20,3 +20,4 @@ pub mod Gathered
 pub mod Plain
 pub mod Bodies
 pub mod Judging
+pub mod AtomReading

@@ -26,7 +26,7 @@ pub(crate) struct Literals<'a> {
 }
 
 // The first token that is not supported.
-fn feature_in<'a>(tokens: &[Lexeme<'a>]) -> Option<&'a [u8]>
+pub(crate) fn feature_in<'a>(tokens: &[Lexeme<'a>]) -> Option<&'a [u8]>
     ensures { option_map (λ b. b.now) result ≡ first_feature (toks tokens.now) }
 {
     for l in tokens {
@@ -135,7 +135,7 @@ fn add<'a>(
 }
 
 // Reads a literal.
-fn single<'a>(
+pub(crate) fn single<'a>(
     alloc: Global,
     vars: &IndexSet<&[u8]>,
     depth: usize,

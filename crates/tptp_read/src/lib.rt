@@ -1,6 +1,8 @@
 //! From bytes to the statements of a problem (the CNF part of the TPTP language).
 #![tactic(auto)]
 
+mod all;
+mod atom;
 mod body;
 mod clause;
 mod cnf;

@@ -41,7 +41,7 @@ fn any_is_wide(ts: &[Term]) -> bool
     false
 }
 
-fn literal_is_wide(l: &Literal) -> bool
+pub(crate) fn literal_is_wide(l: &Literal) -> bool
     ensures { result ≡ tree_wide (app l.now.sym (of_list l.now.args)) }
 {
     application_is_wide(&l.sym, &l.args)
