@@ -10,3 +10,4 @@ pub mod Sizes
 pub mod Solved
 pub mod Steps
 pub mod Visits
+pub mod Terms
