@@ -1,1 +1,4 @@
 pub mod Ids
+pub mod Numbers
+pub mod Leaves
+pub mod Stacks

@@ -1,6 +1,6 @@
 -- The walk that builds terms: what each node is to become, and what the steps that are left make of the terms that are built.
-use Rattle.std.specs.Prelude.{◌≡◌, ℕ, zero, suc, ◌<◌, ◌+◌, ◌*◌, ◌-◌, List, [], ◌∷◌, ◌++◌, map, fold, length, nat_eq, Bool, true, ◌⊎◌, slice_index_or}
-use Rattle.std.specs.List.{position_or_len}
+use Rattle.std.specs.Prelude.{◌≡◌, ℕ, zero, suc, ◌<◌, ◌+◌, ◌*◌, ◌-◌, List, [], ◌∷◌, ◌++◌, map, fold, length, nat_eq, Bool, true, ◌⊎◌, slice_get, Option, None, Some}
+use Rattle.std.specs.List.{position_or_len, IsDistinct}
 use Rattle.std.specs.Map.{keys_of}
 use Rattle.inst_logic.specs.declared.symbol.Sym.{Sym}
 use Rattle.inst_logic.specs.Tree.{Tree, Trees, var, app, of_list, to_list}
@@ -9,10 +9,12 @@ use Rattle.inst_logic.specs.Measure.{tree_size}
 use Rattle.inst_logic.specs.Substitution.{subst as apply}
 use Rattle.inst_logic.specs.Unifiers.{Sided}
 use Rattle.inst_logic.specs.Clauses.{numbered}
-use Rattle.term_bank.specs.Forest.{Forest, tree_at, IsAt, Extends, is_ground, arguments_of}
+use Rattle.term_bank.specs.Forest.{Forest, tree_at, IsAt, AreIds, IsFormed, Extends, is_ground, arguments_of}
 use Rattle.unify_core.specs.Lists.{◌∈◌}
 use Rattle.unify_core.specs.Sides.{Binding, variable_number, of_side, IsResolvedBy}
 use Rattle.unify_core.specs.Pairs.{widest}
+use Rattle.unify_core.specs.Chains.{AreBindings}
+use Rattle.unify_core.specs.contracts.side.BoundPartialEq.TheImpl as bound
 use Rattle.unify_core.specs.declared.side.Side.{Side}
 use Rattle.unify_core.specs.declared.side.Bound.{Bound}
 use Rattle.unify_core.specs.declared.side.Variable.{Variable}
@@ -20,6 +22,9 @@ use Rattle.clause_form.specs.declared.walk.Step.{Step}
 use Rattle.clause_form.specs.declared.walk.Step.TheVariants.{Visit, Build}
 use Rattle.clause_form.specs.declared.walk.Leaves.{Leaves}
 use Rattle.clause_form.specs.declared.walk.Leaves.TheVariants.{Listed, Led}
+
+abbrev pub bound_eq : Bound → Bound → Bool
+bound_eq = (bound.ghosts).eq
 
 -- for each node the tree that it becomes, and the numbers of the variables that stay in it, from left to right
 pub record Reading : Type 0 where
@@ -37,11 +42,13 @@ abbrev pub vars_on : Reading → Side → List ℕ → List ℕ
 vars_on r s [] = []
 vars_on r s (a ∷ args) = r.vars (on s a) ++ vars_on r s args
 
+abbrev pub tree_or : Forest → ℕ → Option ℕ → Tree
+tree_or f v None = var v
+tree_or f v (Some t) = tree_at f t
+
 -- the variable's term of the list, or the variable
 abbrev pub listed : Forest → List ℕ → ℕ → Tree
-listed f [] v = var v
-listed f (t ∷ ts) zero = tree_at f t
-listed f (t ∷ ts) (suc v) = listed f ts v
+listed f ts v = tree_or f v (slice_get ts v)
 
 -- bound variables are followed, and others get numbers
 pub record IsLed (f : Forest) (es : List Binding) (r : Reading) (final : List ℕ) : Type 0 where
@@ -107,9 +114,45 @@ pub record IsUnderway (f g : Forest) (r : Reading) (outs : List Tree) (final : L
 abbrev pub AreNodes : ℕ → List Step → Type 0
 AreNodes n ss = (s : Step) → s ∈ ss → (node_of s).term < n
 
+-- nodes of the bank, each noted once
+pub record AreNotes (f : Forest) (ms : List (Bound × ℕ)) : Type 0 where
+  pub once : IsDistinct bound_eq (keys_of ms)
+  pub within : (b : Bound) → b ∈ keys_of ms → b.term < length f.trees
+
 -- nodes that are not noted yet, and steps
 abbrev pub steps_left : Forest → List (Bound × ℕ) → List Step → ℕ
 steps_left f ms ss = (2 * length f.trees - length ms) * (widest f.trees + 2) + length ss
 
 abbrev pub numbers_of : List Variable → List ℕ
 numbers_of xs = map variable_number xs
+
+-- the numbers of the variables that were met so far
+abbrev pub IsBegun : List ℕ → List ℕ → Type 0
+IsBegun final os = (more : List ℕ) × (final ≡ os ++ more)
+
+-- what the leaves name is in the bank
+abbrev pub AreLeaves : Forest → Leaves → Type 0
+AreLeaves f (Listed ts) = AreIds f ts.now
+AreLeaves f (Led bs) = AreBindings f bs.now.entries
+
+-- no bound variable
+abbrev pub IsFree : Forest → Leaves → Bound → Type 0
+IsFree f (Listed ts) b = Unit {0}
+IsFree f (Led bs) b = (v : ℕ) → tree_at f b.term ≡ var v → ¬ ((record { side = b.side; var = v }) ∈ keys_of bs.now.entries)
+
+-- the node that the other one leads to becomes the same
+pub record IsRootOf (f : Forest) (w : Leaves) (from b : Bound) : Type 0 where
+  pub within : b.term < length f.trees
+  pub free : IsFree f w b
+  pub same : (r : Reading) (final : List ℕ) → IsReading f w r final → (r.tree from ≡ r.tree b) × (r.vars from ≡ r.vars b)
+
+-- the walk's steps, the last of which comes first, are taken apart so far
+pub record IsStep (f g h : Forest) (w : Leaves) (ss : List Step) (ids os : List ℕ) (ms : List (Bound × ℕ)) (rest : List Step) (built numbers : List ℕ) (notes : List (Bound × ℕ)) : Type 0 where
+  pub underway : (r : Reading) (outs : List Tree) (final : List ℕ) → IsReading f w r final → IsUnderway f g r outs final ss ids os ms → IsUnderway f h r outs final rest built numbers notes
+  pub nodes : AreNodes (length f.trees) ss → AreNodes (length f.trees) rest
+  pub once : AreNotes f ms → AreNotes f notes
+  pub falls : AreNotes f ms → steps_left f notes rest < steps_left f ms ss
+
+-- each tree of the reading is a term or an atom
+abbrev pub IsFormedReading : Forest → Reading → Type 0
+IsFormedReading f r = (b : Bound) → b.term < length f.trees → IsFormed (r.tree b)

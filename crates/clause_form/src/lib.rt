@@ -5,6 +5,7 @@ pub mod compare;
 pub mod conclusion;
 pub mod renumber;
 pub mod subsumption;
+mod walk;
 
 pub use compare::{clause_size, tautology, variant};
 pub use conclusion::{Conclusion, conclude, under};
