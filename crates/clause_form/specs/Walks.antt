@@ -1,13 +1,13 @@
 -- The walk that builds terms: what each node is to become, and what the steps that are left make of the terms that are built.
 use Rattle.std.specs.Prelude.{◌≡◌, ℕ, zero, suc, ◌<◌, ◌+◌, ◌*◌, ◌-◌, List, [], ◌∷◌, ◌++◌, map, fold, length, nat_eq, Bool, true, ◌⊎◌, slice_get, Option, None, Some}
 use Rattle.std.specs.List.{position_or_len, IsDistinct}
-use Rattle.std.specs.Map.{keys_of}
+use Rattle.std.specs.Map.{keys_of, lookup}
 use Rattle.inst_logic.specs.declared.symbol.Sym.{Sym}
 use Rattle.inst_logic.specs.Tree.{Tree, Trees, var, app, of_list, to_list}
 use Rattle.inst_logic.specs.Lists.{with_item}
 use Rattle.inst_logic.specs.Measure.{tree_size}
 use Rattle.inst_logic.specs.Substitution.{subst as apply}
-use Rattle.inst_logic.specs.Unifiers.{Sided}
+use Rattle.inst_logic.specs.Unifiers.{Sided, IsApplication}
 use Rattle.inst_logic.specs.Clauses.{numbered}
 use Rattle.term_bank.specs.Forest.{Forest, tree_at, IsAt, AreIds, IsFormed, Extends, is_ground, arguments_of}
 use Rattle.unify_core.specs.Lists.{◌∈◌}
@@ -98,11 +98,14 @@ IsNested r [] = Unit {0}
 IsNested r (s ∷ ss) = IsBelow r (tree_size (r.tree (node_of s))) ss × IsNested r ss
 
 -- what is noted of a node is its tree, or the node is still to be built
-abbrev pub IsNoted : Forest → Reading → List Step → List ℕ → Bound × ℕ → Type 0
-IsNoted g r ss os e = (IsAt g e.1 (r.tree e.0) × ((v : ℕ) → v ∈ r.vars e.0 → v ∈ os)) ⊎ (Build e.0 ∈ ss)
+abbrev pub IsNoted : Forest → Reading → List Step → List ℕ → Bound → ℕ → Type 0
+IsNoted g r ss os b id = (IsAt g id (r.tree b) × ((v : ℕ) → v ∈ r.vars b → v ∈ os)) ⊎ (Build b ∈ ss)
+
+abbrev pub note_of : Bound → List (Bound × ℕ) → Option ℕ
+note_of b ms = lookup (bound_eq b) ms
 
 abbrev pub AreNoted : Forest → Reading → List Step → List ℕ → List (Bound × ℕ) → Type 0
-AreNoted g r ss os ms = (e : Bound × ℕ) → e ∈ ms → IsNoted g r ss os e
+AreNoted g r ss os ms = (b : Bound) (id : ℕ) → note_of b ms ≡ Some id → IsNoted g r ss os b id
 
 -- the walk is under way: `f` is the bank where it began, and `g` is the bank now
 pub record IsUnderway (f g : Forest) (r : Reading) (outs : List Tree) (final : List ℕ) (ss : List Step) (ids os : List ℕ) (ms : List (Bound × ℕ)) : Type 0 where
@@ -110,9 +113,18 @@ pub record IsUnderway (f g : Forest) (r : Reading) (outs : List Tree) (final : L
   pub nested : IsNested r ss
   pub noted : AreNoted g r ss os ms
 
--- each node is one of the bank
-abbrev pub AreNodes : ℕ → List Step → Type 0
-AreNodes n ss = (s : Step) → s ∈ ss → (node_of s).term < n
+-- before anything is built
+pub record IsBeginning (f : Forest) (r : Reading) (outs : List Tree) (final : List ℕ) (ss : List Step) (os : List ℕ) : Type 0 where
+  pub ready : IsReady f r outs final ss [] os
+  pub nested : IsNested r ss
+
+-- the node is one of the bank, and what is built is an application
+abbrev pub IsNode : Forest → Step → Type 0
+IsNode f (Visit b) = b.term < length f.trees
+IsNode f (Build b) = (b.term < length f.trees) × IsApplication (tree_at f b.term)
+
+abbrev pub AreNodes : Forest → List Step → Type 0
+AreNodes f ss = (s : Step) → s ∈ ss → IsNode f s
 
 -- nodes of the bank, each noted once
 pub record AreNotes (f : Forest) (ms : List (Bound × ℕ)) : Type 0 where
@@ -149,7 +161,7 @@ pub record IsRootOf (f : Forest) (w : Leaves) (from b : Bound) : Type 0 where
 -- the walk's steps, the last of which comes first, are taken apart so far
 pub record IsStep (f g h : Forest) (w : Leaves) (ss : List Step) (ids os : List ℕ) (ms : List (Bound × ℕ)) (rest : List Step) (built numbers : List ℕ) (notes : List (Bound × ℕ)) : Type 0 where
   pub underway : (r : Reading) (outs : List Tree) (final : List ℕ) → IsReading f w r final → IsUnderway f g r outs final ss ids os ms → IsUnderway f h r outs final rest built numbers notes
-  pub nodes : AreNodes (length f.trees) ss → AreNodes (length f.trees) rest
+  pub nodes : AreNodes f ss → AreNodes f rest
   pub once : AreNotes f ms → AreNotes f notes
   pub falls : AreNotes f ms → steps_left f notes rest < steps_left f ms ss
 
