@@ -3,4 +3,7 @@ pub mod Numbers
 pub mod Leaves
 pub mod Stacks
 pub mod Members
+pub mod Notes
 pub mod Walking
+pub mod Opening
+pub mod Building

@@ -95,17 +95,17 @@ step_rooted f g h w at b ss ids os ms rest built ps ns root k = record {
         ready = transport (λ (t : Tree). IsReady f r outs final ss (map (tree_at g) ids ++ t ∷ []) (with_vars os (r.vars b))) e.0
             (transport (λ (vs : List ℕ). IsReady f r outs final ss (map (tree_at g) ids ++ r.tree at ∷ []) (with_vars os vs)) e.1 u.ready);
         nested = (λ c i. transport (λ (t : Tree). tree_size t < tree_size (r.tree c)) e.0 (u.nested.0 c i), u.nested.1);
-        noted = λ c n q. by (u.noted c n q);
+        noted = λ c n q. by r c n (u.noted c n q);
       });
   nodes = λ ns. k.nodes (λ s i. node ns s i);
   once = k.once;
   falls = k.falls;
 }
   where
-    by : {r : Reading} {c : Bound} {n : ℕ} → IsNoted g r (Visit at ∷ ss) os c n → IsNoted g r (Visit b ∷ ss) os c n
-    by (inl k) = inl k
-    by (inr (inl e)) = absurd (cc)
-    by (inr (inr i)) = inr (inr i)
+    by : (r : Reading) (c : Bound) (n : ℕ) → IsNoted g r (Visit at ∷ ss) os c n → IsNoted g r (Visit b ∷ ss) os c n
+    by r c n (inl k) = inl k
+    by r c n (inr (inl e)) = absurd (cc)
+    by r c n (inr (inr i)) = inr (inr i)
 
     node : AreNodes f (Visit at ∷ ss) → (s : Step) → s ∈ (Visit b ∷ ss) → IsNode f s
     node ns s (inl e) = transport (IsNode f) (sym e) root.within
