@@ -7,3 +7,4 @@ pub mod Notes
 pub mod Walking
 pub mod Opening
 pub mod Building
+pub mod Running

@@ -4,11 +4,12 @@ use Rattle.std.specs.Map.{keys_of, lookup}
 use Rattle.std.specs.List.{IsDistinct}
 use Rattle.std.proofs.lemmas.List.{length-map}
 use Rattle.indexmap.specs.IndexMap.{insert_entry}
-use Rattle.term_bank.specs.Forest.{Forest}
+use Rattle.term_bank.specs.Forest.{Forest, Extends, AreIds}
+use Rattle.inst_calculus.proofs.Membership.{◌∈◌ as ◌∈'◌, all_in, in_all, in_either}
 use Rattle.unify_core.specs.Lists.{◌∈◌}
 use Rattle.unify_core.specs.declared.side.Bound.{Bound}
 use Rattle.unify_core.proofs.Sets.{bound_same, bound_itself, bound_differs, few_bounds}
-use Rattle.clause_form.specs.Walks.{AreNotes, note_of, bound_eq}
+use Rattle.clause_form.specs.Walks.{AreNotes, AreNoteIds, note_of, bound_eq}
 
 -- what is noted after one more note
 pub note_insert : (ms : List (Bound × ℕ)) (k : Bound) (v : ℕ) (c : Bound) (n : ℕ) → note_of c (insert_entry bound_eq ms k v) ≡ Some n → ((c ≡ k) × (n ≡ v)) ⊎ (¬ (c ≡ k) × (note_of c ms ≡ Some n))
@@ -68,3 +69,22 @@ notes_longer ms ns k v e = rw e (length_insert ms k v)
 
 pub notes_new : (ms ns : List (Bound × ℕ)) (k : Bound) (v : ℕ) → ns ≡ insert_entry bound_eq ms k v → note_of k ms ≡ None → length ns ≡ length ms + 1
 notes_new ms ns k v e none = rw e (length_new ms k v none)
+
+pub note_ids : (g : Forest) (ms ns : List (Bound × ℕ)) (k : Bound) (v : ℕ) → ns ≡ insert_entry bound_eq ms k v → v < length g.trees → AreNoteIds g ms → AreNoteIds g ns
+note_ids g ms ns k v e less h c n q = elim (note_insert ms k v c n (ap (note_of c) (sym e) ∙ q)) [ inl x ↦ rw x.1 less | inr y ↦ h c n y.1 ]
+
+pub note_ids_later : (g h : Forest) (ms : List (Bound × ℕ)) → Extends g h → AreNoteIds g ms → AreNoteIds h ms
+note_ids_later g h ms x k c n q = let l = k c n q in let m = x.trees.0 in omega arith
+
+pub extends_itself : (g : Forest) → Extends g g
+extends_itself g = record { trees = (omega arith, λ i h. refl); symbols = (omega arith, λ i h. refl) }
+
+pub ids_pushed : (g h : Forest) (ids : List ℕ) (id : ℕ) → Extends g h → AreIds g ids → id < length h.trees → AreIds h (ids ++ id ∷ [])
+ids_pushed g h ids id x within less =
+    let m = x.trees.0 in
+    in_all (λ (i : ℕ). i < length h.trees) (ids ++ id ∷ []) (λ i k. by i (in_either i ids (id ∷ []) k))
+  where
+    by : (i : ℕ) → (i ∈' ids) ⊎ (i ∈' (id ∷ [])) → i < length h.trees
+    by i (inl a) = let l = all_in (λ (i : ℕ). i < length g.trees) ids within i a in let m = x.trees.0 in omega arith
+    by i (inr (inl e)) = rw e less
+    by i (inr (inr z)) = absurd z

@@ -131,6 +131,10 @@ pub record AreNotes (f : Forest) (ms : List (Bound × ℕ)) : Type 0 where
   pub once : IsDistinct bound_eq (keys_of ms)
   pub within : (b : Bound) → b ∈ keys_of ms → b.term < length f.trees
 
+-- what is noted is in the bank
+abbrev pub AreNoteIds : Forest → List (Bound × ℕ) → Type 0
+AreNoteIds g ms = (b : Bound) (id : ℕ) → note_of b ms ≡ Some id → id < length g.trees
+
 -- nodes that are not noted yet, and steps
 abbrev pub steps_left : Forest → List (Bound × ℕ) → List Step → ℕ
 steps_left f ms ss = (2 * length f.trees - length ms) * (widest f.trees + 2) + length ss

@@ -7,7 +7,7 @@ ghost use Rattle.inst_logic.specs.Tree.{Tree, var};
 ghost use Rattle.inst_logic.specs.Unifiers.{IsApplication};
 ghost use Rattle.term_bank.specs.Forest.{Forest, tree_at, IsAt, AreIds, Extends, AreFormed, IsFormed, symbol_of, arguments_of};
 ghost use Rattle.clause_form.specs.declared.walk.Step.TheVariants.{Visit, Build};
-ghost use Rattle.clause_form.specs.Walks.{Reading, IsReading, IsRootOf, IsFree, IsStep, AreLeaves, AreNotes, AreNodes, note_of, bound_eq, numbers_of, with_vars, vars_on, trees_on, on, IsUnderway, IsFormedReading, IsBegun, IsBeginning};
+ghost use Rattle.clause_form.specs.Walks.{Reading, IsReading, IsRootOf, IsFree, IsStep, AreLeaves, AreNotes, AreNoteIds, AreNodes, note_of, bound_eq, numbers_of, with_vars, vars_on, trees_on, on, IsUnderway, IsFormedReading, IsBegun, IsBeginning};
 
 use indexmap::{IndexMap, IndexSet};
 use inst_logic::{Memory, Sym};
@@ -54,6 +54,7 @@ fn leaf(
     requires within { at.term < length bank.old.trees }
     requires leaves { AreLeaves bank.old leaves.now }
     requires variable { tree_at bank.old at.term ≡ var v }
+    ensures within { IfOk result (λ id. id < length bank.new.trees) }
     ensures leaf { IfOk result (λ id. (f : Forest) (r : Reading) (final : List ℕ) → Extends f bank.old → AreLeaves f leaves.now → at.term < length f.trees → IsFree f leaves.now at → IsReading f leaves.now r final → IsBegun final (with_vars (numbers_of order.old.keys) (r.vars at)) → IsAt bank.new id (r.tree at) × (numbers_of order.new.keys ≡ with_vars (numbers_of order.old.keys) (r.vars at))) }
     ensures extends { Extends bank.old bank.new }
     ensures formed { AreFormed bank.old → AreFormed bank.new }
@@ -89,6 +90,7 @@ fn push_visits(steps: &mut Vec<Step>, side: Side, terms: &[TermId]) -> Result<()
 // Notes the term of the node.
 fn note(notes: &mut IndexMap<Bound, TermId>, node: Bound, term: TermId) -> Result<(), Memory>
     ensures noted { OnOk result (notes.new.entries ≡ insert_entry bound_eq notes.old.entries node term) }
+    ensures ids { OnOk result ((g : Forest) → term < length g.trees → AreNoteIds g notes.old.entries → AreNoteIds g notes.new.entries) }
     ensures once { OnOk result (IsDistinct bound_eq (keys_of notes.new.entries)) }
 {
     notes.insert(node, term)?;
@@ -98,6 +100,7 @@ fn note(notes: &mut IndexMap<Bound, TermId>, node: Bound, term: TermId) -> Resul
 // Notes the node's own term, until it is built.
 fn note_own(notes: &mut IndexMap<Bound, TermId>, node: Bound) -> Result<(), Memory>
     ensures noted { OnOk result (notes.new.entries ≡ insert_entry bound_eq notes.old.entries node node.term) }
+    ensures ids { OnOk result ((g : Forest) → node.term < length g.trees → AreNoteIds g notes.old.entries → AreNoteIds g notes.new.entries) }
     ensures once { OnOk result (IsDistinct bound_eq (keys_of notes.new.entries)) }
 {
     let term = node.term;
@@ -129,7 +132,8 @@ fn open_node(
     requires within { node.term < length bank.now.trees }
     requires application { IsApplication (tree_at bank.now node.term) }
     requires new { note_of node notes.old.entries ≡ None }
-    ensures { OnOk result ((f : Forest) (w : Leaves) (ids os : List ℕ) → Extends f bank.now → node.term < length f.trees → IsStep f bank.now bank.now w (Visit node ∷ reverse steps.old.items) ids os notes.old.entries (reverse steps.new.items) ids os notes.new.entries) }
+    ensures notes { OnOk result (AreNoteIds bank.now notes.old.entries → AreNoteIds bank.now notes.new.entries) }
+    ensures opened { OnOk result ((f : Forest) (w : Leaves) (ids os : List ℕ) → Extends f bank.now → node.term < length f.trees → IsStep f bank.now bank.now w (Visit node ∷ reverse steps.old.items) ids os notes.old.entries (reverse steps.new.items) ids os notes.new.entries) }
 {
     let noted = node;
     let built = node;
@@ -151,6 +155,8 @@ fn visit(
     requires within { at.term < length bank.old.trees }
     requires leaves { AreLeaves bank.old leaves.now }
     requires ids { AreIds bank.old ids.old.items }
+    requires notes { AreNoteIds bank.old notes.old.entries }
+    ensures notes { OnOk result (AreNoteIds bank.new notes.new.entries) }
     ensures visited { OnOk result ((f : Forest) → Extends f bank.old → AreLeaves f leaves.now → at.term < length f.trees → IsStep f bank.old bank.new leaves.now (Visit at ∷ reverse steps.old.items) ids.old.items (numbers_of order.old.keys) notes.old.entries (reverse steps.new.items) ids.new.items (numbers_of order.new.keys) notes.new.entries) }
     ensures ids { OnOk result (AreIds bank.new ids.new.items) }
     ensures extends { Extends bank.old bank.new }
@@ -198,6 +204,8 @@ fn build(
     requires within { node.term < length bank.old.trees }
     requires application { IsApplication (tree_at bank.old node.term) }
     requires ids { AreIds bank.old ids.old.items }
+    requires notes { AreNoteIds bank.old notes.old.entries }
+    ensures notes { OnOk result (AreNoteIds bank.new notes.new.entries) }
     ensures built { OnOk result ((f : Forest) (w : Leaves) (ss : List Step) (os : List ℕ) → Extends f bank.old → node.term < length f.trees → IsStep f bank.old bank.new w (Build node ∷ ss) ids.old.items os notes.old.entries ss ids.new.items os notes.new.entries) }
     ensures ids { OnOk result (AreIds bank.new ids.new.items) }
     ensures extends { Extends bank.old bank.new }

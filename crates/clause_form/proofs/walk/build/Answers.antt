@@ -3,6 +3,7 @@ use Rattle.inst_logic.specs.Tree.{Tree, app, of_list}
 use Rattle.term_bank.specs.Forest.{IsFormed, IsAt, tree_at}
 use Rattle.term_bank.proofs.Growth.{slice_is}
 use Rattle.clause_form.proofs.Building.{top_is, built_step}
+use Rattle.clause_form.proofs.Notes.{note_ids_later}
 use Rattle.clause_form.proofs.walk.build.Goals as goal
 
 pub returns-clause-built : goal.returns-clause-built
@@ -48,3 +49,7 @@ returns-in_err-note-clause-formed c f w r outs final ss os x within reading u fo
     let slice = slice_is c.args.ids.now.items c.deref.result.now c.saturating_sub-start.result c.len.result (length c.args-count.result.now) c.deref.ensures.value c.saturating_sub-start.ensures all in
     let top = top_is f c.args.bank.now w c.args.node ss c.args.ids.now.items os c.args-count.result.now c.args.notes.now.entries c.in_ok-sym.sym n x within c.requires.application c.args-count.ensures.trees refl c.in_ok-sym.ensures r outs final reading u in
     c.app.ensures.formed old (subst IsFormed (sym (ap (λ (zs : List ℕ). app c.in_ok-sym.sym (of_list (map (tree_at c.args.bank.now) zs))) slice ∙ top.0)) formed)
+
+pub returns-clause-notes : goal.returns-clause-notes
+returns-clause-notes c =
+    c.in_ok-note.ensures.ids c.app.new.self c.in_ok-id.ensures.at.0 (note_ids_later c.args.bank.now c.app.new.self c.args.notes.now.entries c.app.ensures.extends c.requires.notes)

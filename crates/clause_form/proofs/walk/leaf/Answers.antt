@@ -1,4 +1,4 @@
-use Rattle.std.proofs.Common.{subst, sym, ◌∙◌}
+use Rattle.std.proofs.Common.{subst, sym, ◌∙◌, ℕ, ◌<◌, length}
 use Rattle.clause_form.specs.declared.walk.Leaves.{Leaves}
 use Rattle.clause_form.specs.Walks.{AreLeaves, IsFree, IsReading, numbers_of}
 use Rattle.unify_core.proofs.Lists.{if_ok}
@@ -22,3 +22,9 @@ returns-in_ok-number-in-Led-clause-leaf c =
         let law = subst (λ (w : Leaves). IsReading f w r final) c.in-Led.is reading in
         leaf_numbered f c.args.bank.now c.var.new.self c.in-Led.field-0.now.entries r final c.args.at c.args.v c.in_ok-number-in-Led.number id c.args.order.now.keys c.insert_full.new.self.keys x within c.requires.variable
         (subst (λ (w : Leaves). IsFree f w c.args.at) c.in-Led.is free) law.leaf begun c.in_ok-number-in-Led.ensures.keys c.in_ok-number-in-Led.ensures.index made)
+
+pub returns-in-Some-clause-within : goal.returns-in-Some-clause-within
+returns-in-Some-clause-within c =
+    let ids = subst (AreLeaves c.args.bank.now) c.in-Listed.is c.requires.leaves in
+    let got = c.in-Some.ensures.lookup.3 in
+    subst (λ (n : ℕ). n < length c.args.bank.now.trees) (sym (got.1 0)) (ids c.args.v 0 got.0)

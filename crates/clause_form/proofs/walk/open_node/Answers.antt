@@ -5,8 +5,8 @@ use Rattle.clause_form.proofs.Opening.{opened}
 use Rattle.clause_form.proofs.Stacks.{visits}
 use Rattle.clause_form.proofs.walk.open_node.Goals as goal
 
-pub returns : goal.returns
-returns c =
+pub returns-clause-opened : goal.returns-clause-opened
+returns-clause-opened c =
     if_ok _ _ c.push_arguments.result c.push_arguments.ensures
     (λ done k f w ids os x within.
         let steps = k.3 ∙ ap (λ (ss : List Step). visits c.args.node.side k.0 ++ ss) c.in_ok-push_build.ensures in
