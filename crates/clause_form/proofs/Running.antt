@@ -20,3 +20,9 @@ leaves_stay f g (Led bs) x h = bindings_stay f g bs.now.entries x h
 -- the last step of the list is on top
 pub top_step : (steps rest : List Step) (s r : Step) → steps ≡ rest ++ s ∷ [] → s ≡ r → reverse steps ≡ r ∷ reverse rest
 top_step steps rest s r e is = ap reverse e ∙ reverse_push rest s ∙ ap (λ (x : Step). x ∷ reverse rest) is
+
+pub first_node : (f : Forest) (ss zs : List Step) (s : Step) → ss ≡ s ∷ zs → AreNodes f ss → IsNode f s
+first_node f ss zs s e h = h s (transport (λ (xs : List Step). s ∈ xs) (sym e) (inl refl))
+
+pub still_within : (f g : Forest) (n : ℕ) → Extends f g → n < length f.trees → n < length g.trees
+still_within f g n x h = let m = x.trees.0 in omega arith
