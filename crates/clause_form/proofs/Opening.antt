@@ -25,7 +25,7 @@ use Rattle.clause_form.proofs.Stacks.{visits}
 use Rattle.clause_form.proofs.Notes.{note_insert, notes_insert, notes_few, notes_new}
 
 -- visits of the terms, and then the rest
-ready_visits : (f : Forest) (r : Reading) (outs : List Tree) (final : List ℕ) (side : Side) (args : List ℕ) (rest : List Step) (ts : List Tree) (os : List ℕ)
+pub ready_visits : (f : Forest) (r : Reading) (outs : List Tree) (final : List ℕ) (side : Side) (args : List ℕ) (rest : List Step) (ts : List Tree) (os : List ℕ)
     → IsReady f r outs final rest (ts ++ trees_on r side args) (with_vars os (vars_on r side args)) → IsReady f r outs final (visits side args ++ rest) ts os
 ready_visits f r outs final side [] rest ts os h = transport (λ (us : List Tree). IsReady f r outs final rest us os) (append-nil ts) h
 ready_visits f r outs final side (a ∷ args) rest ts os h =
@@ -53,7 +53,7 @@ size_among r side (c ∷ args) a (inr i) = let l = size_among r side args a i in
 build_there : (side : Side) (args : List ℕ) (b : Bound) (ss : List Step) (c : Bound) → Build c ∈ (Build b ∷ ss) → Build c ∈ (visits side args ++ Build b ∷ ss)
 build_there side args b ss c i = ∈-append_right (Build c) (visits side args) (Build b ∷ ss) i
 
-visits_are : (f : Forest) (side : Side) (args : List ℕ) → ((a : ℕ) → a ∈ args → a < length f.trees) → (s : Step) → s ∈ visits side args → IsNode f s
+pub visits_are : (f : Forest) (side : Side) (args : List ℕ) → ((a : ℕ) → a ∈ args → a < length f.trees) → (s : Step) → s ∈ visits side args → IsNode f s
 visits_are f side [] h s i = absurd i
 visits_are f side (a ∷ args) h s (inl e) = transport (IsNode f) (sym e) (h a (inl refl))
 visits_are f side (a ∷ args) h s (inr i) = visits_are f side args (λ c j. h c (inr j)) s i

@@ -3,6 +3,7 @@
 
 pub mod compare;
 pub mod conclusion;
+mod literals;
 pub mod renumber;
 pub mod subsumption;
 mod walk;
