@@ -8,3 +8,4 @@ pub mod Walking
 pub mod Opening
 pub mod Building
 pub mod Running
+pub mod Assembly

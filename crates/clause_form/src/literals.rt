@@ -29,8 +29,9 @@ fn add_literal(
     ensures same { OnOk result (clause.new ≡ seen.new.keys) }
     ensures added { OnOk result (seen.new.keys ≡ with_item id_eq seen.old.keys literal) }
 {
+    let kept = literal;
     if seen.insert(literal)? {
-        clause.push(literal)?;
+        clause.push(kept)?;
     }
     Ok(())
 }
