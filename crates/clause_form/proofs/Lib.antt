@@ -9,3 +9,4 @@ pub mod Opening
 pub mod Building
 pub mod Running
 pub mod Assembly
+pub mod Readings

@@ -4,6 +4,7 @@ use Rattle.inst_logic.specs.declared.signed.Signed.{Signed}
 use Rattle.inst_logic.specs.Tree.{Tree, var}
 use Rattle.inst_logic.specs.Substitution.{Substitution, followed_by}
 use Rattle.inst_logic.specs.Clauses.{TreeClause, instance, canonical_form, order_of, numbered, IsCanonical}
+use Rattle.inst_logic.specs.WellFormed.{IsTerm}
 use Rattle.term_bank.specs.Forest.{Forest, AreDistinct, IsAt, IsClauseOf, IsClauseAt, clause_at, tree_at}
 use Rattle.unify_core.specs.Sides.{Binding, IsResolvedBy, of_side}
 use Rattle.unify_core.specs.declared.side.Side.{Side}
@@ -38,3 +39,7 @@ pub record AreCanonicalIn (f : Forest) (c d : List (Signed ℕ)) : Type 0 where
   pub right : IsClauseOf f d
   pub left_canonical : IsCanonical (clause_at f c)
   pub right_canonical : IsCanonical (clause_at f d)
+
+-- each id's tree is a term: no predicate or equality stands at its head
+abbrev pub AreTermIds : Forest → List ℕ → Type 0
+AreTermIds f ids = All (λ id. IsTerm (tree_at f id)) ids

@@ -24,6 +24,7 @@ pub enum Step {
 }
 
 // What variables become.
+#[derive(Clone, Copy)]
 pub enum Leaves<'a> {
     // The term at the variable's number, where there is one.
     Listed(&'a [TermId]),
