@@ -1,5 +1,5 @@
 -- Clauses whose atoms were built.
-use Rattle.std.proofs.Common.{◌≡◌, ℕ, zero, suc, ◌+◌, ◌<◌, ◌≤◌, List, [], ◌∷◌, ◌++◌, ◌⊎◌, inl, inr, refl, sym, ap, ap₂, ◌∙◌, subst as transport, map, length, take, get_or, nat_eq, Bool, true, false, Decides, arith}
+use Rattle.std.proofs.Common.{◌≡◌, ℕ, zero, suc, ◌+◌, ◌<◌, ◌≤◌, List, [], ◌∷◌, ◌++◌, inl, inr, refl, sym, ap, ap₂, ◌∙◌, map, length, take, get_or, nat_eq, Bool, true, false, Decides, arith}
 use Rattle.std.specs.Prelude.{◌||◌}
 use Rattle.std.specs.List.{list_any}
 use Rattle.std.proofs.lemmas.Bool.Decides.{Decides-eqb}
@@ -13,7 +13,7 @@ use Rattle.inst_logic.specs.Substitution.{Substitution, subst, subst_literal}
 use Rattle.inst_logic.specs.Clauses.{instance}
 use Rattle.inst_logic.proofs.SameLemmas.{signed_eq_decides, literal_eq_decides}
 use Rattle.inst_logic.proofs.Distinct.{distinct_more}
-use Rattle.term_bank.specs.Forest.{Forest, tree_at, AreDistinct, AreIds, IsClauseAt, IsClauseOf, clause_at}
+use Rattle.term_bank.specs.Forest.{Forest, tree_at, AreDistinct, AreIds, IsClauseAt, clause_at}
 use Rattle.inst_calculus.proofs.Membership.{◌∈◌, all_in, in_all}
 use Rattle.inst_calculus.proofs.Distinct.{distinct_map, from_distinct}
 use Rattle.clause_form.specs.Literals.{with_atoms, id_eq}
@@ -58,8 +58,7 @@ pub assembled : (f g : Forest) (s : Substitution) (c : List (Signed ℕ)) (ids :
     → IsClauseAt g (distinct id_eq (with_atoms c ids)) (instance s (clause_at f c))
 assembled f g s c ids once within e =
     let ds = with_atoms c ids in
-    let inside = λ (k : Signed ℕ) (i : k ∈ ds). all_in (λ (n : ℕ). n < length g.trees) ids within k.atom (atom_among c ids k i) in
-    (
+    let inside = λ (k : Signed ℕ) (i : k ∈ ds). all_in (λ (n : ℕ). n < length g.trees) ids within k.atom (atom_among c ids k i) in (
       in_all (λ (k : Signed ℕ). k.atom < length g.trees) (distinct id_eq ds) (λ k i. inside k (from_distinct id_eq id_eq_decides k ds i)),
       sym (distinct_map id_eq id_eq_decides literal_eq literal_eq_decides (literal_at g) ds (λ k i l j h. same_literal g once k l (inside k i) (inside l j) h)) ∙ ap (distinct literal_eq) (made_trees f g s c ids e),
     )

@@ -1,15 +1,12 @@
 -- Clauses of ids over a bank and the clauses of trees that they stand for.
-use Rattle.std.proofs.Common.{◌≡◌, ℕ, ◌<◌, [], ◌∷◌, length, map, ◌⊎◌, inl, inr, refl, sym, ap, ap₂, ◌∙◌, subst as transport, Contains, ◌↔◌, Decides, Bool, List}
-
-
-
+use Rattle.std.proofs.Common.{◌≡◌, ℕ, ◌<◌, [], ◌∷◌, length, inl, inr, refl, sym, ap, ap₂, ◌∙◌, Contains, ◌↔◌, List}
 use Rattle.inst_logic.specs.declared.signed.Signed.{Signed}
 use Rattle.inst_logic.specs.Signed.{IsTautology, complement}
 use Rattle.inst_logic.specs.Tree.{Tree}
 use Rattle.inst_logic.specs.Clauses.{canonical_form, AreVariants}
 use Rattle.term_bank.specs.Forest.{Forest, AreDistinct, IsClauseOf, clause_at, tree_at}
 use Rattle.clause_form.specs.Conclusions.{AreCanonicalIn}
-use Rattle.inst_calculus.proofs.Membership.{◌∈◌, contains_in, in_contains, all_in, in_all, from_map, in_map, equal_in}
+use Rattle.inst_calculus.proofs.Membership.{contains_in, in_contains, all_in, in_all, from_map, in_map, equal_in}
 
 -- the literal of trees
 abbrev pub literal_at : Forest → Signed ℕ → Signed Tree

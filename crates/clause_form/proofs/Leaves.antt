@@ -1,13 +1,11 @@
 -- What variables become in a walk.
-use Rattle.std.proofs.Common.{◌≡◌, ℕ, ◌<◌, ◌≤◌, List, [], ◌∷◌, ◌++◌, ◌⊎◌, inl, inr, refl, sym, ap, ◌∙◌, subst as transport, map, length, Option, Some, None, arith, nat_eq, get_or}
-use Rattle.std.specs.Prelude.{slice_get, option_copied}
+use Rattle.std.proofs.Common.{◌≡◌, ℕ, ◌<◌, ◌≤◌, List, [], ◌++◌, sym, ap, ◌∙◌, subst as transport, length, Some, arith, nat_eq, get_or}
+use Rattle.std.specs.Prelude.{slice_get}
 use Rattle.std.proofs.lemmas.Option.{slice_get-get_or, slice_get_past}
 use Rattle.std.specs.Map.{keys_of}
 use Rattle.std.specs.List.{position_or_len}
-use Rattle.inst_logic.specs.Lists.{with_item}
 use Rattle.indexmap.specs.IndexSet.{insert_key}
-use Rattle.inst_logic.specs.Tree.{Tree, var}
-use Rattle.inst_logic.specs.Clauses.{numbered}
+use Rattle.inst_logic.specs.Tree.{var}
 use Rattle.inst_logic.specs.Substitution.{subst as apply}
 use Rattle.inst_logic.specs.Unifiers.{Sided}
 use Rattle.term_bank.specs.Forest.{Forest, tree_at, Extends, AreIds, IsAt}
@@ -18,8 +16,7 @@ use Rattle.unify_core.specs.declared.side.Bound.{Bound}
 use Rattle.unify_core.specs.declared.side.Variable.{Variable}
 use Rattle.unify_core.proofs.Chains.{variable_eq}
 use Rattle.clause_form.specs.declared.walk.Leaves.{Leaves}
-use Rattle.clause_form.specs.declared.walk.Leaves.TheVariants.{Listed, Led}
-use Rattle.clause_form.specs.Walks.{Reading, IsReading, IsLed, IsRootOf, IsFree, AreLeaves, IsBegun, with_vars, numbers_of, listed, tree_or}
+use Rattle.clause_form.specs.Walks.{Reading, IsLed, IsBegun, with_vars, numbers_of, listed, tree_or}
 use Rattle.clause_form.proofs.Numbers.{one_met, place_met}
 
 pub resolved_later : (f g : Forest) (es : List Binding) (s : Sided) → Extends f g → AreBindings f es → IsResolvedBy f es s → IsResolvedBy g es s
@@ -33,13 +30,14 @@ pub root_led : (f g : Forest) (w : Leaves) (from b : Bound) (es : List Binding) 
     → ((v : ℕ) → tree_at g b.term ≡ var v → ¬ ((record { side = b.side; var = v }) ∈ keys_of es))
     → ((n : ℕ) → from.term < n → ((e : Binding) → e ∈ es → e.1.term < n) → b.term < n)
     → ((b.term < length f.trees) × ((v : ℕ) → tree_at f b.term ≡ var v → ¬ ((record { side = b.side; var = v }) ∈ keys_of es)))
-      × ((r : Reading) (final : List ℕ) → IsLed f es r final → (r.tree from ≡ r.tree b) × (r.vars from ≡ r.vars b))
+    × ((r : Reading) (final : List ℕ) → IsLed f es r final → (r.tree from ≡ r.tree b) × (r.vars from ≡ r.vars b))
 root_led f g w from b es x k within same root below =
-    let inside : b.term < length f.trees = below (length f.trees) within k.within in
-    ((inside, λ v e. root v (x.trees.1 b.term inside ∙ e)),
-     λ r final led. led.same from b
-         (ap (apply (of_side led.solution from.side)) (sym (x.trees.1 from.term within)) ∙ same led.solution (resolved_later f g es led.solution x k led.resolved)
-          ∙ ap (apply (of_side led.solution b.side)) (x.trees.1 b.term inside)))
+    let inside : b.term < length f.trees = below (length f.trees) within k.within in (
+      (inside, λ v e. root v (x.trees.1 b.term inside ∙ e)),
+      λ r final led. led.same from b
+          (ap (apply (of_side led.solution from.side)) (sym (x.trees.1 from.term within)) ∙ same led.solution (resolved_later f g es led.solution x k led.resolved)
+          ∙ ap (apply (of_side led.solution b.side)) (x.trees.1 b.term inside)),
+    )
 
 -- the term of a listed variable
 pub leaf_listed : (f g : Forest) (r : Reading) (ts : List ℕ) (at : Bound) (v t : ℕ) → Extends f g → AreIds f ts → at.term < length f.trees → tree_at g at.term ≡ var v

@@ -1,13 +1,12 @@
 -- What nodes become, by a list of terms or by bindings.
-use Rattle.std.proofs.Common.{◌≡◌, ℕ, ◌<◌, ◌≤◌, List, [], ◌∷◌, ◌++◌, refl, sym, ap, ap₂, ◌∙◌, subst as transport, map, length, Bool, true, false, Some, slice_get, get_or, arith, ◌⊎◌, inl, inr}
-use Rattle.std.specs.Prelude.{◌&&◌, ◌||◌, Option, None}
+use Rattle.std.proofs.Common.{◌≡◌, ℕ, ◌<◌, ◌≤◌, List, [], ◌∷◌, refl, sym, ap, ◌∙◌, subst as transport, map, length, Bool, true, false, Some, slice_get, get_or, arith, ◌⊎◌, inl, inr}
+use Rattle.std.specs.Prelude.{◌&&◌, ◌||◌, None}
 use Rattle.std.proofs.lemmas.Option.{slice_get-get_or, slice_get_cases}
 use Rattle.std.proofs.lemmas.List.{length-map}
 use denote.Bor.{Bor}
 use Rattle.inst_logic.specs.declared.signed.Signed.{Signed}
-use Rattle.inst_logic.specs.declared.symbol.Sym.{Sym}
 use Rattle.inst_logic.specs.Tree.{Tree, var, app, Trees, none, more, of_list, to_list}
-use Rattle.inst_logic.specs.Substitution.{Substitution, subst, substs, subst_literal, clause_vars}
+use Rattle.inst_logic.specs.Substitution.{Substitution, subst, substs, clause_vars}
 use Rattle.inst_logic.specs.Clauses.{instance, IsCanonical, order_of}
 use Rattle.inst_logic.specs.Equal.{literal_eq}
 use Rattle.inst_logic.specs.Lists.{distinct}
@@ -19,12 +18,11 @@ use Rattle.inst_calculus.proofs.Clauses.{literals_agree}
 use Rattle.inst_calculus.proofs.CanonicalForms.{canonical_variable_below}
 use Rattle.term_bank.specs.Forest.{Forest, tree_at, clause_at, is_ground, are_ground, AreIds, AreDistinct, AreFormed, IsClauseOf, IsClauseAt, is_formed}
 use Rattle.unify_core.specs.declared.side.Side.{Side}
-use Rattle.unify_core.specs.declared.side.Bound.{Bound}
 use Rattle.clause_form.specs.declared.walk.Leaves.TheVariants.{Listed}
 use Rattle.clause_form.specs.Conclusions.{by_terms, AreTermIds}
 use Rattle.clause_form.specs.Literals.{with_atoms, id_eq}
 use Rattle.clause_form.proofs.Assembly.{assembled}
-use Rattle.clause_form.specs.Walks.{Reading, IsReading, listed, tree_or, trees_on, vars_on, on, with_vars, IsFormedReading}
+use Rattle.clause_form.specs.Walks.{Reading, IsReading, listed, tree_or, trees_on, vars_on, IsFormedReading}
 
 mutual
   pub ground_stays : (s : Substitution) (t : Tree) → is_ground t ≡ true → subst s t ≡ t
@@ -67,7 +65,7 @@ listed_within f ts v h = ap (tree_or f v) (slice_get-get_or ts v 0 h)
 pub listed_instance : (f : Forest) (ts : List ℕ) (c : List (Signed ℕ)) → IsCanonical (clause_at f c) → length (order_of (clause_at f c)) ≤ length ts → instance (listed f ts) (clause_at f c) ≡ instance (by_terms f ts) (clause_at f c)
 listed_instance f ts c canonical enough =
     ap (distinct literal_eq) (literals_agree (listed f ts) (by_terms f ts) (clause_at f c)
-        (λ v i. listed_within f ts v (let l = canonical_variable_below (clause_at f c) v (transport (λ (d : List (Signed Tree)). v ∈ clause_vars d) (sym canonical) i) in omega arith)))
+    (λ v i. listed_within f ts v (let l = canonical_variable_below (clause_at f c) v (transport (λ (d : List (Signed Tree)). v ∈ clause_vars d) (sym canonical) i) in omega arith)))
 
 pub trees_listed : (f : Forest) (ts : List ℕ) (s : Side) (c : List (Signed ℕ)) → trees_on (listed_reading f ts) s (map (λ l. l.atom) c) ≡ map (λ l. subst (listed f ts) (tree_at f l.atom)) c
 unfolding listed_reading
@@ -92,7 +90,7 @@ pub instance_listed : (f g : Forest) (ts terms : List ℕ) (c literals d : List 
 instance_listed f g ts terms c literals d ids once within e same lits canonical enough made =
     transport (λ (x : List (Signed ℕ)). IsClauseAt g x (instance (by_terms f terms) (clause_at f c))) (sym (made ∙ ap (λ (ls : List (Signed ℕ)). distinct id_eq (with_atoms ls ids)) lits))
     (transport (λ (y : List (Signed Tree)). IsClauseAt g (distinct id_eq (with_atoms c ids)) y) (ap (λ (xs : List ℕ). instance (listed f xs) (clause_at f c)) same ∙ listed_instance f terms c canonical enough)
-        (assembled f g (listed f ts) c ids once within e))
+    (assembled f g (listed f ts) c ids once within e))
 
 pub same_length : (f g : Forest) (ts : List ℕ) (c literals : List (Signed ℕ)) (ids : List ℕ) → map (tree_at g) ids ≡ map (λ l. subst (listed f ts) (tree_at f l.atom)) c → literals ≡ c → length literals ≡ length ids
 same_length f g ts c literals ids e lits =

@@ -1,7 +1,6 @@
 -- Conclusions: a clause under a substitution in canonical form, with what its variables become.
-use Rattle.std.specs.Prelude.{◌≡◌, ℕ, ◌<◌, List, length, Bool, true, slice_index_or, All}
+use Rattle.std.specs.Prelude.{◌≡◌, ℕ, ◌<◌, List, length, slice_index_or, All}
 use Rattle.inst_logic.specs.declared.signed.Signed.{Signed}
-use Rattle.inst_logic.specs.Tree.{Tree, var}
 use Rattle.inst_logic.specs.Substitution.{Substitution, followed_by}
 use Rattle.inst_logic.specs.Clauses.{TreeClause, instance, canonical_form, order_of, numbered, IsCanonical}
 use Rattle.inst_logic.specs.WellFormed.{IsTerm}

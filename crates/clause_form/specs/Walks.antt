@@ -1,6 +1,6 @@
 -- The walk that builds terms: what each node is to become, and what the steps that are left make of the terms that are built.
-use Rattle.std.specs.Prelude.{◌≡◌, ℕ, zero, suc, ◌<◌, ◌+◌, ◌*◌, ◌-◌, List, [], ◌∷◌, ◌++◌, map, fold, length, nat_eq, Bool, true, ◌⊎◌, slice_get, Option, None, Some}
-use Rattle.std.specs.List.{position_or_len, IsDistinct}
+use Rattle.std.specs.Prelude.{◌≡◌, ℕ, ◌<◌, ◌+◌, ◌*◌, ◌-◌, List, [], ◌∷◌, ◌++◌, map, fold, length, nat_eq, Bool, true, ◌⊎◌, slice_get, Option, None, Some}
+use Rattle.std.specs.List.{IsDistinct}
 use Rattle.std.specs.Map.{keys_of, lookup}
 use Rattle.inst_logic.specs.declared.symbol.Sym.{Sym}
 use Rattle.inst_logic.specs.Tree.{Tree, Trees, var, app, of_list, to_list}
@@ -9,7 +9,7 @@ use Rattle.inst_logic.specs.Measure.{tree_size}
 use Rattle.inst_logic.specs.Substitution.{subst as apply}
 use Rattle.inst_logic.specs.Unifiers.{Sided, IsApplication}
 use Rattle.inst_logic.specs.Clauses.{numbered}
-use Rattle.term_bank.specs.Forest.{Forest, tree_at, IsAt, AreIds, IsFormed, Extends, is_ground, arguments_of}
+use Rattle.term_bank.specs.Forest.{Forest, tree_at, IsAt, AreIds, IsFormed, is_ground, arguments_of}
 use Rattle.unify_core.specs.Lists.{◌∈◌}
 use Rattle.unify_core.specs.Sides.{Binding, variable_number, of_side, IsResolvedBy}
 use Rattle.unify_core.specs.Pairs.{widest}

@@ -19,7 +19,9 @@ pub fn variant(c: &IdClause, d: &IdClause) -> bool
 fn has_complements(literals: &[IdLiteral]) -> bool
     ensures { IsTrue result ↔ IsTautology literals.now }
 {
-    literals.iter().any(|l| literals.iter().any(|m| m.atom == l.atom && m.positive != l.positive))
+    literals.iter().any(|l| literals
+        .iter()
+        .any(|m| m.atom == l.atom && m.positive != l.positive))
 }
 
 /// Whether the clause has a literal and its complement. Its time is quadratic in the number of literals.

@@ -101,7 +101,12 @@ impl Bindings {
 
     /// Extends the left bindings by those that make the pattern the target, whose variables, as right ones, are held fixed
     /// (subsumption's one-sided unification; Robinson, 1965). False comes where no extension does, and then they stay.
-    pub fn match_onto(&mut self, bank: &Bank, pattern: TermId, target: TermId) -> Result<bool, Memory>
+    pub fn match_onto(
+        &mut self,
+        bank: &Bank,
+        pattern: TermId,
+        target: TermId,
+    ) -> Result<bool, Memory>
         requires pattern { pattern < length bank.now.trees }
         requires target { target < length bank.now.trees }
         requires matches { AreMatches bank.now self.old.entries }

@@ -1,4 +1,4 @@
-use Rattle.std.proofs.Common.{◌≡◌, sym, ◌∙◌, ap, List, ℕ, [], map, subst, length}
+use Rattle.std.proofs.Common.{sym, ◌∙◌, ap, List, ℕ, [], map, subst}
 use Rattle.inst_logic.specs.declared.signed.Signed.{Signed}
 use Rattle.term_bank.specs.Forest.{AreIds}
 use Rattle.unify_core.specs.declared.side.Side.TheVariants.{Left}
@@ -31,8 +31,8 @@ returns-clause-instance c =
     let e = built_listed f c.build_all.new.bank ts Left c.args.c.now c.deref.result.now c.in_ok-built.built.terms.items c.deref-2.result.now atoms k.0 c.deref-2.ensures.value in
     if_ok _ _ c.clause_of.result c.clause_of.ensures
     (λ d made.
-        instance_listed f c.build_all.new.bank ts c.args.terms.now c.args.c.now c.as_slice-3.result.now d c.deref-2.result.now c.len.ensures.distinct
-        (subst (AreIds c.build_all.new.bank) (sym c.deref-2.ensures.value) c.in_ok-built.ensures.ids) e c.as_slice-2.ensures c.as_slice-3.ensures c.requires.canonical c.requires.each made)
+    instance_listed f c.build_all.new.bank ts c.args.terms.now c.args.c.now c.as_slice-3.result.now d c.deref-2.result.now c.len.ensures.distinct
+    (subst (AreIds c.build_all.new.bank) (sym c.deref-2.ensures.value) c.in_ok-built.ensures.ids) e c.as_slice-2.ensures c.as_slice-3.ensures c.requires.canonical c.requires.each made)
 
 pub returns-clause-formed : goal.returns-clause-formed
 returns-clause-formed c old terms =

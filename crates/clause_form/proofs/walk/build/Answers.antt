@@ -1,6 +1,6 @@
-use Rattle.std.proofs.Common.{◌≡◌, ◌-◌, ◌++◌, ◌∷◌, [], ℕ, length, take, drop, map, ap, ◌∙◌, sym, refl, arith, subst, List}
-use Rattle.inst_logic.specs.Tree.{Tree, app, of_list}
-use Rattle.term_bank.specs.Forest.{IsFormed, IsAt, tree_at}
+use Rattle.std.proofs.Common.{◌≡◌, ◌-◌, ◌++◌, ◌∷◌, [], ℕ, length, take, map, ap, ◌∙◌, sym, refl, arith, subst, List}
+use Rattle.inst_logic.specs.Tree.{app, of_list}
+use Rattle.term_bank.specs.Forest.{IsFormed, tree_at}
 use Rattle.term_bank.proofs.Growth.{slice_is}
 use Rattle.clause_form.proofs.Building.{top_is, built_step}
 use Rattle.clause_form.proofs.Notes.{note_ids_later}

@@ -1,7 +1,6 @@
-use Rattle.std.proofs.Common.{◌≡◌, sym, ◌∙◌, ap, subst, reverse, List, ℕ, ◌∷◌, ◌<◌, length}
+use Rattle.std.proofs.Common.{sym, subst, reverse, List, ◌<◌}
 use Rattle.inst_logic.specs.Tree.{Tree}
 use Rattle.inst_logic.specs.Unifiers.{IsApplication}
-use Rattle.term_bank.specs.Forest.{tree_at}
 use Rattle.term_bank.proofs.Growth.{extends_trans}
 use Rattle.clause_form.specs.declared.walk.Step.{Step}
 use Rattle.clause_form.specs.declared.walk.Step.TheVariants.{Visit, Build}

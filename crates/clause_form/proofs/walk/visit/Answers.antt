@@ -1,12 +1,9 @@
-use Rattle.std.proofs.Common.{sym, ◌∙◌, ap, subst, reverse, List, ℕ, ◌∷◌}
+use Rattle.std.proofs.Common.{sym, ◌∙◌, subst, reverse, List, ℕ, ◌∷◌}
 use Rattle.unify_core.proofs.Lists.{if_ok}
-use Rattle.unify_core.proofs.Chains.{shape_variable, shape_application}
-use Rattle.inst_logic.specs.Tree.{Tree}
-use Rattle.inst_logic.specs.Unifiers.{IsApplication}
 use Rattle.clause_form.specs.declared.walk.Step.TheVariants.{Visit}
 use Rattle.clause_form.specs.Walks.{IsStep, numbers_of}
-use Rattle.clause_form.proofs.Notes.{extends_itself, ids_pushed, note_ids_later}
-use Rattle.clause_form.proofs.Walking.{step_pushed, found_ground, found_note, begun_at, step_rooted}
+use Rattle.clause_form.proofs.Notes.{extends_itself, ids_pushed}
+use Rattle.clause_form.proofs.Walking.{step_pushed, found_note, begun_at, step_rooted}
 use Rattle.clause_form.proofs.walk.visit.Goals as goal
 
 pub returns-in_ok-push-in-Some-clause-visited : goal.returns-in_ok-push-in-Some-clause-visited
@@ -36,8 +33,8 @@ returns-in_ok-push-in-Var-clause-visited c f x leaves within =
     subst (λ (items : List ℕ). IsStep f g c.leaf.new.bank c.args.leaves.now (Visit c.args.at ∷ ss) c.args.ids.now.items os c.args.notes.now.entries ss items ps c.args.notes.now.entries) (sym c.in_ok-push-in-Var.ensures.items)
     (step_pushed f g c.leaf.new.bank c.args.leaves.now c.args.at c.root-node.result ss c.args.ids.now.items os ps c.args.notes.now.entries c.in_ok-id-in-Var.id c.leaf.ensures.extends c.requires.ids root
     (λ r outs final reading u.
-        c.in_ok-id-in-Var.ensures.leaf f r final x leaves root.within root.free reading
-        (begun_at f g c.args.leaves.now r outs final c.args.at c.root-node.result ss c.args.ids.now.items os c.args.notes.now.entries root reading u)))
+    c.in_ok-id-in-Var.ensures.leaf f r final x leaves root.within root.free reading
+    (begun_at f g c.args.leaves.now r outs final c.args.at c.root-node.result ss c.args.ids.now.items os c.args.notes.now.entries root reading u)))
 
 pub returns-in_ok-push-in-Var-clause-ids : goal.returns-in_ok-push-in-Var-clause-ids
 returns-in_ok-push-in-Var-clause-ids c =
@@ -47,7 +44,7 @@ pub returns-in-App-clause-visited : goal.returns-in-App-clause-visited
 returns-in-App-clause-visited c =
     if_ok _ _ c.open_node.result c.open_node.ensures.opened
     (λ done k f x leaves within.
-        let root = c.root-node.ensures f x leaves within in
-        step_rooted f c.args.bank.now c.args.bank.now c.args.leaves.now c.args.at c.root-node.result (reverse c.args.steps.now.items) c.args.ids.now.items (numbers_of c.args.order.now.keys) c.args.notes.now.entries
-        (reverse c.open_node.new.steps.items) c.args.ids.now.items (numbers_of c.args.order.now.keys) c.open_node.new.notes.entries root
-        (k f c.args.leaves.now c.args.ids.now.items (numbers_of c.args.order.now.keys) x root.within))
+    let root = c.root-node.ensures f x leaves within in
+    step_rooted f c.args.bank.now c.args.bank.now c.args.leaves.now c.args.at c.root-node.result (reverse c.args.steps.now.items) c.args.ids.now.items (numbers_of c.args.order.now.keys) c.args.notes.now.entries
+    (reverse c.open_node.new.steps.items) c.args.ids.now.items (numbers_of c.args.order.now.keys) c.open_node.new.notes.entries root
+    (k f c.args.leaves.now c.args.ids.now.items (numbers_of c.args.order.now.keys) x root.within))
