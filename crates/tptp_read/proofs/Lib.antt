@@ -25,3 +25,8 @@ pub mod SameNumbers
 pub mod BodyLaws
 pub mod AtomForms
 pub mod AllTokens
+pub mod Spelling
+pub mod FormedLaws
+pub mod NameLaws
+pub mod ReadableLaws
+pub mod WholeAtoms
