@@ -23,16 +23,16 @@ leaf_formed : (b : Bool) (n : ℕ) (name : List ℕ) → tree_is_formed (cond b 
 leaf_formed true n name = refl
 leaf_formed false n name = refl
 
+-- the count and the arguments of a symbol with arguments
+arguments_formed : (vs : List (List ℕ)) (t : Written) (ts : Writtens) → tree_is_formed (tree_of vs t) ≡ true → trees_are_formed (trees_of vs ts) ≡ true → (nat_eq (count_of (trees_of vs ts) + 1) (count ts + 1) && (tree_is_formed (tree_of vs t) && trees_are_formed (trees_of vs ts))) ≡ true
+arguments_formed vs t ts h k =
+    and_both (nat_eq (count_of (trees_of vs ts) + 1) (count ts + 1)) (tree_is_formed (tree_of vs t) && trees_are_formed (trees_of vs ts)) (eq-eqb (count_of (trees_of vs ts) + 1) (count ts + 1) (ap (λ n. n + 1) (count_trees vs ts)))
+    (and_both (tree_is_formed (tree_of vs t)) (trees_are_formed (trees_of vs ts)) h k)
+
 mutual
   tree_formed : (vs : List (List ℕ)) (w : Written) → tree_is_formed (tree_of vs w) ≡ true
   tree_formed vs (single t) = leaf_formed (is_variable_kind t.kind) (position_or_len (λ v. bytes_eq v t.text) vs) (name_of t)
-  tree_formed vs (applied f t ts) = arguments_formed vs t ts
-
-  -- the count and the arguments of a symbol with arguments
-  arguments_formed : (vs : List (List ℕ)) (t : Written) (ts : Writtens) → (nat_eq (count_of (trees_of vs ts) + 1) (count ts + 1) && (tree_is_formed (tree_of vs t) && trees_are_formed (trees_of vs ts))) ≡ true
-  arguments_formed vs t ts =
-      and_both (nat_eq (count_of (trees_of vs ts) + 1) (count ts + 1)) (tree_is_formed (tree_of vs t) && trees_are_formed (trees_of vs ts)) (eq-eqb (count_of (trees_of vs ts) + 1) (count ts + 1) (ap (λ n. n + 1) (count_trees vs ts)))
-      (and_both (tree_is_formed (tree_of vs t)) (trees_are_formed (trees_of vs ts)) (tree_formed vs t) (trees_formed vs ts))
+  tree_formed vs (applied f t ts) = arguments_formed vs t ts (tree_formed vs t) (trees_formed vs ts)
 
   trees_formed : (vs : List (List ℕ)) (ts : Writtens) → trees_are_formed (trees_of vs ts) ≡ true
   trees_formed vs none = refl
@@ -40,7 +40,7 @@ mutual
 
 predicate_formed : (vs : List (List ℕ)) (w : Written) → atom_is_formed (predicate_of vs w) ≡ true
 predicate_formed vs (single t) = refl
-predicate_formed vs (applied f t ts) = arguments_formed vs t ts
+predicate_formed vs (applied f t ts) = arguments_formed vs t ts (tree_formed vs t) (trees_formed vs ts)
 
 one_formed : (b : Bool) (l : Signed Tree) → atom_is_formed l.atom ≡ true → clause_is_formed (cond b [] (l ∷ [])) ≡ true
 one_formed true l h = refl

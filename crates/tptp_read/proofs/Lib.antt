@@ -27,6 +27,6 @@ pub mod AtomForms
 pub mod AllTokens
 pub mod Spelling
 pub mod FormedLaws
+pub mod WholeAtoms
 pub mod NameLaws
 pub mod ReadableLaws
-pub mod WholeAtoms
