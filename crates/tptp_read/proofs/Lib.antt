@@ -26,3 +26,8 @@ pub mod SameNumbers
 pub mod BodyLaws
 pub mod AtomForms
 pub mod AllTokens
+pub mod Spelling
+pub mod FormedLaws
+pub mod WholeAtoms
+pub mod NameLaws
+pub mod ReadableLaws

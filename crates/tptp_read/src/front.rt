@@ -1,8 +1,9 @@
 // The tokens of a statement: up to and including the first full stop.
-ghost use Rattle.std.specs.Prelude.{◌≡◌, IfOk};
+ghost use Rattle.std.specs.Prelude.{◌≡◌, ◌≤◌, IfOk};
 ghost use Rattle.std.specs.Option.{option_map};
 ghost use Rattle.tptp_read.specs.Lexemes.{is_lower_kind};
-ghost use Rattle.tptp_read.specs.Rules.{is_language, nesting, opens, closes};
+ghost use Rattle.tptp_read.specs.Rules.{is_language, nesting, nesting_from, opens, closes};
+ghost use Rattle.tptp_read.specs.Atoms.{nesting_within};
 ghost use Rattle.tptp_read.specs.LexemeView.{tok, toks};
 ghost use Rattle.tptp_read.specs.Fronts.{FrontOf, other_word};
 
@@ -103,11 +104,11 @@ fn closes(l: &Lexeme) -> bool
     is_mark(l, b')') || is_mark(l, b']')
 }
 
-// The most brackets that are open at a token.
-pub(crate) fn nesting_of(tokens: &[Lexeme]) -> usize
-    ensures { result ≡ nesting (toks tokens.now) }
+// The most brackets that are open at a token, where so many are open before the first.
+fn nesting_behind(mut opened: usize, tokens: &[Lexeme]) -> usize
+    requires { opened ≤ 1 }
+    ensures { result ≡ nesting_from opened 0 (toks tokens.now) }
 {
-    let mut opened: usize = 0;
     let mut closed: usize = 0;
     let mut deepest: usize = 0;
     for l in tokens {
@@ -121,4 +122,18 @@ pub(crate) fn nesting_of(tokens: &[Lexeme]) -> usize
         }
     }
     deepest
+}
+
+// The most brackets that are open at a token.
+pub(crate) fn nesting_of(tokens: &[Lexeme]) -> usize
+    ensures { result ≡ nesting (toks tokens.now) }
+{
+    nesting_behind(0, tokens)
+}
+
+// The most brackets that are open at a token, with one bracket open before the first.
+pub(crate) fn nesting_within(tokens: &[Lexeme]) -> usize
+    ensures { result ≡ nesting_within (toks tokens.now) }
+{
+    nesting_behind(1, tokens)
 }

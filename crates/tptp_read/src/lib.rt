@@ -3,6 +3,8 @@
 
 mod all;
 mod atom;
+#[cfg(test)]
+mod atom_tests;
 mod body;
 mod clause;
 mod cnf;
@@ -23,6 +25,7 @@ mod terms;
 mod tests;
 pub mod text;
 mod value;
+mod whole_atom;
 mod width;
 mod words;
 

@@ -11,6 +11,7 @@ use crate::laws::readable_is_good;
 use crate::refusal::numbered;
 use crate::statement::{StatementList, Which};
 use crate::step::step;
+use crate::whole_atom::atom_in;
 use inst_logic::{Literal, Memory, Name};
 use std::alloc::Global;
 use thiserror::Error;
@@ -83,7 +84,5 @@ pub fn read_atom(alloc: Global, text: &[u8]) -> Result<Literal, ReadError>
     ensures names { IfOk result (λ l. IsTrue (tree_is_readable (literal l).atom)) }
     ensures refused { IfErr result (IsAtomCause text.now) }
 {
-    let _text = text;
-    let _alloc = alloc;
-    Err(ReadError::Memory)
+    atom_in(alloc, text)
 }
