@@ -1,3 +1,4 @@
 pub mod Includes
 pub mod Loading
 pub mod Problems
+pub mod Reading

@@ -3,6 +3,7 @@
 
 pub mod error;
 
+mod file;
 pub mod laws;
 pub mod problem;
 
