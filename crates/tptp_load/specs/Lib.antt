@@ -2,3 +2,5 @@ pub mod Includes
 pub mod Loading
 pub mod Problems
 pub mod Reading
+pub mod Selecting
+pub mod StatedCode

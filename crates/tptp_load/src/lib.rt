@@ -6,6 +6,7 @@ pub mod error;
 mod file;
 pub mod laws;
 pub mod problem;
+mod stated;
 
 pub use error::LoadError;
 pub use problem::load;
