@@ -4,3 +4,4 @@ pub mod Problems
 pub mod Reading
 pub mod Selecting
 pub mod StatedCode
+pub mod Finding

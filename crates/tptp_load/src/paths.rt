@@ -5,12 +5,8 @@ ghost use Rattle.std.specs.String.{string_bytes};
 ghost use Rattle.inst_logic.specs.Printing.{is_readable_name};
 ghost use Rattle.tptp_load.specs.Includes.{directory, begins_with_slash};
 ghost use Rattle.tptp_load.specs.Loading.{limit};
-ghost use Rattle.tptp_load.specs.Finding.{IsFound, IsNotFound};
 
-use crate::error::LoadError;
-use crate::file::read_named;
-use inst_logic::{ByteList, Memory, Name};
-use outside_io::Library;
+use inst_logic::{ByteList, Memory};
 use std::alloc::Global;
 
 /// A file that an include means.
