@@ -5,3 +5,4 @@ pub mod Reading
 pub mod Selecting
 pub mod StatedCode
 pub mod Finding
+pub mod Found

@@ -5,8 +5,14 @@ ghost use Rattle.std.specs.String.{string_bytes};
 ghost use Rattle.inst_logic.specs.Printing.{is_readable_name};
 ghost use Rattle.tptp_load.specs.Includes.{directory, begins_with_slash};
 ghost use Rattle.tptp_load.specs.Loading.{limit};
+ghost use Rattle.tptp_load.specs.Includes.{tries, under_root};
+ghost use Rattle.tptp_load.specs.Finding.{IsFirst, IsNotRead};
+ghost use Rattle.tptp_load.specs.Found.{pair_of};
 
-use inst_logic::{ByteList, Memory};
+use crate::error::LoadError;
+use crate::file::read_named;
+use inst_logic::{ByteList, Memory, Name};
+use outside_io::Library;
 use std::alloc::Global;
 
 /// A file that an include means.
@@ -51,8 +57,59 @@ fn below(alloc: Global, root: &str, wanted: &str) -> Result<String, Memory>
     Ok(name)
 }
 
+// The name as it is.
 fn copy(alloc: Global, wanted: &str) -> Result<String, Memory>
     ensures { IfOk result (λ s. string_bytes s ≡ wanted.now) }
 {
     Ok(String::from_str(alloc, wanted)?)
+}
+
+// The name as text: it has bytes of ASCII only.
+fn text_of(name: &Name) -> &str
+    requires { IsTrue (is_readable_name name.now) }
+    ensures { result.now ≡ name.now }
+{
+    match str::from_utf8(name.bytes()) {
+        Ok(text) => text,
+        Err(_) => unreachable!(),
+    }
+}
+
+// The file of this name, where there is one.
+#[tactic(auto, using(std::proofs::lemmas::Grind::common_steps, crate::proofs::Firsts::held_first, crate::proofs::Firsts::none_first, crate::proofs::Firsts::unread_first))]
+fn read_one<L: Library>(alloc: Global, name: String, used: usize, files: &mut L) -> Result<Option<Found>, LoadError>
+    requires used { used ≤ limit }
+    ensures files { L.files files.new ≡ L.files files.old }
+    ensures ok { IfOk result (λ found. IsFirst (L.files files.old) (string_bytes name ∷ []) used (option_map pair_of found)) }
+    ensures err { IfErr result (IsNotRead (L.files files.old) (L.faults files.old) (L.faults files.new) (string_bytes name ∷ []) used) }
+    ensures later { L.faults files.old ≤ L.faults files.new }
+{
+    match read_named(alloc, name.as_str(), used, files) {
+        Ok(Some(bytes)) => Ok(Some(Found { name, bytes })),
+        Ok(None) => Ok(None),
+        Err(why) => Err(why),
+    }
+}
+
+// The file of the name below the root, where there is a root and such a file.
+fn read_below<L: Library>(
+    alloc: Global,
+    root: Option<&str>,
+    wanted: &str,
+    used: usize,
+    files: &mut L,
+) -> Result<Option<Found>, LoadError>
+    requires used { used ≤ limit }
+    ensures files { L.files files.new ≡ L.files files.old }
+    ensures ok { IfOk result (λ found. IsFirst (L.files files.old) (under_root (option_map (λ r. r.now) root) wanted.now) used (option_map pair_of found)) }
+    ensures err { IfErr result (IsNotRead (L.files files.old) (L.faults files.old) (L.faults files.new) (under_root (option_map (λ r. r.now) root) wanted.now) used) }
+    ensures later { L.faults files.old ≤ L.faults files.new }
+{
+    match root {
+        Some(root) => match below(alloc, root, wanted) {
+            Ok(name) => read_one(alloc, name, used, files),
+            Err(_) => Err(LoadError::Memory),
+        },
+        None => Ok(None),
+    }
 }

@@ -1,3 +1,4 @@
+use Rattle.std.proofs.lemmas.Result.{err_from_is_err_and}
 use Rattle.std.proofs.Common.{◌≡◌, sym, subst, ◌∙◌, ap, ◌++◌}
 use Rattle.std.specs.Prelude.{None}
 use Rattle.tptp_load.specs.Includes.{listed, first_missing}
@@ -11,7 +12,7 @@ returns-in_err-are_found-clause-err c =
     let found : HasSame c.in_ok-found.found.keys (names_of c.in_ok-chosen.chosen.items) = subst (λ l. HasSame c.in_ok-found.found.keys (names_of l)) c.as_slice.ensures.value c.in_ok-found.ensures in
     let same = outside_missing c.in_ok-found.found.keys c.args.names.now c.args.part.items c.in_ok-chosen.chosen.items chosen found in
     let told : Tells (first_missing c.args.part.items c.args.names.now) c.args.file.now c.in_err-are_found.field-0.0 = subst (λ m. Tells m c.args.file.now c.in_err-are_found.field-0.0) same c.in_err-are_found.ensures.err in
-    rw c.from_residual-in_err-are_found.ensures told
+    let p = err_from_is_err_and c.from_residual-in_err-are_found.result c.from_residual-in_err-are_found.ensures.1 in rw (p.1, p.2) told
 
 pub returns-clause-complete : goal.returns-clause-complete
 returns-clause-complete c =
