@@ -1,5 +1,5 @@
 -- The first of several names that a file has.
-use Rattle.std.proofs.Common.{◌≡◌, ℕ, ◌+◌, ◌<◌, ◌≤◌, List, [], ◌∷◌, refl, ap, sym, subst, ◌∙◌, Option, Some, None, length, arith, min, ◌^◌, ◌-◌}
+use Rattle.std.proofs.Common.{◌≡◌, ℕ, zero, suc, ◌+◌, ◌<◌, ◌≤◌, List, [], ◌∷◌, refl, ap, sym, subst, ◌∙◌, Option, Some, None, length, arith, min, ◌^◌, ◌-◌}
 use Rattle.std.specs.Prelude.{IsTrue, Bool, true, false}
 use Rattle.std.specs.List.{list_all}
 use Rattle.std.specs.Str.{IsUtf8, IsAscii}
@@ -14,7 +14,7 @@ use Rattle.outside_io.specs.declared.library.NamedFile.{NamedFile}
 use Rattle.tptp_load.specs.Includes.{first_found, or_found}
 use Rattle.tptp_load.specs.Loading.{limit}
 use Rattle.tptp_load.specs.Reading.{IsHeld, IsUnread}
-use Rattle.tptp_load.specs.Finding.{IsFirst, IsNotRead}
+use Rattle.tptp_load.specs.Finding.{IsFirst, IsNotRead, IsNotFound}
 use Rattle.tptp_load.specs.declared.error.LoadError.{LoadError}
 use Rattle.tptp_load.specs.declared.error.LoadError.TheVariants.{Text, Absent, NotSelected, IncludeDepth, TooLong, ReadFault, Memory}
 
@@ -91,3 +91,19 @@ later_not_read None start before now name names used TooLong le g h = tt
 later_not_read (Some files) start before now name names used TooLong le g h = (h.0, ap (λ o. or_found name o (first_found files names)) (absent_of name (bytes_named files name) g) ∙ h.1, h.2)
 later_not_read files start before now name names used ReadFault le g h = omega (arith, h, le)
 later_not_read files start before now name names used Memory le g h = tt
+
+-- ---- the file of an include
+
+pub found_or_absent : (files : Option (List NamedFile)) (before now : ℕ) (names : List (List ℕ)) (wanted : List ℕ) (used : ℕ) (e : LoadError) → IsNotRead files before now names used e → IsNotFound files before now names wanted used e
+found_or_absent files before now names wanted used (Text f t) h = h
+found_or_absent files before now names wanted used (Absent w) h = absurd h
+found_or_absent files before now names wanted used (NotSelected f w) h = h
+found_or_absent files before now names wanted used (IncludeDepth f) h = h
+found_or_absent None before now names wanted used TooLong h = tt
+found_or_absent (Some files) before now names wanted used TooLong h = h
+found_or_absent files before now names wanted used ReadFault h = h
+found_or_absent files before now names wanted used Memory h = tt
+
+pub none_is_absent : (files : Option (List NamedFile)) (before now : ℕ) (names : List (List ℕ)) (wanted w : List ℕ) (used : ℕ) → IsFirst files names used None → w ≡ wanted → IsNotFound files before now names wanted used (Absent w)
+none_is_absent None before now names wanted w used h e = e
+none_is_absent (Some files) before now names wanted w used h e = (e, h)

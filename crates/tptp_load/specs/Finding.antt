@@ -26,3 +26,15 @@ IsNotRead None before now names used TooLong = ⊤
 IsNotRead (Some files) before now names used TooLong = (found : List ℕ × List ℕ) × (first_found files names ≡ Some found) × (limit < used + length found.1)
 IsNotRead files before now names used ReadFault = Rose before now
 IsNotRead files before now names used Memory = ⊤
+
+-- why the file of an include was not read
+abbrev pub IsNotFound : Option (List NamedFile) → ℕ → ℕ → List (List ℕ) → List ℕ → ℕ → LoadError → Type 0
+IsNotFound files before now names wanted used (Text file fault) = ⊥
+IsNotFound None before now names wanted used (Absent w) = w ≡ wanted
+IsNotFound (Some files) before now names wanted used (Absent w) = (w ≡ wanted) × (first_found files names ≡ None)
+IsNotFound files before now names wanted used (NotSelected file w) = ⊥
+IsNotFound files before now names wanted used (IncludeDepth file) = ⊥
+IsNotFound None before now names wanted used TooLong = ⊤
+IsNotFound (Some files) before now names wanted used TooLong = (found : List ℕ × List ℕ) × (first_found files names ≡ Some found) × (limit < used + length found.1)
+IsNotFound files before now names wanted used ReadFault = Rose before now
+IsNotFound files before now names wanted used Memory = ⊤

@@ -6,3 +6,4 @@ pub mod Selecting
 pub mod StatedCode
 pub mod Finding
 pub mod Found
+pub mod Parts

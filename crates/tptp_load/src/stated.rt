@@ -106,7 +106,8 @@ fn are_found(set: &IndexSet<Name>, file: &Name, names: &NameList) -> Result<(), 
     Ok(())
 }
 
-fn copy_of(name: &Name) -> Result<Name, Memory>
+/// A copy of the name.
+pub(crate) fn copy_of(name: &Name) -> Result<Name, Memory>
     ensures { IfOk result (λ n. n ≡ name.now) }
 {
     Ok(name.clone()?)
