@@ -1,3 +1,4 @@
 pub mod Selections
 pub mod Directories
 pub mod Firsts
+pub mod Parts

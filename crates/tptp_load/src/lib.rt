@@ -5,6 +5,7 @@ pub mod error;
 
 mod file;
 pub mod laws;
+mod includes;
 mod paths;
 pub mod problem;
 mod stated;
