@@ -1,6 +1,6 @@
 -- How the parts of loading go together.
 use Rattle.std.proofs.Common.{◌≡◌, ℕ, zero, suc, ◌+◌, ◌-◌, ◌<◌, ◌≤◌, List, [], ◌∷◌, ◌++◌, refl, ap, sym, subst, ◌∙◌, Option, Some, None, length, arith, append_assoc, ◌≢◌}
-use Rattle.std.specs.Prelude.{All, IsTrue}
+use Rattle.std.specs.Prelude.{All, IsTrue, Result, Ok, Err, OnOk, IfErr}
 use Rattle.std.proofs.lemmas.List.Elements.{All-append, All-filter, All-nil, All-cons}
 use Rattle.outside_io.specs.Causes.{Rose}
 use Rattle.outside_io.specs.declared.library.NamedFile.{NamedFile}
@@ -70,16 +70,17 @@ pub file_says : (told : List NamedFile) (root : Option (List ℕ)) (levels used 
     → StatementsGive (Including told root levels) name (used + length bytes) ss o → Loading told root levels used name bytes o
 file_says told root levels used name bytes ss o le r h = loading_of told root levels used name bytes o (read le ss r h)
 
-pub file_cause : (files : Option (List NamedFile)) (root : Option (List ℕ)) (levels used : ℕ) (name bytes : List ℕ) (ss : List Statement) (before now : ℕ) (e : LoadError) → used + length bytes ≤ limit
-    → Readable bytes ss → IsPartCause files (λ told. StatementsGive (Including told root levels) name (used + length bytes) ss) before now e → IsPartCause files (λ told. Loading told root levels used name bytes) before now e
-file_cause files root levels used name bytes ss before now e le r h =
-    cause_through files (λ told. StatementsGive (Including told root levels) name (used + length bytes) ss) (λ told. Loading told root levels used name bytes) before before now e (omega arith)
-    (λ told o i. file_says told root levels used name bytes ss (refuses o) le r) h
+pub file_cause : (files : Option (List NamedFile)) (root : Option (List ℕ)) (levels used : ℕ) (name bytes : List ℕ) (ss : List Statement) (before now : ℕ) (k : ℕ) (e : LoadError) → k ≡ length bytes → used + length bytes ≤ limit
+    → Readable bytes ss → IsPartCause files (λ told. StatementsGive (Including told root levels) name (used + k) ss) before now e → IsPartCause files (λ told. Loading told root levels used name bytes) before now e
+file_cause files root levels used name bytes ss before now k e same le r h =
+    cause_through files (λ told. StatementsGive (Including told root levels) name (used + k) ss) (λ told. Loading told root levels used name bytes) before before now e (omega arith)
+    (λ told o i j. file_says told root levels used name bytes ss (refuses o) le r (subst (λ n. StatementsGive (Including told root levels) name (used + n) ss (refuses o)) same j)) h
 
-pub file_adds : (files : Option (List NamedFile)) (root : Option (List ℕ)) (levels used : ℕ) (name bytes : List ℕ) (ss : List Statement) (before now : List Stated) (used' : ℕ) → used + length bytes ≤ limit
-    → Readable bytes ss → Adds files (λ told. StatementsGive (Including told root levels) name (used + length bytes) ss) before now used' → Adds files (λ told. Loading told root levels used name bytes) before now used'
-file_adds None root levels used name bytes ss before now used' le r h = tt
-file_adds (Some told) root levels used name bytes ss before now used' le r h = (h.0, h.1, file_says told root levels used name bytes ss (gives h.0 used') le r h.2)
+pub file_adds : (files : Option (List NamedFile)) (root : Option (List ℕ)) (levels used : ℕ) (name bytes : List ℕ) (ss : List Statement) (before now : List Stated) (used' k : ℕ) → k ≡ length bytes → used + length bytes ≤ limit
+    → Readable bytes ss → Adds files (λ told. StatementsGive (Including told root levels) name (used + k) ss) before now used' → Adds files (λ told. Loading told root levels used name bytes) before now used'
+file_adds None root levels used name bytes ss before now used' k same le r h = tt
+file_adds (Some told) root levels used name bytes ss before now used' k same le r h =
+    (h.0, h.1, file_says told root levels used name bytes ss (gives h.0 used') le r (subst (λ n. StatementsGive (Including told root levels) name (used + n) ss (gives h.0 used')) same h.2))
 
 -- ---- an include
 
@@ -242,3 +243,19 @@ good_clause stated used s g h = record { good = All-append IsGoodStated stated (
 pub good_selected : (before part now : List Stated) (names : List (List ℕ)) (used used' : ℕ) → IsGathered before used → IsGathered part used' → now ≡ before ++ listed names part → IsGathered now used'
 good_selected before part now names used used' g h e =
     record { good = subst (All IsGoodStated) (sym e) (All-append IsGoodStated before (listed names part) g.good (All-filter (is_listed names) IsGoodStated part h.good)); within = h.within }
+
+-- ---- the same of what a call answered
+
+pub file_adds_at : (r : Result (Unit {0}) LoadError) (files : Option (List NamedFile)) (root : Option (List ℕ)) (levels used : ℕ) (name bytes : List ℕ) (ss : List Statement) (before now : List Stated) (used' k : ℕ) → k ≡ length bytes → used + length bytes ≤ limit
+    → Readable bytes ss → OnOk r (Adds files (λ told. StatementsGive (Including told root levels) name (used + k) ss) before now used') → OnOk r (Adds files (λ told. Loading told root levels used name bytes) before now used')
+file_adds_at (Ok x) files root levels used name bytes ss before now used' k same le r h = file_adds files root levels used name bytes ss before now used' k same le r h
+file_adds_at (Err e) files root levels used name bytes ss before now used' k same le r h = tt
+
+pub file_cause_at : (r : Result (Unit {0}) LoadError) (files : Option (List NamedFile)) (root : Option (List ℕ)) (levels used : ℕ) (name bytes : List ℕ) (ss : List Statement) (before now : ℕ) (k : ℕ) → k ≡ length bytes → used + length bytes ≤ limit
+    → Readable bytes ss → IfErr r (IsPartCause files (λ told. StatementsGive (Including told root levels) name (used + k) ss) before now) → IfErr r (IsPartCause files (λ told. Loading told root levels used name bytes) before now)
+file_cause_at (Ok x) files root levels used name bytes ss before now k same le r h = tt
+file_cause_at (Err e) files root levels used name bytes ss before now k same le r h = file_cause files root levels used name bytes ss before now k e same le r h
+
+pub good_selected_at : (r : Result (Unit {0}) LoadError) (before part now : List Stated) (names : List (List ℕ)) (used used' : ℕ) → IsGathered before used → IsGathered part used' → OnOk r (now ≡ before ++ listed names part) → OnOk r (IsGathered now used')
+good_selected_at (Ok x) before part now names used used' g h e = good_selected before part now names used used' g h e
+good_selected_at (Err e) before part now names used used' g h i = tt

@@ -22,8 +22,8 @@ pub(crate) struct Gathered {
     pub(crate) used: usize,
 }
 
-// The name as a value that is kept.
-fn name_of(alloc: Global, name: &str) -> Result<Name, Memory>
+/// The name as a value that is kept.
+pub(crate) fn name_of(alloc: Global, name: &str) -> Result<Name, Memory>
     ensures { IfOk result (λ n. n ≡ name.now) }
 {
     Name::of(alloc, name.as_bytes())
@@ -47,7 +47,7 @@ fn read_statements(alloc: Global, name: &str, bytes: ByteList) -> Result<Stateme
     }
 }
 
-// Adds the file of this name with these bytes. So many levels of includes may stand below it.
+/// Adds the file of this name with these bytes. So many levels of includes may stand below it.
 #[cycle(levels)]
 pub(crate) fn add_file<L: Library>(
     alloc: Global,
