@@ -27,6 +27,7 @@ fn add_giving(alloc: Global, problem: &mut Problem, stated: StatedClause) -> Res
 }
 
 // The problem of what was stated.
+#[tactic(auto, using(std::proofs::lemmas::Grind::common_steps, crate::proofs::GivingMore::clauses_more, crate::proofs::GivingMore::names_more))]
 fn problem_of(alloc: Global, list: Vec<StatedClause>) -> Result<Problem, Memory>
     ensures { IfOk result (λ p. p ≡ problem_of list.items) }
 {
@@ -42,6 +43,7 @@ fn problem_of(alloc: Global, list: Vec<StatedClause>) -> Result<Problem, Memory>
 
 /// Reads the file and what it includes: each file whole, and its text into statements, before any of its includes is begun.
 /// An include is tried after the directory of the including file and then under the root, or as it is where it begins with `/`.
+#[tactic(auto, using(std::proofs::lemmas::Grind::common_steps, crate::proofs::Loads::unread_cause, crate::proofs::Loads::absent_cause))]
 pub fn load<L: Library>(
     alloc: Global,
     files: &mut L,
@@ -49,9 +51,9 @@ pub fn load<L: Library>(
     root: Option<&str>,
 ) -> Result<Problem, LoadError>
     ensures files { L.files files.new ≡ L.files files.old }
-    ensures loads { IfOk result (λ p. Told (L.files files.old) (λ told. Loads told name.now (option_map (λ r. r.now) root) p)) }
+    ensures loads { IfOk result (λ p. Told (L.files files.old) (λ told. Loads told name.now (option_map (λ r. r.now) root.entry) p)) }
     ensures good { IfOk result IsGoodProblem }
-    ensures refused { IfErr result (IsLoadCause (L.files files.old) (L.faults files.old) (L.faults files.new) name.now (option_map (λ r. r.now) root)) }
+    ensures refused { IfErr result (IsLoadCause (L.files files.old) (L.faults files.old) (L.faults files.new) name.now (option_map (λ r. r.now) root.entry)) }
     ensures later { L.faults files.old ≤ L.faults files.new }
 {
     let Some(bytes) = read_named(alloc, name, 0, files)? else {
