@@ -218,9 +218,11 @@ refused_statement inc from used (Include file selection) rest e g = (refuses e, 
 pub went_more : (files : Option (List NamedFile)) (inc : List NamedFile → Includer) (from : List ℕ) (start : ℕ) (all : List Statement) (before now : List Stated) (used : ℕ) (s : Statement) (rest : List Statement) (next : List Stated) (used' : ℕ)
     → Went files inc from start all before now used (s ∷ rest) → Adds files (λ told. StatementGives (inc told) from used s) now next used' → Went files inc from start all before next used' rest
 went_more None inc from start all before now used s rest next used' w a = tt
-went_more (Some told) inc from start all before now used s rest next used' w a =
-    (w.0 ++ a.0, a.1 ∙ ap (λ b. b ++ a.0) w.1 ∙ append_assoc before w.0 a.0,
-     λ o h. subst (StatementsGive (inc told) from start all) (sym (after_both w.0 a.0 o)) (w.2 (after a.0 o) (then_statement (inc told) from used used' s rest a.0 o a.2 h)))
+went_more (Some told) inc from start all before now used s rest next used' w a = (
+  w.0 ++ a.0,
+  a.1 ∙ ap (λ b. b ++ a.0) w.1 ∙ append_assoc before w.0 a.0,
+  λ o h. subst (StatementsGive (inc told) from start all) (sym (after_both w.0 a.0 o)) (w.2 (after a.0 o) (then_statement (inc told) from used used' s rest a.0 o a.2 h)),
+)
 
 pub went_done : (files : Option (List NamedFile)) (inc : List NamedFile → Includer) (from : List ℕ) (start : ℕ) (all : List Statement) (before now : List Stated) (used : ℕ)
     → Went files inc from start all before now used [] → Adds files (λ told. StatementsGive (inc told) from start all) before now used
@@ -233,7 +235,7 @@ went_cause None inc from start all before now used s rest first mid last e le w 
 went_cause (Some told) inc from start all before now used s rest first mid last e le w h =
     cause_through (Some told) (λ told. StatementGives (inc told) from used s) (λ told. StatementsGive (inc told) from start all) first mid last e le
     (λ t o i g. let same : told ≡ t = cc in
-     subst (λ x. StatementsGive (inc x) from start all (refuses o)) same (w.2 (refuses o) (refused_statement (inc told) from used s rest o (subst (λ x. StatementGives (inc x) from used s (refuses o)) (sym same) g)))) h
+    subst (λ x. StatementsGive (inc x) from start all (refuses o)) same (w.2 (refuses o) (refused_statement (inc told) from used s rest o (subst (λ x. StatementGives (inc x) from used s (refuses o)) (sym same) g)))) h
 
 -- ---- what was gathered
 

@@ -40,7 +40,12 @@ fn read_rest<L: Library>(alloc: Global, used: usize, files: &mut L) -> Result<Ve
 }
 
 // All bytes of the file of this name, or none where it is absent. So many bytes were read before it.
-pub(crate) fn read_named<L: Library>(alloc: Global, name: &str, used: usize, files: &mut L) -> Result<Option<ByteList>, LoadError>
+pub(crate) fn read_named<L: Library>(
+    alloc: Global,
+    name: &str,
+    used: usize,
+    files: &mut L,
+) -> Result<Option<ByteList>, LoadError>
     requires used { used ≤ limit }
     ensures files { L.files files.new ≡ L.files files.old }
     ensures ok { IfOk result (IsHeld (L.files files.old) name.now used) }

@@ -119,14 +119,35 @@ fn add_statement<L: Library>(
     ensures err { IfErr result (IsPartCause (L.files files.old) (λ told. StatementGives (Including told (option_map (λ r. r.now) root.entry) levels) from.now gathered.old.used statement) (L.faults files.old) (L.faults files.new)) }
 {
     match statement {
-        Statement::Cnf { name, always, clause, .. } => add_clause(gathered, StatedClause { name, always, clause }),
+        Statement::Cnf {
+            name,
+            always,
+            clause,
+            ..
+        } => add_clause(
+            gathered,
+            StatedClause {
+                name,
+                always,
+                clause,
+            },
+        ),
         Statement::Include { file, selection } => {
             if levels == 0 {
                 return Err(LoadError::IncludeDepth { file });
             }
             match selection {
                 None => add_included(alloc, root, levels - 1, from, &file, files, gathered),
-                Some(names) => add_selected(alloc, root, levels - 1, from, &file, &names, files, gathered),
+                Some(names) => add_selected(
+                    alloc,
+                    root,
+                    levels - 1,
+                    from,
+                    &file,
+                    &names,
+                    files,
+                    gathered,
+                ),
             }
         }
     }

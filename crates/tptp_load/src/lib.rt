@@ -2,10 +2,9 @@
 #![tactic(auto)]
 
 pub mod error;
-
 mod file;
-pub mod laws;
 mod includes;
+pub mod laws;
 mod paths;
 pub mod problem;
 mod stated;

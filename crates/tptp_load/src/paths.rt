@@ -78,7 +78,12 @@ fn text_of(name: &Name) -> &str
 
 // The file of this name, where there is one.
 #[tactic(auto, using(std::proofs::lemmas::Grind::common_steps, crate::proofs::Firsts::held_first, crate::proofs::Firsts::none_first, crate::proofs::Firsts::unread_first))]
-fn read_one<L: Library>(alloc: Global, name: String, used: usize, files: &mut L) -> Result<Option<Found>, LoadError>
+fn read_one<L: Library>(
+    alloc: Global,
+    name: String,
+    used: usize,
+    files: &mut L,
+) -> Result<Option<Found>, LoadError>
     requires used { used ≤ limit }
     ensures files { L.files files.new ≡ L.files files.old }
     ensures ok { IfOk result (λ found. IsFirst (L.files files.old) (string_bytes name ∷ []) used (option_map pair_of found)) }

@@ -77,7 +77,11 @@ fn is_in(set: &IndexSet<Name>, stated: &StatedClause) -> bool
 }
 
 // The clauses whose names are in the set, in order.
-fn kept(alloc: Global, set: &IndexSet<Name>, part: Vec<StatedClause>) -> Result<Vec<StatedClause>, Memory>
+fn kept(
+    alloc: Global,
+    set: &IndexSet<Name>,
+    part: Vec<StatedClause>,
+) -> Result<Vec<StatedClause>, Memory>
     ensures { IfOk result (λ v. v.items ≡ filter (λ s. list_any (bytes_eq s.name) set.now.keys) part.items) }
 {
     let mut all = Vec::new(alloc);

@@ -33,28 +33,34 @@ add_selected-returns-clause-good g t c =
 
 pub add_statements-loop-statement-init : goal.add_statements-loop-statement-init
 add_statements-loop-statement-init g t c =
-    let items : into_iter_items c.into_iter-statement-iterator.result ≡ c.args.statements = grind (arith, common_steps) in
-    (tt, tt, record {
-      same_files = refl;
-      later = omega arith;
-      good = c.requires.1.1.1.0;
-      formed = All-same IsFormedStatement _ _ items c.requires.1.1.1.1.0;
-      names = All-same HasReadableNames _ _ items c.requires.1.1.1.1.1;
-      went = rw items (went_first (g.L.Library.files c.args.files.now) (λ told. Including told (option_map (λ r. r.now) c.args.root) c.args.levels) c.args.from.now c.args.gathered.now.used c.args.statements c.args.gathered.now.stated.items);
-    })
+    let items : into_iter_items c.into_iter-statement-iterator.result ≡ c.args.statements = grind (arith, common_steps) in (
+      tt,
+      tt,
+      record {
+        same_files = refl;
+        later = omega arith;
+        good = c.requires.1.1.1.0;
+        formed = All-same IsFormedStatement _ _ items c.requires.1.1.1.1.0;
+        names = All-same HasReadableNames _ _ items c.requires.1.1.1.1.1;
+        went = rw items (went_first (g.L.Library.files c.args.files.now) (λ told. Including told (option_map (λ r. r.now) c.args.root) c.args.levels) c.args.from.now c.args.gathered.now.used c.args.statements c.args.gathered.now.stated.items);
+      },
+    )
 
 pub add_statements-loop-statement-preserved : goal.add_statements-loop-statement-preserved
 add_statements-loop-statement-preserved g t c =
     let items : into_iter_items c.loop-statement.statement-iterator ≡ c.in-Some.statement ∷ into_iter_items c.next.new.self = grind (arith, common_steps) in
-    let inv = c.loop-statement.invariant.2 in
-    (tt, tt, record {
-      same_files = c.in_ok-add_statement.ensures.files ∙ inv.same_files;
-      later = omega (arith, inv.later, c.in_ok-add_statement.ensures.later);
-      good = c.in_ok-add_statement.ensures.good;
-      formed = All-rest IsFormedStatement _ _ _ items inv.formed;
-      names = All-rest HasReadableNames _ _ _ items inv.names;
-      went = went_more (g.L.Library.files c.args.files.now) (λ told. Including told (option_map (λ r. r.now) c.args.root) c.args.levels) c.args.from.now c.args.gathered.now.used c.args.statements c.args.gathered.now.stated.items c.loop-statement.gathered.stated.items c.loop-statement.gathered.used c.in-Some.statement (into_iter_items c.next.new.self) c.add_statement.new.gathered.stated.items c.add_statement.new.gathered.used (rw items at inv.went) (rw inv.same_files at c.in_ok-add_statement.ensures.ok);
-    })
+    let inv = c.loop-statement.invariant.2 in (
+      tt,
+      tt,
+      record {
+        same_files = c.in_ok-add_statement.ensures.files ∙ inv.same_files;
+        later = omega (arith, inv.later, c.in_ok-add_statement.ensures.later);
+        good = c.in_ok-add_statement.ensures.good;
+        formed = All-rest IsFormedStatement _ _ _ items inv.formed;
+        names = All-rest HasReadableNames _ _ _ items inv.names;
+        went = went_more (g.L.Library.files c.args.files.now) (λ told. Including told (option_map (λ r. r.now) c.args.root) c.args.levels) c.args.from.now c.args.gathered.now.used c.args.statements c.args.gathered.now.stated.items c.loop-statement.gathered.stated.items c.loop-statement.gathered.used c.in-Some.statement (into_iter_items c.next.new.self) c.add_statement.new.gathered.stated.items c.add_statement.new.gathered.used (rw items at inv.went) (rw inv.same_files at c.in_ok-add_statement.ensures.ok);
+      },
+    )
 
 pub add_statements-returns-in_err-add_statement-clause-err : goal.add_statements-returns-in_err-add_statement-clause-err
 add_statements-returns-in_err-add_statement-clause-err g t c =
