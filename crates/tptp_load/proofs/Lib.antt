@@ -1,0 +1,6 @@
+pub mod Selections
+pub mod Directories
+pub mod Firsts
+pub mod Parts
+pub mod Loads
+pub mod GivingMore
