@@ -25,7 +25,12 @@ impl Model for CheckedRefutation {
     ghost use Rattle.saturation_cert.specs.Wholes.{IsWholeRefutation};
     ghost use Rattle.cert_format.specs.Validity.{IsValidRefutation};
 
+    ghost use Rattle.saturation_cert.specs.contracts.certificate.Refutation as value;
+    ghost use Rattle.std.specs.Coded.{codes};
+
     ghost Value = { Refutation };
+
+    ghost coded = { Prim.hlevel (codes, value.the_row.coded) };
 
     ghost view = { λ c. c.cert };
 

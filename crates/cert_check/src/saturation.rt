@@ -31,7 +31,12 @@ impl Model for CheckedSaturation {
     ghost use Rattle.saturation_cert.specs.Wholes.{IsWholeSaturation};
     ghost use Rattle.cert_format.specs.Validity.{IsValidSaturation};
 
+    ghost use Rattle.saturation_cert.specs.contracts.certificate.Saturation as value;
+    ghost use Rattle.std.specs.Coded.{codes};
+
     ghost Value = { Saturation };
+
+    ghost coded = { Prim.hlevel (codes, value.the_row.coded) };
 
     ghost view = { λ c. c.cert };
 

@@ -19,9 +19,9 @@ pub record AreTermsOf (g : Forest) (s : Substitution) (c : TreeClause) (terms : 
   pub become : (v : ℕ) → v < length terms → IsAt g (slice_index_or terms v 0) (made_canonical s c v)
 
 -- the canonical form of the clause of `f` under the substitution, and what its variables become, in the grown bank `g`
-pub record IsConclusionUnder (f g : Forest) (s : Substitution) (c : List (Signed ℕ)) (clause : List (Signed ℕ)) (terms : List ℕ) : Type 0 where
-  pub clause : IsClauseAt g clause (canonical_form (instance s (clause_at f c)))
-  pub terms : AreTermsOf g s (clause_at f c) terms
+pub record IsConclusionUnder (f g : Forest) (s : Substitution) (c d : List (Signed ℕ)) (ids : List ℕ) : Type 0 where
+  pub clause : IsClauseAt g d (canonical_form (instance s (clause_at f c)))
+  pub terms : AreTermsOf g s (clause_at f c) ids
 
 -- the same for the substitution of the side that the bindings stand for
 abbrev pub IsConclusionOf : Forest → Forest → List Binding → Side → List (Signed ℕ) → List (Signed ℕ) → List ℕ → Type 0
