@@ -2,5 +2,8 @@
 #![tactic(auto)]
 
 pub mod axioms;
+pub mod congruence;
+pub mod symbols;
 
-pub use axioms::{SymList, axioms_from, axioms_of};
+pub use axioms::{axioms_from, axioms_of};
+pub use symbols::SymList;
