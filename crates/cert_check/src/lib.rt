@@ -2,6 +2,7 @@
 //! in the crates below it.
 #![tactic(auto)]
 
+mod base;
 pub mod error;
 pub mod refutation;
 pub mod saturation;

@@ -1,5 +1,5 @@
 -- What the walk for symbols collects.
-use Rattle.std.proofs.Common.{◌≡◌, ℕ, suc, ◌+◌, ◌-◌, ◌<◌, ◌≤◌, List, [], ◌∷◌, ◌++◌, refl, ap, ap₂, sym, ◌∙◌, map, fold, length, drop, get_or, Bool, true, false, cond, not, arith, append_assoc}
+use Rattle.std.proofs.Common.{◌≡◌, ℕ, suc, ◌+◌, ◌-◌, ◌<◌, ◌≤◌, List, [], ◌∷◌, ◌++◌, refl, ap, ap₂, sym, ◌∙◌, map, fold, length, drop, get_or, true, cond, arith, append_assoc}
 use Rattle.std.proofs.Math.Seq.{drop-cons}
 use denote.Bor.{Bor}
 use Rattle.std.specs.List.{list_any}
@@ -10,7 +10,7 @@ use Rattle.inst_logic.specs.declared.symbol.Sym.{Sym}
 use Rattle.inst_logic.specs.declared.term.Term.{Term}
 use Rattle.inst_logic.specs.Equal.{sym_eq}
 use Rattle.inst_logic.specs.EqualLaws.{sym_eq_decides}
-use Rattle.inst_logic.specs.Lists.{distinct, with_item}
+use Rattle.inst_logic.specs.Lists.{with_item}
 use Rattle.inst_logic.specs.View.{tree}
 use Rattle.inst_logic.specs.Measure.{tree_size, trees_size}
 use Rattle.inst_logic.specs.Tree.{Tree, of_list}

@@ -1,10 +1,9 @@
 -- The literals and arguments of an axiom of congruence, and the axioms of a list of symbols, one after another.
-use Rattle.std.proofs.Common.{◌≡◌, ℕ, zero, suc, ◌+◌, ◌*◌, ◌<◌, List, [], ◌∷◌, ◌++◌, refl, ap, sym, ◌∙◌, map, Bool, true, false, cond, arith, take, length, get_or}
+use Rattle.std.proofs.Common.{◌≡◌, ℕ, zero, suc, ◌+◌, ◌*◌, ◌<◌, List, [], ◌∷◌, ◌++◌, refl, ap, ◌∙◌, map, Bool, true, false, cond, arith, take, length, get_or}
 use Rattle.std.specs.Prelude.{filter}
 use Rattle.std.proofs.lemmas.List.{map-append, take_more}
 use Rattle.std.proofs.lemmas.List.Elements.{filter-append}
-use Rattle.inst_logic.specs.Tree.{Tree, Trees, var, of_list, none, more}
-use Rattle.inst_logic.specs.Clauses.{TreeClause}
+use Rattle.inst_logic.specs.Tree.{Tree, var, of_list, more}
 use Rattle.inst_calculus.specs.Axioms.{unequal, unequal_pairs, every_second}
 
 pairs_suc : (k n : ℕ) → unequal_pairs k (suc n) ≡ unequal_pairs k n ++ unequal (var (k + n * 2)) (var (k + n * 2 + 1)) ∷ []

@@ -1,4 +1,4 @@
-use Rattle.std.proofs.Common.{◌∙◌, ap, arith, List, subst, sym, drop, map, ◌-◌}
+use Rattle.std.proofs.Common.{arith, List, subst, sym, drop, map, ◌-◌}
 use denote.Bor.{Bor}
 use Rattle.inst_logic.specs.declared.term.Term.{Term}
 use Rattle.inst_logic.specs.View.{tree}
