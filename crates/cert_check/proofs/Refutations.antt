@@ -1,9 +1,12 @@
 -- The stages of the check of a refutation.
-use Rattle.std.proofs.Common.{◌≡◌, ℕ, ◌<◌, ◌≤◌, List, [], ◌∷◌, refl, ap, ap₂, sym, ◌∙◌, map, subst, arith, ◌⊎◌, inl, inr, length}
-use Rattle.std.specs.Prelude.{All, IsTrue}
+use Rattle.std.proofs.Common.{◌≡◌, ℕ, ◌<◌, ◌≤◌, Bool, true, false, List, [], ◌∷◌, refl, ap, ap₂, sym, ◌∙◌, map, subst, arith, ◌⊎◌, inl, inr, length}
+use Rattle.std.specs.Prelude.{All, IsTrue, ◌↔◌, ◌-◌, Some, option_map, slice_get}
+use Rattle.std.proofs.lemmas.List.{length-map}
+use Rattle.std.proofs.lemmas.Option.{slice_get-map}
+use Rattle.inst_logic.specs.Tree.{Tree}
 use Rattle.inst_logic.specs.declared.signed.Signed.{Signed}
 use Rattle.inst_logic.specs.WellFormed.{IsAtom, is_constant}
-use Rattle.inst_calculus.specs.Steps.{EndsEmpty}
+use Rattle.inst_calculus.specs.Steps.{Step, EndsEmpty}
 use Rattle.inst_calculus.proofs.Membership.{◌∈◌, all_in, in_all}
 use Rattle.term_bank.specs.Forest.{Forest, Extends, clause_at, tree_at}
 use Rattle.term_bank.proofs.Clauses.{clause_extends}
@@ -131,3 +134,26 @@ module _ (c : format.Refutation) where
   all_pass base bot grounds steps empty (Place n) = tt
   all_pass base bot grounds steps empty (Input k) = tt
   all_pass base bot grounds steps empty (Pair l m) = tt
+
+pub grown_same : (r : Refutation) (b : Base) → IsWholeRefutation r → KeepsBase r.base b → refutation_of (record r { base = b }) ≡ refutation_of r
+grown_same r b h kept = refutation_same r (record r { base = b }) h (record { base = kept; rest = refl })
+
+pub not_true : (b x : Bool) → b ≡ x → b ≡ false → ¬ IsTrue x
+not_true b x e n t = absurd (cc)
+
+no_literals : (f : Forest) (c : List (Signed ℕ)) → clause_at f c ≡ [] → c ≡ []
+no_literals f [] e = refl
+no_literals f (l ∷ c) e = absurd (cc)
+
+-- the last step of ids and the last step of trees
+pub ends_at : (f : Forest) (ss : List GroundStep) (s : GroundStep) → slice_get ss (length ss - 1) ≡ Some s → (s.clause ≡ []) ↔ EndsEmpty (map (step_of f) ss)
+ends_at f ss s at = (
+  (λ e. (step_of f s, there, ap (clause_at f) e)),
+  (λ (t, k, e). let same : step_of f s ≡ t = some_same (step_of f s) t (sym there ∙ k) in no_literals f s.clause (ap (λ x. x.clause) same ∙ e)),
+)
+  where
+    there : slice_get (map (step_of f) ss) (length (map (step_of f) ss) - 1) ≡ Some (step_of f s)
+    there = ap (λ n. slice_get (map (step_of f) ss) (n - 1)) (length-map {f = step_of f} ss) ∙ slice_get-map (step_of f) ss (length ss - 1) ∙ ap (option_map (step_of f)) at
+
+    some_same : (x y : Step Tree) → Some x ≡ Some y → x ≡ y
+    some_same x y e = cc
