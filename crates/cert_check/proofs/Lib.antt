@@ -1,3 +1,4 @@
 pub mod Bases
 pub mod Refutations
 pub mod Differences
+pub mod Interning

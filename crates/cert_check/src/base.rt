@@ -7,8 +7,11 @@ ghost use Rattle.cert_check.specs.Firsts.{IsFirstWrongOf};
 ghost use Rattle.saturation_cert.specs.Values.{base_of};
 ghost use Rattle.saturation_cert.specs.Wholes.{IsWholeBase, KeepsBase};
 
+use crate::axioms::{interned, symbols};
+use crate::difference::difference;
 use crate::error::CheckError;
 use cert_format::Complaint;
+use equality_axioms::axioms_from;
 use inst_logic::Memory;
 use saturation_cert::Base;
 use std::alloc::Global;
@@ -20,9 +23,10 @@ fn wrong_axiom(alloc: Global, base: &mut Base) -> Result<Option<usize>, Memory>
     ensures whole { OnOk result (IsWholeBase base.new) }
     ensures first { IfOk result (IsFirstWrongOf (IsRightAxiom (base_of base.old))) }
 {
-    let _alloc = alloc;
-    let _base = base;
-    Err(Memory)
+    let symbols = symbols(alloc, &base.bank, &base.inputs)?;
+    let axioms = axioms_from(alloc, &symbols)?;
+    let ids = interned(alloc, &mut base.bank, &axioms)?;
+    Ok(difference(&base.bank, &base.axioms, &ids))
 }
 
 // The number of the first member that is not what its origin gives.

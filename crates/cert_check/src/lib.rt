@@ -2,6 +2,7 @@
 //! in the crates below it.
 #![tactic(auto)]
 
+mod axioms;
 mod base;
 mod difference;
 pub mod error;
