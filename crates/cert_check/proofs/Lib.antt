@@ -2,3 +2,4 @@ pub mod Bases
 pub mod Refutations
 pub mod Differences
 pub mod Interning
+pub mod Passing

@@ -29,9 +29,9 @@ use Rattle.cert_check.proofs.Bases.{base_same, clauses_same, at_most, smaller}
 -- a whole clause stays whole as the bank grows
 pub clause_grown : (f g : Forest) → Extends f g → (c : List (Signed ℕ)) → IsWholeClause f c → IsWholeClause g c
 clause_grown f g grown c h = record {
-    ids = in_all (λ (l : Signed ℕ). l.atom < length g.trees) c (λ l i. let k = within l i in omega (arith, k, grown.trees.0));
-    atoms = in_all (λ (l : Signed ℕ). IsAtom (tree_at g l.atom)) c (λ l i. subst IsAtom (sym (grown.trees.1 l.atom (within l i))) (all_in (λ (m : Signed ℕ). IsAtom (tree_at f m.atom)) c h.atoms l i));
-  }
+  ids = in_all (λ (l : Signed ℕ). l.atom < length g.trees) c (λ l i. let k = within l i in omega (arith, k, grown.trees.0));
+  atoms = in_all (λ (l : Signed ℕ). IsAtom (tree_at g l.atom)) c (λ l i. subst IsAtom (sym (grown.trees.1 l.atom (within l i))) (all_in (λ (m : Signed ℕ). IsAtom (tree_at f m.atom)) c h.atoms l i));
+}
   where
     within : (l : Signed ℕ) → l ∈ c → l.atom < length f.trees
     within l i = all_in (λ (m : Signed ℕ). m.atom < length f.trees) c h.ids l i
@@ -56,41 +56,41 @@ pub refutation_same : (old new : Refutation) → IsWholeRefutation old → Keeps
 refutation_same old new whole kept =
     ap refutation_of kept.rest
     ∙ (λ i. record {
-        base = base_same old.base new.base whole.base kept.base i;
-        bot = old.bot;
-        grounds = clauses_same old.base.bank new.base.bank kept.base.bank old.grounds whole.grounds i;
-        steps = steps_same old.base.bank new.base.bank kept.base.bank old.steps (λ s j. all_in (λ (t : GroundStep). IsWholeClause old.base.bank t.clause) old.steps whole.steps s j) i;
-      })
+      base = base_same old.base new.base whole.base kept.base i;
+      bot = old.bot;
+      grounds = clauses_same old.base.bank new.base.bank kept.base.bank old.grounds whole.grounds i;
+      steps = steps_same old.base.bank new.base.bank kept.base.bank old.steps (λ s j. all_in (λ (t : GroundStep). IsWholeClause old.base.bank t.clause) old.steps whole.steps s j) i;
+    })
 
 pub whole_with : (r : Refutation) (b : Base) → IsWholeRefutation r → KeepsBase r.base b → IsWholeBase b → IsWholeRefutation (record r { base = b })
 whole_with r b h kept whole = record {
-    base = whole;
-    grounds = clauses_grown r.base.bank b.bank kept.bank r.grounds h.grounds;
-    steps = steps_grown r.base.bank b.bank kept.bank r.steps h.steps;
-  }
+  base = whole;
+  grounds = clauses_grown r.base.bank b.bank kept.bank r.grounds h.grounds;
+  steps = steps_grown r.base.bank b.bank kept.bank r.steps h.steps;
+}
 
 pub whole_base : (b : Base) (g : Forest) → IsWholeBase b → Extends b.bank g → AreFormed g → IsWholeBase (record b { bank = g })
 whole_base b g h grown formed = record {
-    bank = formed;
-    inputs = clauses_grown b.bank g grown b.inputs h.inputs;
-    axioms = clauses_grown b.bank g grown b.axioms h.axioms;
-    members = in_all (λ (m : Member). IsWholeClause g m.clause) b.members (λ m i. clause_grown b.bank g grown m.clause (all_in (λ (n : Member). IsWholeClause b.bank n.clause) b.members h.members m i));
-  }
+  bank = formed;
+  inputs = clauses_grown b.bank g grown b.inputs h.inputs;
+  axioms = clauses_grown b.bank g grown b.axioms h.axioms;
+  members = in_all (λ (m : Member). IsWholeClause g m.clause) b.members (λ m i. clause_grown b.bank g grown m.clause (all_in (λ (n : Member). IsWholeClause b.bank n.clause) b.members h.members m i));
+}
 
 pub whole_ids : (f g : Forest) → Extends f g → (cs : List (List (Signed ℕ))) → All (IsWholeClause f) cs → All (IsClauseOf g) cs
 whole_ids f g grown cs h = in_all (IsClauseOf g) cs (λ c i. let k : IsWholeClause g c = clause_grown f g grown c (all_in (IsWholeClause f) cs h c i) in k.ids)
 
 pub keeps_trans : (a b c : Base) → KeepsBase a b → KeepsBase b c → KeepsBase a c
 keeps_trans a b c p q = record {
-    bank = extends_trans a.bank b.bank c.bank p.bank q.bank;
-    rest = q.rest ∙ ap (λ (x : Base). record x { bank = c.bank }) p.rest;
-  }
+  bank = extends_trans a.bank b.bank c.bank p.bank q.bank;
+  rest = q.rest ∙ ap (λ (x : Base). record x { bank = c.bank }) p.rest;
+}
 
 pub keeps_all_trans : (a b c : Refutation) → KeepsRefutation a b → KeepsRefutation b c → KeepsRefutation a c
 keeps_all_trans a b c p q = record {
-    base = keeps_trans a.base b.base c.base p.base q.base;
-    rest = q.rest ∙ ap (λ (x : Refutation). record x { base = c.base }) p.rest;
-  }
+  base = keeps_trans a.base b.base c.base p.base q.base;
+  rest = q.rest ∙ ap (λ (x : Refutation). record x { base = c.base }) p.rest;
+}
 
 -- the checks that come before a complaint, by their kinds
 module _ (c : format.Refutation) where

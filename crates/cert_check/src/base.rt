@@ -1,5 +1,5 @@
 // The check of what certificates of both kinds have: the axioms of equality and the members.
-ghost use Rattle.std.specs.Prelude.{IfErr, IfOk, OnOk, ℕ};
+ghost use Rattle.std.specs.Prelude.{◌+◌, ◌<◌, ◌↔◌, IfErr, IfOk, IsTrue, OnOk, length, ℕ};
 ghost use Rattle.cert_format.specs.Validity.{IsRightAxiom, IsRightMember};
 ghost use Rattle.cert_check.specs.Answers.{IsCheckCause};
 ghost use Rattle.cert_check.specs.Bases.{BasePasses, IsValidBase};
@@ -29,6 +29,22 @@ fn wrong_axiom(alloc: Global, base: &mut Base) -> Result<Option<usize>, Memory>
     Ok(difference(&base.bank, &base.axioms, &ids))
 }
 
+// Whether member `i`, counted from 0, is what its origin gives.
+fn is_right(alloc: Global, base: &mut Base, i: usize) -> Result<bool, Memory>
+    requires whole { IsWholeBase base.old }
+    requires within { i < length base.old.members }
+    requires axioms { (n : ℕ) → IsRightAxiom (base_of base.old) n }
+    requires earlier { (m : ℕ) → m < i + 1 → IsRightMember (base_of base.old) m }
+    ensures kept { KeepsBase base.old base.new }
+    ensures whole { OnOk result (IsWholeBase base.new) }
+    ensures right { IfOk result (λ r. IsTrue r ↔ IsRightMember (base_of base.old) (i + 1)) }
+{
+    let _alloc = alloc;
+    let _base = base;
+    let _place = i;
+    Err(Memory)
+}
+
 // The number of the first member that is not what its origin gives.
 fn wrong_member(alloc: Global, base: &mut Base) -> Result<Option<usize>, Memory>
     requires whole { IsWholeBase base.old }
@@ -37,9 +53,12 @@ fn wrong_member(alloc: Global, base: &mut Base) -> Result<Option<usize>, Memory>
     ensures whole { OnOk result (IsWholeBase base.new) }
     ensures first { IfOk result (IsFirstWrongOf (IsRightMember (base_of base.old))) }
 {
-    let _alloc = alloc;
-    let _base = base;
-    Err(Memory)
+    for i in 0..base.members.len() {
+        if !is_right(alloc, base, i)? {
+            return Ok(Some(i + 1));
+        }
+    }
+    Ok(None)
 }
 
 // The first complaint about the axioms and then about the members, if there is one.

@@ -13,7 +13,7 @@ loop-c-preserved c =
     let within : c.loop-c.c-index < length items = omega arith in
     let formed = subst AreFormedClauses (sym c.as_slice-c-items.ensures) c.requires.clauses in
     let more = one_more_at c.loop-c.bank g c.clause.ensures.extends c.loop-c.ids c.in_ok-clause.field-0 items c.loop-c.c-index c.c-item.result
-        c.loop-c.invariant.ids c.loop-c.invariant.at within c.c-item.is c.in_ok-clause.ensures.at.1 in
+    c.loop-c.invariant.ids c.loop-c.invariant.at within c.c-item.is c.in_ok-clause.ensures.at.1 in
     record {
       at = ap (map (clause_at g)) c.in_ok-push.ensures.ok ∙ more;
       ids = subst (All (IsClauseOf g)) (sym c.in_ok-push.ensures.ok) (one_more_in c.loop-c.bank g c.clause.ensures.extends c.loop-c.ids c.in_ok-clause.field-0 c.loop-c.invariant.ids c.in_ok-clause.ensures.at.0);
