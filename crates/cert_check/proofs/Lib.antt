@@ -3,3 +3,4 @@ pub mod Refutations
 pub mod Differences
 pub mod Interning
 pub mod Passing
+pub mod OriginLemmas

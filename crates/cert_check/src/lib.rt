@@ -6,6 +6,7 @@ mod axioms;
 mod base;
 mod difference;
 pub mod error;
+mod origin;
 pub mod refutation;
 pub mod saturation;
 
