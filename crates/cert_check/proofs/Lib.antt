@@ -4,3 +4,4 @@ pub mod Differences
 pub mod Interning
 pub mod Passing
 pub mod OriginLemmas
+pub mod Rightness

@@ -38,9 +38,9 @@ number_right xs ys k positive past =
 pub same_form : (f g : Forest) → Extends f g → AreDistinct g.trees → (from clause d : List (Signed ℕ)) → IsClauseOf f clause → IsClauseOf g d
     → clause_at g d ≡ canonical_form (clause_at f from) → (d ≡ clause) ↔ (clause_at f clause ≡ canonical_form (clause_at f from))
 same_form f g grown once from clause d in_clause in_d at = (
-    (λ e. sym (clause_extends f g grown clause in_clause) ∙ ap (clause_at g) (sym e) ∙ at),
-    (λ e. same_ids g once d clause in_d (ids_grown f g grown clause in_clause) (at ∙ sym e ∙ sym (clause_extends f g grown clause in_clause))),
-  )
+  (λ e. sym (clause_extends f g grown clause in_clause) ∙ ap (clause_at g) (sym e) ∙ at),
+  (λ e. same_ids g once d clause in_d (ids_grown f g grown clause in_clause) (at ∙ sym e ∙ sym (clause_extends f g grown clause in_clause))),
+)
 
 number_map : (f : Forest) (cs : List (List (Signed ℕ))) (n : ℕ) → at_number (map (clause_at f) cs) n ≡ option_map (clause_at f) (at_number cs n)
 number_map f cs zero = refl

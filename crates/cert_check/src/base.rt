@@ -10,10 +10,11 @@ ghost use Rattle.saturation_cert.specs.Wholes.{IsWholeBase, KeepsBase};
 use crate::axioms::{interned, symbols};
 use crate::difference::difference;
 use crate::error::CheckError;
+use crate::origin::input_gives;
 use cert_format::Complaint;
 use equality_axioms::axioms_from;
 use inst_logic::Memory;
-use saturation_cert::Base;
+use saturation_cert::{Base, Origin};
 use std::alloc::Global;
 
 // The number of the first axiom that is not the one that the inputs have there.
@@ -39,10 +40,22 @@ fn is_right(alloc: Global, base: &mut Base, i: usize) -> Result<bool, Memory>
     ensures whole { OnOk result (IsWholeBase base.new) }
     ensures right { IfOk result (λ r. IsTrue r ↔ IsRightMember (base_of base.old) (i + 1)) }
 {
-    let _alloc = alloc;
-    let _base = base;
-    let _place = i;
-    Err(Memory)
+    let member = &base.members.as_slice()[i];
+    match member.origin {
+        Origin::Input(k) => {
+            let right = input_gives(
+                alloc,
+                &mut base.bank,
+                &base.inputs,
+                &base.axioms,
+                k,
+                &member.clause,
+            )?;
+            Ok(right)
+        }
+        // TODO: the instance of two members.
+        Origin::Inst { .. } => Err(Memory),
+    }
 }
 
 // The number of the first member that is not what its origin gives.

@@ -12,11 +12,7 @@ use std::alloc::Global;
 use term_bank::{Bank, IdClause, IdClauseList};
 
 // Clause `k` of the inputs and then the axioms, counted from 1.
-fn numbered<'a>(
-    inputs: &'a [IdClause],
-    axioms: &'a [IdClause],
-    k: usize,
-) -> Option<&'a IdClause>
+fn numbered<'a>(inputs: &'a [IdClause], axioms: &'a [IdClause], k: usize) -> Option<&'a IdClause>
     ensures { option_copied result ≡ at_number (inputs.now ++ axioms.now) k }
 {
     if k == 0 {
