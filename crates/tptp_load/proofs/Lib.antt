@@ -4,3 +4,4 @@ pub mod Firsts
 pub mod Parts
 pub mod Loads
 pub mod GivingMore
+pub mod OneLoading
