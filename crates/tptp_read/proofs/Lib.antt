@@ -13,6 +13,7 @@ pub mod Includes
 pub mod Fronts
 pub mod Passes
 pub mod Verdicts
+pub mod Clauses
 pub mod Reading
 pub mod NameSets
 pub mod AtomLaws

@@ -9,6 +9,8 @@ use Rattle.tptp_read.specs.declared.stop.Stop.TheVariants as stops
 use Rattle.tptp_read.specs.declared.statement.Statement.{Statement}
 use Rattle.tptp_read.specs.declared.text.ReadError.{ReadError}
 use Rattle.tptp_read.specs.declared.text.ReadError.TheVariants as errors
+use Rattle.tptp_read.specs.declared.value.Refused.{Refused}
+use Rattle.tptp_read.specs.declared.value.Refused.TheVariants as parts
 use Rattle.tptp_read.specs.Grammar.{Form}
 use Rattle.tptp_read.specs.Meaning.{Fault, syntax_fault, language, feature, role_fault, limit, judged}
 use Rattle.tptp_read.specs.ParseForm.{form_at}
@@ -25,6 +27,12 @@ verdict ts = judged_form (form_at ts)
 abbrev pub refusal_of : Stop → Refusal
 refusal_of stops.Memory = refusals.Memory
 refusal_of stops.Wrong = refusals.Syntax
+
+abbrev pub refusal_as : Refused → Refusal
+refusal_as (parts.Role w) = refusals.Role w
+refusal_as (parts.Feature w) = refusals.Feature w
+refusal_as (parts.Limit which) = refusals.Limit which
+refusal_as parts.Memory = refusals.Memory
 
 -- the refusal is of this fault, or memory ran out
 abbrev pub IsOf : (Fault → Type 0) → Refusal → Type 0
@@ -43,7 +51,7 @@ Tells (Err r) v = IsOf (λ e. v ≡ Err e) r
 -- what stands first in a text: a readable statement, an end, or an offence
 abbrev pub StepOf : List ℕ → Result (Option (Statement × ℕ)) Refusal → Type 0
 StepOf text (Ok None) = IsDone text
-StepOf text (Ok (Some z)) = IsRead text z.0 (drop z.1 text) × (z.1 ≤ length text) × IsFormedStatement z.0
+StepOf text (Ok (Some z)) = IsRead text z.0 (drop z.1 text) × (z.1 ≤ length text)
 StepOf text (Err r) = IsOf (λ e. ¬ IsDone text × IsOffence text e) r
 
 -- the refusal is no want of memory, and of this fault

@@ -7,7 +7,6 @@ ghost use Rattle.tptp_read.specs.ParseForm.{one_of, include_at, is_quoted, is_ta
 ghost use Rattle.tptp_read.specs.Grammar.{is_name};
 ghost use Rattle.tptp_read.specs.LexemeView.{tok, toks, Gives};
 ghost use Rattle.tptp_read.specs.Selected.{in_names, starts};
-ghost use Rattle.tptp_read.specs.Text.{IsFormedStatement};
 
 use crate::lexeme::Lexeme;
 use crate::notes::ends_at;
@@ -93,8 +92,7 @@ fn selection(
 
 // What stands behind the word `include`.
 pub(crate) fn include(alloc: Global, tokens: &[Lexeme]) -> Result<Statement, Stop>
-    ensures told { Gives (λ s. Ok s) result (option_map judged (include_at (toks (drop 1 tokens.now)))) }
-    ensures formed { IfOk result IsFormedStatement }
+    ensures { Gives (λ s. Ok s) result (option_map judged (include_at (toks (drop 1 tokens.now)))) }
 {
     if !has_file(tokens) {
         return Err(Stop::Wrong);

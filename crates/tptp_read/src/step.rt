@@ -27,8 +27,7 @@ fn begins_with(tokens: &[Lexeme], word: &[u8]) -> bool
 
 // The statement of these tokens.
 fn statement_of<'a>(alloc: Global, tokens: &[Lexeme<'a>]) -> Result<Statement, Refusal<'a>>
-    ensures told { Tells result (verdict (toks tokens.now)) }
-    ensures formed { IfOk result IsFormedStatement }
+    ensures { Tells result (verdict (toks tokens.now)) }
 {
     if begins_with(tokens, b"cnf") {
         return cnf(alloc, tokens);

@@ -7,6 +7,7 @@ ghost use Rattle.tptp_read.specs.Names.{HasReadableNames, tree_is_readable};
 ghost use Rattle.tptp_read.specs.Text.{Readable, IsCause, IsFormedStatement};
 ghost use Rattle.tptp_read.specs.Atoms.{ReadsAtom, IsAtomCause};
 
+use crate::laws::readable_is_good;
 use crate::refusal::numbered;
 use crate::statement::{StatementList, Which};
 use crate::step::step;
@@ -61,6 +62,7 @@ pub fn read_text(alloc: Global, text: &[u8]) -> Result<StatementList, ReadError>
     ensures names { IfOk result (All HasReadableNames) }
     ensures refused { IfErr result (IsCause text.now) }
 {
+    readable_is_good();
     let mut list = StatementList::new(alloc);
     let mut rest = text;
     loop {

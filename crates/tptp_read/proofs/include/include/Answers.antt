@@ -30,41 +30,41 @@ names_are ls lt t e =
     let at = toks_at ls 5 other lt in
     (t, b.0, ap (begins_with 91) (behind_toks 3 ls) ∙ d.0, ap behind (behind_toks 3 ls) ∙ behind_toks 4 ls ∙ at, ap (starts is_name) (sym at) ∙ d.1)
 
-pub returns-then-not-has_file-clause-told : goal.returns-then-not-has_file-clause-told
-returns-then-not-has_file-clause-told c = ap (option_map judged) (no_file (toks (drop 1 c.args.tokens.now)) (toks (drop 2 c.args.tokens.now)) (behind_toks 1 c.args.tokens.now) (sym c.has_file.ensures.is ∙ c.if-not-has_file.true))
+pub returns-then-not-has_file : goal.returns-then-not-has_file
+returns-then-not-has_file c = ap (option_map judged) (no_file (toks (drop 1 c.args.tokens.now)) (toks (drop 2 c.args.tokens.now)) (behind_toks 1 c.args.tokens.now) (sym c.has_file.ensures.is ∙ c.if-not-has_file.true))
 
-pub returns-then-ends_at-clause-told : goal.returns-then-ends_at-clause-told
-returns-then-ends_at-clause-told c =
+pub returns-then-ends_at : goal.returns-then-ends_at
+returns-then-ends_at c =
     let ls = c.args.tokens.now in
     let file = file_is ls (c.has_file.ensures.within c.if-not-has_file.false) (sym c.has_file.ensures.is ∙ c.if-not-has_file.false) in
     rw c.in_ok-file.ensures (ap (option_map judged) (whole_is (toks (drop 1 ls)) (tok (get_or ls 2 other)) (toks (drop 3 ls)) file (sym c.ends_at.ensures ∙ c.if-ends_at.true)))
 
-pub returns-then-not-has_names-clause-told : goal.returns-then-not-has_names-clause-told
-returns-then-not-has_names-clause-told c =
+pub returns-then-not-has_names : goal.returns-then-not-has_names
+returns-then-not-has_names c =
     let ls = c.args.tokens.now in
     let file = file_is ls (c.has_file.ensures.within c.if-not-has_file.false) (sym c.has_file.ensures.is ∙ c.if-not-has_file.false) in
     let four = behind_toks 3 ls in
     let none = ap (λ (us : List Tok). begins_with 44 (toks (drop 3 ls)) && (begins_with 91 us && starts is_name (toks (drop 5 ls)))) four ∙ sym c.has_names.ensures.is ∙ c.if-not-has_names.true in
     ap (option_map judged) (no_names (toks (drop 1 ls)) (tok (get_or ls 2 other)) (toks (drop 3 ls)) (toks (drop 5 ls)) file (sym c.ends_at.ensures ∙ c.if-ends_at.false) (ap behind four ∙ behind_toks 4 ls) none)
 
-pub returns-in_err-names-clause-told : goal.returns-in_err-names-clause-told
-returns-in_err-names-clause-told c =
+pub returns-in_err-names : goal.returns-in_err-names
+returns-in_err-names c =
     let ls = c.args.tokens.now in
     let file = file_is ls (c.has_file.ensures.within c.if-not-has_file.false) (sym c.has_file.ensures.is ∙ c.if-not-has_file.false) in
     let names = names_are ls (c.has_names.ensures.within c.if-not-has_names.false) (sym c.ends_at.ensures ∙ c.if-ends_at.false) (sym c.has_names.ensures.is ∙ c.if-not-has_names.false) in
     let p = err_from_is_err_and c.from_residual-in_err-names.result c.from_residual-in_err-names.ensures.1 in
     rw (p.1, p.2) (names_bad c.in_err-names.field-0.0 (toks (drop 1 ls)) (tok (get_or ls 2 other)) (toks (drop 3 ls)) (tok (get_or ls 5 other)) (toks (drop 6 ls)) file names c.in_err-names.ensures.is)
 
-pub returns-then-not-closes_at-clause-told : goal.returns-then-not-closes_at-clause-told
-returns-then-not-closes_at-clause-told c =
+pub returns-then-not-closes_at : goal.returns-then-not-closes_at
+returns-then-not-closes_at c =
     let ls = c.args.tokens.now in
     let file = file_is ls (c.has_file.ensures.within c.if-not-has_file.false) (sym c.has_file.ensures.is ∙ c.if-not-has_file.false) in
     let names = names_are ls (c.has_names.ensures.within c.if-not-has_names.false) (sym c.ends_at.ensures ∙ c.if-ends_at.false) (sym c.has_names.ensures.is ∙ c.if-not-has_names.false) in
     let shut = ap (λ (us : List Tok). begins_with 93 (toks (drop c.in_ok-names.after ls)) && is_tail us) (behind_toks c.in_ok-names.after ls) ∙ sym c.closes_at.ensures ∙ c.if-not-closes_at.true in
     ap (option_map judged) (not_shut (toks (drop 1 ls)) (tok (get_or ls 2 other)) (toks (drop 3 ls)) (tok (get_or ls 5 other)) (toks (drop 6 ls)) (toks (drop c.in_ok-names.after ls)) c.in_ok-names.names file names c.in_ok-names.ensures.is shut)
 
-pub returns-clause-told : goal.returns-clause-told
-returns-clause-told c =
+pub returns : goal.returns
+returns c =
     let ls = c.args.tokens.now in
     let file = file_is ls (c.has_file.ensures.within c.if-not-has_file.false) (sym c.has_file.ensures.is ∙ c.if-not-has_file.false) in
     let names = names_are ls (c.has_names.ensures.within c.if-not-has_names.false) (sym c.ends_at.ensures ∙ c.if-ends_at.false) (sym c.has_names.ensures.is ∙ c.if-not-has_names.false) in
