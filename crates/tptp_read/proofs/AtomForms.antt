@@ -1,15 +1,14 @@
 -- From what is read of a literal to an atom without variables.
-use Rattle.std.proofs.Common.{◌≡◌, ℕ, zero, suc, ◌+◌, ◌≤◌, Bool, true, false, cond, List, [], ◌∷◌, ◌++◌, length, drop, Option, Some, None, Result, Ok, Err, refl, sym, ap, subst, ◌∙◌, arith}
-use Rattle.std.specs.Prelude.{not, IsTrue, ◌||◌}
+use Rattle.std.proofs.Common.{◌≡◌, ℕ, ◌≤◌, Bool, true, false, cond, List, [], ◌∷◌, length, Option, Some, None, Result, Err, refl, sym, ap, subst, ◌∙◌, arith}
+use Rattle.std.specs.Prelude.{not, IsTrue}
 use Rattle.std.specs.List.{list_any}
 use Rattle.inst_logic.specs.Tree.{Tree}
 use Rattle.inst_logic.specs.declared.signed.Signed.{Signed}
 use Rattle.inst_logic.specs.declared.clause.Literal.{Literal}
-use Rattle.inst_logic.specs.LiteralView.{literal}
 use Rattle.tptp_tokens.specs.Stream.{Tok}
 use Rattle.tptp_read.specs.declared.stop.Stop.{Stop}
 use Rattle.tptp_read.specs.declared.stop.Stop.TheVariants as stops
-use Rattle.tptp_read.specs.Grammar.{Written, Negated, no_atom, no_equation, in_parens, Simple, atom, equation, unequal, negated, simple_text, simple_fits, simple}
+use Rattle.tptp_read.specs.Grammar.{Negated, no_atom, no_equation, in_parens, Simple, atom, equation, unequal, negated, simple_fits, simple}
 use Rattle.tptp_read.specs.Meaning.{from_negated, from_simple, literal_of, predicate_of, is_constant_atom, wrote_wide}
 use Rattle.tptp_read.specs.ParseClause.{simple_at}
 use Rattle.tptp_read.specs.LexemeView.{Fails}
@@ -18,7 +17,6 @@ use Rattle.tptp_read.specs.Gathered.{Gathered, gather, literal_wide}
 use Rattle.tptp_read.specs.Atoms.{is_plain_atom, has_variable, IsAtomForm}
 use Rattle.tptp_read.specs.AtomReading.{FormOf}
 use Rattle.tptp_read.proofs.ParseLaws.{some_is}
-use Rattle.tptp_read.proofs.ClauseLaws.{Follows}
 use Rattle.tptp_read.proofs.ItemLaws.{simple_again, simple_spelled, simple_depth}
 use Rattle.tptp_read.proofs.Lengths.{item_deep_len}
 use Rattle.tptp_read.proofs.GatherLaws.{seen_some, seen_fails}

@@ -1,15 +1,12 @@
 -- What the first tokens of a term say of it.
-use Rattle.std.proofs.Common.{◌≡◌, ℕ, zero, suc, ◌-◌, Bool, true, false, cond, List, [], ◌∷◌, length, Option, Some, None, refl, sym, ap, subst, ◌∙◌, inl, inr, arith}
-use Rattle.std.specs.Prelude.{◌&&◌, ◌⊎◌}
-use Rattle.std.specs.Str.{bytes_eq}
-use Rattle.std.proofs.lemmas.Slice.Eq.{bytes_eq-Decides}
+use Rattle.std.proofs.Common.{◌≡◌, ℕ, zero, suc, ◌-◌, Bool, true, false, cond, List, ◌∷◌, length, Option, Some, None, refl, sym, ap, subst, ◌∙◌, inl, inr, arith}
+use Rattle.std.specs.Prelude.{◌&&◌}
 use Rattle.tptp_tokens.specs.Stream.{Tok}
-use Rattle.tptp_read.specs.Lexemes.{is_head, is_plain, is_punctuation, is_mark_token}
-use Rattle.tptp_read.specs.Grammar.{Written, single, applied, term, terms, term_fits, terms_fit, is_atom}
-use Rattle.tptp_read.specs.Parse.{◌>>=◌, Reads, begins_with, behind, many_at, writtens, applied_at, term_with, term_at}
-use Rattle.tptp_read.specs.ParseClause.{is_unequal}
+use Rattle.tptp_read.specs.Lexemes.{is_head, is_plain}
+use Rattle.tptp_read.specs.Grammar.{Written, single, applied, term, term_fits, terms_fit, is_atom}
+use Rattle.tptp_read.specs.Parse.{◌>>=◌, Reads, begins_with, behind, many_at, writtens, applied_at, term_at}
 use Rattle.tptp_read.specs.Shapes.{truth_of}
-use Rattle.tptp_read.proofs.ParseLaws.{both_true, bind_some, chosen, done, some_is, term_spelled}
+use Rattle.tptp_read.proofs.ParseLaws.{both_true, bind_some, chosen, some_is, term_spelled}
 use Rattle.tptp_read.proofs.Reading.{term_deep, term_calls, term_single, term_nothing}
 
 head_is : (w : Written) (t : Tok) (ts rest : List Tok) → t ∷ ts ≡ term w rest → term_fits w ≡ true → is_head t.kind ≡ is_atom w

@@ -1,5 +1,5 @@
 -- From the literals of a disjunction to its body.
-use Rattle.std.proofs.Common.{◌≡◌, ℕ, ◌+◌, ◌-◌, ◌≤◌, Bool, true, false, cond, List, [], ◌∷◌, ◌++◌, length, take, drop, Option, Some, None, refl, sym, ap, subst, ◌∙◌, fold, append_assoc, length-drop, nat_lt, inl, inr, arith, codes}
+use Rattle.std.proofs.Common.{◌≡◌, ℕ, ◌+◌, ◌-◌, Bool, true, false, cond, List, [], ◌∷◌, ◌++◌, length, take, drop, Option, Some, None, refl, sym, ap, subst, ◌∙◌, fold, append_assoc, length-drop, nat_lt, arith, codes}
 use Rattle.std.specs.Prelude.{◌||◌, ◌&&◌, nat_le}
 use Rattle.std.specs.List.{list_any, flat_map}
 use Rattle.std.specs.Str.{bytes_eq}
@@ -15,10 +15,10 @@ use Rattle.tptp_read.specs.declared.stop.Stop.{Stop}
 use Rattle.tptp_read.specs.declared.stop.Stop.TheVariants as stops
 use Rattle.tptp_read.specs.Lexemes.{is_dollar_kind, is_variable_kind, is_feature}
 use Rattle.tptp_read.specs.Grammar.{Written, single, applied, Writtens, none, more, Item, Items, item, items, item_fits, items_fit, Note, cnf}
-use Rattle.tptp_read.specs.Meaning.{Wrote, predicate, equal, from_item, from_items, tree_of, trees_of, predicate_of, literal_of, count, is_always, is_truth, is_constant_atom, is_wide, are_wide, wrote_wide, tokens_of, used_tokens, first_feature, variable_names, judged}
-use Rattle.tptp_read.specs.Parse.{◌>>=◌, Reads, many_at}
+use Rattle.tptp_read.specs.Meaning.{Wrote, predicate, equal, from_item, from_items, tree_of, trees_of, predicate_of, literal_of, count, is_always, is_constant_atom, is_wide, are_wide, wrote_wide, tokens_of, used_tokens, first_feature, variable_names, judged}
+use Rattle.tptp_read.specs.Parse.{◌>>=◌, many_at}
 use Rattle.tptp_read.specs.ParseClause.{items_of, item_at}
-use Rattle.tptp_read.specs.LexemeView.{tok, toks, Fails}
+use Rattle.tptp_read.specs.LexemeView.{toks, Fails}
 use Rattle.tptp_read.specs.Shapes.{seen}
 use Rattle.tptp_read.specs.Plain.{plain, all_tokens}
 use Rattle.tptp_read.specs.Gathered.{Gathered, gather, nothing, or_else, tree_wide, trees_wide, literal_wide}

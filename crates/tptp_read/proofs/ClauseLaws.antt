@@ -1,16 +1,14 @@
 -- Literals: what is read is spelled so, and what is spelled so is read.
-use Rattle.std.proofs.Common.{◌≡◌, ℕ, zero, suc, ◌+◌, ◌≤◌, ◌<◌, max, Bool, true, false, cond, List, [], ◌∷◌, length, Option, Some, None, refl, sym, ap, subst, ◌∙◌, inl, inr, arith}
-use Rattle.std.specs.Prelude.{◌&&◌, ◌⊎◌}
-use Rattle.std.specs.Str.{bytes_eq}
-use Rattle.std.proofs.lemmas.Slice.Eq.{bytes_eq-Decides}
+use Rattle.std.proofs.Common.{◌≡◌, ℕ, zero, suc, ◌+◌, ◌≤◌, max, true, false, cond, List, ◌∷◌, Some, None, refl, ap, subst, ◌∙◌, inl, inr, arith}
+use Rattle.std.specs.Prelude.{◌&&◌}
 use Rattle.tptp_tokens.specs.declared.kind.TokenKind.{TokenKind}
 use Rattle.tptp_tokens.specs.declared.kind.TokenKind.TheVariants.{LowerWord, Variable, DollarWord, QuotedWord, DistinctObject, Integer, Rational, Real, Punctuation}
 use Rattle.tptp_tokens.specs.Stream.{Tok}
-use Rattle.tptp_read.specs.Lexemes.{mark, is_punctuation, is_mark_token, is_head, is_plain}
-use Rattle.tptp_read.specs.Grammar.{Written, single, applied, term, term_fits, terms_fit, is_atom, Negated, no_atom, no_equation, in_parens, negated_text, negated_fits, unequal_mark}
+use Rattle.tptp_read.specs.Lexemes.{mark, is_punctuation, is_head, is_plain}
+use Rattle.tptp_read.specs.Grammar.{Written, single, applied, term, term_fits, terms_fit, is_atom, Negated, no_atom, no_equation, in_parens, negated_text, negated_fits}
 use Rattle.tptp_read.specs.Parse.{◌>>=◌, Reads, begins_with, behind, term_at}
 use Rattle.tptp_read.specs.ParseClause.{is_unequal, negated_with, negated_at}
-use Rattle.tptp_read.proofs.ParseLaws.{depth, both_true, and_both, bind_some, chosen, done, some_is, begins_is, term_again, term_spelled}
+use Rattle.tptp_read.proofs.ParseLaws.{depth, both_true, and_both, bind_some, chosen, some_is, begins_is, term_again, term_spelled}
 
 pub plain_is_no_mark : (k : TokenKind) → is_plain k ≡ true → is_punctuation k ≡ false
 plain_is_no_mark Punctuation e = absurd cc

@@ -1,13 +1,10 @@
 -- Statements that are clauses are read token by token.
-use Rattle.std.proofs.Common.{◌≡◌, ℕ, Bool, true, false, cond, List, [], ◌∷◌, length, Option, Some, None, Result, Ok, Err, refl, sym, ap, subst, ◌∙◌, inl, inr}
+use Rattle.std.proofs.Common.{◌≡◌, ℕ, Bool, true, false, cond, List, [], ◌∷◌, length, Option, Some, None, Result, Err, refl, ap, ◌∙◌, inl, inr}
 use Rattle.std.specs.Prelude.{◌&&◌, ◌⊎◌}
-use Rattle.std.specs.Option.{option_map}
 use Rattle.tptp_tokens.specs.Stream.{Tok}
 use Rattle.tptp_read.specs.declared.statement.Statement.{Statement}
 use Rattle.tptp_read.specs.declared.stop.Stop.{Stop}
 use Rattle.tptp_read.specs.declared.stop.Stop.TheVariants as stops
-use Rattle.tptp_read.specs.declared.refusal.Refusal.{Refusal}
-use Rattle.tptp_read.specs.declared.refusal.Refusal.TheVariants as refusals
 use Rattle.tptp_read.specs.declared.value.Refused.{Refused}
 use Rattle.tptp_read.specs.declared.value.Refused.TheVariants as parts
 use Rattle.tptp_read.specs.Grammar.{Item, Note, Form, cnf, is_name}

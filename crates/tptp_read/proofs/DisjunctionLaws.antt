@@ -1,18 +1,17 @@
 -- The steps of reading disjunctions, as the code takes them.
-use Rattle.std.proofs.Common.{◌≡◌, ℕ, zero, suc, ◌+◌, ◌-◌, ◌≤◌, ◌<◌, Bool, true, false, cond, List, [], ◌∷◌, ◌++◌, length, drop, take, map, Option, Some, None, refl, sym, ap, subst, ◌∙◌, fold, arith}
+use Rattle.std.proofs.Common.{◌≡◌, ℕ, zero, suc, ◌-◌, ◌≤◌, true, false, cond, List, [], ◌∷◌, ◌++◌, length, Option, Some, None, refl, sym, ap, ◌∙◌, fold, arith}
 use Rattle.tptp_tokens.specs.Stream.{Tok}
-use Rattle.tptp_read.specs.declared.lexeme.Lexeme.{Lexeme}
 use Rattle.tptp_read.specs.declared.stop.Stop.{Stop}
 use Rattle.tptp_read.specs.declared.stop.Stop.TheVariants as stops
-use Rattle.tptp_read.specs.Grammar.{Simple, Item, simple, nested, Items, last, or, item, items}
-use Rattle.tptp_read.specs.Meaning.{Wrote, from_simple, from_item, from_items}
+use Rattle.tptp_read.specs.Grammar.{Simple, Item, simple, nested, last, or}
+use Rattle.tptp_read.specs.Meaning.{from_simple, from_item, from_items}
 use Rattle.tptp_read.specs.Parse.{◌>>=◌, Reads, begins_with, behind, many_at}
 use Rattle.tptp_read.specs.ParseClause.{simple_at, items_of, item_with, item_at}
-use Rattle.tptp_read.specs.LexemeView.{tok, toks, Fails}
+use Rattle.tptp_read.specs.LexemeView.{Fails}
 use Rattle.tptp_read.specs.Shapes.{seen}
 use Rattle.tptp_read.specs.Gathered.{Gathered, gather}
 use Rattle.tptp_read.proofs.ItemLaws.{item_spelled, items_len}
-use Rattle.tptp_read.proofs.GatherLaws.{seen_some, seen_fails, fails_seen}
+use Rattle.tptp_read.proofs.GatherLaws.{seen_some, seen_fails}
 
 -- ---- one after another
 

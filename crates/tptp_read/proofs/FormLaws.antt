@@ -1,6 +1,6 @@
 -- Whole statements: what is read is spelled so, and what is spelled so is read.
-use Rattle.std.proofs.Common.{◌≡◌, ℕ, zero, suc, ◌+◌, ◌≤◌, ◌<◌, max, Bool, true, false, cond, List, [], ◌∷◌, length, Option, Some, None, refl, sym, ap, subst, ◌∙◌, inl, inr, arith}
-use Rattle.std.specs.Prelude.{◌&&◌, ◌⊎◌, codes}
+use Rattle.std.proofs.Common.{◌≡◌, ℕ, suc, ◌≤◌, Bool, true, false, cond, List, [], ◌∷◌, length, Some, None, refl, sym, ap, subst, ◌∙◌, inl, inr, arith}
+use Rattle.std.specs.Prelude.{◌&&◌, codes}
 use Rattle.std.specs.List.{list_all}
 use Rattle.std.specs.Str.{bytes_eq}
 use Rattle.std.proofs.lemmas.Slice.Eq.{bytes_eq-Decides}
@@ -8,17 +8,17 @@ use Rattle.tptp_tokens.specs.declared.kind.TokenKind.{TokenKind}
 use Rattle.tptp_tokens.specs.declared.kind.TokenKind.TheVariants.{LowerWord, Variable, DollarWord, QuotedWord, DistinctObject, Integer, Rational, Real, Punctuation}
 use Rattle.tptp_tokens.specs.Stream.{Tok}
 use Rattle.tptp_read.specs.Lexemes.{mark, lower, is_lower_kind}
-use Rattle.tptp_read.specs.Grammar.{Written, single, applied, Writtens, none, more, term, terms, Negated, no_atom, no_equation, in_parens, negated_text, Simple, atom, equation, unequal, negated, simple_text, unequal_mark, Item, simple, nested, Items, last, or, item, items, item_fits, items_fit, General, Generals, general, generals, general_fits, generals_fit, Note, unnoted, source, with_empty, with_list, note, note_fits, Form, cnf, whole, selected, is_name, names, form, form_fits, IsForm}
-use Rattle.tptp_read.specs.Parse.{◌>>=◌, Reads, begins_with, behind, many_at}
+use Rattle.tptp_read.specs.Grammar.{Item, Items, item, items, item_fits, items_fit, general, generals, general_fits, generals_fit, Note, unnoted, source, with_empty, with_list, note, note_fits, Form, cnf, whole, selected, is_name, names, form, form_fits, IsForm}
+use Rattle.tptp_read.specs.Parse.{◌>>=◌, begins_with, behind, many_at}
 use Rattle.tptp_read.specs.ParseClause.{items_of, item_at}
 use Rattle.tptp_read.specs.ParseGeneral.{listing_with, general_at}
 use Rattle.tptp_read.specs.ParseForm.{one_of, expect, is_nothing, is_tail, is_lower, is_quoted, note_at, cnf_at, include_at, form_at}
-use Rattle.tptp_read.proofs.ParseLaws.{both_true, and_both, bind_some, chosen, some_is, begins_is, depth, depths}
-use Rattle.tptp_read.proofs.ClauseLaws.{Follows, negated_depth}
+use Rattle.tptp_read.proofs.ParseLaws.{both_true, and_both, bind_some, chosen, some_is, begins_is}
+use Rattle.tptp_read.proofs.ClauseLaws.{Follows}
 use Rattle.tptp_read.proofs.ManyLaws.{spell_all, all_fit, spelled_many, AllAgain, many_again}
 use Rattle.tptp_read.proofs.Lengths.{item_deep_len, items_deep_len}
-use Rattle.tptp_read.proofs.ItemLaws.{simple_depth, item_depth, items_depth, listed_items, items_len, items_listed, items_spelled, all_items_spelled, all_items_fit, item_spelled, item_again, items_again, after_or, follows_items}
-use Rattle.tptp_read.proofs.GeneralLaws.{general_depth, generals_depth, Goes, general_len, generals_len, generals_many, no_close, listing_spelled, general_spelled, listing_at, general_again, generals_again}
+use Rattle.tptp_read.proofs.ItemLaws.{item_depth, items_depth, listed_items, items_len, items_listed, items_spelled, all_items_spelled, all_items_fit, item_spelled, item_again, items_again, after_or, follows_items}
+use Rattle.tptp_read.proofs.GeneralLaws.{Goes, general_len, generals_len, no_close, listing_spelled, general_spelled, listing_at, general_again, generals_again}
 
 pub expect_is : (b : ℕ) (ts us : List Tok) → expect b ts ≡ Some us → ts ≡ mark b ∷ us
 unfolding expect

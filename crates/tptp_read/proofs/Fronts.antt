@@ -1,12 +1,11 @@
 -- The tokens up to the first full stop, one after the other.
-use Rattle.std.proofs.Common.{◌≡◌, ℕ, zero, suc, ◌+◌, ◌-◌, ◌≤◌, ◌<◌, max, Bool, true, false, cond, List, [], ◌∷◌, ◌++◌, length, take, drop, Option, Some, None, refl, sym, ap, subst, ◌∙◌, arith}
+use Rattle.std.proofs.Common.{◌≡◌, ℕ, ◌+◌, ◌-◌, max, Bool, true, false, cond, List, [], ◌∷◌, ◌++◌, Some, None, refl, sym, ap, subst, ◌∙◌, arith}
 use Rattle.std.specs.Prelude.{not, ◌&&◌, IsTrue}
-use Rattle.std.proofs.Math.ListN.{drop_of_length-le}
 use Rattle.tptp_tokens.specs.Stream.{Tok, IsNext, IsEnd, IsDone}
 use Rattle.tptp_read.specs.Lexemes.{Begins, mark, lower, is_mark_token, is_lower_kind}
-use Rattle.tptp_read.specs.Rules.{is_language, IsOtherLanguage, IsNoOtherLanguage, stops_last, IsFront, HasNoFront, opens, closes, nesting_from, nesting}
+use Rattle.tptp_read.specs.Rules.{is_language, IsOtherLanguage, IsNoOtherLanguage, stops_last, IsFront, HasNoFront, opens, closes, nesting_from}
 use Rattle.tptp_read.specs.Fronts.{are_other, other_word}
-use Rattle.tptp_read.proofs.ParseLaws.{both_true, and_both, some_is, mark_is}
+use Rattle.tptp_read.proofs.ParseLaws.{both_true, some_is, mark_is}
 use Rattle.tptp_read.proofs.Law.{word_is}
 use Rattle.tptp_read.proofs.Nexts.{next, next_is, end_none, done_none, end_done}
 

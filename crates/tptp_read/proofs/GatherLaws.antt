@@ -1,25 +1,23 @@
 -- One literal after another.
-use Rattle.std.proofs.Common.{◌≡◌, ℕ, ◌+◌, ◌-◌, ◌≤◌, take, drop, drop-drop, take-append-drop, zero, suc, Bool, true, false, cond, List, [], ◌∷◌, ◌++◌, length, Option, Some, None, Result, Ok, Err, refl, sym, ap, subst, ◌∙◌, arith, codes}
-use Rattle.std.specs.Prelude.{◌&&◌, ◌||◌, not}
+use Rattle.std.proofs.Common.{◌≡◌, ℕ, ◌+◌, ◌-◌, ◌≤◌, take, drop, drop-drop, take-append-drop, Bool, true, false, List, [], ◌∷◌, ◌++◌, Option, Some, None, Result, Err, refl, sym, ap, subst, ◌∙◌, arith, codes}
+use Rattle.std.specs.Prelude.{◌||◌}
 use Rattle.std.specs.Str.{bytes_eq}
 use Rattle.std.proofs.lemmas.Slice.Eq.{bytes_eq-Decides}
 use Rattle.std.proofs.lemmas.List.{append-nil, map-append}
-use Rattle.inst_logic.specs.Tree.{Tree, app}
-use Rattle.inst_logic.specs.declared.signed.Signed.{Signed}
 use Rattle.tptp_tokens.specs.declared.kind.TokenKind.{TokenKind}
 use Rattle.tptp_tokens.specs.declared.kind.TokenKind.TheVariants.{LowerWord, Variable, DollarWord, QuotedWord, DistinctObject, Integer, Rational, Real, Punctuation}
 use Rattle.tptp_tokens.specs.Stream.{Tok}
 use Rattle.tptp_read.specs.declared.stop.Stop.{Stop}
 use Rattle.tptp_read.specs.declared.stop.Stop.TheVariants as stops
 use Rattle.tptp_read.specs.Lexemes.{is_head, is_variable_kind, is_dollar_kind}
-use Rattle.tptp_read.specs.Grammar.{Written, single, applied, term_fits, is_atom, Simple, simple_text, simple_fits}
-use Rattle.tptp_read.specs.Meaning.{Wrote, predicate, equal, from_simple, tree_of, predicate_of, literal_of, is_always, is_truth, is_constant_atom, first_feature, tokens_of, used_tokens}
+use Rattle.tptp_read.specs.Grammar.{Written, single, applied, term_fits, is_atom, Simple}
+use Rattle.tptp_read.specs.Meaning.{Wrote, predicate, equal, from_simple, tree_of, predicate_of, literal_of, is_truth, first_feature, tokens_of}
 use Rattle.tptp_read.specs.ParseClause.{simple_at}
 use Rattle.tptp_read.specs.declared.lexeme.Lexeme.{Lexeme}
 use Rattle.tptp_read.specs.LexemeView.{tok, toks, Fails, Gives}
-use Rattle.tptp_read.specs.Shapes.{seen, truth_of, Shape, shape_of}
+use Rattle.tptp_read.specs.Shapes.{seen, Shape, shape_of}
 use Rattle.tptp_read.specs.Plain.{all_tokens, wrote_fits}
-use Rattle.tptp_read.specs.Gathered.{Gathered, gather, put, or_else, atom_literals, is_so}
+use Rattle.tptp_read.specs.Gathered.{Gathered, gather, put, or_else, atom_literals}
 use Rattle.tptp_read.proofs.ParseLaws.{both_true}
 use Rattle.tptp_read.proofs.ItemLaws.{simple_spelled}
 use Rattle.tptp_read.proofs.PlainTokens.{simple_wrote, literal_feature}

@@ -1,16 +1,16 @@
 -- Literals and disjunctions: what is read is spelled so, and what is spelled so is read.
-use Rattle.std.proofs.Common.{◌≡◌, ℕ, zero, suc, ◌+◌, ◌≤◌, ◌<◌, max, Bool, true, false, cond, List, [], ◌∷◌, length, Option, Some, None, refl, sym, ap, subst, ◌∙◌, inl, inr, arith}
-use Rattle.std.specs.Prelude.{◌&&◌, ◌⊎◌}
+use Rattle.std.proofs.Common.{◌≡◌, ℕ, zero, suc, ◌+◌, ◌≤◌, max, true, false, cond, List, [], ◌∷◌, length, Some, None, refl, sym, ap, subst, ◌∙◌, inl, inr, arith}
+use Rattle.std.specs.Prelude.{◌&&◌}
 use Rattle.std.specs.Str.{bytes_eq}
 use Rattle.std.proofs.lemmas.Slice.Eq.{bytes_eq-Decides}
 use Rattle.tptp_tokens.specs.Stream.{Tok}
 use Rattle.tptp_read.specs.Lexemes.{mark, is_punctuation}
-use Rattle.tptp_read.specs.Grammar.{Written, term, term_fits, is_atom, Negated, no_atom, no_equation, in_parens, negated_text, negated_fits, Simple, atom, equation, unequal, negated, simple_text, simple_fits, unequal_mark, Item, simple, nested, Items, last, or, item, items, item_fits, items_fit}
+use Rattle.tptp_read.specs.Grammar.{term, term_fits, is_atom, Negated, no_atom, no_equation, in_parens, negated_text, Simple, atom, equation, unequal, negated, simple_text, simple_fits, unequal_mark, Item, simple, nested, Items, last, or, item, items, item_fits, items_fit}
 use Rattle.tptp_read.specs.Parse.{◌>>=◌, Reads, begins_with, behind, many_at, term_at}
 use Rattle.tptp_read.specs.ParseClause.{is_unequal, negated_at, simple_at, items_of, item_with, item_at}
-use Rattle.tptp_read.proofs.ParseLaws.{depth, both_true, and_both, bind_some, chosen, done, some_is, begins_is, punctuation_is, term_again, term_spelled, term_len}
-use Rattle.tptp_read.proofs.ClauseLaws.{no_mark, Follows, negated_depth, negated_again, IsNegatedAnd, negated_spelled}
-use Rattle.tptp_read.proofs.ManyLaws.{spell_all, all_fit, spelled_many, AllAgain, follows_all, many_again}
+use Rattle.tptp_read.proofs.ParseLaws.{depth, both_true, and_both, bind_some, chosen, some_is, begins_is, punctuation_is, term_again, term_spelled, term_len}
+use Rattle.tptp_read.proofs.ClauseLaws.{no_mark, Follows, negated_depth, negated_again, negated_spelled}
+use Rattle.tptp_read.proofs.ManyLaws.{spell_all, all_fit, spelled_many, AllAgain, many_again}
 
 unequal_is : (ts : List Tok) → is_unequal ts ≡ true → ts ≡ unequal_mark ∷ behind ts
 unequal_is [] e = absurd cc

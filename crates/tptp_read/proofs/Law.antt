@@ -1,8 +1,7 @@
 -- Each text is readable or offends, and never both, nor in two ways.
-use Rattle.std.proofs.Common.{◌≡◌, ℕ, zero, suc, ◌+◌, ◌≤◌, ◌<◌, Bool, true, false, cond, List, [], ◌∷◌, length, drop, Option, Some, None, Result, Ok, Err, refl, sym, ap, subst, ◌∙◌, inl, inr, arith}
+use Rattle.std.proofs.Common.{◌≡◌, ℕ, zero, suc, ◌+◌, ◌≤◌, ◌<◌, Bool, true, false, cond, List, [], ◌∷◌, length, Option, Some, None, Result, Ok, Err, refl, sym, ap, subst, ◌∙◌, inl, inr, arith}
 use Rattle.std.specs.Prelude.{◌&&◌, ◌⊎◌, not, IsTrue, nat_le}
 use Rattle.std.specs.Option.{option_map_or}
-use Rattle.std.specs.Str.{bytes_eq}
 use Rattle.std.proofs.lemmas.Bool.{le-leb}
 use Rattle.std.proofs.lemmas.Bool.Decides.{leb_tells}
 use Rattle.std.proofs.Math.Dec.{leb}
@@ -17,8 +16,8 @@ use Rattle.tptp_read.specs.Meaning.{Fault, syntax_fault, language, limit, judged
 use Rattle.tptp_read.specs.Parse.{◌>>=◌}
 use Rattle.tptp_read.specs.ParseForm.{form_at}
 use Rattle.tptp_read.specs.Rules.{is_language, IsOtherLanguage, IsNoOtherLanguage, stops_last, IsFront, HasNoFront, nesting, IsRead, IsOffence, other_language, no_front, too_deep, no_form, refused}
-use Rattle.tptp_read.specs.Text.{Readable, Offends, Outcome, readable, offends, Has, IsDecided}
-use Rattle.tptp_read.proofs.ParseLaws.{chosen, some_is, bind_some, both_true, and_both, mark_is}
+use Rattle.tptp_read.specs.Text.{Outcome, readable, offends, Has, IsDecided}
+use Rattle.tptp_read.proofs.ParseLaws.{chosen, some_is, bind_some, both_true, mark_is}
 use Rattle.tptp_read.proofs.FormLaws.{form_spelled, form_read}
 use Rattle.tptp_read.proofs.Nexts.{next, next_is, is_next, next_shorter, done_none, done_or}
 

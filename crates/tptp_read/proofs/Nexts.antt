@@ -1,8 +1,6 @@
 -- The first token of a text, as a function.
-use Rattle.std.proofs.Common.{◌≡◌, ℕ, ◌≤◌, ◌<◌, List, [], ◌∷◌, length, drop, Option, Some, None, MatchOption, refl, sym, ap, subst, ◌∙◌, inl, inr, arith}
+use Rattle.std.proofs.Common.{◌≡◌, ℕ, ◌<◌, List, [], ◌∷◌, length, Option, Some, None, MatchOption, refl, sym, subst, ◌∙◌, inl, inr}
 use Rattle.std.specs.Prelude.{◌⊎◌}
-use Rattle.tptp_tokens.specs.Gap.{gap}
-use Rattle.tptp_tokens.specs.Table.{IsToken}
 use Rattle.tptp_tokens.specs.Stream.{Tok, IsNext, IsEnd, IsDone, HasNoToken}
 use Rattle.tptp_tokens.proofs.Longest.{longest_found}
 use Rattle.tptp_tokens.proofs.Skipping.{done_ends}

@@ -1,7 +1,7 @@
 -- Tokens behind a place.
-use Rattle.std.proofs.Common.{◌≡◌, ℕ, zero, suc, ◌+◌, ◌≤◌, ◌<◌, Bool, true, false, sym, ap, ◌∙◌, inl, inr, ◌⊎◌, List, [], ◌∷◌, length, drop, refl, arith, drop-cons, add-one, get_or, length-drop, eq-eqb}
+use Rattle.std.proofs.Common.{◌≡◌, ℕ, zero, suc, ◌+◌, ◌≤◌, ◌<◌, true, false, sym, ap, ◌∙◌, inl, inr, ◌⊎◌, List, [], ◌∷◌, length, drop, refl, arith, drop-cons, add-one, get_or, length-drop, eq-eqb}
 use Rattle.std.proofs.Math.ListN.{drop_of_length-le}
-use Rattle.std.specs.Prelude.{map, nat_eq, ◌&&◌}
+use Rattle.std.specs.Prelude.{map, nat_eq}
 use Rattle.std.proofs.lemmas.List.{length-map}
 use Rattle.std.proofs.lemmas.Bool.{ne_eqb}
 use Rattle.tptp_tokens.specs.declared.kind.TokenKind.TheVariants.{LowerWord}

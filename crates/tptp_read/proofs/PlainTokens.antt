@@ -1,14 +1,12 @@
 -- The tokens of what is read, without its marks.
-use Rattle.std.proofs.Common.{◌≡◌, ℕ, zero, suc, ◌+◌, ◌-◌, ◌≤◌, Bool, true, false, cond, List, [], ◌∷◌, ◌++◌, length, take, drop, map, Option, Some, None, refl, sym, ap, subst, ◌∙◌, append_assoc, arith}
+use Rattle.std.proofs.Common.{◌≡◌, ℕ, Bool, true, false, cond, List, [], ◌∷◌, ◌++◌, Option, Some, refl, sym, ap, ◌∙◌, append_assoc}
 use Rattle.std.specs.Prelude.{◌&&◌}
 use Rattle.std.specs.List.{flat_map}
 use Rattle.std.proofs.lemmas.List.{append-nil, append_cancel_right}
-use Rattle.tptp_tokens.specs.declared.kind.TokenKind.{TokenKind}
-use Rattle.tptp_tokens.specs.declared.kind.TokenKind.TheVariants.{LowerWord, Variable, DollarWord, QuotedWord, DistinctObject, Integer, Rational, Real, Punctuation}
 use Rattle.tptp_tokens.specs.Stream.{Tok}
-use Rattle.tptp_read.specs.Lexemes.{mark, is_head, is_plain, is_punctuation, is_feature, is_variable_kind}
+use Rattle.tptp_read.specs.Lexemes.{mark, is_head, is_punctuation, is_feature, is_variable_kind}
 use Rattle.tptp_read.specs.Grammar.{Written, single, applied, Writtens, none, more, term, terms, term_fits, terms_fit, is_atom, Negated, no_atom, no_equation, in_parens, negated_text, negated_fits, unequal_mark, Simple, atom, equation, unequal, negated, simple_text, simple_fits, Item, simple, nested, Items, last, or, item, items, item_fits, items_fit}
-use Rattle.tptp_read.specs.Meaning.{Wrote, predicate, equal, from_negated, from_simple, from_item, from_items, tokens_of, tokens_of_all, first_feature, variable_names}
+use Rattle.tptp_read.specs.Meaning.{Wrote, from_negated, from_simple, from_item, from_items, tokens_of, tokens_of_all, first_feature, variable_names}
 use Rattle.tptp_read.specs.Plain.{plain, all_tokens, wrote_fits}
 use Rattle.tptp_read.proofs.ParseLaws.{both_true, punctuation_is}
 use Rattle.tptp_read.proofs.ClauseLaws.{plain_is_no_mark, head_is_no_mark}

@@ -10,8 +10,7 @@ use Rattle.std.proofs.lemmas.List.Folds.{list_all-append}
 use Rattle.inst_logic.specs.declared.signed.Signed.{Signed}
 use Rattle.inst_logic.specs.Lists.{distinct}
 use Rattle.inst_logic.specs.Tree.{Tree}
-use Rattle.inst_logic.specs.Printing.{is_readable_name}
-use Rattle.inst_logic.specs.WellFormed.{IsAtom, atom_is_formed, clause_is_formed}
+use Rattle.inst_logic.specs.WellFormed.{IsAtom, atom_is_formed}
 use Rattle.tptp_tokens.specs.declared.kind.TokenKind.{TokenKind}
 use Rattle.tptp_tokens.specs.declared.kind.TokenKind.TheVariants.{LowerWord, Variable, DollarWord, QuotedWord, DistinctObject, Integer, Rational, Real, Punctuation}
 use Rattle.tptp_tokens.specs.Stream.{Tok}
@@ -20,10 +19,10 @@ use Rattle.tptp_read.specs.declared.statement.Statement.{Statement}
 use Rattle.tptp_read.specs.declared.statement.Statement.TheVariants.{Cnf, Include}
 use Rattle.tptp_read.specs.declared.statement.Which.TheVariants.{Arity, Variables}
 use Rattle.tptp_read.specs.Lexemes.{mark, lower, is_punctuation, is_quoted_kind, is_lower_kind, is_name_kind}
-use Rattle.tptp_read.specs.Grammar.{Simple, simple_text, simple_fits, Item, simple, nested, Items, last, or, item, items, item_fits, items_fit, Note, note, note_fits, Form, cnf, whole, selected, form, names, is_name, form_fits, IsForm}
+use Rattle.tptp_read.specs.Grammar.{Item, simple, nested, Items, last, or, item, items, item_fits, items_fit, note, note_fits, Form, cnf, whole, selected, form, names, is_name, form_fits}
 use Rattle.tptp_read.specs.Meaning.{Fault, feature, limit, role_fault, Wrote, from_simple, from_item, from_items, used_tokens, first_feature, variable_names, wrote_wide, literal_of, is_always, name_of, role_of, read_cnf, judged}
 use Rattle.tptp_read.specs.Plain.{plain, all_tokens, wrote_fits}
-use Rattle.tptp_read.specs.Names.{HasReadableNames, tree_is_readable, clause_is_readable}
+use Rattle.tptp_read.specs.Names.{HasReadableNames, tree_is_readable}
 use Rattle.tptp_read.specs.Text.{Readable, IsFormedStatement}
 use Rattle.tptp_read.specs.Atoms.{ReadsAtom}
 use Rattle.tptp_read.proofs.ParseLaws.{both_true, and_both}

@@ -3,7 +3,6 @@ use Rattle.std.proofs.Common.{◌≡◌, ℕ, zero, suc, ◌+◌, ◌-◌, ◌�
 use Rattle.std.proofs.Math.ListN.{drop_of_length-le}
 use Rattle.std.proofs.lemmas.List.{append-nil}
 use Rattle.std.specs.Prelude.{map, ◌&&◌}
-use Rattle.std.specs.Option.{option_map}
 use Rattle.inst_logic.specs.Tree.{Tree, app, of_list}
 use Rattle.inst_logic.specs.Tree as logic
 use Rattle.inst_logic.specs.declared.symbol.Kind.TheVariants.{Function}
@@ -12,12 +11,12 @@ use Rattle.tptp_read.specs.declared.stop.Stop.{Stop}
 use Rattle.tptp_read.specs.declared.stop.Stop.TheVariants as stops
 use Rattle.tptp_tokens.specs.declared.kind.TokenKind.TheVariants.{LowerWord}
 use Rattle.tptp_tokens.specs.Stream.{Tok}
-use Rattle.tptp_read.specs.Lexemes.{mark, is_head, is_plain}
-use Rattle.tptp_read.specs.Grammar.{Written, single, applied, term, terms}
+use Rattle.tptp_read.specs.Lexemes.{is_head, is_plain}
+use Rattle.tptp_read.specs.Grammar.{Written, single, applied}
 use Rattle.tptp_read.specs.Meaning.{tree_of, trees_of, count, name_of}
-use Rattle.tptp_read.specs.Parse.{◌>>=◌, Reads, begins_with, behind, many_at, writtens, applied_at, term_with, term_at}
+use Rattle.tptp_read.specs.Parse.{◌>>=◌, begins_with, behind, many_at, writtens, applied_at, term_with, term_at}
 use Rattle.tptp_read.specs.LexemeView.{tok, toks, in_trees, in_lists, Fails}
-use Rattle.tptp_read.proofs.ParseLaws.{IsExact, term_spelled, at_depth, at_zero, term_len, begins_is}
+use Rattle.tptp_read.proofs.ParseLaws.{term_spelled, term_len}
 
 -- a token, where a place has none
 abbrev pub other : Lexeme

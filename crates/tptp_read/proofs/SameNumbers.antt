@@ -1,7 +1,7 @@
 -- A variable has its number also where more names follow.
 use Rattle.std.proofs.Common.{◌≡◌, ℕ, ◌+◌, Bool, true, false, cond, List, [], ◌∷◌, ◌++◌, refl, sym, ap, subst, ◌∙◌, fold}
 use Rattle.std.specs.Prelude.{◌||◌, not, filter}
-use Rattle.std.specs.List.{list_any, flat_map, position_or_len, prefix_len}
+use Rattle.std.specs.List.{list_any, flat_map, position_or_len}
 use Rattle.std.specs.Str.{bytes_eq}
 use Rattle.std.specs.Cmp.Lexicographic.{bytes_decides}
 use Rattle.inst_logic.specs.declared.symbol.Kind.TheVariants.{Predicate, Equality, Function}

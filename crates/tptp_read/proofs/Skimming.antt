@@ -1,7 +1,6 @@
 -- Annotations are read token by token.
-use Rattle.std.proofs.Common.{◌≡◌, ℕ, zero, suc, ◌+◌, ◌≤◌, ◌<◌, Bool, true, false, cond, List, [], ◌∷◌, length, Option, Some, None, refl, sym, ap, subst, ◌∙◌, arith}
+use Rattle.std.proofs.Common.{◌≡◌, ℕ, zero, suc, ◌+◌, ◌≤◌, ◌<◌, Bool, true, false, cond, List, [], ◌∷◌, length, Option, Some, None, refl, sym, ap, ◌∙◌, arith}
 use Rattle.std.specs.Prelude.{◌&&◌}
-use Rattle.std.specs.Option.{option_map}
 use Rattle.tptp_tokens.specs.Stream.{Tok}
 use Rattle.tptp_read.specs.Lexemes.{is_head, is_plain}
 use Rattle.tptp_read.specs.Grammar.{General, thing, pair, empty, filled, Thing, token, call, Generals}
@@ -9,11 +8,11 @@ use Rattle.tptp_read.specs.Parse.{◌>>=◌, Reads, begins_with, behind, many_at
 use Rattle.tptp_read.specs.ParseGeneral.{generals_of, listing_with, thing_with, general_with, general_at}
 use Rattle.tptp_read.specs.ParseForm.{expect, note_at}
 use Rattle.tptp_read.specs.Skim.{rest_of, after_general, after_thing, after_listing, after_others, after_bracket, after_note}
-use Rattle.tptp_read.specs.Grammar.{general, thing_text, generals, ended, also}
+use Rattle.tptp_read.specs.Grammar.{general, thing_text, generals}
 use Rattle.tptp_read.specs.Lexemes.{mark}
 use Rattle.tptp_read.specs.Grammar.{Note, unnoted, source, with_empty, with_list}
 use Rattle.tptp_read.proofs.FormLaws.{expect_is}
-use Rattle.tptp_read.proofs.GeneralLaws.{general_len, generals_len, IsGeneralReader, general_spelled, thing_spelled, listing_spelled}
+use Rattle.tptp_read.proofs.GeneralLaws.{general_len, generals_len, IsGeneralReader, general_spelled, thing_spelled}
 
 -- a general term takes a token
 mutual

@@ -1,6 +1,6 @@
 -- What is spelled as a name's token has a name that can be printed and read again.
-use Rattle.std.proofs.Common.{◌≡◌, ℕ, ◌+◌, ◌<◌, Bool, true, false, cond, List, [], ◌∷◌, ◌++◌, length, take, drop, refl, sym, ap, subst, ◌∙◌, arith, length-append}
-use Rattle.std.specs.Prelude.{not, ◌&&◌, ◌||◌, ◌==◌, IsTrue}
+use Rattle.std.proofs.Common.{◌≡◌, ℕ, ◌<◌, Bool, true, false, cond, List, [], ◌∷◌, ◌++◌, length, take, drop, refl, sym, ap, subst, ◌∙◌, arith, length-append}
+use Rattle.std.specs.Prelude.{not, ◌&&◌, ◌||◌, ◌==◌}
 use Rattle.std.specs.List.{list_all}
 use Rattle.std.specs.Char.{is_ascii_digit, is_ascii_lowercase}
 use Rattle.std.proofs.lemmas.Bool.Decides.{nat_tests}
@@ -9,7 +9,7 @@ use Rattle.std.proofs.Math.Seq.{take-append_seam}
 use Rattle.inst_logic.specs.Printing.{is_between, is_readable_name}
 use Rattle.tptp_tokens.specs.declared.kind.TokenKind.{TokenKind}
 use Rattle.tptp_tokens.specs.Bytes.{is_word_byte, is_sign, is_printed}
-use Rattle.tptp_tokens.specs.Table.{are_items, AreDigits, IsBetween, IsOptionalSign, IsInteger, IsLowerWord, IsToken, a_lower, a_variable, a_dollar, a_double, a_quoted, a_distinct, an_integer, a_rational, a_fraction, an_exponent, a_real, a_mark, unequal}
+use Rattle.tptp_tokens.specs.Table.{are_items, IsBetween, IsOptionalSign, IsInteger, IsLowerWord, IsToken, a_lower, a_variable, a_dollar, a_double, a_quoted, a_distinct, an_integer, a_rational, a_fraction, an_exponent, a_real, a_mark, unequal}
 use Rattle.tptp_tokens.specs.Stream.{Tok, IsNext}
 use Rattle.tptp_read.specs.Lexemes.{Begins, is_name_kind}
 use Rattle.tptp_read.specs.Meaning.{unquoted, name_of}

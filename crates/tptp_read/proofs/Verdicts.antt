@@ -1,25 +1,24 @@
 -- What a statement's first word decides.
-use Rattle.std.proofs.Common.{◌≡◌, ℕ, ◌≤◌, ◌<◌, Bool, true, false, cond, List, [], ◌∷◌, length, drop, Option, Some, None, Result, Ok, Err, refl, sym, ap, subst, ◌∙◌, inl, inr, arith}
+use Rattle.std.proofs.Common.{◌≡◌, ℕ, ◌≤◌, ◌<◌, Bool, true, false, List, [], ◌∷◌, length, Option, Some, None, Result, Ok, Err, refl, sym, ap, ◌∙◌, inl, inr, arith}
 use Rattle.std.specs.Prelude.{◌&&◌, ◌⊎◌, codes}
 use Rattle.std.specs.Option.{option_map}
 use Rattle.std.specs.Str.{bytes_eq}
 use Rattle.tptp_tokens.specs.Stream.{Tok, IsDone}
 use Rattle.tptp_read.specs.declared.statement.Statement.{Statement}
-use Rattle.tptp_read.specs.declared.statement.Which.TheVariants.{Nesting}
 use Rattle.tptp_read.specs.declared.stop.Stop.{Stop}
 use Rattle.tptp_read.specs.declared.stop.Stop.TheVariants as stops
 use Rattle.tptp_read.specs.declared.refusal.Refusal.{Refusal}
 use Rattle.tptp_read.specs.declared.refusal.Refusal.TheVariants as refusals
 use Rattle.tptp_read.specs.Lexemes.{is_lower_kind}
 use Rattle.tptp_read.specs.Grammar.{Form, IsForm}
-use Rattle.tptp_read.specs.Meaning.{Fault, syntax_fault, language, limit, judged}
+use Rattle.tptp_read.specs.Meaning.{Fault, syntax_fault, judged}
 use Rattle.tptp_read.specs.Parse.{behind}
-use Rattle.tptp_read.specs.ParseForm.{one_of, is_lower, cnf_at, include_at, form_at}
-use Rattle.tptp_read.specs.Rules.{IsOtherLanguage, IsNoOtherLanguage, IsFront, HasNoFront, nesting, IsRead, IsOffence, other_language, no_front, too_deep, no_form, refused}
+use Rattle.tptp_read.specs.ParseForm.{one_of, cnf_at, include_at, form_at}
+use Rattle.tptp_read.specs.Rules.{IsNoOtherLanguage, IsFront, nesting, IsRead, IsOffence, no_form, refused}
 use Rattle.tptp_read.specs.LexemeView.{Fails}
 use Rattle.tptp_read.specs.Selected.{starts}
 use Rattle.tptp_read.specs.Words.{is_word}
-use Rattle.tptp_read.specs.Verdicts.{judged_form, verdict, refusal_of, IsOf, Tells}
+use Rattle.tptp_read.specs.Verdicts.{judged_form, verdict, refusal_of, IsOf}
 use Rattle.tptp_read.proofs.ParseLaws.{both_true}
 use Rattle.tptp_read.proofs.FormLaws.{form_spelled, form_read}
 

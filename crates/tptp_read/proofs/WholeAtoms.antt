@@ -1,14 +1,13 @@
 -- From what the tokens of an atom are to its text.
-use Rattle.std.proofs.Common.{◌≡◌, ℕ, ◌<◌, ◌≤◌, List, Option, Some, None, Result, Ok, Err, refl, subst, ap}
+use Rattle.std.proofs.Common.{◌≡◌, ℕ, ◌<◌, List, Option, Some, Result, Ok, Err, refl, subst}
 use Rattle.std.specs.Prelude.{IfErr, MatchOption}
 use Rattle.inst_logic.specs.declared.clause.Literal.{Literal}
 use Rattle.inst_logic.specs.LiteralView.{literal}
 use Rattle.tptp_tokens.specs.Stream.{Tok}
-use Rattle.tptp_read.specs.declared.statement.Which.TheVariants.{Nesting}
 use Rattle.tptp_read.specs.declared.text.ReadError.{ReadError}
 use Rattle.tptp_read.specs.declared.text.ReadError.TheVariants as errors
 use Rattle.tptp_read.specs.Meaning.{limit}
-use Rattle.tptp_read.specs.Atoms.{AreTokens, nesting_within, ReadsAtom, OffendsAtom, no_atom, refused_feature, too_wide, IsAtomCause}
+use Rattle.tptp_read.specs.Atoms.{AreTokens, nesting_within, ReadsAtom, no_atom, refused_feature, too_wide, IsAtomCause}
 use Rattle.tptp_read.specs.AtomReading.{AtomOf}
 
 pub reads_atom : (text : List ℕ) (ts : List Tok) (l : Literal) → AreTokens text ts → nesting_within ts < 257 → AtomOf ts (Ok l) → ReadsAtom text (literal l)

@@ -1,5 +1,5 @@
 -- What is answered of the tokens of a text that is to be an atom.
-use Rattle.std.specs.Prelude.{◌≡◌, List, [], ◌∷◌, Bool, true, false, Option, None, Some, Result, Ok, Err, ⊤}
+use Rattle.std.specs.Prelude.{◌≡◌, List, [], ◌∷◌, true, false, None, Some, Result, Ok, Err, ⊤}
 use Rattle.inst_logic.specs.declared.clause.Literal.{Literal}
 use Rattle.inst_logic.specs.LiteralView.{literal}
 use Rattle.tptp_tokens.specs.Stream.{Tok}

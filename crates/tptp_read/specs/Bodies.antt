@@ -1,5 +1,5 @@
 -- What the disjunction of a statement is, as far as its value goes.
-use Rattle.std.specs.Prelude.{ℕ, List, [], ◌∷◌, ◌++◌, length, Bool, nat_le, if◌then◌else◌, Option, Some, None, Result, Ok, Err}
+use Rattle.std.specs.Prelude.{ℕ, List, ◌++◌, length, Bool, nat_le, if◌then◌else◌, Option, Some, Result, Ok, Err}
 use Rattle.std.specs.List.{list_any, flat_map}
 use Rattle.std.specs.Option.{option_map_or}
 use Rattle.std.specs.Str.{bytes_eq}
@@ -16,7 +16,7 @@ use Rattle.tptp_read.specs.Grammar.{Item}
 use Rattle.tptp_read.specs.Meaning.{Fault, feature, role_fault, limit, name_of, role_of, Wrote, from_item, from_items, literal_of, is_always, first_feature, used_tokens, variable_names, wrote_wide}
 use Rattle.tptp_read.specs.Parse.{◌>>=◌, Reads, many_at}
 use Rattle.tptp_read.specs.ParseClause.{items_of, item_at}
-use Rattle.tptp_read.specs.Gathered.{Gathered, gathered}
+use Rattle.tptp_read.specs.Gathered.{gathered}
 
 -- a first part, and the parts behind it
 unfoldable pub disjunction_at : ℕ → Reads (Item × List Item)

@@ -1,6 +1,5 @@
 -- Reading annotations from left to right.
-use Rattle.std.specs.Prelude.{ℕ, zero, suc, List, [], ◌∷◌, length, Bool, true, false, ◌&&◌, if◌then◌else◌, Option, Some, None}
-use Rattle.tptp_tokens.specs.Stream.{Tok}
+use Rattle.std.specs.Prelude.{ℕ, zero, suc, List, [], ◌∷◌, length, ◌&&◌, if◌then◌else◌, Some, None}
 use Rattle.tptp_read.specs.Lexemes.{is_head, is_plain}
 use Rattle.tptp_read.specs.Grammar.{General, thing, pair, empty, filled, Thing, token, call, Generals, ended, also}
 use Rattle.tptp_read.specs.Parse.{◌>>=◌, Reads, begins_with, behind, many_at}

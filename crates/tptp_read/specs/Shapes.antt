@@ -1,13 +1,12 @@
 -- Literals as they are read, in trees.
-use Rattle.std.specs.Prelude.{◌≡◌, ℕ, List, [], ◌∷◌, ◌++◌, Bool, true, false, ◌||◌, if◌then◌else◌, Option, Some, None, codes, fold}
+use Rattle.std.specs.Prelude.{◌≡◌, ℕ, List, Bool, true, false, if◌then◌else◌, Option, Some, None, codes}
 use Rattle.std.specs.Option.{option_map}
 use Rattle.inst_logic.specs.Tree.{Tree}
 use Rattle.inst_logic.specs.View.{tree}
-use Rattle.inst_logic.specs.declared.signed.Signed.{Signed}
 use Rattle.tptp_tokens.specs.Stream.{Tok}
 use Rattle.tptp_read.specs.declared.literals.Atomic.{Atomic}
 use Rattle.tptp_read.specs.Grammar.{Written, is_atom, Negated, no_atom, no_equation, Simple, atom, equation, unequal}
-use Rattle.tptp_read.specs.Meaning.{Wrote, predicate, equal, is_truth, tree_of, literal_of, is_always, first_feature, used_tokens}
+use Rattle.tptp_read.specs.Meaning.{Wrote, predicate, equal, is_truth, tree_of}
 use Rattle.tptp_read.specs.Parse.{◌>>=◌, Reads, begins_with, behind, term_at}
 use Rattle.tptp_read.specs.ParseClause.{is_unequal}
 

@@ -15,7 +15,6 @@ use Rattle.tptp_read.specs.Grammar.{Form}
 use Rattle.tptp_read.specs.Meaning.{Fault, syntax_fault, language, feature, role_fault, limit, judged}
 use Rattle.tptp_read.specs.ParseForm.{form_at}
 use Rattle.tptp_read.specs.Rules.{IsRead, IsOffence}
-use Rattle.tptp_read.specs.Text.{IsFormedStatement}
 
 -- the statement of a form, or its fault; nothing is none of the grammar
 abbrev pub judged_form : Option Form → Result Statement Fault

@@ -1,4 +1,4 @@
-use Rattle.std.proofs.Common.{◌≡◌, ℕ, ◌≤◌, ◌-◌, List, ◌++◌, ◌∷◌, [], drop, length, sym, ap, subst, ◌∙◌, arith, length-drop}
+use Rattle.std.proofs.Common.{◌≡◌, ℕ, ◌≤◌, List, ◌++◌, ◌∷◌, [], drop, length, sym, ap, subst, ◌∙◌, arith, length-drop}
 use Rattle.std.proofs.lemmas.List.{map_push}
 use Rattle.tptp_tokens.specs.Stream.{IsNext, IsEnd, tok_of}
 use Rattle.tptp_read.specs.LexemeView.{toks}

@@ -1,4 +1,4 @@
-use Rattle.std.proofs.Common.{◌≡◌, ◌∙◌, ◌≤◌, Err, List, [], drop, length, ap, sym, length-drop, arith}
+use Rattle.std.proofs.Common.{◌∙◌, ◌≤◌, Err, drop, length, ap, sym, length-drop, arith}
 use Rattle.std.proofs.lemmas.List.{length-map}
 use Rattle.std.proofs.lemmas.Result.{err_from_is_err_and}
 use Rattle.inst_logic.specs.LiteralView.{literal}

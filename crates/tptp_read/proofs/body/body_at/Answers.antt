@@ -1,4 +1,4 @@
-use Rattle.std.proofs.Common.{◌≡◌, ℕ, ◌≤◌, ◌-◌, ◌∙◌, List, take, drop, length, ap, sym, arith, map}
+use Rattle.std.proofs.Common.{ℕ, ◌≤◌, ◌-◌, ◌∙◌, List, take, drop, length, ap, sym, arith}
 use Rattle.std.proofs.lemmas.List.{length-map}
 use Rattle.std.specs.Borrow.{Bor}
 use Rattle.std.specs.Str.{bytes_eq}

@@ -1,13 +1,12 @@
-use Rattle.std.proofs.Common.{◌≡◌, ◌+◌, ◌-◌, ◌≤◌, ◌∙◌, Err, Some, List, drop, length, sym, ap, subst, arith}
+use Rattle.std.proofs.Common.{◌≡◌, ◌-◌, ◌∙◌, Err, Some, drop, sym, ap, subst, arith}
 use Rattle.std.proofs.lemmas.Result.{err_from_is_err_and}
-use Rattle.tptp_read.specs.Parse.{begins_with, behind, many_at}
 use Rattle.tptp_read.specs.ParseClause.{item_at}
 use Rattle.tptp_read.specs.LexemeView.{toks, texts, Fails}
 use Rattle.tptp_read.specs.Shapes.{seen}
 use Rattle.tptp_read.specs.Gathered.{gathered}
 use Rattle.tptp_read.proofs.Reading.{behind_toks}
 use Rattle.tptp_read.proofs.GatherLaws.{gives_as, gives_err}
-use Rattle.tptp_read.proofs.DisjunctionLaws.{of_item, of_items, item_single, item_deep, nested_first_fails, nested_others_fail, nested_unclosed, nested_read, items_go_on, items_end, items_done}
+use Rattle.tptp_read.proofs.DisjunctionLaws.{of_item, item_single, item_deep, nested_first_fails, nested_others_fail, nested_unclosed, nested_read, items_go_on, items_end, items_done}
 use Rattle.tptp_read.proofs.clause.+items.Goals as goal
 
 pub item-returns-then-not-stands_at-clause-is : goal.item-returns-then-not-stands_at-clause-is

@@ -1,4 +1,4 @@
-use Rattle.std.proofs.Common.{◌≡◌, ◌≤◌, ◌-◌, ◌∙◌, Some, take, drop, sym, ap, arith}
+use Rattle.std.proofs.Common.{◌≤◌, ◌-◌, ◌∙◌, Some, take, drop, sym, ap, arith}
 use Rattle.tptp_read.specs.LexemeView.{toks, texts}
 use Rattle.tptp_read.specs.Shapes.{shape}
 use Rattle.tptp_read.specs.Gathered.{Gathered, gathered}

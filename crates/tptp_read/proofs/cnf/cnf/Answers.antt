@@ -1,4 +1,4 @@
-use Rattle.std.proofs.Common.{◌≡◌, ◌∷◌, ◌<◌, Bool, drop, length, get_or, true, false, sym, ap, subst, ◌∙◌, refl, arith, List}
+use Rattle.std.proofs.Common.{◌≡◌, ◌<◌, drop, length, get_or, true, sym, ap, ◌∙◌, arith, List}
 use Rattle.std.specs.Prelude.{◌&&◌}
 use Rattle.tptp_read.specs.declared.lexeme.Lexeme.{Lexeme}
 use Rattle.tptp_read.specs.LexemeView.{tok, toks}

@@ -1,12 +1,10 @@
-use Rattle.std.proofs.Common.{◌≡◌, ℕ, ◌≤◌, ◌-◌, List, Option, Some, None, ◌++◌, ◌∷◌, [], true, false, drop, length, sym, ap, subst, ◌∙◌, refl, arith, length-drop}
-use Rattle.std.specs.Option.{option_map}
-use Rattle.std.proofs.Math.ListN.{drop_of_length-le}
+use Rattle.std.proofs.Common.{◌≡◌, ℕ, ◌≤◌, List, ◌++◌, ◌∷◌, [], true, false, drop, length, sym, ap, subst, ◌∙◌, arith, length-drop}
 use Rattle.std.proofs.lemmas.List.{map_push, length-map}
 use Rattle.std.proofs.lemmas.Bool.{eq-eqb}
-use Rattle.tptp_tokens.specs.Stream.{Tok, IsNext, IsEnd, IsDone, tok_of}
+use Rattle.tptp_tokens.specs.Stream.{IsNext, IsEnd, tok_of}
 use Rattle.tptp_read.specs.LexemeView.{tok, toks}
 use Rattle.tptp_read.specs.Fronts.{other_word}
-use Rattle.tptp_read.proofs.Fronts.{SoFar, IsWhole, one_more, whole, other, done, unfinished}
+use Rattle.tptp_read.proofs.Fronts.{IsWhole, one_more, whole, other, unfinished}
 use Rattle.tptp_read.proofs.front.front_of.Goals as goal
 use Rattle.tptp_read.proofs.front.front_of.Goals.{else-is_empty-via-then-is_empty+else-place-text, else-is_empty-via-else-is_empty}
 

@@ -1,7 +1,6 @@
-use Rattle.std.proofs.Common.{◌≡◌, ℕ, ◌+◌, ◌-◌, ◌≤◌, ◌++◌, ◌∷◌, [], true, false, take, length, get_or, max, sym, ap, ◌∙◌, refl, add-one, arith}
+use Rattle.std.proofs.Common.{◌≡◌, ◌+◌, ◌-◌, ◌≤◌, ◌++◌, ◌∷◌, [], take, get_or, max, sym, ap, ◌∙◌, refl, add-one, arith}
 use Rattle.std.proofs.Math.Seq.{take-suc}
 use Rattle.std.proofs.lemmas.List.{map_push}
-use Rattle.tptp_tokens.specs.Stream.{Tok}
 use Rattle.tptp_read.specs.Rules.{nesting_from, opens, closes}
 use Rattle.tptp_read.specs.LexemeView.{tok, toks}
 use Rattle.tptp_read.proofs.Places.{other}

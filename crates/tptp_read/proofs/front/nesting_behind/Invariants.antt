@@ -1,4 +1,4 @@
-use Rattle.std.proofs.Common.{◌≡◌, ◌≤◌, ◌+◌, take, length}
+use Rattle.std.proofs.Common.{◌≡◌, ◌≤◌, ◌+◌, take}
 use Rattle.tptp_read.specs.Rules.{nesting_from, opens, closes}
 use Rattle.tptp_read.specs.LexemeView.{toks}
 use Rattle.tptp_read.proofs.Fronts.{count_of}

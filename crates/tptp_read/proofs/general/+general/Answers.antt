@@ -1,4 +1,4 @@
-use Rattle.std.proofs.Common.{◌≡◌, Bool, ◌+◌, ◌≤◌, ◌<◌, Some, None, drop, length, get_or, true, false, sym, ap, subst, ◌∙◌, refl, arith}
+use Rattle.std.proofs.Common.{◌≡◌, Bool, ◌+◌, Some, drop, get_or, false, sym, ap, ◌∙◌, refl, arith}
 use Rattle.std.specs.Prelude.{◌&&◌}
 use Rattle.tptp_read.specs.Lexemes.{is_head}
 use Rattle.tptp_read.specs.Parse.{begins_with}

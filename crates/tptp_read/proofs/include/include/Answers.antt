@@ -1,10 +1,9 @@
-use Rattle.std.proofs.Common.{◌≡◌, ◌∷◌, ◌+◌, ◌≤◌, ◌<◌, drop, length, get_or, Some, Ok, None, Option, true, false, sym, ap, subst, ◌∙◌, refl, arith, List, Bool}
+use Rattle.std.proofs.Common.{◌≡◌, ◌<◌, drop, length, get_or, true, false, sym, ap, ◌∙◌, List}
 use Rattle.std.specs.Prelude.{◌&&◌}
 use Rattle.std.specs.Option.{option_map}
 use Rattle.std.proofs.lemmas.Result.{err_from_is_err_and}
 use Rattle.tptp_tokens.specs.Stream.{Tok}
 use Rattle.tptp_read.specs.declared.lexeme.Lexeme.{Lexeme}
-use Rattle.tptp_read.specs.declared.statement.Statement.TheVariants.{Include}
 use Rattle.tptp_read.specs.LexemeView.{tok, toks}
 use Rattle.tptp_read.specs.Selected.{starts}
 use Rattle.tptp_read.specs.Grammar.{is_name}

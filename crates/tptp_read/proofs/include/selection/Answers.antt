@@ -1,4 +1,4 @@
-use Rattle.std.proofs.Common.{◌≡◌, ◌∷◌, ◌+◌, ◌≤◌, ◌<◌, drop, length, get_or, true, false, sym, ap, ◌∙◌, refl, arith}
+use Rattle.std.proofs.Common.{◌≡◌, ◌∷◌, ◌+◌, drop, get_or, sym, ap, ◌∙◌, arith}
 use Rattle.tptp_read.specs.LexemeView.{tok, toks}
 use Rattle.tptp_read.specs.Selected.{starts}
 use Rattle.tptp_read.specs.Grammar.{is_name}

@@ -1,4 +1,4 @@
-use Rattle.std.proofs.Common.{◌≡◌, ◌≤◌, drop, length, ◌-◌, [], ◌∷◌}
+use Rattle.std.proofs.Common.{◌≤◌, drop, length, ◌-◌, [], ◌∷◌}
 use Rattle.tptp_read.specs.Meaning.{name_of}
 use Rattle.tptp_read.specs.Parse.{many_at}
 use Rattle.tptp_read.specs.ParseForm.{one_of}

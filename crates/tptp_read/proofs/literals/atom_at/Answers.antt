@@ -1,4 +1,4 @@
-use Rattle.std.proofs.Common.{◌≡◌, ◌∙◌, ◌+◌, List, drop, get_or, sym, ap, arith}
+use Rattle.std.proofs.Common.{◌∙◌, ◌+◌, drop, get_or, sym, ap, arith}
 use Rattle.tptp_read.specs.Parse.{term_at}
 use Rattle.tptp_read.specs.LexemeView.{tok, toks}
 use Rattle.tptp_read.proofs.Reading.{other, toks_at, toks_end, term_none}

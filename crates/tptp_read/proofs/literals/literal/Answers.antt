@@ -1,4 +1,4 @@
-use Rattle.std.proofs.Common.{◌∙◌, List, drop, sym, subst}
+use Rattle.std.proofs.Common.{◌∙◌, drop, sym, subst}
 use Rattle.tptp_read.specs.Grammar.{Simple}
 use Rattle.tptp_read.specs.Meaning.{from_simple}
 use Rattle.tptp_read.specs.LexemeView.{toks, texts, Gives}

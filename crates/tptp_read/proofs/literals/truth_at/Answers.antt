@@ -1,4 +1,4 @@
-use Rattle.std.proofs.Common.{◌≡◌, ◌∙◌, ◌+◌, Bool, false, List, drop, get_or, sym, ap, arith}
+use Rattle.std.proofs.Common.{◌≡◌, ◌∙◌, ◌+◌, false, drop, get_or, sym, ap, arith}
 use Rattle.std.specs.Prelude.{◌&&◌}
 use Rattle.tptp_read.specs.Lexemes.{is_head}
 use Rattle.tptp_read.specs.Parse.{begins_with, term_at}

@@ -1,4 +1,4 @@
-use Rattle.std.proofs.Common.{◌≡◌, ◌+◌, sym, ◌∙◌}
+use Rattle.std.proofs.Common.{sym, ◌∙◌}
 use Rattle.tptp_read.proofs.Places.{tail_at, no_tail_close, no_tail_stop}
 use Rattle.tptp_read.proofs.notes.ends_at.Goals as goal
 

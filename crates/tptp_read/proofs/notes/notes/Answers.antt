@@ -1,4 +1,4 @@
-use Rattle.std.proofs.Common.{◌≡◌, ◌+◌, ◌≤◌, Some, None, drop, length, true, false, sym, ap, ◌∙◌, refl, arith}
+use Rattle.std.proofs.Common.{◌≡◌, ◌+◌, drop, length, sym, ap, ◌∙◌, arith}
 use Rattle.tptp_read.specs.Parse.{begins_with, behind}
 use Rattle.tptp_read.specs.LexemeView.{toks}
 use Rattle.tptp_read.specs.Skim.{after_general, after_bracket}

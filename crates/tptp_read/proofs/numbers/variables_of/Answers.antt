@@ -1,4 +1,4 @@
-use Rattle.std.proofs.Common.{◌≡◌, ◌+◌, ◌<◌, [], sym, ap, ◌∙◌, length, get_or, arith}
+use Rattle.std.proofs.Common.{◌<◌, [], sym, ap, ◌∙◌, length, get_or, arith}
 use Rattle.std.specs.Str.{bytes_eq}
 use Rattle.inst_logic.specs.Lists.{with_item}
 use Rattle.tptp_tokens.specs.declared.kind.TokenKind.TheVariants.{LowerWord}

@@ -1,11 +1,8 @@
-use Rattle.std.proofs.Common.{◌≡◌, Ok, Err, drop, length, true, false, sym, ap, subst, ◌∙◌, refl, List}
-use Rattle.std.proofs.lemmas.Result.{err_from_is_err_and}
-use Rattle.tptp_tokens.specs.Stream.{Tok}
-use Rattle.tptp_read.specs.Parse.{behind}
+use Rattle.std.proofs.Common.{◌≡◌, Err, drop, length, sym, ap, subst, ◌∙◌}
 use Rattle.tptp_read.specs.ParseForm.{cnf_at, include_at}
 use Rattle.std.proofs.lemmas.List.{length-map}
 use Rattle.tptp_read.specs.LexemeView.{tok, toks}
-use Rattle.tptp_read.specs.Verdicts.{judged_form, verdict, refusal_of, Tells, IsOf}
+use Rattle.tptp_read.specs.Verdicts.{judged_form, refusal_of, Tells, IsOf}
 use Rattle.tptp_read.proofs.Places.{behind_toks}
 use Rattle.tptp_read.proofs.Verdicts.{cnf_told, include_told, none_told, include_done, include_failed}
 use Rattle.tptp_read.proofs.step.statement_of.Goals as goal

@@ -1,4 +1,4 @@
-use Rattle.std.proofs.Common.{◌≡◌, ◌+◌, ◌-◌, ◌≤◌, ◌<◌, Bool, Some, drop, [], ◌∷◌, length, get_or, true, false, sym, ap, refl, subst, ◌∙◌, arith, rules}
+use Rattle.std.proofs.Common.{◌≡◌, ◌+◌, ◌-◌, Bool, Some, drop, [], get_or, true, false, sym, ap, refl, subst, ◌∙◌, arith}
 use Rattle.std.specs.Prelude.{◌&&◌}
 use Rattle.std.proofs.lemmas.Result.{err_from_is_err_and}
 use Rattle.tptp_tokens.specs.declared.kind.TokenKind.TheVariants.{LowerWord}
@@ -7,9 +7,8 @@ use Rattle.inst_logic.specs.Tree.{app, of_list}
 use Rattle.inst_logic.specs.declared.symbol.Kind.TheVariants.{Function}
 use Rattle.tptp_read.specs.declared.lexeme.Lexeme.{Lexeme}
 use Rattle.tptp_read.specs.Lexemes.{is_head}
-use Rattle.tptp_read.specs.Meaning.{tree_of, name_of}
-use Rattle.tptp_read.specs.Parse.{begins_with, behind, many_at, applied_at, term_at}
-use Rattle.tptp_read.specs.LexemeView.{texts, tok, toks, in_trees, in_lists, Gives, Fails}
+use Rattle.tptp_read.specs.Parse.{begins_with, applied_at, term_at}
+use Rattle.tptp_read.specs.LexemeView.{texts, tok, toks, in_trees, Gives, Fails}
 use Rattle.tptp_read.proofs.ParseLaws.{and_false}
 use Rattle.tptp_read.proofs.Reading.{behind_toks, toks_at, toks_end, term_none, term_deep, term_calls, term_single, term_nothing, arguments_go_on, arguments_end, arguments_done, applied_done}
 use Rattle.tptp_read.proofs.terms.+term.Goals as goal

@@ -1,8 +1,8 @@
-use Rattle.std.proofs.Common.{◌≡◌, ◌+◌, ◌<◌, ◌++◌, ◌∷◌, [], List, ℕ, Ok, Some, None, Option, drop, length, sym, ap, subst, ◌∙◌, refl, arith}
+use Rattle.std.proofs.Common.{◌+◌, ℕ, Ok, Option, drop, length, ap, subst, arith}
 use Rattle.tptp_read.specs.declared.statement.Statement.{Statement}
-use Rattle.tptp_read.specs.Verdicts.{StepOf, IsOf}
+use Rattle.tptp_read.specs.Verdicts.{StepOf}
 use Rattle.tptp_read.proofs.Law.{read_shrinks}
-use Rattle.tptp_read.proofs.Passes.{Passed, passed_more, passed_readable, cause}
+use Rattle.tptp_read.proofs.Passes.{passed_more, passed_readable, cause}
 use Rattle.tptp_read.proofs.text.read_text.Goals as goal
 
 pub returns-in-Ok-None-clause-readable : goal.returns-in-Ok-None-clause-readable

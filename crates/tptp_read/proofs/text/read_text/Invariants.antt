@@ -1,4 +1,4 @@
-use Rattle.std.proofs.Common.{◌≡◌, length}
+use Rattle.std.proofs.Common.{length}
 use Rattle.tptp_read.proofs.Passes.{Passed}
 use Rattle.tptp_read.proofs.text.read_text.Given as goal
 

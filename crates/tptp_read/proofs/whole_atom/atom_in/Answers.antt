@@ -1,4 +1,4 @@
-use Rattle.std.proofs.Common.{◌≡◌, ◌<◌, ◌≤◌, refl, sym, ap, subst, ◌∙◌, arith}
+use Rattle.std.proofs.Common.{◌≡◌, refl, ap, subst, ◌∙◌, arith}
 use Rattle.tptp_read.specs.Atoms.{HasNoTokens, AreTokens, too_deep, nesting_within}
 use Rattle.tptp_read.specs.AtomReading.{AtomOf}
 use Rattle.tptp_read.specs.LexemeView.{toks}
