@@ -1,0 +1,72 @@
+// A solver by clause learning.
+use crate::search::Search;
+use inst_logic::Memory;
+use prop_logic::{Answer, Lit, Solver};
+use std::alloc::Global;
+use std::marker::Model;
+
+/// A solver that learns the clause of the first unique implication point from each conflict. What it learned, the values
+/// that follow from the clauses alone and the last values of the atoms stay from one question to the next.
+#[derive(Drop)]
+pub struct Cdcl {
+    search: Search,
+    spent: bool,
+}
+
+impl Cdcl {
+    /// A solver without atoms and clauses.
+    pub fn new(alloc: Global) -> Self
+    {
+        Cdcl {
+            search: Search::new(alloc),
+            spent: false,
+        }
+    }
+}
+
+impl Solver for Cdcl {
+    ghost atoms = { λ s. s.atoms };
+
+    ghost added = { λ s. s.added };
+
+    ghost spent = { λ s. s.spent };
+
+    fn new_atom(&mut self) -> Result<usize, Memory> {
+        if self.spent {
+            return Err(Memory);
+        }
+        match self.search.new_atom() {
+            Ok(atom) => Ok(atom),
+            Err(error) => {
+                self.spent = true;
+                Err(error)
+            }
+        }
+    }
+
+    fn add(&mut self, clause: &[Lit]) -> Result<usize, Memory> {
+        if self.spent {
+            return Err(Memory);
+        }
+        match self.search.add(clause) {
+            Ok(number) => Ok(number),
+            Err(error) => {
+                self.spent = true;
+                Err(error)
+            }
+        }
+    }
+
+    fn solve(&mut self, assumptions: &[Lit]) -> Result<Answer, Memory> {
+        if self.spent {
+            return Err(Memory);
+        }
+        match self.search.answer(assumptions) {
+            Ok(answer) => Ok(answer),
+            Err(error) => {
+                self.spent = true;
+                Err(error)
+            }
+        }
+    }
+}
