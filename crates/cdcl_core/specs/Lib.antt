@@ -1,4 +1,3 @@
 pub mod Marks
 pub mod Log
 pub mod Analysis
-pub mod Search
