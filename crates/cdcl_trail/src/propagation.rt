@@ -1,5 +1,12 @@
 // Unit propagation by scans of all clauses.
-ghost use Rattle.std.specs.Prelude.{◌≡◌, ◌+◌, ◌<◌, ◌×◌, ◌⊎◌, ◌∷◌, ◌++◌, [], ℕ, List, Some, None, true, false, length, IfSome, IfNone, All};
+ghost use Rattle.std.specs.Prelude.{◌≡◌, ◌+◌, ◌<◌, ◌⊎◌, ◌∷◌, ◌++◌, [], ℕ, List, Some, None, IsTrue, true, false, length, IfSome, IfNone, All};
+ghost use Rattle.inst_logic.specs.declared.signed.Signed.{Signed};
+ghost use Rattle.prop_logic.specs.Literal.{AtomsBelow};
+ghost use Rattle.cdcl_trail.specs.declared.entry.Entry.{Entry};
+ghost use Rattle.cdcl_trail.specs.Clauses.{ClausesBelow};
+ghost use Rattle.cdcl_trail.specs.Propagation.{Propagates, IsConflict, IsStable};
+ghost use Rattle.cdcl_trail.specs.Scan.{IsScanned, RestsAt};
+ghost use Rattle.cdcl_trail.specs.Trail.{value_of};
 
 use crate::clauses::Clauses;
 use crate::trail::Trail;
@@ -16,17 +23,25 @@ pub(crate) enum Scan {
     Rest,
 }
 
-// What the literals say that were read before, and this one of this value.
-fn with_literal(scan: Scan, value: Option<bool>, l: Lit) -> Scan {
-    match (scan, value) {
-        (scan, Some(false)) => scan,
-        (Scan::False, None) => Scan::Unit(l),
-        (Scan::Unit(other), None) if other == l => Scan::Unit(l),
-        _ => Scan::Rest,
+// What the literals that were read before say together with this one, which has this value.
+fn with_literal(scan: Scan, value: Option<bool>, l: Lit) -> Scan
+    ensures { (entries : List Entry) (read : List (Signed ℕ)) → IsScanned entries read scan → value ≡ value_of entries l → IsScanned entries (read ++ l ∷ []) result }
+{
+    match value {
+        Some(true) => Scan::Rest,
+        Some(false) => scan,
+        None => match scan {
+            Scan::False => Scan::Unit(l),
+            Scan::Unit(other) => { if other == l { scan } else { Scan::Rest } }
+            Scan::Rest => Scan::Rest,
+        },
     }
 }
 
-fn scan_clause(trail: &Trail, clause: &[Lit]) -> Scan {
+fn scan_clause(trail: &Trail, clause: &[Lit]) -> Scan
+    requires { AtomsBelow trail.now.atoms clause.now }
+    ensures { IsScanned trail.now.entries clause.now result }
+{
     let mut scan = Scan::False;
     for l in clause {
         scan = with_literal(scan, trail.value(*l), *l);
@@ -37,8 +52,14 @@ fn scan_clause(trail: &Trail, clause: &[Lit]) -> Scan {
     scan
 }
 
-// Makes true what the clause gives, or answers that it is false.
-fn visit(trail: &mut Trail, clauses: &Clauses, number: usize) -> bool {
+// Makes true what the clause of this number gives, or answers that it is false.
+fn visit(trail: &mut Trail, clauses: &Clauses, number: usize) -> bool
+    requires { ClausesBelow trail.old.atoms clauses.now }
+    ensures added { Propagates clauses.now trail.old trail.new }
+    ensures spent { trail.new.spent ≡ trail.old.spent }
+    ensures conflict { IsTrue result → IsConflict clauses.now trail.new.entries number }
+    ensures rests { result ≡ false → ((trail.new ≡ trail.old) × RestsAt clauses.now trail.new.entries number) ⊎ (length trail.new.entries ≡ length trail.old.entries + 1) }
+{
     let Some(clause) = clauses.get(number) else {
         return false;
     };
@@ -53,11 +74,36 @@ fn visit(trail: &mut Trail, clauses: &Clauses, number: usize) -> bool {
 }
 
 // Visits each clause once, up to one that is false, whose number is the answer.
-pub(crate) fn visit_all(trail: &mut Trail, clauses: &Clauses) -> Option<usize> {
+fn visit_all(trail: &mut Trail, clauses: &Clauses) -> Option<usize>
+    requires { ClausesBelow trail.old.atoms clauses.now }
+    ensures added { Propagates clauses.now trail.old trail.new }
+    ensures spent { trail.new.spent ≡ trail.old.spent }
+    ensures conflict { IfSome result (IsConflict clauses.now trail.new.entries) }
+    ensures rests { IfNone result (length trail.new.entries ≡ length trail.old.entries → (n : ℕ) → RestsAt clauses.now trail.new.entries n) }
+{
     for place in 0..clauses.slots() {
         if visit(trail, clauses, place + 1) {
             return Some(place + 1);
         }
     }
     None
+}
+
+// Visits all clauses until one is false, whose number is the answer, or none gives anything.
+pub(crate) fn saturate(trail: &mut Trail, clauses: &Clauses) -> Option<usize>
+    requires { ClausesBelow trail.old.atoms clauses.now }
+    ensures added { Propagates clauses.now trail.old trail.new }
+    ensures spent { trail.new.spent ≡ trail.old.spent }
+    ensures conflict { IfSome result (IsConflict clauses.now trail.new.entries) }
+    ensures stable { IfNone result (IsStable clauses.now trail.new.entries) }
+{
+    loop {
+        let before = trail.count();
+        if let Some(number) = visit_all(trail, clauses) {
+            return Some(number);
+        }
+        if trail.count() == before {
+            return None;
+        }
+    }
 }

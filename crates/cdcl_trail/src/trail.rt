@@ -6,7 +6,7 @@ ghost use Rattle.cdcl_trail.specs.Trail.{IsTrail, IsUnset, value_of, level_of, r
 
 use crate::clauses::Clauses;
 use crate::entry::Entry;
-use crate::propagation::visit_all;
+use crate::propagation::saturate;
 use crate::values::Values;
 use inst_logic::Memory;
 use prop_logic::Lit;
@@ -163,14 +163,15 @@ impl Trail {
         if self.spent {
             return Err(Memory);
         }
-        loop {
-            let before = self.assigned().len();
-            if let Some(number) = visit_all(self, clauses) {
-                return Ok(Some(number));
-            }
-            if self.assigned().len() == before {
-                return Ok(None);
-            }
-        }
+        Ok(saturate(self, clauses))
+    }
+
+    // The number of atoms that have a value.
+    pub(crate) fn count(&self) -> usize
+        ensures count { result ≡ length self.now.entries }
+        ensures room { result ≤ self.now.atoms }
+        ensures trail { IsTrail self.now }
+    {
+        self.values.literals.len()
     }
 }

@@ -1,6 +1,7 @@
 // The values of atoms, in the order in which they came.
-ghost use Rattle.std.specs.Prelude.{◌≡◌, ◌+◌, ◌<◌, ◌∷◌, ◌++◌, [], Some, None, length, slice_get, IfOk, OnErr};
-ghost use Rattle.cdcl_trail.specs.Trail.{IsUnset, value_of, level_of, reason_of, entries_up_to};
+ghost use Rattle.std.specs.Prelude.{◌≡◌, ◌+◌, ◌<◌, ◌≤◌, ◌∷◌, ◌++◌, [], List, false, length, IsTrue, All, AllPairs, IfOk, OnErr};
+ghost use Rattle.cdcl_trail.specs.Trail.{IsUnset, entries_up_to};
+ghost use Rattle.cdcl_trail.specs.declared.entry.Entry.{Entry};
 ghost use Rattle.cdcl_trail.specs.Values.{AreValues, entries_of, found};
 
 use crate::entry::Entry;
@@ -64,27 +65,43 @@ impl Values {
         self.entries[entry.lit.atom] = Some(entry);
     }
 
-    // The last entry.
-    fn last(&self) -> Option<Entry> {
+    // Whether the last value is of a level above this one.
+    fn ends_above(&self, level: usize) -> bool
+        requires values { AreValues self.now }
+        requires rising { AllPairs (λ a b. a.level ≤ b.level) (entries_of self.now) }
+        ensures above { IsTrue result → (es : List Entry) × (e : Entry) × (entries_of self.now ≡ es ++ e ∷ []) × (level < e.level) }
+        ensures rest { result ≡ false → All (λ e. e.level ≤ level) (entries_of self.now) }
+    {
         match self.literals.last() {
-            Some(l) => self.entries[l.atom],
-            None => None,
+            Some(l) => match self.entries[l.atom] {
+                Some(entry) => level < entry.level,
+                None => false,
+            },
+            None => false,
         }
     }
 
     // Takes the last value back.
-    fn undo(&mut self) {
+    fn undo(&mut self)
+        requires { AreValues self.old }
+        ensures values { AreValues self.new }
+        ensures entries { (es : List Entry) (e : Entry) → entries_of self.old ≡ es ++ e ∷ [] → entries_of self.new ≡ es }
+        ensures atoms { length self.new.entries.items ≡ length self.old.entries.items }
+    {
         if let Some(l) = self.literals.pop() {
             self.entries[l.atom] = None;
         }
     }
 
     // Takes back the values of the levels above this one.
-    pub(crate) fn back_to(&mut self, level: usize) {
-        while let Some(entry) = self.last() {
-            if entry.level <= level {
-                break;
-            }
+    pub(crate) fn back_to(&mut self, level: usize)
+        requires values { AreValues self.old }
+        requires rising { AllPairs (λ a b. a.level ≤ b.level) (entries_of self.old) }
+        ensures values { AreValues self.new }
+        ensures entries { entries_of self.new ≡ entries_up_to (entries_of self.old) level }
+        ensures atoms { length self.new.entries.items ≡ length self.old.entries.items }
+    {
+        while self.ends_above(level) {
             self.undo();
         }
     }
