@@ -260,16 +260,13 @@ closes_first log whole before h c marks stay named all has = λ F none covers s.
     ]))
 
 -- what is learned is free of the trail's literals
-all_false : (entries : List Entry) (clause : List (Signed ℕ)) → IsLearned entries clause → All (IsFalseIn entries) clause
+pub all_false : (entries : List Entry) (clause : List (Signed ℕ)) → IsLearned entries clause → All (IsFalseIn entries) clause
 all_false entries [] h = All-nil (IsFalseIn entries)
 all_false entries (l ∷ ls) h =
     All-cons (IsFalseIn entries) l ls (to_false entries h.0 l h.1 h.2)
     (All-weaker (IsFalseBelow entries h.0.level) (IsFalseIn entries) (λ m f. to_false entries f.0 m f.1 f.2) ls h.4)
 
-pub learned_false : (entries : List Entry) (clause : List (Signed ℕ)) → IsLearned entries clause → All (IsFalseIn entries) clause
-learned_false = all_false
-
-learned_free : (t : Trail) (clause : List (Signed ℕ)) → IsTrail t → IsLearned t.entries clause → IsFree t.entries clause
+pub learned_free : (t : Trail) (clause : List (Signed ℕ)) → IsTrail t → IsLearned t.entries clause → IsFree t.entries clause
 learned_free t clause v h = λ e c k.
     let f = of_false t.entries e.lit (All-contains (IsFalseIn t.entries) clause e.lit (all_false t.entries clause h) k) in
     consistent t e f.0 v c f.1 f.2

@@ -1,13 +1,13 @@
 -- What the analysis of a conflict knows at each place of the trail, and what it leaves.
-use Rattle.std.specs.Prelude.{◌≡◌, ℕ, ◌+◌, ◌<◌, ◌≤◌, ◌==◌, ◌&&◌, Bool, true, false, not, List, [], ◌∷◌, map, take, reverse, Option, Some, None, All, Contains, slice_get, if◌then◌else◌}
+use Rattle.std.specs.Prelude.{◌≡◌, ◌≢◌, ℕ, ◌+◌, ◌-◌, ◌^◌, ◌<◌, ◌≤◌, ◌==◌, ◌&&◌, Bool, true, false, not, List, [], ◌∷◌, length, map, take, reverse, Option, Some, None, All, Contains, slice_get, if◌then◌else◌}
 use Rattle.std.specs.List.{slice_index_or}
 use Rattle.inst_logic.specs.declared.signed.Signed.{Signed}
 use Rattle.inst_logic.specs.Signed.{complement}
 use Rattle.prop_logic.specs.declared.literal.Hint.{Hint}
-use Rattle.prop_logic.specs.Literal.{cited}
+use Rattle.prop_logic.specs.Literal.{cited, AllAtomsBelow, StepsBelow}
 use Rattle.prop_logic.specs.Analysis.{ClosesAll}
 use Rattle.cdcl_trail.specs.declared.entry.Entry.{Entry}
-use Rattle.cdcl_trail.specs.Trail.{Trail, IsDecision}
+use Rattle.cdcl_trail.specs.Trail.{Trail, IsTrail, IsDecision}
 use Rattle.cdcl_trail.specs.Propagation.{IsFalseIn, GivesUnit}
 use Rattle.cdcl_core.specs.declared.log.Log.{Log}
 use Rattle.cdcl_core.specs.declared.analysis.Open.{Open}
@@ -45,6 +45,14 @@ pub record MarksToo (t : Trail) (clause : List (Signed ℕ)) (old new : List Boo
 -- the reason of an entry is named, and made its literal true
 abbrev pub AreImplied : Log → List Entry → Type 0
 AreImplied log entries = (k n : ℕ) (e : Entry) → slice_get entries k ≡ Some e → e.reason ≡ Some n → (c : List (Signed ℕ)) × IsNamed log n c × GivesUnit (take k entries) c e.lit
+
+-- the trail is right, and so are the log's clauses that gave its values
+pub record IsReady (log : Log) (t : Trail) : Type 0 where
+  pub trail : IsTrail t
+  pub room : length t.entries ≤ 2 ^ 64 - 1
+  pub below : AllAtomsBelow t.atoms log.added
+  pub steps_below : StepsBelow t.atoms log.steps
+  pub implied : AreImplied log t.entries
 
 -- the clause of this number is named, and all its literals are false
 abbrev pub NamesFalse : Log → List Entry → ℕ → Type 0
@@ -86,6 +94,13 @@ pub record IsMet (log : Log) (t : Trail) (i : ℕ) (marks : List Bool) (a : Anal
   pub learned : IsLearned t.entries a.clause.items
   pub first : AreBelowFirst t.entries (take i t.entries) marks a.clause.items
 
+-- the clause of the number is marked, and nothing else
+pub record IsBegun (log : Log) (t : Trail) (n : ℕ) (c : List (Signed ℕ)) (marks : List Bool) (a : Analysis) : Type 0 where
+  pub clause : a.clause.items ≡ []
+  pub hints : (h : Hint) → slice_get log.names.items n ≡ Some h → a.hints.items ≡ h ∷ []
+  pub marked : All (λ l. IsMarked marks l.atom) c
+  pub counted : (i : ℕ) → AreCounted t i marks a.open
+
 -- what is left when it has met all
 pub record IsAnalysis (log : Log) (entries : List Entry) (a : Analysis) : Type 0 where
   pub closes : ClosesAll a.clause.items (map (cited log.added log.steps) a.hints.items)
@@ -102,3 +117,8 @@ HasDecisionsAnd l entries marks F = Contains F l × HasDecisions entries marks F
 pub record IsMetDecided (log : Log) (t : Trail) (start i : ℕ) (l : Signed ℕ) (marks : List Bool) (a : Analysis) : Type 0 where
   pub closes : ClosesFrom log (take start t.entries) (take i t.entries) marks (HasDecisionsAnd l (take start t.entries) marks) (reverse a.hints.items)
   pub counted : AreCounted t i marks a.open
+
+-- from the literal and the complements of the marked decisions the hints close
+abbrev pub ShowsGiven : Log → List Entry → Signed ℕ → List Bool → List Hint → Type 0
+ShowsGiven log entries l marks hints =
+    (F : List (Signed ℕ)) → ((e : Entry) → Contains entries e → e.lit ≢ l → ¬ Contains F e.lit) → HasDecisionsAnd l entries marks F → ClosesAll F (map (cited log.added log.steps) hints)

@@ -1,4 +1,14 @@
 // Analysis of conflicts: which false literals can't all be false, and the hints that show it.
+ghost use Rattle.std.specs.Prelude.{◌≡◌, ℕ, ◌+◌, ◌++◌, ◌∷◌, [], ◌<◌, ◌≤◌, List, Bool, Some, All, Contains, MatchBool, length, map, slice_get, IfOk, OnOk};
+ghost use Rattle.inst_logic.specs.declared.signed.Signed.{Signed};
+ghost use Rattle.inst_logic.specs.Signed.{complement};
+ghost use Rattle.prop_logic.specs.declared.literal.Hint.{Hint};
+ghost use Rattle.prop_logic.specs.Literal.{AtomsBelow};
+ghost use Rattle.cdcl_trail.specs.declared.entry.Entry.{Entry};
+ghost use Rattle.cdcl_trail.specs.Trail.{IsTrail};
+ghost use Rattle.cdcl_core.specs.Log.{IsNamed};
+ghost use Rattle.cdcl_core.specs.Analysis.{IsMarked, AreCounted, MarksToo, IsReady, IsBegun, NamesFalse, IsMet, IsMetDecided, IsAnalysis, ShowsGiven};
+
 use crate::log::Log;
 use crate::marks::Marks;
 use cdcl_trail::Trail;
@@ -21,13 +31,30 @@ pub(crate) struct Analysis {
     pub(crate) open: Open,
 }
 
-fn mark(trail: &Trail, marks: &mut Marks, open: &mut Open, atom: usize)
+// The literal at a place of the trail.
+fn literal_at(trail: &Trail, place: usize) -> Lit
+    requires { place < length trail.now.entries }
+    ensures literal { (e : Entry) → slice_get trail.now.entries place ≡ Some e → result ≡ e.lit }
+    ensures atom { result.atom < trail.now.atoms }
 {
-    if marks.contains(atom) {
+    let literals = trail.assigned();
+    literals[place]
+}
+
+fn mark(trail: &Trail, marks: &mut Marks, open: &mut Open, lit: Lit)
+    requires trail { IsTrail trail.now }
+    requires room { length trail.now.entries ≤ usize.MAX }
+    requires size { length marks.old ≡ trail.now.atoms }
+    requires atom { lit.atom < trail.now.atoms }
+    ensures size { length marks.new ≡ length marks.old }
+    ensures marked { MarksToo trail.now (lit ∷ []) marks.old marks.new open.old open.new }
+{
+    if marks.contains(lit.atom) {
         return;
     }
-    marks.insert(atom);
-    if trail.level_of(atom) == Some(trail.level()) {
+    marks.insert(lit.atom);
+    let level = trail.level_of(lit.atom).unwrap_or(0);
+    if level == trail.level() {
         open.present = open.present.saturating_add(1);
     } else {
         open.below = open.below.saturating_add(1);
@@ -36,25 +63,35 @@ fn mark(trail: &Trail, marks: &mut Marks, open: &mut Open, atom: usize)
 
 // Marks the atoms of the clause.
 fn mark_all(trail: &Trail, marks: &mut Marks, open: &mut Open, clause: &[Lit])
+    requires trail { IsTrail trail.now }
+    requires room { length trail.now.entries ≤ usize.MAX }
+    requires size { length marks.old ≡ trail.now.atoms }
+    requires atoms { AtomsBelow trail.now.atoms clause.now }
+    ensures size { length marks.new ≡ length marks.old }
+    ensures marked { MarksToo trail.now clause.now marks.old marks.new open.old open.new }
 {
     for lit in clause {
-        mark(trail, marks, open, lit.atom);
+        mark(trail, marks, open, *lit);
     }
 }
 
 // Whether a literal with a reason stays. The first one that stays is the last of the present level that all paths to the
 // conflict go through; after it those stay that are above level 0.
 fn stays(trail: &Trail, analysis: &Analysis, level: usize) -> bool
+    ensures { MatchBool result ((0 < level) × (analysis.now.clause.items ≡ [] → (level ≡ trail.now.level) × (analysis.now.open.present ≤ 1))) ((analysis.now.clause.items ≡ [] → ⊥) → level ≡ 0) }
 {
-    if analysis.clause.is_empty() {
-        0 < level && level == trail.level() && analysis.open.present <= 1
-    } else {
-        0 < level
+    if level == 0 {
+        return false;
     }
+    if !analysis.clause.is_empty() {
+        return true;
+    }
+    level == trail.level() && analysis.open.present <= 1
 }
 
 // Counts a literal as met.
-fn met(trail: &Trail, open: &mut Open, level: usize)
+fn count_met(trail: &Trail, open: &mut Open, level: usize)
+    ensures { (i : ℕ) (e : Entry) (marks : List Bool) → slice_get trail.now.entries i ≡ Some e → IsMarked marks e.lit.atom → e.level ≡ level → AreCounted trail.now (i + 1) marks open.old → AreCounted trail.now i marks open.new }
 {
     if level == trail.level() {
         open.present = open.present.saturating_sub(1);
@@ -71,6 +108,12 @@ fn resolve(
     analysis: &mut Analysis,
     number: usize,
 ) -> Result<(), Memory>
+    requires ready { IsReady log.now trail.now }
+    requires size { length marks.old ≡ trail.now.atoms }
+    ensures size { OnOk result (length marks.new ≡ length marks.old) }
+    ensures clause { OnOk result (analysis.new.clause ≡ analysis.old.clause) }
+    ensures hints { OnOk result ((h : Hint) → slice_get log.now.names.items number ≡ Some h → analysis.new.hints.items ≡ analysis.old.hints.items ++ h ∷ []) }
+    ensures marked { OnOk result ((c : List (Signed ℕ)) → IsNamed log.now number c → MarksToo trail.now c marks.old marks.new analysis.old.open analysis.new.open) }
 {
     let hint = log.hint_of(number);
     analysis.hints.push(hint)?;
@@ -79,6 +122,9 @@ fn resolve(
 }
 
 fn keep(analysis: &mut Analysis, lit: Lit) -> Result<(), Memory>
+    ensures clause { OnOk result (analysis.new.clause.items ≡ analysis.old.clause.items ++ complement lit ∷ []) }
+    ensures hints { OnOk result (analysis.new.hints ≡ analysis.old.hints) }
+    ensures open { OnOk result (analysis.new.open ≡ analysis.old.open) }
 {
     analysis.clause.push(complement(lit))?;
     Ok(())
@@ -90,24 +136,30 @@ fn meet(
     trail: &Trail,
     marks: &mut Marks,
     analysis: &mut Analysis,
-    lit: Lit,
+    place: usize,
 ) -> Result<(), Memory>
+    requires ready { IsReady log.now trail.now }
+    requires size { length marks.old ≡ trail.now.atoms }
+    requires place { place < length trail.now.entries }
+    requires met { IsMet log.now trail.now (place + 1) marks.old analysis.old }
+    ensures size { OnOk result (length marks.new ≡ length marks.old) }
+    ensures met { OnOk result (IsMet log.now trail.now place marks.new analysis.new) }
 {
+    let lit = literal_at(trail, place);
     if !marks.contains(lit.atom) {
         return Ok(());
     }
     let level = trail.level_of(lit.atom).unwrap_or(0);
     let remains = stays(trail, analysis, level);
-    met(trail, &mut analysis.open, level);
+    count_met(trail, &mut analysis.open, level);
     match trail.reason(lit.atom) {
+        None => keep(analysis, lit),
         Some(number) => {
             if remains {
-                keep(analysis, lit)
-            } else {
-                resolve(log, trail, marks, analysis, number)
+                return keep(analysis, lit);
             }
+            resolve(log, trail, marks, analysis, number)
         }
-        None => keep(analysis, lit),
     }
 }
 
@@ -117,20 +169,42 @@ fn meet_decided(
     trail: &Trail,
     marks: &mut Marks,
     analysis: &mut Analysis,
-    lit: Lit,
+    place: usize,
 ) -> Result<(), Memory>
+    requires ready { IsReady log.now trail.now }
+    requires size { length marks.old ≡ trail.now.atoms }
+    requires place { place < length trail.now.entries }
+    ensures size { OnOk result (length marks.new ≡ length marks.old) }
+    ensures met { OnOk result ((start : ℕ) (l : Signed ℕ) → place < start → IsMetDecided log.now trail.now start (place + 1) l marks.old analysis.old → IsMetDecided log.now trail.now start place l marks.new analysis.new) }
 {
+    let lit = literal_at(trail, place);
     if !marks.contains(lit.atom) {
         return Ok(());
     }
     let level = trail.level_of(lit.atom).unwrap_or(0);
-    met(trail, &mut analysis.open, level);
+    count_met(trail, &mut analysis.open, level);
     match trail.reason(lit.atom) {
-        Some(number) => resolve(log, trail, marks, analysis, number),
         None => Ok(()),
+        Some(number) => resolve(log, trail, marks, analysis, number),
     }
 }
 
+// An analysis that has met nothing.
+fn no_analysis(alloc: Global) -> Analysis
+    ensures clause { result.clause.items ≡ [] }
+    ensures hints { result.hints.items ≡ [] }
+{
+    Analysis {
+        clause: Vec::new(alloc),
+        hints: Vec::new(alloc),
+        open: Open {
+            present: 0,
+            below: 0,
+        },
+    }
+}
+
+// Marks the clause of this number alone.
 fn begin(
     alloc: Global,
     log: &Log,
@@ -138,15 +212,12 @@ fn begin(
     marks: &mut Marks,
     number: usize,
 ) -> Result<Analysis, Memory>
+    requires ready { IsReady log.now trail.now }
+    requires size { length marks.old ≡ trail.now.atoms }
+    ensures size { OnOk result (length marks.new ≡ length marks.old) }
+    ensures begun { IfOk result (λ a. (c : List (Signed ℕ)) → IsNamed log.now number c → IsBegun log.now trail.now number c marks.new a) }
 {
-    let mut analysis = Analysis {
-        clause: Vec::new(alloc),
-        hints: Vec::new(alloc),
-        open: Open {
-            present: 0,
-            below: 0,
-        },
-    };
+    let mut analysis = no_analysis(alloc);
     marks.clear();
     resolve(log, trail, marks, &mut analysis, number)?;
     Ok(analysis)
@@ -160,47 +231,57 @@ pub(crate) fn analyze(
     marks: &mut Marks,
     number: usize,
 ) -> Result<Analysis, Memory>
+    requires ready { IsReady log.now trail.now }
+    requires size { length marks.old ≡ trail.now.atoms }
+    requires conflict { NamesFalse log.now trail.now.entries number }
+    ensures size { OnOk result (length marks.new ≡ length marks.old) }
+    ensures analysis { IfOk result (IsAnalysis log.now trail.now.entries) }
 {
     let mut analysis = begin(alloc, log, trail, marks, number)?;
-    let literals = trail.assigned();
-    let mut place = literals.len();
+    let mut place = trail.assigned().len();
     while 0 < place && (0 < analysis.open.present || 0 < analysis.open.below) {
         place -= 1;
-        meet(log, trail, marks, &mut analysis, literals[place])?;
+        meet(log, trail, marks, &mut analysis, place)?;
     }
     analysis.hints.reverse();
     Ok(analysis)
 }
 
-// The place on the trail of the atom's literal.
-fn place_of(literals: &[Lit], atom: usize) -> usize
+// The place on the trail of the literal.
+fn place_of(literals: &[Lit], lit: Lit) -> usize
+    requires { Contains literals.now lit }
+    ensures { slice_get literals.now result ≡ Some lit }
 {
     let mut place = literals.len();
     while 0 < place {
         place -= 1;
-        if literals[place].atom == atom {
+        if literals[place] == lit {
             return place;
         }
     }
     0
 }
 
-// Marks the decisions on which the atom's literal depends, which the clause of this number gave, and answers the hints.
+// Marks the decisions on which a true literal depends that the clause of this number gave, and answers the hints.
 pub(crate) fn analyze_given(
     alloc: Global,
     log: &Log,
     trail: &Trail,
     marks: &mut Marks,
-    atom: usize,
+    lit: Lit,
     number: usize,
 ) -> Result<Vec<Hint>, Memory>
+    requires ready { IsReady log.now trail.now }
+    requires size { length marks.old ≡ trail.now.atoms }
+    requires given { (e : Entry) × Contains trail.now.entries e × (e.lit ≡ lit) × (e.reason ≡ Some number) }
+    ensures size { OnOk result (length marks.new ≡ length marks.old) }
+    ensures hints { IfOk result (λ hints. ShowsGiven log.now trail.now.entries lit marks.new hints.items) }
 {
     let mut analysis = begin(alloc, log, trail, marks, number)?;
-    let literals = trail.assigned();
-    let mut place = place_of(literals, atom);
-    while 0 < place {
+    let mut place = place_of(trail.assigned(), lit);
+    while 0 < place && (0 < analysis.open.present || 0 < analysis.open.below) {
         place -= 1;
-        meet_decided(log, trail, marks, &mut analysis, literals[place])?;
+        meet_decided(log, trail, marks, &mut analysis, place)?;
     }
     analysis.hints.reverse();
     Ok(analysis.hints)

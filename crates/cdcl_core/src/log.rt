@@ -1,7 +1,9 @@
 // The added clauses and the steps, and by which of these a clause is known to the trail.
 ghost use Rattle.std.specs.Prelude.{◌≡◌, ◌+◌, ◌∷◌, [], ◌++◌, ◌<◌, ◌≤◌, ℕ, List, Some, length, slice_get, OnOk, IfOk};
 ghost use Rattle.inst_logic.specs.declared.signed.Signed.{Signed};
-ghost use Rattle.prop_logic.specs.Literal.{cited};
+ghost use Rattle.prop_logic.specs.Literal.{cited, AtomsBelow, AllAtomsBelow, StepsBelow};
+ghost use Rattle.prop_logic.specs.declared.literal.Hint.{Hint};
+ghost use Rattle.cdcl_core.specs.Log.{PutsName};
 
 use inst_logic::Memory;
 use prop_logic::{Derivation, Hint, Lit, LitLists};
@@ -28,7 +30,7 @@ fn lengthen(names: &mut Vec<Hint>, number: usize) -> Result<(), Memory>
 
 // Gives the number its name.
 pub(crate) fn put_name(names: &mut Vec<Hint>, number: usize, hint: Hint) -> Result<(), Memory>
-    ensures { OnOk result (Names names.old.items names.new.items number hint) }
+    ensures { OnOk result (PutsName names.old.items names.new.items number hint) }
 {
     lengthen(names, number)?;
     names[number] = hint;
@@ -56,7 +58,8 @@ impl Log {
 
     // The clause that the hint cites.
     pub(crate) fn cited(&self, hint: Hint) -> &[Lit]
-        ensures { (c : List (Signed ℕ)) → cited self.now.added self.now.steps hint ≡ Some c → result.now ≡ c }
+        ensures below { (n : ℕ) → AllAtomsBelow n self.now.added → StepsBelow n self.now.steps → AtomsBelow n result.now }
+        ensures clause { (c : List (Signed ℕ)) → cited self.now.added self.now.steps hint ≡ Some c → result.now ≡ c }
     {
         match hint {
             Hint::Added(n) => {
