@@ -40,11 +40,13 @@ impl Clauses {
         ensures number { IfOk result (AddsClause self.old self.new c.now) }
         ensures err { OnErr result (self.new ≡ self.old) }
     {
-        let copy = LitList::from(Vec::from_slice(self.alloc, c)?);
-        match self.clauses.insert(copy) {
-            Ok(key) => Ok(key + 1),
-            Err(_) => Err(Memory),
+        let key = self.clauses.vacant_key();
+        if key == usize::MAX {
+            return Err(Memory);
         }
+        let copy = LitList::from(Vec::from_slice(self.alloc, c)?);
+        self.clauses.insert(copy)?;
+        Ok(key + 1)
     }
 
     /// The clause of this number.
