@@ -17,7 +17,7 @@ use Rattle.cdcl_trail.specs.declared.entry.Entry.{Entry}
 use Rattle.cdcl_trail.specs.Trail.{Trail, IsTrail, IsDecision, level_of, reason_of, literals_of}
 use Rattle.cdcl_trail.specs.Propagation.{IsFalseIn, GivesUnit}
 use Rattle.cdcl_core.specs.declared.log.Log.{Log}
-use Rattle.cdcl_core.specs.declared.analysis.Open.{Open}
+use Rattle.cdcl_core.specs.declared.analysis.Counts.{Counts}
 use Rattle.cdcl_core.specs.declared.analysis.Analysis.{Analysis}
 use Rattle.cdcl_core.specs.Log.{IsNamed}
 use Rattle.cdcl_core.specs.Analysis.{IsMarked, KeepsMarks, is_at, is_off, marked_count, AreCounted, MarksToo, AreImplied, NamesFalse, IsFree, Covers, ClosesFrom, IsFalseBelow, IsLearned, AreBelowFirst, HasAll, IsMet, IsAnalysis, HasDecisions, HasDecisionsAnd, IsMetDecided}
@@ -98,7 +98,7 @@ level_is : (t : Trail) (e : Entry) (a : ℕ) → IsTrail t → Contains t.entrie
 level_is t e a v c same = ap (λ o. unwrap_or o 0) (level_found t e a v c same)
 
 -- a new mark at the present level
-pub counted_present : (t : Trail) (i a : ℕ) (marks : List Bool) (was is : Open) → IsTrail t → length t.entries ≤ 2 ^ 64 - 1 → unwrap_or (level_of t.entries a) 0 ≡ t.level
+pub counted_present : (t : Trail) (i a : ℕ) (marks : List Bool) (was is : Counts) → IsTrail t → length t.entries ≤ 2 ^ 64 - 1 → unwrap_or (level_of t.entries a) 0 ≡ t.level
     → is.present ≡ min (was.present + 1) (2 ^ 64 - 1) → is.below ≡ was.below → AreCounted t i marks was → AreCounted t i (set marks a true) is
 counted_present t i a marks was is v room here more same c =
     let more_at = count_more (is_at t.level) marks a i t.entries v.once in
@@ -108,7 +108,7 @@ counted_present t i a marks was is v room here more same c =
     record { present = omega (arith, more_at, short, size, more, c.present); below = omega (arith, kept, same, c.below) }
 
 -- and at another one
-pub counted_below : (t : Trail) (i a : ℕ) (marks : List Bool) (was is : Open) → IsTrail t → length t.entries ≤ 2 ^ 64 - 1 → (unwrap_or (level_of t.entries a) 0 ≡ t.level → ⊥)
+pub counted_below : (t : Trail) (i a : ℕ) (marks : List Bool) (was is : Counts) → IsTrail t → length t.entries ≤ 2 ^ 64 - 1 → (unwrap_or (level_of t.entries a) 0 ≡ t.level → ⊥)
     → is.present ≡ was.present → is.below ≡ min (was.below + 1) (2 ^ 64 - 1) → AreCounted t i marks was → AreCounted t i (set marks a true) is
 counted_below t i a marks was is v room other same more c =
     let more_off = count_more (is_off t.level) marks a i t.entries v.once in
@@ -117,13 +117,13 @@ counted_below t i a marks was is v room other same more c =
     let kept = count_same (is_at t.level) marks a (take i t.entries) (λ e k s. at_false e.level t.level (λ q. other (level_is t e a v (Contains-take t.entries i e k) s ∙ q))) in
     record { present = omega (arith, kept, same, c.present); below = omega (arith, more_off, short, size, more, c.below) }
 
-pub counted_unmarked : (t : Trail) (i : ℕ) (e : Entry) (marks : List Bool) (o : Open) → slice_get t.entries i ≡ Some e → AreCounted t (i + 1) marks o → AreCounted t i marks o
+pub counted_unmarked : (t : Trail) (i : ℕ) (e : Entry) (marks : List Bool) (o : Counts) → slice_get t.entries i ≡ Some e → AreCounted t (i + 1) marks o → AreCounted t i marks o
 counted_unmarked t i e marks o at c = record {
   present = omega (arith, count_item (is_at t.level) marks t.entries i e at, c.present);
   below = omega (arith, count_item (is_off t.level) marks t.entries i e at, c.below);
 }
 
-pub counted_met_present : (t : Trail) (i : ℕ) (e : Entry) (marks : List Bool) (was is : Open) → slice_get t.entries i ≡ Some e → IsMarked marks e.lit.atom → e.level ≡ t.level → is.present ≡ was.present - 1 → is.below ≡ was.below
+pub counted_met_present : (t : Trail) (i : ℕ) (e : Entry) (marks : List Bool) (was is : Counts) → slice_get t.entries i ≡ Some e → IsMarked marks e.lit.atom → e.level ≡ t.level → is.present ≡ was.present - 1 → is.below ≡ was.below
     → AreCounted t (i + 1) marks was → AreCounted t i marks is
 counted_met_present t i e marks was is at m here less same c =
     let bit : one (is_at t.level) marks e ≡ 1 = ap (λ b. cond (b && get_or marks e.lit.atom false) 1 0) (at_true e.level t.level here) ∙ ap (λ b. cond b 1 0) m in
@@ -132,7 +132,7 @@ counted_met_present t i e marks was is at m here less same c =
       below = omega (arith, count_item (is_off t.level) marks t.entries i e at, same, c.below);
     }
 
-pub counted_met_below : (t : Trail) (i : ℕ) (e : Entry) (marks : List Bool) (was is : Open) → slice_get t.entries i ≡ Some e → IsMarked marks e.lit.atom → (e.level ≡ t.level → ⊥) → is.present ≡ was.present → is.below ≡ was.below - 1
+pub counted_met_below : (t : Trail) (i : ℕ) (e : Entry) (marks : List Bool) (was is : Counts) → slice_get t.entries i ≡ Some e → IsMarked marks e.lit.atom → (e.level ≡ t.level → ⊥) → is.present ≡ was.present → is.below ≡ was.below - 1
     → AreCounted t (i + 1) marks was → AreCounted t i marks is
 counted_met_below t i e marks was is at m other same less c =
     let bit : one (is_off t.level) marks e ≡ 1 = ap (λ b. cond (not b && get_or marks e.lit.atom false) 1 0) (at_false e.level t.level other) ∙ ap (λ b. cond b 1 0) m in
@@ -142,7 +142,7 @@ counted_met_below t i e marks was is at m other same less c =
     }
 
 -- where nothing is counted nothing is marked
-pub none_marked : (t : Trail) (i : ℕ) (marks : List Bool) (o : Open) (e : Entry) → AreCounted t i marks o → o.present ≡ 0 → o.below ≡ 0 → Contains (take i t.entries) e → IsMarked marks e.lit.atom → ⊥
+pub none_marked : (t : Trail) (i : ℕ) (marks : List Bool) (o : Counts) (e : Entry) → AreCounted t i marks o → o.present ≡ 0 → o.below ≡ 0 → Contains (take i t.entries) e → IsMarked marks e.lit.atom → ⊥
 none_marked t i marks o e c p b k m =
     elim (cases_eq e.level t.level) [
       | inl here ↦ let some = count_some (is_at t.level) marks (take i t.entries) e k (at_true e.level t.level here) m in absurd (omega (arith, some, c.present, p))
@@ -150,7 +150,7 @@ none_marked t i marks o e c p b k m =
     ]
 
 -- only one of the present level is left to be met
-pub only_one : (t : Trail) (i : ℕ) (e d : Entry) (marks : List Bool) (o : Open) → slice_get t.entries i ≡ Some e → AreCounted t (i + 1) marks o → o.present ≤ 1 → IsMarked marks e.lit.atom → e.level ≡ t.level
+pub only_one : (t : Trail) (i : ℕ) (e d : Entry) (marks : List Bool) (o : Counts) → slice_get t.entries i ≡ Some e → AreCounted t (i + 1) marks o → o.present ≤ 1 → IsMarked marks e.lit.atom → e.level ≡ t.level
     → Contains (take i t.entries) d → IsMarked marks d.lit.atom → d.level ≡ t.level → ⊥
 only_one t i e d marks o at c low m here k n too =
     let bit : one (is_at t.level) marks e ≡ 1 = ap (λ b. cond (b && get_or marks e.lit.atom false) 1 0) (at_true e.level t.level here) ∙ ap (λ b. cond b 1 0) m in
@@ -158,10 +158,10 @@ only_one t i e d marks o at c low m here k n too =
     omega (arith, count_item (is_at t.level) marks t.entries i e at, bit, some, c.present, low)
 
 -- marks of a clause
-pub marks_none : (t : Trail) (marks : List Bool) (o : Open) → MarksToo t [] marks marks o o
+pub marks_none : (t : Trail) (marks : List Bool) (o : Counts) → MarksToo t [] marks marks o o
 marks_none t marks o = record { marked = All-nil (λ l. IsMarked marks l.atom); kept = λ a m. m; counted = λ i c. c }
 
-pub marks_again : (t : Trail) (l : Signed ℕ) (marks : List Bool) (o : Open) → IsMarked marks l.atom → MarksToo t (l ∷ []) marks marks o o
+pub marks_again : (t : Trail) (l : Signed ℕ) (marks : List Bool) (o : Counts) → IsMarked marks l.atom → MarksToo t (l ∷ []) marks marks o o
 marks_again t l marks o m = record { marked = All-cons (λ x. IsMarked marks x.atom) l [] m (All-nil (λ x. IsMarked marks x.atom)); kept = λ a k. k; counted = λ i c. c }
 
 set_kept : (marks : List Bool) (a : ℕ) → a < length marks → KeepsMarks marks (set marks a true)
@@ -171,12 +171,12 @@ set_kept marks a h = λ b m.
       | inr other ↦ get_or-set_other marks a b true false other ∙ m
     ]
 
-pub marks_one : (t : Trail) (l : Signed ℕ) (marks : List Bool) (was is : Open) → l.atom < length marks → ((i : ℕ) → AreCounted t i marks was → AreCounted t i (set marks l.atom true) is) → MarksToo t (l ∷ []) marks (set marks l.atom true) was is
+pub marks_one : (t : Trail) (l : Signed ℕ) (marks : List Bool) (was is : Counts) → l.atom < length marks → ((i : ℕ) → AreCounted t i marks was → AreCounted t i (set marks l.atom true) is) → MarksToo t (l ∷ []) marks (set marks l.atom true) was is
 marks_one t l marks was is h counted =
     let new = set marks l.atom true in
     record { marked = All-cons (λ x. IsMarked new x.atom) l [] (get_or-set_same marks l.atom true false h) (All-nil (λ x. IsMarked new x.atom)); kept = set_kept marks l.atom h; counted = counted }
 
-pub marks_more : (t : Trail) (c : List (Signed ℕ)) (l : Signed ℕ) (m0 m1 m2 : List Bool) (o0 o1 o2 : Open) → MarksToo t c m0 m1 o0 o1 → MarksToo t (l ∷ []) m1 m2 o1 o2 → MarksToo t (c ++ l ∷ []) m0 m2 o0 o2
+pub marks_more : (t : Trail) (c : List (Signed ℕ)) (l : Signed ℕ) (m0 m1 m2 : List Bool) (o0 o1 o2 : Counts) → MarksToo t c m0 m1 o0 o1 → MarksToo t (l ∷ []) m1 m2 o1 o2 → MarksToo t (c ++ l ∷ []) m0 m2 o0 o2
 marks_more t c l m0 m1 m2 o0 o1 o2 a b = record {
   marked = All-push (λ x. IsMarked m2 x.atom) c l (All-weaker (λ x. IsMarked m1 x.atom) (λ x. IsMarked m2 x.atom) (λ x m. b.kept x.atom m) c a.marked) (All-contains (λ x. IsMarked m2 x.atom) (l ∷ []) l b.marked (0, omega arith, refl));
   kept = λ x m. b.kept x (a.kept x m);
@@ -283,7 +283,7 @@ below_decided t i e marks v at chosen = λ f d cf s cd m.
     let same = complement_same t e f v (Contains-slice_get t.entries i e at) cf s in
     subst (λ y. d.level < y.level) same (pair_before (λ a b. IsDecision b → a.level < b.level) t.entries i d e v.first at cd chosen)
 
-pub below_unique : (t : Trail) (i : ℕ) (e : Entry) (marks : List Bool) (o : Open) → IsTrail t → slice_get t.entries i ≡ Some e → IsMarked marks e.lit.atom → e.level ≡ t.level → o.present ≤ 1 → AreCounted t (i + 1) marks o → AreBelowFirst t.entries (take i t.entries) marks (complement e.lit ∷ [])
+pub below_unique : (t : Trail) (i : ℕ) (e : Entry) (marks : List Bool) (o : Counts) → IsTrail t → slice_get t.entries i ≡ Some e → IsMarked marks e.lit.atom → e.level ≡ t.level → o.present ≤ 1 → AreCounted t (i + 1) marks o → AreBelowFirst t.entries (take i t.entries) marks (complement e.lit ∷ [])
 below_unique t i e marks o v at mark here low counted = λ f d cf s cd m.
     let same = complement_same t e f v (Contains-slice_get t.entries i e at) cf s in
     let up = pair_before (λ a b. a.level ≤ b.level) t.entries i d e v.rising at cd in

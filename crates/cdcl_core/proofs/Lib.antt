@@ -1,3 +1,4 @@
+pub mod LogLaws
 pub mod EntryLaws
 pub mod AnalysisLaws
 pub mod MeetLaws

@@ -15,7 +15,7 @@ use Rattle.cdcl_trail.specs.declared.entry.Entry.{Entry}
 use Rattle.cdcl_trail.specs.Trail.{Trail, IsTrail, IsDecision, literals_of}
 use Rattle.cdcl_trail.specs.Propagation.{IsFalseIn, GivesUnit}
 use Rattle.cdcl_core.specs.declared.log.Log.{Log}
-use Rattle.cdcl_core.specs.declared.analysis.Open.{Open}
+use Rattle.cdcl_core.specs.declared.analysis.Counts.{Counts}
 use Rattle.cdcl_core.specs.declared.analysis.Analysis.{Analysis}
 use Rattle.cdcl_core.specs.Log.{IsNamed}
 use Rattle.cdcl_core.specs.Analysis.{IsMarked, KeepsMarks, is_at, is_off, marked_count, AreCounted, MarksToo, AreImplied, IsReady, NamesFalse, IsFree, Covers, ClosesFrom, IsLearned, AreBelowFirst, HasAll, IsMet, IsBegun, IsAnalysis, HasDecisions, HasDecisionsAnd, IsMetDecided, ShowsGiven}
@@ -31,7 +31,7 @@ entry_at (x ∷ xs) (suc i) d h = entry_at xs i d (omega arith)
 pub met_unmarked : (log : Log) (t : Trail) (i : ℕ) (e : Entry) (marks : List Bool) (a : Analysis) → slice_get t.entries i ≡ Some e → (IsMarked marks e.lit.atom → ⊥) → IsMet log t (i + 1) marks a → IsMet log t i marks a
 met_unmarked log t i e marks a at free m = record {
   closes = closes_unmarked log t.entries t.entries i e marks (HasAll a.clause.items) (reverse a.hints.items) at free m.closes;
-  counted = counted_unmarked t i e marks a.open at m.counted;
+  counted = counted_unmarked t i e marks a.counts at m.counted;
   learned = m.learned;
   first = first_kept t i e marks a.clause.items at m.first;
 }
@@ -42,7 +42,7 @@ kept_clause t i e marks [] at m high low learned first = (learned_first t i e ma
 kept_clause t i e marks (l ∷ ls) at m high low learned first = (learned_more t i e marks l ls at m first learned, first_kept t i e marks (l ∷ ls) at first)
 
 pub met_kept : (log : Log) (t : Trail) (i : ℕ) (e : Entry) (marks : List Bool) (a b : Analysis) → slice_get t.entries i ≡ Some e → IsMarked marks e.lit.atom → 0 < e.level → (a.clause.items ≡ [] → AreBelowFirst t.entries (take i t.entries) marks (complement e.lit ∷ []))
-    → b.clause.items ≡ a.clause.items ++ complement e.lit ∷ [] → b.hints.items ≡ a.hints.items → AreCounted t i marks b.open → IsMet log t (i + 1) marks a → IsMet log t i marks b
+    → b.clause.items ≡ a.clause.items ++ complement e.lit ∷ [] → b.hints.items ≡ a.hints.items → AreCounted t i marks b.counts → IsMet log t (i + 1) marks a → IsMet log t i marks b
 met_kept log t i e marks a b at m high low grown same counted x =
     let k = kept_clause t i e marks a.clause.items at m high low x.learned x.first in
     record {
@@ -58,9 +58,9 @@ met_kept log t i e marks a b at m high low grown same counted x =
       first = subst (AreBelowFirst t.entries (take i t.entries) marks) (sym grown) k.1;
     }
 
-pub met_resolved : (log : Log) (t : Trail) (i n : ℕ) (e : Entry) (marks new : List Bool) (a b : Analysis) (o : Open) → IsReady log t → slice_get t.entries i ≡ Some e → e.reason ≡ Some n
+pub met_resolved : (log : Log) (t : Trail) (i n : ℕ) (e : Entry) (marks new : List Bool) (a b : Analysis) (o : Counts) → IsReady log t → slice_get t.entries i ≡ Some e → e.reason ≡ Some n
     → ((a.clause.items ≡ [] → ⊥) → e.level ≡ 0) → AreCounted t i marks o → b.clause.items ≡ a.clause.items → ((h : Hint) → slice_get log.names.items n ≡ Some h → b.hints.items ≡ a.hints.items ++ h ∷ [])
-    → ((c : List (Signed ℕ)) → IsNamed log n c → MarksToo t c marks new o b.open) → IsMet log t (i + 1) marks a → IsMet log t i new b
+    → ((c : List (Signed ℕ)) → IsNamed log n c → MarksToo t c marks new o b.counts) → IsMet log t (i + 1) marks a → IsMet log t i new b
 met_resolved log t i n e marks new a b o ready at reason zero_level counted same hints marked x =
     let why = ready.implied i n e at reason in
     let h = why.1.0 in
@@ -81,14 +81,14 @@ met_resolved log t i n e marks new a b o ready at reason zero_level counted same
 pub met_decided_unmarked : (log : Log) (t : Trail) (start i : ℕ) (l : Signed ℕ) (e : Entry) (marks : List Bool) (a : Analysis) → slice_get t.entries i ≡ Some e → (IsMarked marks e.lit.atom → ⊥) → IsMetDecided log t start (i + 1) l marks a → IsMetDecided log t start i l marks a
 met_decided_unmarked log t start i l e marks a at free m = record {
   closes = closes_unmarked log (take start t.entries) t.entries i e marks (HasDecisionsAnd l (take start t.entries) marks) (reverse a.hints.items) at free m.closes;
-  counted = counted_unmarked t i e marks a.open at m.counted;
+  counted = counted_unmarked t i e marks a.counts at m.counted;
 }
 
 in_first : (entries : List Entry) (start i : ℕ) (e : Entry) → slice_get entries i ≡ Some e → i < start → Contains (take start entries) e
 in_first entries start i e at low = Contains-slice_get (take start entries) i e (take_slice_get entries start i e low at)
 
 pub met_decided_kept : (log : Log) (t : Trail) (start i : ℕ) (l : Signed ℕ) (e : Entry) (marks : List Bool) (a b : Analysis) → i < start → slice_get t.entries i ≡ Some e → IsMarked marks e.lit.atom → e.reason ≡ None
-    → b.hints.items ≡ a.hints.items → AreCounted t i marks b.open → IsMetDecided log t start (i + 1) l marks a → IsMetDecided log t start i l marks b
+    → b.hints.items ≡ a.hints.items → AreCounted t i marks b.counts → IsMetDecided log t start (i + 1) l marks a → IsMetDecided log t start i l marks b
 met_decided_kept log t start i l e marks a b low at m chosen same counted x =
     let whole = take start t.entries in
     record {
@@ -98,9 +98,9 @@ met_decided_kept log t start i l e marks a b low at m chosen same counted x =
       counted = counted;
     }
 
-pub met_decided_resolved : (log : Log) (t : Trail) (start i n : ℕ) (l : Signed ℕ) (e : Entry) (marks new : List Bool) (a b : Analysis) (o : Open) → IsReady log t → i < start → slice_get t.entries i ≡ Some e → e.reason ≡ Some n
+pub met_decided_resolved : (log : Log) (t : Trail) (start i n : ℕ) (l : Signed ℕ) (e : Entry) (marks new : List Bool) (a b : Analysis) (o : Counts) → IsReady log t → i < start → slice_get t.entries i ≡ Some e → e.reason ≡ Some n
     → AreCounted t i marks o → ((h : Hint) → slice_get log.names.items n ≡ Some h → b.hints.items ≡ a.hints.items ++ h ∷ [])
-    → ((c : List (Signed ℕ)) → IsNamed log n c → MarksToo t c marks new o b.open) → IsMetDecided log t start (i + 1) l marks a → IsMetDecided log t start i l new b
+    → ((c : List (Signed ℕ)) → IsNamed log n c → MarksToo t c marks new o b.counts) → IsMetDecided log t start (i + 1) l marks a → IsMetDecided log t start i l new b
 met_decided_resolved log t start i n l e marks new a b o ready low at reason counted hints marked x =
     let whole = take start t.entries in
     let why = ready.implied i n e at reason in
@@ -135,7 +135,7 @@ count_none q n (e ∷ es) =
     zero_bit true c e = ap (λ x. cond {A = ℕ} x 1 0) e
     zero_bit false c e = refl
 
-pub counted_none : (t : Trail) (i n : ℕ) (o : Open) → AreCounted t i (replicate n false) o
+pub counted_none : (t : Trail) (i n : ℕ) (o : Counts) → AreCounted t i (replicate n false) o
 counted_none t i n o = record { present = omega (arith, count_none (is_at t.level) n (take i t.entries)); below = omega (arith, count_none (is_off t.level) n (take i t.entries)) }
 
 pub met_first : (log : Log) (t : Trail) (i n : ℕ) (marks : List Bool) (a : Analysis) → i ≡ length t.entries → (f : NamesFalse log t.entries n) → IsBegun log t n f.0 marks a → IsMet log t i marks a
@@ -168,10 +168,10 @@ met_decided_first log t start n e marks a ready at reason begun =
     }
 
 -- the end: no more is marked
-abbrev pub IsDone : ℕ → Open → Type 0
+abbrev pub IsDone : ℕ → Counts → Type 0
 IsDone i o = (0 < i → ⊥) ⊎ ((0 < o.present → ⊥) × (0 < o.below → ⊥))
 
-no_more : (t : Trail) (i : ℕ) (marks : List Bool) (o : Open) (F : List (Signed ℕ)) → AreCounted t i marks o → IsDone i o → Covers (take i t.entries) marks F
+no_more : (t : Trail) (i : ℕ) (marks : List Bool) (o : Counts) (F : List (Signed ℕ)) → AreCounted t i marks o → IsDone i o → Covers (take i t.entries) marks F
 no_more t i marks o F c (inl none) = λ e k m.
     let at = slice_get-Contains (take i t.entries) e k in
     let g = slice_get_take t.entries i at.0 e at.1 in
@@ -182,16 +182,16 @@ no_more t i marks o F c (inr none) = λ e k m. absurd (none_marked t i marks o e
     zero_of zero h = refl
     zero_of (suc n) h = absurd (h (omega arith))
 
-pub analysis_done : (log : Log) (t : Trail) (i : ℕ) (marks : List Bool) (a b : Analysis) → IsTrail t → IsDone i a.open → b.clause.items ≡ a.clause.items → b.hints.items ≡ reverse a.hints.items → IsMet log t i marks a → IsAnalysis log t.entries b
+pub analysis_done : (log : Log) (t : Trail) (i : ℕ) (marks : List Bool) (a b : Analysis) → IsTrail t → IsDone i a.counts → b.clause.items ≡ a.clause.items → b.hints.items ≡ reverse a.hints.items → IsMet log t i marks a → IsAnalysis log t.entries b
 analysis_done log t i marks a b v done same turned x =
     let clause = a.clause.items in
-    let closes = x.closes clause (learned_free t clause v x.learned) (no_more t i marks a.open clause x.counted done) (All-contains_itself clause) in
+    let closes = x.closes clause (learned_free t clause v x.learned) (no_more t i marks a.counts clause x.counted done) (All-contains_itself clause) in
     record {
       closes = subst (λ hs. ClosesAll b.clause.items (map (cited log.added log.steps) hs)) (sym turned) (subst (λ c. ClosesAll c (map (cited log.added log.steps) (reverse a.hints.items))) (sym same) closes);
       learned = subst (IsLearned t.entries) (sym same) x.learned;
     }
 
-pub given_done : (log : Log) (t : Trail) (start i : ℕ) (e : Entry) (marks : List Bool) (a : Analysis) (hints : List Hint) → IsTrail t → slice_get t.entries start ≡ Some e → IsDone i a.open → hints ≡ reverse a.hints.items → IsMetDecided log t start i e.lit marks a → ShowsGiven log t.entries e.lit marks hints
+pub given_done : (log : Log) (t : Trail) (start i : ℕ) (e : Entry) (marks : List Bool) (a : Analysis) (hints : List Hint) → IsTrail t → slice_get t.entries start ≡ Some e → IsDone i a.counts → hints ≡ reverse a.hints.items → IsMetDecided log t start i e.lit marks a → ShowsGiven log t.entries e.lit marks hints
 given_done log t start i e marks a hints v at done turned x = λ F free s.
     subst (λ hs. ClosesAll F (map (cited log.added log.steps) hs)) (sym turned)
     (x.closes F
@@ -199,5 +199,5 @@ given_done log t start i e marks a hints v at done turned x = λ F free s.
     let p = slice_get-Contains (take start t.entries) d c in
     let g = slice_get_take t.entries start p.0 d p.1 in
     free d (Contains-take t.entries start d c) (λ q. pair_at (λ y z. y.lit.atom ≢ z.lit.atom) t.entries p.0 start d e v.once g.1 g.0 at (ap (λ y. y.atom) q)) k)
-    (no_more t i marks a.open F x.counted done)
+    (no_more t i marks a.counts F x.counted done)
     (s.0, λ d c chosen m. s.1 d (Contains-take t.entries start d c) chosen m))

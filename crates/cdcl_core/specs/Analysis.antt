@@ -10,7 +10,7 @@ use Rattle.cdcl_trail.specs.declared.entry.Entry.{Entry}
 use Rattle.cdcl_trail.specs.Trail.{Trail, IsTrail, IsDecision}
 use Rattle.cdcl_trail.specs.Propagation.{IsFalseIn, GivesUnit}
 use Rattle.cdcl_core.specs.declared.log.Log.{Log}
-use Rattle.cdcl_core.specs.declared.analysis.Open.{Open}
+use Rattle.cdcl_core.specs.declared.analysis.Counts.{Counts}
 use Rattle.cdcl_core.specs.declared.analysis.Analysis.{Analysis}
 use Rattle.cdcl_core.specs.Log.{IsNamed}
 
@@ -32,12 +32,12 @@ marked_count q marks [] = 0
 marked_count q marks (e ∷ es) = (if q e && slice_index_or marks e.lit.atom false then 1 else 0) + marked_count q marks es
 
 -- no more of the first i entries are marked than are counted
-pub record AreCounted (t : Trail) (i : ℕ) (marks : List Bool) (open_now : Open) : Type 0 where
-  pub present : marked_count (is_at t.level) marks (take i t.entries) ≤ open_now.present
-  pub below : marked_count (is_off t.level) marks (take i t.entries) ≤ open_now.below
+pub record AreCounted (t : Trail) (i : ℕ) (marks : List Bool) (now : Counts) : Type 0 where
+  pub present : marked_count (is_at t.level) marks (take i t.entries) ≤ now.present
+  pub below : marked_count (is_off t.level) marks (take i t.entries) ≤ now.below
 
 -- the marks of the clause are added
-pub record MarksToo (t : Trail) (clause : List (Signed ℕ)) (old new : List Bool) (was is : Open) : Type 0 where
+pub record MarksToo (t : Trail) (clause : List (Signed ℕ)) (old new : List Bool) (was is : Counts) : Type 0 where
   pub marked : All (λ l. IsMarked new l.atom) clause
   pub kept : KeepsMarks old new
   pub counted : (i : ℕ) → AreCounted t i old was → AreCounted t i new is
@@ -90,7 +90,7 @@ HasAll clause F = All (Contains F) clause
 -- the analysis when it has met the entries from i on
 pub record IsMet (log : Log) (t : Trail) (i : ℕ) (marks : List Bool) (a : Analysis) : Type 0 where
   pub closes : ClosesFrom log t.entries (take i t.entries) marks (HasAll a.clause.items) (reverse a.hints.items)
-  pub counted : AreCounted t i marks a.open
+  pub counted : AreCounted t i marks a.counts
   pub learned : IsLearned t.entries a.clause.items
   pub first : AreBelowFirst t.entries (take i t.entries) marks a.clause.items
 
@@ -99,7 +99,7 @@ pub record IsBegun (log : Log) (t : Trail) (n : ℕ) (c : List (Signed ℕ)) (ma
   pub clause : a.clause.items ≡ []
   pub hints : (h : Hint) → slice_get log.names.items n ≡ Some h → a.hints.items ≡ h ∷ []
   pub marked : All (λ l. IsMarked marks l.atom) c
-  pub counted : (i : ℕ) → AreCounted t i marks a.open
+  pub counted : (i : ℕ) → AreCounted t i marks a.counts
 
 -- what is left when it has met all
 pub record IsAnalysis (log : Log) (entries : List Entry) (a : Analysis) : Type 0 where
@@ -116,7 +116,7 @@ HasDecisionsAnd l entries marks F = Contains F l × HasDecisions entries marks F
 -- the same where exactly the decisions stay, from the place of the entry of l back
 pub record IsMetDecided (log : Log) (t : Trail) (start i : ℕ) (l : Signed ℕ) (marks : List Bool) (a : Analysis) : Type 0 where
   pub closes : ClosesFrom log (take start t.entries) (take i t.entries) marks (HasDecisionsAnd l (take start t.entries) marks) (reverse a.hints.items)
-  pub counted : AreCounted t i marks a.open
+  pub counted : AreCounted t i marks a.counts
 
 -- from the literal and the complements of the marked decisions the hints close
 abbrev pub ShowsGiven : Log → List Entry → Signed ℕ → List Bool → List Hint → Type 0

@@ -18,7 +18,7 @@ use std::alloc::Global;
 
 // How many marked literals are still to be met: of the present level, and of those below it.
 #[derive(Clone, Copy)]
-pub(crate) struct Open {
+pub(crate) struct Counts {
     pub(crate) present: usize,
     pub(crate) below: usize,
 }
@@ -28,7 +28,7 @@ pub(crate) struct Open {
 pub(crate) struct Analysis {
     pub(crate) clause: Vec<Lit>,
     pub(crate) hints: Vec<Hint>,
-    pub(crate) open: Open,
+    pub(crate) counts: Counts,
 }
 
 // The literal at a place of the trail.
@@ -41,13 +41,13 @@ fn literal_at(trail: &Trail, place: usize) -> Lit
     literals[place]
 }
 
-fn mark(trail: &Trail, marks: &mut Marks, open: &mut Open, lit: Lit)
+fn mark(trail: &Trail, marks: &mut Marks, counts: &mut Counts, lit: Lit)
     requires trail { IsTrail trail.now }
     requires room { length trail.now.entries ≤ usize.MAX }
     requires size { length marks.old ≡ trail.now.atoms }
     requires atom { lit.atom < trail.now.atoms }
     ensures size { length marks.new ≡ length marks.old }
-    ensures marked { MarksToo trail.now (lit ∷ []) marks.old marks.new open.old open.new }
+    ensures marked { MarksToo trail.now (lit ∷ []) marks.old marks.new counts.old counts.new }
 {
     if marks.contains(lit.atom) {
         return;
@@ -55,30 +55,30 @@ fn mark(trail: &Trail, marks: &mut Marks, open: &mut Open, lit: Lit)
     marks.insert(lit.atom);
     let level = trail.level_of(lit.atom).unwrap_or(0);
     if level == trail.level() {
-        open.present = open.present.saturating_add(1);
+        counts.present = counts.present.saturating_add(1);
     } else {
-        open.below = open.below.saturating_add(1);
+        counts.below = counts.below.saturating_add(1);
     }
 }
 
 // Marks the atoms of the clause.
-fn mark_all(trail: &Trail, marks: &mut Marks, open: &mut Open, clause: &[Lit])
+fn mark_all(trail: &Trail, marks: &mut Marks, counts: &mut Counts, clause: &[Lit])
     requires trail { IsTrail trail.now }
     requires room { length trail.now.entries ≤ usize.MAX }
     requires size { length marks.old ≡ trail.now.atoms }
     requires atoms { AtomsBelow trail.now.atoms clause.now }
     ensures size { length marks.new ≡ length marks.old }
-    ensures marked { MarksToo trail.now clause.now marks.old marks.new open.old open.new }
+    ensures marked { MarksToo trail.now clause.now marks.old marks.new counts.old counts.new }
 {
     for lit in clause {
-        mark(trail, marks, open, *lit);
+        mark(trail, marks, counts, *lit);
     }
 }
 
 // Whether a literal with a reason stays. The first one that stays is the last of the present level that all paths to the
 // conflict go through; after it those stay that are above level 0.
 fn stays(trail: &Trail, analysis: &Analysis, level: usize) -> bool
-    ensures { MatchBool result ((0 < level) × (analysis.now.clause.items ≡ [] → (level ≡ trail.now.level) × (analysis.now.open.present ≤ 1))) ((analysis.now.clause.items ≡ [] → ⊥) → level ≡ 0) }
+    ensures { MatchBool result ((0 < level) × (analysis.now.clause.items ≡ [] → (level ≡ trail.now.level) × (analysis.now.counts.present ≤ 1))) ((analysis.now.clause.items ≡ [] → ⊥) → level ≡ 0) }
 {
     if level == 0 {
         return false;
@@ -86,17 +86,17 @@ fn stays(trail: &Trail, analysis: &Analysis, level: usize) -> bool
     if !analysis.clause.is_empty() {
         return true;
     }
-    level == trail.level() && analysis.open.present <= 1
+    level == trail.level() && analysis.counts.present <= 1
 }
 
 // Counts a literal as met.
-fn count_met(trail: &Trail, open: &mut Open, level: usize)
-    ensures { (i : ℕ) (e : Entry) (marks : List Bool) → slice_get trail.now.entries i ≡ Some e → IsMarked marks e.lit.atom → e.level ≡ level → AreCounted trail.now (i + 1) marks open.old → AreCounted trail.now i marks open.new }
+fn count_met(trail: &Trail, counts: &mut Counts, level: usize)
+    ensures { (i : ℕ) (e : Entry) (marks : List Bool) → slice_get trail.now.entries i ≡ Some e → IsMarked marks e.lit.atom → e.level ≡ level → AreCounted trail.now (i + 1) marks counts.old → AreCounted trail.now i marks counts.new }
 {
     if level == trail.level() {
-        open.present = open.present.saturating_sub(1);
+        counts.present = counts.present.saturating_sub(1);
     } else {
-        open.below = open.below.saturating_sub(1);
+        counts.below = counts.below.saturating_sub(1);
     }
 }
 
@@ -113,18 +113,18 @@ fn resolve(
     ensures size { OnOk result (length marks.new ≡ length marks.old) }
     ensures clause { OnOk result (analysis.new.clause ≡ analysis.old.clause) }
     ensures hints { OnOk result ((h : Hint) → slice_get log.now.names.items number ≡ Some h → analysis.new.hints.items ≡ analysis.old.hints.items ++ h ∷ []) }
-    ensures marked { OnOk result ((c : List (Signed ℕ)) → IsNamed log.now number c → MarksToo trail.now c marks.old marks.new analysis.old.open analysis.new.open) }
+    ensures marked { OnOk result ((c : List (Signed ℕ)) → IsNamed log.now number c → MarksToo trail.now c marks.old marks.new analysis.old.counts analysis.new.counts) }
 {
     let hint = log.hint_of(number);
     analysis.hints.push(hint)?;
-    mark_all(trail, marks, &mut analysis.open, log.cited(hint));
+    mark_all(trail, marks, &mut analysis.counts, log.cited(hint));
     Ok(())
 }
 
 fn keep(analysis: &mut Analysis, lit: Lit) -> Result<(), Memory>
     ensures clause { OnOk result (analysis.new.clause.items ≡ analysis.old.clause.items ++ complement lit ∷ []) }
     ensures hints { OnOk result (analysis.new.hints ≡ analysis.old.hints) }
-    ensures open { OnOk result (analysis.new.open ≡ analysis.old.open) }
+    ensures counts { OnOk result (analysis.new.counts ≡ analysis.old.counts) }
 {
     analysis.clause.push(complement(lit))?;
     Ok(())
@@ -151,7 +151,7 @@ fn meet(
     }
     let level = trail.level_of(lit.atom).unwrap_or(0);
     let remains = stays(trail, analysis, level);
-    count_met(trail, &mut analysis.open, level);
+    count_met(trail, &mut analysis.counts, level);
     match trail.reason(lit.atom) {
         None => keep(analysis, lit),
         Some(number) => {
@@ -182,7 +182,7 @@ fn meet_decided(
         return Ok(());
     }
     let level = trail.level_of(lit.atom).unwrap_or(0);
-    count_met(trail, &mut analysis.open, level);
+    count_met(trail, &mut analysis.counts, level);
     match trail.reason(lit.atom) {
         None => Ok(()),
         Some(number) => resolve(log, trail, marks, analysis, number),
@@ -197,7 +197,7 @@ fn no_analysis(alloc: Global) -> Analysis
     Analysis {
         clause: Vec::new(alloc),
         hints: Vec::new(alloc),
-        open: Open {
+        counts: Counts {
             present: 0,
             below: 0,
         },
@@ -239,7 +239,7 @@ pub(crate) fn analyze(
 {
     let mut analysis = begin(alloc, log, trail, marks, number)?;
     let mut place = trail.assigned().len();
-    while 0 < place && (0 < analysis.open.present || 0 < analysis.open.below) {
+    while 0 < place && (0 < analysis.counts.present || 0 < analysis.counts.below) {
         place -= 1;
         meet(log, trail, marks, &mut analysis, place)?;
     }
@@ -279,7 +279,7 @@ pub(crate) fn analyze_given(
 {
     let mut analysis = begin(alloc, log, trail, marks, number)?;
     let mut place = place_of(trail.assigned(), lit);
-    while 0 < place && (0 < analysis.open.present || 0 < analysis.open.below) {
+    while 0 < place && (0 < analysis.counts.present || 0 < analysis.counts.below) {
         place -= 1;
         meet_decided(log, trail, marks, &mut analysis, place)?;
     }

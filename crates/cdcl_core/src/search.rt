@@ -5,7 +5,7 @@ use crate::log::{Log, put_name};
 use crate::marks::Marks;
 use cdcl_trail::{Clauses, Trail};
 use inst_logic::Memory;
-use prop_logic::{Answer, Hint, HintList, Lit, LitList, Step, Valuation, clash, complements};
+use prop_logic::{Answer, Hint, HintList, Lit, LitList, Step, Valuation, clash, complement, complements};
 use std::alloc::Global;
 
 // The levels up to `assumed` were opened by assumptions, of which the first `checked` are true. The decisions take the
@@ -215,7 +215,7 @@ impl Search {
                     &self.log,
                     &self.trail,
                     &mut self.marks,
-                    lit.atom,
+                    complement(lit),
                     number,
                 )?;
                 let core = core_of(self.alloc, &self.trail, &self.marks, lit, assumptions)?;
