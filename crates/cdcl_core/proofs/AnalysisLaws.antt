@@ -86,7 +86,6 @@ take_short [] (suc i) = omega arith
 take_short (x ∷ xs) zero = omega arith
 take_short (x ∷ xs) (suc i) = omega (arith, take_short xs i)
 
-
 -- counts
 at_false : (a b : ℕ) → (a ≡ b → ⊥) → (a == b) ≡ false
 at_false a b n = grind (arith, nat_tests)

@@ -158,10 +158,10 @@ met_decided_first log t start n e marks a ready at reason begun =
     let h = why.1.0 in
     let b = begun why.0 why.1 in
     let closes : ClosesFrom log whole whole marks (HasDecisionsAnd e.lit whole marks) (h ∷ []) = closes_first log whole whole h why.0 marks (HasDecisionsAnd e.lit whole marks) why.1.2 b.marked (λ F l s c.
-        elim (All-contains (λ m. IsFalseIn whole m ⊎ (m ≡ e.lit)) why.0 l why.2.others c) [
-          | inl f ↦ inl f
-          | inr same ↦ inr (subst (Contains F) (sym same) s.0)
-        ]) in
+    elim (All-contains (λ m. IsFalseIn whole m ⊎ (m ≡ e.lit)) why.0 l why.2.others c) [
+      | inl f ↦ inl f
+      | inr same ↦ inr (subst (Contains F) (sym same) s.0)
+    ]) in
     record {
       closes = subst (λ hs. ClosesFrom log whole whole marks (HasDecisionsAnd e.lit whole marks) (reverse hs)) (sym (b.hints h why.1.1)) closes;
       counted = b.counted start;

@@ -224,6 +224,7 @@ fn begin(
 }
 
 // What is learned where the clause of this number is false.
+#[tactic(auto)]
 pub(crate) fn analyze(
     alloc: Global,
     log: &Log,

@@ -15,8 +15,7 @@ pub struct Cdcl {
 
 impl Cdcl {
     /// A solver without atoms and clauses.
-    pub fn new(alloc: Global) -> Self
-    {
+    pub fn new(alloc: Global) -> Self {
         Cdcl {
             search: Search::new(alloc),
             spent: false,

@@ -5,8 +5,7 @@ use std::alloc::Global;
 use std::collections::{BTreeMap, BTreeSet};
 
 // Takes the step that the hint cites, if it is one of the first `limit`.
-fn need_cited(waiting: &mut BTreeSet<usize>, limit: usize, hint: Hint) -> Result<(), Memory>
-{
+fn need_cited(waiting: &mut BTreeSet<usize>, limit: usize, hint: Hint) -> Result<(), Memory> {
     if let Hint::Step(n) = hint {
         if 0 < n && n <= limit {
             waiting.insert(n - 1)?;
@@ -16,8 +15,7 @@ fn need_cited(waiting: &mut BTreeSet<usize>, limit: usize, hint: Hint) -> Result
 }
 
 // Takes the steps that the hints cite, of the first `limit`.
-fn need_all(waiting: &mut BTreeSet<usize>, limit: usize, hints: &[Hint]) -> Result<(), Memory>
-{
+fn need_all(waiting: &mut BTreeSet<usize>, limit: usize, hints: &[Hint]) -> Result<(), Memory> {
     for hint in hints {
         need_cited(waiting, limit, *hint)?;
     }
@@ -25,8 +23,7 @@ fn need_all(waiting: &mut BTreeSet<usize>, limit: usize, hints: &[Hint]) -> Resu
 }
 
 // The places of the steps that the last step needs, in descending order.
-fn needed_places(alloc: Global, steps: &[Step]) -> Result<Vec<usize>, Memory>
-{
+fn needed_places(alloc: Global, steps: &[Step]) -> Result<Vec<usize>, Memory> {
     let mut places = Vec::new(alloc);
     let mut waiting = BTreeSet::new(alloc);
     if steps.is_empty() {
@@ -41,8 +38,7 @@ fn needed_places(alloc: Global, steps: &[Step]) -> Result<Vec<usize>, Memory>
 }
 
 // The hint with the new number of its step. Number 0 names no step.
-fn renumber_one(numbers: &BTreeMap<usize, usize>, hint: Hint) -> Hint
-{
+fn renumber_one(numbers: &BTreeMap<usize, usize>, hint: Hint) -> Hint {
     match hint {
         Hint::Added(n) => Hint::Added(n),
         Hint::Step(n) => {
@@ -59,8 +55,7 @@ fn renumber(
     alloc: Global,
     numbers: &BTreeMap<usize, usize>,
     hints: &[Hint],
-) -> Result<HintList, Memory>
-{
+) -> Result<HintList, Memory> {
     let mut others = HintList::new(alloc);
     for hint in hints {
         others.push(renumber_one(numbers, *hint))?;
@@ -75,8 +70,7 @@ fn keep(
     place: usize,
     numbers: &mut BTreeMap<usize, usize>,
     kept: &mut Derivation,
-) -> Result<(), Memory>
-{
+) -> Result<(), Memory> {
     let clause = LitList::from(Vec::from_slice(alloc, steps[place].clause.as_slice())?);
     let hints = renumber(alloc, numbers, steps[place].hints.as_slice())?;
     kept.push(Step { clause, hints })?;
@@ -85,8 +79,7 @@ fn keep(
 }
 
 // The steps that the last step needs, in their order.
-pub(crate) fn cut(alloc: Global, steps: &[Step]) -> Result<Derivation, Memory>
-{
+pub(crate) fn cut(alloc: Global, steps: &[Step]) -> Result<Derivation, Memory> {
     let places = needed_places(alloc, steps)?;
     let mut numbers = BTreeMap::new(alloc);
     let mut kept = Derivation::new(alloc);

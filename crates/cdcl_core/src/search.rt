@@ -5,7 +5,9 @@ use crate::log::{Log, put_name};
 use crate::marks::Marks;
 use cdcl_trail::{Clauses, Trail};
 use inst_logic::Memory;
-use prop_logic::{Answer, Hint, HintList, Lit, LitList, Step, Valuation, clash, complement, complements};
+use prop_logic::{
+    Answer, Hint, HintList, Lit, LitList, Step, Valuation, clash, complement, complements,
+};
 use std::alloc::Global;
 
 // The levels up to `assumed` were opened by assumptions, of which the first `checked` are true. The decisions take the
@@ -24,8 +26,7 @@ pub(crate) struct Search {
 }
 
 // The values, where an atom without one is false.
-fn valuation_of(alloc: Global, trail: &Trail, atoms: usize) -> Result<Valuation, Memory>
-{
+fn valuation_of(alloc: Global, trail: &Trail, atoms: usize) -> Result<Valuation, Memory> {
     let mut valuation = Valuation::new(alloc);
     for atom in 0..atoms {
         let lit = Lit {
@@ -38,8 +39,7 @@ fn valuation_of(alloc: Global, trail: &Trail, atoms: usize) -> Result<Valuation,
 }
 
 // The first atom from `from` on that has no value.
-fn open_from(trail: &Trail, from: usize, atoms: usize) -> Option<usize>
-{
+fn open_from(trail: &Trail, from: usize, atoms: usize) -> Option<usize> {
     for atom in from..atoms {
         if trail.level_of(atom).is_none() {
             return Some(atom);
@@ -49,8 +49,7 @@ fn open_from(trail: &Trail, from: usize, atoms: usize) -> Option<usize>
 }
 
 // An atom that has no value, looked for from `next` on first.
-fn open_atom(trail: &Trail, next: usize, atoms: usize) -> Option<usize>
-{
+fn open_atom(trail: &Trail, next: usize, atoms: usize) -> Option<usize> {
     match open_from(trail, next, atoms) {
         Some(atom) => Some(atom),
         None => open_from(trail, 0, atoms),
@@ -58,8 +57,7 @@ fn open_atom(trail: &Trail, next: usize, atoms: usize) -> Option<usize>
 }
 
 // The place of the first assumption from `from` on that is not true.
-fn first_not_true(trail: &Trail, assumptions: &[Lit], from: usize) -> Option<usize>
-{
+fn first_not_true(trail: &Trail, assumptions: &[Lit], from: usize) -> Option<usize> {
     for place in from..assumptions.len() {
         if trail.value(assumptions[place]) != Some(true) {
             return Some(place);
@@ -69,8 +67,7 @@ fn first_not_true(trail: &Trail, assumptions: &[Lit], from: usize) -> Option<usi
 }
 
 // The highest level of the literals.
-fn highest_level(trail: &Trail, literals: &[Lit]) -> usize
-{
+fn highest_level(trail: &Trail, literals: &[Lit]) -> usize {
     let mut highest = 0;
     for lit in literals {
         let level = trail.level_of(lit.atom).unwrap_or(0);
@@ -82,8 +79,7 @@ fn highest_level(trail: &Trail, literals: &[Lit]) -> usize
 }
 
 // Whether the assumption is the false one, or a marked decision.
-fn is_in_core(trail: &Trail, marks: &Marks, refuted: Lit, lit: Lit) -> bool
-{
+fn is_in_core(trail: &Trail, marks: &Marks, refuted: Lit, lit: Lit) -> bool {
     lit == refuted
         || (marks.contains(lit.atom)
             && trail.value(lit) == Some(true)
@@ -97,8 +93,7 @@ fn core_of(
     marks: &Marks,
     refuted: Lit,
     assumptions: &[Lit],
-) -> Result<LitList, Memory>
-{
+) -> Result<LitList, Memory> {
     let mut core = LitList::new(alloc);
     for lit in assumptions {
         if !is_in_core(trail, marks, refuted, *lit) {
@@ -110,8 +105,7 @@ fn core_of(
 }
 
 // Keeps the values of the literals that are above the level, and the first of their atoms to look at.
-fn save_phases(trail: &Trail, phases: &mut [bool], next: usize, level: usize) -> usize
-{
+fn save_phases(trail: &Trail, phases: &mut [bool], next: usize, level: usize) -> usize {
     let literals = trail.assigned();
     let mut first = next;
     let mut place = literals.len();

@@ -113,6 +113,9 @@ fn clauses_of_forty_pairs_are_left_out(rt: HostRuntime) -> Result<(), Fail> {
     add_pairs(&mut cdcl, 40)?;
     add_signs(&mut cdcl, 80)?;
     let answer = cdcl.solve(&[])?;
-    assert_eq!(rt; summary(&answer).map(|r| (r.core, r.steps <= 64)), Some((0, true)));
+    assert_eq!(rt;
+        summary(&answer).map(|r| (r.core, r.steps <= 64)),
+        Some((0, true))
+    );
     Ok(())
 }
