@@ -2,3 +2,4 @@ pub mod LogLaws
 pub mod EntryLaws
 pub mod AnalysisLaws
 pub mod MeetLaws
+pub mod Measure

@@ -1,6 +1,6 @@
 -- One literal further back in the analysis.
-use Rattle.std.proofs.Common.{◌≡◌, ◌≢◌, ℕ, suc, zero, ◌+◌, ◌-◌, ◌<◌, ◌≤◌, Bool, true, false, cond, ◌⊎◌, inl, inr, List, [], ◌∷◌, ◌++◌, length, map, take, replicate, get_or, Option, Some, None, refl, sym, ap, ◌∙◌, subst, arith}
-use Rattle.std.specs.Prelude.{All, AllPairs, Contains, slice_get, reverse, ◌&&◌}
+use Rattle.std.proofs.Common.{◌≡◌, ◌≢◌, ℕ, suc, zero, ◌+◌, ◌-◌, ◌<◌, ◌≤◌, Bool, true, false, cond, Result, Ok, Err, ◌⊎◌, inl, inr, List, [], ◌∷◌, ◌++◌, length, map, take, replicate, get_or, Option, Some, None, refl, sym, ap, ◌∙◌, subst, arith}
+use Rattle.std.specs.Prelude.{All, AllPairs, Contains, slice_get, reverse, unwrap_or, OnOk, ◌&&◌}
 use Rattle.std.proofs.lemmas.List.{reverse-append, get_or-replicate, take_all}
 use Rattle.std.proofs.lemmas.List.Elements.{All-nil, All-head, All-contains, All-weaker, All-contains_itself, Contains-push, Contains-append_left}
 use Rattle.std.proofs.lemmas.Option.{same_Some, slice_get_within, slice_get-get_or}
@@ -12,14 +12,14 @@ use Rattle.prop_logic.specs.Literal.{cited}
 use Rattle.prop_logic.specs.Analysis.{ClosesAll}
 use Rattle.prop_logic.proofs.ListLaws.{All-from_contained, Contains-slice_get, slice_get-Contains, slice_get_take, take_whole, Contains-take, take_slice_get}
 use Rattle.cdcl_trail.specs.declared.entry.Entry.{Entry}
-use Rattle.cdcl_trail.specs.Trail.{Trail, IsTrail, IsDecision, literals_of}
+use Rattle.cdcl_trail.specs.Trail.{Trail, IsTrail, IsDecision, level_of, reason_of, literals_of}
 use Rattle.cdcl_trail.specs.Propagation.{IsFalseIn, GivesUnit}
 use Rattle.cdcl_core.specs.declared.log.Log.{Log}
 use Rattle.cdcl_core.specs.declared.analysis.Counts.{Counts}
 use Rattle.cdcl_core.specs.declared.analysis.Analysis.{Analysis}
 use Rattle.cdcl_core.specs.Log.{IsNamed}
 use Rattle.cdcl_core.specs.Analysis.{IsMarked, KeepsMarks, is_at, is_off, marked_count, AreCounted, MarksToo, AreImplied, IsReady, NamesFalse, IsFree, Covers, ClosesFrom, IsLearned, AreBelowFirst, HasAll, IsMet, IsBegun, IsAnalysis, HasDecisions, HasDecisionsAnd, IsMetDecided, ShowsGiven}
-use Rattle.cdcl_core.proofs.EntryLaws.{before_or_here, here_too, same_entry, to_literals, of_literals, pair_at}
+use Rattle.cdcl_core.proofs.EntryLaws.{before_or_here, here_too, same_entry, to_literals, of_literals, pair_at, level_found, reason_found}
 use Rattle.cdcl_core.proofs.AnalysisLaws.{counted_unmarked, none_marked, closes_unmarked, closes_kept, closes_resolved, closes_first, learned_free, learned_first, learned_more, first_kept, first_resolved}
 
 -- the entry at a place
@@ -201,3 +201,40 @@ given_done log t start i e marks a hints v at done turned x = λ F free s.
     free d (Contains-take t.entries start d c) (λ q. pair_at (λ y z. y.lit.atom ≢ z.lit.atom) t.entries p.0 start d e v.once g.1 g.0 at (ap (λ y. y.atom) q)) k)
     (no_more t i marks a.counts F x.counted done)
     (s.0, λ d c chosen m. s.1 d (Contains-take t.entries start d c) chosen m))
+
+-- what the code reads of an entry
+pub level_read : (t : Trail) (e : Entry) (l : Signed ℕ) (o : Option ℕ) (n : ℕ) → IsTrail t → Contains t.entries e → l ≡ e.lit → o ≡ level_of t.entries l.atom → n ≡ unwrap_or o 0 → e.level ≡ n
+level_read t e l o n v c is read got = sym (got ∙ ap (λ x. unwrap_or x 0) (read ∙ ap (λ x. level_of t.entries x.atom) is ∙ level_found t e e.lit.atom v c refl))
+
+pub reason_read : (t : Trail) (e : Entry) (l : Signed ℕ) (o : Option ℕ) → IsTrail t → Contains t.entries e → l ≡ e.lit → o ≡ reason_of t.entries l.atom → e.reason ≡ o
+reason_read t e l o v c is read = sym (read ∙ ap (λ x. reason_of t.entries x.atom) is ∙ reason_found t e e.lit.atom v c refl)
+
+pub marked_read : (marks : List Bool) (e : Entry) (l : Signed ℕ) (b : Bool) → l ≡ e.lit → b ≡ get_or marks l.atom false → b ≡ true → IsMarked marks e.lit.atom
+marked_read marks e l b is read yes = sym (ap (λ x. get_or marks x.atom false) is) ∙ sym read ∙ yes
+
+pub unmarked_read : (marks : List Bool) (e : Entry) (l : Signed ℕ) (b : Bool) → l ≡ e.lit → b ≡ get_or marks l.atom false → b ≡ false → IsMarked marks e.lit.atom → ⊥
+unmarked_read marks e l b is read no m = false≢true (sym no ∙ read ∙ ap (λ x. get_or marks x.atom false) is ∙ m)
+
+pub on_ok : {T E : Type 0} (r : Result T E) (P Q : Type 0) → (P → Q) → OnOk r P → OnOk r Q
+on_ok (Ok x) P Q f h = f h
+on_ok (Err e) P Q f h = tt
+
+pub on_ok_two : {T E : Type 0} (r : Result T E) (P R Q : Type 0) → (P → R → Q) → OnOk r P → OnOk r R → OnOk r Q
+on_ok_two (Ok x) P R Q f h g = f h g
+on_ok_two (Err e) P R Q f h g = tt
+
+pub on_ok_three : {T E : Type 0} (r : Result T E) (P R S Q : Type 0) → (P → R → S → Q) → OnOk r P → OnOk r R → OnOk r S → OnOk r Q
+on_ok_three (Ok x) P R S Q f h g k = f h g k
+on_ok_three (Err e) P R S Q f h g k = tt
+
+-- the entry of a given literal at its place
+pub given_at : (t : Trail) (p : ℕ) (l : Signed ℕ) (n : ℕ) → IsTrail t → (e : Entry) × Contains t.entries e × (e.lit ≡ l) × (e.reason ≡ Some n) → slice_get (literals_of t.entries) p ≡ Some l → (e : Entry) × (slice_get t.entries p ≡ Some e) × (e.lit ≡ l) × (e.reason ≡ Some n)
+given_at t p l n v g at =
+    let f = literal_entry t.entries p l at in
+    let same = same_entry t g.0 f.0 v g.1 (Contains-slice_get t.entries p f.0 f.1) (ap (λ x. x.atom) (g.2 ∙ sym f.2)) in
+    (f.0, f.1, f.2, ap (λ x. x.reason) (sym same) ∙ g.3)
+  where
+    literal_entry : (entries : List Entry) (i : ℕ) (l : Signed ℕ) → slice_get (literals_of entries) i ≡ Some l → (e : Entry) × (slice_get entries i ≡ Some e) × (e.lit ≡ l)
+    literal_entry [] i l at = absurd cc
+    literal_entry (x ∷ xs) zero l at = (x, refl, same_Some x.lit l at)
+    literal_entry (x ∷ xs) (suc i) l at = literal_entry xs i l at
