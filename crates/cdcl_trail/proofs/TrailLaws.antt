@@ -1,9 +1,9 @@
 -- What each call keeps of a trail.
-use Rattle.std.proofs.Common.{◌≡◌, ◌≢◌, ℕ, suc, zero, ◌+◌, ◌<◌, ◌≤◌, Bool, true, false, not, cond, inl, inr, List, [], ◌∷◌, ◌++◌, length, map, get_or, Option, Some, None, refl, sym, ap, ◌∙◌, subst, arith}
-use Rattle.std.specs.Prelude.{All, AllPairs, Contains, filter, count_by, ◌==◌, nat_le}
+use Rattle.std.proofs.Common.{◌≡◌, ◌≢◌, ℕ, suc, zero, ◌+◌, ◌<◌, ◌≤◌, Bool, true, false, not, cond, inl, inr, List, [], ◌∷◌, length, Option, Some, None, refl, sym, ap, ◌∙◌, subst, arith}
+use Rattle.std.specs.Prelude.{All, Contains, filter, ◌==◌, nat_le}
 use Rattle.std.specs.Option.{option_map}
 use Rattle.std.specs.Bool.{beq}
-use Rattle.std.proofs.lemmas.List.Elements.{All-nil, All-cons, All-head, All-tail, All-push, All-weaker, All-contains, All-filter, Contains-push, Contains-append_left, filter_passes}
+use Rattle.std.proofs.lemmas.List.Elements.{All-nil, All-cons, All-push, All-weaker, All-contains, All-filter, Contains-push, Contains-append_left, filter_passes}
 use Rattle.std.proofs.lemmas.List.Kept.{AllPairs-filter}
 use Rattle.std.proofs.lemmas.List.Quantifiers.{all_pairs_push}
 use Rattle.std.proofs.lemmas.List.Sums.{length-filter, count_by-le-length}
@@ -140,9 +140,9 @@ few_levels (suc n) es each =
     let f : nat_le top.0.level n ≡ false = above top.0.level n top.2 in
     let less = filter_shorter low es top.0 top.1 f in
     let rest : n ≤ length (filter low es) = few_levels n (filter low es) (λ k p q.
-        let h = each k p (omega (arith, q)) in
-        let t : low h.0 ≡ true = le-leb h.0.level n (omega (arith, q, h.2)) in
-        (h.0, All-contains (λ x. low x ≡ true → Contains (filter low es) x) es h.0 (contains_filter low es) h.1 t, h.2)) in
+    let h = each k p (omega (arith, q)) in
+    let t : low h.0 ≡ true = le-leb h.0.level n (omega (arith, q, h.2)) in
+    (h.0, All-contains (λ x. low x ≡ true → Contains (filter low es) x) es h.0 (contains_filter low es) h.1 t, h.2)) in
     omega (arith, less, rest)
   where
     above : (a b : ℕ) → a ≡ suc b → nat_le a b ≡ false

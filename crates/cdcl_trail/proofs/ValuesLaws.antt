@@ -2,11 +2,11 @@
 use Rattle.std.proofs.Common.{◌≡◌, ◌≢◌, ℕ, suc, zero, ◌+◌, ◌<◌, ◌≤◌, Bool, true, false, not, cond, inl, inr, List, [], ◌∷◌, ◌++◌, ◌-◌, length, map, set, Option, Some, None, get_or, refl, sym, ap, ◌∙◌, subst, arith, length-set}
 use Rattle.std.specs.Prelude.{All, AllPairs, Contains, slice_get, count_by, is_some, ◌==◌, nat_le}
 use Rattle.std.proofs.lemmas.List.{length_push, map-append, same_from_push, append-nil}
-use Rattle.std.proofs.lemmas.List.Elements.{All-nil, All-cons, All-head, All-tail, All-push, All-weaker, All-contains, All-map, Contains-push, Contains-push_cases, Contains-append_left, filter-append}
+use Rattle.std.proofs.lemmas.List.Elements.{All-head, All-tail, All-push, All-weaker, All-contains, All-map, Contains-push, Contains-push_cases, Contains-append_left, filter-append}
 use Rattle.std.proofs.lemmas.List.Quantifiers.{all_pairs_push}
 use Rattle.std.proofs.lemmas.List.Sums.{sum_by-set, sum_by-append}
 use Rattle.std.proofs.lemmas.Option.{same_Some, slice_get_within, none-some, slice_get-get_or, get_or_from_slice_get}
-use Rattle.std.proofs.lemmas.Bool.{cases_eq, eq-eqb, eqb-true, eqb-false, ne_eqb, le-leb}
+use Rattle.std.proofs.lemmas.Bool.{cases_eq, eqb-true, eqb-false, ne_eqb, le-leb}
 use Rattle.std.proofs.lemmas.Bool.Decides.{nat_tests}
 use Rattle.inst_logic.specs.declared.signed.Signed.{Signed}
 use Rattle.prop_logic.proofs.ListLaws.{slice_get_set, slice_get_set_other, slice_get_append, slice_get_last, slice_get_push, All-from_contained}
@@ -208,7 +208,7 @@ found_is es by_atom a None v at =
 found_is es by_atom a (Some x) v at =
     let f = v.by_entry a x at in
     let all : All (λ y. y.lit.atom ≡ a → y ≡ x) es = All-weaker (λ y. slice_get by_atom y.lit.atom ≡ Some (Some y)) (λ y. y.lit.atom ≡ a → y ≡ x)
-        (λ y t same. same_Some y x (same_Some (Some y) (Some x) (sym t ∙ ap (slice_get by_atom) same ∙ at))) es v.at_atom in
+    (λ y t same. same_Some y x (same_Some (Some y) (Some x) (sym t ∙ ap (slice_get by_atom) same ∙ at))) es v.at_atom in
     sym (find_some es a x all f.0 f.1)
 
 -- one atom more
@@ -267,10 +267,10 @@ pub all_low : (es : List Entry) (e : Entry) (n : ℕ) → AllPairs (λ a b. a.le
 all_low es e n rising h =
     All-push (λ x. x.level ≤ n) es e
     (λ k d within.
-        let size : length (es ++ e ∷ []) ≡ length es + 1 = length_push es e in
-        let up = rising k (length es) d within (omega (arith, size)) in
-        let early : get_or (es ++ e ∷ []) k d ≡ get_or es k d = get_or_from_slice_get (es ++ e ∷ []) k (get_or es k d) d (slice_get_append es (e ∷ []) k (get_or es k d) (slice_get-get_or es k d within)) in
-        let late : get_or (es ++ e ∷ []) (length es) d ≡ e = get_or_from_slice_get (es ++ e ∷ []) (length es) e d (slice_get_last es e) in
-        let a : (get_or (es ++ e ∷ []) k d).level ≡ (get_or es k d).level = ap (λ x. x.level) early in
-        let b : (get_or (es ++ e ∷ []) (length es) d).level ≡ e.level = ap (λ x. x.level) late in
-        omega (arith, up, a, b, h)) h
+    let size : length (es ++ e ∷ []) ≡ length es + 1 = length_push es e in
+    let up = rising k (length es) d within (omega (arith, size)) in
+    let early : get_or (es ++ e ∷ []) k d ≡ get_or es k d = get_or_from_slice_get (es ++ e ∷ []) k (get_or es k d) d (slice_get_append es (e ∷ []) k (get_or es k d) (slice_get-get_or es k d within)) in
+    let late : get_or (es ++ e ∷ []) (length es) d ≡ e = get_or_from_slice_get (es ++ e ∷ []) (length es) e d (slice_get_last es e) in
+    let a : (get_or (es ++ e ∷ []) k d).level ≡ (get_or es k d).level = ap (λ x. x.level) early in
+    let b : (get_or (es ++ e ∷ []) (length es) d).level ≡ e.level = ap (λ x. x.level) late in
+    omega (arith, up, a, b, h)) h

@@ -1,4 +1,8 @@
-// A unit clause is found, and propagation in each order of calls.
+// A unit clause gives its literal, and propagation is exact in any order of calls.
+ghost use Rattle.std.specs.Prelude.{◌≡◌, ◌<◌, OnOk};
+ghost use Rattle.prop_logic.specs.Literal.{AtomsBelow};
+ghost use Rattle.cdcl_trail.specs.Clauses.{ClausesBelow};
+
 use crate::{Clauses, Trail};
 use inst_logic::Memory;
 use prop_logic::Lit;
@@ -10,41 +14,75 @@ fn lit(atom: usize, positive: bool) -> Lit
     Lit { positive, atom }
 }
 
+fn make_atoms(trail: &mut Trail, count: usize) -> Result<(), Memory>
+    requires { trail.old.atoms ≡ 0 }
+    ensures { OnOk result (trail.new.atoms ≡ count) }
+{
+    for _ in 0..count {
+        trail.grow()?;
+    }
+    Ok(())
+}
+
+fn add(clauses: &mut Clauses, atoms: usize, clause: &[Lit]) -> Result<usize, Memory>
+    requires clauses { ClausesBelow atoms clauses.old }
+    requires clause { AtomsBelow atoms clause.now }
+    ensures { OnOk result (ClausesBelow atoms clauses.new) }
+{
+    let number = clauses.add(clause)?;
+    Ok(number)
+}
+
+fn decide(trail: &mut Trail, l: Lit)
+    requires { l.atom < trail.old.atoms }
+    ensures { trail.new.atoms ≡ trail.old.atoms }
+{
+    match trail.value(l) {
+        None => trail.decide(l),
+        Some(_) => {}
+    }
+}
+
+fn back_to(trail: &mut Trail, level: usize)
+    ensures { trail.new.atoms ≡ trail.old.atoms }
+{
+    if level <= trail.level() {
+        trail.back_to(level);
+    }
+}
+
 #[test]
 fn a_unit_clause_gives_its_literal(rt: HostRuntime) -> Result<(), Fail> {
     let mut trail = Trail::new(rt.alloc());
     let mut clauses = Clauses::new(rt.alloc());
-    let a = trail.grow()?;
-    let b = trail.grow()?;
-    let number = clauses.add(&[lit(a, true), lit(b, true)])?;
-    trail.decide(lit(a, false));
+    make_atoms(&mut trail, 2)?;
+    let number = add(&mut clauses, 2, &[lit(0, true), lit(1, true)])?;
+    decide(&mut trail, lit(0, false));
     let conflict = trail.propagate(&clauses)?;
     assert_eq!(rt; number, 1);
     assert_eq!(rt; conflict, None);
-    assert_eq!(rt; trail.value(lit(b, true)), Some(true));
-    assert_eq!(rt; trail.reason(b), Some(1));
-    assert_eq!(rt; trail.level_of(b), Some(1));
-    assert!(rt; trail.assigned() == [lit(a, false), lit(b, true)].as_slice());
+    assert_eq!(rt; trail.value(lit(1, true)), Some(true));
+    assert_eq!(rt; trail.reason(1), Some(1));
+    assert_eq!(rt; trail.level_of(1), Some(1));
+    assert!(rt; trail.assigned() == [lit(0, false), lit(1, true)].as_slice());
     Ok(())
 }
 
 #[test]
-fn propagation_in_any_order_of_calls(rt: HostRuntime) -> Result<(), Fail> {
+fn calls_come_in_any_order(rt: HostRuntime) -> Result<(), Fail> {
     let mut trail = Trail::new(rt.alloc());
     let mut clauses = Clauses::new(rt.alloc());
-    let a = trail.grow()?;
-    let b = trail.grow()?;
-    let c = trail.grow()?;
-    clauses.add(&[lit(c, true), lit(a, true), lit(c, true)])?;
-    trail.decide(lit(b, false));
-    trail.decide(lit(a, false));
+    make_atoms(&mut trail, 3)?;
+    add(&mut clauses, 3, &[lit(2, true), lit(0, true), lit(2, true)])?;
+    decide(&mut trail, lit(1, false));
+    decide(&mut trail, lit(0, false));
     assert_eq!(rt; trail.propagate(&clauses)?, None);
-    assert_eq!(rt; trail.level_of(c), Some(2));
-    let number = clauses.add(&[lit(b, true), lit(c, false)])?;
+    assert_eq!(rt; trail.level_of(2), Some(2));
+    let number = add(&mut clauses, 3, &[lit(1, true), lit(2, false)])?;
     assert_eq!(rt; trail.propagate(&clauses)?, Some(number));
-    trail.back_to(1);
+    back_to(&mut trail, 1);
     assert_eq!(rt; trail.propagate(&clauses)?, None);
-    assert!(rt; trail.assigned() == [lit(b, false), lit(c, false), lit(a, true)].as_slice());
-    assert_eq!(rt; trail.reason(b), None);
+    assert!(rt; trail.assigned() == [lit(1, false), lit(2, false), lit(0, true)].as_slice());
+    assert_eq!(rt; trail.reason(1), None);
     Ok(())
 }

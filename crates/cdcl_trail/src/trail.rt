@@ -134,11 +134,12 @@ impl Trail {
         requires unset { IsUnset self.old.entries l.atom }
         ensures { self.new ≡ with_implied self.old l reason }
     {
-        self.values.put(Entry {
+        let entry = Entry {
             lit: l,
             level: self.level,
             reason: Some(reason),
-        });
+        };
+        self.values.put(entry);
     }
 
     /// Takes back the levels above this one.

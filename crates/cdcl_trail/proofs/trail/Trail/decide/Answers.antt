@@ -1,4 +1,4 @@
-use Rattle.std.proofs.Common.{◌≡◌, ◌<◌, ◌≤◌, length, sym, subst, arith}
+use Rattle.std.proofs.Common.{◌<◌, ◌≤◌, length, sym, subst, arith}
 use Rattle.cdcl_trail.specs.Trail.{Trail, IsUnset, with_decision}
 use Rattle.cdcl_trail.specs.Values.{entries_of}
 use Rattle.cdcl_trail.proofs.TrailLaws.{trail_of, same_trail, decided, level_within}
@@ -24,9 +24,8 @@ invariant_of-self c =
     let l = c.args.l in
     let t : Trail = trail_of (length s.values.entries.items) s.level (entries_of s.values) s.spent in
     let low : l.atom < t.atoms = subst (λ x. l.atom < x.atoms) (sym c.self.view_is) c.requires.atom in
-    let unset : IsUnset t.entries l.atom = subst (λ x. IsUnset x.entries l.atom) (sym c.self.view_is) c.requires.unset in
-    (
+    let unset : IsUnset t.entries l.atom = subst (λ x. IsUnset x.entries l.atom) (sym c.self.view_is) c.requires.unset in (
       c.put.ensures.values,
       same_trail (with_decision t l) (length c.put.new.self.entries.items) (entries_of c.put.new.self)
-      (decided t l c.self.invariant.1 low unset) c.put.ensures.atoms c.put.ensures.entries,
+          (decided t l c.self.invariant.1 low unset) c.put.ensures.atoms c.put.ensures.entries,
     )
