@@ -3,3 +3,4 @@ pub mod EntryLaws
 pub mod AnalysisLaws
 pub mod MeetLaws
 pub mod Measure
+pub mod SearchLaws

@@ -210,10 +210,10 @@ pub reason_read : (t : Trail) (e : Entry) (l : Signed ℕ) (o : Option ℕ) → 
 reason_read t e l o v c is read = sym (read ∙ ap (λ x. reason_of t.entries x.atom) is ∙ reason_found t e e.lit.atom v c refl)
 
 pub marked_read : (marks : List Bool) (e : Entry) (l : Signed ℕ) (b : Bool) → l ≡ e.lit → b ≡ get_or marks l.atom false → b ≡ true → IsMarked marks e.lit.atom
-marked_read marks e l b is read yes = sym (ap (λ x. get_or marks x.atom false) is) ∙ sym read ∙ yes
+marked_read marks e l b is read set_there = sym (ap (λ x. get_or marks x.atom false) is) ∙ sym read ∙ set_there
 
 pub unmarked_read : (marks : List Bool) (e : Entry) (l : Signed ℕ) (b : Bool) → l ≡ e.lit → b ≡ get_or marks l.atom false → b ≡ false → IsMarked marks e.lit.atom → ⊥
-unmarked_read marks e l b is read no m = false≢true (sym no ∙ read ∙ ap (λ x. get_or marks x.atom false) is ∙ m)
+unmarked_read marks e l b is read free m = false≢true (sym free ∙ read ∙ ap (λ x. get_or marks x.atom false) is ∙ m)
 
 pub on_ok : {T E : Type 0} (r : Result T E) (P Q : Type 0) → (P → Q) → OnOk r P → OnOk r Q
 on_ok (Ok x) P Q f h = f h

@@ -25,65 +25,53 @@ use Rattle.cdcl_core.proofs.LogLaws.{clause_kept}
 use Rattle.cdcl_core.proofs.Measure.{weight_append}
 
 -- the entries up to a level are the first ones
+gt_test : (a b : ℕ) (t : Bool) → nat_le a b ≡ t → b < a → nat_le a b ≡ false
+gt_test a b true e h = absurd (omega (arith, leb-true a b e))
+gt_test a b false e h = e
+
 none_up_to : (es : List Entry) (j : ℕ) → All (λ e. j < e.level) es → entries_up_to es j ≡ []
 none_up_to [] j h = refl
 none_up_to (e ∷ es) j h =
-    let here : nat_le e.level j ≡ false = above e.level j (All-contains (λ x. j < x.level) (e ∷ es) e h (0, omega arith, refl)) in
+    let here : nat_le e.level j ≡ false = gt_test e.level j (nat_le e.level j) refl (All-contains (λ x. j < x.level) (e ∷ es) e h (0, omega arith, refl)) in
     ap (λ b. cond b (e ∷ entries_up_to es j) (entries_up_to es j)) here ∙ none_up_to es j (All-from_contained (λ x. j < x.level) es (λ x c. All-contains (λ y. j < y.level) (e ∷ es) x h (suc c.0, omega (arith, c.1), c.2)))
-  where
-    above : (a b : ℕ) → b < a → nat_le a b ≡ false
-    above a b h = by_test (nat_le a b) refl
-      where
-        by_test : (t : Bool) → nat_le a b ≡ t → nat_le a b ≡ false
-        by_test true e = absurd (omega (arith, leb-true a b e))
-        by_test false e = e
+
+up_to_take_more : (e : Entry) (es : List Entry) (j : ℕ) (t : Bool) → nat_le e.level j ≡ t → AllPairs (λ a b. a.level ≤ b.level) (e ∷ es) → entries_up_to es j ≡ take (length (entries_up_to es j)) es
+    → cond t (e ∷ entries_up_to es j) (entries_up_to es j) ≡ take (length (cond t (e ∷ entries_up_to es j) (entries_up_to es j))) (e ∷ es)
+up_to_take_more e es j true h rising rest = ap (λ xs. e ∷ xs) rest
+up_to_take_more e es j false h rising rest =
+    let low : j < e.level = leb-false e.level j h in
+    let none = none_up_to es j (All-from_contained (λ x. j < x.level) es (λ x c. let up = pairs_head (λ a b. a.level ≤ b.level) e es x rising c in omega (arith, up, low))) in
+    none ∙ sym (ap (λ xs. take (length xs) (e ∷ es)) none)
 
 pub up_to_take : (es : List Entry) (j : ℕ) → AllPairs (λ a b. a.level ≤ b.level) es → entries_up_to es j ≡ take (length (entries_up_to es j)) es
 up_to_take [] j rising = refl
-up_to_take (e ∷ es) j rising = by_test (nat_le e.level j) refl
-  where
-    rest : AllPairs (λ a b. a.level ≤ b.level) es
-    rest = pairs_tail (λ a b. a.level ≤ b.level) e es rising
+up_to_take (e ∷ es) j rising = up_to_take_more e es j (nat_le e.level j) refl rising (up_to_take es j (pairs_tail (λ a b. a.level ≤ b.level) e es rising))
 
-    by_test : (t : Bool) → nat_le e.level j ≡ t → cond t (e ∷ entries_up_to es j) (entries_up_to es j) ≡ take (length (cond t (e ∷ entries_up_to es j) (entries_up_to es j))) (e ∷ es)
-    by_test true h = ap (λ xs. e ∷ xs) (up_to_take es j rest)
-    by_test false h =
-        let low : j < e.level = leb-false e.level j h in
-        let none = none_up_to es j (All-from_contained (λ x. j < x.level) es (λ x c. let up = pairs_head (λ a b. a.level ≤ b.level) e es x rising c in omega (arith, up, low))) in
-        none ∙ sym (ap (λ xs. take (length xs) (e ∷ es)) none)
+up_to_more : (x : Entry) (xs : List Entry) (e : Entry) (t : Bool) → Contains xs e → Contains (cond t (x ∷ xs) xs) e
+up_to_more x xs e true c = (suc c.0, omega (arith, c.1), c.2)
+up_to_more x xs e false c = c
+
+le_test : (a b : ℕ) (t : Bool) → nat_le a b ≡ t → a ≤ b → nat_le a b ≡ true
+le_test a b true e h = e
+le_test a b false e h = absurd (omega (arith, leb-false a b e))
 
 pub up_to_contains : (es : List Entry) (j : ℕ) (e : Entry) → Contains es e → e.level ≤ j → Contains (entries_up_to es j) e
 up_to_contains [] j e c h = absurd (omega (arith, c.1))
 up_to_contains (x ∷ xs) j e (zero, k, s) h =
-    let here : nat_le x.level j ≡ true = below x.level j (subst (λ y. y.level ≤ j) (sym s) h) in
+    let here : nat_le x.level j ≡ true = le_test x.level j (nat_le x.level j) refl (subst (λ y. y.level ≤ j) (sym s) h) in
     subst (λ b. Contains (cond b (x ∷ entries_up_to xs j) (entries_up_to xs j)) e) (sym here) (0, omega arith, s)
-  where
-    below : (a b : ℕ) → a ≤ b → nat_le a b ≡ true
-    below a b h = by_test (nat_le a b) refl
-      where
-        by_test : (t : Bool) → nat_le a b ≡ t → nat_le a b ≡ true
-        by_test true e = e
-        by_test false e = absurd (omega (arith, leb-false a b e))
-up_to_contains (x ∷ xs) j e (suc k, h, s) low = by_test (nat_le x.level j)
-  where
-    rest : Contains (entries_up_to xs j) e
-    rest = up_to_contains xs j e (k, omega arith, s) low
+up_to_contains (x ∷ xs) j e (suc k, h, s) low =
+    let rest = up_to_contains xs j e (k, omega arith, s) low in
+    up_to_more x (entries_up_to xs j) e (nat_le x.level j) rest
 
-    by_test : (t : Bool) → Contains (cond t (x ∷ entries_up_to xs j) (entries_up_to xs j)) e
-    by_test true = (suc rest.0, omega (arith, rest.1), rest.2)
-    by_test false = rest
+of_up_to_more : (x : Entry) (xs : List Entry) (j : ℕ) (e : Entry) (t : Bool) → nat_le x.level j ≡ t → (Contains (entries_up_to xs j) e → Contains xs e × (e.level ≤ j)) → Contains (cond t (x ∷ entries_up_to xs j) (entries_up_to xs j)) e → Contains (x ∷ xs) e × (e.level ≤ j)
+of_up_to_more x xs j e true h rest (zero, k, s) = ((0, omega arith, s), subst (λ y. y.level ≤ j) s (leb-true x.level j h))
+of_up_to_more x xs j e true h rest (suc k, l, s) = let f = rest (k, omega arith, s) in ((suc f.0.0, omega (arith, f.0.1), f.0.2), f.1)
+of_up_to_more x xs j e false h rest c = let f = rest c in ((suc f.0.0, omega (arith, f.0.1), f.0.2), f.1)
 
 pub of_up_to : (es : List Entry) (j : ℕ) (e : Entry) → Contains (entries_up_to es j) e → Contains es e × (e.level ≤ j)
 of_up_to [] j e c = absurd (omega (arith, c.1))
-of_up_to (x ∷ xs) j e c = by_test (nat_le x.level j) refl c
-  where
-    there : Contains xs e × (e.level ≤ j) → Contains (x ∷ xs) e × (e.level ≤ j)
-    there f = ((suc f.0.0, omega (arith, f.0.1), f.0.2), f.1)
-
-    by_test : (t : Bool) → nat_le x.level j ≡ t → Contains (cond t (x ∷ entries_up_to xs j) (entries_up_to xs j)) e → Contains (x ∷ xs) e × (e.level ≤ j)
-    by_test true h (zero, k, s) = ((0, omega arith, s), subst (λ y. y.level ≤ j) s (leb-true x.level j h))
-    by_test true h (suc k, l, s) = there (of_up_to xs j e (k, omega arith, s))
-    by_test false h c = there (of_up_to xs j e c)
+of_up_to (x ∷ xs) j e c = of_up_to_more x xs j e (nat_le x.level j) refl (λ k. of_up_to xs j e k) c
 
 -- what is given stays given
 pub given_take : (clauses : List (Option (List (Signed ℕ)))) (es : List Entry) (m : ℕ) → AreGiven clauses es → AreGiven clauses (take m es)

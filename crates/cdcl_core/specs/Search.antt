@@ -1,14 +1,15 @@
 -- The state of the search, the number that rises with each of its steps, and how it ends.
-use Rattle.std.specs.Prelude.{◌≡◌, ◌≢◌, ℕ, ◌+◌, ◌-◌, ◌^◌, ◌<◌, ◌≤◌, List, [], ◌∷◌, take, Option, Some, None, length, All, Contains, slice_get}
+use Rattle.std.specs.Prelude.{◌≡◌, ◌≢◌, ℕ, ◌+◌, ◌-◌, ◌^◌, ◌<◌, ◌≤◌, ◌⊎◌, Bool, List, [], ◌∷◌, take, Option, Some, None, length, All, Contains, slice_get}
 use Rattle.inst_logic.specs.declared.signed.Signed.{Signed}
 use Rattle.prop_logic.specs.declared.solver.Answer.{Answer}
-use Rattle.prop_logic.specs.Solving.{IsAnswer}
+use Rattle.prop_logic.specs.Solving.{IsAnswer, IsSubList}
 use Rattle.cdcl_trail.specs.declared.entry.Entry.{Entry}
 use Rattle.cdcl_trail.specs.Clauses.{clause_number}
 use Rattle.cdcl_trail.specs.Trail.{Trail, IsTrail, IsDecision, literals_of}
 use Rattle.cdcl_trail.specs.Propagation.{GivesUnit}
 use Rattle.cdcl_core.specs.declared.search.Search.{Search}
 use Rattle.cdcl_core.specs.Log.{IsLog}
+use Rattle.cdcl_core.specs.Analysis.{IsMarked}
 
 -- an entry with a reason was given by its clause
 abbrev pub AreGiven : List (Option (List (Signed ℕ))) → List Entry → Type 0
@@ -33,6 +34,16 @@ pub record IsSearch (assumptions : List (Signed ℕ)) (s : Search) : Type 0 wher
   pub all_true : s.assumed < s.trail.level → All (IsTrueUpTo s.trail.entries s.assumed) assumptions
   pub checked : All (Contains (literals_of s.trail.entries)) (take s.checked assumptions)
 
+-- the literal is the false one, or its atom is marked and it is a decision
+abbrev pub IsInCore : List Entry → List Bool → Signed ℕ → Signed ℕ → Type 0
+IsInCore entries marks refuted l = (l ≡ refuted) ⊎ ((e : Entry) × Contains entries e × (e.lit ≡ l) × IsDecision e × IsMarked marks e.lit.atom)
+
+-- the core is a part of the assumptions, has the marked decisions among them, and else true ones alone
+pub record IsCoreIn (entries : List Entry) (marks : List Bool) (refuted : Signed ℕ) (assumptions core : List (Signed ℕ)) : Type 0 where
+  pub within : IsSubList core assumptions
+  pub whole : All (λ l. IsInCore entries marks refuted l → Contains core l) assumptions
+  pub true_ones : All (λ l. (l ≡ refuted) ⊎ Contains (literals_of entries) l) core
+
 -- a literal counts more at a lower level
 abbrev pub weight : ℕ → List Entry → ℕ
 weight n [] = 0
@@ -53,7 +64,7 @@ pub record Advances (old new : Search) : Type 0 where
 pub record Ends (assumptions : List (Signed ℕ)) (old new : Search) (answer : Answer) : Type 0 where
   pub kept : IsKept new
   pub same : IsSameProblem old new
-  pub answer : IsAnswer old.trail.atoms old.log.added assumptions answer
+  pub answered : IsAnswer old.trail.atoms old.log.added assumptions answer
 
 -- the search goes on, or has ended
 abbrev pub Continues : List (Signed ℕ) → Search → Search → Option Answer → Type 0

@@ -223,7 +223,7 @@ fn begin(
     Ok(analysis)
 }
 
-// What is learned where the clause of this number is false.
+// What is learned where the clause of this number is false, on a trail of `count` literals.
 #[tactic(auto)]
 pub(crate) fn analyze(
     alloc: Global,
@@ -231,15 +231,17 @@ pub(crate) fn analyze(
     trail: &Trail,
     marks: &mut Marks,
     number: usize,
+    count: usize,
 ) -> Result<Analysis, Memory>
     requires ready { IsReady log.now trail.now }
     requires size { length marks.old ≡ trail.now.atoms }
+    requires count { count ≡ length trail.now.entries }
     requires conflict { NamesFalse log.now trail.now.entries number }
     ensures size { OnOk result (length marks.new ≡ length marks.old) }
     ensures analysis { IfOk result (IsAnalysis log.now trail.now.entries) }
 {
     let mut analysis = begin(alloc, log, trail, marks, number)?;
-    let mut place = trail.assigned().len();
+    let mut place = count;
     while 0 < place && (0 < analysis.counts.present || 0 < analysis.counts.below) {
         place -= 1;
         meet(log, trail, marks, &mut analysis, place)?;
