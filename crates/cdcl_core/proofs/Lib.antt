@@ -4,3 +4,6 @@ pub mod AnalysisLaws
 pub mod MeetLaws
 pub mod Measure
 pub mod SearchLaws
+pub mod RoomLaws
+pub mod StepLaws
+pub mod EndLaws

@@ -169,18 +169,14 @@ met_decided_first log t start n e marks a ready at reason begun =
 
 -- the end: no more is marked
 abbrev pub IsDone : ℕ → Counts → Type 0
-IsDone i o = (0 < i → ⊥) ⊎ ((0 < o.present → ⊥) × (0 < o.below → ⊥))
+IsDone i o = (0 < i → ⊥) ⊎ ((o.present ≡ 0) × (o.below ≡ 0))
 
 no_more : (t : Trail) (i : ℕ) (marks : List Bool) (o : Counts) (F : List (Signed ℕ)) → AreCounted t i marks o → IsDone i o → Covers (take i t.entries) marks F
 no_more t i marks o F c (inl none) = λ e k m.
     let at = slice_get-Contains (take i t.entries) e k in
     let g = slice_get_take t.entries i at.0 e at.1 in
     absurd (none (omega (arith, g.1)))
-no_more t i marks o F c (inr none) = λ e k m. absurd (none_marked t i marks o e c (zero_of o.present none.0) (zero_of o.below none.1) k m)
-  where
-    zero_of : (n : ℕ) → (0 < n → ⊥) → n ≡ 0
-    zero_of zero h = refl
-    zero_of (suc n) h = absurd (h (omega arith))
+no_more t i marks o F c (inr none) = λ e k m. absurd (none_marked t i marks o e c none.0 none.1 k m)
 
 pub analysis_done : (log : Log) (t : Trail) (i : ℕ) (marks : List Bool) (a b : Analysis) → IsTrail t → IsDone i a.counts → b.clause.items ≡ a.clause.items → b.hints.items ≡ reverse a.hints.items → IsMet log t i marks a → IsAnalysis log t.entries b
 analysis_done log t i marks a b v done same turned x =

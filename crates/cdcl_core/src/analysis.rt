@@ -189,6 +189,13 @@ fn meet_decided(
     }
 }
 
+// Whether a marked literal is still to be met.
+fn any_left(counts: Counts) -> bool
+    ensures { MatchBool result (Unit {0}) ((counts.present ≡ 0) × (counts.below ≡ 0)) }
+{
+    0 < counts.present || 0 < counts.below
+}
+
 // An analysis that has met nothing.
 fn no_analysis(alloc: Global) -> Analysis
     ensures clause { result.clause.items ≡ [] }
@@ -242,7 +249,7 @@ pub(crate) fn analyze(
 {
     let mut analysis = begin(alloc, log, trail, marks, number)?;
     let mut place = count;
-    while 0 < place && (0 < analysis.counts.present || 0 < analysis.counts.below) {
+    while 0 < place && any_left(analysis.counts) {
         place -= 1;
         meet(log, trail, marks, &mut analysis, place)?;
     }
@@ -282,7 +289,7 @@ pub(crate) fn analyze_given(
 {
     let mut analysis = begin(alloc, log, trail, marks, number)?;
     let mut place = place_of(trail.assigned(), lit);
-    while 0 < place && (0 < analysis.counts.present || 0 < analysis.counts.below) {
+    while 0 < place && any_left(analysis.counts) {
         place -= 1;
         meet_decided(log, trail, marks, &mut analysis, place)?;
     }
