@@ -1,6 +1,6 @@
 -- How the search ends.
 use Rattle.std.proofs.Common.{◌≡◌, ◌≢◌, ℕ, suc, zero, ◌+◌, ◌-◌, ◌<◌, ◌≤◌, Bool, true, false, not, cond, ◌⊎◌, inl, inr, List, [], ◌∷◌, ◌++◌, length, map, take, get_or, Option, Some, None, refl, sym, ap, ◌∙◌, subst, arith}
-use Rattle.std.specs.Prelude.{All, Any, Contains, slice_get, unwrap_or, ◌==◌}
+use Rattle.std.specs.Prelude.{All, Any, Contains, slice_get, unwrap_or, MatchBool, ◌==◌}
 use Rattle.std.proofs.lemmas.List.Elements.{All-nil, All-cons, All-contains, All-weaker, All-push, All-map, All-head, All-tail, All-contains_itself, Contains-push, Contains-append_left}
 use Rattle.std.proofs.lemmas.List.{take_more, length-map}
 use Rattle.std.proofs.lemmas.Option.{same_Some, none-some}
@@ -33,14 +33,20 @@ pub entry_of : (es : List Entry) (a : ℕ) → (level_of es a ≡ None → ⊥) 
 entry_of [] a n = absurd (n refl)
 entry_of (x ∷ xs) a n = entry_step x xs a (x.lit.atom == a) refl (λ m. entry_of xs a m) n
 
+made : (l m : Signed ℕ) → l.positive ≡ m.positive → l.atom ≡ m.atom → l ≡ m
+made l m p a =
+    let first : l ≡ record { positive = m.positive; atom = l.atom } = ap (λ b. record { positive = b; atom = l.atom }) p in
+    let second : record { positive = m.positive; atom = l.atom } ≡ m = ap (λ n. record { positive = m.positive; atom = n }) a in
+    first ∙ second
+
 same_literal : (l m : Signed ℕ) → l.atom ≡ m.atom → (l ≡ m) ⊎ (l ≡ complement m)
 same_literal l m a = by_sign l.positive m.positive refl refl
   where
     by_sign : (p q : Bool) → l.positive ≡ p → m.positive ≡ q → (l ≡ m) ⊎ (l ≡ complement m)
-    by_sign true true e f = inl (cc (e, f, a))
-    by_sign false false e f = inl (cc (e, f, a))
-    by_sign true false e f = inr (let g : not m.positive ≡ true = ap not f in cc (e, g, a))
-    by_sign false true e f = inr (let g : not m.positive ≡ false = ap not f in cc (e, g, a))
+    by_sign true true e f = inl (made l m (e ∙ sym f) a)
+    by_sign false false e f = inl (made l m (e ∙ sym f) a)
+    by_sign true false e f = inr (made l (complement m) (e ∙ sym (ap not f)) a)
+    by_sign false true e f = inr (made l (complement m) (e ∙ sym (ap not f)) a)
 
 -- a literal whose atom has an entry is true or false
 pub true_or_false : (t : Trail) (l : Signed ℕ) → (level_of t.entries l.atom ≡ None → ⊥) → Contains (literals_of t.entries) l ⊎ IsFalseIn t.entries l
@@ -139,3 +145,34 @@ core_has t marks r assumptions core inside decisions c = (
 
 pub core_below : (n : ℕ) (es : List Entry) (marks : List Bool) (r : Signed ℕ) (assumptions core : List (Signed ℕ)) → AtomsBelow n assumptions → All (Contains assumptions) core → AtomsBelow n core
 core_below n es marks r assumptions core low part = All-weaker (Contains assumptions) (λ l. l.atom < n) (λ l c. All-contains (λ x. x.atom < n) assumptions l low c) core part
+
+-- what the trail's value says
+value_same : (p : Bool) → cond p p (not p) ≡ true
+value_same true = refl
+value_same false = refl
+
+pub value_of_true : (t : Trail) (l : Signed ℕ) → IsTrail t → Contains (literals_of t.entries) l → value_of t.entries l ≡ Some true
+value_of_true t l v c =
+    let f = of_literals t.entries l c in
+    value_found t f.0 l v f.1 (ap (λ x. x.atom) (sym f.2)) ∙ ap (λ x. Some (cond x.positive l.positive (not l.positive))) (sym f.2) ∙ ap Some (value_same l.positive)
+
+sign_same : (p q : Bool) → cond p q (not q) ≡ true → p ≡ q
+sign_same true true e = refl
+sign_same true false e = e
+sign_same false true e = e
+sign_same false false e = refl
+
+value_step : (x : Entry) (xs : List Entry) (l : Signed ℕ) (b : Bool) → (x.lit.atom == l.atom) ≡ b → (value_of xs l ≡ Some true → Contains (literals_of xs) l) → cond b (Some (cond x.lit.positive l.positive (not l.positive))) (value_of xs l) ≡ Some true → Contains (literals_of (x ∷ xs)) l
+value_step x xs l true s rest e =
+    let same : x.lit.atom ≡ l.atom = grind (arith, nat_tests) in
+    (0, omega arith, made x.lit l (sign_same x.lit.positive l.positive (same_Some (cond x.lit.positive l.positive (not l.positive)) true e)) same)
+value_step x xs l false s rest e = let c = rest e in (suc c.0, omega (arith, c.1), c.2)
+
+pub of_value_true : (es : List Entry) (l : Signed ℕ) → value_of es l ≡ Some true → Contains (literals_of es) l
+of_value_true [] l e = absurd (none-some true e)
+of_value_true (x ∷ xs) l e = value_step x xs l (x.lit.atom == l.atom) refl (λ f. of_value_true xs l f) e
+
+pub truth_read : (t : Trail) (l : Signed ℕ) (o : Option Bool) (b : Bool) → IsTrail t → o ≡ value_of t.entries l → b ≡ unwrap_or o false → MatchBool b (Contains (literals_of t.entries) l) (¬ Contains (literals_of t.entries) l)
+truth_read t l (Some true) b v read got = subst (λ x. MatchBool x (Contains (literals_of t.entries) l) (¬ Contains (literals_of t.entries) l)) (sym got) (of_value_true t.entries l (sym read))
+truth_read t l (Some false) b v read got = subst (λ x. MatchBool x (Contains (literals_of t.entries) l) (¬ Contains (literals_of t.entries) l)) (sym got) (λ c. true≢false (same_Some true false (sym (value_of_true t l v c) ∙ sym read)))
+truth_read t l None b v read got = subst (λ x. MatchBool x (Contains (literals_of t.entries) l) (¬ Contains (literals_of t.entries) l)) (sym got) (λ c. none-some true (read ∙ value_of_true t l v c))

@@ -7,3 +7,4 @@ pub mod SearchLaws
 pub mod RoomLaws
 pub mod StepLaws
 pub mod EndLaws
+pub mod KeptLaws

@@ -32,7 +32,7 @@ pub(crate) struct Analysis {
 }
 
 // The literal at a place of the trail.
-fn literal_at(trail: &Trail, place: usize) -> Lit
+pub(crate) fn literal_at(trail: &Trail, place: usize) -> Lit
     requires { place < length trail.now.entries }
     ensures literal { (e : Entry) → slice_get trail.now.entries place ≡ Some e → result ≡ e.lit }
     ensures atom { result.atom < trail.now.atoms }

@@ -5,7 +5,6 @@
 
 mod analysis;
 mod cdcl;
-mod cut;
 mod log;
 mod marks;
 mod search;

@@ -12,12 +12,12 @@ ghost use Rattle.cdcl_trail.specs.Propagation.{IsConflict, IsStable};
 ghost use Rattle.cdcl_core.specs.Analysis.{IsAnalysis};
 ghost use Rattle.cdcl_core.specs.Search.{IsKept, IsTrueUpTo, IsSearch, IsCoreIn, IsInCore, IsSameProblem, Advances, Ends, Continues};
 
-use crate::analysis::{Analysis, analyze, analyze_given};
-use crate::cut::cut;
+use crate::analysis::{Analysis, analyze, analyze_given, literal_at};
 use crate::log::{Log, put_name};
 use crate::marks::Marks;
 use cdcl_trail::{Clauses, Trail};
 use inst_logic::Memory;
+use prop_logic::cut::cut;
 use prop_logic::{
     Answer, Hint, HintList, Lit, LitList, Step, Valuation, clash, complement, complements,
 };
@@ -166,12 +166,11 @@ fn save_phases(trail: &Trail, phases: &mut [bool], next: usize, level: usize) ->
     requires { length phases.old ≡ trail.now.atoms }
     ensures { IsTrail trail.now }
 {
-    let literals = trail.assigned();
     let mut first = next;
-    let mut place = literals.len();
+    let mut place = trail.assigned().len();
     while 0 < place {
         place -= 1;
-        let lit = literals[place];
+        let lit = literal_at(trail, place);
         if trail.level_of(lit.atom).unwrap_or(0) <= level {
             return first;
         }

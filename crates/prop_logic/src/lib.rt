@@ -2,7 +2,7 @@
 #![tactic(auto)]
 
 mod analysis;
-mod cut;
+pub mod cut;
 pub mod literal;
 pub mod plain;
 mod propagation;
