@@ -1,6 +1,7 @@
 -- How the search ends.
-use Rattle.std.proofs.Common.{◌≡◌, ◌≢◌, ℕ, suc, zero, ◌+◌, ◌-◌, ◌<◌, ◌≤◌, Bool, true, false, not, cond, ◌⊎◌, inl, inr, List, [], ◌∷◌, ◌++◌, length, map, take, get_or, Option, Some, None, refl, sym, ap, ◌∙◌, subst, arith}
-use Rattle.std.specs.Prelude.{All, Any, Contains, slice_get, unwrap_or, MatchBool, ◌==◌}
+use Rattle.std.proofs.Common.{◌≡◌, ◌≢◌, ℕ, suc, zero, ◌+◌, ◌-◌, ◌<◌, ◌≤◌, Bool, true, false, not, cond, ◌⊎◌, inl, inr, List, [], ◌∷◌, ◌++◌, length, map, take, get_or, eqb, eq-eqb, Option, Some, None, refl, sym, ap, ◌∙◌, subst, arith}
+use Rattle.std.specs.Prelude.{All, Any, Contains, slice_get, unwrap_or, is_some, MatchBool, ◌==◌, ◌&&◌}
+use Rattle.std.specs.Bool.{beq}
 use Rattle.std.proofs.lemmas.List.Elements.{All-nil, All-cons, All-contains, All-weaker, All-push, All-map, All-head, All-tail, All-contains_itself, Contains-push, Contains-append_left}
 use Rattle.std.proofs.lemmas.List.{take_more, length-map}
 use Rattle.std.proofs.lemmas.Option.{same_Some, none-some}
@@ -10,19 +11,21 @@ use Rattle.inst_logic.specs.declared.signed.Signed.{Signed}
 use Rattle.inst_logic.specs.Signed.{complement, signed}
 use Rattle.inst_logic.specs.Truth.{IsTrueLiteral, IsTrueClause}
 use Rattle.prop_logic.specs.declared.literal.Step.{Step}
-use Rattle.prop_logic.specs.Literal.{AtomsBelow}
-use Rattle.prop_logic.specs.Solving.{MakesTrue, IsSubList}
+use Rattle.prop_logic.specs.Literal.{AtomsBelow, IsShownDerivation}
+use Rattle.prop_logic.specs.Solving.{MakesTrue, IsSubList, EndsWith, Refutes}
+use Rattle.prop_logic.specs.Search.{AreGood, IsCore}
+use Rattle.prop_logic.specs.Cut.{IsCutOf}
 use Rattle.prop_logic.specs.Valuation.{IsHeld}
 use Rattle.prop_logic.proofs.ListLaws.{All-slice_get, All-from_contained, Contains-slice_get, slice_get-Contains}
-use Rattle.prop_logic.proofs.SearchLaws.{sub_more, sub_push, contains_map}
+use Rattle.prop_logic.proofs.SearchLaws.{sub_more, sub_push, contains_map, shown_push, good_none, none_true, core_refutes}
 use Rattle.cdcl_trail.specs.declared.entry.Entry.{Entry}
 use Rattle.cdcl_trail.specs.Clauses.{clause_number}
-use Rattle.cdcl_trail.specs.Trail.{Trail, IsTrail, IsDecision, level_of, value_of, literals_of}
+use Rattle.cdcl_trail.specs.Trail.{Trail, IsTrail, IsDecision, level_of, value_of, reason_of, literals_of}
 use Rattle.cdcl_trail.specs.Propagation.{IsFalseIn, IsStable}
 use Rattle.cdcl_core.specs.declared.search.Search.{Search}
 use Rattle.cdcl_core.specs.Analysis.{IsMarked, HasDecisions, HasDecisionsAnd}
 use Rattle.cdcl_core.specs.Search.{IsKept, IsTrueUpTo, IsSearch, IsInCore, IsCoreIn}
-use Rattle.cdcl_core.proofs.EntryLaws.{of_literals, to_literals, to_false, same_entry, value_found, consistent, complement_twice}
+use Rattle.cdcl_core.proofs.EntryLaws.{of_literals, to_literals, to_false, same_entry, value_found, reason_found, consistent, complement_twice}
 
 entry_step : (x : Entry) (xs : List Entry) (a : ℕ) (b : Bool) → (x.lit.atom == a) ≡ b → ((level_of xs a ≡ None → ⊥) → (e : Entry) × Contains xs e × (e.lit.atom ≡ a)) → (cond b (Some x.level) (level_of xs a) ≡ None → ⊥) → (e : Entry) × Contains (x ∷ xs) e × (e.lit.atom ≡ a)
 entry_step x xs a true s rest n = let same : x.lit.atom ≡ a = grind (arith, nat_tests) in (x, (0, omega arith, refl), same)
@@ -158,7 +161,7 @@ value_of_true t l v c =
 
 sign_same : (p q : Bool) → cond p q (not q) ≡ true → p ≡ q
 sign_same true true e = refl
-sign_same true false e = e
+sign_same true false e = sym e
 sign_same false true e = e
 sign_same false false e = refl
 
@@ -176,3 +179,46 @@ pub truth_read : (t : Trail) (l : Signed ℕ) (o : Option Bool) (b : Bool) → I
 truth_read t l (Some true) b v read got = subst (λ x. MatchBool x (Contains (literals_of t.entries) l) (¬ Contains (literals_of t.entries) l)) (sym got) (of_value_true t.entries l (sym read))
 truth_read t l (Some false) b v read got = subst (λ x. MatchBool x (Contains (literals_of t.entries) l) (¬ Contains (literals_of t.entries) l)) (sym got) (λ c. true≢false (same_Some true false (sym (value_of_true t l v c) ∙ sym read)))
 truth_read t l None b v read got = subst (λ x. MatchBool x (Contains (literals_of t.entries) l) (¬ Contains (literals_of t.entries) l)) (sym got) (λ c. none-some true (read ∙ value_of_true t l v c))
+
+test_self : (l : Signed ℕ) → (beq l.positive l.positive && eqb l.atom l.atom) ≡ true
+test_self l = ap (λ b. b && eqb l.atom l.atom) (sign_self l.positive) ∙ eq-eqb l.atom l.atom refl
+  where
+    sign_self : (b : Bool) → beq b b ≡ true
+    sign_self true = refl
+    sign_self false = refl
+
+literals_differ : (l r : Signed ℕ) → false ≡ (beq l.positive r.positive && eqb l.atom r.atom) → l ≡ r → ⊥
+literals_differ l r e q = false≢true (e ∙ ap (λ x. beq l.positive x.positive && eqb l.atom x.atom) (sym q) ∙ test_self l)
+
+pub not_in_core_unmarked : (es : List Entry) (marks : List Bool) (r l : Signed ℕ) (b : Bool) → false ≡ (beq l.positive r.positive && eqb l.atom r.atom) → b ≡ get_or marks l.atom false → b ≡ false → IsInCore es marks r l → ⊥
+not_in_core_unmarked es marks r l b other read free (inl same) = literals_differ l r other same
+not_in_core_unmarked es marks r l b other read free (inr e) = true≢false (sym e.4 ∙ ap (λ x. get_or marks x.atom false) e.2 ∙ sym read ∙ free)
+
+pub not_in_core_given : (t : Trail) (marks : List Bool) (r l : Signed ℕ) (o : Option ℕ) (b : Bool) → IsTrail t → false ≡ (beq l.positive r.positive && eqb l.atom r.atom) → o ≡ reason_of t.entries l.atom → b ≡ is_some o → b ≡ true → IsInCore t.entries marks r l → ⊥
+not_in_core_given t marks r l o b v other read some is (inl same) = literals_differ l r other same
+not_in_core_given t marks r l o b v other read some is (inr e) =
+    let none : o ≡ None = read ∙ reason_found t e.0 l.atom v e.1 (ap (λ x. x.atom) e.2) ∙ e.3 in
+    false≢true (sym (ap is_some none) ∙ sym some ∙ is)
+
+-- a refutation by the steps
+pub answer_refutes : (n : ℕ) (added : List (List (Signed ℕ))) (assumptions core : List (Signed ℕ)) (steps kept : List Step) → AreGood added n steps → IsSubList core assumptions → EndsWith steps (map complement core) → IsCutOf steps kept → Refutes n added assumptions core kept
+answer_refutes n added assumptions core steps kept good within last cuts =
+    let h = cuts added n (map complement core) good last in
+    core_refutes n added assumptions core kept (record { within = within; good = h.0; last = h.1 })
+
+pub clash_answer : (n : ℕ) (added : List (List (Signed ℕ))) (assumptions core : List (Signed ℕ)) (l : Signed ℕ) → IsSubList core assumptions → AtomsBelow n core → Contains core l → Contains core (complement l) → Refutes n added assumptions core ((record { clause = map complement core; hints = [] }) ∷ [])
+clash_answer n added assumptions core l within low here there =
+    let s : Step = record { clause = map complement core; hints = [] } in
+    let first : Contains (map complement core) (complement l) = contains_map complement core l here in
+    let second : Contains (map complement core) (complement (complement l)) = contains_map complement core (complement l) there in
+    let shown : IsShownDerivation added (s ∷ []) = shown_push added [] s (good_none added n).shown (complement l, first, second) in
+    let last : EndsWith (s ∷ []) (map complement core) = (s, refl, All-contains_itself s.clause, All-contains_itself s.clause) in
+    let below : AtomsBelow n (map complement core) = All-map (λ x. x.atom < n) complement core low in
+    record {
+      none = none_true added assumptions core (s ∷ []) shown within last;
+      within = within;
+      shown = shown;
+      last = last;
+      hinted = λ free. absurd (free (l, here, there));
+      atoms_below = All-cons (λ x. AtomsBelow n x.clause) s [] below (All-nil (λ x. AtomsBelow n x.clause));
+    }

@@ -25,7 +25,7 @@ use Rattle.cdcl_core.specs.Log.{PutsName, IsNamed, IsLog}
 use Rattle.cdcl_core.specs.Search.{AreGiven, IsKept, IsTrueUpTo, IsSearch, weight, IsSameProblem, Advances, Ends, Continues}
 use Rattle.cdcl_core.proofs.EntryLaws.{of_literals, to_literals}
 use Rattle.cdcl_core.proofs.LogLaws.{log_atom, log_added, log_step, log_learned}
-use Rattle.cdcl_core.proofs.SearchLaws.{given_up_to, given_propagated, given_clauses, in_new, decision_old, weight_kept}
+use Rattle.cdcl_core.proofs.SearchLaws.{given_up_to, given_propagated, given_clauses, in_new, decision_old, weight_kept, of_up_to}
 
 no_clause : (n : ℕ) (c : List (Signed ℕ)) → clause_number [] n ≡ Some c → ⊥
 no_clause zero c e = none-some c e
@@ -162,12 +162,15 @@ continues_from assumptions old new t (Some answer) p c = record {
 }
 
 -- the beginning: no decision is left
-pub begun : (assumptions : List (Signed ℕ)) (s : Search) → IsKept s → IsTrail s.trail → s.trail.level ≡ 0 → s.assumed ≡ 0 → s.checked ≡ 0 → IsSearch assumptions s
-begun assumptions s k v level assumed checked = record {
+pub begun : (assumptions : List (Signed ℕ)) (old : Trail) (s : Search) → IsTrail old → s.trail ≡ back_at old 0 → s.assumed ≡ 0 → s.checked ≡ 0 → IsKept s → IsSearch assumptions s
+begun assumptions old s v trail assumed checked k = record {
   kept = k;
-  low = omega (arith, level, assumed);
-  decisions = λ e c chosen h. absurd (let high = All-contains (λ x. IsDecision x → 0 < x.level) s.trail.entries e v.above c chosen in omega (arith, high, h, assumed));
-  all_true = λ h. absurd (omega (arith, h, level));
+  low = omega (arith, assumed);
+  decisions = λ e c chosen h.
+      let f = of_up_to old.entries 0 e (subst (λ es. Contains es e) (ap (λ x. x.entries) trail) c) in
+      let high = All-contains (λ x. IsDecision x → 0 < x.level) old.entries e v.above f.0 chosen in
+      absurd (omega (arith, high, f.1));
+  all_true = λ h. absurd (omega (arith, h, ap (λ x. x.level) trail));
   checked = subst (λ n. All (Contains (literals_of s.trail.entries)) (take n assumptions)) (sym checked) (take_zero (Contains (literals_of s.trail.entries)) assumptions);
 }
   where

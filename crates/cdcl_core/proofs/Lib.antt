@@ -8,3 +8,4 @@ pub mod RoomLaws
 pub mod StepLaws
 pub mod EndLaws
 pub mod KeptLaws
+pub mod GoLaws

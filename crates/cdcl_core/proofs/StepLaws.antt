@@ -1,8 +1,8 @@
 -- The steps of the search: what is learned, what is decided, and the end.
 use Rattle.std.proofs.Common.{◌≡◌, ◌≢◌, ℕ, suc, zero, ◌+◌, ◌-◌, ◌^◌, ◌<◌, ◌≤◌, min, Bool, true, false, not, cond, ◌⊎◌, inl, inr, List, [], ◌∷◌, ◌++◌, length, map, take, drop, get_or, Option, Some, None, refl, sym, ap, ◌∙◌, subst, arith}
 use Rattle.std.specs.Prelude.{All, AllPairs, Any, Contains, slice_get, unwrap_or, ◌==◌, IfOk}
-use Rattle.std.proofs.lemmas.List.{length_push, length-map}
-use Rattle.std.proofs.lemmas.List.Elements.{All-nil, All-cons, All-contains, All-weaker, All-push, Contains-push, Contains-push_cases, Contains-append_left}
+use Rattle.std.proofs.lemmas.List.{length_push, length-map, length-drop, take_all}
+use Rattle.std.proofs.lemmas.List.Elements.{All-nil, All-cons, All-tail, All-contains, All-weaker, All-push, Contains-push, Contains-push_cases, Contains-append_left}
 use Rattle.std.proofs.lemmas.Option.{same_Some, none-some, slice_get_within}
 use Rattle.std.proofs.lemmas.Bool.{cases_eq, true≢false, false≢true}
 use Rattle.std.proofs.lemmas.Bool.Decides.{nat_tests}
@@ -25,9 +25,10 @@ use Rattle.cdcl_core.specs.declared.search.Search.{Search}
 use Rattle.cdcl_core.specs.Log.{IsLog}
 use Rattle.cdcl_core.specs.Analysis.{IsFalseBelow, IsLearned}
 use Rattle.cdcl_core.specs.Search.{AreGiven, IsKept, IsTrueUpTo, IsSearch, weight, IsSameProblem, Advances, Ends, Continues}
-use Rattle.cdcl_core.proofs.EntryLaws.{pair_at, pair_any, of_literals, to_literals, to_false, same_entry, level_found, value_found, complement_twice}
+use Rattle.cdcl_core.proofs.EntryLaws.{pair_at, pair_any, of_literals, to_literals, of_false, to_false, same_entry, level_found, value_found, complement_twice}
 use Rattle.cdcl_core.proofs.Measure.{weight_push, weight_backjump, weight_below}
 use Rattle.cdcl_core.proofs.SearchLaws.{up_to_contains, of_up_to, given_up_to, given_push, given_propagated, in_new, decision_old, weight_kept}
+use Rattle.cdcl_core.proofs.AnalysisLaws.{all_false}
 use Rattle.cdcl_core.proofs.RoomLaws.{room}
 
 -- levels: each opens later than the one below it
@@ -218,3 +219,33 @@ unset_step x xs a false h rest e = All-cons (λ y. y.lit.atom ≢ a) x xs (λ q.
 pub unset_of : (es : List Entry) (a : ℕ) → level_of es a ≡ None → IsUnset es a
 unset_of [] a e = All-nil (λ x. x.lit.atom ≢ a)
 unset_of (x ∷ xs) a e = unset_step x xs a (x.lit.atom == a) refl (λ f. unset_of xs a f) e
+
+-- the clause of an analysis, by its first literal and the others
+pub learned_below : (t : Trail) (clause : List (Signed ℕ)) → IsTrail t → IsLearned t.entries clause → AtomsBelow t.atoms clause
+learned_below t clause v h = All-weaker (IsFalseIn t.entries) (λ l. l.atom < t.atoms) (λ l f.
+    let e = of_false t.entries l f in
+    subst (λ x. x.atom < t.atoms) (sym e.2) (All-contains (λ x. x.lit.atom < t.atoms) t.entries e.0 v.atoms_below e.1)) clause (all_false t.entries clause h)
+
+pub rest_below : (n : ℕ) (clause rest : List (Signed ℕ)) → rest ≡ drop 1 clause → AtomsBelow n clause → AtomsBelow n rest
+rest_below n [] rest e h = subst (AtomsBelow n) (sym e) h
+rest_below n (x ∷ xs) rest e h = subst (AtomsBelow n) (sym (e ∙ drop_none xs)) (All-tail (λ l. l.atom < n) x xs h)
+  where
+    drop_none : (ys : List (Signed ℕ)) → drop 0 ys ≡ ys
+    drop_none [] = refl
+    drop_none (y ∷ ys) = refl
+
+pub learned_unit_of : (t : Trail) (clause rest : List (Signed ℕ)) (l d : Signed ℕ) (level : ℕ) → IsTrail t → IsLearned t.entries clause → 0 < length clause → l ≡ get_or clause 0 d → rest ≡ drop 1 clause → All (λ m. unwrap_or (level_of t.entries m.atom) 0 ≤ level) rest
+    → ((top : ℕ) → 0 < top → All (λ m. unwrap_or (level_of t.entries m.atom) 0 < top) rest → level < top) → IsUnitAt t clause l level
+learned_unit_of t [] rest l d level v h some is e reached least = absurd (omega (arith, some))
+learned_unit_of t (x ∷ xs) rest l d level v h some is e reached least =
+    let same : rest ≡ xs = e ∙ drop_none xs in
+    subst (λ y. IsUnitAt t (x ∷ xs) y level) (sym is)
+    (learned_unit t x xs level v h (subst (λ ys. All (λ m. unwrap_or (level_of t.entries m.atom) 0 ≤ level) ys) same reached)
+    (λ top low all. least top low (subst (λ ys. All (λ m. unwrap_or (level_of t.entries m.atom) 0 < top) ys) (sym same) all)))
+  where
+    drop_none : (ys : List (Signed ℕ)) → drop 0 ys ≡ ys
+    drop_none [] = refl
+    drop_none (y ∷ ys) = refl
+
+pub rest_is : (clause xs : List (Signed ℕ)) → xs ≡ clause → take (length xs - 1) (drop 1 xs) ≡ drop 1 clause
+rest_is clause xs e = take_all (length xs - 1) (drop 1 xs) (omega (arith, length-drop 1 xs)) ∙ ap (drop 1) e

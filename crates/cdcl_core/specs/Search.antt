@@ -22,6 +22,11 @@ pub record IsKept (s : Search) : Type 0 where
   pub marks : length s.marks ≡ s.trail.atoms
   pub phases : length s.phases.items ≡ s.trail.atoms
 
+-- between questions
+pub record IsIdle (s : Search) : Type 0 where
+  pub kept : IsKept s
+  pub level : s.trail.level ≡ 0
+
 -- the literal is true at one of the levels up to this one
 abbrev pub IsTrueUpTo : List Entry → ℕ → Signed ℕ → Type 0
 IsTrueUpTo entries level l = (e : Entry) × Contains entries e × (e.lit ≡ l) × (e.level ≤ level)

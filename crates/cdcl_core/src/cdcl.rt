@@ -1,4 +1,6 @@
 // A solver by clause learning.
+ghost use Rattle.std.specs.Prelude.{◌≡◌, [], false};
+
 use crate::search::Search;
 use inst_logic::Memory;
 use prop_logic::{Answer, Lit, Solver};
@@ -13,9 +15,24 @@ pub struct Cdcl {
     spent: bool,
 }
 
+impl Model for Cdcl {
+    ghost use Rattle.std.specs.Prelude.{◌≡◌, false};
+    ghost use Rattle.prop_logic.specs.Plain.{State};
+
+    ghost Value = { State };
+
+    ghost use Rattle.cdcl_core.specs.Search.{IsIdle};
+
+    ghost view = { λ s. record { atoms = s.search.trail.atoms; added = s.search.log.added; spent = s.spent } };
+
+    ghost invariant = { λ s. s.spent ≡ false → IsIdle s.search };
+}
+
 impl Cdcl {
     /// A solver without atoms and clauses.
-    pub fn new(alloc: Global) -> Self {
+    pub fn new(alloc: Global) -> Self
+        ensures { result ≡ (record { atoms = 0; added = []; spent = false }) }
+    {
         Cdcl {
             search: Search::new(alloc),
             spent: false,

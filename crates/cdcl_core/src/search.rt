@@ -6,8 +6,9 @@ ghost use Rattle.prop_logic.specs.declared.literal.Step.{Step};
 ghost use Rattle.prop_logic.specs.Literal.{AtomsBelow, cited};
 ghost use Rattle.prop_logic.specs.Solving.{IsAnswer, IsSubList};
 ghost use Rattle.prop_logic.specs.Analysis.{ClosesAll};
+ghost use Rattle.cdcl_trail.specs.declared.entry.Entry.{Entry};
 ghost use Rattle.cdcl_trail.specs.Clauses.{clause_number};
-ghost use Rattle.cdcl_trail.specs.Trail.{IsTrail, value_of, level_of, literals_of, back_at};
+ghost use Rattle.cdcl_trail.specs.Trail.{IsTrail, IsDecision, value_of, level_of, literals_of, back_at};
 ghost use Rattle.cdcl_trail.specs.Propagation.{IsConflict, IsStable};
 ghost use Rattle.cdcl_core.specs.Analysis.{IsAnalysis};
 ghost use Rattle.cdcl_core.specs.Search.{IsKept, IsTrueUpTo, IsSearch, IsCoreIn, IsInCore, IsSameProblem, Advances, Ends, Continues};
@@ -19,7 +20,7 @@ use cdcl_trail::{Clauses, Trail};
 use inst_logic::Memory;
 use prop_logic::cut::cut;
 use prop_logic::{
-    Answer, Hint, HintList, Lit, LitList, Step, Valuation, clash, complement, complements,
+    Answer, Derivation, Hint, HintList, Lit, LitList, Step, Valuation, complement, complements,
 };
 use std::alloc::Global;
 
@@ -62,8 +63,9 @@ fn open_from(trail: &Trail, from: usize, atoms: usize) -> Option<usize>
     ensures none { IfNone result ((k : ℕ) → from ≤ k → k < atoms → level_of trail.now.entries k ≡ None → ⊥) }
 {
     for atom in from..atoms {
-        if trail.level_of(atom).is_none() {
-            return Some(atom);
+        match trail.level_of(atom) {
+            None => return Some(atom),
+            Some(_) => {}
         }
     }
     None
@@ -132,7 +134,10 @@ fn is_in_core(trail: &Trail, marks: &Marks, refuted: Lit, lit: Lit) -> bool
     if lit == refuted {
         return true;
     }
-    if !marks.contains(lit.atom) || trail.reason(lit.atom).is_some() {
+    if !marks.contains(lit.atom) {
+        return false;
+    }
+    if trail.reason(lit.atom).is_some() {
         return false;
     }
     is_true(trail, lit)
@@ -235,6 +240,7 @@ impl Search {
         requires level { level ≤ self.old.trail.level }
         requires kept { IsKept self.old }
         ensures kept { IsKept self.new }
+        ensures right { IsTrail self.old.trail }
         ensures trail { self.new.trail ≡ back_at self.old.trail level }
         ensures log { self.new.log ≡ self.old.log }
         ensures clauses { self.new.clauses ≡ self.old.clauses }
@@ -333,6 +339,28 @@ impl Search {
         Ok(None)
     }
 
+    // The answer where the complement of an assumption is assumed too, which no clause is needed for.
+    fn clash(&mut self, assumptions: &[Lit], lit: Lit) -> Result<Answer, Memory>
+        requires search { IsSearch assumptions.now self.old }
+        requires trail { IsTrail self.old.trail }
+        requires atoms { AtomsBelow self.old.trail.atoms assumptions.now }
+        requires assumption { Contains assumptions.now lit }
+        requires other { Contains assumptions.now (complement lit) }
+        requires decided { (e : Entry) × Contains self.old.trail.entries e × (e.lit ≡ complement lit) × IsDecision e }
+        ensures { IfOk result (Ends assumptions.now self.old self.new) }
+    {
+        self.marks.clear();
+        self.marks.insert(lit.atom);
+        let core = core_of(self.alloc, &self.trail, &self.marks, lit, assumptions)?;
+        let clause = complements(self.alloc, core.as_slice())?;
+        let mut derivation = Derivation::new(self.alloc);
+        derivation.push(Step {
+            clause,
+            hints: HintList::new(self.alloc),
+        })?;
+        Ok(Answer::Unsat { core, derivation })
+    }
+
     // The answer where an assumption is false.
     fn refute(&mut self, assumptions: &[Lit], lit: Lit, count: usize) -> Result<Answer, Memory>
         requires search { IsSearch assumptions.now self.old }
@@ -345,7 +373,7 @@ impl Search {
         ensures { IfOk result (Ends assumptions.now self.old self.new) }
     {
         match self.trail.reason(lit.atom) {
-            None => clash(self.alloc, lit),
+            None => self.clash(assumptions, lit),
             Some(number) => {
                 let hints = analyze_given(
                     self.alloc,

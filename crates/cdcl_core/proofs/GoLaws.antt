@@ -1,0 +1,76 @@
+-- One step of the search as its functions take it.
+use Rattle.std.proofs.Common.{◌≡◌, ◌≢◌, ℕ, suc, zero, ◌+◌, ◌-◌, ◌^◌, ◌<◌, ◌≤◌, min, Bool, true, false, not, ◌⊎◌, inl, inr, List, [], ◌∷◌, ◌++◌, length, map, take, get_or, Option, Some, None, Result, Ok, Err, refl, sym, ap, ◌∙◌, subst, arith}
+use Rattle.std.specs.Prelude.{All, Contains, slice_get, unwrap_or, IfOk}
+use Rattle.std.proofs.lemmas.List.Elements.{All-nil, All-contains, All-weaker, All-map}
+use Rattle.std.proofs.lemmas.Option.{none-some}
+use Rattle.inst_logic.specs.declared.signed.Signed.{Signed}
+use Rattle.inst_logic.specs.Signed.{complement}
+use Rattle.prop_logic.specs.declared.literal.Hint.{Hint}
+use Rattle.prop_logic.specs.declared.literal.Step.{Step}
+use Rattle.prop_logic.specs.declared.solver.Answer.{Answer}
+use Rattle.prop_logic.specs.declared.solver.Answer.TheVariants.{Sat, Unsat}
+use Rattle.prop_logic.specs.Literal.{cited, AtomsBelow}
+use Rattle.prop_logic.specs.Solving.{IsAnswer, IsSubList, EndsWith, MakesTrue}
+use Rattle.prop_logic.specs.Analysis.{ClosesAll}
+use Rattle.prop_logic.specs.Cut.{IsCutOf}
+use Rattle.prop_logic.proofs.SearchLaws.{ends_with_push, sub_contains}
+use Rattle.cdcl_trail.specs.declared.entry.Entry.{Entry}
+use Rattle.cdcl_trail.specs.Trail.{Trail, IsTrail, IsDecision, reason_of, literals_of}
+use Rattle.cdcl_core.specs.declared.search.Search.{Search}
+use Rattle.cdcl_core.specs.Log.{IsLog}
+use Rattle.cdcl_core.specs.Analysis.{HasDecisionsAnd, ShowsGiven, IsMarked}
+use Rattle.cdcl_core.specs.Search.{AreGiven, IsKept, IsTrueUpTo, IsSearch, IsSameProblem, Advances, Ends, Continues, IsCoreIn}
+use Rattle.cdcl_core.proofs.EntryLaws.{of_literals, to_literals, reason_found}
+use Rattle.cdcl_core.proofs.KeptLaws.{kept_same}
+use Rattle.cdcl_core.proofs.EndLaws.{answer_refutes, core_free, core_has, core_below, clash_answer}
+
+-- other marks
+pub marks_search : (assumptions : List (Signed ℕ)) (s : Search) (m : List Bool) → length m ≡ length s.marks → IsSearch assumptions s → IsSearch assumptions (record s { marks = m })
+marks_search assumptions s m same k = record {
+  kept = kept_same s (record s { marks = m }) refl refl refl same refl k.kept;
+  low = k.low;
+  decisions = k.decisions;
+  all_true = k.all_true;
+  checked = k.checked;
+}
+
+pub marks_continue : (assumptions : List (Signed ℕ)) (s new : Search) (m : List Bool) (found : Option Answer) → Continues assumptions (record s { marks = m }) new found → Continues assumptions s new found
+marks_continue assumptions s new m None c = (c.0, record { same = record { atoms = c.1.same.atoms; added = c.1.same.added }; within = c.1.within; risen = c.1.risen })
+marks_continue assumptions s new m (Some a) c = record { kept = c.kept; same = record { atoms = c.same.atoms; added = c.same.added }; answered = c.answered }
+
+-- the end by steps
+pub refuted_ends : (assumptions core : List (Signed ℕ)) (old new : Search) (clause : List (Signed ℕ)) (hints : List Hint) (derivation : List Step) → clause ≡ map complement core → IsSubList core assumptions → IsKept new → new.log.added ≡ old.log.added → new.trail ≡ old.trail
+    → new.log.steps ≡ old.log.steps ++ (record { clause = clause; hints = hints }) ∷ [] → IsCutOf new.log.steps derivation → Ends assumptions old new (Unsat core derivation)
+refuted_ends assumptions core old new clause hints derivation is within k added trail steps cuts =
+    let atoms : new.trail.atoms ≡ old.trail.atoms = ap (λ t. t.atoms) trail in
+    let last : EndsWith new.log.steps (map complement core) = subst (λ c. EndsWith new.log.steps c) is (subst (λ ss. EndsWith ss clause) (sym steps) (ends_with_push old.log.steps (record { clause = clause; hints = hints }))) in
+    record {
+      kept = k;
+      same = record { atoms = atoms; added = added };
+      answered = subst (λ xs. IsAnswer old.trail.atoms xs assumptions (Unsat core derivation)) added
+          (subst (λ n. IsAnswer n new.log.added assumptions (Unsat core derivation)) atoms (answer_refutes new.trail.atoms new.log.added assumptions core new.log.steps derivation k.log.good within last cuts));
+    }
+
+-- a false assumption
+pub false_entry : (t : Trail) (l : Signed ℕ) (o : Option ℕ) → IsTrail t → Contains (literals_of t.entries) (complement l) → o ≡ reason_of t.entries l.atom → (e : Entry) × Contains t.entries e × (e.lit ≡ complement l) × (e.reason ≡ o)
+false_entry t l o v c read =
+    let f = of_literals t.entries (complement l) c in
+    (f.0, f.1, sym f.2, sym (read ∙ reason_found t f.0 l.atom v f.1 (ap (λ x. x.atom) (sym f.2))))
+
+-- all decisions are assumptions where no other level is open
+pub all_assumed : (assumptions : List (Signed ℕ)) (s : Search) → IsTrail s.trail → s.trail.level ≤ s.assumed → IsSearch assumptions s → (e : Entry) → Contains s.trail.entries e → IsDecision e → Contains assumptions e.lit
+all_assumed assumptions s v low k e c chosen =
+    let top = All-contains (λ x. x.level ≤ s.trail.level) s.trail.entries e v.levels c in
+    k.decisions e c chosen (omega (arith, top, low))
+
+pub core_closes : (s : Search) (marks : List Bool) (assumptions core : List (Signed ℕ)) (l : Signed ℕ) (hints : List Hint) → IsTrail s.trail → s.trail.level ≤ s.assumed → IsSearch assumptions s → Contains assumptions l → IsCoreIn s.trail.entries marks l assumptions core → ShowsGiven s.log s.trail.entries (complement l) marks hints
+    → ClosesAll (map complement core) (map (cited s.log.added s.log.steps) hints)
+core_closes s marks assumptions core l hints v low k inside c shows =
+    shows (map complement core) (λ e d other h. core_free s.trail marks l assumptions core v c e d other h) (core_has s.trail marks l assumptions core inside (all_assumed assumptions s v low k) c)
+
+pub core_atoms : (n : ℕ) (assumptions core : List (Signed ℕ)) → AtomsBelow n assumptions → IsSubList core assumptions → AtomsBelow n core
+core_atoms n assumptions core low within = All-weaker (Contains assumptions) (λ l. l.atom < n) (λ l c. All-contains (λ x. x.atom < n) assumptions l low c) core (sub_contains core assumptions within)
+
+pub if_ok : {T E : Type 0} (r : Result T E) (P Q : T → Type 0) → ((x : T) → P x → Q x) → IfOk r P → IfOk r Q
+if_ok (Ok x) P Q f h = f x h
+if_ok (Err e) P Q f h = tt
