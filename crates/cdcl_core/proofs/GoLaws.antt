@@ -1,6 +1,7 @@
 -- One step of the search as its functions take it.
 use Rattle.std.proofs.Common.{◌≡◌, ◌≢◌, ℕ, suc, zero, ◌+◌, ◌-◌, ◌^◌, ◌<◌, ◌≤◌, min, Bool, true, false, not, ◌⊎◌, inl, inr, List, [], ◌∷◌, ◌++◌, length, map, take, get_or, Option, Some, None, Result, Ok, Err, refl, sym, ap, ◌∙◌, subst, arith}
-use Rattle.std.specs.Prelude.{All, Contains, slice_get, unwrap_or, IfOk}
+use Rattle.std.specs.Prelude.{All, Contains, slice_get, unwrap_or, is_some, IfOk}
+use Rattle.std.proofs.lemmas.Bool.{true≢false}
 use Rattle.std.proofs.lemmas.List.Elements.{All-nil, All-contains, All-weaker, All-map}
 use Rattle.std.proofs.lemmas.Option.{none-some}
 use Rattle.inst_logic.specs.declared.signed.Signed.{Signed}
@@ -74,3 +75,13 @@ core_atoms n assumptions core low within = All-weaker (Contains assumptions) (λ
 pub if_ok : {T E : Type 0} (r : Result T E) (P Q : T → Type 0) → ((x : T) → P x → Q x) → IfOk r P → IfOk r Q
 if_ok (Ok x) P Q f h = f x h
 if_ok (Err e) P Q f h = tt
+
+pub up_to_all : (assumptions : List (Signed ℕ)) (s : Search) → IsTrail s.trail → s.trail.level ≤ s.assumed → All (Contains (literals_of s.trail.entries)) assumptions → All (IsTrueUpTo s.trail.entries s.assumed) assumptions
+up_to_all assumptions s v low all = All-weaker (Contains (literals_of s.trail.entries)) (IsTrueUpTo s.trail.entries s.assumed) (λ l c.
+    let f = of_literals s.trail.entries l c in
+    let top = All-contains (λ x. x.level ≤ s.trail.level) s.trail.entries f.0 v.levels f.1 in
+    (f.0, f.1, sym f.2, omega (arith, top, low))) assumptions all
+
+pub none_of : {X : Type 0} (o : Option X) → is_some o ≡ false → o ≡ None
+none_of None e = refl
+none_of (Some x) e = absurd (true≢false e)
