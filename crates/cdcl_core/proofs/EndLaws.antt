@@ -1,7 +1,10 @@
 -- How the search ends.
 use Rattle.std.proofs.Common.{◌≡◌, ◌≢◌, ℕ, suc, zero, ◌+◌, ◌-◌, ◌<◌, ◌≤◌, Bool, true, false, not, cond, ◌⊎◌, inl, inr, List, [], ◌∷◌, ◌++◌, length, map, take, get_or, eqb, eq-eqb, Option, Some, None, refl, sym, ap, ◌∙◌, subst, arith}
-use Rattle.std.specs.Prelude.{All, Any, Contains, slice_get, unwrap_or, is_some, MatchBool, ◌==◌, ◌&&◌}
+use Rattle.std.specs.Prelude.{All, Any, Contains, slice_get, unwrap_or, is_some, MatchBool, nat_lt, ◌==◌, ◌&&◌}
 use Rattle.std.specs.Bool.{beq}
+use Rattle.std.specs.Ordering.{ord_max, is_lt, nat_cmp}
+use Rattle.std.proofs.lemmas.Bool.{ltb-true, ltb-false}
+use Rattle.std.specs.declared.cmp.Ordering.TheVariants.{Less, Equal, Greater}
 use Rattle.std.proofs.lemmas.List.Elements.{All-nil, All-cons, All-contains, All-weaker, All-push, All-map, All-head, All-tail, All-contains_itself, Contains-push, Contains-append_left}
 use Rattle.std.proofs.lemmas.List.{take_more, length-map}
 use Rattle.std.proofs.lemmas.Option.{same_Some, none-some}
@@ -222,3 +225,22 @@ clash_answer n added assumptions core l within low here there =
       hinted = λ free. absurd (free (l, here, there));
       atoms_below = All-cons (λ x. AtomsBelow n x.clause) s [] below (All-nil (λ x. AtomsBelow n x.clause));
     }
+
+-- the greater of two numbers
+max_test : (a b : ℕ) (t u : Bool) → cond (is_lt (cond t Less (cond u Equal Greater))) a b ≡ cond t a b
+max_test a b true u = refl
+max_test a b false true = refl
+max_test a b false false = refl
+
+pub max_facts : (a b m : ℕ) → m ≡ ord_max nat_cmp a b → (a ≤ m) × (b ≤ m) × ((top : ℕ) → a < top → b < top → m < top)
+max_facts a b m e = by_test (nat_lt b a) refl (e ∙ max_test a b (nat_lt b a) (b == a))
+  where
+    by_test : (t : Bool) → nat_lt b a ≡ t → m ≡ cond (nat_lt b a) a b → (a ≤ m) × (b ≤ m) × ((top : ℕ) → a < top → b < top → m < top)
+    by_test true f g =
+        let is : m ≡ a = g ∙ ap (λ x. cond x a b) f in
+        let low : b < a = ltb-true b a f in
+        (omega arith, omega arith, λ top h k. omega arith)
+    by_test false f g =
+        let is : m ≡ b = g ∙ ap (λ x. cond x a b) f in
+        let low : a ≤ b = ltb-false b a f in
+        (omega arith, omega arith, λ top h k. omega arith)

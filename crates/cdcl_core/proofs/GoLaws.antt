@@ -1,7 +1,8 @@
 -- One step of the search as its functions take it.
-use Rattle.std.proofs.Common.{◌≡◌, ◌≢◌, ℕ, suc, zero, ◌+◌, ◌-◌, ◌^◌, ◌<◌, ◌≤◌, min, Bool, true, false, not, ◌⊎◌, inl, inr, List, [], ◌∷◌, ◌++◌, length, map, take, get_or, Option, Some, None, Result, Ok, Err, refl, sym, ap, ◌∙◌, subst, arith}
+use Rattle.std.proofs.Common.{◌≡◌, ◌≢◌, ℕ, suc, zero, ◌+◌, ◌-◌, ◌^◌, ◌<◌, ◌≤◌, min, Bool, true, false, not, ◌⊎◌, inl, inr, List, [], ◌∷◌, ◌++◌, length, map, take, get_or, set, replicate, length-set, Option, Some, None, Result, Ok, Err, refl, sym, ap, ◌∙◌, subst, arith}
 use Rattle.std.specs.Prelude.{All, Contains, slice_get, unwrap_or, is_some, IfOk}
 use Rattle.std.proofs.lemmas.Bool.{true≢false}
+use Rattle.std.proofs.lemmas.List.{length-replicate, get_or-set_same}
 use Rattle.std.proofs.lemmas.List.Elements.{All-nil, All-contains, All-weaker, All-map}
 use Rattle.std.proofs.lemmas.Option.{none-some}
 use Rattle.inst_logic.specs.declared.signed.Signed.{Signed}
@@ -20,7 +21,7 @@ use Rattle.cdcl_trail.specs.Trail.{Trail, IsTrail, IsDecision, reason_of, litera
 use Rattle.cdcl_core.specs.declared.search.Search.{Search}
 use Rattle.cdcl_core.specs.Log.{IsLog}
 use Rattle.cdcl_core.specs.Analysis.{HasDecisionsAnd, ShowsGiven, IsMarked}
-use Rattle.cdcl_core.specs.Search.{AreGiven, IsKept, IsTrueUpTo, IsSearch, IsSameProblem, Advances, Ends, Continues, IsCoreIn}
+use Rattle.cdcl_core.specs.Search.{AreGiven, IsKept, IsTrueUpTo, IsSearch, IsSameProblem, Advances, Ends, Continues, IsInCore, IsCoreIn}
 use Rattle.cdcl_core.proofs.EntryLaws.{of_literals, to_literals, reason_found}
 use Rattle.cdcl_core.proofs.KeptLaws.{kept_same}
 use Rattle.cdcl_core.proofs.EndLaws.{answer_refutes, core_free, core_has, core_below, clash_answer}
@@ -85,3 +86,31 @@ up_to_all assumptions s v low all = All-weaker (Contains (literals_of s.trail.en
 pub none_of : {X : Type 0} (o : Option X) → is_some o ≡ false → o ≡ None
 none_of None e = refl
 none_of (Some x) e = absurd (true≢false e)
+
+pub marks_ends : (assumptions : List (Signed ℕ)) (s new : Search) (m : List Bool) (a : Answer) → Ends assumptions (record s { marks = m }) new a → Ends assumptions s new a
+marks_ends assumptions s new m a c = record { kept = c.kept; same = record { atoms = c.same.atoms; added = c.same.added }; answered = c.answered }
+
+one_mark : (n a : ℕ) (m : List Bool) → m ≡ set (replicate n false) a true → a < n → (length m ≡ n) × IsMarked m a
+one_mark n a m e h = (
+  ap length e ∙ length-set (replicate n false) a true ∙ length-replicate n false,
+  ap (λ x. get_or x a false) e ∙ get_or-set_same (replicate n false) a true false (omega (arith, length-replicate n false)),
+)
+
+pub one_mark_size : (n a : ℕ) (m : List Bool) → m ≡ set (replicate n false) a true → a < n → length m ≡ n
+one_mark_size n a m e h = (one_mark n a m e h).0
+
+-- an assumption and its complement
+pub clash_ends : (assumptions core : List (Signed ℕ)) (s : Search) (m : List Bool) (l : Signed ℕ) (derivation : List Step) → m ≡ set (replicate (length s.marks) false) l.atom true → IsKept s → AtomsBelow s.trail.atoms assumptions → IsCoreIn s.trail.entries m l assumptions core → Contains assumptions l → Contains assumptions (complement l)
+    → (e : Entry) × Contains s.trail.entries e × (e.lit ≡ complement l) × IsDecision e → derivation ≡ (record { clause = map complement core; hints = [] }) ∷ [] → Ends assumptions s (record s { marks = m }) (Unsat core derivation)
+clash_ends assumptions core s m l derivation marks k low c here there e is =
+    let n = length s.marks in
+    let inside : l.atom < n = let a = All-contains (λ x. x.atom < s.trail.atoms) assumptions l low here in omega (arith, a, k.marks) in
+    let one = one_mark n l.atom m marks inside in
+    let marked : IsMarked m e.0.lit.atom = subst (λ x. IsMarked m x.atom) (sym e.2) one.1 in
+    let first = All-contains (λ x. IsInCore s.trail.entries m l x → Contains core x) assumptions l c.whole here (inl refl) in
+    let second = All-contains (λ x. IsInCore s.trail.entries m l x → Contains core x) assumptions (complement l) c.whole there (inr (e.0, e.1, e.2, e.3, marked)) in
+    record {
+      kept = kept_same s (record s { marks = m }) refl refl refl one.0 refl k;
+      same = record { atoms = refl; added = refl };
+      answered = subst (λ d. IsAnswer s.trail.atoms s.log.added assumptions (Unsat core d)) (sym is) (clash_answer s.trail.atoms s.log.added assumptions core l c.within (core_atoms s.trail.atoms assumptions core low c.within) first second);
+    }

@@ -23,9 +23,10 @@ pub record IsKept (s : Search) : Type 0 where
   pub phases : length s.phases.items ≡ s.trail.atoms
 
 -- between questions
-pub record IsIdle (s : Search) : Type 0 where
+pub record IsIdle (n : ℕ) (s : Search) : Type 0 where
   pub kept : IsKept s
   pub level : s.trail.level ≡ 0
+  pub atoms : s.trail.atoms ≡ n
 
 -- the literal is true at one of the levels up to this one
 abbrev pub IsTrueUpTo : List Entry → ℕ → Signed ℕ → Type 0

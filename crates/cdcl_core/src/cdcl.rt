@@ -12,6 +12,7 @@ use std::marker::Model;
 #[derive(Drop)]
 pub struct Cdcl {
     search: Search,
+    atoms: usize,
     spent: bool,
 }
 
@@ -23,9 +24,9 @@ impl Model for Cdcl {
 
     ghost use Rattle.cdcl_core.specs.Search.{IsIdle};
 
-    ghost view = { λ s. record { atoms = s.search.trail.atoms; added = s.search.log.added; spent = s.spent } };
+    ghost view = { λ s. record { atoms = s.atoms; added = s.search.log.added; spent = s.spent } };
 
-    ghost invariant = { λ s. s.spent ≡ false → IsIdle s.search };
+    ghost invariant = { λ s. s.spent ≡ false → IsIdle s.atoms s.search };
 }
 
 impl Cdcl {
@@ -35,6 +36,7 @@ impl Cdcl {
     {
         Cdcl {
             search: Search::new(alloc),
+            atoms: 0,
             spent: false,
         }
     }
@@ -52,7 +54,10 @@ impl Solver for Cdcl {
             return Err(Memory);
         }
         match self.search.new_atom() {
-            Ok(atom) => Ok(atom),
+            Ok(atom) => {
+                self.atoms = self.search.atoms();
+                Ok(atom)
+            }
             Err(error) => {
                 self.spent = true;
                 Err(error)

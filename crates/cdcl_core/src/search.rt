@@ -218,6 +218,13 @@ impl Search {
         self.trail.grow()
     }
 
+    pub(crate) fn atoms(&self) -> usize
+        requires { IsKept self.now }
+        ensures { result ≡ self.now.trail.atoms }
+    {
+        self.phases.len()
+    }
+
     // Adds a copy of the clause, and answers its number.
     pub(crate) fn add(&mut self, clause: &[Lit]) -> Result<usize, Memory>
         requires kept { IsKept self.old }
@@ -259,7 +266,7 @@ impl Search {
         requires atoms { AtomsBelow self.old.trail.atoms clause }
         requires closes { ClosesAll clause (map (cited self.old.log.added self.old.log.steps) hints.items) }
         ensures kept { OnOk result (IsKept self.new) }
-        ensures added { OnOk result (self.new.log.added ≡ self.old.log.added) }
+        ensures added { self.new.log.added ≡ self.old.log.added }
         ensures steps { OnOk result (self.new.log.steps ≡ self.old.log.steps ++ (record { clause = clause; hints = hints.items }) ∷ []) }
         ensures trail { self.new.trail ≡ self.old.trail }
         ensures clauses { self.new.clauses ≡ self.old.clauses }
@@ -291,7 +298,8 @@ impl Search {
         requires trail { IsTrail self.old.trail }
         requires analysis { IsAnalysis self.old.log self.old.trail.entries analysis }
         requires some { 0 < length analysis.clause.items }
-        ensures { OnOk result ((assumptions : List (Signed ℕ)) → IsSearch assumptions self.old → IsSearch assumptions self.new × Advances self.old self.new) }
+        ensures learned { OnOk result ((assumptions : List (Signed ℕ)) → IsSearch assumptions self.old → IsSearch assumptions self.new × Advances self.old self.new) }
+        ensures added { self.new.log.added ≡ self.old.log.added }
     {
         let lit = analysis.clause[0];
         let level = highest_level(&self.trail, &analysis.clause[1..]);
@@ -307,7 +315,8 @@ impl Search {
         requires kept { IsKept self.old }
         requires atoms { AtomsBelow self.old.trail.atoms core }
         requires closes { ClosesAll (map complement core) (map (cited self.old.log.added self.old.log.steps) hints.items) }
-        ensures { IfOk result (λ answer. (assumptions : List (Signed ℕ)) → IsSubList core assumptions → Ends assumptions self.old self.new answer) }
+        ensures ends { IfOk result (λ answer. (assumptions : List (Signed ℕ)) → IsSubList core assumptions → Ends assumptions self.old self.new answer) }
+        ensures added { self.new.log.added ≡ self.old.log.added }
     {
         let clause = complements(self.alloc, core.as_slice())?;
         self.push_step(clause, hints)?;
@@ -321,7 +330,8 @@ impl Search {
         requires trail { IsTrail self.old.trail }
         requires count { count ≡ length self.old.trail.entries }
         requires conflict { IsConflict self.old.clauses self.old.trail.entries number }
-        ensures { IfOk result (λ found. (assumptions : List (Signed ℕ)) → IsSearch assumptions self.old → Continues assumptions self.old self.new found) }
+        ensures goes { IfOk result (λ found. (assumptions : List (Signed ℕ)) → IsSearch assumptions self.old → Continues assumptions self.old self.new found) }
+        ensures added { self.new.log.added ≡ self.old.log.added }
     {
         let analysis = analyze(
             self.alloc,
@@ -347,7 +357,8 @@ impl Search {
         requires assumption { Contains assumptions.now lit }
         requires other { Contains assumptions.now (complement lit) }
         requires decided { (e : Entry) × Contains self.old.trail.entries e × (e.lit ≡ complement lit) × IsDecision e }
-        ensures { IfOk result (Ends assumptions.now self.old self.new) }
+        ensures ends { IfOk result (Ends assumptions.now self.old self.new) }
+        ensures added { self.new.log.added ≡ self.old.log.added }
     {
         self.marks.clear();
         self.marks.insert(lit.atom);
@@ -370,7 +381,8 @@ impl Search {
         requires level { self.old.trail.level ≤ self.old.assumed }
         requires assumption { Contains assumptions.now lit }
         requires refuted { Contains (literals_of self.old.trail.entries) (complement lit) }
-        ensures { IfOk result (Ends assumptions.now self.old self.new) }
+        ensures ends { IfOk result (Ends assumptions.now self.old self.new) }
+        ensures added { self.new.log.added ≡ self.old.log.added }
     {
         match self.trail.reason(lit.atom) {
             None => self.clash(assumptions, lit),
@@ -394,7 +406,8 @@ impl Search {
         requires kept { IsKept self.old }
         requires trail { IsTrail self.old.trail }
         requires stable { IsStable self.old.clauses self.old.trail.entries }
-        ensures { IfOk result (λ found. (assumptions : List (Signed ℕ)) → IsSearch assumptions self.old → All (IsTrueUpTo self.old.trail.entries self.old.assumed) assumptions → Continues assumptions self.old self.new found) }
+        ensures goes { IfOk result (λ found. (assumptions : List (Signed ℕ)) → IsSearch assumptions self.old → All (IsTrueUpTo self.old.trail.entries self.old.assumed) assumptions → Continues assumptions self.old self.new found) }
+        ensures added { self.new.log.added ≡ self.old.log.added }
     {
         let atoms = self.phases.len();
         match open_atom(&self.trail, self.next, atoms) {
@@ -420,7 +433,8 @@ impl Search {
         requires count { count ≡ length self.old.trail.entries }
         requires level { self.old.trail.level ≤ self.old.assumed }
         requires stable { IsStable self.old.clauses self.old.trail.entries }
-        ensures { IfOk result (Continues assumptions.now self.old self.new) }
+        ensures goes { IfOk result (Continues assumptions.now self.old self.new) }
+        ensures added { self.new.log.added ≡ self.old.log.added }
     {
         match first_not_true(&self.trail, assumptions, self.checked) {
             None => self.choose(),
@@ -443,7 +457,8 @@ impl Search {
         requires place { place < length assumptions.now }
         requires not_true { (l : Signed ℕ) → slice_get assumptions.now place ≡ Some l → ¬ Contains (literals_of self.old.trail.entries) l }
         requires before { All (Contains (literals_of self.old.trail.entries)) (take place assumptions.now) }
-        ensures { IfOk result (Continues assumptions.now self.old self.new) }
+        ensures goes { IfOk result (Continues assumptions.now self.old self.new) }
+        ensures added { self.new.log.added ≡ self.old.log.added }
     {
         let lit = assumptions[place];
         if self.trail.level_of(lit.atom).is_some() {
@@ -459,7 +474,8 @@ impl Search {
     fn advance(&mut self, assumptions: &[Lit]) -> Result<Option<Answer>, Memory>
         requires search { IsSearch assumptions.now self.old }
         requires atoms { AtomsBelow self.old.trail.atoms assumptions.now }
-        ensures { IfOk result (Continues assumptions.now self.old self.new) }
+        ensures goes { IfOk result (Continues assumptions.now self.old self.new) }
+        ensures added { self.new.log.added ≡ self.old.log.added }
     {
         let conflict = self.trail.propagate(&self.clauses)?;
         let count = self.trail.assigned().len();
@@ -482,6 +498,7 @@ impl Search {
         ensures kept { OnOk result (IsKept self.new) }
         ensures level { OnOk result (self.new.trail.level ≡ 0) }
         ensures same { OnOk result (IsSameProblem self.old self.new) }
+        ensures added { self.new.log.added ≡ self.old.log.added }
         ensures answer { IfOk result (IsAnswer self.old.trail.atoms self.old.log.added assumptions.now) }
     {
         self.back_to(0);

@@ -5,6 +5,7 @@ use Rattle.std.proofs.lemmas.List.Elements.{All-more, All-weaker, All-contains, 
 use Rattle.inst_logic.specs.declared.signed.Signed.{Signed}
 use Rattle.prop_logic.proofs.ListLaws.{All-from_contained}
 use Rattle.cdcl_trail.specs.Trail.{level_of}
+use Rattle.cdcl_core.proofs.EndLaws.{max_facts}
 use Rattle.cdcl_core.proofs.search.highest_level.Goals as goal
 
 pub loop-lit-preserved : goal.loop-lit-preserved
@@ -18,14 +19,15 @@ loop-lit-preserved c =
     let here : c.unwrap_or.result ≡ level x = c.unwrap_or.ensures ∙ ap (λ o. unwrap_or o 0) c.level_of.ensures in
     let inv = c.loop-lit.invariant in
     let more = take_more xs i d c.loop-lit-test.true in
+    let m = max_facts c.loop-lit.highest c.unwrap_or.result c.max-highest.result c.max-highest.ensures in
     record {
       reached = All-more (λ l. level l ≤ c.max-highest.result) xs i d c.loop-lit-test.true
-          (All-weaker (λ l. level l ≤ c.loop-lit.highest) (λ l. level l ≤ c.max-highest.result) (λ l h. omega (arith, h, c.max-highest.ensures)) (take i xs) inv.reached) (omega (arith, here, c.max-highest.ensures));
+          (All-weaker (λ l. level l ≤ c.loop-lit.highest) (λ l. level l ≤ c.max-highest.result) (λ l h. omega (arith, h, m.0)) (take i xs) inv.reached) (omega (arith, here, m.1));
       least = λ top low all.
           let whole = subst (λ ys. All (λ l. level l < top) ys) more all in
           let first = inv.least top low (All-from_contained (λ l. level l < top) (take i xs) (λ l k. All-contains (λ y. level y < top) (take i xs ++ x ∷ []) l whole (Contains-append_left (take i xs) (x ∷ []) l k))) in
           let last = All-contains (λ y. level y < top) (take i xs ++ x ∷ []) x whole (Contains-push (take i xs) x) in
-          omega (arith, first, last, here, c.max-highest.ensures);
+          m.2 top first (omega (arith, last, here));
     }
 
 pub returns-clause-reached : goal.returns-clause-reached

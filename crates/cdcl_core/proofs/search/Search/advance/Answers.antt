@@ -20,8 +20,8 @@ choose-requires-clause-kept c = propagated_kept c.args.self.now c.propagate.new.
 pub assume-requires-clause-search : goal.assume-requires-clause-search
 assume-requires-clause-search c = propagated c.args.assumptions.now c.args.self.now c.propagate.new.self c.in_ok-conflict.ensures.added c.requires.search
 
-pub returns-then-self-level : goal.returns-then-self-level
-returns-then-self-level c =
+pub returns-then-self-level-clause-goes : goal.returns-then-self-level-clause-goes
+returns-then-self-level-clause-goes c =
     let old = c.args.self.now in
     let t = c.propagate.new.self in
     let mid : Search = record old { trail = t } in
@@ -31,10 +31,10 @@ returns-then-self-level c =
     (λ found. (xs : List (Signed ℕ)) → IsSearch xs mid → All (IsTrueUpTo t.entries mid.assumed) xs → Continues xs mid c.choose.new.self found)
     (Continues assumptions old c.choose.new.self)
     (λ found h. continues_from assumptions old c.choose.new.self t found c.in_ok-conflict.ensures.added (h assumptions s (s.all_true (omega (arith, c.if-self-level.true, c.level.ensures)))))
-    c.choose.ensures
+    c.choose.ensures.goes
 
-pub returns-in-Some : goal.returns-in-Some
-returns-in-Some c =
+pub returns-in-Some-clause-goes : goal.returns-in-Some-clause-goes
+returns-in-Some-clause-goes c =
     let old = c.args.self.now in
     let t = c.propagate.new.self in
     let mid : Search = record old { trail = t } in
@@ -44,13 +44,13 @@ returns-in-Some c =
     (λ found. (xs : List (Signed ℕ)) → IsSearch xs mid → Continues xs mid c.resolve.new.self found)
     (Continues assumptions old c.resolve.new.self)
     (λ found h. continues_from assumptions old c.resolve.new.self t found c.in_ok-conflict.ensures.added (h assumptions s))
-    c.resolve.ensures
+    c.resolve.ensures.goes
 
-pub returns-else-self-level : goal.returns-else-self-level
-returns-else-self-level c =
+pub returns-else-self-level-clause-goes : goal.returns-else-self-level-clause-goes
+returns-else-self-level-clause-goes c =
     let old = c.args.self.now in
     let t = c.propagate.new.self in
     let mid : Search = record old { trail = t } in
     let assumptions = c.args.assumptions.now in
     if_ok c.assume.result (Continues assumptions mid c.assume.new.self) (Continues assumptions old c.assume.new.self)
-    (λ found h. continues_from assumptions old c.assume.new.self t found c.in_ok-conflict.ensures.added h) c.assume.ensures
+    (λ found h. continues_from assumptions old c.assume.new.self t found c.in_ok-conflict.ensures.added h) c.assume.ensures.goes

@@ -28,8 +28,8 @@ decide-requires-clause-unset c =
     let d : Signed ℕ = record { positive = false; atom = 0 } in
     unset_of c.args.self.now.trail.entries (get_or xs c.args.place d).atom (sym c.level_of.ensures ∙ none_of c.level_of.result (sym c.is_some.ensures ∙ c.if-is_some.false))
 
-pub returns : goal.returns
-returns c =
+pub returns-clause-goes : goal.returns-clause-goes
+returns-clause-goes c =
     let old = c.args.self.now in
     let xs = c.args.assumptions.now in
     let d : Signed ℕ = record { positive = false; atom = 0 } in

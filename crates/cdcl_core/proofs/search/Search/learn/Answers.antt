@@ -43,8 +43,8 @@ imply-requires-clause-unset c =
     let trail = c.back_to.ensures.trail ∙ ap (λ x. back_at x level) (c.in_ok-key.ensures.trail ∙ c.in_ok-push_step.ensures.trail) in
     subst (λ x. IsUnset x.entries l.atom) (sym trail) u.unset
 
-pub returns : goal.returns
-returns c = λ assumptions s.
+pub returns-clause-learned : goal.returns-clause-learned
+returns-clause-learned c = λ assumptions s.
     let old = c.args.self.now in
     let t = old.trail in
     let clause = c.args.analysis.clause.items in

@@ -11,8 +11,8 @@ push_step-requires-clause-atoms c =
     let n = c.args.self.now.trail.atoms in
     subst (AtomsBelow n) (sym (c.in_ok-clause.ensures ∙ ap (map complement) c.as_slice.ensures)) (All-map (λ l. l.atom < n) complement c.args.core c.requires.atoms)
 
-pub returns : goal.returns
-returns c = λ assumptions within.
+pub returns-clause-ends : goal.returns-clause-ends
+returns-clause-ends c = λ assumptions within.
     let f = c.in_ok-push_step.ensures in
     let new = c.push_step.new.self in
     let derivation = c.in_ok-derivation.derivation in
