@@ -27,11 +27,11 @@ analyze_given-requires-clause-given c =
     (f.0, f.1, f.2 ∙ sym c.complement.ensures, f.3 ∙ c.in-Some.is)
 
 pub refuted-requires-clause-atoms : goal.refuted-requires-clause-atoms
-refuted-requires-clause-atoms c = core_atoms c.args.self.now.trail.atoms c.args.assumptions.now c.in_ok-core.core c.requires.atoms c.in_ok-core.ensures.within
+refuted-requires-clause-atoms c = core_atoms c.args.self.now.trail.atoms c.args.assumptions.now c.in_ok-core-in-Some.core c.requires.atoms c.in_ok-core-in-Some.ensures.within
 
 pub refuted-requires-clause-closes : goal.refuted-requires-clause-closes
 refuted-requires-clause-closes c =
     let s = c.args.self.now in
     let marks = c.analyze_given.new.marks in
-    core_closes s marks c.args.assumptions.now c.in_ok-core.core c.args.lit c.in_ok-hints.hints.items c.requires.trail c.requires.level c.requires.search c.requires.assumption c.in_ok-core.ensures
-    (subst (λ l. ShowsGiven s.log s.trail.entries l marks c.in_ok-hints.hints.items) c.complement.ensures c.in_ok-hints.ensures.hints)
+    core_closes s marks c.args.assumptions.now c.in_ok-core-in-Some.core c.args.lit c.in_ok-hints-in-Some.hints.items c.requires.trail c.requires.level c.requires.search c.requires.assumption c.in_ok-core-in-Some.ensures
+    (subst (λ l. ShowsGiven s.log s.trail.entries l marks c.in_ok-hints-in-Some.hints.items) c.complement.ensures c.in_ok-hints-in-Some.ensures.hints)
