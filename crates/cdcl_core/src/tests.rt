@@ -107,6 +107,16 @@ fn the_row_is_answered(rt: HostRuntime) -> Result<(), Fail> {
 }
 
 #[test]
+fn eight_clauses_are_refuted(rt: HostRuntime) -> Result<(), Fail> {
+    let mut cdcl = Cdcl::new(rt.alloc());
+    make_atoms(&mut cdcl, 3)?;
+    add_signs(&mut cdcl, 0)?;
+    let answer = cdcl.solve(&[])?;
+    assert_eq!(rt; summary(&answer).map(|r| r.core), Some(0));
+    Ok(())
+}
+
+#[test]
 fn clauses_of_forty_pairs_are_left_out(rt: HostRuntime) -> Result<(), Fail> {
     let mut cdcl = Cdcl::new(rt.alloc());
     make_atoms(&mut cdcl, 83)?;
