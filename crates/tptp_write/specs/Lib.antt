@@ -1,3 +1,2 @@
-pub mod Again
 pub mod Pieces
 pub mod Steps
