@@ -16,9 +16,9 @@ pub fn load<L: Library>(
     root: Option<&str>,
 ) -> Result<Problem, LoadError>
     ensures files { L.files files.new ≡ L.files files.old }
-    ensures loads { IfOk result (λ p. Told (L.files files.old) (λ told. Loads told name.now (option_map (λ r. r.now) root) p)) }
+    ensures loads { IfOk result (λ p. Told (L.files files.old) (λ told. Loads told name.now (option_map (λ r. r.now) root.entry) p)) }
     ensures good { IfOk result IsGoodProblem }
-    ensures refused { IfErr result (IsLoadCause (L.files files.old) (L.faults files.old) (L.faults files.new) name.now (option_map (λ r. r.now) root)) }
+    ensures refused { IfErr result (IsLoadCause (L.files files.old) (L.faults files.old) (L.faults files.new) name.now (option_map (λ r. r.now) root.entry)) }
     ensures later { L.faults files.old ≤ L.faults files.new }
 {
     let _alloc = alloc;
