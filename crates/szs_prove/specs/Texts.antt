@@ -72,12 +72,22 @@ text_pieces file (text.Role k w) = codes "% role " ∷ w ∷ at_statement k file
 text_pieces file (text.Limit k which) = codes "% limit " ∷ which_word which ∷ at_statement k file
 text_pieces file text.Memory = []
 
+-- a lead and a name in a line
+abbrev pub named_pieces : List ℕ → List ℕ → List (List ℕ)
+named_pieces lead name = lead ∷ name ∷ (10 ∷ []) ∷ []
+
+abbrev pub selection_pieces : List ℕ → List ℕ → List (List ℕ)
+selection_pieces wanted file = codes "% not selected: " ∷ wanted ∷ codes " in " ∷ file ∷ (10 ∷ []) ∷ []
+
+abbrev pub clause_pieces : ℕ → List (List ℕ)
+clause_pieces k = codes "% not built: clause " ∷ decimal k ∷ (10 ∷ []) ∷ []
+
 -- the pieces of the second line, where there is one
 abbrev pub load_pieces : LoadError → List (List ℕ)
 load_pieces (load.Text file fault) = text_pieces file fault
-load_pieces (load.Absent wanted) = codes "% absent: " ∷ wanted ∷ (10 ∷ []) ∷ []
-load_pieces (load.NotSelected file wanted) = codes "% not selected: " ∷ wanted ∷ codes " in " ∷ file ∷ (10 ∷ []) ∷ []
-load_pieces (load.IncludeDepth file) = codes "% limit include depth: " ∷ file ∷ (10 ∷ []) ∷ []
+load_pieces (load.Absent wanted) = named_pieces (codes "% absent: ") wanted
+load_pieces (load.NotSelected file wanted) = selection_pieces wanted file
+load_pieces (load.IncludeDepth file) = named_pieces (codes "% limit include depth: ") file
 load_pieces load.TooLong = (codes "% limit bytes" ++ 10 ∷ []) ∷ []
 load_pieces load.ReadFault = (codes "% read fault" ++ 10 ∷ []) ∷ []
 load_pieces load.Memory = []
@@ -85,7 +95,7 @@ load_pieces load.Memory = []
 abbrev pub reason_pieces : Refusal → List (List ℕ)
 reason_pieces why.Usage = (codes "% usage" ++ 10 ∷ []) ∷ []
 reason_pieces (why.Load e) = load_pieces e
-reason_pieces (why.NotBuilt k) = codes "% not built: clause " ∷ decimal k ∷ (10 ∷ []) ∷ []
+reason_pieces (why.NotBuilt k) = clause_pieces k
 reason_pieces why.Memory = []
 
 -- the status line, and then the reason
