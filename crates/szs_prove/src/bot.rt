@@ -1,11 +1,13 @@
 // The constant for abstractions: the first of `bot_0`, `bot_1`, .. whose name no symbol of the clauses has.
-ghost use Rattle.std.specs.Prelude.{◌≡◌, [], ◌∷◌, map, IsTrue, IfOk, OnOk};
+ghost use Rattle.std.specs.Prelude.{◌≡◌, ◌<◌, ◌+◌, ◌++◌, [], map, IsTrue, IfOk, OnOk};
 ghost use Rattle.inst_logic.specs.LiteralView.{literal};
+ghost use Rattle.inst_logic.specs.Measure.{tree_size};
+ghost use Rattle.inst_logic.specs.View.{tree};
 ghost use Rattle.inst_logic.specs.Printing.{is_readable_name};
 ghost use Rattle.inst_calculus.specs.Axioms.{tree_symbols, clause_symbols, occurrences};
 ghost use Rattle.inst_calculus.specs.Abstraction.{IsBot, bot_name};
 ghost use Rattle.szs_prove.specs.Bot.{with_names};
-ghost use Rattle.szs_prove.specs.Built.{left_symbols};
+ghost use Rattle.szs_prove.specs.Built.{left_size, left_symbols};
 ghost use Rattle.szs_prove.specs.Verdicts.{constant};
 
 use crate::walk::push_terms;
@@ -14,7 +16,25 @@ use inst_logic::{Clause, ClauseList, Literal, Memory, Name, Term};
 use itoa::Buffer;
 use std::alloc::Global;
 
-// Adds the names of the symbols of the terms and of their terms.
+// Adds the name of the term's symbol, and leaves its arguments to be walked.
+fn collect_head<'a>(
+    names: &mut IndexSet<&'a [u8]>,
+    left: &mut Vec<&'a Term>,
+    t: &'a Term,
+) -> Result<(), Memory>
+    ensures names { OnOk result (with_names (map (λ n. n.now) names.new.keys) (left_symbols left.new.items) ≡ with_names (map (λ n. n.now) names.old.keys) (tree_symbols (tree t.now) ++ left_symbols left.old.items)) }
+    ensures size { OnOk result (left_size left.new.items < left_size left.old.items + tree_size (tree t.now)) }
+{
+    match t {
+        Term::Var(_) => Ok(()),
+        Term::App(sym, args) => {
+            names.insert(sym.name.bytes())?;
+            push_terms(left, args.as_slice())
+        }
+    }
+}
+
+// Adds the names of the symbols of the terms that are left.
 fn collect_left<'a>(
     names: &mut IndexSet<&'a [u8]>,
     left: &mut Vec<&'a Term>,
@@ -22,10 +42,7 @@ fn collect_left<'a>(
     ensures { OnOk result (map (λ n. n.now) names.new.keys ≡ with_names (map (λ n. n.now) names.old.keys) (left_symbols left.old.items)) }
 {
     while let Some(t) = left.pop() {
-        if let Term::App(sym, args) = t {
-            names.insert(sym.name.bytes())?;
-            push_terms(left, args.as_slice())?;
-        }
+        collect_head(names, left, t)?;
     }
     Ok(())
 }
