@@ -6,7 +6,7 @@ use Rattle.szs_prove.proofs.words.read_words.Goals.{in_default-via-then-words-lt
 
 pub returns-in_default : goal.returns-in_default
 returns-in_default c = elim c.in_default.branch [
-  | in_default-via-then-words-lt2 w ↦ other_words string_bytes c.args.words.now (omega arith) (omega arith)
-  | in_default-via-else-words-lt2+else-words-lt3+then-words-lt4 w ↦ other_words string_bytes c.args.words.now (omega arith) (omega arith)
-  | in_default-via-else-words-lt2+else-words-lt3+else-words-lt4+else-words-lt5 w ↦ other_words string_bytes c.args.words.now (omega arith) (omega arith)
+  | in_default-via-then-words-lt2 w ↦ grind (arith, common_steps, other_words string_bytes c.args.words.now)
+  | in_default-via-else-words-lt2+else-words-lt3+then-words-lt4 w ↦ grind (arith, common_steps, other_words string_bytes c.args.words.now)
+  | in_default-via-else-words-lt2+else-words-lt3+else-words-lt4+else-words-lt5 w ↦ grind (arith, common_steps, other_words string_bytes c.args.words.now)
 ]
