@@ -36,7 +36,7 @@ load_causes words files read write asked load.Memory some h = tt
 -- an answer's cause is its exit's
 answer_causes : (words : List (List ℕ)) (files : List NamedFile) (read : Reading) (write : Writing) (answer : Answer)
     → IsAnswer words (Some files) read.before read.now answer → HasBuilt (Some files) words answer → Causes words files read write (exit_for answer)
-answer_causes words files read write (verdict c) h b = b
+answer_causes words files read write (verdict c) h b = (b.0, b.1, b.2.0, b.2.1, b.2.2)
 answer_causes words files read write (refusal Usage) h b = h
 answer_causes words files read write (refusal (Load e)) h b = load_causes words files read write h.0 e h.1 h.2
 answer_causes words files read write (refusal (NotBuilt k)) h b = inr (h.0, h.1, h.2.0, h.2.1.loads, k, h.2.2)
@@ -53,10 +53,10 @@ not_unbuilt : (p : Problem) (k : ℕ) → All IsBuilt p.clauses → IsFirstUnbui
 not_unbuilt p k all f = f.unbuilt (all_in IsBuilt p.clauses all f.clause (contains_in f.clause p.clauses (at_number_contains p.clauses k f.clause f.at)))
 
 -- that a file gives one problem, or is refused
-abbrev GivesOne : Type 0
+abbrev pub GivesOne : Type 0
 GivesOne = (files : List NamedFile) (name : List ℕ) (root : Option (List ℕ)) (p q : Problem) → Loads files name root p → Loads files name root q → p ≡ q
 
-abbrev IsApart : Type 0
+abbrev pub IsApart : Type 0
 IsApart = (files : List NamedFile) (name : List ℕ) (root : Option (List ℕ)) (p : Problem) (e : LoadError) → Loads files name root p → Refuses files name root e → ⊥
 
 module _ (one : GivesOne) (apart : IsApart) (words : List (List ℕ)) (files : List NamedFile) (read : Reading) (write : Writing) where

@@ -1,9 +1,12 @@
 -- What the parts of a run say of the whole.
-use Rattle.std.proofs.Common.{◌≡◌, ℕ, List, Some, None, sym, subst, codes, ◌∙◌}
+use Rattle.std.proofs.Common.{◌≡◌, ℕ, List, Option, Some, None, All, sym, subst, codes, ◌∙◌}
+use Rattle.inst_logic.specs.declared.clause.Problem.{Problem}
+use Rattle.outside_io.specs.declared.library.NamedFile.{NamedFile}
+use Rattle.tptp_load.specs.Problems.{Loads, Told}
 use Rattle.szs_prove.specs.Answered.{Answered, HasVerdict, Reading, Writing}
 use Rattle.szs_prove.specs.Answers.{verdict, refusal}
 use Rattle.szs_prove.specs.Certificates.{certificate_text}
-use Rattle.szs_prove.specs.Loading.{IsUnread}
+use Rattle.szs_prove.specs.Loading.{IsBuilt, IsProblemOf, IsUnread}
 use Rattle.szs_prove.specs.Told.{AnsweredBuilt, LoadsBuilt}
 use Rattle.szs_prove.specs.Texts.{exit_of, refusal_text}
 use Rattle.szs_prove.specs.Words.{Asked, asked_of, shown_name}
@@ -51,3 +54,10 @@ refusal_told words read write exit asked shown why some unread same w =
     by (Load e) u t = record { answered = record { answer = refusal (Load e); cause = (asked, sym some, u); written = t }; built = tt }
     by (NotBuilt k) u t = record { answered = record { answer = refusal (NotBuilt k); cause = (asked, sym some, u); written = t }; built = tt }
     by Memory u t = record { answered = record { answer = refusal Memory; cause = (asked, sym some, u); written = t }; built = tt }
+
+pub told_built : (files : Option (List NamedFile)) (asked : Asked) (p : Problem) → IsProblemOf files asked p → All IsBuilt p.clauses → LoadsBuilt files asked
+told_built files asked p h built = by files h.loads
+  where
+    by : (fs : Option (List NamedFile)) → Told fs (λ told. Loads told asked.file asked.root p) → LoadsBuilt fs asked
+    by None l = tt
+    by (Some told) l = (p, l, built)

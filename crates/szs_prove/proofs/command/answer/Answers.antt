@@ -1,11 +1,11 @@
 use Rattle.szs_prove.proofs.Told.{usage_told, verdict_told, refusal_told}
 use Rattle.szs_prove.proofs.FileNames.{request_file}
-use Rattle.std.proofs.Common.{sym}
+use Rattle.std.proofs.Common.{sym, map, string_bytes}
 use Rattle.szs_prove.specs.Requests.{asked}
 use Rattle.szs_prove.proofs.command.answer.Goals as goal
 
 pub verdict-requires-clause-name : goal.verdict-requires-clause-name
-verdict-requires-clause-name g c = request_file _ (asked c.in-Some.request) (sym c.in-Some.ensures)
+verdict-requires-clause-name g c = request_file (map string_bytes c.args.words.now) (asked c.in-Some.request) (sym c.in-Some.ensures)
 
 pub returns-in_default : goal.returns-in_default
 returns-in_default g c = usage_told _ _ _ _ c.in_default.ensures c.write_refusal.ensures
