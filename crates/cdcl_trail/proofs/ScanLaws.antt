@@ -1,7 +1,7 @@
 -- What the values say of a clause.
-use Rattle.std.proofs.Common.{◌≡◌, ◌≢◌, ℕ, suc, zero, ◌+◌, ◌<◌, ◌≤◌, Bool, true, false, not, cond, ◌⊎◌, inl, inr, List, [], ◌∷◌, ◌++◌, length, map, take, get_or, Option, Some, None, refl, sym, ap, ◌∙◌, subst, arith}
+use Rattle.std.proofs.Common.{◌≡◌, ◌≢◌, ℕ, suc, zero, Bool, true, false, not, cond, ◌⊎◌, inl, inr, List, [], ◌∷◌, ◌++◌, take, Option, Some, None, refl, sym, ap, ◌∙◌, subst, arith}
 use Rattle.std.specs.Prelude.{All, AllPairs, Contains, ◌==◌, ◌&&◌}
-use Rattle.std.proofs.lemmas.List.Elements.{All-nil, All-cons, All-head, All-tail, All-push, All-weaker, All-contains, All-map, All-contains_itself, Contains-push, Contains-append_left}
+use Rattle.std.proofs.lemmas.List.Elements.{All-nil, All-cons, All-push, All-weaker, All-contains, All-map, All-contains_itself, Contains-push, Contains-append_left}
 use Rattle.std.proofs.lemmas.Option.{none-some, same_Some}
 use Rattle.std.proofs.lemmas.Bool.{eqb-true, eqb-false, eq-eqb}
 use Rattle.std.proofs.Math.Dec.{eqb}
@@ -12,8 +12,7 @@ use Rattle.inst_logic.specs.Signed.{complement}
 use Rattle.cdcl_trail.specs.declared.entry.Entry.{Entry}
 use Rattle.cdcl_trail.specs.declared.propagation.Scan.{Scan}
 use Rattle.cdcl_trail.specs.declared.propagation.Scan.TheVariants.{False, Unit as UnitOf, Rest}
-use Rattle.cdcl_trail.specs.Clauses.{clause_number}
-use Rattle.cdcl_trail.specs.Propagation.{IsFalseIn, GivesUnit, IsConflict, IsStable}
+use Rattle.cdcl_trail.specs.Propagation.{IsFalseIn, GivesUnit, IsStable}
 use Rattle.cdcl_trail.specs.Scan.{HasRest, IsScanned, RestsAt}
 use Rattle.cdcl_trail.specs.Trail.{IsUnset, value_of, literals_of}
 use Rattle.cdcl_trail.proofs.TrailLaws.{contains_here, contains_there}

@@ -2,11 +2,11 @@
 use Rattle.std.proofs.Common.{◌≡◌, ◌≢◌, ℕ, suc, zero, ◌+◌, ◌<◌, ◌≤◌, Bool, true, false, not, cond, inl, inr, List, [], ◌∷◌, ◌++◌, ◌-◌, length, map, set, Option, Some, None, get_or, refl, sym, ap, ◌∙◌, subst, arith, length-set}
 use Rattle.std.specs.Prelude.{All, AllPairs, Contains, slice_get, count_by, is_some, ◌==◌, nat_le}
 use Rattle.std.proofs.lemmas.List.{length_push, map-append, same_from_push, append-nil}
-use Rattle.std.proofs.lemmas.List.Elements.{All-nil, All-cons, All-head, All-tail, All-push, All-weaker, All-contains, All-map, Contains-push, Contains-push_cases, Contains-append_left, filter-append}
+use Rattle.std.proofs.lemmas.List.Elements.{All-head, All-tail, All-push, All-weaker, All-contains, All-map, Contains-push, Contains-push_cases, Contains-append_left, filter-append}
 use Rattle.std.proofs.lemmas.List.Quantifiers.{all_pairs_push}
 use Rattle.std.proofs.lemmas.List.Sums.{sum_by-set, sum_by-append}
 use Rattle.std.proofs.lemmas.Option.{same_Some, slice_get_within, none-some, slice_get-get_or, get_or_from_slice_get}
-use Rattle.std.proofs.lemmas.Bool.{cases_eq, eq-eqb, eqb-true, eqb-false, ne_eqb, le-leb}
+use Rattle.std.proofs.lemmas.Bool.{cases_eq, eqb-true, eqb-false, ne_eqb, le-leb}
 use Rattle.std.proofs.lemmas.Bool.Decides.{nat_tests}
 use Rattle.inst_logic.specs.declared.signed.Signed.{Signed}
 use Rattle.prop_logic.proofs.ListLaws.{slice_get_set, slice_get_set_other, slice_get_append, slice_get_last, slice_get_push, All-from_contained}

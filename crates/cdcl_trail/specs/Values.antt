@@ -1,5 +1,5 @@
 -- The entries that the fields hold.
-use Rattle.std.specs.Prelude.{◌≡◌, ◌≢◌, ℕ, ◌+◌, ◌<◌, ◌≤◌, ◌==◌, not, false, List, [], ◌∷◌, length, map, Option, Some, None, All, AllPairs, Contains, slice_get, count_by, is_some, vec_capacity, if◌then◌else◌}
+use Rattle.std.specs.Prelude.{◌≡◌, ◌≢◌, ℕ, ◌+◌, ◌≤◌, ◌==◌, not, List, [], ◌∷◌, length, map, Option, Some, None, All, AllPairs, Contains, slice_get, count_by, is_some, vec_capacity, if◌then◌else◌}
 use Rattle.inst_logic.specs.declared.signed.Signed.{Signed}
 use Rattle.cdcl_trail.specs.declared.entry.Entry.{Entry}
 use Rattle.cdcl_trail.specs.declared.values.Values.{Values}

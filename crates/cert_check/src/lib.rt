@@ -2,7 +2,11 @@
 //! in the crates below it.
 #![tactic(auto)]
 
+mod axioms;
+mod base;
+mod difference;
 pub mod error;
+mod origin;
 pub mod refutation;
 pub mod saturation;
 

@@ -1,1 +1,3 @@
 pub mod Conclusions
+pub mod Walks
+pub mod Literals

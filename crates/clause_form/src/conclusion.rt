@@ -3,8 +3,11 @@ ghost use Rattle.std.specs.Prelude.{◌≡◌, ◌≤◌, IfOk, length};
 ghost use Rattle.inst_logic.specs.Clauses.{IsCanonical, instance, order_of};
 ghost use Rattle.term_bank.specs.Forest.{AreFormed, AreIds, Extends, IsClauseAt, IsClauseOf, clause_at};
 ghost use Rattle.unify_core.specs.Chains.{AreBindings};
-ghost use Rattle.clause_form.specs.Conclusions.{IsConclusionOf, by_terms};
+ghost use Rattle.unify_core.specs.Terms.{AreTerms};
+ghost use Rattle.clause_form.specs.Conclusions.{IsConclusionOf, by_terms, AreTermIds};
 
+use crate::literals::{atoms_of, clause_of};
+use crate::walk::{Leaves, build_all};
 use inst_logic::Memory;
 use std::alloc::Global;
 use term_bank::{Bank, IdClause, TermIdList};
@@ -30,7 +33,7 @@ pub fn conclude(
     requires bindings { AreBindings bank.old b.now.entries }
     ensures conclusion { IfOk result (λ d. IsConclusionOf bank.old bank.new b.now.entries side c.now d.clause d.terms) }
     ensures extends { Extends bank.old bank.new }
-    ensures formed { AreFormed bank.old → AreFormed bank.new }
+    ensures formed { AreFormed bank.old → AreTerms bank.old b.now.entries → AreFormed bank.new }
 {
     let _alloc = alloc;
     let _bank = bank;
@@ -53,11 +56,11 @@ pub fn under(
     requires each { length (order_of (clause_at bank.old c.now)) ≤ length terms.now }
     ensures instance { IfOk result (λ d. IsClauseAt bank.new d (instance (by_terms bank.old terms.now) (clause_at bank.old c.now))) }
     ensures extends { Extends bank.old bank.new }
-    ensures formed { AreFormed bank.old → AreFormed bank.new }
+    ensures formed { AreFormed bank.old → AreTermIds bank.old terms.now → AreFormed bank.new }
 {
-    let _alloc = alloc;
-    let _bank = bank;
-    let _clause = c;
-    let _terms = terms;
-    Err(Memory)
+    let atoms = atoms_of(alloc, c.as_slice())?;
+    let leaves = Leaves::Listed(terms.as_slice());
+    let built = build_all(alloc, bank, &leaves, Side::Left, &atoms)?;
+    let _ = bank.len();
+    clause_of(alloc, c.as_slice(), &built.terms)
 }

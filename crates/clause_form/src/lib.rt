@@ -3,8 +3,10 @@
 
 pub mod compare;
 pub mod conclusion;
+mod literals;
 pub mod renumber;
 pub mod subsumption;
+mod walk;
 
 pub use compare::{clause_size, tautology, variant};
 pub use conclusion::{Conclusion, conclude, under};

@@ -155,10 +155,10 @@ read_cnf name word role ws =
     let used = flat_map used_tokens ws in
     let vs = distinct bytes_eq (variable_names used) in
     option_map_or (λ w. Err (feature w))
-      (first_feature used)
-      (if list_any wrote_wide ws then Err (limit Arity)
-       else (if nat_le 10001 (length vs) then Err (limit Variables)
-       else Ok (Cnf (name_of name) role (list_any is_always ws) (flat_map (literal_of vs) ws))))
+    (first_feature used)
+    (if list_any wrote_wide ws then Err (limit Arity)
+    else (if nat_le 10001 (length vs) then Err (limit Variables)
+    else Ok (Cnf (name_of name) role (list_any is_always ws) (flat_map (literal_of vs) ws))))
 
 abbrev pub judged : Form → Result Statement Fault
 judged (cnf name role i is n) = option_map_or (λ r. read_cnf name role.text r (from_item i ++ from_items is)) (role_of role.text) (Err (role_fault role.text))

@@ -102,7 +102,7 @@ pub fn push_clause(text: &mut Vec<u8>, c: &Clause) -> Result<(), Memory>
 
 /// The clause: its literals joined by ` | `, or `$false`.
 pub fn clause_text(alloc: Global, c: &Clause) -> Result<ByteList, Memory>
-    ensures is { IfOk result (λ text. text ≡ clause_text c.now) }
+    ensures { IfOk result (λ text. text ≡ clause_text c.now) }
 {
     let mut text = Vec::new(alloc);
     push_clause(&mut text, c)?;

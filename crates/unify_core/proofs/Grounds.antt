@@ -10,7 +10,7 @@ use Rattle.unify_core.specs.Sides.{numbered, on_side, bound_tree}
 use Rattle.unify_core.specs.declared.side.Bound.{Bound}
 
 mutual
-  ground_apply : (s r : ℕ → Tree) (t : Tree) → is_ground t ≡ true → apply s t ≡ apply r t
+  pub ground_apply : (s r : ℕ → Tree) (t : Tree) → is_ground t ≡ true → apply s t ≡ apply r t
   ground_apply s r (var v) h = absurd (cc)
   ground_apply s r (app f ts) h = ap (app f) (ground_apply_each s r ts h)
 

@@ -13,3 +13,11 @@ pub mod Runs
 pub mod Proper
 pub mod Stays
 pub mod Grounds
+pub mod Meetings
+pub mod MatchSteps
+pub mod MatchWalk
+pub mod MatchBindings
+pub mod ClassTable
+pub mod ClassWalk
+pub mod ClassPath
+pub mod Counting

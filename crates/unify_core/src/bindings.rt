@@ -1,18 +1,21 @@
 // The bindings of the variables of two sides.
-ghost use Rattle.std.specs.Prelude.{◌≡◌, ℕ, ◌<◌, [], length, IfOk, OnOk, OnErr, true, false, IfNone, IfSome, Some, slice_get, slice_index_or};
+ghost use Rattle.std.specs.Prelude.{◌≡◌, ℕ, ◌<◌, [], length, IfOk, OnOk, OnErr, true, false, IfNone, IfSome, Some, slice_get, slice_index_or, take};
 ghost use Rattle.std.specs.Map.{keys_of};
-ghost use Rattle.inst_logic.specs.Tree.{Tree};
+ghost use Rattle.inst_logic.specs.Tree.{Tree, var};
 ghost use Rattle.inst_logic.specs.Substitution.{subst as apply};
 ghost use Rattle.term_bank.specs.Forest.{tree_at, IsClauseOf};
 ghost use Rattle.unify_core.specs.Lists.{◌∈◌};
 ghost use Rattle.inst_logic.specs.Unifiers.{Sided, IsUnifier, IsMostGeneral, IsProper, IsApplication};
-ghost use Rattle.unify_core.specs.Sides.{IsResolvedBy, of_side, of_pair};
+ghost use Rattle.unify_core.specs.Sides.{Binding, IsResolvedBy, of_side, of_pair};
 ghost use Rattle.unify_core.specs.Chains.{AreBindings};
 ghost use Rattle.unify_core.specs.Matching.{AreMatches, IsMatch, HasNoMatch};
 ghost use Rattle.unify_core.specs.Sizes.{IsSizeUnder};
 ghost use Rattle.unify_core.specs.Passed.{IsPassed, no_binding};
 
+use crate::classes::Part;
+use crate::matching::match_terms;
 use crate::side::{Bound, Pair, Side, Variable};
+use crate::sizes::{ClassLiteral, clause_size};
 use crate::unify::unify_terms;
 use crate::walk::follow;
 use indexmap::{IndexMap, IndexSet};
@@ -29,6 +32,11 @@ pub struct Bindings {
     work: Vec<Pair>,
     done: IndexSet<Pair>,
     seen: IndexSet<Bound>,
+    met: IndexMap<TermId, TermId>,
+    classes: IndexMap<Part, u64>,
+    numbers: IndexMap<Bound, usize>,
+    path: Vec<Bound>,
+    counted: IndexSet<ClassLiteral>,
     spent: bool,
 }
 
@@ -50,6 +58,11 @@ impl Bindings {
             work: Vec::new(alloc),
             done: IndexSet::new(alloc),
             seen: IndexSet::new(alloc),
+            met: IndexMap::new(alloc),
+            classes: IndexMap::new(alloc),
+            numbers: IndexMap::new(alloc),
+            path: Vec::new(alloc),
+            counted: IndexSet::new(alloc),
             spent: false,
         }
     }
@@ -101,7 +114,12 @@ impl Bindings {
 
     /// Extends the left bindings by those that make the pattern the target, whose variables, as right ones, are held fixed
     /// (subsumption's one-sided unification; Robinson, 1965). False comes where no extension does, and then they stay.
-    pub fn match_onto(&mut self, bank: &Bank, pattern: TermId, target: TermId) -> Result<bool, Memory>
+    pub fn match_onto(
+        &mut self,
+        bank: &Bank,
+        pattern: TermId,
+        target: TermId,
+    ) -> Result<bool, Memory>
         requires pattern { pattern < length bank.now.trees }
         requires target { target < length bank.now.trees }
         requires matches { AreMatches bank.now self.old.entries }
@@ -111,11 +129,21 @@ impl Bindings {
         ensures ok { OnOk result ((self.old.spent ≡ false) × (self.new.spent ≡ false)) }
         ensures err { OnErr result (self.new.spent ≡ true) }
     {
-        let _bank = bank;
-        let _pattern = pattern;
-        let _target = target;
-        self.spent = true;
-        Err(Memory)
+        if self.spent {
+            return Err(Memory);
+        }
+        let kept = self.map.len();
+        match match_terms(bank, &mut self.map, &mut self.met, pattern, target) {
+            Err(e) => {
+                self.spent = true;
+                Err(e)
+            }
+            Ok(true) => Ok(true),
+            Ok(false) => {
+                self.map.truncate(kept);
+                Ok(false)
+            }
+        }
     }
 
     /// The size of the side's clause under the bindings, repeated literals dropped, or `u64::MAX` where it is larger. It counts
@@ -128,11 +156,47 @@ impl Bindings {
         ensures ok { OnOk result ((self.old.spent ≡ false) × (self.new.spent ≡ false)) }
         ensures err { OnErr result (self.new.spent ≡ true) }
     {
-        let _bank = bank;
-        let _side = side;
-        let _clause = c;
-        self.spent = true;
-        Err(Memory)
+        if self.spent {
+            return Err(Memory);
+        }
+        let result = clause_size(
+            bank,
+            &self.map,
+            &mut self.classes,
+            &mut self.numbers,
+            &mut self.path,
+            &mut self.counted,
+            side,
+            c,
+        );
+        self.spent = result.is_err();
+        result
+    }
+
+    /// How many variables are bound.
+    pub fn len(&self) -> usize
+        ensures { result ≡ length self.now.entries }
+    {
+        self.map.len()
+    }
+
+    /// Keeps the first `len` bindings, in the order in which they were made.
+    pub fn truncate(&mut self, len: usize)
+        ensures entries { self.new.entries ≡ take len self.old.entries }
+        ensures spent { self.new.spent ≡ self.old.spent }
+    {
+        self.map.truncate(len);
+    }
+
+    /// The term that the bindings of variables lead to: an application, or a variable that is not bound.
+    pub fn follow(&self, bank: &Bank, from: Bound) -> Bound
+        requires within { from.term < length bank.now.trees }
+        requires bindings { AreBindings bank.now self.now.entries }
+        ensures same { (s : Sided) → IsResolvedBy bank.now self.now.entries s → apply (of_side s from.side) (tree_at bank.now from.term) ≡ apply (of_side s result.side) (tree_at bank.now result.term) }
+        ensures root { (v : ℕ) → tree_at bank.now result.term ≡ var v → ¬ ((record { side = result.side; var = v }) ∈ keys_of self.now.entries) }
+        ensures below { (n : ℕ) → from.term < n → ((e : Binding) → e ∈ self.now.entries → e.1.term < n) → result.term < n }
+    {
+        follow(bank, &self.map, from)
     }
 
     /// The term to which the variable is bound, with the side of its variables. It is not followed further.

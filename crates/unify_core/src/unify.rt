@@ -19,7 +19,7 @@ use inst_logic::Memory;
 use term_bank::{Bank, Shape, TermId};
 
 // Whether the terms have one symbol, by its number.
-fn same_root(bank: &Bank, a: TermId, b: TermId) -> bool
+pub fn same_root(bank: &Bank, a: TermId, b: TermId) -> bool
     requires left { a < length bank.now.trees }
     requires right { b < length bank.now.trees }
     ensures yes { result ≡ true → symbol_of (tree_at bank.now a) ≡ symbol_of (tree_at bank.now b) }

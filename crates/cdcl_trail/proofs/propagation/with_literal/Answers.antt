@@ -1,8 +1,5 @@
-use Rattle.std.proofs.Common.{◌≡◌, ◌≢◌, Some, None, true, false, sym, ap, ◌∙◌, subst}
-use Rattle.std.specs.Prelude.{All}
-use Rattle.cdcl_trail.specs.declared.propagation.Scan.TheVariants.{False, Unit as UnitOf, Rest}
-use Rattle.cdcl_trail.specs.Propagation.{IsFalseIn}
-use Rattle.cdcl_trail.specs.Scan.{IsScanned, HasRest}
+use Rattle.std.proofs.Common.{◌≡◌, ◌≢◌, Some, true, false, sym, ◌∙◌, subst}
+use Rattle.cdcl_trail.specs.Scan.{IsScanned}
 use Rattle.cdcl_trail.specs.Trail.{value_of}
 use Rattle.cdcl_trail.proofs.ScanLaws.{step_true, step_false, step_unit, step_other, rest_more, unequal}
 use Rattle.cdcl_trail.proofs.propagation.with_literal.Goals as goal

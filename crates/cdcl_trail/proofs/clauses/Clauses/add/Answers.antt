@@ -1,5 +1,5 @@
-use Rattle.std.proofs.Common.{◌≡◌, ◌≢◌, ℕ, ◌+◌, None, Some, get_or, sym, ap, ◌∙◌, subst, arith}
-use Rattle.cdcl_trail.specs.Clauses.{clause_number, AddsClause}
+use Rattle.std.proofs.Common.{◌≡◌, ◌+◌, None, Some, get_or, sym, ap, ◌∙◌, subst}
+use Rattle.cdcl_trail.specs.Clauses.{AddsClause}
 use Rattle.cdcl_trail.proofs.ClausesLaws.{adds}
 use Rattle.cdcl_trail.proofs.clauses.Clauses.add.Goals as goal
 

@@ -1,4 +1,4 @@
-use Rattle.std.proofs.Common.{◌≡◌, ◌<◌, ◌≤◌, length, sym, subst, arith}
+use Rattle.std.proofs.Common.{◌<◌, ◌≤◌, length, sym, subst, arith}
 use Rattle.cdcl_trail.specs.Trail.{Trail, IsUnset, with_decision}
 use Rattle.cdcl_trail.specs.Values.{entries_of}
 use Rattle.cdcl_trail.proofs.TrailLaws.{trail_of, same_trail, decided, level_within}

@@ -1,4 +1,4 @@
-use Rattle.std.proofs.Common.{◌≡◌, ◌≤◌, true, length, arith}
+use Rattle.std.proofs.Common.{true, length, arith}
 use Rattle.cdcl_trail.specs.Trail.{Trail}
 use Rattle.cdcl_trail.specs.Values.{entries_of}
 use Rattle.cdcl_trail.proofs.TrailLaws.{trail_of, grown}

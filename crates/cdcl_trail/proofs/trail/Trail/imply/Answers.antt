@@ -1,4 +1,4 @@
-use Rattle.std.proofs.Common.{◌≡◌, ◌<◌, length, sym, subst}
+use Rattle.std.proofs.Common.{◌<◌, length, sym, subst}
 use Rattle.cdcl_trail.specs.Trail.{Trail, IsUnset, with_implied}
 use Rattle.cdcl_trail.specs.Values.{entries_of}
 use Rattle.cdcl_trail.proofs.TrailLaws.{trail_of, same_trail, implied}

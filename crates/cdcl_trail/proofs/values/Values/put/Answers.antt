@@ -1,7 +1,6 @@
-use Rattle.std.proofs.Common.{◌≡◌, ◌<◌, ◌≤◌, ◌++◌, ◌∷◌, [], length, map, set, Some, None, sym, ap, ◌∙◌, subst, arith, length-set}
+use Rattle.std.proofs.Common.{◌≡◌, ◌≤◌, ◌++◌, ◌∷◌, [], length, map, set, Some, sym, ap, ◌∙◌, subst, arith, length-set}
 use Rattle.std.proofs.lemmas.List.{length-map}
-use Rattle.std.specs.Prelude.{slice_get, vec_capacity}
-use Rattle.inst_logic.specs.declared.signed.Signed.{Signed}
+use Rattle.std.specs.Prelude.{vec_capacity}
 use Rattle.cdcl_trail.specs.Trail.{literals_of}
 use Rattle.cdcl_trail.specs.Values.{AreByAtom, entries_of, entry_at}
 use Rattle.cdcl_trail.proofs.ValuesLaws.{no_entry, has_room, put_by_atom, put_entries, put_literals}

@@ -1,9 +1,9 @@
-use Rattle.std.proofs.Common.{◌≡◌, ◌<◌, ◌≤◌, ◌++◌, ◌∷◌, [], length, map, set, Some, None, sym, ap, ◌∙◌, subst, arith, length-set}
-use Rattle.std.specs.Prelude.{slice_get, vec_capacity}
+use Rattle.std.proofs.Common.{◌≡◌, ◌≤◌, ◌++◌, ◌∷◌, [], length, map, set, Some, None, sym, ap, ◌∙◌, subst, arith, length-set}
+use Rattle.std.specs.Prelude.{vec_capacity}
 use Rattle.std.proofs.lemmas.List.{same_from_push}
 use Rattle.std.proofs.lemmas.Option.{slice_get_within}
 use Rattle.cdcl_trail.specs.Trail.{literals_of}
-use Rattle.cdcl_trail.specs.Values.{AreByAtom, entries_of, entry_at}
+use Rattle.cdcl_trail.specs.Values.{AreByAtom, entry_at}
 use Rattle.cdcl_trail.proofs.ValuesLaws.{last_at, split_literals, split_entries, undo_entries, undo_at_atom}
 use Rattle.cdcl_trail.proofs.values.Values.undo.Goals as goal
 

@@ -1,0 +1,12 @@
+pub mod Ids
+pub mod Numbers
+pub mod Leaves
+pub mod Stacks
+pub mod Members
+pub mod Notes
+pub mod Walking
+pub mod Opening
+pub mod Building
+pub mod Running
+pub mod Assembly
+pub mod Readings
