@@ -10,7 +10,6 @@ pub mod GroundClauses
 pub mod UnsatisfiableProblems
 pub mod SymbolNames
 pub mod Exact
-pub mod OneLoading
 pub mod Pieces
 pub mod LeftTerms
 pub mod BuiltClauses

@@ -18,6 +18,7 @@ use crate::words::{Request, read_words};
 use outside_io::{Library, Sink, write_all};
 use prop_logic::{Plain, Solver};
 use std::alloc::Global;
+use tptp_load::laws::one_loading;
 
 // The text of the verdict on what is asked.
 fn verdict<L: Library, S: Solver>(
@@ -87,5 +88,6 @@ pub fn run<L: Library, K: Sink>(alloc: Global, words: &[String], files: &mut L, 
     // Where memory is wanted, the text that says so was taken, or a prefix of an answer's text.
     ensures memory { result ≡ Exit.Memory → WantsMemory (map string_bytes words.now) (reading (L.files files.old) (L.faults files.old) (L.faults files.new)) (K.taken out.old) (K.taken out.new) }
 {
+    one_loading();
     answer(alloc, words, files, out, Plain::new(alloc))
 }

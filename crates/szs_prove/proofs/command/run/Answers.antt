@@ -1,5 +1,4 @@
 use Rattle.szs_prove.proofs.Exact.{exact, decided, read_fault, write_fault, interrupted, memory}
-use Rattle.szs_prove.proofs.OneLoading.{one, apart}
 use Rattle.szs_prove.proofs.command.run.Goals as goal
 
 pub returns : goal.returns
@@ -8,7 +7,7 @@ returns g c =
     let a = b.answered in
     record {
       answered = a;
-      exact = exact one apart _ _ _ _ b;
+      exact = exact c.one_loading.ensures.problems c.one_loading.ensures.apart _ _ _ _ b;
       decided = decided _ _ _ _ a;
       read_fault = read_fault _ _ _ _ a;
       write_fault = write_fault _ _ _ _ a;
