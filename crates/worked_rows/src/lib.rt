@@ -4,6 +4,8 @@
 #[cfg(test)]
 mod long_rows;
 #[cfg(test)]
+mod refused_texts;
+#[cfg(test)]
 mod rows;
 #[cfg(test)]
 mod runs;
