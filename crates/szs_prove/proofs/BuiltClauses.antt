@@ -83,9 +83,11 @@ no_equality cs h = in_all IsNoEquality (occurrences cs) each
     none : (b : Bool) → list_any (λ s. is_equality_kind s.kind) (symbols_of cs) ≡ b → b ≡ false
     none false e = refl
     none true e = absurd (let x = rw e at h in cc)
+
     is_false : (b : Bool) → (b ≡ true → ⊥) → b ≡ false
     is_false true h = absurd (h refl)
     is_false false h = refl
+
     each : (s : Sym) → s ∈ occurrences cs → IsNoEquality s
     each s i = is_false (is_equality_kind s.kind) (any_false (λ s. is_equality_kind s.kind) (symbols_of cs) (none (list_any (λ s. is_equality_kind s.kind) (symbols_of cs)) refl) s (in_distinct sym_eq sym_eq_decides s (occurrences cs) i))
 

@@ -35,10 +35,7 @@ fn collect_head<'a>(
 }
 
 // Adds the names of the symbols of the terms that are left.
-fn collect_left<'a>(
-    names: &mut IndexSet<&'a [u8]>,
-    left: &mut Vec<&'a Term>,
-) -> Result<(), Memory>
+fn collect_left<'a>(names: &mut IndexSet<&'a [u8]>, left: &mut Vec<&'a Term>) -> Result<(), Memory>
     ensures { OnOk result (map (λ n. n.now) names.new.keys ≡ with_names (map (λ n. n.now) names.old.keys) (left_symbols left.old.items)) }
 {
     while let Some(t) = left.pop() {

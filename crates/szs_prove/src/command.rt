@@ -36,12 +36,7 @@ fn verdict<L: Library, S: Solver>(
 {
     let problem = load(alloc, request, files)?;
     let verdict = decide(alloc, &problem, solver)?;
-    Ok(verdict_text(
-        alloc,
-        request.file.as_bytes(),
-        &problem,
-        &verdict,
-    )?)
+    Ok(verdict_text(alloc, request.file.as_bytes(), &problem, &verdict)?)
 }
 
 // Writes the text whole, and then ends like that.

@@ -174,9 +174,7 @@ fn text_piece<'a>(file: &'a [u8], fault: &'a ReadError, i: usize) -> Option<Piec
         ReadError::Feature { statement, word } => {
             said_piece(b"% feature ", word, *statement, file, i)
         }
-        ReadError::Role { statement, word } => {
-            said_piece(b"% role ", word, *statement, file, i)
-        }
+        ReadError::Role { statement, word } => { said_piece(b"% role ", word, *statement, file, i) }
         ReadError::Limit { statement, which } => limit_piece(*which, *statement, file, i),
         ReadError::Memory => None,
     }

@@ -64,7 +64,10 @@ fn is_refused(rt: &impl Abort, alloc: Global, text: &[u8], line: &str) -> Result
     let (exit, out) = answer_of(alloc, file_of(alloc, "n.p", text)?, &["prove", "n.p"])?;
     assert_eq!(rt; exit.code(), 2);
     let written = str::from_utf8(out.bytes())?;
-    assert_eq!(rt; written.split_once("\n"), Some(("% SZS status InputError for n.p", line)));
+    assert_eq!(rt;
+        written.split_once("\n"),
+        Some(("% SZS status InputError for n.p", line))
+    );
     Ok(())
 }
 

@@ -29,7 +29,10 @@ cnf(r1,plain,$false,rup([g1])).
 #[test]
 fn a_clause_with_a_variable(rt: HostRuntime) -> Result<(), Fail> {
     let row = Row {
-        files: &[("r12.p", "cnf(one,axiom,'cat'|~ dog(X),file('x',one),[a:b,\"t\",3]). /* c */ cnf(2,axiom,(~ a = b)). % d\ncnf('three',hypothesis,~ (p)).")],
+        files: &[(
+            "r12.p",
+            "cnf(one,axiom,'cat'|~ dog(X),file('x',one),[a:b,\"t\",3]). /* c */ cnf(2,axiom,(~ a = b)). % d\ncnf('three',hypothesis,~ (p)).",
+        )],
         words: &["prove", "r12.p"],
         status: 2,
         text: "\
@@ -57,7 +60,13 @@ fn a_clause_with_equality(rt: HostRuntime) -> Result<(), Fail> {
 #[test]
 fn a_selected_statement_that_is_absent(rt: HostRuntime) -> Result<(), Fail> {
     let row = Row {
-        files: &[("m.p", "include('ax.p',[b,zz]). cnf(g,negated_conjecture,~p(c))."), ("ax.p", "cnf(a,axiom,q(c)). cnf(b,axiom,p(X)).")],
+        files: &[
+            (
+                "m.p",
+                "include('ax.p',[b,zz]). cnf(g,negated_conjecture,~p(c)).",
+            ),
+            ("ax.p", "cnf(a,axiom,q(c)). cnf(b,axiom,p(X))."),
+        ],
         words: &["prove", "m.p"],
         status: 2,
         text: "\
@@ -99,7 +108,10 @@ fn a_file_that_includes_itself(rt: HostRuntime) -> Result<(), Fail> {
 #[test]
 fn an_include_under_the_root(rt: HostRuntime) -> Result<(), Fail> {
     let row = Row {
-        files: &[("d/m.p", "include('A/x.ax')."), ("t/A/x.ax", "cnf(a,axiom,p).")],
+        files: &[
+            ("d/m.p", "include('A/x.ax')."),
+            ("t/A/x.ax", "cnf(a,axiom,p)."),
+        ],
         words: &["prove", "d/m.p", "--root", "t"],
         status: 0,
         text: "\
@@ -117,7 +129,11 @@ cnf(m1,plain,p,input(1),[selected(1)]).
 #[test]
 fn an_include_beside_its_file_comes_first(rt: HostRuntime) -> Result<(), Fail> {
     let row = Row {
-        files: &[("d/m.p", "include('A/x.ax')."), ("t/A/x.ax", "cnf(a,axiom,p)."), ("d/A/x.ax", "cnf(b,axiom,q).")],
+        files: &[
+            ("d/m.p", "include('A/x.ax')."),
+            ("t/A/x.ax", "cnf(a,axiom,p)."),
+            ("d/A/x.ax", "cnf(b,axiom,q)."),
+        ],
         words: &["prove", "d/m.p", "--root", "t"],
         status: 0,
         text: "\
@@ -191,7 +207,10 @@ fn another_role(rt: HostRuntime) -> Result<(), Fail> {
 #[test]
 fn a_statement_without_an_end(rt: HostRuntime) -> Result<(), Fail> {
     let row = Row {
-        files: &[("r15.p", "cnf(a,axiom,p). cnf(b,axiom,q). cnf(c,axiom,r). cnf(d,axiom,p(")],
+        files: &[(
+            "r15.p",
+            "cnf(a,axiom,p). cnf(b,axiom,q). cnf(c,axiom,r). cnf(d,axiom,p(",
+        )],
         words: &["prove", "r15.p"],
         status: 2,
         text: "\
@@ -205,7 +224,10 @@ fn a_statement_without_an_end(rt: HostRuntime) -> Result<(), Fail> {
 #[test]
 fn another_language_in_an_include(rt: HostRuntime) -> Result<(), Fail> {
     let row = Row {
-        files: &[("m.p", "include('ax.p')."), ("ax.p", "cnf(a,axiom,p). fof(b,axiom,p).")],
+        files: &[
+            ("m.p", "include('ax.p')."),
+            ("ax.p", "cnf(a,axiom,p). fof(b,axiom,p)."),
+        ],
         words: &["prove", "m.p"],
         status: 2,
         text: "\
@@ -220,11 +242,7 @@ fn another_language_in_an_include(rt: HostRuntime) -> Result<(), Fail> {
 fn a_read_that_fails_at_the_third_call(rt: HostRuntime) -> Result<(), Fail> {
     let alloc = rt.alloc();
     let words = words_of(alloc, &["prove", "r3.p"])?;
-    let files = file_of(
-        alloc,
-        "r3.p",
-        b"cnf(one,axiom,p(X)). cnf(two,axiom,~p(c)).",
-    )?;
+    let files = file_of(alloc, "r3.p", b"cnf(one,axiom,p(X)). cnf(two,axiom,~p(c)).")?;
     let mut library = MemLibrary::new(alloc, files, 24, calls_of(alloc, 3)?);
     let mut out = SureSink::new(alloc);
     let exit = run(alloc, words.as_slice(), &mut library, &mut out);

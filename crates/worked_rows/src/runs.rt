@@ -37,11 +37,7 @@ pub fn calls_of(alloc: Global, number: usize) -> Result<CallList, Memory> {
 }
 
 // The exit, and what was written, for these files and words.
-pub fn answer_of(
-    alloc: Global,
-    files: FileList,
-    texts: &[&str],
-) -> Result<(Exit, SureSink), Fail> {
+pub fn answer_of(alloc: Global, files: FileList, texts: &[&str]) -> Result<(Exit, SureSink), Fail> {
     let words = words_of(alloc, texts)?;
     let mut library = SureLibrary::new(alloc, files);
     let mut out = SureSink::new(alloc);
@@ -53,6 +49,7 @@ pub fn answer_of(
 pub type File<'a> = (&'a str, &'a str);
 
 // A row of a table: the files, the words, and the status and the text that are expected.
+#[derive(Clone, Copy)]
 pub struct Row<'a> {
     pub files: &'a [File<'a>],
     pub words: &'a [&'a str],
