@@ -38,11 +38,6 @@ note_name now keys k = with_key bytes_eq (decided bytes_eq bytes_eq-Decides).sym
 with_names_append : (names : List (List ℕ)) (xs ys : List Sym) → with_names names (xs ++ ys) ≡ with_names (with_names names xs) ys
 with_names_append names xs ys = ap (fold (with_item bytes_eq) names) (map-append (λ (s : Sym). s.name) xs ys) ∙ fold-append (with_item bytes_eq) names (map (λ (s : Sym). s.name) xs) (map (λ (s : Sym). s.name) ys)
 
-pub names_of_trees : (names : List (List ℕ)) (ts : List Term) → fold (λ a t. with_names a (tree_symbols (tree t))) names ts ≡ with_names names (trees_symbols (of_list (map tree ts)))
-names_of_trees names [] = refl
-names_of_trees names (t ∷ ts) =
-    names_of_trees (with_names names (tree_symbols (tree t))) ts ∙ sym (with_names_append names (tree_symbols (tree t)) (trees_symbols (of_list (map tree ts))))
-
 pub names_of_literals : (names : List (List ℕ)) (ls : List Literal) → fold (λ a l. with_names a (tree_symbols (literal l).atom)) names ls ≡ with_names names (clause_symbols (map literal ls))
 names_of_literals names [] = refl
 names_of_literals names (l ∷ ls) =
