@@ -1,11 +1,9 @@
 // Questions whose answers are known.
-ghost use Rattle.std.specs.Prelude.{◌≡◌, ◌<◌, ◌≤◌, OnOk, IfOk};
+ghost use Rattle.std.specs.Prelude.{◌≡◌, ◌+◌, ◌<◌, ◌≤◌, OnOk};
 
 use crate::Cdcl;
 use inst_logic::Memory;
-use proof_log::Checker;
-use prop_logic::{Answer, Lit, LitList, LitLists, Solver};
-use std::alloc::Global;
+use prop_logic::{Answer, Lit, Solver};
 use std::test::Fail;
 
 fn lit(atom: usize, positive: bool) -> Lit
