@@ -15,8 +15,9 @@ use crate::load::load;
 use crate::refusal::{Refusal, exit_after, write_refusal};
 use crate::text::verdict_text;
 use crate::words::{Request, read_words};
+use cdcl_core::Cdcl;
 use outside_io::{Library, Sink, write_all};
-use prop_logic::{Plain, Solver};
+use prop_logic::Solver;
 use std::alloc::Global;
 use tptp_load::laws::one_loading;
 
@@ -84,5 +85,5 @@ pub fn run<L: Library, K: Sink>(alloc: Global, words: &[String], files: &mut L, 
     ensures memory { result ≡ Exit.Memory → WantsMemory (map string_bytes words.now) (reading (L.files files.old) (L.faults files.old) (L.faults files.new)) (K.taken out.old) (K.taken out.new) }
 {
     one_loading();
-    answer(alloc, words, files, out, Plain::new(alloc))
+    answer(alloc, words, files, out, Cdcl::new(alloc))
 }
