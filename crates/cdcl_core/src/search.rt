@@ -417,11 +417,7 @@ impl Search {
                 self.next = atom;
                 Ok(None)
             }
-            None => Ok(Some(Answer::Sat(valuation_of(
-                self.alloc,
-                &self.trail,
-                atoms,
-            )?))),
+            None => Ok(Some(Answer::Sat(valuation_of(self.alloc, &self.trail, atoms)?))),
         }
     }
 

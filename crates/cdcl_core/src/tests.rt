@@ -24,7 +24,8 @@ fn make_atoms<S: Solver>(solver: &mut S, count: usize) -> Result<(), Memory>
 
 // The clauses that have two atoms each, for the first `count` pairs of atoms.
 fn add_pairs<S: Solver>(solver: &mut S, count: usize) -> Result<(), Memory>
-    requires { count + count ≤ S.atoms solver.old }
+    requires atoms { count + count ≤ S.atoms solver.old }
+    requires few { count < 1000 }
     ensures { OnOk result (S.atoms solver.new ≡ S.atoms solver.old) }
 {
     for i in 0..count {
@@ -35,7 +36,8 @@ fn add_pairs<S: Solver>(solver: &mut S, count: usize) -> Result<(), Memory>
 
 // The eight clauses of three atoms from this one on, with all signs.
 fn add_signs<S: Solver>(solver: &mut S, first: usize) -> Result<(), Memory>
-    requires { first + 2 < S.atoms solver.old }
+    requires atoms { first + 2 < S.atoms solver.old }
+    requires few { first < 1000 }
     ensures { OnOk result (S.atoms solver.new ≡ S.atoms solver.old) }
 {
     for bits in 0..8u8 {
