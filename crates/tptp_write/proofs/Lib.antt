@@ -1,1 +1,4 @@
+pub mod Spelled
+pub mod Tokens
 pub mod Walks
+pub mod Written

@@ -1,0 +1,5 @@
+use Rattle.tptp_write.proofs.Spelled.{statement_begins}
+use Rattle.tptp_write.proofs.clauses.clause_text.Goals as goal
+
+pub returns-clause-read_again : goal.returns-clause-read_again
+returns-clause-read_again c = ?
