@@ -1,3 +1,5 @@
+pub mod Named
+pub mod Nested
 pub mod Spelled
 pub mod Tokens
 pub mod Walks

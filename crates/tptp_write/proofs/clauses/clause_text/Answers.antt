@@ -1,3 +1,5 @@
+use Rattle.tptp_write.proofs.Named.{renamed}
+use Rattle.tptp_write.proofs.Nested.{is_flat}
 use Rattle.tptp_write.proofs.Spelled.{statement_begins}
 use Rattle.tptp_write.proofs.clauses.clause_text.Goals as goal
 
