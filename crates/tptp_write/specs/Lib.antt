@@ -1,2 +1,3 @@
+pub mod Again
 pub mod Pieces
 pub mod Steps

@@ -3,6 +3,7 @@ ghost use Rattle.std.specs.Prelude.{◌≡◌, ◌++◌, OnOk, IfOk, map};
 ghost use Rattle.inst_logic.specs.Tree.{of_list};
 ghost use Rattle.inst_logic.specs.LiteralView.{literal};
 ghost use Rattle.inst_logic.specs.Printing.{sides_text, equality_sign, sign_text, atom_text, literal_text, clause_text};
+ghost use Rattle.tptp_write.specs.Again.{CanBeRead, IsReadAgain};
 ghost use Rattle.tptp_write.specs.Pieces.{following_text};
 
 use crate::names::{push_bytes, push_name};
@@ -102,7 +103,8 @@ pub fn push_clause(text: &mut Vec<u8>, c: &Clause) -> Result<(), Memory>
 
 /// The clause: its literals joined by ` | `, or `$false`.
 pub fn clause_text(alloc: Global, c: &Clause) -> Result<ByteList, Memory>
-    ensures { IfOk result (λ text. text ≡ clause_text c.now) }
+    ensures is { IfOk result (λ text. text ≡ clause_text c.now) }
+    ensures read_again { IfOk result (λ text. CanBeRead c.now → IsReadAgain text c.now) }
 {
     let mut text = Vec::new(alloc);
     push_clause(&mut text, c)?;
