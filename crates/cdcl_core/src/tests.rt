@@ -3,7 +3,7 @@ ghost use Rattle.std.specs.Prelude.{◌≡◌, ◌+◌, ◌<◌, ◌≤◌, OnOk
 
 use crate::Cdcl;
 use inst_logic::Memory;
-use prop_logic::{Answer, Lit, Solver};
+use prop_logic::{Answer, Lit, Plain, Solver};
 use std::test::Fail;
 
 fn lit(atom: usize, positive: bool) -> Lit
@@ -106,13 +106,20 @@ fn the_row_is_answered(rt: HostRuntime) -> Result<(), Fail> {
     Ok(())
 }
 
+// The length of the core where the eight clauses over three atoms are refuted.
+fn core_of_signs<S: Solver>(mut solver: S) -> Result<Option<usize>, Memory>
+    requires { S.atoms solver ≡ 0 }
+{
+    make_atoms(&mut solver, 3)?;
+    add_signs(&mut solver, 0)?;
+    let answer = solver.solve(&[])?;
+    Ok(summary(&answer).map(|r| r.core))
+}
+
 #[test]
-fn eight_clauses_are_refuted(rt: HostRuntime) -> Result<(), Fail> {
-    let mut cdcl = Cdcl::new(rt.alloc());
-    make_atoms(&mut cdcl, 3)?;
-    add_signs(&mut cdcl, 0)?;
-    let answer = cdcl.solve(&[])?;
-    assert_eq!(rt; summary(&answer).map(|r| r.core), Some(0));
+fn both_solvers_refute_eight_clauses(rt: HostRuntime) -> Result<(), Fail> {
+    assert_eq!(rt; core_of_signs(Cdcl::new(rt.alloc()))?, Some(0));
+    assert_eq!(rt; core_of_signs(Plain::new(rt.alloc()))?, Some(0));
     Ok(())
 }
 
