@@ -1,7 +1,7 @@
 -- The form of a printed clause fits, and gives the clause.
 use Rattle.std.proofs.Common.{◌≡◌, ℕ, ◌+◌, ◌≤◌, Bool, true, false, cond, List, [], ◌∷◌, ◌++◌, length, map, None, Ok, refl, sym, ap, ◌∙◌, arith, eqb-true, append-nil}
 use Rattle.std.proofs.Common as common
-use Rattle.std.specs.Prelude.{◌&&◌, ◌||◌, not, nat_eq, nat_le, codes}
+use Rattle.std.specs.Prelude.{◌&&◌, not, nat_eq, nat_le, codes}
 use Rattle.std.specs.List.{list_all, list_any, flat_map, position_or_len}
 use Rattle.std.specs.Str.{bytes_eq}
 use Rattle.std.specs.Cmp.Lexicographic.{bytes_decides}
@@ -13,7 +13,7 @@ use Rattle.inst_logic.specs.declared.signed.Signed.{Signed}
 use Rattle.inst_logic.specs.Tree.{Tree, var, app, Trees}
 use Rattle.inst_logic.specs.Tree as tree
 use Rattle.inst_logic.specs.Lists.{distinct}
-use Rattle.inst_logic.specs.Substitution.{Substitution, subst, substs, subst_literal, tree_vars, trees_vars, clause_vars}
+use Rattle.inst_logic.specs.Substitution.{Substitution, subst, substs, subst_literal, tree_vars, clause_vars}
 use Rattle.inst_logic.specs.Clauses.{TreeClause, numbered, order_of}
 use Rattle.inst_logic.specs.WellFormed.{count_of, fits_kind, is_function_kind, symbol_is_formed, tree_is_formed, trees_are_formed, atom_is_formed, clause_is_formed}
 use Rattle.inst_logic.specs.Printing.{is_lower_word, is_readable_name}
@@ -25,7 +25,7 @@ use Rattle.tptp_read.specs.Meaning.{Wrote, predicate, equal, from_simple, from_i
 use Rattle.tptp_write.specs.Again.{tree_is_narrow, trees_are_narrow, CanBeRead}
 use Rattle.tptp_write.proofs.Written.{variable_text, written, headed, writtens, sides_of, simple_by, simple_tree, simple_of, items_of, form_of, good_tree, good_trees, good_sides, good_by, good_atom, good_literal}
 use Rattle.tptp_write.proofs.Tokens.{both_true, and_both}
-use Rattle.tptp_write.proofs.Named.{renamed, small, small_literal, is_small, order_texts, place_is}
+use Rattle.tptp_write.proofs.Named.{renamed, small, is_small, order_texts, place_is}
 use Rattle.tptp_write.proofs.Meant.{name_is, no_variable, no_dollar, atom_fits, equation_fits, from_atom, from_equation, supported, all_two, none_first, two_names, counted, or_both, function_is, tree_supported, headed_supported, tree_names, headed_names, tree_narrow, headed_narrow, all_good}
 
 cond_no : {A : Type 0} (b : Bool) (x y : A) → b ≡ false → cond b x y ≡ y

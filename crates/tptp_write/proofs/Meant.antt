@@ -1,35 +1,29 @@
 -- What the form of a printed clause stands for: the clause.
-use Rattle.std.proofs.Common.{◌≡◌, ℕ, ◌+◌, ◌≤◌, Bool, true, false, cond, List, [], ◌∷◌, ◌++◌, length, map, Option, Some, None, Ok, refl, sym, ap, ◌∙◌, arith, eqb-true}
-use Rattle.std.specs.Prelude.{◌&&◌, ◌||◌, not, nat_eq, nat_le, codes}
-use Rattle.std.specs.List.{list_all, list_any, flat_map, position_or_len}
+use Rattle.std.proofs.Common.{◌≡◌, ℕ, ◌+◌, Bool, true, false, cond, List, [], ◌∷◌, ◌++◌, map, Some, None, refl, sym, ap, ◌∙◌, arith, eqb-true}
+use Rattle.std.specs.Prelude.{◌&&◌, ◌||◌, not, nat_eq, nat_le}
+use Rattle.std.specs.List.{list_all}
 use Rattle.std.specs.Str.{bytes_eq}
-use Rattle.std.specs.Cmp.Lexicographic.{bytes_decides}
 use Rattle.std.proofs.lemmas.Bool.Decides.{nat_tests}
-use Rattle.std.proofs.lemmas.List.{length-map, map-append}
+use Rattle.std.proofs.lemmas.List.{map-append}
 use Rattle.std.proofs.lemmas.List.Folds.{list_all-append}
 use Rattle.inst_logic.specs.declared.symbol.Kind.{Kind}
 use Rattle.inst_logic.specs.declared.symbol.Kind.TheVariants.{Predicate, Equality, Function}
-use Rattle.inst_logic.specs.declared.symbol.Sym.{Sym}
-use Rattle.inst_logic.specs.declared.signed.Signed.{Signed}
 use Rattle.inst_logic.specs.Tree.{Tree, var, app, Trees}
 use Rattle.inst_logic.specs.Tree as tree
-use Rattle.inst_logic.specs.Lists.{distinct}
-use Rattle.inst_logic.specs.Substitution.{subst, substs, subst_literal, tree_vars, trees_vars, clause_vars}
-use Rattle.inst_logic.specs.Clauses.{TreeClause, numbered, order_of, IsCanonical}
+use Rattle.inst_logic.specs.Substitution.{tree_vars, trees_vars}
+use Rattle.inst_logic.specs.Clauses.{TreeClause}
 use Rattle.inst_logic.specs.WellFormed.{count_of, fits_kind, is_function_kind, symbol_is_formed, tree_is_formed, trees_are_formed, atom_is_formed, clause_is_formed}
-use Rattle.inst_logic.specs.Printing.{is_lower_word, is_readable_name, name_text, escaped_all}
+use Rattle.inst_logic.specs.Printing.{is_lower_word, is_readable_name, escaped_all}
 use Rattle.tptp_tokens.specs.Stream.{Tok}
-use Rattle.tptp_read.specs.declared.statement.Role.TheVariants.{Axiom}
-use Rattle.tptp_read.specs.declared.statement.Statement.TheVariants.{Cnf}
-use Rattle.tptp_read.specs.Lexemes.{lower, is_head, is_plain, is_feature, is_variable_kind, is_dollar_kind}
-use Rattle.tptp_read.specs.Grammar.{term_fits, terms_fit, simple_fits, is_atom, items_fit, form_fits}
-use Rattle.tptp_read.specs.Meaning.{name_of, unquoted, Wrote, predicate, equal, from_simple, from_items, tokens_of, tokens_of_all, is_constant_atom, used_tokens, first_feature, variable_names, count, is_wide, are_wide, wrote_wide, tree_of, trees_of, predicate_of, literal_of, is_always, read_cnf, judged}
+use Rattle.tptp_read.specs.Lexemes.{is_head, is_plain, is_feature, is_variable_kind, is_dollar_kind}
+use Rattle.tptp_read.specs.Grammar.{term_fits, terms_fit, simple_fits, is_atom}
+use Rattle.tptp_read.specs.Meaning.{name_of, predicate, equal, from_simple, tokens_of, tokens_of_all, first_feature, variable_names, count, is_wide, are_wide}
 use Rattle.tptp_read.specs.Names.{kind_is_readable, tree_is_readable, trees_are_readable, clause_is_readable}
 use Rattle.tptp_read.proofs.NameSets.{names_append}
-use Rattle.tptp_write.specs.Again.{tree_is_narrow, trees_are_narrow, CanBeRead}
-use Rattle.tptp_write.proofs.Written.{variable_text, name_kind, name_tok, written, headed, writtens, atom_of, equation_of, sides_of, simple_by, simple_tree, simple_of, items_of, form_of, good_tree, good_trees, good_sides, good_by, good_atom, good_literal}
+use Rattle.tptp_write.specs.Again.{tree_is_narrow, trees_are_narrow}
+use Rattle.tptp_write.proofs.Written.{variable_text, name_kind, name_tok, written, headed, writtens, atom_of, equation_of, good_tree, good_trees, good_sides, good_by, good_atom, good_literal}
 use Rattle.tptp_write.proofs.Tokens.{both_true, and_both, content}
-use Rattle.tptp_write.proofs.Named.{renamed, small, small_tree, small_trees, small_literal, is_small, order_texts, place_is}
+use Rattle.tptp_write.proofs.Named.{small_tree, small_trees, small_literal}
 
 -- ---- kinds of name tokens
 

@@ -1,16 +1,16 @@
 -- What is printed is read again.
-use Rattle.std.proofs.Common.{◌≡◌, ℕ, Bool, true, false, List, [], ◌∷◌, ◌++◌, drop, refl, sym, ap, subst, ◌∙◌}
+use Rattle.std.proofs.Common.{◌≡◌, ℕ, Bool, true, false, List, [], ◌∷◌, drop, refl, sym, ap, subst}
 use Rattle.std.specs.Prelude.{codes, IsTrue}
 use Rattle.std.specs.List.{list_all}
 use Rattle.inst_logic.specs.Clauses.{TreeClause}
 use Rattle.inst_logic.specs.Printing.{clause_text}
 use Rattle.tptp_tokens.specs.Skipped.{nothing}
-use Rattle.tptp_tokens.specs.Stream.{Tok, IsNext}
+use Rattle.tptp_tokens.specs.Stream.{Tok}
 use Rattle.tptp_read.specs.declared.statement.Role.TheVariants.{Axiom}
 use Rattle.tptp_read.specs.declared.statement.Statement.TheVariants.{Cnf}
-use Rattle.tptp_read.specs.Lexemes.{Begins, lower, mark}
+use Rattle.tptp_read.specs.Lexemes.{Begins, lower}
 use Rattle.tptp_read.specs.Grammar.{form, simple}
-use Rattle.tptp_read.specs.Rules.{is_language, IsOtherLanguage, IsNoOtherLanguage, stops_last, IsFront, IsRead}
+use Rattle.tptp_read.specs.Rules.{is_language, IsNoOtherLanguage, stops_last}
 use Rattle.tptp_read.specs.Text.{Readable}
 use Rattle.tptp_read.proofs.AllTokens.{same_next}
 use Rattle.tptp_write.specs.Again.{CanBeRead, as_statement, IsReadAgain}
@@ -46,16 +46,19 @@ no_language (l ∷ ls) b = first_language (as_statement (clause_text (l ∷ ls))
 pub is_read_again : (c : TreeClause) → CanBeRead c → Readable (as_statement (clause_text c)) (Cnf (codes "a") Axiom false c ∷ [])
 is_read_again c h =
     let good = is_good c h in
-    let begins = statement_begins c good in
-    ([], record {
-      language = no_language c begins;
-      tokens = form (form_of c);
-      front = record { begins = begins; stops = true_is (stops_last (form (form_of c))) (stops c good) };
-      flat = is_flat c good h.nesting;
-      form = form_of c;
-      is_form = record { spelled = refl; fits = fits c good };
-      value = form_judged c h;
-    }, nothing [] [] refl)
+    let begins = statement_begins c good in (
+      [],
+      record {
+        language = no_language c begins;
+        tokens = form (form_of c);
+        front = record { begins = begins; stops = true_is (stops_last (form (form_of c))) (stops c good) };
+        flat = is_flat c good h.nesting;
+        form = form_of c;
+        is_form = record { spelled = refl; fits = fits c good };
+        value = form_judged c h;
+      },
+      nothing [] [] refl,
+    )
 
 pub text_read_again : (text : List ℕ) (c : TreeClause) → text ≡ clause_text c → CanBeRead c → IsReadAgain text c
 text_read_again text c e h = subst (λ (x : List ℕ). IsReadAgain x c) (sym e) (is_read_again c h)

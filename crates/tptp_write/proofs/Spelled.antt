@@ -1,6 +1,6 @@
 -- What is printed begins with the tokens of its form.
 use Rattle.std.proofs.Common.{◌≡◌, ℕ, ◌≤◌, Bool, true, false, List, [], ◌∷◌, ◌++◌, refl, sym, subst, map, arith, append_assoc}
-use Rattle.std.specs.Prelude.{◌&&◌, nat_le, codes}
+use Rattle.std.specs.Prelude.{nat_le, codes}
 use Rattle.std.specs.List.{list_all}
 use Rattle.std.proofs.lemmas.Bool.Decides.{nat_tests}
 use Rattle.inst_logic.specs.declared.symbol.Kind.{Kind}
@@ -10,9 +10,9 @@ use Rattle.inst_logic.specs.Tree.{Tree, var, app, Trees}
 use Rattle.inst_logic.specs.Tree as tree
 use Rattle.inst_logic.specs.Clauses.{TreeClause}
 use Rattle.inst_logic.specs.Printing.{is_readable_name, name_text, tree_text, arguments_text, more_text, sides_text, equality_sign, atom_text, signed_text, literal_text, joined, clause_text}
-use Rattle.tptp_tokens.specs.Stream.{Tok, IsNext}
+use Rattle.tptp_tokens.specs.Stream.{Tok}
 use Rattle.tptp_read.specs.Lexemes.{Begins, mark, lower}
-use Rattle.tptp_read.specs.Grammar.{Written, single, applied, term, terms, Simple, atom, equation, unequal, negated, simple, simple_text, item, items, unequal_mark, form}
+use Rattle.tptp_read.specs.Grammar.{Written, single, applied, term, terms, Simple, atom, equation, unequal, negated, simple_text, items, unequal_mark, form}
 use Rattle.tptp_write.specs.Again.{as_statement}
 use Rattle.tptp_write.proofs.Written.{false_tok, written, headed, writtens, simple_tree, simple_by, sides_of, simple_of, items_of, form_of, good_tree, good_trees, good_sides, good_by, good_atom, good_literal}
 use Rattle.tptp_write.proofs.Tokens.{both_true, Clear, skip_blank, name_next, variable_next, open_next, close_next, comma_next, stop_next, equal_next, or_next, not_next, unequal_next, cnf_next, a_next, axiom_next, false_next}
@@ -41,19 +41,27 @@ mutual
   headed_begins name tree.none after us rest n g c b = (after, name_next name after n c, b)
   headed_begins name (tree.more t ts) after us rest n g c b =
       let both = both_true (good_tree t) (good_trees ts) g in
-      let inner = (tree_text t ++ more_text ts) ++ after in
-      (40 ∷ inner, name_next name (40 ∷ inner) n refl, (inner, open_next inner,
-       regroup (tree_text t) (more_text ts) after (term (written t) (terms (writtens ts) (mark 41 ∷ us))) rest
-       (tree_begins t (more_text ts ++ after) (terms (writtens ts) (mark 41 ∷ us)) rest both.0 (more_clear ts after) (more_begins ts after us rest both.1 b))))
+      let inner = (tree_text t ++ more_text ts) ++ after in (
+        40 ∷ inner,
+        name_next name (40 ∷ inner) n refl,
+        (
+          inner,
+          open_next inner,
+          regroup (tree_text t) (more_text ts) after (term (written t) (terms (writtens ts) (mark 41 ∷ us))) rest
+              (tree_begins t (more_text ts ++ after) (terms (writtens ts) (mark 41 ∷ us)) rest both.0 (more_clear ts after) (more_begins ts after us rest both.1 b)),
+        ),
+      )
 
   more_begins : (ts : Trees) (after : List ℕ) (us : List Tok) (rest : List ℕ) → good_trees ts ≡ true → Begins after us rest → Begins (more_text ts ++ after) (terms (writtens ts) (mark 41 ∷ us)) rest
   more_begins tree.none after us rest g b = (after, close_next after, b)
   more_begins (tree.more t ts) after us rest g b =
       let both = both_true (good_tree t) (good_trees ts) g in
-      let inner = (tree_text t ++ more_text ts) ++ after in
-      (inner, comma_next inner,
-       regroup (tree_text t) (more_text ts) after (term (written t) (terms (writtens ts) (mark 41 ∷ us))) rest
-       (tree_begins t (more_text ts ++ after) (terms (writtens ts) (mark 41 ∷ us)) rest both.0 (more_clear ts after) (more_begins ts after us rest both.1 b)))
+      let inner = (tree_text t ++ more_text ts) ++ after in (
+        inner,
+        comma_next inner,
+        regroup (tree_text t) (more_text ts) after (term (written t) (terms (writtens ts) (mark 41 ∷ us))) rest
+            (tree_begins t (more_text ts ++ after) (terms (writtens ts) (mark 41 ∷ us)) rest both.0 (more_clear ts after) (more_begins ts after us rest both.1 b)),
+      )
 
 -- a blank before
 
@@ -82,15 +90,19 @@ equation_begins : (positive : Bool) (t u : Tree) (after : List ℕ) (us : List T
 equation_begins true t u after us rest g h c b =
     let right = tree_text u ++ after in
     regroup_three (tree_text t) (codes " = ") (tree_text u) after (term (written t) (mark 61 ∷ term (written u) us)) rest
-    (tree_begins t (32 ∷ 61 ∷ 32 ∷ right) (mark 61 ∷ term (written u) us) rest g refl
-     (32 ∷ right, skip_blank (61 ∷ 32 ∷ right) (mark 61) (32 ∷ right) (equal_next (32 ∷ right)),
-      term_blank (written u) us right rest (tree_begins u after us rest h c b)))
+    (tree_begins t (32 ∷ 61 ∷ 32 ∷ right) (mark 61 ∷ term (written u) us) rest g refl (
+      32 ∷ right,
+      skip_blank (61 ∷ 32 ∷ right) (mark 61) (32 ∷ right) (equal_next (32 ∷ right)),
+      term_blank (written u) us right rest (tree_begins u after us rest h c b),
+    ))
 equation_begins false t u after us rest g h c b =
     let right = tree_text u ++ after in
     regroup_three (tree_text t) (codes " != ") (tree_text u) after (term (written t) (unequal_mark ∷ term (written u) us)) rest
-    (tree_begins t (32 ∷ 33 ∷ 61 ∷ 32 ∷ right) (unequal_mark ∷ term (written u) us) rest g refl
-     (32 ∷ right, skip_blank (33 ∷ 61 ∷ 32 ∷ right) unequal_mark (32 ∷ right) (unequal_next (32 ∷ right)),
-      term_blank (written u) us right rest (tree_begins u after us rest h c b)))
+    (tree_begins t (32 ∷ 33 ∷ 61 ∷ 32 ∷ right) (unequal_mark ∷ term (written u) us) rest g refl (
+      32 ∷ right,
+      skip_blank (33 ∷ 61 ∷ 32 ∷ right) unequal_mark (32 ∷ right) (unequal_next (32 ∷ right)),
+      term_blank (written u) us right rest (tree_begins u after us rest h c b),
+    ))
 
 sides_begins : (positive : Bool) (name : List ℕ) (ts : Trees) (after : List ℕ) (us : List Tok) (rest : List ℕ) → good_sides ts ≡ true → Clear after → Begins after us rest
     → Begins (sides_text (equality_sign positive) ts ++ after) (simple_text (sides_of positive name ts) us) rest
@@ -129,9 +141,11 @@ clause_begins l (m ∷ ls) after us rest g gs c b =
     let inner = text ++ after in
     let more = simple_text (simple_of m) (items (items_of ls) us) in
     regroup_three (literal_text l) (codes " | ") text after (simple_text (simple_of l) (mark 124 ∷ more)) rest
-    (literal_begins l (32 ∷ 124 ∷ 32 ∷ inner) (mark 124 ∷ more) rest g refl
-     (32 ∷ inner, skip_blank (124 ∷ 32 ∷ inner) (mark 124) (32 ∷ inner) (or_next (32 ∷ inner)),
-      simple_blank (simple_of m) (items (items_of ls) us) inner rest (clause_begins m ls after us rest both.0 both.1 c b)))
+    (literal_begins l (32 ∷ 124 ∷ 32 ∷ inner) (mark 124 ∷ more) rest g refl (
+      32 ∷ inner,
+      skip_blank (124 ∷ 32 ∷ inner) (mark 124) (32 ∷ inner) (or_next (32 ∷ inner)),
+      simple_blank (simple_of m) (items (items_of ls) us) inner rest (clause_begins m ls after us rest both.0 both.1 c b),
+    ))
 
 tail_begins : Begins (41 ∷ 46 ∷ []) (mark 41 ∷ mark 46 ∷ []) []
 tail_begins = (46 ∷ [], close_next (46 ∷ []), ([], stop_next [], refl))

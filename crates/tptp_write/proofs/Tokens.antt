@@ -1,6 +1,6 @@
 -- The tokens that are printed, each the longest one at its place.
-use Rattle.std.proofs.Common.{◌≡◌, ℕ, ◌+◌, ◌<◌, ◌≤◌, Bool, true, false, cond, List, [], ◌∷◌, ◌++◌, length, Some, refl, sym, ap, subst, ◌∙◌, arith, append_assoc, length-append}
-use Rattle.std.specs.Prelude.{◌&&◌, ◌||◌, ◌==◌, not, nat_le, decimal, IsTrue}
+use Rattle.std.proofs.Common.{◌≡◌, ℕ, ◌+◌, ◌<◌, ◌≤◌, Bool, true, false, cond, List, [], ◌∷◌, ◌++◌, length, Some, refl, ap, ◌∙◌, arith, append_assoc, length-append}
+use Rattle.std.specs.Prelude.{◌&&◌, ◌||◌, ◌==◌, decimal}
 use Rattle.std.specs.List.{list_all}
 use Rattle.std.specs.Char.{is_ascii_lowercase}
 use Rattle.std.specs.Str.Parse.{AllDigits}
@@ -9,11 +9,11 @@ use Rattle.std.proofs.lemmas.Fmt.{decimal_is_IsNumeral}
 use Rattle.std.proofs.lemmas.Str.Parse.{digit_from_value}
 use Rattle.inst_logic.specs.Printing.{is_lower, is_between, is_lower_word, is_readable_name, name_text, escaped, escaped_all}
 use Rattle.inst_logic.specs.Printing as printing
-use Rattle.tptp_tokens.specs.declared.kind.TokenKind.TheVariants.{LowerWord, Variable, DollarWord, QuotedWord, Punctuation}
-use Rattle.tptp_tokens.specs.Bytes.{is_word_byte, is_printed, run, closing}
+use Rattle.tptp_tokens.specs.declared.kind.TokenKind.TheVariants.{LowerWord, Variable, QuotedWord}
+use Rattle.tptp_tokens.specs.Bytes.{is_word_byte, is_printed, run}
 use Rattle.tptp_tokens.specs.Scan.{begins, token_at, quoted_at, dollar_at}
 use Rattle.tptp_tokens.specs.Table.{are_items}
-use Rattle.tptp_tokens.specs.Skipped.{Skips, nothing, blank}
+use Rattle.tptp_tokens.specs.Skipped.{nothing, blank}
 use Rattle.tptp_tokens.specs.Stream.{Tok, IsNext}
 use Rattle.tptp_tokens.proofs.Fronts.{run_more, run_none}
 use Rattle.tptp_tokens.proofs.Closings.{closing_found}

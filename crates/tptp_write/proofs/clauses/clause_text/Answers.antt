@@ -1,4 +1,4 @@
-use Rattle.std.proofs.Common.{◌≡◌, ◌++◌, ap, ◌∙◌}
+use Rattle.std.proofs.Common.{◌++◌, ap, ◌∙◌}
 use Rattle.inst_logic.specs.Printing.{clause_text}
 use Rattle.tptp_write.proofs.ReadAgain.{text_read_again}
 use Rattle.tptp_write.proofs.clauses.clause_text.Goals as goal
