@@ -1,7 +1,7 @@
 -- The test of clauses without variables and without equality decides which are built.
-use Rattle.std.proofs.Common.{◌≡◌, ℕ, zero, suc, ◌+◌, ◌<◌, List, [], ◌∷◌, ◌++◌, Option, Some, None, length, Bool, true, false, not, ◌&&◌, inl, inr, refl, sym, ap, ap₂, ◌∙◌, subst, arith, All}
+use Rattle.std.proofs.Common.{◌≡◌, ℕ, zero, suc, ◌<◌, List, [], ◌∷◌, ◌++◌, Some, length, Bool, true, false, not, ◌&&◌, inl, inr, refl, ap₂, subst, arith, All}
 use Rattle.std.specs.Prelude.{slice_get}
-use Rattle.std.specs.List.{list_any, list_all}
+use Rattle.std.specs.List.{list_any}
 use Rattle.std.proofs.lemmas.List.Folds.{list_any_none}
 use Rattle.std.proofs.lemmas.List.Elements.{All-append, All-nil, All-cons}
 use Rattle.inst_logic.specs.declared.clause.Problem.{Problem}
@@ -9,10 +9,9 @@ use Rattle.inst_logic.specs.declared.symbol.Sym.{Sym}
 use Rattle.inst_logic.specs.Tree.{Tree, var, app, Trees, none, more}
 use Rattle.inst_logic.specs.Equal.{sym_eq}
 use Rattle.inst_logic.specs.Substitution.{tree_vars, trees_vars, clause_vars}
-use Rattle.inst_logic.specs.Clauses.{TreeClause, IsGround}
+use Rattle.inst_logic.specs.Clauses.{TreeClause}
 use Rattle.inst_logic.specs.Derivations.{at_number}
 use Rattle.inst_logic.proofs.SameLemmas.{sym_eq_decides}
-use Rattle.inst_logic.proofs.ShownLaws.{at_number_contains}
 use Rattle.inst_calculus.specs.Axioms.{equality_axioms, symbols_of, occurrences, clause_symbols, tree_symbols, trees_symbols, is_equality_kind}
 use Rattle.inst_calculus.proofs.Membership.{◌∈◌, all_in, in_all, in_left, in_right}
 use Rattle.inst_calculus.proofs.Distinct.{from_distinct, in_distinct}

@@ -2,7 +2,6 @@
 use Rattle.std.proofs.Common.{◌≡◌, ℕ, List, Option, Some, None, All, IfSome, sym, subst, inl, inr, refl, ◌∙◌}
 use Rattle.std.specs.Io.KnownBytes.{Appends}
 use Rattle.inst_logic.specs.declared.clause.Problem.{Problem}
-use Rattle.inst_logic.specs.Derivations.{at_number}
 use Rattle.inst_logic.proofs.ShownLaws.{at_number_contains}
 use Rattle.inst_calculus.proofs.Membership.{all_in, contains_in}
 use Rattle.outside_io.specs.Causes.{Rose}
@@ -13,13 +12,12 @@ use Rattle.tptp_load.specs.declared.error.LoadError.TheVariants as load
 use Rattle.szs_prove.specs.Answered.{Answered, Reading, Writing}
 use Rattle.szs_prove.specs.Answers.{Answer, verdict, refusal, IsAnswer, exit_for, text_for}
 use Rattle.szs_prove.specs.Exact.{AsksBuilt, AsksUnbuilt, AsksRefused, Causes, IsOrYields, IsExact, IsInterrupted, WantsMemory, WritesCertificate}
-use Rattle.szs_prove.specs.Loading.{IsBuilt, IsFirstUnbuilt, IsUnread}
+use Rattle.szs_prove.specs.Loading.{IsBuilt, IsFirstUnbuilt}
 use Rattle.szs_prove.specs.Texts.{refusal_text, load_exit}
 use Rattle.szs_prove.specs.Told.{AnsweredBuilt, HasBuilt}
 use Rattle.szs_prove.specs.Words.{Asked, asked_of, shown_name}
 use Rattle.szs_prove.specs.declared.exit.Exit.{Exit}
 use Rattle.szs_prove.specs.declared.exit.Exit.TheVariants as exit
-use Rattle.szs_prove.specs.declared.refusal.Refusal.{Refusal}
 use Rattle.szs_prove.specs.declared.refusal.Refusal.TheVariants.{Usage, Load, NotBuilt, Memory}
 
 -- what is asked, with the reason why it is not loaded

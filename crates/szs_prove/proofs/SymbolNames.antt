@@ -12,10 +12,7 @@ use Rattle.std.proofs.lemmas.List.Sums.{fold-append}
 use Rattle.std.proofs.lemmas.Slice.Eq.{bytes_eq-Decides}
 use Rattle.indexmap.specs.IndexSet.{insert_key}
 use Rattle.inst_logic.specs.declared.symbol.Sym.{Sym}
-use Rattle.inst_logic.specs.declared.term.Term.{Term}
 use Rattle.inst_logic.specs.declared.clause.Literal.{Literal}
-use Rattle.inst_logic.specs.Tree.{of_list}
-use Rattle.inst_logic.specs.View.{tree}
 use Rattle.inst_logic.specs.LiteralView.{literal}
 use Rattle.inst_logic.specs.Lists.{distinct, with_item}
 use Rattle.inst_logic.specs.Printing.{is_between, is_readable_name}
@@ -23,7 +20,7 @@ use Rattle.inst_logic.specs.Clauses.{TreeClause}
 use Rattle.inst_logic.proofs.Distinct.{distinct_append}
 use Rattle.inst_logic.proofs.SameLemmas.{and_both}
 use Rattle.inst_logic.proofs.Sets.{with_key}
-use Rattle.inst_calculus.specs.Axioms.{tree_symbols, trees_symbols, clause_symbols, occurrences}
+use Rattle.inst_calculus.specs.Axioms.{tree_symbols, clause_symbols, occurrences}
 use Rattle.inst_calculus.specs.Abstraction.{is_taken, bot_name}
 use Rattle.inst_calculus.proofs.Membership.{◌∈◌, in_map, from_map, equal_in}
 use Rattle.inst_calculus.proofs.Distinct.{IsDistinct, in_distinct, from_distinct, length_within}

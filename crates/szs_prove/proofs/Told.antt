@@ -3,7 +3,7 @@ use Rattle.std.proofs.Common.{◌≡◌, ℕ, List, Option, Some, None, All, sym
 use Rattle.inst_logic.specs.declared.clause.Problem.{Problem}
 use Rattle.outside_io.specs.declared.library.NamedFile.{NamedFile}
 use Rattle.tptp_load.specs.Problems.{Loads, Told}
-use Rattle.szs_prove.specs.Answered.{Answered, HasVerdict, Reading, Writing}
+use Rattle.szs_prove.specs.Answered.{HasVerdict, Reading, Writing}
 use Rattle.szs_prove.specs.Answers.{verdict, refusal}
 use Rattle.szs_prove.specs.Certificates.{certificate_text}
 use Rattle.szs_prove.specs.Loading.{IsBuilt, IsProblemOf, IsUnread}

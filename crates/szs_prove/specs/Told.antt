@@ -5,7 +5,6 @@ use Rattle.outside_io.specs.declared.library.NamedFile.{NamedFile}
 use Rattle.tptp_load.specs.Problems.{Loads, Told}
 use Rattle.szs_prove.specs.Answered.{Answered, Reading, Writing}
 use Rattle.szs_prove.specs.Answers.{Answer, verdict, refusal}
-use Rattle.szs_prove.specs.Certificates.{Certificate}
 use Rattle.szs_prove.specs.Loading.{IsBuilt}
 use Rattle.szs_prove.specs.Words.{Asked, asked_of}
 use Rattle.szs_prove.specs.declared.exit.Exit.{Exit}

@@ -1,5 +1,5 @@
 -- Which words are read: `prove FILE`, and `--root DIR` behind them or not.
-use Rattle.std.specs.Prelude.{◌≡◌, ℕ, ◌&&◌, List, [], ◌∷◌, Option, None, Some, Bool, false, not, nat_eq, nat_lt, codes, length, if◌then◌else◌}
+use Rattle.std.specs.Prelude.{ℕ, ◌&&◌, List, [], ◌∷◌, Option, None, Some, Bool, false, not, nat_eq, nat_lt, codes, length, if◌then◌else◌}
 use Rattle.std.specs.List.{list_all}
 use Rattle.std.specs.Str.{bytes_eq}
 

@@ -1,11 +1,10 @@
-use Rattle.std.proofs.Common.{◌≡◌, ◌<◌, ◌+◌, ◌++◌, ℕ, List, sym, ap, ap₂, ◌∙◌, map, arith}
+use Rattle.std.proofs.Common.{◌≡◌, ◌++◌, ℕ, List, sym, ap, ap₂, ◌∙◌, map}
 use Rattle.std.specs.Str.{bytes_eq}
 use denote.Bor.{Bor}
 use Rattle.inst_logic.specs.declared.term.Term.{Term}
 use Rattle.inst_logic.specs.Tree.{Tree, of_list}
 use Rattle.inst_logic.specs.View.{tree}
 use Rattle.inst_logic.specs.Lists.{with_item}
-use Rattle.inst_logic.specs.Measure.{tree_size, trees_size}
 use Rattle.inst_calculus.specs.Axioms.{tree_symbols, trees_symbols}
 use Rattle.std.proofs.lemmas.Result.{on_ok_weaker}
 use Rattle.szs_prove.specs.Bot.{with_names}

@@ -1,4 +1,4 @@
-use Rattle.std.proofs.Common.{◌≡◌, ℕ, List, sym, ap, ◌∙◌, map, arith}
+use Rattle.std.proofs.Common.{ℕ, List, sym, ap, ◌∙◌, map, arith}
 use denote.Bor.{Bor}
 use Rattle.szs_prove.specs.Bot.{with_names}
 use Rattle.szs_prove.proofs.LeftTerms.{symbols_taken, size_taken}

@@ -1,4 +1,4 @@
-use Rattle.std.proofs.Common.{◌≡◌, ◌&&◌, List, false, sym, ap, ◌∙◌, arith}
+use Rattle.std.proofs.Common.{◌&&◌, List, sym, ap, ◌∙◌, arith}
 use Rattle.inst_logic.specs.declared.term.Term.{Term}
 use Rattle.inst_logic.specs.Tree.{Tree, of_list}
 use Rattle.inst_logic.specs.View.{tree}
