@@ -1,5 +1,5 @@
 -- The search for places of literals: what a choice that is taken leaves, and what the end of the search says.
-use Rattle.std.proofs.Common.{◌≡◌, ℕ, zero, suc, ◌+◌, ◌*◌, ◌-◌, ◌^◌, ◌<◌, ◌≤◌, Bool, true, false, cond, nat_eq, List, [], ◌∷◌, ◌++◌, ◌⊎◌, inl, inr, refl, sym, ap, ap₂, ◌∙◌, subst as transport, length, take, map, arith}
+use Rattle.std.proofs.Common.{◌≡◌, ℕ, zero, suc, ◌+◌, ◌*◌, ◌-◌, ◌^◌, ◌<◌, ◌≤◌, Bool, true, false, cond, nat_eq, List, [], ◌∷◌, ◌++◌, ◌⊎◌, inl, inr, refl, sym, ap, ap₂, ◌∙◌, subst as transport, length, take, map, get_or, arith}
 use Rattle.std.specs.Prelude.{◌↔◌}
 use Rattle.std.proofs.Math.Seq.{take-length}
 use Rattle.std.proofs.lemmas.Bool.{cases_lt}
@@ -24,11 +24,11 @@ value : Forest → List Binding → Substitution
 value f [] v = var v
 value f (e ∷ es) v = cond (nat_eq e.0.var v) (tree_at f e.1.term) (value f es v)
 
-AreOnce : List Binding → Type 0
+abbrev AreOnce : List Binding → Type 0
 AreOnce es = (d e : Binding) → d ∈ es → e ∈ es → d.0.var ≡ e.0.var → d.1 ≡ e.1
 
 value_agrees : (f : Forest) (es : List Binding) → AreOnce es → Agrees f (value f es) es
-unfolding value AreOnce
+unfolding value
 value_agrees f [] once e i = absurd i
 value_agrees f (d ∷ es) once e i = by (nat_eq d.0.var e.0.var) refl i (λ j. value_agrees f es (λ a b u w. once a b (inr u) (inr w)) e j)
   where
@@ -176,8 +176,6 @@ module _ (f : Forest) (d c : List (Signed ℕ)) (es : List Binding) (xs : List C
         reach : (y : Choice) → (y ∈ (xs ++ rest ∷ [])) ⊎ (y ≡ next) → IsReached f d c gs y
         reach y (inl i) = earlier y (∈-push y rest xs i)
         reach y (inr q) = transport (IsReached f d c gs) (sym q) reached_next
-        Goal : Substitution → Type 0
-        Goal s = (z : Choice) × (z ∈ ((xs ++ rest ∷ []) ++ next ∷ [])) × IsAhead f d c gs s z
         ahead_rest : (s : Substitution) → IsAhead f d c es s x → (i : ℕ) → j < i → i < length c → Goes f s (literal_at d x.literal) (literal_at c i) → IsAhead f d c gs s rest
         ahead_rest s a i ji il g = record {
           agrees = transport (Agrees f s) (sym same_front) a.agrees;
@@ -201,6 +199,27 @@ module _ (f : Forest) (d c : List (Signed ℕ)) (es : List Binding) (xs : List C
         by s h y (inl i) a = (y, ∈-append_left y (xs ++ rest ∷ []) (next ∷ []) (∈-append_left y xs (rest ∷ []) i), ahead_before f d c es gs xs x p longer same_front s y i a)
         by s h y (inr q) a = here s h (transport (IsAhead f d c es s) q a)
 
+-- an item of a list within its bounds, whatever stands past the end
+pub at_index : (xs : List (Signed ℕ)) (i : ℕ) (l : Signed ℕ) → i < length xs → l ≡ get_or xs i l → l ≡ literal_at xs i
+at_index [] i l h e = absurd (omega arith)
+at_index (x ∷ xs) zero l h e = e
+at_index (x ∷ xs) (suc i) l h e = at_index xs i l (omega arith) e
+
+module _ (f : Forest) (d c : List (Signed ℕ)) (es : List Binding) (xs : List Choice) (x : Choice) (p : IsPlacing f d c es (xs ++ x ∷ [])) (lt : x.literal < length d) (l : Signed ℕ) (is : l ≡ literal_at d x.literal) (ts gs : List Binding) (t : ts ≡ take x.kept es) where
+  missed_front : (m : Signed ℕ) → IsMissed f ts l m → IsMissed f (take x.kept es) (literal_at d x.literal) m
+  missed_front m h = transport (λ k. IsMissed f (take x.kept es) k m) is (transport (λ bs. IsMissed f bs l m) t h)
+
+  pub took_none : gs ≡ ts → ((i : ℕ) → x.from ≤ i → i < length c → IsMissed f ts l (literal_at c i)) → IsPlacing f d c gs xs
+  took_none g missed = transport (λ bs. IsPlacing f d c bs xs) (sym (g ∙ t)) (exhausted f d c es xs x p lt (λ i fi il. missed_front (literal_at c i) (missed i fi il)))
+
+  pub took_some : (j : ℕ) → j < length c → IsPut f ts gs l (literal_at c j) → ((i : ℕ) → x.from ≤ i → i < j → IsMissed f ts l (literal_at c i)) → (n : ℕ) → n ≡ length gs → (ys zs : List Choice)
+      → ys ≡ xs ++ record { literal = x.literal; from = j + 1; kept = x.kept } ∷ [] → zs ≡ ys ++ record { literal = x.literal + 1; from = 0; kept = n } ∷ [] → IsPlacing f d c gs zs
+  took_some j jl put missed n e ys zs u v =
+      let put' = transport (λ k. IsPut f (take x.kept es) gs k (literal_at c j)) is (transport (λ bs. IsPut f bs gs l (literal_at c j)) t put) in
+      let w : zs ≡ (xs ++ record { literal = x.literal; from = j + 1; kept = x.kept } ∷ []) ++ record { literal = x.literal + 1; from = 0; kept = length gs } ∷ []
+        = v ∙ ap₂ (λ ws k. ws ++ record { literal = x.literal + 1; from = 0; kept = k } ∷ []) u e in
+      transport (IsPlacing f d c gs) (sym w) (branched f d c es xs x p lt gs j jl put' (λ i fi ij. missed_front (literal_at c i) (missed i fi ij)))
+
 -- a choice that has no literal left
 pub placed_all : (f : Forest) (d c : List (Signed ℕ)) (es : List Binding) (xs : List Choice) (x : Choice) → IsPlacing f d c es (xs ++ x ∷ []) → x.literal ≡ length d → (s : Substitution) × HasPlaces f s d c
 placed_all f d c es xs x p e =
@@ -209,8 +228,10 @@ placed_all f d c es xs x p e =
     (value f (take x.kept es), λ k kl. let (i, l, g) = (p.reached x (∈-last x xs)).placed k (omega arith) in (i, l, g (value f (take x.kept es)) ag))
   where
     value_agrees_of : AreMatches f (take x.kept es) → Agrees f (value f (take x.kept es)) (take x.kept es)
-    unfolding AreOnce
     value_agrees_of m = value_agrees f (take x.kept es) m.once
+
+pub within : (f : Forest) (d c : List (Signed ℕ)) (es : List Binding) (xs : List Choice) (x : Choice) → IsPlacing f d c es (xs ++ x ∷ []) → ¬ (x.literal ≡ length d) → x.literal < length d
+within f d c es xs x p h = let k = (p.reached x (∈-last x xs)).literal in omega (arith, k, h)
 
 pub begins : (f : Forest) (d c : List (Signed ℕ)) → IsPlacing f d c [] ((record { literal = 0; from = 0; kept = 0 }) ∷ [])
 begins f d c = record {
@@ -261,7 +282,7 @@ module _ (f : Forest) (d c : List (Signed ℕ)) where
       let (k, j, e) = from_map (literal_tree f) (subst_literal s (literal_tree f (literal_at d n))) c i in
       let (m, ml, q) = place_of k c j in
       let same : literal_tree f (literal_at c m) ≡ subst_literal s (literal_tree f (literal_at d n)) = ap (literal_tree f) q ∙ e in
-      (m, ml, sym (ap (λ (l : Signed Tree). l.positive) same), sym (ap (λ (l : Signed Tree). l.atom) same))
+      (m, ml, (sym (ap (λ (l : Signed Tree). l.positive) same), sym (ap (λ (l : Signed Tree). l.atom) same)))
 
   pub subsumes_placed : ((s : Substitution) × HasPlaces f s d c) → Subsumes (clause_at f d) (clause_at f c)
   subsumes_placed (s, h) = (s, within_part s (clause_at f d) (clause_at f c) (places_within s h))

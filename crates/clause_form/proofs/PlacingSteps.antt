@@ -27,9 +27,10 @@ pub branched_falls : (d c : ℕ) (xs : List Choice) (x : Choice) (j n : ℕ) →
 branched_falls d c xs x j n lt fj jl =
     let p = (c + 2) ^ (d - (x.literal + 1)) in
     let q = (c + 2) ^ (d - x.literal) in
-    let e : q ≡ p * (c + 2) = ap (λ m. (c + 2) ^ m) (let w : d - x.literal ≡ suc (d - (x.literal + 1)) = omega arith in w) ∙ pow-suc (d - (x.literal + 1)) (c + 2) in
+    let e : q ≡ p * (c + 2) = ap (λ m. (c + 2) ^ m) (let w : d - x.literal ≡ suc (d - (x.literal + 1)) = omega arith in w) ∙ pow-suc (c + 2) (d - (x.literal + 1)) in
     let f = falls c ((c - (j + 1)) + 1) ((c - x.from) + 1) p q (omega arith) (some_power c (d - (x.literal + 1))) e in
     let u = steps_push d c (xs ++ record { literal = x.literal; from = j + 1; kept = x.kept } ∷ []) (record { literal = x.literal + 1; from = 0; kept = n }) in
     let v = steps_push d c xs (record { literal = x.literal; from = j + 1; kept = x.kept }) in
     let w = steps_push d c xs x in
-    omega (arith, f, u, v, w)
+    let z : ((c - 0) + 1) * (c + 2) ^ (d - (x.literal + 1)) ≡ (c + 1) * (c + 2) ^ (d - (x.literal + 1)) = ap (λ m. (m + 1) * (c + 2) ^ (d - (x.literal + 1))) (let y : c - 0 ≡ c = omega arith in y) in
+    omega (arith, f, u, v, w, z)
