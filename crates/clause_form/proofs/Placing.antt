@@ -1,6 +1,6 @@
 -- The search for places of literals: what a choice that is taken leaves, and what the end of the search says.
-use Rattle.std.proofs.Common.{◌≡◌, ℕ, zero, suc, ◌+◌, ◌*◌, ◌-◌, ◌^◌, ◌<◌, ◌≤◌, Bool, true, false, cond, nat_eq, List, [], ◌∷◌, ◌++◌, ◌⊎◌, inl, inr, refl, sym, ap, ap₂, ◌∙◌, subst as transport, length, take, map, get_or, arith}
-use Rattle.std.specs.Prelude.{◌↔◌}
+use Rattle.std.proofs.Common.{◌≡◌, ℕ, zero, suc, ◌+◌, ◌*◌, ◌-◌, ◌^◌, ◌<◌, ◌≤◌, Bool, true, false, cond, nat_eq, List, [], ◌∷◌, ◌++◌, ◌⊎◌, inl, inr, refl, sym, ap, ap₂, ◌∙◌, subst as transport, length, take, map, get_or, arith, Result, Ok, Err, IfOk}
+use Rattle.std.specs.Prelude.{◌↔◌, IsTrue}
 use Rattle.std.proofs.Math.Seq.{take-length}
 use Rattle.std.proofs.lemmas.Bool.{cases_lt}
 use Rattle.std.proofs.lemmas.Bool.Decides.{Decides-eqb}
@@ -12,6 +12,7 @@ use Rattle.inst_logic.specs.Clauses.{Subsumes}
 use Rattle.term_bank.specs.Forest.{Forest, tree_at, clause_at}
 use Rattle.unify_core.specs.Lists.{◌∈◌}
 use Rattle.unify_core.specs.Sides.{Binding}
+use Rattle.unify_core.specs.Bindings.{Bound_list}
 use Rattle.unify_core.specs.Matching.{AreMatches, Agrees}
 use Rattle.unify_core.proofs.Lists.{∈-append_left, ∈-last, ∈-push}
 use Rattle.inst_calculus.proofs.Membership.{◌∈◌ as ◌∈'◌, from_map, in_map, equal_in}
@@ -249,6 +250,11 @@ begins f d c = record {
     reach y (inl e) = transport (IsReached f d c []) (sym e) first
     reach y (inr i) = absurd i
 
+pub begins_with : (f : Forest) (d c : List (Signed ℕ)) (b : Bound_list) (xs ys : List Choice) → b ≡ record { entries = []; spent = false } → xs ≡ [] → ys ≡ xs ++ record { literal = 0; from = 0; kept = 0 } ∷ [] → IsPlacing f d c b.entries ys
+begins_with f d c b xs ys e u v =
+    let w : ys ≡ (record { literal = 0; from = 0; kept = 0 }) ∷ [] = v ∙ ap (λ ws. ws ++ record { literal = 0; from = 0; kept = 0 } ∷ []) u in
+    transport (λ zs. IsPlacing f d c b.entries zs) (sym w) (transport (λ es. IsPlacing f d c es ((record { literal = 0; from = 0; kept = 0 }) ∷ [])) (sym (ap (λ (k : Bound_list). k.entries) e)) (begins f d c))
+
 pub ends : (f : Forest) (d c : List (Signed ℕ)) (es : List Binding) → IsPlacing f d c es [] → (s : Substitution) → ¬ (HasPlaces f s d c)
 ends f d c es p s h = (p.ahead s h).1
 
@@ -289,3 +295,13 @@ module _ (f : Forest) (d c : List (Signed ℕ)) where
 
   pub placed_subsumes : Subsumes (clause_at f d) (clause_at f c) → (s : Substitution) × HasPlaces f s d c
   placed_subsumes (s, h) = (s, within_places s (part_within s (clause_at f d) (clause_at f c) h))
+
+  -- what the search answers
+  pub answered : {E : Type 0} (r : Result Bool E) → IfOk r (λ b. b ≡ true → (s : Substitution) × HasPlaces f s d c) → IfOk r (λ b. b ≡ false → (s : Substitution) → ¬ (HasPlaces f s d c))
+      → IfOk r (λ b. IsTrue b ↔ Subsumes (clause_at f d) (clause_at f c))
+  answered (Ok true) yes no = ((λ _. subsumes_placed (yes refl)), λ _. tt)
+  answered (Ok false) yes no = ((λ t. absurd t), λ h. let (s, k) = placed_subsumes h in no refl s k)
+  answered (Err e) yes no = yes
+
+  pub no_candidates : ((s : Substitution) → ¬ (HasPlaces f s d c)) → IsTrue false ↔ Subsumes (clause_at f d) (clause_at f c)
+  no_candidates no = ((λ t. absurd t), λ h. let (s, k) = placed_subsumes h in no s k)

@@ -163,13 +163,13 @@ fn search_places(
     }
 }
 
-/// Whether some instance of `f` has all its literals among those of `c`. Two literals of `f` may go to one of `c`.
-pub fn subsumes(alloc: Global, bank: &Bank, f: &IdClause, c: &IdClause) -> Result<bool, Memory>
-    requires pattern { IsClauseOf bank.now f.now }
-    requires target { IsClauseOf bank.now c.now }
+// Whether some substitution puts each literal of the first clause onto one of the second.
+fn find_places(alloc: Global, bank: &Bank, f: &[IdLiteral], c: &[IdLiteral]) -> Result<bool, Memory>
+    requires left { IsClauseOf bank.now f.now }
+    requires right { IsClauseOf bank.now c.now }
     ensures { IfOk result (λ r. IsTrue r ↔ Subsumes (clause_at bank.now f.now) (clause_at bank.now c.now)) }
 {
-    if !have_candidates(bank, f.as_slice(), c.as_slice()) {
+    if !have_candidates(bank, f, c) {
         return Ok(false);
     }
     let mut bindings = Bindings::new(alloc);
@@ -179,5 +179,14 @@ pub fn subsumes(alloc: Global, bank: &Bank, f: &IdClause, c: &IdClause) -> Resul
         from: 0,
         kept: 0,
     })?;
-    search_places(bank, &mut bindings, &mut choices, f.as_slice(), c.as_slice())
+    search_places(bank, &mut bindings, &mut choices, f, c)
+}
+
+/// Whether some instance of `f` has all its literals among those of `c`. Two literals of `f` may go to one of `c`.
+pub fn subsumes(alloc: Global, bank: &Bank, f: &IdClause, c: &IdClause) -> Result<bool, Memory>
+    requires pattern { IsClauseOf bank.now f.now }
+    requires target { IsClauseOf bank.now c.now }
+    ensures { IfOk result (λ r. IsTrue r ↔ Subsumes (clause_at bank.now f.now) (clause_at bank.now c.now)) }
+{
+    find_places(alloc, bank, f.as_slice(), c.as_slice())
 }
