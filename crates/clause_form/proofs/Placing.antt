@@ -2,7 +2,7 @@
 use Rattle.std.proofs.Common.{◌≡◌, ℕ, zero, suc, ◌+◌, ◌*◌, ◌-◌, ◌^◌, ◌<◌, ◌≤◌, Bool, true, false, cond, nat_eq, List, [], ◌∷◌, ◌++◌, ◌⊎◌, inl, inr, refl, sym, ap, ap₂, ◌∙◌, subst as transport, length, take, map, get_or, arith, Result, Ok, Err, IfOk}
 use Rattle.std.specs.Prelude.{◌↔◌, IsTrue}
 use Rattle.std.proofs.Math.Seq.{take-length}
-use Rattle.std.proofs.lemmas.Bool.{cases_lt}
+use Rattle.std.proofs.lemmas.Bool.{cases_lt, false≢true}
 use Rattle.std.proofs.lemmas.Bool.Decides.{Decides-eqb}
 use Rattle.std.proofs.lemmas.List.{take-take, take_at, length-append, length-take-le}
 use Rattle.inst_logic.specs.declared.signed.Signed.{Signed}
@@ -299,9 +299,9 @@ module _ (f : Forest) (d c : List (Signed ℕ)) where
   -- what the search answers
   pub answered : {E : Type 0} (r : Result Bool E) → IfOk r (λ b. b ≡ true → (s : Substitution) × HasPlaces f s d c) → IfOk r (λ b. b ≡ false → (s : Substitution) → ¬ (HasPlaces f s d c))
       → IfOk r (λ b. IsTrue b ↔ Subsumes (clause_at f d) (clause_at f c))
-  answered (Ok true) yes no = ((λ _. subsumes_placed (yes refl)), λ _. tt)
-  answered (Ok false) yes no = ((λ t. absurd t), λ h. let (s, k) = placed_subsumes h in no refl s k)
-  answered (Err e) yes no = yes
+  answered (Ok true) found none = ((λ _. subsumes_placed (found refl)), λ _. refl)
+  answered (Ok false) found none = ((λ t. absurd (false≢true t)), λ h. let (s, k) = placed_subsumes h in absurd (none refl s k))
+  answered (Err e) found none = found
 
   pub no_candidates : ((s : Substitution) → ¬ (HasPlaces f s d c)) → IsTrue false ↔ Subsumes (clause_at f d) (clause_at f c)
-  no_candidates no = ((λ t. absurd t), λ h. let (s, k) = placed_subsumes h in no s k)
+  no_candidates none = ((λ t. absurd (false≢true t)), λ h. let (s, k) = placed_subsumes h in absurd (none s k))
