@@ -112,10 +112,13 @@ module _ (f : Forest) (d c : List (Signed ℕ)) (es : List Binding) (xs : List C
     where
       n : x.kept ≤ length (take x.kept es)
       n = omega (arith, kept_length)
+
       e : take x.kept (take x.kept es) ≡ take x.kept es
       e = take-take x.kept x.kept es (omega arith)
+
       none : (s : Substitution) → IsAhead f d c es s x → ⊥
       none s a = let (i, fi, il, g) = a.place lt in missed i fi il s a.agrees g
+
       by : (s : Substitution) (y : Choice) → (y ∈ xs) ⊎ (y ≡ x) → IsAhead f d c es s y → (z : Choice) × (z ∈ xs) × IsAhead f d c (take x.kept es) s z
       by s y (inl i) a = (y, i, ahead_before f d c es (take x.kept es) xs x p n e s y i a)
       by s y (inr q) a = absurd (none s (transport (IsAhead f d c es s) q a))
@@ -171,22 +174,27 @@ module _ (f : Forest) (d c : List (Signed ℕ)) (es : List Binding) (xs : List C
         low : (y : Choice) → (y ∈ xs) ⊎ (y ≡ rest) → y.kept ≤ length gs
         low y (inl i) = omega (arith, longer, rising_last xs x p.rising y i)
         low y (inr q) = transport (λ (w : Choice). w.kept ≤ length gs) (sym q) longer
+
         earlier : (y : Choice) → (y ∈ xs) ⊎ (y ≡ rest) → IsReached f d c gs y
         earlier y (inl i) = reached_before f d c es gs xs x p longer same_front y i
         earlier y (inr q) = transport (IsReached f d c gs) (sym q) reached_rest
+
         reach : (y : Choice) → (y ∈ (xs ++ rest ∷ [])) ⊎ (y ≡ next) → IsReached f d c gs y
         reach y (inl i) = earlier y (∈-push y rest xs i)
         reach y (inr q) = transport (IsReached f d c gs) (sym q) reached_next
+
         ahead_rest : (s : Substitution) → IsAhead f d c es s x → (i : ℕ) → j < i → i < length c → Goes f s (literal_at d x.literal) (literal_at c i) → IsAhead f d c gs s rest
         ahead_rest s a i ji il g = record {
           agrees = transport (Agrees f s) (sym same_front) a.agrees;
           place = λ _. (i, omega arith, il, g);
         }
+
         ahead_next : (s : Substitution) → HasPlaces f s d c → IsAhead f d c es s x → Goes f s (literal_at d x.literal) (literal_at c j) → IsAhead f d c gs s next
         ahead_next s h a g = record {
           agrees = transport (Agrees f s) (sym (take-length gs)) (put.least s a.agrees g);
           place = λ l. let (i, il, k) = h (x.literal + 1) l in (i, omega arith, il, k);
         }
+
         at : (s : Substitution) → HasPlaces f s d c → IsAhead f d c es s x → (i : ℕ) → x.from ≤ i → i < length c → Goes f s (literal_at d x.literal) (literal_at c i) → (i < j) ⊎ (j ≤ i) → (j < i) ⊎ (i ≤ j)
             → (z : Choice) × (z ∈ ((xs ++ rest ∷ []) ++ next ∷ [])) × IsAhead f d c gs s z
         at s h a i fi il g (inl less) _ = absurd (missed i fi less s a.agrees g)
@@ -194,8 +202,10 @@ module _ (f : Forest) (d c : List (Signed ℕ)) (es : List Binding) (xs : List C
         at s h a i fi il g (inr u) (inr w) =
             let q : i ≡ j = omega arith in
             (next, ∈-last next (xs ++ rest ∷ []), ahead_next s h a (transport (λ m. Goes f s (literal_at d x.literal) (literal_at c m)) q g))
+
         here : (s : Substitution) → HasPlaces f s d c → IsAhead f d c es s x → (z : Choice) × (z ∈ ((xs ++ rest ∷ []) ++ next ∷ [])) × IsAhead f d c gs s z
         here s h a = let (i, fi, il, g) = a.place lt in at s h a i fi il g (cases_lt i j) (cases_lt j i)
+
         by : (s : Substitution) → HasPlaces f s d c → (y : Choice) → (y ∈ xs) ⊎ (y ≡ x) → IsAhead f d c es s y → (z : Choice) × (z ∈ ((xs ++ rest ∷ []) ++ next ∷ [])) × IsAhead f d c gs s z
         by s h y (inl i) a = (y, ∈-append_left y (xs ++ rest ∷ []) (next ∷ []) (∈-append_left y xs (rest ∷ []) i), ahead_before f d c es gs xs x p longer same_front s y i a)
         by s h y (inr q) a = here s h (transport (IsAhead f d c es s) q a)
@@ -218,7 +228,7 @@ module _ (f : Forest) (d c : List (Signed ℕ)) (es : List Binding) (xs : List C
   took_some j jl put missed n e ys zs u v =
       let put' = transport (λ k. IsPut f (take x.kept es) gs k (literal_at c j)) is (transport (λ bs. IsPut f bs gs l (literal_at c j)) t put) in
       let w : zs ≡ (xs ++ record { literal = x.literal; from = j + 1; kept = x.kept } ∷ []) ++ record { literal = x.literal + 1; from = 0; kept = length gs } ∷ []
-        = v ∙ ap₂ (λ ws k. ws ++ record { literal = x.literal + 1; from = 0; kept = k } ∷ []) u e in
+      = v ∙ ap₂ (λ ws k. ws ++ record { literal = x.literal + 1; from = 0; kept = k } ∷ []) u e in
       transport (IsPlacing f d c gs) (sym w) (branched f d c es xs x p lt gs j jl put' (λ i fi ij. missed_front (literal_at c i) (missed i fi ij)))
 
 -- a choice that has no literal left
@@ -244,8 +254,10 @@ begins f d c = record {
   where
     start : Choice
     start = record { literal = 0; from = 0; kept = 0 }
+
     first : IsReached f d c [] (record { literal = 0; from = 0; kept = 0 })
     first = record { literal = omega arith; kept = omega arith; placed = λ k l. absurd (omega arith) }
+
     reach : (y : Choice) → y ∈ ((record { literal = 0; from = 0; kept = 0 }) ∷ []) → IsReached f d c [] y
     reach y (inl e) = transport (IsReached f d c []) (sym e) first
     reach y (inr i) = absurd i
