@@ -10,3 +10,5 @@ pub mod Building
 pub mod Running
 pub mod Assembly
 pub mod Readings
+pub mod Placing
+pub mod PlacingSteps
