@@ -10,3 +10,4 @@ pub mod Building
 pub mod Running
 pub mod Assembly
 pub mod Readings
+pub mod Led
