@@ -11,3 +11,6 @@ pub mod Running
 pub mod Assembly
 pub mod Readings
 pub mod Led
+pub mod Variables
+pub mod Concluded
+pub mod TermsSolved
