@@ -10,5 +10,9 @@ pub mod Building
 pub mod Running
 pub mod Assembly
 pub mod Readings
+pub mod Concluded
+pub mod Led
 pub mod Placing
 pub mod PlacingSteps
+pub mod TermsSolved
+pub mod Variables

@@ -3,6 +3,7 @@ use Rattle.std.specs.Prelude.{◌≡◌, ℕ, ◌<◌, List, length, slice_index
 use Rattle.inst_logic.specs.declared.signed.Signed.{Signed}
 use Rattle.inst_logic.specs.Substitution.{Substitution, followed_by}
 use Rattle.inst_logic.specs.Clauses.{TreeClause, instance, canonical_form, order_of, numbered, IsCanonical}
+use Rattle.inst_logic.specs.Tree.{var}
 use Rattle.inst_logic.specs.WellFormed.{IsTerm}
 use Rattle.term_bank.specs.Forest.{Forest, AreDistinct, IsAt, IsClauseOf, IsClauseAt, clause_at, tree_at}
 use Rattle.unify_core.specs.Sides.{Binding, IsResolvedBy, of_side}
@@ -42,3 +43,8 @@ pub record AreCanonicalIn (f : Forest) (c d : List (Signed ℕ)) : Type 0 where
 -- each id's tree is a term: no predicate or equality stands at its head
 abbrev pub AreTermIds : Forest → List ℕ → Type 0
 AreTermIds f ids = All (λ id. IsTerm (tree_at f id)) ids
+
+-- the ids of the variables 0, 1, .. below the count
+pub record AreVariables (f : Forest) (count : ℕ) (ids : List ℕ) : Type 0 where
+  pub count_of : length ids ≡ count
+  pub each : (v d : ℕ) → v < count → IsAt f (slice_index_or ids v d) (var v)
