@@ -4,6 +4,8 @@
 #[cfg(test)]
 mod long_rows;
 #[cfg(test)]
+mod readable_texts;
+#[cfg(test)]
 mod refused_texts;
 #[cfg(test)]
 mod rows;

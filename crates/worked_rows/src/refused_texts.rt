@@ -48,7 +48,61 @@ syntax: statement 1\tcnf(a,conjecture,p
 syntax: statement 1\tcnf(a,axiom,p,[]:a).
 syntax: statement 1\tcnf(a,axiom,p,s:).
 syntax: statement 1\tinclude(x).
-syntax: statement 1\tinclude 'x'.";
+syntax: statement 1\tinclude 'x'.
+syntax: statement 1\tcnf(a,axiom,~ ~ p).
+syntax: statement 1\t/* not closed
+syntax: statement 2\tcnf(a,axiom,p). /* not closed
+syntax: statement 1\t.
+syntax: statement 1\tcnf(a,axiom,p)
+syntax: statement 2\tcnf(a,axiom,p).x
+syntax: statement 1\tcnf(a,axiom,7).
+syntax: statement 1\tcnf(a,axiom,\"x\").
+syntax: statement 1\tcnf(a,axiom,X).
+syntax: statement 1\tcnf(a,axiom,~ (X != a)).
+syntax: statement 1\tcnf(a,axiom,~ (p | q)).
+syntax: statement 1\tcnf(a,axiom,~ (~ p)).
+syntax: statement 1\tcnf(a,axiom,| p).
+syntax: statement 1\tcnf(a,axiom,()).
+syntax: statement 1\tcnf(a,axiom,).
+syntax: statement 1\tcnf(a,axiom,p()).
+syntax: statement 1\tcnf(a,axiom,p(a,)).
+syntax: statement 1\tcnf(a,axiom,p(a b)).
+syntax: statement 1\tcnf(a,axiom,X(a)).
+syntax: statement 1\tcnf(a,axiom,p(X(a))).
+syntax: statement 1\tcnf(a,axiom,a = b = c).
+syntax: statement 1\tcnf(a,axiom,p(a = b)).
+syntax: statement 1\tcnf(a,axiom,'').
+syntax: statement 1\tcnf(a,axiom,'a).
+syntax: statement 1\tcnf(a,axiom,p ! q).
+syntax: statement 1\t'cnf'(a,axiom,p).
+syntax: statement 1\tcnf[a,axiom,p].
+syntax: statement 1\tcnf(X,axiom,p).
+syntax: statement 1\tcnf(1.5,axiom,p).
+syntax: statement 1\tcnf($a,axiom,p).
+syntax: statement 1\tcnf(a,Axiom,p).
+syntax: statement 1\tcnf(a,axiom).
+syntax: statement 1\tcnf(a,,p).
+syntax: statement 1\tcnf(a,conjecture,p q).
+syntax: statement 1\tcnf(a,axiom,p,s,t).
+syntax: statement 1\tcnf(a,axiom,p,s,[],u).
+syntax: statement 1\tcnf(a,axiom,p,f()).
+syntax: statement 1\tcnf(a,axiom,p,7(a)).
+syntax: statement 1\tcnf(a,axiom,p,s,[a,]).
+syntax: statement 1\tcnf(a,axiom,p,).
+syntax: statement 1\tinclude('x',[]).
+syntax: statement 1\tinclude('x',a).
+syntax: statement 1\tinclude('x',[X]).
+syntax: statement 1\tinclude('x',[a],b).
+syntax: statement 1\tinclude('x',[a,]).
+syntax: statement 1\t'include'('x').
+syntax: statement 1\tfof
+syntax: statement 1\tfof.
+syntax: statement 1\tfof[
+syntax: statement 1\t'fof'(a,axiom,p).
+syntax: statement 1\tfofx(a,axiom,p).
+syntax: statement 1\tcnf(a,axiom,p;q).
+syntax: statement 1\tcnf(a.b,axiom,p).
+limit nesting: statement 1\tcnf(a,conjecture,((((((((((((((((((((((((((((((((((((((((((((((((((((((((((((((((((((((((((((((((((((((((((((((((((((((((((((((((((((((((((((((((((((((((((((((((((((((((((((((((((((((((((((((((((((((((((((((((((((((((((((((((((((((((((((((((((((((((((((((((((((((((((((((((p))))))))))))))))))))))))))))))))))))))))))))))))))))))))))))))))))))))))))))))))))))))))))))))))))))))))))))))))))))))))))))))))))))))))))))))))))))))))))))))))))))))))))))))))))))))))))))))))))))))))))))))))))))))))))))))))))))))))))))))))))))))))))))))))).";
 
 // The answer to this text has this reason.
 fn check_refused(rt: &impl Abort, alloc: Global, reason: &str, text: &str) -> Result<(), Fail> {
