@@ -5,3 +5,5 @@ pub mod Interning
 pub mod Passing
 pub mod OriginLemmas
 pub mod Rightness
+pub mod RightSteps
+pub mod ShownTrees
