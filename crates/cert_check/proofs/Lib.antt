@@ -7,3 +7,4 @@ pub mod OriginLemmas
 pub mod Rightness
 pub mod RightSteps
 pub mod ShownTrees
+pub mod GroundMembers
