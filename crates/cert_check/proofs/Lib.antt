@@ -5,3 +5,6 @@ pub mod Interning
 pub mod Passing
 pub mod OriginLemmas
 pub mod Rightness
+pub mod RightSteps
+pub mod ShownTrees
+pub mod GroundMembers

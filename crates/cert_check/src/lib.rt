@@ -6,9 +6,11 @@ mod axioms;
 mod base;
 mod difference;
 pub mod error;
+mod grounds;
 mod origin;
 pub mod refutation;
 pub mod saturation;
+mod steps;
 
 pub use cert_format::Complaint;
 pub use error::CheckError;

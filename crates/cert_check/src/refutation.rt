@@ -14,10 +14,14 @@ ghost use Rattle.saturation_cert.specs.Wholes.{IsWholeRefutation, KeepsRefutatio
 ghost use Rattle.cert_check.specs.Answers.{IsCheckCause};
 
 use crate::base::check_base;
+use crate::difference::difference;
 use crate::error::CheckError;
+use crate::grounds::grounded;
+use crate::steps::{first_wrong, numbered_clauses, numbered_steps};
 use cert_format::Complaint;
 use cert_format::laws::valid_refutations_refute;
 use inst_logic::{Kind, Memory, Sym};
+use proof_log::Checker;
 use saturation_cert::Refutation;
 use std::alloc::Global;
 use std::marker::Model;
@@ -68,9 +72,8 @@ fn wrong_ground(alloc: Global, cert: &mut Refutation) -> Result<Option<usize>, M
     ensures whole { OnOk result (IsWholeRefutation cert.new) }
     ensures first { IfOk result (IsFirstWrongOf (IsRightGround (refutation_of cert.old))) }
 {
-    let _alloc = alloc;
-    let _cert = cert;
-    Err(Memory)
+    let expected = grounded(alloc, &mut cert.base.bank, &cert.bot, &cert.base.members)?;
+    Ok(difference(&cert.base.bank, &cert.grounds, &expected))
 }
 
 // The number of the first step that has no hint or is not shown.
@@ -78,9 +81,11 @@ fn wrong_step(alloc: Global, cert: &Refutation) -> Result<Option<usize>, Memory>
     requires { IsWholeRefutation cert.now }
     ensures { IfOk result (IsFirstWrongOf (IsRightStepNumber (refutation_of cert.now))) }
 {
-    let _alloc = alloc;
-    let _cert = cert;
-    Err(Memory)
+    let given = numbered_clauses(alloc, &cert.grounds)?;
+    let derivation = numbered_steps(alloc, &cert.steps)?;
+    let atoms = cert.base.bank.len();
+    let mut checker = Checker::with_room(alloc, atoms, &given, &derivation)?;
+    Ok(first_wrong(&mut checker, &given, &derivation))
 }
 
 fn is_constant(s: &Sym) -> bool
