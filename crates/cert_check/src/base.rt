@@ -1,13 +1,42 @@
 // The check of what certificates of both kinds have: the axioms of equality and the members.
-ghost use Rattle.std.specs.Prelude.{IfErr, OnOk};
+ghost use Rattle.std.specs.Prelude.{IfErr, IfOk, OnOk, ℕ};
+ghost use Rattle.cert_format.specs.Validity.{IsRightAxiom, IsRightMember};
 ghost use Rattle.cert_check.specs.Answers.{IsCheckCause};
 ghost use Rattle.cert_check.specs.Bases.{BasePasses, IsValidBase};
+ghost use Rattle.cert_check.specs.Firsts.{IsFirstWrongOf};
 ghost use Rattle.saturation_cert.specs.Values.{base_of};
 ghost use Rattle.saturation_cert.specs.Wholes.{IsWholeBase, KeepsBase};
 
 use crate::error::CheckError;
+use cert_format::Complaint;
+use inst_logic::Memory;
 use saturation_cert::Base;
 use std::alloc::Global;
+
+// The number of the first axiom that is not the one that the inputs have there.
+fn wrong_axiom(alloc: Global, base: &mut Base) -> Result<Option<usize>, Memory>
+    requires { IsWholeBase base.old }
+    ensures kept { KeepsBase base.old base.new }
+    ensures whole { OnOk result (IsWholeBase base.new) }
+    ensures first { IfOk result (IsFirstWrongOf (IsRightAxiom (base_of base.old))) }
+{
+    let _alloc = alloc;
+    let _base = base;
+    Err(Memory)
+}
+
+// The number of the first member that is not what its origin gives.
+fn wrong_member(alloc: Global, base: &mut Base) -> Result<Option<usize>, Memory>
+    requires whole { IsWholeBase base.old }
+    requires axioms { (n : ℕ) → IsRightAxiom (base_of base.old) n }
+    ensures kept { KeepsBase base.old base.new }
+    ensures whole { OnOk result (IsWholeBase base.new) }
+    ensures first { IfOk result (IsFirstWrongOf (IsRightMember (base_of base.old))) }
+{
+    let _alloc = alloc;
+    let _base = base;
+    Err(Memory)
+}
 
 // The first complaint about the axioms and then about the members, if there is one.
 pub fn check_base(alloc: Global, base: &mut Base) -> Result<(), CheckError>
@@ -17,7 +46,11 @@ pub fn check_base(alloc: Global, base: &mut Base) -> Result<(), CheckError>
     ensures valid { OnOk result (IsValidBase (base_of base.old)) }
     ensures complaint { IfErr result (IsCheckCause (BasePasses (base_of base.old))) }
 {
-    let _alloc = alloc;
-    let _base = base;
-    Err(CheckError::Memory)
+    if let Some(n) = wrong_axiom(alloc, base)? {
+        return Err(CheckError::Complaint(Complaint::Axiom { n }));
+    }
+    if let Some(n) = wrong_member(alloc, base)? {
+        return Err(CheckError::Complaint(Complaint::Member { n }));
+    }
+    Ok(())
 }

@@ -3,6 +3,7 @@
 #![tactic(auto)]
 
 mod base;
+mod difference;
 pub mod error;
 pub mod refutation;
 pub mod saturation;
