@@ -4,6 +4,9 @@
 
 mod base;
 mod difference;
+mod inputs;
+mod pairs;
+mod places;
 pub mod error;
 pub mod refutation;
 pub mod saturation;

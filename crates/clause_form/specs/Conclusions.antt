@@ -25,7 +25,7 @@ pub record IsConclusionUnder (f g : Forest) (s : Substitution) (c d : List (Sign
 
 -- the same for the substitution of the side that the bindings stand for
 abbrev pub IsConclusionOf : Forest → Forest → List Binding → Side → List (Signed ℕ) → List (Signed ℕ) → List ℕ → Type 0
-IsConclusionOf f g es side c clause terms = (s : Sided) → IsResolvedBy f es s → IsConclusionUnder f g (of_side s side) c clause terms
+IsConclusionOf f g es side c d ids = (s : Sided) → IsResolvedBy f es s → IsConclusionUnder f g (of_side s side) c d ids
 
 -- the tree of item v for variable v
 abbrev pub by_terms : Forest → List ℕ → Substitution

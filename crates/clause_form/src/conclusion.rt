@@ -3,6 +3,7 @@ ghost use Rattle.std.specs.Prelude.{◌≡◌, ◌≤◌, IfOk, length};
 ghost use Rattle.inst_logic.specs.Clauses.{IsCanonical, instance, order_of};
 ghost use Rattle.term_bank.specs.Forest.{AreFormed, AreIds, Extends, IsClauseAt, IsClauseOf, clause_at};
 ghost use Rattle.unify_core.specs.Chains.{AreBindings};
+ghost use Rattle.unify_core.specs.Terms.{AreTerms};
 ghost use Rattle.clause_form.specs.Conclusions.{IsConclusionOf, by_terms};
 
 use inst_logic::Memory;
@@ -30,7 +31,7 @@ pub fn conclude(
     requires bindings { AreBindings bank.old b.now.entries }
     ensures conclusion { IfOk result (λ d. IsConclusionOf bank.old bank.new b.now.entries side c.now d.clause d.terms) }
     ensures extends { Extends bank.old bank.new }
-    ensures formed { AreFormed bank.old → AreFormed bank.new }
+    ensures formed { AreFormed bank.old → AreTerms bank.old b.now.entries → AreFormed bank.new }
 {
     let _alloc = alloc;
     let _bank = bank;
