@@ -39,11 +39,11 @@ pub base_same : (old new : Base) → IsWholeBase old → KeepsBase old new → b
 base_same old new whole kept =
     ap base_of kept.rest
     ∙ (λ i. record {
-        inputs = clauses_same old.bank new.bank kept.bank old.inputs whole.inputs i;
-        names = old.names;
-        axioms = clauses_same old.bank new.bank kept.bank old.axioms whole.axioms i;
-        members = members_same old.bank new.bank kept.bank old.members whole.members i;
-      })
+      inputs = clauses_same old.bank new.bank kept.bank old.inputs whole.inputs i;
+      names = old.names;
+      axioms = clauses_same old.bank new.bank kept.bank old.axioms whole.axioms i;
+      members = members_same old.bank new.bank kept.bank old.members whole.members i;
+    })
 
 -- a right member is canonical
 gives_canonical : (b : format.Base) (n : ℕ) (o : Origin) (c : TreeClause) → Gives b n o c → IsCanonical c

@@ -1,7 +1,11 @@
 pub mod Bases
-pub mod Refutations
 pub mod Differences
-pub mod Saturations
-pub mod Placed
 pub mod Inputs
+pub mod Interning
+pub mod OriginLemmas
 pub mod Pairs
+pub mod Passing
+pub mod Placed
+pub mod Refutations
+pub mod Rightness
+pub mod Saturations

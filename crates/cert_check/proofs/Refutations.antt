@@ -8,7 +8,7 @@ use Rattle.inst_logic.specs.declared.signed.Signed.{Signed}
 use Rattle.inst_logic.specs.WellFormed.{IsAtom, is_constant}
 use Rattle.inst_calculus.specs.Steps.{Step, EndsEmpty}
 use Rattle.inst_calculus.proofs.Membership.{◌∈◌, all_in, in_all}
-use Rattle.term_bank.specs.Forest.{Forest, Extends, clause_at, tree_at}
+use Rattle.term_bank.specs.Forest.{Forest, AreFormed, Extends, IsClauseOf, clause_at, tree_at}
 use Rattle.term_bank.proofs.Clauses.{clause_extends}
 use Rattle.term_bank.proofs.Growth.{extends_trans}
 use Rattle.cert_format.specs.Certificate as format
@@ -16,6 +16,7 @@ use Rattle.cert_format.specs.Validity.{IsRightAxiom, IsRightMember, IsRightGroun
 use Rattle.cert_format.specs.declared.complaint.Complaint.{Complaint}
 use Rattle.cert_format.specs.declared.complaint.Complaint.TheVariants.{Axiom, Member as Derived, Bot, Ground, Step as Shown, NotEmpty, Place, Input, Pair}
 use Rattle.saturation_cert.specs.declared.certificate.Base.{Base}
+use Rattle.saturation_cert.specs.declared.member.Member.{Member}
 use Rattle.saturation_cert.specs.declared.certificate.GroundStep.{GroundStep}
 use Rattle.saturation_cert.specs.declared.certificate.Refutation.{Refutation}
 use Rattle.saturation_cert.specs.Values.{base_of, refutation_of, step_of}
@@ -28,9 +29,9 @@ use Rattle.cert_check.proofs.Bases.{base_same, clauses_same, at_most, smaller}
 -- a whole clause stays whole as the bank grows
 pub clause_grown : (f g : Forest) → Extends f g → (c : List (Signed ℕ)) → IsWholeClause f c → IsWholeClause g c
 clause_grown f g grown c h = record {
-    ids = in_all (λ (l : Signed ℕ). l.atom < length g.trees) c (λ l i. let k = within l i in omega (arith, k, grown.trees.0));
-    atoms = in_all (λ (l : Signed ℕ). IsAtom (tree_at g l.atom)) c (λ l i. subst IsAtom (sym (grown.trees.1 l.atom (within l i))) (all_in (λ (m : Signed ℕ). IsAtom (tree_at f m.atom)) c h.atoms l i));
-  }
+  ids = in_all (λ (l : Signed ℕ). l.atom < length g.trees) c (λ l i. let k = within l i in omega (arith, k, grown.trees.0));
+  atoms = in_all (λ (l : Signed ℕ). IsAtom (tree_at g l.atom)) c (λ l i. subst IsAtom (sym (grown.trees.1 l.atom (within l i))) (all_in (λ (m : Signed ℕ). IsAtom (tree_at f m.atom)) c h.atoms l i));
+}
   where
     within : (l : Signed ℕ) → l ∈ c → l.atom < length f.trees
     within l i = all_in (λ (m : Signed ℕ). m.atom < length f.trees) c h.ids l i
@@ -55,30 +56,41 @@ pub refutation_same : (old new : Refutation) → IsWholeRefutation old → Keeps
 refutation_same old new whole kept =
     ap refutation_of kept.rest
     ∙ (λ i. record {
-        base = base_same old.base new.base whole.base kept.base i;
-        bot = old.bot;
-        grounds = clauses_same old.base.bank new.base.bank kept.base.bank old.grounds whole.grounds i;
-        steps = steps_same old.base.bank new.base.bank kept.base.bank old.steps (λ s j. all_in (λ (t : GroundStep). IsWholeClause old.base.bank t.clause) old.steps whole.steps s j) i;
-      })
+      base = base_same old.base new.base whole.base kept.base i;
+      bot = old.bot;
+      grounds = clauses_same old.base.bank new.base.bank kept.base.bank old.grounds whole.grounds i;
+      steps = steps_same old.base.bank new.base.bank kept.base.bank old.steps (λ s j. all_in (λ (t : GroundStep). IsWholeClause old.base.bank t.clause) old.steps whole.steps s j) i;
+    })
 
 pub whole_with : (r : Refutation) (b : Base) → IsWholeRefutation r → KeepsBase r.base b → IsWholeBase b → IsWholeRefutation (record r { base = b })
 whole_with r b h kept whole = record {
-    base = whole;
-    grounds = clauses_grown r.base.bank b.bank kept.bank r.grounds h.grounds;
-    steps = steps_grown r.base.bank b.bank kept.bank r.steps h.steps;
-  }
+  base = whole;
+  grounds = clauses_grown r.base.bank b.bank kept.bank r.grounds h.grounds;
+  steps = steps_grown r.base.bank b.bank kept.bank r.steps h.steps;
+}
+
+pub whole_base : (b : Base) (g : Forest) → IsWholeBase b → Extends b.bank g → AreFormed g → IsWholeBase (record b { bank = g })
+whole_base b g h grown formed = record {
+  bank = formed;
+  inputs = clauses_grown b.bank g grown b.inputs h.inputs;
+  axioms = clauses_grown b.bank g grown b.axioms h.axioms;
+  members = in_all (λ (m : Member). IsWholeClause g m.clause) b.members (λ m i. clause_grown b.bank g grown m.clause (all_in (λ (n : Member). IsWholeClause b.bank n.clause) b.members h.members m i));
+}
+
+pub whole_ids : (f g : Forest) → Extends f g → (cs : List (List (Signed ℕ))) → All (IsWholeClause f) cs → All (IsClauseOf g) cs
+whole_ids f g grown cs h = in_all (IsClauseOf g) cs (λ c i. let k : IsWholeClause g c = clause_grown f g grown c (all_in (IsWholeClause f) cs h c i) in k.ids)
 
 pub keeps_trans : (a b c : Base) → KeepsBase a b → KeepsBase b c → KeepsBase a c
 keeps_trans a b c p q = record {
-    bank = extends_trans a.bank b.bank c.bank p.bank q.bank;
-    rest = q.rest ∙ ap (λ (x : Base). record x { bank = c.bank }) p.rest;
-  }
+  bank = extends_trans a.bank b.bank c.bank p.bank q.bank;
+  rest = q.rest ∙ ap (λ (x : Base). record x { bank = c.bank }) p.rest;
+}
 
 pub keeps_all_trans : (a b c : Refutation) → KeepsRefutation a b → KeepsRefutation b c → KeepsRefutation a c
 keeps_all_trans a b c p q = record {
-    base = keeps_trans a.base b.base c.base p.base q.base;
-    rest = q.rest ∙ ap (λ (x : Refutation). record x { base = c.base }) p.rest;
-  }
+  base = keeps_trans a.base b.base c.base p.base q.base;
+  rest = q.rest ∙ ap (λ (x : Refutation). record x { base = c.base }) p.rest;
+}
 
 -- the checks that come before a complaint, by their kinds
 module _ (c : format.Refutation) where
@@ -153,7 +165,7 @@ ends_at f ss s at = (
 )
   where
     there : slice_get (map (step_of f) ss) (length (map (step_of f) ss) - 1) ≡ Some (step_of f s)
-    there = ap (λ n. slice_get (map (step_of f) ss) (n - 1)) (length-map {f = step_of f} ss) ∙ slice_get-map (step_of f) ss (length ss - 1) ∙ ap (option_map (step_of f)) at
+    there = ap (λ n. slice_get (map (step_of f) ss) (n - 1)) (length-map ss (step_of f)) ∙ slice_get-map (step_of f) ss (length ss - 1) ∙ ap (option_map (step_of f)) at
 
     some_same : (x y : Step Tree) → Some x ≡ Some y → x ≡ y
     some_same x y e = cc

@@ -13,7 +13,7 @@ pub fn distinct_trees(bank: &Bank)
     let _count = bank.len();
 }
 
-fn same_clause(c: &IdClause, d: &IdClause) -> bool
+pub fn same_clause(c: &IdClause, d: &IdClause) -> bool
     ensures { IsTrue result ↔ (c.now ≡ d.now) }
 {
     c == d

@@ -2,12 +2,14 @@
 //! in the crates below it.
 #![tactic(auto)]
 
+mod axioms;
 mod base;
 mod difference;
 mod inputs;
 mod pairs;
 mod places;
 pub mod error;
+mod origin;
 pub mod refutation;
 pub mod saturation;
 

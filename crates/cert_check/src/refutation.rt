@@ -33,7 +33,6 @@ impl Model for CheckedRefutation {
     ghost use Rattle.saturation_cert.specs.Values.{refutation_of};
     ghost use Rattle.saturation_cert.specs.Wholes.{IsWholeRefutation};
     ghost use Rattle.cert_format.specs.Validity.{IsValidRefutation};
-
     ghost use Rattle.saturation_cert.specs.contracts.certificate.Refutation as value;
     ghost use Rattle.std.specs.Coded.{codes};
 
