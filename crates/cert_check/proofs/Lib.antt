@@ -1,9 +1,9 @@
 pub mod Bases
 pub mod Differences
-pub mod Inputs
+pub mod InputScans
 pub mod Interning
 pub mod OriginLemmas
-pub mod Pairs
+pub mod PairScans
 pub mod Passing
 pub mod Placed
 pub mod Refutations

@@ -66,7 +66,7 @@ module _ (c : Saturation) (i : ℕ) (before : (k : ℕ) → k < i → IsRightPla
   first_place wrong = record { applies = wrong; before = earlier }
     where
       earlier : (m : ℕ) → m < suc i → IsRightPlace (saturation_of c) m
-      earlier zero h a b = absurd (omega arith)
+      earlier zero h = λ a b. absurd (omega arith)
       earlier (suc k) h = before k (omega arith)
 
   pub all_placed : max (length c.base.members) (length c.places) ≤ i → (n : ℕ) → IsRightPlace (saturation_of c) n

@@ -1,5 +1,5 @@
 // The check that the members stand for the inputs and axioms.
-ghost use Rattle.std.specs.Prelude.{◌≡◌, ◌↔◌, ◌⊎◌, ◌++◌, suc, All, Any, IfOk, IsTrue, option_copied, slice_get};
+ghost use Rattle.std.specs.Prelude.{◌≡◌, ◌↔◌, ◌⊎◌, ◌++◌, ◌+◌, length, suc, All, Any, IfOk, IsTrue, option_copied, slice_get};
 ghost use Rattle.inst_logic.specs.Signed.{IsTautology};
 ghost use Rattle.inst_logic.specs.Clauses.{Subsumes};
 ghost use Rattle.cert_format.specs.Validity.{IsRightInput};
@@ -27,6 +27,12 @@ fn stated(base: &Base, i: usize) -> Option<&IdClause>
     } else {
         base.axioms.get(i - count)
     }
+}
+
+fn stated_count(base: &Base) -> usize
+    ensures { result ≡ length base.now.inputs + length base.now.axioms }
+{
+    base.inputs.as_slice().len() + base.axioms.as_slice().len()
 }
 
 // For the number of an input the place of a member that it is the origin of, counted from 0.
@@ -116,7 +122,7 @@ pub fn wrong_input(alloc: Global, cert: &Saturation) -> Result<Option<usize>, Me
     ensures { IfOk result (IsFirstWrongOf (IsRightInput (saturation_of cert.now))) }
 {
     let places = sources(alloc, cert.base.members.as_slice())?;
-    for i in 0..cert.base.inputs.len() + cert.base.axioms.len() {
+    for i in 0..stated_count(&cert.base) {
         let number = i + 1;
         let first = places.get(&number).copied().unwrap_or(usize::MAX);
         if !is_right_input(alloc, cert, first, i)? {

@@ -58,7 +58,8 @@ fn wrong_partner(
     ensures whole { OnOk result (IsWholeSaturation cert.new) }
     ensures first { IfOk result (IsFirstWrongOf (IsRightPair (saturation_of cert.old) (suc i))) }
 {
-    for j in i + 1..cert.base.members.len() {
+    let count = cert.base.members.len();
+    for j in i + 1..count {
         if !is_right_pair(alloc, cert, bindings, i, j)? {
             return Ok(Some(j + 1));
         }

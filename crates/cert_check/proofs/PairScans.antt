@@ -9,6 +9,7 @@ use Rattle.inst_logic.specs.Tree.{Tree}
 use Rattle.inst_logic.specs.Unifiers.{Sided, IsUnifier, IsMostGeneral}
 use Rattle.inst_calculus.specs.Models.{Member}
 use Rattle.inst_calculus.specs.Saturation.{IsClosed}
+use Rattle.inst_calculus.proofs.Choice.{closed_of_choice}
 use Rattle.term_bank.specs.Forest.{Forest, Extends, tree_at}
 use Rattle.cert_format.specs.Certificate as format
 use Rattle.cert_format.specs.Certificate.{selected_members}
@@ -72,7 +73,7 @@ module _ (c : format.Saturation) (i : ℕ) (before : (k : ℕ) → k < i → (r 
       earlier (suc k) h = before k (omega arith)
 
   pub all_pairs : length c.base.members ≤ i → (l r : ℕ) → IsRightPair c l r
-  all_pairs past zero r less m n s t = absurd (cc (s.entry_at))
+  all_pairs past zero r = λ less m n s t. absurd (cc (s.entry_at))
   all_pairs past (suc k) r = elim (cases_lt k i) [ inl less ↦ before k less r | inr more ↦ past_left k more r ]
     where
       past_left : (k : ℕ) → i ≤ k → (r : ℕ) → IsRightPair c (suc k) r
@@ -104,3 +105,24 @@ module _ (c : Saturation) (i j : ℕ) (less : i < j) (l r : Signed ℕ) (left : 
       let h : IsUnifier u m.selected.atom n.selected.atom = g.unifies in
       let k : IsUnifier u (tree_at c.base.bank l.atom) n.selected.atom = subst (λ (x : Tree). IsUnifier u x n.selected.atom) (left_atom m s) h in
       absurd (none u (subst (λ (x : Tree). IsUnifier u (tree_at c.base.bank l.atom) x) (right_atom n t) k))
+
+  general_here : (s : Sided) → IsMostGeneral s (tree_at c.base.bank l.atom) (tree_at c.base.bank r.atom) → IsMostGeneral s left.member.selected.atom right.member.selected.atom
+  general_here s g =
+      subst (λ (x : Tree). IsMostGeneral s x right.member.selected.atom) (sym (left_atom left.member left.is))
+      (subst (λ (x : Tree). IsMostGeneral s (tree_at c.base.bank l.atom) x) (sym (right_atom right.member right.is)) g)
+
+  -- closed for one most general unifier, and so for each
+  pub closed_right : (s : Sided) → IsMostGeneral s (tree_at c.base.bank l.atom) (tree_at c.base.bank r.atom) → IsClosed (selected_members (saturation_of c)) left.member right.member s
+      → IsRightPair (saturation_of c) (suc i) (suc j)
+  closed_right s g closed below m n p q signs u k =
+      let a : IsMostGeneral u left.member.selected.atom n.selected.atom = subst (λ (x : Member). IsMostGeneral u x.selected.atom n.selected.atom) (same_left m p) k in
+      let b : IsMostGeneral u left.member.selected.atom right.member.selected.atom = subst (λ (x : Member). IsMostGeneral u left.member.selected.atom x.selected.atom) (same_right n q) a in
+      let h : IsClosed (selected_members (saturation_of c)) left.member right.member u = closed_of_choice (selected_members (saturation_of c)) left.member right.member s (general_here s g) closed u b in
+      let d : IsClosed (selected_members (saturation_of c)) m right.member u = subst (λ (x : Member). IsClosed (selected_members (saturation_of c)) x right.member u) (sym (same_left m p)) h in
+      subst (λ (x : Member). IsClosed (selected_members (saturation_of c)) m x u) (sym (same_right n q)) d
+
+  pub right_closed : ¬ (l.positive ≡ r.positive) → (s : Sided) → IsMostGeneral s (tree_at c.base.bank l.atom) (tree_at c.base.bank r.atom)
+      → IsRightPair (saturation_of c) (suc i) (suc j) → IsClosed (selected_members (saturation_of c)) left.member right.member s
+  right_closed other s g right_pair =
+      right_pair (omega arith) left.member right.member left.is right.is
+      (λ e. other (sym (ap (λ (k : Signed Tree). k.positive) left.literal) ∙ e ∙ ap (λ (k : Signed Tree). k.positive) right.literal)) s (general_here s g)

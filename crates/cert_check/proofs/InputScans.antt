@@ -1,6 +1,6 @@
 -- The check that the members stand for the inputs and axioms.
-use Rattle.std.proofs.Common.{◌≡◌, ◌⊎◌, ◌↔◌, inl, inr, ℕ, zero, suc, ◌+◌, ◌<◌, ◌≤◌, List, [], ◌∷◌, ◌++◌, length, map, Option, None, Some, refl, ap, ap₂, sym, ◌∙◌, subst, arith}
-use Rattle.std.specs.Prelude.{slice_get, option_map, Any, All}
+use Rattle.std.proofs.Common.{◌≡◌, ◌⊎◌, ◌↔◌, inl, inr, ℕ, zero, suc, ◌+◌, ◌<◌, ◌≤◌, List, [], ◌∷◌, ◌++◌, length, map, get_or, Option, None, Some, refl, ap, ap₂, sym, ◌∙◌, subst, arith}
+use Rattle.std.specs.Prelude.{slice_get, option_map, Any, All, Bool, IsTrue}
 use Rattle.std.proofs.lemmas.List.{map-append, length-append}
 use Rattle.std.proofs.lemmas.Option.{slice_get-map, slice_get_within, slice_get_past, same_Some}
 use Rattle.inst_logic.specs.declared.signed.Signed.{Signed}
@@ -75,7 +75,7 @@ module _ (c : Saturation) (valid : IsValidBase (base_of c.base)) where
       first_input wrong = record { applies = wrong; before = earlier }
         where
           earlier : (m : ℕ) → m < suc i → IsRightInput (saturation_of c) m
-          earlier zero h d at = absurd cc
+          earlier zero h = λ d at. absurd cc
           earlier (suc k) h = before k (omega arith)
 
       pub all_inputs : length c.base.inputs + length c.base.axioms ≤ i → (n : ℕ) → IsRightInput (saturation_of c) n
@@ -106,3 +106,11 @@ stated_ids c whole i d at = go (in_either d c.base.inputs c.base.axioms (at_numb
     go : (d ∈ c.base.inputs) ⊎ (d ∈ c.base.axioms) → IsClauseOf c.base.bank d
     go (inl i) = (all_in (IsWholeClause c.base.bank) c.base.inputs whole.inputs d i).ids
     go (inr i) = (all_in (IsWholeClause c.base.bank) c.base.axioms whole.axioms d i).ids
+
+-- none of the items was found
+pub none_any : {A : Type 0} (P : A → Type 0) (xs : List A) (n : ℕ) → ((k : ℕ) → k < n → (d : A) → ¬ P (get_or xs k d)) → length xs ≤ n → ¬ Any P xs
+none_any P xs n none past (k, x, l, e, p) = none k (omega arith) x (subst P (sym e) p)
+
+-- what is no tautology has to be subsumed
+pub met_or : {A B : Type 0} {b : Bool} → ¬ A → IsTrue b ↔ B → IsTrue b ↔ (A ⊎ B)
+met_or none h = ((λ t. inr (h.0 t)), (λ s. elim s [ inl a ↦ absurd (none a) | inr y ↦ h.1 y ]))
