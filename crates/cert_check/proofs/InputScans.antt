@@ -2,16 +2,16 @@
 use Rattle.std.proofs.Common.{◌≡◌, ◌⊎◌, ◌↔◌, inl, inr, ℕ, zero, suc, ◌+◌, ◌<◌, ◌≤◌, List, [], ◌∷◌, ◌++◌, length, map, get_or, Option, None, Some, refl, ap, ap₂, sym, ◌∙◌, subst, arith}
 use Rattle.std.specs.Prelude.{slice_get, option_map, Any, All, Bool, IsTrue}
 use Rattle.std.proofs.lemmas.List.{map-append, length-append}
-use Rattle.std.proofs.lemmas.Option.{slice_get-map, slice_get_within, slice_get_past, same_Some}
+use Rattle.std.proofs.lemmas.Option.{slice_get-map, slice_get_within, same_Some}
 use Rattle.inst_logic.specs.declared.signed.Signed.{Signed}
 use Rattle.inst_logic.specs.Signed.{IsTautology}
 use Rattle.inst_logic.specs.Clauses.{TreeClause, Subsumes}
 use Rattle.inst_logic.specs.Derivations.{at_number}
 use Rattle.inst_calculus.specs.Axioms.{equality_axioms, with_axioms}
 use Rattle.inst_calculus.specs.Entries.{Entry}
-use Rattle.inst_calculus.proofs.Membership.{◌∈◌, any_in, in_any, all_in, in_all, in_map, from_map, in_either}
-use Rattle.term_bank.specs.Forest.{Forest, clause_at, IsClauseOf}
-use Rattle.cert_format.specs.Validity.{IsRightAxiom, IsRightInput}
+use Rattle.inst_calculus.proofs.Membership.{◌∈◌, any_in, in_any, all_in, in_map, from_map, in_either}
+use Rattle.term_bank.specs.Forest.{clause_at, IsClauseOf}
+use Rattle.cert_format.specs.Validity.{IsRightInput}
 use Rattle.cert_format.specs.declared.complaint.Complaint.TheVariants.{Axiom}
 use Rattle.saturation_cert.specs.declared.member.Member.{Member}
 use Rattle.saturation_cert.specs.declared.certificate.Saturation.{Saturation}

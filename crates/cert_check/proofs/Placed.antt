@@ -1,7 +1,6 @@
 -- The places of the selected literals.
-use Rattle.std.proofs.Common.{◌≡◌, ℕ, zero, suc, ◌<◌, ◌≤◌, max, List, length, map, get_or, Option, None, Some, true, refl, ap, sym, ◌∙◌, subst, arith}
+use Rattle.std.proofs.Common.{◌≡◌, ℕ, zero, suc, ◌<◌, ◌≤◌, max, List, length, map, get_or, None, Some, true, ap, sym, ◌∙◌, arith}
 use Rattle.std.specs.Prelude.{slice_get, option_map}
-use Rattle.std.proofs.lemmas.Bool.{cases_lt}
 use Rattle.std.proofs.lemmas.List.{length-map}
 use Rattle.std.proofs.lemmas.Option.{slice_get-map, slice_get_within, slice_get-get_or}
 use Rattle.inst_logic.specs.declared.signed.Signed.{Signed}
@@ -38,7 +37,7 @@ module _ (c : Saturation) (i : ℕ) where
       let e : s.entry ≡ entry_of c.base.bank x = same_item (slice_get (map (entry_of c.base.bank) c.base.members) i) s.entry (entry_of c.base.bank x) s.entry_at (entry_here x at) in
       let q : s.place ≡ p = same_item (slice_get c.places i) s.place p s.place_at place in
       let l : at_number (clause_at c.base.bank x.clause) p ≡ Some m.selected =
-          sym (ap (λ (y : Entry). at_number y.clause s.place) e ∙ ap (at_number (clause_at c.base.bank x.clause)) q) ∙ s.selected in
+      sym (ap (λ (y : Entry). at_number y.clause s.place) e ∙ ap (at_number (clause_at c.base.bank x.clause)) q) ∙ s.selected in
       inside p m.selected l outside
     where
       inside : (k : ℕ) (l : Signed Tree) → at_number (clause_at c.base.bank x.clause) k ≡ Some l → ¬ ((0 < k) × (k ≤ length x.clause)) → ⊥

@@ -1,16 +1,15 @@
 -- The stages of the check of a saturation.
-use Rattle.std.proofs.Common.{◌≡◌, ℕ, ◌<◌, ◌≤◌, List, refl, ap, sym, ◌∙◌, map, subst, arith, ◌⊎◌, inl, inr, length}
-use Rattle.std.specs.Prelude.{All, Option, None, Some, true}
+use Rattle.std.proofs.Common.{◌≡◌, ℕ, ◌<◌, List, refl, ap, sym, ◌∙◌, subst, arith, ◌⊎◌, inl, inr}
+use Rattle.std.specs.Prelude.{Option, None, Some, true}
 use Rattle.inst_logic.specs.declared.signed.Signed.{Signed}
 use Rattle.inst_logic.specs.Tree.{Tree}
 use Rattle.inst_logic.specs.WellFormed.{atom_is_formed, clause_is_formed, AreFormedClauses, IsAtom}
 use Rattle.inst_calculus.specs.Entries.{Entry, entry_clauses}
 use Rattle.saturation_cert.specs.Truths.{literal_at}
-use Rattle.inst_calculus.proofs.Membership.{◌∈◌, all_in, in_all, from_map, all_pass}
+use Rattle.inst_calculus.proofs.Membership.{all_in, in_all, from_map, all_pass}
 use Rattle.term_bank.specs.Forest.{Forest, AreFormed, Extends, clause_at, tree_at}
-use Rattle.term_bank.proofs.Growth.{extends_trans}
 use Rattle.cert_format.specs.Certificate as format
-use Rattle.cert_format.specs.Validity.{IsRightPlace, IsRightInput, IsRightPair, SaturationPasses, IsFirstComplaint, IsValidSaturation, Precedes, rank}
+use Rattle.cert_format.specs.Validity.{IsRightPlace, IsRightInput, IsRightPair, SaturationPasses, IsFirstComplaint, IsValidSaturation, Precedes}
 use Rattle.cert_format.specs.declared.complaint.Complaint.{Complaint}
 use Rattle.cert_format.specs.declared.complaint.Complaint.TheVariants.{Axiom, Member as Derived, Bot, Ground, Step as Shown, NotEmpty, Place, Input, Pair}
 use Rattle.saturation_cert.specs.declared.member.Member.{Member}
@@ -37,18 +36,18 @@ keeps_saturation s b kept = record { base = kept; rest = refl }
 
 pub keeps_saturation_trans : (a b c : Saturation) → KeepsSaturation a b → KeepsSaturation b c → KeepsSaturation a c
 keeps_saturation_trans a b c p q = record {
-    base = keeps_trans a.base b.base c.base p.base q.base;
-    rest = q.rest ∙ ap (λ (x : Saturation). record x { base = c.base }) p.rest;
-  }
+  base = keeps_trans a.base b.base c.base p.base q.base;
+  rest = q.rest ∙ ap (λ (x : Saturation). record x { base = c.base }) p.rest;
+}
 
 -- a base with a grown bank
 pub base_grown : (b : Base) (g : Forest) → Extends b.bank g → AreFormed g → IsWholeBase b → IsWholeBase (record b { bank = g })
 base_grown b g grown formed whole = record {
-    bank = formed;
-    inputs = clauses_grown b.bank g grown b.inputs whole.inputs;
-    axioms = clauses_grown b.bank g grown b.axioms whole.axioms;
-    members = in_all (λ (m : Member). IsWholeClause g m.clause) b.members (λ m i. clause_grown b.bank g grown m.clause (all_in (λ (n : Member). IsWholeClause b.bank n.clause) b.members whole.members m i));
-  }
+  bank = formed;
+  inputs = clauses_grown b.bank g grown b.inputs whole.inputs;
+  axioms = clauses_grown b.bank g grown b.axioms whole.axioms;
+  members = in_all (λ (m : Member). IsWholeClause g m.clause) b.members (λ m i. clause_grown b.bank g grown m.clause (all_in (λ (n : Member). IsWholeClause b.bank n.clause) b.members whole.members m i));
+}
 
 pub keeps_grown : (b : Base) (g : Forest) → Extends b.bank g → KeepsBase b (record b { bank = g })
 keeps_grown b g grown = record { bank = grown; rest = refl }

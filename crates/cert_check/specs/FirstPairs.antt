@@ -1,5 +1,5 @@
 -- The first pair of numbers for which a fact does not hold.
-use Rattle.std.specs.Prelude.{◌≡◌, ◌⊎◌, ℕ, ◌<◌, Option, None, Some}
+use Rattle.std.specs.Prelude.{ℕ, ◌<◌, Option, None, Some}
 
 -- pairs are ordered by the left number and then the right
 pub record IsFirstWrongPair (P : ℕ → ℕ → Type 0) (left right : ℕ) : Type 0 where

@@ -47,12 +47,7 @@ fn sources(alloc: Global, members: &[Member]) -> Result<IndexMap<usize, usize>, 
 }
 
 // Whether some member subsumes the clause.
-fn is_subsumed(
-    alloc: Global,
-    bank: &Bank,
-    members: &[Member],
-    c: &IdClause,
-) -> Result<bool, Memory>
+fn is_subsumed(alloc: Global, bank: &Bank, members: &[Member], c: &IdClause) -> Result<bool, Memory>
     requires members { All (λ m. IsClauseOf bank.now m.clause) members.now }
     requires clause { IsClauseOf bank.now c.now }
     ensures { IfOk result (λ r. IsTrue r ↔ Any (λ m. Subsumes (clause_at bank.now m.clause) (clause_at bank.now c.now)) members.now) }

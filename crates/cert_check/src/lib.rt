@@ -5,11 +5,11 @@
 mod axioms;
 mod base;
 mod difference;
+pub mod error;
 mod inputs;
+mod origin;
 mod pairs;
 mod places;
-pub mod error;
-mod origin;
 pub mod refutation;
 pub mod saturation;
 

@@ -36,7 +36,6 @@ impl Model for CheckedSaturation {
     ghost use Rattle.saturation_cert.specs.Values.{saturation_of};
     ghost use Rattle.saturation_cert.specs.Wholes.{IsWholeSaturation};
     ghost use Rattle.cert_format.specs.Validity.{IsValidSaturation};
-
     ghost use Rattle.saturation_cert.specs.contracts.certificate.Saturation as value;
     ghost use Rattle.std.specs.Coded.{codes};
 

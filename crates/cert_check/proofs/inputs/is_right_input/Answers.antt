@@ -21,5 +21,5 @@ pub returns-in-Some : goal.returns-in-Some
 returns-in-Some c =
     let q = right_input c.args.cert.now c.requires.base c.args.i c.in-Some.c.now (sym c.in-Some.ensures) in
     IfOk-weaker c.is_met.result _ _ (λ r p.
-        let s = subst (λ (xs : List Member). IsTrue r ↔ (IsTautology (clause_at c.args.cert.now.base.bank c.in-Some.c.now) ⊎ Any (λ (m : Member). Subsumes (clause_at c.args.cert.now.base.bank m.clause) (clause_at c.args.cert.now.base.bank c.in-Some.c.now)) xs)) c.as_slice.ensures p in
-        ((λ t. q.0 (s.0 t)), (λ h. s.1 (q.1 h)))) c.is_met.ensures
+    let s = subst (λ (xs : List Member). IsTrue r ↔ (IsTautology (clause_at c.args.cert.now.base.bank c.in-Some.c.now) ⊎ Any (λ (m : Member). Subsumes (clause_at c.args.cert.now.base.bank m.clause) (clause_at c.args.cert.now.base.bank c.in-Some.c.now)) xs)) c.as_slice.ensures p in
+    ((λ t. q.0 (s.0 t)), (λ h. s.1 (q.1 h)))) c.is_met.ensures

@@ -16,8 +16,7 @@ loop-member-preserved c =
 
 pub returns : goal.returns
 returns c =
-    let past : length c.args.members.now ≤ c.loop-member.member-index = omega arith in
-    (
+    let past : length c.args.members.now ≤ c.loop-member.member-index = omega arith in (
       (λ t. absurd (let e : false ≡ true = t in cc)),
       (λ any. absurd (none_any (λ (m : Member). Subsumes (clause_at c.args.bank.now m.clause) (clause_at c.args.bank.now c.args.c.now)) c.args.members.now c.loop-member.member-index c.loop-member.invariant past any)),
     )

@@ -1,4 +1,4 @@
-use Rattle.std.proofs.Common.{◌≤◌, ℕ, suc, length, map, subst, add-one, arith, below_more}
+use Rattle.std.proofs.Common.{ℕ, suc, subst, add-one, arith, below_more}
 use Rattle.std.proofs.lemmas.List.{length-map}
 use Rattle.cert_format.specs.Certificate as format
 use Rattle.cert_format.specs.Validity.{IsRightPair}

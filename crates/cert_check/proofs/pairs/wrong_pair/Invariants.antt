@@ -6,7 +6,7 @@ use Rattle.cert_check.proofs.pairs.wrong_pair.Given as goal
 
 abbrev pub invariant-loop-i : goal.invariant-loop-i
 invariant-loop-i l = record {
-    kept : KeepsSaturation l.fn.cert l.cert;
-    whole : IsWholeSaturation l.cert;
-    before : (k : ℕ) → k < l.i → (r : ℕ) → IsRightPair (saturation_of l.fn.cert) (suc k) r;
-  }
+  kept : KeepsSaturation l.fn.cert l.cert;
+  whole : IsWholeSaturation l.cert;
+  before : (k : ℕ) → k < l.i → (r : ℕ) → IsRightPair (saturation_of l.fn.cert) (suc k) r;
+}

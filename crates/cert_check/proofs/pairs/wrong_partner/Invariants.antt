@@ -6,7 +6,7 @@ use Rattle.cert_check.proofs.pairs.wrong_partner.Given as goal
 
 abbrev pub invariant-loop-j : goal.invariant-loop-j
 invariant-loop-j l = record {
-    kept : KeepsSaturation l.fn.cert l.cert;
-    whole : IsWholeSaturation l.cert;
-    before : (k : ℕ) → k < l.j → IsRightPair (saturation_of l.fn.cert) (suc l.i) (suc k);
-  }
+  kept : KeepsSaturation l.fn.cert l.cert;
+  whole : IsWholeSaturation l.cert;
+  before : (k : ℕ) → k < l.j → IsRightPair (saturation_of l.fn.cert) (suc l.i) (suc k);
+}

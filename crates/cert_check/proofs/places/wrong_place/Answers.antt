@@ -1,4 +1,4 @@
-use Rattle.std.proofs.Common.{◌≡◌, ◌<◌, ◌≤◌, max, length, suc, add-one, arith, below_more}
+use Rattle.std.proofs.Common.{◌<◌, ◌≤◌, max, length, suc, add-one, arith, below_more}
 use Rattle.cert_format.specs.Validity.{IsRightPlace}
 use Rattle.saturation_cert.specs.Values.{saturation_of}
 use Rattle.cert_check.proofs.Placed.{first_place, all_placed}
