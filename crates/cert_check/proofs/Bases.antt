@@ -1,6 +1,6 @@
 -- What the check of the axioms and members gives for both kinds of certificates.
-use Rattle.std.proofs.Common.{◌≡◌, ℕ, zero, suc, ◌<◌, ◌≤◌, List, [], ◌∷◌, refl, ap, ap₂, sym, ◌∙◌, map, subst, Option, None, Some, arith, ◌⊎◌, inl, inr}
-use Rattle.std.specs.Prelude.{All, slice_get, length}
+use Rattle.std.proofs.Common.{◌≡◌, ℕ, ◌<◌, ◌≤◌, List, [], ◌∷◌, refl, ap, ap₂, sym, ◌∙◌, map, subst, Option, None, Some, arith, ◌⊎◌, inl, inr}
+use Rattle.std.specs.Prelude.{All}
 use Rattle.std.proofs.lemmas.List.Elements.{All-head, All-tail}
 use Rattle.inst_logic.specs.declared.signed.Signed.{Signed}
 use Rattle.inst_logic.specs.Clauses.{TreeClause, canonical_form, instance, IsCanonical}
@@ -10,7 +10,7 @@ use Rattle.inst_calculus.proofs.CanonicalForms.{canonical_of_canonical}
 use Rattle.term_bank.specs.Forest.{Forest, Extends, clause_at}
 use Rattle.term_bank.proofs.Clauses.{clause_extends}
 use Rattle.cert_format.specs.Certificate as format
-use Rattle.cert_format.specs.Validity.{Gives, IsConclusion, IsRightAxiom, IsRightMember, RefutationPasses, SaturationPasses, IsFirstComplaint, Precedes, rank}
+use Rattle.cert_format.specs.Validity.{Gives, IsRightAxiom, IsRightMember, RefutationPasses, SaturationPasses, IsFirstComplaint, Precedes, rank}
 use Rattle.cert_format.specs.declared.complaint.Complaint.{Complaint}
 use Rattle.cert_format.specs.declared.complaint.Complaint.TheVariants.{Axiom, Member as Derived, Bot, Ground, Step as Shown, NotEmpty, Place, Input, Pair}
 use Rattle.saturation_cert.specs.declared.member.Member.{Member}

@@ -5,7 +5,7 @@ use Rattle.std.proofs.lemmas.Option.{slice_get-map}
 use Rattle.inst_logic.specs.declared.signed.Signed.{Signed}
 use Rattle.inst_logic.specs.Derivations.{at_number}
 use Rattle.inst_logic.specs.Tree.{Tree}
-use Rattle.inst_calculus.proofs.Membership.{◌∈◌, all_in, in_all, contains_in}
+use Rattle.inst_calculus.proofs.Membership.{◌∈◌, all_in, contains_in}
 use Rattle.inst_logic.proofs.ShownLaws.{at_number_contains}
 use Rattle.term_bank.specs.Forest.{Forest, AreDistinct, IsClauseOf, clause_at, tree_at}
 use Rattle.cert_check.specs.Firsts.{IsFirstWrong, IsFirstWrongOf}

@@ -1,5 +1,5 @@
 -- Lists of clauses and their ids.
-use Rattle.std.proofs.Common.{◌≡◌, ℕ, ◌+◌, ◌<◌, ◌≤◌, List, [], ◌∷◌, ◌++◌, refl, ap, ap₂, sym, ◌∙◌, map, subst, arith, ◌⊎◌, inl, inr, length, take, get_or, true, false, Bool}
+use Rattle.std.proofs.Common.{◌≡◌, ℕ, ◌+◌, ◌<◌, List, [], ◌∷◌, ◌++◌, refl, ap, ap₂, sym, ◌∙◌, map, subst, arith, inl, inr, length, take, get_or, true, false, Bool}
 use Rattle.std.specs.Prelude.{All}
 use Rattle.std.specs.List.{list_all}
 use Rattle.std.proofs.lemmas.List.{map-append, take_more}
@@ -9,7 +9,7 @@ use Rattle.inst_logic.specs.Clauses.{TreeClause}
 use Rattle.inst_logic.specs.WellFormed.{IsAtom, IsFormedClause, AreFormedClauses, clause_is_formed, atom_is_formed}
 use Rattle.inst_logic.proofs.SameLemmas.{and_right}
 use Rattle.inst_calculus.specs.Axioms.{equality_axioms, with_axioms}
-use Rattle.inst_calculus.proofs.Membership.{◌∈◌, all_in, in_all, in_either, all_pass, passes, from_map}
+use Rattle.inst_calculus.proofs.Membership.{◌∈◌, all_in, in_all, in_either, all_pass, from_map}
 use Rattle.term_bank.specs.Forest.{Forest, Extends, IsClauseOf, clause_at, tree_at}
 use Rattle.term_bank.proofs.Clauses.{clause_extends}
 use Rattle.saturation_cert.specs.Wholes.{IsWholeClause}

@@ -1,12 +1,12 @@
 -- What an origin from the inputs gives.
-use Rattle.std.proofs.Common.{◌≡◌, ℕ, zero, suc, ◌+◌, ◌-◌, ◌<◌, ◌≤◌, List, [], ◌∷◌, ◌++◌, refl, ap, sym, ◌∙◌, map, subst, arith, ◌⊎◌, inl, inr, length, Option, None, Some}
+use Rattle.std.proofs.Common.{◌≡◌, ℕ, zero, suc, ◌+◌, ◌-◌, ◌<◌, ◌≤◌, List, [], ◌∷◌, ◌++◌, refl, ap, sym, ◌∙◌, map, arith, inl, inr, length, None, Some}
 use Rattle.std.specs.Prelude.{All, slice_get, option_map, ◌↔◌}
 use Rattle.std.proofs.lemmas.Option.{slice_get-map}
 use Rattle.inst_logic.specs.declared.signed.Signed.{Signed}
 use Rattle.inst_logic.specs.Clauses.{TreeClause, canonical_form}
 use Rattle.inst_logic.specs.Derivations.{at_number}
 use Rattle.inst_logic.proofs.ShownLaws.{at_number_contains}
-use Rattle.inst_calculus.proofs.Membership.{◌∈◌, all_in, contains_in, in_either}
+use Rattle.inst_calculus.proofs.Membership.{all_in, contains_in, in_either}
 use Rattle.term_bank.specs.Forest.{Forest, AreDistinct, Extends, IsClauseOf, clause_at}
 use Rattle.term_bank.proofs.Clauses.{clause_extends}
 use Rattle.cert_check.specs.Inputs.{GivesInput}

@@ -1,11 +1,9 @@
 -- The members, one after another.
-use Rattle.std.proofs.Common.{◌≡◌, ℕ, zero, suc, ◌+◌, ◌<◌, ◌≤◌, List, [], ◌∷◌, refl, ap, sym, ◌∙◌, map, subst, arith, ◌⊎◌, inl, inr, length, Option, None, Some}
+use Rattle.std.proofs.Common.{◌≡◌, ℕ, zero, suc, ◌+◌, ◌<◌, ◌≤◌, List, [], ◌∷◌, refl, ap, map, subst, arith, ◌⊎◌, inl, inr, length, None}
 use Rattle.std.specs.Prelude.{slice_get}
 use Rattle.std.proofs.lemmas.List.{length-map}
-use Rattle.inst_calculus.specs.Entries.{Entry}
-use Rattle.inst_logic.specs.Derivations.{at_number}
 use Rattle.cert_format.specs.Certificate as format
-use Rattle.cert_format.specs.Validity.{IsRightMember, Gives}
+use Rattle.cert_format.specs.Validity.{IsRightMember}
 use Rattle.saturation_cert.specs.declared.certificate.Base.{Base}
 use Rattle.saturation_cert.specs.Values.{base_of, entry_of}
 use Rattle.saturation_cert.specs.Wholes.{KeepsBase}

@@ -1,5 +1,5 @@
 -- The stages of the check of a refutation.
-use Rattle.std.proofs.Common.{◌≡◌, ℕ, ◌<◌, ◌≤◌, Bool, true, false, List, [], ◌∷◌, refl, ap, ap₂, sym, ◌∙◌, map, subst, arith, ◌⊎◌, inl, inr, length}
+use Rattle.std.proofs.Common.{◌≡◌, ℕ, ◌<◌, Bool, false, List, [], ◌∷◌, refl, ap, ap₂, sym, ◌∙◌, map, subst, arith, inl, inr, length}
 use Rattle.std.specs.Prelude.{All, IsTrue, ◌↔◌, ◌-◌, Some, option_map, slice_get}
 use Rattle.std.proofs.lemmas.List.{length-map}
 use Rattle.std.proofs.lemmas.Option.{slice_get-map}
@@ -12,14 +12,14 @@ use Rattle.term_bank.specs.Forest.{Forest, AreFormed, Extends, IsClauseOf, claus
 use Rattle.term_bank.proofs.Clauses.{clause_extends}
 use Rattle.term_bank.proofs.Growth.{extends_trans}
 use Rattle.cert_format.specs.Certificate as format
-use Rattle.cert_format.specs.Validity.{IsRightAxiom, IsRightMember, IsRightGround, RefutationPasses, IsFirstComplaint, IsValidRefutation, Precedes, rank}
+use Rattle.cert_format.specs.Validity.{IsRightAxiom, IsRightMember, IsRightGround, RefutationPasses, IsFirstComplaint, IsValidRefutation, Precedes}
 use Rattle.cert_format.specs.declared.complaint.Complaint.{Complaint}
 use Rattle.cert_format.specs.declared.complaint.Complaint.TheVariants.{Axiom, Member as Derived, Bot, Ground, Step as Shown, NotEmpty, Place, Input, Pair}
 use Rattle.saturation_cert.specs.declared.certificate.Base.{Base}
 use Rattle.saturation_cert.specs.declared.member.Member.{Member}
 use Rattle.saturation_cert.specs.declared.certificate.GroundStep.{GroundStep}
 use Rattle.saturation_cert.specs.declared.certificate.Refutation.{Refutation}
-use Rattle.saturation_cert.specs.Values.{base_of, refutation_of, step_of}
+use Rattle.saturation_cert.specs.Values.{refutation_of, step_of}
 use Rattle.saturation_cert.specs.Wholes.{IsWholeClause, IsWholeBase, IsWholeRefutation, KeepsBase, KeepsRefutation}
 use Rattle.cert_check.specs.Bases.{IsValidBase}
 use Rattle.cert_check.specs.Firsts.{IsFirstWrong}

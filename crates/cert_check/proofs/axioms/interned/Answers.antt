@@ -1,4 +1,4 @@
-use Rattle.std.proofs.Common.{◌≡◌, ◌<◌, length, arith, ap, sym, ◌∙◌, subst, map}
+use Rattle.std.proofs.Common.{◌<◌, length, arith, ap, sym, ◌∙◌, subst, map}
 use Rattle.std.specs.Prelude.{All}
 use Rattle.inst_logic.specs.WellFormed.{AreFormedClauses}
 use Rattle.term_bank.specs.Forest.{IsClauseOf, clause_at}

@@ -1,11 +1,9 @@
-use Rattle.std.proofs.Common.{sym, ap, subst, ◌≡◌, Option, None, Some, ℕ}
+use Rattle.std.proofs.Common.{sym, subst, ℕ}
 use Rattle.saturation_cert.specs.Values.{base_of}
 use Rattle.cert_format.specs.Certificate as format
-use Rattle.cert_format.specs.Validity.{IsRightAxiom, IsRightMember, IsFirstComplaint}
-use Rattle.cert_check.specs.Bases.{BasePasses, IsValidBase}
-use Rattle.cert_check.specs.Firsts.{IsFirstWrong, IsFirstWrongOf}
-use Rattle.cert_format.specs.declared.complaint.Complaint.TheVariants.{Member as Derived}
-use Rattle.cert_check.proofs.Bases.{base_same, axiom_first, member_first, valid_base, none_wrong, some_wrong}
+use Rattle.cert_format.specs.Validity.{IsRightAxiom, IsRightMember}
+use Rattle.cert_check.specs.Firsts.{IsFirstWrong}
+use Rattle.cert_check.proofs.Bases.{base_same, member_first, valid_base, none_wrong, some_wrong}
 use Rattle.cert_check.proofs.base.check_base.Goals as goal
 
 pub wrong_member-requires-clause-axioms : goal.wrong_member-requires-clause-axioms

@@ -1,4 +1,4 @@
-use Rattle.std.proofs.Common.{◌≡◌, ℕ, ◌+◌, ◌<◌, arith, refl, sym, subst, length}
+use Rattle.std.proofs.Common.{ℕ, ◌+◌, ◌<◌, arith, refl, sym, subst}
 use Rattle.cert_format.specs.Certificate as format
 use Rattle.cert_format.specs.Validity.{IsRightAxiom, IsRightMember}
 use Rattle.saturation_cert.specs.Values.{base_of}

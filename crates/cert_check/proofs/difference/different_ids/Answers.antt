@@ -1,5 +1,5 @@
-use Rattle.std.proofs.Common.{arith, refl}
-use Rattle.cert_check.proofs.Differences.{no_difference, first_difference}
+use Rattle.std.proofs.Common.{refl}
+use Rattle.cert_check.proofs.Differences.{first_difference}
 use Rattle.cert_check.proofs.Refutations.{not_true}
 use Rattle.cert_check.proofs.difference.different_ids.Goals as goal
 
