@@ -1,5 +1,5 @@
 -- The search for places of literals: what a choice that is taken leaves, and what the end of the search says.
-use Rattle.std.proofs.Common.{◌≡◌, ℕ, zero, suc, ◌+◌, ◌*◌, ◌-◌, ◌^◌, ◌<◌, ◌≤◌, Bool, true, false, cond, nat_eq, List, [], ◌∷◌, ◌++◌, ◌⊎◌, inl, inr, refl, sym, ap, ap₂, ◌∙◌, subst as transport, length, take, map, get_or, arith, Result, Ok, Err, IfOk}
+use Rattle.std.proofs.Common.{◌≡◌, ℕ, zero, suc, ◌+◌, ◌<◌, ◌≤◌, Bool, true, false, cond, nat_eq, List, [], ◌∷◌, ◌++◌, ◌⊎◌, inl, inr, refl, sym, ap, ap₂, ◌∙◌, subst as transport, length, take, get_or, arith, Result, Ok, Err, IfOk}
 use Rattle.std.specs.Prelude.{◌↔◌, IsTrue}
 use Rattle.std.proofs.Math.Seq.{take-length}
 use Rattle.std.proofs.lemmas.Bool.{cases_lt, false≢true}
@@ -7,7 +7,7 @@ use Rattle.std.proofs.lemmas.Bool.Decides.{Decides-eqb}
 use Rattle.std.proofs.lemmas.List.{take-take, take_at, length-append, length-take-le}
 use Rattle.inst_logic.specs.declared.signed.Signed.{Signed}
 use Rattle.inst_logic.specs.Tree.{Tree, var}
-use Rattle.inst_logic.specs.Substitution.{Substitution, subst, subst_literal}
+use Rattle.inst_logic.specs.Substitution.{Substitution, subst_literal}
 use Rattle.inst_logic.specs.Clauses.{Subsumes}
 use Rattle.term_bank.specs.Forest.{Forest, tree_at, clause_at}
 use Rattle.unify_core.specs.Lists.{◌∈◌}
@@ -17,7 +17,7 @@ use Rattle.unify_core.specs.Matching.{AreMatches, Agrees}
 use Rattle.unify_core.proofs.Lists.{∈-append_left, ∈-last, ∈-push}
 use Rattle.inst_calculus.proofs.Membership.{◌∈◌ as ◌∈'◌, from_map, in_map, equal_in}
 use Rattle.inst_calculus.proofs.Clauses.{IsWithin, part_within, within_part}
-use Rattle.clause_form.specs.Placements.{literal_at, Goes, IsPlacedIn, HasPlaces, IsPut, IsMissed, IsReached, IsAhead, IsRising, IsPlacing}
+use Rattle.clause_form.specs.Placements.{literal_at, Goes, HasPlaces, IsPut, IsMissed, IsReached, IsAhead, IsRising, IsPlacing}
 use Rattle.clause_form.specs.declared.subsumption.Choice.{Choice}
 
 -- the substitution of bindings

@@ -1,5 +1,5 @@
 -- The measure of the search for places falls with each step.
-use Rattle.std.proofs.Common.{◌≡◌, ℕ, zero, suc, ◌+◌, ◌*◌, ◌-◌, ◌^◌, ◌<◌, ◌≤◌, List, [], ◌∷◌, ◌++◌, refl, ap, ◌∙◌, arith}
+use Rattle.std.proofs.Common.{◌≡◌, ℕ, suc, ◌+◌, ◌*◌, ◌-◌, ◌^◌, ◌<◌, ◌≤◌, List, [], ◌∷◌, ◌++◌, ap, ◌∙◌, arith}
 use Rattle.std.proofs.Math.Nat.{one-le-pow, one-le-mul, pow-suc, mul-le-mul_left}
 use Rattle.clause_form.specs.Placements.{steps_for, steps_of}
 use Rattle.clause_form.specs.declared.subsumption.Choice.{Choice}

@@ -1,7 +1,4 @@
 // Subsumption of small clauses: literals may share a candidate, and their variables are bound once.
-ghost use Rattle.std.specs.Prelude.{IfOk};
-ghost use Rattle.term_bank.specs.Forest.{IsClauseOf};
-
 use crate::subsumption::subsumes;
 use inst_logic::{Clause, Kind, Literal, Memory, Name, Sym, Term, TermList};
 use std::alloc::Global;

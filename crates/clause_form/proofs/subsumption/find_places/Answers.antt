@@ -1,7 +1,4 @@
-use Rattle.std.proofs.Common.{rules, List, sym, subst as transport}
-use Rattle.unify_core.specs.Sides.{Binding}
-use Rattle.clause_form.specs.Placements.{IsPlacing}
-use Rattle.clause_form.specs.declared.subsumption.Choice.{Choice}
+use Rattle.std.proofs.Common.{rules}
 use Rattle.clause_form.proofs.Placing.{begins_with, answered, no_candidates}
 use Rattle.clause_form.proofs.subsumption.find_places.Goals as goal
 
