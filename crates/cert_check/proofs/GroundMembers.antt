@@ -1,6 +1,6 @@
 -- The ground clauses of the members under one term.
-use Rattle.std.proofs.Common.{◌≡◌, ℕ, zero, suc, ◌+◌, ◌-◌, ◌^◌, ◌<◌, ◌≤◌, List, [], ◌∷◌, refl, ap, sym, ◌∙◌, map, min, subst, arith, length, length-append, get_or, Option, None, Some}
-use Rattle.std.specs.Prelude.{All, slice_get, option_map, sum_by, nat_eq}
+use Rattle.std.proofs.Common.{◌≡◌, ℕ, zero, suc, ◌-◌, ◌^◌, ◌<◌, ◌≤◌, List, [], ◌∷◌, refl, ap, sym, ◌∙◌, map, min, subst, arith, length, length-append, get_or}
+use Rattle.std.specs.Prelude.{All, option_map, nat_eq}
 use Rattle.std.proofs.lemmas.Bool.Decides.{Decides-eqb}
 use Rattle.std.proofs.lemmas.List.{length-map}
 use Rattle.std.proofs.lemmas.List.Elements.{All-get_or}
@@ -15,7 +15,7 @@ use Rattle.inst_logic.specs.Measure.{tree_size, trees_size, clause_size}
 use Rattle.inst_logic.specs.Substitution.{tree_vars, trees_vars, clause_vars}
 use Rattle.inst_logic.specs.Clauses.{TreeClause, IsCanonical, instance, order_of}
 use Rattle.inst_logic.proofs.ShownLaws.{All-from_slice_get}
-use Rattle.inst_calculus.specs.Abstraction.{abstraction, grounding}
+use Rattle.inst_calculus.specs.Abstraction.{abstraction}
 use Rattle.inst_calculus.specs.Entries.{Entry, entry_clauses}
 use Rattle.inst_calculus.proofs.CanonicalForms.{canonical_variable_below}
 use Rattle.inst_calculus.proofs.Clauses.{literals_agree}

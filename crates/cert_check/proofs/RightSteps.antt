@@ -1,5 +1,5 @@
 -- Right steps, by their numbers, over numbers and over trees.
-use Rattle.std.proofs.Common.{◌≡◌, ◌≢◌, ℕ, zero, suc, ◌+◌, ◌-◌, ◌<◌, ◌≤◌, List, [], ◌∷◌, refl, ap, sym, ◌∙◌, map, take, subst, arith, ◌⊎◌, inl, inr, length, get_or, Option, None, Some}
+use Rattle.std.proofs.Common.{◌≡◌, ◌≢◌, ℕ, zero, suc, ◌+◌, ◌-◌, ◌<◌, ◌≤◌, List, [], ◌∷◌, refl, ap, sym, ◌∙◌, take, subst, arith, ◌⊎◌, inl, inr, length, get_or, None, Some}
 use Rattle.std.specs.Prelude.{slice_get, ◌↔◌}
 use Rattle.inst_logic.specs.declared.signed.Signed.{Signed}
 use Rattle.inst_logic.specs.Derivations.{at_number}
@@ -28,7 +28,7 @@ module _ (given : List (List (Signed ℕ))) (steps : List Step) (i : ℕ) (s : S
   shown_is_right hinted = (
     (λ (t, at, shown) u e.
         subst (λ (x : Step). (x.hints ≢ []) × IsShownStep given (take (i + 1 - 1) steps) x) (same_step s u (sym there ∙ e))
-            (hinted, subst (λ (x : Step). IsShownStep given (take (i + 1 - 1) steps) x) (same_step t s (sym at ∙ there)) shown)),
+        (hinted, subst (λ (x : Step). IsShownStep given (take (i + 1 - 1) steps) x) (same_step t s (sym at ∙ there)) shown)),
     (λ right. (s, there, (right s there).1)),
   )
 

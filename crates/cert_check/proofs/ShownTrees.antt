@@ -1,16 +1,15 @@
 -- A step over ids is right exactly where its trees are.
-use Rattle.std.proofs.Common.{◌≡◌, ◌≢◌, ℕ, zero, suc, ◌-◌, ◌<◌, List, [], ◌∷◌, refl, ap, ap₂, sym, ◌∙◌, map, take, subst, arith, ◌⊎◌, inl, inr, length, Option, None, Some}
+use Rattle.std.proofs.Common.{◌≡◌, ◌≢◌, ℕ, zero, suc, ◌-◌, ◌<◌, List, [], ◌∷◌, refl, ap, ap₂, sym, ◌∙◌, map, take, subst, arith, inl, inr, length, Option, None, Some}
 use Rattle.std.specs.Prelude.{All, slice_get, option_map, ◌↔◌}
 use Rattle.std.proofs.lemmas.Option.{slice_get-map}
 use Rattle.inst_logic.specs.Tree.{Tree}
 use Rattle.inst_logic.specs.declared.signed.Signed.{Signed}
 use Rattle.inst_logic.specs.Derivations.{at_number, IsShown}
 use Rattle.inst_logic.proofs.ShownLaws.{HasAtoms, NameAtoms, hint_renamed, shown_renamed, at_number_contains}
-use Rattle.inst_calculus.specs.Steps.{Step as TreeStep, Cited, cited_clause}
+use Rattle.inst_calculus.specs.Steps.{Step as TreeStep, cited_clause}
 use Rattle.inst_calculus.proofs.Membership.{◌∈◌, all_in, in_all, from_map, contains_in}
-use Rattle.term_bank.specs.Forest.{Forest, AreDistinct, IsClauseOf, clause_at, tree_at}
+use Rattle.term_bank.specs.Forest.{Forest, AreDistinct, clause_at, tree_at}
 use Rattle.prop_logic.specs.Literal.{cited, AllAtomsBelow, AtomsBelow, StepsBelow, IsShownStep}
-use Rattle.prop_logic.specs.declared.literal.Hint.{Hint}
 use Rattle.prop_logic.specs.declared.literal.Step.{Step}
 use Rattle.saturation_cert.specs.declared.certificate.GroundHint.{GroundHint}
 use Rattle.saturation_cert.specs.declared.certificate.GroundHint.TheVariants.{Ground, Step as Before}
@@ -125,7 +124,7 @@ module _ (r : Refutation) (whole : IsWholeRefutation r) (once : AreDistinct r.ba
         (λ h t e.
             let right : IsRightStep (refutation_of r) (suc k) (step_of f s) = h (step_of f s) high in
             subst (λ (x : Step). (x.hints ≢ []) × IsShownStep r.grounds (take (suc k - 1) numbered) x) (some_same (numbered_step s) t (sym low ∙ e))
-                (none_left numbered_hint s.hints (λ z. right.hinted (ap (map hint_of) z)), both.1 right.shown)),
+            (none_left numbered_hint s.hints (λ z. right.hinted (ap (map hint_of) z)), both.1 right.shown)),
       )
 
   pub right_number : (n : ℕ) → IsRightNumber r.grounds numbered n → IsRightStepNumber (refutation_of r) n

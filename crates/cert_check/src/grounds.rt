@@ -16,12 +16,7 @@ use std::alloc::Global;
 use term_bank::{Bank, IdClause, IdClauseList, TermId, TermIdList};
 
 // The id as often as the clause has symbols and variables, and so for each of its variables.
-fn repeated(
-    alloc: Global,
-    bank: &Bank,
-    term: TermId,
-    c: &IdClause,
-) -> Result<TermIdList, Memory>
+fn repeated(alloc: Global, bank: &Bank, term: TermId, c: &IdClause) -> Result<TermIdList, Memory>
     requires { IsClauseOf bank.now c.now }
     ensures enough { IfOk result (λ ids. length (order_of (clause_at bank.now c.now)) ≤ length ids) }
     ensures same { IfOk result (All (λ id. id ≡ term)) }

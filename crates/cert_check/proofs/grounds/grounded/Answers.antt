@@ -1,4 +1,4 @@
-use Rattle.std.proofs.Common.{◌≡◌, ◌<◌, ◌≤◌, List, length, arith, ap, sym, ◌∙◌, subst, map, get_or}
+use Rattle.std.proofs.Common.{◌≡◌, ◌<◌, List, length, arith, ap, sym, ◌∙◌, subst, map, get_or}
 use Rattle.std.specs.Prelude.{All}
 use Rattle.inst_logic.specs.Tree.{app, none}
 use Rattle.inst_calculus.specs.Abstraction.{abstraction}

@@ -1,5 +1,4 @@
-use Rattle.std.proofs.Common.{◌≡◌, ◌≤◌, ℕ, List, ap, ◌∙◌, sym, length, subst, arith}
-use Rattle.inst_logic.specs.Clauses.{order_of}
+use Rattle.std.proofs.Common.{ℕ, List, ap, length, arith}
 use Rattle.term_bank.specs.Forest.{clause_at}
 use Rattle.cert_check.proofs.GroundMembers.{enough_variables}
 use Rattle.cert_check.proofs.grounds.repeated.Goals as goal

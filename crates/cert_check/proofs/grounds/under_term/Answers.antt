@@ -1,4 +1,4 @@
-use Rattle.std.proofs.Common.{◌≡◌, subst}
+use Rattle.std.proofs.Common.{subst}
 use Rattle.std.specs.Prelude.{IfOk}
 use Rattle.inst_logic.specs.Clauses.{TreeClause}
 use Rattle.term_bank.specs.Forest.{IsClauseAt, clause_at}

@@ -1,11 +1,8 @@
-use Rattle.std.proofs.Common.{◌≡◌, List, ap, sym, ◌∙◌, subst, map, refl}
+use Rattle.std.proofs.Common.{◌≡◌, List, subst, map, refl}
 use Rattle.inst_logic.specs.Clauses.{TreeClause}
 use Rattle.inst_logic.specs.Derivations.{at_number}
-use Rattle.inst_calculus.specs.Abstraction.{abstraction}
-use Rattle.inst_calculus.specs.Entries.{entry_clauses}
 use Rattle.term_bank.specs.Forest.{clause_at}
 use Rattle.cert_format.specs.declared.complaint.Complaint.TheVariants.{Member as Derived}
-use Rattle.saturation_cert.specs.Values.{refutation_of}
 use Rattle.cert_check.specs.Firsts.{IsFirstWrongOf}
 use Rattle.cert_check.proofs.Bases.{clauses_same}
 use Rattle.cert_check.proofs.Refutations.{whole_base, whole_ids, whole_with}

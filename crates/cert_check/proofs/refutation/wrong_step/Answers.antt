@@ -1,4 +1,4 @@
-use Rattle.std.proofs.Common.{◌≡◌, ℕ, List, length, sym, ap, ◌∙◌, subst, map}
+use Rattle.std.proofs.Common.{ℕ, List, length, sym, ◌∙◌, subst, map}
 use Rattle.inst_logic.specs.declared.signed.Signed.{Signed}
 use Rattle.prop_logic.specs.Literal.{AllAtomsBelow, StepsBelow}
 use Rattle.prop_logic.specs.declared.literal.Step.{Step}

@@ -1,4 +1,4 @@
-use Rattle.std.proofs.Common.{◌≡◌, ◌∙◌, ℕ, arith}
+use Rattle.std.proofs.Common.{◌∙◌, arith}
 use Rattle.cert_check.specs.Numbered.{IsRightNumber}
 use Rattle.cert_check.proofs.RightSteps.{one_more_number, all_numbers}
 use Rattle.cert_check.proofs.steps.first_wrong.Goals as goal
