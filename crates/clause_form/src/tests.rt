@@ -3,8 +3,8 @@ ghost use Rattle.std.specs.Prelude.{◌≤◌, ◌<◌, length, IfOk, OnOk};
 ghost use Rattle.inst_logic.specs.Clauses.{IsCanonical};
 ghost use Rattle.term_bank.specs.Forest.{AreIds, IsClauseOf, clause_at};
 
-use crate::conclusion::{Conclusion, conclude};
-use crate::renumber::canonical;
+use crate::conclusion::{Conclusion, conclude, under};
+use crate::renumber::{canonical, renumbered};
 use crate::{clause_size, tautology, variant};
 use inst_logic::{Kind, Memory, Name, Sym};
 use std::alloc::Global;
@@ -167,6 +167,48 @@ fn concludes(alloc: Global, bank: &mut Bank) -> Result<bool, Memory> {
     }
 }
 
+// The instance, or none where a variable has no term.
+fn instance(
+    alloc: Global,
+    bank: &mut Bank,
+    c: &IdClause,
+    terms: &TermIdList,
+) -> Result<Option<IdClause>, Memory>
+    requires clause { IsClauseOf bank.old c.now }
+    requires canonical { IsCanonical (clause_at bank.old c.now) }
+    requires ids { AreIds bank.old terms.now }
+{
+    let count = renumbered(alloc, bank, c)?.variables;
+    if count <= terms.len() {
+        let d = under(alloc, bank, c, terms)?;
+        return Ok(Some(d));
+    }
+    Ok(None)
+}
+
+// The id twice.
+fn twice(alloc: Global, bank: &Bank, id: TermId) -> Result<TermIdList, Memory>
+    requires { id < length bank.now.trees }
+    ensures { IfOk result (λ ids. AreIds bank.now ids) }
+{
+    let mut ids = TermIdList::new(alloc);
+    ids.push(id)?;
+    ids.push(id)?;
+    Ok(ids)
+}
+
+// Whether p(X0) | p(X1) becomes p(a).
+fn merges(alloc: Global, bank: &mut Bank) -> Result<bool, Memory> {
+    let a = constant(alloc, bank)?;
+    let p = atom(alloc, bank, b"p", a)?;
+    let c = canonical_two(alloc, bank)?;
+    let terms = twice(alloc, bank, a)?;
+    match instance(alloc, bank, &c, &terms)? {
+        Some(d) => Ok(d.len() == 1 && is_literal(&d, 0, true, p)),
+        None => Ok(false),
+    }
+}
+
 #[test]
 fn variables_by_first_occurrence(rt: HostRuntime) -> Result<(), Fail> {
     let mut bank = Bank::new(rt.alloc());
@@ -189,5 +231,12 @@ fn complements(rt: HostRuntime) -> Result<(), Fail> {
 fn conclusions(rt: HostRuntime) -> Result<(), Fail> {
     let mut bank = Bank::new(rt.alloc());
     assert!(rt; concludes(rt.alloc(), &mut bank)?);
+    Ok(())
+}
+
+#[test]
+fn repeats_merge(rt: HostRuntime) -> Result<(), Fail> {
+    let mut bank = Bank::new(rt.alloc());
+    assert!(rt; merges(rt.alloc(), &mut bank)?);
     Ok(())
 }
