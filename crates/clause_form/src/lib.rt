@@ -6,8 +6,6 @@ pub mod conclusion;
 mod literals;
 pub mod renumber;
 pub mod subsumption;
-#[cfg(test)]
-mod tests;
 mod walk;
 
 pub use compare::{clause_size, tautology, variant};
