@@ -69,11 +69,10 @@ terms_become f g s c vars terms h ids e = record {
   become = λ v l.
       let l' : v < length vars = omega (arith, same) in
       let k = same_at (tree_at g) (λ a. subst (followed_by s (numbered (order_of (literals_under s (clause_at f c))))) (tree_at f a)) terms vars v e l' in
-      let l'' : v < length (order_of (clause_at f c)) = let q = h.count_of in omega arith in
-      (
+      let l'' : v < length (order_of (clause_at f c)) = let q = h.count_of in omega arith in (
         ids v 0 l,
         k.1 ∙ ap (subst (followed_by s (numbered (order_of (literals_under s (clause_at f c)))))) (h.each v 0 l'').1
-        ∙ ap (λ (order : List ℕ). subst (numbered order) (s v)) (sym (order_of_instance s (clause_at f c))),
+            ∙ ap (λ (order : List ℕ). subst (numbered order) (s v)) (sym (order_of_instance s (clause_at f c))),
       );
 }
   where

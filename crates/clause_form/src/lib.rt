@@ -8,8 +8,6 @@ pub mod renumber;
 pub mod subsumption;
 #[cfg(test)]
 mod subsumption_tests;
-#[cfg(test)]
-mod tests;
 mod walk;
 
 pub use compare::{clause_size, tautology, variant};

@@ -68,4 +68,3 @@ returns-clause-formed c old terms =
     let final = final_order f (of_side k.0 c.args.side) c.args.c.now in
     c.build_all.ensures.formed (led_reading f k.0 final) final (led_is_reading f _ k.0 final k.1) (met_all f k.0 c.args.side c.args.c.now c.deref.result.now c.args.variables.now nodes c.requires.canonical c.requires.variables)
     (led_formed f k.0 final old (terms_solved f c.args.b.now.entries c.requires.bindings terms k.0 k.1)) old
-
