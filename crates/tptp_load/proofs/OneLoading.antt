@@ -2,7 +2,7 @@
 use Rattle.std.proofs.Common.{◌≡◌, ℕ, zero, suc, ◌+◌, ◌<◌, ◌≤◌, List, [], ◌∷◌, refl, ap, sym, subst, ◌∙◌, Option, Some, None, length, arith}
 use Rattle.outside_io.specs.Files.{bytes_named}
 use Rattle.outside_io.specs.declared.library.NamedFile.{NamedFile}
-use Rattle.tptp_read.specs.Meaning.{Fault, syntax_fault, language, feature, role_fault} 
+use Rattle.tptp_read.specs.Meaning.{Fault, syntax_fault, language, feature, role_fault}
 use Rattle.tptp_read.specs.Meaning.{limit as limit_fault}
 use Rattle.tptp_read.specs.Text.{Readable, IsCause, IsDecided, Outcome, readable, offends, Has}
 use Rattle.tptp_read.specs.declared.statement.Statement.{Statement}
