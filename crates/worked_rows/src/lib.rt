@@ -2,6 +2,8 @@
 #![tactic(auto)]
 
 #[cfg(test)]
+mod loading;
+#[cfg(test)]
 mod long_rows;
 #[cfg(test)]
 mod readable_texts;

@@ -57,12 +57,18 @@ pub struct Row<'a> {
     pub text: &'a str,
 }
 
-// Runs the row.
-pub fn check_row(rt: &impl Abort, alloc: Global, row: &Row<'_>) -> Result<(), Fail> {
+// These files.
+pub fn files_of(alloc: Global, rows: &[File<'_>]) -> Result<FileList, Memory> {
     let mut files = FileList::new(alloc);
-    for file in row.files {
+    for file in rows {
         add_file(alloc, &mut files, file.0, file.1.as_bytes())?;
     }
+    Ok(files)
+}
+
+// Runs the row.
+pub fn check_row(rt: &impl Abort, alloc: Global, row: &Row<'_>) -> Result<(), Fail> {
+    let files = files_of(alloc, row.files)?;
     let (exit, out) = answer_of(alloc, files, row.words)?;
     assert_eq!(rt; exit.code(), row.status);
     assert_eq!(rt; str::from_utf8(out.bytes())?, row.text);
