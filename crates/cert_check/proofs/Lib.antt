@@ -5,3 +5,4 @@ pub mod Interning
 pub mod Passing
 pub mod OriginLemmas
 pub mod Rightness
+pub mod Conclusions
