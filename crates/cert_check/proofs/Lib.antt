@@ -1,4 +1,5 @@
 pub mod Bases
+pub mod Conclusions
 pub mod Differences
 pub mod GroundMembers
 pub mod InputScans
