@@ -1,3 +1,5 @@
 pub mod Clauses
 pub mod Propagation
+pub mod Scan
 pub mod Trail
+pub mod Values

@@ -1,5 +1,5 @@
 // Clauses by their numbers.
-ghost use Rattle.std.specs.Prelude.{◌≡◌, [], IfOk, OnErr, option_copied};
+ghost use Rattle.std.specs.Prelude.{◌≡◌, ◌≤◌, [], length, IfOk, OnErr, option_copied};
 ghost use Rattle.cdcl_trail.specs.Clauses.{clause_number, AddsClause};
 
 use inst_logic::Memory;
@@ -40,11 +40,13 @@ impl Clauses {
         ensures number { IfOk result (AddsClause self.old self.new c.now) }
         ensures err { OnErr result (self.new ≡ self.old) }
     {
-        let copy = LitList::from(Vec::from_slice(self.alloc, c)?);
-        match self.clauses.insert(copy) {
-            Ok(key) => Ok(key + 1),
-            Err(_) => Err(Memory),
+        let key = self.clauses.vacant_key();
+        if key == usize::MAX {
+            return Err(Memory);
         }
+        let copy = LitList::from(Vec::from_slice(self.alloc, c)?);
+        self.clauses.insert(copy)?;
+        Ok(key + 1)
     }
 
     /// The clause of this number.
@@ -55,5 +57,12 @@ impl Clauses {
             return None;
         }
         self.clauses.get(n - 1)
+    }
+
+    // No clause has a number above this one.
+    pub(crate) fn slots(&self) -> usize
+        ensures { length self.now ≤ result }
+    {
+        self.clauses.capacity()
     }
 }

@@ -5,7 +5,10 @@
 pub mod clauses;
 pub mod entry;
 mod propagation;
+#[cfg(test)]
+mod tests;
 pub mod trail;
+mod values;
 
 pub use clauses::Clauses;
 pub use entry::Entry;

@@ -15,5 +15,7 @@ pub mod valuation;
 
 pub use literal::{Derivation, Hint, HintList, Lit, LitList, LitLists, Step};
 pub use plain::Plain;
+pub use search::{clash, complements};
 pub use solver::{Answer, Solver};
+pub use trail::complement;
 pub use valuation::Valuation;

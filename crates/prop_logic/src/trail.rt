@@ -24,7 +24,8 @@ pub(crate) struct Trail {
     pub(crate) head: usize,
 }
 
-pub(crate) fn complement(lit: Lit) -> Lit
+/// The same atom with the other sign.
+pub fn complement(lit: Lit) -> Lit
     ensures { result ≡ complement lit }
 {
     Lit {

@@ -1,4 +1,7 @@
-pub mod Parse
-pub mod Plain
-pub mod Spelling
+pub mod Atoms
+pub mod Grammar
+pub mod Lexemes
+pub mod Meaning
+pub mod Names
+pub mod Rules
 pub mod Text

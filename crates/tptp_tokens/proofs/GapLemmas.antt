@@ -1,5 +1,5 @@
 -- A gap in two parts.
-use Rattle.std.proofs.Common.{◌≡◌, ℕ, zero, suc, ◌+◌, ◌-◌, ◌<◌, ◌≤◌, Bool, true, false, List, [], ◌∷◌, length, get_or, drop, refl, sym, ap, ◌∙◌, drop-cons, add-one, arith}
+use Rattle.std.proofs.Common.{◌≡◌, ℕ, zero, suc, ◌+◌, ◌-◌, ◌<◌, ◌≤◌, List, [], ◌∷◌, length, drop, refl, sym, ap, ◌∙◌, arith}
 use Rattle.std.proofs.Math.Dec.{eqb-suc-zero}
 use Rattle.std.proofs.lemmas.List.{drop-drop}
 use Rattle.tptp_tokens.specs.Gap.{piece, gap_from, gap}
@@ -10,7 +10,7 @@ gap_known zero bs le = omega arith
 gap_known (suc k) [] le = absurd (omega arith)
 gap_known (suc k) (b ∷ bs) le = let h = gap_known k bs (omega arith) in omega (arith, h)
 
-gap_step : (n : ℕ) (bs : List ℕ) → piece bs ≡ n → 0 < n → n ≤ length bs → gap bs ≡ n + gap (drop n bs)
+pub gap_step : (n : ℕ) (bs : List ℕ) → piece bs ≡ n → 0 < n → n ≤ length bs → gap bs ≡ n + gap (drop n bs)
 gap_step zero bs e lt le = absurd (omega arith)
 gap_step (suc n) [] e lt le = absurd (omega arith)
 gap_step (suc n) (b ∷ bs) e lt le =

@@ -1,5 +1,5 @@
 pub mod Bytes
-pub mod Cut
+pub mod Scan
 pub mod Gap
 pub mod Skipped
 pub mod Stream

@@ -1,5 +1,5 @@
 -- Blanks and comments, which may stand before a token.
-use Rattle.std.specs.Prelude.{◌≡◌, ℕ, List, [], ◌∷◌, ◌++◌, Bool, true, false, ◌&&◌, ◌||◌, ◌==◌, IsTrue}
+use Rattle.std.specs.Prelude.{◌≡◌, ℕ, List, [], ◌∷◌, ◌++◌, Bool, false, ◌&&◌, ◌||◌, ◌==◌, IsTrue}
 use Rattle.std.specs.List.{list_all}
 use Rattle.tptp_tokens.specs.Bytes.{is_blank, is_no_line_feed}
 

@@ -1,7 +1,6 @@
 -- The table of tokens: how each kind is spelled. A token is the longest front of what is left that is spelled so.
-use Rattle.std.specs.Prelude.{◌≡◌, ℕ, ◌+◌, ◌<◌, ◌≤◌, List, [], ◌∷◌, ◌++◌, length, take, Bool, true, false, not, ◌||◌, ◌&&◌, ◌==◌, nat_le, IsTrue}
-use Rattle.std.specs.List.{list_all, list_any}
-use Rattle.std.specs.Str.{bytes_eq}
+use Rattle.std.specs.Prelude.{◌≡◌, ℕ, ◌<◌, ◌≤◌, List, [], ◌∷◌, ◌++◌, length, take, Bool, true, false, not, ◌||◌, ◌&&◌, ◌==◌, IsTrue}
+use Rattle.std.specs.List.{list_all}
 use Rattle.std.specs.Char.{is_ascii_digit, is_ascii_lowercase, is_ascii_uppercase}
 use Rattle.tptp_tokens.specs.declared.kind.TokenKind.{TokenKind}
 use Rattle.tptp_tokens.specs.declared.kind.TokenKind.TheVariants.{LowerWord, Variable, DollarWord, QuotedWord, DistinctObject, Integer, Rational, Real, Punctuation}

@@ -3,38 +3,47 @@ ghost use Rattle.std.specs.Prelude.{◌≡◌, ◌≤◌, length, false, true, I
 ghost use Rattle.std.specs.Char.{is_ascii_digit};
 ghost use Rattle.tptp_tokens.specs.Bytes.{is_word_byte, is_sign, is_blank, is_no_line_feed, is_printed, is_mark, run, closing, comment_end};
 
-pub fn is_word_byte(b: u8) -> bool
+pub(crate) fn is_word_byte(b: u8) -> bool
     ensures { result ≡ is_word_byte b }
 {
     b.is_ascii_alphanumeric() || b == b'_'
 }
 
-pub fn is_sign(b: u8) -> bool
+pub(crate) fn is_sign(b: u8) -> bool
     ensures { result ≡ is_sign b }
 {
     b == b'+' || b == b'-'
 }
 
-pub fn is_blank(b: u8) -> bool
+pub(crate) fn is_blank(b: u8) -> bool
     ensures { result ≡ is_blank b }
 {
     (9 <= b && b <= 13) || b == 32
 }
 
-pub fn is_printed(b: u8) -> bool
+pub(crate) fn is_printed(b: u8) -> bool
     ensures { result ≡ is_printed b }
 {
     32 <= b && b <= 126
 }
 
-pub fn is_mark(b: u8) -> bool
+pub(crate) fn is_mark(b: u8) -> bool
     ensures { result ≡ is_mark b }
 {
-    b == b'(' || b == b')' || b == b',' || b == b'.' || b == b':' || b == b'=' || b == b'[' || b == b']' || b == b'|' || b == b'~'
+    b == b'('
+        || b == b')'
+        || b == b','
+        || b == b'.'
+        || b == b':'
+        || b == b'='
+        || b == b'['
+        || b == b']'
+        || b == b'|'
+        || b == b'~'
 }
 
 // How many bytes at the front belong to a word.
-pub fn word_len(bytes: &[u8]) -> usize
+pub(crate) fn word_len(bytes: &[u8]) -> usize
     ensures is { result ≡ run is_word_byte bytes.now }
     ensures within { result ≤ length bytes.now }
 {
@@ -46,7 +55,7 @@ pub fn word_len(bytes: &[u8]) -> usize
 }
 
 // How many digits are at the front.
-pub fn digits_len(bytes: &[u8]) -> usize
+pub(crate) fn digits_len(bytes: &[u8]) -> usize
     ensures is { result ≡ run is_ascii_digit bytes.now }
     ensures within { result ≤ length bytes.now }
 {
@@ -58,7 +67,7 @@ pub fn digits_len(bytes: &[u8]) -> usize
 }
 
 // How many bytes come before the line's end.
-pub fn line_len(bytes: &[u8]) -> usize
+pub(crate) fn line_len(bytes: &[u8]) -> usize
     ensures is { result ≡ run is_no_line_feed bytes.now }
     ensures within { result ≤ length bytes.now }
 {
@@ -70,7 +79,7 @@ pub fn line_len(bytes: &[u8]) -> usize
 }
 
 // How many bytes up to and including the closing mark.
-pub fn closing(bytes: &[u8], mark: u8) -> Option<usize>
+pub(crate) fn closing(bytes: &[u8], mark: u8) -> Option<usize>
     ensures is { result ≡ closing mark false bytes.now }
     ensures within { IfSome result (λ n. n ≤ length bytes.now) }
 {
@@ -98,7 +107,7 @@ pub fn closing(bytes: &[u8], mark: u8) -> Option<usize>
 }
 
 // How many bytes up to and including the first `*/`.
-pub fn comment_end(bytes: &[u8]) -> Option<usize>
+pub(crate) fn comment_end(bytes: &[u8]) -> Option<usize>
     ensures is { result ≡ comment_end false bytes.now }
     ensures within { IfSome result (λ n. n ≤ length bytes.now) }
 {

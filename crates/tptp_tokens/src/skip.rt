@@ -40,7 +40,7 @@ fn piece_len(bytes: &[u8]) -> usize
 }
 
 // How many bytes of blanks and comments are at the front.
-pub fn gap_len(bytes: &[u8]) -> usize
+pub(crate) fn gap_len(bytes: &[u8]) -> usize
     ensures is { result ≡ gap bytes.now }
     ensures within { result ≤ length bytes.now }
 {

@@ -3,8 +3,8 @@ ghost use Rattle.std.specs.Prelude.{◌≡◌, ◌-◌, ◌≤◌, length};
 ghost use Rattle.std.specs.Iterator.{at_most};
 ghost use Rattle.tptp_tokens.specs.Stream.{Advances};
 
-use crate::cut::token_at;
 use crate::kind::Token;
+use crate::scan::token_at;
 use crate::skip::gap_len;
 use std::marker::Model;
 

@@ -1,6 +1,5 @@
-use Rattle.std.proofs.Common.{◌≡◌, ◌+◌, ◌≤◌, length, drop, arith, length-drop}
+use Rattle.std.proofs.Common.{arith, length-drop}
 use Rattle.std.proofs.lemmas.List.{take_rest}
-use Rattle.tptp_tokens.specs.Gap.{piece, gap}
 use Rattle.tptp_tokens.proofs.GapLemmas.{gap_goes_on}
 use Rattle.tptp_tokens.proofs.skip.gap_len.Goals as goal
 

@@ -1,0 +1,5 @@
+pub mod ClausesLaws
+pub mod PropagationLaws
+pub mod ScanLaws
+pub mod TrailLaws
+pub mod ValuesLaws

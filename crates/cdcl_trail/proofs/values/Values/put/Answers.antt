@@ -1,0 +1,39 @@
+use Rattle.std.proofs.Common.{◌≡◌, ◌≤◌, ◌++◌, ◌∷◌, [], length, map, set, Some, sym, ap, ◌∙◌, subst, arith, length-set}
+use Rattle.std.proofs.lemmas.List.{length-map}
+use Rattle.std.specs.Prelude.{vec_capacity}
+use Rattle.cdcl_trail.specs.Trail.{literals_of}
+use Rattle.cdcl_trail.specs.Values.{AreByAtom, entries_of, entry_at}
+use Rattle.cdcl_trail.proofs.ValuesLaws.{no_entry, has_room, put_by_atom, put_entries, put_literals}
+use Rattle.cdcl_trail.proofs.values.Values.put.Goals as goal
+
+pub push_reserved-requires : goal.push_reserved-requires
+push_reserved-requires c =
+    let v = c.args.self.now in
+    let none = no_entry (entries_of v) v.entries.items c.args.entry.lit.atom c.requires.values.by_atom c.requires.atom c.requires.unset in
+    let few = has_room (entries_of v) v.entries.items c.args.entry.lit.atom c.requires.values.by_atom none in
+    let n : length (entries_of v) ≡ length v.literals.items = length-map v.literals.items (entry_at v.entries.items) in
+    let room : length v.entries.items ≤ vec_capacity v.literals = c.requires.values.room in
+    omega (arith, few, n, room, v.literals.ok.0)
+
+pub returns-clause-values : goal.returns-clause-values
+returns-clause-values c =
+    let v = c.args.self.now in
+    let e = c.args.entry in
+    let new = set v.entries.items e.lit.atom (Some e) in
+    let none = no_entry (entries_of v) v.entries.items e.lit.atom c.requires.values.by_atom c.requires.atom c.requires.unset in
+    let entries : map (entry_at new) c.push_reserved.new.self.items ≡ entries_of v ++ e ∷ [] =
+    ap (map (entry_at new)) c.push_reserved.ensures.items ∙ put_entries v.entries.items v.literals.items e c.requires.values.literals c.requires.atom c.requires.unset in
+    let size : length new ≡ length v.entries.items = length-set v.entries.items e.lit.atom (Some e) in
+    let room : length v.entries.items ≤ vec_capacity v.literals = c.requires.values.room in
+    record {
+      by_atom = subst (λ es. AreByAtom es new) (sym entries) (put_by_atom (entries_of v) v.entries.items e none c.requires.values.by_atom);
+      literals = ap literals_of entries ∙ put_literals (entries_of v) v.literals.items e c.requires.values.literals ∙ sym c.push_reserved.ensures.items;
+      room = subst (λ n. length new ≤ n) (sym c.push_reserved.ensures.capacity) (subst (λ n. n ≤ vec_capacity v.literals) (sym size) room);
+    }
+
+pub returns-clause-entries : goal.returns-clause-entries
+returns-clause-entries c =
+    let v = c.args.self.now in
+    let new = set v.entries.items c.args.entry.lit.atom (Some c.args.entry) in
+    ap (map (entry_at new)) c.push_reserved.ensures.items
+    ∙ put_entries v.entries.items v.literals.items c.args.entry c.requires.values.literals c.requires.atom c.requires.unset

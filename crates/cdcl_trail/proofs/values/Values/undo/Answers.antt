@@ -1,0 +1,45 @@
+use Rattle.std.proofs.Common.{◌≡◌, ◌≤◌, ◌++◌, ◌∷◌, [], length, map, set, Some, None, sym, ap, ◌∙◌, subst, arith, length-set}
+use Rattle.std.specs.Prelude.{vec_capacity}
+use Rattle.std.proofs.lemmas.List.{same_from_push}
+use Rattle.std.proofs.lemmas.Option.{slice_get_within}
+use Rattle.cdcl_trail.specs.Trail.{literals_of}
+use Rattle.cdcl_trail.specs.Values.{AreByAtom, entry_at}
+use Rattle.cdcl_trail.proofs.ValuesLaws.{last_at, split_literals, split_entries, undo_entries, undo_at_atom}
+use Rattle.cdcl_trail.proofs.values.Values.undo.Goals as goal
+
+pub index_mut-requires : goal.index_mut-requires
+index_mut-requires c =
+    let v = c.args.self.now in
+    let b = v.entries.items in
+    let same = subst (λ ls. literals_of (map (entry_at b) ls) ≡ ls) c.in-Some.ensures.items c.requires.literals in
+    let held = subst (λ ls. AreByAtom (map (entry_at b) ls) b) c.in-Some.ensures.items c.requires.by_atom in
+    let at = last_at b c.pop.new.self.items c.in-Some.l same held in
+    let h = slice_get_within b c.in-Some.l.atom (Some (entry_at b c.in-Some.l)) at in
+    omega (arith, h, v.entries.ok.0)
+
+pub returns-in-Some-clause-values : goal.returns-in-Some-clause-values
+returns-in-Some-clause-values c =
+    let v = c.args.self.now in
+    let b = v.entries.items in
+    let a = c.in-Some.l.atom in
+    let ls = c.pop.new.self.items in
+    let same = subst (λ xs. literals_of (map (entry_at b) xs) ≡ xs) c.in-Some.ensures.items c.requires.literals in
+    let held = subst (λ xs. AreByAtom (map (entry_at b) xs) b) c.in-Some.ensures.items c.requires.by_atom in
+    let entries : map (entry_at (set b a None)) ls ≡ map (entry_at b) ls = undo_entries b ls c.in-Some.l same held in
+    let size : length (set b a None) ≡ length b = length-set b a None in
+    let room : length b ≤ vec_capacity v.literals = c.requires.room in
+    record {
+      by_atom = subst (λ es. AreByAtom es (set b a None)) (sym entries) (undo_at_atom b ls c.in-Some.l same held);
+      literals = ap literals_of entries ∙ (split_literals b ls c.in-Some.l same).0;
+      room = subst (λ n. length (set b a None) ≤ n) (sym c.in-Some.ensures.capacity) (subst (λ n. n ≤ vec_capacity v.literals) (sym size) room);
+    }
+
+pub returns-in-Some-clause-entries : goal.returns-in-Some-clause-entries
+returns-in-Some-clause-entries c es e split =
+    let v = c.args.self.now in
+    let b = v.entries.items in
+    let ls = c.pop.new.self.items in
+    let same = subst (λ xs. literals_of (map (entry_at b) xs) ≡ xs) c.in-Some.ensures.items c.requires.literals in
+    let held = subst (λ xs. AreByAtom (map (entry_at b) xs) b) c.in-Some.ensures.items c.requires.by_atom in
+    let last : map (entry_at b) ls ++ entry_at b c.in-Some.l ∷ [] ≡ es ++ e ∷ [] = sym (split_entries b ls c.in-Some.l) ∙ ap (map (entry_at b)) (sym c.in-Some.ensures.items) ∙ split in
+    undo_entries b ls c.in-Some.l same held ∙ (same_from_push (map (entry_at b) ls) es (entry_at b c.in-Some.l) e last).0

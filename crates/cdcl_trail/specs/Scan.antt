@@ -1,0 +1,30 @@
+-- What a scan of a clause says.
+use Rattle.std.specs.Prelude.{◌≡◌, ◌≢◌, ℕ, ◌⊎◌, List, Option, Some, All, Contains}
+use Rattle.inst_logic.specs.declared.signed.Signed.{Signed}
+use Rattle.cdcl_trail.specs.declared.entry.Entry.{Entry}
+use Rattle.cdcl_trail.specs.declared.propagation.Scan.{Scan}
+use Rattle.cdcl_trail.specs.declared.propagation.Scan.TheVariants.{False, Unit as UnitOf, Rest}
+use Rattle.cdcl_trail.specs.Clauses.{clause_number}
+use Rattle.cdcl_trail.specs.Propagation.{IsFalseIn, GivesUnit}
+use Rattle.cdcl_trail.specs.Trail.{IsUnset, literals_of}
+
+-- a literal of the clause is true
+abbrev pub HasTrue : List Entry → List (Signed ℕ) → Type 0
+HasTrue entries clause = (l : Signed ℕ) × Contains clause l × Contains (literals_of entries) l
+
+-- two literals of the clause have no value
+abbrev pub HasTwoUnset : List Entry → List (Signed ℕ) → Type 0
+HasTwoUnset entries clause = (l m : Signed ℕ) × Contains clause l × Contains clause m × (l ≢ m) × IsUnset entries l.atom × IsUnset entries m.atom
+
+-- no literal of the clause follows
+abbrev pub HasRest : List Entry → List (Signed ℕ) → Type 0
+HasRest entries clause = HasTrue entries clause ⊎ HasTwoUnset entries clause
+
+-- the same of the clause of this number, where there is one
+abbrev pub RestsAt : List (Option (List (Signed ℕ))) → List Entry → ℕ → Type 0
+RestsAt clauses entries n = (c : List (Signed ℕ)) → clause_number clauses n ≡ Some c → HasRest entries c
+
+abbrev pub IsScanned : List Entry → List (Signed ℕ) → Scan → Type 0
+IsScanned entries clause False = All (IsFalseIn entries) clause
+IsScanned entries clause (UnitOf l) = IsUnset entries l.atom × GivesUnit entries clause l
+IsScanned entries clause Rest = HasRest entries clause

@@ -1,0 +1,108 @@
+// The values of atoms, in the order in which they came.
+ghost use Rattle.std.specs.Prelude.{◌≡◌, ◌+◌, ◌<◌, ◌≤◌, ◌∷◌, ◌++◌, [], List, false, length, IsTrue, All, AllPairs, IfOk, OnErr};
+ghost use Rattle.cdcl_trail.specs.Trail.{IsUnset, entries_up_to};
+ghost use Rattle.cdcl_trail.specs.declared.entry.Entry.{Entry};
+ghost use Rattle.cdcl_trail.specs.Values.{AreValues, entries_of, found};
+
+use crate::entry::Entry;
+use inst_logic::Memory;
+use prop_logic::Lit;
+use std::alloc::Global;
+
+// The true literals in their order, with room for one of each atom, and for each atom its entry.
+#[derive(Drop)]
+pub(crate) struct Values {
+    pub(crate) literals: Vec<Lit>,
+    pub(crate) entries: Vec<Option<Entry>>,
+}
+
+impl Values {
+    pub(crate) fn new(alloc: Global) -> Values
+        ensures values { AreValues result }
+        ensures entries { entries_of result ≡ [] }
+        ensures atoms { length result.entries.items ≡ 0 }
+    {
+        Values {
+            literals: Vec::new(alloc),
+            entries: Vec::new(alloc),
+        }
+    }
+
+    // Makes an atom, and answers its number.
+    pub(crate) fn grow(&mut self) -> Result<usize, Memory>
+        requires { AreValues self.old }
+        ensures values { AreValues self.new }
+        ensures entries { entries_of self.new ≡ entries_of self.old }
+        ensures number { IfOk result (λ n. n ≡ length self.old.entries.items) }
+        ensures ok { IfOk result (λ n. length self.new.entries.items ≡ length self.old.entries.items + 1) }
+        ensures err { OnErr result (length self.new.entries.items ≡ length self.old.entries.items) }
+    {
+        let atom = self.entries.len();
+        self.literals.reserve(atom + 1 - self.literals.len())?;
+        self.entries.push(None)?;
+        Ok(atom)
+    }
+
+    // The entry of the atom.
+    pub(crate) fn entry(&self, atom: usize) -> Option<Entry>
+        requires values { AreValues self.now }
+        requires atom { atom < length self.now.entries.items }
+        ensures { result ≡ found (entries_of self.now) atom }
+    {
+        self.entries[atom]
+    }
+
+    // Gives the atom of the entry its value.
+    pub(crate) fn put(&mut self, entry: Entry)
+        requires values { AreValues self.old }
+        requires atom { entry.lit.atom < length self.old.entries.items }
+        requires unset { IsUnset (entries_of self.old) entry.lit.atom }
+        ensures values { AreValues self.new }
+        ensures entries { entries_of self.new ≡ entries_of self.old ++ entry ∷ [] }
+        ensures atoms { length self.new.entries.items ≡ length self.old.entries.items }
+    {
+        self.literals.push_reserved(entry.lit);
+        self.entries[entry.lit.atom] = Some(entry);
+    }
+
+    // Whether the last value is of a level above this one.
+    fn ends_above(&self, level: usize) -> bool
+        requires values { AreValues self.now }
+        requires rising { AllPairs (λ a b. a.level ≤ b.level) (entries_of self.now) }
+        ensures above { IsTrue result → (es : List Entry) × (e : Entry) × (entries_of self.now ≡ es ++ e ∷ []) × (level < e.level) }
+        ensures rest { result ≡ false → All (λ e. e.level ≤ level) (entries_of self.now) }
+    {
+        match self.literals.last() {
+            Some(l) => match self.entries[l.atom] {
+                Some(entry) => level < entry.level,
+                None => false,
+            },
+            None => false,
+        }
+    }
+
+    // Takes the last value back.
+    fn undo(&mut self)
+        requires { AreValues self.old }
+        ensures values { AreValues self.new }
+        ensures entries { (es : List Entry) (e : Entry) → entries_of self.old ≡ es ++ e ∷ [] → entries_of self.new ≡ es }
+        ensures atoms { length self.new.entries.items ≡ length self.old.entries.items }
+    {
+        if let Some(l) = self.literals.pop() {
+            self.entries[l.atom] = None;
+        }
+    }
+
+    // Takes back the values of the levels above this one.
+    pub(crate) fn back_to(&mut self, level: usize)
+        requires values { AreValues self.old }
+        requires rising { AllPairs (λ a b. a.level ≤ b.level) (entries_of self.old) }
+        ensures values { AreValues self.new }
+        ensures entries { entries_of self.new ≡ entries_up_to (entries_of self.old) level }
+        ensures atoms { length self.new.entries.items ≡ length self.old.entries.items }
+    {
+        while self.ends_above(level) {
+            self.undo();
+        }
+    }
+}

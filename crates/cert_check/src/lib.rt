@@ -1,0 +1,12 @@
+//! The separate checker of certificates. It uses no engine, index, solver or abstraction: what a reader must believe is here and
+//! in the crates below it.
+#![tactic(auto)]
+
+pub mod error;
+pub mod refutation;
+pub mod saturation;
+
+pub use cert_format::Complaint;
+pub use error::CheckError;
+pub use refutation::{CheckedRefutation, check_refutation};
+pub use saturation::{CheckedSaturation, check_saturation};

@@ -1,0 +1,12 @@
+//! Clauses over a bank: canonical forms, variants, tautologies, subsumption and conclusions.
+#![tactic(auto)]
+
+pub mod compare;
+pub mod conclusion;
+pub mod renumber;
+pub mod subsumption;
+
+pub use compare::{clause_size, tautology, variant};
+pub use conclusion::{Conclusion, conclude, under};
+pub use renumber::canonical;
+pub use subsumption::subsumes;

@@ -1,0 +1,12 @@
+//! Certificates as values: clauses over one bank, with the origins of the members. And the truth test of a saturation.
+#![tactic(auto)]
+
+pub mod certificate;
+pub mod member;
+pub mod test;
+
+pub use certificate::{
+    Base, GroundHint, GroundHintList, GroundStep, GroundStepList, Refutation, Saturation,
+};
+pub use member::{Member, MemberList, Origin};
+pub use test::truth;

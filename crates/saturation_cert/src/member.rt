@@ -1,0 +1,27 @@
+// Members of certificates.
+use inst_logic::ListOf;
+use term_bank::IdClause;
+
+/// Where a member comes from. All numbers count from 1.
+#[derive(Clone, Copy, Debug, PartialEq, Eq)]
+pub enum Origin {
+    /// This clause of the inputs and their axioms.
+    Input(usize),
+    /// The instance of member `from` under the most general unifier of its literal `place` with literal `other` of member
+    /// `partner`.
+    Inst {
+        from: usize,
+        place: usize,
+        partner: usize,
+        other: usize,
+    },
+}
+
+/// A clause with its origin.
+#[derive(Drop)]
+pub struct Member {
+    pub clause: IdClause,
+    pub origin: Origin,
+}
+
+pub type MemberList = ListOf<Member>;

@@ -1,9 +1,0 @@
-pub mod ClauseLaws
-pub mod Constants
-pub mod Items
-pub mod LiteralLaws
-pub mod Options
-pub mod Places
-pub mod StatementLaws
-pub mod TextLaws
-pub mod Tokens

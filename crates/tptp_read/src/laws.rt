@@ -1,0 +1,16 @@
+// Laws of texts.
+ghost use Rattle.std.specs.Prelude.{ℕ, List, All};
+ghost use Rattle.tptp_read.specs.declared.statement.Statement.{Statement};
+ghost use Rattle.tptp_read.specs.Names.{HasReadableNames};
+ghost use Rattle.tptp_read.specs.Text.{IsDecided, IsFormedStatement, Readable};
+
+/// Each text is readable or offends, never both, and in one way.
+pub fn one_reading()
+    ensures { (text : List ℕ) → IsDecided text }
+{}
+
+/// The statements of a readable text are well formed, and their names can be printed and read again.
+pub fn readable_is_good()
+    ensures formed { (text : List ℕ) (ss : List Statement) → Readable text ss → All IsFormedStatement ss }
+    ensures names { (text : List ℕ) (ss : List Statement) → Readable text ss → All HasReadableNames ss }
+{}

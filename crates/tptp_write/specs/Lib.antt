@@ -1,0 +1,3 @@
+pub mod Again
+pub mod Pieces
+pub mod Steps

@@ -1,0 +1,12 @@
+//! Canonical printing of names, terms, literals and clauses (the CNF part of the TPTP language).
+#![tactic(auto)]
+
+mod clauses;
+mod names;
+mod terms;
+#[cfg(test)]
+mod tests;
+
+pub use clauses::{clause_text, push_clause, push_literal};
+pub use names::{name_text, push_name};
+pub use terms::push_term;
