@@ -2,9 +2,18 @@
 //! in the crates below it.
 #![tactic(auto)]
 
+mod axioms;
+mod base;
+mod difference;
 pub mod error;
+mod grounds;
+mod inputs;
+mod origin;
+mod pairs;
+mod places;
 pub mod refutation;
 pub mod saturation;
+mod steps;
 
 pub use cert_format::Complaint;
 pub use error::CheckError;

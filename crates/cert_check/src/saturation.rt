@@ -12,7 +12,13 @@ ghost use Rattle.saturation_cert.specs.Values.{saturation_of};
 ghost use Rattle.saturation_cert.specs.Wholes.{IsWholeSaturation, KeepsSaturation};
 ghost use Rattle.cert_check.specs.Answers.{IsCheckCause};
 
+use crate::base::check_base;
 use crate::error::CheckError;
+use crate::inputs::wrong_input;
+use crate::pairs::wrong_pair;
+use crate::places::wrong_place;
+use cert_format::Complaint;
+use cert_format::laws::valid_saturations_are_models;
 use inst_logic::{Literal, Memory};
 use saturation_cert::Saturation;
 use std::alloc::Global;
@@ -30,7 +36,6 @@ impl Model for CheckedSaturation {
     ghost use Rattle.saturation_cert.specs.Values.{saturation_of};
     ghost use Rattle.saturation_cert.specs.Wholes.{IsWholeSaturation};
     ghost use Rattle.cert_format.specs.Validity.{IsValidSaturation};
-
     ghost use Rattle.saturation_cert.specs.contracts.certificate.Saturation as value;
     ghost use Rattle.std.specs.Coded.{codes};
 
@@ -66,6 +71,27 @@ impl CheckedSaturation {
     }
 }
 
+// The first complaint, if there is one.
+fn check(alloc: Global, cert: &mut Saturation) -> Result<(), CheckError>
+    requires { IsWholeSaturation cert.old }
+    ensures kept { KeepsSaturation cert.old cert.new }
+    ensures whole { OnOk result (IsWholeSaturation cert.new) }
+    ensures valid { OnOk result (IsValidSaturation (saturation_of cert.old)) }
+    ensures complaint { IfErr result (IsCheckCause (SaturationPasses (saturation_of cert.old))) }
+{
+    check_base(alloc, &mut cert.base)?;
+    if let Some(n) = wrong_place(cert) {
+        return Err(CheckError::Complaint(Complaint::Place { n }));
+    }
+    if let Some(k) = wrong_input(alloc, cert)? {
+        return Err(CheckError::Complaint(Complaint::Input { k }));
+    }
+    if let Some((left, right)) = wrong_pair(alloc, cert)? {
+        return Err(CheckError::Complaint(Complaint::Pair { left, right }));
+    }
+    Ok(())
+}
+
 /// Checks the certificate and owns it from then on. After a refusal it is dropped.
 pub fn check_saturation(alloc: Global, cert: Saturation) -> Result<CheckedSaturation, CheckError>
     requires { IsWholeSaturation cert }
@@ -76,7 +102,8 @@ pub fn check_saturation(alloc: Global, cert: Saturation) -> Result<CheckedSatura
     ensures makes { IfOk result (λ _. All (Makes (selected_members (saturation_of cert))) (with_axioms (saturation_of cert).base.inputs)) }
     ensures complaint { IfErr result (IsCheckCause (SaturationPasses (saturation_of cert))) }
 {
-    let _alloc = alloc;
-    let _cert = cert;
-    Err(CheckError::Memory)
+    let mut cert = cert;
+    check(alloc, &mut cert)?;
+    valid_saturations_are_models();
+    Ok(CheckedSaturation { cert })
 }

@@ -69,17 +69,17 @@ selected_of_at (e ∷ es) (p ∷ ps) (suc k) m h = go (at_number e.clause p) (se
     go None i = i
     go (Some l) i = inr i
 
-selected_number : (c : Saturation) (m : Member) → m ∈ selected_members c → (k : ℕ) × IsSelected c (suc k) m
+pub selected_number : (c : Saturation) (m : Member) → m ∈ selected_members c → (k : ℕ) × IsSelected c (suc k) m
 selected_number c m i =
     let (k, h) = at_of_selected c.base.members c.places m i in
     (k, record { entry = h.entry; place = h.place; entry_at = h.entry_at; place_at = h.place_at; clause = h.clause; selected = h.selected })
 
-selected_is_member : (c : Saturation) (k : ℕ) (m : Member) → IsSelected c (suc k) m → m ∈ selected_members c
+pub selected_is_member : (c : Saturation) (k : ℕ) (m : Member) → IsSelected c (suc k) m → m ∈ selected_members c
 selected_is_member c k m h =
     selected_of_at c.base.members c.places k m (record { entry = h.entry; place = h.place; entry_at = h.entry_at; place_at = h.place_at; clause = h.clause; selected = h.selected })
 
 -- a number has one member
-selected_once : (c : Saturation) (n : ℕ) (l m : Member) → IsSelected c n l → IsSelected c n m → l ≡ m
+pub selected_once : (c : Saturation) (n : ℕ) (l m : Member) → IsSelected c n l → IsSelected c n m → l ≡ m
 selected_once c n l m g h = λ i. record { clause = (g.clause ∙ ap (λ (x : Entry). x.clause) same_entry ∙ sym h.clause) i; selected = same_literal i }
   where
     same_entry : g.entry ≡ h.entry

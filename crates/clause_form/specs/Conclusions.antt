@@ -1,9 +1,10 @@
 -- Conclusions: a clause under a substitution in canonical form, with what its variables become.
-use Rattle.std.specs.Prelude.{◌≡◌, ℕ, ◌<◌, List, length, Bool, true, slice_index_or, All}
+use Rattle.std.specs.Prelude.{◌≡◌, ℕ, ◌<◌, List, length, slice_index_or, All}
 use Rattle.inst_logic.specs.declared.signed.Signed.{Signed}
-use Rattle.inst_logic.specs.Tree.{Tree, var}
 use Rattle.inst_logic.specs.Substitution.{Substitution, followed_by}
 use Rattle.inst_logic.specs.Clauses.{TreeClause, instance, canonical_form, order_of, numbered, IsCanonical}
+use Rattle.inst_logic.specs.Tree.{var}
+use Rattle.inst_logic.specs.WellFormed.{IsTerm}
 use Rattle.term_bank.specs.Forest.{Forest, AreDistinct, IsAt, IsClauseOf, IsClauseAt, clause_at, tree_at}
 use Rattle.unify_core.specs.Sides.{Binding, IsResolvedBy, of_side}
 use Rattle.unify_core.specs.declared.side.Side.{Side}
@@ -25,7 +26,7 @@ pub record IsConclusionUnder (f g : Forest) (s : Substitution) (c d : List (Sign
 
 -- the same for the substitution of the side that the bindings stand for
 abbrev pub IsConclusionOf : Forest → Forest → List Binding → Side → List (Signed ℕ) → List (Signed ℕ) → List ℕ → Type 0
-IsConclusionOf f g es side c clause terms = (s : Sided) → IsResolvedBy f es s → IsConclusionUnder f g (of_side s side) c clause terms
+IsConclusionOf f g es side c d ids = (s : Sided) → IsResolvedBy f es s → IsConclusionUnder f g (of_side s side) c d ids
 
 -- the tree of item v for variable v
 abbrev pub by_terms : Forest → List ℕ → Substitution
@@ -38,3 +39,12 @@ pub record AreCanonicalIn (f : Forest) (c d : List (Signed ℕ)) : Type 0 where
   pub right : IsClauseOf f d
   pub left_canonical : IsCanonical (clause_at f c)
   pub right_canonical : IsCanonical (clause_at f d)
+
+-- each id's tree is a term: no predicate or equality stands at its head
+abbrev pub AreTermIds : Forest → List ℕ → Type 0
+AreTermIds f ids = All (λ id. IsTerm (tree_at f id)) ids
+
+-- the ids of the variables 0, 1, .. below the count
+pub record AreVariables (f : Forest) (count : ℕ) (ids : List ℕ) : Type 0 where
+  pub count_of : length ids ≡ count
+  pub each : (v d : ℕ) → v < count → IsAt f (slice_index_or ids v d) (var v)

@@ -6,7 +6,7 @@ ghost use Rattle.inst_logic.specs.Measure.{clause_size};
 ghost use Rattle.term_bank.specs.Forest.{Forest, AreDistinct, IsClauseOf, clause_at};
 ghost use Rattle.clause_form.specs.Conclusions.{AreCanonicalIn};
 
-use term_bank::{Bank, IdClause};
+use term_bank::{Bank, IdClause, IdLiteral};
 
 /// Whether two canonical clauses of one bank are variants.
 pub fn variant(c: &IdClause, d: &IdClause) -> bool
@@ -16,13 +16,20 @@ pub fn variant(c: &IdClause, d: &IdClause) -> bool
     c == d
 }
 
+fn has_complements(literals: &[IdLiteral]) -> bool
+    ensures { IsTrue result ↔ IsTautology literals.now }
+{
+    literals.iter().any(|l| literals
+        .iter()
+        .any(|m| m.atom == l.atom && m.positive != l.positive))
+}
+
 /// Whether the clause has a literal and its complement. Its time is quadratic in the number of literals.
 pub fn tautology(c: &IdClause) -> bool
     ensures ids { IsTrue result ↔ IsTautology c.now }
     ensures trees { (f : Forest) → AreDistinct f.trees → IsClauseOf f c.now → IsTrue result ↔ IsTautology (clause_at f c.now) }
 {
-    let literals = c.as_slice();
-    literals.iter().any(|l| literals.iter().any(|m| m.atom == l.atom && m.positive != l.positive))
+    has_complements(c.as_slice())
 }
 
 /// The number of occurrences of symbols and variables in the clause, or `u64::MAX` where it is larger.

@@ -3,11 +3,15 @@ ghost use Rattle.std.specs.Prelude.{◌≡◌, ◌≤◌, IfOk, length};
 ghost use Rattle.inst_logic.specs.Clauses.{IsCanonical, instance, order_of};
 ghost use Rattle.term_bank.specs.Forest.{AreFormed, AreIds, Extends, IsClauseAt, IsClauseOf, clause_at};
 ghost use Rattle.unify_core.specs.Chains.{AreBindings};
-ghost use Rattle.clause_form.specs.Conclusions.{IsConclusionOf, by_terms};
+ghost use Rattle.unify_core.specs.Terms.{AreTerms};
+ghost use Rattle.clause_form.specs.Conclusions.{IsConclusionOf, AreVariables, by_terms, AreTermIds};
 
+use crate::literals::{atoms_of, clause_of};
+use crate::renumber::renumbered;
+use crate::walk::{Leaves, build_all};
 use inst_logic::Memory;
 use std::alloc::Global;
-use term_bank::{Bank, IdClause, TermIdList};
+use term_bank::{Bank, IdClause, TermId, TermIdList};
 use unify_core::{Bindings, Side};
 
 /// A clause in canonical form, and for each variable of the clause that it was made of, in order, the term that it became.
@@ -15,6 +19,50 @@ use unify_core::{Bindings, Side};
 pub struct Conclusion {
     pub clause: IdClause,
     pub terms: TermIdList,
+}
+
+// The ids of the variables below the count.
+fn variables_below(alloc: Global, bank: &mut Bank, count: usize) -> Result<Vec<TermId>, Memory>
+    ensures variables { IfOk result (λ v. AreVariables bank.new count v.items) }
+    ensures extends { Extends bank.old bank.new }
+    ensures formed { AreFormed bank.old → AreFormed bank.new }
+{
+    let mut variables = Vec::new(alloc);
+    for v in 0..count {
+        let id = bank.var(v)?;
+        variables.push(id)?;
+    }
+    Ok(variables)
+}
+
+// The conclusion, where the clause's variables have these ids.
+fn conclude_with(
+    alloc: Global,
+    bank: &mut Bank,
+    b: &Bindings,
+    side: Side,
+    c: &IdClause,
+    variables: &[TermId],
+) -> Result<Conclusion, Memory>
+    requires clause { IsClauseOf bank.old c.now }
+    requires canonical { IsCanonical (clause_at bank.old c.now) }
+    requires bindings { AreBindings bank.old b.now.entries }
+    requires variables { AreVariables bank.old (length (order_of (clause_at bank.old c.now))) variables.now }
+    ensures conclusion { IfOk result (λ d. IsConclusionOf bank.old bank.new b.now.entries side c.now d.clause d.terms) }
+    ensures extends { Extends bank.old bank.new }
+    ensures formed { AreFormed bank.old → AreTerms bank.old b.now.entries → AreFormed bank.new }
+{
+    let mut nodes = atoms_of(alloc, c.as_slice())?;
+    nodes.extend_from_slice(variables)?;
+    let leaves = Leaves::Led(b);
+    let mut atoms = build_all(alloc, bank, &leaves, side, &nodes)?.terms;
+    let terms = atoms.split_off(c.len())?;
+    let _ = bank.len();
+    let clause = clause_of(alloc, c.as_slice(), &atoms)?;
+    Ok(Conclusion {
+        clause,
+        terms: TermIdList::from(terms),
+    })
 }
 
 /// The canonical form of the side's clause under the bindings. Shared terms are visited once.
@@ -30,14 +78,11 @@ pub fn conclude(
     requires bindings { AreBindings bank.old b.now.entries }
     ensures conclusion { IfOk result (λ d. IsConclusionOf bank.old bank.new b.now.entries side c.now d.clause d.terms) }
     ensures extends { Extends bank.old bank.new }
-    ensures formed { AreFormed bank.old → AreFormed bank.new }
+    ensures formed { AreFormed bank.old → AreTerms bank.old b.now.entries → AreFormed bank.new }
 {
-    let _alloc = alloc;
-    let _bank = bank;
-    let _bindings = b;
-    let _side = side;
-    let _clause = c;
-    Err(Memory)
+    let count = renumbered(alloc, bank, c)?.variables;
+    let variables = variables_below(alloc, bank, count)?;
+    conclude_with(alloc, bank, b, side, c, &variables)
 }
 
 /// The clause with term `i` of the list for its variable `i`, repeated literals dropped.
@@ -53,11 +98,11 @@ pub fn under(
     requires each { length (order_of (clause_at bank.old c.now)) ≤ length terms.now }
     ensures instance { IfOk result (λ d. IsClauseAt bank.new d (instance (by_terms bank.old terms.now) (clause_at bank.old c.now))) }
     ensures extends { Extends bank.old bank.new }
-    ensures formed { AreFormed bank.old → AreFormed bank.new }
+    ensures formed { AreFormed bank.old → AreTermIds bank.old terms.now → AreFormed bank.new }
 {
-    let _alloc = alloc;
-    let _bank = bank;
-    let _clause = c;
-    let _terms = terms;
-    Err(Memory)
+    let atoms = atoms_of(alloc, c.as_slice())?;
+    let leaves = Leaves::Listed(terms.as_slice());
+    let built = build_all(alloc, bank, &leaves, Side::Left, &atoms)?;
+    let _ = bank.len();
+    clause_of(alloc, c.as_slice(), &built.terms)
 }

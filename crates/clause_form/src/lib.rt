@@ -3,8 +3,12 @@
 
 pub mod compare;
 pub mod conclusion;
+mod literals;
 pub mod renumber;
 pub mod subsumption;
+#[cfg(test)]
+mod subsumption_tests;
+mod walk;
 
 pub use compare::{clause_size, tautology, variant};
 pub use conclusion::{Conclusion, conclude, under};

@@ -1,11 +1,30 @@
 // Canonical forms.
-ghost use Rattle.std.specs.Prelude.{IfOk};
-ghost use Rattle.inst_logic.specs.Clauses.{canonical_form};
-ghost use Rattle.term_bank.specs.Forest.{AreFormed, Extends, IsClauseAt, IsClauseOf, clause_at};
+ghost use Rattle.std.specs.Prelude.{◌≡◌, IfOk, length, map};
+ghost use Rattle.inst_logic.specs.Clauses.{canonical_form, numbered, order_of};
+ghost use Rattle.inst_logic.specs.Substitution.{subst};
+ghost use Rattle.term_bank.specs.Forest.{AreFormed, AreIds, Extends, IsClauseAt, IsClauseOf, clause_at, tree_at};
 
+use crate::literals::{atoms_of, clause_of};
+use crate::walk::{Built, Leaves, build_all};
 use inst_logic::Memory;
 use std::alloc::Global;
 use term_bank::{Bank, IdClause};
+use unify_core::{Bindings, Side};
+
+// The atoms with the clause's variables numbered 0, 1, 2 by first occurrence, and how many variables there are.
+pub fn renumbered(alloc: Global, bank: &mut Bank, c: &IdClause) -> Result<Built, Memory>
+    requires { IsClauseOf bank.old c.now }
+    ensures trees { IfOk result (λ b. map (tree_at bank.new) b.terms.items ≡ map (λ l. subst (numbered (order_of (clause_at bank.old c.now))) (tree_at bank.old l.atom)) c.now) }
+    ensures variables { IfOk result (λ b. b.variables ≡ length (order_of (clause_at bank.old c.now))) }
+    ensures ids { IfOk result (λ b. AreIds bank.new b.terms.items) }
+    ensures extends { Extends bank.old bank.new }
+    ensures formed { AreFormed bank.old → AreFormed bank.new }
+{
+    let atoms = atoms_of(alloc, c.as_slice())?;
+    let none = Bindings::new(alloc);
+    let leaves = Leaves::Led(&none);
+    build_all(alloc, bank, &leaves, Side::Left, &atoms)
+}
 
 /// The clause with its variables numbered 0, 1, 2 by first occurrence, each repeated literal at its first place only. The bank
 /// keeps its trees and may have grown, also where memory was wanted.
@@ -15,8 +34,7 @@ pub fn canonical(alloc: Global, bank: &mut Bank, c: &IdClause) -> Result<IdClaus
     ensures extends { Extends bank.old bank.new }
     ensures formed { AreFormed bank.old → AreFormed bank.new }
 {
-    let _alloc = alloc;
-    let _bank = bank;
-    let _clause = c;
-    Err(Memory)
+    let built = renumbered(alloc, bank, c)?;
+    let _ = bank.len();
+    clause_of(alloc, c.as_slice(), &built.terms)
 }

@@ -1,11 +1,186 @@
 // Subsumption (Robinson, A machine-oriented logic based on the resolution principle, 1965).
-ghost use Rattle.std.specs.Prelude.{◌↔◌, IfOk, IsTrue};
+ghost use Rattle.std.specs.Prelude.{◌≡◌, ◌↔◌, ◌++◌, ◌∷◌, ◌<◌, ◌≤◌, ℕ, [], true, false, length, IfOk, IfSome, IfNone, OnOk, IsTrue, slice_index_or};
 ghost use Rattle.inst_logic.specs.Clauses.{Subsumes};
+ghost use Rattle.inst_logic.specs.Substitution.{Substitution};
 ghost use Rattle.term_bank.specs.Forest.{IsClauseOf, clause_at};
+ghost use Rattle.unify_core.specs.Matching.{AreMatches};
+ghost use Rattle.clause_form.specs.Placements.{Goes, IsPlacedIn, HasPlaces, IsPut, IsMissed, IsPlacing, no_literal, steps_of};
 
 use inst_logic::Memory;
 use std::alloc::Global;
-use term_bank::{Bank, IdClause};
+use term_bank::{Bank, IdClause, IdLiteral};
+use unify_core::Bindings;
+
+// What is left to try for a literal: the candidates from one on, under the first bindings.
+#[derive(Clone, Copy)]
+struct Choice {
+    literal: usize,
+    from: usize,
+    kept: usize,
+}
+
+// Whether the sign and the symbol of the literal allow that it is put onto the other one.
+fn may_go(bank: &Bank, l: &IdLiteral, m: &IdLiteral) -> bool
+    requires left { l.now.atom < length bank.now.trees }
+    requires right { m.now.atom < length bank.now.trees }
+    ensures yes { result ≡ true → l.now.positive ≡ m.now.positive }
+    ensures no { result ≡ false → (s : Substitution) → ¬ (Goes bank.now s l.now m.now) }
+{
+    if l.positive != m.positive {
+        return false;
+    }
+    match bank.symbol_number(l.atom) {
+        None => true,
+        Some(number) => bank.symbol_number(m.atom) == Some(number),
+    }
+}
+
+fn has_candidate(bank: &Bank, l: &IdLiteral, c: &[IdLiteral]) -> bool
+    requires left { l.now.atom < length bank.now.trees }
+    requires right { IsClauseOf bank.now c.now }
+    ensures { result ≡ false → (s : Substitution) → ¬ (IsPlacedIn bank.now s l.now c.now) }
+{
+    for i in 0..c.len() {
+        if may_go(bank, l, &c[i]) {
+            return true;
+        }
+    }
+    false
+}
+
+fn have_candidates(bank: &Bank, f: &[IdLiteral], c: &[IdLiteral]) -> bool
+    requires left { IsClauseOf bank.now f.now }
+    requires right { IsClauseOf bank.now c.now }
+    ensures { result ≡ false → (s : Substitution) → ¬ (HasPlaces bank.now s f.now c.now) }
+{
+    for i in 0..f.len() {
+        if !has_candidate(bank, &f[i], c) {
+            return false;
+        }
+    }
+    true
+}
+
+// Extends the bindings by those that put the literal onto the other one. False comes where no extension does.
+fn put(bank: &Bank, bindings: &mut Bindings, l: &IdLiteral, m: &IdLiteral) -> Result<bool, Memory>
+    requires left { l.now.atom < length bank.now.trees }
+    requires right { m.now.atom < length bank.now.trees }
+    requires matches { AreMatches bank.now bindings.old.entries }
+    ensures yes { IfOk result (λ r. r ≡ true → IsPut bank.now bindings.old.entries bindings.new.entries l.now m.now) }
+    ensures no { IfOk result (λ r. r ≡ false → IsMissed bank.now bindings.old.entries l.now m.now) }
+    ensures kept { IfOk result (λ r. r ≡ false → bindings.new.entries ≡ bindings.old.entries) }
+{
+    if may_go(bank, l, m) {
+        bindings.match_onto(bank, l.atom, m.atom)
+    } else {
+        Ok(false)
+    }
+}
+
+// Puts the literal onto the first candidate from `from` on, and answers its place.
+fn next_match(
+    bank: &Bank,
+    bindings: &mut Bindings,
+    l: &IdLiteral,
+    c: &[IdLiteral],
+    from: usize,
+) -> Result<Option<usize>, Memory>
+    requires left { l.now.atom < length bank.now.trees }
+    requires right { IsClauseOf bank.now c.now }
+    requires matches { AreMatches bank.now bindings.old.entries }
+    ensures within { IfOk result (λ r. IfSome r (λ j. (from ≤ j) × (j < length c.now))) }
+    ensures put { IfOk result (λ r. IfSome r (λ j. IsPut bank.now bindings.old.entries bindings.new.entries l.now (slice_index_or c.now j no_literal))) }
+    ensures before { IfOk result (λ r. IfSome r (λ j. (i : ℕ) → from ≤ i → i < j → IsMissed bank.now bindings.old.entries l.now (slice_index_or c.now i no_literal))) }
+    ensures all { IfOk result (λ r. IfNone r ((i : ℕ) → from ≤ i → i < length c.now → IsMissed bank.now bindings.old.entries l.now (slice_index_or c.now i no_literal))) }
+    ensures kept { IfOk result (λ r. IfNone r (bindings.new.entries ≡ bindings.old.entries)) }
+{
+    for i in from..c.len() {
+        if put(bank, bindings, l, &c[i])? {
+            return Ok(Some(i));
+        }
+    }
+    Ok(None)
+}
+
+// Puts the literal of the last choice onto its next candidate: what is left of the choice, and the next literal, come last.
+fn advance(
+    bank: &Bank,
+    bindings: &mut Bindings,
+    choices: &mut Vec<Choice>,
+    f: &[IdLiteral],
+    c: &[IdLiteral],
+    choice: Choice,
+) -> Result<(), Memory>
+    requires left { IsClauseOf bank.now f.now }
+    requires right { IsClauseOf bank.now c.now }
+    requires within { choice.literal < length f.now }
+    requires placing { IsPlacing bank.now f.now c.now bindings.old.entries (choices.old.items ++ choice ∷ []) }
+    ensures placing { OnOk result (IsPlacing bank.now f.now c.now bindings.new.entries choices.new.items) }
+    ensures falls { OnOk result (steps_of (length f.now) (length c.now) choices.new.items < steps_of (length f.now) (length c.now) (choices.old.items ++ choice ∷ [])) }
+{
+    bindings.truncate(choice.kept);
+    match next_match(bank, bindings, &f[choice.literal], c, choice.from)? {
+        None => Ok(()),
+        Some(i) => {
+            choices.push(Choice {
+                from: i + 1,
+                ..choice
+            })?;
+            choices.push(Choice {
+                literal: choice.literal + 1,
+                from: 0,
+                kept: bindings.len(),
+            })?;
+            Ok(())
+        }
+    }
+}
+
+// Depth first: the choice that was made last is tried first.
+fn search_places(
+    bank: &Bank,
+    bindings: &mut Bindings,
+    choices: &mut Vec<Choice>,
+    f: &[IdLiteral],
+    c: &[IdLiteral],
+) -> Result<bool, Memory>
+    requires left { IsClauseOf bank.now f.now }
+    requires right { IsClauseOf bank.now c.now }
+    requires placing { IsPlacing bank.now f.now c.now bindings.old.entries choices.old.items }
+    ensures yes { IfOk result (λ r. r ≡ true → (s : Substitution) × HasPlaces bank.now s f.now c.now) }
+    ensures no { IfOk result (λ r. r ≡ false → (s : Substitution) → ¬ (HasPlaces bank.now s f.now c.now)) }
+{
+    loop {
+        match choices.pop() {
+            None => return Ok(false),
+            Some(choice) => {
+                if choice.literal == f.len() {
+                    return Ok(true);
+                }
+                advance(bank, bindings, choices, f, c, choice)?;
+            }
+        }
+    }
+}
+
+// Whether some substitution puts each literal of the first clause onto one of the second.
+fn find_places(alloc: Global, bank: &Bank, f: &[IdLiteral], c: &[IdLiteral]) -> Result<bool, Memory>
+    requires left { IsClauseOf bank.now f.now }
+    requires right { IsClauseOf bank.now c.now }
+    ensures { IfOk result (λ r. IsTrue r ↔ Subsumes (clause_at bank.now f.now) (clause_at bank.now c.now)) }
+{
+    if !have_candidates(bank, f, c) {
+        return Ok(false);
+    }
+    let mut bindings = Bindings::new(alloc);
+    let mut choices = Vec::new(alloc);
+    choices.push(Choice {
+        literal: 0,
+        from: 0,
+        kept: 0,
+    })?;
+    search_places(bank, &mut bindings, &mut choices, f, c)
+}
 
 /// Whether some instance of `f` has all its literals among those of `c`. Two literals of `f` may go to one of `c`.
 pub fn subsumes(alloc: Global, bank: &Bank, f: &IdClause, c: &IdClause) -> Result<bool, Memory>
@@ -13,9 +188,5 @@ pub fn subsumes(alloc: Global, bank: &Bank, f: &IdClause, c: &IdClause) -> Resul
     requires target { IsClauseOf bank.now c.now }
     ensures { IfOk result (λ r. IsTrue r ↔ Subsumes (clause_at bank.now f.now) (clause_at bank.now c.now)) }
 {
-    let _alloc = alloc;
-    let _bank = bank;
-    let _pattern = f;
-    let _target = c;
-    Err(Memory)
+    find_places(alloc, bank, f.as_slice(), c.as_slice())
 }

@@ -1,27 +1,75 @@
 // Axioms of equality.
-ghost use Rattle.std.specs.Prelude.{◌≡◌, IfOk};
-ghost use Rattle.inst_calculus.specs.Axioms.{axioms_for, equality_axioms};
+ghost use Rattle.std.specs.Prelude.{◌≡◌, [], ◌∷◌, IfOk};
+ghost use Rattle.std.specs.List.{list_any};
+ghost use Rattle.inst_calculus.specs.Axioms.{axioms_for, equality_axioms, is_equality_kind, reflexivity, symmetry, transitivity};
 
-use inst_logic::{ClauseList, ListOf, Memory, Problem, Sym};
+use crate::congruence::{add_functions, add_predicates, equation};
+use crate::symbols::{SymList, symbols_in};
+use inst_logic::{Clause, ClauseList, Kind, Memory, Problem, Sym, Term};
 use std::alloc::Global;
 
-/// A list of symbols.
-pub type SymList = ListOf<Sym>;
+fn is_equality(s: &Sym) -> bool
+    ensures { result ≡ is_equality_kind s.now.kind }
+{
+    match s.kind {
+        Kind::Equality => true,
+        Kind::Predicate | Kind::Function => false,
+    }
+}
+
+fn has_equality(symbols: &[Sym]) -> bool
+    ensures { result ≡ list_any (λ s. is_equality_kind s.kind) symbols.now }
+{
+    symbols.iter().any(|s| is_equality(s))
+}
+
+fn reflexive(alloc: Global) -> Result<Clause, Memory>
+    ensures { IfOk result (λ c. c ≡ reflexivity) }
+{
+    let mut c = Clause::new(alloc);
+    c.push(equation(alloc, true, Term::Var(0), Term::Var(0))?)?;
+    Ok(c)
+}
+
+fn symmetric(alloc: Global) -> Result<Clause, Memory>
+    ensures { IfOk result (λ c. c ≡ symmetry) }
+{
+    let mut c = Clause::new(alloc);
+    c.push(equation(alloc, false, Term::Var(0), Term::Var(1))?)?;
+    c.push(equation(alloc, true, Term::Var(1), Term::Var(0))?)?;
+    Ok(c)
+}
+
+fn transitive(alloc: Global) -> Result<Clause, Memory>
+    ensures { IfOk result (λ c. c ≡ transitivity) }
+{
+    let mut c = Clause::new(alloc);
+    c.push(equation(alloc, false, Term::Var(0), Term::Var(1))?)?;
+    c.push(equation(alloc, false, Term::Var(1), Term::Var(2))?)?;
+    c.push(equation(alloc, true, Term::Var(0), Term::Var(2))?)?;
+    Ok(c)
+}
 
 /// The axioms of equality of the problem's clauses, in their order; none where no clause has `=`.
 pub fn axioms_of(alloc: Global, p: &Problem) -> Result<ClauseList, Memory>
     ensures { IfOk result (λ cs. cs ≡ equality_axioms p.now.clauses) }
 {
-    let _alloc = alloc;
-    let _problem = p;
-    Err(Memory)
+    let symbols = symbols_in(alloc, &p.clauses)?;
+    axioms_from(alloc, &symbols)
 }
 
 /// The same from the symbols alone, each once and in order of first occurrence.
 pub fn axioms_from(alloc: Global, symbols: &SymList) -> Result<ClauseList, Memory>
     ensures { IfOk result (λ cs. cs ≡ axioms_for symbols.now) }
 {
-    let _alloc = alloc;
-    let _symbols = symbols;
-    Err(Memory)
+    let mut axioms = ClauseList::new(alloc);
+    if !has_equality(symbols.as_slice()) {
+        return Ok(axioms);
+    }
+    axioms.push(reflexive(alloc)?)?;
+    axioms.push(symmetric(alloc)?)?;
+    axioms.push(transitive(alloc)?)?;
+    add_functions(alloc, &mut axioms, symbols.as_slice())?;
+    add_predicates(alloc, &mut axioms, symbols.as_slice())?;
+    Ok(axioms)
 }

@@ -2,5 +2,10 @@
 #![tactic(auto)]
 
 pub mod axioms;
+pub mod congruence;
+pub mod symbols;
+#[cfg(test)]
+mod tests;
 
-pub use axioms::{SymList, axioms_from, axioms_of};
+pub use axioms::{axioms_from, axioms_of};
+pub use symbols::SymList;

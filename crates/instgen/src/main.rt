@@ -1,4 +1,4 @@
-// `instgen prove FILE` decides the clauses of FILE, and writes a certificate of its answer.
+// `instgen prove FILE`, with `--root DIR` behind it or not, decides the clauses of FILE, and writes a certificate of its answer.
 #![tactic(auto)]
 
 use outside_io::{FolderLibrary, OutSink};

@@ -114,8 +114,8 @@ fn keep(
     Ok(())
 }
 
-// The steps that the last step needs, in their order.
-pub(crate) fn cut(alloc: Global, steps: &[Step]) -> Result<Derivation, Memory>
+/// The steps that the last step needs, in their order.
+pub fn cut(alloc: Global, steps: &[Step]) -> Result<Derivation, Memory>
     ensures { IfOk result (IsCutOf steps.now) }
 {
     let needed = needed_steps(alloc, steps)?;

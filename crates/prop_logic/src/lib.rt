@@ -2,7 +2,7 @@
 #![tactic(auto)]
 
 mod analysis;
-mod cut;
+pub mod cut;
 pub mod literal;
 pub mod plain;
 mod propagation;
@@ -15,7 +15,7 @@ pub mod valuation;
 
 pub use literal::{Derivation, Hint, HintList, Lit, LitList, LitLists, Step};
 pub use plain::Plain;
-pub use search::{clash, complements};
+pub use search::complements;
 pub use solver::{Answer, Solver};
 pub use trail::complement;
 pub use valuation::Valuation;

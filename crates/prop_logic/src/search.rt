@@ -114,8 +114,8 @@ fn assume(trail: &mut Trail, assumptions: &[Lit]) -> Result<Option<usize>, Memor
     Ok(None)
 }
 
-/// The answer where a literal and its complement are assumed, which no clause is needed for.
-pub fn clash(alloc: Global, lit: Lit) -> Result<Answer, Memory>
+// The refutation of a literal's complement and the literal.
+fn clash(alloc: Global, lit: Lit) -> Result<Answer, Memory>
     ensures { IfOk result (λ answer. answer ≡ Answer.Unsat (complement lit ∷ lit ∷ []) ((record { clause = lit ∷ complement lit ∷ []; hints = [] }) ∷ [])) }
 {
     let mut core = LitList::new(alloc);

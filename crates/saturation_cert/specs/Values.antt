@@ -1,6 +1,5 @@
 -- The certificates that values over a bank stand for.
-use Rattle.std.specs.Prelude.{ℕ, List, map}
-use Rattle.inst_logic.specs.declared.signed.Signed.{Signed}
+use Rattle.std.specs.Prelude.{map}
 use Rattle.term_bank.specs.Forest.{Forest, clause_at}
 use Rattle.inst_calculus.specs.Entries as entries
 use Rattle.inst_calculus.specs.Steps as steps
@@ -25,11 +24,11 @@ entry_of f m = record { clause = clause_at f m.clause; origin = origin_of m.orig
 
 abbrev pub base_of : Base → format.Base
 base_of b = record {
-    inputs = map (clause_at b.bank) b.inputs;
-    names = b.names;
-    axioms = map (clause_at b.bank) b.axioms;
-    members = map (entry_of b.bank) b.members;
-  }
+  inputs = map (clause_at b.bank) b.inputs;
+  names = b.names;
+  axioms = map (clause_at b.bank) b.axioms;
+  members = map (entry_of b.bank) b.members;
+}
 
 abbrev pub hint_of : GroundHint → steps.Cited
 hint_of (Ground n) = steps.given n
@@ -40,11 +39,11 @@ step_of f s = record { clause = clause_at f s.clause; hints = map hint_of s.hint
 
 abbrev pub refutation_of : Refutation → format.Refutation
 refutation_of r = record {
-    base = base_of r.base;
-    bot = r.bot;
-    grounds = map (clause_at r.base.bank) r.grounds;
-    steps = map (step_of r.base.bank) r.steps;
-  }
+  base = base_of r.base;
+  bot = r.bot;
+  grounds = map (clause_at r.base.bank) r.grounds;
+  steps = map (step_of r.base.bank) r.steps;
+}
 
 abbrev pub saturation_of : Saturation → format.Saturation
 saturation_of s = record { base = base_of s.base; places = s.places }

@@ -2,7 +2,6 @@
 use Rattle.std.specs.Prelude.{◌≡◌, ◌<◌, ℕ, ◌^◌, ◌-◌, List, length, true, All}
 use Rattle.inst_logic.specs.declared.signed.Signed.{Signed}
 use Rattle.inst_logic.specs.Measure.{tree_weight}
-use Rattle.inst_logic.specs.Tree.{Tree}
 use Rattle.inst_logic.specs.WellFormed.{IsAtom}
 use Rattle.inst_calculus.specs.Models.{Member as Selected}
 use Rattle.term_bank.specs.Forest.{Forest, AreFormed, Extends, IsClauseOf, tree_at, is_ground}
@@ -11,7 +10,6 @@ use Rattle.cert_format.specs.Validity.{IsRightPlace}
 use Rattle.saturation_cert.specs.declared.certificate.Base.{Base}
 use Rattle.saturation_cert.specs.declared.certificate.Refutation.{Refutation}
 use Rattle.saturation_cert.specs.declared.certificate.Saturation.{Saturation}
-use Rattle.saturation_cert.specs.Values.{saturation_of}
 
 -- the ids are those of atoms of the bank
 pub record IsWholeClause (f : Forest) (c : List (Signed ℕ)) : Type 0 where

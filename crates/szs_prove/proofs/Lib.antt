@@ -10,8 +10,10 @@ pub mod GroundClauses
 pub mod UnsatisfiableProblems
 pub mod SymbolNames
 pub mod Exact
-pub mod Loaded
 pub mod Pieces
+pub mod LeftTerms
+pub mod BuiltClauses
+pub mod FileNames
 pub mod PlainProblems
 pub mod Told
 pub mod Texts

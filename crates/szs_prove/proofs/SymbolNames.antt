@@ -12,10 +12,7 @@ use Rattle.std.proofs.lemmas.List.Sums.{fold-append}
 use Rattle.std.proofs.lemmas.Slice.Eq.{bytes_eq-Decides}
 use Rattle.indexmap.specs.IndexSet.{insert_key}
 use Rattle.inst_logic.specs.declared.symbol.Sym.{Sym}
-use Rattle.inst_logic.specs.declared.term.Term.{Term}
 use Rattle.inst_logic.specs.declared.clause.Literal.{Literal}
-use Rattle.inst_logic.specs.Tree.{of_list}
-use Rattle.inst_logic.specs.View.{tree}
 use Rattle.inst_logic.specs.LiteralView.{literal}
 use Rattle.inst_logic.specs.Lists.{distinct, with_item}
 use Rattle.inst_logic.specs.Printing.{is_between, is_readable_name}
@@ -23,7 +20,7 @@ use Rattle.inst_logic.specs.Clauses.{TreeClause}
 use Rattle.inst_logic.proofs.Distinct.{distinct_append}
 use Rattle.inst_logic.proofs.SameLemmas.{and_both}
 use Rattle.inst_logic.proofs.Sets.{with_key}
-use Rattle.inst_calculus.specs.Axioms.{tree_symbols, trees_symbols, clause_symbols, occurrences}
+use Rattle.inst_calculus.specs.Axioms.{tree_symbols, clause_symbols, occurrences}
 use Rattle.inst_calculus.specs.Abstraction.{is_taken, bot_name}
 use Rattle.inst_calculus.proofs.Membership.{◌∈◌, in_map, from_map, equal_in}
 use Rattle.inst_calculus.proofs.Distinct.{IsDistinct, in_distinct, from_distinct, length_within}
@@ -37,11 +34,6 @@ note_name now keys k = with_key bytes_eq (decided bytes_eq bytes_eq-Decides).sym
 
 with_names_append : (names : List (List ℕ)) (xs ys : List Sym) → with_names names (xs ++ ys) ≡ with_names (with_names names xs) ys
 with_names_append names xs ys = ap (fold (with_item bytes_eq) names) (map-append (λ (s : Sym). s.name) xs ys) ∙ fold-append (with_item bytes_eq) names (map (λ (s : Sym). s.name) xs) (map (λ (s : Sym). s.name) ys)
-
-pub names_of_trees : (names : List (List ℕ)) (ts : List Term) → fold (λ a t. with_names a (tree_symbols (tree t))) names ts ≡ with_names names (trees_symbols (of_list (map tree ts)))
-names_of_trees names [] = refl
-names_of_trees names (t ∷ ts) =
-    names_of_trees (with_names names (tree_symbols (tree t))) ts ∙ sym (with_names_append names (tree_symbols (tree t)) (trees_symbols (of_list (map tree ts))))
 
 pub names_of_literals : (names : List (List ℕ)) (ls : List Literal) → fold (λ a l. with_names a (tree_symbols (literal l).atom)) names ls ≡ with_names names (clause_symbols (map literal ls))
 names_of_literals names [] = refl

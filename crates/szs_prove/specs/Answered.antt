@@ -3,7 +3,7 @@ use Rattle.std.specs.Prelude.{ℕ, ◌≡◌, List, Option}
 use Rattle.outside_io.specs.declared.library.NamedFile.{NamedFile}
 use Rattle.szs_prove.specs.Answers.{Answer, IsAnswer, IsCertificateFor, exit_for, text_for}
 use Rattle.szs_prove.specs.Certificates.{Certificate, certificate_text}
-use Rattle.szs_prove.specs.Words.{file_of, shown_name}
+use Rattle.szs_prove.specs.Words.{Asked, asked_of, shown_name}
 use Rattle.szs_prove.specs.Written.{IsWritten}
 use Rattle.szs_prove.specs.declared.exit.Exit.{Exit}
 
@@ -30,8 +30,8 @@ writing old new before now = record { old = old; new = new; before = before; now
 pub record Answered (words : List (List ℕ)) (read : Reading) (write : Writing) (exit : Exit) : Type 0 where
   pub answer : Answer
   pub cause : IsAnswer words read.files read.before read.now answer
-  pub written : IsWritten write.old write.new write.before write.now (text_for (shown_name (file_of words)) answer) (exit_for answer) exit
+  pub written : IsWritten write.old write.new write.before write.now (text_for (shown_name (asked_of words)) answer) (exit_for answer) exit
 
--- the text is that of a certificate for the file of this name
-abbrev pub HasVerdict : Option (List NamedFile) → List ℕ → List ℕ → Type 0
-HasVerdict files name text = (c : Certificate) × IsCertificateFor files name c × (text ≡ certificate_text name c)
+-- the text is that of a certificate for what is asked of
+abbrev pub HasVerdict : Option (List NamedFile) → Asked → List ℕ → Type 0
+HasVerdict files asked text = (c : Certificate) × IsCertificateFor files asked c × (text ≡ certificate_text asked.file c)

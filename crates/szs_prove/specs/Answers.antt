@@ -3,9 +3,10 @@ use Rattle.std.specs.Prelude.{ℕ, ◌≡◌, List, Option, None, Some}
 use Rattle.inst_logic.specs.declared.clause.Problem.{Problem}
 use Rattle.outside_io.specs.declared.library.NamedFile.{NamedFile}
 use Rattle.szs_prove.specs.Certificates.{Certificate, Certifies, certificate_text}
-use Rattle.szs_prove.specs.Loading.{Loads, IsUnread}
+use Rattle.cert_format.specs.Printable.{IsTextName}
+use Rattle.szs_prove.specs.Loading.{IsProblemOf, IsUnread}
 use Rattle.szs_prove.specs.Texts.{exit_of, refusal_text}
-use Rattle.szs_prove.specs.Words.{file_of}
+use Rattle.szs_prove.specs.Words.{Asked, asked_of}
 use Rattle.szs_prove.specs.declared.exit.Exit.{Exit}
 use Rattle.szs_prove.specs.declared.exit.Exit.TheVariants.{Decided}
 use Rattle.szs_prove.specs.declared.refusal.Refusal.{Refusal}
@@ -16,21 +17,22 @@ pub data Answer : Type 0 where
   verdict : Certificate → Answer
   refusal : Refusal → Answer
 
--- the certificate is one of the problem of the file of this name
-pub record IsCertificateFor (files : Option (List NamedFile)) (name : List ℕ) (c : Certificate) : Type 0 where
+-- the certificate is one of the problem that is asked of, under the name of its file
+pub record IsCertificateFor (files : Option (List NamedFile)) (asked : Asked) (c : Certificate) : Type 0 where
   pub problem : Problem
-  pub loads : Loads files name problem
+  pub is_problem : IsProblemOf files asked problem
   pub certifies : Certifies problem c
+  pub name : IsTextName asked.file
 
 -- the words name a file, and the certificate is one for it
 abbrev pub IsVerdict : List (List ℕ) → Option (List NamedFile) → Certificate → Type 0
-IsVerdict words files c = (name : List ℕ) × (file_of words ≡ Some name) × IsCertificateFor files name c
+IsVerdict words files c = (asked : Asked) × (asked_of words ≡ Some asked) × IsCertificateFor files asked c
 
 -- the cause of an answer; the count of faults goes from before to now
 abbrev pub IsAnswer : List (List ℕ) → Option (List NamedFile) → ℕ → ℕ → Answer → Type 0
 IsAnswer words files before now (verdict c) = IsVerdict words files c
-IsAnswer words files before now (refusal Usage) = file_of words ≡ None
-IsAnswer words files before now (refusal why) = (name : List ℕ) × (file_of words ≡ Some name) × IsUnread files before now name why
+IsAnswer words files before now (refusal Usage) = asked_of words ≡ None
+IsAnswer words files before now (refusal why) = (asked : Asked) × (asked_of words ≡ Some asked) × IsUnread files before now asked why
 
 abbrev pub exit_for : Answer → Exit
 exit_for (verdict c) = Decided

@@ -1,47 +1,39 @@
 -- When each exit comes, and what it leaves.
-use Rattle.std.specs.Prelude.{ℕ, ◌≡◌, ◌⊎◌, ◌<◌, ◌≤◌, List, Option, None, Some, ⊤, length}
+use Rattle.std.specs.Prelude.{ℕ, ◌≡◌, ◌⊎◌, List, Option, None, Some, ⊤, All}
 use Rattle.std.specs.Io.KnownBytes.{Appends}
 use Rattle.outside_io.specs.Causes.{Rose}
-use Rattle.outside_io.specs.Files.{bytes_named}
 use Rattle.outside_io.specs.Taken.{AppendsProperPrefix}
 use Rattle.outside_io.specs.declared.library.NamedFile.{NamedFile}
-use Rattle.tptp_read.specs.declared.statement.Statement.{Statement}
-use Rattle.tptp_read.specs.Text.{Readable, Offends}
+use Rattle.inst_logic.specs.declared.clause.Problem.{Problem}
+use Rattle.tptp_load.specs.Problems.{Loads, Refuses}
+use Rattle.tptp_load.specs.declared.error.LoadError.{LoadError}
 use Rattle.szs_prove.specs.Answered.{Reading, Writing}
 use Rattle.szs_prove.specs.Answers.{Answer, IsAnswer, IsVerdict, text_for}
 use Rattle.szs_prove.specs.Certificates.{Certificate, certificate_text}
-use Rattle.szs_prove.specs.Loading.{limit}
+use Rattle.szs_prove.specs.Loading.{IsBuilt, IsFirstUnbuilt}
 use Rattle.szs_prove.specs.Texts.{refusal_text}
-use Rattle.szs_prove.specs.Words.{file_of, shown_name}
+use Rattle.szs_prove.specs.Words.{Asked, asked_of, shown_name}
 use Rattle.szs_prove.specs.declared.exit.Exit.{Exit}
 use Rattle.szs_prove.specs.declared.exit.Exit.TheVariants.{Decided, Refused, Usage, ReadFault, WriteFault, Memory}
 use Rattle.szs_prove.specs.declared.refusal.Refusal.TheVariants as why
 
--- the words name a file, and it has these bytes
-abbrev pub Asks : List (List ℕ) → List NamedFile → List ℕ → Type 0
-Asks words files bytes = (name : List ℕ) × (file_of words ≡ Some name) × (bytes_named files name ≡ Some bytes)
+-- the words are read, the problem loads, and no clause has a variable or equality
+abbrev pub AsksBuilt : List (List ℕ) → List NamedFile → Type 0
+AsksBuilt words files = (asked : Asked) × (asked_of words ≡ Some asked) × (p : Problem) × Loads files asked.file asked.root p × All IsBuilt p.clauses
 
--- the words name a file, and there is none
-abbrev pub AsksAbsent : List (List ℕ) → List NamedFile → Type 0
-AsksAbsent words files = (name : List ℕ) × (file_of words ≡ Some name) × (bytes_named files name ≡ None)
+-- the words are read, the problem loads, and some clause has a variable or equality
+abbrev pub AsksUnbuilt : List (List ℕ) → List NamedFile → Type 0
+AsksUnbuilt words files = (asked : Asked) × (asked_of words ≡ Some asked) × (p : Problem) × Loads files asked.file asked.root p × (k : ℕ) × IsFirstUnbuilt p k
 
--- the words name a file that has too many bytes
-abbrev pub AsksTooLong : List (List ℕ) → List NamedFile → Type 0
-AsksTooLong words files = (bytes : List ℕ) × Asks words files bytes × (limit < length bytes)
-
--- the words name a file of at most as many bytes as are read, and it is of the form that is read
-abbrev pub AsksReadable : List (List ℕ) → List NamedFile → Type 0
-AsksReadable words files = (bytes : List ℕ) × Asks words files bytes × (length bytes ≤ limit) × (ss : List Statement) × Readable bytes ss
-
--- the words name such a file, and it is not of the form that is read
-abbrev pub AsksOffending : List (List ℕ) → List NamedFile → Type 0
-AsksOffending words files = (bytes : List ℕ) × Asks words files bytes × (length bytes ≤ limit) × (k : ℕ) × Offends bytes k
+-- the words are read, and the problem is refused
+abbrev pub AsksRefused : List (List ℕ) → List NamedFile → Type 0
+AsksRefused words files = (asked : Asked) × (asked_of words ≡ Some asked) × (e : LoadError) × Refuses files asked.file asked.root e
 
 -- what has to be so for this exit
 abbrev pub Causes : List (List ℕ) → List NamedFile → Reading → Writing → Exit → Type 0
-Causes words files read write Decided = AsksReadable words files
-Causes words files read write Refused = AsksAbsent words files ⊎ (AsksTooLong words files ⊎ AsksOffending words files)
-Causes words files read write Usage = file_of words ≡ None
+Causes words files read write Decided = AsksBuilt words files
+Causes words files read write Refused = AsksRefused words files ⊎ AsksUnbuilt words files
+Causes words files read write Usage = asked_of words ≡ None
 Causes words files read write ReadFault = Rose read.before read.now
 Causes words files read write WriteFault = Rose write.before write.now
 Causes words files read write Memory = ⊤
@@ -62,14 +54,14 @@ pub record IsExact (words : List (List ℕ)) (files : List NamedFile) (read : Re
 pub record WritesCertificate (words : List (List ℕ)) (files : Option (List NamedFile)) (old new : Option (List ℕ)) : Type 0 where
   pub certificate : Certificate
   pub is_verdict : IsVerdict words files certificate
-  pub written : Appends old new (certificate_text is_verdict.0 certificate)
+  pub written : Appends old new (certificate_text is_verdict.0.file certificate)
 
 -- A proper prefix of the text of an answer with its cause was written.
 pub record IsInterrupted (words : List (List ℕ)) (read : Reading) (old new : Option (List ℕ)) : Type 0 where
   pub answer : Answer
   pub cause : IsAnswer words read.files read.before read.now answer
-  pub written : AppendsProperPrefix old new (text_for (shown_name (file_of words)) answer)
+  pub written : AppendsProperPrefix old new (text_for (shown_name (asked_of words)) answer)
 
 -- That memory is wanted was written, or an answer was not written whole.
 abbrev pub WantsMemory : List (List ℕ) → Reading → Option (List ℕ) → Option (List ℕ) → Type 0
-WantsMemory words read old new = Appends old new (refusal_text (shown_name (file_of words)) why.Memory) ⊎ IsInterrupted words read old new
+WantsMemory words read old new = Appends old new (refusal_text (shown_name (asked_of words)) why.Memory) ⊎ IsInterrupted words read old new

@@ -10,5 +10,8 @@ pub mod Numbering
 pub mod Members
 pub mod Places
 pub mod Bot
+pub mod Built
+pub mod Told
 pub mod Words
+pub mod Requests
 pub mod Written

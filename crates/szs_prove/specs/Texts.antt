@@ -1,6 +1,12 @@
 -- What the program writes, and the status that it ends with.
 use Rattle.std.specs.Prelude.{ℕ, List, [], ◌∷◌, ◌++◌, codes, decimal}
 use Rattle.std.specs.List.{concat}
+use Rattle.tptp_read.specs.declared.statement.Which.{Which}
+use Rattle.tptp_read.specs.declared.statement.Which.TheVariants.{Nesting, Arity, Variables}
+use Rattle.tptp_read.specs.declared.text.ReadError.{ReadError}
+use Rattle.tptp_read.specs.declared.text.ReadError.TheVariants as text
+use Rattle.tptp_load.specs.declared.error.LoadError.{LoadError}
+use Rattle.tptp_load.specs.declared.error.LoadError.TheVariants as load
 use Rattle.szs_prove.specs.declared.exit.Exit.{Exit}
 use Rattle.szs_prove.specs.declared.exit.Exit.TheVariants.{Decided, Refused, Usage, ReadFault, WriteFault, Memory}
 use Rattle.szs_prove.specs.declared.refusal.Refusal.{Refusal}
@@ -14,35 +20,87 @@ code_of ReadFault = 4
 code_of WriteFault = 5
 code_of Memory = 6
 
+abbrev pub load_exit : LoadError → Exit
+load_exit load.ReadFault = ReadFault
+load_exit load.Memory = Memory
+load_exit _ = Refused
+
 abbrev pub exit_of : Refusal → Exit
 exit_of why.Usage = Usage
-exit_of why.Absent = Refused
-exit_of why.TooLong = Refused
-exit_of (why.Unbuilt k) = Refused
-exit_of why.ReadFault = ReadFault
+exit_of (why.Load e) = load_exit e
+exit_of (why.NotBuilt k) = Refused
 exit_of why.Memory = Memory
 
--- the status word of the SZS ontology
+-- the status words of the SZS ontology
+abbrev pub text_status : ReadError → List ℕ
+text_status (text.Syntax k) = codes "SyntaxError"
+text_status (text.Language k w) = codes "Inappropriate"
+text_status (text.Feature k w) = codes "Inappropriate"
+text_status (text.Role k w) = codes "Inappropriate"
+text_status (text.Limit k which) = codes "InputError"
+text_status text.Memory = codes "MemoryOut"
+
+abbrev pub load_status : LoadError → List ℕ
+load_status (load.Text file fault) = text_status fault
+load_status (load.Absent wanted) = codes "InputError"
+load_status (load.NotSelected file wanted) = codes "InputError"
+load_status (load.IncludeDepth file) = codes "InputError"
+load_status load.TooLong = codes "InputError"
+load_status load.ReadFault = codes "OSError"
+load_status load.Memory = codes "MemoryOut"
+
 abbrev pub status_of : Refusal → List ℕ
 status_of why.Usage = codes "UsageError"
-status_of why.Absent = codes "InputError"
-status_of why.TooLong = codes "InputError"
-status_of (why.Unbuilt k) = codes "Inappropriate"
-status_of why.ReadFault = codes "OSError"
+status_of (why.Load e) = load_status e
+status_of (why.NotBuilt k) = codes "Inappropriate"
 status_of why.Memory = codes "MemoryOut"
 
+abbrev pub which_word : Which → List ℕ
+which_word Nesting = codes "nesting"
+which_word Arity = codes "arity"
+which_word Variables = codes "variables"
+
+-- what stands between a word of the reason and the number of the statement, and before the file's name
+abbrev pub at_statement : ℕ → List ℕ → List (List ℕ)
+at_statement k file = codes ": statement " ∷ decimal k ∷ codes " of " ∷ file ∷ (10 ∷ []) ∷ []
+
+abbrev pub text_pieces : List ℕ → ReadError → List (List ℕ)
+text_pieces file (text.Syntax k) = codes "% syntax" ∷ at_statement k file
+text_pieces file (text.Language k w) = codes "% language " ∷ w ∷ at_statement k file
+text_pieces file (text.Feature k w) = codes "% feature " ∷ w ∷ at_statement k file
+text_pieces file (text.Role k w) = codes "% role " ∷ w ∷ at_statement k file
+text_pieces file (text.Limit k which) = codes "% limit " ∷ which_word which ∷ at_statement k file
+text_pieces file text.Memory = []
+
+-- a lead and a name in a line
+abbrev pub named_pieces : List ℕ → List ℕ → List (List ℕ)
+named_pieces lead name = lead ∷ name ∷ (10 ∷ []) ∷ []
+
+abbrev pub selection_pieces : List ℕ → List ℕ → List (List ℕ)
+selection_pieces wanted file = codes "% not selected: " ∷ wanted ∷ codes " in " ∷ file ∷ (10 ∷ []) ∷ []
+
+abbrev pub clause_pieces : ℕ → List (List ℕ)
+clause_pieces k = codes "% not built: clause " ∷ decimal k ∷ (10 ∷ []) ∷ []
+
 -- the pieces of the second line, where there is one
-abbrev pub reason_pieces : List ℕ → Refusal → List (List ℕ)
-reason_pieces name why.Usage = (codes "% usage" ++ 10 ∷ []) ∷ []
-reason_pieces name why.Absent = codes "% absent: " ∷ name ∷ (10 ∷ []) ∷ []
-reason_pieces name why.TooLong = (codes "% limit bytes" ++ 10 ∷ []) ∷ []
-reason_pieces name (why.Unbuilt k) = codes "% form: statement " ∷ decimal k ∷ codes " of " ∷ name ∷ (10 ∷ []) ∷ []
-reason_pieces name why.ReadFault = (codes "% read fault" ++ 10 ∷ []) ∷ []
-reason_pieces name why.Memory = []
+abbrev pub load_pieces : LoadError → List (List ℕ)
+load_pieces (load.Text file fault) = text_pieces file fault
+load_pieces (load.Absent wanted) = named_pieces (codes "% absent: ") wanted
+load_pieces (load.NotSelected file wanted) = selection_pieces wanted file
+load_pieces (load.IncludeDepth file) = named_pieces (codes "% limit include depth: ") file
+load_pieces load.TooLong = (codes "% limit bytes" ++ 10 ∷ []) ∷ []
+load_pieces load.ReadFault = (codes "% read fault" ++ 10 ∷ []) ∷ []
+load_pieces load.Memory = []
+
+abbrev pub reason_pieces : Refusal → List (List ℕ)
+reason_pieces why.Usage = (codes "% usage" ++ 10 ∷ []) ∷ []
+reason_pieces (why.Load e) = load_pieces e
+reason_pieces (why.NotBuilt k) = clause_pieces k
+reason_pieces why.Memory = []
 
 -- the status line, and then the reason
 abbrev pub pieces_of : List ℕ → Refusal → List (List ℕ)
-pieces_of name refusal = codes "% SZS status " ∷ status_of refusal ∷ codes " for " ∷ name ∷ (10 ∷ []) ∷ reason_pieces name refusal
+pieces_of name refusal = codes "% SZS status " ∷ status_of refusal ∷ codes " for " ∷ name ∷ (10 ∷ []) ∷ reason_pieces refusal
 
 abbrev pub refusal_text : List ℕ → Refusal → List ℕ
 refusal_text name refusal = concat (pieces_of name refusal)

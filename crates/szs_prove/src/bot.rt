@@ -1,51 +1,73 @@
 // The constant for abstractions: the first of `bot_0`, `bot_1`, .. whose name no symbol of the clauses has.
-ghost use Rattle.std.specs.Prelude.{◌≡◌, [], ◌∷◌, map, IsTrue, IfOk, OnOk};
-ghost use Rattle.inst_logic.specs.Tree.{of_list};
+ghost use Rattle.std.specs.Prelude.{◌≡◌, ◌<◌, ◌+◌, ◌++◌, [], map, IsTrue, IfOk, OnOk};
+ghost use Rattle.inst_logic.specs.LiteralView.{literal};
+ghost use Rattle.inst_logic.specs.Measure.{tree_size};
 ghost use Rattle.inst_logic.specs.View.{tree};
 ghost use Rattle.inst_logic.specs.Printing.{is_readable_name};
-ghost use Rattle.inst_calculus.specs.Axioms.{tree_symbols, trees_symbols, clause_symbols, occurrences};
+ghost use Rattle.inst_calculus.specs.Axioms.{tree_symbols, clause_symbols, occurrences};
 ghost use Rattle.inst_calculus.specs.Abstraction.{IsBot, bot_name};
 ghost use Rattle.szs_prove.specs.Bot.{with_names};
+ghost use Rattle.szs_prove.specs.Built.{left_size, left_symbols};
 ghost use Rattle.szs_prove.specs.Verdicts.{constant};
 
+use crate::walk::push_terms;
 use indexmap::IndexSet;
-use inst_logic::{Clause, ClauseList, Memory, Name, Sym, Term, TermList};
+use inst_logic::{Clause, ClauseList, Literal, Memory, Name, Term};
 use itoa::Buffer;
 use std::alloc::Global;
 
-// Adds the names of the term's symbols.
-#[cycle(names)]
-fn collect_term<'a>(names: &mut IndexSet<&'a [u8]>, t: &'a Term) -> Result<(), Memory>
-    ensures { OnOk result (map (λ n. n.now) names.new.keys ≡ with_names (map (λ n. n.now) names.old.keys) (tree_symbols (tree t.now))) }
+// Adds the name of the term's symbol, and leaves its arguments to be walked.
+fn collect_head<'a>(
+    names: &mut IndexSet<&'a [u8]>,
+    left: &mut Vec<&'a Term>,
+    t: &'a Term,
+) -> Result<(), Memory>
+    ensures names { OnOk result (with_names (map (λ n. n.now) names.new.keys) (left_symbols left.new.items) ≡ with_names (map (λ n. n.now) names.old.keys) (tree_symbols (tree t.now) ++ left_symbols left.old.items)) }
+    ensures size { OnOk result (left_size left.new.items < left_size left.old.items + tree_size (tree t.now)) }
 {
     match t {
         Term::Var(_) => Ok(()),
-        Term::App(sym, args) => collect_application(names, sym, args),
+        Term::App(sym, args) => {
+            names.insert(sym.name.bytes())?;
+            push_terms(left, args.as_slice())
+        }
     }
 }
 
-#[cycle(names)]
-#[tactic(auto, using(inst_logic::proofs::Walks::height_at))]
-fn collect_application<'a>(
-    names: &mut IndexSet<&'a [u8]>,
-    sym: &'a Sym,
-    args: &'a TermList,
-) -> Result<(), Memory>
-    ensures { OnOk result (map (λ n. n.now) names.new.keys ≡ with_names (map (λ n. n.now) names.old.keys) (sym.now ∷ trees_symbols (of_list args.now))) }
+// Adds the names of the symbols of the terms that are left.
+fn collect_left<'a>(names: &mut IndexSet<&'a [u8]>, left: &mut Vec<&'a Term>) -> Result<(), Memory>
+    ensures { OnOk result (map (λ n. n.now) names.new.keys ≡ with_names (map (λ n. n.now) names.old.keys) (left_symbols left.old.items)) }
 {
-    names.insert(sym.name.bytes())?;
-    for t in args.as_slice() {
-        collect_term(names, t)?;
+    while let Some(t) = left.pop() {
+        collect_head(names, left, t)?;
     }
     Ok(())
 }
 
+// Adds the names of the literal's symbols.
+fn collect_literal<'a>(
+    alloc: Global,
+    names: &mut IndexSet<&'a [u8]>,
+    l: &'a Literal,
+) -> Result<(), Memory>
+    ensures { OnOk result (map (λ n. n.now) names.new.keys ≡ with_names (map (λ n. n.now) names.old.keys) (tree_symbols (literal l.now).atom)) }
+{
+    names.insert(l.sym.name.bytes())?;
+    let mut left = Vec::new(alloc);
+    push_terms(&mut left, l.args.as_slice())?;
+    collect_left(names, &mut left)
+}
+
 // Adds the names of the clause's symbols.
-fn collect_clause<'a>(names: &mut IndexSet<&'a [u8]>, c: &'a Clause) -> Result<(), Memory>
+fn collect_clause<'a>(
+    alloc: Global,
+    names: &mut IndexSet<&'a [u8]>,
+    c: &'a Clause,
+) -> Result<(), Memory>
     ensures { OnOk result (map (λ n. n.now) names.new.keys ≡ with_names (map (λ n. n.now) names.old.keys) (clause_symbols c.now)) }
 {
     for l in c.as_slice() {
-        collect_application(names, &l.sym, &l.args)?;
+        collect_literal(alloc, names, l)?;
     }
     Ok(())
 }
@@ -56,7 +78,7 @@ fn collect_names<'a>(alloc: Global, clauses: &'a ClauseList) -> Result<IndexSet<
 {
     let mut names = IndexSet::new(alloc);
     for c in clauses.as_slice() {
-        collect_clause(&mut names, c)?;
+        collect_clause(alloc, &mut names, c)?;
     }
     Ok(names)
 }

@@ -1,4 +1,4 @@
-// Clauses and the clauses of steps in canonical printing, each put at the end of a text.
+// The clauses of steps in canonical printing, each put at the end of a text.
 ghost use Rattle.std.specs.Prelude.{◌≡◌, ◌++◌, [], ◌∷◌, OnOk, IfOk, map, codes};
 ghost use Rattle.inst_logic.specs.View.{tree};
 ghost use Rattle.inst_logic.specs.LiteralView.{literal};
@@ -8,37 +8,11 @@ ghost use Rattle.inst_logic.specs.Lists.{distinct, with_item};
 ghost use Rattle.inst_calculus.specs.Steps.{renamed_literal, renamed_clause};
 ghost use Rattle.szs_prove.specs.Verdicts.{atom_at};
 
-use crate::printing::{push_atom, push_bytes, push_literal, push_sign, push_variable};
 use indexmap::IndexSet;
 use inst_logic::{Literal, Memory, Signed, Term};
 use prop_logic::Lit;
 use std::alloc::Global;
-
-// What follows a literal: each more behind ` | `.
-#[tactic(auto, using(std::proofs::lemmas::Grind::common_steps, crate::proofs::Texts::joined_first))]
-fn push_following(text: &mut Vec<u8>, rest: &[Literal]) -> Result<(), Memory>
-    ensures { OnOk result (text.new.items ≡ text.old.items ++ joined (codes " | ") ([] ∷ map literal_text (map literal rest.now))) }
-{
-    for l in rest {
-        push_bytes(text, b" | ")?;
-        push_literal(text, l)?;
-    }
-    Ok(())
-}
-
-// The literals joined by ` | `, or `$false`.
-#[tactic(auto, using(std::proofs::lemmas::Grind::common_steps, crate::proofs::Texts::joined_first))]
-pub fn push_clause(text: &mut Vec<u8>, c: &[Literal]) -> Result<(), Memory>
-    ensures { OnOk result (text.new.items ≡ text.old.items ++ clause_text (map literal c.now)) }
-{
-    match c {
-        [] => push_bytes(text, b"$false"),
-        [first, rest @ ..] => {
-            push_literal(text, first)?;
-            push_following(text, rest)
-        }
-    }
-}
+use tptp_write::{push_atom, push_bytes, push_sign, push_term};
 
 // Atom number `n` of the table, or the variable 0 past its end.
 fn atom_term(atoms: &[Literal], n: usize) -> Result<Term, Memory>
@@ -87,9 +61,9 @@ fn push_renamed(text: &mut Vec<u8>, l: &Signed<Term>) -> Result<(), Memory>
     ensures { OnOk result (text.new.items ≡ text.old.items ++ literal_text (renamed_literal tree l.now)) }
 {
     match &l.atom {
-        Term::Var(n) => {
+        Term::Var(_) => {
             push_sign(text, l.positive)?;
-            push_variable(text, *n)
+            push_term(text, &l.atom)
         }
         Term::App(sym, args) => push_atom(text, l.positive, sym, args),
     }

@@ -5,32 +5,39 @@ ghost use Rattle.szs_prove.specs.Loading.{IsUnread};
 ghost use Rattle.szs_prove.specs.Answered.{Answered, HasVerdict, reading, writing};
 ghost use Rattle.szs_prove.specs.Exact.{IsExact, IsInterrupted, WantsMemory, WritesCertificate};
 ghost use Rattle.szs_prove.specs.Written.{IsWritten};
+ghost use Rattle.cert_format.specs.Printable.{IsTextName};
+ghost use Rattle.szs_prove.specs.Requests.{asked};
+ghost use Rattle.szs_prove.specs.Told.{AnsweredBuilt, LoadsBuilt};
 
 use crate::decide::decide;
 use crate::exit::Exit;
 use crate::load::load;
 use crate::refusal::{Refusal, exit_after, write_refusal};
 use crate::text::verdict_text;
-use crate::words::read_words;
+use crate::words::{Request, read_words};
+use cdcl_core::Cdcl;
 use outside_io::{Library, Sink, write_all};
-use prop_logic::{Plain, Solver};
+use prop_logic::Solver;
 use std::alloc::Global;
+use tptp_load::laws::one_loading;
 
-// The text of the verdict on this file.
+// The text of the verdict on what is asked.
 fn verdict<L: Library, S: Solver>(
     alloc: Global,
-    name: &str,
+    request: Request<'_>,
     files: &mut L,
     solver: S,
 ) -> Result<Vec<u8>, Refusal>
     requires atoms { S.atoms solver ≡ 0 }
     requires added { S.added solver ≡ [] }
-    ensures ok { IfOk result (λ text. HasVerdict (L.files files.old) name.now text.items) }
-    ensures err { IfErr result (IsUnread (L.files files.old) (L.faults files.old) (L.faults files.new) name.now) }
+    requires name { IsTextName request.file.now }
+    ensures ok { IfOk result (λ text. HasVerdict (L.files files.old) (asked request.entry) text.items) }
+    ensures built { IfOk result (λ _. LoadsBuilt (L.files files.old) (asked request.entry)) }
+    ensures err { IfErr result (IsUnread (L.files files.old) (L.faults files.old) (L.faults files.new) (asked request.entry)) }
 {
-    let problem = load(alloc, name, files)?;
+    let problem = load(alloc, request, files)?;
     let verdict = decide(alloc, &problem, solver)?;
-    Ok(verdict_text(alloc, name.as_bytes(), &problem, &verdict)?)
+    Ok(verdict_text(alloc, request.file.as_bytes(), &problem, &verdict)?)
 }
 
 // Writes the text whole, and then ends like that.
@@ -52,14 +59,14 @@ fn answer<L: Library, K: Sink, S: Solver>(
 ) -> Exit
     requires atoms { S.atoms solver ≡ 0 }
     requires added { S.added solver ≡ [] }
-    ensures { Answered (map string_bytes words.now) (reading (L.files files.old) (L.faults files.old) (L.faults files.new)) (writing (K.taken out.old) (K.taken out.new) (K.faults out.old) (K.faults out.new)) result }
+    ensures { AnsweredBuilt (map string_bytes words.now) (reading (L.files files.old) (L.faults files.old) (L.faults files.new)) (writing (K.taken out.old) (K.taken out.new) (K.faults out.old) (K.faults out.new)) result }
 {
-    let Some(name) = read_words(words) else {
-        return write_refusal(out, b"instgen", Refusal::Usage);
+    let Some(request) = read_words(words) else {
+        return write_refusal(out, b"instgen", &Refusal::Usage);
     };
-    match verdict(alloc, name, files, solver) {
+    match verdict(alloc, request, files, solver) {
         Ok(text) => write_text(out, text.as_slice(), Exit::Decided),
-        Err(refusal) => write_refusal(out, name.as_bytes(), refusal),
+        Err(refusal) => write_refusal(out, request.file.as_bytes(), &refusal),
     }
 }
 
@@ -77,5 +84,6 @@ pub fn run<L: Library, K: Sink>(alloc: Global, words: &[String], files: &mut L, 
     // Where memory is wanted, the text that says so was taken, or a prefix of an answer's text.
     ensures memory { result ≡ Exit.Memory → WantsMemory (map string_bytes words.now) (reading (L.files files.old) (L.faults files.old) (L.faults files.new)) (K.taken out.old) (K.taken out.new) }
 {
-    answer(alloc, words, files, out, Plain::new(alloc))
+    one_loading();
+    answer(alloc, words, files, out, Cdcl::new(alloc))
 }

@@ -7,7 +7,7 @@ ghost use Rattle.szs_prove.specs.Texts.{code_of};
 pub enum Exit {
     /// The text of a verdict was written whole.
     Decided,
-    /// The file is not there, is too long, or is not of the form that is read.
+    /// The file gives no problem, or the problem has a clause with a variable or equality.
     Refused,
     /// The words are not read.
     Usage,

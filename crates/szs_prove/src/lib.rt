@@ -2,11 +2,11 @@
 #![tactic(auto)]
 
 mod bot;
+mod built;
 mod clauses;
 mod command;
 mod decide;
 mod exit;
-mod file;
 mod lines;
 mod listing;
 mod load;
@@ -14,7 +14,6 @@ mod members;
 mod numbering;
 mod piece;
 mod places;
-mod printing;
 mod refusal;
 mod solving;
 mod steps;
@@ -22,6 +21,7 @@ mod text;
 #[cfg(test)]
 mod text_tests;
 mod verdict;
+mod walk;
 mod words;
 
 pub use command::run;

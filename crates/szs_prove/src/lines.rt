@@ -5,9 +5,8 @@ ghost use Rattle.inst_logic.specs.Printing.{clause_text, name_text};
 ghost use Rattle.inst_calculus.specs.Entries.{input};
 ghost use Rattle.cert_format.specs.Lines.{text_line, status_line, start_line, end_line, format_line, input_line, member_line, selected_line, ground_line};
 
-use crate::clauses::push_clause;
-use crate::printing::{push_bytes, push_name, push_number};
 use inst_logic::{Literal, Memory};
+use tptp_write::{push_bytes, push_literals, push_name, push_number};
 
 // A lead, a word, and the name that the answer speaks of.
 fn push_about(text: &mut Vec<u8>, lead: &[u8], word: &[u8], name: &[u8]) -> Result<(), Memory>
@@ -74,7 +73,7 @@ pub fn push_input(text: &mut Vec<u8>, n: usize, c: &[Literal], name: &[u8]) -> R
     ensures { OnOk result (text.new.items ≡ text.old.items ++ input_line n (map literal c.now) name.now) }
 {
     push_label(text, b'i', n, b"axiom")?;
-    push_clause(text, c)?;
+    push_literals(text, c)?;
     push_bytes(text, b",named(")?;
     push_name(text, name)?;
     push_bytes(text, b")).\n")?;
@@ -86,7 +85,7 @@ pub fn push_member(text: &mut Vec<u8>, n: usize, c: &[Literal], k: usize) -> Res
     ensures { OnOk result (text.new.items ≡ text.old.items ++ member_line n (record { clause = map literal c.now; origin = input k })) }
 {
     push_label(text, b'm', n, b"plain")?;
-    push_clause(text, c)?;
+    push_literals(text, c)?;
     push_bytes(text, b",input(")?;
     push_number(text, k)?;
     push_bytes(text, b")).\n")?;
@@ -104,7 +103,7 @@ pub fn push_selected(
     ensures { OnOk result (text.new.items ≡ text.old.items ++ selected_line n (record { clause = map literal c.now; origin = input k }) place) }
 {
     push_label(text, b'm', n, b"plain")?;
-    push_clause(text, c)?;
+    push_literals(text, c)?;
     push_bytes(text, b",input(")?;
     push_number(text, k)?;
     push_bytes(text, b"),[selected(")?;
@@ -118,7 +117,7 @@ pub fn push_ground(text: &mut Vec<u8>, n: usize, c: &[Literal]) -> Result<(), Me
     ensures { OnOk result (text.new.items ≡ text.old.items ++ ground_line n (map literal c.now)) }
 {
     push_label(text, b'g', n, b"plain")?;
-    push_clause(text, c)?;
+    push_literals(text, c)?;
     push_bytes(text, b",ground(m")?;
     push_number(text, n)?;
     push_bytes(text, b")).\n")?;

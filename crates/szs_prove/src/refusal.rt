@@ -1,27 +1,28 @@
 // Answers without a verdict. Their texts take no memory.
-ghost use Rattle.std.specs.Prelude.{◌≡◌, ◌≤◌, OnOk, OnErr, option_map, slice_get};
+ghost use Rattle.std.specs.Prelude.{◌≡◌, ◌≤◌, [], ◌∷◌, OnOk, OnErr, codes, option_map, slice_get};
 ghost use Rattle.std.specs.Io.KnownBytes.{Appends};
 ghost use Rattle.outside_io.specs.Causes.{Rose};
 ghost use Rattle.outside_io.specs.Taken.{AppendsProperPrefix};
 ghost use Rattle.szs_prove.specs.Piece.{bytes_of};
-ghost use Rattle.szs_prove.specs.Texts.{exit_of, pieces_of, reason_pieces, refusal_text, status_of};
+ghost use Rattle.szs_prove.specs.Texts.{at_statement, clause_pieces, exit_of, load_exit, load_pieces, load_status, named_pieces, pieces_of, reason_pieces, refusal_text, selection_pieces, status_of, text_pieces, text_status, which_word};
 ghost use Rattle.szs_prove.specs.Written.{IsWritten};
 ghost use Rattle.szs_prove.specs.declared.refusal.Refusal.TheVariants as why;
 
 use crate::exit::Exit;
 use crate::piece::{Piece, write_piece};
-use inst_logic::Memory;
+use inst_logic::{Memory, Name};
 use outside_io::{Sink, Trouble};
+use tptp_load::LoadError;
+use tptp_read::{ReadError, Which};
 
 /// Why there is no verdict.
-#[derive(Clone, Copy, Debug, PartialEq, Eq)]
+#[derive(Debug, Drop)]
 pub enum Refusal {
     Usage,
-    Absent,
-    TooLong,
-    /// This statement, counted from 1, is not of the form that is read.
-    Unbuilt { statement: usize },
-    ReadFault,
+    /// The file gives no problem. The error is never want of memory.
+    Load(LoadError),
+    /// This clause, counted from 1, is the first one with a variable or equality.
+    NotBuilt { clause: usize },
     Memory,
 }
 
@@ -46,53 +47,242 @@ pub fn exit_after(written: Result<(), Trouble>, wanted: Exit) -> Exit
     }
 }
 
+fn exit_of_load(error: &LoadError) -> Exit
+    ensures { result ≡ load_exit error.now }
+{
+    match error {
+        LoadError::ReadFault => Exit::ReadFault,
+        LoadError::Memory => Exit::Memory,
+        LoadError::Text { .. }
+        | LoadError::Absent { .. }
+        | LoadError::NotSelected { .. }
+        | LoadError::IncludeDepth { .. }
+        | LoadError::TooLong => Exit::Refused,
+    }
+}
+
+fn status_of_text(fault: &ReadError) -> &'static [u8]
+    ensures { result.now ≡ text_status fault.now }
+{
+    match fault {
+        ReadError::Syntax { .. } => b"SyntaxError",
+        ReadError::Language { .. } | ReadError::Feature { .. } | ReadError::Role { .. } => {
+            b"Inappropriate"
+        }
+        ReadError::Limit { .. } => b"InputError",
+        ReadError::Memory => b"MemoryOut",
+    }
+}
+
+fn status_of_load(error: &LoadError) -> &'static [u8]
+    ensures { result.now ≡ load_status error.now }
+{
+    match error {
+        LoadError::Text { fault, .. } => status_of_text(fault),
+        LoadError::Absent { .. }
+        | LoadError::NotSelected { .. }
+        | LoadError::IncludeDepth { .. }
+        | LoadError::TooLong => b"InputError",
+        LoadError::ReadFault => b"OSError",
+        LoadError::Memory => b"MemoryOut",
+    }
+}
+
+fn word_of_limit(which: Which) -> &'static [u8]
+    ensures { result.now ≡ which_word which }
+{
+    match which {
+        Which::Nesting => b"nesting",
+        Which::Arity => b"arity",
+        Which::Variables => b"variables",
+    }
+}
+
+// Piece `i` of what says where a statement stands, counted from 0, as are the pieces below.
+fn place_piece(statement: usize, file: &[u8], i: usize) -> Option<Piece<'_>>
+    ensures { option_map bytes_of result ≡ slice_get (at_statement statement file.now) i }
+{
+    match i {
+        0 => Some(Piece::Text(b": statement ")),
+        1 => Some(Piece::Number(statement)),
+        2 => Some(Piece::Text(b" of ")),
+        3 => Some(Piece::Text(file)),
+        4 => Some(Piece::Text(b"\n")),
+        _ => None,
+    }
+}
+
+// A word, and where its statement stands.
+fn word_piece<'a>(word: &'a [u8], statement: usize, file: &'a [u8], i: usize) -> Option<Piece<'a>>
+    ensures { option_map bytes_of result ≡ slice_get (word.now ∷ at_statement statement file.now) i }
+{
+    match i {
+        0 => Some(Piece::Text(word)),
+        _ => place_piece(statement, file, i - 1),
+    }
+}
+
+// A lead, a word, and where its statement stands.
+fn lead_piece<'a>(
+    lead: &'a [u8],
+    word: &'a [u8],
+    statement: usize,
+    file: &'a [u8],
+    i: usize,
+) -> Option<Piece<'a>>
+    ensures { option_map bytes_of result ≡ slice_get (lead.now ∷ word.now ∷ at_statement statement file.now) i }
+{
+    match i {
+        0 => Some(Piece::Text(lead)),
+        _ => word_piece(word, statement, file, i - 1),
+    }
+}
+
+// A lead, a word of the text, and where its statement stands.
+fn said_piece<'a>(
+    lead: &'a [u8],
+    word: &'a Name,
+    statement: usize,
+    file: &'a [u8],
+    i: usize,
+) -> Option<Piece<'a>>
+    ensures { option_map bytes_of result ≡ slice_get (lead.now ∷ word.now ∷ at_statement statement file.now) i }
+{
+    lead_piece(lead, word.bytes(), statement, file, i)
+}
+
+// A limit, and where its statement stands.
+fn limit_piece(which: Which, statement: usize, file: &[u8], i: usize) -> Option<Piece<'_>>
+    ensures { option_map bytes_of result ≡ slice_get (codes "% limit " ∷ which_word which ∷ at_statement statement file.now) i }
+{
+    match i {
+        0 => Some(Piece::Text(b"% limit ")),
+        1 => Some(Piece::Text(word_of_limit(which))),
+        _ => place_piece(statement, file, i - 2),
+    }
+}
+
+// The reason why a text is not read.
+fn text_piece<'a>(file: &'a [u8], fault: &'a ReadError, i: usize) -> Option<Piece<'a>>
+    ensures { option_map bytes_of result ≡ slice_get (text_pieces file.now fault.now) i }
+{
+    match fault {
+        ReadError::Syntax { statement } => word_piece(b"% syntax", *statement, file, i),
+        ReadError::Language { statement, word } => {
+            said_piece(b"% language ", word, *statement, file, i)
+        }
+        ReadError::Feature { statement, word } => {
+            said_piece(b"% feature ", word, *statement, file, i)
+        }
+        ReadError::Role { statement, word } => { said_piece(b"% role ", word, *statement, file, i) }
+        ReadError::Limit { statement, which } => limit_piece(*which, *statement, file, i),
+        ReadError::Memory => None,
+    }
+}
+
+// A lead and a name in a line.
+fn named_piece<'a>(lead: &'a [u8], name: &'a [u8], i: usize) -> Option<Piece<'a>>
+    ensures { option_map bytes_of result ≡ slice_get (named_pieces lead.now name.now) i }
+{
+    match i {
+        0 => Some(Piece::Text(lead)),
+        1 => Some(Piece::Text(name)),
+        2 => Some(Piece::Text(b"\n")),
+        _ => None,
+    }
+}
+
+// A text of one piece.
+fn only_piece(text: &[u8], i: usize) -> Option<Piece<'_>>
+    ensures { option_map bytes_of result ≡ slice_get (text.now ∷ []) i }
+{
+    match i {
+        0 => Some(Piece::Text(text)),
+        _ => None,
+    }
+}
+
+// A name that was wanted of a file.
+fn selection_piece<'a>(wanted: &'a [u8], file: &'a [u8], i: usize) -> Option<Piece<'a>>
+    ensures { option_map bytes_of result ≡ slice_get (selection_pieces wanted.now file.now) i }
+{
+    match i {
+        0 => Some(Piece::Text(b"% not selected: ")),
+        1 => Some(Piece::Text(wanted)),
+        2 => Some(Piece::Text(b" in ")),
+        3 => Some(Piece::Text(file)),
+        4 => Some(Piece::Text(b"\n")),
+        _ => None,
+    }
+}
+
+// The reason why a file gives no problem.
+fn load_piece(error: &LoadError, i: usize) -> Option<Piece<'_>>
+    ensures { option_map bytes_of result ≡ slice_get (load_pieces error.now) i }
+{
+    match error {
+        LoadError::Text { file, fault } => text_piece(file.bytes(), fault, i),
+        LoadError::Absent { wanted } => named_piece(b"% absent: ", wanted.bytes(), i),
+        LoadError::NotSelected { file, wanted } => selection_piece(wanted.bytes(), file.bytes(), i),
+        LoadError::IncludeDepth { file } => {
+            named_piece(b"% limit include depth: ", file.bytes(), i)
+        }
+        LoadError::TooLong => only_piece(b"% limit bytes\n", i),
+        LoadError::ReadFault => only_piece(b"% read fault\n", i),
+        LoadError::Memory => None,
+    }
+}
+
+// The reason of a clause that is not built.
+fn clause_piece<'a>(clause: usize, i: usize) -> Option<Piece<'a>>
+    ensures { option_map bytes_of result ≡ slice_get (clause_pieces clause) i }
+{
+    match i {
+        0 => Some(Piece::Text(b"% not built: clause ")),
+        1 => Some(Piece::Number(clause)),
+        2 => Some(Piece::Text(b"\n")),
+        _ => None,
+    }
+}
+
 impl Refusal {
-    pub fn exit(self) -> Exit
-        ensures { result ≡ exit_of self }
+    pub fn exit(&self) -> Exit
+        ensures { result ≡ exit_of self.now }
     {
         match self {
             Refusal::Usage => Exit::Usage,
-            Refusal::Absent | Refusal::TooLong | Refusal::Unbuilt { .. } => Exit::Refused,
-            Refusal::ReadFault => Exit::ReadFault,
+            Refusal::Load(error) => exit_of_load(error),
+            Refusal::NotBuilt { .. } => Exit::Refused,
             Refusal::Memory => Exit::Memory,
         }
     }
 
-    fn status(self) -> &'static [u8]
-        ensures { result.now ≡ status_of self }
+    fn status(&self) -> &'static [u8]
+        ensures { result.now ≡ status_of self.now }
     {
         match self {
             Refusal::Usage => b"UsageError",
-            Refusal::Absent | Refusal::TooLong => b"InputError",
-            Refusal::Unbuilt { .. } => b"Inappropriate",
-            Refusal::ReadFault => b"OSError",
+            Refusal::Load(error) => status_of_load(error),
+            Refusal::NotBuilt { .. } => b"Inappropriate",
             Refusal::Memory => b"MemoryOut",
         }
     }
 
-    // Piece `i` of the second line, counted from 0.
-    fn reason_piece<'a>(self, name: &'a [u8], i: usize) -> Option<Piece<'a>>
-        ensures { option_map bytes_of result ≡ slice_get (reason_pieces name.now self) i }
+    // Piece `i` of the second line.
+    fn reason_piece(&self, i: usize) -> Option<Piece<'_>>
+        ensures { option_map bytes_of result ≡ slice_get (reason_pieces self.now) i }
     {
-        match (self, i) {
-            (Refusal::Usage, 0) => Some(Piece::Text(b"% usage\n")),
-            (Refusal::Absent, 0) => Some(Piece::Text(b"% absent: ")),
-            (Refusal::Absent, 1) => Some(Piece::Text(name)),
-            (Refusal::Absent, 2) => Some(Piece::Text(b"\n")),
-            (Refusal::TooLong, 0) => Some(Piece::Text(b"% limit bytes\n")),
-            (Refusal::Unbuilt { .. }, 0) => Some(Piece::Text(b"% form: statement ")),
-            (Refusal::Unbuilt { statement }, 1) => Some(Piece::Number(statement)),
-            (Refusal::Unbuilt { .. }, 2) => Some(Piece::Text(b" of ")),
-            (Refusal::Unbuilt { .. }, 3) => Some(Piece::Text(name)),
-            (Refusal::Unbuilt { .. }, 4) => Some(Piece::Text(b"\n")),
-            (Refusal::ReadFault, 0) => Some(Piece::Text(b"% read fault\n")),
-            _ => None,
+        match self {
+            Refusal::Usage => only_piece(b"% usage\n", i),
+            Refusal::Load(error) => load_piece(error, i),
+            Refusal::NotBuilt { clause } => clause_piece(*clause, i),
+            Refusal::Memory => None,
         }
     }
 
-    // Piece `i` of the text, counted from 0.
-    fn piece<'a>(self, name: &'a [u8], i: usize) -> Option<Piece<'a>>
-        ensures { option_map bytes_of result ≡ slice_get (pieces_of name.now self) i }
+    // Piece `i` of the text.
+    fn piece<'a>(&'a self, name: &'a [u8], i: usize) -> Option<Piece<'a>>
+        ensures { option_map bytes_of result ≡ slice_get (pieces_of name.now self.now) i }
     {
         match i {
             0 => Some(Piece::Text(b"% SZS status ")),
@@ -100,15 +290,15 @@ impl Refusal {
             2 => Some(Piece::Text(b" for ")),
             3 => Some(Piece::Text(name)),
             4 => Some(Piece::Text(b"\n")),
-            _ => self.reason_piece(name, i - 5),
+            _ => self.reason_piece(i - 5),
         }
     }
 }
 
 // Writes the text of a refusal in pieces, and takes no memory.
-fn write_text<K: Sink>(out: &mut K, name: &[u8], refusal: Refusal) -> Result<(), Trouble>
-    ensures ok { OnOk result (Appends (K.taken out.old) (K.taken out.new) (refusal_text name.now refusal)) }
-    ensures err { OnErr result (AppendsProperPrefix (K.taken out.old) (K.taken out.new) (refusal_text name.now refusal)) }
+fn write_text<K: Sink>(out: &mut K, name: &[u8], refusal: &Refusal) -> Result<(), Trouble>
+    ensures ok { OnOk result (Appends (K.taken out.old) (K.taken out.new) (refusal_text name.now refusal.now)) }
+    ensures err { OnErr result (AppendsProperPrefix (K.taken out.old) (K.taken out.new) (refusal_text name.now refusal.now)) }
     ensures later { K.faults out.old ≤ K.faults out.new }
     ensures failed { result ≡ Err Trouble.Failed → Rose (K.faults out.old) (K.faults out.new) }
 {
@@ -121,8 +311,8 @@ fn write_text<K: Sink>(out: &mut K, name: &[u8], refusal: Refusal) -> Result<(),
 }
 
 /// Writes the text of a refusal, and takes no memory.
-pub fn write_refusal<K: Sink>(out: &mut K, name: &[u8], refusal: Refusal) -> Exit
-    ensures { IsWritten (K.taken out.old) (K.taken out.new) (K.faults out.old) (K.faults out.new) (refusal_text name.now refusal) (exit_of refusal) result }
+pub fn write_refusal<K: Sink>(out: &mut K, name: &[u8], refusal: &Refusal) -> Exit
+    ensures { IsWritten (K.taken out.old) (K.taken out.new) (K.faults out.old) (K.faults out.new) (refusal_text name.now refusal.now) (exit_of refusal.now) result }
 {
     let written = write_text(out, name, refusal);
     exit_after(written, refusal.exit())

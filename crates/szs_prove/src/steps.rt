@@ -6,10 +6,10 @@ ghost use Rattle.szs_prove.specs.Verdicts.{cited, tree_step};
 
 use crate::clauses::push_step_clause;
 use crate::lines::push_label;
-use crate::printing::{push_bytes, push_number};
 use inst_logic::{Literal, Memory};
 use prop_logic::{Hint, Step};
 use std::alloc::Global;
+use tptp_write::{push_bytes, push_number};
 
 fn push_hint(text: &mut Vec<u8>, hint: Hint) -> Result<(), Memory>
     ensures { OnOk result (text.new.items ≡ text.old.items ++ hint_text (cited hint)) }

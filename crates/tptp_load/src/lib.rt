@@ -2,9 +2,12 @@
 #![tactic(auto)]
 
 pub mod error;
-
+mod file;
+mod includes;
 pub mod laws;
+mod paths;
 pub mod problem;
+mod stated;
 
 pub use error::LoadError;
 pub use problem::load;

@@ -1,14 +1,49 @@
 // The problem of a file with its includes.
-ghost use Rattle.std.specs.Prelude.{◌≡◌, ◌≤◌, IfOk, IfErr, option_map};
-ghost use Rattle.tptp_load.specs.Problems.{IsGoodProblem, IsLoadCause, Loads, Told};
+ghost use Rattle.std.specs.Prelude.{◌≡◌, ◌≤◌, ◌++◌, ◌∷◌, [], IfOk, IfErr, OnOk, map, option_map};
+ghost use Rattle.inst_logic.specs.Clauses.{canonical_form};
+ghost use Rattle.tptp_load.specs.Problems.{IsGoodProblem, IsLoadCause, Loads, Told, giving, problem_of};
 
 use crate::error::LoadError;
-use inst_logic::{Memory, Problem};
+use crate::file::read_named;
+use crate::includes::{Gathered, add_file, name_of};
+use crate::stated::StatedClause;
+use inst_logic::{ClauseList, Memory, NameList, Problem, canonical};
 use outside_io::Library;
 use std::alloc::Global;
 
+// The last level of includes; the first file has level 0.
+const LAST_LEVEL: usize = 16;
+
+// Adds the clause and the name, where the clause does not hold always.
+fn add_giving(alloc: Global, problem: &mut Problem, stated: StatedClause) -> Result<(), Memory>
+    ensures clauses { OnOk result (problem.new.clauses ≡ problem.old.clauses ++ map (λ s. canonical_form s.clause) (giving (stated ∷ []))) }
+    ensures names { OnOk result (problem.new.names ≡ problem.old.names ++ map (λ s. s.name) (giving (stated ∷ []))) }
+{
+    if !stated.always {
+        problem.clauses.push(canonical(alloc, &stated.clause)?)?;
+        problem.names.push(stated.name)?;
+    }
+    Ok(())
+}
+
+// The problem of what was stated.
+#[tactic(auto, using(std::proofs::lemmas::Grind::common_steps, crate::proofs::GivingMore::clauses_more, crate::proofs::GivingMore::names_more))]
+fn problem_of(alloc: Global, list: Vec<StatedClause>) -> Result<Problem, Memory>
+    ensures { IfOk result (λ p. p ≡ problem_of list.items) }
+{
+    let mut problem = Problem {
+        clauses: ClauseList::new(alloc),
+        names: NameList::new(alloc),
+    };
+    for stated in list {
+        add_giving(alloc, &mut problem, stated)?;
+    }
+    Ok(problem)
+}
+
 /// Reads the file and what it includes: each file whole, and its text into statements, before any of its includes is begun.
 /// An include is tried after the directory of the including file and then under the root, or as it is where it begins with `/`.
+#[tactic(auto, using(std::proofs::lemmas::Grind::common_steps, crate::proofs::Loads::unread_cause, crate::proofs::Loads::absent_cause))]
 pub fn load<L: Library>(
     alloc: Global,
     files: &mut L,
@@ -16,14 +51,20 @@ pub fn load<L: Library>(
     root: Option<&str>,
 ) -> Result<Problem, LoadError>
     ensures files { L.files files.new ≡ L.files files.old }
-    ensures loads { IfOk result (λ p. Told (L.files files.old) (λ told. Loads told name.now (option_map (λ r. r.now) root) p)) }
+    ensures loads { IfOk result (λ p. Told (L.files files.old) (λ told. Loads told name.now (option_map (λ r. r.now) root.entry) p)) }
     ensures good { IfOk result IsGoodProblem }
-    ensures refused { IfErr result (IsLoadCause (L.files files.old) (L.faults files.old) (L.faults files.new) name.now (option_map (λ r. r.now) root)) }
+    ensures refused { IfErr result (IsLoadCause (L.files files.old) (L.faults files.old) (L.faults files.new) name.now (option_map (λ r. r.now) root.entry)) }
     ensures later { L.faults files.old ≤ L.faults files.new }
 {
-    let _alloc = alloc;
-    let _files = files;
-    let _name = name;
-    let _root = root;
-    Err(LoadError::Memory)
+    let Some(bytes) = read_named(alloc, name, 0, files)? else {
+        return Err(LoadError::Absent {
+            wanted: name_of(alloc, name)?,
+        });
+    };
+    let mut gathered = Gathered {
+        stated: Vec::new(alloc),
+        used: 0,
+    };
+    add_file(alloc, root, LAST_LEVEL, name, bytes, files, &mut gathered)?;
+    Ok(problem_of(alloc, gathered.stated)?)
 }

@@ -1,5 +1,5 @@
 -- Texts of one ground atom.
-use Rattle.std.specs.Prelude.{◌≡◌, ◌≢◌, ℕ, ◌<◌, ◌≤◌, List, [], ◌∷◌, Bool, true, false, not, IsTrue, Option, Some, None, ⊤}
+use Rattle.std.specs.Prelude.{◌≡◌, ℕ, ◌<◌, ◌≤◌, List, [], ◌∷◌, Bool, true, false, not, IsTrue, Some, None, ⊤}
 use Rattle.std.specs.List.{list_any}
 use Rattle.inst_logic.specs.Tree.{Tree}
 use Rattle.inst_logic.specs.declared.signed.Signed.{Signed}
@@ -9,7 +9,7 @@ use Rattle.tptp_read.specs.declared.text.ReadError.{ReadError}
 use Rattle.tptp_read.specs.declared.text.ReadError.TheVariants as errors
 use Rattle.tptp_read.specs.Lexemes.{Begins, is_variable_kind}
 use Rattle.tptp_read.specs.Grammar.{Simple, atom, equation, simple_text, simple_fits}
-use Rattle.tptp_read.specs.Meaning.{Wrote, from_simple, literal_of, first_feature, wrote_wide, is_constant_atom, Fault, syntax_fault, feature, limit}
+use Rattle.tptp_read.specs.Meaning.{from_simple, literal_of, first_feature, wrote_wide, is_constant_atom, Fault, syntax_fault, feature, limit}
 use Rattle.tptp_read.specs.Rules.{nesting_from}
 
 -- all tokens of the text, in order

@@ -1,6 +1,6 @@
 -- The grammar of statements (the CNF part of the TPTP language): what may be written, and the tokens that it is written with,
 -- in front of the tokens that follow it.
-use Rattle.std.specs.Prelude.{◌≡◌, ℕ, List, [], ◌∷◌, Bool, true, false, ◌&&◌, IsTrue, codes}
+use Rattle.std.specs.Prelude.{◌≡◌, List, [], ◌∷◌, Bool, true, ◌&&◌, IsTrue, codes}
 use Rattle.std.specs.List.{list_all}
 use Rattle.tptp_tokens.specs.declared.kind.TokenKind.TheVariants.{Punctuation}
 use Rattle.tptp_tokens.specs.Stream.{Tok}

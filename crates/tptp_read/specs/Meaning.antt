@@ -1,10 +1,9 @@
 -- What a form stands for, and the faults of a form.
-use Rattle.std.specs.Prelude.{ℕ, suc, ◌+◌, List, [], ◌∷◌, ◌++◌, length, map, Bool, true, false, not, ◌||◌, ◌&&◌, ◌==◌, nat_le, if◌then◌else◌, Option, Some, None, Result, Ok, Err, drop, codes, filter}
+use Rattle.std.specs.Prelude.{ℕ, ◌+◌, List, [], ◌∷◌, ◌++◌, length, map, Bool, true, false, ◌||◌, ◌&&◌, ◌==◌, nat_le, if◌then◌else◌, Option, Some, None, Result, Ok, Err, drop, codes}
 use Rattle.std.specs.List.{list_any, flat_map, position_or_len}
 use Rattle.std.specs.Option.{option_map_or}
 use Rattle.std.specs.Str.{bytes_eq}
 use Rattle.inst_logic.specs.declared.symbol.Kind.TheVariants.{Predicate, Equality, Function}
-use Rattle.inst_logic.specs.declared.symbol.Sym.{Sym}
 use Rattle.inst_logic.specs.Tree.{Tree, var, app, Trees}
 use Rattle.inst_logic.specs.Tree as tree
 use Rattle.inst_logic.specs.declared.signed.Signed.{Signed}
@@ -12,7 +11,7 @@ use Rattle.inst_logic.specs.Lists.{distinct}
 use Rattle.tptp_read.specs.declared.statement.Role.{Role}
 use Rattle.tptp_read.specs.declared.statement.Role.TheVariants.{Axiom, Hypothesis, Definition, Assumption, Lemma, Theorem, Corollary, NegatedConjecture, Plain}
 use Rattle.tptp_read.specs.declared.statement.Which.{Which}
-use Rattle.tptp_read.specs.declared.statement.Which.TheVariants.{Nesting, Arity, Variables}
+use Rattle.tptp_read.specs.declared.statement.Which.TheVariants.{Arity, Variables}
 use Rattle.tptp_read.specs.declared.statement.Statement.{Statement}
 use Rattle.tptp_read.specs.declared.statement.Statement.TheVariants.{Cnf, Include}
 use Rattle.tptp_tokens.specs.Stream.{Tok}
@@ -155,10 +154,10 @@ read_cnf name word role ws =
     let used = flat_map used_tokens ws in
     let vs = distinct bytes_eq (variable_names used) in
     option_map_or (λ w. Err (feature w))
-      (first_feature used)
-      (if list_any wrote_wide ws then Err (limit Arity)
-       else (if nat_le 10001 (length vs) then Err (limit Variables)
-       else Ok (Cnf (name_of name) role (list_any is_always ws) (flat_map (literal_of vs) ws))))
+    (first_feature used)
+    (if list_any wrote_wide ws then Err (limit Arity)
+    else (if nat_le 10001 (length vs) then Err (limit Variables)
+    else Ok (Cnf (name_of name) role (list_any is_always ws) (flat_map (literal_of vs) ws))))
 
 abbrev pub judged : Form → Result Statement Fault
 judged (cnf name role i is n) = option_map_or (λ r. read_cnf name role.text r (from_item i ++ from_items is)) (role_of role.text) (Err (role_fault role.text))

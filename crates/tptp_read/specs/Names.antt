@@ -1,7 +1,6 @@
 -- Names that can be printed and read again.
-use Rattle.std.specs.Prelude.{ℕ, List, Bool, true, ◌&&◌, IsTrue, Option, Some, None, ⊤}
+use Rattle.std.specs.Prelude.{ℕ, List, Bool, true, ◌&&◌, IsTrue}
 use Rattle.std.specs.List.{list_all}
-use Rattle.inst_logic.specs.declared.symbol.Sym.{Sym}
 use Rattle.inst_logic.specs.declared.symbol.Kind.{Kind}
 use Rattle.inst_logic.specs.declared.symbol.Kind.TheVariants.{Predicate, Equality, Function}
 use Rattle.inst_logic.specs.Tree.{Tree, var, app, Trees, none, more}

@@ -1,5 +1,5 @@
 -- The rules for one statement at the front of a text, in their order.
-use Rattle.std.specs.Prelude.{◌≡◌, ℕ, ◌+◌, ◌-◌, ◌≤◌, ◌<◌, List, [], ◌∷◌, max, Bool, true, false, not, ◌||◌, ◌&&◌, if◌then◌else◌, IsTrue, Result, Ok, Err, codes}
+use Rattle.std.specs.Prelude.{◌≡◌, ℕ, ◌+◌, ◌-◌, ◌≤◌, ◌<◌, List, [], ◌∷◌, max, Bool, false, not, ◌||◌, ◌&&◌, if◌then◌else◌, IsTrue, Ok, Err, codes}
 use Rattle.std.specs.List.{list_any}
 use Rattle.std.specs.Str.{bytes_eq}
 use Rattle.tptp_tokens.specs.Stream.{Tok, IsNext}

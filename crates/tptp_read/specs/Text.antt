@@ -1,5 +1,5 @@
 -- Whole texts.
-use Rattle.std.specs.Prelude.{◌≡◌, ℕ, zero, suc, List, [], ◌∷◌, Option, None, Some, ⊤, IsTrue}
+use Rattle.std.specs.Prelude.{◌≡◌, ℕ, zero, suc, List, [], ◌∷◌, ⊤}
 use Rattle.inst_logic.specs.WellFormed.{IsFormedClause}
 use Rattle.tptp_tokens.specs.Stream.{IsDone}
 use Rattle.tptp_read.specs.declared.statement.Statement.{Statement}

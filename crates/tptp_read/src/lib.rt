@@ -1,11 +1,33 @@
 //! From bytes to the statements of a problem (the CNF part of the TPTP language).
 #![tactic(auto)]
 
+mod all;
+mod atom;
+#[cfg(test)]
+mod atom_tests;
+mod body;
+mod clause;
+mod cnf;
+mod front;
+mod general;
+mod include;
 pub mod laws;
+mod lexeme;
+mod literals;
+mod notes;
+mod numbers;
+mod refusal;
 pub mod statement;
+mod step;
+mod stop;
+mod terms;
 #[cfg(test)]
 mod tests;
 pub mod text;
+mod value;
+mod whole_atom;
+mod width;
+mod words;
 
 pub use statement::{Role, Statement, StatementList, Which};
 pub use text::{ReadError, read_atom, read_text};

@@ -1,5 +1,5 @@
 // Whole texts, and texts of atoms.
-ghost use Rattle.std.specs.Prelude.{◌≡◌, IfOk, IfErr, IsTrue, All};
+ghost use Rattle.std.specs.Prelude.{◌≡◌, ◌≤◌, IfOk, IfErr, IsTrue, All, drop, length};
 ghost use Rattle.inst_logic.specs.LiteralView.{literal};
 ghost use Rattle.inst_logic.specs.WellFormed.{IsAtom};
 ghost use Rattle.tptp_read.specs.declared.text.ReadError.TheVariants as errors;
@@ -7,7 +7,11 @@ ghost use Rattle.tptp_read.specs.Names.{HasReadableNames, tree_is_readable};
 ghost use Rattle.tptp_read.specs.Text.{Readable, IsCause, IsFormedStatement};
 ghost use Rattle.tptp_read.specs.Atoms.{ReadsAtom, IsAtomCause};
 
+use crate::laws::readable_is_good;
+use crate::refusal::numbered;
 use crate::statement::{StatementList, Which};
+use crate::step::step;
+use crate::whole_atom::atom_in;
 use inst_logic::{Literal, Memory, Name};
 use std::alloc::Global;
 use thiserror::Error;
@@ -43,6 +47,13 @@ impl From<Memory> for ReadError {
     }
 }
 
+fn behind(text: &[u8], end: usize) -> &[u8]
+    requires { end ≤ length text.now }
+    ensures { result.now ≡ drop end text.now }
+{
+    &text[end..]
+}
+
 /// The statements of a text, in their order. A clause has its literals in order, without those over `$true` and `$false`, and
 /// its variables are numbered by first occurrence.
 pub fn read_text(alloc: Global, text: &[u8]) -> Result<StatementList, ReadError>
@@ -51,9 +62,19 @@ pub fn read_text(alloc: Global, text: &[u8]) -> Result<StatementList, ReadError>
     ensures names { IfOk result (All HasReadableNames) }
     ensures refused { IfErr result (IsCause text.now) }
 {
-    let _text = text;
-    let _alloc = alloc;
-    Err(ReadError::Memory)
+    readable_is_good();
+    let mut list = StatementList::new(alloc);
+    let mut rest = text;
+    loop {
+        match step(alloc, rest) {
+            Ok(None) => return Ok(list),
+            Ok(Some((statement, end))) => {
+                list.push(statement)?;
+                rest = behind(rest, end);
+            }
+            Err(refusal) => return Err(numbered(alloc, refusal, list.len() + 1)),
+        }
+    }
 }
 
 /// The ground atom that the text is, as a positive literal. A refusal speaks of statement 1.
@@ -63,7 +84,5 @@ pub fn read_atom(alloc: Global, text: &[u8]) -> Result<Literal, ReadError>
     ensures names { IfOk result (λ l. IsTrue (tree_is_readable (literal l).atom)) }
     ensures refused { IfErr result (IsAtomCause text.now) }
 {
-    let _text = text;
-    let _alloc = alloc;
-    Err(ReadError::Memory)
+    atom_in(alloc, text)
 }

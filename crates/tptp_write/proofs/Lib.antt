@@ -1,1 +1,10 @@
+pub mod Judged
+pub mod Meant
+pub mod Named
+pub mod Nested
+pub mod ReadAgain
+pub mod Spelled
+pub mod Stops
+pub mod Tokens
 pub mod Walks
+pub mod Written

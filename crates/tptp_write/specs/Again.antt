@@ -1,7 +1,6 @@
 -- Clauses that are read again as they are printed.
-use Rattle.std.specs.Prelude.{◌≡◌, ℕ, ◌+◌, ◌≤◌, List, [], ◌∷◌, ◌++◌, max, Bool, true, false, ◌&&◌, nat_le, IsTrue, length, codes}
+use Rattle.std.specs.Prelude.{ℕ, ◌+◌, ◌≤◌, List, [], ◌∷◌, ◌++◌, max, Bool, true, false, ◌&&◌, nat_le, IsTrue, length, codes}
 use Rattle.std.specs.List.{list_all}
-use Rattle.inst_logic.specs.declared.signed.Signed.{Signed}
 use Rattle.inst_logic.specs.declared.symbol.Kind.{Kind}
 use Rattle.inst_logic.specs.declared.symbol.Kind.TheVariants.{Predicate, Equality, Function}
 use Rattle.inst_logic.specs.Tree.{Tree, var, app, Trees, none, more}

@@ -8,16 +8,16 @@ use inst_logic::{ByteList, Memory, Name};
 use itoa::Buffer;
 use std::alloc::Global;
 
-// The bytes, as they are.
-pub(crate) fn push_bytes(text: &mut Vec<u8>, bytes: &[u8]) -> Result<(), Memory>
+/// Puts the bytes at the end, as they are.
+pub fn push_bytes(text: &mut Vec<u8>, bytes: &[u8]) -> Result<(), Memory>
     ensures { OnOk result (text.new.items ≡ text.old.items ++ bytes.now) }
 {
     text.extend_from_slice(bytes)?;
     Ok(())
 }
 
-// The number in decimal.
-pub(crate) fn push_number(text: &mut Vec<u8>, n: usize) -> Result<(), Memory>
+/// Puts the number at the end, in decimal.
+pub fn push_number(text: &mut Vec<u8>, n: usize) -> Result<(), Memory>
     ensures { OnOk result (text.new.items ≡ text.old.items ++ decimal n) }
 {
     let mut digits = Buffer::new();

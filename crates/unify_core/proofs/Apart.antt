@@ -72,12 +72,12 @@ pairs_within s r n m (x ∷ xs) (y ∷ ys) hx hy p (inl k) =
     subst (λ (z : Pair). (z.left.term < n) × (z.right.term < m)) (sym k) (hx x (inl refl), hy y (inl refl))
 pairs_within s r n m (x ∷ xs) (y ∷ ys) hx hy p (inr k) = pairs_within s r n m xs ys (λ a i. hx a (inr i)) (λ a i. hy a (inr i)) p k
 
-width : (ts : List Tree) (i : ℕ) → i < length ts → length (arguments_of (get_or ts i (var 0))) ≤ widest ts
+pub width : (ts : List Tree) (i : ℕ) → i < length ts → length (arguments_of (get_or ts i (var 0))) ≤ widest ts
 width [] i h = absurd (omega arith)
 width (t ∷ ts) zero h = omega arith
 width (t ∷ ts) (suc i) h = let k = width ts i (omega arith) in omega arith
 
-lighter : (k l w p d m : ℕ) → l + d + 1 ≡ m → p ≤ w → (m - (d + 1)) * (w + 2) + (k + p) < (m - d) * (w + 2) + k + 1
+pub lighter : (k l w p d m : ℕ) → l + d + 1 ≡ m → p ≤ w → (m - (d + 1)) * (w + 2) + (k + p) < (m - d) * (w + 2) + k + 1
 lighter k l w p d m e h =
     let a : m - (d + 1) ≡ l = omega arith in
     let b : m - d ≡ l + 1 = omega arith in

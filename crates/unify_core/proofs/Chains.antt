@@ -146,6 +146,11 @@ module _ (f : Forest) (es : List Binding) (b : AreBindings f es) where
   step_falls (var n) c h = falls f es b.forward n c h
   step_falls (app g ts) c h = absurd (cc)
 
+-- what one step leads to is below what all bound terms are below
+pub step_below : (f : Forest) (es : List Binding) (t : Tree) (c : Bound) → IsNext es t f (Some c) → (n : ℕ) → ((e : Binding) → e ∈ es → e.1.term < n) → c.term < n
+step_below f es (var v) c h n each = subst (λ (d : Bound). d.term < n) h.is (each h.entry h.among)
+step_below f es (app g ts) c h n each = absurd (cc)
+
 pub step_root : (f : Forest) (es : List Binding) (t : Tree) (r : Option Bound) → r ≡ None → IsNext es t f r → IsRoot (assignments f es) t
 step_root f es (var n) None e h = h
 step_root f es (var n) (Some c) e h = absurd (cc)

@@ -1,12 +1,12 @@
 // The bindings of the variables of two sides.
-ghost use Rattle.std.specs.Prelude.{◌≡◌, ℕ, ◌<◌, [], length, IfOk, OnOk, OnErr, true, false, IfNone, IfSome, Some, slice_get, slice_index_or};
+ghost use Rattle.std.specs.Prelude.{◌≡◌, ℕ, ◌<◌, [], length, IfOk, OnOk, OnErr, true, false, IfNone, IfSome, Some, slice_get, slice_index_or, take};
 ghost use Rattle.std.specs.Map.{keys_of};
-ghost use Rattle.inst_logic.specs.Tree.{Tree};
+ghost use Rattle.inst_logic.specs.Tree.{Tree, var};
 ghost use Rattle.inst_logic.specs.Substitution.{subst as apply};
 ghost use Rattle.term_bank.specs.Forest.{tree_at, IsClauseOf};
 ghost use Rattle.unify_core.specs.Lists.{◌∈◌};
 ghost use Rattle.inst_logic.specs.Unifiers.{Sided, IsUnifier, IsMostGeneral, IsProper, IsApplication};
-ghost use Rattle.unify_core.specs.Sides.{IsResolvedBy, of_side, of_pair};
+ghost use Rattle.unify_core.specs.Sides.{Binding, IsResolvedBy, of_side, of_pair};
 ghost use Rattle.unify_core.specs.Chains.{AreBindings};
 ghost use Rattle.unify_core.specs.Matching.{AreMatches, IsMatch, HasNoMatch};
 ghost use Rattle.unify_core.specs.Sizes.{IsSizeUnder};
@@ -171,6 +171,32 @@ impl Bindings {
         );
         self.spent = result.is_err();
         result
+    }
+
+    /// How many variables are bound.
+    pub fn len(&self) -> usize
+        ensures { result ≡ length self.now.entries }
+    {
+        self.map.len()
+    }
+
+    /// Keeps the first `len` bindings, in the order in which they were made.
+    pub fn truncate(&mut self, len: usize)
+        ensures entries { self.new.entries ≡ take len self.old.entries }
+        ensures spent { self.new.spent ≡ self.old.spent }
+    {
+        self.map.truncate(len);
+    }
+
+    /// The term that the bindings of variables lead to: an application, or a variable that is not bound.
+    pub fn follow(&self, bank: &Bank, from: Bound) -> Bound
+        requires within { from.term < length bank.now.trees }
+        requires bindings { AreBindings bank.now self.now.entries }
+        ensures same { (s : Sided) → IsResolvedBy bank.now self.now.entries s → apply (of_side s from.side) (tree_at bank.now from.term) ≡ apply (of_side s result.side) (tree_at bank.now result.term) }
+        ensures root { (v : ℕ) → tree_at bank.now result.term ≡ var v → ¬ ((record { side = result.side; var = v }) ∈ keys_of self.now.entries) }
+        ensures below { (n : ℕ) → from.term < n → ((e : Binding) → e ∈ self.now.entries → e.1.term < n) → result.term < n }
+    {
+        follow(bank, &self.map, from)
     }
 
     /// The term to which the variable is bound, with the side of its variables. It is not followed further.

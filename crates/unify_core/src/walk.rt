@@ -4,7 +4,8 @@ ghost use Rattle.std.specs.Map.{keys_of};
 ghost use Rattle.inst_logic.specs.Tree.{Tree};
 ghost use Rattle.inst_logic.specs.Substitution.{subst as apply};
 ghost use Rattle.unify_core.specs.Solved.{Respects};
-ghost use Rattle.unify_core.specs.Sides.{bound_tree, assignments};
+ghost use Rattle.unify_core.specs.Sides.{Binding, bound_tree, assignments};
+ghost use Rattle.unify_core.specs.Lists.{◌∈◌};
 ghost use Rattle.unify_core.specs.Chains.{IsRoot, AreBindings};
 ghost use Rattle.unify_core.specs.Steps.{IsNext};
 
@@ -36,6 +37,7 @@ pub fn follow(bank: &Bank, map: &IndexMap<Variable, Bound>, from: Bound) -> Boun
     ensures within { result.term < length bank.now.trees }
     ensures same { (u : ℕ → Tree) → Respects u (assignments bank.now map.now.entries) → apply u (bound_tree bank.now from) ≡ apply u (bound_tree bank.now result) }
     ensures root { IsRoot (assignments bank.now map.now.entries) (bound_tree bank.now result) }
+    ensures below { (n : ℕ) → from.term < n → ((e : Binding) → e ∈ map.now.entries → e.1.term < n) → result.term < n }
 {
     let mut side = from.side;
     let mut term = from.term;

@@ -2,4 +2,14 @@
 #![tactic(auto)]
 
 #[cfg(test)]
+mod long_rows;
+#[cfg(test)]
+mod readable_texts;
+#[cfg(test)]
+mod refused_texts;
+#[cfg(test)]
+mod rows;
+#[cfg(test)]
+mod runs;
+#[cfg(test)]
 mod tests;

@@ -1,6 +1,6 @@
 // What no clause says: that memory, where there is enough, gives answers; and the texts that are printed.
-use inst_logic::{ByteList, Memory, Name};
-use outside_io::{CallList, FileList, MemLibrary, MemSink, NamedFile, SureLibrary, SureSink};
+use crate::runs::{answer_of, calls_of, file_of, words_of};
+use outside_io::{CallList, MemLibrary, MemSink, SureSink};
 use std::alloc::Global;
 use std::str;
 use std::test::Fail;
@@ -14,37 +14,9 @@ const UNSATISFIABLE: &[u8] = b"cnf(a,axiom,p(c)|q). cnf(b,axiom,~p(c)). cnf(d,ax
 
 const READ_FAULT: &str = "% SZS status OSError for r.p\n% read fault\n";
 
-fn words_of(alloc: Global, texts: &[&str]) -> Result<Vec<String>, Fail> {
-    let mut words = Vec::new(alloc);
-    for text in texts {
-        words.push(String::from_str(alloc, text)?)?;
-    }
-    Ok(words)
-}
-
-// The one file r.p, with these bytes.
-fn file_of(alloc: Global, bytes: &[u8]) -> Result<FileList, Memory> {
-    let mut files = FileList::new(alloc);
-    files.push(NamedFile {
-        name: Name::of(alloc, b"r.p")?,
-        bytes: ByteList::from(bytes.to_vec(alloc)?),
-    })?;
-    Ok(files)
-}
-
-fn calls_of(alloc: Global, number: usize) -> Result<CallList, Memory> {
-    let mut calls = CallList::new(alloc);
-    calls.push(number)?;
-    Ok(calls)
-}
-
 // The exit, and what was written, for these words, where r.p has these bytes.
-fn answer_to(alloc: Global, texts: &[&str], bytes: &[u8]) -> Result<(Exit, SureSink), Fail> {
-    let words = words_of(alloc, texts)?;
-    let mut library = SureLibrary::new(alloc, file_of(alloc, bytes)?);
-    let mut out = SureSink::new(alloc);
-    let exit = run(alloc, words.as_slice(), &mut library, &mut out);
-    Ok((exit, out))
+fn answer_to(alloc: Global, words: &[&str], bytes: &[u8]) -> Result<(Exit, SureSink), Fail> {
+    answer_of(alloc, file_of(alloc, "r.p", bytes)?, words)
 }
 
 #[test]
@@ -185,7 +157,7 @@ fn what_is_not_read(rt: HostRuntime) -> Result<(), Fail> {
     assert_eq!(rt; exit.code(), 2);
     assert_eq!(rt;
         str::from_utf8(out.bytes())?,
-        "% SZS status Inappropriate for r.p\n% form: statement 2 of r.p\n"
+        "% SZS status Inappropriate for r.p\n% not built: clause 2\n"
     );
     let (exit, out) = answer_to(alloc, &["prove", "s.p"], b"")?;
     assert_eq!(rt; exit.code(), 2);
@@ -199,7 +171,7 @@ fn what_is_not_read(rt: HostRuntime) -> Result<(), Fail> {
 #[test]
 fn unread_words(rt: HostRuntime) -> Result<(), Fail> {
     let alloc = rt.alloc();
-    let rows: [&[&str]; 7] = [
+    let rows: [&[&str]; 11] = [
         &[],
         &["prove"],
         &["prove", "r.p", "s.p"],
@@ -207,6 +179,10 @@ fn unread_words(rt: HostRuntime) -> Result<(), Fail> {
         &["prove", "-r.p"],
         &["prove", "r\n.p"],
         &["check", "r.p"],
+        &["prove", "r.p", "--root"],
+        &["prove", "r.p", "--root", "-d"],
+        &["prove", "--root", "d", "r.p"],
+        &["prove", "r.p", "--root", "d", "e"],
     ];
     for row in rows {
         let (exit, out) = answer_to(alloc, row, b"")?;
@@ -227,7 +203,7 @@ fn a_read_that_fails(rt: HostRuntime) -> Result<(), Fail> {
     for call in 1..5 {
         let mut library = MemLibrary::new(
             alloc,
-            file_of(alloc, SATISFIABLE)?,
+            file_of(alloc, "r.p", SATISFIABLE)?,
             24,
             calls_of(alloc, call)?,
         );
@@ -245,7 +221,7 @@ fn a_write_that_fails(rt: HostRuntime) -> Result<(), Fail> {
     let words = words_of(alloc, &["prove", "r.p"])?;
     let mut library = MemLibrary::new(
         alloc,
-        file_of(alloc, UNSATISFIABLE)?,
+        file_of(alloc, "r.p", UNSATISFIABLE)?,
         24,
         CallList::new(alloc),
     );

@@ -3,10 +3,11 @@ use Rattle.szs_prove.proofs.command.run.Goals as goal
 
 pub returns : goal.returns
 returns g c =
-    let a = c.answer.ensures in
+    let b = c.answer.ensures in
+    let a = b.answered in
     record {
       answered = a;
-      exact = exact _ _ _ _ a;
+      exact = exact c.one_loading.ensures.problems c.one_loading.ensures.apart _ _ _ _ b;
       decided = decided _ _ _ _ a;
       read_fault = read_fault _ _ _ _ a;
       write_fault = write_fault _ _ _ _ a;

@@ -7,7 +7,7 @@ pub returns : goal.returns
 returns c =
     line_written_twice 109 c.args.n (codes "plain") (map literal c.args.c.now) (codes "input(") (decimal c.args.k) (codes ")") (codes ",[selected(") (decimal c.args.place) (codes ")]") _ _ _ _ _ _ _ _
     c.in_ok-push_label.ensures
-    c.in_ok-push_clause.ensures
+    c.in_ok-push_literals.ensures
     c.in_ok-push_bytes.ensures
     c.in_ok-push_number.ensures
     c.in_ok-push_bytes-2.ensures

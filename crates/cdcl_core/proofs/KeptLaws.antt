@@ -1,0 +1,186 @@
+-- What is kept from one question to the next.
+use Rattle.std.proofs.Common.{◌≡◌, ◌≢◌, ℕ, suc, zero, ◌+◌, ◌-◌, ◌^◌, ◌<◌, ◌≤◌, min, Bool, true, false, ◌⊎◌, inl, inr, List, [], ◌∷◌, ◌++◌, length, map, take, get_or, Option, Some, None, refl, sym, ap, ◌∙◌, subst, arith}
+use Rattle.std.specs.Prelude.{All, Contains, slice_get}
+use Rattle.std.proofs.lemmas.List.{length_push}
+use Rattle.std.proofs.lemmas.List.Elements.{All-nil, All-contains, All-weaker}
+use Rattle.std.proofs.lemmas.Option.{none-some}
+use Rattle.inst_logic.specs.declared.signed.Signed.{Signed}
+use Rattle.inst_logic.specs.Derivations.{Closes, IsShown}
+use Rattle.prop_logic.specs.declared.literal.Hint.{Hint}
+use Rattle.prop_logic.specs.declared.literal.Hint.TheVariants.{Added, Step as Earlier}
+use Rattle.prop_logic.specs.declared.literal.Step.{Step}
+use Rattle.prop_logic.specs.Literal.{cited, AtomsBelow}
+use Rattle.prop_logic.specs.Analysis.{ClosesAll}
+use Rattle.prop_logic.specs.Search.{AreGood}
+use Rattle.prop_logic.specs.declared.solver.Answer.{Answer}
+use Rattle.prop_logic.specs.Solving.{IsAnswer}
+use Rattle.prop_logic.proofs.SearchLaws.{good_none}
+use Rattle.cdcl_trail.specs.declared.entry.Entry.{Entry}
+use Rattle.cdcl_trail.specs.Clauses.{clause_number, AddsClause}
+use Rattle.cdcl_trail.specs.Trail.{Trail, IsTrail, IsDecision, literals_of, entries_up_to, with_atom, back_at}
+use Rattle.cdcl_trail.specs.Propagation.{Propagates}
+use Rattle.cdcl_core.specs.declared.log.Log.{Log}
+use Rattle.cdcl_core.specs.declared.search.Search.{Search}
+use Rattle.cdcl_core.specs.Log.{PutsName, IsNamed, IsLog}
+use Rattle.cdcl_core.specs.Search.{AreGiven, IsKept, IsTrueUpTo, IsSearch, weight, IsSameProblem, Advances, Ends, Continues}
+use Rattle.cdcl_core.proofs.EntryLaws.{of_literals, to_literals}
+use Rattle.cdcl_core.proofs.LogLaws.{log_atom, log_added, log_step, log_learned}
+use Rattle.cdcl_core.proofs.SearchLaws.{given_up_to, given_propagated, given_clauses, in_new, decision_old, weight_kept, of_up_to}
+
+no_clause : (n : ℕ) (c : List (Signed ℕ)) → clause_number [] n ≡ Some c → ⊥
+no_clause zero c e = none-some c e
+no_clause (suc n) c e = none-some c e
+
+pub new_kept : (s : Search) → s.log.added ≡ [] → s.log.steps ≡ [] → s.clauses ≡ [] → s.trail.entries ≡ [] → s.trail.atoms ≡ 0 → s.marks ≡ [] → s.phases.items ≡ [] → IsKept s
+new_kept s added steps clauses entries atoms marks phases = record {
+  log = record {
+    named = λ n c e. absurd (no_clause n c (ap (λ x. clause_number x n) (sym clauses) ∙ e));
+    held = subst (All (λ c. (n : ℕ) × (clause_number s.clauses n ≡ Some c))) (sym added) (All-nil (λ c. (n : ℕ) × (clause_number s.clauses n ≡ Some c)));
+    below = subst (All (AtomsBelow s.trail.atoms)) (sym added) (All-nil (AtomsBelow s.trail.atoms));
+    good = subst (λ x. AreGood s.log.added s.trail.atoms x) (sym steps) (good_none s.log.added s.trail.atoms);
+  };
+  given = λ k n e at reason. absurd (none-some e (ap (λ x. slice_get x k) (sym entries) ∙ at));
+  marks = ap length marks ∙ sym atoms;
+  phases = ap length phases ∙ sym atoms;
+}
+
+-- the same state with other marks, phases and places to look at
+pub kept_same : (old new : Search) → new.log ≡ old.log → new.clauses ≡ old.clauses → new.trail ≡ old.trail → length new.marks ≡ length old.marks → length new.phases.items ≡ length old.phases.items → IsKept old → IsKept new
+kept_same old new log clauses trail marks phases k =
+    let atoms = ap (λ x. x.atoms) trail in
+    record {
+      log = subst (λ n. IsLog n new.clauses new.log) (sym atoms) (subst (λ x. IsLog old.trail.atoms x new.log) (sym clauses) (subst (IsLog old.trail.atoms old.clauses) (sym log) k.log));
+      given = subst (λ x. AreGiven x new.trail.entries) (sym clauses) (subst (AreGiven old.clauses) (sym (ap (λ x. x.entries) trail)) k.given);
+      marks = marks ∙ k.marks ∙ sym atoms;
+      phases = phases ∙ k.phases ∙ sym atoms;
+    }
+
+pub atom_kept : (old new : Search) → new.trail ≡ with_atom old.trail → new.clauses ≡ old.clauses → new.log ≡ old.log → new.marks ≡ old.marks ++ false ∷ [] → new.phases.items ≡ old.phases.items ++ false ∷ [] → IsKept old → IsKept new
+atom_kept old new trail clauses log marks phases k =
+    let atoms : new.trail.atoms ≡ old.trail.atoms + 1 = ap (λ x. x.atoms) trail in
+    record {
+      log = subst (λ n. IsLog n new.clauses new.log) (sym atoms) (subst (λ x. IsLog (old.trail.atoms + 1) x new.log) (sym clauses) (subst (IsLog (old.trail.atoms + 1) old.clauses) (sym log) (log_atom old.trail.atoms old.clauses old.log k.log)));
+      given = subst (λ x. AreGiven x new.trail.entries) (sym clauses) (subst (AreGiven old.clauses) (sym (ap (λ x. x.entries) trail)) k.given);
+      marks = omega (arith, ap length marks, length_push old.marks false, k.marks, atoms);
+      phases = omega (arith, ap length phases, length_push old.phases.items false, k.phases, atoms);
+    }
+
+pub added_kept : (old new : Search) (clause : List (Signed ℕ)) (key : ℕ) → AtomsBelow old.trail.atoms clause → AddsClause old.clauses new.clauses clause key → new.log.added ≡ old.log.added ++ clause ∷ [] → new.log.steps ≡ old.log.steps → PutsName old.log.names.items new.log.names.items key (Added (length new.log.added))
+    → new.trail ≡ old.trail → new.marks ≡ old.marks → new.phases ≡ old.phases → IsKept old → IsKept new
+added_kept old new clause key low a grown same p trail marks phases k =
+    let atoms = ap (λ x. x.atoms) trail in
+    record {
+      log = subst (λ n. IsLog n new.clauses new.log) (sym atoms) (log_added old.trail.atoms old.clauses new.clauses clause key old.log new.log k.log low a grown same p);
+      given = subst (AreGiven new.clauses) (sym (ap (λ x. x.entries) trail)) (given_clauses old.clauses new.clauses clause key old.trail.entries a k.given);
+      marks = ap length marks ∙ k.marks ∙ sym atoms;
+      phases = ap (λ x. length x.items) phases ∙ k.phases ∙ sym atoms;
+    }
+
+pub back_kept : (old new : Search) (level : ℕ) → IsTrail old.trail → new.trail ≡ back_at old.trail level → new.clauses ≡ old.clauses → new.log ≡ old.log → new.marks ≡ old.marks → length new.phases.items ≡ length old.phases.items → IsKept old → IsKept new
+back_kept old new level v trail clauses log marks phases k =
+    let atoms : new.trail.atoms ≡ old.trail.atoms = ap (λ x. x.atoms) trail in
+    record {
+      log = subst (λ n. IsLog n new.clauses new.log) (sym atoms) (subst (λ x. IsLog old.trail.atoms x new.log) (sym clauses) (subst (IsLog old.trail.atoms old.clauses) (sym log) k.log));
+      given = subst (λ x. AreGiven x new.trail.entries) (sym clauses) (subst (AreGiven old.clauses) (sym (ap (λ x. x.entries) trail)) (given_up_to old.clauses old.trail level v k.given));
+      marks = ap length marks ∙ k.marks ∙ sym atoms;
+      phases = phases ∙ k.phases ∙ sym atoms;
+    }
+
+closes_shown : (F : List (Signed ℕ)) (hints : List (Option (List (Signed ℕ)))) → ClosesAll F hints → IsShown F hints
+closes_shown F [] c = absurd c
+closes_shown F (h ∷ hints) c = c
+
+closes_hinted : (added : List (List (Signed ℕ))) (steps : List Step) (F : List (Signed ℕ)) (hints : List Hint) → ClosesAll F (map (cited added steps) hints) → hints ≡ [] → ⊥
+closes_hinted added steps F [] c e = c
+closes_hinted added steps F (h ∷ hints) c e = cc
+
+pub step_kept : (old new : Search) (clause : List (Signed ℕ)) (hints : List Hint) → AtomsBelow old.trail.atoms clause → ClosesAll clause (map (cited old.log.added old.log.steps) hints) → new.log.added ≡ old.log.added → new.log.steps ≡ old.log.steps ++ (record { clause = clause; hints = hints }) ∷ [] → new.log.names ≡ old.log.names
+    → new.trail ≡ old.trail → new.clauses ≡ old.clauses → new.marks ≡ old.marks → new.phases ≡ old.phases → IsKept old → IsKept new
+step_kept old new clause hints low closes added steps names trail clauses marks phases k =
+    let s : Step = record { clause = clause; hints = hints } in
+    let atoms = ap (λ x. x.atoms) trail in
+    record {
+      log = subst (λ n. IsLog n new.clauses new.log) (sym atoms) (subst (λ x. IsLog old.trail.atoms x new.log) (sym clauses)
+          (log_step old.trail.atoms old.clauses s old.log new.log k.log (closes_shown clause (map (cited old.log.added old.log.steps) hints) closes) (closes_hinted old.log.added old.log.steps clause hints closes) low added steps (ap (λ x. x.items) names)));
+      given = subst (λ x. AreGiven x new.trail.entries) (sym clauses) (subst (AreGiven old.clauses) (sym (ap (λ x. x.entries) trail)) k.given);
+      marks = ap length marks ∙ k.marks ∙ sym atoms;
+      phases = ap (λ x. length x.items) phases ∙ k.phases ∙ sym atoms;
+    }
+
+pub use_kept : (old new : Search) (key : ℕ) (before : List Step) (s : Step) → old.log.steps ≡ before ++ s ∷ [] → AddsClause old.clauses new.clauses s.clause key → new.log.added ≡ old.log.added → new.log.steps ≡ old.log.steps → PutsName old.log.names.items new.log.names.items key (Earlier (length new.log.steps))
+    → new.trail ≡ old.trail → new.marks ≡ old.marks → new.phases ≡ old.phases → IsKept old → IsKept new
+use_kept old new key before s ends a added steps p trail marks phases k =
+    let atoms = ap (λ x. x.atoms) trail in
+    record {
+      log = subst (λ n. IsLog n new.clauses new.log) (sym atoms) (log_learned old.trail.atoms old.clauses new.clauses key s before old.log new.log k.log ends a added steps p);
+      given = subst (AreGiven new.clauses) (sym (ap (λ x. x.entries) trail)) (given_clauses old.clauses new.clauses s.clause key old.trail.entries a k.given);
+      marks = ap length marks ∙ k.marks ∙ sym atoms;
+      phases = ap (λ x. length x.items) phases ∙ k.phases ∙ sym atoms;
+    }
+
+-- propagation keeps the search
+pub propagated_kept : (old : Search) (t : Trail) → Propagates old.clauses old.trail t → IsKept old → IsKept (record old { trail = t })
+propagated_kept old t p k = record {
+  log = subst (λ n. IsLog n old.clauses old.log) (sym p.atoms) k.log;
+  given = given_propagated old.clauses old.trail t p k.given;
+  marks = k.marks ∙ sym p.atoms;
+  phases = k.phases ∙ sym p.atoms;
+}
+
+literal_new : (old new : List Entry) (l : Signed ℕ) → take (length old) new ≡ old → Contains (literals_of old) l → Contains (literals_of new) l
+literal_new old new l kept c =
+    let f = of_literals old l c in
+    subst (Contains (literals_of new)) (sym f.2) (to_literals new f.0 (in_new old new f.0 kept f.1))
+
+pub propagated : (assumptions : List (Signed ℕ)) (old : Search) (t : Trail) → Propagates old.clauses old.trail t → IsSearch assumptions old → IsSearch assumptions (record old { trail = t })
+propagated assumptions old t p s = record {
+  kept = propagated_kept old t p s.kept;
+  low = omega (arith, s.low, p.level);
+  decisions = λ e c chosen h. s.decisions e (decision_old old.clauses old.trail t e p c chosen) chosen h;
+  all_true = λ h. All-weaker (IsTrueUpTo old.trail.entries old.assumed) (IsTrueUpTo t.entries old.assumed) (λ a f. (f.0, in_new old.trail.entries t.entries f.0 p.kept f.1, f.2, f.3)) assumptions (s.all_true (omega (arith, h, p.level)));
+  checked = All-weaker (Contains (literals_of old.trail.entries)) (Contains (literals_of t.entries)) (λ a c. literal_new old.trail.entries t.entries a p.kept c) (take old.checked assumptions) s.checked;
+}
+
+-- first propagation, and then a step of the search
+pub continues_from : (assumptions : List (Signed ℕ)) (old new : Search) (t : Trail) (found : Option Answer) → Propagates old.clauses old.trail t → Continues assumptions (record old { trail = t }) new found → Continues assumptions old new found
+continues_from assumptions old new t None p c =
+    let n = old.trail.atoms in
+    let more = weight_kept n old.trail.entries t.entries p.kept in
+    let within = subst (λ k. weight k t.entries < (k + 1) ^ (k + 1)) p.atoms c.1.within in
+    let risen = subst (λ k. weight k t.entries < weight k new.trail.entries) p.atoms c.1.risen in (
+      c.0,
+      record {
+        same = record { atoms = c.1.same.atoms ∙ p.atoms; added = c.1.same.added };
+        within = omega (arith, more, within);
+        risen = omega (arith, more, risen);
+      },
+    )
+continues_from assumptions old new t (Some answer) p c = record {
+  kept = c.kept;
+  same = record { atoms = c.same.atoms ∙ p.atoms; added = c.same.added };
+  answered = subst (λ n. IsAnswer n old.log.added assumptions answer) p.atoms c.answered;
+}
+
+-- the beginning: no decision is left
+pub begun : (assumptions : List (Signed ℕ)) (old : Trail) (s : Search) → IsTrail old → s.trail ≡ back_at old 0 → s.assumed ≡ 0 → s.checked ≡ 0 → IsKept s → IsSearch assumptions s
+begun assumptions old s v trail assumed checked k = record {
+  kept = k;
+  low = omega (arith, assumed);
+  decisions = λ e c chosen h.
+      let f = of_up_to old.entries 0 e (subst (λ es. Contains es e) (ap (λ x. x.entries) trail) c) in
+      let high = All-contains (λ x. IsDecision x → 0 < x.level) old.entries e v.above f.0 chosen in
+      absurd (omega (arith, high, f.1));
+  all_true = λ h. absurd (omega (arith, h, ap (λ x. x.level) trail));
+  checked = subst (λ n. All (Contains (literals_of s.trail.entries)) (take n assumptions)) (sym checked) (take_zero (Contains (literals_of s.trail.entries)) assumptions);
+}
+  where
+    take_zero : (P : Signed ℕ → Type 0) (xs : List (Signed ℕ)) → All P (take 0 xs)
+    take_zero P [] = All-nil P
+    take_zero P (x ∷ xs) = All-nil P
+
+pub not_ended : (assumptions : List (Signed ℕ)) (old new : Search) (found : Option Answer) → ((a : Answer) → found ≡ Some a → ⊥) → Continues assumptions old new found → IsSearch assumptions new × Advances old new
+not_ended assumptions old new None goes c = c
+not_ended assumptions old new (Some a) goes c = absurd (goes a refl)
+
+pub falls : (b w v : ℕ) → w < b → w < v → b - v < b - w
+falls b w v h g = omega arith

@@ -1,0 +1,11 @@
+pub mod LogLaws
+pub mod EntryLaws
+pub mod AnalysisLaws
+pub mod MeetLaws
+pub mod Measure
+pub mod SearchLaws
+pub mod RoomLaws
+pub mod StepLaws
+pub mod EndLaws
+pub mod KeptLaws
+pub mod GoLaws

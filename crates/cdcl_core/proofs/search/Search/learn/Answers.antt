@@ -1,0 +1,71 @@
+use Rattle.std.proofs.Common.{◌≡◌, ℕ, ◌-◌, ◌<◌, ◌≤◌, length, take, drop, min, Some, sym, ap, ◌∙◌, subst, arith}
+use Rattle.inst_logic.specs.declared.signed.Signed.{Signed}
+use Rattle.prop_logic.specs.declared.literal.Step.{Step}
+use Rattle.prop_logic.specs.Literal.{AtomsBelow}
+use Rattle.cdcl_trail.specs.Clauses.{clause_number}
+use Rattle.cdcl_trail.specs.Trail.{IsUnset, with_implied, back_at}
+use Rattle.cdcl_core.specs.declared.search.Search.{Search}
+use Rattle.cdcl_core.specs.Log.{IsLog}
+use Rattle.cdcl_core.specs.Search.{AreGiven}
+use Rattle.cdcl_core.proofs.StepLaws.{IsUnitAt, learned_below, rest_below, rest_is, learned_unit_of, learned_search}
+use Rattle.cdcl_core.proofs.search.Search.learn.Goals as goal
+
+pub highest_level-level-requires : goal.highest_level-level-requires
+highest_level-level-requires c =
+    let t = c.args.self.now.trail in
+    let clause = c.args.analysis.clause.items in
+    let xs = c.deref.result.now in
+    rest_below t.atoms clause (take (length xs - 1) (drop 1 xs)) (rest_is clause xs c.deref.ensures.value) (learned_below t clause c.requires.trail c.requires.analysis.learned)
+
+pub push_step-requires-clause-atoms : goal.push_step-requires-clause-atoms
+push_step-requires-clause-atoms c =
+    let t = c.args.self.now.trail in
+    subst (AtomsBelow t.atoms) (sym c.from.ensures) (learned_below t c.args.analysis.clause.items c.requires.trail c.requires.analysis.learned)
+
+pub back_to-requires-clause-level : goal.back_to-requires-clause-level
+back_to-requires-clause-level c =
+    let t = c.args.self.now.trail in
+    let clause = c.args.analysis.clause.items in
+    let xs = c.deref.result.now in
+    let l = c.index-lit.result.now in
+    let level = c.highest_level-level.result in
+    let u = learned_unit_of t clause (take (length xs - 1) (drop 1 xs)) l l level c.requires.trail c.requires.analysis.learned c.requires.some c.index-lit.ensures (rest_is clause xs c.deref.ensures.value) c.highest_level-level.ensures.reached c.highest_level-level.ensures.least in
+    omega (arith, u.within, ap (λ x. x.level) c.in_ok-key.ensures.trail, ap (λ x. x.level) c.in_ok-push_step.ensures.trail)
+
+pub imply-requires-clause-unset : goal.imply-requires-clause-unset
+imply-requires-clause-unset c =
+    let t = c.args.self.now.trail in
+    let clause = c.args.analysis.clause.items in
+    let xs = c.deref.result.now in
+    let l = c.index-lit.result.now in
+    let level = c.highest_level-level.result in
+    let u = learned_unit_of t clause (take (length xs - 1) (drop 1 xs)) l l level c.requires.trail c.requires.analysis.learned c.requires.some c.index-lit.ensures (rest_is clause xs c.deref.ensures.value) c.highest_level-level.ensures.reached c.highest_level-level.ensures.least in
+    let trail = c.back_to.ensures.trail ∙ ap (λ x. back_at x level) (c.in_ok-key.ensures.trail ∙ c.in_ok-push_step.ensures.trail) in
+    subst (λ x. IsUnset x.entries l.atom) (sym trail) u.unset
+
+pub returns-clause-learned : goal.returns-clause-learned
+returns-clause-learned c = λ assumptions s.
+    let old = c.args.self.now in
+    let t = old.trail in
+    let clause = c.args.analysis.clause.items in
+    let xs = c.deref.result.now in
+    let l = c.index-lit.result.now in
+    let level = c.highest_level-level.result in
+    let key = c.in_ok-key.key in
+    let back = c.back_to.new.self in
+    let new : Search = record back { trail = c.imply.new.self } in
+    let u = learned_unit_of t clause (take (length xs - 1) (drop 1 xs)) l l level c.requires.trail c.requires.analysis.learned c.requires.some c.index-lit.ensures (rest_is clause xs c.deref.ensures.value) c.highest_level-level.ensures.reached c.highest_level-level.ensures.least in
+    let pushed = c.in_ok-push_step.ensures in
+    let used = c.in_ok-key.ensures in
+    let backed = c.back_to.ensures in
+    let last : Step = record { clause = c.from.result; hints = c.args.analysis.hints.items } in
+    let k = used.kept old.log.steps last pushed.steps in
+    let same_trail = used.trail ∙ pushed.trail in
+    let atoms : new.trail.atoms ≡ back.trail.atoms = ap (λ x. x.atoms) c.imply.ensures in
+    let given = subst (λ x. AreGiven x t.entries) (sym backed.clauses) (subst (λ x. AreGiven c.use_last_step.new.self.clauses x.entries) same_trail k.0.given) in
+    learned_search assumptions old new clause l level key c.requires.trail u
+    (c.imply.ensures ∙ ap (λ x. with_implied x l key) (backed.trail ∙ ap (λ x. back_at x level) same_trail))
+    (subst (λ n. IsLog n back.clauses back.log) (sym atoms) backed.kept.log) given
+    (ap (λ x. clause_number x key) backed.clauses ∙ k.1 ∙ ap Some c.from.ensures)
+    (backed.kept.marks ∙ sym atoms) (backed.kept.phases ∙ sym atoms)
+    (ap (λ x. x.added) backed.log ∙ used.added ∙ pushed.added) (backed.assumed ∙ ap (λ n. min n level) (used.assumed ∙ pushed.assumed)) backed.checked s

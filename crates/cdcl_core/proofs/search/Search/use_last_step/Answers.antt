@@ -1,0 +1,21 @@
+use Rattle.std.proofs.Common.{◌≡◌, length, refl, ap, ◌∙◌, subst}
+use Rattle.prop_logic.specs.declared.literal.Hint.TheVariants.{Step as Earlier}
+use Rattle.prop_logic.specs.Literal.{cited}
+use Rattle.prop_logic.proofs.SearchLaws.{last_cited}
+use Rattle.cdcl_trail.specs.Clauses.{AddsClause}
+use Rattle.cdcl_core.specs.declared.search.Search.{Search}
+use Rattle.cdcl_core.specs.Log.{PutsName}
+use Rattle.cdcl_core.proofs.KeptLaws.{use_kept}
+use Rattle.cdcl_core.proofs.search.Search.use_last_step.Goals as goal
+
+pub returns-clause-kept : goal.returns-clause-kept
+returns-clause-kept c = λ before s ends.
+    let old = c.args.self.now in
+    let log = old.log in
+    let key = c.in_ok-key.key in
+    let new : Search = record old { log = record log { names = c.put_name.new.names }; clauses = c.add.new.self } in
+    let named = ap (λ n. cited log.added log.steps (Earlier n)) c.len.ensures ∙ ap (λ ss. cited log.added ss (Earlier (length ss))) ends ∙ last_cited log.added before s in
+    let is = c.cited.ensures.clause s.clause named in
+    let adds = subst (λ x. AddsClause old.clauses c.add.new.self x key) is c.in_ok-key.ensures.number in
+    let puts = subst (λ n. PutsName log.names.items c.put_name.new.names.items key (Earlier n)) c.len.ensures c.in_ok-put_name.ensures in
+    (use_kept old new key before s ends adds refl refl puts refl refl refl c.requires, adds.added)

@@ -1,0 +1,4 @@
+pub mod Marks
+pub mod Log
+pub mod Analysis
+pub mod Search

@@ -1,0 +1,298 @@
+// Analysis of conflicts: which false literals can't all be false, and the hints that show it.
+ghost use Rattle.std.specs.Prelude.{◌≡◌, ℕ, ◌+◌, ◌++◌, ◌∷◌, [], ◌<◌, ◌≤◌, List, Bool, Some, All, Contains, MatchBool, length, map, slice_get, IfOk, OnOk};
+ghost use Rattle.inst_logic.specs.declared.signed.Signed.{Signed};
+ghost use Rattle.inst_logic.specs.Signed.{complement};
+ghost use Rattle.prop_logic.specs.declared.literal.Hint.{Hint};
+ghost use Rattle.prop_logic.specs.Literal.{AtomsBelow};
+ghost use Rattle.cdcl_trail.specs.declared.entry.Entry.{Entry};
+ghost use Rattle.cdcl_trail.specs.Trail.{IsTrail};
+ghost use Rattle.cdcl_core.specs.Log.{IsNamed};
+ghost use Rattle.cdcl_core.specs.Analysis.{IsMarked, AreCounted, MarksToo, IsReady, IsBegun, NamesFalse, IsMet, IsMetDecided, IsAnalysis, ShowsGiven};
+
+use crate::log::Log;
+use crate::marks::Marks;
+use cdcl_trail::Trail;
+use inst_logic::Memory;
+use prop_logic::{Hint, Lit, complement};
+use std::alloc::Global;
+
+// How many marked literals are still to be met: of the present level, and of those below it.
+#[derive(Clone, Copy)]
+pub(crate) struct Counts {
+    pub(crate) present: usize,
+    pub(crate) below: usize,
+}
+
+// The complements of the literals that stay, and the hints in the reverse of the order in which they are resolved.
+#[derive(Drop)]
+pub(crate) struct Analysis {
+    pub(crate) clause: Vec<Lit>,
+    pub(crate) hints: Vec<Hint>,
+    pub(crate) counts: Counts,
+}
+
+// The literal at a place of the trail.
+pub(crate) fn literal_at(trail: &Trail, place: usize) -> Lit
+    requires { place < length trail.now.entries }
+    ensures literal { (e : Entry) → slice_get trail.now.entries place ≡ Some e → result ≡ e.lit }
+    ensures atom { result.atom < trail.now.atoms }
+{
+    let literals = trail.assigned();
+    literals[place]
+}
+
+fn mark(trail: &Trail, marks: &mut Marks, counts: &mut Counts, lit: Lit)
+    requires trail { IsTrail trail.now }
+    requires room { length trail.now.entries ≤ usize.MAX }
+    requires size { length marks.old ≡ trail.now.atoms }
+    requires atom { lit.atom < trail.now.atoms }
+    ensures size { length marks.new ≡ length marks.old }
+    ensures marked { MarksToo trail.now (lit ∷ []) marks.old marks.new counts.old counts.new }
+{
+    if marks.contains(lit.atom) {
+        return;
+    }
+    marks.insert(lit.atom);
+    let level = trail.level_of(lit.atom).unwrap_or(0);
+    if level == trail.level() {
+        counts.present = counts.present.saturating_add(1);
+    } else {
+        counts.below = counts.below.saturating_add(1);
+    }
+}
+
+// Marks the atoms of the clause.
+fn mark_all(trail: &Trail, marks: &mut Marks, counts: &mut Counts, clause: &[Lit])
+    requires trail { IsTrail trail.now }
+    requires room { length trail.now.entries ≤ usize.MAX }
+    requires size { length marks.old ≡ trail.now.atoms }
+    requires atoms { AtomsBelow trail.now.atoms clause.now }
+    ensures size { length marks.new ≡ length marks.old }
+    ensures marked { MarksToo trail.now clause.now marks.old marks.new counts.old counts.new }
+{
+    for lit in clause {
+        mark(trail, marks, counts, *lit);
+    }
+}
+
+// Whether a literal with a reason stays. The first one that stays is the last of the present level that all paths to the
+// conflict go through; after it those stay that are above level 0.
+fn stays(trail: &Trail, analysis: &Analysis, level: usize) -> bool
+    ensures { MatchBool result ((0 < level) × (analysis.now.clause.items ≡ [] → (level ≡ trail.now.level) × (analysis.now.counts.present ≤ 1))) ((analysis.now.clause.items ≡ [] → ⊥) → level ≡ 0) }
+{
+    if level == 0 {
+        return false;
+    }
+    if !analysis.clause.is_empty() {
+        return true;
+    }
+    level == trail.level() && analysis.counts.present <= 1
+}
+
+// Counts a literal as met.
+fn count_met(trail: &Trail, counts: &mut Counts, level: usize)
+    ensures { (i : ℕ) (e : Entry) (marks : List Bool) → slice_get trail.now.entries i ≡ Some e → IsMarked marks e.lit.atom → e.level ≡ level → AreCounted trail.now (i + 1) marks counts.old → AreCounted trail.now i marks counts.new }
+{
+    if level == trail.level() {
+        counts.present = counts.present.saturating_sub(1);
+    } else {
+        counts.below = counts.below.saturating_sub(1);
+    }
+}
+
+// Puts a reason's clause in the place of the literal.
+fn resolve(
+    log: &Log,
+    trail: &Trail,
+    marks: &mut Marks,
+    analysis: &mut Analysis,
+    number: usize,
+) -> Result<(), Memory>
+    requires ready { IsReady log.now trail.now }
+    requires size { length marks.old ≡ trail.now.atoms }
+    ensures size { OnOk result (length marks.new ≡ length marks.old) }
+    ensures clause { OnOk result (analysis.new.clause ≡ analysis.old.clause) }
+    ensures hints { OnOk result ((h : Hint) → slice_get log.now.names.items number ≡ Some h → analysis.new.hints.items ≡ analysis.old.hints.items ++ h ∷ []) }
+    ensures marked { OnOk result ((c : List (Signed ℕ)) → IsNamed log.now number c → MarksToo trail.now c marks.old marks.new analysis.old.counts analysis.new.counts) }
+{
+    let hint = log.hint_of(number);
+    analysis.hints.push(hint)?;
+    mark_all(trail, marks, &mut analysis.counts, log.cited(hint));
+    Ok(())
+}
+
+fn keep(analysis: &mut Analysis, lit: Lit) -> Result<(), Memory>
+    ensures clause { OnOk result (analysis.new.clause.items ≡ analysis.old.clause.items ++ complement lit ∷ []) }
+    ensures hints { OnOk result (analysis.new.hints ≡ analysis.old.hints) }
+    ensures counts { OnOk result (analysis.new.counts ≡ analysis.old.counts) }
+{
+    analysis.clause.push(complement(lit))?;
+    Ok(())
+}
+
+// Goes one literal further back on the trail.
+fn meet(
+    log: &Log,
+    trail: &Trail,
+    marks: &mut Marks,
+    analysis: &mut Analysis,
+    place: usize,
+) -> Result<(), Memory>
+    requires ready { IsReady log.now trail.now }
+    requires size { length marks.old ≡ trail.now.atoms }
+    requires place { place < length trail.now.entries }
+    requires met { IsMet log.now trail.now (place + 1) marks.old analysis.old }
+    ensures size { OnOk result (length marks.new ≡ length marks.old) }
+    ensures met { OnOk result (IsMet log.now trail.now place marks.new analysis.new) }
+{
+    let lit = literal_at(trail, place);
+    if !marks.contains(lit.atom) {
+        return Ok(());
+    }
+    let level = trail.level_of(lit.atom).unwrap_or(0);
+    let remains = stays(trail, analysis, level);
+    count_met(trail, &mut analysis.counts, level);
+    match trail.reason(lit.atom) {
+        None => keep(analysis, lit),
+        Some(number) => {
+            if remains {
+                return keep(analysis, lit);
+            }
+            resolve(log, trail, marks, analysis, number)
+        }
+    }
+}
+
+// The same where exactly the decisions stay.
+fn meet_decided(
+    log: &Log,
+    trail: &Trail,
+    marks: &mut Marks,
+    analysis: &mut Analysis,
+    place: usize,
+) -> Result<(), Memory>
+    requires ready { IsReady log.now trail.now }
+    requires size { length marks.old ≡ trail.now.atoms }
+    requires place { place < length trail.now.entries }
+    ensures size { OnOk result (length marks.new ≡ length marks.old) }
+    ensures met { OnOk result ((start : ℕ) (l : Signed ℕ) → place < start → IsMetDecided log.now trail.now start (place + 1) l marks.old analysis.old → IsMetDecided log.now trail.now start place l marks.new analysis.new) }
+{
+    let lit = literal_at(trail, place);
+    if !marks.contains(lit.atom) {
+        return Ok(());
+    }
+    let level = trail.level_of(lit.atom).unwrap_or(0);
+    count_met(trail, &mut analysis.counts, level);
+    match trail.reason(lit.atom) {
+        None => Ok(()),
+        Some(number) => resolve(log, trail, marks, analysis, number),
+    }
+}
+
+// Whether a marked literal is still to be met.
+fn any_left(counts: Counts) -> bool
+    ensures { MatchBool result (Unit {0}) ((counts.present ≡ 0) × (counts.below ≡ 0)) }
+{
+    0 < counts.present || 0 < counts.below
+}
+
+// An analysis that has met nothing.
+fn no_analysis(alloc: Global) -> Analysis
+    ensures clause { result.clause.items ≡ [] }
+    ensures hints { result.hints.items ≡ [] }
+{
+    Analysis {
+        clause: Vec::new(alloc),
+        hints: Vec::new(alloc),
+        counts: Counts {
+            present: 0,
+            below: 0,
+        },
+    }
+}
+
+// Marks the clause of this number alone.
+fn begin(
+    alloc: Global,
+    log: &Log,
+    trail: &Trail,
+    marks: &mut Marks,
+    number: usize,
+) -> Result<Analysis, Memory>
+    requires ready { IsReady log.now trail.now }
+    requires size { length marks.old ≡ trail.now.atoms }
+    ensures size { OnOk result (length marks.new ≡ length marks.old) }
+    ensures begun { IfOk result (λ a. (c : List (Signed ℕ)) → IsNamed log.now number c → IsBegun log.now trail.now number c marks.new a) }
+{
+    let mut analysis = no_analysis(alloc);
+    marks.clear();
+    resolve(log, trail, marks, &mut analysis, number)?;
+    Ok(analysis)
+}
+
+// What is learned where the clause of this number is false, on a trail of `count` literals.
+#[tactic(auto)]
+pub(crate) fn analyze(
+    alloc: Global,
+    log: &Log,
+    trail: &Trail,
+    marks: &mut Marks,
+    number: usize,
+    count: usize,
+) -> Result<Analysis, Memory>
+    requires ready { IsReady log.now trail.now }
+    requires size { length marks.old ≡ trail.now.atoms }
+    requires count { count ≡ length trail.now.entries }
+    requires conflict { NamesFalse log.now trail.now.entries number }
+    ensures size { OnOk result (length marks.new ≡ length marks.old) }
+    ensures analysis { IfOk result (IsAnalysis log.now trail.now.entries) }
+{
+    let mut analysis = begin(alloc, log, trail, marks, number)?;
+    let mut place = count;
+    while 0 < place && any_left(analysis.counts) {
+        place -= 1;
+        meet(log, trail, marks, &mut analysis, place)?;
+    }
+    analysis.hints.reverse();
+    Ok(analysis)
+}
+
+// The place on the trail of the literal.
+fn place_of(literals: &[Lit], lit: Lit) -> usize
+    requires { Contains literals.now lit }
+    ensures { slice_get literals.now result ≡ Some lit }
+{
+    let mut place = literals.len();
+    while 0 < place {
+        place -= 1;
+        if literals[place] == lit {
+            return place;
+        }
+    }
+    0
+}
+
+// Marks the decisions on which a true literal depends that the clause of this number gave, and answers the hints.
+pub(crate) fn analyze_given(
+    alloc: Global,
+    log: &Log,
+    trail: &Trail,
+    marks: &mut Marks,
+    lit: Lit,
+    number: usize,
+) -> Result<Vec<Hint>, Memory>
+    requires ready { IsReady log.now trail.now }
+    requires size { length marks.old ≡ trail.now.atoms }
+    requires given { (e : Entry) × Contains trail.now.entries e × (e.lit ≡ lit) × (e.reason ≡ Some number) }
+    ensures size { OnOk result (length marks.new ≡ length marks.old) }
+    ensures hints { IfOk result (λ hints. ShowsGiven log.now trail.now.entries lit marks.new hints.items) }
+{
+    let mut analysis = begin(alloc, log, trail, marks, number)?;
+    let mut place = place_of(trail.assigned(), lit);
+    while 0 < place && any_left(analysis.counts) {
+        place -= 1;
+        meet_decided(log, trail, marks, &mut analysis, place)?;
+    }
+    analysis.hints.reverse();
+    Ok(analysis.hints)
+}

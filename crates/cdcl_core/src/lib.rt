@@ -1,0 +1,14 @@
+//! A solver that learns a clause from each conflict and keeps what it learned from one question to the next
+//! (Marques-Silva and Sakallah, GRASP, 1999; Moskewicz and others, Chaff, 2001; Eén and Sörensson, An extensible
+//! SAT-solver, 2003).
+#![tactic(auto)]
+
+mod analysis;
+mod cdcl;
+mod log;
+mod marks;
+mod search;
+#[cfg(test)]
+mod tests;
+
+pub use cdcl::Cdcl;

@@ -1,0 +1,78 @@
+// The added clauses and the steps, and by which of these a clause is known to the trail.
+ghost use Rattle.std.specs.Prelude.{◌≡◌, ◌+◌, ◌∷◌, [], ◌++◌, ◌<◌, ◌≤◌, ℕ, List, Some, length, slice_get, OnOk, IfOk};
+ghost use Rattle.inst_logic.specs.declared.signed.Signed.{Signed};
+ghost use Rattle.prop_logic.specs.Literal.{cited, AtomsBelow, AllAtomsBelow, StepsBelow};
+ghost use Rattle.prop_logic.specs.declared.literal.Hint.{Hint};
+ghost use Rattle.cdcl_core.specs.Log.{PutsName};
+
+use inst_logic::Memory;
+use prop_logic::{Derivation, Hint, Lit, LitLists};
+use std::alloc::Global;
+
+// `names` has for the number of each clause what cites it here.
+#[derive(Drop)]
+pub(crate) struct Log {
+    pub(crate) added: LitLists,
+    pub(crate) steps: Derivation,
+    pub(crate) names: Vec<Hint>,
+}
+
+// Makes the list longer than `number`.
+fn lengthen(names: &mut Vec<Hint>, number: usize) -> Result<(), Memory>
+    ensures room { OnOk result (number < length names.new.items) }
+    ensures kept { OnOk result ((k : ℕ) (h : Hint) → slice_get names.old.items k ≡ Some h → slice_get names.new.items k ≡ Some h) }
+{
+    while names.len() <= number {
+        names.push(Hint::Added(0))?;
+    }
+    Ok(())
+}
+
+// Gives the number its name.
+pub(crate) fn put_name(names: &mut Vec<Hint>, number: usize, hint: Hint) -> Result<(), Memory>
+    ensures { OnOk result (PutsName names.old.items names.new.items number hint) }
+{
+    lengthen(names, number)?;
+    names[number] = hint;
+    Ok(())
+}
+
+impl Log {
+    pub(crate) fn new(alloc: Global) -> Log
+        ensures added { result.added ≡ [] }
+        ensures steps { result.steps ≡ [] }
+    {
+        Log {
+            added: LitLists::new(alloc),
+            steps: Derivation::new(alloc),
+            names: Vec::new(alloc),
+        }
+    }
+
+    // What cites the clause of this number. Number 0 of the added clauses is none.
+    pub(crate) fn hint_of(&self, number: usize) -> Hint
+        ensures { (h : Hint) → slice_get self.now.names.items number ≡ Some h → result ≡ h }
+    {
+        self.names.get(number).copied().unwrap_or(Hint::Added(0))
+    }
+
+    // The clause that the hint cites.
+    pub(crate) fn cited(&self, hint: Hint) -> &[Lit]
+        ensures below { (n : ℕ) → AllAtomsBelow n self.now.added → StepsBelow n self.now.steps → AtomsBelow n result.now }
+        ensures clause { (c : List (Signed ℕ)) → cited self.now.added self.now.steps hint ≡ Some c → result.now ≡ c }
+    {
+        match hint {
+            Hint::Added(n) => {
+                if 0 < n && n <= self.added.len() {
+                    return self.added.as_slice()[n - 1].as_slice();
+                }
+            }
+            Hint::Step(n) => {
+                if 0 < n && n <= self.steps.len() {
+                    return self.steps.as_slice()[n - 1].clause.as_slice();
+                }
+            }
+        }
+        &[]
+    }
+}

@@ -1,0 +1,71 @@
+// A set of atoms that is emptied by one addition.
+ghost use Rattle.std.specs.Prelude.{◌≡◌, ◌<◌, ◌++◌, ◌∷◌, [], length, replicate, true, false, slice_set, OnOk};
+ghost use Rattle.std.specs.List.{slice_index_or};
+
+use inst_logic::Memory;
+use std::alloc::Global;
+use std::marker::Model;
+
+// An atom is in the set where its stamp is the present one.
+#[derive(Drop)]
+pub(crate) struct Marks {
+    stamps: Vec<u64>,
+    present: u64,
+}
+
+impl Model for Marks {
+    ghost use Rattle.std.specs.Prelude.{List, Bool, ◌==◌, map};
+    ghost use Rattle.cdcl_core.specs.Marks.{AreStamps};
+
+    ghost Value = { List Bool };
+
+    ghost view = { λ a. map (λ s. s == a.present) a.stamps.items };
+
+    ghost invariant = { λ a. AreStamps a.stamps.items a.present };
+}
+
+impl Marks {
+    // A set over no atoms.
+    pub(crate) fn new(alloc: Global) -> Marks
+        ensures { result ≡ [] }
+    {
+        Marks {
+            stamps: Vec::new(alloc),
+            present: 1,
+        }
+    }
+
+    // Makes room for the next atom, which is not in the set.
+    pub(crate) fn grow(&mut self) -> Result<(), Memory>
+        ensures { OnOk result (self.new ≡ self.old ++ false ∷ []) }
+    {
+        self.stamps.push(0)?;
+        Ok(())
+    }
+
+    // Stamps are set anew only once in 2^64 calls.
+    pub(crate) fn clear(&mut self)
+        ensures { self.new ≡ replicate (length self.old) false }
+    {
+        if self.present < u64::MAX {
+            self.present += 1;
+        } else {
+            self.stamps.fill(0);
+            self.present = 1;
+        }
+    }
+
+    pub(crate) fn insert(&mut self, atom: usize)
+        requires { atom < length self.old }
+        ensures { self.new ≡ slice_set self.old atom true }
+    {
+        self.stamps[atom] = self.present;
+    }
+
+    pub(crate) fn contains(&self, atom: usize) -> bool
+        requires { atom < length self.now }
+        ensures { result ≡ slice_index_or self.now atom false }
+    {
+        self.stamps[atom] == self.present
+    }
+}

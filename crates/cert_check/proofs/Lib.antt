@@ -1,0 +1,14 @@
+pub mod Bases
+pub mod Differences
+pub mod GroundMembers
+pub mod InputScans
+pub mod Interning
+pub mod OriginLemmas
+pub mod PairScans
+pub mod Passing
+pub mod Placed
+pub mod Refutations
+pub mod RightSteps
+pub mod Rightness
+pub mod Saturations
+pub mod ShownTrees

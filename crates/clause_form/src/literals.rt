@@ -1,0 +1,58 @@
+// Clauses whose atoms were built.
+ghost use Rattle.std.specs.Prelude.{◌≡◌, ◌++◌, ◌∷◌, map, length, IfOk, OnOk};
+ghost use Rattle.inst_logic.specs.Lists.{distinct, with_item};
+ghost use Rattle.clause_form.specs.Literals.{with_atoms, id_eq};
+
+use indexmap::IndexSet;
+use inst_logic::Memory;
+use std::alloc::Global;
+use term_bank::{IdClause, IdLiteral, TermId};
+
+// The atoms of the literals, in order.
+pub fn atoms_of(alloc: Global, literals: &[IdLiteral]) -> Result<Vec<TermId>, Memory>
+    ensures { IfOk result (λ v. v.items ≡ map (λ l. l.atom) literals.now) }
+{
+    let mut atoms = Vec::new(alloc);
+    for l in literals {
+        atoms.push(l.atom)?;
+    }
+    Ok(atoms)
+}
+
+// One more literal, where it is not there.
+fn add_literal(
+    seen: &mut IndexSet<IdLiteral>,
+    clause: &mut IdClause,
+    literal: IdLiteral,
+) -> Result<(), Memory>
+    requires { clause.old ≡ seen.old.keys }
+    ensures same { OnOk result (clause.new ≡ seen.new.keys) }
+    ensures added { OnOk result (seen.new.keys ≡ with_item id_eq seen.old.keys literal) }
+{
+    let kept = literal;
+    if seen.insert(literal)? {
+        clause.push(kept)?;
+    }
+    Ok(())
+}
+
+// The literals with other atoms, each repeated one at its first place only.
+pub fn clause_of(
+    alloc: Global,
+    literals: &[IdLiteral],
+    atoms: &[TermId],
+) -> Result<IdClause, Memory>
+    requires { length literals.now ≡ length atoms.now }
+    ensures { IfOk result (λ d. d ≡ distinct id_eq (with_atoms literals.now atoms.now)) }
+{
+    let mut seen: IndexSet<IdLiteral> = IndexSet::new(alloc);
+    let mut clause = IdClause::new(alloc);
+    for (i, l) in literals.iter().enumerate() {
+        let literal = IdLiteral {
+            positive: l.positive,
+            atom: atoms[i],
+        };
+        add_literal(&mut seen, &mut clause, literal)?;
+    }
+    Ok(clause)
+}

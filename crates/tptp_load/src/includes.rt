@@ -1,0 +1,218 @@
+// Files with what they include, level by level.
+ghost use Rattle.std.specs.Prelude.{◌≡◌, ◌≤◌, ◌+◌, ◌∷◌, ◌++◌, [], None, Some, All, IfOk, IfErr, OnOk, IsTrue, length, option_map};
+ghost use Rattle.inst_logic.specs.Printing.{is_readable_name};
+ghost use Rattle.tptp_read.specs.Names.{HasReadableNames};
+ghost use Rattle.tptp_read.specs.Text.{Readable, IsFormedStatement};
+ghost use Rattle.tptp_load.specs.Loading.{Includes, Loading, StatementsGive, limit};
+ghost use Rattle.tptp_load.specs.declared.error.LoadError.TheVariants as errors;
+ghost use Rattle.tptp_load.specs.Parts.{Adds, Including, IsGathered, IsMisread, IsPartCause, StatementGives};
+
+use crate::error::LoadError;
+use crate::paths::{Found, find};
+use crate::stated::{StatedClause, select};
+use inst_logic::{ByteList, Memory, Name, NameList};
+use outside_io::Library;
+use std::alloc::Global;
+use tptp_read::{ReadError, Statement, StatementList, read_text};
+
+/// What was gathered from the statements so far, and how many bytes were read over all files.
+#[derive(Drop)]
+pub(crate) struct Gathered {
+    pub(crate) stated: Vec<StatedClause>,
+    pub(crate) used: usize,
+}
+
+/// The name as a value that is kept.
+pub(crate) fn name_of(alloc: Global, name: &str) -> Result<Name, Memory>
+    ensures { IfOk result (λ n. n ≡ name.now) }
+{
+    Name::of(alloc, name.as_bytes())
+}
+
+// The statements of the file of this name with these bytes, which are dropped.
+#[tactic(auto, using(std::proofs::lemmas::Grind::common_steps, crate::proofs::Parts::fault_stays))]
+fn read_statements(alloc: Global, name: &str, bytes: ByteList) -> Result<StatementList, LoadError>
+    ensures readable { IfOk result (Readable bytes) }
+    ensures formed { IfOk result (All IsFormedStatement) }
+    ensures names { IfOk result (All HasReadableNames) }
+    ensures err { IfErr result (IsMisread name.now bytes) }
+{
+    match read_text(alloc, bytes.as_slice()) {
+        Ok(statements) => Ok(statements),
+        Err(ReadError::Memory) => Err(LoadError::Memory),
+        Err(fault) => Err(LoadError::Text {
+            file: name_of(alloc, name)?,
+            fault,
+        }),
+    }
+}
+
+/// Adds the file of this name with these bytes. So many levels of includes may stand below it.
+#[cycle(levels)]
+pub(crate) fn add_file<L: Library>(
+    alloc: Global,
+    root: Option<&str>,
+    levels: usize,
+    name: &str,
+    bytes: ByteList,
+    files: &mut L,
+    gathered: &mut Gathered,
+) -> Result<(), LoadError>
+    requires fits { gathered.old.used + length bytes ≤ limit }
+    requires good { IsGathered gathered.old.stated.items gathered.old.used }
+    ensures files { L.files files.new ≡ L.files files.old }
+    ensures later { L.faults files.old ≤ L.faults files.new }
+    ensures good { OnOk result (IsGathered gathered.new.stated.items gathered.new.used) }
+    ensures ok { OnOk result (Adds (L.files files.old) (λ told. Loading told (option_map (λ r. r.now) root.entry) levels gathered.old.used name.now bytes) gathered.old.stated.items gathered.new.stated.items gathered.new.used) }
+    ensures err { IfErr result (IsPartCause (L.files files.old) (λ told. Loading told (option_map (λ r. r.now) root.entry) levels gathered.old.used name.now bytes) (L.faults files.old) (L.faults files.new)) }
+{
+    gathered.used += bytes.len();
+    let statements = read_statements(alloc, name, bytes)?;
+    add_statements(alloc, root, levels, name, statements, files, gathered)
+}
+
+// Adds the statements of the file `from` in order.
+#[cycle(levels)]
+fn add_statements<L: Library>(
+    alloc: Global,
+    root: Option<&str>,
+    levels: usize,
+    from: &str,
+    statements: StatementList,
+    files: &mut L,
+    gathered: &mut Gathered,
+) -> Result<(), LoadError>
+    requires good { IsGathered gathered.old.stated.items gathered.old.used }
+    requires formed { All IsFormedStatement statements }
+    requires names { All HasReadableNames statements }
+    ensures files { L.files files.new ≡ L.files files.old }
+    ensures later { L.faults files.old ≤ L.faults files.new }
+    ensures good { OnOk result (IsGathered gathered.new.stated.items gathered.new.used) }
+    ensures ok { OnOk result (Adds (L.files files.old) (λ told. StatementsGive (Including told (option_map (λ r. r.now) root.entry) levels) from.now gathered.old.used statements) gathered.old.stated.items gathered.new.stated.items gathered.new.used) }
+    ensures err { IfErr result (IsPartCause (L.files files.old) (λ told. StatementsGive (Including told (option_map (λ r. r.now) root.entry) levels) from.now gathered.old.used statements) (L.faults files.old) (L.faults files.new)) }
+{
+    let list: Vec<Statement> = Vec::from(statements);
+    for statement in list {
+        add_statement(alloc, root, levels, from, statement, files, gathered)?;
+    }
+    Ok(())
+}
+
+// Adds what one statement of the file `from` gives.
+#[cycle(levels)]
+fn add_statement<L: Library>(
+    alloc: Global,
+    root: Option<&str>,
+    levels: usize,
+    from: &str,
+    statement: Statement,
+    files: &mut L,
+    gathered: &mut Gathered,
+) -> Result<(), LoadError>
+    requires good { IsGathered gathered.old.stated.items gathered.old.used }
+    requires formed { IsFormedStatement statement }
+    requires names { HasReadableNames statement }
+    ensures files { L.files files.new ≡ L.files files.old }
+    ensures later { L.faults files.old ≤ L.faults files.new }
+    ensures good { OnOk result (IsGathered gathered.new.stated.items gathered.new.used) }
+    ensures ok { OnOk result (Adds (L.files files.old) (λ told. StatementGives (Including told (option_map (λ r. r.now) root.entry) levels) from.now gathered.old.used statement) gathered.old.stated.items gathered.new.stated.items gathered.new.used) }
+    ensures err { IfErr result (IsPartCause (L.files files.old) (λ told. StatementGives (Including told (option_map (λ r. r.now) root.entry) levels) from.now gathered.old.used statement) (L.faults files.old) (L.faults files.new)) }
+{
+    match statement {
+        Statement::Cnf {
+            name,
+            always,
+            clause,
+            ..
+        } => add_clause(
+            gathered,
+            StatedClause {
+                name,
+                always,
+                clause,
+            },
+        ),
+        Statement::Include { file, selection } => {
+            if levels == 0 {
+                return Err(LoadError::IncludeDepth { file });
+            }
+            match selection {
+                None => add_included(alloc, root, levels - 1, from, &file, files, gathered),
+                Some(names) => add_selected(
+                    alloc,
+                    root,
+                    levels - 1,
+                    from,
+                    &file,
+                    &names,
+                    files,
+                    gathered,
+                ),
+            }
+        }
+    }
+}
+
+// Adds a clause at the end.
+fn add_clause(gathered: &mut Gathered, stated: StatedClause) -> Result<(), LoadError>
+    ensures used { gathered.new.used ≡ gathered.old.used }
+    ensures ok { OnOk result (gathered.new.stated.items ≡ gathered.old.stated.items ++ stated ∷ []) }
+    ensures err { IfErr result (λ e. e ≡ errors.Memory) }
+{
+    match gathered.stated.push(stated) {
+        Ok(()) => Ok(()),
+        Err(_) => Err(LoadError::Memory),
+    }
+}
+
+// Adds the whole file of an include, in the file `from`.
+#[cycle(levels)]
+fn add_included<L: Library>(
+    alloc: Global,
+    root: Option<&str>,
+    levels: usize,
+    from: &str,
+    file: &Name,
+    files: &mut L,
+    gathered: &mut Gathered,
+) -> Result<(), LoadError>
+    requires good { IsGathered gathered.old.stated.items gathered.old.used }
+    requires name { IsTrue (is_readable_name file.now) }
+    ensures files { L.files files.new ≡ L.files files.old }
+    ensures later { L.faults files.old ≤ L.faults files.new }
+    ensures good { OnOk result (IsGathered gathered.new.stated.items gathered.new.used) }
+    ensures ok { OnOk result (Adds (L.files files.old) (λ told. Includes told (option_map (λ r. r.now) root.entry) (Loading told (option_map (λ r. r.now) root.entry) levels) gathered.old.used from.now file.now None) gathered.old.stated.items gathered.new.stated.items gathered.new.used) }
+    ensures err { IfErr result (IsPartCause (L.files files.old) (λ told. Includes told (option_map (λ r. r.now) root.entry) (Loading told (option_map (λ r. r.now) root.entry) levels) gathered.old.used from.now file.now None) (L.faults files.old) (L.faults files.new)) }
+{
+    let Found { name, bytes } = find(alloc, root, from, file, gathered.used, files)?;
+    add_file(alloc, root, levels, name.as_str(), bytes, files, gathered)
+}
+
+// Adds the selected clauses of an include, in the file `from`.
+#[cycle(levels)]
+fn add_selected<L: Library>(
+    alloc: Global,
+    root: Option<&str>,
+    levels: usize,
+    from: &str,
+    file: &Name,
+    names: &NameList,
+    files: &mut L,
+    gathered: &mut Gathered,
+) -> Result<(), LoadError>
+    requires good { IsGathered gathered.old.stated.items gathered.old.used }
+    requires name { IsTrue (is_readable_name file.now) }
+    ensures files { L.files files.new ≡ L.files files.old }
+    ensures later { L.faults files.old ≤ L.faults files.new }
+    ensures good { OnOk result (IsGathered gathered.new.stated.items gathered.new.used) }
+    ensures ok { OnOk result (Adds (L.files files.old) (λ told. Includes told (option_map (λ r. r.now) root.entry) (Loading told (option_map (λ r. r.now) root.entry) levels) gathered.old.used from.now file.now (Some names.now)) gathered.old.stated.items gathered.new.stated.items gathered.new.used) }
+    ensures err { IfErr result (IsPartCause (L.files files.old) (λ told. Includes told (option_map (λ r. r.now) root.entry) (Loading told (option_map (λ r. r.now) root.entry) levels) gathered.old.used from.now file.now (Some names.now)) (L.faults files.old) (L.faults files.new)) }
+{
+    let mut part = Gathered {
+        stated: Vec::new(alloc),
+        used: gathered.used,
+    };
+    add_included(alloc, root, levels, from, file, files, &mut part)?;
+    gathered.used = part.used;
+    select(alloc, file, names, part.stated, &mut gathered.stated)
+}

@@ -1,0 +1,70 @@
+// Bodies of statements, read from tokens.
+ghost use Rattle.std.specs.Prelude.{◌≡◌, ◌≤◌, ◌<◌, IfOk, drop, length, fold, nat_le};
+ghost use Rattle.std.specs.List.{list_any};
+ghost use Rattle.tptp_read.specs.LexemeView.{toks, texts, Gives};
+ghost use Rattle.tptp_read.specs.Shapes.{seen};
+ghost use Rattle.tptp_read.specs.Gathered.{gathered, gather, nothing};
+ghost use Rattle.tptp_read.specs.Bodies.{disjunction_at, wrotes, body, body_of};
+
+use crate::clause::{Literals, item, items};
+use crate::lexeme::Lexeme;
+use crate::numbers::variables_of;
+use crate::stop::Stop;
+use crate::width::is_wide;
+use indexmap::IndexSet;
+use inst_logic::Clause;
+use std::alloc::Global;
+
+// The most different variables that a statement may have.
+const MOST_VARIABLES: usize = 10_000;
+
+// The clause of a statement, with what may be wrong with it: a token that is not supported, a symbol with too many arguments,
+// too many different variables.
+#[derive(Drop)]
+pub(crate) struct Body<'a> {
+    pub(crate) literals: Literals<'a>,
+    pub(crate) wide: bool,
+    pub(crate) crowded: bool,
+}
+
+// The literals of a disjunction.
+fn disjunction<'a>(
+    alloc: Global,
+    vars: &IndexSet<&[u8]>,
+    tokens: &[Lexeme<'a>],
+    at: usize,
+) -> Result<(Literals<'a>, usize), Stop>
+    ensures is { Gives (λ x. (gathered x.0, toks (drop x.1 tokens.now))) result (seen (λ p. fold (gather (texts vars.now.keys)) nothing (wrotes p)) (disjunction_at (length tokens.now) (toks (drop at tokens.now)))) }
+    ensures within { IfOk result (λ x. (at < x.1) × (x.1 ≤ length tokens.now)) }
+{
+    let mut literals = Literals {
+        clause: Clause::new(alloc),
+        always: false,
+        feature: None,
+    };
+    let depth = tokens.len();
+    let after = item(alloc, vars, depth, depth, tokens, at, &mut literals)?;
+    let after = items(alloc, vars, depth, depth, tokens, after, &mut literals)?;
+    Ok((literals, after))
+}
+
+// The body of a statement. Its variables are numbered by first occurrence.
+pub(crate) fn body_at<'a>(
+    alloc: Global,
+    tokens: &[Lexeme<'a>],
+    at: usize,
+) -> Result<(Body<'a>, usize), Stop>
+    requires { at ≤ length tokens.now }
+    ensures is { Gives (λ x. (body x.0, toks (drop x.1 tokens.now))) result (seen (λ p. body_of (wrotes p)) (disjunction_at (length tokens.now) (toks (drop at tokens.now)))) }
+    ensures within { IfOk result (λ x. (at < x.1) × (x.1 ≤ length tokens.now)) }
+{
+    let vars = variables_of(alloc, &tokens[at..])?;
+    let (literals, after) = disjunction(alloc, &vars, tokens, at)?;
+    let own = variables_of(alloc, &tokens[at..after])?;
+    let body = Body {
+        wide: is_wide(&literals.clause),
+        crowded: own.len() > MOST_VARIABLES,
+        literals,
+    };
+    Ok((body, after))
+}

@@ -1,0 +1,117 @@
+// Terms, read from tokens.
+ghost use Rattle.std.specs.Prelude.{◌≡◌, ◌≤◌, ◌<◌, IfOk, drop, [], ◌∷◌, length};
+ghost use Rattle.inst_logic.specs.View.{tree};
+ghost use Rattle.tptp_read.specs.Meaning.{tree_of};
+ghost use Rattle.tptp_read.specs.Grammar.{single};
+ghost use Rattle.tptp_read.specs.Parse.{many_at, applied_at, term_at};
+ghost use Rattle.tptp_read.specs.LexemeView.{tok, toks, texts, in_trees, in_lists, Gives};
+
+use crate::lexeme::Lexeme;
+use crate::numbers::place_of;
+use crate::stop::Stop;
+use crate::words::{is_head, is_plain, is_variable, name_of, stands_at};
+use indexmap::IndexSet;
+use inst_logic::{Kind, Memory, Sym, Term, TermList};
+use std::alloc::Global;
+
+// A term of one token.
+fn single_of(alloc: Global, vars: &IndexSet<&[u8]>, l: &Lexeme) -> Result<Term, Memory>
+    ensures { IfOk result (λ t. tree t ≡ tree_of (texts vars.now.keys) (single (tok l.now))) }
+{
+    if is_variable(l.kind) {
+        Ok(Term::Var(place_of(vars, l.text)))
+    } else {
+        let name = name_of(alloc, l)?;
+        Ok(Term::App(
+            Sym {
+                kind: Kind::Function,
+                name,
+                arity: 0,
+            },
+            TermList::new(alloc),
+        ))
+    }
+}
+
+// A term in which at most `depth` parentheses are open at once.
+#[cycle(term)]
+#[tactic(auto, unfolding(crate::specs::Parse::term_at, crate::specs::Parse::term_with))]
+pub(crate) fn term(
+    alloc: Global,
+    vars: &IndexSet<&[u8]>,
+    depth: usize,
+    tokens: &[Lexeme],
+    at: usize,
+) -> Result<(Term, usize), Stop>
+    ensures is { Gives (λ x. (tree x.0, toks (drop x.1 tokens.now))) result (in_trees (texts vars.now.keys) (term_at depth (toks (drop at tokens.now)))) }
+    ensures within { IfOk result (λ x. (at < x.1) × (x.1 ≤ length tokens.now)) }
+{
+    if at >= tokens.len() {
+        return Err(Stop::Wrong);
+    }
+    let first = &tokens[at];
+    if is_head(first.kind) && stands_at(tokens, at + 1, b'(') {
+        if depth == 0 {
+            return Err(Stop::Wrong);
+        }
+        applied(alloc, vars, depth - 1, first, tokens, at + 2)
+    } else if is_plain(first.kind) {
+        let t = single_of(alloc, vars, first)?;
+        Ok((t, at + 1))
+    } else {
+        Err(Stop::Wrong)
+    }
+}
+
+// What stands behind a word and its parenthesis.
+#[cycle(term)]
+#[tactic(auto, unfolding(crate::specs::Parse::applied_at))]
+fn applied(
+    alloc: Global,
+    vars: &IndexSet<&[u8]>,
+    depth: usize,
+    head: &Lexeme,
+    tokens: &[Lexeme],
+    at: usize,
+) -> Result<(Term, usize), Stop>
+    ensures is { Gives (λ x. (tree x.0, toks (drop x.1 tokens.now))) result (in_trees (texts vars.now.keys) (applied_at (term_at depth) (tok head.now) (toks (drop at tokens.now)))) }
+    ensures within { IfOk result (λ x. (at < x.1) × (x.1 ≤ length tokens.now)) }
+{
+    let (first, after) = term(alloc, vars, depth, tokens, at)?;
+    let (args, after) = arguments(alloc, vars, depth, first, tokens, after)?;
+    if !stands_at(tokens, after, b')') {
+        return Err(Stop::Wrong);
+    }
+    let name = name_of(alloc, head)?;
+    let arity = args.len();
+    let sym = Sym {
+        kind: Kind::Function,
+        name,
+        arity,
+    };
+    Ok((Term::App(sym, args), after + 1))
+}
+
+// The terms behind the first, each with a comma before it.
+#[cycle(term)]
+fn arguments(
+    alloc: Global,
+    vars: &IndexSet<&[u8]>,
+    depth: usize,
+    first: Term,
+    tokens: &[Lexeme],
+    at: usize,
+) -> Result<(TermList, usize), Stop>
+    ensures is { Gives (λ x. (x.0, toks (drop x.1 tokens.now))) result (in_lists (texts vars.now.keys) (tree first ∷ []) (many_at 44 (term_at depth) (length (toks (drop at tokens.now))) (toks (drop at tokens.now)))) }
+    ensures within { at ≤ length tokens.now → IfOk result (λ x. (at ≤ x.1) × (x.1 ≤ length tokens.now)) }
+{
+    let mut args = TermList::new(alloc);
+    args.push(first)?;
+    let mut next = at;
+    while stands_at(tokens, next, b',') {
+        let (t, after) = term(alloc, vars, depth, tokens, next + 1)?;
+        args.push(t)?;
+        next = after;
+    }
+    Ok((args, next))
+}

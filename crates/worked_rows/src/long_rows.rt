@@ -1,0 +1,107 @@
+// Texts at the limits of a statement, and one past them.
+use crate::runs::{answer_of, file_of};
+use std::alloc::Global;
+use std::process::Abort;
+use std::str;
+use std::test::Fail;
+
+// `p(f(..f(c)..))` with so many f.
+fn nested(alloc: Global, depth: usize) -> Result<Vec<u8>, Fail> {
+    let mut text = Vec::from_slice(alloc, b"cnf(a,axiom,p(")?;
+    for _ in 0..depth {
+        text.extend_from_slice(b"f(")?;
+    }
+    text.push(b'c')?;
+    for _ in 0..depth {
+        text.push(b')')?;
+    }
+    text.extend_from_slice(b")).")?;
+    Ok(text)
+}
+
+// `p(c,c,..)` with so many constants behind the first one.
+fn wide(alloc: Global, more: usize) -> Result<Vec<u8>, Fail> {
+    let mut text = Vec::from_slice(alloc, b"cnf(a,axiom,p(c")?;
+    for _ in 0..more {
+        text.extend_from_slice(b",c")?;
+    }
+    text.extend_from_slice(b")).")?;
+    Ok(text)
+}
+
+// A literal with 1,000 variables of this number, and a bar.
+fn push_variables(alloc: Global, text: &mut Vec<u8>, number: usize) -> Result<(), Fail> {
+    text.extend_from_slice(b"p(X")?;
+    text.extend_from_slice(format!(in alloc; "{number}")?.as_bytes())?;
+    for n in 1..1000 {
+        text.extend_from_slice(format!(in alloc; ",X{number}_{n}")?.as_bytes())?;
+    }
+    text.extend_from_slice(b")|")?;
+    Ok(())
+}
+
+// Ten literals with 1,000 variables each, and one with a further variable.
+fn with_variables(alloc: Global) -> Result<Vec<u8>, Fail> {
+    let mut text = Vec::from_slice(alloc, b"cnf(a,axiom,")?;
+    for number in 0..10 {
+        push_variables(alloc, &mut text, number)?;
+    }
+    text.extend_from_slice(b"q(Y)).")?;
+    Ok(text)
+}
+
+// The text is that of a satisfiable problem.
+fn is_satisfiable(rt: &impl Abort, alloc: Global, text: &[u8]) -> Result<(), Fail> {
+    let (exit, out) = answer_of(alloc, file_of(alloc, "n.p", text)?, &["prove", "n.p"])?;
+    assert_eq!(rt; exit.code(), 0);
+    let written = str::from_utf8(out.bytes())?;
+    assert!(rt; written.starts_with("% SZS status Satisfiable for n.p\n"));
+    Ok(())
+}
+
+// The text is refused with this line.
+fn is_refused(rt: &impl Abort, alloc: Global, text: &[u8], line: &str) -> Result<(), Fail> {
+    let (exit, out) = answer_of(alloc, file_of(alloc, "n.p", text)?, &["prove", "n.p"])?;
+    assert_eq!(rt; exit.code(), 2);
+    let written = str::from_utf8(out.bytes())?;
+    assert_eq!(rt;
+        written.split_once("\n"),
+        Some(("% SZS status InputError for n.p", line))
+    );
+    Ok(())
+}
+
+#[test]
+fn nesting(rt: HostRuntime) -> Result<(), Fail> {
+    let alloc = rt.alloc();
+    is_satisfiable(&rt, alloc, nested(alloc, 254)?.as_slice())?;
+    is_refused(
+        &rt,
+        alloc,
+        nested(alloc, 255)?.as_slice(),
+        "% limit nesting: statement 1 of n.p\n",
+    )
+}
+
+#[test]
+fn arity(rt: HostRuntime) -> Result<(), Fail> {
+    let alloc = rt.alloc();
+    is_satisfiable(&rt, alloc, wide(alloc, 1023)?.as_slice())?;
+    is_refused(
+        &rt,
+        alloc,
+        wide(alloc, 1024)?.as_slice(),
+        "% limit arity: statement 1 of n.p\n",
+    )
+}
+
+#[test]
+fn variables(rt: HostRuntime) -> Result<(), Fail> {
+    let alloc = rt.alloc();
+    is_refused(
+        &rt,
+        alloc,
+        with_variables(alloc)?.as_slice(),
+        "% limit variables: statement 1 of n.p\n",
+    )
+}
