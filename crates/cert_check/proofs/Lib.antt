@@ -6,3 +6,5 @@ pub mod Passing
 pub mod OriginLemmas
 pub mod Rightness
 pub mod Conclusions
+pub mod MemberOrigins
+pub mod SymbolWalk

@@ -49,7 +49,7 @@ entry_same : (x y : Entry) → Some x ≡ Some y → x ≡ y
 entry_same x y e = cc
 
 -- a member is right exactly where its origin gives its clause
-right_by : (b : Base) (i : ℕ) (m : Member) → i < length b.members → m ≡ get_or b.members i m
+pub right_by : (b : Base) (i : ℕ) (m : Member) → i < length b.members → m ≡ get_or b.members i m
     → Gives (base_of b) (i + 1) (origin_of m.origin) (clause_at b.bank m.clause) ↔ IsRightMember (base_of b) (i + 1)
 right_by b i m within is = (
   (λ g e at. subst (λ (x : Entry). Gives (base_of b) (i + 1) x.origin x.clause) (entry_same (entry_of b.bank m) e (sym there ∙ at)) g),

@@ -60,3 +60,7 @@ Concludes f g c l m (Some d) = IsConcluded f g c l m d
 abbrev pub MembersConclude : Forest → List Entry → (from place partner other : ℕ) → Option (List (Signed ℕ)) → Type 0
 MembersConclude g es from place partner other None = (c : TreeClause) → ¬ (IsConclusion es from place partner other c)
 MembersConclude g es from place partner other (Some d) = IsClauseOf g d × IsConclusion es from place partner other (clause_at g d)
+
+-- both members come before member n, and conclude the clause
+abbrev pub MembersGive : List Entry → (n from place partner other : ℕ) → TreeClause → Type 0
+MembersGive es n from place partner other c = (from < n) × (partner < n) × IsConclusion es from place partner other c

@@ -5,6 +5,7 @@ ghost use Rattle.inst_calculus.specs.Axioms.{symbols_of};
 ghost use Rattle.saturation_cert.specs.Wholes.{IsWholeClause};
 ghost use Rattle.term_bank.specs.Forest.{AreFormed, Extends, IsClauseOf, clause_at};
 
+use crate::walk::symbols_in;
 use equality_axioms::SymList;
 use inst_logic::{ClauseList, Memory};
 use std::alloc::Global;
@@ -15,10 +16,7 @@ pub fn symbols(alloc: Global, bank: &Bank, clauses: &IdClauseList) -> Result<Sym
     requires { All (IsWholeClause bank.now) clauses.now }
     ensures { IfOk result (λ all. all ≡ symbols_of (map (clause_at bank.now) clauses.now)) }
 {
-    let _alloc = alloc;
-    let _bank = bank;
-    let _clauses = clauses;
-    Err(Memory)
+    symbols_in(alloc, bank, clauses)
 }
 
 // The clauses with the id of each atom in its place.

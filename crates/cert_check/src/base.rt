@@ -8,6 +8,7 @@ ghost use Rattle.saturation_cert.specs.Values.{base_of};
 ghost use Rattle.saturation_cert.specs.Wholes.{IsWholeBase, KeepsBase};
 
 use crate::axioms::{interned, symbols};
+use crate::conclusion::{Premises, members_give};
 use crate::difference::difference;
 use crate::error::CheckError;
 use crate::origin::input_gives;
@@ -16,6 +17,7 @@ use equality_axioms::axioms_from;
 use inst_logic::Memory;
 use saturation_cert::{Base, Origin};
 use std::alloc::Global;
+use unify_core::Bindings;
 
 // The number of the first axiom that is not the one that the inputs have there.
 fn wrong_axiom(alloc: Global, base: &mut Base) -> Result<Option<usize>, Memory>
@@ -30,8 +32,13 @@ fn wrong_axiom(alloc: Global, base: &mut Base) -> Result<Option<usize>, Memory>
     Ok(difference(&base.bank, &base.axioms, &ids))
 }
 
-// Whether member `i`, counted from 0, is what its origin gives.
-fn is_right(alloc: Global, base: &mut Base, i: usize) -> Result<bool, Memory>
+// Whether member `i`, counted from 0, is what its origin gives. The bindings are room to work in.
+fn is_right(
+    alloc: Global,
+    base: &mut Base,
+    bindings: &mut Bindings,
+    i: usize,
+) -> Result<bool, Memory>
     requires whole { IsWholeBase base.old }
     requires within { i < length base.old.members }
     requires axioms { (n : ℕ) → IsRightAxiom (base_of base.old) n }
@@ -53,8 +60,29 @@ fn is_right(alloc: Global, base: &mut Base, i: usize) -> Result<bool, Memory>
             )?;
             Ok(right)
         }
-        // TODO: the instance of two members.
-        Origin::Inst { .. } => Err(Memory),
+        Origin::Inst {
+            from,
+            place,
+            partner,
+            other,
+        } => {
+            let premises = Premises {
+                from,
+                place,
+                partner,
+                other,
+            };
+            let right = members_give(
+                alloc,
+                &mut base.bank,
+                bindings,
+                base.members.as_slice(),
+                premises,
+                i,
+                &member.clause,
+            )?;
+            Ok(right)
+        }
     }
 }
 
@@ -66,8 +94,9 @@ fn wrong_member(alloc: Global, base: &mut Base) -> Result<Option<usize>, Memory>
     ensures whole { OnOk result (IsWholeBase base.new) }
     ensures first { IfOk result (IsFirstWrongOf (IsRightMember (base_of base.old))) }
 {
+    let mut bindings = Bindings::new(alloc);
     for i in 0..base.members.len() {
-        if !is_right(alloc, base, i)? {
+        if !is_right(alloc, base, &mut bindings, i)? {
             return Ok(Some(i + 1));
         }
     }

@@ -1,19 +1,30 @@
 // Conclusions of two members.
-ghost use Rattle.std.specs.Prelude.{◌≡◌, ◌<◌, All, IfOk, false, length, map, option_copied, true};
+ghost use Rattle.std.specs.Prelude.{◌≡◌, ◌+◌, ◌<◌, ◌↔◌, All, IfOk, IsTrue, false, length, map, option_copied, true};
 ghost use Rattle.inst_logic.specs.Clauses.{IsCanonical};
 ghost use Rattle.inst_logic.specs.Derivations.{at_number};
 ghost use Rattle.inst_logic.specs.WellFormed.{IsAtom};
-ghost use Rattle.term_bank.specs.Forest.{AreFormed, Extends, clause_at, tree_at};
+ghost use Rattle.cert_format.specs.Validity.{IsConclusion};
+ghost use Rattle.term_bank.specs.Forest.{AreFormed, Extends, IsClauseOf, clause_at, tree_at};
 ghost use Rattle.saturation_cert.specs.Values.{entry_of};
 ghost use Rattle.saturation_cert.specs.Wholes.{IsWholeClause};
-ghost use Rattle.cert_check.specs.Conclusions.{Concludes, HasNoProper, IsAtomOf, IsCanonicalMember, IsProperlyUnified, MembersConclude, literal_of};
+ghost use Rattle.cert_check.specs.Conclusions.{Concludes, HasNoProper, IsAtomOf, IsCanonicalMember, IsProperlyUnified, MembersConclude, MembersGive, literal_of};
 
+use crate::difference::{distinct_trees, same_clause};
 use clause_form::conclude;
 use inst_logic::Memory;
 use saturation_cert::Member;
 use std::alloc::Global;
 use term_bank::{Bank, IdClause, IdLiteral, TermId};
 use unify_core::{Bindings, Side};
+
+// Literal `place` of member `from` with literal `other` of member `partner`, all counted from 1.
+#[derive(Clone, Copy)]
+pub struct Premises {
+    pub from: usize,
+    pub place: usize,
+    pub partner: usize,
+    pub other: usize,
+}
 
 // Item `n`, counted from 1.
 fn numbered_item<T>(items: &[T], n: usize) -> Option<&T>
@@ -80,32 +91,76 @@ fn conclude_at(
     Ok(Some(conclusion.clause))
 }
 
-// What member `from` gives with literal `other` of member `partner` at its literal `place`, all counted from 1.
-#[allow(clippy::too_many_arguments)]
-pub fn conclusion(
+// What the first member gives with the second, if they conclude something.
+fn conclusion(
     alloc: Global,
     bank: &mut Bank,
     bindings: &mut Bindings,
     members: &[Member],
-    from: usize,
-    place: usize,
-    partner: usize,
-    other: usize,
+    premises: Premises,
 ) -> Result<Option<IdClause>, Memory>
     requires members { All (λ m. IsWholeClause bank.old m.clause) members.now }
-    requires canonical { IsCanonicalMember (map (entry_of bank.old) members.now) from }
-    ensures concludes { IfOk result (MembersConclude bank.new (map (entry_of bank.old) members.now) from place partner other) }
+    requires canonical { IsCanonicalMember (map (entry_of bank.old) members.now) premises.from }
+    ensures concludes { IfOk result (MembersConclude bank.new (map (entry_of bank.old) members.now) premises.from premises.place premises.partner premises.other) }
     ensures extends { Extends bank.old bank.new }
     ensures formed { AreFormed bank.old → AreFormed bank.new }
 {
-    let Some(member) = numbered_item(members, from) else {
+    let Some(member) = numbered_item(members, premises.from) else {
         return Ok(None);
     };
-    let Some(l) = literal_at(members, from, place) else {
+    let Some(l) = literal_at(members, premises.from, premises.place) else {
         return Ok(None);
     };
-    let Some(m) = literal_at(members, partner, other) else {
+    let Some(m) = literal_at(members, premises.partner, premises.other) else {
         return Ok(None);
     };
     conclude_at(alloc, bank, bindings, &member.clause, l, m)
+}
+
+// Whether the members conclude the clause.
+fn is_conclusion(
+    alloc: Global,
+    bank: &mut Bank,
+    bindings: &mut Bindings,
+    members: &[Member],
+    premises: Premises,
+    clause: &IdClause,
+) -> Result<bool, Memory>
+    requires members { All (λ m. IsWholeClause bank.old m.clause) members.now }
+    requires canonical { IsCanonicalMember (map (entry_of bank.old) members.now) premises.from }
+    requires clause { IsClauseOf bank.old clause.now }
+    ensures gives { IfOk result (λ r. IsTrue r ↔ IsConclusion (map (entry_of bank.old) members.now) premises.from premises.place premises.partner premises.other (clause_at bank.old clause.now)) }
+    ensures extends { Extends bank.old bank.new }
+    ensures formed { AreFormed bank.old → AreFormed bank.new }
+{
+    match conclusion(alloc, bank, bindings, members, premises)? {
+        None => Ok(false),
+        Some(d) => {
+            distinct_trees(bank);
+            Ok(same_clause(&d, clause))
+        }
+    }
+}
+
+// Whether both members come before member `i`, counted from 0, and conclude the clause.
+pub fn members_give(
+    alloc: Global,
+    bank: &mut Bank,
+    bindings: &mut Bindings,
+    members: &[Member],
+    premises: Premises,
+    i: usize,
+    clause: &IdClause,
+) -> Result<bool, Memory>
+    requires members { All (λ m. IsWholeClause bank.old m.clause) members.now }
+    requires canonical { premises.from < i + 1 → IsCanonicalMember (map (entry_of bank.old) members.now) premises.from }
+    requires clause { IsClauseOf bank.old clause.now }
+    ensures gives { IfOk result (λ r. IsTrue r ↔ MembersGive (map (entry_of bank.old) members.now) (i + 1) premises.from premises.place premises.partner premises.other (clause_at bank.old clause.now)) }
+    ensures extends { Extends bank.old bank.new }
+    ensures formed { AreFormed bank.old → AreFormed bank.new }
+{
+    if premises.from > i || premises.partner > i {
+        return Ok(false);
+    }
+    is_conclusion(alloc, bank, bindings, members, premises, clause)
 }

@@ -10,6 +10,7 @@ pub mod error;
 mod origin;
 pub mod refutation;
 pub mod saturation;
+mod walk;
 
 pub use cert_format::Complaint;
 pub use error::CheckError;
