@@ -1,4 +1,7 @@
 pub mod Bases
+pub mod BoundTerms
+pub mod Closings
+pub mod CoverLaws
 pub mod Differences
 pub mod GroundMembers
 pub mod InputScans

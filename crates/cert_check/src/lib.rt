@@ -4,6 +4,7 @@
 
 mod axioms;
 mod base;
+mod cover;
 mod difference;
 pub mod error;
 mod grounds;
