@@ -9,13 +9,13 @@ use Rattle.inst_logic.specs.Measure.{tree_weight}
 use Rattle.inst_logic.specs.Substitution.{Matches}
 use Rattle.inst_logic.specs.Tree.{Tree}
 use Rattle.inst_calculus.specs.Models.{Member, Supports, IsTrueBy}
-use Rattle.inst_calculus.proofs.Membership.{contains_in, in_contains, any_in, in_any, all_in}
+use Rattle.inst_calculus.proofs.Membership.{contains_in, in_contains, any_in, in_any, all_in, in_all}
 use Rattle.term_bank.specs.Forest.{tree_at}
 use Rattle.cert_format.specs.Certificate.{selected_members}
 use Rattle.cert_format.specs.Validity.{IsSelected}
 use Rattle.cert_format.proofs.SelectedMembers.{selected_number, selected_is_member, selected_once}
 use Rattle.saturation_cert.specs.declared.certificate.Saturation.{Saturation}
-use Rattle.saturation_cert.specs.Truths.{IsSelectedLiteral, Speaks, IsReached, IsHeaviest, level}
+use Rattle.saturation_cert.specs.Truths.{IsSelectedLiteral, IsLight, Speaks, IsReached, IsHeaviest, level}
 use Rattle.saturation_cert.specs.Values.{saturation_of, entry_of}
 use Rattle.saturation_cert.specs.Wholes.{AreLight}
 
@@ -32,7 +32,7 @@ module _ (c : Saturation) (a : Tree) (i : ℕ) (l : Signed ℕ) (s : IsSelectedL
       let h : tree_weight s.member.selected.atom < 2 ^ 64 - 1 = all_in (λ (m : Member). tree_weight m.selected.atom < 2 ^ 64 - 1) (selected_members (saturation_of c)) light s.member (selected_is_member (saturation_of c) i s.member s.is) in
       subst (λ (k : Signed Tree). tree_weight k.atom < 2 ^ 64 - 1) s.literal h
 
-  same_member : (m : Member) → IsSelected (saturation_of c) (suc i) m → m ≡ s.member
+  pub same_member : (m : Member) → IsSelected (saturation_of c) (suc i) m → m ≡ s.member
   same_member m t = selected_once (saturation_of c) (suc i) m s.member t s.is
 
   -- one more member: the height is as before, or that of the member
@@ -61,7 +61,7 @@ module _ (c : Saturation) (a : Tree) (i : ℕ) (l : Signed ℕ) (s : IsSelectedL
       sign : Speaks a b s.member → l.positive ≡ b
       sign p = sym (ap (λ (k : Signed Tree). k.positive) s.literal) ∙ p.sign
 
-  atom_same : s.member.selected.atom ≡ tree_at c.base.bank l.atom
+  pub atom_same : s.member.selected.atom ≡ tree_at c.base.bank l.atom
   atom_same = ap (λ (k : Signed Tree). k.atom) s.literal
 
   pub same_grown : (b : Bool) (h n : ℕ) (w : Option ℕ) → l.positive ≡ b → IsFound (tree_at c.base.bank l.atom) a w → n ≡ max h (level w) → IsHeaviest c a b i h → IsHeaviest c a b (suc i) n
@@ -76,6 +76,20 @@ module _ (c : Saturation) (a : Tree) (i : ℕ) (l : Signed ℕ) (s : IsSelectedL
       either : w ≡ tree_weight s.member.selected.atom → Speaks a b s.member → (h < suc w) ⊎ (suc w ≤ h) → (n ≡ h) ⊎ (Speaks a b s.member × (suc (tree_weight s.member.selected.atom) ≡ n))
       either same speaks (inl less) = let e : suc (tree_weight s.member.selected.atom) ≡ n = omega arith in inr (speaks, e)
       either same speaks (inr more) = let e : n ≡ h = omega arith in inl e
+
+-- ---- whether the literals are light
+
+pub light_at : (c : Saturation) (i : ℕ) (l : Signed ℕ) → IsSelectedLiteral c (suc i) l → tree_weight (tree_at c.base.bank l.atom) < 2 ^ 64 - 1 → IsLight c i
+light_at c i l s light m is =
+    let e : m ≡ s.member = selected_once (saturation_of c) (suc i) m s.member is s.is in
+    let w : tree_weight s.member.selected.atom < 2 ^ 64 - 1 = subst (λ (k : Signed Tree). tree_weight k.atom < 2 ^ 64 - 1) (sym s.literal) light in
+    subst (λ (x : Member). tree_weight x.selected.atom < 2 ^ 64 - 1) (sym e) w
+
+pub all_light : (c : Saturation) (n : ℕ) → length c.base.members ≤ n → ((i : ℕ) → i < n → IsLight c i) → AreLight (selected_members (saturation_of c))
+all_light c n all each = in_all (λ (m : Member). tree_weight m.selected.atom < 2 ^ 64 - 1) (selected_members (saturation_of c)) (λ m i.
+    let (k, s) = selected_number (saturation_of c) m i in
+    let w : k < length (map (entry_of c.base.bank) c.base.members) = slice_get_within (map (entry_of c.base.bank) c.base.members) k s.entry s.entry_at in
+    each k (omega (arith, length-map c.base.members (entry_of c.base.bank))) m s)
 
 -- the answer after all members
 module _ (c : Saturation) (a : Tree) (n p q : ℕ) (all : length c.base.members ≤ n) (pos : IsHeaviest c a true n p) (neg : IsHeaviest c a false n q) where

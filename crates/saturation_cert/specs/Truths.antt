@@ -1,5 +1,5 @@
 -- What the scan of the truth test has found of the members that it has passed.
-use Rattle.std.specs.Prelude.{◌≡◌, ◌⊎◌, ℕ, zero, suc, ◌<◌, length, Bool, true, false, Option, Some, None}
+use Rattle.std.specs.Prelude.{◌≡◌, ◌⊎◌, ◌^◌, ◌-◌, ℕ, zero, suc, ◌<◌, length, Bool, true, false, Option, Some, None}
 use Rattle.inst_logic.specs.declared.signed.Signed.{Signed}
 use Rattle.inst_logic.specs.Measure.{tree_weight}
 use Rattle.inst_logic.specs.Substitution.{Matches}
@@ -20,6 +20,10 @@ pub record IsSelectedLiteral (c : Saturation) (n : ℕ) (l : Signed ℕ) : Type 
   pub is : IsSelected (saturation_of c) n member
   pub within : l.atom < length c.base.bank.trees
   pub literal : member.selected ≡ literal_at c.base.bank l
+
+-- the selected literal of member i + 1 is lighter than 2 ^ 64 - 1
+abbrev pub IsLight : Saturation → ℕ → Type 0
+IsLight c i = (m : Member) → IsSelected (saturation_of c) (suc i) m → tree_weight m.selected.atom < 2 ^ 64 - 1
 
 -- one more than the weight, or 0 where there is none
 abbrev pub level : Option ℕ → ℕ

@@ -9,4 +9,4 @@ pub use certificate::{
     Base, GroundHint, GroundHintList, GroundStep, GroundStepList, Refutation, Saturation,
 };
 pub use member::{Member, MemberList, Origin};
-pub use test::{selected, truth};
+pub use test::{is_light, selected, truth};

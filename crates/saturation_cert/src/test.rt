@@ -1,11 +1,11 @@
 // The truth test.
-ghost use Rattle.std.specs.Prelude.{◌≡◌, ◌↔◌, ◌<◌, ◌^◌, ◌-◌, suc, max, length, [], IfOk, IsTrue, MatchOption};
+ghost use Rattle.std.specs.Prelude.{◌≡◌, ◌↔◌, ◌<◌, ◌^◌, ◌-◌, suc, max, length, true, false, [], IfOk, IsTrue, MatchOption};
 ghost use Rattle.inst_logic.specs.Measure.{tree_weight};
 ghost use Rattle.inst_logic.specs.Substitution.{Matches};
 ghost use Rattle.inst_calculus.specs.Models.{IsTrueBy};
 ghost use Rattle.cert_format.specs.Certificate.{selected_members};
 ghost use Rattle.term_bank.specs.Forest.{tree_at};
-ghost use Rattle.saturation_cert.specs.Truths.{AreHeaviest, IsSelectedLiteral, level};
+ghost use Rattle.saturation_cert.specs.Truths.{AreHeaviest, IsLight, IsSelectedLiteral, level};
 ghost use Rattle.saturation_cert.specs.Values.{saturation_of};
 ghost use Rattle.saturation_cert.specs.Wholes.{AreLight, HasPlaces, IsGroundAtom, IsWholeSaturation};
 
@@ -106,6 +106,32 @@ fn with_member(
             negative,
         })
     }
+}
+
+// Whether the selected literal of member `i`, counted from 0, is so light that the bank tells its weight.
+fn is_light_at(cert: &Saturation, i: usize) -> bool
+    requires whole { IsWholeSaturation cert.now }
+    requires placed { HasPlaces (saturation_of cert.now) }
+    requires within { i < length cert.now.base.members }
+    ensures yes { result ≡ true → IsLight cert.now i }
+    ensures no { result ≡ false → ¬ (AreLight (selected_members (saturation_of cert.now))) }
+{
+    let l = *selected(cert, i);
+    cert.base.bank.weight(l.atom) < u64::MAX
+}
+
+/// Whether all selected literals are so light that the bank tells their weights, as the truth test needs.
+pub fn is_light(cert: &Saturation) -> bool
+    requires whole { IsWholeSaturation cert.now }
+    requires placed { HasPlaces (saturation_of cert.now) }
+    ensures { IsTrue result ↔ AreLight (selected_members (saturation_of cert.now)) }
+{
+    for i in 0..cert.base.members.len() {
+        if !is_light_at(cert, i) {
+            return false;
+        }
+    }
+    true
 }
 
 /// Whether the ground atom is true by the members: some selected positive literal has it as an instance, and each selected

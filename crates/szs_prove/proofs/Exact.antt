@@ -23,7 +23,7 @@ use Rattle.szs_prove.specs.declared.refusal.Refusal.TheVariants.{Usage, Load, No
 -- what is asked, with the reason why it is not loaded
 load_causes : (words : List (List ℕ)) (files : List NamedFile) (read : Reading) (write : Writing) (asked : Asked) (e : LoadError)
     → asked_of words ≡ Some asked → IsLoadCause (Some files) read.before read.now asked.file asked.root e → Causes words files read write (load_exit e)
-load_causes words files read write asked (load.Text file fault) some h = inl (asked, some, load.Text file fault, h)
+load_causes words files read write asked (load.Text file fault) some h = inl (asked, some, load.Text file fault, h.1)
 load_causes words files read write asked (load.Absent wanted) some h = inl (asked, some, load.Absent wanted, h)
 load_causes words files read write asked (load.NotSelected file wanted) some h = inl (asked, some, load.NotSelected file wanted, h)
 load_causes words files read write asked (load.IncludeDepth file) some h = inl (asked, some, load.IncludeDepth file, h)

@@ -50,12 +50,12 @@ held_is told name bytes h = h.1
 
 pub part_cause : (files : Option (List NamedFile)) (start before now : ℕ) (name bytes : List ℕ) (root : Option (List ℕ)) (e : LoadError) → start ≤ before → IsHeld files name 0 (Some bytes)
     → IsPartCause files (λ told. Loading told root last_level 0 name bytes) before now e → IsLoadCause files start now name root e
-part_cause None start before now name bytes root (Text f t) le k h = tt
+part_cause None start before now name bytes root (Text f t) le k h = (h.0, tt)
 part_cause None start before now name bytes root (Absent w) le k h = tt
 part_cause None start before now name bytes root (NotSelected f w) le k h = tt
 part_cause None start before now name bytes root (IncludeDepth f) le k h = tt
 part_cause None start before now name bytes root TooLong le k h = tt
-part_cause (Some told) start before now name bytes root (Text f t) le k h = start_says told root name bytes (refuses (Text f t)) k.1 h
+part_cause (Some told) start before now name bytes root (Text f t) le k h = (h.0, start_says told root name bytes (refuses (Text f t)) k.1 h.1)
 part_cause (Some told) start before now name bytes root (Absent w) le k h = start_says told root name bytes (refuses (Absent w)) k.1 h
 part_cause (Some told) start before now name bytes root (NotSelected f w) le k h = start_says told root name bytes (refuses (NotSelected f w)) k.1 h
 part_cause (Some told) start before now name bytes root (IncludeDepth f) le k h = start_says told root name bytes (refuses (IncludeDepth f)) k.1 h

@@ -26,15 +26,18 @@ fault_stays bytes (text.Role k w) h n = h
 fault_stays bytes (text.Limit k w) h n = h
 fault_stays bytes text.Memory h n = absurd (n refl)
 
+own_fault : (bytes : List ℕ) (e : ReadError) → HasFault bytes e → e ≢ text.Memory
+own_fault bytes e h is = subst (HasFault bytes) is h
+
 -- what is refused for one saying is refused for another
 pub cause_through : (files : Option (List NamedFile)) (P Q : Saying) (start before now : ℕ) (e : LoadError) → start ≤ before
     → ((told : List NamedFile) (o : LoadError) → files ≡ Some told → P told (refuses o) → Q told (refuses o)) → IsPartCause files P before now e → IsPartCause files Q start now e
-cause_through None P Q start before now (Text f t) le go h = tt
+cause_through None P Q start before now (Text f t) le go h = (h.0, tt)
 cause_through None P Q start before now (Absent w) le go h = tt
 cause_through None P Q start before now (NotSelected f w) le go h = tt
 cause_through None P Q start before now (IncludeDepth f) le go h = tt
 cause_through None P Q start before now TooLong le go h = tt
-cause_through (Some told) P Q start before now (Text f t) le go h = go told (Text f t) refl h
+cause_through (Some told) P Q start before now (Text f t) le go h = (h.0, go told (Text f t) refl h.1)
 cause_through (Some told) P Q start before now (Absent w) le go h = go told (Absent w) refl h
 cause_through (Some told) P Q start before now (NotSelected f w) le go h = go told (NotSelected f w) refl h
 cause_through (Some told) P Q start before now (IncludeDepth f) le go h = go told (IncludeDepth f) refl h
@@ -56,9 +59,9 @@ loading_of told root (suc levels) used name bytes o h = h
 
 pub file_text_cause : (files : Option (List NamedFile)) (root : Option (List ℕ)) (levels used : ℕ) (name bytes : List ℕ) (before now : ℕ) (e : LoadError) → used + length bytes ≤ limit
     → IsMisread name bytes e → IsPartCause files (λ told. Loading told root levels used name bytes) before now e
-file_text_cause None root levels used name bytes before now (Text f t) le h = tt
+file_text_cause None root levels used name bytes before now (Text f t) le h = (own_fault bytes t h.1, tt)
 file_text_cause (Some told) root levels used name bytes before now (Text f t) le h =
-    loading_of told root levels used name bytes (refuses (Text f t)) (misread le t h.1 (ap (λ (x : List ℕ). refuses (Text x t)) h.0))
+    (own_fault bytes t h.1, loading_of told root levels used name bytes (refuses (Text f t)) (misread le t h.1 (ap (λ (x : List ℕ). refuses (Text x t)) h.0)))
 file_text_cause files root levels used name bytes before now (Absent w) le h = absurd h
 file_text_cause files root levels used name bytes before now (NotSelected f w) le h = absurd h
 file_text_cause files root levels used name bytes before now (IncludeDepth f) le h = absurd h

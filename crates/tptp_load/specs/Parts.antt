@@ -1,5 +1,5 @@
 -- What the parts of loading say of what they add, where the files are told.
-use Rattle.std.specs.Prelude.{ℕ, zero, suc, ◌≡◌, ◌≤◌, List, [], ◌∷◌, ◌++◌, Option, None, Some, All, IsTrue, ⊤}
+use Rattle.std.specs.Prelude.{ℕ, zero, suc, ◌≡◌, ◌≢◌, ◌≤◌, List, [], ◌∷◌, ◌++◌, Option, None, Some, All, IsTrue, ⊤}
 use Rattle.inst_logic.specs.Printing.{is_readable_name}
 use Rattle.inst_logic.specs.WellFormed.{IsFormedClause}
 use Rattle.outside_io.specs.Causes.{Rose}
@@ -8,6 +8,7 @@ use Rattle.tptp_read.specs.Names.{clause_is_readable}
 use Rattle.tptp_read.specs.declared.statement.Statement.{Statement}
 use Rattle.tptp_read.specs.declared.statement.Statement.TheVariants.{Cnf, Include}
 use Rattle.tptp_read.specs.declared.text.ReadError.{ReadError}
+use Rattle.tptp_read.specs.declared.text.ReadError.TheVariants as text
 use Rattle.tptp_load.specs.Includes.{Stated}
 use Rattle.tptp_load.specs.Loading.{Loaded, gives, refuses, limit, Includer, NoneIncluded, Includes, Loading, HasFault}
 use Rattle.tptp_load.specs.Problems.{Told}
@@ -33,9 +34,9 @@ Saying = List NamedFile → Loaded → Type 0
 abbrev pub Adds : Option (List NamedFile) → Saying → List Stated → List Stated → ℕ → Type 0
 Adds files Says before now used = Told files (λ told. (more : List Stated) × (now ≡ before ++ more) × Says told (gives more used))
 
--- why a part was refused; the count of faults goes from before to now
+-- why a part was refused; the count of faults goes from before to now. Want of memory is no fault of a text
 abbrev pub IsPartCause : Option (List NamedFile) → Saying → ℕ → ℕ → LoadError → Type 0
-IsPartCause files Says before now (Text file fault) = Told files (λ told. Says told (refuses (Text file fault)))
+IsPartCause files Says before now (Text file fault) = (fault ≢ text.Memory) × Told files (λ told. Says told (refuses (Text file fault)))
 IsPartCause files Says before now (Absent wanted) = Told files (λ told. Says told (refuses (Absent wanted)))
 IsPartCause files Says before now (NotSelected file wanted) = Told files (λ told. Says told (refuses (NotSelected file wanted)))
 IsPartCause files Says before now (IncludeDepth file) = Told files (λ told. Says told (refuses (IncludeDepth file)))

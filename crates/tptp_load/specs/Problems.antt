@@ -1,5 +1,5 @@
 -- The problem of a file, and why there is none.
-use Rattle.std.specs.Prelude.{◌≡◌, ℕ, List, [], ◌∷◌, Bool, true, false, not, ◌&&◌, Option, Some, None, length, map, filter, All, IsTrue, ⊤}
+use Rattle.std.specs.Prelude.{◌≡◌, ◌≢◌, ℕ, List, [], ◌∷◌, Bool, true, false, not, ◌&&◌, Option, Some, None, length, map, filter, All, IsTrue, ⊤}
 use Rattle.std.specs.List.{list_all}
 use Rattle.inst_logic.specs.declared.clause.Problem.{Problem}
 use Rattle.inst_logic.specs.WellFormed.{AreFormedClauses}
@@ -8,10 +8,11 @@ use Rattle.inst_logic.specs.Clauses.{canonical_form, IsCanonical}
 use Rattle.outside_io.specs.Causes.{Rose}
 use Rattle.outside_io.specs.declared.library.NamedFile.{NamedFile}
 use Rattle.tptp_read.specs.Names.{clause_is_readable}
+use Rattle.tptp_read.specs.declared.text.ReadError.TheVariants as text
 use Rattle.tptp_load.specs.Includes.{Stated}
 use Rattle.tptp_load.specs.Loading.{Loaded, gives, refuses, Gives}
 use Rattle.tptp_load.specs.declared.error.LoadError.{LoadError}
-use Rattle.tptp_load.specs.declared.error.LoadError.TheVariants.{ReadFault, Memory}
+use Rattle.tptp_load.specs.declared.error.LoadError.TheVariants.{Text, ReadFault, Memory}
 
 -- the statements that give a clause: one that holds always gives none
 abbrev pub giving : List Stated → List Stated
@@ -34,10 +35,11 @@ abbrev pub Told : Option (List NamedFile) → (List NamedFile → Type 0) → Ty
 Told None P = ⊤
 Told (Some files) P = P files
 
--- why there is no problem; the count of faults goes from before to now
+-- why there is no problem; the count of faults goes from before to now. Want of memory is no fault of a text
 abbrev pub IsLoadCause : Option (List NamedFile) → ℕ → ℕ → List ℕ → Option (List ℕ) → LoadError → Type 0
 IsLoadCause files before now name root ReadFault = Rose before now
 IsLoadCause files before now name root Memory = ⊤
+IsLoadCause files before now name root (Text file fault) = (fault ≢ text.Memory) × Told files (λ told. Refuses told name root (Text file fault))
 IsLoadCause files before now name root e = Told files (λ told. Refuses told name root e)
 
 -- well formed and canonical clauses, a name for each, and names that can be printed and read again
