@@ -1,0 +1,165 @@
+-- What the check of the axioms and members gives for both kinds of certificates.
+use Rattle.std.proofs.Common.{◌≡◌, ℕ, ◌<◌, ◌≤◌, List, [], ◌∷◌, refl, ap, ap₂, sym, ◌∙◌, map, subst, Option, None, Some, arith, ◌⊎◌, inl, inr}
+use Rattle.std.specs.Prelude.{All}
+use Rattle.std.proofs.lemmas.List.Elements.{All-head, All-tail}
+use Rattle.inst_logic.specs.declared.signed.Signed.{Signed}
+use Rattle.inst_logic.specs.Clauses.{TreeClause, canonical_form, instance, IsCanonical}
+use Rattle.inst_logic.specs.Derivations.{at_number}
+use Rattle.inst_calculus.specs.Entries.{Origin, input, inst, Entry}
+use Rattle.inst_calculus.proofs.CanonicalForms.{canonical_of_canonical}
+use Rattle.term_bank.specs.Forest.{Forest, Extends, clause_at}
+use Rattle.term_bank.proofs.Clauses.{clause_extends}
+use Rattle.cert_format.specs.Certificate as format
+use Rattle.cert_format.specs.Validity.{Gives, IsRightAxiom, IsRightMember, RefutationPasses, SaturationPasses, IsFirstComplaint, Precedes, rank}
+use Rattle.cert_format.specs.declared.complaint.Complaint.{Complaint}
+use Rattle.cert_format.specs.declared.complaint.Complaint.TheVariants.{Axiom, Member as Derived, Bot, Ground, Step as Shown, NotEmpty, Place, Input, Pair}
+use Rattle.saturation_cert.specs.declared.member.Member.{Member}
+use Rattle.saturation_cert.specs.declared.certificate.Base.{Base}
+use Rattle.saturation_cert.specs.Values.{base_of, entry_of}
+use Rattle.saturation_cert.specs.Wholes.{IsWholeClause, IsWholeBase, KeepsBase}
+use Rattle.cert_check.specs.Bases.{BasePasses, IsValidBase}
+use Rattle.cert_check.specs.Firsts.{IsFirstWrong, IsFirstWrongOf}
+
+-- the clauses of a bank stay as it grows
+pub clauses_same : (f g : Forest) → Extends f g → (cs : List (List (Signed ℕ))) → All (IsWholeClause f) cs → map (clause_at g) cs ≡ map (clause_at f) cs
+clauses_same f g grown [] h = refl
+clauses_same f g grown (c ∷ cs) h = let here : IsWholeClause f c = All-head (IsWholeClause f) c cs h in ap₂ (λ x xs. x ∷ xs) (clause_extends f g grown c here.ids) (clauses_same f g grown cs (All-tail (IsWholeClause f) c cs h))
+
+pub members_same : (f g : Forest) → Extends f g → (ms : List Member) → All (λ m. IsWholeClause f m.clause) ms → map (entry_of g) ms ≡ map (entry_of f) ms
+members_same f g grown [] h = refl
+members_same f g grown (m ∷ ms) h = ap₂ (λ x xs. x ∷ xs) one (members_same f g grown ms (All-tail (λ x. IsWholeClause f x.clause) m ms h))
+  where
+    one : entry_of g m ≡ entry_of f m
+    one =
+        let here : IsWholeClause f m.clause = All-head (λ x. IsWholeClause f x.clause) m ms h in
+        λ i. record { clause = clause_extends f g grown m.clause here.ids i; origin = (entry_of f m).origin }
+
+-- the record of trees stays as the bank grows
+pub base_same : (old new : Base) → IsWholeBase old → KeepsBase old new → base_of new ≡ base_of old
+base_same old new whole kept =
+    ap base_of kept.rest
+    ∙ (λ i. record {
+      inputs = clauses_same old.bank new.bank kept.bank old.inputs whole.inputs i;
+      names = old.names;
+      axioms = clauses_same old.bank new.bank kept.bank old.axioms whole.axioms i;
+      members = members_same old.bank new.bank kept.bank old.members whole.members i;
+    })
+
+-- a right member is canonical
+gives_canonical : (b : format.Base) (n : ℕ) (o : Origin) (c : TreeClause) → Gives b n o c → IsCanonical c
+gives_canonical b n (input k) c h = ap canonical_form h.2 ∙ canonical_of_canonical h.0 ∙ sym h.2
+gives_canonical b n (inst from place partner other) c h =
+    let d = instance h.2.unifier.left h.2.entry.clause in
+    ap canonical_form h.2.conclusion ∙ canonical_of_canonical d ∙ sym h.2.conclusion
+
+pub member_canonical : (b : format.Base) (n : ℕ) → IsRightMember b n → (e : Entry) → at_number b.members n ≡ Some e → IsCanonical e.clause
+member_canonical b n right e at = gives_canonical b n e.origin e.clause (right e at)
+
+pub at_most : (j k : Complaint) → Precedes j k → rank j ≤ rank k
+at_most j k (inl p) = omega arith
+at_most j k (inr (inl p)) = omega arith
+at_most j k (inr (inr p)) = omega arith
+
+-- of two complaints of one kind the one with the smaller number comes first
+pub smaller : (r m n : ℕ) → (r < r) ⊎ ((r ≡ r) × (m < n)) ⊎ ((r ≡ r) × (m ≡ n) × (0 < 0)) → m < n
+smaller r m n (inl p) = absurd (omega arith)
+smaller r m n (inr (inl p)) = p.1
+smaller r m n (inr (inr p)) = absurd (omega arith)
+
+pub none_wrong : (P : ℕ → Type 0) (r : Option ℕ) → IsFirstWrongOf P r → ((n : ℕ) → r ≡ Some n → ⊥) → (n : ℕ) → P n
+none_wrong P None h other = h
+none_wrong P (Some n) h other = absurd (other n refl)
+
+pub some_wrong : (P : ℕ → Type 0) (r : Option ℕ) (n : ℕ) → IsFirstWrongOf P r → r ≡ Some n → IsFirstWrong P n
+some_wrong P r n h is = subst (IsFirstWrongOf P) is h
+
+pub axiom_first : (b : format.Base) (n : ℕ) → IsFirstWrong (IsRightAxiom b) n → IsFirstComplaint (BasePasses b) (Axiom n)
+axiom_first b n h = record { applies = h.applies; first = earlier }
+  where
+    earlier : (other : Complaint) → Precedes other (Axiom n) → BasePasses b other
+    earlier (Axiom m) p = h.before m (smaller 0 m n p)
+    earlier (Derived m) p = let q = at_most (Derived m) (Axiom n) p in absurd (omega arith)
+    earlier Bot p = tt
+    earlier (Ground m) p = tt
+    earlier (Shown m) p = tt
+    earlier NotEmpty p = tt
+    earlier (Place m) p = tt
+    earlier (Input m) p = tt
+    earlier (Pair l m) p = tt
+
+pub member_first : (b : format.Base) → ((n : ℕ) → IsRightAxiom b n) → (n : ℕ) → IsFirstWrong (IsRightMember b) n → IsFirstComplaint (BasePasses b) (Derived n)
+member_first b axioms n h = record { applies = h.applies; first = earlier }
+  where
+    earlier : (other : Complaint) → Precedes other (Derived n) → BasePasses b other
+    earlier (Axiom m) p = axioms m
+    earlier (Derived m) p = h.before m (smaller 1 m n p)
+    earlier Bot p = tt
+    earlier (Ground m) p = tt
+    earlier (Shown m) p = tt
+    earlier NotEmpty p = tt
+    earlier (Place m) p = tt
+    earlier (Input m) p = tt
+    earlier (Pair l m) p = tt
+
+pub valid_base : (b : format.Base) → ((n : ℕ) → IsRightAxiom b n) → ((n : ℕ) → IsRightMember b n) → IsValidBase b
+valid_base b axioms members (Axiom n) = axioms n
+valid_base b axioms members (Derived n) = members n
+valid_base b axioms members Bot = tt
+valid_base b axioms members (Ground n) = tt
+valid_base b axioms members (Shown n) = tt
+valid_base b axioms members NotEmpty = tt
+valid_base b axioms members (Place n) = tt
+valid_base b axioms members (Input k) = tt
+valid_base b axioms members (Pair l m) = tt
+
+-- the first complaint about the axioms and members is the first one about a refutation
+pub first_of_refutation : (c : format.Refutation) (complaint : Complaint) → IsFirstComplaint (BasePasses c.base) complaint → IsFirstComplaint (RefutationPasses c) complaint
+first_of_refutation c complaint h = by complaint h
+  where
+    earlier : (k : Complaint) → rank k < 2 → ((other : Complaint) → Precedes other k → BasePasses c.base other) → (other : Complaint) → Precedes other k → RefutationPasses c other
+    earlier k low f (Axiom m) p = f (Axiom m) p
+    earlier k low f (Derived m) p = f (Derived m) p
+    earlier k low f Bot p = let q = at_most Bot k p in absurd (omega arith)
+    earlier k low f (Ground m) p = let q = at_most (Ground m) k p in absurd (omega arith)
+    earlier k low f (Shown m) p = let q = at_most (Shown m) k p in absurd (omega arith)
+    earlier k low f NotEmpty p = let q = at_most NotEmpty k p in absurd (omega arith)
+    earlier k low f (Place m) p = tt
+    earlier k low f (Input m) p = tt
+    earlier k low f (Pair l m) p = tt
+
+    by : (k : Complaint) → IsFirstComplaint (BasePasses c.base) k → IsFirstComplaint (RefutationPasses c) k
+    by (Axiom n) g = record { applies = g.applies; first = earlier (Axiom n) (omega arith) g.first }
+    by (Derived n) g = record { applies = g.applies; first = earlier (Derived n) (omega arith) g.first }
+    by Bot g = absurd (g.applies tt)
+    by (Ground n) g = absurd (g.applies tt)
+    by (Shown n) g = absurd (g.applies tt)
+    by NotEmpty g = absurd (g.applies tt)
+    by (Place n) g = absurd (g.applies tt)
+    by (Input k) g = absurd (g.applies tt)
+    by (Pair l m) g = absurd (g.applies tt)
+
+-- and about a saturation
+pub first_of_saturation : (c : format.Saturation) (complaint : Complaint) → IsFirstComplaint (BasePasses c.base) complaint → IsFirstComplaint (SaturationPasses c) complaint
+first_of_saturation c complaint h = by complaint h
+  where
+    earlier : (k : Complaint) → rank k < 2 → ((other : Complaint) → Precedes other k → BasePasses c.base other) → (other : Complaint) → Precedes other k → SaturationPasses c other
+    earlier k low f (Axiom m) p = f (Axiom m) p
+    earlier k low f (Derived m) p = f (Derived m) p
+    earlier k low f Bot p = tt
+    earlier k low f (Ground m) p = tt
+    earlier k low f (Shown m) p = tt
+    earlier k low f NotEmpty p = tt
+    earlier k low f (Place m) p = let q = at_most (Place m) k p in absurd (omega arith)
+    earlier k low f (Input m) p = let q = at_most (Input m) k p in absurd (omega arith)
+    earlier k low f (Pair l m) p = let q = at_most (Pair l m) k p in absurd (omega arith)
+
+    by : (k : Complaint) → IsFirstComplaint (BasePasses c.base) k → IsFirstComplaint (SaturationPasses c) k
+    by (Axiom n) g = record { applies = g.applies; first = earlier (Axiom n) (omega arith) g.first }
+    by (Derived n) g = record { applies = g.applies; first = earlier (Derived n) (omega arith) g.first }
+    by Bot g = absurd (g.applies tt)
+    by (Ground n) g = absurd (g.applies tt)
+    by (Shown n) g = absurd (g.applies tt)
+    by NotEmpty g = absurd (g.applies tt)
+    by (Place n) g = absurd (g.applies tt)
+    by (Input k) g = absurd (g.applies tt)
+    by (Pair l m) g = absurd (g.applies tt)

@@ -1,0 +1,148 @@
+-- Sides and pairs of members that are closed for the unifier that bindings stand for.
+use Rattle.std.proofs.Common.{◌≡◌, ◌⊎◌, ◌↔◌, inl, inr, ℕ, suc, ◌<◌, List, length, map, get_or, refl, ap, sym, ◌∙◌, subst, arith, true, false, Some}
+use Rattle.std.specs.Prelude.{All, Bool, IsTrue, slice_get, max}
+use Rattle.std.proofs.lemmas.Option.{slice_get-get_or, slice_get_within, same_Some}
+use Rattle.inst_logic.specs.declared.signed.Signed.{Signed}
+use Rattle.inst_logic.specs.Tree.{Tree}
+use Rattle.inst_logic.specs.Clauses.{TreeClause, instance, IsCanonical}
+use Rattle.inst_logic.specs.Unifiers.{Sided, IsMostGeneral, IsProper}
+use Rattle.inst_logic.specs.WellFormed.{atom_is_formed, clause_is_formed, IsAtom}
+use Rattle.inst_logic.proofs.ShownLaws.{at_number_contains}
+use Rattle.inst_calculus.specs.Entries.{Entry, entry_clauses}
+use Rattle.inst_calculus.specs.Models.{Member as Selected, member_clauses}
+use Rattle.inst_calculus.specs.Saturation.{IsClosed, IsCovered}
+use Rattle.inst_calculus.proofs.CoveredInstances.{covered_when_grown}
+use Rattle.inst_calculus.proofs.Membership.{◌∈◌, all_in, in_all, in_map, from_map, contains_in, in_contains, equal_in, passes}
+use Rattle.term_bank.specs.Forest.{Forest, Extends, clause_at, tree_at}
+use Rattle.cert_format.specs.Certificate as format
+use Rattle.cert_format.specs.Certificate.{selected_members}
+use Rattle.cert_format.specs.Validity.{IsSelected}
+use Rattle.cert_format.specs.declared.complaint.Complaint.TheVariants.{Member as Derived}
+use Rattle.cert_format.proofs.Numbers.{in_slice_get, same_item, slice_get_of_map}
+use Rattle.cert_format.proofs.SelectedMembers.{selected_number, selected_is_member}
+use Rattle.unify_core.specs.Chains.{AreBindings}
+use Rattle.unify_core.specs.Sides.{Binding, IsResolvedBy, of_pair, of_side}
+use Rattle.unify_core.specs.declared.side.Side.{Side}
+use Rattle.unify_core.specs.declared.side.Side.TheVariants.{Left, Right}
+use Rattle.clause_form.proofs.Leaves.{resolved_later}
+use Rattle.saturation_cert.specs.declared.member.Member.{Member}
+use Rattle.saturation_cert.specs.declared.certificate.Saturation.{Saturation}
+use Rattle.saturation_cert.specs.Truths.{IsSelectedLiteral}
+use Rattle.saturation_cert.specs.Values.{base_of, saturation_of, entry_of}
+use Rattle.saturation_cert.specs.Wholes.{IsWholeClause, IsWholeSaturation, HasPlaces, KeepsSaturation}
+use Rattle.cert_check.specs.Bases.{IsValidBase}
+use Rattle.cert_check.specs.Closings.{HasCoveredSide, IsSideCovered, IsSideClosed, IsProperSomewhere, IsPairClosed}
+use Rattle.cert_check.specs.Covers.{AreCanonicalMembers}
+use Rattle.cert_check.proofs.Bases.{member_canonical}
+use Rattle.cert_check.proofs.CoverLaws.{clause_of}
+use Rattle.cert_check.proofs.Saturations.{saturation_same, members_formed}
+
+module _ (c : Saturation) where
+  pub canonical_members : IsValidBase (base_of c.base) → AreCanonicalMembers c.base.bank c.base.members
+  canonical_members valid = in_all (λ (m : Member). IsCanonical (clause_at c.base.bank m.clause)) c.base.members (λ m i.
+      let (k, at) = in_slice_get (entry_of c.base.bank m) (map (entry_of c.base.bank) c.base.members) (in_map (entry_of c.base.bank) m c.base.members i) in
+      member_canonical (base_of c.base) (suc k) (valid (Derived (suc k))) (entry_of c.base.bank m) at)
+
+  -- the selected literal's atom is an atom
+  pub selected_atom : IsWholeSaturation c → (n : ℕ) (l : Signed ℕ) → IsSelectedLiteral c n l → IsAtom (tree_at c.base.bank l.atom)
+  selected_atom whole n l h =
+      let e = h.is.entry in
+      let i = contains_in e (saturation_of c).base.members (at_number_contains (saturation_of c).base.members n e h.is.entry_at) in
+      let formed : clause_is_formed e.clause ≡ true = passes clause_is_formed (entry_clauses (saturation_of c).base.members) (members_formed c whole) e.clause (in_map (λ (x : Entry). x.clause) e (saturation_of c).base.members i) in
+      let j = contains_in h.member.selected e.clause (at_number_contains e.clause h.is.place h.member.selected h.is.selected) in
+      ap (λ (k : Signed Tree). atom_is_formed k.atom) (sym h.literal) ∙ passes (λ (k : Signed Tree). atom_is_formed k.atom) e.clause formed h.member.selected j
+
+  -- the clauses with a selected literal are the members'
+  module _ (placed : HasPlaces (saturation_of c)) where
+    in_selected : (d : TreeClause) → d ∈ map (clause_of c.base.bank) c.base.members → d ∈ member_clauses (selected_members (saturation_of c))
+    in_selected d i =
+        let (m, j, same) = from_map (clause_of c.base.bank) d c.base.members i in
+        let (k, at) = in_slice_get (entry_of c.base.bank m) (map (entry_of c.base.bank) c.base.members) (in_map (entry_of c.base.bank) m c.base.members j) in
+        let within : k < length (saturation_of c).base.members = slice_get_within (map (entry_of c.base.bank) c.base.members) k (entry_of c.base.bank m) at in
+        let (s, h) = placed (suc k) (omega arith) (omega (arith, within)) in
+        let e : s.clause ≡ d = h.clause ∙ ap (λ (x : Entry). x.clause) (same_item (slice_get (map (entry_of c.base.bank) c.base.members) k) h.entry (entry_of c.base.bank m) h.entry_at at) ∙ same in
+        equal_in s.clause d (member_clauses (selected_members (saturation_of c))) e
+        (in_map (λ (x : Selected). x.clause) s (selected_members (saturation_of c)) (selected_is_member (saturation_of c) k s h))
+
+    from_selected : (d : TreeClause) → d ∈ member_clauses (selected_members (saturation_of c)) → d ∈ map (clause_of c.base.bank) c.base.members
+    from_selected d i =
+        let (s, j, same) = from_map (λ (x : Selected). x.clause) d (selected_members (saturation_of c)) i in
+        let (k, h) = selected_number (saturation_of c) s j in
+        let (m, at, is) = slice_get_of_map (entry_of c.base.bank) c.base.members k h.entry h.entry_at in
+        equal_in (clause_at c.base.bank m.clause) d (map (clause_of c.base.bank) c.base.members) (ap (λ (x : Entry). x.clause) is ∙ sym h.clause ∙ same)
+        (in_map (clause_of c.base.bank) m c.base.members (contains_in m c.base.members (at_number_contains c.base.members (suc k) m at)))
+
+    pub selected_cover : (d e : TreeClause) → IsCovered (map (clause_of c.base.bank) c.base.members) d e ↔ IsCovered (member_clauses (selected_members (saturation_of c))) d e
+    selected_cover d e =
+        let xs = map (clause_of c.base.bank) c.base.members in
+        let ys = member_clauses (selected_members (saturation_of c)) in (
+          covered_when_grown xs ys (in_all _ xs (λ x i. in_contains x ys (in_selected x i))) d e,
+          covered_when_grown ys xs (in_all _ ys (λ x i. in_contains x xs (from_selected x i))) d e,
+        )
+
+    -- what was found of member i
+    pub side_covered : (es : List Binding) (x : Side) (i : ℕ) (m : Member) → i < length c.base.members → m ≡ get_or c.base.members i m → (r : Bool)
+        → ((s : Sided) → IsResolvedBy c.base.bank es s → IsTrue r ↔ IsCovered (map (clause_of c.base.bank) c.base.members) (clause_at c.base.bank m.clause) (instance (of_side s x) (clause_at c.base.bank m.clause)))
+        → IsSideCovered c es x (suc i) r
+    side_covered es x i m within is r h s resolved n sel =
+        let (k, at, e) = slice_get_of_map (entry_of c.base.bank) c.base.members i sel.entry sel.entry_at in
+        let same : k ≡ m = same_Some k m (sym at ∙ slice_get-get_or c.base.members i m within ∙ ap Some (sym is)) in
+        let clause : clause_at c.base.bank m.clause ≡ n.clause = ap (clause_of c.base.bank) (sym same) ∙ ap (λ (y : Entry). y.clause) e ∙ sym sel.clause in
+        subst (λ (d : TreeClause). IsTrue r ↔ IsCovered (member_clauses (selected_members (saturation_of c))) d (instance (of_side s x) d)) clause (
+          (λ t. (selected_cover _ _).0 ((h s resolved).0 t)),
+          (λ v. (h s resolved).1 ((selected_cover _ _).1 v)),
+        )
+
+-- what holds over a grown bank held before
+module _ (old new : Saturation) (whole : IsWholeSaturation old) (kept : KeepsSaturation old new) where
+  pub side_before : (es : List Binding) → AreBindings old.base.bank es → (x : Side) (n : ℕ) (r : Bool) → IsSideClosed new es x n r → IsSideClosed old es x n r
+  side_before es b x n r h s resolved m sel a b2 g =
+      let same = saturation_same old new whole kept in
+      subst (λ (y : format.Saturation). IsTrue r ↔ (IsProper (of_side s x) (of_pair x a b2) → IsCovered (member_clauses (selected_members y)) m.clause (instance (of_side s x) m.clause))) same
+      (h s (resolved_later old.base.bank new.base.bank es s kept.base.bank b resolved) m (subst (λ (y : format.Saturation). IsSelected y n m) (sym same) sel) a b2 g)
+
+pub decided : {P : Type 0} (b : Bool) → (b ≡ true → P) → (b ≡ false → ¬ P) → IsTrue b ↔ P
+decided true y n = ((λ t. y refl), (λ p. refl))
+decided false y n = ((λ t. absurd (let e : false ≡ true = t in cc)), (λ p. absurd (n refl p)))
+
+-- the answer of one side
+abbrev pub ProperOn : Forest → List Binding → Side → Type 0
+ProperOn f es x = (a b : Tree) (s : Sided) → IsResolvedBy f es s → IsMostGeneral s a b → IsProper (of_side s x) (of_pair x a b)
+
+abbrev pub NotProperOn : Forest → List Binding → Side → Type 0
+NotProperOn f es x = (a b : Tree) (s : Sided) → IsResolvedBy f es s → IsMostGeneral s a b → ¬ (IsProper (of_side s x) (of_pair x a b))
+
+pub proper_first : (f : Forest) (es : List Binding) → ProperOn f es Left → IsProperSomewhere f es true
+proper_first f es h s resolved a b g = ((λ t. inl (h a b s resolved g)), (λ p. refl))
+
+pub proper_second : (f : Forest) (es : List Binding) (r : Bool) → NotProperOn f es Left → (r ≡ true → ProperOn f es Right) → (r ≡ false → NotProperOn f es Right) → IsProperSomewhere f es r
+proper_second f es r none yes no s resolved a b g =
+    let by : IsTrue r ↔ IsProper s.right b = decided r (λ t. yes t a b s resolved g) (λ t. no t a b s resolved g) in
+    ((λ t. inr (by.0 t)), (λ h. elim h [ inl p ↦ absurd (none a b s resolved g p) | inr p ↦ by.1 p ]))
+
+module _ (c : Saturation) (es : List Binding) where
+  pub side_not_proper : (x : Side) (n : ℕ) → NotProperOn c.base.bank es x → IsSideClosed c es x n true
+  side_not_proper x n none s resolved m sel a b g = ((λ t p. absurd (none a b s resolved g p)), (λ h. refl))
+
+  pub side_proper : (x : Side) (n : ℕ) → ProperOn c.base.bank es x → (r : Bool) → IsSideCovered c es x n r → IsSideClosed c es x n r
+  side_proper x n proper r h s resolved m sel a b g = ((λ t p. (h s resolved m sel).0 t), (λ k. (h s resolved m sel).1 (k (proper a b s resolved g))))
+
+  pub nowhere_proper : (i j : ℕ) (r : Bool) → r ≡ false → IsProperSomewhere c.base.bank es r → IsPairClosed c es i j false
+  nowhere_proper i j r e h s resolved m n p q g = (
+    (λ t. absurd (let k : false ≡ true = t in cc)),
+    (λ k. absurd (let t : r ≡ true = (h s resolved m.selected.atom n.selected.atom g).1 k.proper in let u : false ≡ true = sym e ∙ t in cc)),
+  )
+
+  pub open_left : (i j : ℕ) (r : Bool) → r ≡ false → IsSideClosed c es Left i r → IsPairClosed c es i j false
+  open_left i j r e h s resolved m n p q g = (
+    (λ t. absurd (let k : false ≡ true = t in cc)),
+    (λ k. absurd (let t : r ≡ true = (h s resolved m p m.selected.atom n.selected.atom g).1 k.left in let u : false ≡ true = sym e ∙ t in cc)),
+  )
+
+  pub both_sides : (i j : ℕ) (somewhere left r : Bool) → somewhere ≡ true → left ≡ true → IsProperSomewhere c.base.bank es somewhere → IsSideClosed c es Left i left → IsSideClosed c es Right j r → IsPairClosed c es i j r
+  both_sides i j somewhere left r e f some h k s resolved m n p q g =
+      let a = m.selected.atom in
+      let b = n.selected.atom in (
+        (λ t. record { proper = (some s resolved a b g).0 e; left = (h s resolved m p a b g).0 f; right = (k s resolved n q a b g).0 t }),
+        (λ closed. (k s resolved n q a b g).1 closed.right),
+      )

@@ -1,0 +1,183 @@
+-- What two members conclude, over their ids and over their trees.
+use Rattle.std.proofs.Common.{◌≡◌, ℕ, zero, suc, ◌+◌, ◌<◌, List, refl, ap, sym, ◌∙◌, map, subst, length, Bool, true, Option, None, Some}
+use Rattle.std.specs.Prelude.{All, IfOk, Result, Ok, Err, ◌&&◌, nat_eq, option_map}
+use Rattle.std.proofs.lemmas.Option.{slice_get-map}
+use Rattle.inst_logic.specs.declared.signed.Signed.{Signed}
+use Rattle.inst_logic.specs.Tree.{Tree, var, app, Trees, none, more}
+use Rattle.inst_logic.specs.Substitution.{subst as apply, substs, Substitution}
+use Rattle.inst_logic.specs.Clauses.{TreeClause, instance, canonical_form, IsCanonical}
+use Rattle.inst_logic.specs.Derivations.{at_number}
+use Rattle.inst_logic.specs.Unifiers.{Sided, IsMostGeneral, IsProper}
+use Rattle.inst_logic.specs.WellFormed.{count_of, tree_is_formed, trees_are_formed, is_function_kind, IsTerm, IsAtom}
+use Rattle.inst_logic.proofs.SameLemmas.{and_left, and_right, and_both}
+use Rattle.inst_logic.proofs.ShownLaws.{at_number_contains}
+use Rattle.inst_calculus.specs.Entries.{Entry}
+use Rattle.inst_calculus.proofs.Choice.{instance_of_choice}
+use Rattle.inst_calculus.proofs.Membership.{all_in, contains_in}
+use Rattle.inst_calculus.proofs.Unify.{most_general_formed}
+use Rattle.cert_format.specs.Validity.{IsConclusion}
+use Rattle.saturation_cert.specs.declared.member.Member.{Member}
+use Rattle.saturation_cert.specs.Values.{entry_of}
+use Rattle.saturation_cert.specs.Wholes.{IsWholeClause}
+use Rattle.term_bank.specs.Forest.{Forest, IsClauseOf, clause_at, tree_at}
+use Rattle.unify_core.specs.Lists.{◌∈◌}
+use Rattle.unify_core.specs.Sides.{Binding, of_side, IsResolvedBy}
+use Rattle.unify_core.specs.Terms.{AreTerms}
+use Rattle.unify_core.specs.declared.side.Side.{Side}
+use Rattle.unify_core.specs.declared.side.Side.TheVariants.{Left, Right}
+use Rattle.cert_check.specs.Conclusions.{Concludes, HasNoProper, IsAtomOf, IsCanonicalMember, IsConcluded, IsProperlyUnified, MembersConclude, literal_of, placed_in}
+
+count_under : (s : Substitution) (ts : Trees) → count_of (substs s ts) ≡ count_of ts
+count_under s none = refl
+count_under s (more t ts) = ap (λ n. n + 1) (count_under s ts)
+
+-- a tree with an instance that is a term is a term
+module _ (s : Substitution) where
+  mutual
+    term_by_instance : (t : Tree) → tree_is_formed (apply s t) ≡ true → tree_is_formed t ≡ true
+    term_by_instance (var n) h = refl
+    term_by_instance (app f ts) h =
+        let k = is_function_kind f.kind in
+        let n = nat_eq (count_of (substs s ts)) f.arity in
+        let r : (n && trees_are_formed (substs s ts)) ≡ true = and_right k _ h in
+        and_both k _ (and_left k _ h)
+        (and_both (nat_eq (count_of ts) f.arity) _ (ap (λ m. nat_eq m f.arity) (sym (count_under s ts)) ∙ and_left n _ r) (terms_by_instance ts (and_right n _ r)))
+
+    terms_by_instance : (ts : Trees) → trees_are_formed (substs s ts) ≡ true → trees_are_formed ts ≡ true
+    terms_by_instance none h = refl
+    terms_by_instance (more t ts) h =
+        let b = tree_is_formed (apply s t) in
+        and_both (tree_is_formed t) _ (term_by_instance t (and_left b _ h)) (terms_by_instance ts (and_right b _ h))
+
+-- the bindings that unify two atoms are to terms
+pub unified_terms : (f : Forest) (es : List Binding) (a b : Tree) → IsAtom a → IsAtom b → IsProperlyUnified f es a b → AreTerms f es
+unified_terms f es a b h k u e i = term_by_instance (of_side u.unifier e.1.side) (tree_at f e.1.term) (subst (λ (t : Tree). tree_is_formed t ≡ true) (u.resolved.bound e i) (by e.0.side e.0.var))
+  where
+    by : (x : Side) (v : ℕ) → tree_is_formed (of_side u.unifier x v) ≡ true
+    by Left v = (most_general_formed a b h k u.unifier u.most_general v).0
+    by Right v = (most_general_formed a b h k u.unifier u.most_general v).1
+
+some_same : {A : Type 0} (x y : A) → Some x ≡ Some y → x ≡ y
+some_same x y e = cc
+
+abbrev literal_tree : Forest → Signed ℕ → Signed Tree
+literal_tree f l = record { positive = l.positive; atom = tree_at f l.atom }
+
+module _ (f : Forest) where
+  entry_number : (ms : List Member) (n : ℕ) → at_number (map (entry_of f) ms) n ≡ option_map (entry_of f) (at_number ms n)
+  entry_number ms zero = refl
+  entry_number ms (suc k) = slice_get-map (entry_of f) ms k
+
+  clause_number : (c : List (Signed ℕ)) (n : ℕ) → at_number (clause_at f c) n ≡ option_map (literal_tree f) (at_number c n)
+  clause_number c zero = refl
+  clause_number c (suc k) = slice_get-map (literal_tree f) c k
+
+  some_of_map : {A B : Type 0} (g : A → B) (o : Option A) (y : B) → option_map g o ≡ Some y → (x : A) × (o ≡ Some x) × (g x ≡ y)
+  some_of_map g None y e = absurd (cc)
+  some_of_map g (Some x) y e = (x, refl, some_same (g x) y e)
+
+  entry_there : (ms : List Member) (n : ℕ) (m : Member) → at_number ms n ≡ Some m → at_number (map (entry_of f) ms) n ≡ Some (entry_of f m)
+  entry_there ms n m e = entry_number ms n ∙ ap (option_map (entry_of f)) e
+
+  literal_there : (c : List (Signed ℕ)) (n : ℕ) (l : Signed ℕ) → at_number c n ≡ Some l → at_number (clause_at f c) n ≡ Some (literal_tree f l)
+  literal_there c n l e = clause_number c n ∙ ap (option_map (literal_tree f)) e
+
+  -- the member and its literal
+  member_of_literal : (o : Option Member) (place : ℕ) (l : Signed ℕ) → placed_in o place ≡ Some l → (m : Member) × (o ≡ Some m) × (at_number m.clause place ≡ Some l)
+  member_of_literal None place l e = absurd (cc)
+  member_of_literal (Some m) place l e = (m, refl, e)
+
+  -- a literal of an entry is that of the member
+  literal_named : (ms : List Member) (n place : ℕ) (e : Entry) (k : Signed Tree) → at_number (map (entry_of f) ms) n ≡ Some e → at_number e.clause place ≡ Some k
+      → (l : Signed ℕ) × (literal_of ms n place ≡ Some l) × (literal_tree f l ≡ k)
+  literal_named ms n place e k at there =
+      let (m, p, q) = some_of_map (entry_of f) (at_number ms n) e (sym (entry_number ms n) ∙ at) in
+      let r : at_number (clause_at f m.clause) place ≡ Some k = ap (λ (x : Entry). at_number x.clause place) q ∙ there in
+      let (l, u, v) = some_of_map (literal_tree f) (at_number m.clause place) k (sym (clause_number m.clause place) ∙ r) in
+      (l, ap (λ o. placed_in o place) p ∙ u, v)
+
+  pub member_whole : (ms : List Member) (n : ℕ) (m : Member) → All (λ x. IsWholeClause f x.clause) ms → at_number ms n ≡ Some m → IsWholeClause f m.clause
+  member_whole ms n m all e = all_in (λ (x : Member). IsWholeClause f x.clause) ms all m (contains_in m ms (at_number_contains ms n m e))
+
+  pub literal_atom : (ms : List Member) (n place : ℕ) (l : Signed ℕ) → All (λ x. IsWholeClause f x.clause) ms → literal_of ms n place ≡ Some l → IsAtomOf f l
+  literal_atom ms n place l all e =
+      let (m, p, q) = member_of_literal (at_number ms n) place l e in
+      let w = member_whole ms n m all p in
+      let i = contains_in l m.clause (at_number_contains m.clause place l q) in
+      record {
+        within = all_in (λ (x : Signed ℕ). x.atom < length f.trees) m.clause w.ids l i;
+        atom = all_in (λ (x : Signed ℕ). IsAtom (tree_at f x.atom)) m.clause w.atoms l i;
+      }
+
+  pub canonical_there : (ms : List Member) (n : ℕ) (m : Member) → IsCanonicalMember (map (entry_of f) ms) n → at_number ms n ≡ Some m → IsCanonical (clause_at f m.clause)
+  canonical_there ms n m h e = h (entry_of f m) (entry_there ms n m e)
+
+  -- without the literal there is no conclusion
+  pub no_entry : (ms : List Member) (from place partner other : ℕ) → at_number ms from ≡ None → (c : TreeClause) → ¬ IsConclusion (map (entry_of f) ms) from place partner other c
+  no_entry ms from place partner other e c h = let k = sym h.entry_at ∙ entry_number ms from ∙ ap (option_map (entry_of f)) e in absurd (cc)
+
+  pub no_literal : (ms : List Member) (from place partner other : ℕ) → literal_of ms from place ≡ None → (c : TreeClause) → ¬ IsConclusion (map (entry_of f) ms) from place partner other c
+  no_literal ms from place partner other e c h =
+      let (l, u, v) = literal_named ms from place h.entry h.literal h.entry_at h.literal_at in
+      let k = sym u ∙ e in absurd (cc)
+
+  pub no_other : (ms : List Member) (from place partner other : ℕ) → literal_of ms partner other ≡ None → (c : TreeClause) → ¬ IsConclusion (map (entry_of f) ms) from place partner other c
+  no_other ms from place partner other e c h =
+      let (l, u, v) = literal_named ms partner other h.partner_entry h.other_literal h.partner_at h.other_at in
+      let k = sym u ∙ e in absurd (cc)
+
+  -- what the two literals conclude is what the members do
+  pub concluded : (g : Forest) (ms : List Member) (from place partner other : ℕ) (m : Member) (k l : Signed ℕ)
+      → at_number ms from ≡ Some m → literal_of ms from place ≡ Some k → literal_of ms partner other ≡ Some l
+      → (o : Option (List (Signed ℕ))) → Concludes f g m.clause k l o → MembersConclude g (map (entry_of f) ms) from place partner other o
+  concluded g ms from place partner other m k l at kat lat None h = λ c r.
+      let (k2, u, v) = literal_named ms from place r.entry r.literal r.entry_at r.literal_at in
+      let (l2, x, y) = literal_named ms partner other r.partner_entry r.other_literal r.partner_at r.other_at in
+      let ke : literal_tree f k ≡ r.literal = ap (literal_tree f) (some_same k k2 (sym kat ∙ u)) ∙ v in
+      let le : literal_tree f l ≡ r.other_literal = ap (literal_tree f) (some_same l l2 (sym lat ∙ x)) ∙ y in
+      let ks = ap (λ (z : Signed Tree). z.positive) ke in
+      let ls = ap (λ (z : Signed Tree). z.positive) le in
+      let general : IsMostGeneral r.unifier (tree_at f k.atom) (tree_at f l.atom) =
+          subst (λ (z : Signed Tree). IsMostGeneral r.unifier z.atom (tree_at f l.atom)) (sym ke) (subst (λ (z : Signed Tree). IsMostGeneral r.unifier r.literal.atom z.atom) (sym le) r.most_general) in
+      h (λ e. r.opposite (sym ks ∙ e ∙ ls)) r.unifier general (subst (λ (z : Signed Tree). IsProper r.unifier.left z.atom) (sym ke) r.proper)
+  concluded g ms from place partner other m k l at kat lat (Some d) h =
+      let (m2, p, q) = member_of_literal (at_number ms from) place k kat in
+      let (n, s, t) = member_of_literal (at_number ms partner) other l lat in
+      let same : m2 ≡ m = some_same m2 m (sym p ∙ at) in
+      (
+        h.ids,
+        record {
+          entry = entry_of f m;
+          partner_entry = entry_of f n;
+          literal = literal_tree f k;
+          other_literal = literal_tree f l;
+          entry_at = entry_there ms from m at;
+          partner_at = entry_there ms partner n s;
+          literal_at = literal_there m.clause place k (ap (λ (x : Member). at_number x.clause place) (sym same) ∙ q);
+          other_at = literal_there n.clause other l t;
+          opposite = h.opposite;
+          unifier = h.unifier;
+          most_general = h.most_general;
+          proper = h.proper;
+          conclusion = h.conclusion;
+        },
+      )
+
+-- the members have one conclusion, whichever most general unifier is taken
+pub one_conclusion : (es : List Entry) (from place partner other : ℕ) (c d : TreeClause) → IsConclusion es from place partner other c → IsConclusion es from place partner other d → c ≡ d
+one_conclusion es from place partner other c d h k =
+    let e : h.entry ≡ k.entry = some_same h.entry k.entry (sym h.entry_at ∙ k.entry_at) in
+    let p : h.partner_entry ≡ k.partner_entry = some_same h.partner_entry k.partner_entry (sym h.partner_at ∙ k.partner_at) in
+    let l : h.literal ≡ k.literal = some_same h.literal k.literal (sym h.literal_at ∙ ap (λ (x : Entry). at_number x.clause place) e ∙ k.literal_at) in
+    let m : h.other_literal ≡ k.other_literal = some_same h.other_literal k.other_literal (sym h.other_at ∙ ap (λ (x : Entry). at_number x.clause other) p ∙ k.other_at) in
+    let general : IsMostGeneral k.unifier h.literal.atom h.other_literal.atom =
+        subst (λ (z : Signed Tree). IsMostGeneral k.unifier z.atom h.other_literal.atom) (sym l) (subst (λ (z : Signed Tree). IsMostGeneral k.unifier k.literal.atom z.atom) (sym m) k.most_general) in
+    h.conclusion
+    ∙ (instance_of_choice h.literal.atom h.other_literal.atom h.unifier k.unifier h.most_general general h.entry.clause).0
+    ∙ ap (λ (x : Entry). canonical_form (instance k.unifier.left x.clause)) e
+    ∙ sym k.conclusion
+
+-- what follows of the value of a result
+pub when_ok : {A E : Type 0} (P Q : A → Type 0) → ((x : A) → P x → Q x) → (r : Result A E) → IfOk r P → IfOk r Q
+when_ok P Q h (Ok x) k = h x k
+when_ok P Q h (Err e) k = k

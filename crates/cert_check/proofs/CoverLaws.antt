@@ -1,0 +1,77 @@
+-- Covered instances over a bank that grows.
+use Rattle.std.proofs.Common.{◌≡◌, ◌⊎◌, ◌↔◌, inl, inr, ℕ, ◌<◌, List, length, map, ap, sym, ◌∙◌, subst, arith}
+use Rattle.std.specs.Prelude.{All, Any}
+use Rattle.std.proofs.lemmas.List.{length-map}
+use Rattle.inst_logic.specs.declared.signed.Signed.{Signed}
+use Rattle.inst_logic.specs.Signed.{IsTautology}
+use Rattle.inst_logic.specs.Clauses.{TreeClause, canonical_form, instance, Subsumes, AreVariants, IsCanonical}
+use Rattle.inst_logic.specs.Unifiers.{Sided}
+use Rattle.inst_calculus.specs.Saturation.{IsCovered, tautology, variant, shorter}
+use Rattle.inst_calculus.proofs.CanonicalForms.{canonical_of_canonical}
+use Rattle.inst_calculus.proofs.CoveredInstances.{covered_when_renamed}
+use Rattle.inst_calculus.proofs.Membership.{◌∈◌, any_in, in_any, all_in, in_all, in_map, from_map, contains_in, in_contains}
+use Rattle.term_bank.specs.Forest.{Forest, Extends, IsClauseOf, clause_at}
+use Rattle.term_bank.proofs.Clauses.{clause_extends}
+use Rattle.unify_core.specs.Chains.{AreBindings}
+use Rattle.unify_core.specs.Sides.{Binding, IsResolvedBy, of_side}
+use Rattle.unify_core.specs.declared.side.Side.{Side}
+use Rattle.clause_form.specs.Conclusions.{IsConclusionOf}
+use Rattle.clause_form.proofs.Concluded.{solution_of}
+use Rattle.saturation_cert.specs.declared.member.Member.{Member}
+use Rattle.saturation_cert.specs.Truths.{literal_at}
+use Rattle.saturation_cert.specs.Wholes.{IsWholeClause}
+use Rattle.cert_check.specs.Covers.{Covers, CoversOf, IsCoveredIn, AreCanonicalMembers}
+use Rattle.cert_check.proofs.Refutations.{clause_grown}
+
+abbrev pub clause_of : Forest → Member → TreeClause
+clause_of f m = clause_at f m.clause
+
+module _ (f g : Forest) (grown : Extends f g) (ms : List Member) (whole : All (λ m. IsWholeClause f m.clause) ms) where
+  member_same : (m : Member) → m ∈ ms → clause_at g m.clause ≡ clause_at f m.clause
+  member_same m i = clause_extends f g grown m.clause (all_in (λ (n : Member). IsWholeClause f n.clause) ms whole m i).ids
+
+  pub members_later : All (λ m. IsWholeClause g m.clause) ms
+  members_later = in_all (λ (m : Member). IsWholeClause g m.clause) ms (λ m i. clause_grown f g grown m.clause (all_in (λ (n : Member). IsWholeClause f n.clause) ms whole m i))
+
+  pub canonical_later : AreCanonicalMembers f ms → AreCanonicalMembers g ms
+  canonical_later h = in_all (λ (m : Member). IsCanonical (clause_at g m.clause)) ms
+      (λ m i. subst IsCanonical (sym (member_same m i)) (all_in (λ (n : Member). IsCanonical (clause_at f n.clause)) ms h m i))
+
+  module _ (c d : List (Signed ℕ)) (e : TreeClause) (form : clause_at g d ≡ canonical_form e) where
+    same_length : length (clause_at f c) ≡ length c
+    same_length = length-map c (literal_at f)
+
+    to_members : IsCovered (map (clause_of f) ms) (clause_at f c) (clause_at g d) → IsCoveredIn g ms (length c) d
+    to_members (tautology t) = inl t
+    to_members (variant x i v) =
+        let (m, j, same) = from_map (clause_of f) x ms (contains_in x (map (clause_of f) ms) i) in
+        inr (in_any (CoversOf g (length c) d) m ms j (inl (v ∙ ap canonical_form (sym same ∙ sym (member_same m j)))))
+    to_members (shorter x i less s) =
+        let (m, j, same) = from_map (clause_of f) x ms (contains_in x (map (clause_of f) ms) i) in
+        let n : length x < length c = omega (arith, same_length, less) in
+        inr (in_any (CoversOf g (length c) d) m ms j (inr (subst (λ (y : TreeClause). (length y < length c) × Subsumes y (clause_at g d)) (sym same ∙ sym (member_same m j)) (n, s))))
+
+    from_members : IsCoveredIn g ms (length c) d → IsCovered (map (clause_of f) ms) (clause_at f c) (clause_at g d)
+    from_members (inl t) = tautology t
+    from_members (inr any) = let (m, i, h) = any_in (CoversOf g (length c) d) ms any in by m i h
+      where
+        by : (m : Member) → m ∈ ms → Covers (length c) (clause_at g d) (clause_at g m.clause) → IsCovered (map (clause_of f) ms) (clause_at f c) (clause_at g d)
+        by m i (inl v) = variant (clause_at f m.clause) (in_contains (clause_of f m) (map (clause_of f) ms) (in_map (clause_of f) m ms i)) (v ∙ ap canonical_form (member_same m i))
+        by m i (inr p) =
+            let q : (length (clause_at f m.clause) < length c) × Subsumes (clause_at f m.clause) (clause_at g d) =
+            subst (λ (y : TreeClause). (length y < length c) × Subsumes y (clause_at g d)) (member_same m i) p in
+            let n : length (clause_at f m.clause) < length (clause_at f c) = omega (arith, same_length, q.0) in
+            shorter (clause_at f m.clause) (in_contains (clause_of f m) (map (clause_of f) ms) (in_map (clause_of f) m ms i)) n q.1
+
+    -- what was found in the grown bank holds of the instance
+    pub covered_in : IsCoveredIn g ms (length c) d ↔ IsCovered (map (clause_of f) ms) (clause_at f c) e
+    covered_in = (
+      (λ h. covered_when_renamed (map (clause_of f) ms) (clause_at f c) (clause_at g d) e (from_members h) (ap canonical_form form ∙ canonical_of_canonical e)),
+      (λ h. to_members (covered_when_renamed (map (clause_of f) ms) (clause_at f c) e (clause_at g d) h (sym (ap canonical_form form ∙ canonical_of_canonical e)))),
+    )
+
+pub conclusion_form : (f g : Forest) (es : List Binding) (x : Side) (c d : List (Signed ℕ)) (ids : List ℕ) → AreBindings f es → IsConclusionOf f g es x c d ids → IsClauseOf g d × IsCanonical (clause_at g d)
+conclusion_form f g es x c d ids b h =
+    let (s, r) = solution_of f es b in
+    let k = (h s r).clause in
+    (k.0, subst IsCanonical (sym k.1) (canonical_of_canonical (instance (of_side s x) (clause_at f c))))

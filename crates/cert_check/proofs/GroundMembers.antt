@@ -1,0 +1,100 @@
+-- The ground clauses of the members under one term.
+use Rattle.std.proofs.Common.{◌≡◌, ℕ, zero, suc, ◌-◌, ◌^◌, ◌<◌, ◌≤◌, List, [], ◌∷◌, refl, ap, sym, ◌∙◌, map, min, subst, arith, length, length-append, get_or}
+use Rattle.std.specs.Prelude.{All, option_map, nat_eq}
+use Rattle.std.proofs.lemmas.Bool.Decides.{Decides-eqb}
+use Rattle.std.proofs.lemmas.List.{length-map}
+use Rattle.std.proofs.lemmas.List.Elements.{All-get_or}
+use Rattle.std.proofs.lemmas.List.Sums.{sum_by-cons}
+use Rattle.std.proofs.lemmas.Option.{slice_get-map}
+use Rattle.inst_logic.specs.declared.signed.Signed.{Signed}
+use Rattle.inst_logic.specs.declared.symbol.Sym.{Sym}
+use Rattle.inst_logic.specs.Tree.{Tree, var, app, Trees, none, more}
+use Rattle.inst_logic.specs.Equal.{literal_eq}
+use Rattle.inst_logic.specs.Lists.{distinct}
+use Rattle.inst_logic.specs.Measure.{tree_size, trees_size, clause_size}
+use Rattle.inst_logic.specs.Substitution.{tree_vars, trees_vars, clause_vars}
+use Rattle.inst_logic.specs.Clauses.{TreeClause, IsCanonical, instance, order_of}
+use Rattle.inst_logic.proofs.ShownLaws.{All-from_slice_get}
+use Rattle.inst_calculus.specs.Abstraction.{abstraction}
+use Rattle.inst_calculus.specs.Entries.{Entry, entry_clauses}
+use Rattle.inst_calculus.proofs.CanonicalForms.{canonical_variable_below}
+use Rattle.inst_calculus.proofs.Clauses.{literals_agree}
+use Rattle.inst_calculus.proofs.Distinct.{length_distinct}
+use Rattle.inst_calculus.proofs.Membership.{◌∈◌}
+use Rattle.term_bank.specs.Forest.{Forest, Extends, IsAt, IsClauseOf, clause_at, tree_at}
+use Rattle.term_bank.proofs.Clauses.{clause_extends}
+use Rattle.clause_form.specs.Conclusions.{by_terms}
+use Rattle.cert_format.specs.Validity.{IsRightMember}
+use Rattle.saturation_cert.specs.declared.certificate.Base.{Base}
+use Rattle.saturation_cert.specs.declared.member.Member.{Member}
+use Rattle.saturation_cert.specs.Values.{base_of, entry_of}
+use Rattle.saturation_cert.specs.Wholes.{IsWholeClause}
+use Rattle.cert_check.specs.Grounds.{AreCanonicalMembers}
+use Rattle.cert_check.proofs.Bases.{member_canonical}
+
+-- there are no more variables than symbols and variables
+mutual
+  tree_few : (t : Tree) → length (tree_vars t) ≤ tree_size t
+  tree_few (var v) = omega arith
+  tree_few (app s ts) = let h = trees_few ts in omega (arith, h)
+
+  trees_few : (ts : Trees) → length (trees_vars ts) ≤ trees_size ts
+  trees_few none = omega arith
+  trees_few (more t ts) = let h = tree_few t in let k = trees_few ts in let e = length-append (tree_vars t) (trees_vars ts) in omega (arith, h, k, e)
+
+clause_few : (c : TreeClause) → length (clause_vars c) ≤ clause_size c
+clause_few [] = omega arith
+clause_few (l ∷ c) =
+    let h = tree_few l.atom in
+    let k = clause_few c in
+    let e = length-append (tree_vars l.atom) (clause_vars c) in
+    let s = sum_by-cons (λ (x : Signed Tree). tree_size x.atom) l c in
+    omega (arith, h, k, e, s)
+
+pub few_variables : (c : TreeClause) → length (order_of c) ≤ clause_size c
+few_variables c = let h = length_distinct nat_eq Decides-eqb (clause_vars c) in let k = clause_few c in omega (arith, h, k)
+
+-- a size that is not the greatest number is that of the clause
+pub enough_variables : (c : TreeClause) (size : ℕ) → size ≡ min (clause_size c) (2 ^ 64 - 1) → ¬ (size ≡ 2 ^ 64 - 1) → length (order_of c) ≤ size
+enough_variables c size e n = let h = few_variables c in grind (arith, h, e, n)
+
+-- where each of the terms is the same, so is the instance
+pub same_instance : (f : Forest) (terms : List ℕ) (term : ℕ) (c : TreeClause) → IsCanonical c → length (order_of c) ≤ length terms → All (λ id. id ≡ term) terms
+    → instance (by_terms f terms) c ≡ instance (λ _. tree_at f term) c
+same_instance f terms term c canonical enough same =
+    ap (distinct literal_eq) (literals_agree (by_terms f terms) (λ _. tree_at f term) c
+    (λ v i. ap (tree_at f) (same v 0 (let l = canonical_variable_below c v (subst (λ (d : TreeClause). v ∈ clause_vars d) (sym canonical) i) in omega (arith, l, enough)))))
+
+pub at_grown : (f g : Forest) → Extends f g → (id : ℕ) (t : Tree) → IsAt f id t → IsAt g id t
+at_grown f g grown id t h = (omega (arith, h.0, grown.trees.0), grown.trees.1 id h.0 ∙ h.1)
+
+pub member_whole : (f : Forest) (ms : List Member) (i : ℕ) (m : Member) → All (λ x. IsWholeClause f x.clause) ms → i < length ms → m ≡ get_or ms i m → IsWholeClause f m.clause
+member_whole f ms i m h within is = subst (λ (x : Member). IsWholeClause f x.clause) (sym is) (All-get_or (λ (x : Member). IsWholeClause f x.clause) ms i m within h)
+
+pub canonical_grown : (f g : Forest) → Extends f g → (ms : List Member) (i : ℕ) (m : Member) → AreCanonicalMembers f ms → i < length ms → m ≡ get_or ms i m → IsClauseOf f m.clause → IsCanonical (clause_at g m.clause)
+canonical_grown f g grown ms i m h within is ids =
+    subst IsCanonical (sym (clause_extends f g grown m.clause ids))
+    (subst (λ (x : Member). IsCanonical (clause_at f x.clause)) (sym is) (All-get_or (λ (x : Member). IsCanonical (clause_at f x.clause)) ms i m within h))
+
+abbrev pub abstractions : Sym → Forest → List Member → List TreeClause
+abstractions bot f ms = map (abstraction bot) (entry_clauses (map (entry_of f) ms))
+
+pub count_same : (bot : Sym) (f : Forest) (ms : List Member) → length (abstractions bot f ms) ≡ length ms
+count_same bot f ms =
+    length-map (entry_clauses (map (entry_of f) ms)) (abstraction bot) ∙ length-map (map (entry_of f) ms) (λ (e : Entry). e.clause) ∙ length-map ms (entry_of f)
+
+-- the clause at place i
+pub abstraction_at : (bot : Sym) (f : Forest) (ms : List Member) (i : ℕ) (m : Member) → m ≡ get_or ms i m → abstraction bot (clause_at f m.clause) ≡ get_or (abstractions bot f ms) i (abstraction bot (clause_at f m.clause))
+abstraction_at bot f [] i m is = refl
+abstraction_at bot f (n ∷ ms) zero m is = ap (λ (x : Member). abstraction bot (clause_at f x.clause)) is
+abstraction_at bot f (n ∷ ms) (suc i) m is = abstraction_at bot f ms i m is
+
+-- an instance under the constant is the abstraction
+pub abstraction_grown : (bot : Sym) (f g : Forest) → Extends f g → (constant : ℕ) (c : List (Signed ℕ)) → IsClauseOf f c → tree_at g constant ≡ app bot none → instance (λ _. tree_at g constant) (clause_at g c) ≡ abstraction bot (clause_at f c)
+abstraction_grown bot f g grown constant c ids at =
+    ap (λ (d : TreeClause). instance (λ _. tree_at g constant) d) (clause_extends f g grown c ids) ∙ ap (λ (t : Tree). instance (λ _. t) (clause_at f c)) at
+
+pub canonical_members : (b : Base) → ((n : ℕ) → IsRightMember (base_of b) n) → AreCanonicalMembers b.bank b.members
+canonical_members b right =
+    All-from_slice_get (λ (m : Member). IsCanonical (clause_at b.bank m.clause)) b.members
+    (λ k m at. member_canonical (base_of b) (suc k) (right (suc k)) (entry_of b.bank m) (slice_get-map (entry_of b.bank) b.members k ∙ ap (option_map (entry_of b.bank)) at))

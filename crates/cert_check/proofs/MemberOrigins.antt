@@ -1,0 +1,49 @@
+-- What an origin from two members gives.
+use Rattle.std.proofs.Common.{◌≡◌, ℕ, ◌+◌, ◌<◌, ◌≤◌, List, ap, sym, ◌∙◌, map, subst, arith, length, get_or}
+use Rattle.std.specs.Prelude.{◌↔◌, Bool, IfOk, IsTrue, Result, Ok, Err}
+use Rattle.inst_logic.specs.declared.signed.Signed.{Signed}
+use Rattle.inst_logic.specs.Clauses.{TreeClause}
+use Rattle.inst_calculus.specs.Entries.{Entry}
+use Rattle.term_bank.specs.Forest.{Forest, AreDistinct, Extends, IsClauseOf, clause_at}
+use Rattle.term_bank.proofs.Clauses.{clause_extends}
+use Rattle.cert_format.specs.Validity.{Gives, IsConclusion, IsRightMember}
+use Rattle.saturation_cert.specs.declared.member.Member.{Member}
+use Rattle.saturation_cert.specs.declared.member.Origin.{Origin}
+use Rattle.saturation_cert.specs.declared.member.Origin.TheVariants.{Inst}
+use Rattle.saturation_cert.specs.declared.certificate.Base.{Base}
+use Rattle.saturation_cert.specs.Values.{base_of, entry_of, origin_of}
+use Rattle.cert_check.specs.Conclusions.{IsCanonicalMember, MembersGive}
+use Rattle.cert_check.proofs.Bases.{member_canonical}
+use Rattle.cert_check.proofs.Conclusions.{one_conclusion}
+use Rattle.cert_check.proofs.Differences.{same_ids}
+use Rattle.cert_check.proofs.Interning.{ids_grown}
+use Rattle.cert_check.proofs.Rightness.{right_by}
+
+-- the ids of the conclusion are those of the clause where the clause is the conclusion
+pub gives_by : (f g : Forest) → Extends f g → AreDistinct g.trees → (es : List Entry) (from place partner other : ℕ) (clause d : List (Signed ℕ)) → IsClauseOf f clause → IsClauseOf g d
+    → IsConclusion es from place partner other (clause_at g d) → (d ≡ clause) ↔ IsConclusion es from place partner other (clause_at f clause)
+gives_by f g grown once es from place partner other clause d in_clause in_d h = (
+  (λ e. subst (IsConclusion es from place partner other) (ap (clause_at g) e ∙ clause_extends f g grown clause in_clause) h),
+  (λ k.
+      same_ids g once d clause in_d (ids_grown f g grown clause in_clause)
+      (one_conclusion es from place partner other (clause_at g d) (clause_at f clause) h k ∙ sym (clause_extends f g grown clause in_clause))),
+)
+
+-- a member from two others is right exactly where they come before it and conclude it
+pub right_inst : (b : Base) (i : ℕ) (m : Member) (from place partner other : ℕ) → i < length b.members → m ≡ get_or b.members i m → m.origin ≡ Inst from place partner other
+    → ((from < i + 1) × (partner < i + 1) × IsConclusion (map (entry_of b.bank) b.members) from place partner other (clause_at b.bank m.clause)) ↔ IsRightMember (base_of b) (i + 1)
+right_inst b i m from place partner other within is origin =
+    let by = right_by b i m within is in
+    let P = λ (o : Origin). Gives (base_of b) (i + 1) (origin_of o) (clause_at b.bank m.clause) in (
+      (λ g. by.0 (subst P (sym origin) g)),
+      (λ r. subst P origin (by.1 r)),
+    )
+
+-- a member before is canonical
+pub canonical_before : (b : Base) (i from : ℕ) → from ≤ i → ((m : ℕ) → m < i + 1 → IsRightMember (base_of b) m) → IsCanonicalMember (map (entry_of b.bank) b.members) from
+canonical_before b i from h earlier e at = member_canonical (base_of b) from (earlier from (omega arith)) e at
+
+pub and_conclusion : {E : Type 0} (es : List Entry) (n from place partner other : ℕ) (c : TreeClause) → from < n → partner < n → (r : Result Bool E) → IfOk r (λ b. IsTrue b ↔ IsConclusion es from place partner other c)
+    → IfOk r (λ b. IsTrue b ↔ MembersGive es n from place partner other c)
+and_conclusion es n from place partner other c a b (Ok x) h = ((λ t. (a, b, h.0 t)), (λ k. h.1 k.2))
+and_conclusion es n from place partner other c a b (Err e) h = h

@@ -1,0 +1,13 @@
+use Rattle.std.proofs.Common.{subst}
+use Rattle.std.specs.Prelude.{IfOk}
+use Rattle.inst_logic.specs.Clauses.{TreeClause}
+use Rattle.term_bank.specs.Forest.{IsClauseAt, clause_at}
+use Rattle.cert_check.proofs.GroundMembers.{same_instance}
+use Rattle.cert_check.proofs.grounds.under_term.Goals as goal
+
+pub returns-clause-instance : goal.returns-clause-instance
+returns-clause-instance c =
+    let f = c.args.bank.now in
+    let d = clause_at f c.args.c.now in
+    let same = same_instance f c.in_ok-terms.terms c.args.term d c.requires.canonical c.in_ok-terms.ensures.enough c.in_ok-terms.ensures.same in
+    subst (λ (x : TreeClause). IfOk c.under.result (λ d. IsClauseAt c.under.new.bank d x)) same c.under.ensures.instance

@@ -1,0 +1,121 @@
+// The check of what certificates of both kinds have: the axioms of equality and the members.
+ghost use Rattle.std.specs.Prelude.{◌+◌, ◌<◌, ◌↔◌, IfErr, IfOk, IsTrue, OnOk, length, ℕ};
+ghost use Rattle.cert_format.specs.Validity.{IsRightAxiom, IsRightMember};
+ghost use Rattle.cert_check.specs.Answers.{IsCheckCause};
+ghost use Rattle.cert_check.specs.Bases.{BasePasses, IsValidBase};
+ghost use Rattle.cert_check.specs.Firsts.{IsFirstWrongOf};
+ghost use Rattle.saturation_cert.specs.Values.{base_of};
+ghost use Rattle.saturation_cert.specs.Wholes.{IsWholeBase, KeepsBase};
+
+use crate::axioms::{interned, symbols};
+use crate::conclusion::{Premises, members_give};
+use crate::difference::difference;
+use crate::error::CheckError;
+use crate::origin::input_gives;
+use cert_format::Complaint;
+use equality_axioms::axioms_from;
+use inst_logic::Memory;
+use saturation_cert::{Base, Origin};
+use std::alloc::Global;
+use unify_core::Bindings;
+
+// The number of the first axiom that is not the one that the inputs have there.
+fn wrong_axiom(alloc: Global, base: &mut Base) -> Result<Option<usize>, Memory>
+    requires { IsWholeBase base.old }
+    ensures kept { KeepsBase base.old base.new }
+    ensures whole { OnOk result (IsWholeBase base.new) }
+    ensures first { IfOk result (IsFirstWrongOf (IsRightAxiom (base_of base.old))) }
+{
+    let symbols = symbols(alloc, &base.bank, &base.inputs)?;
+    let axioms = axioms_from(alloc, &symbols)?;
+    let ids = interned(alloc, &mut base.bank, &axioms)?;
+    Ok(difference(&base.bank, &base.axioms, &ids))
+}
+
+// Whether member `i`, counted from 0, is what its origin gives. The bindings are room to work in.
+fn is_right(
+    alloc: Global,
+    base: &mut Base,
+    bindings: &mut Bindings,
+    i: usize,
+) -> Result<bool, Memory>
+    requires whole { IsWholeBase base.old }
+    requires within { i < length base.old.members }
+    requires axioms { (n : ℕ) → IsRightAxiom (base_of base.old) n }
+    requires earlier { (m : ℕ) → m < i + 1 → IsRightMember (base_of base.old) m }
+    ensures kept { KeepsBase base.old base.new }
+    ensures whole { OnOk result (IsWholeBase base.new) }
+    ensures right { IfOk result (λ r. IsTrue r ↔ IsRightMember (base_of base.old) (i + 1)) }
+{
+    let member = &base.members.as_slice()[i];
+    match member.origin {
+        Origin::Input(k) => {
+            let right = input_gives(
+                alloc,
+                &mut base.bank,
+                &base.inputs,
+                &base.axioms,
+                k,
+                &member.clause,
+            )?;
+            Ok(right)
+        }
+        Origin::Inst {
+            from,
+            place,
+            partner,
+            other,
+        } => {
+            let premises = Premises {
+                from,
+                place,
+                partner,
+                other,
+            };
+            let right = members_give(
+                alloc,
+                &mut base.bank,
+                bindings,
+                base.members.as_slice(),
+                premises,
+                i,
+                &member.clause,
+            )?;
+            Ok(right)
+        }
+    }
+}
+
+// The number of the first member that is not what its origin gives.
+fn wrong_member(alloc: Global, base: &mut Base) -> Result<Option<usize>, Memory>
+    requires whole { IsWholeBase base.old }
+    requires axioms { (n : ℕ) → IsRightAxiom (base_of base.old) n }
+    ensures kept { KeepsBase base.old base.new }
+    ensures whole { OnOk result (IsWholeBase base.new) }
+    ensures first { IfOk result (IsFirstWrongOf (IsRightMember (base_of base.old))) }
+{
+    let mut bindings = Bindings::new(alloc);
+    for i in 0..base.members.len() {
+        if !is_right(alloc, base, &mut bindings, i)? {
+            return Ok(Some(i + 1));
+        }
+    }
+    Ok(None)
+}
+
+// The first complaint about the axioms and then about the members, if there is one.
+pub fn check_base(alloc: Global, base: &mut Base) -> Result<(), CheckError>
+    requires { IsWholeBase base.old }
+    ensures kept { KeepsBase base.old base.new }
+    ensures whole { OnOk result (IsWholeBase base.new) }
+    ensures valid { OnOk result (IsValidBase (base_of base.old)) }
+    ensures complaint { IfErr result (IsCheckCause (BasePasses (base_of base.old))) }
+{
+    if let Some(n) = wrong_axiom(alloc, base)? {
+        return Err(CheckError::Complaint(Complaint::Axiom { n }));
+    }
+    if let Some(n) = wrong_member(alloc, base)? {
+        return Err(CheckError::Complaint(Complaint::Member { n }));
+    }
+    Ok(())
+}

@@ -1,0 +1,166 @@
+// Conclusions of two members.
+ghost use Rattle.std.specs.Prelude.{◌≡◌, ◌+◌, ◌<◌, ◌↔◌, All, IfOk, IsTrue, false, length, map, option_copied, true};
+ghost use Rattle.inst_logic.specs.Clauses.{IsCanonical};
+ghost use Rattle.inst_logic.specs.Derivations.{at_number};
+ghost use Rattle.inst_logic.specs.WellFormed.{IsAtom};
+ghost use Rattle.cert_format.specs.Validity.{IsConclusion};
+ghost use Rattle.term_bank.specs.Forest.{AreFormed, Extends, IsClauseOf, clause_at, tree_at};
+ghost use Rattle.saturation_cert.specs.Values.{entry_of};
+ghost use Rattle.saturation_cert.specs.Wholes.{IsWholeClause};
+ghost use Rattle.cert_check.specs.Conclusions.{Concludes, HasNoProper, IsAtomOf, IsCanonicalMember, IsProperlyUnified, MembersConclude, MembersGive, literal_of};
+
+use crate::difference::{distinct_trees, same_clause};
+use clause_form::conclude;
+use inst_logic::Memory;
+use saturation_cert::Member;
+use std::alloc::Global;
+use term_bank::{Bank, IdClause, IdLiteral, TermId};
+use unify_core::{Bindings, Side};
+
+// Literal `place` of member `from` with literal `other` of member `partner`, all counted from 1.
+#[derive(Clone, Copy)]
+pub struct Premises {
+    pub from: usize,
+    pub place: usize,
+    pub partner: usize,
+    pub other: usize,
+}
+
+// Item `n`, counted from 1.
+fn numbered_item<T>(items: &[T], n: usize) -> Option<&T>
+    ensures { option_copied result ≡ at_number items.now n }
+{
+    if n == 0 {
+        return None;
+    }
+    items.get(n - 1)
+}
+
+// The literal at the place of the member of this number, both counted from 1.
+fn literal_at(members: &[Member], number: usize, place: usize) -> Option<IdLiteral>
+    ensures { result ≡ literal_of members.now number place }
+{
+    match numbered_item(members, number) {
+        None => None,
+        Some(member) => numbered_item(member.clause.as_slice(), place).copied(),
+    }
+}
+
+// Whether the atoms, renamed apart, have a most general unifier that is proper for the first.
+fn unify_properly(
+    bank: &Bank,
+    bindings: &mut Bindings,
+    a: TermId,
+    b: TermId,
+) -> Result<bool, Memory>
+    requires left { a < length bank.now.trees }
+    requires right { b < length bank.now.trees }
+    ensures yes { IfOk result (λ r. r ≡ true → IsProperlyUnified bank.now bindings.new.entries (tree_at bank.now a) (tree_at bank.now b)) }
+    ensures no { IfOk result (λ r. r ≡ false → HasNoProper (tree_at bank.now a) (tree_at bank.now b)) }
+{
+    if !bindings.unify(bank, a, b)? {
+        return Ok(false);
+    }
+    Ok(bindings.proper(bank, Side::Left))
+}
+
+// The instance of the clause, whose literal `l` is, under the proper most general unifier of `l` and `m`, in canonical form.
+fn conclude_at(
+    alloc: Global,
+    bank: &mut Bank,
+    bindings: &mut Bindings,
+    clause: &IdClause,
+    l: IdLiteral,
+    m: IdLiteral,
+) -> Result<Option<IdClause>, Memory>
+    requires clause { IsWholeClause bank.old clause.now }
+    requires canonical { IsCanonical (clause_at bank.old clause.now) }
+    requires left { IsAtomOf bank.old l }
+    requires right { IsAtomOf bank.old m }
+    ensures concludes { IfOk result (Concludes bank.old bank.new clause.now l m) }
+    ensures extends { Extends bank.old bank.new }
+    ensures formed { AreFormed bank.old → AreFormed bank.new }
+{
+    if l.positive == m.positive {
+        return Ok(None);
+    }
+    if !unify_properly(bank, bindings, l.atom, m.atom)? {
+        return Ok(None);
+    }
+    let conclusion = conclude(alloc, bank, bindings, Side::Left, clause)?;
+    Ok(Some(conclusion.clause))
+}
+
+// What the first member gives with the second, if they conclude something.
+fn conclusion(
+    alloc: Global,
+    bank: &mut Bank,
+    bindings: &mut Bindings,
+    members: &[Member],
+    premises: Premises,
+) -> Result<Option<IdClause>, Memory>
+    requires members { All (λ m. IsWholeClause bank.old m.clause) members.now }
+    requires canonical { IsCanonicalMember (map (entry_of bank.old) members.now) premises.from }
+    ensures concludes { IfOk result (MembersConclude bank.new (map (entry_of bank.old) members.now) premises.from premises.place premises.partner premises.other) }
+    ensures extends { Extends bank.old bank.new }
+    ensures formed { AreFormed bank.old → AreFormed bank.new }
+{
+    let Some(member) = numbered_item(members, premises.from) else {
+        return Ok(None);
+    };
+    let Some(l) = literal_at(members, premises.from, premises.place) else {
+        return Ok(None);
+    };
+    let Some(m) = literal_at(members, premises.partner, premises.other) else {
+        return Ok(None);
+    };
+    conclude_at(alloc, bank, bindings, &member.clause, l, m)
+}
+
+// Whether the members conclude the clause.
+fn is_conclusion(
+    alloc: Global,
+    bank: &mut Bank,
+    bindings: &mut Bindings,
+    members: &[Member],
+    premises: Premises,
+    clause: &IdClause,
+) -> Result<bool, Memory>
+    requires members { All (λ m. IsWholeClause bank.old m.clause) members.now }
+    requires canonical { IsCanonicalMember (map (entry_of bank.old) members.now) premises.from }
+    requires clause { IsClauseOf bank.old clause.now }
+    ensures gives { IfOk result (λ r. IsTrue r ↔ IsConclusion (map (entry_of bank.old) members.now) premises.from premises.place premises.partner premises.other (clause_at bank.old clause.now)) }
+    ensures extends { Extends bank.old bank.new }
+    ensures formed { AreFormed bank.old → AreFormed bank.new }
+{
+    match conclusion(alloc, bank, bindings, members, premises)? {
+        None => Ok(false),
+        Some(d) => {
+            distinct_trees(bank);
+            Ok(same_clause(&d, clause))
+        }
+    }
+}
+
+// Whether both members come before member `i`, counted from 0, and conclude the clause.
+pub fn members_give(
+    alloc: Global,
+    bank: &mut Bank,
+    bindings: &mut Bindings,
+    members: &[Member],
+    premises: Premises,
+    i: usize,
+    clause: &IdClause,
+) -> Result<bool, Memory>
+    requires members { All (λ m. IsWholeClause bank.old m.clause) members.now }
+    requires canonical { premises.from < i + 1 → IsCanonicalMember (map (entry_of bank.old) members.now) premises.from }
+    requires clause { IsClauseOf bank.old clause.now }
+    ensures gives { IfOk result (λ r. IsTrue r ↔ MembersGive (map (entry_of bank.old) members.now) (i + 1) premises.from premises.place premises.partner premises.other (clause_at bank.old clause.now)) }
+    ensures extends { Extends bank.old bank.new }
+    ensures formed { AreFormed bank.old → AreFormed bank.new }
+{
+    if premises.from > i || premises.partner > i {
+        return Ok(false);
+    }
+    is_conclusion(alloc, bank, bindings, members, premises, clause)
+}

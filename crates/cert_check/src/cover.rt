@@ -1,0 +1,109 @@
+// Covered instances.
+ghost use Rattle.std.specs.Prelude.{◌≡◌, ◌↔◌, ◌⊎◌, ◌<◌, map, length, All, Any, IfOk, IsTrue};
+ghost use Rattle.inst_logic.specs.Signed.{IsTautology};
+ghost use Rattle.inst_logic.specs.Clauses.{IsCanonical, instance};
+ghost use Rattle.inst_logic.specs.Unifiers.{Sided};
+ghost use Rattle.inst_calculus.specs.Saturation.{IsCovered};
+ghost use Rattle.term_bank.specs.Forest.{AreFormed, Extends, IsClauseOf, clause_at};
+ghost use Rattle.unify_core.specs.Chains.{AreBindings};
+ghost use Rattle.unify_core.specs.Sides.{IsResolvedBy, of_side};
+ghost use Rattle.unify_core.specs.Terms.{AreTerms};
+ghost use Rattle.saturation_cert.specs.Wholes.{IsWholeClause};
+ghost use Rattle.cert_check.specs.Covers.{AreCanonicalMembers, Covers, CoversOf, IsCoveredIn};
+
+use crate::difference::distinct_trees;
+use clause_form::{conclude, subsumes, tautology, variant};
+use inst_logic::Memory;
+use saturation_cert::Member;
+use std::alloc::Global;
+use term_bank::{Bank, IdClause};
+use unify_core::{Bindings, Side};
+
+// Whether the member is a variant of the clause, or has fewer literals than this many and subsumes it.
+fn covers(
+    alloc: Global,
+    bank: &Bank,
+    member: &IdClause,
+    len: usize,
+    c: &IdClause,
+) -> Result<bool, Memory>
+    requires member { IsClauseOf bank.now member.now }
+    requires member_canonical { IsCanonical (clause_at bank.now member.now) }
+    requires clause { IsClauseOf bank.now c.now }
+    requires canonical { IsCanonical (clause_at bank.now c.now) }
+    ensures { IfOk result (λ r. IsTrue r ↔ Covers len (clause_at bank.now c.now) (clause_at bank.now member.now)) }
+{
+    distinct_trees(bank);
+    if variant(c, member) {
+        return Ok(true);
+    }
+    if member.len() >= len {
+        return Ok(false);
+    }
+    subsumes(alloc, bank, member, c)
+}
+
+// Whether some member covers the clause.
+fn some_covers(
+    alloc: Global,
+    bank: &Bank,
+    members: &[Member],
+    len: usize,
+    c: &IdClause,
+) -> Result<bool, Memory>
+    requires members { All (λ m. IsClauseOf bank.now m.clause) members.now }
+    requires members_canonical { AreCanonicalMembers bank.now members.now }
+    requires clause { IsClauseOf bank.now c.now }
+    requires canonical { IsCanonical (clause_at bank.now c.now) }
+    ensures { IfOk result (λ r. IsTrue r ↔ Any (CoversOf bank.now len c.now) members.now) }
+{
+    for member in members {
+        if covers(alloc, bank, &member.clause, len, c)? {
+            return Ok(true);
+        }
+    }
+    Ok(false)
+}
+
+// Whether the clause, an instance of one with this many literals, is covered by the members.
+fn has_cover(
+    alloc: Global,
+    bank: &Bank,
+    members: &[Member],
+    len: usize,
+    c: &IdClause,
+) -> Result<bool, Memory>
+    requires members { All (λ m. IsClauseOf bank.now m.clause) members.now }
+    requires members_canonical { AreCanonicalMembers bank.now members.now }
+    requires clause { IsClauseOf bank.now c.now }
+    requires canonical { IsCanonical (clause_at bank.now c.now) }
+    ensures { IfOk result (λ r. IsTrue r ↔ IsCoveredIn bank.now members.now len c.now) }
+{
+    distinct_trees(bank);
+    if tautology(c) {
+        return Ok(true);
+    }
+    some_covers(alloc, bank, members, len, c)
+}
+
+// Whether the instance of the side's clause under the bindings is covered by the members.
+pub fn is_covered(
+    alloc: Global,
+    bank: &mut Bank,
+    members: &[Member],
+    bindings: &Bindings,
+    side: Side,
+    c: &IdClause,
+) -> Result<bool, Memory>
+    requires members { All (λ m. IsWholeClause bank.old m.clause) members.now }
+    requires members_canonical { AreCanonicalMembers bank.old members.now }
+    requires clause { IsWholeClause bank.old c.now }
+    requires canonical { IsCanonical (clause_at bank.old c.now) }
+    requires bindings { AreBindings bank.old bindings.now.entries }
+    ensures extends { Extends bank.old bank.new }
+    ensures formed { AreFormed bank.old → AreTerms bank.old bindings.now.entries → AreFormed bank.new }
+    ensures covered { IfOk result (λ r. (s : Sided) → IsResolvedBy bank.old bindings.now.entries s → IsTrue r ↔ IsCovered (map (λ m. clause_at bank.old m.clause) members.now) (clause_at bank.old c.now) (instance (of_side s side) (clause_at bank.old c.now))) }
+{
+    let conclusion = conclude(alloc, bank, bindings, side, c)?;
+    has_cover(alloc, bank, members, c.len(), &conclusion.clause)
+}

@@ -1,0 +1,24 @@
+//! The separate checker of certificates. It uses no engine, index, solver or abstraction: what a reader must believe is here and
+//! in the crates below it.
+#![tactic(auto)]
+
+mod axioms;
+mod base;
+mod conclusion;
+mod cover;
+mod difference;
+pub mod error;
+mod grounds;
+mod inputs;
+mod origin;
+mod pairs;
+mod places;
+pub mod refutation;
+pub mod saturation;
+mod steps;
+mod walk;
+
+pub use cert_format::Complaint;
+pub use error::CheckError;
+pub use refutation::{CheckedRefutation, check_refutation};
+pub use saturation::{CheckedSaturation, check_saturation};

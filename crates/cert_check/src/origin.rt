@@ -1,0 +1,65 @@
+// What the origin of a member gives.
+ghost use Rattle.std.specs.Prelude.{◌≡◌, ◌↔◌, ◌++◌, All, IfOk, IsTrue, map, option_copied};
+ghost use Rattle.inst_logic.specs.Clauses.{canonical_form};
+ghost use Rattle.inst_logic.specs.Derivations.{at_number};
+ghost use Rattle.term_bank.specs.Forest.{AreFormed, Extends, IsClauseOf, clause_at};
+ghost use Rattle.cert_check.specs.Inputs.{GivesInput};
+
+use crate::difference::{distinct_trees, same_clause};
+use clause_form::canonical;
+use inst_logic::Memory;
+use std::alloc::Global;
+use term_bank::{Bank, IdClause, IdClauseList};
+
+// Clause `k` of the inputs and then the axioms, counted from 1.
+fn numbered<'a>(inputs: &'a [IdClause], axioms: &'a [IdClause], k: usize) -> Option<&'a IdClause>
+    ensures { option_copied result ≡ at_number (inputs.now ++ axioms.now) k }
+{
+    if k == 0 {
+        return None;
+    }
+    if k <= inputs.len() {
+        return inputs.get(k - 1);
+    }
+    axioms.get(k - 1 - inputs.len())
+}
+
+// Whether the clause is the canonical form of the other one.
+fn is_canonical_form(
+    alloc: Global,
+    bank: &mut Bank,
+    from: &IdClause,
+    clause: &IdClause,
+) -> Result<bool, Memory>
+    requires from { IsClauseOf bank.old from.now }
+    requires clause { IsClauseOf bank.old clause.now }
+    ensures extends { Extends bank.old bank.new }
+    ensures formed { AreFormed bank.old → AreFormed bank.new }
+    ensures same { IfOk result (λ r. IsTrue r ↔ (clause_at bank.old clause.now ≡ canonical_form (clause_at bank.old from.now))) }
+{
+    let d = canonical(alloc, bank, from)?;
+    distinct_trees(bank);
+    Ok(same_clause(&d, clause))
+}
+
+// Whether the clause is the canonical form of clause `k` of the inputs and then the axioms.
+pub fn input_gives(
+    alloc: Global,
+    bank: &mut Bank,
+    inputs: &IdClauseList,
+    axioms: &IdClauseList,
+    k: usize,
+    clause: &IdClause,
+) -> Result<bool, Memory>
+    requires inputs { All (IsClauseOf bank.old) inputs.now }
+    requires axioms { All (IsClauseOf bank.old) axioms.now }
+    requires clause { IsClauseOf bank.old clause.now }
+    ensures extends { Extends bank.old bank.new }
+    ensures formed { AreFormed bank.old → AreFormed bank.new }
+    ensures gives { IfOk result (λ r. IsTrue r ↔ GivesInput (map (clause_at bank.old) (inputs.now ++ axioms.now)) k (clause_at bank.old clause.now)) }
+{
+    match numbered(inputs.as_slice(), axioms.as_slice(), k) {
+        None => Ok(false),
+        Some(from) => is_canonical_form(alloc, bank, from, clause),
+    }
+}

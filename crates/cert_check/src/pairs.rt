@@ -1,0 +1,181 @@
+// The check of the pairs of selected literals.
+ghost use Rattle.std.specs.Prelude.{◌↔◌, ◌<◌, suc, length, IfOk, IsTrue, OnOk};
+ghost use Rattle.cert_format.specs.Validity.{IsRightPair};
+ghost use Rattle.unify_core.specs.Chains.{AreBindings};
+ghost use Rattle.unify_core.specs.Terms.{AreTerms};
+ghost use Rattle.saturation_cert.specs.Values.{base_of, saturation_of};
+ghost use Rattle.saturation_cert.specs.Wholes.{HasPlaces, IsWholeSaturation, KeepsSaturation};
+ghost use Rattle.cert_check.specs.Bases.{IsValidBase};
+ghost use Rattle.cert_check.specs.Closings.{IsPairClosed, IsProperSomewhere, IsSideClosed, IsSideCovered};
+ghost use Rattle.cert_check.specs.FirstPairs.{IsFirstWrongPairOf};
+ghost use Rattle.cert_check.specs.Firsts.{IsFirstWrongOf};
+
+use crate::cover::is_covered;
+use inst_logic::Memory;
+use saturation_cert::{Saturation, selected};
+use std::alloc::Global;
+use term_bank::Bank;
+use unify_core::{Bindings, Side};
+
+// Whether the unifier that the bindings stand for makes a variable on some side a term that is no variable.
+fn is_proper(bank: &Bank, bindings: &Bindings) -> bool
+    requires { AreBindings bank.now bindings.now.entries }
+    ensures { IsProperSomewhere bank.now bindings.now.entries result }
+{
+    if bindings.proper(bank, Side::Left) {
+        return true;
+    }
+    bindings.proper(bank, Side::Right)
+}
+
+// Whether the instance of member `i`, counted from 0, on the side of the bindings is covered.
+fn is_side_covered(
+    alloc: Global,
+    cert: &mut Saturation,
+    bindings: &Bindings,
+    side: Side,
+    i: usize,
+) -> Result<bool, Memory>
+    requires whole { IsWholeSaturation cert.old }
+    requires base { IsValidBase (base_of cert.old.base) }
+    requires placed { HasPlaces (saturation_of cert.old) }
+    requires within { i < length cert.old.base.members }
+    requires bindings { AreBindings cert.old.base.bank bindings.now.entries }
+    requires terms { AreTerms cert.old.base.bank bindings.now.entries }
+    ensures kept { KeepsSaturation cert.old cert.new }
+    ensures whole { OnOk result (IsWholeSaturation cert.new) }
+    ensures covered { IfOk result (IsSideCovered cert.old bindings.now.entries side (suc i)) }
+{
+    let members = cert.base.members.as_slice();
+    let member = &members[i];
+    is_covered(
+        alloc,
+        &mut cert.base.bank,
+        members,
+        bindings,
+        side,
+        &member.clause,
+    )
+}
+
+// The same where the unifier is proper on the side, and true where it is not.
+fn is_side_closed(
+    alloc: Global,
+    cert: &mut Saturation,
+    bindings: &Bindings,
+    side: Side,
+    i: usize,
+) -> Result<bool, Memory>
+    requires whole { IsWholeSaturation cert.old }
+    requires base { IsValidBase (base_of cert.old.base) }
+    requires placed { HasPlaces (saturation_of cert.old) }
+    requires within { i < length cert.old.base.members }
+    requires bindings { AreBindings cert.old.base.bank bindings.now.entries }
+    requires terms { AreTerms cert.old.base.bank bindings.now.entries }
+    ensures kept { KeepsSaturation cert.old cert.new }
+    ensures whole { OnOk result (IsWholeSaturation cert.new) }
+    ensures closed { IfOk result (IsSideClosed cert.old bindings.now.entries side (suc i)) }
+{
+    if bindings.proper(&cert.base.bank, side) {
+        return is_side_covered(alloc, cert, bindings, side, i);
+    }
+    Ok(true)
+}
+
+// Whether members `i` and `j`, counted from 0, are closed for the unifier that the bindings stand for.
+fn is_closed(
+    alloc: Global,
+    cert: &mut Saturation,
+    bindings: &Bindings,
+    i: usize,
+    j: usize,
+) -> Result<bool, Memory>
+    requires whole { IsWholeSaturation cert.old }
+    requires base { IsValidBase (base_of cert.old.base) }
+    requires placed { HasPlaces (saturation_of cert.old) }
+    requires left { i < length cert.old.base.members }
+    requires right { j < length cert.old.base.members }
+    requires bindings { AreBindings cert.old.base.bank bindings.now.entries }
+    requires terms { AreTerms cert.old.base.bank bindings.now.entries }
+    ensures kept { KeepsSaturation cert.old cert.new }
+    ensures whole { OnOk result (IsWholeSaturation cert.new) }
+    ensures closed { IfOk result (IsPairClosed cert.old bindings.now.entries (suc i) (suc j)) }
+{
+    if !is_proper(&cert.base.bank, bindings) {
+        return Ok(false);
+    }
+    if !is_side_closed(alloc, cert, bindings, Side::Left, i)? {
+        return Ok(false);
+    }
+    is_side_closed(alloc, cert, bindings, Side::Right, j)
+}
+
+// Whether the selected literals of members `i` and `j`, counted from 0, do not unify with opposite signs, or are closed.
+fn is_right_pair(
+    alloc: Global,
+    cert: &mut Saturation,
+    bindings: &mut Bindings,
+    i: usize,
+    j: usize,
+) -> Result<bool, Memory>
+    requires whole { IsWholeSaturation cert.old }
+    requires base { IsValidBase (base_of cert.old.base) }
+    requires placed { HasPlaces (saturation_of cert.old) }
+    requires left { i < j }
+    requires right { j < length cert.old.base.members }
+    ensures kept { KeepsSaturation cert.old cert.new }
+    ensures whole { OnOk result (IsWholeSaturation cert.new) }
+    ensures right { IfOk result (λ r. IsTrue r ↔ IsRightPair (saturation_of cert.old) (suc i) (suc j)) }
+{
+    let l = *selected(cert, i);
+    let m = *selected(cert, j);
+    if l.positive == m.positive {
+        return Ok(true);
+    }
+    if !bindings.unify(&cert.base.bank, l.atom, m.atom)? {
+        return Ok(true);
+    }
+    is_closed(alloc, cert, bindings, i, j)
+}
+
+// The number of the first later member that is no right partner of member `i`, counted from 0.
+fn wrong_partner(
+    alloc: Global,
+    cert: &mut Saturation,
+    bindings: &mut Bindings,
+    i: usize,
+) -> Result<Option<usize>, Memory>
+    requires whole { IsWholeSaturation cert.old }
+    requires base { IsValidBase (base_of cert.old.base) }
+    requires placed { HasPlaces (saturation_of cert.old) }
+    requires within { i < length cert.old.base.members }
+    ensures kept { KeepsSaturation cert.old cert.new }
+    ensures whole { OnOk result (IsWholeSaturation cert.new) }
+    ensures first { IfOk result (IsFirstWrongOf (IsRightPair (saturation_of cert.old) (suc i))) }
+{
+    let count = cert.base.members.len();
+    for j in i + 1..count {
+        if !is_right_pair(alloc, cert, bindings, i, j)? {
+            return Ok(Some(j + 1));
+        }
+    }
+    Ok(None)
+}
+
+// The numbers of the first two members whose selected literals unify and do not conclude what is covered.
+pub fn wrong_pair(alloc: Global, cert: &mut Saturation) -> Result<Option<(usize, usize)>, Memory>
+    requires whole { IsWholeSaturation cert.old }
+    requires base { IsValidBase (base_of cert.old.base) }
+    requires placed { HasPlaces (saturation_of cert.old) }
+    ensures kept { KeepsSaturation cert.old cert.new }
+    ensures whole { OnOk result (IsWholeSaturation cert.new) }
+    ensures first { IfOk result (IsFirstWrongPairOf (IsRightPair (saturation_of cert.old))) }
+{
+    let mut bindings = Bindings::new(alloc);
+    for i in 0..cert.base.members.len() {
+        if let Some(right) = wrong_partner(alloc, cert, &mut bindings, i)? {
+            return Ok(Some((i + 1, right)));
+        }
+    }
+    Ok(None)
+}

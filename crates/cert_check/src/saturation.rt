@@ -1,0 +1,109 @@
+// The check of saturations.
+ghost use Rattle.std.specs.Prelude.{◌≡◌, false, true, IfErr, IfOk, OnErr, OnOk, All};
+ghost use Rattle.inst_logic.specs.LiteralView.{literal};
+ghost use Rattle.inst_logic.specs.WellFormed.{IsAtom};
+ghost use Rattle.inst_calculus.specs.Axioms.{with_axioms};
+ghost use Rattle.inst_calculus.specs.Models.{Makes};
+ghost use Rattle.inst_calculus.specs.Saturation.{IsSaturated};
+ghost use Rattle.cert_format.specs.Certificate.{selected_members};
+ghost use Rattle.cert_format.specs.Validity.{IsValidSaturation, SaturationPasses};
+ghost use Rattle.term_bank.specs.Forest.{IsAt};
+ghost use Rattle.saturation_cert.specs.Values.{saturation_of};
+ghost use Rattle.saturation_cert.specs.Wholes.{IsWholeSaturation, KeepsSaturation};
+ghost use Rattle.cert_check.specs.Answers.{IsCheckCause};
+
+use crate::base::check_base;
+use crate::error::CheckError;
+use crate::inputs::wrong_input;
+use crate::pairs::wrong_pair;
+use crate::places::wrong_place;
+use cert_format::Complaint;
+use cert_format::laws::valid_saturations_are_models;
+use inst_logic::{Literal, Memory};
+use saturation_cert::Saturation;
+use std::alloc::Global;
+use std::marker::Model;
+use term_bank::TermId;
+
+/// A saturation that was checked and is valid. Nothing else makes one.
+#[derive(Drop)]
+pub struct CheckedSaturation {
+    cert: Saturation,
+}
+
+impl Model for CheckedSaturation {
+    ghost use Rattle.saturation_cert.specs.declared.certificate.Saturation.{Saturation};
+    ghost use Rattle.saturation_cert.specs.Values.{saturation_of};
+    ghost use Rattle.saturation_cert.specs.Wholes.{IsWholeSaturation};
+    ghost use Rattle.cert_format.specs.Validity.{IsValidSaturation};
+    ghost use Rattle.saturation_cert.specs.contracts.certificate.Saturation as value;
+    ghost use Rattle.std.specs.Coded.{codes};
+
+    ghost Value = { Saturation };
+
+    ghost coded = { Prim.hlevel (codes, value.the_row.coded) };
+
+    ghost view = { λ c. c.cert };
+
+    ghost invariant = { λ c. IsWholeSaturation c.cert × IsValidSaturation (saturation_of c.cert) };
+}
+
+impl CheckedSaturation {
+    /// The certificate.
+    pub fn cert(&self) -> &Saturation
+        ensures is { result.now ≡ self.now }
+        ensures whole { IsWholeSaturation self.now }
+        ensures valid { IsValidSaturation (saturation_of self.now) }
+    {
+        &self.cert
+    }
+
+    /// The id of the literal's atom in the certificate's bank.
+    pub fn atom(&mut self, l: &Literal) -> Result<TermId, Memory>
+        requires { IsAtom (literal l.now).atom }
+        ensures at { IfOk result (λ id. IsAt self.new.base.bank id (literal l.now).atom) }
+        ensures kept { KeepsSaturation self.old self.new }
+        ensures same { saturation_of self.new ≡ saturation_of self.old }
+        ensures ok { OnOk result ((self.old.base.bank.spent ≡ false) × (self.new.base.bank.spent ≡ false)) }
+        ensures err { OnErr result (self.new.base.bank.spent ≡ true) }
+    {
+        self.cert.base.bank.atom(l)
+    }
+}
+
+// The first complaint, if there is one.
+fn check(alloc: Global, cert: &mut Saturation) -> Result<(), CheckError>
+    requires { IsWholeSaturation cert.old }
+    ensures kept { KeepsSaturation cert.old cert.new }
+    ensures whole { OnOk result (IsWholeSaturation cert.new) }
+    ensures valid { OnOk result (IsValidSaturation (saturation_of cert.old)) }
+    ensures complaint { IfErr result (IsCheckCause (SaturationPasses (saturation_of cert.old))) }
+{
+    check_base(alloc, &mut cert.base)?;
+    if let Some(n) = wrong_place(cert) {
+        return Err(CheckError::Complaint(Complaint::Place { n }));
+    }
+    if let Some(k) = wrong_input(alloc, cert)? {
+        return Err(CheckError::Complaint(Complaint::Input { k }));
+    }
+    if let Some((left, right)) = wrong_pair(alloc, cert)? {
+        return Err(CheckError::Complaint(Complaint::Pair { left, right }));
+    }
+    Ok(())
+}
+
+/// Checks the certificate and owns it from then on. After a refusal it is dropped.
+pub fn check_saturation(alloc: Global, cert: Saturation) -> Result<CheckedSaturation, CheckError>
+    requires { IsWholeSaturation cert }
+    ensures kept { IfOk result (KeepsSaturation cert) }
+    ensures same { IfOk result (λ c. saturation_of c ≡ saturation_of cert) }
+    ensures valid { IfOk result (λ _. IsValidSaturation (saturation_of cert)) }
+    ensures saturated { IfOk result (λ _. IsSaturated (selected_members (saturation_of cert)) (with_axioms (saturation_of cert).base.inputs)) }
+    ensures makes { IfOk result (λ _. All (Makes (selected_members (saturation_of cert))) (with_axioms (saturation_of cert).base.inputs)) }
+    ensures complaint { IfErr result (IsCheckCause (SaturationPasses (saturation_of cert))) }
+{
+    let mut cert = cert;
+    check(alloc, &mut cert)?;
+    valid_saturations_are_models();
+    Ok(CheckedSaturation { cert })
+}

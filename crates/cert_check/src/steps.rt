@@ -1,0 +1,100 @@
+// The steps of a refutation as steps over numbers.
+ghost use Rattle.std.specs.Prelude.{◌≡◌, ◌↔◌, IfOk, IsTrue, ◌+◌, ◌<◌, length, map};
+ghost use Rattle.prop_logic.specs.Literal.{AllAtomsBelow, StepsBelow};
+ghost use Rattle.cert_check.specs.Firsts.{IsFirstWrongOf};
+ghost use Rattle.cert_check.specs.Numbered.{IsRightNumber, numbered_hint, numbered_step};
+
+use inst_logic::{Memory, Signed};
+use proof_log::Checker;
+use prop_logic::{Derivation, Hint, HintList, LitList, LitLists, Step};
+use saturation_cert::{GroundHint, GroundHintList, GroundStepList};
+use std::alloc::Global;
+use term_bank::{IdClause, IdClauseList};
+
+fn numbered_clause(alloc: Global, c: &IdClause) -> Result<LitList, Memory>
+    ensures { IfOk result (λ d. d ≡ c.now) }
+{
+    let mut literals = LitList::new(alloc);
+    for l in c.as_slice() {
+        literals.push(Signed {
+            positive: l.positive,
+            atom: l.atom.number(),
+        })?;
+    }
+    Ok(literals)
+}
+
+// The clauses with the number of each atom in its place.
+pub fn numbered_clauses(alloc: Global, clauses: &IdClauseList) -> Result<LitLists, Memory>
+    ensures { IfOk result (λ ds. ds ≡ clauses.now) }
+{
+    let mut lists = LitLists::new(alloc);
+    for c in clauses.as_slice() {
+        lists.push(numbered_clause(alloc, c)?)?;
+    }
+    Ok(lists)
+}
+
+fn numbered_hint(hint: &GroundHint) -> Hint
+    ensures { result ≡ numbered_hint hint.now }
+{
+    match hint {
+        GroundHint::Ground(n) => Hint::Added(*n),
+        GroundHint::Step(n) => Hint::Step(*n),
+    }
+}
+
+fn numbered_hints(alloc: Global, hints: &GroundHintList) -> Result<HintList, Memory>
+    ensures { IfOk result (λ hs. hs ≡ map numbered_hint hints.now) }
+{
+    let mut list = HintList::new(alloc);
+    for hint in hints.as_slice() {
+        list.push(numbered_hint(hint))?;
+    }
+    Ok(list)
+}
+
+// The steps with the number of each atom in its place.
+pub fn numbered_steps(alloc: Global, steps: &GroundStepList) -> Result<Derivation, Memory>
+    ensures { IfOk result (λ ds. ds ≡ map numbered_step steps.now) }
+{
+    let mut derivation = Derivation::new(alloc);
+    for step in steps.as_slice() {
+        let clause = numbered_clause(alloc, &step.clause)?;
+        let hints = numbered_hints(alloc, &step.hints)?;
+        derivation.push(Step { clause, hints })?;
+    }
+    Ok(derivation)
+}
+
+// Whether step `i`, counted from 0, has a hint and is shown.
+fn is_right(checker: &mut Checker, given: &LitLists, derivation: &Derivation, i: usize) -> bool
+    requires given { AllAtomsBelow checker.old given.now }
+    requires derivation { StepsBelow checker.old derivation.now }
+    requires within { i < length derivation.now }
+    ensures room { checker.new ≡ checker.old }
+    ensures right { IsTrue result ↔ IsRightNumber given.now derivation.now (i + 1) }
+{
+    if derivation.as_slice()[i].hints.is_empty() {
+        return false;
+    }
+    checker.step(given, derivation, i + 1)
+}
+
+// The number of the first step that has no hint or is not shown.
+pub fn first_wrong(
+    checker: &mut Checker,
+    given: &LitLists,
+    derivation: &Derivation,
+) -> Option<usize>
+    requires given { AllAtomsBelow checker.old given.now }
+    requires derivation { StepsBelow checker.old derivation.now }
+    ensures { IsFirstWrongOf (IsRightNumber given.now derivation.now) result }
+{
+    for i in 0..derivation.len() {
+        if !is_right(checker, given, derivation, i) {
+            return Some(i + 1);
+        }
+    }
+    None
+}
