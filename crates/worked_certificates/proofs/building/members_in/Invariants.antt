@@ -1,0 +1,13 @@
+use Rattle.std.specs.Prelude.{All, List, ℕ}
+use Rattle.term_bank.specs.Forest.{AreFormed, Extends, Forest}
+use Rattle.saturation_cert.specs.declared.member.Member.{Member}
+use Rattle.saturation_cert.specs.Wholes.{IsWholeClause}
+use Rattle.worked_certificates.proofs.building.members_in.Given as goal
+
+pub record Kept (start bank : Forest) (members : List Member) : Type 0 where
+  pub formed : AreFormed bank
+  pub extends : Extends start bank
+  pub whole : All (λ m. IsWholeClause bank m.clause) members
+
+abbrev pub invariant-loop-i : goal.invariant-loop-i
+invariant-loop-i l = Kept l.fn.bank l.bank l.members
