@@ -68,7 +68,7 @@ atom_one : (x : Signed Tree) (b : Bool) → not b ≡ true → length (cond {A =
 atom_one x true e = absurd cc
 atom_one x false e = refl
 
-plain_one : (s : Simple) → is_plain_atom s ≡ true → length (literal_of [] (from_simple s)) ≡ 1
+pub plain_one : (s : Simple) → is_plain_atom s ≡ true → length (literal_of [] (from_simple s)) ≡ 1
 plain_one (atom t) p = atom_one (record { positive = true; atom = predicate_of [] t }) (is_constant_atom t) p
 plain_one (equation t u) p = refl
 plain_one (unequal t u) p = absurd cc
@@ -96,7 +96,7 @@ some_none x r p q = absurd cc
 abbrev pair : Simple → List Tok → Simple × List Tok
 pair s us = (s, us)
 
-same_read : (ts us : List Tok) (s a : Simple) → simple_at (length ts) ts ≡ Some (s, us) → IsAtomForm ts a → (s ≡ a) × (us ≡ [])
+pub same_read : (ts us : List Tok) (s a : Simple) → simple_at (length ts) ts ≡ Some (s, us) → IsAtomForm ts a → (s ≡ a) × (us ≡ [])
 same_read ts us s a e f =
     let same = some_is (pair s us) (pair a []) (sym e ∙ atom_again ts a f) in
     (ap (λ (z : Simple × List Tok). z.0) same, ap (λ (z : Simple × List Tok). z.1) same)

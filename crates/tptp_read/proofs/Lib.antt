@@ -31,3 +31,4 @@ pub mod FormedLaws
 pub mod WholeAtoms
 pub mod NameLaws
 pub mod ReadableLaws
+pub mod AtomLaw

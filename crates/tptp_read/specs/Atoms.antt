@@ -69,3 +69,18 @@ IsAtomCause text (errors.Feature k w) = (k ≡ 1) × OffendsAtom text (feature w
 IsAtomCause text (errors.Role k w) = ⊥
 IsAtomCause text (errors.Limit k which) = (k ≡ 1) × OffendsAtom text (limit which)
 IsAtomCause text errors.Memory = ⊤
+
+-- what the text of an atom is: the atom as a literal, or its first fault
+pub data AtomOutcome : Type 0 where
+  reads : Signed Tree → AtomOutcome
+  faulty : Fault → AtomOutcome
+
+abbrev pub HasAtom : List ℕ → AtomOutcome → Type 0
+HasAtom text (reads l) = ReadsAtom text l
+HasAtom text (faulty e) = OffendsAtom text e
+
+-- exactly one of the two holds, for exactly one value
+pub record IsDecidedAtom (text : List ℕ) : Type 0 where
+  pub outcome : AtomOutcome
+  pub holds : HasAtom text outcome
+  pub only : (o : AtomOutcome) → HasAtom text o → o ≡ outcome
