@@ -1,5 +1,5 @@
 -- What two members conclude, over their ids and over their trees.
-use Rattle.std.proofs.Common.{◌≡◌, ℕ, zero, suc, ◌+◌, ◌<◌, List, refl, ap, sym, ◌∙◌, map, subst, length, Bool, true, Option, None, Some}
+use Rattle.std.proofs.Common.{◌≡◌, ℕ, zero, suc, ◌+◌, ◌<◌, List, refl, ap, sym, ◌∙◌, map, subst, length, true, Option, None, Some}
 use Rattle.std.specs.Prelude.{All, IfOk, Result, Ok, Err, ◌&&◌, nat_eq, option_map}
 use Rattle.std.proofs.lemmas.Option.{slice_get-map}
 use Rattle.inst_logic.specs.declared.signed.Signed.{Signed}
@@ -7,8 +7,8 @@ use Rattle.inst_logic.specs.Tree.{Tree, var, app, Trees, none, more}
 use Rattle.inst_logic.specs.Substitution.{subst as apply, substs, Substitution}
 use Rattle.inst_logic.specs.Clauses.{TreeClause, instance, canonical_form, IsCanonical}
 use Rattle.inst_logic.specs.Derivations.{at_number}
-use Rattle.inst_logic.specs.Unifiers.{Sided, IsMostGeneral, IsProper}
-use Rattle.inst_logic.specs.WellFormed.{count_of, tree_is_formed, trees_are_formed, is_function_kind, IsTerm, IsAtom}
+use Rattle.inst_logic.specs.Unifiers.{IsMostGeneral, IsProper}
+use Rattle.inst_logic.specs.WellFormed.{count_of, tree_is_formed, trees_are_formed, is_function_kind, IsAtom}
 use Rattle.inst_logic.proofs.SameLemmas.{and_left, and_right, and_both}
 use Rattle.inst_logic.proofs.ShownLaws.{at_number_contains}
 use Rattle.inst_calculus.specs.Entries.{Entry}
@@ -19,13 +19,12 @@ use Rattle.cert_format.specs.Validity.{IsConclusion}
 use Rattle.saturation_cert.specs.declared.member.Member.{Member}
 use Rattle.saturation_cert.specs.Values.{entry_of}
 use Rattle.saturation_cert.specs.Wholes.{IsWholeClause}
-use Rattle.term_bank.specs.Forest.{Forest, IsClauseOf, clause_at, tree_at}
-use Rattle.unify_core.specs.Lists.{◌∈◌}
-use Rattle.unify_core.specs.Sides.{Binding, of_side, IsResolvedBy}
+use Rattle.term_bank.specs.Forest.{Forest, clause_at, tree_at}
+use Rattle.unify_core.specs.Sides.{Binding, of_side}
 use Rattle.unify_core.specs.Terms.{AreTerms}
 use Rattle.unify_core.specs.declared.side.Side.{Side}
 use Rattle.unify_core.specs.declared.side.Side.TheVariants.{Left, Right}
-use Rattle.cert_check.specs.Conclusions.{Concludes, HasNoProper, IsAtomOf, IsCanonicalMember, IsConcluded, IsProperlyUnified, MembersConclude, literal_of, placed_in}
+use Rattle.cert_check.specs.Conclusions.{Concludes, IsAtomOf, IsCanonicalMember, IsProperlyUnified, MembersConclude, literal_of, placed_in}
 
 count_under : (s : Substitution) (ts : Trees) → count_of (substs s ts) ≡ count_of ts
 count_under s none = refl

@@ -1,6 +1,6 @@
 -- What an origin from two members gives.
 use Rattle.std.proofs.Common.{◌≡◌, ℕ, ◌+◌, ◌<◌, ◌≤◌, List, ap, sym, ◌∙◌, map, subst, arith, length, get_or}
-use Rattle.std.specs.Prelude.{◌↔◌, Bool, IfOk, IsTrue, Result, Ok, Err}
+use Rattle.std.specs.Prelude.{◌↔◌, Bool, false, IfOk, IsTrue, Result, Ok, Err}
 use Rattle.inst_logic.specs.declared.signed.Signed.{Signed}
 use Rattle.inst_logic.specs.Clauses.{TreeClause}
 use Rattle.inst_calculus.specs.Entries.{Entry}
@@ -28,6 +28,10 @@ gives_by f g grown once es from place partner other clause d in_clause in_d h = 
       same_ids g once d clause in_d (ids_grown f g grown clause in_clause)
       (one_conclusion es from place partner other (clause_at g d) (clause_at f clause) h k ∙ sym (clause_extends f g grown clause in_clause))),
 )
+
+-- where the members conclude nothing, they do not conclude the clause
+pub nothing_given : (es : List Entry) (from place partner other : ℕ) (c : TreeClause) → ¬ IsConclusion es from place partner other c → IsTrue false ↔ IsConclusion es from place partner other c
+nothing_given es from place partner other c h = ((λ t. absurd (cc)), (λ k. absurd (h k)))
 
 -- a member from two others is right exactly where they come before it and conclude it
 pub right_inst : (b : Base) (i : ℕ) (m : Member) (from place partner other : ℕ) → i < length b.members → m ≡ get_or b.members i m → m.origin ≡ Inst from place partner other

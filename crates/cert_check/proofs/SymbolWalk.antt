@@ -1,5 +1,5 @@
 -- What the walk for symbols over a bank collects.
-use Rattle.std.proofs.Common.{◌≡◌, ℕ, suc, ◌+◌, ◌-◌, ◌<◌, ◌≤◌, List, [], ◌∷◌, ◌++◌, refl, ap, ap₂, sym, ◌∙◌, map, fold, length, drop, get_or, arith, append_assoc, subst, Option, None, Some, ◌⊎◌, inl, inr}
+use Rattle.std.proofs.Common.{◌≡◌, ℕ, suc, ◌+◌, ◌-◌, ◌<◌, ◌≤◌, List, [], ◌∷◌, ◌++◌, refl, ap, ap₂, sym, ◌∙◌, map, fold, length, drop, get_or, arith, append_assoc, subst, None, Some, inl, inr}
 use Rattle.std.specs.Prelude.{All, reverse}
 use Rattle.std.proofs.Math.Seq.{drop-cons}
 use Rattle.std.proofs.lemmas.List.{append-nil, map-append, reverse-append}
@@ -11,7 +11,6 @@ use Rattle.inst_logic.specs.EqualLaws.{sym_eq_decides}
 use Rattle.inst_logic.specs.Lists.{with_item}
 use Rattle.inst_logic.specs.Measure.{tree_size, trees_size}
 use Rattle.inst_logic.specs.Tree.{Tree, var, app, Trees, none, more, of_list, to_list}
-use Rattle.inst_logic.specs.Clauses.{TreeClause}
 use Rattle.inst_calculus.specs.Axioms.{tree_symbols, trees_symbols, clause_symbols, occurrences, symbols_of}
 use Rattle.inst_logic.proofs.Distinct.{distinct_append}
 use Rattle.inst_calculus.proofs.Membership.{◌∈◌, all_in, in_all, in_either}
@@ -108,6 +107,21 @@ application_symbols (app g us) s ts e a = let same : g ≡ s = cc in ap₂ (λ x
 pub application_size : (t : Tree) (s : Sym) (ts : List Tree) → symbol_of t ≡ Some s → ts ≡ arguments_of t → tree_size t ≡ trees_size (of_list ts) + 1
 application_size (var v) s ts e a = absurd (cc)
 application_size (app g us) s ts e a = let k = ap (λ xs. trees_size (of_list xs)) a ∙ ap trees_size (same_trees us) in omega (arith, k)
+
+-- what a visit of an application puts on the list
+module _ (f : Forest) (old ids new : List ℕ) (t : Tree) (s : Sym) (pushed : new ≡ old ++ reverse ids) (e : symbol_of t ≡ Some s) (a : map (tree_at f) ids ≡ arguments_of t) where
+  pub visited_symbols : (seen noted : List Sym) → noted ≡ with_item sym_eq seen s
+      → fold (with_item sym_eq) noted (pending_symbols (map (tree_at f) new)) ≡ fold (with_item sym_eq) seen (tree_symbols t ++ pending_symbols (map (tree_at f) old))
+  visited_symbols seen noted n =
+      ap₂ (fold (with_item sym_eq)) n (ap (λ xs. pending_symbols (map (tree_at f) xs)) pushed ∙ symbols_pushed f old ids)
+      ∙ ap (λ xs. fold (with_item sym_eq) seen (xs ++ pending_symbols (map (tree_at f) old))) (application_symbols t s (map (tree_at f) ids) e a)
+
+  pub visited_size : pending_size (map (tree_at f) new) + 1 ≤ pending_size (map (tree_at f) old) + tree_size t
+  visited_size =
+      let p = ap (λ xs. pending_size (map (tree_at f) xs)) pushed in
+      let q = size_pushed f old ids in
+      let r = application_size t s (map (tree_at f) ids) e a in
+      omega (arith, p, q, r)
 
 pub variable_symbols : (t : Tree) → symbol_of t ≡ None → tree_symbols t ≡ []
 variable_symbols (var v) e = refl

@@ -76,7 +76,6 @@ fn add_tree(
     Ok(())
 }
 
-#[tactic(auto, using(std::proofs::lemmas::Grind::common_steps, crate::proofs::SymbolWalk::collect_ids))]
 fn add_clause(
     alloc: Global,
     bank: &Bank,
@@ -92,7 +91,6 @@ fn add_clause(
     Ok(())
 }
 
-#[tactic(auto, using(std::proofs::lemmas::Grind::common_steps, crate::proofs::SymbolWalk::collect_clauses))]
 fn collect(
     alloc: Global,
     bank: &Bank,

@@ -36,12 +36,12 @@ returns-in_ok-right-in-Input-clause-right c =
 pub members_give-requires-clause-members : goal.members_give-requires-clause-members
 members_give-requires-clause-members c =
     let b = c.args.base.now in
-    subst (λ (ms : List Member). All (λ m. IsWholeClause b.bank m.clause) ms) (sym c.as_slice-2.ensures) c.requires.whole.members
+    subst (λ (ms : List Member). All (λ m. IsWholeClause b.bank m.clause) ms) (sym c.as_slice-in-Inst.ensures) c.requires.whole.members
 
 pub members_give-requires-clause-canonical : goal.members_give-requires-clause-canonical
 members_give-requires-clause-canonical c =
     let b = c.args.base.now in
-    λ h. subst (λ (ms : List Member). IsCanonicalMember (map (entry_of b.bank) ms) c.in-Inst.from) (sym c.as_slice-2.ensures) (canonical_before b c.args.i c.in-Inst.from (omega arith) c.requires.earlier)
+    λ h. subst (λ (ms : List Member). IsCanonicalMember (map (entry_of b.bank) ms) c.in-Inst.from) (sym c.as_slice-in-Inst.ensures) (canonical_before b c.args.i c.in-Inst.from (omega arith) c.requires.earlier)
 
 pub members_give-requires-clause-clause : goal.members_give-requires-clause-clause
 members_give-requires-clause-clause c =
@@ -60,4 +60,4 @@ returns-in_ok-right-in-Inst-clause-right c =
     let is : m ≡ get_or b.members c.args.i m = c.index-as_slice-i.is ∙ ap (λ (xs : List Member). get_or xs c.args.i m) c.as_slice.ensures in
     let by = right_inst b c.args.i m c.in-Inst.from c.in-Inst.place c.in-Inst.partner c.in-Inst.other c.requires.within is c.in-Inst.is in
     let P = λ (ms : List Member). MembersGive (map (entry_of b.bank) ms) (c.args.i + 1) c.in-Inst.from c.in-Inst.place c.in-Inst.partner c.in-Inst.other (clause_at b.bank m.clause) in
-    (λ t. by.0 (subst P c.as_slice-2.ensures (c.in_ok-right-in-Inst.ensures.gives.0 t)), λ r. c.in_ok-right-in-Inst.ensures.gives.1 (subst P (sym c.as_slice-2.ensures) (by.1 r)))
+    (λ t. by.0 (subst P c.as_slice-in-Inst.ensures (c.in_ok-right-in-Inst.ensures.gives.0 t)), λ r. c.in_ok-right-in-Inst.ensures.gives.1 (subst P (sym c.as_slice-in-Inst.ensures) (by.1 r)))
