@@ -1,6 +1,6 @@
 -- Sides and pairs of members that are closed for the unifier that bindings stand for.
-use Rattle.std.proofs.Common.{◌≡◌, ◌⊎◌, ◌↔◌, inl, inr, ℕ, suc, ◌<◌, List, length, map, get_or, refl, ap, sym, ◌∙◌, subst, arith, true, false, Some}
-use Rattle.std.specs.Prelude.{All, Bool, IsTrue, slice_get, max}
+use Rattle.std.proofs.Common.{◌≡◌, ◌↔◌, inl, inr, ℕ, suc, ◌<◌, List, length, map, get_or, refl, ap, sym, ◌∙◌, subst, arith, true, false, Some}
+use Rattle.std.specs.Prelude.{Bool, IsTrue, slice_get}
 use Rattle.std.proofs.lemmas.Option.{slice_get-get_or, slice_get_within, same_Some}
 use Rattle.inst_logic.specs.declared.signed.Signed.{Signed}
 use Rattle.inst_logic.specs.Tree.{Tree}
@@ -10,10 +10,10 @@ use Rattle.inst_logic.specs.WellFormed.{atom_is_formed, clause_is_formed, IsAtom
 use Rattle.inst_logic.proofs.ShownLaws.{at_number_contains}
 use Rattle.inst_calculus.specs.Entries.{Entry, entry_clauses}
 use Rattle.inst_calculus.specs.Models.{Member as Selected, member_clauses}
-use Rattle.inst_calculus.specs.Saturation.{IsClosed, IsCovered}
+use Rattle.inst_calculus.specs.Saturation.{IsCovered}
 use Rattle.inst_calculus.proofs.CoveredInstances.{covered_when_grown}
-use Rattle.inst_calculus.proofs.Membership.{◌∈◌, all_in, in_all, in_map, from_map, contains_in, in_contains, equal_in, passes}
-use Rattle.term_bank.specs.Forest.{Forest, Extends, clause_at, tree_at}
+use Rattle.inst_calculus.proofs.Membership.{◌∈◌, in_all, in_map, from_map, contains_in, in_contains, equal_in, passes}
+use Rattle.term_bank.specs.Forest.{Forest, clause_at, tree_at}
 use Rattle.cert_format.specs.Certificate as format
 use Rattle.cert_format.specs.Certificate.{selected_members}
 use Rattle.cert_format.specs.Validity.{IsSelected}
@@ -29,9 +29,9 @@ use Rattle.saturation_cert.specs.declared.member.Member.{Member}
 use Rattle.saturation_cert.specs.declared.certificate.Saturation.{Saturation}
 use Rattle.saturation_cert.specs.Truths.{IsSelectedLiteral}
 use Rattle.saturation_cert.specs.Values.{base_of, saturation_of, entry_of}
-use Rattle.saturation_cert.specs.Wholes.{IsWholeClause, IsWholeSaturation, HasPlaces, KeepsSaturation}
+use Rattle.saturation_cert.specs.Wholes.{IsWholeSaturation, HasPlaces, KeepsSaturation}
 use Rattle.cert_check.specs.Bases.{IsValidBase}
-use Rattle.cert_check.specs.Closings.{HasCoveredSide, IsSideCovered, IsSideClosed, IsProperSomewhere, IsPairClosed}
+use Rattle.cert_check.specs.Closings.{IsSideCovered, IsSideClosed, IsProperSomewhere, IsPairClosed}
 use Rattle.cert_check.specs.Covers.{AreCanonicalMembers}
 use Rattle.cert_check.proofs.Bases.{member_canonical}
 use Rattle.cert_check.proofs.CoverLaws.{clause_of}
@@ -93,6 +93,13 @@ module _ (c : Saturation) where
           (λ v. (h s resolved).1 ((selected_cover _ _).1 v)),
         )
 
+    pub covered_here : (es : List Binding) (x : Side) (i : ℕ) (m : Member) (ms : List Member) → ms ≡ c.base.members → i < length c.base.members → m ≡ get_or ms i m → (r : Bool)
+        → ((s : Sided) → IsResolvedBy c.base.bank es s → IsTrue r ↔ IsCovered (map (clause_of c.base.bank) ms) (clause_at c.base.bank m.clause) (instance (of_side s x) (clause_at c.base.bank m.clause)))
+        → IsSideCovered c es x (suc i) r
+    covered_here es x i m ms same within is r h =
+        side_covered es x i m within (is ∙ ap (λ (ns : List Member). get_or ns i m) same) r
+        (subst (λ (ns : List Member). (s : Sided) → IsResolvedBy c.base.bank es s → IsTrue r ↔ IsCovered (map (clause_of c.base.bank) ns) (clause_at c.base.bank m.clause) (instance (of_side s x) (clause_at c.base.bank m.clause))) same h)
+
 -- what holds over a grown bank held before
 module _ (old new : Saturation) (whole : IsWholeSaturation old) (kept : KeepsSaturation old new) where
   pub side_before : (es : List Binding) → AreBindings old.base.bank es → (x : Side) (n : ℕ) (r : Bool) → IsSideClosed new es x n r → IsSideClosed old es x n r
@@ -116,8 +123,8 @@ pub proper_first : (f : Forest) (es : List Binding) → ProperOn f es Left → I
 proper_first f es h s resolved a b g = ((λ t. inl (h a b s resolved g)), (λ p. refl))
 
 pub proper_second : (f : Forest) (es : List Binding) (r : Bool) → NotProperOn f es Left → (r ≡ true → ProperOn f es Right) → (r ≡ false → NotProperOn f es Right) → IsProperSomewhere f es r
-proper_second f es r none yes no s resolved a b g =
-    let by : IsTrue r ↔ IsProper s.right b = decided r (λ t. yes t a b s resolved g) (λ t. no t a b s resolved g) in
+proper_second f es r none is not s resolved a b g =
+    let by : IsTrue r ↔ IsProper s.right b = decided r (λ t. is t a b s resolved g) (λ t. not t a b s resolved g) in
     ((λ t. inr (by.0 t)), (λ h. elim h [ inl p ↦ absurd (none a b s resolved g p) | inr p ↦ by.1 p ]))
 
 module _ (c : Saturation) (es : List Binding) where

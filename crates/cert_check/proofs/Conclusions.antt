@@ -1,60 +1,30 @@
 -- What two members conclude, over their ids and over their trees.
-use Rattle.std.proofs.Common.{◌≡◌, ℕ, zero, suc, ◌+◌, ◌<◌, List, refl, ap, sym, ◌∙◌, map, subst, length, true, Option, None, Some}
-use Rattle.std.specs.Prelude.{All, IfOk, Result, Ok, Err, ◌&&◌, nat_eq, option_map}
+use Rattle.std.proofs.Common.{◌≡◌, ℕ, zero, suc, ◌<◌, List, refl, ap, sym, ◌∙◌, map, subst, length, Option, None, Some}
+use Rattle.std.specs.Prelude.{All, IfOk, Result, Ok, Err, option_map}
 use Rattle.std.proofs.lemmas.Option.{slice_get-map}
 use Rattle.inst_logic.specs.declared.signed.Signed.{Signed}
-use Rattle.inst_logic.specs.Tree.{Tree, var, app, Trees, none, more}
-use Rattle.inst_logic.specs.Substitution.{subst as apply, substs, Substitution}
+use Rattle.inst_logic.specs.Tree.{Tree}
 use Rattle.inst_logic.specs.Clauses.{TreeClause, instance, canonical_form, IsCanonical}
 use Rattle.inst_logic.specs.Derivations.{at_number}
 use Rattle.inst_logic.specs.Unifiers.{IsMostGeneral, IsProper}
-use Rattle.inst_logic.specs.WellFormed.{count_of, tree_is_formed, trees_are_formed, is_function_kind, IsAtom}
-use Rattle.inst_logic.proofs.SameLemmas.{and_left, and_right, and_both}
+use Rattle.inst_logic.specs.WellFormed.{IsAtom}
 use Rattle.inst_logic.proofs.ShownLaws.{at_number_contains}
 use Rattle.inst_calculus.specs.Entries.{Entry}
 use Rattle.inst_calculus.proofs.Choice.{instance_of_choice}
 use Rattle.inst_calculus.proofs.Membership.{all_in, contains_in}
-use Rattle.inst_calculus.proofs.Unify.{most_general_formed}
 use Rattle.cert_format.specs.Validity.{IsConclusion}
 use Rattle.saturation_cert.specs.declared.member.Member.{Member}
 use Rattle.saturation_cert.specs.Values.{entry_of}
 use Rattle.saturation_cert.specs.Wholes.{IsWholeClause}
 use Rattle.term_bank.specs.Forest.{Forest, clause_at, tree_at}
-use Rattle.unify_core.specs.Sides.{Binding, of_side}
+use Rattle.unify_core.specs.Sides.{Binding}
 use Rattle.unify_core.specs.Terms.{AreTerms}
-use Rattle.unify_core.specs.declared.side.Side.{Side}
-use Rattle.unify_core.specs.declared.side.Side.TheVariants.{Left, Right}
+use Rattle.cert_check.proofs.BoundTerms.{bound_terms}
 use Rattle.cert_check.specs.Conclusions.{Concludes, IsAtomOf, IsCanonicalMember, IsProperlyUnified, MembersConclude, literal_of, placed_in}
-
-count_under : (s : Substitution) (ts : Trees) → count_of (substs s ts) ≡ count_of ts
-count_under s none = refl
-count_under s (more t ts) = ap (λ n. n + 1) (count_under s ts)
-
--- a tree with an instance that is a term is a term
-module _ (s : Substitution) where
-  mutual
-    term_by_instance : (t : Tree) → tree_is_formed (apply s t) ≡ true → tree_is_formed t ≡ true
-    term_by_instance (var n) h = refl
-    term_by_instance (app f ts) h =
-        let k = is_function_kind f.kind in
-        let n = nat_eq (count_of (substs s ts)) f.arity in
-        let r : (n && trees_are_formed (substs s ts)) ≡ true = and_right k _ h in
-        and_both k _ (and_left k _ h)
-        (and_both (nat_eq (count_of ts) f.arity) _ (ap (λ m. nat_eq m f.arity) (sym (count_under s ts)) ∙ and_left n _ r) (terms_by_instance ts (and_right n _ r)))
-
-    terms_by_instance : (ts : Trees) → trees_are_formed (substs s ts) ≡ true → trees_are_formed ts ≡ true
-    terms_by_instance none h = refl
-    terms_by_instance (more t ts) h =
-        let b = tree_is_formed (apply s t) in
-        and_both (tree_is_formed t) _ (term_by_instance t (and_left b _ h)) (terms_by_instance ts (and_right b _ h))
 
 -- the bindings that unify two atoms are to terms
 pub unified_terms : (f : Forest) (es : List Binding) (a b : Tree) → IsAtom a → IsAtom b → IsProperlyUnified f es a b → AreTerms f es
-unified_terms f es a b h k u e i = term_by_instance (of_side u.unifier e.1.side) (tree_at f e.1.term) (subst (λ (t : Tree). tree_is_formed t ≡ true) (u.resolved.bound e i) (by e.0.side e.0.var))
-  where
-    by : (x : Side) (v : ℕ) → tree_is_formed (of_side u.unifier x v) ≡ true
-    by Left v = (most_general_formed a b h k u.unifier u.most_general v).0
-    by Right v = (most_general_formed a b h k u.unifier u.most_general v).1
+unified_terms f es a b h k u = bound_terms f es a b h k u.unifier u.resolved u.most_general
 
 some_same : {A : Type 0} (x y : A) → Some x ≡ Some y → x ≡ y
 some_same x y e = cc
@@ -137,13 +107,12 @@ module _ (f : Forest) where
       let ks = ap (λ (z : Signed Tree). z.positive) ke in
       let ls = ap (λ (z : Signed Tree). z.positive) le in
       let general : IsMostGeneral r.unifier (tree_at f k.atom) (tree_at f l.atom) =
-          subst (λ (z : Signed Tree). IsMostGeneral r.unifier z.atom (tree_at f l.atom)) (sym ke) (subst (λ (z : Signed Tree). IsMostGeneral r.unifier r.literal.atom z.atom) (sym le) r.most_general) in
+      subst (λ (z : Signed Tree). IsMostGeneral r.unifier z.atom (tree_at f l.atom)) (sym ke) (subst (λ (z : Signed Tree). IsMostGeneral r.unifier r.literal.atom z.atom) (sym le) r.most_general) in
       h (λ e. r.opposite (sym ks ∙ e ∙ ls)) r.unifier general (subst (λ (z : Signed Tree). IsProper r.unifier.left z.atom) (sym ke) r.proper)
   concluded g ms from place partner other m k l at kat lat (Some d) h =
       let (m2, p, q) = member_of_literal (at_number ms from) place k kat in
       let (n, s, t) = member_of_literal (at_number ms partner) other l lat in
-      let same : m2 ≡ m = some_same m2 m (sym p ∙ at) in
-      (
+      let same : m2 ≡ m = some_same m2 m (sym p ∙ at) in (
         h.ids,
         record {
           entry = entry_of f m;
@@ -170,7 +139,7 @@ one_conclusion es from place partner other c d h k =
     let l : h.literal ≡ k.literal = some_same h.literal k.literal (sym h.literal_at ∙ ap (λ (x : Entry). at_number x.clause place) e ∙ k.literal_at) in
     let m : h.other_literal ≡ k.other_literal = some_same h.other_literal k.other_literal (sym h.other_at ∙ ap (λ (x : Entry). at_number x.clause other) p ∙ k.other_at) in
     let general : IsMostGeneral k.unifier h.literal.atom h.other_literal.atom =
-        subst (λ (z : Signed Tree). IsMostGeneral k.unifier z.atom h.other_literal.atom) (sym l) (subst (λ (z : Signed Tree). IsMostGeneral k.unifier k.literal.atom z.atom) (sym m) k.most_general) in
+    subst (λ (z : Signed Tree). IsMostGeneral k.unifier z.atom h.other_literal.atom) (sym l) (subst (λ (z : Signed Tree). IsMostGeneral k.unifier k.literal.atom z.atom) (sym m) k.most_general) in
     h.conclusion
     ∙ (instance_of_choice h.literal.atom h.other_literal.atom h.unifier k.unifier h.most_general general h.entry.clause).0
     ∙ ap (λ (x : Entry). canonical_form (instance k.unifier.left x.clause)) e

@@ -1,11 +1,9 @@
 -- Covered instances over a bank that grows.
-use Rattle.std.proofs.Common.{◌≡◌, ◌⊎◌, ◌↔◌, inl, inr, ℕ, ◌<◌, List, length, map, ap, sym, ◌∙◌, subst, arith}
-use Rattle.std.specs.Prelude.{All, Any}
+use Rattle.std.proofs.Common.{◌≡◌, ◌↔◌, inl, inr, ℕ, ◌<◌, List, length, map, ap, sym, ◌∙◌, subst, arith}
+use Rattle.std.specs.Prelude.{All}
 use Rattle.std.proofs.lemmas.List.{length-map}
 use Rattle.inst_logic.specs.declared.signed.Signed.{Signed}
-use Rattle.inst_logic.specs.Signed.{IsTautology}
-use Rattle.inst_logic.specs.Clauses.{TreeClause, canonical_form, instance, Subsumes, AreVariants, IsCanonical}
-use Rattle.inst_logic.specs.Unifiers.{Sided}
+use Rattle.inst_logic.specs.Clauses.{TreeClause, canonical_form, instance, Subsumes, IsCanonical}
 use Rattle.inst_calculus.specs.Saturation.{IsCovered, tautology, variant, shorter}
 use Rattle.inst_calculus.proofs.CanonicalForms.{canonical_of_canonical}
 use Rattle.inst_calculus.proofs.CoveredInstances.{covered_when_renamed}
@@ -13,7 +11,7 @@ use Rattle.inst_calculus.proofs.Membership.{◌∈◌, any_in, in_any, all_in, i
 use Rattle.term_bank.specs.Forest.{Forest, Extends, IsClauseOf, clause_at}
 use Rattle.term_bank.proofs.Clauses.{clause_extends}
 use Rattle.unify_core.specs.Chains.{AreBindings}
-use Rattle.unify_core.specs.Sides.{Binding, IsResolvedBy, of_side}
+use Rattle.unify_core.specs.Sides.{Binding, of_side}
 use Rattle.unify_core.specs.declared.side.Side.{Side}
 use Rattle.clause_form.specs.Conclusions.{IsConclusionOf}
 use Rattle.clause_form.proofs.Concluded.{solution_of}

@@ -1,5 +1,7 @@
 -- The scan over pairs of members.
-use Rattle.std.proofs.Common.{◌≡◌, inl, inr, ℕ, zero, suc, ◌<◌, ◌≤◌, length, refl, ap, sym, ◌∙◌, subst, arith}
+use Rattle.std.proofs.Common.{◌≡◌, ◌↔◌, inl, inr, ℕ, zero, suc, ◌<◌, ◌≤◌, length, refl, ap, sym, ◌∙◌, subst, arith}
+use Rattle.std.specs.Prelude.{Bool, IsTrue, true, false}
+use Rattle.std.specs.Bool.{beq}
 use Rattle.std.proofs.lemmas.Bool.{cases_lt}
 use Rattle.std.proofs.lemmas.Option.{slice_get_within}
 use Rattle.inst_logic.specs.declared.signed.Signed.{Signed}
@@ -78,6 +80,12 @@ module _ (c : format.Saturation) (i : ℕ) (before : (k : ℕ) → k < i → (r 
           let w : k < length c.base.members = slice_get_within c.base.members k s.entry s.entry_at in
           absurd (omega arith)
 
+pub signs_differ : (p q : Bool) → beq p q ≡ false → ¬ (p ≡ q)
+signs_differ true true e same = absurd (cc)
+signs_differ true false e same = absurd (cc)
+signs_differ false true e same = absurd (cc)
+signs_differ false false e same = absurd (cc)
+
 -- one pair
 module _ (c : Saturation) (i j : ℕ) (less : i < j) (l r : Signed ℕ) (left : IsSelectedLiteral c (suc i) l) (right : IsSelectedLiteral c (suc j) r) where
   same_left : (m : Member) → IsSelected (saturation_of c) (suc i) m → m ≡ left.member
@@ -103,7 +111,7 @@ module _ (c : Saturation) (i j : ℕ) (less : i < j) (l r : Signed ℕ) (left : 
       let k : IsUnifier u (tree_at c.base.bank l.atom) n.selected.atom = subst (λ (x : Tree). IsUnifier u x n.selected.atom) (left_atom m s) h in
       absurd (none u (subst (λ (x : Tree). IsUnifier u (tree_at c.base.bank l.atom) x) (right_atom n t) k))
 
-  general_here : (s : Sided) → IsMostGeneral s (tree_at c.base.bank l.atom) (tree_at c.base.bank r.atom) → IsMostGeneral s left.member.selected.atom right.member.selected.atom
+  pub general_here : (s : Sided) → IsMostGeneral s (tree_at c.base.bank l.atom) (tree_at c.base.bank r.atom) → IsMostGeneral s left.member.selected.atom right.member.selected.atom
   general_here s g =
       subst (λ (x : Tree). IsMostGeneral s x right.member.selected.atom) (sym (left_atom left.member left.is))
       (subst (λ (x : Tree). IsMostGeneral s (tree_at c.base.bank l.atom) x) (sym (right_atom right.member right.is)) g)
@@ -123,3 +131,8 @@ module _ (c : Saturation) (i j : ℕ) (less : i < j) (l r : Signed ℕ) (left : 
   right_closed other s g right_pair =
       right_pair (omega arith) left.member right.member left.is right.is
       (λ e. other (sym (ap (λ (k : Signed Tree). k.positive) left.literal) ∙ e ∙ ap (λ (k : Signed Tree). k.positive) right.literal)) s (general_here s g)
+
+  -- the answer for one most general unifier is that of the pair
+  pub closed_is_right : ¬ (l.positive ≡ r.positive) → (s : Sided) → IsMostGeneral s (tree_at c.base.bank l.atom) (tree_at c.base.bank r.atom) → (answer : Bool)
+      → (IsTrue answer ↔ IsClosed (selected_members (saturation_of c)) left.member right.member s) → IsTrue answer ↔ IsRightPair (saturation_of c) (suc i) (suc j)
+  closed_is_right other s g answer h = ((λ t. closed_right s g (h.0 t)), (λ p. h.1 (right_closed other s g p)))

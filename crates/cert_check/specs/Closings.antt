@@ -1,5 +1,5 @@
 -- Sides and pairs of members that are closed for the unifier that bindings stand for.
-use Rattle.std.specs.Prelude.{◌≡◌, ◌↔◌, ◌⊎◌, ℕ, List, Bool, IsTrue}
+use Rattle.std.specs.Prelude.{◌↔◌, ◌⊎◌, ℕ, List, Bool, IsTrue}
 use Rattle.inst_logic.specs.Tree.{Tree}
 use Rattle.inst_logic.specs.Clauses.{instance}
 use Rattle.inst_logic.specs.Unifiers.{Sided, IsMostGeneral, IsProper}

@@ -1,4 +1,4 @@
-use Rattle.cert_check.proofs.Closings.{decided, proper_first, proper_second}
+use Rattle.cert_check.proofs.Closings.{proper_first, proper_second}
 use Rattle.cert_check.proofs.pairs.is_proper.Goals as goal
 
 pub returns-then-proper : goal.returns-then-proper
