@@ -137,13 +137,12 @@ module _ (f : Forest) where
       let ks = ap (λ (z : Signed Tree). z.positive) ke in
       let ls = ap (λ (z : Signed Tree). z.positive) le in
       let general : IsMostGeneral r.unifier (tree_at f k.atom) (tree_at f l.atom) =
-          subst (λ (z : Signed Tree). IsMostGeneral r.unifier z.atom (tree_at f l.atom)) (sym ke) (subst (λ (z : Signed Tree). IsMostGeneral r.unifier r.literal.atom z.atom) (sym le) r.most_general) in
+      subst (λ (z : Signed Tree). IsMostGeneral r.unifier z.atom (tree_at f l.atom)) (sym ke) (subst (λ (z : Signed Tree). IsMostGeneral r.unifier r.literal.atom z.atom) (sym le) r.most_general) in
       h (λ e. r.opposite (sym ks ∙ e ∙ ls)) r.unifier general (subst (λ (z : Signed Tree). IsProper r.unifier.left z.atom) (sym ke) r.proper)
   concluded g ms from place partner other m k l at kat lat (Some d) h =
       let (m2, p, q) = member_of_literal (at_number ms from) place k kat in
       let (n, s, t) = member_of_literal (at_number ms partner) other l lat in
-      let same : m2 ≡ m = some_same m2 m (sym p ∙ at) in
-      (
+      let same : m2 ≡ m = some_same m2 m (sym p ∙ at) in (
         h.ids,
         record {
           entry = entry_of f m;
@@ -170,7 +169,7 @@ one_conclusion es from place partner other c d h k =
     let l : h.literal ≡ k.literal = some_same h.literal k.literal (sym h.literal_at ∙ ap (λ (x : Entry). at_number x.clause place) e ∙ k.literal_at) in
     let m : h.other_literal ≡ k.other_literal = some_same h.other_literal k.other_literal (sym h.other_at ∙ ap (λ (x : Entry). at_number x.clause other) p ∙ k.other_at) in
     let general : IsMostGeneral k.unifier h.literal.atom h.other_literal.atom =
-        subst (λ (z : Signed Tree). IsMostGeneral k.unifier z.atom h.other_literal.atom) (sym l) (subst (λ (z : Signed Tree). IsMostGeneral k.unifier k.literal.atom z.atom) (sym m) k.most_general) in
+    subst (λ (z : Signed Tree). IsMostGeneral k.unifier z.atom h.other_literal.atom) (sym l) (subst (λ (z : Signed Tree). IsMostGeneral k.unifier k.literal.atom z.atom) (sym m) k.most_general) in
     h.conclusion
     ∙ (instance_of_choice h.literal.atom h.other_literal.atom h.unifier k.unifier h.most_general general h.entry.clause).0
     ∙ ap (λ (x : Entry). canonical_form (instance k.unifier.left x.clause)) e
