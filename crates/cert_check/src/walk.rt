@@ -59,12 +59,7 @@ fn visit(
 }
 
 // Adds the symbols of the tree.
-fn add_tree(
-    alloc: Global,
-    bank: &Bank,
-    found: &mut IndexSet<Sym>,
-    id: TermId,
-) -> Result<(), Memory>
+fn add_tree(alloc: Global, bank: &Bank, found: &mut IndexSet<Sym>, id: TermId) -> Result<(), Memory>
     requires { id < length bank.now.trees }
     ensures { OnOk result (found.new.keys ≡ fold (with_item sym_eq) found.old.keys (tree_symbols (tree_at bank.now id))) }
 {
@@ -91,11 +86,7 @@ fn add_clause(
     Ok(())
 }
 
-fn collect(
-    alloc: Global,
-    bank: &Bank,
-    clauses: &IdClauseList,
-) -> Result<IndexSet<Sym>, Memory>
+fn collect(alloc: Global, bank: &Bank, clauses: &IdClauseList) -> Result<IndexSet<Sym>, Memory>
     requires { All (IsClauseOf bank.now) clauses.now }
     ensures { IfOk result (λ found. found.keys ≡ symbols_of (map (clause_at bank.now) clauses.now)) }
 {
@@ -107,11 +98,7 @@ fn collect(
 }
 
 // The symbols of the clauses, each once and in order of first occurrence.
-pub fn symbols_in(
-    alloc: Global,
-    bank: &Bank,
-    clauses: &IdClauseList,
-) -> Result<SymList, Memory>
+pub fn symbols_in(alloc: Global, bank: &Bank, clauses: &IdClauseList) -> Result<SymList, Memory>
     requires { All (IsClauseOf bank.now) clauses.now }
     ensures { IfOk result (λ all. all ≡ symbols_of (map (clause_at bank.now) clauses.now)) }
 {

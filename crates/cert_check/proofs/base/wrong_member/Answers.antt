@@ -36,3 +36,6 @@ loop-i-preserved c =
 
 pub returns-clause-first : goal.returns-clause-first
 returns-clause-first c = all_right c.args.base.now c.loop-i.i (omega arith) c.loop-i.invariant.right
+
+pub returns-then-not-branch-clause-kept : goal.returns-then-not-branch-clause-kept
+returns-then-not-branch-clause-kept c = keeps_trans c.args.base.now c.loop-i.base c.is_right.new.base c.loop-i.invariant.kept c.is_right.ensures.kept

@@ -1,4 +1,4 @@
-use Rattle.std.proofs.Common.{◌≡◌, ℕ, refl, sym, ◌∙◌, subst, IsTrue}
+use Rattle.std.proofs.Common.{ℕ, refl, sym, ◌∙◌, subst, IsTrue}
 use Rattle.inst_logic.specs.WellFormed.{is_constant}
 use Rattle.inst_calculus.specs.Steps.{EndsEmpty}
 use Rattle.cert_format.specs.Certificate as format
