@@ -10,6 +10,7 @@ ghost use Rattle.unify_core.specs.Sides.{Binding, IsResolvedBy, of_side, of_pair
 ghost use Rattle.unify_core.specs.Chains.{AreBindings};
 ghost use Rattle.unify_core.specs.Matching.{AreMatches, IsMatch, HasNoMatch};
 ghost use Rattle.unify_core.specs.Sizes.{IsSizeUnder};
+ghost use Rattle.unify_core.specs.Terms.{AreTerms, AreOfOneKind};
 ghost use Rattle.unify_core.specs.Passed.{IsPassed, no_binding};
 
 use crate::classes::Part;
@@ -86,6 +87,7 @@ impl Bindings {
         requires right { b < length bank.now.trees }
         ensures yes { IfOk result (λ r. r ≡ true → (s : Sided) × IsResolvedBy bank.now self.new.entries s × IsMostGeneral s (tree_at bank.now a) (tree_at bank.now b)) }
         ensures bindings { IfOk result (λ r. r ≡ true → AreBindings bank.now self.new.entries) }
+        ensures terms { IfOk result (λ r. r ≡ true → AreOfOneKind (tree_at bank.now a) (tree_at bank.now b) → AreTerms bank.now self.new.entries) }
         ensures no { IfOk result (λ r. r ≡ false → (s : Sided) → ¬ (IsUnifier s (tree_at bank.now a) (tree_at bank.now b))) }
         ensures empty { IfOk result (λ r. r ≡ false → self.new.entries ≡ []) }
         ensures held { OnErr result (self.new.entries ≡ self.old.entries) }
