@@ -13,6 +13,7 @@ pub mod Runs
 pub mod Proper
 pub mod Stays
 pub mod Grounds
+pub mod BoundTerms
 pub mod Meetings
 pub mod MatchSteps
 pub mod MatchWalk

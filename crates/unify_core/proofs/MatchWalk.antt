@@ -14,7 +14,7 @@ use Rattle.unify_core.specs.Matching.{AreMatches, Agrees, IsBound, IsMatch, HasN
 use Rattle.unify_core.specs.Meeting.{Meeting, AreMeetings, Meets, AreMet, IsAgreed, IsMatchStep}
 use Rattle.unify_core.proofs.Lists.{∈-append, ∈-append_left, ∈-push, ∈-get_or, map-∈}
 use Rattle.unify_core.proofs.Trees.{apply_var}
-use Rattle.unify_core.proofs.Grounds.{ground_apply}
+use Rattle.unify_core.proofs.Grounds.{ground_apply, no_variable}
 use Rattle.unify_core.proofs.Sets.{any_in}
 use Rattle.unify_core.proofs.Meetings.{lone}
 use Rattle.unify_core.proofs.MatchSteps.{number_same}
@@ -109,18 +109,6 @@ walk_few f ms within unique =
         let k = (within m.0 m.1).0 in
         let e : q ≡ m.0.0 = m.2 in
         omega arith
-
-mutual
-  no_variable : (t : Tree) (v : ℕ) → is_ground t ≡ true → ¬ (v ∈ variables t)
-  no_variable (var x) v h i = absurd (let k : false ≡ true = h in cc)
-  no_variable (app g ts) v h i = no_variables ts v h i
-
-  no_variables : (ts : Trees) (v : ℕ) → are_ground ts ≡ true → ¬ (v ∈ variables_each ts)
-  no_variables none v h i = i
-  no_variables (more t ts) v h i = elim (∈-append v (variables t) (variables_each ts) i) [
-    | inl j ↦ no_variable t v (and_left (is_ground t) (are_ground ts) h) j
-    | inr j ↦ no_variables ts v (and_right (is_ground t) (are_ground ts) h) j
-  ]
 
 module _ (f : Forest) (fs : List Binding) (ms : List Meeting) (all : (m : Meeting) → m ∈ ms → IsAgreed f fs ms (tree_at f m.0) (tree_at f m.1)) where
   of_meeting : (m : Meeting) (t r : Tree) → m ∈ ms → tree_at f m.0 ≡ t → tree_at f m.1 ≡ r → IsAgreed f fs ms t r

@@ -18,6 +18,7 @@ use Rattle.unify_core.specs.declared.side.Side.{Side}
 use Rattle.unify_core.specs.declared.side.Bound.{Bound}
 use Rattle.unify_core.proofs.Lists.{∈-append_left, ∈-append_right, ∈-append, ∈-map, map-∈, ∈-push, ∈-get_or}
 use Rattle.unify_core.proofs.Solved.{within_apply}
+use Rattle.unify_core.proofs.Grounds.{no_variable_on}
 use Rattle.unify_core.proofs.Chains.{step_within, step_same}
 use Rattle.unify_core.proofs.Sets.{bound_eq, few_bounds}
 
@@ -58,7 +59,8 @@ leads_more f es old also s (var v) n h = (h.0, h.1, still h.0 h.2)
     still : (r : Option Bound) → MatchOption r (Unit {0}) (λ c. c ∈ old) → MatchOption r (Unit {0}) (λ c. c ∈ (old ++ also))
     still None k = tt
     still (Some c) k = ∈-append_left c old also k
-leads_more f es old also s (app g ts) n h = (h.0, h.1, λ a i. ∈-append_left (record { side = s; term = a }) old also (h.2 a i))
+leads_more f es old also s (app g ts) n (inl h) = inl h
+leads_more f es old also s (app g ts) n (inr h) = inr (h.0, h.1, λ a i. ∈-append_left (record { side = s; term = a }) old also (h.2 a i))
 
 module _ (f : Forest) (es : List Binding) (b : AreBindings f es) where
   from_within : (s : Side) (t : Tree) (c : Bound) → IsStepFrom f es s t (on_side s t) c → c.term < length f.trees
@@ -155,7 +157,7 @@ module _ (f : Forest) (es : List Binding) (b : AreBindings f es) (x : ℕ) (t : 
     within_seen (var v) c h e n (inr k) = absurd k
     within_seen (app g ts) c h e n i =
         let l = subst (λ (r : Tree). LeadsTo f es seen c.side r (bound_tree f c)) e (behind c h).1 in
-        each_seen ts c.side l.0 l.1 l.2 n i
+        elim l [ inl k ↦ absurd (no_variable_on c.side (app g ts) k n i) | inr m ↦ each_seen ts c.side m.0 m.1 m.2 n i ]
 
     each_seen : (ts : Trees) (s : Side) (args : List ℕ) → map (tree_at f) args ≡ to_list ts → ((a : ℕ) → a ∈ args → (record { side = s; term = a }) ∈ seen)
         → (n : ℕ) → n ∈ variables_each (apply_each (λ v. var (numbered s v)) ts) → is_seen n ≡ true

@@ -1,12 +1,12 @@
 -- The walk of the occurs check.
-use Rattle.std.proofs.Common.{◌≡◌, ℕ, ◌<◌, List, [], ◌∷◌, inl, inr, length, map, ap, sym, ◌∙◌, subst, arith, Option, Some, None}
+use Rattle.std.proofs.Common.{◌≡◌, ℕ, ◌<◌, List, [], ◌∷◌, inl, inr, length, map, ap, sym, ◌∙◌, subst, arith, Option, Some, None, true, false}
 use Rattle.std.specs.List.{All}
 use Rattle.std.proofs.lemmas.List.{append-nil}
 use Rattle.std.proofs.lemmas.List.Elements.{All-head, All-tail}
 use Rattle.indexmap.specs.IndexSet.{insert_key}
 use Rattle.inst_logic.specs.declared.symbol.Sym.{Sym}
 use Rattle.inst_logic.specs.Tree.{Tree, var, app, Trees, to_list}
-use Rattle.term_bank.specs.Forest.{Forest, tree_at, arguments_of}
+use Rattle.term_bank.specs.Forest.{Forest, tree_at, arguments_of, is_ground}
 use Rattle.unify_core.specs.Lists.{◌∈◌}
 use Rattle.unify_core.specs.Sides.{Binding, numbered, variable_number, on_side}
 use Rattle.unify_core.specs.Steps.{IsNext}
@@ -50,6 +50,11 @@ all_in n [] h a i = absurd i
 all_in n (b ∷ args) h a (inl e) = subst (λ (m : ℕ). m < n) (sym e) (All-head (λ i. i < n) b args h)
 all_in n (b ∷ args) h a (inr i) = all_in n args (All-tail (λ i. i < n) b args h) a i
 
+-- a term without variables
+pub visit_ground : (f : Forest) (es : List Binding) (x : ℕ) (s : Side) (t : Tree) (seen : List Bound) → is_ground t ≡ true → IsVisit f es x s t seen seen
+visit_ground f es x s (var v) seen h = absurd (let k : false ≡ true = h in cc)
+visit_ground f es x s (app g ts) seen h = record { more = []; grown = sym (append-nil seen); not_it = λ e. absurd (cc); leads = inl h; added = λ c i. inl i }
+
 pub visit_application : (f : Forest) (es : List Binding) (x : ℕ) (s : Side) (t : Tree) (g : Sym) (ts : Trees) (id : ℕ) (args : List ℕ) (old new : List Bound) → t ≡ app g ts → id < length f.trees
     → map (tree_at f) args ≡ arguments_of t → All (λ i. i < id) args → AddsTerms old new s args → IsVisit f es x s t old new
 visit_application f es x s t g ts id args old new e within trees smaller adds =
@@ -58,7 +63,7 @@ visit_application f es x s t g ts id args old new e within trees smaller adds =
       more = adds.more;
       grown = adds.grown;
       not_it = λ h. absurd (cc);
-      leads = (args, same, adds.all);
+      leads = inr (args, same, adds.all);
       added = λ c h. elim (adds.only c h) [
         | inl k ↦ inl k
         | inr k ↦ inr (k.0, subst (λ (l : List Tree). tree_at f c.term ∈ l) same (∈-map (tree_at f) c.term args k.1), (let l = all_in id args smaller c.term k.1 in omega arith))

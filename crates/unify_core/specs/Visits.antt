@@ -1,18 +1,18 @@
 -- What a walk over the shared terms has seen.
-use Rattle.std.specs.Prelude.{◌≡◌, ℕ, List, map, ◌++◌, Option, Some, MatchOption, ◌<◌, length, ◌⊎◌}
+use Rattle.std.specs.Prelude.{◌≡◌, ℕ, List, true, map, ◌++◌, Option, Some, MatchOption, ◌<◌, length, ◌⊎◌}
 use Rattle.inst_logic.specs.Tree.{Tree, var, app, to_list}
-use Rattle.term_bank.specs.Forest.{Forest, tree_at}
+use Rattle.term_bank.specs.Forest.{Forest, tree_at, are_ground}
 use Rattle.unify_core.specs.Lists.{◌∈◌}
 use Rattle.unify_core.specs.Sides.{Binding, on_side}
 use Rattle.unify_core.specs.Steps.{IsNext}
 use Rattle.unify_core.specs.declared.side.Side.{Side}
 use Rattle.unify_core.specs.declared.side.Bound.{Bound}
 
--- the terms that the term leads to are seen
+-- the terms that the term leads to are seen, and a term without variables leads nowhere
 abbrev pub LeadsTo : Forest → List Binding → List Bound → Side → Tree → Tree → Type 0
 LeadsTo f es seen s (var v) n = (r : Option Bound) × IsNext es n f r × MatchOption r (Unit {0}) (λ c. c ∈ seen)
 LeadsTo f es seen s (app g ts) n =
-    (args : List ℕ) × (map (tree_at f) args ≡ to_list ts) × ((a : ℕ) → a ∈ args → (record { side = s; term = a }) ∈ seen)
+    (are_ground ts ≡ true) ⊎ ((args : List ℕ) × (map (tree_at f) args ≡ to_list ts) × ((a : ℕ) → a ∈ args → (record { side = s; term = a }) ∈ seen))
 
 -- a term that the term leads to
 abbrev pub IsStepFrom : Forest → List Binding → Side → Tree → Tree → Bound → Type 0

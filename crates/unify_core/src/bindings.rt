@@ -10,6 +10,7 @@ ghost use Rattle.unify_core.specs.Sides.{Binding, IsResolvedBy, of_side, of_pair
 ghost use Rattle.unify_core.specs.Chains.{AreBindings};
 ghost use Rattle.unify_core.specs.Matching.{AreMatches, IsMatch, HasNoMatch};
 ghost use Rattle.unify_core.specs.Sizes.{IsSizeUnder};
+ghost use Rattle.unify_core.specs.Terms.{AreTerms, AreOfOneKind};
 ghost use Rattle.unify_core.specs.Passed.{IsPassed, no_binding};
 
 use crate::classes::Part;
@@ -22,13 +23,16 @@ use indexmap::{IndexMap, IndexSet};
 use inst_logic::Memory;
 use std::alloc::Global;
 use std::marker::Model;
+use std::mem::swap;
 use term_bank::{Bank, IdClause, Shape, TermId};
 
-/// What the variables of two sides are bound to. After want of memory every call that takes memory wants it.
+/// What the variables of two sides are bound to. After want of memory every call that takes memory wants it, and the bindings
+/// stay as they were before.
 #[derive(Drop)]
 pub struct Bindings {
     map: IndexMap<Variable, Bound>,
-    // Room to work in, kept from call to call.
+    // Room to work in, kept from call to call. A unifier is found beside the bindings and takes their place once it is whole.
+    found: IndexMap<Variable, Bound>,
     work: Vec<Pair>,
     done: IndexSet<Pair>,
     seen: IndexSet<Bound>,
@@ -55,6 +59,7 @@ impl Bindings {
     {
         Bindings {
             map: IndexMap::new(alloc),
+            found: IndexMap::new(alloc),
             work: Vec::new(alloc),
             done: IndexSet::new(alloc),
             seen: IndexSet::new(alloc),
@@ -76,24 +81,26 @@ impl Bindings {
     }
 
     /// Makes the bindings a most general unifier of the terms, the variables of `a` as the left and those of `b` as the right
-    /// copy. False comes where there is no unifier, and no bindings are left.
+    /// copy. False comes where there is no unifier, and no bindings are left. After an error the bindings are those from before.
     pub fn unify(&mut self, bank: &Bank, a: TermId, b: TermId) -> Result<bool, Memory>
         requires left { a < length bank.now.trees }
         requires right { b < length bank.now.trees }
         ensures yes { IfOk result (λ r. r ≡ true → (s : Sided) × IsResolvedBy bank.now self.new.entries s × IsMostGeneral s (tree_at bank.now a) (tree_at bank.now b)) }
         ensures bindings { IfOk result (λ r. r ≡ true → AreBindings bank.now self.new.entries) }
+        ensures terms { IfOk result (λ r. r ≡ true → AreOfOneKind (tree_at bank.now a) (tree_at bank.now b) → AreTerms bank.now self.new.entries) }
         ensures no { IfOk result (λ r. r ≡ false → (s : Sided) → ¬ (IsUnifier s (tree_at bank.now a) (tree_at bank.now b))) }
         ensures empty { IfOk result (λ r. r ≡ false → self.new.entries ≡ []) }
+        ensures held { OnErr result (self.new.entries ≡ self.old.entries) }
         ensures ok { OnOk result ((self.old.spent ≡ false) × (self.new.spent ≡ false)) }
         ensures err { OnErr result (self.new.spent ≡ true) }
     {
         if self.spent {
             return Err(Memory);
         }
-        self.map.clear();
+        self.found.clear();
         match unify_terms(
             bank,
-            &mut self.map,
+            &mut self.found,
             &mut self.work,
             &mut self.done,
             &mut self.seen,
@@ -104,16 +111,20 @@ impl Bindings {
                 self.spent = true;
                 Err(e)
             }
-            Ok(true) => Ok(true),
+            Ok(true) => {
+                swap(&mut self.map, &mut self.found);
+                Ok(true)
+            }
             Ok(false) => {
-                self.map.clear();
+                self.clear();
                 Ok(false)
             }
         }
     }
 
     /// Extends the left bindings by those that make the pattern the target, whose variables, as right ones, are held fixed
-    /// (subsumption's one-sided unification; Robinson, 1965). False comes where no extension does, and then they stay.
+    /// (subsumption's one-sided unification; Robinson, 1965). False comes where no extension does. After false and after an
+    /// error they stay.
     pub fn match_onto(
         &mut self,
         bank: &Bank,
@@ -126,6 +137,7 @@ impl Bindings {
         ensures yes { IfOk result (λ r. r ≡ true → IsMatch bank.now self.old.entries self.new.entries (tree_at bank.now pattern) (tree_at bank.now target)) }
         ensures no { IfOk result (λ r. r ≡ false → HasNoMatch bank.now self.old.entries (tree_at bank.now pattern) (tree_at bank.now target)) }
         ensures kept { IfOk result (λ r. r ≡ false → self.new.entries ≡ self.old.entries) }
+        ensures held { OnErr result (self.new.entries ≡ self.old.entries) }
         ensures ok { OnOk result ((self.old.spent ≡ false) × (self.new.spent ≡ false)) }
         ensures err { OnErr result (self.new.spent ≡ true) }
     {
@@ -135,12 +147,13 @@ impl Bindings {
         let kept = self.map.len();
         match match_terms(bank, &mut self.map, &mut self.met, pattern, target) {
             Err(e) => {
+                self.truncate(kept);
                 self.spent = true;
                 Err(e)
             }
             Ok(true) => Ok(true),
             Ok(false) => {
-                self.map.truncate(kept);
+                self.truncate(kept);
                 Ok(false)
             }
         }

@@ -1,6 +1,6 @@
 // Matching: one walk over the pattern's nodes. Since terms share their parts, each node is worked once, and has to become one
 // term wherever it stands.
-ghost use Rattle.std.specs.Prelude.{◌≡◌, ◌<◌, ◌++◌, List, [], ◌∷◌, length, IfOk, true, false, slice_get, Some};
+ghost use Rattle.std.specs.Prelude.{◌≡◌, ◌<◌, ◌++◌, List, [], ◌∷◌, length, IfOk, OnErr, true, false, slice_get, Some};
 ghost use Rattle.inst_logic.specs.Unifiers.{IsApplication};
 ghost use Rattle.term_bank.specs.Forest.{tree_at, AreDistinct};
 ghost use Rattle.unify_core.specs.Sides.{Binding};
@@ -83,6 +83,7 @@ fn meet_variable(
     ensures yes { IfOk result (λ r. r ≡ true → IsBoundNow map.old.entries var term map.new.entries) }
     ensures no { IfOk result (λ r. r ≡ false → IsBoundElse map.old.entries var term) }
     ensures kept { IfOk result (λ r. r ≡ false → map.new.entries ≡ map.old.entries) }
+    ensures held { OnErr result (map.new.entries ≡ map.old.entries) }
 {
     let variable = Variable {
         side: Side::Left,
@@ -117,6 +118,7 @@ fn meet_node(
     ensures yes { IfOk result (λ r. r ≡ true → IsMatchStep bank.now map.old.entries met.old.entries node term map.new.entries met.new.entries) }
     ensures no { IfOk result (λ r. r ≡ false → (s : Substitution) → Agrees bank.now s map.old.entries → Meets bank.now s met.old.entries → ¬ (subst s (tree_at bank.now node) ≡ tree_at bank.now term)) }
     ensures kept { IfOk result (λ r. r ≡ false → map.new.entries ≡ map.old.entries) }
+    ensures held { OnErr result (map.new.entries ≡ map.old.entries) }
 {
     if bank.ground(node) {
         return Ok(node == term);
@@ -137,8 +139,8 @@ fn meeting_at(met: &IndexMap<TermId, TermId>, i: usize) -> (TermId, TermId)
     }
 }
 
-// Extends the bindings by those that make the pattern the target. `met` is room to work in. After false bindings may be left
-// behind the earlier ones.
+// Extends the bindings by those that make the pattern the target. `met` is room to work in. After false, and after an error,
+// bindings may be left behind the earlier ones.
 pub fn match_terms(
     bank: &Bank,
     map: &mut IndexMap<Variable, Bound>,
@@ -151,7 +153,7 @@ pub fn match_terms(
     requires matches { AreMatches bank.now map.old.entries }
     ensures yes { IfOk result (λ r. r ≡ true → IsMatch bank.now map.old.entries map.new.entries (tree_at bank.now pattern) (tree_at bank.now target)) }
     ensures no { IfOk result (λ r. r ≡ false → HasNoMatch bank.now map.old.entries (tree_at bank.now pattern) (tree_at bank.now target)) }
-    ensures behind { IfOk result (λ r. r ≡ false → (more : List Binding) × (map.new.entries ≡ map.old.entries ++ more)) }
+    ensures behind { (more : List Binding) × (map.new.entries ≡ map.old.entries ++ more) }
 {
     let _ = bank.len();
     met.clear();

@@ -1,4 +1,4 @@
-// The occurs check: one walk over the shared terms, which visits each once.
+// The occurs check: one walk over the shared terms, which visits each once, and enters none without variables.
 ghost use Rattle.std.specs.Prelude.{◌≡◌, ℕ, ◌<◌, length, IfOk, OnOk, true, false, slice_get, Some};
 ghost use Rattle.inst_logic.specs.Tree.{Tree, var};
 ghost use Rattle.inst_logic.specs.Substitution.{subst as apply, tree_vars};
@@ -48,6 +48,9 @@ fn visit(
     ensures yes { IfOk result (λ r. r ≡ true → bound_tree bank.now at ≡ var (variable_number x)) }
     ensures no { IfOk result (λ r. r ≡ false → IsVisit bank.now map.now.entries (variable_number x) at.side (tree_at bank.now at.term) seen.old.keys seen.new.keys) }
 {
+    if bank.ground(at.term) {
+        return Ok(false);
+    }
     match bank.shape(at.term) {
         Shape::Var(v) => {
             let variable = Variable {

@@ -43,6 +43,22 @@ fn is_same(bank: &Bank, left: &Bound, right: &Bound) -> bool
     bank.ground(left.term)
 }
 
+// Whether no substitution makes the terms equal, since they are two and have no variables.
+fn are_two(bank: &Bank, left: &Bound, right: &Bound) -> bool
+    requires once { AreDistinct bank.now.trees }
+    requires left { left.now.term < length bank.now.trees }
+    requires right { right.now.term < length bank.now.trees }
+    ensures { result ≡ true → (u : ℕ → Tree) → ¬ (apply u (bound_tree bank.now left.now) ≡ apply u (bound_tree bank.now right.now)) }
+{
+    if left.term == right.term {
+        return false;
+    }
+    if !bank.ground(left.term) {
+        return false;
+    }
+    bank.ground(right.term)
+}
+
 // Adds the pairs of the arguments, where the pair was not taken apart before.
 fn take_apart(
     bank: &Bank,
@@ -64,19 +80,18 @@ fn take_apart(
     let other = right.side;
     let xs = bank.args(left.term);
     let ys = bank.args(right.term);
-    let same = same_root(bank, left.term, right.term);
-    let pair = Pair { left, right };
-    if done.contains(&pair) {
-        return Ok(true);
-    }
-    if !same {
+    if !same_root(bank, left.term, right.term) {
         return Ok(false);
     }
     if xs.len() != ys.len() {
         return Ok(false);
     }
+    let pair = Pair { left, right };
+    let added = done.insert(pair)?;
+    if !added {
+        return Ok(true);
+    }
     push_pairs(work, side, xs, other, ys)?;
-    done.insert(pair)?;
     Ok(true)
 }
 
@@ -102,6 +117,9 @@ fn unify_pair(
     let right = follow(bank, map, pair.right);
     if is_same(bank, &left, &right) {
         return Ok(true);
+    }
+    if are_two(bank, &left, &right) {
+        return Ok(false);
     }
     match bank.shape(left.term) {
         Shape::Var(v) => {
