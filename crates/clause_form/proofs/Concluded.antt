@@ -1,7 +1,7 @@
 -- Conclusions whose atoms and terms were built together.
-use Rattle.std.proofs.Common.{◌≡◌, ℕ, ◌+◌, ◌*◌, ◌<◌, ◌≤◌, List, [], ◌∷◌, ◌++◌, refl, sym, ap, ◌∙◌, subst as transport, map, length, get_or, nat_eq, take, drop, arith, inl, inr}
+use Rattle.std.proofs.Common.{◌≡◌, ℕ, ◌+◌, ◌*◌, ◌<◌, ◌≤◌, List, [], ◌++◌, refl, sym, ap, ◌∙◌, subst as transport, map, length, take, drop, arith, inl, inr}
 use Rattle.inst_logic.specs.declared.signed.Signed.{Signed}
-use Rattle.inst_logic.specs.Tree.{Tree, var}
+use Rattle.inst_logic.specs.Tree.{Tree}
 use Rattle.inst_logic.specs.Substitution.{Substitution, subst, followed_by, clause_vars}
 use Rattle.inst_logic.specs.Clauses.{instance, numbered, order_of, canonical_form, IsCanonical}
 use Rattle.inst_logic.specs.Lists.{distinct}
@@ -10,19 +10,17 @@ use Rattle.inst_calculus.proofs.Clauses.{literals_under}
 use Rattle.inst_calculus.proofs.Distinct.{length_map}
 use Rattle.std.proofs.lemmas.List.{length-append}
 use Rattle.std.proofs.lemmas.List.Elements.{All-drop, All-take}
-use Rattle.term_bank.specs.Forest.{Forest, tree_at, clause_at, AreDistinct, AreIds, IsClauseAt, IsAt, IsClauseOf, Extends}
+use Rattle.term_bank.specs.Forest.{Forest, tree_at, clause_at, AreDistinct, AreIds, IsClauseAt, IsClauseOf, Extends}
 use Rattle.term_bank.proofs.Clauses.{clause_extends}
-use Rattle.unify_core.specs.Lists.{◌∈◌}
 use Rattle.unify_core.specs.Chains.{AreBindings}
 use Rattle.unify_core.specs.Terms.{AreTerms}
 use Rattle.inst_logic.specs.WellFormed.{IsTerm}
-use Rattle.unify_core.specs.Solved.{IsSolvedBy}
-use Rattle.unify_core.specs.Sides.{Binding, IsResolvedBy, of_side, numbered as side_number, variable_number, on_side, assignment, assignments}
+use Rattle.unify_core.specs.Sides.{Binding, IsResolvedBy, of_side, numbered as side_number, variable_number, on_side, assignment}
 use Rattle.unify_core.specs.declared.side.Side.{Side}
 use Rattle.unify_core.specs.declared.side.Side.TheVariants.{Left, Right}
 use Rattle.unify_core.proofs.Lists.{∈-map}
 use Rattle.unify_core.proofs.Sides.{apply_on_side, key_of}
-use Rattle.clause_form.specs.Conclusions.{AreVariables, AreTermsOf, IsConclusionUnder, IsConclusionOf, made_canonical}
+use Rattle.clause_form.specs.Conclusions.{AreVariables, AreTermsOf, IsConclusionUnder, IsConclusionOf}
 use Rattle.clause_form.specs.Literals.{with_atoms, id_eq}
 use Rattle.clause_form.specs.Walks.{trees_on, vars_on, with_vars}
 use Rattle.clause_form.proofs.Leaves.{resolved_later}

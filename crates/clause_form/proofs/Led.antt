@@ -1,7 +1,6 @@
 -- What nodes become where bindings are followed and the variables that stay get numbers.
-use Rattle.std.proofs.Common.{◌≡◌, ℕ, ◌+◌, ◌*◌, List, [], ◌∷◌, ◌++◌, refl, sym, ap, ap₂, ◌∙◌, subst as transport, map, length, nat_eq, true, arith, append_assoc}
+use Rattle.std.proofs.Common.{◌≡◌, ℕ, ◌+◌, ◌*◌, List, [], ◌∷◌, ◌++◌, refl, sym, ap, ap₂, ◌∙◌, subst as transport, map, length, nat_eq, true, arith}
 use Rattle.std.proofs.lemmas.Bool.Decides.{Decides-eqb}
-use Rattle.std.proofs.lemmas.List.{append-nil}
 use denote.Bor.{Bor}
 use Rattle.inst_logic.specs.declared.signed.Signed.{Signed}
 use Rattle.inst_logic.specs.Tree.{Tree, var, app, Trees, none, more, of_list, to_list}
@@ -10,11 +9,10 @@ use Rattle.inst_logic.specs.Clauses.{instance, numbered, order_of}
 use Rattle.inst_logic.specs.Lists.{distinct}
 use Rattle.inst_logic.specs.Unifiers.{Sided}
 use Rattle.inst_logic.proofs.Distinct.{distinct_append}
-use Rattle.inst_logic.proofs.Substitutions.{subst_subst, subst_var}
+use Rattle.inst_logic.proofs.Substitutions.{subst_subst}
 use Rattle.inst_logic.proofs.SameLemmas.{and_left, and_right}
 use Rattle.inst_calculus.proofs.Clauses.{literals_under}
 use Rattle.inst_calculus.proofs.Distinct.{distinct_map, place_map, length_map, map_append}
-use Rattle.inst_calculus.proofs.Trees.{subst_agree}
 use Rattle.term_bank.specs.Forest.{Forest, tree_at, clause_at, is_ground, are_ground, AreDistinct, AreIds, AreFormed, IsClauseAt}
 use Rattle.unify_core.specs.Bindings.{Bound_list}
 use Rattle.unify_core.specs.Sides.{Binding, IsResolvedBy, of_side, variable_number}

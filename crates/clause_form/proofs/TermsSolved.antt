@@ -1,12 +1,10 @@
 -- What solves bindings to terms puts a term for each variable.
-use Rattle.std.proofs.Common.{◌≡◌, ℕ, zero, suc, ◌+◌, ◌<◌, ◌≤◌, List, inl, inr, refl, sym, ap, ◌∙◌, subst as transport, Bool, true, false, Option, Some, None, arith, nat_eq}
-use Rattle.std.specs.Prelude.{◌&&◌}
+use Rattle.std.proofs.Common.{◌≡◌, ℕ, zero, suc, ◌+◌, ◌<◌, ◌≤◌, List, inl, inr, refl, sym, ap, ◌∙◌, subst as transport, true, Option, Some, None, arith, nat_eq}
 use Rattle.std.specs.Map.{lookup}
 use Rattle.inst_logic.specs.Tree.{Tree, var, app, Trees, none, more}
 use Rattle.inst_logic.specs.Measure.{tree_size, trees_size}
 use Rattle.inst_logic.specs.Substitution.{Substitution, subst, substs, tree_vars, trees_vars}
-use Rattle.inst_logic.specs.WellFormed.{tree_is_formed, trees_are_formed, is_function_kind, count_of, IsTerm}
-use Rattle.inst_logic.specs.declared.symbol.Sym.{Sym}
+use Rattle.inst_logic.specs.WellFormed.{tree_is_formed, trees_are_formed, is_function_kind, count_of}
 use Rattle.inst_logic.specs.Unifiers.{Sided}
 use Rattle.inst_logic.proofs.SameLemmas.{and_left, and_right, and_both}
 use Rattle.inst_calculus.proofs.Membership.{◌∈◌, in_left, in_right, in_either}

@@ -1,6 +1,6 @@
 -- The variables of a canonical clause, and what they become.
-use Rattle.std.proofs.Common.{◌≡◌, ℕ, zero, suc, ◌+◌, ◌<◌, ◌≤◌, List, [], ◌∷◌, ◌++◌, ◌⊎◌, inl, inr, refl, sym, ap, ap₂, ◌∙◌, subst as transport, map, length, get_or, nat_eq, Bool, true, false, cond, not, fold, Decides, arith, append_assoc, take, drop, one-add, Contains}
-use Rattle.std.proofs.lemmas.Bool.Decides.{Decides-eqb, not_from_Decides}
+use Rattle.std.proofs.Common.{◌≡◌, ℕ, zero, suc, ◌+◌, ◌<◌, List, [], ◌∷◌, ◌++◌, ◌⊎◌, inl, inr, refl, sym, ap, ap₂, ◌∙◌, subst as transport, map, length, get_or, nat_eq, Bool, true, false, cond, not, fold, Decides, arith, append_assoc, take, drop}
+use Rattle.std.proofs.lemmas.Bool.Decides.{Decides-eqb}
 use Rattle.std.proofs.lemmas.List.{length_push, get_or_append_left, get_or_push}
 use Rattle.std.proofs.lemmas.List.Elements.{Contains-get_or}
 use Rattle.std.proofs.lemmas.List.Sums.{fold-append}
@@ -12,12 +12,12 @@ use Rattle.inst_logic.specs.Lists.{distinct, with_item}
 use Rattle.inst_logic.specs.Equal.{literal_eq}
 use Rattle.inst_logic.proofs.Distinct.{distinct_append}
 use Rattle.inst_logic.proofs.SameLemmas.{literal_eq_decides}
-use Rattle.inst_calculus.proofs.Membership.{◌∈◌, contains_in, all_in, in_all, in_left, in_right, in_either, in_map, equal_in}
+use Rattle.inst_calculus.proofs.Membership.{◌∈◌, contains_in, all_in, in_left, in_right, in_either, in_map}
 use Rattle.inst_calculus.proofs.Distinct.{IsDistinct, place, from_distinct, in_distinct, without, distinct_joined, distinct_is_distinct, items_present, in_with_items}
 use Rattle.inst_calculus.proofs.Clauses.{literals_under, literals_followed, variable_of, literal_of, in_instance}
 use Rattle.inst_calculus.proofs.CanonicalForms.{canonical_of_distinct}
-use Rattle.term_bank.specs.Forest.{Forest, tree_at, clause_at, Extends, IsAt, AreIds}
-use Rattle.clause_form.specs.Conclusions.{AreVariables, AreTermsOf, made_canonical}
+use Rattle.term_bank.specs.Forest.{Forest, tree_at, Extends, IsAt}
+use Rattle.clause_form.specs.Conclusions.{AreVariables}
 use Rattle.clause_form.proofs.Led.{ids_vars}
 
 -- one more variable

@@ -1,16 +1,16 @@
 // The walk that builds terms: a list of steps stands for what is left of it, and each shared node is built once.
-ghost use Rattle.std.specs.Prelude.{◌≡◌, ℕ, ◌<◌, ◌++◌, ◌∷◌, List, length, map, reverse, IfOk, OnOk, Some, None, []};
+ghost use Rattle.std.specs.Prelude.{◌≡◌, ℕ, ◌<◌, ◌++◌, ◌∷◌, List, length, map, reverse, IfOk, OnOk, None, []};
 ghost use Rattle.std.specs.List.{All, IsDistinct};
 ghost use Rattle.std.specs.Map.{keys_of};
 ghost use Rattle.indexmap.specs.IndexMap.{insert_entry};
 ghost use Rattle.inst_logic.specs.Tree.{Tree, var};
 ghost use Rattle.inst_logic.specs.Unifiers.{IsApplication};
-ghost use Rattle.term_bank.specs.Forest.{Forest, tree_at, IsAt, AreIds, Extends, AreFormed, IsFormed, symbol_of, arguments_of};
+ghost use Rattle.term_bank.specs.Forest.{Forest, tree_at, IsAt, AreIds, Extends, AreFormed, IsFormed, arguments_of};
 ghost use Rattle.clause_form.specs.declared.walk.Step.TheVariants.{Visit, Build};
 ghost use Rattle.clause_form.specs.Walks.{Reading, IsReading, IsRootOf, IsFree, IsStep, AreLeaves, AreNotes, AreNoteIds, AreNodes, note_of, bound_eq, numbers_of, with_vars, vars_on, trees_on, on, IsUnderway, IsFormedReading, IsBegun, IsBeginning};
 
 use indexmap::{IndexMap, IndexSet};
-use inst_logic::{Memory, Sym};
+use inst_logic::Memory;
 use std::alloc::Global;
 use term_bank::{Bank, Shape, TermId};
 use unify_core::{Bindings, Bound, Side, Variable};
@@ -184,17 +184,6 @@ fn visit(
     }
 }
 
-fn symbol(bank: &Bank, id: TermId) -> Result<Sym, Memory>
-    requires within { id < length bank.now.trees }
-    requires application { IsApplication (tree_at bank.now id) }
-    ensures { IfOk result (λ s. symbol_of (tree_at bank.now id) ≡ Some s) }
-{
-    match bank.sym(id) {
-        Some(s) => Ok(s.clone()?),
-        None => unreachable!(),
-    }
-}
-
 // Applies the node's symbol to the last terms.
 fn build(
     bank: &mut Bank,
@@ -213,9 +202,8 @@ fn build(
     ensures formed { (f : Forest) (w : Leaves) (r : Reading) (outs : List Tree) (final : List ℕ) (ss : List Step) (os : List ℕ) → Extends f bank.old → node.term < length f.trees → IsReading f w r final → IsUnderway f bank.old r outs final (Build node ∷ ss) ids.old.items os notes.old.entries → IsFormed (r.tree node) → AreFormed bank.old → AreFormed bank.new }
 {
     let count = bank.args(node.term).len();
-    let sym = symbol(bank, node.term)?;
     let start = ids.len().saturating_sub(count);
-    let id = bank.app(&sym, &ids[start..])?;
+    let id = bank.app_like(node.term, &ids[start..])?;
     ids.truncate(start);
     ids.push(id)?;
     note(notes, node, id)?;

@@ -1,5 +1,5 @@
 -- A tree is ground, as the bank keeps it, exactly where no variable occurs in it.
-use Rattle.std.proofs.Common.{◌≡◌, ℕ, List, [], ◌∷◌, ◌++◌, true, refl, ap, ◌∙◌, ◌↔◌}
+use Rattle.std.proofs.Common.{◌≡◌, ℕ, List, [], ◌∷◌, ◌++◌, true, refl, ◌↔◌}
 use Rattle.inst_logic.specs.Tree.{Tree, var, app, Trees, none, more}
 use Rattle.inst_logic.specs.Substitution.{tree_vars, trees_vars}
 use Rattle.inst_logic.proofs.SameLemmas.{and_left, and_right, and_both}

@@ -10,9 +10,10 @@ use Rattle.std.proofs.lemmas.Option.{slice_get-get_or}
 use Rattle.inst_logic.proofs.SameLemmas.{and_left, and_right}
 use Rattle.inst_logic.specs.declared.symbol.Sym.{Sym}
 use Rattle.inst_logic.specs.Tree.{Tree, var, app, of_list, to_list}
+use Rattle.inst_logic.specs.Unifiers.{IsApplication}
 use Rattle.term_bank.specs.declared.node.Node.{Node}
 use Rattle.term_bank.specs.declared.node.Node.TheVariants.{Var, App}
-use Rattle.term_bank.specs.Forest.{Forest, tree_at, number_of, symbol_of, arguments_of, no_symbol, symbol_at, nth}
+use Rattle.term_bank.specs.Forest.{Forest, tree_at, number_of, symbol_of, arguments_of, with_arguments, no_symbol, symbol_at, nth}
 use Rattle.term_bank.specs.Nodes.{Entry, entry_at, node_tree, trees_of, node_fits, AreMeasuresOf, IsBank}
 use Rattle.term_bank.proofs.Nodes.{below, length_trees, tree_at_node}
 
@@ -51,6 +52,15 @@ module _ (ss : List Sym) (es : List Entry) (f : Forest) (b : IsBank ss es) (is :
 
   pub at_application : (s : ℕ) (args : List ℕ) → App s args ≡ (entry_at es id).0 → tree_at f id ≡ app (symbol_at ss s) (of_list (map (nth f.trees) args))
   at_application s args e = tree (App s args) e
+
+  pub no_variable : (v : ℕ) → Var v ≡ (entry_at es id).0 → IsApplication (tree_at f id) → ⊥
+  no_variable v e h = subst (λ (t : Tree). IsApplication t) (at_variable v e) h
+
+  -- the application of the same symbol to other arguments
+  pub like_is : (s : ℕ) (args : List ℕ) → App s args ≡ (entry_at es id).0 → (ids : List ℕ)
+      → app (symbol_at ss s) (of_list (map (nth (trees_of ss es)) ids)) ≡ with_arguments (tree_at f id) (map (tree_at f) ids)
+  like_is s args e ids =
+      ap (λ (ts : List Tree). app (symbol_at ss s) (of_list (map (nth ts) ids))) is ∙ ap (λ (t : Tree). with_arguments t (map (tree_at f) ids)) (sym (at_application s args e))
 
   pub symbol_is : (s : ℕ) (args : List ℕ) → App s args ≡ (entry_at es id).0 → slice_get ss s ≡ symbol_of (tree_at f id)
   symbol_is s args e = slice_get-get_or ss s no_symbol (below s (length ss) (and_left (nat_lt s (length ss)) _ (fits (App s args) e))) ∙ ap symbol_of (sym (at_application s args e))

@@ -4,7 +4,7 @@ use Rattle.std.specs.Coded.{Coded, code_by, coded×, coded_bool, coded_list}
 use Rattle.std.specs.List.{All, position_or_len}
 use Rattle.inst_logic.specs.declared.symbol.Sym.{Sym}
 use Rattle.inst_logic.specs.declared.symbol.Kind.TheVariants.{Function}
-use Rattle.inst_logic.specs.Tree.{Tree, var, app, Trees, none, more, to_list}
+use Rattle.inst_logic.specs.Tree.{Tree, var, app, Trees, none, more, to_list, of_list}
 use Rattle.inst_logic.specs.TreeCode.{tree_code, sym_code}
 use Rattle.inst_logic.specs.declared.signed.Signed.{Signed}
 use Rattle.inst_logic.specs.Equal.{sym_eq}
@@ -96,6 +96,11 @@ symbol_of (app s ts) = Some s
 abbrev pub arguments_of : Tree → List Tree
 arguments_of (var v) = []
 arguments_of (app s ts) = to_list ts
+
+-- the same at the root, with these arguments
+abbrev pub with_arguments : Tree → List Tree → Tree
+with_arguments (var v) us = var v
+with_arguments (app s ts) us = app s (of_list us)
 
 -- a tree without variables
 abbrev mutual

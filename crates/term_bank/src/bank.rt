@@ -5,13 +5,16 @@ ghost use Rattle.std.specs.List.{All};
 ghost use Rattle.inst_logic.specs.Tree.{var, app, of_list};
 ghost use Rattle.inst_logic.specs.Measure.{tree_size, tree_weight};
 ghost use Rattle.inst_logic.specs.Substitution.{tree_vars};
-ghost use Rattle.term_bank.specs.Forest.{tree_at, nth, symbol_at, number_of, IsAt, AreIds, AreDistinct, Extends, ExtendsTrees, KeepsPlaces, no_symbol, IsFormed, AreFormed, AreFormedTrees, symbol_of, arguments_of, is_ground};
+ghost use Rattle.inst_logic.specs.Unifiers.{IsApplication};
+ghost use Rattle.term_bank.specs.Forest.{tree_at, nth, symbol_at, number_of, IsAt, AreIds, AreDistinct, Extends, ExtendsTrees, KeepsPlaces, no_symbol, IsFormed, AreFormed, AreFormedTrees, symbol_of, arguments_of, with_arguments, is_ground};
 ghost use Rattle.term_bank.specs.Nodes.{trees_of, IsBank};
 ghost use Rattle.term_bank.specs.Shapes.{shape_of};
 
 use crate::id::{TermId, copied};
 use crate::node::{Measures, Node};
-use crate::store::{application_measures, measures_at, node_at, node_number, symbol_number};
+use crate::store::{
+    application_measures, kind_at, measures_at, node_at, node_number, symbol_number,
+};
 use indexmap::{IndexMap, IndexSet};
 use inst_logic::{Memory, Sym};
 use std::alloc::Global;
@@ -65,6 +68,28 @@ fn insert_variable(
     node_number(nodes, Node::Var(v), measures)
 }
 
+// The application of the symbol of this number.
+fn insert_numbered(
+    alloc: Global,
+    symbols: &IndexSet<Sym>,
+    nodes: &mut IndexMap<Node, Measures>,
+    number: usize,
+    args: &[TermId],
+) -> Result<TermId, Memory>
+    requires bank { IsBank symbols.now.keys nodes.old.entries }
+    requires number { number < length symbols.now.keys }
+    requires within { All (λ i. i < length (trees_of symbols.now.keys nodes.old.entries)) args.now }
+    ensures bank { IsBank symbols.now.keys nodes.new.entries }
+    ensures extends { ExtendsTrees (trees_of symbols.now.keys nodes.old.entries) (trees_of symbols.now.keys nodes.new.entries) }
+    ensures formed { AreFormedTrees (trees_of symbols.now.keys nodes.old.entries) → IsFormed (app (symbol_at symbols.now.keys number) (of_list (map (nth (trees_of symbols.now.keys nodes.old.entries)) args.now))) → AreFormedTrees (trees_of symbols.now.keys nodes.new.entries) }
+    ensures at { IfOk result (λ i. (i < length (trees_of symbols.now.keys nodes.new.entries)) × (nth (trees_of symbols.now.keys nodes.new.entries) i ≡ app (symbol_at symbols.now.keys number) (of_list (map (nth (trees_of symbols.now.keys nodes.old.entries)) args.now)))) }
+{
+    let copy = copied(alloc, args)?;
+    let kind = kind_at(symbols, number);
+    let measures = application_measures(nodes, kind, args);
+    node_number(nodes, Node::App(number, copy), measures)
+}
+
 fn insert_application(
     alloc: Global,
     symbols: &mut IndexSet<Sym>,
@@ -81,9 +106,7 @@ fn insert_application(
     ensures at { IfOk result (λ i. (i < length (trees_of symbols.new.keys nodes.new.entries)) × (nth (trees_of symbols.new.keys nodes.new.entries) i ≡ app sym.now (of_list (map (nth (trees_of symbols.old.keys nodes.old.entries)) args.now)))) }
 {
     let number = symbol_number(symbols, sym)?;
-    let copy = copied(alloc, args)?;
-    let measures = application_measures(nodes, sym.kind, args);
-    node_number(nodes, Node::App(number, copy), measures)
+    insert_numbered(alloc, symbols, nodes, number, args)
 }
 
 impl Bank {
@@ -136,6 +159,29 @@ impl Bank {
             return Err(Memory);
         }
         let result = insert_application(self.alloc, &mut self.symbols, &mut self.nodes, sym, args);
+        self.spent = result.is_err();
+        result
+    }
+
+    /// The id of an application of the symbol that stands at the root of `like`.
+    pub fn app_like(&mut self, like: TermId, args: &[TermId]) -> Result<TermId, Memory>
+        requires within { like < length self.old.trees }
+        requires application { IsApplication (tree_at self.old like) }
+        requires ids { AreIds self.old args.now }
+        ensures at { IfOk result (λ id. IsAt self.new id (with_arguments (tree_at self.old like) (map (tree_at self.old) args.now))) }
+        ensures extends { Extends self.old self.new }
+        ensures formed { AreFormed self.old → IsFormed (with_arguments (tree_at self.old like) (map (tree_at self.old) args.now)) → AreFormed self.new }
+        ensures ok { OnOk result ((self.old.spent ≡ false) × (self.new.spent ≡ false)) }
+        ensures err { OnErr result (self.new.spent ≡ true) }
+    {
+        if self.spent {
+            return Err(Memory);
+        }
+        let number = match node_at(&self.nodes, like) {
+            Node::Var(_) => unreachable!(),
+            Node::App(number, _) => *number,
+        };
+        let result = insert_numbered(self.alloc, &self.symbols, &mut self.nodes, number, args);
         self.spent = result.is_err();
         result
     }

@@ -24,6 +24,17 @@ pub fn symbol_number(symbols: &mut IndexSet<Sym>, sym: &Sym) -> Result<usize, Me
     Ok(number)
 }
 
+// The kind of the symbol of this number.
+pub fn kind_at(symbols: &IndexSet<Sym>, number: usize) -> Kind
+    requires { number < length symbols.now.keys }
+    ensures { result ≡ (symbol_at symbols.now.keys number).kind }
+{
+    match symbols.get_index(number) {
+        Some(sym) => sym.kind,
+        None => unreachable!(),
+    }
+}
+
 // The number of the node. A new one goes last, and one that is there has these measures.
 pub fn node_number(
     nodes: &mut IndexMap<Node, Measures>,

@@ -2,7 +2,6 @@ use Rattle.std.proofs.Common.{sym, ◌∙◌, ap, List, ℕ, subst, length}
 use Rattle.inst_logic.specs.declared.signed.Signed.{Signed}
 use Rattle.inst_logic.specs.Tree.{Tree}
 use Rattle.inst_logic.specs.Clauses.{IsCanonical, order_of}
-use Rattle.term_bank.specs.Forest.{clause_at}
 use Rattle.term_bank.proofs.Growth.{extends_trans}
 use Rattle.term_bank.proofs.Clauses.{clause_extends}
 use Rattle.unify_core.proofs.Lists.{if_ok}

@@ -1,4 +1,4 @@
-use Rattle.std.proofs.Common.{sym, ◌∙◌, ap, List, ℕ, ◌++◌, map, subst, arith, length}
+use Rattle.std.proofs.Common.{◌∙◌, ap, List, ℕ, ◌++◌, map, arith, length}
 use Rattle.inst_logic.specs.declared.signed.Signed.{Signed}
 use Rattle.inst_logic.specs.Clauses.{order_of}
 use Rattle.term_bank.specs.Forest.{clause_at}

@@ -1,7 +1,7 @@
-use Rattle.std.proofs.Common.{subst, sym, ℕ, List, ◌+◌}
+use Rattle.std.proofs.Common.{subst, sym, ◌+◌}
 use Rattle.term_bank.proofs.Growth.{extends_trans}
 use Rattle.clause_form.specs.Conclusions.{AreVariables}
-use Rattle.clause_form.proofs.Variables.{no_variables, one_variable}
+use Rattle.clause_form.proofs.Variables.{one_variable}
 use Rattle.clause_form.proofs.conclusion.variables_below.Goals as goal
 
 pub loop-v-preserved : goal.loop-v-preserved

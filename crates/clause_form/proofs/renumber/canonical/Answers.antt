@@ -1,6 +1,5 @@
-use Rattle.std.proofs.Common.{sym, List, ℕ, subst}
+use Rattle.std.proofs.Common.{sym, subst}
 use Rattle.std.proofs.Common.{◌∙◌, ap, map}
-use Rattle.inst_logic.specs.Tree.{Tree}
 use Rattle.inst_logic.specs.Clauses.{numbered, order_of}
 use Rattle.term_bank.specs.Forest.{AreIds, clause_at, tree_at}
 use Rattle.unify_core.proofs.Lists.{if_ok}

@@ -1,4 +1,4 @@
-use Rattle.std.proofs.Common.{◌≡◌, true, ap, sym, ◌∙◌}
+use Rattle.std.proofs.Common.{◌≡◌, ap, sym, ◌∙◌}
 use Rattle.term_bank.specs.declared.node.Measures.{Measures}
 use Rattle.term_bank.specs.Forest.{Forest, tree_at, is_ground}
 use Rattle.term_bank.proofs.Readings.{within, measures}
