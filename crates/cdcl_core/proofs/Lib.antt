@@ -9,3 +9,5 @@ pub mod StepLaws
 pub mod EndLaws
 pub mod KeptLaws
 pub mod GoLaws
+pub mod NeedLaws
+pub mod CutLaws

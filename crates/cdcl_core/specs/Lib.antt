@@ -1,4 +1,5 @@
 pub mod Marks
 pub mod Log
+pub mod Cut
 pub mod Analysis
 pub mod Search

@@ -5,6 +5,7 @@
 
 mod analysis;
 mod cdcl;
+mod cut;
 mod log;
 mod marks;
 mod search;

@@ -14,11 +14,11 @@ ghost use Rattle.cdcl_core.specs.Analysis.{IsAnalysis};
 ghost use Rattle.cdcl_core.specs.Search.{IsKept, IsTrueUpTo, IsSearch, IsCoreIn, IsInCore, IsSameProblem, Advances, Ends, Continues};
 
 use crate::analysis::{Analysis, analyze, analyze_given, literal_at};
+use crate::cut::cut;
 use crate::log::{Log, put_name};
 use crate::marks::Marks;
 use cdcl_trail::{Clauses, Trail};
 use inst_logic::Memory;
-use prop_logic::cut::cut;
 use prop_logic::{
     Answer, Derivation, Hint, HintList, Lit, LitList, Step, Valuation, complement, complements,
 };

@@ -23,12 +23,13 @@ by_number slots n h =
     by_key slots (n - 1) ∙ ap (clause_number slots) s
 
 pub adds : (old new : List (Option (List (Signed ℕ)))) (clause : List (Signed ℕ)) (key : ℕ)
-    → get_or old key None ≡ None → get_or new key None ≡ Some clause → ((k : ℕ) → k ≢ key → get_or new k None ≡ get_or old k None)
+    → get_or old key None ≡ None → get_or new key None ≡ Some clause → ((k : ℕ) → k ≢ key → get_or new k None ≡ get_or old k None) → (old ≡ [] → key ≡ 0)
     → AddsClause old new clause (key + 1)
-adds old new clause key free added others = record {
+adds old new clause key free added others first = record {
   free = sym (by_key old key) ∙ free;
   added = sym (by_key new key) ∙ added;
   others = λ k n. by_case k n;
+  first = λ e. ap (λ n. n + 1) (first e);
 }
   where
     by_case : (k : ℕ) → (k ≡ key + 1 → ⊥) → clause_number new k ≡ clause_number old k

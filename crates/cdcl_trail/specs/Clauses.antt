@@ -1,5 +1,5 @@
 -- Clauses by numbers that stay. A number that is free may be given again.
-use Rattle.std.specs.Prelude.{◌≡◌, ℕ, zero, suc, List, Option, Some, None, slice_get}
+use Rattle.std.specs.Prelude.{◌≡◌, ℕ, zero, suc, List, [], Option, Some, None, slice_get}
 use Rattle.inst_logic.specs.declared.signed.Signed.{Signed}
 use Rattle.prop_logic.specs.Literal.{AtomsBelow}
 
@@ -13,11 +13,12 @@ abbrev pub clause_number : List (Option (List (Signed ℕ))) → ℕ → Option 
 clause_number clauses zero = None
 clause_number clauses (suc n) = clause_in (slice_get clauses n)
 
--- the number was free and now is the clause's; the others stay
+-- the number was free and now is the clause's; the others stay, and the first number is 1
 pub record AddsClause (old new : List (Option (List (Signed ℕ)))) (clause : List (Signed ℕ)) (n : ℕ) : Type 0 where
   pub free : clause_number old n ≡ None
   pub added : clause_number new n ≡ Some clause
   pub others : (k : ℕ) → ¬ (k ≡ n) → clause_number new k ≡ clause_number old k
+  pub first : old ≡ [] → n ≡ 1
 
 -- the atoms of each clause are below n
 abbrev pub ClausesBelow : ℕ → List (Option (List (Signed ℕ))) → Type 0

@@ -16,12 +16,14 @@ pub struct Clauses {
 }
 
 impl Model for Clauses {
-    ghost use Rattle.std.specs.Prelude.{ℕ, List, Option};
+    ghost use Rattle.std.specs.Prelude.{◌≡◌, ℕ, List, [], Option};
     ghost use Rattle.inst_logic.specs.declared.signed.Signed.{Signed};
 
     ghost Value = { List (Option (List (Signed ℕ))) };
 
     ghost view = { λ c. c.clauses.slots };
+
+    ghost invariant = { λ c. c.clauses.slots ≡ [] → c.clauses.vacant_key ≡ 0 };
 }
 
 impl Clauses {
@@ -35,7 +37,8 @@ impl Clauses {
         }
     }
 
-    /// Adds a copy of the clause, and answers its number. A refused call leaves the clauses as they were.
+    /// Adds a copy of the clause, and answers its number, which is 1 for the first. A refused call leaves the clauses as they
+    /// were.
     pub fn add(&mut self, c: &[Lit]) -> Result<usize, Memory>
         ensures number { IfOk result (AddsClause self.old self.new c.now) }
         ensures err { OnErr result (self.new ≡ self.old) }

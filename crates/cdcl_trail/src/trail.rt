@@ -159,7 +159,7 @@ impl Trail {
         ensures conflict { IfOk result (λ found. IfSome found (IsConflict clauses.now self.new.entries)) }
         ensures stable { IfOk result (λ found. IfNone found (IsStable clauses.now self.new.entries)) }
         ensures ok { OnOk result ((self.old.spent ≡ false) × (self.new.spent ≡ false)) }
-        ensures err { OnErr result (self.new.spent ≡ true) }
+        ensures err { OnErr result (self.new ≡ record self.old { spent = true }) }
     {
         if self.spent {
             return Err(Memory);

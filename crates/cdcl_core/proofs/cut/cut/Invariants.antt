@@ -1,0 +1,5 @@
+use Rattle.cdcl_core.proofs.CutLaws.{KeepsFirst}
+use Rattle.cdcl_core.proofs.cut.cut.Given as goal
+
+abbrev pub invariant-loop-place : goal.invariant-loop-place
+invariant-loop-place l = KeepsFirst l.steps l.place-items l.place-index l.kept

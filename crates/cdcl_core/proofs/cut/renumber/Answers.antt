@@ -1,0 +1,15 @@
+use Rattle.std.proofs.Common.{◌+◌, take, sym, subst}
+use Rattle.std.specs.List.{AllZip}
+use Rattle.prop_logic.specs.declared.literal.Hint.{Hint}
+use Rattle.prop_logic.specs.declared.literal.Hint.TheVariants.{Added}
+use Rattle.cdcl_core.specs.Cut.{IsRenamed}
+use Rattle.cdcl_core.proofs.CutLaws.{zip_more}
+use Rattle.cdcl_core.proofs.cut.renumber.Goals as goal
+
+pub loop-hint-preserved : goal.loop-hint-preserved
+loop-hint-preserved c =
+    let R = IsRenamed c.args.places.now in
+    let i = c.loop-hint.hint-index in
+    let d : Hint = Added 0 in
+    subst (AllZip R (take (i + 1) c.args.hints.now)) (sym c.in_ok-push.ensures.ok)
+    (zip_more R c.args.hints.now c.loop-hint.others i d c.renumber_one.result c.loop-hint-test.true c.loop-hint.invariant c.renumber_one.ensures)

@@ -1,0 +1,114 @@
+// Derivations without the steps that their last step does not need, in time that follows what is kept.
+ghost use Rattle.std.specs.Prelude.{◌≡◌, ◌<◌, ◌-◌, ℕ, length, All, Contains, IfOk, OnOk};
+ghost use Rattle.std.specs.List.{AllZip};
+ghost use Rattle.prop_logic.specs.Cut.{IsCutOf};
+ghost use Rattle.cdcl_core.specs.Cut.{CitesOnly, Rises, AreNeeded, IsRenamed, IsCopy};
+
+use inst_logic::Memory;
+use prop_logic::{Derivation, Hint, HintList, LitList, Step};
+use std::alloc::Global;
+use std::collections::BTreeSet;
+
+// Takes the place of the step that the hint cites, if it is below `limit`.
+fn need_cited(waiting: &mut BTreeSet<usize>, limit: usize, hint: Hint) -> Result<(), Memory>
+    ensures cited { OnOk result (CitesOnly (Contains waiting.new.keys) limit hint) }
+    ensures kept { OnOk result ((k : ℕ) → Contains waiting.old.keys k → Contains waiting.new.keys k) }
+    ensures below { OnOk result (All (λ k. k < limit) waiting.old.keys → All (λ k. k < limit) waiting.new.keys) }
+{
+    if let Hint::Step(n) = hint {
+        if 0 < n && n <= limit {
+            waiting.insert(n - 1)?;
+        }
+    }
+    Ok(())
+}
+
+// Takes the places of the steps that the hints cite, of those below `limit`.
+fn need_all(waiting: &mut BTreeSet<usize>, limit: usize, hints: &[Hint]) -> Result<(), Memory>
+    ensures cited { OnOk result (All (CitesOnly (Contains waiting.new.keys) limit) hints.now) }
+    ensures kept { OnOk result ((k : ℕ) → Contains waiting.old.keys k → Contains waiting.new.keys k) }
+    ensures below { OnOk result (All (λ k. k < limit) waiting.old.keys → All (λ k. k < limit) waiting.new.keys) }
+{
+    for hint in hints {
+        need_cited(waiting, limit, *hint)?;
+    }
+    Ok(())
+}
+
+// The place of the last of so many steps, if there is one.
+fn last_place(alloc: Global, count: usize) -> Result<BTreeSet<usize>, Memory>
+    ensures last { IfOk result (λ waiting. 0 < count → Contains waiting.keys (count - 1)) }
+    ensures below { IfOk result (λ waiting. All (λ k. k < count) waiting.keys) }
+{
+    let mut waiting = BTreeSet::new(alloc);
+    if 0 < count {
+        waiting.insert(count - 1)?;
+    }
+    Ok(waiting)
+}
+
+// The places of the steps that the last step needs. The highest one that waits is taken first, so that what it cites is
+// below all that were taken before.
+fn needed_places(alloc: Global, steps: &[Step]) -> Result<Vec<usize>, Memory>
+    ensures { IfOk result (λ places. AreNeeded steps.now places.items) }
+{
+    let mut places = Vec::new(alloc);
+    let mut waiting = last_place(alloc, steps.len())?;
+    while let Some(place) = waiting.pop_last() {
+        places.push(place)?;
+        need_all(&mut waiting, place, steps[place].hints.as_slice())?;
+    }
+    places.reverse();
+    Ok(places)
+}
+
+// The hint with the new number of its step. Number 0 names no step.
+fn renumber_one(places: &[usize], hint: Hint) -> Hint
+    requires { Rises places.now }
+    ensures { IsRenamed places.now hint result }
+{
+    match hint {
+        Hint::Added(n) => Hint::Added(n),
+        Hint::Step(n) => {
+            if n == 0 {
+                return Hint::Step(0);
+            }
+            match places.binary_search(&(n - 1)) {
+                Ok(i) => Hint::Step(i + 1),
+                Err(_) => Hint::Step(0),
+            }
+        }
+    }
+}
+
+fn renumber(alloc: Global, places: &[usize], hints: &[Hint]) -> Result<HintList, Memory>
+    requires { Rises places.now }
+    ensures { IfOk result (AllZip (IsRenamed places.now) hints.now) }
+{
+    let mut others = HintList::new(alloc);
+    for hint in hints {
+        others.push(renumber_one(places, *hint))?;
+    }
+    Ok(others)
+}
+
+fn copy(alloc: Global, places: &[usize], step: &Step) -> Result<Step, Memory>
+    requires { Rises places.now }
+    ensures { IfOk result (IsCopy places.now step.now) }
+{
+    let clause = LitList::from(Vec::from_slice(alloc, step.clause.as_slice())?);
+    let hints = renumber(alloc, places, step.hints.as_slice())?;
+    Ok(Step { clause, hints })
+}
+
+// The steps that the last step needs, in their order.
+pub(crate) fn cut(alloc: Global, steps: &[Step]) -> Result<Derivation, Memory>
+    ensures { IfOk result (IsCutOf steps.now) }
+{
+    let places = needed_places(alloc, steps)?;
+    let mut kept = Derivation::new(alloc);
+    for place in places.as_slice() {
+        kept.push(copy(alloc, &places, &steps[*place])?)?;
+    }
+    Ok(kept)
+}
