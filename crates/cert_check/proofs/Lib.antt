@@ -18,3 +18,4 @@ pub mod Saturations
 pub mod ShownTrees
 pub mod MemberOrigins
 pub mod SymbolWalk
+pub mod HeadLaws

@@ -12,6 +12,7 @@ mod grounds;
 mod inputs;
 mod origin;
 mod pairs;
+mod partners;
 mod places;
 pub mod refutation;
 pub mod saturation;

@@ -9,8 +9,10 @@ ghost use Rattle.cert_check.specs.Bases.{IsValidBase};
 ghost use Rattle.cert_check.specs.Closings.{IsPairClosed, IsProperSomewhere, IsSideClosed, IsSideCovered};
 ghost use Rattle.cert_check.specs.FirstPairs.{IsFirstWrongPairOf};
 ghost use Rattle.cert_check.specs.Firsts.{IsFirstWrongOf};
+ghost use Rattle.cert_check.specs.Partners.{LeadThrough};
 
 use crate::cover::is_covered;
+use crate::partners::{Partners, find_partners};
 use inst_logic::Memory;
 use saturation_cert::{Saturation, selected};
 use std::alloc::Global;
@@ -138,26 +140,31 @@ fn is_right_pair(
     is_closed(alloc, cert, bindings, i, j)
 }
 
-// The number of the first later member that is no right partner of member `i`, counted from 0.
+// The number of the first later member that is no right partner of member `i`, counted from 0. Only those are tried whose
+// selected literals have the opposite sign and the same symbol.
 fn wrong_partner(
     alloc: Global,
     cert: &mut Saturation,
     bindings: &mut Bindings,
+    partners: &Partners,
     i: usize,
 ) -> Result<Option<usize>, Memory>
     requires whole { IsWholeSaturation cert.old }
     requires base { IsValidBase (base_of cert.old.base) }
     requires placed { HasPlaces (saturation_of cert.old) }
     requires within { i < length cert.old.base.members }
+    requires partners { LeadThrough (saturation_of cert.old) partners.now.heads.items partners.now.same.items partners.now.opposed.items }
     ensures kept { KeepsSaturation cert.old cert.new }
     ensures whole { OnOk result (IsWholeSaturation cert.new) }
     ensures first { IfOk result (IsFirstWrongOf (IsRightPair (saturation_of cert.old) (suc i))) }
 {
     let count = cert.base.members.len();
-    for j in i + 1..count {
+    let mut j = partners.opposed[i];
+    while j < count {
         if !is_right_pair(alloc, cert, bindings, i, j)? {
             return Ok(Some(j + 1));
         }
+        j = partners.same[j];
     }
     Ok(None)
 }
@@ -171,9 +178,10 @@ pub fn wrong_pair(alloc: Global, cert: &mut Saturation) -> Result<Option<(usize,
     ensures whole { OnOk result (IsWholeSaturation cert.new) }
     ensures first { IfOk result (IsFirstWrongPairOf (IsRightPair (saturation_of cert.old))) }
 {
+    let partners = find_partners(alloc, cert)?;
     let mut bindings = Bindings::new(alloc);
     for i in 0..cert.base.members.len() {
-        if let Some(right) = wrong_partner(alloc, cert, &mut bindings, i)? {
+        if let Some(right) = wrong_partner(alloc, cert, &mut bindings, &partners, i)? {
             return Ok(Some((i + 1, right)));
         }
     }

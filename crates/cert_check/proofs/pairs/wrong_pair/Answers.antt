@@ -1,9 +1,10 @@
-use Rattle.std.proofs.Common.{ℕ, suc, subst, add-one, arith, below_more}
+use Rattle.std.proofs.Common.{ℕ, suc, subst, sym, add-one, arith, below_more}
 use Rattle.std.proofs.lemmas.List.{length-map}
 use Rattle.cert_format.specs.Certificate as format
 use Rattle.cert_format.specs.Validity.{IsRightPair}
 use Rattle.saturation_cert.specs.Values.{saturation_of, entry_of}
 use Rattle.cert_check.specs.Firsts.{IsFirstWrong}
+use Rattle.cert_check.specs.Partners.{LeadThrough}
 use Rattle.cert_check.proofs.Bases.{none_wrong, some_wrong}
 use Rattle.cert_check.proofs.Saturations.{saturation_same, keeps_saturation_trans}
 use Rattle.cert_check.proofs.PairScans.{valid_kept, placed_kept, first_pair, all_pairs}
@@ -14,6 +15,12 @@ wrong_partner-requires-clause-base c = valid_kept c.args.cert.now c.loop-i.cert 
 
 pub wrong_partner-requires-clause-placed : goal.wrong_partner-requires-clause-placed
 wrong_partner-requires-clause-placed c = placed_kept c.args.cert.now c.loop-i.cert c.requires.whole c.loop-i.invariant.kept c.requires.placed
+
+pub wrong_partner-requires-clause-partners : goal.wrong_partner-requires-clause-partners
+wrong_partner-requires-clause-partners c =
+    let same = saturation_same c.args.cert.now c.loop-i.cert c.requires.whole c.loop-i.invariant.kept in
+    let p = c.in_ok-partners.partners in
+    subst (λ (x : format.Saturation). LeadThrough x p.heads.items p.same.items p.opposed.items) (sym same) c.in_ok-partners.ensures
 
 pub returns-in-Some-clause-first : goal.returns-in-Some-clause-first
 returns-in-Some-clause-first c =

@@ -1,12 +1,19 @@
-use Rattle.std.proofs.Common.{ℕ, suc, ◌<◌}
+use Rattle.std.proofs.Common.{◌≡◌, ◌-◌, ℕ, suc, ◌<◌, ◌≤◌, length}
 use Rattle.cert_format.specs.Validity.{IsRightPair}
 use Rattle.saturation_cert.specs.Values.{saturation_of}
 use Rattle.saturation_cert.specs.Wholes.{IsWholeSaturation, KeepsSaturation}
+use Rattle.cert_check.specs.Partners.{head_at, opposite}
 use Rattle.cert_check.proofs.pairs.wrong_partner.Given as goal
 
 abbrev pub invariant-loop-j : goal.invariant-loop-j
 invariant-loop-j l = record {
   kept : KeepsSaturation l.fn.cert l.cert;
   whole : IsWholeSaturation l.cert;
+  later : l.i < l.j;
+  within : l.j ≤ length l.partners.heads.items;
+  at : l.j < length l.partners.heads.items → head_at l.partners.heads.items l.j ≡ opposite (head_at l.partners.heads.items l.i);
   before : (k : ℕ) → k < l.j → IsRightPair (saturation_of l.fn.cert) (suc l.i) (suc k);
 }
+
+abbrev pub decreases-loop-j : goal.decreases-loop-j
+decreases-loop-j l = length l.partners.heads.items - l.j

@@ -1,0 +1,154 @@
+-- Partners by the heads of selected literals, and chains through them.
+use Rattle.std.proofs.Common.{◌≡◌, inl, inr, ℕ, suc, ◌<◌, ◌≤◌, List, [], ◌∷◌, ◌++◌, ◌+◌, length, get_or, set, refl, ap, sym, ◌∙◌, subst, arith, below_more, get_or-set_other, get_or-set_same, true, false, not, Bool, Option, None, Some, cond}
+use Rattle.std.specs.Prelude.{option_map, unwrap_or}
+use Rattle.std.proofs.lemmas.Bool.{cases_lt}
+use Rattle.std.proofs.lemmas.List.{length-set}
+use Rattle.std.proofs.Math.ListN.{get_or-append}
+use Rattle.std.proofs.Math.Seq.{get_or-append_seam}
+use Rattle.std.proofs.lemmas.Option.{same_Some}
+use Rattle.inst_logic.specs.declared.symbol.Sym.{Sym}
+use Rattle.inst_logic.specs.Tree.{Tree, var, app}
+use Rattle.inst_logic.specs.Substitution.{subst as apply, Substitution}
+use Rattle.inst_logic.specs.Unifiers.{Sided, IsUnifier}
+use Rattle.inst_logic.specs.WellFormed.{IsAtom}
+use Rattle.term_bank.specs.Forest.{number_of, symbol_of, tree_at}
+use Rattle.cert_format.specs.Certificate as format
+use Rattle.cert_format.specs.Validity.{IsRightPair}
+use Rattle.saturation_cert.specs.declared.certificate.Saturation.{Saturation}
+use Rattle.saturation_cert.specs.Values.{saturation_of}
+use Rattle.clause_form.specs.Literals.{id_eq}
+use Rattle.indexmap.specs.IndexMap.{IndexMap, get}
+use Rattle.std.specs.Map.{lookup}
+use Rattle.clause_form.proofs.Assembly.{id_eq_decides}
+use Rattle.cert_check.specs.Partners.{Head, head_at, opposite, IsHeadOf, AreApart, IsNext, AreChained, LeadThrough}
+use Rattle.cert_check.proofs.PairScans.{same_sign, no_unifier, no_pair}
+
+-- an atom has a symbol
+pub atom_symbol : (t : Tree) → IsAtom t → ¬ (symbol_of t ≡ None)
+atom_symbol (var v) h e = absurd (cc)
+atom_symbol (app f ts) h e = absurd (cc)
+
+-- and an instance has the same
+symbol_under : (s : Substitution) (t : Tree) (f : Sym) → symbol_of t ≡ Some f → symbol_of (apply s t) ≡ Some f
+symbol_under s (var v) f e = absurd (cc)
+symbol_under s (app g ts) f e = e
+
+number_there : (n : ℕ) (g : Sym → ℕ) (o : Option Sym) → Some n ≡ option_map g o → (f : Sym) × (o ≡ Some f) × (n ≡ g f)
+number_there n g None e = absurd (cc)
+number_there n g (Some f) e = (f, refl, same_Some n (g f) e)
+
+signs : (p q : Bool) → ¬ (p ≡ q) → q ≡ not p
+signs true true h = absurd (h refl)
+signs true false h = refl
+signs false true h = refl
+signs false false h = absurd (h refl)
+
+sign_cases : (p q : Bool) (P : Type 0) → (p ≡ q → P) → (¬ (p ≡ q) → P) → P
+sign_cases true true P same other = same refl
+sign_cases true false P same other = other (λ e. absurd (cc))
+sign_cases false true P same other = other (λ e. absurd (cc))
+sign_cases false false P same other = same refl
+
+module _ (c : Saturation) (i j : ℕ) (less : i < j) (h k : Head) (left : IsHeadOf c i h) (right : IsHeadOf c j k) where
+  numbers_differ : ¬ (k ≡ opposite h) → ¬ (left.literal.positive ≡ right.literal.positive) → ¬ (h.atom ≡ k.atom)
+  numbers_differ other apart same =
+      let s : k.positive ≡ not h.positive = signs h.positive k.positive (λ e. apart (sym left.sign ∙ e ∙ right.sign)) in
+      other (λ z. record { positive = s z; atom = sym same z })
+
+  none_unifies : ¬ (h.atom ≡ k.atom) → (u : Sided) → ¬ IsUnifier u (tree_at c.base.bank left.literal.atom) (tree_at c.base.bank right.literal.atom)
+  none_unifies differ u e =
+      let (f, p, m) = number_there h.atom (number_of c.base.bank.symbols) (symbol_of (tree_at c.base.bank left.literal.atom)) left.number in
+      let (g, q, n) = number_there k.atom (number_of c.base.bank.symbols) (symbol_of (tree_at c.base.bank right.literal.atom)) right.number in
+      let same : Some f ≡ Some g = sym (symbol_under u.left (tree_at c.base.bank left.literal.atom) f p) ∙ ap symbol_of e ∙ symbol_under u.right (tree_at c.base.bank right.literal.atom) g q in
+      differ (m ∙ ap (number_of c.base.bank.symbols) (same_Some f g same) ∙ sym n)
+
+  pub apart_by_heads : ¬ (k ≡ opposite h) → IsRightPair (saturation_of c) (suc i) (suc j)
+  apart_by_heads other =
+      sign_cases left.literal.positive right.literal.positive (IsRightPair (saturation_of c) (suc i) (suc j))
+      (same_sign c i j less left.literal right.literal left.is right.is)
+      (λ apart. no_unifier c i j less left.literal right.literal left.is right.is (none_unifies (numbers_differ other apart)))
+
+pub all_apart : (c : Saturation) (hs : List Head) → ((k : ℕ) → k < length hs → IsHeadOf c k (head_at hs k)) → AreApart (saturation_of c) hs
+all_apart c hs each i j less within = apart_by_heads c i j less (head_at hs i) (head_at hs j) (each i (omega arith)) (each j within)
+
+-- places of heads
+module _ (hs : List Head) where
+  pub next_none : (h : Head) → IsNext hs h (length hs) (length hs)
+  next_none h = record { from_there = omega arith; within = omega arith; at = λ l. absurd (omega arith); before = λ k p q. absurd (omega arith) }
+
+  next_here : (h : Head) (i : ℕ) → i < length hs → head_at hs i ≡ h → IsNext hs h i i
+  next_here h i within e = record { from_there = omega arith; within = omega arith; at = λ l. e; before = λ k p q. absurd (omega arith) }
+
+  next_before : (h : Head) (i p : ℕ) → ¬ (head_at hs i ≡ h) → IsNext hs h (suc i) p → IsNext hs h i p
+  next_before h i p other n =
+      let from = n.from_there in
+      record { from_there = omega arith; within = n.within; at = n.at; before = λ k q r. elim (cases_lt i k) [ inl less ↦ n.before k (omega arith) r | inr more ↦ (let e : i ≡ k = omega arith in subst (λ m. ¬ (head_at hs m ≡ h)) e other) ] }
+
+  -- the map after place i
+  pub more_first : (i : ℕ) → i < length hs → (f g : Head → Option ℕ) → ((h : Head) → g h ≡ cond (id_eq (head_at hs i) h) (Some i) (f h))
+      → ((h : Head) → IsNext hs h (suc i) (unwrap_or (f h) (length hs))) → (h : Head) → IsNext hs h i (unwrap_or (g h) (length hs))
+  more_first i within f g new old h = subst (λ (o : Option ℕ). IsNext hs h i (unwrap_or o (length hs))) (sym (new h)) (by (id_eq (head_at hs i) h) refl)
+    where
+      by : (b : Bool) → id_eq (head_at hs i) h ≡ b → IsNext hs h i (unwrap_or (cond b (Some i) (f h)) (length hs))
+      by true e = next_here h i within ((id_eq_decides (head_at hs i) h).0 e)
+      by false e = next_before h i (unwrap_or (f h) (length hs)) (λ same. let t : false ≡ true = sym e ∙ (id_eq_decides (head_at hs i) h).1 same in cc) (old h)
+
+  -- the chains after place j, which follows it
+  pub more_chained : (same other : List ℕ) (i j a b : ℕ) → i ≡ suc j → i ≤ length hs → AreChained hs same other i → IsNext hs (head_at hs j) (suc j) a → IsNext hs (opposite (head_at hs j)) (suc j) b
+      → AreChained hs (set same j a) (set other j b) j
+  more_chained same other i j a b e within old n m = record {
+    same_length = length-set same j a ∙ old.same_length;
+    opposed_length = length-set other j b ∙ old.opposed_length;
+    to_same = λ k from less. elim (cases_lt j k) [
+      | inl later ↦ subst (IsNext hs (head_at hs k) (suc k)) (sym (get_or-set_other same j k a 0 (omega arith))) (old.to_same k (omega arith) less)
+      | inr here ↦ let same_place : j ≡ k = omega arith in
+          subst (λ q. IsNext hs (head_at hs q) (suc q) (get_or (set same j a) q 0)) same_place
+          (subst (IsNext hs (head_at hs j) (suc j)) (sym (get_or-set_same same j a 0 (let l = old.same_length in omega arith))) n)
+    ];
+    to_opposed = λ k from less. elim (cases_lt j k) [
+      | inl later ↦ subst (IsNext hs (opposite (head_at hs k)) (suc k)) (sym (get_or-set_other other j k b 0 (omega arith))) (old.to_opposed k (omega arith) less)
+      | inr here ↦ let same_place : j ≡ k = omega arith in
+          subst (λ q. IsNext hs (opposite (head_at hs q)) (suc q) (get_or (set other j b) q 0)) same_place
+          (subst (IsNext hs (opposite (head_at hs j)) (suc j)) (sym (get_or-set_same other j b 0 (let l = old.opposed_length in omega arith))) m)
+    ];
+  }
+
+  pub none_chained : (same other : List ℕ) → length same ≡ length hs → length other ≡ length hs → AreChained hs same other (length hs)
+  none_chained same other e f = record { same_length = e; opposed_length = f; to_same = λ k from less. absurd (omega arith); to_opposed = λ k from less. absurd (omega arith) }
+
+-- the map at the start
+pub empty_first : (hs : List Head) (n : ℕ) → n ≡ length hs → {S : Type 0} (m : IndexMap Head ℕ S) → m.entries ≡ [] → (h : Head) → IsNext hs h n (unwrap_or (get id_eq m h) (length hs))
+empty_first hs n e m empty h =
+    let none : get id_eq m h ≡ None = ap (lookup (id_eq h)) empty in
+    subst (λ (o : Option ℕ). IsNext hs h n (unwrap_or o (length hs))) (sym none) (subst (λ k. IsNext hs h k (length hs)) (sym e) (next_none hs h))
+
+pub one_more_head : (c : Saturation) (hs : List Head) (i : ℕ) (h : Head) → length hs ≡ i → ((k : ℕ) → k < i → IsHeadOf c k (head_at hs k)) → IsHeadOf c i h → (k : ℕ) → k < i + 1 → IsHeadOf c k (head_at (hs ++ h ∷ []) k)
+one_more_head c hs i h len each last =
+    below_more (λ k. IsHeadOf c k (head_at (hs ++ h ∷ []) k)) i
+    (λ k less. subst (IsHeadOf c k) (sym (get_or-append hs (h ∷ []) _ k (omega arith))) (each k less))
+    (subst (λ n. IsHeadOf c n (head_at (hs ++ h ∷ []) n)) len (subst (IsHeadOf c (length hs)) (sym (get_or-append_seam hs h [] _)) (subst (λ n. IsHeadOf c n h) (sym len) last)))
+
+-- the scan over the later members of the opposite head
+module _ (c : format.Saturation) (hs : List Head) (same opposed : List ℕ) (lead : LeadThrough c hs same opposed) (i : ℕ) (inside : i < length hs) where
+  pub first_partner_at : IsNext hs (opposite (head_at hs i)) (suc i) (get_or opposed i 0)
+  first_partner_at = lead.chained.to_opposed i (omega arith) inside
+
+  pub partners_begin : (k : ℕ) → k < get_or opposed i 0 → IsRightPair c (suc i) (suc k)
+  partners_begin k less = elim (cases_lt i k) [
+    | inl later ↦ lead.apart i k later (let w = first_partner_at.within in omega arith) (first_partner_at.before k (omega arith) less)
+    | inr early ↦ no_pair c (suc i) (suc k) (λ l. omega arith)
+  ]
+
+  -- place j has the opposite head, and so has the place that it leads to
+  module _ (j : ℕ) (later : i < j) (within : j < length hs) (at : head_at hs j ≡ opposite (head_at hs i)) where
+    pub next_partner : IsNext hs (opposite (head_at hs i)) (suc j) (get_or same j 0)
+    next_partner = subst (λ (h : Head). IsNext hs h (suc j) (get_or same j 0)) at (lead.chained.to_same j (omega arith) within)
+
+    pub partners_go_on : ((k : ℕ) → k < j → IsRightPair c (suc i) (suc k)) → IsRightPair c (suc i) (suc j) → (k : ℕ) → k < get_or same j 0 → IsRightPair c (suc i) (suc k)
+    partners_go_on before here k less = elim (cases_lt k j) [
+      | inl early ↦ before k early
+      | inr not_early ↦ elim (cases_lt j k) [
+        | inl past ↦ lead.apart i k (omega arith) (let w = next_partner.within in omega arith) (next_partner.before k (omega arith) less)
+        | inr not_past ↦ let e : j ≡ k = omega arith in subst (λ n. IsRightPair c (suc i) (suc n)) e here
+      ]
+    ]

@@ -1,0 +1,11 @@
+use Rattle.std.proofs.Common.{suc, sym}
+use Rattle.term_bank.specs.Forest.{tree_at}
+use Rattle.cert_check.proofs.Closings.{selected_atom}
+use Rattle.cert_check.proofs.HeadLaws.{atom_symbol}
+use Rattle.cert_check.proofs.partners.head.Goals as goal
+
+pub unreachable-requires : goal.unreachable-requires
+unreachable-requires c =
+    let cert = c.args.cert.now in
+    let l = c.selected-l.result.now in
+    atom_symbol (tree_at cert.base.bank l.atom) (selected_atom cert c.requires.whole (suc c.args.i) l c.selected-l.ensures) (sym c.in-None.ensures.symbol)
