@@ -8,6 +8,10 @@ pub mod renumber;
 pub mod subsumption;
 #[cfg(test)]
 mod subsumption_tests;
+#[cfg(test)]
+mod test_clauses;
+#[cfg(test)]
+mod tests;
 mod walk;
 
 pub use compare::{clause_size, tautology, variant};

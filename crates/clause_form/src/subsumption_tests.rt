@@ -1,41 +1,10 @@
 // Subsumption of small clauses: literals may share a candidate, and their variables are bound once.
 use crate::subsumption::subsumes;
-use inst_logic::{Clause, Kind, Literal, Memory, Name, Sym, Term, TermList};
+use crate::test_clauses::{constant, literal, pair, proposition};
+use inst_logic::{Clause, Memory, Term};
 use std::alloc::Global;
 use std::test::Fail;
 use term_bank::Bank;
-
-// a, or b and the like
-fn constant(alloc: Global, name: &[u8]) -> Result<Term, Memory> {
-    let sym = Sym {
-        kind: Kind::Function,
-        name: Name::of(alloc, name)?,
-        arity: 0,
-    };
-    Ok(Term::App(sym, TermList::new(alloc)))
-}
-
-// The predicate of this term.
-fn literal(alloc: Global, name: &[u8], arg: Term) -> Result<Literal, Memory> {
-    let mut args = TermList::new(alloc);
-    args.push(arg)?;
-    Ok(Literal {
-        positive: true,
-        sym: Sym {
-            kind: Kind::Predicate,
-            name: Name::of(alloc, name)?,
-            arity: 1,
-        },
-        args,
-    })
-}
-
-fn pair(alloc: Global, one: Literal, other: Literal) -> Result<Clause, Memory> {
-    let mut c = Clause::new(alloc);
-    c.push(one)?;
-    c.push(other)?;
-    Ok(c)
-}
 
 fn answer(alloc: Global, f: &Clause, c: &Clause) -> Result<bool, Memory> {
     let mut bank = Bank::new(alloc);
@@ -44,17 +13,17 @@ fn answer(alloc: Global, f: &Clause, c: &Clause) -> Result<bool, Memory> {
     subsumes(alloc, &bank, &pattern, &target)
 }
 
-// p(X0) | p(X1) and p(a) | q(a)
+// p(X0) | p(X1) and p(a) | q
 fn shared_candidate(alloc: Global) -> Result<bool, Memory> {
     let f = pair(
         alloc,
-        literal(alloc, b"p", Term::Var(0))?,
-        literal(alloc, b"p", Term::Var(1))?,
+        literal(alloc, true, b"p", Term::Var(0))?,
+        literal(alloc, true, b"p", Term::Var(1))?,
     )?;
     let c = pair(
         alloc,
-        literal(alloc, b"p", constant(alloc, b"a")?)?,
-        literal(alloc, b"q", constant(alloc, b"a")?)?,
+        literal(alloc, true, b"p", constant(alloc, b"a")?)?,
+        proposition(alloc, b"q")?,
     )?;
     answer(alloc, &f, &c)
 }
@@ -63,13 +32,13 @@ fn shared_candidate(alloc: Global) -> Result<bool, Memory> {
 fn one_variable(alloc: Global) -> Result<bool, Memory> {
     let f = pair(
         alloc,
-        literal(alloc, b"p", Term::Var(0))?,
-        literal(alloc, b"q", Term::Var(0))?,
+        literal(alloc, true, b"p", Term::Var(0))?,
+        literal(alloc, true, b"q", Term::Var(0))?,
     )?;
     let c = pair(
         alloc,
-        literal(alloc, b"p", constant(alloc, b"a")?)?,
-        literal(alloc, b"q", constant(alloc, b"b")?)?,
+        literal(alloc, true, b"p", constant(alloc, b"a")?)?,
+        literal(alloc, true, b"q", constant(alloc, b"b")?)?,
     )?;
     answer(alloc, &f, &c)
 }
