@@ -1,9 +1,12 @@
 // Questions whose answers are known.
-ghost use Rattle.std.specs.Prelude.{◌≡◌, ◌+◌, ◌<◌, ◌≤◌, OnOk};
+ghost use Rattle.std.specs.Prelude.{◌≡◌, ◌+◌, ◌<◌, ◌≤◌, IfOk, OnOk};
+ghost use Rattle.prop_logic.specs.Literal.{AllAtomsBelow, StepsBelow};
 
 use crate::Cdcl;
 use inst_logic::Memory;
-use prop_logic::{Answer, Lit, Plain, Solver};
+use proof_log::Checker;
+use prop_logic::{Answer, Derivation, Lit, LitList, LitLists, Plain, Solver};
+use std::alloc::Global;
 use std::test::Fail;
 
 fn lit(atom: usize, positive: bool) -> Lit
@@ -134,5 +137,67 @@ fn clauses_of_forty_pairs_are_left_out(rt: HostRuntime) -> Result<(), Fail> {
         summary(&answer).map(|r| (r.core, r.steps <= 64)),
         Some((0, true))
     );
+    Ok(())
+}
+
+// The eight clauses of atoms 0, 1 and 2 with all signs.
+fn all_signs(alloc: Global) -> Result<LitLists, Memory>
+    ensures { IfOk result (AllAtomsBelow 3) }
+{
+    let mut clauses = LitLists::new(alloc);
+    for bits in 0..8u8 {
+        let signs = [
+            lit(0, bits & 1 != 0),
+            lit(1, bits & 2 != 0),
+            lit(2, bits & 4 != 0),
+        ];
+        clauses.push(LitList::from(Vec::from_slice(alloc, &signs)?))?;
+    }
+    Ok(clauses)
+}
+
+fn add_all<S: Solver>(solver: &mut S, clauses: &LitLists) -> Result<(), Memory>
+    requires { AllAtomsBelow (S.atoms solver.old) clauses.now }
+    ensures { OnOk result (S.atoms solver.new ≡ S.atoms solver.old) }
+{
+    for clause in clauses.as_slice() {
+        solver.add(clause.as_slice())?;
+    }
+    Ok(())
+}
+
+// Whether the checker says that the steps refute the clauses over three atoms.
+fn is_refuted(alloc: Global, given: &LitLists, derivation: &Derivation) -> Result<bool, Memory>
+    requires given { AllAtomsBelow 3 given.now }
+    requires derivation { StepsBelow 3 derivation.now }
+{
+    let mut checker = Checker::with_room(alloc, 3, given, derivation)?;
+    Ok(checker.refutes(given, derivation).is_ok())
+}
+
+// The length of the core, and whether the checker accepts the derivation.
+fn checked<S: Solver>(
+    alloc: Global,
+    solver: &mut S,
+    given: &LitLists,
+) -> Result<Option<(usize, bool)>, Memory>
+    requires given { AllAtomsBelow 3 given.now }
+    requires atoms { S.atoms solver.old ≡ 3 }
+{
+    match solver.solve(&[])? {
+        Answer::Sat(_) => Ok(None),
+        Answer::Unsat { core, derivation } => {
+            Ok(Some((core.len(), is_refuted(alloc, given, &derivation)?)))
+        }
+    }
+}
+
+#[test]
+fn the_checker_accepts_what_refutes_eight_clauses(rt: HostRuntime) -> Result<(), Fail> {
+    let given = all_signs(rt.alloc())?;
+    let mut cdcl = Cdcl::new(rt.alloc());
+    make_atoms(&mut cdcl, 3)?;
+    add_all(&mut cdcl, &given)?;
+    assert_eq!(rt; checked(rt.alloc(), &mut cdcl, &given)?, Some((0, true)));
     Ok(())
 }
