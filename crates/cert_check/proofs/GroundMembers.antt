@@ -32,32 +32,6 @@ use Rattle.saturation_cert.specs.Wholes.{IsWholeClause}
 use Rattle.cert_check.specs.Grounds.{AreCanonicalMembers}
 use Rattle.cert_check.proofs.Bases.{member_canonical}
 
--- there are no more variables than symbols and variables
-mutual
-  tree_few : (t : Tree) → length (tree_vars t) ≤ tree_size t
-  tree_few (var v) = omega arith
-  tree_few (app s ts) = let h = trees_few ts in omega (arith, h)
-
-  trees_few : (ts : Trees) → length (trees_vars ts) ≤ trees_size ts
-  trees_few none = omega arith
-  trees_few (more t ts) = let h = tree_few t in let k = trees_few ts in let e = length-append (tree_vars t) (trees_vars ts) in omega (arith, h, k, e)
-
-clause_few : (c : TreeClause) → length (clause_vars c) ≤ clause_size c
-clause_few [] = omega arith
-clause_few (l ∷ c) =
-    let h = tree_few l.atom in
-    let k = clause_few c in
-    let e = length-append (tree_vars l.atom) (clause_vars c) in
-    let s = sum_by-cons (λ (x : Signed Tree). tree_size x.atom) l c in
-    omega (arith, h, k, e, s)
-
-pub few_variables : (c : TreeClause) → length (order_of c) ≤ clause_size c
-few_variables c = let h = length_distinct nat_eq Decides-eqb (clause_vars c) in let k = clause_few c in omega (arith, h, k)
-
--- a size that is not the greatest number is that of the clause
-pub enough_variables : (c : TreeClause) (size : ℕ) → size ≡ min (clause_size c) (2 ^ 64 - 1) → ¬ (size ≡ 2 ^ 64 - 1) → length (order_of c) ≤ size
-enough_variables c size e n = let h = few_variables c in grind (arith, h, e, n)
-
 -- where each of the terms is the same, so is the instance
 pub same_instance : (f : Forest) (terms : List ℕ) (term : ℕ) (c : TreeClause) → IsCanonical c → length (order_of c) ≤ length terms → All (λ id. id ≡ term) terms
     → instance (by_terms f terms) c ≡ instance (λ _. tree_at f term) c

@@ -4,13 +4,16 @@ use Rattle.std.specs.Prelude.{slice_get, option_map, Any, All, Bool, IsTrue}
 use Rattle.std.proofs.lemmas.List.{map-append, length-append}
 use Rattle.std.proofs.lemmas.Option.{slice_get-map, slice_get_within, same_Some}
 use Rattle.inst_logic.specs.declared.signed.Signed.{Signed}
+use Rattle.inst_logic.specs.Tree.{var}
+use Rattle.inst_logic.specs.Substitution.{subst_literal}
 use Rattle.inst_logic.specs.Signed.{IsTautology}
 use Rattle.inst_logic.specs.Clauses.{TreeClause, Subsumes}
 use Rattle.inst_logic.specs.Derivations.{at_number}
 use Rattle.inst_calculus.specs.Axioms.{equality_axioms, with_axioms}
 use Rattle.inst_calculus.specs.Entries.{Entry}
-use Rattle.inst_calculus.proofs.Membership.{◌∈◌, any_in, in_any, all_in, in_map, from_map, in_either}
-use Rattle.term_bank.specs.Forest.{clause_at, IsClauseOf}
+use Rattle.inst_calculus.proofs.Membership.{◌∈◌, any_in, in_any, all_in, in_map, from_map, in_either, equal_in}
+use Rattle.inst_calculus.proofs.Clauses.{literal_var, within_part}
+use Rattle.term_bank.specs.Forest.{Forest, clause_at, IsClauseOf}
 use Rattle.cert_format.specs.Validity.{IsRightInput}
 use Rattle.cert_format.specs.declared.complaint.Complaint.TheVariants.{Axiom}
 use Rattle.saturation_cert.specs.declared.member.Member.{Member}
@@ -19,6 +22,15 @@ use Rattle.saturation_cert.specs.Values.{base_of, saturation_of, entry_of}
 use Rattle.saturation_cert.specs.Wholes.{IsWholeClause, IsWholeSaturation}
 use Rattle.cert_check.specs.Bases.{IsValidBase}
 use Rattle.cert_check.specs.Firsts.{IsFirstWrong}
+
+-- a clause that is a member is subsumed by one
+pub member_subsumes : (f : Forest) (ms : List Member) (c : List (Signed ℕ)) → Any (λ (m : Member). m.clause ≡ c) ms → Any (λ (m : Member). Subsumes (clause_at f m.clause) (clause_at f c)) ms
+member_subsumes f ms c any =
+    let (m, i, same) = any_in (λ (m : Member). m.clause ≡ c) ms any in
+    in_any (λ (m : Member). Subsumes (clause_at f m.clause) (clause_at f c)) m ms i (subst (λ (d : List (Signed ℕ)). Subsumes (clause_at f m.clause) (clause_at f d)) same (itself (clause_at f m.clause)))
+  where
+    itself : (d : TreeClause) → Subsumes d d
+    itself d = (var, within_part var d d (λ l j. equal_in l (subst_literal var l) d (sym (literal_var l)) j))
 
 -- lists with equal items at each place
 same_items : {A : Type 0} (xs ys : List A) → ((k : ℕ) → slice_get xs k ≡ slice_get ys k) → xs ≡ ys

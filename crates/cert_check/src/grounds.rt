@@ -9,23 +9,28 @@ ghost use Rattle.saturation_cert.specs.Wholes.{IsWholeClause};
 ghost use Rattle.term_bank.specs.Forest.{AreFormed, Extends, IsClauseAt, IsClauseOf, clause_at, tree_at};
 ghost use Rattle.cert_check.specs.Grounds.{AreCanonicalMembers};
 
-use clause_form::{clause_size, under};
+use clause_form::renumber::renumbered;
+use clause_form::under;
 use inst_logic::{Memory, Sym};
 use saturation_cert::MemberList;
 use std::alloc::Global;
 use term_bank::{Bank, IdClause, IdClauseList, TermId, TermIdList};
 
-// The id as often as the clause has symbols and variables, and so for each of its variables.
-fn repeated(alloc: Global, bank: &Bank, term: TermId, c: &IdClause) -> Result<TermIdList, Memory>
-    requires { IsClauseOf bank.now c.now }
-    ensures enough { IfOk result (λ ids. length (order_of (clause_at bank.now c.now)) ≤ length ids) }
+// The id once for each variable of the clause.
+fn repeated(
+    alloc: Global,
+    bank: &mut Bank,
+    term: TermId,
+    c: &IdClause,
+) -> Result<TermIdList, Memory>
+    requires { IsClauseOf bank.old c.now }
+    ensures enough { IfOk result (λ ids. length (order_of (clause_at bank.old c.now)) ≤ length ids) }
     ensures same { IfOk result (All (λ id. id ≡ term)) }
+    ensures extends { Extends bank.old bank.new }
+    ensures formed { AreFormed bank.old → AreFormed bank.new }
 {
-    let size = clause_size(bank, c);
-    if size == u64::MAX {
-        return Err(Memory);
-    }
-    let ids = vec![in alloc; term; size as usize]?;
+    let built = renumbered(alloc, bank, c)?;
+    let ids = vec![in alloc; term; built.variables]?;
     Ok(TermIdList::from(ids))
 }
 

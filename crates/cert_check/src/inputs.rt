@@ -1,5 +1,5 @@
 // The check that the members stand for the inputs and axioms.
-ghost use Rattle.std.specs.Prelude.{◌≡◌, ◌↔◌, ◌⊎◌, ◌++◌, ◌+◌, length, suc, All, Any, IfOk, IsTrue, option_copied, slice_get};
+ghost use Rattle.std.specs.Prelude.{◌≡◌, ◌↔◌, ◌⊎◌, ◌++◌, ◌+◌, length, suc, true, All, Any, IfOk, IsTrue, option_copied, slice_get};
 ghost use Rattle.inst_logic.specs.Signed.{IsTautology};
 ghost use Rattle.inst_logic.specs.Clauses.{Subsumes};
 ghost use Rattle.cert_format.specs.Validity.{IsRightInput};
@@ -9,7 +9,7 @@ ghost use Rattle.saturation_cert.specs.Wholes.{IsWholeSaturation};
 ghost use Rattle.cert_check.specs.Bases.{IsValidBase};
 ghost use Rattle.cert_check.specs.Firsts.{IsFirstWrongOf};
 
-use crate::difference::distinct_trees;
+use crate::difference::{distinct_trees, same_clause};
 use clause_form::{subsumes, tautology};
 use indexmap::IndexMap;
 use inst_logic::Memory;
@@ -46,6 +46,16 @@ fn sources(alloc: Global, members: &[Member]) -> Result<IndexMap<usize, usize>, 
     Ok(places)
 }
 
+// Whether the clause is that of the member at this place. A clause that is canonical is its own member.
+fn is_member(members: &[Member], place: Option<usize>, c: &IdClause) -> bool
+    ensures { result ≡ true → Any (λ m. m.clause ≡ c.now) members.now }
+{
+    match place {
+        None => false,
+        Some(i) => i < members.len() && same_clause(&members[i].clause, c),
+    }
+}
+
 // Whether some member subsumes the clause.
 fn is_subsumed(alloc: Global, bank: &Bank, members: &[Member], c: &IdClause) -> Result<bool, Memory>
     requires members { All (λ m. IsClauseOf bank.now m.clause) members.now }
@@ -65,15 +75,17 @@ fn is_subsumed_first(
     alloc: Global,
     bank: &Bank,
     members: &[Member],
-    first: usize,
+    first: Option<usize>,
     c: &IdClause,
 ) -> Result<bool, Memory>
     requires members { All (λ m. IsClauseOf bank.now m.clause) members.now }
     requires clause { IsClauseOf bank.now c.now }
     ensures { IfOk result (λ r. IsTrue r ↔ Any (λ m. Subsumes (clause_at bank.now m.clause) (clause_at bank.now c.now)) members.now) }
 {
-    if first < members.len() && subsumes(alloc, bank, &members[first].clause, c)? {
-        return Ok(true);
+    if let Some(i) = first {
+        if i < members.len() && subsumes(alloc, bank, &members[i].clause, c)? {
+            return Ok(true);
+        }
     }
     is_subsumed(alloc, bank, members, c)
 }
@@ -83,13 +95,16 @@ fn is_met(
     alloc: Global,
     bank: &Bank,
     members: &[Member],
-    first: usize,
+    first: Option<usize>,
     c: &IdClause,
 ) -> Result<bool, Memory>
     requires members { All (λ m. IsClauseOf bank.now m.clause) members.now }
     requires clause { IsClauseOf bank.now c.now }
     ensures { IfOk result (λ r. IsTrue r ↔ IsTautology (clause_at bank.now c.now) ⊎ Any (λ m. Subsumes (clause_at bank.now m.clause) (clause_at bank.now c.now)) members.now) }
 {
+    if is_member(members, first, c) {
+        return Ok(true);
+    }
     distinct_trees(bank);
     if tautology(c) {
         return Ok(true);
@@ -98,7 +113,12 @@ fn is_met(
 }
 
 // Whether clause `i`, counted from 0, of the inputs and axioms is a tautology or subsumed by some member.
-fn is_right_input(alloc: Global, cert: &Saturation, first: usize, i: usize) -> Result<bool, Memory>
+fn is_right_input(
+    alloc: Global,
+    cert: &Saturation,
+    first: Option<usize>,
+    i: usize,
+) -> Result<bool, Memory>
     requires whole { IsWholeSaturation cert.now }
     requires base { IsValidBase (base_of cert.now.base) }
     ensures { IfOk result (λ r. IsTrue r ↔ IsRightInput (saturation_of cert.now) (suc i)) }
@@ -119,7 +139,7 @@ pub fn wrong_input(alloc: Global, cert: &Saturation) -> Result<Option<usize>, Me
     let places = sources(alloc, cert.base.members.as_slice())?;
     for i in 0..stated_count(&cert.base) {
         let number = i + 1;
-        let first = places.get(&number).copied().unwrap_or(usize::MAX);
+        let first = places.get(&number).copied();
         if !is_right_input(alloc, cert, first, i)? {
             return Ok(Some(number));
         }

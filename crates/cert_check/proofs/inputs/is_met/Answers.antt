@@ -1,9 +1,12 @@
-use Rattle.std.proofs.Common.{◌≡◌, ◌∙◌, sym, true, false}
+use Rattle.std.proofs.Common.{◌≡◌, ◌∙◌, inr, refl, sym, true, false}
 use Rattle.std.proofs.lemmas.Result.{IfOk-weaker}
 use Rattle.inst_logic.specs.Signed.{IsTautology}
 use Rattle.term_bank.specs.Forest.{clause_at}
-use Rattle.cert_check.proofs.InputScans.{met_or}
+use Rattle.cert_check.proofs.InputScans.{member_subsumes, met_or}
 use Rattle.cert_check.proofs.inputs.is_met.Goals as goal
+
+pub returns-then-is_member : goal.returns-then-is_member
+returns-then-is_member c = ((λ t. inr (member_subsumes c.args.bank.now c.args.members.now c.args.c.now (c.is_member.ensures c.if-is_member.true))), (λ h. refl))
 
 pub returns : goal.returns
 returns c =
