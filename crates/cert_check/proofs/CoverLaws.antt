@@ -1,6 +1,6 @@
 -- Covered instances over a bank that grows.
 use Rattle.std.proofs.Common.{◌≡◌, ◌↔◌, inl, inr, ℕ, ◌<◌, List, length, map, ap, sym, ◌∙◌, subst, arith}
-use Rattle.std.specs.Prelude.{All}
+use Rattle.std.specs.Prelude.{All, Any, Bool, IsTrue}
 use Rattle.std.proofs.lemmas.List.{length-map}
 use Rattle.inst_logic.specs.declared.signed.Signed.{Signed}
 use Rattle.inst_logic.specs.Clauses.{TreeClause, canonical_form, instance, Subsumes, IsCanonical}
@@ -8,7 +8,10 @@ use Rattle.inst_calculus.specs.Saturation.{IsCovered, tautology, variant, shorte
 use Rattle.inst_calculus.proofs.CanonicalForms.{canonical_of_canonical}
 use Rattle.inst_calculus.proofs.CoveredInstances.{covered_when_renamed}
 use Rattle.inst_calculus.proofs.Membership.{◌∈◌, any_in, in_any, all_in, in_all, in_map, from_map, contains_in, in_contains}
-use Rattle.term_bank.specs.Forest.{Forest, Extends, IsClauseOf, clause_at}
+use Rattle.inst_logic.specs.Signed.{IsTautology}
+use Rattle.clause_form.specs.Conclusions.{AreCanonicalIn}
+use Rattle.clause_form.proofs.Ids.{variants_equal}
+use Rattle.term_bank.specs.Forest.{Forest, AreDistinct, Extends, IsClauseOf, clause_at}
 use Rattle.term_bank.proofs.Clauses.{clause_extends}
 use Rattle.unify_core.specs.Chains.{AreBindings}
 use Rattle.unify_core.specs.Sides.{Binding, of_side}
@@ -18,7 +21,7 @@ use Rattle.clause_form.proofs.Concluded.{solution_of}
 use Rattle.saturation_cert.specs.declared.member.Member.{Member}
 use Rattle.saturation_cert.specs.Truths.{literal_at}
 use Rattle.saturation_cert.specs.Wholes.{IsWholeClause}
-use Rattle.cert_check.specs.Covers.{Covers, CoversOf, IsCoveredIn, AreCanonicalMembers}
+use Rattle.cert_check.specs.Covers.{Covers, CoversOf, ShorterOf, IsCoveredIn, AreCanonicalMembers}
 use Rattle.cert_check.proofs.Refutations.{clause_grown}
 
 abbrev pub clause_of : Forest → Member → TreeClause
@@ -73,3 +76,34 @@ conclusion_form f g es x c d ids b h =
     let (s, r) = solution_of f es b in
     let k = (h s r).clause in
     (k.0, subst IsCanonical (sym k.1) (canonical_of_canonical (instance (of_side s x) (clause_at f c))))
+
+-- the members that cover a canonical clause: those with its ids, and shorter ones
+module _ (f : Forest) (ms : List Member) (distinct : AreDistinct f.trees) (ids : All (λ m. IsClauseOf f m.clause) ms) (canonical : AreCanonicalMembers f ms)
+    (c : List (Signed ℕ)) (inside : IsClauseOf f c) (form : IsCanonical (clause_at f c)) (n : ℕ) where
+  both_canonical : (m : Member) → m ∈ ms → AreCanonicalIn f c m.clause
+  both_canonical m i = record {
+    distinct = distinct;
+    left = inside;
+    right = all_in (λ (x : Member). IsClauseOf f x.clause) ms ids m i;
+    left_canonical = form;
+    right_canonical = all_in (λ (x : Member). IsCanonical (clause_at f x.clause)) ms canonical m i;
+  }
+
+  pub known_covers : Any (λ (m : Member). m.clause ≡ c) ms → IsCoveredIn f ms n c
+  known_covers any =
+      let (m, i, same) = any_in (λ (x : Member). x.clause ≡ c) ms any in
+      inr (in_any (CoversOf f n c) m ms i (inl ((variants_equal f c m.clause (both_canonical m i)).0 (sym same))))
+
+  pub shorter_covers : (r : Bool) → ¬ IsTautology (clause_at f c) → ¬ Any (λ (m : Member). m.clause ≡ c) ms → (IsTrue r ↔ Any (ShorterOf f n c) ms) → IsTrue r ↔ IsCoveredIn f ms n c
+  shorter_covers r other unknown h = (λ t. forward (h.0 t), back)
+    where
+      forward : Any (ShorterOf f n c) ms → IsCoveredIn f ms n c
+      forward any = let (m, i, s) = any_in (ShorterOf f n c) ms any in inr (in_any (CoversOf f n c) m ms i (inr s))
+
+      of_member : (m : Member) → m ∈ ms → CoversOf f n c m → IsTrue r
+      of_member m i (inl v) = absurd (unknown (in_any (λ (x : Member). x.clause ≡ c) m ms i (sym ((variants_equal f c m.clause (both_canonical m i)).1 v))))
+      of_member m i (inr s) = h.1 (in_any (ShorterOf f n c) m ms i s)
+
+      back : IsCoveredIn f ms n c → IsTrue r
+      back (inl t) = absurd (other t)
+      back (inr any) = let (m, i, k) = any_in (CoversOf f n c) ms any in of_member m i k

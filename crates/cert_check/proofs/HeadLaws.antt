@@ -20,7 +20,8 @@ use Rattle.clause_form.specs.Literals.{id_eq}
 use Rattle.indexmap.specs.IndexMap.{IndexMap, get}
 use Rattle.std.specs.Map.{lookup}
 use Rattle.clause_form.proofs.Assembly.{id_eq_decides}
-use Rattle.cert_check.specs.Partners.{Head, head_at, opposite, IsHeadOf, AreApart, IsNext, AreChained, LeadThrough}
+use Rattle.inst_logic.specs.Signed.{complement}
+use Rattle.cert_check.specs.Partners.{Head, head_at, IsHeadOf, AreApart, IsNext, AreChained, LeadThrough}
 use Rattle.cert_check.proofs.PairScans.{same_sign, no_unifier, no_pair}
 
 -- an atom has a symbol
@@ -50,7 +51,7 @@ sign_cases false true P same other = other (λ e. absurd (cc))
 sign_cases false false P same other = same refl
 
 module _ (c : Saturation) (i j : ℕ) (less : i < j) (h k : Head) (left : IsHeadOf c i h) (right : IsHeadOf c j k) where
-  numbers_differ : ¬ (k ≡ opposite h) → ¬ (left.literal.positive ≡ right.literal.positive) → ¬ (h.atom ≡ k.atom)
+  numbers_differ : ¬ (k ≡ complement h) → ¬ (left.literal.positive ≡ right.literal.positive) → ¬ (h.atom ≡ k.atom)
   numbers_differ other apart same =
       let s : k.positive ≡ not h.positive = signs h.positive k.positive (λ e. apart (sym left.sign ∙ e ∙ right.sign)) in
       other (λ z. record { positive = s z; atom = sym same z })
@@ -62,7 +63,7 @@ module _ (c : Saturation) (i j : ℕ) (less : i < j) (h k : Head) (left : IsHead
       let same : Some f ≡ Some g = sym (symbol_under u.left (tree_at c.base.bank left.literal.atom) f p) ∙ ap symbol_of e ∙ symbol_under u.right (tree_at c.base.bank right.literal.atom) g q in
       differ (m ∙ ap (number_of c.base.bank.symbols) (same_Some f g same) ∙ sym n)
 
-  pub apart_by_heads : ¬ (k ≡ opposite h) → IsRightPair (saturation_of c) (suc i) (suc j)
+  pub apart_by_heads : ¬ (k ≡ complement h) → IsRightPair (saturation_of c) (suc i) (suc j)
   apart_by_heads other =
       sign_cases left.literal.positive right.literal.positive (IsRightPair (saturation_of c) (suc i) (suc j))
       (same_sign c i j less left.literal right.literal left.is right.is)
@@ -94,7 +95,7 @@ module _ (hs : List Head) where
       by false e = next_before h i (unwrap_or (f h) (length hs)) (λ same. let t : false ≡ true = sym e ∙ (id_eq_decides (head_at hs i) h).1 same in cc) (old h)
 
   -- the chains after place j, which follows it
-  pub more_chained : (same other : List ℕ) (i j a b : ℕ) → i ≡ suc j → i ≤ length hs → AreChained hs same other i → IsNext hs (head_at hs j) (suc j) a → IsNext hs (opposite (head_at hs j)) (suc j) b
+  pub more_chained : (same other : List ℕ) (i j a b : ℕ) → i ≡ suc j → i ≤ length hs → AreChained hs same other i → IsNext hs (head_at hs j) (suc j) a → IsNext hs (complement (head_at hs j)) (suc j) b
       → AreChained hs (set same j a) (set other j b) j
   more_chained same other i j a b e within old n m = record {
     same_length = length-set same j a ∙ old.same_length;
@@ -106,10 +107,10 @@ module _ (hs : List Head) where
           (subst (IsNext hs (head_at hs j) (suc j)) (sym (get_or-set_same same j a 0 (let l = old.same_length in omega arith))) n)
     ];
     to_opposed = λ k from less. elim (cases_lt j k) [
-      | inl later ↦ subst (IsNext hs (opposite (head_at hs k)) (suc k)) (sym (get_or-set_other other j k b 0 (omega arith))) (old.to_opposed k (omega arith) less)
+      | inl later ↦ subst (IsNext hs (complement (head_at hs k)) (suc k)) (sym (get_or-set_other other j k b 0 (omega arith))) (old.to_opposed k (omega arith) less)
       | inr here ↦ let same_place : j ≡ k = omega arith in
-          subst (λ q. IsNext hs (opposite (head_at hs q)) (suc q) (get_or (set other j b) q 0)) same_place
-          (subst (IsNext hs (opposite (head_at hs j)) (suc j)) (sym (get_or-set_same other j b 0 (let l = old.opposed_length in omega arith))) m)
+          subst (λ q. IsNext hs (complement (head_at hs q)) (suc q) (get_or (set other j b) q 0)) same_place
+          (subst (IsNext hs (complement (head_at hs j)) (suc j)) (sym (get_or-set_same other j b 0 (let l = old.opposed_length in omega arith))) m)
     ];
   }
 
@@ -130,7 +131,7 @@ one_more_head c hs i h len each last =
 
 -- the scan over the later members of the opposite head
 module _ (c : format.Saturation) (hs : List Head) (same opposed : List ℕ) (lead : LeadThrough c hs same opposed) (i : ℕ) (inside : i < length hs) where
-  pub first_partner_at : IsNext hs (opposite (head_at hs i)) (suc i) (get_or opposed i 0)
+  pub first_partner_at : IsNext hs (complement (head_at hs i)) (suc i) (get_or opposed i 0)
   first_partner_at = lead.chained.to_opposed i (omega arith) inside
 
   pub partners_begin : (k : ℕ) → k < get_or opposed i 0 → IsRightPair c (suc i) (suc k)
@@ -140,8 +141,8 @@ module _ (c : format.Saturation) (hs : List Head) (same opposed : List ℕ) (lea
   ]
 
   -- place j has the opposite head, and so has the place that it leads to
-  module _ (j : ℕ) (later : i < j) (within : j < length hs) (at : head_at hs j ≡ opposite (head_at hs i)) where
-    pub next_partner : IsNext hs (opposite (head_at hs i)) (suc j) (get_or same j 0)
+  module _ (j : ℕ) (later : i < j) (within : j < length hs) (at : head_at hs j ≡ complement (head_at hs i)) where
+    pub next_partner : IsNext hs (complement (head_at hs i)) (suc j) (get_or same j 0)
     next_partner = subst (λ (h : Head). IsNext hs h (suc j) (get_or same j 0)) at (lead.chained.to_same j (omega arith) within)
 
     pub partners_go_on : ((k : ℕ) → k < j → IsRightPair c (suc i) (suc k)) → IsRightPair c (suc i) (suc j) → (k : ℕ) → k < get_or same j 0 → IsRightPair c (suc i) (suc k)

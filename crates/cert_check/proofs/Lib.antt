@@ -19,3 +19,4 @@ pub mod ShownTrees
 pub mod MemberOrigins
 pub mod SymbolWalk
 pub mod HeadLaws
+pub mod LookupLaws

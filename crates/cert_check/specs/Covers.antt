@@ -6,9 +6,17 @@ use Rattle.inst_logic.specs.Clauses.{TreeClause, IsCanonical, Subsumes, AreVaria
 use Rattle.term_bank.specs.Forest.{Forest, clause_at}
 use Rattle.saturation_cert.specs.declared.member.Member.{Member}
 
--- e is a variant of d, or has fewer literals and an instance whose literals are all in d
+-- e has fewer literals, and an instance whose literals are all in d
+abbrev pub IsShorter : ℕ → TreeClause → TreeClause → Type 0
+IsShorter n d e = (length e < n) × Subsumes e d
+
+-- the member's clause is so for the clause d of ids
+abbrev pub ShorterOf : Forest → ℕ → List (Signed ℕ) → Member → Type 0
+ShorterOf f n d m = IsShorter n (clause_at f d) (clause_at f m.clause)
+
+-- e is a variant of d, or is so
 abbrev pub Covers : ℕ → TreeClause → TreeClause → Type 0
-Covers n d e = AreVariants d e ⊎ ((length e < n) × Subsumes e d)
+Covers n d e = AreVariants d e ⊎ IsShorter n d e
 
 -- the member's clause covers the clause d of ids
 abbrev pub CoversOf : Forest → ℕ → List (Signed ℕ) → Member → Type 0

@@ -1,6 +1,7 @@
 -- Which members can be partners by the heads of their selected literals, and chains through the members of one head.
-use Rattle.std.specs.Prelude.{◌≡◌, ℕ, suc, ◌<◌, ◌≤◌, List, length, false, not, Some, option_map, slice_index_or}
+use Rattle.std.specs.Prelude.{◌≡◌, ℕ, suc, ◌<◌, ◌≤◌, List, length, false, Some, option_map, slice_index_or}
 use Rattle.inst_logic.specs.declared.signed.Signed.{Signed}
+use Rattle.inst_logic.specs.Signed.{complement}
 use Rattle.term_bank.specs.Forest.{number_of, symbol_of, tree_at}
 use Rattle.cert_format.specs.Certificate as format
 use Rattle.cert_format.specs.Validity.{IsRightPair}
@@ -14,9 +15,6 @@ Head = Signed ℕ
 abbrev pub head_at : List Head → ℕ → Head
 head_at hs i = slice_index_or hs i (record { positive = false; atom = 0 })
 
-abbrev pub opposite : Head → Head
-opposite h = record { positive = not h.positive; atom = h.atom }
-
 -- the head of the selected literal of member i, counted from 0
 pub record IsHeadOf (c : Saturation) (i : ℕ) (h : Head) : Type 0 where
   pub literal : Signed ℕ
@@ -24,9 +22,9 @@ pub record IsHeadOf (c : Saturation) (i : ℕ) (h : Head) : Type 0 where
   pub sign : h.positive ≡ literal.positive
   pub number : Some h.atom ≡ option_map (number_of c.base.bank.symbols) (symbol_of (tree_at c.base.bank literal.atom))
 
--- members whose heads are not opposite are right partners
+-- members whose heads are not complements are right partners
 abbrev pub AreApart : format.Saturation → List Head → Type 0
-AreApart c hs = (i j : ℕ) → i < j → j < length hs → ¬ (head_at hs j ≡ opposite (head_at hs i)) → IsRightPair c (suc i) (suc j)
+AreApart c hs = (i j : ℕ) → i < j → j < length hs → ¬ (head_at hs j ≡ complement (head_at hs i)) → IsRightPair c (suc i) (suc j)
 
 -- the first place of the head from one on, or the length where there is none
 pub record IsNext (hs : List Head) (h : Head) (from p : ℕ) : Type 0 where
@@ -35,12 +33,12 @@ pub record IsNext (hs : List Head) (h : Head) (from p : ℕ) : Type 0 where
   pub at : p < length hs → head_at hs p ≡ h
   pub before : (k : ℕ) → from ≤ k → k < p → ¬ (head_at hs k ≡ h)
 
--- from place i on: the next place of the same head, and the next one of the opposite head
+-- from place i on: the next place of the same head, and the next one of its complement
 pub record AreChained (hs : List Head) (same opposed : List ℕ) (i : ℕ) : Type 0 where
   pub same_length : length same ≡ length hs
   pub opposed_length : length opposed ≡ length hs
   pub to_same : (k : ℕ) → i ≤ k → k < length hs → IsNext hs (head_at hs k) (suc k) (slice_index_or same k 0)
-  pub to_opposed : (k : ℕ) → i ≤ k → k < length hs → IsNext hs (opposite (head_at hs k)) (suc k) (slice_index_or opposed k 0)
+  pub to_opposed : (k : ℕ) → i ≤ k → k < length hs → IsNext hs (complement (head_at hs k)) (suc k) (slice_index_or opposed k 0)
 
 -- the chains leave out no pair that is not right
 pub record LeadThrough (c : format.Saturation) (hs : List Head) (same opposed : List ℕ) : Type 0 where

@@ -9,18 +9,20 @@ ghost use Rattle.unify_core.specs.Chains.{AreBindings};
 ghost use Rattle.unify_core.specs.Sides.{IsResolvedBy, of_side};
 ghost use Rattle.unify_core.specs.Terms.{AreTerms};
 ghost use Rattle.saturation_cert.specs.Wholes.{IsWholeClause};
-ghost use Rattle.cert_check.specs.Covers.{AreCanonicalMembers, Covers, CoversOf, IsCoveredIn};
+ghost use Rattle.cert_check.specs.Covers.{AreCanonicalMembers, IsCoveredIn, IsShorter, ShorterOf};
+ghost use Rattle.cert_check.specs.Lookups.{IsLookup};
 
 use crate::difference::distinct_trees;
-use clause_form::{conclude, subsumes, tautology, variant};
+use crate::lookup::Lookup;
+use clause_form::{conclude, subsumes, tautology};
 use inst_logic::Memory;
 use saturation_cert::Member;
 use std::alloc::Global;
 use term_bank::{Bank, IdClause};
 use unify_core::{Bindings, Side};
 
-// Whether the member is a variant of the clause, or has fewer literals than this many and subsumes it.
-fn covers(
+// Whether the member has fewer literals than this many and subsumes the clause.
+fn is_shorter(
     alloc: Global,
     bank: &Bank,
     member: &IdClause,
@@ -28,23 +30,17 @@ fn covers(
     c: &IdClause,
 ) -> Result<bool, Memory>
     requires member { IsClauseOf bank.now member.now }
-    requires member_canonical { IsCanonical (clause_at bank.now member.now) }
     requires clause { IsClauseOf bank.now c.now }
-    requires canonical { IsCanonical (clause_at bank.now c.now) }
-    ensures { IfOk result (λ r. IsTrue r ↔ Covers len (clause_at bank.now c.now) (clause_at bank.now member.now)) }
+    ensures { IfOk result (λ r. IsTrue r ↔ IsShorter len (clause_at bank.now c.now) (clause_at bank.now member.now)) }
 {
-    distinct_trees(bank);
-    if variant(c, member) {
-        return Ok(true);
-    }
     if member.len() >= len {
         return Ok(false);
     }
     subsumes(alloc, bank, member, c)
 }
 
-// Whether some member covers the clause.
-fn some_covers(
+// Whether some member is so.
+fn some_shorter(
     alloc: Global,
     bank: &Bank,
     members: &[Member],
@@ -52,29 +48,29 @@ fn some_covers(
     c: &IdClause,
 ) -> Result<bool, Memory>
     requires members { All (λ m. IsClauseOf bank.now m.clause) members.now }
-    requires members_canonical { AreCanonicalMembers bank.now members.now }
     requires clause { IsClauseOf bank.now c.now }
-    requires canonical { IsCanonical (clause_at bank.now c.now) }
-    ensures { IfOk result (λ r. IsTrue r ↔ Any (CoversOf bank.now len c.now) members.now) }
+    ensures { IfOk result (λ r. IsTrue r ↔ Any (ShorterOf bank.now len c.now) members.now) }
 {
     for member in members {
-        if covers(alloc, bank, &member.clause, len, c)? {
+        if is_shorter(alloc, bank, &member.clause, len, c)? {
             return Ok(true);
         }
     }
     Ok(false)
 }
 
-// Whether the clause, an instance of one with this many literals, is covered by the members.
+// Whether the clause, an instance of one with this many literals, is covered by the members. A variant is looked up.
 fn has_cover(
     alloc: Global,
     bank: &Bank,
     members: &[Member],
+    lookup: &Lookup,
     len: usize,
     c: &IdClause,
 ) -> Result<bool, Memory>
     requires members { All (λ m. IsClauseOf bank.now m.clause) members.now }
     requires members_canonical { AreCanonicalMembers bank.now members.now }
+    requires lookup { IsLookup bank.now members.now lookup.now }
     requires clause { IsClauseOf bank.now c.now }
     requires canonical { IsCanonical (clause_at bank.now c.now) }
     ensures { IfOk result (λ r. IsTrue r ↔ IsCoveredIn bank.now members.now len c.now) }
@@ -83,7 +79,10 @@ fn has_cover(
     if tautology(c) {
         return Ok(true);
     }
-    some_covers(alloc, bank, members, len, c)
+    if lookup.has(c) {
+        return Ok(true);
+    }
+    some_shorter(alloc, bank, members, len, c)
 }
 
 // Whether the instance of the side's clause under the bindings is covered by the members.
@@ -91,12 +90,14 @@ pub fn is_covered(
     alloc: Global,
     bank: &mut Bank,
     members: &[Member],
+    lookup: &Lookup,
     bindings: &Bindings,
     side: Side,
     c: &IdClause,
 ) -> Result<bool, Memory>
     requires members { All (λ m. IsWholeClause bank.old m.clause) members.now }
     requires members_canonical { AreCanonicalMembers bank.old members.now }
+    requires lookup { IsLookup bank.old members.now lookup.now }
     requires clause { IsWholeClause bank.old c.now }
     requires canonical { IsCanonical (clause_at bank.old c.now) }
     requires bindings { AreBindings bank.old bindings.now.entries }
@@ -105,5 +106,5 @@ pub fn is_covered(
     ensures covered { IfOk result (λ r. (s : Sided) → IsResolvedBy bank.old bindings.now.entries s → IsTrue r ↔ IsCovered (map (λ m. clause_at bank.old m.clause) members.now) (clause_at bank.old c.now) (instance (of_side s side) (clause_at bank.old c.now))) }
 {
     let conclusion = conclude(alloc, bank, bindings, side, c)?;
-    has_cover(alloc, bank, members, c.len(), &conclusion.clause)
+    has_cover(alloc, bank, members, lookup, c.len(), &conclusion.clause)
 }

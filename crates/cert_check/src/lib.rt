@@ -10,6 +10,7 @@ mod difference;
 pub mod error;
 mod grounds;
 mod inputs;
+mod lookup;
 mod origin;
 mod pairs;
 mod partners;

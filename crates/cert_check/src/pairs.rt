@@ -9,10 +9,11 @@ ghost use Rattle.cert_check.specs.Bases.{IsValidBase};
 ghost use Rattle.cert_check.specs.Closings.{IsPairClosed, IsProperSomewhere, IsSideClosed, IsSideCovered};
 ghost use Rattle.cert_check.specs.FirstPairs.{IsFirstWrongPairOf};
 ghost use Rattle.cert_check.specs.Firsts.{IsFirstWrongOf};
+ghost use Rattle.cert_check.specs.Lookups.{IsLookup};
 ghost use Rattle.cert_check.specs.Partners.{LeadThrough};
 
 use crate::cover::is_covered;
-use crate::partners::{Partners, find_partners};
+use crate::lookup::{Lookup, find_lookup};
 use inst_logic::Memory;
 use saturation_cert::{Saturation, selected};
 use std::alloc::Global;
@@ -34,6 +35,7 @@ fn is_proper(bank: &Bank, bindings: &Bindings) -> bool
 fn is_side_covered(
     alloc: Global,
     cert: &mut Saturation,
+    lookup: &Lookup,
     bindings: &Bindings,
     side: Side,
     i: usize,
@@ -41,6 +43,7 @@ fn is_side_covered(
     requires whole { IsWholeSaturation cert.old }
     requires base { IsValidBase (base_of cert.old.base) }
     requires placed { HasPlaces (saturation_of cert.old) }
+    requires lookup { IsLookup cert.old.base.bank cert.old.base.members lookup.now }
     requires within { i < length cert.old.base.members }
     requires bindings { AreBindings cert.old.base.bank bindings.now.entries }
     requires terms { AreTerms cert.old.base.bank bindings.now.entries }
@@ -54,6 +57,7 @@ fn is_side_covered(
         alloc,
         &mut cert.base.bank,
         members,
+        lookup,
         bindings,
         side,
         &member.clause,
@@ -64,6 +68,7 @@ fn is_side_covered(
 fn is_side_closed(
     alloc: Global,
     cert: &mut Saturation,
+    lookup: &Lookup,
     bindings: &Bindings,
     side: Side,
     i: usize,
@@ -71,6 +76,7 @@ fn is_side_closed(
     requires whole { IsWholeSaturation cert.old }
     requires base { IsValidBase (base_of cert.old.base) }
     requires placed { HasPlaces (saturation_of cert.old) }
+    requires lookup { IsLookup cert.old.base.bank cert.old.base.members lookup.now }
     requires within { i < length cert.old.base.members }
     requires bindings { AreBindings cert.old.base.bank bindings.now.entries }
     requires terms { AreTerms cert.old.base.bank bindings.now.entries }
@@ -79,7 +85,7 @@ fn is_side_closed(
     ensures closed { IfOk result (IsSideClosed cert.old bindings.now.entries side (suc i)) }
 {
     if bindings.proper(&cert.base.bank, side) {
-        return is_side_covered(alloc, cert, bindings, side, i);
+        return is_side_covered(alloc, cert, lookup, bindings, side, i);
     }
     Ok(true)
 }
@@ -88,6 +94,7 @@ fn is_side_closed(
 fn is_closed(
     alloc: Global,
     cert: &mut Saturation,
+    lookup: &Lookup,
     bindings: &Bindings,
     i: usize,
     j: usize,
@@ -95,6 +102,7 @@ fn is_closed(
     requires whole { IsWholeSaturation cert.old }
     requires base { IsValidBase (base_of cert.old.base) }
     requires placed { HasPlaces (saturation_of cert.old) }
+    requires lookup { IsLookup cert.old.base.bank cert.old.base.members lookup.now }
     requires left { i < length cert.old.base.members }
     requires right { j < length cert.old.base.members }
     requires bindings { AreBindings cert.old.base.bank bindings.now.entries }
@@ -106,16 +114,17 @@ fn is_closed(
     if !is_proper(&cert.base.bank, bindings) {
         return Ok(false);
     }
-    if !is_side_closed(alloc, cert, bindings, Side::Left, i)? {
+    if !is_side_closed(alloc, cert, lookup, bindings, Side::Left, i)? {
         return Ok(false);
     }
-    is_side_closed(alloc, cert, bindings, Side::Right, j)
+    is_side_closed(alloc, cert, lookup, bindings, Side::Right, j)
 }
 
 // Whether the selected literals of members `i` and `j`, counted from 0, do not unify with opposite signs, or are closed.
 fn is_right_pair(
     alloc: Global,
     cert: &mut Saturation,
+    lookup: &Lookup,
     bindings: &mut Bindings,
     i: usize,
     j: usize,
@@ -123,6 +132,7 @@ fn is_right_pair(
     requires whole { IsWholeSaturation cert.old }
     requires base { IsValidBase (base_of cert.old.base) }
     requires placed { HasPlaces (saturation_of cert.old) }
+    requires lookup { IsLookup cert.old.base.bank cert.old.base.members lookup.now }
     requires left { i < j }
     requires right { j < length cert.old.base.members }
     ensures kept { KeepsSaturation cert.old cert.new }
@@ -137,7 +147,7 @@ fn is_right_pair(
     if !bindings.unify(&cert.base.bank, l.atom, m.atom)? {
         return Ok(true);
     }
-    is_closed(alloc, cert, bindings, i, j)
+    is_closed(alloc, cert, lookup, bindings, i, j)
 }
 
 // The number of the first later member that is no right partner of member `i`, counted from 0. Only those are tried whose
@@ -145,23 +155,25 @@ fn is_right_pair(
 fn wrong_partner(
     alloc: Global,
     cert: &mut Saturation,
+    lookup: &Lookup,
     bindings: &mut Bindings,
-    partners: &Partners,
     i: usize,
 ) -> Result<Option<usize>, Memory>
     requires whole { IsWholeSaturation cert.old }
     requires base { IsValidBase (base_of cert.old.base) }
     requires placed { HasPlaces (saturation_of cert.old) }
+    requires lookup { IsLookup cert.old.base.bank cert.old.base.members lookup.now }
     requires within { i < length cert.old.base.members }
-    requires partners { LeadThrough (saturation_of cert.old) partners.now.heads.items partners.now.same.items partners.now.opposed.items }
+    requires partners { LeadThrough (saturation_of cert.old) lookup.now.partners.heads.items lookup.now.partners.same.items lookup.now.partners.opposed.items }
     ensures kept { KeepsSaturation cert.old cert.new }
     ensures whole { OnOk result (IsWholeSaturation cert.new) }
     ensures first { IfOk result (IsFirstWrongOf (IsRightPair (saturation_of cert.old) (suc i))) }
 {
     let count = cert.base.members.len();
+    let partners = &lookup.partners;
     let mut j = partners.opposed[i];
     while j < count {
-        if !is_right_pair(alloc, cert, bindings, i, j)? {
+        if !is_right_pair(alloc, cert, lookup, bindings, i, j)? {
             return Ok(Some(j + 1));
         }
         j = partners.same[j];
@@ -178,10 +190,10 @@ pub fn wrong_pair(alloc: Global, cert: &mut Saturation) -> Result<Option<(usize,
     ensures whole { OnOk result (IsWholeSaturation cert.new) }
     ensures first { IfOk result (IsFirstWrongPairOf (IsRightPair (saturation_of cert.old))) }
 {
-    let partners = find_partners(alloc, cert)?;
+    let lookup = find_lookup(alloc, cert)?;
     let mut bindings = Bindings::new(alloc);
     for i in 0..cert.base.members.len() {
-        if let Some(right) = wrong_partner(alloc, cert, &mut bindings, &partners, i)? {
+        if let Some(right) = wrong_partner(alloc, cert, &lookup, &mut bindings, i)? {
             return Ok(Some((i + 1, right)));
         }
     }

@@ -5,7 +5,8 @@ ghost use Rattle.indexmap.specs.IndexMap.{get};
 ghost use Rattle.clause_form.specs.Literals.{id_eq};
 ghost use Rattle.saturation_cert.specs.Values.{saturation_of};
 ghost use Rattle.saturation_cert.specs.Wholes.{HasPlaces, IsWholeSaturation};
-ghost use Rattle.cert_check.specs.Partners.{AreApart, AreChained, IsHeadOf, LeadThrough, opposite};
+ghost use Rattle.cert_check.specs.Partners.{AreApart, AreChained, IsHeadOf, LeadThrough};
+ghost use Rattle.inst_logic.specs.Signed.{complement};
 
 use indexmap::IndexMap;
 use inst_logic::{Memory, Signed};
@@ -56,7 +57,7 @@ fn heads(alloc: Global, cert: &Saturation) -> Result<Vec<Head>, Memory>
 }
 
 fn opposed(head: Head) -> Head
-    ensures { result ≡ opposite head }
+    ensures { result ≡ complement head }
 {
     Signed {
         positive: !head.positive,

@@ -3,6 +3,7 @@ use Rattle.std.proofs.lemmas.Result.{IfOk-weaker}
 use Rattle.std.specs.Prelude.{IsTrue}
 use Rattle.cert_check.specs.Covers.{IsCoveredIn}
 use Rattle.cert_check.proofs.CoverLaws.{members_later, canonical_later, conclusion_form, covered_in}
+use Rattle.cert_check.proofs.LookupLaws.{lookup_later}
 use Rattle.cert_check.proofs.cover.is_covered.Goals as goal
 
 pub has_cover-requires-clause-members : goal.has_cover-requires-clause-members
@@ -10,6 +11,9 @@ has_cover-requires-clause-members c = λ k d w. (members_later c.args.bank.now c
 
 pub has_cover-requires-clause-members_canonical : goal.has_cover-requires-clause-members_canonical
 has_cover-requires-clause-members_canonical c = canonical_later c.args.bank.now c.conclude.new.bank c.conclude.ensures.extends c.args.members.now c.requires.members c.requires.members_canonical
+
+pub has_cover-requires-clause-lookup : goal.has_cover-requires-clause-lookup
+has_cover-requires-clause-lookup c = lookup_later c.args.bank.now c.conclude.new.bank c.conclude.ensures.extends c.args.members.now c.requires.members c.args.lookup.now c.requires.lookup
 
 pub has_cover-requires-clause-clause : goal.has_cover-requires-clause-clause
 has_cover-requires-clause-clause c =

@@ -3,6 +3,7 @@ use Rattle.std.proofs.lemmas.Result.{IfOk-weaker}
 use Rattle.unify_core.specs.declared.side.Side.TheVariants.{Right}
 use Rattle.unify_core.proofs.Stays.{bindings_stay}
 use Rattle.clause_form.proofs.Concluded.{terms_later}
+use Rattle.cert_check.proofs.LookupLaws.{lookup_kept}
 use Rattle.cert_check.proofs.PairScans.{valid_kept, placed_kept}
 use Rattle.cert_check.proofs.Closings.{open_left, both_sides, side_before}
 use Rattle.cert_check.proofs.pairs.is_closed.Goals as goal
@@ -16,6 +17,9 @@ is_side_closed-requires-2-clause-base c = valid_kept c.args.cert.now c.is_side_c
 
 pub is_side_closed-requires-2-clause-placed : goal.is_side_closed-requires-2-clause-placed
 is_side_closed-requires-2-clause-placed c = placed_kept c.args.cert.now c.is_side_closed.new.cert c.requires.whole c.is_side_closed.ensures.kept c.requires.placed
+
+pub is_side_closed-requires-2-clause-lookup : goal.is_side_closed-requires-2-clause-lookup
+is_side_closed-requires-2-clause-lookup c = lookup_kept c.args.cert.now c.is_side_closed.new.cert c.requires.whole c.is_side_closed.ensures.kept c.args.lookup.now c.requires.lookup
 
 pub is_side_closed-requires-2-clause-bindings : goal.is_side_closed-requires-2-clause-bindings
 is_side_closed-requires-2-clause-bindings c = bindings_stay c.args.cert.now.base.bank c.is_side_closed.new.cert.base.bank c.args.bindings.now.entries c.is_side_closed.ensures.kept.base.bank c.requires.bindings

@@ -5,12 +5,16 @@ use Rattle.inst_logic.specs.Clauses.{IsCanonical}
 use Rattle.saturation_cert.specs.declared.member.Member.{Member}
 use Rattle.saturation_cert.specs.Wholes.{IsWholeClause}
 use Rattle.cert_check.specs.Covers.{AreCanonicalMembers}
+use Rattle.cert_check.specs.Lookups.{IsLookup}
 use Rattle.cert_check.proofs.Closings.{canonical_members, covered_here}
 use Rattle.cert_check.proofs.Refutations.{whole_base}
 use Rattle.cert_check.proofs.pairs.is_side_covered.Goals as goal
 
 pub is_covered-requires-clause-members_canonical : goal.is_covered-requires-clause-members_canonical
 is_covered-requires-clause-members_canonical c = subst (AreCanonicalMembers c.args.cert.now.base.bank) (sym c.as_slice-members.ensures) (canonical_members c.args.cert.now c.requires.base)
+
+pub is_covered-requires-clause-lookup : goal.is_covered-requires-clause-lookup
+is_covered-requires-clause-lookup c = subst (λ (ms : List Member). IsLookup c.args.cert.now.base.bank ms c.args.lookup.now) (sym c.as_slice-members.ensures) c.requires.lookup
 
 pub is_covered-requires-clause-clause : goal.is_covered-requires-clause-clause
 is_covered-requires-clause-clause c =

@@ -5,6 +5,7 @@ use Rattle.cert_format.specs.Validity.{IsRightPair}
 use Rattle.saturation_cert.specs.Values.{saturation_of, entry_of}
 use Rattle.cert_check.specs.Firsts.{IsFirstWrong}
 use Rattle.cert_check.specs.Partners.{LeadThrough}
+use Rattle.cert_check.proofs.LookupLaws.{lookup_kept}
 use Rattle.cert_check.proofs.Bases.{none_wrong, some_wrong}
 use Rattle.cert_check.proofs.Saturations.{saturation_same, keeps_saturation_trans}
 use Rattle.cert_check.proofs.PairScans.{valid_kept, placed_kept, first_pair, all_pairs}
@@ -19,8 +20,11 @@ wrong_partner-requires-clause-placed c = placed_kept c.args.cert.now c.loop-i.ce
 pub wrong_partner-requires-clause-partners : goal.wrong_partner-requires-clause-partners
 wrong_partner-requires-clause-partners c =
     let same = saturation_same c.args.cert.now c.loop-i.cert c.requires.whole c.loop-i.invariant.kept in
-    let p = c.in_ok-partners.partners in
-    subst (λ (x : format.Saturation). LeadThrough x p.heads.items p.same.items p.opposed.items) (sym same) c.in_ok-partners.ensures
+    let p = c.in_ok-lookup.lookup.partners in
+    subst (λ (x : format.Saturation). LeadThrough x p.heads.items p.same.items p.opposed.items) (sym same) c.in_ok-lookup.ensures.partners
+
+pub wrong_partner-requires-clause-lookup : goal.wrong_partner-requires-clause-lookup
+wrong_partner-requires-clause-lookup c = lookup_kept c.args.cert.now c.loop-i.cert c.requires.whole c.loop-i.invariant.kept c.in_ok-lookup.lookup c.in_ok-lookup.ensures.lookup
 
 pub returns-in-Some-clause-first : goal.returns-in-Some-clause-first
 returns-in-Some-clause-first c =

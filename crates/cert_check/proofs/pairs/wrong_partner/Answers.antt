@@ -3,22 +3,24 @@ use Rattle.std.proofs.lemmas.List.{get_or_default, length-map}
 use Rattle.cert_format.specs.Certificate as format
 use Rattle.cert_format.specs.Validity.{IsRightPair}
 use Rattle.saturation_cert.specs.Values.{saturation_of, entry_of}
-use Rattle.cert_check.specs.Partners.{IsNext, head_at, opposite}
+use Rattle.inst_logic.specs.Signed.{complement}
+use Rattle.cert_check.specs.Partners.{IsNext, head_at}
 use Rattle.cert_check.proofs.HeadLaws.{first_partner_at, partners_begin, next_partner, partners_go_on}
+use Rattle.cert_check.proofs.LookupLaws.{lookup_kept}
 use Rattle.cert_check.proofs.Saturations.{saturation_same, keeps_saturation_trans}
 use Rattle.cert_check.proofs.PairScans.{valid_kept, placed_kept, first_partner, all_partners, keeps_itself}
 use Rattle.cert_check.proofs.pairs.wrong_partner.Goals as goal
 
 pub loop-j-init : goal.loop-j-init
 loop-j-init c =
-    let p = c.args.partners.now in
+    let p = c.args.lookup.now.partners in
     let old = saturation_of c.args.cert.now in
     let count : length p.heads.items ≡ length c.args.cert.now.base.members = c.requires.partners.count ∙ length-map c.args.cert.now.base.members (entry_of c.args.cert.now.base.bank) in
     let inside : c.args.i < length p.heads.items = omega (arith, count, c.requires.within) in
     let there : c.args.i < length p.opposed.items = omega (arith, inside, c.requires.partners.chained.opposed_length) in
     let same : c.index-j.result.now ≡ get_or p.opposed.items c.args.i 0 = c.index-j.ensures ∙ get_or_default p.opposed.items c.args.i c.index-j.result.now 0 there in
-    let next : IsNext p.heads.items (opposite (head_at p.heads.items c.args.i)) (suc c.args.i) c.index-j.result.now =
-    subst (IsNext p.heads.items (opposite (head_at p.heads.items c.args.i)) (suc c.args.i)) (sym same) (first_partner_at old p.heads.items p.same.items p.opposed.items c.requires.partners c.args.i inside) in
+    let next : IsNext p.heads.items (complement (head_at p.heads.items c.args.i)) (suc c.args.i) c.index-j.result.now =
+    subst (IsNext p.heads.items (complement (head_at p.heads.items c.args.i)) (suc c.args.i)) (sym same) (first_partner_at old p.heads.items p.same.items p.opposed.items c.requires.partners c.args.i inside) in
     record {
       kept = keeps_itself c.args.cert.now;
       whole = c.requires.whole;
@@ -34,6 +36,9 @@ is_right_pair-requires-clause-base c = valid_kept c.args.cert.now c.loop-j.cert 
 pub is_right_pair-requires-clause-placed : goal.is_right_pair-requires-clause-placed
 is_right_pair-requires-clause-placed c = placed_kept c.args.cert.now c.loop-j.cert c.requires.whole c.loop-j.invariant.kept c.requires.placed
 
+pub is_right_pair-requires-clause-lookup : goal.is_right_pair-requires-clause-lookup
+is_right_pair-requires-clause-lookup c = lookup_kept c.args.cert.now c.loop-j.cert c.requires.whole c.loop-j.invariant.kept c.args.lookup.now c.requires.lookup
+
 pub returns-then-not-branch-clause-first : goal.returns-then-not-branch-clause-first
 returns-then-not-branch-clause-first c =
     let same = saturation_same c.args.cert.now c.loop-j.cert c.requires.whole c.loop-j.invariant.kept in
@@ -42,7 +47,7 @@ returns-then-not-branch-clause-first c =
 
 pub loop-j-preserved : goal.loop-j-preserved
 loop-j-preserved c =
-    let p = c.args.partners.now in
+    let p = c.args.lookup.now.partners in
     let old = saturation_of c.args.cert.now in
     let here = saturation_same c.args.cert.now c.loop-j.cert c.requires.whole c.loop-j.invariant.kept in
     let count : length p.heads.items ≡ length c.args.cert.now.base.members = c.requires.partners.count ∙ length-map c.args.cert.now.base.members (entry_of c.args.cert.now.base.bank) in
@@ -53,8 +58,8 @@ loop-j-preserved c =
     let there : j < length p.same.items = omega (arith, stays, c.requires.partners.chained.same_length) in
     let same : to ≡ get_or p.same.items j 0 = c.index-j-in-loop-j.ensures ∙ get_or_default p.same.items j to 0 there in
     let at = c.loop-j.invariant.at stays in
-    let next : IsNext p.heads.items (opposite (head_at p.heads.items c.args.i)) (suc j) to =
-    subst (IsNext p.heads.items (opposite (head_at p.heads.items c.args.i)) (suc j)) (sym same) (next_partner old p.heads.items p.same.items p.opposed.items c.requires.partners c.args.i inside j c.loop-j.invariant.later stays at) in
+    let next : IsNext p.heads.items (complement (head_at p.heads.items c.args.i)) (suc j) to =
+    subst (IsNext p.heads.items (complement (head_at p.heads.items c.args.i)) (suc j)) (sym same) (next_partner old p.heads.items p.same.items p.opposed.items c.requires.partners c.args.i inside j c.loop-j.invariant.later stays at) in
     record {
       kept = keeps_saturation_trans c.args.cert.now c.loop-j.cert c.is_right_pair.new.cert c.loop-j.invariant.kept c.is_right_pair.ensures.kept;
       whole = c.in_ok-is_right_pair.ensures.whole;

@@ -2,7 +2,8 @@ use Rattle.std.proofs.Common.{◌≡◌, ◌-◌, ℕ, suc, ◌<◌, ◌≤◌, 
 use Rattle.cert_format.specs.Validity.{IsRightPair}
 use Rattle.saturation_cert.specs.Values.{saturation_of}
 use Rattle.saturation_cert.specs.Wholes.{IsWholeSaturation, KeepsSaturation}
-use Rattle.cert_check.specs.Partners.{head_at, opposite}
+use Rattle.inst_logic.specs.Signed.{complement}
+use Rattle.cert_check.specs.Partners.{head_at}
 use Rattle.cert_check.proofs.pairs.wrong_partner.Given as goal
 
 abbrev pub invariant-loop-j : goal.invariant-loop-j
@@ -11,7 +12,7 @@ invariant-loop-j l = record {
   whole : IsWholeSaturation l.cert;
   later : l.i < l.j;
   within : l.j ≤ length l.partners.heads.items;
-  at : l.j < length l.partners.heads.items → head_at l.partners.heads.items l.j ≡ opposite (head_at l.partners.heads.items l.i);
+  at : l.j < length l.partners.heads.items → head_at l.partners.heads.items l.j ≡ complement (head_at l.partners.heads.items l.i);
   before : (k : ℕ) → k < l.j → IsRightPair (saturation_of l.fn.cert) (suc l.i) (suc k);
 }
 

@@ -1,0 +1,9 @@
+use Rattle.std.proofs.Common.{List, subst}
+use Rattle.saturation_cert.specs.declared.member.Member.{Member}
+use Rattle.cert_check.specs.Lookups.{AreClausesOf}
+use Rattle.cert_check.proofs.lookup.find_lookup.Goals as goal
+
+pub returns-clause-lookup : goal.returns-clause-lookup
+returns-clause-lookup c = record {
+  clauses = subst (λ (ms : List Member). AreClausesOf ms c.in_ok-clauses.clauses.keys) c.as_slice.ensures c.in_ok-clauses.ensures;
+}

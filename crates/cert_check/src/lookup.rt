@@ -1,0 +1,57 @@
+// Look-ups of members.
+ghost use Rattle.std.specs.Prelude.{◌≡◌, IfOk, IsTrue};
+ghost use Rattle.saturation_cert.specs.Values.{saturation_of};
+ghost use Rattle.saturation_cert.specs.Wholes.{HasPlaces, IsWholeSaturation};
+ghost use Rattle.cert_check.specs.Lookups.{AreClausesOf, IsLookup, has_clause};
+ghost use Rattle.cert_check.specs.Partners.{LeadThrough};
+
+use crate::partners::{Partners, find_partners};
+use indexmap::IndexSet;
+use inst_logic::Memory;
+use saturation_cert::{Member, Saturation};
+use std::alloc::Global;
+use term_bank::IdClause;
+
+/// The members' clauses, and the chains through the members whose selected literals have one head.
+#[derive(Drop)]
+pub struct Lookup {
+    pub partners: Partners,
+    clauses: IndexSet<IdClause>,
+}
+
+fn copied(alloc: Global, c: &IdClause) -> Result<IdClause, Memory>
+    ensures { IfOk result (λ d. d ≡ c.now) }
+{
+    Ok(IdClause::from(Vec::from_slice(alloc, c.as_slice())?))
+}
+
+fn clauses_of(alloc: Global, members: &[Member]) -> Result<IndexSet<IdClause>, Memory>
+    ensures { IfOk result (λ s. AreClausesOf members.now s.keys) }
+{
+    let mut clauses: IndexSet<IdClause> = IndexSet::new(alloc);
+    for member in members {
+        let clause = copied(alloc, &member.clause)?;
+        clauses.insert(clause)?;
+    }
+    Ok(clauses)
+}
+
+pub fn find_lookup(alloc: Global, cert: &Saturation) -> Result<Lookup, Memory>
+    requires whole { IsWholeSaturation cert.now }
+    requires placed { HasPlaces (saturation_of cert.now) }
+    ensures lookup { IfOk result (λ l. IsLookup cert.now.base.bank cert.now.base.members l) }
+    ensures partners { IfOk result (λ l. LeadThrough (saturation_of cert.now) l.partners.heads.items l.partners.same.items l.partners.opposed.items) }
+{
+    let partners = find_partners(alloc, cert)?;
+    let clauses = clauses_of(alloc, cert.base.members.as_slice())?;
+    Ok(Lookup { partners, clauses })
+}
+
+impl Lookup {
+    /// Whether the clause is one of the members'.
+    pub fn has(&self, c: &IdClause) -> bool
+        ensures { result ≡ has_clause self.now.clauses.keys c.now }
+    {
+        self.clauses.contains(c)
+    }
+}
