@@ -68,8 +68,8 @@ fn concluded(
 {
     let mut bindings = Bindings::new(alloc);
     if bindings.unify(bank, left, right)? {
-        let conclusion = conclude(alloc, bank, &bindings, Side::Left, c)?;
-        return Ok(Some(conclusion));
+        let made = conclude(alloc, bank, &bindings, Side::Left, c)?;
+        return Ok(Some(made));
     }
     Ok(None)
 }
@@ -188,7 +188,7 @@ fn has_conclusion(
     let expected = bank.clause(wanted)?;
     let d = canonical_ids(alloc, bank, c)?;
     match concluded(alloc, bank, &d, one, other)? {
-        Some(made) => Ok(has_parts(&made, &expected, first, second)),
+        Some(found) => Ok(has_parts(&found, &expected, first, second)),
         None => Ok(false),
     }
 }
