@@ -1,27 +1,25 @@
 -- Marks and counts, and one entry further back.
-use Rattle.std.proofs.Common.{◌≡◌, ◌≢◌, ℕ, suc, zero, ◌+◌, ◌-◌, ◌^◌, ◌<◌, ◌≤◌, min, Bool, true, false, not, cond, ◌⊎◌, inl, inr, List, [], ◌∷◌, ◌++◌, length, map, take, set, get_or, Option, Some, None, refl, sym, ap, ◌∙◌, subst, arith, length-set}
-use Rattle.std.specs.Prelude.{All, AllPairs, Contains, slice_get, reverse, unwrap_or, ◌==◌, ◌&&◌}
-use Rattle.std.proofs.lemmas.List.{get_or-set_same, get_or-set_other, reverse-append}
-use Rattle.std.proofs.lemmas.List.Elements.{All-nil, All-cons, All-push, All-contains, All-weaker, All-contains_itself, Contains-push, Contains-push_cases, Contains-append_left}
-use Rattle.std.proofs.lemmas.Option.{same_Some, slice_get_within}
-use Rattle.std.proofs.lemmas.Bool.{cases_eq, true≢false, false≢true}
+use Rattle.std.proofs.Common.{◌≡◌, ◌≢◌, ℕ, suc, zero, ◌+◌, ◌-◌, ◌^◌, ◌<◌, ◌≤◌, min, Bool, true, false, not, cond, ◌⊎◌, inl, inr, List, [], ◌∷◌, ◌++◌, length, map, take, set, get_or, Option, Some, None, refl, sym, ap, ◌∙◌, subst, arith}
+use Rattle.std.specs.Prelude.{All, AllPairs, Contains, slice_get, unwrap_or, ◌==◌, ◌&&◌}
+use Rattle.std.proofs.lemmas.List.{get_or-set_same, get_or-set_other}
+use Rattle.std.proofs.lemmas.List.Elements.{All-nil, All-cons, All-push, All-contains, All-weaker, Contains-push, Contains-push_cases, Contains-append_left}
+use Rattle.std.proofs.lemmas.Option.{same_Some}
+use Rattle.std.proofs.lemmas.Bool.{cases_eq}
 use Rattle.std.proofs.lemmas.Bool.Decides.{nat_tests}
 use Rattle.inst_logic.specs.declared.signed.Signed.{Signed}
 use Rattle.inst_logic.specs.Signed.{complement}
-use Rattle.inst_logic.specs.Derivations.{IsOnlyOutside, Closes}
+use Rattle.inst_logic.specs.Derivations.{IsOnlyOutside}
 use Rattle.prop_logic.specs.declared.literal.Hint.{Hint}
 use Rattle.prop_logic.specs.Literal.{cited}
 use Rattle.prop_logic.specs.Analysis.{ClosesAll}
-use Rattle.prop_logic.proofs.ListLaws.{All-from_contained, Contains-slice_get, slice_get-Contains, slice_get_take, Contains-take}
+use Rattle.prop_logic.proofs.ListLaws.{All-from_contained, Contains-slice_get, Contains-take}
 use Rattle.cdcl_trail.specs.declared.entry.Entry.{Entry}
-use Rattle.cdcl_trail.specs.Trail.{Trail, IsTrail, IsDecision, level_of, reason_of, literals_of}
+use Rattle.cdcl_trail.specs.Trail.{Trail, IsTrail, IsDecision, level_of}
 use Rattle.cdcl_trail.specs.Propagation.{IsFalseIn, GivesUnit}
 use Rattle.cdcl_core.specs.declared.log.Log.{Log}
 use Rattle.cdcl_core.specs.declared.analysis.Counts.{Counts}
-use Rattle.cdcl_core.specs.declared.analysis.Analysis.{Analysis}
-use Rattle.cdcl_core.specs.Log.{IsNamed}
-use Rattle.cdcl_core.specs.Analysis.{IsMarked, KeepsMarks, is_at, is_off, marked_count, AreCounted, MarksToo, AreImplied, NamesFalse, IsFree, Covers, ClosesFrom, IsFalseBelow, IsLearned, AreBelowFirst, HasAll, IsMet, IsAnalysis, HasDecisions, HasDecisionsAnd, IsMetDecided}
-use Rattle.cdcl_core.proofs.EntryLaws.{pairs_head, pairs_tail, pair_before, pair_any, take_item, before_or_here, before_too, here_too, of_false, to_false, consistent, same_entry, level_found, reason_found}
+use Rattle.cdcl_core.specs.Analysis.{IsMarked, KeepsMarks, is_at, is_off, marked_count, AreCounted, MarksToo, IsFree, Covers, ClosesFrom, IsFalseBelow, IsLearned, AreBelowFirst}
+use Rattle.cdcl_core.proofs.EntryLaws.{pairs_head, pairs_tail, pair_before, take_item, before_or_here, before_too, here_too, of_false, to_false, consistent, same_entry, level_found}
 
 -- one mark more
 abbrev one : (Entry → Bool) → List Bool → Entry → ℕ

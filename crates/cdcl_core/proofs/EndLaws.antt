@@ -1,14 +1,14 @@
 -- How the search ends.
-use Rattle.std.proofs.Common.{◌≡◌, ◌≢◌, ℕ, suc, zero, ◌+◌, ◌-◌, ◌<◌, ◌≤◌, Bool, true, false, not, cond, ◌⊎◌, inl, inr, List, [], ◌∷◌, ◌++◌, length, map, take, get_or, eqb, eq-eqb, Option, Some, None, refl, sym, ap, ◌∙◌, subst, arith}
-use Rattle.std.specs.Prelude.{All, Any, Contains, slice_get, unwrap_or, is_some, MatchBool, nat_lt, ◌==◌, ◌&&◌}
+use Rattle.std.proofs.Common.{◌≡◌, ◌≢◌, ℕ, suc, ◌+◌, ◌<◌, ◌≤◌, Bool, true, false, not, cond, ◌⊎◌, inl, inr, List, [], ◌∷◌, ◌++◌, length, map, take, get_or, eqb, eq-eqb, Option, Some, None, refl, sym, ap, ◌∙◌, subst, arith}
+use Rattle.std.specs.Prelude.{All, Contains, slice_get, unwrap_or, is_some, MatchBool, nat_lt, ◌==◌, ◌&&◌}
 use Rattle.std.specs.Bool.{beq}
 use Rattle.std.specs.Ordering.{ord_max, is_lt, nat_cmp}
 use Rattle.std.proofs.lemmas.Bool.{ltb-true, ltb-false}
 use Rattle.std.specs.declared.cmp.Ordering.TheVariants.{Less, Equal, Greater}
 use Rattle.std.proofs.lemmas.List.Elements.{All-nil, All-cons, All-contains, All-weaker, All-push, All-map, All-head, All-tail, All-contains_itself, Contains-push, Contains-append_left}
-use Rattle.std.proofs.lemmas.List.{take_more, length-map}
+use Rattle.std.proofs.lemmas.List.{take_more}
 use Rattle.std.proofs.lemmas.Option.{same_Some, none-some}
-use Rattle.std.proofs.lemmas.Bool.{cases_eq, true≢false, false≢true}
+use Rattle.std.proofs.lemmas.Bool.{true≢false, false≢true}
 use Rattle.std.proofs.lemmas.Bool.Decides.{nat_tests}
 use Rattle.inst_logic.specs.declared.signed.Signed.{Signed}
 use Rattle.inst_logic.specs.Signed.{complement, signed}
@@ -16,19 +16,19 @@ use Rattle.inst_logic.specs.Truth.{IsTrueLiteral, IsTrueClause}
 use Rattle.prop_logic.specs.declared.literal.Step.{Step}
 use Rattle.prop_logic.specs.Literal.{AtomsBelow, IsShownDerivation}
 use Rattle.prop_logic.specs.Solving.{MakesTrue, IsSubList, EndsWith, Refutes}
-use Rattle.prop_logic.specs.Search.{AreGood, IsCore}
+use Rattle.prop_logic.specs.Search.{AreGood}
 use Rattle.prop_logic.specs.Cut.{IsCutOf}
 use Rattle.prop_logic.specs.Valuation.{IsHeld}
-use Rattle.prop_logic.proofs.ListLaws.{All-slice_get, All-from_contained, Contains-slice_get, slice_get-Contains}
+use Rattle.prop_logic.proofs.ListLaws.{All-from_contained}
 use Rattle.prop_logic.proofs.SearchLaws.{sub_more, sub_push, contains_map, shown_push, good_none, none_true, core_refutes}
 use Rattle.cdcl_trail.specs.declared.entry.Entry.{Entry}
 use Rattle.cdcl_trail.specs.Clauses.{clause_number}
 use Rattle.cdcl_trail.specs.Trail.{Trail, IsTrail, IsDecision, level_of, value_of, reason_of, literals_of}
 use Rattle.cdcl_trail.specs.Propagation.{IsFalseIn, IsStable}
 use Rattle.cdcl_core.specs.declared.search.Search.{Search}
-use Rattle.cdcl_core.specs.Analysis.{IsMarked, HasDecisions, HasDecisionsAnd}
-use Rattle.cdcl_core.specs.Search.{IsKept, IsTrueUpTo, IsSearch, IsInCore, IsCoreIn}
-use Rattle.cdcl_core.proofs.EntryLaws.{of_literals, to_literals, to_false, same_entry, value_found, reason_found, consistent, complement_twice}
+use Rattle.cdcl_core.specs.Analysis.{HasDecisionsAnd}
+use Rattle.cdcl_core.specs.Search.{IsKept, IsTrueUpTo, IsInCore, IsCoreIn}
+use Rattle.cdcl_core.proofs.EntryLaws.{of_literals, to_literals, value_found, reason_found, consistent}
 
 entry_step : (x : Entry) (xs : List Entry) (a : ℕ) (b : Bool) → (x.lit.atom == a) ≡ b → ((level_of xs a ≡ None → ⊥) → (e : Entry) × Contains xs e × (e.lit.atom ≡ a)) → (cond b (Some x.level) (level_of xs a) ≡ None → ⊥) → (e : Entry) × Contains (x ∷ xs) e × (e.lit.atom ≡ a)
 entry_step x xs a true s rest n = let same : x.lit.atom ≡ a = grind (arith, nat_tests) in (x, (0, omega arith, refl), same)

@@ -1,30 +1,28 @@
 -- One step of the search as its functions take it.
-use Rattle.std.proofs.Common.{◌≡◌, ◌≢◌, ℕ, suc, zero, ◌+◌, ◌-◌, ◌^◌, ◌<◌, ◌≤◌, min, Bool, true, false, not, ◌⊎◌, inl, inr, List, [], ◌∷◌, ◌++◌, length, map, take, get_or, set, replicate, length-set, Option, Some, None, Result, Ok, Err, refl, sym, ap, ◌∙◌, subst, arith}
-use Rattle.std.specs.Prelude.{All, Contains, slice_get, unwrap_or, is_some, IfOk}
+use Rattle.std.proofs.Common.{◌≡◌, ℕ, ◌<◌, ◌≤◌, Bool, true, false, inl, inr, List, [], ◌∷◌, ◌++◌, length, map, get_or, set, replicate, length-set, Option, Some, None, Result, Ok, Err, refl, sym, ap, ◌∙◌, subst, arith}
+use Rattle.std.specs.Prelude.{All, Contains, is_some, IfOk}
 use Rattle.std.proofs.lemmas.Bool.{true≢false}
 use Rattle.std.proofs.lemmas.List.{length-replicate, get_or-set_same}
-use Rattle.std.proofs.lemmas.List.Elements.{All-nil, All-contains, All-weaker, All-map}
-use Rattle.std.proofs.lemmas.Option.{none-some}
+use Rattle.std.proofs.lemmas.List.Elements.{All-contains, All-weaker}
 use Rattle.inst_logic.specs.declared.signed.Signed.{Signed}
 use Rattle.inst_logic.specs.Signed.{complement}
 use Rattle.prop_logic.specs.declared.literal.Hint.{Hint}
 use Rattle.prop_logic.specs.declared.literal.Step.{Step}
 use Rattle.prop_logic.specs.declared.solver.Answer.{Answer}
-use Rattle.prop_logic.specs.declared.solver.Answer.TheVariants.{Sat, Unsat}
+use Rattle.prop_logic.specs.declared.solver.Answer.TheVariants.{Unsat}
 use Rattle.prop_logic.specs.Literal.{cited, AtomsBelow}
-use Rattle.prop_logic.specs.Solving.{IsAnswer, IsSubList, EndsWith, MakesTrue}
+use Rattle.prop_logic.specs.Solving.{IsAnswer, IsSubList, EndsWith}
 use Rattle.prop_logic.specs.Analysis.{ClosesAll}
 use Rattle.prop_logic.specs.Cut.{IsCutOf}
 use Rattle.prop_logic.proofs.SearchLaws.{ends_with_push, sub_contains}
 use Rattle.cdcl_trail.specs.declared.entry.Entry.{Entry}
 use Rattle.cdcl_trail.specs.Trail.{Trail, IsTrail, IsDecision, reason_of, literals_of}
 use Rattle.cdcl_core.specs.declared.search.Search.{Search}
-use Rattle.cdcl_core.specs.Log.{IsLog}
-use Rattle.cdcl_core.specs.Analysis.{HasDecisionsAnd, ShowsGiven, IsMarked}
-use Rattle.cdcl_core.specs.Search.{AreGiven, IsKept, IsTrueUpTo, IsSearch, IsSameProblem, Advances, Ends, Continues, IsInCore, IsCoreIn}
-use Rattle.cdcl_core.proofs.EntryLaws.{of_literals, to_literals, reason_found}
+use Rattle.cdcl_core.specs.Analysis.{ShowsGiven, IsMarked}
+use Rattle.cdcl_core.specs.Search.{IsKept, IsTrueUpTo, IsSearch, Ends, Continues, IsInCore, IsCoreIn}
+use Rattle.cdcl_core.proofs.EntryLaws.{of_literals, reason_found}
 use Rattle.cdcl_core.proofs.KeptLaws.{kept_same}
-use Rattle.cdcl_core.proofs.EndLaws.{answer_refutes, core_free, core_has, core_below, clash_answer}
+use Rattle.cdcl_core.proofs.EndLaws.{answer_refutes, core_free, core_has, clash_answer}
 
 -- other marks
 pub marks_search : (assumptions : List (Signed ℕ)) (s : Search) (m : List Bool) → length m ≡ length s.marks → IsSearch assumptions s → IsSearch assumptions (record s { marks = m })

@@ -1,11 +1,11 @@
 -- What is kept from one question to the next.
-use Rattle.std.proofs.Common.{◌≡◌, ◌≢◌, ℕ, suc, zero, ◌+◌, ◌-◌, ◌^◌, ◌<◌, ◌≤◌, min, Bool, true, false, ◌⊎◌, inl, inr, List, [], ◌∷◌, ◌++◌, length, map, take, get_or, Option, Some, None, refl, sym, ap, ◌∙◌, subst, arith}
+use Rattle.std.proofs.Common.{◌≡◌, ℕ, suc, zero, ◌+◌, ◌-◌, ◌^◌, ◌<◌, false, List, [], ◌∷◌, ◌++◌, length, map, take, Option, Some, None, refl, sym, ap, ◌∙◌, subst, arith}
 use Rattle.std.specs.Prelude.{All, Contains, slice_get}
 use Rattle.std.proofs.lemmas.List.{length_push}
 use Rattle.std.proofs.lemmas.List.Elements.{All-nil, All-contains, All-weaker}
 use Rattle.std.proofs.lemmas.Option.{none-some}
 use Rattle.inst_logic.specs.declared.signed.Signed.{Signed}
-use Rattle.inst_logic.specs.Derivations.{Closes, IsShown}
+use Rattle.inst_logic.specs.Derivations.{IsShown}
 use Rattle.prop_logic.specs.declared.literal.Hint.{Hint}
 use Rattle.prop_logic.specs.declared.literal.Hint.TheVariants.{Added, Step as Earlier}
 use Rattle.prop_logic.specs.declared.literal.Step.{Step}
@@ -17,12 +17,11 @@ use Rattle.prop_logic.specs.Solving.{IsAnswer}
 use Rattle.prop_logic.proofs.SearchLaws.{good_none}
 use Rattle.cdcl_trail.specs.declared.entry.Entry.{Entry}
 use Rattle.cdcl_trail.specs.Clauses.{clause_number, AddsClause}
-use Rattle.cdcl_trail.specs.Trail.{Trail, IsTrail, IsDecision, literals_of, entries_up_to, with_atom, back_at}
+use Rattle.cdcl_trail.specs.Trail.{Trail, IsTrail, IsDecision, literals_of, with_atom, back_at}
 use Rattle.cdcl_trail.specs.Propagation.{Propagates}
-use Rattle.cdcl_core.specs.declared.log.Log.{Log}
 use Rattle.cdcl_core.specs.declared.search.Search.{Search}
-use Rattle.cdcl_core.specs.Log.{PutsName, IsNamed, IsLog}
-use Rattle.cdcl_core.specs.Search.{AreGiven, IsKept, IsTrueUpTo, IsSearch, weight, IsSameProblem, Advances, Ends, Continues}
+use Rattle.cdcl_core.specs.Log.{PutsName, IsLog}
+use Rattle.cdcl_core.specs.Search.{AreGiven, IsKept, IsTrueUpTo, IsSearch, weight, Advances, Continues}
 use Rattle.cdcl_core.proofs.EntryLaws.{of_literals, to_literals}
 use Rattle.cdcl_core.proofs.LogLaws.{log_atom, log_added, log_step, log_learned}
 use Rattle.cdcl_core.proofs.SearchLaws.{given_up_to, given_propagated, given_clauses, in_new, decision_old, weight_kept, of_up_to}

@@ -1,9 +1,9 @@
 -- One literal further back in the analysis.
-use Rattle.std.proofs.Common.{◌≡◌, ◌≢◌, ℕ, suc, zero, ◌+◌, ◌-◌, ◌<◌, ◌≤◌, Bool, true, false, cond, Result, Ok, Err, ◌⊎◌, inl, inr, List, [], ◌∷◌, ◌++◌, length, map, take, replicate, get_or, Option, Some, None, refl, sym, ap, ◌∙◌, subst, arith}
-use Rattle.std.specs.Prelude.{All, AllPairs, Contains, slice_get, reverse, unwrap_or, OnOk, ◌&&◌}
-use Rattle.std.proofs.lemmas.List.{reverse-append, get_or-replicate, take_all}
-use Rattle.std.proofs.lemmas.List.Elements.{All-nil, All-head, All-contains, All-weaker, All-contains_itself, Contains-push, Contains-append_left}
-use Rattle.std.proofs.lemmas.Option.{same_Some, slice_get_within, slice_get-get_or}
+use Rattle.std.proofs.Common.{◌≡◌, ◌≢◌, ℕ, suc, zero, ◌+◌, ◌<◌, Bool, true, false, cond, Result, Ok, Err, ◌⊎◌, inl, inr, List, [], ◌∷◌, ◌++◌, length, map, take, replicate, get_or, Option, Some, None, refl, sym, ap, ◌∙◌, subst, arith}
+use Rattle.std.specs.Prelude.{All, Contains, slice_get, reverse, unwrap_or, OnOk, ◌&&◌}
+use Rattle.std.proofs.lemmas.List.{reverse-append}
+use Rattle.std.proofs.lemmas.List.Elements.{All-contains, All-weaker, All-contains_itself, Contains-push, Contains-append_left}
+use Rattle.std.proofs.lemmas.Option.{same_Some}
 use Rattle.std.proofs.lemmas.Bool.{false≢true}
 use Rattle.inst_logic.specs.declared.signed.Signed.{Signed}
 use Rattle.inst_logic.specs.Signed.{complement}
@@ -12,14 +12,14 @@ use Rattle.prop_logic.specs.Literal.{cited}
 use Rattle.prop_logic.specs.Analysis.{ClosesAll}
 use Rattle.prop_logic.proofs.ListLaws.{All-from_contained, Contains-slice_get, slice_get-Contains, slice_get_take, take_whole, Contains-take, take_slice_get}
 use Rattle.cdcl_trail.specs.declared.entry.Entry.{Entry}
-use Rattle.cdcl_trail.specs.Trail.{Trail, IsTrail, IsDecision, level_of, reason_of, literals_of}
-use Rattle.cdcl_trail.specs.Propagation.{IsFalseIn, GivesUnit}
+use Rattle.cdcl_trail.specs.Trail.{Trail, IsTrail, level_of, reason_of, literals_of}
+use Rattle.cdcl_trail.specs.Propagation.{IsFalseIn}
 use Rattle.cdcl_core.specs.declared.log.Log.{Log}
 use Rattle.cdcl_core.specs.declared.analysis.Counts.{Counts}
 use Rattle.cdcl_core.specs.declared.analysis.Analysis.{Analysis}
 use Rattle.cdcl_core.specs.Log.{IsNamed}
-use Rattle.cdcl_core.specs.Analysis.{IsMarked, KeepsMarks, is_at, is_off, marked_count, AreCounted, MarksToo, AreImplied, IsReady, NamesFalse, IsFree, Covers, ClosesFrom, IsLearned, AreBelowFirst, HasAll, IsMet, IsBegun, IsAnalysis, HasDecisions, HasDecisionsAnd, IsMetDecided, ShowsGiven}
-use Rattle.cdcl_core.proofs.EntryLaws.{before_or_here, here_too, same_entry, to_literals, of_literals, pair_at, level_found, reason_found}
+use Rattle.cdcl_core.specs.Analysis.{IsMarked, is_at, is_off, marked_count, AreCounted, MarksToo, IsReady, NamesFalse, Covers, ClosesFrom, IsLearned, AreBelowFirst, HasAll, IsMet, IsBegun, IsAnalysis, HasDecisionsAnd, IsMetDecided, ShowsGiven}
+use Rattle.cdcl_core.proofs.EntryLaws.{same_entry, pair_at, level_found, reason_found}
 use Rattle.cdcl_core.proofs.AnalysisLaws.{counted_unmarked, none_marked, closes_unmarked, closes_kept, closes_resolved, closes_first, learned_free, learned_first, learned_more, first_kept, first_resolved}
 
 -- the entry at a place

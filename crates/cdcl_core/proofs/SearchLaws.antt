@@ -1,26 +1,21 @@
 -- The state of the search as it goes on.
-use Rattle.std.proofs.Common.{◌≡◌, ◌≢◌, ℕ, suc, zero, ◌+◌, ◌-◌, ◌^◌, ◌<◌, ◌≤◌, min, Bool, true, false, not, cond, ◌⊎◌, inl, inr, List, [], ◌∷◌, ◌++◌, length, map, take, drop, get_or, Option, Some, None, refl, sym, ap, ◌∙◌, subst, arith}
-use Rattle.std.specs.Prelude.{All, AllPairs, Contains, slice_get, unwrap_or, filter, nat_le}
-use Rattle.std.proofs.lemmas.List.{length_push, length-map, length-take-le, append-nil}
-use Rattle.std.proofs.lemmas.List.Elements.{All-nil, All-cons, All-contains, All-weaker, All-push, All-map, All-contains_itself, Contains-push, Contains-push_cases, Contains-append_left}
-use Rattle.std.proofs.lemmas.Option.{same_Some, none-some, slice_get_within, slice_get-get_or}
-use Rattle.std.proofs.lemmas.Bool.{cases_eq, leb-false, leb-true}
+use Rattle.std.proofs.Common.{◌≡◌, ℕ, suc, zero, ◌-◌, ◌^◌, ◌<◌, ◌≤◌, Bool, true, false, cond, ◌⊎◌, inl, inr, List, [], ◌∷◌, ◌++◌, length, take, drop, Option, Some, refl, sym, ap, ◌∙◌, subst, arith}
+use Rattle.std.specs.Prelude.{All, AllPairs, Contains, slice_get, nat_le}
+use Rattle.std.proofs.lemmas.List.Elements.{All-contains}
+use Rattle.std.proofs.lemmas.Option.{same_Some, none-some}
+use Rattle.std.proofs.lemmas.Bool.{leb-false, leb-true}
 use Rattle.inst_logic.specs.declared.signed.Signed.{Signed}
-use Rattle.inst_logic.specs.Signed.{complement}
-use Rattle.prop_logic.specs.declared.literal.Hint.{Hint}
-use Rattle.prop_logic.specs.declared.literal.Step.{Step}
-use Rattle.prop_logic.specs.Literal.{cited, AtomsBelow}
-use Rattle.prop_logic.proofs.ListLaws.{slice_get_append, slice_get_push, slice_get_take, take_slice_get, take_of_append, take_of_take, take_whole, All-slice_get, All-from_contained, Contains-slice_get, slice_get-Contains, Contains-take}
+use Rattle.prop_logic.proofs.ListLaws.{slice_get_push, slice_get_take, take_slice_get, take_of_append, take_of_take, take_whole, All-from_contained, Contains-slice_get, slice_get-Contains, Contains-take}
 use Rattle.cdcl_trail.specs.declared.entry.Entry.{Entry}
 use Rattle.cdcl_trail.specs.Clauses.{clause_number, AddsClause}
-use Rattle.cdcl_trail.specs.Trail.{Trail, IsTrail, IsUnset, IsDecision, literals_of, entries_up_to, with_decision, with_implied, back_at}
-use Rattle.cdcl_trail.specs.Propagation.{IsFalseIn, GivesUnit, IsGiven, Propagates, IsConflict, IsStable}
+use Rattle.cdcl_trail.specs.Trail.{Trail, IsTrail, IsDecision, entries_up_to}
+use Rattle.cdcl_trail.specs.Propagation.{GivesUnit, Propagates, IsConflict}
 use Rattle.cdcl_core.specs.declared.log.Log.{Log}
 use Rattle.cdcl_core.specs.declared.search.Search.{Search}
-use Rattle.cdcl_core.specs.Log.{IsLog, IsNamed}
-use Rattle.cdcl_core.specs.Analysis.{AreImplied, NamesFalse, IsReady, IsFalseBelow, IsLearned}
-use Rattle.cdcl_core.specs.Search.{AreGiven, IsKept, IsTrueUpTo, IsSearch, weight}
-use Rattle.cdcl_core.proofs.EntryLaws.{pair_at, pair_any, pairs_head, pairs_tail, of_literals, to_literals, of_false, to_false, same_entry}
+use Rattle.cdcl_core.specs.Log.{IsLog}
+use Rattle.cdcl_core.specs.Analysis.{AreImplied, NamesFalse, IsReady}
+use Rattle.cdcl_core.specs.Search.{AreGiven, IsKept, weight}
+use Rattle.cdcl_core.proofs.EntryLaws.{pairs_head, pairs_tail}
 use Rattle.cdcl_core.proofs.LogLaws.{clause_kept}
 use Rattle.cdcl_core.proofs.Measure.{weight_append}
 

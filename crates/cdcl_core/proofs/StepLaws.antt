@@ -1,33 +1,26 @@
 -- The steps of the search: what is learned, what is decided, and the end.
-use Rattle.std.proofs.Common.{◌≡◌, ◌≢◌, ℕ, suc, zero, ◌+◌, ◌-◌, ◌^◌, ◌<◌, ◌≤◌, min, Bool, true, false, not, cond, ◌⊎◌, inl, inr, List, [], ◌∷◌, ◌++◌, length, map, take, drop, get_or, Option, Some, None, refl, sym, ap, ◌∙◌, subst, arith}
-use Rattle.std.specs.Prelude.{All, AllPairs, Any, Contains, slice_get, unwrap_or, ◌==◌, IfOk}
-use Rattle.std.proofs.lemmas.List.{length_push, length-map, length-drop, take_all}
-use Rattle.std.proofs.lemmas.List.Elements.{All-nil, All-cons, All-tail, All-contains, All-weaker, All-push, Contains-push, Contains-push_cases, Contains-append_left}
+use Rattle.std.proofs.Common.{◌≡◌, ◌≢◌, ℕ, suc, zero, ◌+◌, ◌-◌, ◌<◌, ◌≤◌, min, Bool, true, false, cond, ◌⊎◌, inl, inr, List, [], ◌∷◌, ◌++◌, length, take, drop, get_or, Some, None, refl, sym, ap, ◌∙◌, subst, arith}
+use Rattle.std.specs.Prelude.{All, Contains, slice_get, unwrap_or, ◌==◌}
+use Rattle.std.proofs.lemmas.List.{length-drop, take_all}
+use Rattle.std.proofs.lemmas.List.Elements.{All-nil, All-cons, All-tail, All-contains, All-weaker, Contains-push_cases, Contains-append_left}
 use Rattle.std.proofs.lemmas.Option.{same_Some, none-some, slice_get_within}
-use Rattle.std.proofs.lemmas.Bool.{cases_eq, true≢false, false≢true}
+use Rattle.std.proofs.lemmas.Bool.{cases_eq}
 use Rattle.std.proofs.lemmas.Bool.Decides.{nat_tests}
-use Rattle.std.proofs.lemmas.Map.Steps.{length-le_from_distinct_below}
 use Rattle.inst_logic.specs.declared.signed.Signed.{Signed}
-use Rattle.inst_logic.specs.Signed.{complement, signed}
-use Rattle.inst_logic.specs.Truth.{IsTrueLiteral, IsTrueClause}
+use Rattle.inst_logic.specs.Signed.{complement}
 use Rattle.prop_logic.specs.Literal.{AtomsBelow}
-use Rattle.prop_logic.specs.Solving.{MakesTrue}
-use Rattle.prop_logic.specs.Valuation.{IsHeld}
-use Rattle.prop_logic.specs.declared.solver.Answer.{Answer}
-use Rattle.prop_logic.specs.declared.solver.Answer.TheVariants.{Sat, Unsat}
-use Rattle.prop_logic.specs.Solving.{IsAnswer}
-use Rattle.prop_logic.proofs.ListLaws.{All-slice_get, All-from_contained, Contains-slice_get, slice_get-Contains}
+use Rattle.prop_logic.proofs.ListLaws.{All-from_contained, slice_get-Contains}
 use Rattle.cdcl_trail.specs.declared.entry.Entry.{Entry}
 use Rattle.cdcl_trail.specs.Clauses.{clause_number}
-use Rattle.cdcl_trail.specs.Trail.{Trail, IsTrail, IsUnset, IsDecision, level_of, value_of, literals_of, entries_up_to, with_decision, with_implied, back_at}
-use Rattle.cdcl_trail.specs.Propagation.{IsFalseIn, GivesUnit, Propagates, IsStable}
+use Rattle.cdcl_trail.specs.Trail.{Trail, IsTrail, IsUnset, level_of, literals_of, entries_up_to, with_decision, with_implied, back_at}
+use Rattle.cdcl_trail.specs.Propagation.{IsFalseIn, GivesUnit}
 use Rattle.cdcl_core.specs.declared.search.Search.{Search}
 use Rattle.cdcl_core.specs.Log.{IsLog}
 use Rattle.cdcl_core.specs.Analysis.{IsFalseBelow, IsLearned}
-use Rattle.cdcl_core.specs.Search.{AreGiven, IsKept, IsTrueUpTo, IsSearch, weight, IsSameProblem, Advances, Ends, Continues}
-use Rattle.cdcl_core.proofs.EntryLaws.{pair_at, pair_any, of_literals, to_literals, of_false, to_false, same_entry, level_found, value_found, complement_twice}
+use Rattle.cdcl_core.specs.Search.{AreGiven, IsKept, IsTrueUpTo, IsSearch, weight, Advances}
+use Rattle.cdcl_core.proofs.EntryLaws.{pair_at, of_literals, to_literals, of_false, to_false, same_entry, level_found}
 use Rattle.cdcl_core.proofs.Measure.{weight_push, weight_backjump, weight_below}
-use Rattle.cdcl_core.proofs.SearchLaws.{up_to_contains, of_up_to, given_up_to, given_push, given_propagated, in_new, decision_old, weight_kept}
+use Rattle.cdcl_core.proofs.SearchLaws.{up_to_contains, of_up_to, given_up_to, given_push}
 use Rattle.cdcl_core.proofs.AnalysisLaws.{all_false}
 use Rattle.cdcl_core.proofs.RoomLaws.{room}
 

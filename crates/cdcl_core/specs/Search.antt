@@ -1,11 +1,11 @@
 -- The state of the search, the number that rises with each of its steps, and how it ends.
-use Rattle.std.specs.Prelude.{◌≡◌, ◌≢◌, ℕ, ◌+◌, ◌-◌, ◌^◌, ◌<◌, ◌≤◌, ◌⊎◌, Bool, List, [], ◌∷◌, take, Option, Some, None, length, All, Contains, slice_get}
+use Rattle.std.specs.Prelude.{◌≡◌, ℕ, ◌+◌, ◌-◌, ◌^◌, ◌<◌, ◌≤◌, ◌⊎◌, Bool, List, [], ◌∷◌, take, Option, Some, None, length, All, Contains, slice_get}
 use Rattle.inst_logic.specs.declared.signed.Signed.{Signed}
 use Rattle.prop_logic.specs.declared.solver.Answer.{Answer}
 use Rattle.prop_logic.specs.Solving.{IsAnswer, IsSubList}
 use Rattle.cdcl_trail.specs.declared.entry.Entry.{Entry}
 use Rattle.cdcl_trail.specs.Clauses.{clause_number}
-use Rattle.cdcl_trail.specs.Trail.{Trail, IsTrail, IsDecision, literals_of}
+use Rattle.cdcl_trail.specs.Trail.{IsDecision, literals_of}
 use Rattle.cdcl_trail.specs.Propagation.{GivesUnit}
 use Rattle.cdcl_core.specs.declared.search.Search.{Search}
 use Rattle.cdcl_core.specs.Log.{IsLog}

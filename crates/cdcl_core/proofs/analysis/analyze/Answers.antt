@@ -1,4 +1,4 @@
-use Rattle.std.proofs.Common.{◌≡◌, ◌<◌, length, arith, refl, sym, ap, ◌∙◌, subst, inl, inr}
+use Rattle.std.proofs.Common.{arith, refl, ◌∙◌, inl, inr}
 use Rattle.cdcl_core.proofs.MeetLaws.{IsDone, met_first, analysis_done}
 use Rattle.cdcl_core.proofs.analysis.analyze.Goals.{then-loop-place-test+else-any_left, else-loop-place-test}
 use Rattle.cdcl_core.proofs.analysis.analyze.Goals as goal

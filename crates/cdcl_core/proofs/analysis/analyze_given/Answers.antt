@@ -1,9 +1,7 @@
-use Rattle.std.proofs.Common.{◌≡◌, ◌-◌, ◌+◌, ◌<◌, ◌≤◌, length, Some, arith, sym, ap, ◌∙◌, subst, inl, inr}
+use Rattle.std.proofs.Common.{◌≡◌, ◌-◌, ◌+◌, ◌<◌, arith, sym, ap, ◌∙◌, subst, inl, inr}
 use Rattle.std.specs.Prelude.{slice_get}
 use Rattle.std.proofs.lemmas.Option.{slice_get_within}
-use Rattle.cdcl_trail.specs.declared.entry.Entry.{Entry}
 use Rattle.cdcl_core.specs.Analysis.{IsMetDecided, ShowsGiven}
-use Rattle.cdcl_core.proofs.EntryLaws.{to_literals}
 use Rattle.cdcl_core.proofs.MeetLaws.{IsDone, given_at, met_decided_first, given_done}
 use Rattle.cdcl_core.proofs.analysis.analyze_given.Goals.{then-loop-place-test+else-any_left, else-loop-place-test}
 use Rattle.cdcl_core.proofs.analysis.analyze_given.Goals as goal

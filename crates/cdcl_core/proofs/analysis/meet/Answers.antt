@@ -1,16 +1,15 @@
-use Rattle.std.proofs.Common.{◌≡◌, ℕ, ◌+◌, ◌<◌, ◌≤◌, ◌++◌, ◌∷◌, [], Some, None, List, true, false, length, refl, sym, ap, ◌∙◌, subst}
-use Rattle.std.specs.Prelude.{slice_get, MatchBool}
+use Rattle.std.proofs.Common.{◌≡◌, ℕ, ◌<◌, ◌≤◌, ◌++◌, ◌∷◌, [], Some, List, false, sym, ap, ◌∙◌, subst}
+use Rattle.std.specs.Prelude.{slice_get}
 use Rattle.std.proofs.lemmas.Bool.{MatchBool-at_false, MatchBool-at_true}
 use Rattle.inst_logic.specs.declared.signed.Signed.{Signed}
 use Rattle.inst_logic.specs.Signed.{complement}
 use Rattle.prop_logic.specs.declared.literal.Hint.{Hint}
 use Rattle.prop_logic.proofs.ListLaws.{Contains-slice_get, All-slice_get}
 use Rattle.cdcl_trail.specs.Trail.{IsDecision}
-use Rattle.cdcl_core.specs.declared.analysis.Analysis.{Analysis}
 use Rattle.cdcl_core.specs.Log.{IsNamed}
 use Rattle.cdcl_core.specs.Analysis.{AreCounted, MarksToo, IsMet}
 use Rattle.cdcl_core.proofs.AnalysisLaws.{below_decided, below_unique}
-use Rattle.cdcl_core.proofs.MeetLaws.{entry_at, level_read, reason_read, marked_read, unmarked_read, on_ok_two, on_ok_three, met_unmarked, met_kept, met_resolved}
+use Rattle.cdcl_core.proofs.MeetLaws.{entry_at, level_read, reason_read, marked_read, unmarked_read, on_ok_three, met_unmarked, met_kept, met_resolved}
 use Rattle.cdcl_core.proofs.analysis.meet.Goals as goal
 
 pub returns-then-not-contains-clause-met : goal.returns-then-not-contains-clause-met

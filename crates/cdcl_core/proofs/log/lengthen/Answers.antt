@@ -1,4 +1,4 @@
-use Rattle.std.proofs.Common.{◌≡◌, [], ◌∷◌, Some, sym, ap, ◌∙◌, subst}
+use Rattle.std.proofs.Common.{◌≡◌, [], ◌∷◌, Some, sym, subst}
 use Rattle.std.specs.Prelude.{slice_get}
 use Rattle.prop_logic.specs.declared.literal.Hint.TheVariants.{Added}
 use Rattle.prop_logic.proofs.ListLaws.{slice_get_append}

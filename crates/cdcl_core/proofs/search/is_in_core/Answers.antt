@@ -1,4 +1,3 @@
-use Rattle.std.proofs.Common.{inl, inr, refl, sym, ap, ◌∙◌}
 use Rattle.cdcl_core.proofs.EndLaws.{not_in_core_unmarked, not_in_core_given}
 use Rattle.cdcl_core.proofs.search.is_in_core.Goals as goal
 

@@ -1,6 +1,5 @@
-use Rattle.std.proofs.Common.{◌≡◌, ◌-◌, get_or, arith, Some, inl, inr, sym, ap, ◌∙◌}
+use Rattle.std.proofs.Common.{◌-◌, get_or, arith, inl, inr, sym, ap, ◌∙◌}
 use Rattle.std.proofs.lemmas.Option.{same_Some}
-use Rattle.prop_logic.specs.Literal.{cited}
 use Rattle.prop_logic.proofs.AnalysisLaws.{cited_step, cited_no_step}
 use Rattle.cdcl_core.proofs.LogLaws.{cited_no_added}
 use Rattle.cdcl_core.proofs.log.Log.cited.Goals.{in-Added+else-n-gt0, else-n-gt0-via-then-n-gt0+else-n-len, else-n-gt0-via-else-n-gt0, in-Step+else-n-gt0-2, else-n-gt0-2-via-then-n-gt0-2+else-n-len-2, else-n-gt0-2-via-else-n-gt0-2}

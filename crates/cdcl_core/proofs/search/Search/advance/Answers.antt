@@ -1,4 +1,4 @@
-use Rattle.std.proofs.Common.{List, ℕ, ◌<◌, arith}
+use Rattle.std.proofs.Common.{List, ℕ, arith}
 use Rattle.std.specs.Prelude.{All}
 use Rattle.inst_logic.specs.declared.signed.Signed.{Signed}
 use Rattle.cdcl_core.specs.declared.search.Search.{Search}

@@ -1,4 +1,4 @@
-use Rattle.std.proofs.Common.{◌≡◌, ℕ, min, ap, ◌∙◌, arith}
+use Rattle.std.proofs.Common.{ap, arith}
 use Rattle.cdcl_core.proofs.KeptLaws.{begun}
 use Rattle.cdcl_core.proofs.search.Search.answer.Goals as goal
 

@@ -1,4 +1,4 @@
-use Rattle.std.proofs.Common.{◌≡◌, ◌+◌, ◌-◌, ◌^◌}
+use Rattle.std.proofs.Common.{◌+◌, ◌-◌, ◌^◌}
 use Rattle.cdcl_core.specs.Search.{IsSearch, IsSameProblem, weight}
 use Rattle.cdcl_core.proofs.search.Search.answer.Given as goal
 

@@ -1,4 +1,4 @@
-use Rattle.std.proofs.Common.{◌≡◌, refl, arith}
+use Rattle.std.proofs.Common.{refl, arith}
 use Rattle.cdcl_core.specs.declared.search.Search.{Search}
 use Rattle.cdcl_core.proofs.StepLaws.{unset_of, decided_kept, decided_advances, chosen_search}
 use Rattle.cdcl_core.proofs.EndLaws.{satisfied}

@@ -1,5 +1,4 @@
-use Rattle.std.proofs.Common.{◌≡◌, ℕ, ◌-◌, ◌<◌, ◌≤◌, length, take, drop, min, Some, sym, ap, ◌∙◌, subst, arith}
-use Rattle.inst_logic.specs.declared.signed.Signed.{Signed}
+use Rattle.std.proofs.Common.{◌≡◌, ◌-◌, length, take, drop, min, Some, sym, ap, ◌∙◌, subst, arith}
 use Rattle.prop_logic.specs.declared.literal.Step.{Step}
 use Rattle.prop_logic.specs.Literal.{AtomsBelow}
 use Rattle.cdcl_trail.specs.Clauses.{clause_number}
@@ -7,7 +6,7 @@ use Rattle.cdcl_trail.specs.Trail.{IsUnset, with_implied, back_at}
 use Rattle.cdcl_core.specs.declared.search.Search.{Search}
 use Rattle.cdcl_core.specs.Log.{IsLog}
 use Rattle.cdcl_core.specs.Search.{AreGiven}
-use Rattle.cdcl_core.proofs.StepLaws.{IsUnitAt, learned_below, rest_below, rest_is, learned_unit_of, learned_search}
+use Rattle.cdcl_core.proofs.StepLaws.{learned_below, rest_below, rest_is, learned_unit_of, learned_search}
 use Rattle.cdcl_core.proofs.search.Search.learn.Goals as goal
 
 pub highest_level-level-requires : goal.highest_level-level-requires

@@ -1,4 +1,4 @@
-use Rattle.std.proofs.Common.{[], None, Some, sym, ap, ◌∙◌, subst, arith}
+use Rattle.std.proofs.Common.{None, sym, subst, arith}
 use Rattle.prop_logic.specs.Solving.{IsSubList}
 use Rattle.cdcl_core.proofs.SearchLaws.{ready_of}
 use Rattle.cdcl_core.proofs.GoLaws.{marks_search, marks_continue, marks_ends}

@@ -1,4 +1,4 @@
-use Rattle.std.proofs.Common.{◌≡◌, length, refl, ap, ◌∙◌, subst}
+use Rattle.std.proofs.Common.{length, refl, ap, ◌∙◌, subst}
 use Rattle.prop_logic.specs.declared.literal.Hint.TheVariants.{Step as Earlier}
 use Rattle.prop_logic.specs.Literal.{cited}
 use Rattle.prop_logic.proofs.SearchLaws.{last_cited}
