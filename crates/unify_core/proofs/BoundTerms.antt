@@ -1,6 +1,6 @@
 -- What a most general unifier of two atoms, or of two terms, binds are terms: it is as general as the unifier that puts a
 -- variable for each part that is no term.
-use Rattle.std.proofs.Common.{◌≡◌, ℕ, ◌+◌, List, inl, inr, refl, ap, ap₂, sym, ◌∙◌, subst, Bool, true, false, nat_eq}
+use Rattle.std.proofs.Common.{◌≡◌, ℕ, ◌+◌, List, inl, inr, refl, ap, ap₂, sym, ◌∙◌, Bool, true, false, nat_eq}
 use Rattle.std.specs.Prelude.{◌&&◌}
 use Rattle.inst_logic.specs.Tree.{Tree, var, app, Trees, none, more}
 use Rattle.inst_logic.specs.Substitution.{Substitution, subst as apply, substs as apply_each}
@@ -8,7 +8,6 @@ use Rattle.inst_logic.specs.Unifiers.{Sided, IsUnifier, IsInstanceOf, IsMostGene
 use Rattle.inst_logic.specs.WellFormed.{count_of, tree_is_formed, trees_are_formed, atom_is_formed, symbol_is_formed, is_function_kind}
 use Rattle.inst_logic.proofs.SameLemmas.{and_left, and_right, and_both}
 use Rattle.term_bank.specs.Forest.{Forest, tree_at}
-use Rattle.unify_core.specs.Lists.{◌∈◌}
 use Rattle.unify_core.specs.Sides.{Binding, of_side, IsResolvedBy}
 use Rattle.unify_core.specs.Terms.{AreTerms, AreOfOneKind}
 use Rattle.unify_core.specs.declared.side.Side.{Side}

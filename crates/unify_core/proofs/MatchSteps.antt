@@ -176,6 +176,3 @@ step_application f es ms ns p t b a hp ht o = record {
           inside = λ v h. subst (λ (z : Tree). v ∈ variables z) (sym l.2) (each_inside f o.xs l.1 (o.parts ∙ ap arguments_of l.2) m.0 v k.0 h);
           forced = λ s e. forced_parts f p t o.xs o.ys a o.parts o.targets s e m j;
         }
-
-pub no_matches : (f : Forest) (es : List Binding) → es ≡ [] → AreMatches f es
-no_matches f es e = subst (λ (l : List Binding). AreMatches f l) (sym e) (record { left = λ b i. absurd i; right = λ b i. absurd i; within = λ b i. absurd i; once = λ d b i k q. absurd i })

@@ -6,8 +6,7 @@ use Rattle.std.proofs.lemmas.List.{append-nil, take-append-le, take_more, take_a
 use Rattle.std.proofs.lemmas.Map.Steps.{length-le_from_distinct_below}
 use Rattle.inst_logic.specs.Tree.{Tree, var, app, Trees, none, more}
 use Rattle.inst_logic.specs.Substitution.{Substitution, subst as apply, substs as apply_each, tree_vars as variables, trees_vars as variables_each}
-use Rattle.term_bank.specs.Forest.{Forest, tree_at, is_ground, are_ground}
-use Rattle.inst_logic.proofs.SameLemmas.{and_left, and_right}
+use Rattle.term_bank.specs.Forest.{Forest, tree_at}
 use Rattle.unify_core.specs.Lists.{◌∈◌}
 use Rattle.unify_core.specs.Sides.{Binding}
 use Rattle.unify_core.specs.Matching.{AreMatches, Agrees, IsBound, IsMatch, HasNoMatch}

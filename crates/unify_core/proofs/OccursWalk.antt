@@ -183,7 +183,7 @@ module _ (f : Forest) (es : List Binding) (b : AreBindings f es) (x : ℕ) (t : 
       let number : a.0 ≡ variable_number m.0.0 = ap (λ (p : Assignment). p.0) m.2 in
       let c = seen_from (variable_number m.0.0) (ap is_seen (sym number) ∙ k) in
       let d = leads_bound m.0 m.1 c.0 (tree_at f c.0.term) (subst (λ (u : Tree). LeadsTo f es seen c.0.side (tree_at f c.0.term) u) c.2 (behind c.0 c.1).1) c.2 in
-      subst (λ (u : Tree). IsWithin is_seen u) (sym (ap (λ (p : Assignment). p.1) m.2 ∙ ap (bound_tree f) d.2)) (within_seen (tree_at f d.0.term) d.0 d.1 refl)
+      subst (λ (u : Tree). IsWithin is_seen u) (sym (ap (λ (p : Assignment). p.1) m.2 ∙ ap (bound_tree f) d.2)) (within_seen (tree_at f d.0.term) d.0 d.1 (refl {a = tree_at f d.0.term}))
 
   not_inside_seen : (by : ℕ → Tree) → IsSolvedBy (assignments f es) by → ¬ (x ∈ variables (apply by (bound_tree f t)))
   not_inside_seen by sol i =
