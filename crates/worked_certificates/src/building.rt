@@ -7,7 +7,8 @@ ghost use Rattle.saturation_cert.specs.Wholes.{IsWholeBase, IsWholeClause, IsWho
 
 use inst_logic::{Kind, Memory, Name, NameList, PlaceList, Sym};
 use saturation_cert::{
-    Base, GroundHint, GroundHintList, GroundStep, GroundStepList, Member, MemberList, Origin, Refutation, Saturation,
+    Base, GroundHint, GroundHintList, GroundStep, GroundStepList, Member, MemberList, Origin,
+    Refutation, Saturation,
 };
 use std::alloc::Global;
 use std::test::Fail;
@@ -89,12 +90,7 @@ fn members_in(
 }
 
 // The inputs and the members of these texts.
-pub fn base_of(
-    alloc: Global,
-    inputs: &str,
-    members: &str,
-    origins: &[Origin],
-) -> Result<Base, Fail>
+pub fn base_of(alloc: Global, inputs: &str, members: &str, origins: &[Origin]) -> Result<Base, Fail>
     ensures { IfOk result IsWholeBase }
 {
     let mut bank = Bank::new(alloc);

@@ -8,7 +8,10 @@ use std::alloc::Global;
 use std::test::Fail;
 
 const INPUTS: &str = "cnf(one,axiom,p(X,a)|q(X)). cnf(two,axiom,~p(b,X)|s(X)).";
-const MEMBERS: &str = "cnf(m1,plain,p(X,a)|q(X)). cnf(m2,plain,~p(b,X)|s(X)). cnf(m3,plain,p(b,a)|q(b)). cnf(m4,plain,~p(b,a)|s(a)).";
+
+const MEMBERS: &str =
+    "cnf(m1,plain,p(X,a)|q(X)). cnf(m2,plain,~p(b,X)|s(X)). cnf(m3,plain,p(b,a)|q(b)). cnf(m4,plain,~p(b,a)|s(a)).";
+
 const ORIGINS: [Origin; 4] = [
     Origin::Input(1),
     Origin::Input(2),
@@ -27,11 +30,7 @@ const ORIGINS: [Origin; 4] = [
 ];
 
 // The complaint about the saturation of the two inputs with these members and places.
-fn complaint_of(
-    alloc: Global,
-    members: &str,
-    places: &[usize],
-) -> Result<Option<Complaint>, Fail> {
+fn complaint_of(alloc: Global, members: &str, places: &[usize]) -> Result<Option<Complaint>, Fail> {
     let cert = saturation_of(alloc, INPUTS, members, &ORIGINS, places)?;
     Ok(saturation_complaint(alloc, cert)?)
 }
@@ -41,7 +40,12 @@ fn truth_where_weights_tie(rt: HostRuntime) -> Result<(), Fail> {
     let alloc = rt.alloc();
     let cert = saturation_of(alloc, INPUTS, MEMBERS, &ORIGINS, &[1, 1, 2, 2])?;
     let mut checked = check_saturation(alloc, cert)?;
-    let expected = [("p(b,a)", false), ("p(c,a)", true), ("p(b,c)", false), ("s(a)", true)];
+    let expected = [
+        ("p(b,a)", false),
+        ("p(c,a)", true),
+        ("p(b,c)", false),
+        ("s(a)", true),
+    ];
     for row in expected {
         assert_eq!(rt; truth_of(alloc, &mut checked, row.0)?, Some(row.1));
     }
@@ -73,7 +77,8 @@ fn a_pair_is_proper_nowhere(rt: HostRuntime) -> Result<(), Fail> {
 
 #[test]
 fn a_member_is_not_concluded(rt: HostRuntime) -> Result<(), Fail> {
-    let members = "cnf(m1,plain,p(X,a)|q(X)). cnf(m2,plain,~p(b,X)|s(X)). cnf(m3,plain,p(b,a)|q(a)). cnf(m4,plain,~p(b,a)|s(a)).";
+    let members =
+        "cnf(m1,plain,p(X,a)|q(X)). cnf(m2,plain,~p(b,X)|s(X)). cnf(m3,plain,p(b,a)|q(a)). cnf(m4,plain,~p(b,a)|s(a)).";
     let complaint = complaint_of(rt.alloc(), members, &[1, 1, 2, 2])?;
     assert_eq!(rt; complaint, Some(Complaint::Member { n: 3 }));
     Ok(())
@@ -111,6 +116,7 @@ fn refuted_complaint(
 }
 
 const GROUNDS: &str = "cnf(g1,plain,p(bot_0)). cnf(g2,plain,~p(c)). cnf(g3,plain,p(c)).";
+
 const STEP: &str = "cnf(r1,plain,$false).";
 
 #[test]

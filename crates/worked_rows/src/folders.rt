@@ -1,10 +1,9 @@
 // Problems that are loaded from files in a folder that the test makes and removes.
 use outside_io::FolderLibrary;
 use std::alloc::Global;
-use std::fs;
 use std::fs::Files;
-use std::io;
 use std::test::Fail;
+use std::{fs, io};
 use tptp_load::{LoadError, load};
 use tptp_write::clause_text;
 
