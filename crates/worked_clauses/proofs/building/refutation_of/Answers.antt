@@ -1,6 +1,6 @@
 use Rattle.term_bank.proofs.Growth.{extends_trans}
-use Rattle.worked_certificates.proofs.Wholes.{base_grown, clauses_grown}
-use Rattle.worked_certificates.proofs.building.refutation_of.Goals as goal
+use Rattle.worked_clauses.proofs.Wholes.{base_grown, clauses_grown}
+use Rattle.worked_clauses.proofs.building.refutation_of.Goals as goal
 
 pub returns : goal.returns
 returns c =

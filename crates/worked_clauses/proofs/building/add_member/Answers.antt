@@ -3,8 +3,8 @@ use Rattle.std.specs.Prelude.{All}
 use Rattle.tptp_read.specs.Text.{IsFormedStatement}
 use Rattle.saturation_cert.specs.declared.member.Member.{Member}
 use Rattle.saturation_cert.specs.Wholes.{IsWholeClause}
-use Rattle.worked_certificates.proofs.Wholes.{one_member_more, whole_at}
-use Rattle.worked_certificates.proofs.building.add_member.Goals as goal
+use Rattle.worked_clauses.proofs.Wholes.{one_member_more, whole_at}
+use Rattle.worked_clauses.proofs.building.add_member.Goals as goal
 
 pub returns-in_ok-push-clause-members : goal.returns-in_ok-push-clause-members
 returns-in_ok-push-clause-members c =

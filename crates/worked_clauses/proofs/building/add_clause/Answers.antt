@@ -2,8 +2,8 @@ use Rattle.std.proofs.Common.{sym, subst}
 use Rattle.std.specs.Prelude.{All}
 use Rattle.tptp_read.specs.Text.{IsFormedStatement}
 use Rattle.saturation_cert.specs.Wholes.{IsWholeClause}
-use Rattle.worked_certificates.proofs.Wholes.{one_more, whole_at}
-use Rattle.worked_certificates.proofs.building.add_clause.Goals as goal
+use Rattle.worked_clauses.proofs.Wholes.{one_more, whole_at}
+use Rattle.worked_clauses.proofs.building.add_clause.Goals as goal
 
 pub returns-in_ok-push-clause-ids : goal.returns-in_ok-push-clause-ids
 returns-in_ok-push-clause-ids c =

@@ -3,8 +3,8 @@ use Rattle.std.specs.Prelude.{All}
 use Rattle.tptp_read.specs.Text.{IsFormedStatement}
 use Rattle.saturation_cert.specs.declared.certificate.GroundStep.{GroundStep}
 use Rattle.saturation_cert.specs.Wholes.{IsWholeClause}
-use Rattle.worked_certificates.proofs.Wholes.{one_step_more, whole_at}
-use Rattle.worked_certificates.proofs.building.add_step.Goals as goal
+use Rattle.worked_clauses.proofs.Wholes.{one_step_more, whole_at}
+use Rattle.worked_clauses.proofs.building.add_step.Goals as goal
 
 pub returns-in_ok-push-clause-steps : goal.returns-in_ok-push-clause-steps
 returns-in_ok-push-clause-steps c =

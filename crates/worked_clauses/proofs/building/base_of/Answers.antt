@@ -2,8 +2,8 @@ use Rattle.std.proofs.Common.{sym, subst}
 use Rattle.std.specs.Prelude.{All}
 use Rattle.std.proofs.lemmas.List.Elements.{All-nil}
 use Rattle.saturation_cert.specs.Wholes.{IsWholeClause}
-use Rattle.worked_certificates.proofs.Wholes.{clauses_grown}
-use Rattle.worked_certificates.proofs.building.base_of.Goals as goal
+use Rattle.worked_clauses.proofs.Wholes.{clauses_grown}
+use Rattle.worked_clauses.proofs.building.base_of.Goals as goal
 
 pub returns : goal.returns
 returns c =
