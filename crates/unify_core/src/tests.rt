@@ -1,4 +1,4 @@
-// Terms that double at each of 64 steps are unified at once, and counted without being written out.
+// A unifier and its size on small terms, and on terms that double at each of 64 steps.
 ghost use Rattle.std.specs.Prelude.{◌≡◌, ◌<◌, ◌≤◌, true, length, IfOk};
 ghost use Rattle.unify_core.specs.Chains.{AreBindings};
 ghost use Rattle.term_bank.specs.Forest.{IsClauseOf};
@@ -120,6 +120,64 @@ fn doubled_size(alloc: Global, bank: &mut Bank, p: &Sym, f: &Sym) -> Result<u64,
     size_if_unified(bank, &mut bindings, &c, sides)
 }
 
+fn constant(alloc: Global, bank: &mut Bank, name: &[u8]) -> Result<TermId, Memory>
+    ensures within { IfOk result (λ t. t < length bank.new.trees) }
+    ensures grown { length bank.old.trees ≤ length bank.new.trees }
+{
+    let sym = symbol(alloc, name, 0)?;
+    bank.app(&sym, &[])
+}
+
+// Whether the bindings are proper on both sides, and X0 on the left is bound to the term.
+fn is_proper_with(bank: &Bank, b: &Bindings, term: TermId) -> bool
+    requires { AreBindings bank.now b.now.entries }
+{
+    let first = b.get(Side::Left, 0).map(|bound| bound.term);
+    first == Some(term) && b.proper(bank, Side::Left) && b.proper(bank, Side::Right)
+}
+
+// The size of the left term's clause under the unifier, or 0 where that is not proper or does not bind X0 to the term.
+fn unified_size(
+    bank: &Bank,
+    b: &mut Bindings,
+    c: &IdClause,
+    sides: (TermId, TermId),
+    term: TermId,
+) -> Result<u64, Memory>
+    requires clause { IsClauseOf bank.now c.now }
+    requires left { sides.0 < length bank.now.trees }
+    requires right { sides.1 < length bank.now.trees }
+{
+    if !unified(bank, b, sides.0, sides.1)? {
+        return Ok(0);
+    }
+    if !is_proper_with(bank, b, term) {
+        return Ok(0);
+    }
+    left_size(bank, b, c)
+}
+
+// p(X0,a) and p(b,X0)
+fn crossed(bank: &mut Bank, p: &Sym, a: TermId, b: TermId) -> Result<(TermId, TermId), Memory>
+    requires a { a < length bank.old.trees }
+    requires b { b < length bank.old.trees }
+    ensures { IfOk result (λ r. (r.0 < length bank.new.trees) × (r.1 < length bank.new.trees)) }
+{
+    let x = variable(bank, 0)?;
+    let left = pair(bank, p, x, a)?;
+    let right = pair(bank, p, b, x)?;
+    Ok((left, right))
+}
+
+fn crossed_size(alloc: Global, bank: &mut Bank, p: &Sym) -> Result<u64, Memory> {
+    let left = constant(alloc, bank, b"a")?;
+    let right = constant(alloc, bank, b"b")?;
+    let sides = crossed(bank, p, left, right)?;
+    let c = unit(alloc, bank, sides.0)?;
+    let mut bindings = Bindings::new(alloc);
+    unified_size(bank, &mut bindings, &c, sides, right)
+}
+
 #[test]
 fn doubling_terms_are_counted_whole(rt: HostRuntime) -> Result<(), Fail> {
     let mut bank = Bank::new(rt.alloc());
@@ -127,5 +185,14 @@ fn doubling_terms_are_counted_whole(rt: HostRuntime) -> Result<(), Fail> {
     let f = symbol(rt.alloc(), b"f", 2)?;
     let size = doubled_size(rt.alloc(), &mut bank, &p, &f)?;
     assert_eq!(rt; size, u64::MAX);
+    Ok(())
+}
+
+#[test]
+fn two_sides_are_renamed_apart(rt: HostRuntime) -> Result<(), Fail> {
+    let mut bank = Bank::new(rt.alloc());
+    let p = symbol(rt.alloc(), b"p", 2)?;
+    let size = crossed_size(rt.alloc(), &mut bank, &p)?;
+    assert_eq!(rt; size, 3);
     Ok(())
 }
