@@ -31,7 +31,7 @@ fn add_clause(bank: &mut Bank, ids: &mut IdClauseList, statement: &Statement) ->
 }
 
 // The clauses of the text, in this bank.
-fn clauses_in(alloc: Global, bank: &mut Bank, text: &str) -> Result<IdClauseList, Fail>
+pub fn clauses_in(alloc: Global, bank: &mut Bank, text: &str) -> Result<IdClauseList, Fail>
     requires bank { AreFormed bank.old }
     ensures formed { AreFormed bank.new }
     ensures extends { Extends bank.old bank.new }
@@ -89,18 +89,25 @@ fn members_in(
     Ok(members)
 }
 
-// The inputs and the members of these texts.
-pub fn base_of(alloc: Global, inputs: &str, members: &str, origins: &[Origin]) -> Result<Base, Fail>
+// The inputs, the axioms and the members of these texts.
+pub fn base_of(
+    alloc: Global,
+    inputs: &str,
+    axioms: &str,
+    members: &str,
+    origins: &[Origin],
+) -> Result<Base, Fail>
     ensures { IfOk result IsWholeBase }
 {
     let mut bank = Bank::new(alloc);
     let inputs = clauses_in(alloc, &mut bank, inputs)?;
+    let axioms = clauses_in(alloc, &mut bank, axioms)?;
     let members = members_in(alloc, &mut bank, members, origins)?;
     Ok(Base {
         bank,
         inputs,
         names: NameList::new(alloc),
-        axioms: IdClauseList::new(alloc),
+        axioms,
         members,
     })
 }
@@ -116,7 +123,7 @@ pub fn saturation_of(
     ensures { IfOk result IsWholeSaturation }
 {
     Ok(Saturation {
-        base: base_of(alloc, inputs, members, origins)?,
+        base: base_of(alloc, inputs, "", members, origins)?,
         places: PlaceList::from(places.to_vec(alloc)?),
     })
 }
@@ -166,10 +173,11 @@ fn steps_in(
     Ok(steps)
 }
 
-// The refutation of these texts with the constant `bot_0`, whose steps have these hints.
+// The refutation of these texts with the function `bot_0` of this many arguments, whose steps have these hints.
 pub fn refutation_of(
     alloc: Global,
     base: Base,
+    arity: usize,
     grounds: &str,
     steps: &str,
     hints: &[GroundHint],
@@ -185,7 +193,7 @@ pub fn refutation_of(
         bot: Sym {
             name: Name::of(alloc, b"bot_0")?,
             kind: Kind::Function,
-            arity: 0,
+            arity,
         },
         grounds,
         steps,

@@ -1,4 +1,4 @@
-//! Worked certificates, built as values from texts of clauses, and what the checker and the truth test say of them.
+//! Worked clauses and certificates, built from texts: what unification, the checker and the truth test say of them.
 #![tactic(auto)]
 
 #[cfg(test)]
@@ -7,3 +7,5 @@ mod answers;
 mod building;
 #[cfg(test)]
 mod tests;
+#[cfg(test)]
+mod unification;

@@ -110,8 +110,8 @@ fn refuted_complaint(
             other: 1,
         },
     ];
-    let base = base_of(alloc, inputs, members, &origins)?;
-    let cert = refutation_of(alloc, base, grounds, steps, hints)?;
+    let base = base_of(alloc, inputs, "", members, &origins)?;
+    let cert = refutation_of(alloc, base, 0, grounds, steps, hints)?;
     Ok(refutation_complaint(alloc, cert)?)
 }
 
@@ -148,5 +148,63 @@ fn a_ground_clause_has_another_constant(rt: HostRuntime) -> Result<(), Fail> {
     let hints = [GroundHint::Ground(2), GroundHint::Ground(3)];
     let complaint = refuted_complaint(rt.alloc(), grounds, STEP, &hints)?;
     assert_eq!(rt; complaint, Some(Complaint::Ground { n: 1 }));
+    Ok(())
+}
+
+// The complaint about the refutation of `a = b`, `p(a)` and `~p(b)` with these axioms and a constant of this many arguments.
+fn equality_complaint(
+    alloc: Global,
+    axioms: &str,
+    arity: usize,
+) -> Result<Option<Complaint>, Fail> {
+    let inputs = "cnf(i1,axiom,a=b). cnf(i2,axiom,p(a)). cnf(i3,axiom,~p(b)).";
+    let members =
+        "cnf(m1,plain,a=b). cnf(m2,plain,p(a)). cnf(m3,plain,~p(b)). cnf(m4,plain,X!=Y|~p(X)|p(Y)). cnf(m5,plain,a!=b|~p(a)|p(b)).";
+    let origins = [
+        Origin::Input(1),
+        Origin::Input(2),
+        Origin::Input(3),
+        Origin::Input(7),
+        Origin::Inst {
+            from: 4,
+            place: 1,
+            partner: 1,
+            other: 1,
+        },
+    ];
+    let grounds =
+        "cnf(g1,plain,a=b). cnf(g2,plain,p(a)). cnf(g3,plain,~p(b)). cnf(g4,plain,bot_0!=bot_0|~p(bot_0)|p(bot_0)). cnf(g5,plain,a!=b|~p(a)|p(b)).";
+    let hints = [
+        GroundHint::Ground(1),
+        GroundHint::Ground(2),
+        GroundHint::Ground(3),
+        GroundHint::Ground(5),
+    ];
+    let base = base_of(alloc, inputs, axioms, members, &origins)?;
+    let cert = refutation_of(alloc, base, arity, grounds, STEP, &hints)?;
+    Ok(refutation_complaint(alloc, cert)?)
+}
+
+const AXIOMS: &str =
+    "cnf(e1,axiom,X=X). cnf(e2,axiom,X!=Y|Y=X). cnf(e3,axiom,X!=Y|Y!=Z|X=Z). cnf(e4,axiom,X!=Y|~p(X)|p(Y)).";
+
+#[test]
+fn a_refutation_with_equality(rt: HostRuntime) -> Result<(), Fail> {
+    let complaint = equality_complaint(rt.alloc(), AXIOMS, 0)?;
+    assert_eq!(rt; complaint, None);
+    Ok(())
+}
+
+#[test]
+fn an_axiom_is_not_there(rt: HostRuntime) -> Result<(), Fail> {
+    let complaint = equality_complaint(rt.alloc(), "", 0)?;
+    assert_eq!(rt; complaint, Some(Complaint::Axiom { n: 1 }));
+    Ok(())
+}
+
+#[test]
+fn the_constant_has_an_argument(rt: HostRuntime) -> Result<(), Fail> {
+    let complaint = equality_complaint(rt.alloc(), AXIOMS, 1)?;
+    assert_eq!(rt; complaint, Some(Complaint::Bot));
     Ok(())
 }
