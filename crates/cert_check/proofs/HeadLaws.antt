@@ -1,27 +1,37 @@
 -- Partners by the heads of selected literals, and chains through them.
-use Rattle.std.proofs.Common.{◌≡◌, inl, inr, ℕ, suc, ◌<◌, ◌≤◌, List, [], ◌∷◌, ◌++◌, ◌+◌, length, get_or, set, refl, ap, sym, ◌∙◌, subst, arith, below_more, get_or-set_other, get_or-set_same, true, false, not, Bool, Option, None, Some, cond}
+use Rattle.std.proofs.Common.{◌≡◌, inl, inr, ℕ, zero, suc, ◌<◌, ◌≤◌, List, [], ◌∷◌, ◌++◌, ◌+◌, length, get_or, set, refl, ap, sym, ◌∙◌, subst, arith, below_more, get_or-set_other, get_or-set_same, true, false, not, Bool, Option, None, Some, cond}
 use Rattle.std.specs.Prelude.{option_map, unwrap_or}
 use Rattle.std.proofs.lemmas.Bool.{cases_lt}
 use Rattle.std.proofs.lemmas.List.{length-set}
-use Rattle.std.proofs.Math.ListN.{get_or-append}
+use Rattle.std.proofs.Math.ListN.{get_or-append, get_or-eq_default}
+use Rattle.std.specs.List.{position_or_len}
+use Rattle.std.specs.Prelude.{slice_get}
 use Rattle.std.proofs.Math.Seq.{get_or-append_seam}
-use Rattle.std.proofs.lemmas.Option.{same_Some}
+use Rattle.std.proofs.lemmas.Option.{same_Some, slice_get-get_or, slice_get_within}
 use Rattle.inst_logic.specs.declared.symbol.Sym.{Sym}
 use Rattle.inst_logic.specs.Tree.{Tree, var, app}
 use Rattle.inst_logic.specs.Substitution.{subst as apply, Substitution}
 use Rattle.inst_logic.specs.Unifiers.{Sided, IsUnifier}
 use Rattle.inst_logic.specs.WellFormed.{IsAtom}
-use Rattle.term_bank.specs.Forest.{number_of, symbol_of, tree_at}
+use Rattle.inst_logic.specs.declared.signed.Signed.{Signed}
+use Rattle.inst_logic.specs.Derivations.{at_number}
+use Rattle.inst_logic.specs.Equal.{sym_eq}
+use Rattle.inst_calculus.specs.Entries.{Entry}
+use Rattle.term_bank.specs.Forest.{Forest, Extends, IsClauseOf, KeepsPlaces, clause_at, no_symbol, number_of, symbol_at, symbol_of, tree_at}
+use Rattle.cert_format.proofs.Numbers.{slice_get_of_map}
+use Rattle.saturation_cert.specs.declared.member.Member.{Member}
+use Rattle.saturation_cert.specs.Truths.{literal_at as tree_literal}
+use Rattle.clause_form.specs.Placements.{literal_at}
 use Rattle.cert_format.specs.Certificate as format
 use Rattle.cert_format.specs.Validity.{IsRightPair}
 use Rattle.saturation_cert.specs.declared.certificate.Saturation.{Saturation}
-use Rattle.saturation_cert.specs.Values.{saturation_of}
+use Rattle.saturation_cert.specs.Values.{saturation_of, entry_of}
 use Rattle.clause_form.specs.Literals.{id_eq}
 use Rattle.indexmap.specs.IndexMap.{IndexMap, get}
 use Rattle.std.specs.Map.{lookup}
 use Rattle.clause_form.proofs.Assembly.{id_eq_decides}
 use Rattle.inst_logic.specs.Signed.{complement}
-use Rattle.cert_check.specs.Partners.{Head, head_at, IsHeadOf, AreApart, IsNext, AreChained, LeadThrough}
+use Rattle.cert_check.specs.Partners.{Head, head_at, IsHeadAt, IsHeadOf, HasHead, AreApart, IsNext, AreChained, LeadThrough}
 use Rattle.cert_check.proofs.PairScans.{same_sign, no_unifier, no_pair}
 
 -- an atom has a symbol
@@ -30,13 +40,83 @@ atom_symbol (var v) h e = absurd (cc)
 atom_symbol (app f ts) h e = absurd (cc)
 
 -- and an instance has the same
-symbol_under : (s : Substitution) (t : Tree) (f : Sym) → symbol_of t ≡ Some f → symbol_of (apply s t) ≡ Some f
+pub symbol_under : (s : Substitution) (t : Tree) (f : Sym) → symbol_of t ≡ Some f → symbol_of (apply s t) ≡ Some f
 symbol_under s (var v) f e = absurd (cc)
 symbol_under s (app g ts) f e = e
 
-number_there : (n : ℕ) (g : Sym → ℕ) (o : Option Sym) → Some n ≡ option_map g o → (f : Sym) × (o ≡ Some f) × (n ≡ g f)
+pub number_there : (n : ℕ) (g : Sym → ℕ) (o : Option Sym) → Some n ≡ option_map g o → (f : Sym) × (o ≡ Some f) × (n ≡ g f)
 number_there n g None e = absurd (cc)
 number_there n g (Some f) e = (f, refl, same_Some n (g f) e)
+
+-- and not that of a function
+no_function : (t : Tree) → IsAtom t → symbol_of t ≡ Some no_symbol → ⊥
+no_function (var v) h e = absurd (cc)
+no_function (app f ts) h e =
+    let k : IsAtom (app no_symbol ts) = subst (λ (x : Sym). IsAtom (app x ts)) (same_Some f no_symbol e) h in
+    let t : false ≡ true = k in absurd (cc)
+
+-- so its number is one of the bank's
+pub number_known : (f : Forest) (t : Tree) (n : ℕ) → IsAtom t → Some (symbol_at f.symbols n) ≡ symbol_of t → n < length f.symbols
+number_known f t n h e = elim (cases_lt n (length f.symbols)) [ inl less ↦ less | inr past ↦ absurd (no_function t h (sym e ∙ ap Some (get_or-eq_default f.symbols no_symbol past))) ]
+
+-- a first place stays as the list grows
+first_stays : {A : Type 0} (d : A) (p : A → Bool) (xs ys : List A) → KeepsPlaces d xs ys → position_or_len p xs < length xs → position_or_len p ys ≡ position_or_len p xs
+first_stays d p [] ys k less = absurd (omega arith)
+first_stays d p (x ∷ xs) [] k less = absurd (let l = k.0 in omega arith)
+first_stays {A} d p (x ∷ xs) (y ∷ ys) k less =
+    let same : y ≡ x = k.1 0 (omega arith) in
+    let rest : KeepsPlaces d xs ys = (let l = k.0 in omega arith, λ i w. k.1 (suc i) (omega arith)) in
+    ap (λ z. cond (not (p z)) (1 + position_or_len p ys) 0) same ∙ by (not (p x)) (first_stays d p xs ys rest) less
+  where
+    by : (b : Bool) → (position_or_len p xs < length xs → position_or_len p ys ≡ position_or_len p xs) → cond b (1 + position_or_len p xs) 0 < length (x ∷ xs) → cond b (1 + position_or_len p ys) 0 ≡ cond b (1 + position_or_len p xs) 0
+    by true rest less = ap (λ n. 1 + n) (rest (omega arith))
+    by false rest less = refl
+
+pub head_later : (f g : Forest) → Extends f g → (c : List (Signed ℕ)) → IsClauseOf f c → (h : Head) → HasHead f c h → HasHead g c h
+head_later f g grown c inside h has =
+    let l = literal_at c has.place in
+    let tree : tree_at g l.atom ≡ tree_at f l.atom = grown.trees.1 l.atom (inside has.place _ has.within) in
+    let (s, is, n) = number_there h.atom (number_of f.symbols) (symbol_of (tree_at f l.atom)) has.head.number in
+    let low : number_of f.symbols s < length f.symbols = subst (λ k. k < length f.symbols) n has.known in
+    let stays : number_of g.symbols s ≡ number_of f.symbols s = first_stays no_symbol (λ r. sym_eq s r) f.symbols g.symbols grown.symbols low in
+    record {
+      place = has.place;
+      within = has.within;
+      head = record {
+        sign = has.head.sign;
+        number = ap Some (n ∙ sym stays) ∙ sym (ap (λ (t : Tree). option_map (number_of g.symbols) (symbol_of t)) tree ∙ ap (option_map (number_of g.symbols)) is);
+      };
+      known = let k = has.known in let m = grown.symbols.0 in omega arith;
+    }
+
+-- the head of a member is that of one of its literals
+pub member_head : (c : Saturation) (k : ℕ) (h : Head) → IsHeadOf c k h → (d : Member) → k < length c.base.members → HasHead c.base.bank (get_or c.base.members k d).clause h
+member_head c k h head d within =
+    let e = head.is.is in
+    let f = c.base.bank in
+    let (m, at, me) = slice_get_of_map (entry_of f) c.base.members k e.entry e.entry_at in
+    let same : m ≡ get_or c.base.members k d = same_Some m _ (sym at ∙ slice_get-get_or c.base.members k d within) in
+    subst (λ (x : Member). HasHead f x.clause h) same (by m e.place (ap (λ (x : Entry). at_number x.clause e.place) me ∙ e.selected))
+  where
+    there : (m : Member) (p : ℕ) → slice_get (clause_at c.base.bank m.clause) p ≡ Some head.is.member.selected → HasHead c.base.bank m.clause h
+    there m p at =
+        let f = c.base.bank in
+        let (l, here, tree) = slice_get_of_map (tree_literal f) m.clause p head.is.member.selected at in
+        let within = slice_get_within m.clause p l here in
+        let same : l ≡ literal_at m.clause p = same_Some l _ (sym here ∙ slice_get-get_or m.clause p _ within) in
+        let equal : tree_literal f head.literal ≡ tree_literal f l = sym head.is.literal ∙ sym tree in
+        let number : Some h.atom ≡ option_map (number_of f.symbols) (symbol_of (tree_at f l.atom)) =
+        head.head.number ∙ ap (λ (x : Signed Tree). option_map (number_of f.symbols) (symbol_of x.atom)) equal in
+        record {
+          place = p;
+          within = within;
+          head = subst (λ (x : Signed ℕ). IsHeadAt f x h) same (record { sign = head.head.sign ∙ ap (λ (x : Signed Tree). x.positive) equal; number = number });
+          known = head.known;
+        }
+
+    by : (m : Member) (place : ℕ) → at_number (clause_at c.base.bank m.clause) place ≡ Some head.is.member.selected → HasHead c.base.bank m.clause h
+    by m zero at = absurd (cc)
+    by m (suc p) at = there m p at
 
 signs : (p q : Bool) → ¬ (p ≡ q) → q ≡ not p
 signs true true h = absurd (h refl)
@@ -53,13 +133,13 @@ sign_cases false false P same other = same refl
 module _ (c : Saturation) (i j : ℕ) (less : i < j) (h k : Head) (left : IsHeadOf c i h) (right : IsHeadOf c j k) where
   numbers_differ : ¬ (k ≡ complement h) → ¬ (left.literal.positive ≡ right.literal.positive) → ¬ (h.atom ≡ k.atom)
   numbers_differ other apart same =
-      let s : k.positive ≡ not h.positive = signs h.positive k.positive (λ e. apart (sym left.sign ∙ e ∙ right.sign)) in
+      let s : k.positive ≡ not h.positive = signs h.positive k.positive (λ e. apart (sym left.head.sign ∙ e ∙ right.head.sign)) in
       other (λ z. record { positive = s z; atom = sym same z })
 
   none_unifies : ¬ (h.atom ≡ k.atom) → (u : Sided) → ¬ IsUnifier u (tree_at c.base.bank left.literal.atom) (tree_at c.base.bank right.literal.atom)
   none_unifies differ u e =
-      let (f, p, m) = number_there h.atom (number_of c.base.bank.symbols) (symbol_of (tree_at c.base.bank left.literal.atom)) left.number in
-      let (g, q, n) = number_there k.atom (number_of c.base.bank.symbols) (symbol_of (tree_at c.base.bank right.literal.atom)) right.number in
+      let (f, p, m) = number_there h.atom (number_of c.base.bank.symbols) (symbol_of (tree_at c.base.bank left.literal.atom)) left.head.number in
+      let (g, q, n) = number_there k.atom (number_of c.base.bank.symbols) (symbol_of (tree_at c.base.bank right.literal.atom)) right.head.number in
       let same : Some f ≡ Some g = sym (symbol_under u.left (tree_at c.base.bank left.literal.atom) f p) ∙ ap symbol_of e ∙ symbol_under u.right (tree_at c.base.bank right.literal.atom) g q in
       differ (m ∙ ap (number_of c.base.bank.symbols) (same_Some f g same) ∙ sym n)
 

@@ -20,3 +20,4 @@ pub mod MemberOrigins
 pub mod SymbolWalk
 pub mod HeadLaws
 pub mod LookupLaws
+pub mod ShorterLaws

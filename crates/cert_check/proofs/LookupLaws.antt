@@ -1,12 +1,12 @@
 -- Look-ups of members by their clauses.
-use Rattle.std.proofs.Common.{◌≡◌, ◌↔◌, ℕ, ◌+◌, ◌<◌, ◌∙◌, List, length, get_or, refl, sym, subst, ap, Bool, true, false, cond, below_more, arith}
+use Rattle.std.proofs.Common.{◌≡◌, ℕ, ◌+◌, ◌<◌, ◌∙◌, List, length, get_or, refl, sym, subst, ap, Bool, true, false, cond, below_more}
 use Rattle.std.specs.Prelude.{All, Any}
 use Rattle.std.specs.Bool.{Decides}
 use Rattle.std.specs.Cmp.Lexicographic.{pointwise}
 use Rattle.std.proofs.lemmas.List.{get_or_default}
 use Rattle.std.proofs.lemmas.Slice.Eq.{slice_eq-Decides}
 use Rattle.inst_logic.specs.declared.signed.Signed.{Signed}
-use Rattle.inst_calculus.proofs.Membership.{◌∈◌, any_in, in_any, all_in}
+use Rattle.inst_calculus.proofs.Membership.{any_in, all_in}
 use Rattle.clause_form.specs.Literals.{id_eq}
 use Rattle.clause_form.proofs.Assembly.{id_eq_decides}
 use Rattle.saturation_cert.specs.declared.member.Member.{Member}
@@ -14,6 +14,8 @@ use Rattle.saturation_cert.specs.declared.certificate.Base.{Base}
 use Rattle.saturation_cert.specs.declared.certificate.Saturation.{Saturation}
 use Rattle.saturation_cert.specs.Wholes.{IsWholeClause, IsWholeSaturation, KeepsSaturation}
 use Rattle.term_bank.specs.Forest.{Forest, Extends}
+use Rattle.cert_check.specs.Partners.{head_at}
+use Rattle.cert_check.proofs.HeadLaws.{head_later}
 use Rattle.cert_check.specs.declared.lookup.Lookup.{Lookup}
 use Rattle.cert_check.specs.Lookups.{AreClausesOf, IsLookup, has_clause}
 
@@ -53,7 +55,16 @@ are_clauses ms ks found there q = (
 )
 
 pub lookup_later : (f g : Forest) → Extends f g → (ms : List Member) → All (λ m. IsWholeClause f m.clause) ms → (l : Lookup) → IsLookup f ms l → IsLookup g ms l
-lookup_later f g grown ms whole l h = record { clauses = h.clauses }
+lookup_later f g grown ms whole l h = record {
+  clauses = h.clauses;
+  groups = record {
+    count = h.groups.count;
+    heads = λ k m within. head_later f g grown (get_or ms k m).clause (whole k m within).ids (head_at l.partners.heads.items k) (h.groups.heads k m within);
+    same_length = h.groups.same_length;
+    to_same = h.groups.to_same;
+    to_first = h.groups.to_first;
+  };
+}
 
 pub lookup_kept : (old new : Saturation) → IsWholeSaturation old → KeepsSaturation old new → (l : Lookup) → IsLookup old.base.bank old.base.members l → IsLookup new.base.bank new.base.members l
 lookup_kept old new whole kept l h =

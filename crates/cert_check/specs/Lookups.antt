@@ -1,11 +1,14 @@
 -- What look-ups of members know.
-use Rattle.std.specs.Prelude.{◌≡◌, ◌↔◌, ℕ, Bool, List, Any, true}
+use Rattle.std.specs.Prelude.{◌≡◌, ◌↔◌, ℕ, ◌<◌, ◌≤◌, Bool, List, Any, length, slice_index_or, true}
+use Rattle.indexmap.specs.IndexMap.{get}
 use Rattle.std.specs.Cmp.Lexicographic.{pointwise}
 use Rattle.std.specs.List.{list_any}
 use Rattle.inst_logic.specs.declared.signed.Signed.{Signed}
 use Rattle.clause_form.specs.Literals.{id_eq}
 use Rattle.term_bank.specs.Forest.{Forest}
 use Rattle.saturation_cert.specs.declared.member.Member.{Member}
+use Rattle.cert_check.specs.Covers.{ShorterOf}
+use Rattle.cert_check.specs.Partners.{Head, AreGrouped, IsHeadAt, head_at}
 use Rattle.cert_check.specs.declared.lookup.Lookup.{Lookup}
 
 -- one of the clauses
@@ -18,3 +21,14 @@ AreClausesOf ms ks = (c : List (Signed ℕ)) → (has_clause ks c ≡ true) ↔ 
 
 pub record IsLookup (f : Forest) (ms : List Member) (l : Lookup) : Type 0 where
   pub clauses : AreClausesOf ms l.clauses.keys
+  pub groups : AreGrouped f ms l.partners.heads.items l.partners.same.items (get id_eq l.partners.first)
+
+-- no member whose head is that of the literal has fewer literals than n and subsumes the clause
+abbrev pub HasNoShorter : Forest → List Member → List Head → ℕ → List (Signed ℕ) → Signed ℕ → Type 0
+HasNoShorter f ms hs n d l = (k : ℕ) (m : Member) → k < length ms → IsHeadAt f l (head_at hs k) → ¬ (ShorterOf f n d (slice_index_or ms k m))
+
+-- a scan of the members of one head has come to place k
+pub record IsPastShorter (f : Forest) (ms : List Member) (hs : List Head) (n : ℕ) (d : List (Signed ℕ)) (h : Head) (k : ℕ) : Type 0 where
+  pub within : k ≤ length hs
+  pub at : k < length hs → head_at hs k ≡ h
+  pub before : (j : ℕ) (m : Member) → j < k → head_at hs j ≡ h → ¬ (ShorterOf f n d (slice_index_or ms j m))

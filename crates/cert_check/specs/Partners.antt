@@ -1,10 +1,12 @@
 -- Which members can be partners by the heads of their selected literals, and chains through the members of one head.
-use Rattle.std.specs.Prelude.{◌≡◌, ℕ, suc, ◌<◌, ◌≤◌, List, length, false, Some, option_map, slice_index_or}
+use Rattle.std.specs.Prelude.{◌≡◌, ℕ, suc, ◌<◌, ◌≤◌, List, length, false, Option, Some, option_map, slice_index_or, unwrap_or}
 use Rattle.inst_logic.specs.declared.signed.Signed.{Signed}
 use Rattle.inst_logic.specs.Signed.{complement}
-use Rattle.term_bank.specs.Forest.{number_of, symbol_of, tree_at}
+use Rattle.clause_form.specs.Placements.{literal_at}
+use Rattle.term_bank.specs.Forest.{Forest, number_of, symbol_of, tree_at}
 use Rattle.cert_format.specs.Certificate as format
 use Rattle.cert_format.specs.Validity.{IsRightPair}
+use Rattle.saturation_cert.specs.declared.member.Member.{Member}
 use Rattle.saturation_cert.specs.declared.certificate.Saturation.{Saturation}
 use Rattle.saturation_cert.specs.Truths.{IsSelectedLiteral}
 
@@ -15,12 +17,24 @@ Head = Signed ℕ
 abbrev pub head_at : List Head → ℕ → Head
 head_at hs i = slice_index_or hs i (record { positive = false; atom = 0 })
 
+-- the literal's sign and the number of its symbol
+pub record IsHeadAt (f : Forest) (l : Signed ℕ) (h : Head) : Type 0 where
+  pub sign : h.positive ≡ l.positive
+  pub number : Some h.atom ≡ option_map (number_of f.symbols) (symbol_of (tree_at f l.atom))
+
 -- the head of the selected literal of member i, counted from 0
 pub record IsHeadOf (c : Saturation) (i : ℕ) (h : Head) : Type 0 where
   pub literal : Signed ℕ
   pub is : IsSelectedLiteral c (suc i) literal
-  pub sign : h.positive ≡ literal.positive
-  pub number : Some h.atom ≡ option_map (number_of c.base.bank.symbols) (symbol_of (tree_at c.base.bank literal.atom))
+  pub head : IsHeadAt c.base.bank literal h
+  pub known : h.atom < length c.base.bank.symbols
+
+-- the head of some literal of the clause
+pub record HasHead (f : Forest) (c : List (Signed ℕ)) (h : Head) : Type 0 where
+  pub place : ℕ
+  pub within : place < length c
+  pub head : IsHeadAt f (literal_at c place) h
+  pub known : h.atom < length f.symbols
 
 -- members whose heads are not complements are right partners
 abbrev pub AreApart : format.Saturation → List Head → Type 0
@@ -45,3 +59,11 @@ pub record LeadThrough (c : format.Saturation) (hs : List Head) (same opposed : 
   pub count : length hs ≡ length c.base.members
   pub apart : AreApart c hs
   pub chained : AreChained hs same opposed 0
+
+-- the members of one head, from the first on
+pub record AreGrouped (f : Forest) (ms : List Member) (hs : List Head) (same : List ℕ) (first : Head → Option ℕ) : Type 0 where
+  pub count : length hs ≡ length ms
+  pub heads : (k : ℕ) (m : Member) → k < length ms → HasHead f (slice_index_or ms k m).clause (head_at hs k)
+  pub same_length : length same ≡ length hs
+  pub to_same : (k : ℕ) → k < length hs → IsNext hs (head_at hs k) (suc k) (slice_index_or same k 0)
+  pub to_first : (h : Head) → IsNext hs h 0 (unwrap_or (first h) (length hs))

@@ -1,5 +1,5 @@
 // Covered instances.
-ghost use Rattle.std.specs.Prelude.{◌≡◌, ◌↔◌, ◌⊎◌, ◌<◌, map, length, All, Any, IfOk, IsTrue};
+ghost use Rattle.std.specs.Prelude.{◌≡◌, ◌↔◌, ◌<◌, map, length, All, Any, IfOk, IsTrue, true, false};
 ghost use Rattle.inst_logic.specs.Signed.{IsTautology};
 ghost use Rattle.inst_logic.specs.Clauses.{IsCanonical, instance};
 ghost use Rattle.inst_logic.specs.Unifiers.{Sided};
@@ -10,7 +10,7 @@ ghost use Rattle.unify_core.specs.Sides.{IsResolvedBy, of_side};
 ghost use Rattle.unify_core.specs.Terms.{AreTerms};
 ghost use Rattle.saturation_cert.specs.Wholes.{IsWholeClause};
 ghost use Rattle.cert_check.specs.Covers.{AreCanonicalMembers, IsCoveredIn, IsShorter, ShorterOf};
-ghost use Rattle.cert_check.specs.Lookups.{IsLookup};
+ghost use Rattle.cert_check.specs.Lookups.{HasNoShorter, IsLookup};
 
 use crate::difference::distinct_trees;
 use crate::lookup::Lookup;
@@ -18,7 +18,7 @@ use clause_form::{conclude, subsumes, tautology};
 use inst_logic::Memory;
 use saturation_cert::Member;
 use std::alloc::Global;
-use term_bank::{Bank, IdClause};
+use term_bank::{Bank, IdClause, IdLiteral};
 use unify_core::{Bindings, Side};
 
 // Whether the member has fewer literals than this many and subsumes the clause.
@@ -39,20 +39,53 @@ fn is_shorter(
     subsumes(alloc, bank, member, c)
 }
 
-// Whether some member is so.
+// Whether some member is so whose selected literal has the head of this one.
+fn leads_to_shorter(
+    alloc: Global,
+    bank: &Bank,
+    members: &[Member],
+    lookup: &Lookup,
+    len: usize,
+    c: &IdClause,
+    literal: &IdLiteral,
+) -> Result<bool, Memory>
+    requires members { All (λ m. IsClauseOf bank.now m.clause) members.now }
+    requires lookup { IsLookup bank.now members.now lookup.now }
+    requires clause { IsClauseOf bank.now c.now }
+    requires literal { literal.now.atom < length bank.now.trees }
+    ensures yes { IfOk result (λ r. r ≡ true → Any (ShorterOf bank.now len c.now) members.now) }
+    ensures no { IfOk result (λ r. r ≡ false → HasNoShorter bank.now members.now lookup.now.partners.heads.items len c.now literal.now) }
+{
+    let partners = &lookup.partners;
+    let count = members.len();
+    let mut k = partners.first_place(bank, literal, count);
+    while k < count {
+        if is_shorter(alloc, bank, &members[k].clause, len, c)? {
+            return Ok(true);
+        }
+        k = partners.same[k];
+    }
+    Ok(false)
+}
+
+// Whether some member is so. Its selected literal has an instance in the clause, so only those with the head of one of the
+// clause's literals are tried.
 fn some_shorter(
     alloc: Global,
     bank: &Bank,
     members: &[Member],
+    lookup: &Lookup,
     len: usize,
     c: &IdClause,
 ) -> Result<bool, Memory>
     requires members { All (λ m. IsClauseOf bank.now m.clause) members.now }
+    requires lookup { IsLookup bank.now members.now lookup.now }
     requires clause { IsClauseOf bank.now c.now }
     ensures { IfOk result (λ r. IsTrue r ↔ Any (ShorterOf bank.now len c.now) members.now) }
 {
-    for member in members {
-        if is_shorter(alloc, bank, &member.clause, len, c)? {
+    let literals = c.as_slice();
+    for literal in literals {
+        if leads_to_shorter(alloc, bank, members, lookup, len, c, literal)? {
             return Ok(true);
         }
     }
@@ -82,7 +115,7 @@ fn has_cover(
     if lookup.has(c) {
         return Ok(true);
     }
-    some_shorter(alloc, bank, members, len, c)
+    some_shorter(alloc, bank, members, lookup, len, c)
 }
 
 // Whether the instance of the side's clause under the bindings is covered by the members.

@@ -1,32 +1,34 @@
-// Which later members can be partners of a member: each place leads on to the next one whose selected literal has the same
-// head, so that a scan visits only members whose literals have the opposite sign and the same symbol.
-ghost use Rattle.std.specs.Prelude.{◌≡◌, ◌<◌, length, IfOk, unwrap_or};
+// Chains of members by the heads of their selected literals: each place leads on to the next one of the same head, and to the
+// next one of the opposite head. So a scan for partners, or for members that subsume, visits only those that may be.
+ghost use Rattle.std.specs.Prelude.{◌≡◌, ◌<◌, ℕ, length, IfOk, Some, unwrap_or};
 ghost use Rattle.indexmap.specs.IndexMap.{get};
 ghost use Rattle.clause_form.specs.Literals.{id_eq};
 ghost use Rattle.saturation_cert.specs.Values.{saturation_of};
 ghost use Rattle.saturation_cert.specs.Wholes.{HasPlaces, IsWholeSaturation};
-ghost use Rattle.cert_check.specs.Partners.{AreApart, AreChained, IsHeadOf, LeadThrough};
+ghost use Rattle.cert_check.specs.Partners.{AreChained, AreGrouped, Head, IsHeadAt, IsHeadOf, IsNext, LeadThrough, head_at};
 ghost use Rattle.inst_logic.specs.Signed.{complement};
 
 use indexmap::IndexMap;
 use inst_logic::{Memory, Signed};
 use saturation_cert::{Saturation, selected};
 use std::alloc::Global;
+use term_bank::{Bank, IdLiteral};
 
 // A sign and the number of a symbol.
-type Head = Signed<usize>;
+type HeadId = Signed<usize>;
 
 // For each member, counted from 0, the head of its selected literal, and the place of the next member with that head and of
-// the next one with the opposite head. Where there is none it is the number of members.
+// the next one with the opposite head. Where there is none it is the number of members. And for each head its first member.
 #[derive(Drop)]
 pub struct Partners {
-    heads: Vec<Head>,
+    heads: Vec<HeadId>,
+    first: IndexMap<HeadId, usize>,
     pub same: Vec<usize>,
     pub opposed: Vec<usize>,
 }
 
 // The head of the selected literal of member `i`, counted from 0.
-fn head(cert: &Saturation, i: usize) -> Head
+fn head(cert: &Saturation, i: usize) -> HeadId
     requires whole { IsWholeSaturation cert.now }
     requires placed { HasPlaces (saturation_of cert.now) }
     requires within { i < length cert.now.base.members }
@@ -42,11 +44,11 @@ fn head(cert: &Saturation, i: usize) -> Head
     }
 }
 
-fn heads(alloc: Global, cert: &Saturation) -> Result<Vec<Head>, Memory>
+fn heads(alloc: Global, cert: &Saturation) -> Result<Vec<HeadId>, Memory>
     requires whole { IsWholeSaturation cert.now }
     requires placed { HasPlaces (saturation_of cert.now) }
     ensures count { IfOk result (λ hs. length hs.items ≡ length cert.now.base.members) }
-    ensures apart { IfOk result (λ hs. AreApart (saturation_of cert.now) hs.items) }
+    ensures heads { IfOk result (λ hs. (k : ℕ) → k < length hs.items → IsHeadOf cert.now k (head_at hs.items k)) }
 {
     let mut heads = Vec::new(alloc);
     for i in 0..cert.base.members.len() {
@@ -56,7 +58,7 @@ fn heads(alloc: Global, cert: &Saturation) -> Result<Vec<Head>, Memory>
     Ok(heads)
 }
 
-fn opposed(head: Head) -> Head
+fn opposed(head: HeadId) -> HeadId
     ensures { result ≡ complement head }
 {
     Signed {
@@ -66,19 +68,19 @@ fn opposed(head: Head) -> Head
 }
 
 // The place of the head by the map, or else the other one.
-fn place_of(first: &IndexMap<Head, usize>, head: Head, other: usize) -> usize
+fn place_of(first: &IndexMap<HeadId, usize>, head: HeadId, other: usize) -> usize
     ensures { result ≡ unwrap_or (get id_eq first.now head) other }
 {
     first.get(&head).copied().unwrap_or(other)
 }
 
-fn chained(alloc: Global, heads: Vec<Head>) -> Result<Partners, Memory>
-    ensures { IfOk result (λ p. (p.heads.items ≡ heads.items) × AreChained p.heads.items p.same.items p.opposed.items 0) }
+fn chained(alloc: Global, heads: Vec<HeadId>) -> Result<Partners, Memory>
+    ensures { IfOk result (λ p. (p.heads.items ≡ heads.items) × AreChained p.heads.items p.same.items p.opposed.items 0 × ((h : Head) → IsNext p.heads.items h 0 (unwrap_or (get id_eq p.first h) (length p.heads.items)))) }
 {
     let count = heads.len();
     let mut same = vec![in alloc; count; count]?;
     let mut other = vec![in alloc; count; count]?;
-    let mut first: IndexMap<Head, usize> = IndexMap::new(alloc);
+    let mut first: IndexMap<HeadId, usize> = IndexMap::new(alloc);
     let mut i = count;
     while 0 < i {
         i -= 1;
@@ -89,6 +91,7 @@ fn chained(alloc: Global, heads: Vec<Head>) -> Result<Partners, Memory>
     }
     Ok(Partners {
         heads,
+        first,
         same,
         opposed: other,
     })
@@ -98,8 +101,36 @@ fn chained(alloc: Global, heads: Vec<Head>) -> Result<Partners, Memory>
 pub fn find_partners(alloc: Global, cert: &Saturation) -> Result<Partners, Memory>
     requires whole { IsWholeSaturation cert.now }
     requires placed { HasPlaces (saturation_of cert.now) }
-    ensures { IfOk result (λ p. LeadThrough (saturation_of cert.now) p.heads.items p.same.items p.opposed.items) }
+    ensures pairs { IfOk result (λ p. LeadThrough (saturation_of cert.now) p.heads.items p.same.items p.opposed.items) }
+    ensures groups { IfOk result (λ p. AreGrouped cert.now.base.bank cert.now.base.members p.heads.items p.same.items (get id_eq p.first)) }
 {
     let heads = heads(alloc, cert)?;
     chained(alloc, heads)
+}
+
+// The head of the literal, unless its atom is a variable.
+fn head_of(bank: &Bank, l: &IdLiteral) -> Option<HeadId>
+    requires { l.now.atom < length bank.now.trees }
+    ensures { (h : Head) → IsHeadAt bank.now l.now h → result ≡ Some h }
+{
+    let number = bank.symbol_number(l.atom)?;
+    Some(Signed {
+        positive: l.positive,
+        atom: number,
+    })
+}
+
+impl Partners {
+    /// The first member whose selected literal has the head of this one, or the other number where there is none.
+    pub fn first_place(&self, bank: &Bank, l: &IdLiteral, other: usize) -> usize
+        requires within { l.now.atom < length bank.now.trees }
+        requires other { other ≡ length self.now.heads.items }
+        requires first { (h : Head) → IsNext self.now.heads.items h 0 (unwrap_or (get id_eq self.now.first h) (length self.now.heads.items)) }
+        ensures { (h : Head) → IsHeadAt bank.now l.now h → IsNext self.now.heads.items h 0 result }
+    {
+        match head_of(bank, l) {
+            Some(head) => place_of(&self.first, head, other),
+            None => other,
+        }
+    }
 }

@@ -1,21 +1,32 @@
-use Rattle.std.proofs.Common.{◌≡◌, ◌<◌, ◌≤◌, ◌∙◌, length, sym, true, false, below_more, arith}
-use Rattle.std.specs.List.{HoldsAt}
-use Rattle.std.proofs.lemmas.List.Elements.{at_read}
-use Rattle.saturation_cert.specs.declared.member.Member.{Member}
-use Rattle.cert_check.specs.Covers.{ShorterOf}
-use Rattle.cert_check.proofs.InputScans.{none_any}
+use Rattle.std.proofs.Common.{◌≡◌, ℕ, ◌<◌, ◌∙◌, List, length, get_or, ap, subst, true, false, below_more, arith}
+use Rattle.std.proofs.lemmas.List.{get_or_default}
+use Rattle.indexmap.specs.IndexMap.{get}
+use Rattle.inst_logic.specs.declared.signed.Signed.{Signed}
+use Rattle.clause_form.specs.Literals.{id_eq}
+use Rattle.cert_check.specs.Lookups.{HasNoShorter}
+use Rattle.cert_check.proofs.ShorterLaws.{none_shorter}
 use Rattle.cert_check.proofs.cover.some_shorter.Goals as goal
 
-pub loop-member-preserved : goal.loop-member-preserved
-loop-member-preserved c =
-    let within : c.loop-member.member-index < length c.args.members.now = omega arith in
-    below_more (λ k. HoldsAt (λ (m : Member). ¬ (ShorterOf c.args.bank.now c.args.len c.args.c.now m)) c.args.members.now k) c.loop-member.member-index c.loop-member.invariant
-    (at_read c.args.members.now (λ (m : Member). ¬ (ShorterOf c.args.bank.now c.args.len c.args.c.now m)) c.loop-member.member-index c.member-item.result within c.member-item.is
-    (λ s. let t : false ≡ true = sym c.if-branch.false ∙ c.in_ok-is_shorter.ensures.1 s in cc))
+pub loop-literal-preserved : goal.loop-literal-preserved
+loop-literal-preserved c i x less =
+    let f = c.args.bank.now in
+    let ms = c.args.members.now in
+    let hs = c.args.lookup.now.partners.heads.items in
+    let ls = c.as_slice-literals.result.now in
+    let j = c.loop-literal.literal-index in
+    let within : j < length ls = omega (arith, c.loop-literal-test.true) in
+    below_more (λ i. (x : Signed ℕ) → HasNoShorter f ms hs c.args.len c.args.c.now (get_or ls i x)) j (λ k l y. c.loop-literal.invariant k y l)
+    (λ y. let same = c.literal-item.is ∙ get_or_default ls j c.literal-item.result y within in
+    subst (HasNoShorter f ms hs c.args.len c.args.c.now) same (c.in_ok-leads_to_shorter.ensures.no c.if-branch.false)) i less x
 
 pub returns : goal.returns
 returns c =
-    let past : length c.args.members.now ≤ c.loop-member.member-index = omega arith in (
+    let f = c.args.bank.now in
+    let ms = c.args.members.now in
+    let p = c.args.lookup.now.partners in
+    let same = c.as_slice-literals.ensures in (
       (λ t. absurd (let e : false ≡ true = t in cc)),
-      (λ any. absurd (none_any (ShorterOf c.args.bank.now c.args.len c.args.c.now) c.args.members.now c.loop-member.member-index c.loop-member.invariant past any)),
+      (λ any. absurd (none_shorter f ms p.heads.items p.same.items (get id_eq p.first) c.requires.lookup.groups c.args.len c.args.c.now
+          (λ i x less. subst (λ (ls : List (Signed ℕ)). HasNoShorter f ms p.heads.items c.args.len c.args.c.now (get_or ls i x)) same
+          (c.loop-literal.invariant i x (omega (arith, less, c.loop-literal-test.false, ap (λ (ls : List (Signed ℕ)). length ls) same)))) any)),
     )

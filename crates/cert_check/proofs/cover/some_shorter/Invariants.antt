@@ -1,8 +1,7 @@
-use Rattle.std.proofs.Common.{ℕ, ◌<◌}
-use Rattle.std.specs.List.{HoldsAt}
-use Rattle.saturation_cert.specs.declared.member.Member.{Member}
-use Rattle.cert_check.specs.Covers.{ShorterOf}
+use Rattle.std.proofs.Common.{ℕ, ◌<◌, get_or}
+use Rattle.inst_logic.specs.declared.signed.Signed.{Signed}
+use Rattle.cert_check.specs.Lookups.{HasNoShorter}
 use Rattle.cert_check.proofs.cover.some_shorter.Given as goal
 
-abbrev pub invariant-loop-member : goal.invariant-loop-member
-invariant-loop-member l = (k : ℕ) → k < l.member-index → HoldsAt (λ (m : Member). ¬ (ShorterOf l.bank l.len l.c m)) l.members k
+abbrev pub invariant-loop-literal : goal.invariant-loop-literal
+invariant-loop-literal l = (i : ℕ) (x : Signed ℕ) → i < l.literal-index → HasNoShorter l.bank l.members l.lookup.partners.heads.items l.len l.c (get_or l.literals i x)

@@ -6,4 +6,8 @@ use Rattle.cert_check.proofs.lookup.find_lookup.Goals as goal
 pub returns-clause-lookup : goal.returns-clause-lookup
 returns-clause-lookup c = record {
   clauses = subst (λ (ms : List Member). AreClausesOf ms c.in_ok-clauses.clauses.keys) c.as_slice.ensures c.in_ok-clauses.ensures;
+  groups = c.in_ok-partners.ensures.groups;
 }
+
+pub returns-clause-partners : goal.returns-clause-partners
+returns-clause-partners c = c.in_ok-partners.ensures.pairs

@@ -8,8 +8,11 @@ use Rattle.cert_check.specs.Partners.{LeadThrough}
 use Rattle.cert_check.proofs.LookupLaws.{lookup_kept}
 use Rattle.cert_check.proofs.Bases.{none_wrong, some_wrong}
 use Rattle.cert_check.proofs.Saturations.{saturation_same, keeps_saturation_trans}
-use Rattle.cert_check.proofs.PairScans.{valid_kept, placed_kept, first_pair, all_pairs}
+use Rattle.cert_check.proofs.PairScans.{keeps_itself, valid_kept, placed_kept, first_pair, all_pairs}
 use Rattle.cert_check.proofs.pairs.wrong_pair.Goals as goal
+
+pub loop-i-init : goal.loop-i-init
+loop-i-init c = record { kept = keeps_itself c.args.cert.now; whole = c.requires.whole; before = λ k less. absurd (omega arith) }
 
 pub wrong_partner-requires-clause-base : goal.wrong_partner-requires-clause-base
 wrong_partner-requires-clause-base c = valid_kept c.args.cert.now c.loop-i.cert c.requires.whole c.loop-i.invariant.kept c.requires.base

@@ -1,6 +1,6 @@
 use Rattle.std.proofs.Common.{ℕ, ◌<◌, List, subst, sym, rules}
 use Rattle.cert_check.specs.Partners.{Head, IsHeadOf, head_at}
-use Rattle.cert_check.proofs.HeadLaws.{all_apart, one_more_head}
+use Rattle.cert_check.proofs.HeadLaws.{one_more_head}
 use Rattle.cert_check.proofs.partners.heads.Goals as goal
 
 pub loop-i-preserved : goal.loop-i-preserved
@@ -10,5 +10,5 @@ loop-i-preserved c = record {
       (one_more_head c.args.cert.now c.loop-i.heads.items c.loop-i.i c.head-head.result c.loop-i.invariant.count c.loop-i.invariant.each c.head-head.ensures k less);
 }
 
-pub returns-clause-apart : goal.returns-clause-apart
-returns-clause-apart c = all_apart c.args.cert.now c.loop-i.heads.items (subst (λ n. (k : ℕ) → k < n → IsHeadOf c.args.cert.now k (head_at c.loop-i.heads.items k)) (sym c.loop-i.invariant.count) c.loop-i.invariant.each)
+pub returns-clause-heads : goal.returns-clause-heads
+returns-clause-heads c = subst (λ n. (k : ℕ) → k < n → IsHeadOf c.args.cert.now k (head_at c.loop-i.heads.items k)) (sym c.loop-i.invariant.count) c.loop-i.invariant.each
