@@ -6,6 +6,6 @@ use Rattle.cert_check.proofs.inputs.is_subsumed_first.Goals as goal
 
 pub returns-then-branch : goal.returns-then-branch
 returns-then-branch c =
-    let within : c.args.first < length c.args.members.now = omega arith in
-    let found = subst (λ (m : Member). Subsumes (clause_at c.args.bank.now m.clause) (clause_at c.args.bank.now c.args.c.now)) (sym c.index-members-first.is) (c.in_ok-subsumes.ensures.0 c.if-branch.true) in
-    ((λ t. (c.args.first, c.index-members-first.result, within, sym c.index-members-first.is, found)), (λ any. refl))
+    let within : c.in-Some.i < length c.args.members.now = omega arith in
+    let found = subst (λ (m : Member). Subsumes (clause_at c.args.bank.now m.clause) (clause_at c.args.bank.now c.args.c.now)) (sym c.index-members-i.is) (c.in_ok-subsumes.ensures.0 c.if-branch.true) in
+    ((λ t. (c.in-Some.i, c.index-members-i.result, within, sym c.index-members-i.is, found)), (λ any. refl))
