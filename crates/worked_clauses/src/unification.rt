@@ -23,27 +23,27 @@ fn atom_at(bank: &Bank, clauses: &IdClauseList, i: usize) -> Option<TermId>
     }
 }
 
-// How the atoms unify: not at all, or for which sides the unifier is proper.
+// How two atoms unify: not at all, or with a unifier that is proper for the left and for the right, or not.
 #[derive(Clone, Copy, Debug, PartialEq, Eq)]
-enum Unified {
-    Never,
+enum Answer {
+    NoUnifier,
     Proper(bool, bool),
 }
 
-fn unified(bank: &Bank, bindings: &mut Bindings, a: TermId, b: TermId) -> Result<Unified, Memory>
+fn unified(bank: &Bank, bindings: &mut Bindings, a: TermId, b: TermId) -> Result<Answer, Memory>
     requires left { a < length bank.now.trees }
     requires right { b < length bank.now.trees }
 {
     if !bindings.unify(bank, a, b)? {
-        return Ok(Unified::Never);
+        return Ok(Answer::NoUnifier);
     }
     let left = bindings.proper(bank, Side::Left);
     let right = bindings.proper(bank, Side::Right);
-    Ok(Unified::Proper(left, right))
+    Ok(Answer::Proper(left, right))
 }
 
 // How the atoms of the two clauses of this text unify.
-fn unified_in(alloc: Global, text: &str) -> Result<Option<Unified>, Fail> {
+fn unified_in(alloc: Global, text: &str) -> Result<Option<Answer>, Fail> {
     let mut bank = Bank::new(alloc);
     let clauses = clauses_in(alloc, &mut bank, text)?;
     let mut bindings = Bindings::new(alloc);
@@ -69,19 +69,19 @@ fn unifiers(rt: HostRuntime) -> Result<(), Fail> {
     let rows = [
         (
             "cnf(a,axiom,p(X,f(X))). cnf(b,axiom,p(X,X)).",
-            Unified::Never,
+            Answer::NoUnifier,
         ),
         (
             "cnf(a,axiom,p(X,a)). cnf(b,axiom,p(b,X)).",
-            Unified::Proper(true, true),
+            Answer::Proper(true, true),
         ),
         (
             "cnf(a,axiom,p(X,X)). cnf(b,axiom,p(X,Y)).",
-            Unified::Proper(false, false),
+            Answer::Proper(false, false),
         ),
         (
             "cnf(a,axiom,p(X)). cnf(b,axiom,p(f(X))).",
-            Unified::Proper(true, false),
+            Answer::Proper(true, false),
         ),
     ];
     for row in rows {
