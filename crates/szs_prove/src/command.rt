@@ -31,6 +31,7 @@ fn verdict<L: Library, S: Solver>(
     requires atoms { S.atoms solver ≡ 0 }
     requires added { S.added solver ≡ [] }
     requires name { IsTextName request.file.now }
+    ensures files { L.files files.new ≡ L.files files.old }
     ensures ok { IfOk result (λ text. HasVerdict (L.files files.old) (asked request.entry) text.items) }
     ensures built { IfOk result (λ _. LoadsBuilt (L.files files.old) (asked request.entry)) }
     ensures err { IfErr result (IsUnread (L.files files.old) (L.faults files.old) (L.faults files.new) (asked request.entry)) }
@@ -59,7 +60,8 @@ fn answer<L: Library, K: Sink, S: Solver>(
 ) -> Exit
     requires atoms { S.atoms solver ≡ 0 }
     requires added { S.added solver ≡ [] }
-    ensures { AnsweredBuilt (map string_bytes words.now) (reading (L.files files.old) (L.faults files.old) (L.faults files.new)) (writing (K.taken out.old) (K.taken out.new) (K.faults out.old) (K.faults out.new)) result }
+    ensures files { L.files files.new ≡ L.files files.old }
+    ensures told { AnsweredBuilt (map string_bytes words.now) (reading (L.files files.old) (L.faults files.old) (L.faults files.new)) (writing (K.taken out.old) (K.taken out.new) (K.faults out.old) (K.faults out.new)) result }
 {
     let Some(request) = read_words(words) else {
         return write_refusal(out, b"instgen", &Refusal::Usage);
@@ -72,6 +74,8 @@ fn answer<L: Library, K: Sink, S: Solver>(
 
 /// Reads the words, and the file that they name, decides it, and writes the answer.
 pub fn run<L: Library, K: Sink>(alloc: Global, words: &[String], files: &mut L, out: &mut K) -> Exit
+    // The library's files stay.
+    ensures files { L.files files.new ≡ L.files files.old }
     // There is an answer with its cause, and the exit and what was taken are that answer's.
     ensures answered { Answered (map string_bytes words.now) (reading (L.files files.old) (L.faults files.old) (L.faults files.new)) (writing (K.taken out.old) (K.taken out.new) (K.faults out.old) (K.faults out.new)) result }
     // Where the files are told, the exit has its cause, and each cause its exit, but for faults and memory.

@@ -17,6 +17,7 @@ fn load_any<L: Library>(
     request: Request<'_>,
     files: &mut L,
 ) -> Result<Problem, Refusal>
+    ensures files { L.files files.new ≡ L.files files.old }
     ensures ok { IfOk result (IsProblemOf (L.files files.old) (asked request.entry)) }
     ensures err { IfErr result (IsUnread (L.files files.old) (L.faults files.old) (L.faults files.new) (asked request.entry)) }
     ensures later { L.faults files.old ≤ L.faults files.new }
@@ -34,6 +35,7 @@ pub fn load<L: Library>(
     request: Request<'_>,
     files: &mut L,
 ) -> Result<Problem, Refusal>
+    ensures files { L.files files.new ≡ L.files files.old }
     ensures ok { IfOk result (IsProblemOf (L.files files.old) (asked request.entry)) }
     ensures built { IfOk result (λ p. All IsBuilt p.clauses) }
     ensures err { IfErr result (IsUnread (L.files files.old) (L.faults files.old) (L.faults files.new) (asked request.entry)) }

@@ -1,6 +1,7 @@
 -- Whole clauses as a bank grows.
-use Rattle.std.proofs.Common.{◌≡◌, ℕ, ◌<◌, List, [], ◌∷◌, ◌++◌, sym, subst, ap, ◌∙◌, arith, inl, inr, length}
-use Rattle.std.specs.Prelude.{All}
+use Rattle.std.proofs.Common.{◌≡◌, ℕ, ◌<◌, List, [], ◌∷◌, ◌++◌, sym, subst, ap, ◌∙◌, arith, inl, inr, length, get_or, Some}
+use Rattle.std.specs.Prelude.{All, slice_get}
+use Rattle.std.proofs.lemmas.Option.{slice_get_within, get_or_from_slice_get}
 use Rattle.inst_logic.specs.Tree.{Tree}
 use Rattle.inst_logic.specs.declared.signed.Signed.{Signed}
 use Rattle.inst_logic.specs.WellFormed.{IsAtom, IsFormedClause, atom_is_formed, clause_is_formed}
@@ -59,3 +60,11 @@ base_grown b g grown formed h = record {
   axioms = clauses_grown b.bank g grown b.axioms h.axioms;
   members = in_all (λ (m : Member). IsWholeClause g m.clause) b.members (λ m i. clause_grown b.bank g grown m.clause (all_in (λ (n : Member). IsWholeClause b.bank n.clause) b.members h.members m i));
 }
+
+-- the atom of a literal of one of these clauses is in the bank
+pub atom_within : (f : Forest) (cs : List (List (Signed ℕ))) (i n : ℕ) (c : List (Signed ℕ)) (l : Signed ℕ) → All (IsWholeClause f) cs → slice_get cs i ≡ Some c → slice_get c n ≡ Some l → l.atom < length f.trees
+atom_within f cs i n c l whole at here =
+    let h : IsWholeClause f (get_or cs i c) = whole i c (slice_get_within cs i c at) in
+    let k : IsWholeClause f c = subst (IsWholeClause f) (get_or_from_slice_get cs i c c at) h in
+    let b : (get_or c n l).atom < length f.trees = k.ids n l (slice_get_within c n l here) in
+    subst (λ (x : Signed ℕ). x.atom < length f.trees) (get_or_from_slice_get c n l l here) b

@@ -46,7 +46,7 @@ fn an_include_beside_its_file(rt: HostRuntime) -> Result<(), Fail> {
         ),
         ("rows_beside/ax.p", "cnf(a,axiom,q(c)). cnf(b,axiom,p(X))."),
     ];
-    fs::create_dir(&rt, "rows_beside")?;
+    fs::create_dir_all(&rt, "rows_beside")?;
     write_files(&rt, &files)?;
     let mut library = FolderLibrary::new(&rt, alloc);
     let answer = load(alloc, &mut library, "rows_beside/m.p", None);

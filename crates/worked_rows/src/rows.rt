@@ -58,6 +58,28 @@ fn a_clause_with_equality(rt: HostRuntime) -> Result<(), Fail> {
 }
 
 #[test]
+fn a_selection_reaches_nested_includes(rt: HostRuntime) -> Result<(), Fail> {
+    let row = Row {
+        files: &[
+            ("m.p", "include('a.p',[b])."),
+            ("a.p", "include('b.p'). cnf(x,axiom,q)."),
+            ("b.p", "cnf(b,axiom,p). cnf(c,axiom,r)."),
+        ],
+        words: &["prove", "m.p"],
+        status: 0,
+        text: "\
+% SZS status Satisfiable for m.p
+% SZS output start Saturation for m.p
+% instgen certificate 1
+cnf(i1,axiom,p,named(b)).
+cnf(m1,plain,p,input(1),[selected(1)]).
+% SZS output end Saturation for m.p
+",
+    };
+    check_row(&rt, rt.alloc(), &row)
+}
+
+#[test]
 fn a_selected_statement_that_is_absent(rt: HostRuntime) -> Result<(), Fail> {
     let row = Row {
         files: &[

@@ -3,9 +3,10 @@ use Rattle.szs_prove.proofs.command.run.Goals as goal
 
 pub returns : goal.returns
 returns g c =
-    let b = c.answer.ensures in
+    let b = c.answer.ensures.told in
     let a = b.answered in
     record {
+      files = c.answer.ensures.files;
       answered = a;
       exact = exact c.one_loading.ensures.problems c.one_loading.ensures.apart _ _ _ _ b;
       decided = decided _ _ _ _ a;
