@@ -40,7 +40,7 @@ enum Told {
     Values(bool, bool),
 }
 
-fn told(answer: &Answer) -> Told {
+fn summary(answer: &Answer) -> Told {
     match answer {
         Answer::Sat(valuation) => Told::Values(valuation.value(2), valuation.value(3)),
         Answer::Unsat { core, derivation } => {
@@ -57,7 +57,7 @@ fn under_two<S: Solver>(mut solver: S) -> Result<(Told, Told), Memory>
     make_clauses(&mut solver)?;
     let refuted = solver.solve(&[lit(0, true), lit(1, true), lit(3, false)])?;
     let met = solver.solve(&[lit(0, true), lit(1, true)])?;
-    Ok((told(&refuted), told(&met)))
+    Ok((summary(&refuted), summary(&met)))
 }
 
 // What is answered where 1 and not 1 are assumed, and where 0 is once not 0 is a clause.
@@ -68,7 +68,7 @@ fn under_complements<S: Solver>(mut solver: S) -> Result<(Told, Told), Memory>
     let clash = solver.solve(&[lit(1, true), lit(1, false)])?;
     solver.add(&[lit(0, false)])?;
     let refuted = solver.solve(&[lit(0, true)])?;
-    Ok((told(&clash), told(&refuted)))
+    Ok((summary(&clash), summary(&refuted)))
 }
 
 #[test]
