@@ -6,7 +6,7 @@ use Rattle.saturation_cert.specs.Wholes.{HasPlaces}
 use Rattle.worked_clauses.proofs.answers.truth_of.Goals as goal
 
 pub is_light-requires-clause-placed : goal.is_light-requires-clause-placed
-is_light-requires-clause-placed c = subst (λ (x : Saturation). HasPlaces (saturation_of x)) (sym c.cert.ensures.is) (λ n. c.cert.ensures.valid (Place n))
+is_light-requires-clause-placed c = subst (λ (x : Saturation). HasPlaces (saturation_of x)) (sym c.cert-cert.ensures.is) (λ n. c.cert-cert.ensures.valid (Place n))
 
 pub truth-requires-clause-placed : goal.truth-requires-clause-placed
-truth-requires-clause-placed c = subst (λ (x : Saturation). HasPlaces (saturation_of x)) (sym c.cert.ensures.is) (λ n. c.cert.ensures.valid (Place n))
+truth-requires-clause-placed c = subst (λ (x : Saturation). HasPlaces (saturation_of x)) (sym c.cert-cert.ensures.is) (λ n. c.cert-cert.ensures.valid (Place n))
