@@ -55,7 +55,7 @@ fn an_include_beside_its_file(rt: HostRuntime) -> Result<(), Fail> {
     let problem = answer?;
     assert_eq!(rt; problem.clauses.len(), 2);
     if let Some(clause) = problem.clauses.get(0) {
-        assert!(rt; clause_text(alloc, clause)?.as_slice() == b"p(X0)");
+        assert!(rt; clause_text(alloc, clause)?.as_slice() == b"p(X0)".as_slice());
     }
     Ok(())
 }
@@ -73,7 +73,7 @@ fn an_include_under_a_root(rt: HostRuntime) -> Result<(), Fail> {
     fs::remove_dir(&rt, "rows_root/lib")?;
     fs::remove_dir(&rt, "rows_root")?;
     match answer {
-        Err(LoadError::Absent { wanted }) => assert!(rt; wanted.bytes() == b"y.ax"),
+        Err(LoadError::Absent { wanted }) => assert!(rt; wanted.bytes() == b"y.ax".as_slice()),
         _ => assert!(rt; false),
     }
     Ok(())
