@@ -72,9 +72,10 @@ fn an_include_under_a_root(rt: HostRuntime) -> Result<(), Fail> {
     remove_files(&rt, &files)?;
     fs::remove_dir(&rt, "rows_root/lib")?;
     fs::remove_dir(&rt, "rows_root")?;
-    match answer {
-        Err(LoadError::Absent { wanted }) => assert!(rt; wanted.bytes() == b"y.ax".as_slice()),
-        _ => assert!(rt; false),
-    }
+    let named = match &answer {
+        Err(LoadError::Absent { wanted }) => wanted.bytes() == b"y.ax".as_slice(),
+        _ => false,
+    };
+    assert!(rt; named);
     Ok(())
 }
