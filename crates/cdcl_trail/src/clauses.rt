@@ -8,7 +8,7 @@ use slab::Slab;
 use std::alloc::Global;
 use std::marker::Model;
 
-/// Clauses by numbers, counted from 1, which stay while others are forgotten.
+/// Clauses by numbers, counted from 1 in the order in which they were added.
 #[derive(Drop)]
 pub struct Clauses {
     alloc: Global,

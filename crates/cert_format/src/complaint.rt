@@ -20,6 +20,7 @@ pub enum Complaint {
     Place { n: usize },
     /// No member has an instance within clause `k` of the inputs and axioms, which is no tautology.
     Input { k: usize },
-    /// The selected literals of two members unify, and a conclusion is not covered.
+    /// The selected literals of members `left` and `right`, the first the lower, have opposite signs and unify, and the unifier
+    /// is proper on neither side or the instance of a side on which it is proper is not covered.
     Pair { left: usize, right: usize },
 }

@@ -10,20 +10,20 @@ ghost use Rattle.inst_calculus.specs.Examples.{entry, tie_one, tie_two};
 
 /// Whole texts, byte by byte.
 pub fn texts()
-    ensures empty { saturation_text (codes "r1.p") empty_saturation ≡ text_of_lines (codes "% SZS status Satisfiable for r1.p"
-        ∷ codes "% SZS output start Saturation for r1.p"
+    ensures empty { saturation_text (codes "empty.p") empty_saturation ≡ text_of_lines (codes "% SZS status Satisfiable for empty.p"
+        ∷ codes "% SZS output start Saturation for empty.p"
         ∷ codes "% instgen certificate 1"
-        ∷ codes "% SZS output end Saturation for r1.p" ∷ []) }
-    ensures saturation { saturation_text (codes "r9.p") chain_saturation ≡ text_of_lines (codes "% SZS status Satisfiable for r9.p"
-        ∷ codes "% SZS output start Saturation for r9.p"
+        ∷ codes "% SZS output end Saturation for empty.p" ∷ []) }
+    ensures saturation { saturation_text (codes "chain.p") chain_saturation ≡ text_of_lines (codes "% SZS status Satisfiable for chain.p"
+        ∷ codes "% SZS output start Saturation for chain.p"
         ∷ codes "% instgen certificate 1"
         ∷ codes "cnf(i1,axiom,p(X0) | ~q(X0),named(a))."
         ∷ codes "cnf(i2,axiom,q(X0),named(b))."
         ∷ codes "cnf(m1,plain,p(X0) | ~q(X0),input(1),[selected(1)])."
         ∷ codes "cnf(m2,plain,q(X0),input(2),[selected(1)])."
-        ∷ codes "% SZS output end Saturation for r9.p" ∷ []) }
-    ensures refutation { refutation_text (codes "r3.p") (instance_refutation (one_step 2 3)) ≡ text_of_lines (codes "% SZS status Unsatisfiable for r3.p"
-        ∷ codes "% SZS output start CNFRefutation for r3.p"
+        ∷ codes "% SZS output end Saturation for chain.p" ∷ []) }
+    ensures refutation { refutation_text (codes "r.p") (instance_refutation (one_step 2 3)) ≡ text_of_lines (codes "% SZS status Unsatisfiable for r.p"
+        ∷ codes "% SZS output start CNFRefutation for r.p"
         ∷ codes "% instgen certificate 1"
         ∷ codes "% ground constant bot_0"
         ∷ codes "cnf(i1,axiom,p(X0),named(one))."
@@ -35,7 +35,7 @@ pub fn texts()
         ∷ codes "cnf(g2,plain,~p(c),ground(m2))."
         ∷ codes "cnf(g3,plain,p(c),ground(m3))."
         ∷ codes "cnf(r1,plain,$false,rup([g2,g3]))."
-        ∷ codes "% SZS output end CNFRefutation for r3.p" ∷ []) }
+        ∷ codes "% SZS output end CNFRefutation for r.p" ∷ []) }
     ensures tie { saturation_text (codes "tie.p") (tie_with tie_entries (1 ∷ 1 ∷ 2 ∷ 2 ∷ [])) ≡ text_of_lines (codes "% SZS status Satisfiable for tie.p"
         ∷ codes "% SZS output start Saturation for tie.p"
         ∷ codes "% instgen certificate 1"
@@ -54,7 +54,7 @@ pub fn printable()
     ensures saturation { IsPrintableSaturation chain_saturation }
     ensures refutation { IsPrintableRefutation (instance_refutation (one_step 2 3)) }
     ensures tie { IsPrintableSaturation (tie_with tie_entries (1 ∷ 1 ∷ 2 ∷ 2 ∷ [])) }
-    ensures name { IsTextName (codes "r3.p") }
+    ensures name { IsTextName (codes "r.p") }
     ensures no_name { ¬ IsTextName [] }
     ensures line_feed { ¬ IsTextName (114 ∷ 10 ∷ []) }
     ensures delete { ¬ IsTextName (127 ∷ []) }

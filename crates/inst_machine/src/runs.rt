@@ -13,8 +13,8 @@ ghost use Rattle.inst_machine.specs.Machine.{State, Event};
 ghost use Rattle.inst_machine.specs.Replay.{Replays, IsSelection, AreConclusionsCovered};
 ghost use Rattle.inst_machine.specs.Bound.{possible_entries, entry_bound};
 
-/// The entries of a run are instances of the clauses, in canonical form and well formed where the clauses are, and no two
-/// are variants.
+/// The entries of a run on well-formed clauses are instances of them, in canonical form and well formed, and no two are
+/// variants.
 pub fn entries_of_runs()
     ensures instances { (bot : Sym) (cs : List TreeClause) (journal : List Event) (t : State) → AreFormedClauses cs → Replays bot cs journal t
         → (d : TreeClause) → Contains (entry_clauses t.entries) d → (c : TreeClause) × Contains cs c × IsInstance d c }
@@ -26,8 +26,8 @@ pub fn entries_of_runs()
         → AllPairs (λ c d. ¬ AreVariants c d) (entry_clauses t.entries) }
 {}
 
-/// Where no valuation makes the abstractions of the entries of a run true, ground instances of the clauses are refuted: the
-/// abstractions are ground instances.
+/// Where no valuation makes the abstractions of the entries of a run on well-formed clauses true, ground instances of the
+/// clauses are refuted: the abstractions are ground instances.
 pub fn refuted_instances()
     ensures ground_instances { (bot : Sym) (cs : List TreeClause) (journal : List Event) (t : State) → AreFormedClauses cs → Replays bot cs journal t
         → (g : TreeClause) → Contains (map (abstraction bot) (entry_clauses t.entries)) g → IsGround g × (c : TreeClause) × Contains cs c × IsInstance g c }
@@ -36,14 +36,14 @@ pub fn refuted_instances()
         → (gs : List TreeClause) × All (λ g. IsGround g × (c : TreeClause) × Contains cs c × IsInstance g c) gs × IsRefuted gs }
 {}
 
-/// Where selected literals are true in the last valuation and every conclusion at them is covered, the entries with this
-/// selection are saturated for the clauses.
+/// Where selected literals of a run on well-formed clauses are true in the last valuation and every conclusion at them is
+/// covered, the entries with this selection are saturated for the clauses.
 pub fn saturated_when_closed()
     ensures { (bot : Sym) (cs : List TreeClause) (journal : List Event) (t : State) → AreFormedClauses cs → Replays bot cs journal t
         → (ms : List Member) → IsSelection bot t ms → AreConclusionsCovered ms → IsSaturated ms cs }
 {}
 
-/// On function-free clauses the entries of every run lie in a finite list of clauses, which its length bounds.
+/// On well-formed function-free clauses the entries of every run lie in a finite list of clauses, which its length bounds.
 pub fn finitely_many_entries()
     ensures listed { (bot : Sym) (cs : List TreeClause) (journal : List Event) (t : State) → AreFormedClauses cs → IsTrue (is_function_free cs) → Replays bot cs journal t
         → All (Contains (possible_entries cs)) (entry_clauses t.entries) }

@@ -24,7 +24,8 @@ pub enum BadStep {
     NotEmpty,
 }
 
-/// A checker of derivations, seen as the number of atoms that it has room for. It takes time in proportion to the
+/// A checker of derivations, seen as the number of atoms that it has room for (reverse unit propagation; Goldberg and Novikov,
+/// 2003; here with hints, as Cruz-Filipe et al., 2017). It takes time in proportion to the
 /// literals of the step and of the clauses that its hints cite.
 #[derive(Drop)]
 pub struct Checker {

@@ -17,6 +17,7 @@ pub enum Hint {
     Step(usize),
 }
 
+/// The hints of a step, in the order in which they are used.
 pub type HintList = ListOf<Hint>;
 
 /// A clause with the hints that show it, in the order in which they are resolved.

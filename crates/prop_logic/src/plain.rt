@@ -9,7 +9,8 @@ use std::alloc::Global;
 use std::marker::Model;
 
 /// A solver that searches with unit propagation and learns one clause from each conflict, which it keeps as long as the
-/// question lasts. It is written to be seen right; each question begins anew.
+/// question lasts (Davis, Logemann and Loveland, 1962; Marques-Silva and Sakallah, GRASP, 1996). It is written to be seen
+/// right; each question begins anew.
 #[derive(Drop)]
 pub struct Plain {
     alloc: Global,

@@ -21,6 +21,7 @@ pub enum GroundHint {
     Step(usize),
 }
 
+/// The hints of a ground step, in the order in which they are used.
 pub type GroundHintList = ListOf<GroundHint>;
 
 /// A clause with the hints that show it, in the order in which they are resolved.
@@ -30,6 +31,7 @@ pub struct GroundStep {
     pub hints: GroundHintList,
 }
 
+/// Ground steps in their order; the numbers of steps count from 1.
 pub type GroundStepList = ListOf<GroundStep>;
 
 /// For each member its ground clause, with the constant `bot` in the place of every variable, and a derivation of the empty

@@ -24,4 +24,5 @@ pub struct Member {
     pub origin: Origin,
 }
 
+/// Members in their order; the numbers of members count from 1.
 pub type MemberList = ListOf<Member>;

@@ -11,8 +11,11 @@ pub enum Exit {
     Refused,
     /// The words are not read.
     Usage,
+    /// A file could not be read: the library's count of faults rose, or stands at its last value.
     ReadFault,
+    /// The answer was not written whole: the sink's count of faults rose, or stands at its last value.
     WriteFault,
+    /// Memory was wanted.
     Memory,
 }
 

@@ -1,4 +1,4 @@
-// The edges of the grammar.
+// Two texts that are read, and one that is refused.
 
 use crate::{ReadError, read_text};
 use std::test::Fail;

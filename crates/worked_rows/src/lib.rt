@@ -1,4 +1,5 @@
-//! Worked rows of the program, as tests of its top call over files and an output in memory.
+//! Worked rows, as tests of the top call, of `load` and of `read_text` over files and an output in memory, and of `load` over
+//! a real folder.
 #![tactic(auto)]
 
 #[cfg(test)]

@@ -8,19 +8,19 @@ use szs_prove::run;
 #[test]
 fn the_empty_clause(rt: HostRuntime) -> Result<(), Fail> {
     let row = Row {
-        files: &[("r2.p", "cnf(a,axiom,$false).")],
-        words: &["prove", "r2.p"],
+        files: &[("empty.p", "cnf(a,axiom,$false).")],
+        words: &["prove", "empty.p"],
         status: 0,
         text: "\
-% SZS status Unsatisfiable for r2.p
-% SZS output start CNFRefutation for r2.p
+% SZS status Unsatisfiable for empty.p
+% SZS output start CNFRefutation for empty.p
 % instgen certificate 1
 % ground constant bot_0
 cnf(i1,axiom,$false,named(a)).
 cnf(m1,plain,$false,input(1)).
 cnf(g1,plain,$false,ground(m1)).
 cnf(r1,plain,$false,rup([g1])).
-% SZS output end CNFRefutation for r2.p
+% SZS output end CNFRefutation for empty.p
 ",
     };
     check_row(&rt, rt.alloc(), &row)
@@ -30,13 +30,13 @@ cnf(r1,plain,$false,rup([g1])).
 fn a_clause_with_a_variable(rt: HostRuntime) -> Result<(), Fail> {
     let row = Row {
         files: &[(
-            "r12.p",
+            "two.p",
             "cnf(one,axiom,'cat'|~ dog(X),file('x',one),[a:b,\"t\",3]). /* c */ cnf(2,axiom,(~ a = b)). % d\ncnf('three',hypothesis,~ (p)).",
         )],
-        words: &["prove", "r12.p"],
+        words: &["prove", "two.p"],
         status: 2,
         text: "\
-% SZS status Inappropriate for r12.p
+% SZS status Inappropriate for two.p
 % not built: clause 1
 ",
     };
@@ -46,11 +46,11 @@ fn a_clause_with_a_variable(rt: HostRuntime) -> Result<(), Fail> {
 #[test]
 fn a_clause_with_equality(rt: HostRuntime) -> Result<(), Fail> {
     let row = Row {
-        files: &[("r12.p", "cnf(one,axiom,p). cnf(2,axiom,(~ a = b)).")],
-        words: &["prove", "r12.p"],
+        files: &[("two.p", "cnf(one,axiom,p). cnf(2,axiom,(~ a = b)).")],
+        words: &["prove", "two.p"],
         status: 2,
         text: "\
-% SZS status Inappropriate for r12.p
+% SZS status Inappropriate for two.p
 % not built: clause 2
 ",
     };
@@ -173,12 +173,12 @@ cnf(m1,plain,q,input(1),[selected(1)]).
 #[test]
 fn another_language(rt: HostRuntime) -> Result<(), Fail> {
     let row = Row {
-        files: &[("r14.p", "cnf(a,axiom,p). cnf(b,axiom,q). fof(x,axiom,p).")],
-        words: &["prove", "r14.p"],
+        files: &[("r.p", "cnf(a,axiom,p). cnf(b,axiom,q). fof(x,axiom,p).")],
+        words: &["prove", "r.p"],
         status: 2,
         text: "\
-% SZS status Inappropriate for r14.p
-% language fof: statement 3 of r14.p
+% SZS status Inappropriate for r.p
+% language fof: statement 3 of r.p
 ",
     };
     check_row(&rt, rt.alloc(), &row)
@@ -187,12 +187,12 @@ fn another_language(rt: HostRuntime) -> Result<(), Fail> {
 #[test]
 fn a_distinct_object(rt: HostRuntime) -> Result<(), Fail> {
     let row = Row {
-        files: &[("r14.p", "cnf(a,axiom,p(\"obj\")).")],
-        words: &["prove", "r14.p"],
+        files: &[("r.p", "cnf(a,axiom,p(\"obj\")).")],
+        words: &["prove", "r.p"],
         status: 2,
         text: "\
-% SZS status Inappropriate for r14.p
-% feature \"obj\": statement 1 of r14.p
+% SZS status Inappropriate for r.p
+% feature \"obj\": statement 1 of r.p
 ",
     };
     check_row(&rt, rt.alloc(), &row)
@@ -201,12 +201,12 @@ fn a_distinct_object(rt: HostRuntime) -> Result<(), Fail> {
 #[test]
 fn a_number(rt: HostRuntime) -> Result<(), Fail> {
     let row = Row {
-        files: &[("r14.p", "cnf(a,axiom,p(7)).")],
-        words: &["prove", "r14.p"],
+        files: &[("r.p", "cnf(a,axiom,p(7)).")],
+        words: &["prove", "r.p"],
         status: 2,
         text: "\
-% SZS status Inappropriate for r14.p
-% feature 7: statement 1 of r14.p
+% SZS status Inappropriate for r.p
+% feature 7: statement 1 of r.p
 ",
     };
     check_row(&rt, rt.alloc(), &row)
@@ -215,12 +215,12 @@ fn a_number(rt: HostRuntime) -> Result<(), Fail> {
 #[test]
 fn another_role(rt: HostRuntime) -> Result<(), Fail> {
     let row = Row {
-        files: &[("r14.p", "cnf(a,conjecture,p).")],
-        words: &["prove", "r14.p"],
+        files: &[("r.p", "cnf(a,conjecture,p).")],
+        words: &["prove", "r.p"],
         status: 2,
         text: "\
-% SZS status Inappropriate for r14.p
-% role conjecture: statement 1 of r14.p
+% SZS status Inappropriate for r.p
+% role conjecture: statement 1 of r.p
 ",
     };
     check_row(&rt, rt.alloc(), &row)
@@ -230,14 +230,14 @@ fn another_role(rt: HostRuntime) -> Result<(), Fail> {
 fn a_statement_without_an_end(rt: HostRuntime) -> Result<(), Fail> {
     let row = Row {
         files: &[(
-            "r15.p",
+            "cut.p",
             "cnf(a,axiom,p). cnf(b,axiom,q). cnf(c,axiom,r). cnf(d,axiom,p(",
         )],
-        words: &["prove", "r15.p"],
+        words: &["prove", "cut.p"],
         status: 2,
         text: "\
-% SZS status SyntaxError for r15.p
-% syntax: statement 4 of r15.p
+% SZS status SyntaxError for cut.p
+% syntax: statement 4 of cut.p
 ",
     };
     check_row(&rt, rt.alloc(), &row)
@@ -263,15 +263,15 @@ fn another_language_in_an_include(rt: HostRuntime) -> Result<(), Fail> {
 #[test]
 fn a_read_that_fails_at_the_third_call(rt: HostRuntime) -> Result<(), Fail> {
     let alloc = rt.alloc();
-    let words = words_of(alloc, &["prove", "r3.p"])?;
-    let files = file_of(alloc, "r3.p", b"cnf(one,axiom,p(X)). cnf(two,axiom,~p(c)).")?;
+    let words = words_of(alloc, &["prove", "r.p"])?;
+    let files = file_of(alloc, "r.p", b"cnf(one,axiom,p(X)). cnf(two,axiom,~p(c)).")?;
     let mut library = MemLibrary::new(alloc, files, 24, calls_of(alloc, 3)?);
     let mut out = SureSink::new(alloc);
     let exit = run(alloc, words.as_slice(), &mut library, &mut out);
     assert_eq!(rt; exit.code(), 4);
     assert_eq!(rt;
         str::from_utf8(out.bytes())?,
-        "% SZS status OSError for r3.p\n% read fault\n"
+        "% SZS status OSError for r.p\n% read fault\n"
     );
     Ok(())
 }
