@@ -8,7 +8,7 @@ use Rattle.inst_calculus.specs.Models.{Member}
 use Rattle.term_bank.specs.Forest.{Forest, tree_at}
 use Rattle.cert_format.specs.Validity.{IsSelected}
 use Rattle.saturation_cert.specs.declared.certificate.Saturation.{Saturation}
-use Rattle.saturation_cert.specs.declared.test.Heaviest.{Heaviest}
+use Rattle.saturation_cert.specs.declared.truth_test.Heaviest.{Heaviest}
 use Rattle.saturation_cert.specs.Values.{saturation_of}
 
 abbrev pub literal_at : Forest → Signed ℕ → Signed Tree

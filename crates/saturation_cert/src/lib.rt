@@ -3,10 +3,10 @@
 
 pub mod certificate;
 pub mod member;
-pub mod test;
+pub mod truth_test;
 
 pub use certificate::{
     Base, GroundHint, GroundHintList, GroundStep, GroundStepList, Refutation, Saturation,
 };
 pub use member::{Member, MemberList, Origin};
-pub use test::{is_light, selected, truth};
+pub use truth_test::{is_light, selected, truth};

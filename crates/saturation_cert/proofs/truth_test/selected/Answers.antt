@@ -1,6 +1,6 @@
 use Rattle.std.proofs.Common.{◌-◌, ◌<◌, length, get_or, arith}
 use Rattle.saturation_cert.proofs.Chosen.{place_is_right, literal_is_selected}
-use Rattle.saturation_cert.proofs.test.selected.Goals as goal
+use Rattle.saturation_cert.proofs.truth_test.selected.Goals as goal
 
 pub overflow_sub-result : goal.overflow_sub-result
 overflow_sub-result c = (place_is_right c.args.cert.now c.requires.whole c.args.i c.requires.placed c.requires.within _ c.as_slice.ensures c.index-as_slice-i.result c.index-as_slice-i.is _ c.as_slice-2.ensures _ c.as_slice-3.ensures).0

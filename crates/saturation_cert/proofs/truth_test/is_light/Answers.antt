@@ -1,6 +1,6 @@
 use Rattle.std.proofs.Common.{◌≤◌, length, refl, arith}
 use Rattle.saturation_cert.proofs.Scans.{all_light}
-use Rattle.saturation_cert.proofs.test.is_light.Goals as goal
+use Rattle.saturation_cert.proofs.truth_test.is_light.Goals as goal
 
 pub returns : goal.returns
 returns c =

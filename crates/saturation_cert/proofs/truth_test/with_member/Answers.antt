@@ -2,7 +2,7 @@ use Rattle.std.proofs.Common.{◌≡◌, sym, ◌∙◌, true, false}
 use Rattle.term_bank.specs.Forest.{tree_at}
 use Rattle.saturation_cert.specs.Truths.{level}
 use Rattle.saturation_cert.proofs.Scans.{chosen_weight, same_grown, other_kept}
-use Rattle.saturation_cert.proofs.test.with_member.Goals as goal
+use Rattle.saturation_cert.proofs.truth_test.with_member.Goals as goal
 
 pub weight_over-requires-clause-light : goal.weight_over-requires-clause-light
 weight_over-requires-clause-light c =

@@ -3,7 +3,7 @@ use Rattle.std.proofs.lemmas.Bool.{ltb-false}
 use Rattle.inst_logic.specs.Measure.{tree_weight}
 use Rattle.term_bank.specs.Forest.{tree_at}
 use Rattle.saturation_cert.proofs.Scans.{chosen_weight}
-use Rattle.saturation_cert.proofs.test.is_light_at.Goals as goal
+use Rattle.saturation_cert.proofs.truth_test.is_light_at.Goals as goal
 
 pub returns-clause-no : goal.returns-clause-no
 returns-clause-no c e light =
