@@ -5,5 +5,6 @@ pub mod Measures
 pub mod Readings
 pub mod Walks
 pub mod Growth
+pub mod Cuts
 pub mod Clauses
 pub mod GroundTrees

@@ -1,6 +1,6 @@
 // A bank of trees, each stored once and named by its number (hash consing; Ershov, On programming of arithmetic
 // operations, 1958; Goto, Monocopy and associative algorithms in extended Lisp, 1974).
-ghost use Rattle.std.specs.Prelude.{◌≡◌, ◌↔◌, IsTrue, ℕ, ◌<◌, [], length, false, true, min, map, IfOk, OnOk, OnErr, option_copied, option_map};
+ghost use Rattle.std.specs.Prelude.{◌≡◌, ◌↔◌, IsTrue, ℕ, ◌<◌, [], length, false, true, min, map, take, IfOk, OnOk, OnErr, option_copied, option_map};
 ghost use Rattle.std.specs.List.{All};
 ghost use Rattle.inst_logic.specs.Tree.{var, app, of_list};
 ghost use Rattle.inst_logic.specs.Measure.{tree_size, tree_weight};
@@ -22,6 +22,8 @@ use std::alloc::Global;
 use std::marker::Model;
 
 /// Terms and atoms, each tree once. Contracts see the list of its trees by their ids.
+///
+/// After want of memory the trees are those from before, and each call that can want memory wants it.
 #[derive(Drop)]
 pub struct Bank {
     pub(crate) alloc: Global,
@@ -60,6 +62,7 @@ fn insert_variable(
     ensures extends { ExtendsTrees (trees_of symbols.now.keys nodes.old.entries) (trees_of symbols.now.keys nodes.new.entries) }
     ensures formed { AreFormedTrees (trees_of symbols.now.keys nodes.old.entries) → AreFormedTrees (trees_of symbols.now.keys nodes.new.entries) }
     ensures at { IfOk result (λ i. (i < length (trees_of symbols.now.keys nodes.new.entries)) × (nth (trees_of symbols.now.keys nodes.new.entries) i ≡ var v)) }
+    ensures held { OnErr result (trees_of symbols.now.keys nodes.new.entries ≡ trees_of symbols.now.keys nodes.old.entries) }
 {
     let measures = Measures {
         size: 1,
@@ -84,6 +87,7 @@ fn insert_numbered(
     ensures extends { ExtendsTrees (trees_of symbols.now.keys nodes.old.entries) (trees_of symbols.now.keys nodes.new.entries) }
     ensures formed { AreFormedTrees (trees_of symbols.now.keys nodes.old.entries) → IsFormed (app (symbol_at symbols.now.keys number) (of_list (map (nth (trees_of symbols.now.keys nodes.old.entries)) args.now))) → AreFormedTrees (trees_of symbols.now.keys nodes.new.entries) }
     ensures at { IfOk result (λ i. (i < length (trees_of symbols.now.keys nodes.new.entries)) × (nth (trees_of symbols.now.keys nodes.new.entries) i ≡ app (symbol_at symbols.now.keys number) (of_list (map (nth (trees_of symbols.now.keys nodes.old.entries)) args.now)))) }
+    ensures held { OnErr result (trees_of symbols.now.keys nodes.new.entries ≡ trees_of symbols.now.keys nodes.old.entries) }
 {
     let copy = copied(alloc, args)?;
     let kind = kind_at(symbols, number);
@@ -105,6 +109,7 @@ fn insert_application(
     ensures symbols { KeepsPlaces no_symbol symbols.old.keys symbols.new.keys }
     ensures formed { AreFormedTrees (trees_of symbols.old.keys nodes.old.entries) → IsFormed (app sym.now (of_list (map (nth (trees_of symbols.old.keys nodes.old.entries)) args.now))) → AreFormedTrees (trees_of symbols.new.keys nodes.new.entries) }
     ensures at { IfOk result (λ i. (i < length (trees_of symbols.new.keys nodes.new.entries)) × (nth (trees_of symbols.new.keys nodes.new.entries) i ≡ app sym.now (of_list (map (nth (trees_of symbols.old.keys nodes.old.entries)) args.now)))) }
+    ensures held { OnErr result (trees_of symbols.new.keys nodes.new.entries ≡ trees_of symbols.old.keys nodes.old.entries) }
 {
     let number = symbol_number(symbols, sym)?;
     insert_numbered(alloc, symbols, nodes, number, args)
@@ -138,6 +143,7 @@ impl Bank {
         ensures formed { AreFormed self.old → AreFormed self.new }
         ensures ok { OnOk result ((self.old.spent ≡ false) × (self.new.spent ≡ false)) }
         ensures err { OnErr result (self.new.spent ≡ true) }
+        ensures held { OnErr result (self.new.trees ≡ self.old.trees) }
     {
         if self.spent {
             return Err(Memory);
@@ -155,6 +161,7 @@ impl Bank {
         ensures formed { AreFormed self.old → IsFormed (app sym.now (of_list (map (tree_at self.old) args.now))) → AreFormed self.new }
         ensures ok { OnOk result ((self.old.spent ≡ false) × (self.new.spent ≡ false)) }
         ensures err { OnErr result (self.new.spent ≡ true) }
+        ensures held { OnErr result (self.new.trees ≡ self.old.trees) }
     {
         if self.spent {
             return Err(Memory);
@@ -174,6 +181,7 @@ impl Bank {
         ensures formed { AreFormed self.old → IsFormed (with_arguments (tree_at self.old like) (map (tree_at self.old) args.now)) → AreFormed self.new }
         ensures ok { OnOk result ((self.old.spent ≡ false) × (self.new.spent ≡ false)) }
         ensures err { OnErr result (self.new.spent ≡ true) }
+        ensures held { OnErr result (self.new.trees ≡ self.old.trees) }
     {
         if self.spent {
             return Err(Memory);
@@ -185,6 +193,16 @@ impl Bank {
         let result = insert_numbered(self.alloc, &self.symbols, &mut self.nodes, number, args);
         self.spent = result.is_err();
         result
+    }
+
+    // After want of memory the first `len` trees stay.
+    pub(crate) fn give_up(&mut self, len: usize)
+        ensures trees { self.new.trees ≡ take len self.old.trees }
+        ensures symbols { self.new.symbols ≡ self.old.symbols }
+        ensures spent { self.new.spent ≡ true }
+    {
+        self.nodes.truncate(len);
+        self.spent = true;
     }
 
     /// A variable with its number, or an application.

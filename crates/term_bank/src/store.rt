@@ -46,6 +46,7 @@ pub fn node_number(
     ensures within { IfOk result (λ i. i < length nodes.new.entries) }
     ensures at { IfOk result (λ i. (entry_at nodes.new.entries i).0 ≡ node) }
     ensures grown { NodesGrow nodes.old.entries nodes.new.entries (node, measures) }
+    ensures held { OnErr result (nodes.new.entries ≡ nodes.old.entries) }
 {
     let (number, _) = nodes.insert_full(node, measures)?;
     Ok(TermId::of(number))
