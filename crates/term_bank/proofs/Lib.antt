@@ -1,8 +1,10 @@
+pub mod Greatest
 pub mod Nodes
 pub mod Maps
 pub mod Measures
 pub mod Readings
 pub mod Walks
 pub mod Growth
+pub mod Cuts
 pub mod Clauses
 pub mod GroundTrees

@@ -3,13 +3,13 @@ use Rattle.std.proofs.Common.{◌≡◌, ℕ, zero, suc, ◌+◌, ◌<◌, ◌�
 use Rattle.std.specs.Prelude.{◌&&◌}
 use Rattle.std.specs.List.{list_all}
 use Rattle.std.proofs.lemmas.List.{get_or_append_left, get_or_push, length_push}
-use Rattle.std.proofs.lemmas.List.Sums.{fold_push}
+use Rattle.std.proofs.lemmas.List.Sums.{fold_push, fold-append}
 use Rattle.inst_logic.proofs.SameLemmas.{and_left, and_right}
 use Rattle.inst_logic.specs.declared.symbol.Sym.{Sym}
 use Rattle.inst_logic.specs.Tree.{Tree, var, app, of_list}
 use Rattle.term_bank.specs.declared.node.Node.{Node}
 use Rattle.term_bank.specs.declared.node.Node.TheVariants.{Var, App}
-use Rattle.term_bank.specs.Forest.{AreDistinct, symbol_at, nth}
+use Rattle.term_bank.specs.Forest.{ExtendsTrees, AreDistinct, symbol_at, nth}
 use Rattle.term_bank.specs.Nodes.{Entry, no_entry, entry_at, node_tree, with_tree, trees_of, node_fits, AreMeasuresOf, IsBank}
 use Rattle.std.proofs.lemmas.Bool.{ltb-true, lt-ltb}
 
@@ -102,6 +102,12 @@ module _ (ss : List Sym) where
   pub trees_push : (es : List Entry) (e : Entry) → trees_of ss (es ++ e ∷ []) ≡ with_tree ss (trees_of ss es) e
   unfolding trees_of
   trees_push es e = fold_push (with_tree ss) [] es e
+
+  -- more entries change no tree
+  pub trees_more : (es fs : List Entry) → ExtendsTrees (trees_of ss es) (trees_of ss (es ++ fs))
+  unfolding trees_of
+  trees_more es fs = subst (λ (us : List Tree). ExtendsTrees (fold (with_tree ss) [] es) us) (sym (fold-append (with_tree ss) [] es fs))
+      (omega (arith, length_built (fold (with_tree ss) [] es) fs), λ i h. built_keeps (fold (with_tree ss) [] es) fs i h)
 
 -- another symbol changes no tree
 symbol_kept : (ss : List Sym) (s : Sym) (ts : List Tree) (k : ℕ) (n : Node) → node_fits (length ss) k n ≡ true → node_tree (ss ++ s ∷ []) ts n ≡ node_tree ss ts n

@@ -1,12 +1,13 @@
 // A bank of trees, each stored once and named by its number (hash consing; Ershov, On programming of arithmetic
 // operations, 1958; Goto, Monocopy and associative algorithms in extended Lisp, 1974).
-ghost use Rattle.std.specs.Prelude.{◌≡◌, ◌↔◌, IsTrue, ℕ, ◌<◌, [], length, false, true, min, map, IfOk, OnOk, OnErr, option_copied, option_map};
+ghost use Rattle.std.specs.Prelude.{◌≡◌, ◌↔◌, IsTrue, ℕ, ◌<◌, [], length, false, true, min, map, take, IfOk, OnOk, OnErr, option_copied, option_map};
 ghost use Rattle.std.specs.List.{All};
 ghost use Rattle.inst_logic.specs.Tree.{var, app, of_list};
 ghost use Rattle.inst_logic.specs.Measure.{tree_size, tree_weight};
 ghost use Rattle.inst_logic.specs.Substitution.{tree_vars};
 ghost use Rattle.inst_logic.specs.Unifiers.{IsApplication};
 ghost use Rattle.term_bank.specs.Forest.{tree_at, nth, symbol_at, number_of, IsAt, AreIds, AreDistinct, Extends, ExtendsTrees, KeepsPlaces, no_symbol, IsFormed, AreFormed, AreFormedTrees, symbol_of, arguments_of, with_arguments, is_ground};
+ghost use Rattle.term_bank.specs.Greatest.{IsGreatest};
 ghost use Rattle.term_bank.specs.Nodes.{trees_of, IsBank};
 ghost use Rattle.term_bank.specs.Shapes.{shape_of};
 
@@ -21,6 +22,8 @@ use std::alloc::Global;
 use std::marker::Model;
 
 /// Terms and atoms, each tree once. Contracts see the list of its trees by their ids.
+///
+/// After want of memory the trees are those from before, and each call that can want memory wants it.
 #[derive(Drop)]
 pub struct Bank {
     pub(crate) alloc: Global,
@@ -59,11 +62,12 @@ fn insert_variable(
     ensures extends { ExtendsTrees (trees_of symbols.now.keys nodes.old.entries) (trees_of symbols.now.keys nodes.new.entries) }
     ensures formed { AreFormedTrees (trees_of symbols.now.keys nodes.old.entries) → AreFormedTrees (trees_of symbols.now.keys nodes.new.entries) }
     ensures at { IfOk result (λ i. (i < length (trees_of symbols.now.keys nodes.new.entries)) × (nth (trees_of symbols.now.keys nodes.new.entries) i ≡ var v)) }
+    ensures held { OnErr result (trees_of symbols.now.keys nodes.new.entries ≡ trees_of symbols.now.keys nodes.old.entries) }
 {
     let measures = Measures {
         size: 1,
         weight: 0,
-        variable_free: false,
+        greatest: Some(v),
     };
     node_number(nodes, Node::Var(v), measures)
 }
@@ -83,6 +87,7 @@ fn insert_numbered(
     ensures extends { ExtendsTrees (trees_of symbols.now.keys nodes.old.entries) (trees_of symbols.now.keys nodes.new.entries) }
     ensures formed { AreFormedTrees (trees_of symbols.now.keys nodes.old.entries) → IsFormed (app (symbol_at symbols.now.keys number) (of_list (map (nth (trees_of symbols.now.keys nodes.old.entries)) args.now))) → AreFormedTrees (trees_of symbols.now.keys nodes.new.entries) }
     ensures at { IfOk result (λ i. (i < length (trees_of symbols.now.keys nodes.new.entries)) × (nth (trees_of symbols.now.keys nodes.new.entries) i ≡ app (symbol_at symbols.now.keys number) (of_list (map (nth (trees_of symbols.now.keys nodes.old.entries)) args.now)))) }
+    ensures held { OnErr result (trees_of symbols.now.keys nodes.new.entries ≡ trees_of symbols.now.keys nodes.old.entries) }
 {
     let copy = copied(alloc, args)?;
     let kind = kind_at(symbols, number);
@@ -104,6 +109,7 @@ fn insert_application(
     ensures symbols { KeepsPlaces no_symbol symbols.old.keys symbols.new.keys }
     ensures formed { AreFormedTrees (trees_of symbols.old.keys nodes.old.entries) → IsFormed (app sym.now (of_list (map (nth (trees_of symbols.old.keys nodes.old.entries)) args.now))) → AreFormedTrees (trees_of symbols.new.keys nodes.new.entries) }
     ensures at { IfOk result (λ i. (i < length (trees_of symbols.new.keys nodes.new.entries)) × (nth (trees_of symbols.new.keys nodes.new.entries) i ≡ app sym.now (of_list (map (nth (trees_of symbols.old.keys nodes.old.entries)) args.now)))) }
+    ensures held { OnErr result (trees_of symbols.new.keys nodes.new.entries ≡ trees_of symbols.old.keys nodes.old.entries) }
 {
     let number = symbol_number(symbols, sym)?;
     insert_numbered(alloc, symbols, nodes, number, args)
@@ -137,6 +143,7 @@ impl Bank {
         ensures formed { AreFormed self.old → AreFormed self.new }
         ensures ok { OnOk result ((self.old.spent ≡ false) × (self.new.spent ≡ false)) }
         ensures err { OnErr result (self.new.spent ≡ true) }
+        ensures held { OnErr result (self.new.trees ≡ self.old.trees) }
     {
         if self.spent {
             return Err(Memory);
@@ -154,6 +161,7 @@ impl Bank {
         ensures formed { AreFormed self.old → IsFormed (app sym.now (of_list (map (tree_at self.old) args.now))) → AreFormed self.new }
         ensures ok { OnOk result ((self.old.spent ≡ false) × (self.new.spent ≡ false)) }
         ensures err { OnErr result (self.new.spent ≡ true) }
+        ensures held { OnErr result (self.new.trees ≡ self.old.trees) }
     {
         if self.spent {
             return Err(Memory);
@@ -173,6 +181,7 @@ impl Bank {
         ensures formed { AreFormed self.old → IsFormed (with_arguments (tree_at self.old like) (map (tree_at self.old) args.now)) → AreFormed self.new }
         ensures ok { OnOk result ((self.old.spent ≡ false) × (self.new.spent ≡ false)) }
         ensures err { OnErr result (self.new.spent ≡ true) }
+        ensures held { OnErr result (self.new.trees ≡ self.old.trees) }
     {
         if self.spent {
             return Err(Memory);
@@ -184,6 +193,16 @@ impl Bank {
         let result = insert_numbered(self.alloc, &self.symbols, &mut self.nodes, number, args);
         self.spent = result.is_err();
         result
+    }
+
+    // After want of memory the first `len` trees stay.
+    pub(crate) fn give_up(&mut self, len: usize)
+        ensures trees { self.new.trees ≡ take len self.old.trees }
+        ensures symbols { self.new.symbols ≡ self.old.symbols }
+        ensures spent { self.new.spent ≡ true }
+    {
+        self.nodes.truncate(len);
+        self.spent = true;
     }
 
     /// A variable with its number, or an application.
@@ -254,6 +273,14 @@ impl Bank {
         ensures test { result ≡ is_ground (tree_at self.now id) }
         ensures variables { IsTrue result ↔ (tree_vars (tree_at self.now id) ≡ []) }
     {
-        measures_at(&self.nodes, id).variable_free
+        measures_at(&self.nodes, id).greatest.is_none()
+    }
+
+    /// The greatest number of a variable of the tree, and `None` where it has no variable.
+    pub fn greatest_variable(&self, id: TermId) -> Option<usize>
+        requires { id < length self.now.trees }
+        ensures { IsGreatest (tree_vars (tree_at self.now id)) result }
+    {
+        measures_at(&self.nodes, id).greatest
     }
 }

@@ -19,12 +19,16 @@ impl Bank {
         ensures formed { AreFormed self.old → IsTerm (tree t.now) → AreFormed self.new }
         ensures ok { OnOk result ((self.old.spent ≡ false) × (self.new.spent ≡ false)) }
         ensures err { OnErr result (self.new.spent ≡ true) }
+        ensures held { OnErr result (self.new.trees ≡ self.old.trees) }
     {
         if self.spent {
             return Err(Memory);
         }
+        let len = self.len();
         let result = interned_term(self.alloc, self, t);
-        self.spent = result.is_err();
+        if result.is_err() {
+            self.give_up(len);
+        }
         result
     }
 
@@ -35,13 +39,17 @@ impl Bank {
         ensures formed { AreFormed self.old → IsAtom (literal l.now).atom → AreFormed self.new }
         ensures ok { OnOk result ((self.old.spent ≡ false) × (self.new.spent ≡ false)) }
         ensures err { OnErr result (self.new.spent ≡ true) }
+        ensures held { OnErr result (self.new.trees ≡ self.old.trees) }
     {
         if self.spent {
             return Err(Memory);
         }
         let mut steps = Vec::new(self.alloc);
+        let len = self.len();
         let result = interned_atom(self.alloc, self, &mut steps, l);
-        self.spent = result.is_err();
+        if result.is_err() {
+            self.give_up(len);
+        }
         result
     }
 
@@ -52,12 +60,16 @@ impl Bank {
         ensures formed { AreFormed self.old → IsFormedClause c.now → AreFormed self.new }
         ensures ok { OnOk result ((self.old.spent ≡ false) × (self.new.spent ≡ false)) }
         ensures err { OnErr result (self.new.spent ≡ true) }
+        ensures held { OnErr result (self.new.trees ≡ self.old.trees) }
     {
         if self.spent {
             return Err(Memory);
         }
+        let len = self.len();
         let result = interned_clause(self.alloc, self, c);
-        self.spent = result.is_err();
+        if result.is_err() {
+            self.give_up(len);
+        }
         result
     }
 }

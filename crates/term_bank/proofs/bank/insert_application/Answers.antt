@@ -1,10 +1,11 @@
-use Rattle.std.proofs.Common.{◌≡◌, ◌<◌, List, length, map, ap, sym, subst, arith, IfOk}
+use Rattle.std.proofs.Common.{◌≡◌, ◌<◌, List, length, map, ap, sym, subst, arith, IfOk, OnErr}
 use Rattle.std.specs.List.{All}
 use Rattle.inst_logic.specs.declared.symbol.Sym.{Sym}
 use Rattle.inst_logic.specs.Tree.{Tree, app, of_list}
 use Rattle.term_bank.specs.Forest.{ExtendsTrees, IsFormed, AreFormedTrees, nth}
 use Rattle.term_bank.specs.Nodes.{trees_of}
 use Rattle.term_bank.proofs.Measures.{symbol_step, symbols_kept}
+use Rattle.term_bank.proofs.Cuts.{on_err}
 use Rattle.term_bank.proofs.bank.insert_application.Goals as goal
 
 extends_same : (ts us : List Tree) → us ≡ ts → ExtendsTrees ts us
@@ -52,3 +53,11 @@ returns-clause-at c =
     let new = trees_of c.symbol_number.new.symbols.keys c.insert_numbered.new.nodes.entries in
     let P : Sym → List Tree → Type 0 = λ s ts. IfOk c.insert_numbered.result (λ i. (i < length new) × (nth new i ≡ app s (of_list (map (nth ts) c.args.args.now)))) in
     read_back P _ _ _ _ c.in_ok-number.ensures.at (symbol_step _ _ _ c.args.nodes.now.entries c.requires.bank c.symbol_number.ensures.grown).trees c.insert_numbered.ensures.at
+
+pub returns-in_err-number-clause-held : goal.returns-in_err-number-clause-held
+returns-in_err-number-clause-held c = on_err _ c.from_residual.result (symbol_step _ _ _ c.args.nodes.now.entries c.requires.bank c.symbol_number.ensures.grown).trees
+
+pub returns-clause-held : goal.returns-clause-held
+returns-clause-held c =
+    subst (λ (ts : List Tree). OnErr c.insert_numbered.result (trees_of c.symbol_number.new.symbols.keys c.insert_numbered.new.nodes.entries ≡ ts))
+    (symbol_step _ _ _ c.args.nodes.now.entries c.requires.bank c.symbol_number.ensures.grown).trees c.insert_numbered.ensures.held
