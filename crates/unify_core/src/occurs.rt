@@ -89,7 +89,7 @@ pub fn occurs(
     ensures yes { IfOk result (λ r. r ≡ true → (by : ℕ → Tree) → IsSolvedBy (assignments bank.now map.now.entries) by → variable_number x ∈ tree_vars (apply by (bound_tree bank.now t))) }
     ensures no { IfOk result (λ r. r ≡ false → (by : ℕ → Tree) → IsSolvedBy (assignments bank.now map.now.entries) by → ¬ (variable_number x ∈ tree_vars (apply by (bound_tree bank.now t)))) }
 {
-    seen.clear();
+    seen.truncate(0);
     seen.insert(t)?;
     let mut i: usize = 0;
     while i < seen.len() {

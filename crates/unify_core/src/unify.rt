@@ -162,7 +162,7 @@ pub fn unify_terms(
 {
     let _ = bank.len();
     work.clear();
-    done.clear();
+    done.truncate(0);
     let left = Bound {
         side: Side::Left,
         term: a,
