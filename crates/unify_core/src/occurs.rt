@@ -52,11 +52,9 @@ fn visit(
         return Ok(false);
     }
     match bank.shape(at.term) {
-        Shape::Var(v) => {
-            let variable = Variable {
-                side: at.side,
-                var: v,
-            };
+        Shape::Var(var) => {
+            let side = at.side;
+            let variable = Variable { side, var };
             if variable == x {
                 return Ok(true);
             }
