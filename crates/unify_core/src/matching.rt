@@ -156,7 +156,7 @@ pub fn match_terms(
     ensures behind { (more : List Binding) × (map.new.entries ≡ map.old.entries ++ more) }
 {
     let _ = bank.len();
-    met.clear();
+    met.truncate(0);
     met.insert(pattern, target)?;
     let mut i: usize = 0;
     while i < met.len() {

@@ -52,11 +52,9 @@ fn visit(
         return Ok(false);
     }
     match bank.shape(at.term) {
-        Shape::Var(v) => {
-            let variable = Variable {
-                side: at.side,
-                var: v,
-            };
+        Shape::Var(var) => {
+            let side = at.side;
+            let variable = Variable { side, var };
             if variable == x {
                 return Ok(true);
             }
@@ -89,7 +87,7 @@ pub fn occurs(
     ensures yes { IfOk result (λ r. r ≡ true → (by : ℕ → Tree) → IsSolvedBy (assignments bank.now map.now.entries) by → variable_number x ∈ tree_vars (apply by (bound_tree bank.now t))) }
     ensures no { IfOk result (λ r. r ≡ false → (by : ℕ → Tree) → IsSolvedBy (assignments bank.now map.now.entries) by → ¬ (variable_number x ∈ tree_vars (apply by (bound_tree bank.now t)))) }
 {
-    seen.clear();
+    seen.truncate(0);
     seen.insert(t)?;
     let mut i: usize = 0;
     while i < seen.len() {

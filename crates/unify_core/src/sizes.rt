@@ -52,9 +52,9 @@ pub fn clause_size(
     requires bindings { AreBindings bank.now map.now.entries }
     ensures { IfOk result (λ n. IsSizeUnder bank.now map.now.entries side c.now u64.MAX n) }
 {
-    classes.clear();
-    numbers.clear();
-    counted.clear();
+    classes.truncate(0);
+    numbers.truncate(0);
+    counted.truncate(0);
     let mut total: u64 = 0;
     for literal in c.as_slice() {
         let positive = literal.positive;

@@ -122,20 +122,14 @@ fn unify_pair(
         return Ok(false);
     }
     match bank.shape(left.term) {
-        Shape::Var(v) => {
-            let x = Variable {
-                side: left.side,
-                var: v,
-            };
-            bind(bank, map, seen, x, right)
+        Shape::Var(var) => {
+            let side = left.side;
+            bind(bank, map, seen, Variable { side, var }, right)
         }
         Shape::App => match bank.shape(right.term) {
-            Shape::Var(v) => {
-                let x = Variable {
-                    side: right.side,
-                    var: v,
-                };
-                bind(bank, map, seen, x, left)
+            Shape::Var(var) => {
+                let side = right.side;
+                bind(bank, map, seen, Variable { side, var }, left)
             }
             Shape::App => take_apart(bank, work, done, left, right),
         },
@@ -162,7 +156,7 @@ pub fn unify_terms(
 {
     let _ = bank.len();
     work.clear();
-    done.clear();
+    done.truncate(0);
     let left = Bound {
         side: Side::Left,
         term: a,

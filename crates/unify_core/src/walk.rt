@@ -20,11 +20,9 @@ pub fn next(bank: &Bank, map: &IndexMap<Variable, Bound>, at: Bound) -> Option<B
 {
     match bank.shape(at.term) {
         Shape::App => None,
-        Shape::Var(v) => {
-            let variable = Variable {
-                side: at.side,
-                var: v,
-            };
+        Shape::Var(var) => {
+            let side = at.side;
+            let variable = Variable { side, var };
             map.get(&variable).copied()
         }
     }

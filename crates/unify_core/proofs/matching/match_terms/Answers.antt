@@ -8,7 +8,7 @@ use Rattle.unify_core.proofs.matching.match_terms.Goals as goal
 pub loop-i-init : goal.loop-i-init
 loop-i-init c =
     walk_begin c.args.bank.now c.args.map.now.entries c.args.pattern c.args.target c.insert.new.self.entries c.requires.matches c.requires.pattern c.requires.target
-    (c.in_ok-insert.ensures.entries ∙ ap (λ (l : List Meeting). insert_entry nat_eq l c.args.pattern c.args.target) c.clear.ensures.empty)
+    (c.in_ok-insert.ensures.entries ∙ ap (λ (l : List Meeting). insert_entry nat_eq l c.args.pattern c.args.target) c.truncate.ensures.entries)
 
 pub meet_node-requires-clause-node : goal.meet_node-requires-clause-node
 meet_node-requires-clause-node c =

@@ -6,7 +6,7 @@ use Rattle.unify_core.proofs.sizes.clause_size.Goals as goal
 
 pub loop-literal-init : goal.loop-literal-init
 loop-literal-init c =
-    count_start c.args.bank.now c.args.map.now.entries c.args.side c.clear.new.self.entries c.clear-2.new.self.entries c.clear-3.new.self.keys c.clear.ensures.empty c.clear-2.ensures.empty c.clear-3.ensures.empty
+    count_start c.args.bank.now c.args.map.now.entries c.args.side c.truncate.new.self.entries c.truncate-2.new.self.entries c.truncate-3.new.self.keys c.truncate.ensures.entries c.truncate-2.ensures.entries c.truncate-3.ensures.keys
 
 pub loop-literal-preserved : goal.loop-literal-preserved
 loop-literal-preserved c =
