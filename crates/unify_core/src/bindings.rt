@@ -15,6 +15,7 @@ ghost use Rattle.unify_core.specs.Passed.{IsPassed, no_binding};
 
 use crate::classes::Part;
 use crate::matching::match_terms;
+use crate::numbering::Waiting;
 use crate::side::{Bound, Pair, Side, Variable};
 use crate::sizes::{ClassLiteral, clause_size};
 use crate::unify::unify_terms;
@@ -40,7 +41,7 @@ pub struct Bindings {
     met: IndexMap<TermId, TermId>,
     classes: IndexMap<Part, u64>,
     numbers: IndexMap<Bound, usize>,
-    path: Vec<Bound>,
+    path: Vec<Waiting>,
     counted: IndexSet<ClassLiteral>,
     spent: bool,
 }

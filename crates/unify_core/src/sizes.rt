@@ -7,7 +7,7 @@ ghost use Rattle.unify_core.specs.Counts.{IsCounted};
 ghost use Rattle.unify_core.specs.Sizes.{IsSizeUnder};
 
 use crate::classes::{Part, size_at};
-use crate::numbering::class_under;
+use crate::numbering::{Waiting, class_under};
 use crate::side::{Bound, Side, Variable};
 use indexmap::{IndexMap, IndexSet};
 use inst_logic::Memory;
@@ -43,7 +43,7 @@ pub fn clause_size(
     map: &IndexMap<Variable, Bound>,
     classes: &mut IndexMap<Part, u64>,
     numbers: &mut IndexMap<Bound, usize>,
-    path: &mut Vec<Bound>,
+    path: &mut Vec<Waiting>,
     counted: &mut IndexSet<ClassLiteral>,
     side: Side,
     c: &IdClause,
