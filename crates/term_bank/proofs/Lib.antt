@@ -1,3 +1,4 @@
+pub mod Greatest
 pub mod Nodes
 pub mod Maps
 pub mod Measures

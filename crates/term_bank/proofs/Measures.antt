@@ -1,6 +1,6 @@
 -- The measures of an application, and what an insertion makes of a bank.
-use Rattle.std.proofs.Common.{◌≡◌, ℕ, ◌+◌, ◌-◌, ◌^◌, ◌<◌, min, List, [], ◌∷◌, ◌++◌, length, map, Bool, true, false, refl, ap, ap₂, sym, ◌∙◌, subst, arith, nat_lt, ◌⊎◌, inl, inr}
-use Rattle.std.specs.Prelude.{◌&&◌, sum_by}
+use Rattle.std.proofs.Common.{◌≡◌, ℕ, ◌+◌, ◌-◌, ◌^◌, ◌<◌, min, List, [], ◌∷◌, ◌++◌, length, map, fold, Option, Some, None, true, refl, ap, sym, ◌∙◌, subst, arith, nat_lt, ◌⊎◌, inl, inr}
+use Rattle.std.specs.Prelude.{sum_by}
 use Rattle.std.specs.List.{All, list_all}
 use Rattle.std.proofs.lemmas.List.{get_or_append_left, get_or_push, length_push}
 use Rattle.std.proofs.lemmas.List.Sums.{sum_by-cons}
@@ -13,8 +13,10 @@ use Rattle.inst_logic.specs.Measure.{tree_size, trees_size, tree_weight, trees_w
 use Rattle.term_bank.specs.declared.node.Node.{Node}
 use Rattle.term_bank.specs.declared.node.Node.TheVariants.{Var, App}
 use Rattle.term_bank.specs.declared.node.Measures.{Measures}
-use Rattle.term_bank.specs.Forest.{is_ground, are_ground, ExtendsTrees, KeepsPlaces, IsFormed, AreFormedTrees, no_symbol, symbol_at, nth}
+use Rattle.term_bank.specs.Forest.{ExtendsTrees, KeepsPlaces, IsFormed, AreFormedTrees, no_symbol, symbol_at, nth}
+use Rattle.term_bank.specs.Greatest.{greater, greatest_variable, greatest_variables}
 use Rattle.term_bank.specs.Nodes.{Entry, entry_at, node_tree, trees_of, node_fits, AreMeasuresOf, IsBank, SymbolsGrow, NodesGrow}
+use Rattle.term_bank.proofs.Greatest.{greater_none, greater_assoc}
 use Rattle.term_bank.proofs.Nodes.{below, last_or_before, node_agree, length_trees, tree_at_node, trees_push, trees_symbol, bank_symbol, bank_node}
 
 pub all_below : (n : ℕ) (args : List ℕ) → All (λ i. i < n) args → list_all (λ i. nat_lt i n) args ≡ true
@@ -41,16 +43,18 @@ module _ (ts : List Tree) (n m : ℕ) where
       rw (sum_by-cons g a args) (add_capped (g a) (tree_weight (nth ts a)) (sum_by g args) (trees_weight (of_list (map (nth ts) args))) c m
       (same a (below a n (and_left (nat_lt a n) _ h))) (weights g same args (and_right (nat_lt a n) _ h) c))
 
-  variable_frees : (g : ℕ → Bool) → ((i : ℕ) → i < n → g i ≡ is_ground (nth ts i)) → (args : List ℕ) → list_all (λ i. nat_lt i n) args ≡ true
-      → list_all g args ≡ are_ground (of_list (map (nth ts) args))
-  variable_frees g same [] h = refl
-  variable_frees g same (a ∷ args) h = ap₂ (λ x y. x && y) (same a (below a n (and_left (nat_lt a n) _ h))) (variable_frees g same args (and_right (nat_lt a n) _ h))
+  greatests : (g : ℕ → Option ℕ) → ((i : ℕ) → i < n → g i ≡ greatest_variable (nth ts i)) → (a : Option ℕ) (args : List ℕ) → list_all (λ i. nat_lt i n) args ≡ true
+      → fold (λ b i. greater b (g i)) a args ≡ greater a (greatest_variables (of_list (map (nth ts) args)))
+  greatests g same a [] h = sym (greater_none a)
+  greatests g same a (i ∷ args) h =
+      greatests g same (greater a (g i)) args (and_right (nat_lt i n) _ h) ∙ greater_assoc a (g i) _
+      ∙ ap (λ b. greater a (greater b (greatest_variables (of_list (map (nth ts) args))))) (same i (below i n (and_left (nat_lt i n) _ h)))
 
 pub application_measures : (ss : List Sym) (es : List Entry) → IsBank ss es → (s : ℕ) (f : Sym) (args : List ℕ) (x : Measures) → symbol_at ss s ≡ f → All (λ i. i < length es) args
     → x.size ≡ min (sum_by (λ i. (entry_at es i).1.size) args + 1) (2 ^ 64 - 1)
     → x.weight ≡ min (sum_by (λ i. (entry_at es i).1.weight) args + function_count f.kind) (2 ^ 64 - 1)
-    → x.variable_free ≡ list_all (λ i. (entry_at es i).1.variable_free) args → AreMeasuresOf (node_tree ss (trees_of ss es) (App s args)) x
-application_measures ss es b s f args x is within size weight free =
+    → x.greatest ≡ fold (λ g i. greater g (entry_at es i).1.greatest) None args → AreMeasuresOf (node_tree ss (trees_of ss es) (App s args)) x
+application_measures ss es b s f args x is within size weight greatest =
     let all = all_below (length es) args within in
     let ts = trees_of ss es in
     let m : ℕ = 2 ^ 64 - 1 in
@@ -58,11 +62,11 @@ application_measures ss es b s f args x is within size weight free =
       size = size ∙ sizes ts (length es) m (λ i. (entry_at es i).1.size) (λ i h. (b.measures i h).size) args all 1;
       weight = weight ∙ weights ts (length es) m (λ i. (entry_at es i).1.weight) (λ i h. (b.measures i h).weight) args all (function_count f.kind)
           ∙ ap (λ (g : Sym). min (trees_weight (of_list (map (nth ts) args)) + function_count g.kind) m) (sym is);
-      variable_free = free ∙ variable_frees ts (length es) m (λ i. (entry_at es i).1.variable_free) (λ i h. (b.measures i h).variable_free) args all;
+      greatest = greatest ∙ greatests ts (length es) m (λ i. (entry_at es i).1.greatest) (λ i h. (b.measures i h).greatest) None args all;
     }
 
-pub variable_measures : (ss : List Sym) (ts : List Tree) (v : ℕ) → AreMeasuresOf (node_tree ss ts (Var v)) (record { size = 1; weight = 0; variable_free = false })
-variable_measures ss ts v = record { size = refl; weight = refl; variable_free = refl }
+pub variable_measures : (ss : List Sym) (ts : List Tree) (v : ℕ) → AreMeasuresOf (node_tree ss ts (Var v)) (record { size = 1; weight = 0; greatest = Some v })
+variable_measures ss ts v = record { size = refl; weight = refl; greatest = refl }
 
 -- symbols keep their numbers
 pub symbols_kept : (ss rs : List Sym) (s : Sym) → SymbolsGrow ss rs s → KeepsPlaces no_symbol ss rs
@@ -74,8 +78,8 @@ measures_unique : (t : Tree) (x y : Measures) → AreMeasuresOf t x → AreMeasu
 measures_unique t x y p q =
     let s : x.size ≡ y.size = p.size ∙ sym q.size in
     let w : x.weight ≡ y.weight = p.weight ∙ sym q.weight in
-    let f : x.variable_free ≡ y.variable_free = p.variable_free ∙ sym q.variable_free in
-    λ i. record { size = s i; weight = w i; variable_free = f i }
+    let g : x.greatest ≡ y.greatest = p.greatest ∙ sym q.greatest in
+    λ i. record { size = s i; weight = w i; greatest = g i }
 
 -- a node that is there has the measures of its tree
 pub known_measures : (ss : List Sym) (es : List Entry) → IsBank ss es → (n : Node) (x : Measures) → AreMeasuresOf (node_tree ss (trees_of ss es) n) x

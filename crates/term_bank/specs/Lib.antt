@@ -1,4 +1,5 @@
 pub mod Forest
+pub mod Greatest
 pub mod Nodes
 pub mod Shapes
 pub mod Steps

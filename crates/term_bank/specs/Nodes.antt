@@ -1,5 +1,5 @@
 -- The trees that the nodes of a bank stand for.
-use Rattle.std.specs.Prelude.{◌≡◌, ℕ, ◌-◌, ◌^◌, ◌<◌, min, List, [], ◌∷◌, ◌++◌, length, map, fold, Bool, true, false, IsTrue, nat_lt, ◌&&◌, ◌⊎◌, slice_index_or}
+use Rattle.std.specs.Prelude.{◌≡◌, ℕ, ◌-◌, ◌^◌, ◌<◌, min, List, [], ◌∷◌, ◌++◌, length, map, fold, Bool, true, None, IsTrue, nat_lt, ◌&&◌, ◌⊎◌, slice_index_or}
 use Rattle.std.specs.List.{list_all}
 use Rattle.inst_logic.specs.declared.symbol.Sym.{Sym}
 use Rattle.inst_logic.specs.Tree.{Tree, var, app, of_list}
@@ -7,13 +7,14 @@ use Rattle.inst_logic.specs.Measure.{tree_size, tree_weight}
 use Rattle.term_bank.specs.declared.node.Node.{Node}
 use Rattle.term_bank.specs.declared.node.Node.TheVariants.{Var, App}
 use Rattle.term_bank.specs.declared.node.Measures.{Measures}
-use Rattle.term_bank.specs.Forest.{nth, no_symbol, symbol_at, AreDistinct, is_ground}
+use Rattle.term_bank.specs.Forest.{nth, no_symbol, symbol_at, AreDistinct}
+use Rattle.term_bank.specs.Greatest.{greatest_variable}
 
 abbrev pub Entry : Type 0
 Entry = Node × Measures
 
 abbrev pub no_entry : Entry
-no_entry = (Var 0, record { size = 0; weight = 0; variable_free = false })
+no_entry = (Var 0, record { size = 0; weight = 0; greatest = None })
 
 abbrev pub entry_at : List Entry → ℕ → Entry
 entry_at es i = slice_index_or es i no_entry
@@ -48,7 +49,7 @@ NodesGrow es fs e = IsGrownBy (λ (x : Entry). x.0) no_entry es fs e
 pub record AreMeasuresOf (t : Tree) (f : Measures) : Type 0 where
   pub size : f.size ≡ min (tree_size t) (2 ^ 64 - 1)
   pub weight : f.weight ≡ min (tree_weight t) (2 ^ 64 - 1)
-  pub variable_free : f.variable_free ≡ is_ground t
+  pub greatest : f.greatest ≡ greatest_variable t
 
 pub record IsBank (ss : List Sym) (es : List Entry) : Type 0 where
   pub symbols_once : (i j : ℕ) → i < length ss → j < length ss → symbol_at ss i ≡ symbol_at ss j → i ≡ j

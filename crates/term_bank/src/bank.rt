@@ -7,6 +7,7 @@ ghost use Rattle.inst_logic.specs.Measure.{tree_size, tree_weight};
 ghost use Rattle.inst_logic.specs.Substitution.{tree_vars};
 ghost use Rattle.inst_logic.specs.Unifiers.{IsApplication};
 ghost use Rattle.term_bank.specs.Forest.{tree_at, nth, symbol_at, number_of, IsAt, AreIds, AreDistinct, Extends, ExtendsTrees, KeepsPlaces, no_symbol, IsFormed, AreFormed, AreFormedTrees, symbol_of, arguments_of, with_arguments, is_ground};
+ghost use Rattle.term_bank.specs.Greatest.{IsGreatest};
 ghost use Rattle.term_bank.specs.Nodes.{trees_of, IsBank};
 ghost use Rattle.term_bank.specs.Shapes.{shape_of};
 
@@ -63,7 +64,7 @@ fn insert_variable(
     let measures = Measures {
         size: 1,
         weight: 0,
-        variable_free: false,
+        greatest: Some(v),
     };
     node_number(nodes, Node::Var(v), measures)
 }
@@ -254,6 +255,14 @@ impl Bank {
         ensures test { result ≡ is_ground (tree_at self.now id) }
         ensures variables { IsTrue result ↔ (tree_vars (tree_at self.now id) ≡ []) }
     {
-        measures_at(&self.nodes, id).variable_free
+        measures_at(&self.nodes, id).greatest.is_none()
+    }
+
+    /// The greatest number of a variable of the tree, and `None` where it has no variable.
+    pub fn greatest_variable(&self, id: TermId) -> Option<usize>
+        requires { id < length self.now.trees }
+        ensures { IsGreatest (tree_vars (tree_at self.now id)) result }
+    {
+        measures_at(&self.nodes, id).greatest
     }
 }

@@ -8,10 +8,10 @@ pub enum Node {
     App(usize, TermIdList),
 }
 
-// The size and the weight, at most `u64::MAX`, and whether there is no variable.
+// The size and the weight, at most `u64::MAX`, and the greatest number of a variable.
 #[derive(Clone, Copy, Debug, PartialEq, Eq)]
 pub struct Measures {
     pub size: u64,
     pub weight: u64,
-    pub variable_free: bool,
+    pub greatest: Option<usize>,
 }

@@ -1,8 +1,9 @@
 // Numbers for symbols and nodes, in the order of first use.
-ghost use Rattle.std.specs.Prelude.{◌≡◌, ℕ, ◌<◌, ◌+◌, min, IfOk, OnErr, length, sum_by};
-ghost use Rattle.std.specs.List.{All, list_all};
+ghost use Rattle.std.specs.Prelude.{◌≡◌, ℕ, ◌<◌, ◌+◌, min, IfOk, OnErr, length, sum_by, fold, None};
+ghost use Rattle.std.specs.List.{All};
 ghost use Rattle.inst_logic.specs.Measure.{function_count};
 ghost use Rattle.term_bank.specs.Forest.{symbol_at};
+ghost use Rattle.term_bank.specs.Greatest.{greater};
 ghost use Rattle.term_bank.specs.Nodes.{entry_at, SymbolsGrow, NodesGrow};
 
 use crate::id::TermId;
@@ -80,23 +81,23 @@ pub fn application_measures(
     requires { All (λ i. i < length nodes.now.entries) args.now }
     ensures size { result.size ≡ min (sum_by (λ i. (entry_at nodes.now.entries i).1.size) args.now + 1) u64.MAX }
     ensures weight { result.weight ≡ min (sum_by (λ i. (entry_at nodes.now.entries i).1.weight) args.now + function_count kind) u64.MAX }
-    ensures variable_free { result.variable_free ≡ list_all (λ i. (entry_at nodes.now.entries i).1.variable_free) args.now }
+    ensures greatest { result.greatest ≡ fold (λ g i. greater g (entry_at nodes.now.entries i).1.greatest) None args.now }
 {
     let mut size: u64 = 1;
     let mut weight: u64 = match kind {
         Kind::Function => 1,
         Kind::Predicate | Kind::Equality => 0,
     };
-    let mut variable_free = true;
+    let mut greatest = None;
     for a in args {
         let measures = measures_at(nodes, *a);
         size = size.saturating_add(measures.size);
         weight = weight.saturating_add(measures.weight);
-        variable_free = variable_free && measures.variable_free;
+        greatest = greatest.max(measures.greatest);
     }
     Measures {
         size,
         weight,
-        variable_free,
+        greatest,
     }
 }

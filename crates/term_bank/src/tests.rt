@@ -61,12 +61,17 @@ fn twice(alloc: Global, bank: &mut Bank) -> Result<bool, Memory> {
 
 fn variable(bank: &mut Bank) -> Result<bool, Memory> {
     let x = bank.var(7)?;
-    Ok(is_variable(bank, x))
+    Ok(is_variable(bank, x) && bank.greatest_variable(x) == Some(7))
 }
 
 fn constant(bank: &mut Bank, sym: &Sym) -> Result<bool, Memory> {
     let a = bank.app(sym, &[])?;
-    Ok(bank.ground(a) && bank.sym(a).is_some() && bank.symbol_number(a).is_some())
+    Ok(
+        bank.ground(a)
+            && bank.greatest_variable(a).is_none()
+            && bank.sym(a).is_some()
+            && bank.symbol_number(a).is_some(),
+    )
 }
 
 // The atom of each literal has the id that it has alone.
