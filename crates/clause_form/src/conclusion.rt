@@ -1,5 +1,5 @@
 // Instances of clauses in canonical form.
-ghost use Rattle.std.specs.Prelude.{◌≡◌, ◌≤◌, IfOk, length};
+ghost use Rattle.std.specs.Prelude.{◌≡◌, false, ◌≤◌, IfOk, OnOk, length};
 ghost use Rattle.inst_logic.specs.Clauses.{IsCanonical, instance, order_of};
 ghost use Rattle.term_bank.specs.Forest.{AreFormed, AreIds, Extends, IsClauseAt, IsClauseOf, clause_at};
 ghost use Rattle.unify_core.specs.Chains.{AreBindings};
@@ -25,6 +25,7 @@ pub struct Conclusion {
 fn variables_below(alloc: Global, bank: &mut Bank, count: usize) -> Result<Vec<TermId>, Memory>
     ensures variables { IfOk result (λ v. AreVariables bank.new count v.items) }
     ensures extends { Extends bank.old bank.new }
+    ensures unspent { OnOk result (bank.old.spent ≡ false → bank.new.spent ≡ false) }
     ensures formed { AreFormed bank.old → AreFormed bank.new }
 {
     let mut variables = Vec::new(alloc);
@@ -50,6 +51,7 @@ fn conclude_with(
     requires variables { AreVariables bank.old (length (order_of (clause_at bank.old c.now))) variables.now }
     ensures conclusion { IfOk result (λ d. IsConclusionOf bank.old bank.new b.now.entries side c.now d.clause d.terms) }
     ensures extends { Extends bank.old bank.new }
+    ensures unspent { OnOk result (bank.old.spent ≡ false → bank.new.spent ≡ false) }
     ensures formed { AreFormed bank.old → AreTerms bank.old b.now.entries → AreFormed bank.new }
 {
     let mut nodes = atoms_of(alloc, c.as_slice())?;
@@ -65,7 +67,8 @@ fn conclude_with(
     })
 }
 
-/// The canonical form of the side's clause under the bindings. Shared terms are visited once.
+/// The canonical form of the side's clause under the bindings. Shared terms are visited once. The bank keeps its trees and may
+/// have grown, also where memory was wanted.
 pub fn conclude(
     alloc: Global,
     bank: &mut Bank,
@@ -78,6 +81,7 @@ pub fn conclude(
     requires bindings { AreBindings bank.old b.now.entries }
     ensures conclusion { IfOk result (λ d. IsConclusionOf bank.old bank.new b.now.entries side c.now d.clause d.terms) }
     ensures extends { Extends bank.old bank.new }
+    ensures unspent { OnOk result (bank.old.spent ≡ false → bank.new.spent ≡ false) }
     ensures formed { AreFormed bank.old → AreTerms bank.old b.now.entries → AreFormed bank.new }
 {
     let count = renumbered(alloc, bank, c)?.variables;
@@ -85,7 +89,8 @@ pub fn conclude(
     conclude_with(alloc, bank, b, side, c, &variables)
 }
 
-/// The clause with term `i` of the list for its variable `i`, repeated literals dropped.
+/// The clause with term `i` of the list for its variable `i`, repeated literals dropped. The bank keeps its trees and may have
+/// grown, also where memory was wanted.
 pub fn under(
     alloc: Global,
     bank: &mut Bank,
@@ -98,6 +103,7 @@ pub fn under(
     requires each { length (order_of (clause_at bank.old c.now)) ≤ length terms.now }
     ensures instance { IfOk result (λ d. IsClauseAt bank.new d (instance (by_terms bank.old terms.now) (clause_at bank.old c.now))) }
     ensures extends { Extends bank.old bank.new }
+    ensures unspent { OnOk result (bank.old.spent ≡ false → bank.new.spent ≡ false) }
     ensures formed { AreFormed bank.old → AreTermIds bank.old terms.now → AreFormed bank.new }
 {
     let atoms = atoms_of(alloc, c.as_slice())?;

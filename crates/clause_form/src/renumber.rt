@@ -1,5 +1,5 @@
 // Canonical forms.
-ghost use Rattle.std.specs.Prelude.{◌≡◌, IfOk, length, map};
+ghost use Rattle.std.specs.Prelude.{◌≡◌, false, IfOk, OnOk, length, map};
 ghost use Rattle.inst_logic.specs.Clauses.{canonical_form, numbered, order_of};
 ghost use Rattle.inst_logic.specs.Substitution.{subst};
 ghost use Rattle.term_bank.specs.Forest.{AreFormed, AreIds, Extends, IsClauseAt, IsClauseOf, clause_at, tree_at};
@@ -18,6 +18,7 @@ pub fn renumbered(alloc: Global, bank: &mut Bank, c: &IdClause) -> Result<Built,
     ensures variables { IfOk result (λ b. b.variables ≡ length (order_of (clause_at bank.old c.now))) }
     ensures ids { IfOk result (λ b. AreIds bank.new b.terms.items) }
     ensures extends { Extends bank.old bank.new }
+    ensures unspent { OnOk result (bank.old.spent ≡ false → bank.new.spent ≡ false) }
     ensures formed { AreFormed bank.old → AreFormed bank.new }
 {
     let atoms = atoms_of(alloc, c.as_slice())?;
@@ -32,6 +33,7 @@ pub fn canonical(alloc: Global, bank: &mut Bank, c: &IdClause) -> Result<IdClaus
     requires { IsClauseOf bank.old c.now }
     ensures canonical { IfOk result (λ d. IsClauseAt bank.new d (canonical_form (clause_at bank.old c.now))) }
     ensures extends { Extends bank.old bank.new }
+    ensures unspent { OnOk result (bank.old.spent ≡ false → bank.new.spent ≡ false) }
     ensures formed { AreFormed bank.old → AreFormed bank.new }
 {
     let built = renumbered(alloc, bank, c)?;

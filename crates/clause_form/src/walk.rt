@@ -1,5 +1,5 @@
 // The walk that builds terms: a list of steps stands for what is left of it, and each shared node is built once.
-ghost use Rattle.std.specs.Prelude.{◌≡◌, ℕ, ◌<◌, ◌++◌, ◌∷◌, List, length, map, reverse, IfOk, OnOk, None, []};
+ghost use Rattle.std.specs.Prelude.{◌≡◌, ℕ, false, ◌<◌, ◌++◌, ◌∷◌, List, length, map, reverse, IfOk, OnOk, None, []};
 ghost use Rattle.std.specs.List.{All, IsDistinct};
 ghost use Rattle.std.specs.Map.{keys_of};
 ghost use Rattle.indexmap.specs.IndexMap.{insert_entry};
@@ -58,6 +58,7 @@ fn leaf(
     ensures within { IfOk result (λ id. id < length bank.new.trees) }
     ensures leaf { IfOk result (λ id. (f : Forest) (r : Reading) (final : List ℕ) → Extends f bank.old → AreLeaves f leaves.now → at.term < length f.trees → IsFree f leaves.now at → IsReading f leaves.now r final → IsBegun final (with_vars (numbers_of order.old.keys) (r.vars at)) → IsAt bank.new id (r.tree at) × (numbers_of order.new.keys ≡ with_vars (numbers_of order.old.keys) (r.vars at))) }
     ensures extends { Extends bank.old bank.new }
+    ensures unspent { OnOk result (bank.old.spent ≡ false → bank.new.spent ≡ false) }
     ensures formed { AreFormed bank.old → AreFormed bank.new }
 {
     match leaves {
@@ -161,6 +162,7 @@ fn visit(
     ensures visited { OnOk result ((f : Forest) → Extends f bank.old → AreLeaves f leaves.now → at.term < length f.trees → IsStep f bank.old bank.new leaves.now (Visit at ∷ reverse steps.old.items) ids.old.items (numbers_of order.old.keys) notes.old.entries (reverse steps.new.items) ids.new.items (numbers_of order.new.keys) notes.new.entries) }
     ensures ids { OnOk result (AreIds bank.new ids.new.items) }
     ensures extends { Extends bank.old bank.new }
+    ensures unspent { OnOk result (bank.old.spent ≡ false → bank.new.spent ≡ false) }
     ensures formed { AreFormed bank.old → AreFormed bank.new }
 {
     let node = root(bank, leaves, at);
@@ -168,18 +170,18 @@ fn visit(
         ids.push(node.term)?;
         return Ok(());
     }
-    match notes.get(&node).copied() {
-        Some(id) => {
+    match bank.shape(node.term) {
+        Shape::Var(v) => {
+            let id = leaf(bank, leaves, order, node, v)?;
             ids.push(id)?;
             Ok(())
         }
-        None => match bank.shape(node.term) {
-            Shape::Var(v) => {
-                let id = leaf(bank, leaves, order, node, v)?;
+        Shape::App => match notes.get(&node).copied() {
+            Some(id) => {
                 ids.push(id)?;
                 Ok(())
             }
-            Shape::App => open_node(bank, steps, notes, node),
+            None => open_node(bank, steps, notes, node),
         },
     }
 }
@@ -199,6 +201,7 @@ fn build(
     ensures built { OnOk result ((f : Forest) (w : Leaves) (ss : List Step) (os : List ℕ) → Extends f bank.old → node.term < length f.trees → IsStep f bank.old bank.new w (Build node ∷ ss) ids.old.items os notes.old.entries ss ids.new.items os notes.new.entries) }
     ensures ids { OnOk result (AreIds bank.new ids.new.items) }
     ensures extends { Extends bank.old bank.new }
+    ensures unspent { OnOk result (bank.old.spent ≡ false → bank.new.spent ≡ false) }
     ensures formed { (f : Forest) (w : Leaves) (r : Reading) (outs : List Tree) (final : List ℕ) (ss : List Step) (os : List ℕ) → Extends f bank.old → node.term < length f.trees → IsReading f w r final → IsUnderway f bank.old r outs final (Build node ∷ ss) ids.old.items os notes.old.entries → IsFormed (r.tree node) → AreFormed bank.old → AreFormed bank.new }
 {
     let count = bank.args(node.term).len();
@@ -223,6 +226,7 @@ fn run_steps(
     ensures built { IfOk result (λ v. (r : Reading) (outs : List Tree) (final : List ℕ) → IsReading bank.old leaves.now r final → IsBeginning bank.old r outs final (reverse steps.old.items) (numbers_of order.old.keys) → (map (tree_at bank.new) v.items ≡ outs) × (numbers_of order.new.keys ≡ final)) }
     ensures ids { IfOk result (λ v. AreIds bank.new v.items) }
     ensures extends { Extends bank.old bank.new }
+    ensures unspent { OnOk result (bank.old.spent ≡ false → bank.new.spent ≡ false) }
     ensures formed { (r : Reading) (outs : List Tree) (final : List ℕ) → IsReading bank.old leaves.now r final → IsBeginning bank.old r outs final (reverse steps.old.items) (numbers_of order.old.keys) → IsFormedReading bank.old r → AreFormed bank.old → AreFormed bank.new }
 {
     let mut ids: Vec<TermId> = Vec::new(alloc);
@@ -256,6 +260,7 @@ pub fn build_all(
     ensures built { IfOk result (λ b. (r : Reading) (final : List ℕ) → IsReading bank.old leaves.now r final → with_vars [] (vars_on r side terms.now) ≡ final → (map (tree_at bank.new) b.terms.items ≡ trees_on r side terms.now) × (b.variables ≡ length final)) }
     ensures ids { IfOk result (λ b. AreIds bank.new b.terms.items) }
     ensures extends { Extends bank.old bank.new }
+    ensures unspent { OnOk result (bank.old.spent ≡ false → bank.new.spent ≡ false) }
     ensures formed { (r : Reading) (final : List ℕ) → IsReading bank.old leaves.now r final → with_vars [] (vars_on r side terms.now) ≡ final → IsFormedReading bank.old r → AreFormed bank.old → AreFormed bank.new }
 {
     let mut steps: Vec<Step> = Vec::new(alloc);

@@ -40,8 +40,8 @@ pub returns-in_ok-push-in-Var-clause-ids : goal.returns-in_ok-push-in-Var-clause
 returns-in_ok-push-in-Var-clause-ids c =
     rw c.in_ok-push-in-Var.ensures.items (ids_pushed c.args.bank.now c.leaf.new.bank c.args.ids.now.items c.in_ok-id-in-Var.id c.leaf.ensures.extends c.requires.ids c.in_ok-id-in-Var.ensures.within)
 
-pub returns-in-App-clause-visited : goal.returns-in-App-clause-visited
-returns-in-App-clause-visited c =
+pub returns-in-None-clause-visited : goal.returns-in-None-clause-visited
+returns-in-None-clause-visited c =
     if_ok _ _ c.open_node.result c.open_node.ensures.opened
     (λ done k f x leaves within.
     let root = c.root-node.ensures f x leaves within in
