@@ -9,6 +9,8 @@ mod assumptions;
 #[cfg(test)]
 mod building;
 #[cfg(test)]
+mod doubling;
+#[cfg(test)]
 mod tests;
 #[cfg(test)]
 mod unification;
