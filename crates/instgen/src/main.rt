@@ -5,26 +5,26 @@ use outside_io::{FolderLibrary, OutSink};
 use std::env;
 use std::io::ErrorKind;
 use std::process::ExitCode;
-use szs_prove::run;
+use szs_prove::{Exit, run};
 
-// The statuses where the words can't be had: nothing is written then.
-const NO_MEMORY: u8 = 6;
-
-const NOT_TEXT: u8 = 3;
+// Where the words cannot be had, nothing is written, and the status tells.
+fn status(exit: Exit) -> ExitCode {
+    ExitCode::from(exit.code())
+}
 
 fn main(rt: HostRuntime) -> ExitCode {
     let args = match env::args(&rt) {
         Ok(args) => args,
-        Err(error) if error.kind() == ErrorKind::OutOfMemory => return ExitCode::from(NO_MEMORY),
-        Err(_) => return ExitCode::from(NOT_TEXT),
+        Err(error) if error.kind() == ErrorKind::OutOfMemory => return status(Exit::Memory),
+        Err(_) => return status(Exit::Usage),
     };
     let mut words = Vec::new(rt.alloc());
     for word in args.skip(1) {
         if words.push(word).is_err() {
-            return ExitCode::from(NO_MEMORY);
+            return status(Exit::Memory);
         }
     }
     let mut files = FolderLibrary::new(&rt, rt.alloc());
     let mut out = OutSink::new(&rt);
-    ExitCode::from(run(rt.alloc(), words.as_slice(), &mut files, &mut out).code())
+    status(run(rt.alloc(), words.as_slice(), &mut files, &mut out))
 }

@@ -40,6 +40,3 @@ Gives view (Err e) read = Fails e read
 
 abbrev pub sides : Term → Option Term → Tree × Option Tree
 sides t u = (tree t, option_map tree u)
-
-abbrev pub in_sides : List (List ℕ) → Option ((Written × Option Written) × List Tok) → Option ((Tree × Option Tree) × List Tok)
-in_sides vs read = option_map (λ z. ((tree_of vs z.0.0, option_map (tree_of vs) z.0.1), z.1)) read

@@ -2,8 +2,7 @@
 use crate::answers::{refutation_complaint, saturation_complaint, truth_of};
 use crate::building::{base_of, refutation_of, saturation_of};
 use cert_check::{Complaint, check_saturation};
-use inst_logic::Memory;
-use saturation_cert::{Base, GroundHint, Origin};
+use saturation_cert::{GroundHint, Origin};
 use std::alloc::Global;
 use std::test::Fail;
 
