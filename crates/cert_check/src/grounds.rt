@@ -9,29 +9,27 @@ ghost use Rattle.saturation_cert.specs.Wholes.{IsWholeClause};
 ghost use Rattle.term_bank.specs.Forest.{AreFormed, Extends, IsClauseAt, IsClauseOf, clause_at, tree_at};
 ghost use Rattle.cert_check.specs.Grounds.{AreCanonicalMembers};
 
-use clause_form::renumber::renumbered;
-use clause_form::under;
+use clause_form::{greatest_variable, under};
 use inst_logic::{Memory, Sym};
 use saturation_cert::MemberList;
 use std::alloc::Global;
 use term_bank::{Bank, IdClause, IdClauseList, TermId, TermIdList};
 
 // The id once for each variable of the clause.
-fn repeated(
-    alloc: Global,
-    bank: &mut Bank,
-    term: TermId,
-    c: &IdClause,
-) -> Result<TermIdList, Memory>
-    requires { IsClauseOf bank.old c.now }
-    ensures enough { IfOk result (λ ids. length (order_of (clause_at bank.old c.now)) ≤ length ids) }
+fn repeated(alloc: Global, bank: &Bank, term: TermId, c: &IdClause) -> Result<TermIdList, Memory>
+    requires clause { IsClauseOf bank.now c.now }
+    requires canonical { IsCanonical (clause_at bank.now c.now) }
+    ensures enough { IfOk result (λ ids. length (order_of (clause_at bank.now c.now)) ≤ length ids) }
     ensures same { IfOk result (All (λ id. id ≡ term)) }
-    ensures extends { Extends bank.old bank.new }
-    ensures formed { AreFormed bank.old → AreFormed bank.new }
 {
-    let built = renumbered(alloc, bank, c)?;
-    let ids = vec![in alloc; term; built.variables]?;
-    Ok(TermIdList::from(ids))
+    let mut ids = TermIdList::new(alloc);
+    let Some(last) = greatest_variable(bank, c) else {
+        return Ok(ids);
+    };
+    for _ in 0..=last {
+        ids.push(term)?;
+    }
+    Ok(ids)
 }
 
 // The clause with the term in the place of every variable.

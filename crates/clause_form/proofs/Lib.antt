@@ -16,3 +16,4 @@ pub mod Placing
 pub mod PlacingSteps
 pub mod TermsSolved
 pub mod Variables
+pub mod Greatest

@@ -3,7 +3,9 @@ ghost use Rattle.std.specs.Prelude.{◌≡◌, ◌↔◌, IsTrue, min};
 ghost use Rattle.inst_logic.specs.Signed.{IsTautology};
 ghost use Rattle.inst_logic.specs.Clauses.{AreVariants};
 ghost use Rattle.inst_logic.specs.Measure.{clause_size};
+ghost use Rattle.inst_logic.specs.Substitution.{clause_vars};
 ghost use Rattle.term_bank.specs.Forest.{Forest, AreDistinct, IsClauseOf, clause_at};
+ghost use Rattle.term_bank.specs.Greatest.{IsGreatest};
 ghost use Rattle.clause_form.specs.Conclusions.{AreCanonicalIn};
 
 use term_bank::{Bank, IdClause, IdLiteral};
@@ -42,4 +44,17 @@ pub fn clause_size(bank: &Bank, c: &IdClause) -> u64
         sum = sum.saturating_add(bank.size(l.atom));
     }
     sum
+}
+
+/// The greatest number of a variable of the clause, and `None` where it has none. The variables of a clause in canonical form
+/// are all those up to it.
+pub fn greatest_variable(bank: &Bank, c: &IdClause) -> Option<usize>
+    requires { IsClauseOf bank.now c.now }
+    ensures { IsGreatest (clause_vars (clause_at bank.now c.now)) result }
+{
+    let mut greatest = None;
+    for l in c.as_slice() {
+        greatest = greatest.max(bank.greatest_variable(l.atom));
+    }
+    greatest
 }

@@ -4,10 +4,10 @@ ghost use Rattle.inst_logic.specs.Clauses.{IsCanonical, instance, order_of};
 ghost use Rattle.term_bank.specs.Forest.{AreFormed, AreIds, Extends, IsClauseAt, IsClauseOf, clause_at};
 ghost use Rattle.unify_core.specs.Chains.{AreBindings};
 ghost use Rattle.unify_core.specs.Terms.{AreTerms};
-ghost use Rattle.clause_form.specs.Conclusions.{IsConclusionOf, AreVariables, by_terms, AreTermIds};
+ghost use Rattle.clause_form.specs.Conclusions.{IsConclusionOf, AreVariables, by_terms, AreTermIds, up_to};
 
+use crate::compare::greatest_variable;
 use crate::literals::{atoms_of, clause_of};
-use crate::renumber::renumbered;
 use crate::walk::{Leaves, build_all};
 use inst_logic::Memory;
 use std::alloc::Global;
@@ -21,15 +21,22 @@ pub struct Conclusion {
     pub terms: TermIdList,
 }
 
-// The ids of the variables below the count.
-fn variables_below(alloc: Global, bank: &mut Bank, count: usize) -> Result<Vec<TermId>, Memory>
-    ensures variables { IfOk result (λ v. AreVariables bank.new count v.items) }
+// The ids of the variables up to the greatest.
+fn variables_up_to(
+    alloc: Global,
+    bank: &mut Bank,
+    greatest: Option<usize>,
+) -> Result<Vec<TermId>, Memory>
+    ensures variables { IfOk result (λ v. AreVariables bank.new (up_to greatest) v.items) }
     ensures extends { Extends bank.old bank.new }
     ensures unspent { OnOk result (bank.old.spent ≡ false → bank.new.spent ≡ false) }
     ensures formed { AreFormed bank.old → AreFormed bank.new }
 {
     let mut variables = Vec::new(alloc);
-    for v in 0..count {
+    let Some(last) = greatest else {
+        return Ok(variables);
+    };
+    for v in 0..=last {
         let id = bank.var(v)?;
         variables.push(id)?;
     }
@@ -84,8 +91,8 @@ pub fn conclude(
     ensures unspent { OnOk result (bank.old.spent ≡ false → bank.new.spent ≡ false) }
     ensures formed { AreFormed bank.old → AreTerms bank.old b.now.entries → AreFormed bank.new }
 {
-    let count = renumbered(alloc, bank, c)?.variables;
-    let variables = variables_below(alloc, bank, count)?;
+    let greatest = greatest_variable(bank, c);
+    let variables = variables_up_to(alloc, bank, greatest)?;
     conclude_with(alloc, bank, b, side, c, &variables)
 }
 

@@ -3,6 +3,7 @@
 
 pub mod compare;
 pub mod conclusion;
+pub mod laws;
 mod literals;
 pub mod renumber;
 pub mod subsumption;
@@ -14,7 +15,7 @@ mod test_clauses;
 mod tests;
 mod walk;
 
-pub use compare::{clause_size, tautology, variant};
+pub use compare::{clause_size, greatest_variable, tautology, variant};
 pub use conclusion::{Conclusion, conclude, under};
 pub use renumber::canonical;
 pub use subsumption::subsumes;

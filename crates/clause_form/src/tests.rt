@@ -1,12 +1,13 @@
 // Calls on small clauses, with the clauses that they are to give written out.
-ghost use Rattle.std.specs.Prelude.{◌<◌, length, IfOk};
+ghost use Rattle.std.specs.Prelude.{◌<◌, ◌≤◌, ◌↔◌, IsTrue, length, IfOk};
 ghost use Rattle.inst_logic.specs.Clauses.{IsCanonical};
 ghost use Rattle.term_bank.specs.Forest.{AreIds, Extends, IsClauseOf, clause_at};
+ghost use Rattle.clause_form.specs.Conclusions.{up_to};
 
 use crate::conclusion::{Conclusion, conclude, under};
-use crate::renumber::{canonical, renumbered};
+use crate::renumber::canonical;
 use crate::test_clauses::{constant, literal, pair, single};
-use crate::{clause_size, tautology, variant};
+use crate::{clause_size, greatest_variable, tautology, variant};
 use inst_logic::{Clause, Literal, Memory, Term};
 use std::alloc::Global;
 use std::test::Fail;
@@ -74,6 +75,16 @@ fn concluded(
     Ok(None)
 }
 
+// Whether so many are no fewer than the variables up to the greatest.
+fn are_enough(greatest: Option<usize>, count: usize) -> bool
+    ensures { IsTrue result ↔ (up_to greatest ≤ count) }
+{
+    match greatest {
+        Some(last) => last < count,
+        None => true,
+    }
+}
+
 // The instance by these terms, or none where a variable has no term.
 fn instance(
     alloc: Global,
@@ -85,8 +96,7 @@ fn instance(
     requires canonical { IsCanonical (clause_at bank.old c.now) }
     requires ids { AreIds bank.old terms.now }
 {
-    let count = renumbered(alloc, bank, c)?.variables;
-    if count <= terms.len() {
+    if are_enough(greatest_variable(bank, c), terms.len()) {
         let d = under(alloc, bank, c, terms)?;
         return Ok(Some(d));
     }
