@@ -7,11 +7,12 @@ ghost use Rattle.cert_check.specs.Firsts.{IsFirstWrongOf};
 ghost use Rattle.saturation_cert.specs.Values.{base_of};
 ghost use Rattle.saturation_cert.specs.Wholes.{IsWholeBase, KeepsBase};
 
-use crate::axioms::{interned, symbols};
+use crate::axioms::interned;
 use crate::conclusion::{Premises, members_give};
 use crate::difference::difference;
 use crate::error::CheckError;
 use crate::origin::input_gives;
+use crate::walk::symbols_in;
 use cert_format::Complaint;
 use equality_axioms::axioms_from;
 use inst_logic::Memory;
@@ -26,7 +27,7 @@ fn wrong_axiom(alloc: Global, base: &mut Base) -> Result<Option<usize>, Memory>
     ensures whole { OnOk result (IsWholeBase base.new) }
     ensures first { IfOk result (IsFirstWrongOf (IsRightAxiom (base_of base.old))) }
 {
-    let symbols = symbols(alloc, &base.bank, &base.inputs)?;
+    let symbols = symbols_in(alloc, &base.bank, &base.inputs)?;
     let axioms = axioms_from(alloc, &symbols)?;
     let ids = interned(alloc, &mut base.bank, &axioms)?;
     Ok(difference(&base.bank, &base.axioms, &ids))
