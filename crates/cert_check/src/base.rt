@@ -50,17 +50,14 @@ fn is_right(
 {
     let member = &base.members.as_slice()[i];
     match member.origin {
-        Origin::Input(k) => {
-            let right = input_gives(
-                alloc,
-                &mut base.bank,
-                &base.inputs,
-                &base.axioms,
-                k,
-                &member.clause,
-            )?;
-            Ok(right)
-        }
+        Origin::Input(k) => input_gives(
+            alloc,
+            &mut base.bank,
+            &base.inputs,
+            &base.axioms,
+            k,
+            &member.clause,
+        ),
         Origin::Inst {
             from,
             place,
@@ -73,7 +70,7 @@ fn is_right(
                 partner,
                 other,
             };
-            let right = members_give(
+            members_give(
                 alloc,
                 &mut base.bank,
                 bindings,
@@ -81,8 +78,7 @@ fn is_right(
                 premises,
                 i,
                 &member.clause,
-            )?;
-            Ok(right)
+            )
         }
     }
 }
