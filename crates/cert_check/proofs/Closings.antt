@@ -32,7 +32,7 @@ use Rattle.saturation_cert.specs.Values.{base_of, saturation_of, entry_of}
 use Rattle.saturation_cert.specs.Wholes.{IsWholeSaturation, HasPlaces, KeepsSaturation}
 use Rattle.cert_check.specs.Bases.{IsValidBase}
 use Rattle.cert_check.specs.Closings.{IsSideCovered, IsSideClosed, IsProperSomewhere, IsPairClosed}
-use Rattle.cert_check.specs.Covers.{AreCanonicalMembers}
+use Rattle.cert_check.specs.Grounds.{AreCanonicalMembers}
 use Rattle.cert_check.proofs.Bases.{member_canonical}
 use Rattle.cert_check.proofs.CoverLaws.{clause_of}
 use Rattle.cert_check.proofs.Saturations.{saturation_same, members_formed}

@@ -21,7 +21,8 @@ use Rattle.clause_form.proofs.Concluded.{solution_of}
 use Rattle.saturation_cert.specs.declared.member.Member.{Member}
 use Rattle.saturation_cert.specs.Truths.{literal_at}
 use Rattle.saturation_cert.specs.Wholes.{IsWholeClause}
-use Rattle.cert_check.specs.Covers.{Covers, CoversOf, ShorterOf, IsCoveredIn, AreCanonicalMembers}
+use Rattle.cert_check.specs.Covers.{Covers, CoversOf, ShorterOf, IsCoveredIn}
+use Rattle.cert_check.specs.Grounds.{AreCanonicalMembers}
 use Rattle.cert_check.proofs.Refutations.{clause_grown}
 
 abbrev pub clause_of : Forest → Member → TreeClause

@@ -46,8 +46,9 @@ module _ (c : Saturation) (valid : IsValidBase (base_of c.base)) where
   all_stated : with_axioms (map (clause_at c.base.bank) c.base.inputs) ≡ map (clause_at c.base.bank) (c.base.inputs ++ c.base.axioms)
   all_stated = ap (λ xs. map (clause_at c.base.bank) c.base.inputs ++ xs) (sym axioms_same) ∙ sym (map-append (clause_at c.base.bank) c.base.inputs c.base.axioms)
 
-  stated_at : (i : ℕ) → at_number (with_axioms (saturation_of c).base.inputs) (suc i) ≡ option_map (clause_at c.base.bank) (slice_get (c.base.inputs ++ c.base.axioms) i)
-  stated_at i = ap (λ (xs : List TreeClause). slice_get xs i) all_stated ∙ slice_get-map (clause_at c.base.bank) (c.base.inputs ++ c.base.axioms) i
+  stated_at : (k : ℕ) → at_number (with_axioms (saturation_of c).base.inputs) k ≡ option_map (clause_at c.base.bank) (at_number (c.base.inputs ++ c.base.axioms) k)
+  stated_at zero = refl
+  stated_at (suc i) = ap (λ (xs : List TreeClause). slice_get xs i) all_stated ∙ slice_get-map (clause_at c.base.bank) (c.base.inputs ++ c.base.axioms) i
 
   to_entries : (d : TreeClause) → Any (λ (m : Member). Subsumes (clause_at c.base.bank m.clause) d) c.base.members → Any (λ (e : Entry). Subsumes e.clause d) (map (entry_of c.base.bank) c.base.members)
   to_entries d any =
@@ -60,27 +61,28 @@ module _ (c : Saturation) (valid : IsValidBase (base_of c.base)) where
       let (m, j, same) = from_map (entry_of c.base.bank) e c.base.members i in
       in_any (λ (m : Member). Subsumes (clause_at c.base.bank m.clause) d) m c.base.members j (subst (λ (x : Entry). Subsumes x.clause d) (sym same) s)
 
-  module _ (i : ℕ) where
-    pub no_input : slice_get (c.base.inputs ++ c.base.axioms) i ≡ None → IsRightInput (saturation_of c) (suc i)
+  module _ (k : ℕ) where
+    pub no_input : at_number (c.base.inputs ++ c.base.axioms) k ≡ None → IsRightInput (saturation_of c) k
     no_input none d at =
-        let e : None ≡ Some d = sym (stated_at i ∙ ap (option_map (clause_at c.base.bank)) none) ∙ at in
+        let e : None ≡ Some d = sym (stated_at k ∙ ap (option_map (clause_at c.base.bank)) none) ∙ at in
         absurd cc
 
-    pub right_input : (d : List (Signed ℕ)) → slice_get (c.base.inputs ++ c.base.axioms) i ≡ Some d
-        → (IsTautology (clause_at c.base.bank d) ⊎ Any (λ (m : Member). Subsumes (clause_at c.base.bank m.clause) (clause_at c.base.bank d)) c.base.members) ↔ IsRightInput (saturation_of c) (suc i)
+    pub right_input : (d : List (Signed ℕ)) → at_number (c.base.inputs ++ c.base.axioms) k ≡ Some d
+        → (IsTautology (clause_at c.base.bank d) ⊎ Any (λ (m : Member). Subsumes (clause_at c.base.bank m.clause) (clause_at c.base.bank d)) c.base.members) ↔ IsRightInput (saturation_of c) k
     right_input d here = (forward, back)
       where
-        there : at_number (with_axioms (saturation_of c).base.inputs) (suc i) ≡ Some (clause_at c.base.bank d)
-        there = stated_at i ∙ ap (option_map (clause_at c.base.bank)) here
+        there : at_number (with_axioms (saturation_of c).base.inputs) k ≡ Some (clause_at c.base.bank d)
+        there = stated_at k ∙ ap (option_map (clause_at c.base.bank)) here
 
-        forward : (IsTautology (clause_at c.base.bank d) ⊎ Any (λ (m : Member). Subsumes (clause_at c.base.bank m.clause) (clause_at c.base.bank d)) c.base.members) → IsRightInput (saturation_of c) (suc i)
+        forward : (IsTautology (clause_at c.base.bank d) ⊎ Any (λ (m : Member). Subsumes (clause_at c.base.bank m.clause) (clause_at c.base.bank d)) c.base.members) → IsRightInput (saturation_of c) k
         forward h e at =
             let same : clause_at c.base.bank d ≡ e = same_Some (clause_at c.base.bank d) e (sym there ∙ at) in
             subst (λ (x : TreeClause). IsTautology x ⊎ Any (λ (y : Entry). Subsumes y.clause x) (map (entry_of c.base.bank) c.base.members)) same (elim h [ inl t ↦ inl t | inr any ↦ inr (to_entries (clause_at c.base.bank d) any) ])
 
-        back : IsRightInput (saturation_of c) (suc i) → IsTautology (clause_at c.base.bank d) ⊎ Any (λ (m : Member). Subsumes (clause_at c.base.bank m.clause) (clause_at c.base.bank d)) c.base.members
+        back : IsRightInput (saturation_of c) k → IsTautology (clause_at c.base.bank d) ⊎ Any (λ (m : Member). Subsumes (clause_at c.base.bank m.clause) (clause_at c.base.bank d)) c.base.members
         back h = elim (h (clause_at c.base.bank d) there) [ inl t ↦ inl t | inr any ↦ inr (from_entries (clause_at c.base.bank d) any) ]
 
+  module _ (i : ℕ) where
     -- what the scan has passed
     module _ (before : (k : ℕ) → k < i → IsRightInput (saturation_of c) (suc k)) where
       pub first_input : ¬ IsRightInput (saturation_of c) (suc i) → IsFirstWrong (IsRightInput (saturation_of c)) (suc i)
@@ -98,7 +100,7 @@ module _ (c : Saturation) (valid : IsValidBase (base_of c.base)) where
           before k (omega (arith, length-append c.base.inputs c.base.axioms)) d at
         where
           found : (k : ℕ) (d : TreeClause) → at_number (with_axioms (saturation_of c).base.inputs) (suc k) ≡ Some d → (l : List (Signed ℕ)) × (slice_get (c.base.inputs ++ c.base.axioms) k ≡ Some l)
-          found k d e = by_item (slice_get (c.base.inputs ++ c.base.axioms) k) refl (sym (stated_at k) ∙ e)
+          found k d e = by_item (slice_get (c.base.inputs ++ c.base.axioms) k) refl (sym (stated_at (suc k)) ∙ e)
             where
               by_item : (o : Option (List (Signed ℕ))) → slice_get (c.base.inputs ++ c.base.axioms) k ≡ o → option_map (clause_at c.base.bank) o ≡ Some d → (l : List (Signed ℕ)) × (slice_get (c.base.inputs ++ c.base.axioms) k ≡ Some l)
               by_item None p q = absurd cc
@@ -107,13 +109,14 @@ module _ (c : Saturation) (valid : IsValidBase (base_of c.base)) where
 pub member_ids : (c : Saturation) → IsWholeSaturation c → All (λ (m : Member). IsClauseOf c.base.bank m.clause) c.base.members
 member_ids c whole k d h = (whole.members k d h).ids
 
-pub stated_ids : (c : Saturation) → IsWholeSaturation c → (i : ℕ) (d : List (Signed ℕ)) → slice_get (c.base.inputs ++ c.base.axioms) i ≡ Some d → IsClauseOf c.base.bank d
-stated_ids c whole i d at = go (in_either d c.base.inputs c.base.axioms (at_number_in i d (c.base.inputs ++ c.base.axioms) at))
+pub stated_ids : (c : Saturation) → IsWholeSaturation c → (k : ℕ) (d : List (Signed ℕ)) → at_number (c.base.inputs ++ c.base.axioms) k ≡ Some d → IsClauseOf c.base.bank d
+stated_ids c whole zero d at = absurd cc
+stated_ids c whole (suc i) d at = go (in_either d c.base.inputs c.base.axioms (slice_get_in i d (c.base.inputs ++ c.base.axioms) at))
   where
-    at_number_in : (k : ℕ) (x : List (Signed ℕ)) (xs : List (List (Signed ℕ))) → slice_get xs k ≡ Some x → x ∈ xs
-    at_number_in k x [] e = absurd cc
-    at_number_in zero x (y ∷ ys) e = inl (sym (same_Some y x e))
-    at_number_in (suc k) x (y ∷ ys) e = inr (at_number_in k x ys e)
+    slice_get_in : (k : ℕ) (x : List (Signed ℕ)) (xs : List (List (Signed ℕ))) → slice_get xs k ≡ Some x → x ∈ xs
+    slice_get_in k x [] e = absurd cc
+    slice_get_in zero x (y ∷ ys) e = inl (sym (same_Some y x e))
+    slice_get_in (suc k) x (y ∷ ys) e = inr (slice_get_in k x ys e)
 
     go : (d ∈ c.base.inputs) ⊎ (d ∈ c.base.axioms) → IsClauseOf c.base.bank d
     go (inl i) = (all_in (IsWholeClause c.base.bank) c.base.inputs whole.inputs d i).ids

@@ -1,9 +1,11 @@
 -- What the walk for symbols over a bank collects.
-use Rattle.std.proofs.Common.{◌≡◌, ℕ, suc, ◌+◌, ◌-◌, ◌<◌, ◌≤◌, List, [], ◌∷◌, ◌++◌, refl, ap, ap₂, sym, ◌∙◌, map, fold, length, drop, get_or, arith, append_assoc, subst, None, Some, inl, inr}
-use Rattle.std.specs.Prelude.{All, reverse}
-use Rattle.std.proofs.Math.Seq.{drop-cons}
-use Rattle.std.proofs.lemmas.List.{append-nil, map-append, reverse-append}
+use Rattle.std.proofs.Common.{◌≡◌, ℕ, ◌+◌, ◌*◌, ◌<◌, ◌≤◌, Bool, true, false, cond, List, [], ◌∷◌, ◌++◌, refl, ap, ap₂, sym, ◌∙◌, map, fold, length, arith, subst, None, Some, inl, inr, ◌⊎◌}
+use Rattle.std.specs.Prelude.{All, Contains, nat_eq, ◌||◌}
+use Rattle.std.specs.List.{list_any}
+use Rattle.std.proofs.lemmas.Bool.Decides.{Decides-eqb}
 use Rattle.std.proofs.lemmas.List.Sums.{fold-append}
+use Rattle.indexmap.proofs.CallerLemmas.{Contains-list_any, Contains-insert_key}
+use Rattle.indexmap.specs.IndexSet.{insert_key}
 use Rattle.inst_logic.specs.declared.symbol.Sym.{Sym}
 use Rattle.inst_logic.specs.declared.signed.Signed.{Signed}
 use Rattle.inst_logic.specs.Equal.{sym_eq}
@@ -13,128 +15,159 @@ use Rattle.inst_logic.specs.Measure.{tree_size, trees_size}
 use Rattle.inst_logic.specs.Tree.{Tree, var, app, Trees, none, more, of_list, to_list}
 use Rattle.inst_calculus.specs.Axioms.{tree_symbols, trees_symbols, clause_symbols, occurrences, symbols_of}
 use Rattle.inst_logic.proofs.Distinct.{distinct_append}
-use Rattle.inst_calculus.proofs.Membership.{◌∈◌, all_in, in_all, in_either}
-use Rattle.equality_axioms.specs.Pending.{pending_symbols, pending_size}
-use Rattle.equality_axioms.proofs.Collecting.{symbols_push, size_push}
-use Rattle.term_bank.specs.Forest.{Forest, AreIds, clause_at, tree_at, symbol_of, arguments_of}
+use Rattle.inst_calculus.proofs.Membership.{◌∈◌, all_in, in_all, contains_in, in_contains, in_left, in_either}
+use Rattle.equality_axioms.proofs.Collecting.{with_symbol}
+use Rattle.term_bank.specs.Forest.{Forest, clause_at, tree_at, symbol_of, arguments_of}
+use Rattle.cert_check.specs.declared.walk.Step.{Step}
+use Rattle.cert_check.specs.declared.walk.Step.TheVariants.{Visit, Close}
+use Rattle.cert_check.specs.SymbolSteps.{with_symbols, AreFound, AreClosed, Leads, steps_size}
 
-pub reverse_more : (old : List ℕ) (i : ℕ) (ids : List ℕ) → old ++ reverse (i ∷ ids) ≡ (old ++ reverse ids) ++ i ∷ []
-reverse_more old i ids = ap (λ xs. old ++ xs) (reverse-append (i ∷ []) ids) ∙ sym (append_assoc old (reverse ids) (i ∷ []))
+abbrev collected : List Sym → List Sym → List Sym
+collected = fold (with_item sym_eq)
 
--- one more id of a list that is put on from its end
-pub one_more_id : (old ids : List ℕ) (i d : ℕ) → 0 < i → i ≤ length ids → d ≡ get_or ids (i - 1) d → (old ++ reverse (drop i ids)) ++ d ∷ [] ≡ old ++ reverse (drop (i - 1) ids)
-one_more_id old ids i d positive within is =
-    let next : suc (i - 1) ≡ i = omega arith in
-    let e : drop (i - 1) ids ≡ d ∷ drop i ids = drop-cons ids (i - 1) d (omega arith) ∙ ap₂ (λ x xs. x ∷ xs) (sym is) (ap (λ j. drop j ids) next) in
-    sym (reverse_more old d (drop i ids)) ∙ ap (λ xs. old ++ reverse xs) (sym e)
+-- symbols that are found
+sym_eq_itself : (s : Sym) → sym_eq s s ≡ true
+sym_eq_itself s = (sym_eq_decides s s).1 refl
 
-in_reverse : (x : ℕ) (xs : List ℕ) → x ∈ reverse xs → x ∈ xs
-in_reverse x [] h = h
-in_reverse x (y ∷ xs) h =
-    elim (in_either x (reverse xs) (y ∷ []) (subst (λ (ys : List ℕ). x ∈ ys) (reverse_more [] y xs) h)) [
-      | inl k ↦ inr (in_reverse x xs k)
-      | inr (inl e) ↦ inl e
-      | inr (inr b) ↦ absurd b
-    ]
+any_of : (xs : List Sym) (s : Sym) → s ∈ xs → list_any (λ x. sym_eq x s) xs ≡ true
+any_of [] s h = absurd h
+any_of (x ∷ xs) s (inl e) = ap (λ b. b || list_any (λ y. sym_eq y s) xs) (ap (λ y. sym_eq y s) (sym e) ∙ sym_eq_itself s)
+any_of (x ∷ xs) s (inr h) = or_right (sym_eq x s) (any_of xs s h)
+  where
+    or_right : (b : Bool) {c : Bool} → c ≡ true → (b || c) ≡ true
+    or_right true e = refl
+    or_right false e = e
 
--- the symbols and sizes of the trees of ids
-module _ (f : Forest) where
-  abbrev trees : List ℕ → List Tree
-  trees ids = map (tree_at f) ids
+item_there : (xs : List Sym) (s : Sym) → s ∈ xs → with_item sym_eq xs s ≡ xs
+item_there xs s h = ap (λ b. cond b xs (xs ++ s ∷ [])) (any_of xs s h)
 
-  trees_push : (ids : List ℕ) (i : ℕ) → trees (ids ++ i ∷ []) ≡ trees ids ++ tree_at f i ∷ []
-  trees_push ids i = map-append (tree_at f) ids (i ∷ [])
+item_kept : (xs : List Sym) (s x : Sym) → x ∈ xs → x ∈ with_item sym_eq xs s
+item_kept xs s x h = by (list_any (λ y. sym_eq y s) xs)
+  where
+    by : (b : Bool) → x ∈ cond b xs (xs ++ s ∷ [])
+    by true = h
+    by false = in_left x xs (s ∷ []) h
 
-  pub symbols_pushed : (old ids : List ℕ) → pending_symbols (trees (old ++ reverse ids)) ≡ trees_symbols (of_list (trees ids)) ++ pending_symbols (trees old)
-  symbols_pushed old [] = ap (λ xs. pending_symbols (trees xs)) (append-nil old)
-  symbols_pushed old (i ∷ ids) =
-      ap (λ xs. pending_symbols (trees xs)) (reverse_more old i ids)
-      ∙ ap pending_symbols (trees_push (old ++ reverse ids) i)
-      ∙ symbols_push (trees (old ++ reverse ids)) (tree_at f i)
-      ∙ ap (λ xs. tree_symbols (tree_at f i) ++ xs) (symbols_pushed old ids)
-      ∙ sym (append_assoc (tree_symbols (tree_at f i)) (trees_symbols (of_list (trees ids))) (pending_symbols (trees old)))
+item_added : (xs : List Sym) (s : Sym) → s ∈ with_item sym_eq xs s
+item_added xs s =
+    subst (λ (ys : List Sym). s ∈ ys) (with_symbol xs s)
+    (contains_in s (insert_key sym_eq xs s) (Contains-insert_key sym_eq (λ x y. (sym_eq_decides x y).0) xs s))
 
-  pub size_pushed : (old ids : List ℕ) → pending_size (trees (old ++ reverse ids)) ≡ pending_size (trees old) + trees_size (of_list (trees ids))
-  size_pushed old [] = let e = ap (λ xs. pending_size (trees xs)) (append-nil old) in omega (arith, e)
-  size_pushed old (i ∷ ids) =
-      let e = ap (λ xs. pending_size (trees xs)) (reverse_more old i ids) in
-      let p = ap pending_size (trees_push (old ++ reverse ids) i) in
-      let q = size_push (trees (old ++ reverse ids)) (tree_at f i) in
-      let r = size_pushed old ids in
-      omega (arith, e, p, q, r)
+kept : (xs ys : List Sym) (x : Sym) → x ∈ xs → x ∈ collected xs ys
+kept xs [] x h = h
+kept xs (y ∷ ys) x h = kept (with_item sym_eq xs y) ys x (item_kept xs y x h)
 
-  pub popped_symbols : (all rest : List ℕ) (i : ℕ) → all ≡ rest ++ i ∷ [] → pending_symbols (trees all) ≡ tree_symbols (tree_at f i) ++ pending_symbols (trees rest)
-  popped_symbols all rest i e = ap (λ xs. pending_symbols (trees xs)) e ∙ ap pending_symbols (trees_push rest i) ∙ symbols_push (trees rest) (tree_at f i)
+added : (xs ys : List Sym) (y : Sym) → y ∈ ys → y ∈ collected xs ys
+added xs [] y h = absurd h
+added xs (z ∷ ys) y (inl e) = kept (with_item sym_eq xs z) ys y (subst (λ (w : Sym). w ∈ with_item sym_eq xs z) (sym e) (item_added xs z))
+added xs (z ∷ ys) y (inr h) = added (with_item sym_eq xs z) ys y h
 
-  pub popped_size : (all rest : List ℕ) (i : ℕ) → all ≡ rest ++ i ∷ [] → pending_size (trees all) ≡ pending_size (trees rest) + tree_size (tree_at f i)
-  popped_size all rest i e = ap (λ xs. pending_size (trees xs)) e ∙ ap pending_size (trees_push rest i) ∙ size_push (trees rest) (tree_at f i)
+all_there : (xs ys : List Sym) → ((y : Sym) → y ∈ ys → y ∈ xs) → collected xs ys ≡ xs
+all_there xs [] h = refl
+all_there xs (y ∷ ys) h = ap (λ zs. collected zs ys) (item_there xs y (h y (inl refl))) ∙ all_there xs ys (λ z i. h z (inr i))
 
-  pub ids_pushed : (old ids : List ℕ) (n : ℕ) → AreIds f old → n < length f.trees → All (λ i. i < n) ids → AreIds f (old ++ reverse ids)
-  ids_pushed old ids n before within smaller = in_all (λ (i : ℕ). i < length f.trees) (old ++ reverse ids) each
-    where
-      each : (x : ℕ) → x ∈ (old ++ reverse ids) → x < length f.trees
-      each x h =
-          elim (in_either x old (reverse ids) h) [
-            | inl k ↦ all_in (λ (i : ℕ). i < length f.trees) old before x k
-            | inr k ↦ (let l = all_in (λ (i : ℕ). i < n) ids smaller x (in_reverse x ids k) in omega (arith, l, within))
-          ]
+-- trees whose symbols are found
+found_grown : (xs ys : List Sym) (t : Tree) → ((x : Sym) → x ∈ xs → x ∈ ys) → AreFound xs t → AreFound ys t
+found_grown xs ys t grown h =
+    in_all (Contains ys) (tree_symbols t) (λ s i. in_contains s ys (grown s (contains_in s xs (all_in (Contains xs) (tree_symbols t) h s i))))
 
-  pub id_popped : (all rest : List ℕ) (i : ℕ) → all ≡ rest ++ i ∷ [] → AreIds f all → (i < length f.trees) × AreIds f rest
-  id_popped all rest i e h =
-      let k = subst (AreIds f) e h in (
-        all_in (λ (x : ℕ). x < length f.trees) (rest ++ i ∷ []) k i (at_end rest),
-        in_all (λ (x : ℕ). x < length f.trees) rest (λ x j. all_in (λ (y : ℕ). y < length f.trees) (rest ++ i ∷ []) k x (at_left x rest j)),
-      )
-    where
-      at_end : (xs : List ℕ) → i ∈ (xs ++ i ∷ [])
-      at_end [] = inl refl
-      at_end (x ∷ xs) = inr (at_end xs)
+found_after : (xs : List Sym) (t : Tree) → AreFound (with_symbols xs t) t
+found_after xs t = in_all (Contains (with_symbols xs t)) (tree_symbols t) (λ s i. in_contains s (with_symbols xs t) (added xs (tree_symbols t) s i))
 
-      at_left : (x : ℕ) (xs : List ℕ) → x ∈ xs → x ∈ (xs ++ i ∷ [])
-      at_left x [] h = absurd h
-      at_left x (y ∷ xs) (inl e) = inl e
-      at_left x (y ∷ xs) (inr k) = inr (at_left x xs k)
+nothing_new : (xs : List Sym) (t : Tree) → AreFound xs t → with_symbols xs t ≡ xs
+nothing_new xs t h = all_there xs (tree_symbols t) (λ s i. contains_in s xs (all_in (Contains xs) (tree_symbols t) h s i))
+
+-- a node that is closed
+number_same : (m n : ℕ) → nat_eq m n ≡ true → m ≡ n
+number_same m n = (Decides-eqb m n).0
+
+closed_is_found : (f : Forest) (found : List Sym) (ids : List ℕ) (id : ℕ) → AreClosed f found ids → list_any (nat_eq id) ids ≡ true → AreFound found (tree_at f id)
+closed_is_found f found ids id h there = all_in (λ i. AreFound found (tree_at f i)) ids h id (contains_in id ids (Contains-list_any nat_eq number_same ids id there))
+
+pub visit_closed : (f : Forest) (found : List Sym) (ids : List ℕ) (id : ℕ) (rest : List Step) (end : List Sym)
+    → AreClosed f found ids → list_any (nat_eq id) ids ≡ true → Leads f (Visit id ∷ rest) found end → Leads f rest found end
+visit_closed f found ids id rest end h there l = subst (λ (xs : List Sym). Leads f rest xs end) (nothing_new found (tree_at f id) (closed_is_found f found ids id h there)) l.1
+
+pub closed_grown : (f : Forest) (xs : List Sym) (s : Sym) (ids : List ℕ) → AreClosed f xs ids → AreClosed f (with_item sym_eq xs s) ids
+closed_grown f xs s ids h =
+    in_all (λ i. AreFound (with_item sym_eq xs s) (tree_at f i)) ids (λ i m. found_grown xs (with_item sym_eq xs s) (tree_at f i) (item_kept xs s) (all_in (λ j. AreFound xs (tree_at f j)) ids h i m))
+
+-- one more node is closed
+pub one_more_closed : (f : Forest) (found : List Sym) (old new : List ℕ) (id : ℕ) → AreClosed f found old → AreFound found (tree_at f id) → new ≡ insert_key nat_eq old id → AreClosed f found new
+one_more_closed f found old new id h there e = subst (AreClosed f found) (sym e) (by (list_any (nat_eq id) old))
+  where
+    each : (i : ℕ) → (i ∈ old) ⊎ (i ∈ (id ∷ [])) → AreFound found (tree_at f i)
+    each i (inl m) = all_in (λ j. AreFound found (tree_at f j)) old h i m
+    each i (inr (inl e)) = subst (λ (j : ℕ). AreFound found (tree_at f j)) (sym e) there
+    each i (inr (inr m)) = absurd m
+
+    by : (b : Bool) → AreClosed f found (cond b old (old ++ id ∷ []))
+    by true = h
+    by false = in_all (λ i. AreFound found (tree_at f i)) (old ++ id ∷ []) (λ i m. each i (in_either i old (id ∷ []) m))
+
+-- visits of the ids
+visits_lead : (f : Forest) (ids : List ℕ) (rest : List Step) (found end : List Sym) → ((i : ℕ) → i ∈ ids → i < length f.trees)
+    → Leads f rest (collected found (trees_symbols (of_list (map (tree_at f) ids)))) end → Leads f (map Visit ids ++ rest) found end
+visits_lead f [] rest found end within h = h
+visits_lead f (i ∷ ids) rest found end within h = (
+  within i (inl refl),
+  visits_lead f ids rest (with_symbols found (tree_at f i)) end (λ j m. within j (inr m))
+      (subst (λ (xs : List Sym). Leads f rest xs end) (fold-append (with_item sym_eq) found (tree_symbols (tree_at f i)) (trees_symbols (of_list (map (tree_at f) ids)))) h),
+)
+
+visits_size : (f : Forest) (ids : List ℕ) (rest : List Step) → steps_size f (map Visit ids ++ rest) ≡ 2 * trees_size (of_list (map (tree_at f) ids)) + steps_size f rest
+visits_size f [] rest = omega arith
+visits_size f (i ∷ ids) rest = omega (arith, visits_size f ids rest)
 
 same_trees : (ts : Trees) → of_list (to_list ts) ≡ ts
 same_trees none = refl
 same_trees (more t ts) = ap (more t) (same_trees ts)
 
 -- an application by its symbol and arguments
-pub application_symbols : (t : Tree) (s : Sym) (ts : List Tree) → symbol_of t ≡ Some s → ts ≡ arguments_of t → s ∷ trees_symbols (of_list ts) ≡ tree_symbols t
+application_symbols : (t : Tree) (s : Sym) (ts : List Tree) → symbol_of t ≡ Some s → ts ≡ arguments_of t → s ∷ trees_symbols (of_list ts) ≡ tree_symbols t
 application_symbols (var v) s ts e a = absurd (cc)
 application_symbols (app g us) s ts e a = let same : g ≡ s = cc in ap₂ (λ x xs. x ∷ xs) (sym same) (ap (λ xs. trees_symbols (of_list xs)) a ∙ ap trees_symbols (same_trees us))
 
-pub application_size : (t : Tree) (s : Sym) (ts : List Tree) → symbol_of t ≡ Some s → ts ≡ arguments_of t → tree_size t ≡ trees_size (of_list ts) + 1
+application_size : (t : Tree) (s : Sym) (ts : List Tree) → symbol_of t ≡ Some s → ts ≡ arguments_of t → tree_size t ≡ trees_size (of_list ts) + 1
 application_size (var v) s ts e a = absurd (cc)
 application_size (app g us) s ts e a = let k = ap (λ xs. trees_size (of_list xs)) a ∙ ap trees_size (same_trees us) in omega (arith, k)
 
--- what a visit of an application puts on the list
-module _ (f : Forest) (old ids new : List ℕ) (t : Tree) (s : Sym) (pushed : new ≡ old ++ reverse ids) (e : symbol_of t ≡ Some s) (a : map (tree_at f) ids ≡ arguments_of t) where
-  pub visited_symbols : (seen noted : List Sym) → noted ≡ with_item sym_eq seen s
-      → fold (with_item sym_eq) noted (pending_symbols (map (tree_at f) new)) ≡ fold (with_item sym_eq) seen (tree_symbols t ++ pending_symbols (map (tree_at f) old))
-  visited_symbols seen noted n =
-      ap₂ (fold (with_item sym_eq)) n (ap (λ xs. pending_symbols (map (tree_at f) xs)) pushed ∙ symbols_pushed f old ids)
-      ∙ ap (λ xs. fold (with_item sym_eq) seen (xs ++ pending_symbols (map (tree_at f) old))) (application_symbols t s (map (tree_at f) ids) e a)
+-- a node that is opened: its symbol is found, then come its arguments, and then it is closed
+module _ (f : Forest) (id : ℕ) (ids : List ℕ) (s : Sym) (rest : List Step) (e : symbol_of (tree_at f id) ≡ Some s) (a : map (tree_at f) ids ≡ arguments_of (tree_at f id)) where
+  pub opened_leads : (found end : List Sym) → All (λ i. i < id) ids → Leads f (Visit id ∷ rest) found end → Leads f (map Visit ids ++ Close id ∷ rest) (with_item sym_eq found s) end
+  opened_leads found end smaller h =
+      visits_lead f ids (Close id ∷ rest) (with_item sym_eq found s) end within
+      (subst (λ (xs : List Sym). Leads f (Close id ∷ rest) (collected found xs) end) (sym (application_symbols (tree_at f id) s (map (tree_at f) ids) e a)) (found_after found (tree_at f id), h.1))
+    where
+      within : (i : ℕ) → i ∈ ids → i < length f.trees
+      within i m = let k = all_in (λ j. j < id) ids smaller i m in let l = h.0 in omega (arith, k, l)
 
-  pub visited_size : pending_size (map (tree_at f) new) + 1 ≤ pending_size (map (tree_at f) old) + tree_size t
-  visited_size =
-      let p = ap (λ xs. pending_size (map (tree_at f) xs)) pushed in
-      let q = size_pushed f old ids in
-      let r = application_size t s (map (tree_at f) ids) e a in
-      omega (arith, p, q, r)
+  pub opened_size : steps_size f (map Visit ids ++ Close id ∷ rest) + 1 ≤ steps_size f (Visit id ∷ rest)
+  opened_size =
+      let v = visits_size f ids (Close id ∷ rest) in
+      let r = application_size (tree_at f id) s (map (tree_at f) ids) e a in
+      omega (arith, v, r)
 
-pub variable_symbols : (t : Tree) → symbol_of t ≡ None → tree_symbols t ≡ []
-variable_symbols (var v) e = refl
-variable_symbols (app g us) e = absurd (cc)
-
-pub some_size : (t : Tree) → 1 ≤ tree_size t
+some_size : (t : Tree) → 1 ≤ tree_size t
 some_size (var v) = omega arith
 some_size (app g us) = omega arith
 
-pub collect_ids : (f : Forest) (seen : List Sym) (c : List (Signed ℕ)) → fold (λ a l. fold (with_item sym_eq) a (tree_symbols (tree_at f l.atom))) seen c ≡ fold (with_item sym_eq) seen (clause_symbols (clause_at f c))
+-- a node that is not opened
+pub passed_size : (f : Forest) (id : ℕ) (rest : List Step) → steps_size f rest + 1 ≤ steps_size f (Visit id ∷ rest)
+passed_size f id rest = let k = some_size (tree_at f id) in omega (arith, k)
+
+variable_symbols : (t : Tree) → symbol_of t ≡ None → tree_symbols t ≡ []
+variable_symbols (var v) e = refl
+variable_symbols (app g us) e = absurd (cc)
+
+pub visit_variable : (f : Forest) (id : ℕ) (rest : List Step) (found end : List Sym) → symbol_of (tree_at f id) ≡ None → Leads f (Visit id ∷ rest) found end → Leads f rest found end
+visit_variable f id rest found end e h = subst (λ (xs : List Sym). Leads f rest (collected found xs) end) (variable_symbols (tree_at f id) e) h.1
+
+-- clauses
+pub collect_ids : (f : Forest) (seen : List Sym) (c : List (Signed ℕ)) → fold (λ a l. with_symbols a (tree_at f l.atom)) seen c ≡ fold (with_item sym_eq) seen (clause_symbols (clause_at f c))
 collect_ids f seen [] = refl
 collect_ids f seen (l ∷ c) =
-    collect_ids f (fold (with_item sym_eq) seen (tree_symbols (tree_at f l.atom))) c
+    collect_ids f (with_symbols seen (tree_at f l.atom)) c
     ∙ sym (fold-append (with_item sym_eq) seen (tree_symbols (tree_at f l.atom)) (clause_symbols (clause_at f c)))
 
 collect_all : (f : Forest) (seen : List Sym) (cs : List (List (Signed ℕ)))

@@ -1,8 +1,8 @@
 -- What covers a clause that is an instance of one with so many literals.
-use Rattle.std.specs.Prelude.{◌⊎◌, ℕ, ◌<◌, List, length, All, Any}
+use Rattle.std.specs.Prelude.{◌⊎◌, ℕ, ◌<◌, List, length, Any}
 use Rattle.inst_logic.specs.declared.signed.Signed.{Signed}
 use Rattle.inst_logic.specs.Signed.{IsTautology}
-use Rattle.inst_logic.specs.Clauses.{TreeClause, IsCanonical, Subsumes, AreVariants}
+use Rattle.inst_logic.specs.Clauses.{TreeClause, Subsumes, AreVariants}
 use Rattle.term_bank.specs.Forest.{Forest, clause_at}
 use Rattle.saturation_cert.specs.declared.member.Member.{Member}
 
@@ -25,6 +25,3 @@ CoversOf f n d m = Covers n (clause_at f d) (clause_at f m.clause)
 -- d is a tautology, or some member covers it
 abbrev pub IsCoveredIn : Forest → List Member → ℕ → List (Signed ℕ) → Type 0
 IsCoveredIn f ms n d = IsTautology (clause_at f d) ⊎ Any (CoversOf f n d) ms
-
-abbrev pub AreCanonicalMembers : Forest → List Member → Type 0
-AreCanonicalMembers f ms = All (λ m. IsCanonical (clause_at f m.clause)) ms

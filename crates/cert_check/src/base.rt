@@ -7,11 +7,12 @@ ghost use Rattle.cert_check.specs.Firsts.{IsFirstWrongOf};
 ghost use Rattle.saturation_cert.specs.Values.{base_of};
 ghost use Rattle.saturation_cert.specs.Wholes.{IsWholeBase, KeepsBase};
 
-use crate::axioms::{interned, symbols};
+use crate::axioms::interned;
 use crate::conclusion::{Premises, members_give};
 use crate::difference::difference;
 use crate::error::CheckError;
 use crate::origin::input_gives;
+use crate::walk::symbols_in;
 use cert_format::Complaint;
 use equality_axioms::axioms_from;
 use inst_logic::Memory;
@@ -26,7 +27,7 @@ fn wrong_axiom(alloc: Global, base: &mut Base) -> Result<Option<usize>, Memory>
     ensures whole { OnOk result (IsWholeBase base.new) }
     ensures first { IfOk result (IsFirstWrongOf (IsRightAxiom (base_of base.old))) }
 {
-    let symbols = symbols(alloc, &base.bank, &base.inputs)?;
+    let symbols = symbols_in(alloc, &base.bank, &base.inputs)?;
     let axioms = axioms_from(alloc, &symbols)?;
     let ids = interned(alloc, &mut base.bank, &axioms)?;
     Ok(difference(&base.bank, &base.axioms, &ids))
@@ -49,17 +50,14 @@ fn is_right(
 {
     let member = &base.members.as_slice()[i];
     match member.origin {
-        Origin::Input(k) => {
-            let right = input_gives(
-                alloc,
-                &mut base.bank,
-                &base.inputs,
-                &base.axioms,
-                k,
-                &member.clause,
-            )?;
-            Ok(right)
-        }
+        Origin::Input(k) => input_gives(
+            alloc,
+            &mut base.bank,
+            &base.inputs,
+            &base.axioms,
+            k,
+            &member.clause,
+        ),
         Origin::Inst {
             from,
             place,
@@ -72,7 +70,7 @@ fn is_right(
                 partner,
                 other,
             };
-            let right = members_give(
+            members_give(
                 alloc,
                 &mut base.bank,
                 bindings,
@@ -80,8 +78,7 @@ fn is_right(
                 premises,
                 i,
                 &member.clause,
-            )?;
-            Ok(right)
+            )
         }
     }
 }

@@ -2,7 +2,6 @@
 ghost use Rattle.std.specs.Prelude.{◌≡◌, ◌+◌, ◌<◌, ◌↔◌, All, IfOk, IsTrue, false, length, map, option_copied, true};
 ghost use Rattle.inst_logic.specs.Clauses.{IsCanonical};
 ghost use Rattle.inst_logic.specs.Derivations.{at_number};
-ghost use Rattle.inst_logic.specs.WellFormed.{IsAtom};
 ghost use Rattle.cert_format.specs.Validity.{IsConclusion};
 ghost use Rattle.term_bank.specs.Forest.{AreFormed, Extends, IsClauseOf, clause_at, tree_at};
 ghost use Rattle.saturation_cert.specs.Values.{entry_of};

@@ -1,6 +1,5 @@
 // Covered instances.
 ghost use Rattle.std.specs.Prelude.{◌≡◌, ◌↔◌, ◌<◌, map, length, All, Any, IfOk, IsTrue, true, false};
-ghost use Rattle.inst_logic.specs.Signed.{IsTautology};
 ghost use Rattle.inst_logic.specs.Clauses.{IsCanonical, instance};
 ghost use Rattle.inst_logic.specs.Unifiers.{Sided};
 ghost use Rattle.inst_calculus.specs.Saturation.{IsCovered};
@@ -9,7 +8,8 @@ ghost use Rattle.unify_core.specs.Chains.{AreBindings};
 ghost use Rattle.unify_core.specs.Sides.{IsResolvedBy, of_side};
 ghost use Rattle.unify_core.specs.Terms.{AreTerms};
 ghost use Rattle.saturation_cert.specs.Wholes.{IsWholeClause};
-ghost use Rattle.cert_check.specs.Covers.{AreCanonicalMembers, IsCoveredIn, IsShorter, ShorterOf};
+ghost use Rattle.cert_check.specs.Covers.{IsCoveredIn, IsShorter, ShorterOf};
+ghost use Rattle.cert_check.specs.Grounds.{AreCanonicalMembers};
 ghost use Rattle.cert_check.specs.Lookups.{HasNoShorter, IsLookup};
 
 use crate::difference::distinct_trees;
@@ -58,7 +58,7 @@ fn leads_to_shorter(
 {
     let partners = &lookup.partners;
     let count = members.len();
-    let mut k = partners.first_place(bank, literal, count);
+    let mut k = partners.first_place(bank, literal);
     while k < count {
         if is_shorter(alloc, bank, &members[k].clause, len, c)? {
             return Ok(true);

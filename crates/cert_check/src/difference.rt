@@ -6,10 +6,11 @@ ghost use Rattle.cert_check.specs.Firsts.{IsFirstWrongOf};
 
 use term_bank::{Bank, IdClause, IdClauseList};
 
-// Equal trees have equal ids.
+// Equal trees have equal ids: a law of the bank.
 pub fn distinct_trees(bank: &Bank)
     ensures { AreDistinct bank.now.trees }
 {
+    // The law stands beside the length, which has no other use here.
     let _count = bank.len();
 }
 

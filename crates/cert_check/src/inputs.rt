@@ -1,5 +1,5 @@
 // The check that the members stand for the inputs and axioms.
-ghost use Rattle.std.specs.Prelude.{◌≡◌, ◌↔◌, ◌⊎◌, ◌++◌, ◌+◌, length, suc, true, All, Any, IfOk, IsTrue, option_copied, slice_get};
+ghost use Rattle.std.specs.Prelude.{◌≡◌, ◌↔◌, ◌⊎◌, ◌+◌, length, true, All, Any, IfOk, IsTrue};
 ghost use Rattle.inst_logic.specs.Signed.{IsTautology};
 ghost use Rattle.inst_logic.specs.Clauses.{Subsumes};
 ghost use Rattle.cert_format.specs.Validity.{IsRightInput};
@@ -10,24 +10,13 @@ ghost use Rattle.cert_check.specs.Bases.{IsValidBase};
 ghost use Rattle.cert_check.specs.Firsts.{IsFirstWrongOf};
 
 use crate::difference::{distinct_trees, same_clause};
+use crate::origin::numbered;
 use clause_form::{subsumes, tautology};
 use indexmap::IndexMap;
 use inst_logic::Memory;
 use saturation_cert::{Base, Member, Origin, Saturation};
 use std::alloc::Global;
 use term_bank::{Bank, IdClause};
-
-// Clause `i`, counted from 0, of the inputs and then the axioms.
-fn stated(base: &Base, i: usize) -> Option<&IdClause>
-    ensures { option_copied result ≡ slice_get (base.now.inputs ++ base.now.axioms) i }
-{
-    let count = base.inputs.len();
-    if i < count {
-        base.inputs.get(i)
-    } else {
-        base.axioms.get(i - count)
-    }
-}
 
 fn stated_count(base: &Base) -> usize
     ensures { result ≡ length base.now.inputs + length base.now.axioms }
@@ -112,21 +101,21 @@ fn is_met(
     is_subsumed_first(alloc, bank, members, first, c)
 }
 
-// Whether clause `i`, counted from 0, of the inputs and axioms is a tautology or subsumed by some member.
+// Whether clause `k` of the inputs and then the axioms, counted from 1, is a tautology or subsumed by some member.
 fn is_right_input(
     alloc: Global,
     cert: &Saturation,
     first: Option<usize>,
-    i: usize,
+    k: usize,
 ) -> Result<bool, Memory>
     requires whole { IsWholeSaturation cert.now }
     requires base { IsValidBase (base_of cert.now.base) }
-    ensures { IfOk result (λ r. IsTrue r ↔ IsRightInput (saturation_of cert.now) (suc i)) }
+    ensures { IfOk result (λ r. IsTrue r ↔ IsRightInput (saturation_of cert.now) k) }
 {
-    let bank = &cert.base.bank;
-    match stated(&cert.base, i) {
+    let base = &cert.base;
+    match numbered(&base.inputs, &base.axioms, k) {
         None => Ok(true),
-        Some(c) => is_met(alloc, bank, cert.base.members.as_slice(), first, c),
+        Some(c) => is_met(alloc, &base.bank, base.members.as_slice(), first, c),
     }
 }
 
@@ -140,7 +129,7 @@ pub fn wrong_input(alloc: Global, cert: &Saturation) -> Result<Option<usize>, Me
     for i in 0..stated_count(&cert.base) {
         let number = i + 1;
         let first = places.get(&number).copied();
-        if !is_right_input(alloc, cert, first, i)? {
+        if !is_right_input(alloc, cert, first, number)? {
             return Ok(Some(number));
         }
     }

@@ -1,5 +1,5 @@
-//! The separate checker of certificates. It uses no engine, index, solver or abstraction: what a reader must believe is here and
-//! in the crates below it.
+//! The separate checker of certificates. It uses no crate of an engine and no solver; its look-ups are its own. What a reader must
+//! believe is here and in the crates below it.
 #![tactic(auto)]
 
 mod axioms;
@@ -18,6 +18,8 @@ mod places;
 pub mod refutation;
 pub mod saturation;
 mod steps;
+#[cfg(test)]
+mod tests;
 mod walk;
 
 pub use cert_format::Complaint;

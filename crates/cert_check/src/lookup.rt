@@ -1,5 +1,5 @@
 // Look-ups of members.
-ghost use Rattle.std.specs.Prelude.{◌≡◌, IfOk, IsTrue};
+ghost use Rattle.std.specs.Prelude.{◌≡◌, IfOk};
 ghost use Rattle.saturation_cert.specs.Values.{saturation_of};
 ghost use Rattle.saturation_cert.specs.Wholes.{HasPlaces, IsWholeSaturation};
 ghost use Rattle.cert_check.specs.Lookups.{AreClausesOf, IsLookup, has_clause};
@@ -15,7 +15,7 @@ use term_bank::IdClause;
 /// The members' clauses, and the chains through the members whose selected literals have one head.
 #[derive(Drop)]
 pub struct Lookup {
-    pub partners: Partners,
+    pub(crate) partners: Partners,
     clauses: IndexSet<IdClause>,
 }
 

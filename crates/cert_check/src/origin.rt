@@ -12,7 +12,11 @@ use std::alloc::Global;
 use term_bank::{Bank, IdClause, IdClauseList};
 
 // Clause `k` of the inputs and then the axioms, counted from 1.
-fn numbered<'a>(inputs: &'a [IdClause], axioms: &'a [IdClause], k: usize) -> Option<&'a IdClause>
+pub fn numbered<'a>(
+    inputs: &'a IdClauseList,
+    axioms: &'a IdClauseList,
+    k: usize,
+) -> Option<&'a IdClause>
     ensures { option_copied result ≡ at_number (inputs.now ++ axioms.now) k }
 {
     if k == 0 {
@@ -58,7 +62,7 @@ pub fn input_gives(
     ensures formed { AreFormed bank.old → AreFormed bank.new }
     ensures gives { IfOk result (λ r. IsTrue r ↔ GivesInput (map (clause_at bank.old) (inputs.now ++ axioms.now)) k (clause_at bank.old clause.now)) }
 {
-    match numbered(inputs.as_slice(), axioms.as_slice(), k) {
+    match numbered(inputs, axioms, k) {
         None => Ok(false),
         Some(from) => is_canonical_form(alloc, bank, from, clause),
     }

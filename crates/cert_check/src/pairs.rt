@@ -181,7 +181,8 @@ fn wrong_partner(
     Ok(None)
 }
 
-// The numbers of the first two members whose selected literals unify and do not conclude what is covered.
+// The numbers of the first two members that are not closed for each other. The selected literals have opposite signs and unify,
+// and the unifier is proper on neither side or a proper side's instance is not covered.
 pub fn wrong_pair(alloc: Global, cert: &mut Saturation) -> Result<Option<(usize, usize)>, Memory>
     requires whole { IsWholeSaturation cert.old }
     requires base { IsValidBase (base_of cert.old.base) }

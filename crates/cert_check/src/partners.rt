@@ -1,15 +1,16 @@
 // Chains of members by the heads of their selected literals: each place leads on to the next one of the same head, and to the
 // next one of the opposite head. So a scan for partners, or for members that subsume, visits only those that may be.
-ghost use Rattle.std.specs.Prelude.{◌≡◌, ◌<◌, ℕ, length, IfOk, Some, unwrap_or};
+ghost use Rattle.std.specs.Prelude.{◌≡◌, ◌<◌, ℕ, length, IfOk, IfSome, Some, option_map, unwrap_or};
 ghost use Rattle.indexmap.specs.IndexMap.{get};
 ghost use Rattle.clause_form.specs.Literals.{id_eq};
+ghost use Rattle.term_bank.specs.Forest.{symbol_at, symbol_of, tree_at};
 ghost use Rattle.saturation_cert.specs.Values.{saturation_of};
 ghost use Rattle.saturation_cert.specs.Wholes.{HasPlaces, IsWholeSaturation};
 ghost use Rattle.cert_check.specs.Partners.{AreChained, AreGrouped, Head, IsHeadAt, IsHeadOf, IsNext, LeadThrough, head_at};
-ghost use Rattle.inst_logic.specs.Signed.{complement};
 
 use indexmap::IndexMap;
 use inst_logic::{Memory, Signed};
+use prop_logic::complement;
 use saturation_cert::{Saturation, selected};
 use std::alloc::Global;
 use term_bank::{Bank, IdLiteral};
@@ -23,8 +24,22 @@ type HeadId = Signed<usize>;
 pub struct Partners {
     heads: Vec<HeadId>,
     first: IndexMap<HeadId, usize>,
-    pub same: Vec<usize>,
-    pub opposed: Vec<usize>,
+    pub(crate) same: Vec<usize>,
+    pub(crate) opposed: Vec<usize>,
+}
+
+// The head of the literal, unless its atom is a variable.
+fn head_of(bank: &Bank, l: &IdLiteral) -> Option<HeadId>
+    requires { l.now.atom < length bank.now.trees }
+    ensures is { IfSome result (IsHeadAt bank.now l.now) }
+    ensures only { (h : Head) → IsHeadAt bank.now l.now h → result ≡ Some h }
+    ensures symbol { option_map (λ h. symbol_at bank.now.symbols h.atom) result ≡ symbol_of (tree_at bank.now l.now.atom) }
+{
+    let number = bank.symbol_number(l.atom)?;
+    Some(Signed {
+        positive: l.positive,
+        atom: number,
+    })
 }
 
 // The head of the selected literal of member `i`, counted from 0.
@@ -34,12 +49,8 @@ fn head(cert: &Saturation, i: usize) -> HeadId
     requires within { i < length cert.now.base.members }
     ensures { IsHeadOf cert.now i result }
 {
-    let l = *selected(cert, i);
-    match cert.base.bank.symbol_number(l.atom) {
-        Some(number) => Signed {
-            positive: l.positive,
-            atom: number,
-        },
+    match head_of(&cert.base.bank, selected(cert, i)) {
+        Some(head) => head,
         None => unreachable!(),
     }
 }
@@ -58,20 +69,11 @@ fn heads(alloc: Global, cert: &Saturation) -> Result<Vec<HeadId>, Memory>
     Ok(heads)
 }
 
-fn opposed(head: HeadId) -> HeadId
-    ensures { result ≡ complement head }
+// The place of the first member of the head, or the number of members where there is none.
+fn place_of(first: &IndexMap<HeadId, usize>, head: HeadId, count: usize) -> usize
+    ensures { result ≡ unwrap_or (get id_eq first.now head) count }
 {
-    Signed {
-        positive: !head.positive,
-        atom: head.atom,
-    }
-}
-
-// The place of the head by the map, or else the other one.
-fn place_of(first: &IndexMap<HeadId, usize>, head: HeadId, other: usize) -> usize
-    ensures { result ≡ unwrap_or (get id_eq first.now head) other }
-{
-    first.get(&head).copied().unwrap_or(other)
+    first.get(&head).copied().unwrap_or(count)
 }
 
 fn chained(alloc: Global, heads: Vec<HeadId>) -> Result<Partners, Memory>
@@ -86,7 +88,7 @@ fn chained(alloc: Global, heads: Vec<HeadId>) -> Result<Partners, Memory>
         i -= 1;
         let head = heads[i];
         same[i] = place_of(&first, head, count);
-        other[i] = place_of(&first, opposed(head), count);
+        other[i] = place_of(&first, complement(head), count);
         first.insert(head, i)?;
     }
     Ok(Partners {
@@ -108,29 +110,18 @@ pub fn find_partners(alloc: Global, cert: &Saturation) -> Result<Partners, Memor
     chained(alloc, heads)
 }
 
-// The head of the literal, unless its atom is a variable.
-fn head_of(bank: &Bank, l: &IdLiteral) -> Option<HeadId>
-    requires { l.now.atom < length bank.now.trees }
-    ensures { (h : Head) → IsHeadAt bank.now l.now h → result ≡ Some h }
-{
-    let number = bank.symbol_number(l.atom)?;
-    Some(Signed {
-        positive: l.positive,
-        atom: number,
-    })
-}
-
 impl Partners {
-    /// The first member whose selected literal has the head of this one, or the other number where there is none.
-    pub fn first_place(&self, bank: &Bank, l: &IdLiteral, other: usize) -> usize
+    /// The place of the first member whose selected literal has the head of this one, or the number of members where there is
+    /// none.
+    pub fn first_place(&self, bank: &Bank, l: &IdLiteral) -> usize
         requires within { l.now.atom < length bank.now.trees }
-        requires other { other ≡ length self.now.heads.items }
         requires first { (h : Head) → IsNext self.now.heads.items h 0 (unwrap_or (get id_eq self.now.first h) (length self.now.heads.items)) }
         ensures { (h : Head) → IsHeadAt bank.now l.now h → IsNext self.now.heads.items h 0 result }
     {
+        let count = self.heads.len();
         match head_of(bank, l) {
-            Some(head) => place_of(&self.first, head, other),
-            None => other,
+            Some(head) => place_of(&self.first, head, count),
+            None => count,
         }
     }
 }

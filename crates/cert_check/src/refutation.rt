@@ -39,8 +39,6 @@ impl Model for CheckedRefutation {
     ghost use Rattle.cert_format.specs.Validity.{IsValidRefutation};
     ghost use Rattle.saturation_cert.specs.contracts.certificate.Refutation as value;
     ghost use Rattle.std.specs.Coded.{codes};
-    ghost use Rattle.saturation_cert.specs.contracts.certificate.Refutation as value;
-    ghost use Rattle.std.specs.Coded.{codes};
 
     ghost Value = { Refutation };
 

@@ -1,4 +1,5 @@
 use Rattle.std.proofs.Common.{◌≡◌, List, All, sym, subst, ap, ◌∙◌, get_or, arith, map, ◌+◌}
+use Rattle.std.proofs.lemmas.Result.{IfOk-weaker}
 use Rattle.term_bank.specs.Forest.{clause_at}
 use Rattle.saturation_cert.specs.Wholes.{IsWholeClause}
 use Rattle.saturation_cert.specs.Values.{entry_of}
@@ -22,16 +23,18 @@ input_gives-requires-clause-clause c =
     let is : m ≡ get_or b.members c.args.i m = c.index-as_slice-i.is ∙ ap (λ (xs : List Member). get_or xs c.args.i m) c.as_slice.ensures in
     member_ids b.bank b.members c.args.i m c.requires.whole.members c.requires.within is
 
-pub returns-in_ok-right-in-Input-clause-whole : goal.returns-in_ok-right-in-Input-clause-whole
-returns-in_ok-right-in-Input-clause-whole c = whole_base c.args.base.now c.input_gives.new.bank c.requires.whole c.input_gives.ensures.extends (c.input_gives.ensures.formed c.requires.whole.bank)
+pub returns-in-Input-clause-whole : goal.returns-in-Input-clause-whole
+returns-in-Input-clause-whole c =
+    let whole = whole_base c.args.base.now c.input_gives.new.bank c.requires.whole c.input_gives.ensures.extends (c.input_gives.ensures.formed c.requires.whole.bank) in
+    IfOk-weaker c.input_gives.result _ _ (λ _ _. whole) c.input_gives.ensures.gives
 
-pub returns-in_ok-right-in-Input-clause-right : goal.returns-in_ok-right-in-Input-clause-right
-returns-in_ok-right-in-Input-clause-right c =
+pub returns-in-Input-clause-right : goal.returns-in-Input-clause-right
+returns-in-Input-clause-right c =
     let b = c.args.base.now in
     let m = c.index-as_slice-i.result in
     let is : m ≡ get_or b.members c.args.i m = c.index-as_slice-i.is ∙ ap (λ (xs : List Member). get_or xs c.args.i m) c.as_slice.ensures in
     let by = right_input b c.args.i m c.in-Input.k c.requires.axioms c.requires.within is c.in-Input.is in
-    (λ t. by.0 (c.in_ok-right-in-Input.ensures.gives.0 t), λ r. c.in_ok-right-in-Input.ensures.gives.1 (by.1 r))
+    IfOk-weaker c.input_gives.result _ _ (λ _ g. (λ t. by.0 (g.0 t), λ r. g.1 (by.1 r))) c.input_gives.ensures.gives
 
 pub members_give-requires-clause-members : goal.members_give-requires-clause-members
 members_give-requires-clause-members c =
@@ -50,14 +53,16 @@ members_give-requires-clause-clause c =
     let is : m ≡ get_or b.members c.args.i m = c.index-as_slice-i.is ∙ ap (λ (xs : List Member). get_or xs c.args.i m) c.as_slice.ensures in
     member_ids b.bank b.members c.args.i m c.requires.whole.members c.requires.within is
 
-pub returns-in_ok-right-in-Inst-clause-whole : goal.returns-in_ok-right-in-Inst-clause-whole
-returns-in_ok-right-in-Inst-clause-whole c = whole_base c.args.base.now c.members_give.new.bank c.requires.whole c.members_give.ensures.extends (c.members_give.ensures.formed c.requires.whole.bank)
+pub returns-in-Inst-clause-whole : goal.returns-in-Inst-clause-whole
+returns-in-Inst-clause-whole c =
+    let whole = whole_base c.args.base.now c.members_give.new.bank c.requires.whole c.members_give.ensures.extends (c.members_give.ensures.formed c.requires.whole.bank) in
+    IfOk-weaker c.members_give.result _ _ (λ _ _. whole) c.members_give.ensures.gives
 
-pub returns-in_ok-right-in-Inst-clause-right : goal.returns-in_ok-right-in-Inst-clause-right
-returns-in_ok-right-in-Inst-clause-right c =
+pub returns-in-Inst-clause-right : goal.returns-in-Inst-clause-right
+returns-in-Inst-clause-right c =
     let b = c.args.base.now in
     let m = c.index-as_slice-i.result in
     let is : m ≡ get_or b.members c.args.i m = c.index-as_slice-i.is ∙ ap (λ (xs : List Member). get_or xs c.args.i m) c.as_slice.ensures in
     let by = right_inst b c.args.i m c.in-Inst.from c.in-Inst.place c.in-Inst.partner c.in-Inst.other c.requires.within is c.in-Inst.is in
     let P = λ (ms : List Member). MembersGive (map (entry_of b.bank) ms) (c.args.i + 1) c.in-Inst.from c.in-Inst.place c.in-Inst.partner c.in-Inst.other (clause_at b.bank m.clause) in
-    (λ t. by.0 (subst P c.as_slice-in-Inst.ensures (c.in_ok-right-in-Inst.ensures.gives.0 t)), λ r. c.in_ok-right-in-Inst.ensures.gives.1 (subst P (sym c.as_slice-in-Inst.ensures) (by.1 r)))
+    IfOk-weaker c.members_give.result _ _ (λ _ g. (λ t. by.0 (subst P c.as_slice-in-Inst.ensures (g.0 t)), λ r. g.1 (subst P (sym c.as_slice-in-Inst.ensures) (by.1 r)))) c.members_give.ensures.gives

@@ -9,7 +9,11 @@ use Rattle.cert_check.specs.Firsts.{IsFirstWrongOf}
 use Rattle.cert_check.proofs.Bases.{clauses_same}
 use Rattle.cert_check.proofs.Refutations.{whole_base, whole_ids}
 use Rattle.cert_check.proofs.Interning.{axioms_part, wholes_formed}
+use Rattle.cert_check.proofs.Rightness.{ids_of}
 use Rattle.cert_check.proofs.base.wrong_axiom.Goals as goal
+
+pub symbols_in-requires : goal.symbols_in-requires
+symbols_in-requires c = ids_of c.args.base.now.bank c.args.base.now.inputs c.requires.inputs
 
 pub interned-requires-clause-clauses : goal.interned-requires-clause-clauses
 interned-requires-clause-clauses c =

@@ -4,7 +4,7 @@ use Rattle.term_bank.specs.Forest.{clause_at}
 use Rattle.inst_logic.specs.Clauses.{IsCanonical}
 use Rattle.saturation_cert.specs.declared.member.Member.{Member}
 use Rattle.saturation_cert.specs.Wholes.{IsWholeClause}
-use Rattle.cert_check.specs.Covers.{AreCanonicalMembers}
+use Rattle.cert_check.specs.Grounds.{AreCanonicalMembers}
 use Rattle.cert_check.specs.Lookups.{IsLookup}
 use Rattle.cert_check.proofs.Closings.{canonical_members, covered_here}
 use Rattle.cert_check.proofs.Refutations.{whole_base}

@@ -30,7 +30,7 @@ loop-i-preserved c =
     let first : (h : Head) → IsNext hs h (suc j) (unwrap_or (get id_eq c.loop-i.first h) (length hs)) = subst (λ n. (h : Head) → IsNext hs h n (unwrap_or (get id_eq c.loop-i.first h) (length hs))) next c.loop-i.invariant.first in
     let same : c.place_of.result ≡ unwrap_or (get id_eq c.loop-i.first (head_at hs j)) (length hs) = c.place_of.ensures ∙ (λ z. unwrap_or (get id_eq c.loop-i.first (at z)) (count z)) in
     let other : c.place_of-in-loop-i.result ≡ unwrap_or (get id_eq c.loop-i.first (complement (head_at hs j))) (length hs) =
-    c.place_of-in-loop-i.ensures ∙ (λ z. unwrap_or (get id_eq c.loop-i.first ((c.opposed.ensures ∙ ap complement at) z)) (count z)) in
+    c.place_of-in-loop-i.ensures ∙ (λ z. unwrap_or (get id_eq c.loop-i.first ((c.complement.ensures ∙ ap complement at) z)) (count z)) in
     record {
       within = omega (arith, c.loop-i.invariant.within);
       chained = more_chained hs c.loop-i.same.items c.loop-i.other.items i j c.place_of.result c.place_of-in-loop-i.result next c.loop-i.invariant.within c.loop-i.invariant.chained

@@ -1,5 +1,4 @@
 use Rattle.std.proofs.Common.{ap, sym, subst, ◌∙◌}
-use Rattle.cert_format.specs.Certificate as format
 use Rattle.cert_format.specs.Validity.{IsValidSaturation}
 use Rattle.saturation_cert.specs.Values.{saturation_of}
 use Rattle.cert_check.proofs.Saturations.{base_grown, bank_same}
