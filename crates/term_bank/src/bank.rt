@@ -48,7 +48,9 @@ impl Model for Bank {
 /// What stands at the root of a tree.
 #[derive(Clone, Copy, Debug, PartialEq, Eq)]
 pub enum Shape {
+    /// A variable with its number, from 0.
     Var(usize),
+    /// A symbol with its arguments.
     App,
 }
 
