@@ -74,6 +74,13 @@ fn constant(bank: &mut Bank, sym: &Sym) -> Result<bool, Memory> {
     )
 }
 
+// The symbol at the root of the constant, applied as it is there, gives the constant.
+fn applied_alike(bank: &mut Bank, sym: &Sym) -> Result<bool, Memory> {
+    let a = bank.app(sym, &[])?;
+    let b = bank.app_like(a, &[])?;
+    Ok(a == b)
+}
+
 // The atom of each literal has the id that it has alone.
 fn shares(bank: &mut Bank, c: &Clause, l: &Literal) -> Result<bool, Memory> {
     let ids = bank.clause(c)?;
@@ -98,6 +105,7 @@ fn variables_and_constants(rt: HostRuntime) -> Result<(), Fail> {
     assert!(rt; variable(&mut bank)?);
     let sym = symbol(rt.alloc(), Kind::Function, b"a", 0)?;
     assert!(rt; constant(&mut bank, &sym)?);
+    assert!(rt; applied_alike(&mut bank, &sym)?);
     Ok(())
 }
 
