@@ -64,7 +64,7 @@ fn conclude_with(
     let mut nodes = atoms_of(alloc, c.as_slice())?;
     nodes.extend_from_slice(variables)?;
     let leaves = Leaves::Led(b);
-    let mut atoms = build_all(alloc, bank, &leaves, side, &nodes)?.terms;
+    let mut atoms = build_all(alloc, bank, &leaves, side, &nodes)?;
     let terms = atoms.split_off(c.len())?;
     let _ = bank.len();
     let clause = clause_of(alloc, c.as_slice(), &atoms)?;
@@ -117,5 +117,5 @@ pub fn under(
     let leaves = Leaves::Listed(terms.as_slice());
     let built = build_all(alloc, bank, &leaves, Side::Left, &atoms)?;
     let _ = bank.len();
-    clause_of(alloc, c.as_slice(), &built.terms)
+    clause_of(alloc, c.as_slice(), &built)
 }

@@ -5,7 +5,7 @@ pub mod compare;
 pub mod conclusion;
 pub mod laws;
 mod literals;
-pub mod renumber;
+mod renumber;
 pub mod subsumption;
 #[cfg(test)]
 mod subsumption_tests;

@@ -1,22 +1,21 @@
 // Canonical forms.
-ghost use Rattle.std.specs.Prelude.{◌≡◌, false, IfOk, OnOk, length, map};
+ghost use Rattle.std.specs.Prelude.{◌≡◌, false, IfOk, OnOk, map};
 ghost use Rattle.inst_logic.specs.Clauses.{canonical_form, numbered, order_of};
 ghost use Rattle.inst_logic.specs.Substitution.{subst};
 ghost use Rattle.term_bank.specs.Forest.{AreFormed, AreIds, Extends, IsClauseAt, IsClauseOf, clause_at, tree_at};
 
 use crate::literals::{atoms_of, clause_of};
-use crate::walk::{Built, Leaves, build_all};
+use crate::walk::{Leaves, build_all};
 use inst_logic::Memory;
 use std::alloc::Global;
-use term_bank::{Bank, IdClause};
+use term_bank::{Bank, IdClause, TermId};
 use unify_core::{Bindings, Side};
 
-// The atoms with the clause's variables numbered 0, 1, 2 by first occurrence, and how many variables there are.
-pub fn renumbered(alloc: Global, bank: &mut Bank, c: &IdClause) -> Result<Built, Memory>
+// The atoms with the clause's variables numbered 0, 1, 2 by first occurrence.
+fn renumbered(alloc: Global, bank: &mut Bank, c: &IdClause) -> Result<Vec<TermId>, Memory>
     requires { IsClauseOf bank.old c.now }
-    ensures trees { IfOk result (λ b. map (tree_at bank.new) b.terms.items ≡ map (λ l. subst (numbered (order_of (clause_at bank.old c.now))) (tree_at bank.old l.atom)) c.now) }
-    ensures variables { IfOk result (λ b. b.variables ≡ length (order_of (clause_at bank.old c.now))) }
-    ensures ids { IfOk result (λ b. AreIds bank.new b.terms.items) }
+    ensures trees { IfOk result (λ v. map (tree_at bank.new) v.items ≡ map (λ l. subst (numbered (order_of (clause_at bank.old c.now))) (tree_at bank.old l.atom)) c.now) }
+    ensures ids { IfOk result (λ v. AreIds bank.new v.items) }
     ensures extends { Extends bank.old bank.new }
     ensures unspent { OnOk result (bank.old.spent ≡ false → bank.new.spent ≡ false) }
     ensures formed { AreFormed bank.old → AreFormed bank.new }
@@ -38,5 +37,5 @@ pub fn canonical(alloc: Global, bank: &mut Bank, c: &IdClause) -> Result<IdClaus
 {
     let built = renumbered(alloc, bank, c)?;
     let _ = bank.len();
-    clause_of(alloc, c.as_slice(), &built.terms)
+    clause_of(alloc, c.as_slice(), &built)
 }

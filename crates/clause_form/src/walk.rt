@@ -240,13 +240,6 @@ fn run_steps(
     Ok(ids)
 }
 
-// Terms that were built, and how many variables were met.
-#[derive(Drop)]
-pub struct Built {
-    pub terms: Vec<TermId>,
-    pub variables: usize,
-}
-
 // What the terms of the side become.
 pub fn build_all(
     alloc: Global,
@@ -254,11 +247,11 @@ pub fn build_all(
     leaves: &Leaves<'_>,
     side: Side,
     terms: &[TermId],
-) -> Result<Built, Memory>
+) -> Result<Vec<TermId>, Memory>
     requires leaves { AreLeaves bank.old leaves.now }
     requires ids { AreIds bank.old terms.now }
-    ensures built { IfOk result (λ b. (r : Reading) (final : List ℕ) → IsReading bank.old leaves.now r final → with_vars [] (vars_on r side terms.now) ≡ final → (map (tree_at bank.new) b.terms.items ≡ trees_on r side terms.now) × (b.variables ≡ length final)) }
-    ensures ids { IfOk result (λ b. AreIds bank.new b.terms.items) }
+    ensures built { IfOk result (λ v. (r : Reading) (final : List ℕ) → IsReading bank.old leaves.now r final → with_vars [] (vars_on r side terms.now) ≡ final → map (tree_at bank.new) v.items ≡ trees_on r side terms.now) }
+    ensures ids { IfOk result (λ v. AreIds bank.new v.items) }
     ensures extends { Extends bank.old bank.new }
     ensures unspent { OnOk result (bank.old.spent ≡ false → bank.new.spent ≡ false) }
     ensures formed { (r : Reading) (final : List ℕ) → IsReading bank.old leaves.now r final → with_vars [] (vars_on r side terms.now) ≡ final → IsFormedReading bank.old r → AreFormed bank.old → AreFormed bank.new }
@@ -266,9 +259,5 @@ pub fn build_all(
     let mut steps: Vec<Step> = Vec::new(alloc);
     let mut order: IndexSet<Variable> = IndexSet::new(alloc);
     push_visits(&mut steps, side, terms)?;
-    let built = run_steps(alloc, bank, leaves, &mut steps, &mut order)?;
-    Ok(Built {
-        terms: built,
-        variables: order.len(),
-    })
+    run_steps(alloc, bank, leaves, &mut steps, &mut order)
 }

@@ -21,8 +21,8 @@ split_off-requires c =
     let k = solution_of f c.args.b.now.entries c.requires.bindings in
     let final = final_order f (of_side k.0 c.args.side) c.args.c.now in
     let built = c.in_ok-atoms.ensures.built (led_reading f k.0 final) final (led_is_reading f _ k.0 final k.1) (met_all f k.0 c.args.side c.args.c.now c.deref.result.now c.args.variables.now nodes c.requires.canonical c.requires.variables) in
-    let long = long_enough f c.build_all.new.bank k.0 final c.args.side c.args.c.now c.deref.result.now c.args.variables.now c.in_ok-atoms.field-0.terms.items c.len.result nodes built.0 c.len.ensures in
-    omega (arith, long, c.in_ok-atoms.field-0.terms.ok.0)
+    let long = long_enough f c.build_all.new.bank k.0 final c.args.side c.args.c.now c.deref.result.now c.args.variables.now c.in_ok-atoms.atoms.items c.len.result nodes built c.len.ensures in
+    omega (arith, long, c.in_ok-atoms.atoms.ok.0)
 
 pub returns-clause-conclusion : goal.returns-clause-conclusion
 returns-clause-conclusion c s r =
@@ -30,8 +30,8 @@ returns-clause-conclusion c s r =
     let nodes = c.deref.ensures.value ∙ c.in_ok-extend_from_slice.ensures.items ∙ ap (λ (xs : List ℕ). xs ++ c.args.variables.now) (c.in_ok-nodes.ensures ∙ ap (λ (ls : List (Signed ℕ)). map (λ l. l.atom) ls) c.as_slice.ensures) in
     let final = final_order f (of_side s c.args.side) c.args.c.now in
     let built = c.in_ok-atoms.ensures.built (led_reading f s final) final (led_is_reading f _ s final r) (met_all f s c.args.side c.args.c.now c.deref.result.now c.args.variables.now nodes c.requires.canonical c.requires.variables) in
-    concluded f c.build_all.new.bank s c.args.side c.args.c.now c.as_slice-2.result.now c.in_ok-clause.clause c.deref.result.now c.args.variables.now c.in_ok-atoms.field-0.terms.items c.deref-2.result.now c.in_ok-terms.terms.items c.from.result c.len.result
-    c.requires.variables c.len-2.ensures.distinct c.in_ok-atoms.ensures.ids nodes built.0 c.len.ensures (c.deref-2.ensures.value ∙ c.in_ok-terms.ensures.items) c.in_ok-terms.ensures.tail c.from.ensures c.as_slice-2.ensures c.in_ok-clause.ensures
+    concluded f c.build_all.new.bank s c.args.side c.args.c.now c.as_slice-2.result.now c.in_ok-clause.clause c.deref.result.now c.args.variables.now c.in_ok-atoms.atoms.items c.deref-2.result.now c.in_ok-terms.terms.items c.from.result c.len.result
+    c.requires.variables c.len-2.ensures.distinct c.in_ok-atoms.ensures.ids nodes built c.len.ensures (c.deref-2.ensures.value ∙ c.in_ok-terms.ensures.items) c.in_ok-terms.ensures.tail c.from.ensures c.as_slice-2.ensures c.in_ok-clause.ensures
 
 pub returns-in_err-atoms-clause-formed : goal.returns-in_err-atoms-clause-formed
 returns-in_err-atoms-clause-formed c old terms =

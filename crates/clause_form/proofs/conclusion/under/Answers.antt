@@ -18,7 +18,7 @@ clause_of-requires c =
     let atoms = c.deref.ensures.value ∙ c.in_ok-atoms.ensures ∙ ap (λ (ls : List (Signed ℕ)). map (λ l. l.atom) ls) c.as_slice.ensures in
     let met = ap (λ (vs : List ℕ). with_vars [] vs) (no_vars c.args.bank.now c.as_slice-2.result.now Left c.deref.result.now) in
     let k = c.in_ok-built.ensures.built (listed_reading f ts) [] (listed_is_reading f c.as_slice-2.result) met in
-    let e = built_listed f c.build_all.new.bank ts Left c.args.c.now c.deref.result.now c.in_ok-built.built.terms.items c.deref-2.result.now atoms k.0 c.deref-2.ensures.value in
+    let e = built_listed f c.build_all.new.bank ts Left c.args.c.now c.deref.result.now c.in_ok-built.built.items c.deref-2.result.now atoms k c.deref-2.ensures.value in
     same_length f c.build_all.new.bank ts c.args.c.now c.as_slice-3.result.now c.deref-2.result.now e c.as_slice-3.ensures
 
 pub returns-clause-instance : goal.returns-clause-instance
@@ -28,7 +28,7 @@ returns-clause-instance c =
     let atoms = c.deref.ensures.value ∙ c.in_ok-atoms.ensures ∙ ap (λ (ls : List (Signed ℕ)). map (λ l. l.atom) ls) c.as_slice.ensures in
     let met = ap (λ (vs : List ℕ). with_vars [] vs) (no_vars c.args.bank.now c.as_slice-2.result.now Left c.deref.result.now) in
     let k = c.in_ok-built.ensures.built (listed_reading f ts) [] (listed_is_reading f c.as_slice-2.result) met in
-    let e = built_listed f c.build_all.new.bank ts Left c.args.c.now c.deref.result.now c.in_ok-built.built.terms.items c.deref-2.result.now atoms k.0 c.deref-2.ensures.value in
+    let e = built_listed f c.build_all.new.bank ts Left c.args.c.now c.deref.result.now c.in_ok-built.built.items c.deref-2.result.now atoms k c.deref-2.ensures.value in
     if_ok _ _ c.clause_of.result c.clause_of.ensures
     (λ d made.
     instance_listed f c.build_all.new.bank ts c.args.terms.now c.args.c.now c.as_slice-3.result.now d c.deref-2.result.now c.len.ensures.distinct

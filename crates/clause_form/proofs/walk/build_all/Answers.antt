@@ -1,6 +1,5 @@
-use Rattle.std.proofs.Common.{sym, ◌∙◌, ap, reverse, List, ℕ, ◌++◌, length}
-use Rattle.std.proofs.lemmas.List.{length-map}
-use Rattle.unify_core.specs.Sides.{variable_number}
+use Rattle.std.proofs.Common.{◌∙◌, ap, reverse, List, ◌++◌}
+use Rattle.unify_core.proofs.Lists.{if_ok}
 use Rattle.clause_form.specs.declared.walk.Step.{Step}
 use Rattle.clause_form.specs.Walks.{numbers_of, trees_on}
 use Rattle.clause_form.proofs.Stacks.{visits}
@@ -12,20 +11,15 @@ run_steps-requires-clause-nodes c =
     visits_within c.args.bank.now c.args.side c.args.terms.now (reverse c.push_visits.new.steps.items) (c.in_ok-push_visits.ensures ∙ ap (λ (ss : List Step). visits c.args.side c.args.terms.now ++ reverse ss) c.new-steps.ensures.items) c.requires.ids
 
 pub returns-clause-built : goal.returns-clause-built
-returns-clause-built c r final reading met =
+returns-clause-built c =
+    if_ok _ _ c.run_steps.result c.run_steps.ensures.built
+    (λ v made r final reading met.
     let begin = beginning c.args.bank.now r final c.args.side c.args.terms.now (numbers_of c.new-order.result.keys) (reverse c.push_visits.new.steps.items)
     (c.in_ok-push_visits.ensures ∙ ap (λ (ss : List Step). visits c.args.side c.args.terms.now ++ reverse ss) c.new-steps.ensures.items) (ap numbers_of c.new-order.ensures.empty) met in
-    let k = c.in_ok-built.ensures.built r (trees_on r c.args.side c.args.terms.now) final reading begin in
-    (k.0, c.len.ensures.len ∙ sym (length-map c.run_steps.new.order.keys variable_number) ∙ ap (λ (ns : List ℕ). length ns) k.1)
+    (made r (trees_on r c.args.side c.args.terms.now) final reading begin).0)
 
 pub returns-clause-formed : goal.returns-clause-formed
 returns-clause-formed c r final reading met fr old =
-    let begin = beginning c.args.bank.now r final c.args.side c.args.terms.now (numbers_of c.new-order.result.keys) (reverse c.push_visits.new.steps.items)
-    (c.in_ok-push_visits.ensures ∙ ap (λ (ss : List Step). visits c.args.side c.args.terms.now ++ reverse ss) c.new-steps.ensures.items) (ap numbers_of c.new-order.ensures.empty) met in
-    c.run_steps.ensures.formed r (trees_on r c.args.side c.args.terms.now) final reading begin fr old
-
-pub returns-in_err-built-clause-formed : goal.returns-in_err-built-clause-formed
-returns-in_err-built-clause-formed c r final reading met fr old =
     let begin = beginning c.args.bank.now r final c.args.side c.args.terms.now (numbers_of c.new-order.result.keys) (reverse c.push_visits.new.steps.items)
     (c.in_ok-push_visits.ensures ∙ ap (λ (ss : List Step). visits c.args.side c.args.terms.now ++ reverse ss) c.new-steps.ensures.items) (ap numbers_of c.new-order.ensures.empty) met in
     c.run_steps.ensures.formed r (trees_on r c.args.side c.args.terms.now) final reading begin fr old
