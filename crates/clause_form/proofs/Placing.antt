@@ -1,5 +1,5 @@
 -- The search for places of literals: what a choice that is taken leaves, and what the end of the search says.
-use Rattle.std.proofs.Common.{◌≡◌, ℕ, zero, suc, ◌+◌, ◌<◌, ◌≤◌, Bool, true, false, cond, nat_eq, List, [], ◌∷◌, ◌++◌, ◌⊎◌, inl, inr, refl, sym, ap, ap₂, ◌∙◌, subst as transport, length, take, get_or, arith, Result, Ok, Err, IfOk}
+use Rattle.std.proofs.Common.{◌≡◌, ℕ, zero, suc, ◌+◌, ◌<◌, ◌≤◌, Bool, true, false, cond, nat_eq, List, [], ◌∷◌, ◌++◌, ◌⊎◌, inl, inr, refl, sym, ap, ap₂, ◌∙◌, subst as transport, length, append-nil, take, get_or, arith, Result, Ok, Err, IfOk}
 use Rattle.std.specs.Prelude.{◌↔◌, IsTrue}
 use Rattle.std.proofs.Math.Seq.{take-length}
 use Rattle.std.proofs.lemmas.Bool.{cases_lt, false≢true}
@@ -210,6 +210,38 @@ module _ (f : Forest) (d c : List (Signed ℕ)) (es : List Binding) (xs : List C
         by s h y (inl i) a = (y, ∈-append_left y (xs ++ rest ∷ []) (next ∷ []) (∈-append_left y xs (rest ∷ []) i), ahead_before f d c es gs xs x p longer same_front s y i a)
         by s h y (inr q) a = here s h (transport (IsAhead f d c es s) q a)
 
+    -- where nothing new is bound, the other candidates lead no further
+    module _ (same : gs ≡ take x.kept es) where
+      settled : IsPlacing f d c gs (xs ++ record { literal = x.literal + 1; from = 0; kept = length gs } ∷ [])
+      unfolding next
+      settled = record {
+        matches = put.matches;
+        rising = rising_push xs next (rising_front xs x p.rising) (λ y i. omega (arith, longer, rising_last xs x p.rising y i));
+        reached = λ y i. reach y (∈-push y next xs i);
+        ahead = λ s h. let (y, i, a) = p.ahead s h in by s h y (∈-push y x xs i) a;
+      }
+        where
+          reach : (y : Choice) → (y ∈ xs) ⊎ (y ≡ next) → IsReached f d c gs y
+          reach y (inl i) = reached_before f d c es gs xs x p longer same_front y i
+          reach y (inr q) = transport (IsReached f d c gs) (sym q) reached_next
+
+          onward : (s : Substitution) → HasPlaces f s d c → IsAhead f d c es s x → IsAhead f d c gs s next
+          onward s h a = record {
+            agrees = transport (Agrees f s) (sym (take-length gs ∙ same)) a.agrees;
+            place = λ l. let (i, il, k) = h (x.literal + 1) l in (i, omega arith, il, k);
+          }
+
+          by : (s : Substitution) → HasPlaces f s d c → (y : Choice) → (y ∈ xs) ⊎ (y ≡ x) → IsAhead f d c es s y → (z : Choice) × (z ∈ (xs ++ next ∷ [])) × IsAhead f d c gs s z
+          by s h y (inl i) a = (y, ∈-append_left y xs (next ∷ []) i, ahead_before f d c es gs xs x p longer same_front s y i a)
+          by s h y (inr q) a = (next, ∈-last next xs, onward s h (transport (IsAhead f d c es s) q a))
+
+    nothing_bound : length gs ≤ x.kept → gs ≡ take x.kept es
+    nothing_bound h = put.grown ∙ bare put.more (omega (arith, h, kept_length, length-append (take x.kept es) put.more, ap length put.grown))
+      where
+        bare : (more : List Binding) → length more ≡ 0 → take x.kept es ++ more ≡ take x.kept es
+        bare [] e = append-nil (take x.kept es)
+        bare (b ∷ bs) e = absurd (omega (arith, e))
+
 -- an item of a list within its bounds, whatever stands past the end
 pub at_index : (xs : List (Signed ℕ)) (i : ℕ) (l : Signed ℕ) → i < length xs → l ≡ get_or xs i l → l ≡ literal_at xs i
 at_index [] i l h e = absurd (omega arith)
@@ -230,6 +262,13 @@ module _ (f : Forest) (d c : List (Signed ℕ)) (es : List Binding) (xs : List C
       let w : zs ≡ (xs ++ record { literal = x.literal; from = j + 1; kept = x.kept } ∷ []) ++ record { literal = x.literal + 1; from = 0; kept = length gs } ∷ []
       = v ∙ ap₂ (λ ws k. ws ++ record { literal = x.literal + 1; from = 0; kept = k } ∷ []) u e in
       transport (IsPlacing f d c gs) (sym w) (branched f d c es xs x p lt gs j jl put' (λ i fi ij. missed_front (literal_at c i) (missed i fi ij)))
+
+  pub took_only : (j : ℕ) → j < length c → IsPut f ts gs l (literal_at c j) → (n : ℕ) → n ≡ length gs → n ≤ x.kept → (zs : List Choice) → zs ≡ xs ++ record { literal = x.literal + 1; from = 0; kept = n } ∷ [] → IsPlacing f d c gs zs
+  took_only j jl put n e h zs v =
+      let put' = transport (λ k. IsPut f (take x.kept es) gs k (literal_at c j)) is (transport (λ bs. IsPut f bs gs l (literal_at c j)) t put) in
+      let w : zs ≡ xs ++ record { literal = x.literal + 1; from = 0; kept = length gs } ∷ [] = v ∙ ap (λ k. xs ++ record { literal = x.literal + 1; from = 0; kept = k } ∷ []) e in
+      let same = nothing_bound f d c es xs x p lt gs j jl put' (omega (arith, e, h)) in
+      transport (IsPlacing f d c gs) (sym w) (settled f d c es xs x p lt gs j jl put' same)
 
 -- a choice that has no literal left
 pub placed_all : (f : Forest) (d c : List (Signed ℕ)) (es : List Binding) (xs : List Choice) (x : Choice) → IsPlacing f d c es (xs ++ x ∷ []) → x.literal ≡ length d → (s : Substitution) × HasPlaces f s d c

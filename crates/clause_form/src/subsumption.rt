@@ -103,6 +103,7 @@ fn next_match(
 }
 
 // Puts the literal of the last choice onto its next candidate: what is left of the choice, and the next literal, come last.
+// Where nothing new is bound, the other candidates allow nothing more, and what is left of the choice is dropped.
 fn advance(
     bank: &Bank,
     bindings: &mut Bindings,
@@ -122,14 +123,17 @@ fn advance(
     match next_match(bank, bindings, &f[choice.literal], c, choice.from)? {
         None => Ok(()),
         Some(i) => {
-            choices.push(Choice {
-                from: i + 1,
-                ..choice
-            })?;
+            let bound = bindings.len();
+            if bound > choice.kept {
+                choices.push(Choice {
+                    from: i + 1,
+                    ..choice
+                })?;
+            }
             choices.push(Choice {
                 literal: choice.literal + 1,
                 from: 0,
-                kept: bindings.len(),
+                kept: bound,
             })?;
             Ok(())
         }
