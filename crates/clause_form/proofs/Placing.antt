@@ -1,10 +1,12 @@
 -- The search for places of literals: what a choice that is taken leaves, and what the end of the search says.
-use Rattle.std.proofs.Common.{◌≡◌, ℕ, zero, suc, ◌+◌, ◌<◌, ◌≤◌, Bool, true, false, cond, nat_eq, List, [], ◌∷◌, ◌++◌, ◌⊎◌, inl, inr, refl, sym, ap, ap₂, ◌∙◌, subst as transport, length, append-nil, take, get_or, arith, Result, Ok, Err, IfOk}
-use Rattle.std.specs.Prelude.{◌↔◌, IsTrue}
+use Rattle.std.proofs.Common.{◌≡◌, ℕ, zero, suc, ◌+◌, ◌<◌, ◌≤◌, Bool, true, false, cond, nat_eq, List, [], ◌∷◌, ◌++◌, ◌⊎◌, inl, inr, refl, sym, ap, ap₂, ◌∙◌, subst as transport, length, append-nil, map, take, get_or, arith, Result, Ok, Err, IfOk}
+use Rattle.std.specs.Prelude.{◌↔◌, IsTrue, All}
+use Rattle.std.specs.List.Sorted.{IsPermutation}
 use Rattle.std.proofs.Math.Seq.{take-length}
 use Rattle.std.proofs.lemmas.Bool.{cases_lt, false≢true}
 use Rattle.std.proofs.lemmas.Bool.Decides.{Decides-eqb}
-use Rattle.std.proofs.lemmas.List.{take-take, take_at, length-append, length-take-le}
+use Rattle.std.proofs.lemmas.List.{get_or_default, take-take, take_at, length-append, length-take-le}
+use Rattle.std.proofs.lemmas.List.Sorted.{All-permutation, IsPermutation-sym, IsPermutation-map}
 use Rattle.inst_logic.specs.declared.signed.Signed.{Signed}
 use Rattle.inst_logic.specs.Tree.{Tree, var}
 use Rattle.inst_logic.specs.Substitution.{Substitution, subst_literal}
@@ -17,8 +19,9 @@ use Rattle.unify_core.specs.Matching.{AreMatches, Agrees}
 use Rattle.unify_core.proofs.Lists.{∈-append_left, ∈-last, ∈-push}
 use Rattle.inst_calculus.proofs.Membership.{◌∈◌ as ◌∈'◌, from_map, in_map, equal_in}
 use Rattle.inst_calculus.proofs.Clauses.{IsWithin, part_within, within_part}
-use Rattle.clause_form.specs.Placements.{literal_at, Goes, HasPlaces, IsPut, IsMissed, IsReached, IsAhead, IsRising, IsPlacing}
+use Rattle.clause_form.specs.Placements.{no_literal, literal_at, Goes, IsPlacedIn, HasPlaces, IsPut, IsMissed, IsReached, IsAhead, IsRising, IsPlacing}
 use Rattle.clause_form.specs.declared.subsumption.Choice.{Choice}
+use Rattle.clause_form.specs.declared.subsumption.Ranked.{Ranked}
 
 -- the substitution of bindings
 value : Forest → List Binding → Substitution
@@ -347,12 +350,28 @@ module _ (f : Forest) (d c : List (Signed ℕ)) where
   pub placed_subsumes : Subsumes (clause_at f d) (clause_at f c) → (s : Substitution) × HasPlaces f s d c
   placed_subsumes (s, h) = (s, within_places s (part_within s (clause_at f d) (clause_at f c) h))
 
-  -- what the search answers
-  pub answered : {E : Type 0} (r : Result Bool E) → IfOk r (λ b. b ≡ true → (s : Substitution) × HasPlaces f s d c) → IfOk r (λ b. b ≡ false → (s : Substitution) → ¬ (HasPlaces f s d c))
-      → IfOk r (λ b. IsTrue b ↔ Subsumes (clause_at f d) (clause_at f c))
-  answered (Ok true) found none = ((λ _. subsumes_placed (found refl)), λ _. refl)
-  answered (Ok false) found none = ((λ t. absurd (false≢true t)), λ h. let (s, k) = placed_subsumes h in absurd (none refl s k))
-  answered (Err e) found none = found
+  decided : (b : Bool) → (b ≡ true → (s : Substitution) × HasPlaces f s d c) → (b ≡ false → (s : Substitution) → ¬ (HasPlaces f s d c)) → IsTrue b ↔ Subsumes (clause_at f d) (clause_at f c)
+  decided true found none = ((λ _. subsumes_placed (found refl)), λ _. refl)
+  decided false found none = ((λ t. absurd (false≢true t)), λ h. let (s, k) = placed_subsumes h in absurd (none refl s k))
 
   pub no_candidates : ((s : Substitution) → ¬ (HasPlaces f s d c)) → IsTrue false ↔ Subsumes (clause_at f d) (clause_at f c)
   no_candidates none = ((λ t. absurd (false≢true t)), λ h. let (s, k) = placed_subsumes h in absurd (none s k))
+
+-- places of the same literals in another order
+module _ (f : Forest) (s : Substitution) (c : List (Signed ℕ)) where
+  placed_each : (d : List (Signed ℕ)) → HasPlaces f s d c → All (λ l. IsPlacedIn f s l c) d
+  placed_each d h k l kl = transport (λ m. IsPlacedIn f s m c) (get_or_default d k no_literal l kl) (h k kl)
+
+  placed_moved : (d e : List (Signed ℕ)) → IsPermutation d e → HasPlaces f s d c → HasPlaces f s e c
+  placed_moved d e p h k kl = All-permutation (λ l. IsPlacedIn f s l c) d e p (placed_each d h) k no_literal kl
+
+-- what the search for the literals of d in the order of e answers
+pub answered : (f : Forest) (d e c : List (Signed ℕ)) → IsPermutation d e → {E : Type 0} (r : Result Bool E) → IfOk r (λ b. b ≡ true → (s : Substitution) × HasPlaces f s e c) → IfOk r (λ b. b ≡ false → (s : Substitution) → ¬ (HasPlaces f s e c))
+    → IfOk r (λ b. IsTrue b ↔ Subsumes (clause_at f d) (clause_at f c))
+answered f d e c p (Ok b) found none = decided f d c b (λ t. let (s, h) = found t in (s, placed_moved f s c e d (IsPermutation-sym d e p) h)) (λ t s h. none t s (placed_moved f s c d e p h))
+answered f d e c p (Err x) found none = found
+
+pub moved_by_rank : (d : List (Signed ℕ)) (xs ys : List Ranked) {V E : Type 0} (items : V → List (Signed ℕ)) (r : Result V E) → map (λ (x : Ranked). x.literal) xs ≡ d → IsPermutation xs ys → IfOk r (λ v. items v ≡ map (λ (x : Ranked). x.literal) ys)
+    → IfOk r (λ v. IsPermutation d (items v))
+moved_by_rank d xs ys items (Ok v) e p h = transport (IsPermutation d) (sym h) (transport (λ l. IsPermutation l (map (λ (x : Ranked). x.literal) ys)) e (IsPermutation-map (λ (x : Ranked). x.literal) xs ys p))
+moved_by_rank d xs ys items (Err m) e p h = h
