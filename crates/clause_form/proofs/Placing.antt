@@ -1,10 +1,12 @@
 -- The search for places of literals: what a choice that is taken leaves, and what the end of the search says.
-use Rattle.std.proofs.Common.{◌≡◌, ℕ, zero, suc, ◌+◌, ◌<◌, ◌≤◌, Bool, true, false, cond, nat_eq, List, [], ◌∷◌, ◌++◌, ◌⊎◌, inl, inr, refl, sym, ap, ap₂, ◌∙◌, subst as transport, length, take, get_or, arith, Result, Ok, Err, IfOk}
-use Rattle.std.specs.Prelude.{◌↔◌, IsTrue}
+use Rattle.std.proofs.Common.{◌≡◌, ℕ, zero, suc, ◌+◌, ◌<◌, ◌≤◌, Bool, true, false, cond, nat_eq, List, [], ◌∷◌, ◌++◌, ◌⊎◌, inl, inr, refl, sym, ap, ap₂, ◌∙◌, subst as transport, length, append-nil, map, take, get_or, arith, Result, Ok, Err, IfOk}
+use Rattle.std.specs.Prelude.{◌↔◌, IsTrue, All}
+use Rattle.std.specs.List.Sorted.{IsPermutation}
 use Rattle.std.proofs.Math.Seq.{take-length}
 use Rattle.std.proofs.lemmas.Bool.{cases_lt, false≢true}
 use Rattle.std.proofs.lemmas.Bool.Decides.{Decides-eqb}
-use Rattle.std.proofs.lemmas.List.{take-take, take_at, length-append, length-take-le}
+use Rattle.std.proofs.lemmas.List.{get_or_default, take-take, take_at, length-append, length-take-le}
+use Rattle.std.proofs.lemmas.List.Sorted.{All-permutation, IsPermutation-sym, IsPermutation-map}
 use Rattle.inst_logic.specs.declared.signed.Signed.{Signed}
 use Rattle.inst_logic.specs.Tree.{Tree, var}
 use Rattle.inst_logic.specs.Substitution.{Substitution, subst_literal}
@@ -17,8 +19,9 @@ use Rattle.unify_core.specs.Matching.{AreMatches, Agrees}
 use Rattle.unify_core.proofs.Lists.{∈-append_left, ∈-last, ∈-push}
 use Rattle.inst_calculus.proofs.Membership.{◌∈◌ as ◌∈'◌, from_map, in_map, equal_in}
 use Rattle.inst_calculus.proofs.Clauses.{IsWithin, part_within, within_part}
-use Rattle.clause_form.specs.Placements.{literal_at, Goes, HasPlaces, IsPut, IsMissed, IsReached, IsAhead, IsRising, IsPlacing}
+use Rattle.clause_form.specs.Placements.{no_literal, literal_at, Goes, IsPlacedIn, HasPlaces, IsPut, IsMissed, IsReached, IsAhead, IsRising, IsPlacing}
 use Rattle.clause_form.specs.declared.subsumption.Choice.{Choice}
+use Rattle.clause_form.specs.declared.subsumption.Ranked.{Ranked}
 
 -- the substitution of bindings
 value : Forest → List Binding → Substitution
@@ -210,6 +213,38 @@ module _ (f : Forest) (d c : List (Signed ℕ)) (es : List Binding) (xs : List C
         by s h y (inl i) a = (y, ∈-append_left y (xs ++ rest ∷ []) (next ∷ []) (∈-append_left y xs (rest ∷ []) i), ahead_before f d c es gs xs x p longer same_front s y i a)
         by s h y (inr q) a = here s h (transport (IsAhead f d c es s) q a)
 
+    -- where nothing new is bound, the other candidates lead no further
+    module _ (same : gs ≡ take x.kept es) where
+      settled : IsPlacing f d c gs (xs ++ record { literal = x.literal + 1; from = 0; kept = length gs } ∷ [])
+      unfolding next
+      settled = record {
+        matches = put.matches;
+        rising = rising_push xs next (rising_front xs x p.rising) (λ y i. omega (arith, longer, rising_last xs x p.rising y i));
+        reached = λ y i. reach y (∈-push y next xs i);
+        ahead = λ s h. let (y, i, a) = p.ahead s h in by s h y (∈-push y x xs i) a;
+      }
+        where
+          reach : (y : Choice) → (y ∈ xs) ⊎ (y ≡ next) → IsReached f d c gs y
+          reach y (inl i) = reached_before f d c es gs xs x p longer same_front y i
+          reach y (inr q) = transport (IsReached f d c gs) (sym q) reached_next
+
+          onward : (s : Substitution) → HasPlaces f s d c → IsAhead f d c es s x → IsAhead f d c gs s next
+          onward s h a = record {
+            agrees = transport (Agrees f s) (sym (take-length gs ∙ same)) a.agrees;
+            place = λ l. let (i, il, k) = h (x.literal + 1) l in (i, omega arith, il, k);
+          }
+
+          by : (s : Substitution) → HasPlaces f s d c → (y : Choice) → (y ∈ xs) ⊎ (y ≡ x) → IsAhead f d c es s y → (z : Choice) × (z ∈ (xs ++ next ∷ [])) × IsAhead f d c gs s z
+          by s h y (inl i) a = (y, ∈-append_left y xs (next ∷ []) i, ahead_before f d c es gs xs x p longer same_front s y i a)
+          by s h y (inr q) a = (next, ∈-last next xs, onward s h (transport (IsAhead f d c es s) q a))
+
+    nothing_bound : length gs ≤ x.kept → gs ≡ take x.kept es
+    nothing_bound h = put.grown ∙ bare put.more (omega (arith, h, kept_length, length-append (take x.kept es) put.more, ap length put.grown))
+      where
+        bare : (more : List Binding) → length more ≡ 0 → take x.kept es ++ more ≡ take x.kept es
+        bare [] e = append-nil (take x.kept es)
+        bare (b ∷ bs) e = absurd (omega (arith, e))
+
 -- an item of a list within its bounds, whatever stands past the end
 pub at_index : (xs : List (Signed ℕ)) (i : ℕ) (l : Signed ℕ) → i < length xs → l ≡ get_or xs i l → l ≡ literal_at xs i
 at_index [] i l h e = absurd (omega arith)
@@ -230,6 +265,13 @@ module _ (f : Forest) (d c : List (Signed ℕ)) (es : List Binding) (xs : List C
       let w : zs ≡ (xs ++ record { literal = x.literal; from = j + 1; kept = x.kept } ∷ []) ++ record { literal = x.literal + 1; from = 0; kept = length gs } ∷ []
       = v ∙ ap₂ (λ ws k. ws ++ record { literal = x.literal + 1; from = 0; kept = k } ∷ []) u e in
       transport (IsPlacing f d c gs) (sym w) (branched f d c es xs x p lt gs j jl put' (λ i fi ij. missed_front (literal_at c i) (missed i fi ij)))
+
+  pub took_only : (j : ℕ) → j < length c → IsPut f ts gs l (literal_at c j) → (n : ℕ) → n ≡ length gs → n ≤ x.kept → (zs : List Choice) → zs ≡ xs ++ record { literal = x.literal + 1; from = 0; kept = n } ∷ [] → IsPlacing f d c gs zs
+  took_only j jl put n e h zs v =
+      let put' = transport (λ k. IsPut f (take x.kept es) gs k (literal_at c j)) is (transport (λ bs. IsPut f bs gs l (literal_at c j)) t put) in
+      let w : zs ≡ xs ++ record { literal = x.literal + 1; from = 0; kept = length gs } ∷ [] = v ∙ ap (λ k. xs ++ record { literal = x.literal + 1; from = 0; kept = k } ∷ []) e in
+      let same = nothing_bound f d c es xs x p lt gs j jl put' (omega (arith, e, h)) in
+      transport (IsPlacing f d c gs) (sym w) (settled f d c es xs x p lt gs j jl put' same)
 
 -- a choice that has no literal left
 pub placed_all : (f : Forest) (d c : List (Signed ℕ)) (es : List Binding) (xs : List Choice) (x : Choice) → IsPlacing f d c es (xs ++ x ∷ []) → x.literal ≡ length d → (s : Substitution) × HasPlaces f s d c
@@ -308,12 +350,28 @@ module _ (f : Forest) (d c : List (Signed ℕ)) where
   pub placed_subsumes : Subsumes (clause_at f d) (clause_at f c) → (s : Substitution) × HasPlaces f s d c
   placed_subsumes (s, h) = (s, within_places s (part_within s (clause_at f d) (clause_at f c) h))
 
-  -- what the search answers
-  pub answered : {E : Type 0} (r : Result Bool E) → IfOk r (λ b. b ≡ true → (s : Substitution) × HasPlaces f s d c) → IfOk r (λ b. b ≡ false → (s : Substitution) → ¬ (HasPlaces f s d c))
-      → IfOk r (λ b. IsTrue b ↔ Subsumes (clause_at f d) (clause_at f c))
-  answered (Ok true) found none = ((λ _. subsumes_placed (found refl)), λ _. refl)
-  answered (Ok false) found none = ((λ t. absurd (false≢true t)), λ h. let (s, k) = placed_subsumes h in absurd (none refl s k))
-  answered (Err e) found none = found
+  decided : (b : Bool) → (b ≡ true → (s : Substitution) × HasPlaces f s d c) → (b ≡ false → (s : Substitution) → ¬ (HasPlaces f s d c)) → IsTrue b ↔ Subsumes (clause_at f d) (clause_at f c)
+  decided true found none = ((λ _. subsumes_placed (found refl)), λ _. refl)
+  decided false found none = ((λ t. absurd (false≢true t)), λ h. let (s, k) = placed_subsumes h in absurd (none refl s k))
 
   pub no_candidates : ((s : Substitution) → ¬ (HasPlaces f s d c)) → IsTrue false ↔ Subsumes (clause_at f d) (clause_at f c)
   no_candidates none = ((λ t. absurd (false≢true t)), λ h. let (s, k) = placed_subsumes h in absurd (none s k))
+
+-- places of the same literals in another order
+module _ (f : Forest) (s : Substitution) (c : List (Signed ℕ)) where
+  placed_each : (d : List (Signed ℕ)) → HasPlaces f s d c → All (λ l. IsPlacedIn f s l c) d
+  placed_each d h k l kl = transport (λ m. IsPlacedIn f s m c) (get_or_default d k no_literal l kl) (h k kl)
+
+  placed_moved : (d e : List (Signed ℕ)) → IsPermutation d e → HasPlaces f s d c → HasPlaces f s e c
+  placed_moved d e p h k kl = All-permutation (λ l. IsPlacedIn f s l c) d e p (placed_each d h) k no_literal kl
+
+-- what the search for the literals of d in the order of e answers
+pub answered : (f : Forest) (d e c : List (Signed ℕ)) → IsPermutation d e → {E : Type 0} (r : Result Bool E) → IfOk r (λ b. b ≡ true → (s : Substitution) × HasPlaces f s e c) → IfOk r (λ b. b ≡ false → (s : Substitution) → ¬ (HasPlaces f s e c))
+    → IfOk r (λ b. IsTrue b ↔ Subsumes (clause_at f d) (clause_at f c))
+answered f d e c p (Ok b) found none = decided f d c b (λ t. let (s, h) = found t in (s, placed_moved f s c e d (IsPermutation-sym d e p) h)) (λ t s h. none t s (placed_moved f s c d e p h))
+answered f d e c p (Err x) found none = found
+
+pub moved_by_rank : (d : List (Signed ℕ)) (xs ys : List Ranked) {V E : Type 0} (items : V → List (Signed ℕ)) (r : Result V E) → map (λ (x : Ranked). x.literal) xs ≡ d → IsPermutation xs ys → IfOk r (λ v. items v ≡ map (λ (x : Ranked). x.literal) ys)
+    → IfOk r (λ v. IsPermutation d (items v))
+moved_by_rank d xs ys items (Ok v) e p h = transport (IsPermutation d) (sym h) (transport (λ l. IsPermutation l (map (λ (x : Ranked). x.literal) ys)) e (IsPermutation-map (λ (x : Ranked). x.literal) xs ys p))
+moved_by_rank d xs ys items (Err m) e p h = h

@@ -1,10 +1,12 @@
 // Subsumption (Robinson, A machine-oriented logic based on the resolution principle, 1965).
-ghost use Rattle.std.specs.Prelude.{◌≡◌, ◌↔◌, ◌++◌, ◌∷◌, ◌<◌, ◌≤◌, ℕ, [], true, false, length, IfOk, IfSome, IfNone, OnOk, IsTrue, slice_index_or};
+ghost use Rattle.std.specs.Prelude.{◌≡◌, ◌↔◌, ◌++◌, ◌∷◌, ◌<◌, ◌≤◌, ℕ, [], true, false, length, map, IfOk, IfSome, IfNone, OnOk, IsTrue, slice_index_or};
+ghost use Rattle.std.specs.List.Sorted.{IsPermutation};
 ghost use Rattle.inst_logic.specs.Clauses.{Subsumes};
 ghost use Rattle.inst_logic.specs.Substitution.{Substitution};
 ghost use Rattle.term_bank.specs.Forest.{IsClauseOf, clause_at};
 ghost use Rattle.unify_core.specs.Matching.{AreMatches};
 ghost use Rattle.clause_form.specs.Placements.{Goes, IsPlacedIn, HasPlaces, IsPut, IsMissed, IsPlacing, no_literal, steps_of};
+ghost use Rattle.clause_form.specs.declared.subsumption.Ranked.{Ranked};
 
 use inst_logic::Memory;
 use std::alloc::Global;
@@ -103,6 +105,7 @@ fn next_match(
 }
 
 // Puts the literal of the last choice onto its next candidate: what is left of the choice, and the next literal, come last.
+// Where nothing new is bound, the other candidates allow nothing more, and what is left of the choice is dropped.
 fn advance(
     bank: &Bank,
     bindings: &mut Bindings,
@@ -122,14 +125,17 @@ fn advance(
     match next_match(bank, bindings, &f[choice.literal], c, choice.from)? {
         None => Ok(()),
         Some(i) => {
-            choices.push(Choice {
-                from: i + 1,
-                ..choice
-            })?;
+            let bound = bindings.len();
+            if bound > choice.kept {
+                choices.push(Choice {
+                    from: i + 1,
+                    ..choice
+                })?;
+            }
             choices.push(Choice {
                 literal: choice.literal + 1,
                 from: 0,
-                kept: bindings.len(),
+                kept: bound,
             })?;
             Ok(())
         }
@@ -163,6 +169,58 @@ fn search_places(
     }
 }
 
+// A literal, and its rank in the order in which literals are placed.
+#[derive(Clone, Copy)]
+struct Ranked {
+    rank: u64,
+    literal: IdLiteral,
+}
+
+// The fewer places a literal may have, the lower: those without variables come first, then the largest.
+fn rank_of(bank: &Bank, l: &IdLiteral) -> u64
+    requires { l.now.atom < length bank.now.trees }
+{
+    if bank.ground(l.atom) {
+        0
+    } else {
+        u64::MAX - bank.size(l.atom)
+    }
+}
+
+fn with_ranks(alloc: Global, bank: &Bank, f: &[IdLiteral]) -> Result<Vec<Ranked>, Memory>
+    requires { IsClauseOf bank.now f.now }
+    ensures { IfOk result (λ v. map (λ (r : Ranked). r.literal) v.items ≡ f.now) }
+{
+    let mut all = Vec::new(alloc);
+    for l in f {
+        all.push(Ranked {
+            rank: rank_of(bank, l),
+            literal: *l,
+        })?;
+    }
+    Ok(all)
+}
+
+fn literals_of(alloc: Global, all: &[Ranked]) -> Result<Vec<IdLiteral>, Memory>
+    ensures { IfOk result (λ v. v.items ≡ map (λ (r : Ranked). r.literal) all.now) }
+{
+    let mut literals = Vec::new(alloc);
+    for r in all {
+        literals.push(r.literal)?;
+    }
+    Ok(literals)
+}
+
+// The literals in the order in which they are placed.
+fn by_rank(alloc: Global, bank: &Bank, f: &[IdLiteral]) -> Result<Vec<IdLiteral>, Memory>
+    requires { IsClauseOf bank.now f.now }
+    ensures { IfOk result (λ v. IsPermutation f.now v.items) }
+{
+    let mut all = with_ranks(alloc, bank, f)?;
+    all.sort_by_key(|r| r.rank)?;
+    literals_of(alloc, &all)
+}
+
 // Whether some substitution puts each literal of the first clause onto one of the second.
 fn find_places(alloc: Global, bank: &Bank, f: &[IdLiteral], c: &[IdLiteral]) -> Result<bool, Memory>
     requires left { IsClauseOf bank.now f.now }
@@ -172,6 +230,7 @@ fn find_places(alloc: Global, bank: &Bank, f: &[IdLiteral], c: &[IdLiteral]) -> 
     if !have_candidates(bank, f, c) {
         return Ok(false);
     }
+    let ordered = by_rank(alloc, bank, f)?;
     let mut bindings = Bindings::new(alloc);
     let mut choices = Vec::new(alloc);
     choices.push(Choice {
@@ -179,7 +238,7 @@ fn find_places(alloc: Global, bank: &Bank, f: &[IdLiteral], c: &[IdLiteral]) -> 
         from: 0,
         kept: 0,
     })?;
-    search_places(bank, &mut bindings, &mut choices, f, c)
+    search_places(bank, &mut bindings, &mut choices, &ordered, c)
 }
 
 /// Whether some instance of `f` has all its literals among those of `c`. Two literals of `f` may go to one of `c`.
