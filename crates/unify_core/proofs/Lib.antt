@@ -18,6 +18,7 @@ pub mod Meetings
 pub mod MatchSteps
 pub mod MatchWalk
 pub mod MatchBindings
+pub mod MatchTerms
 pub mod ClassTable
 pub mod ClassWalk
 pub mod ClassPath

@@ -21,7 +21,7 @@ pub value : List Assignment → ℕ → Tree
 value [] n = var n
 value (b ∷ bs) n = cond (nat_eq b.0 n) b.1 (value bs n)
 
-value_bound : (bs : List Assignment) → ((a b : Assignment) → a ∈ bs → b ∈ bs → a.0 ≡ b.0 → a.1 ≡ b.1) → (b : Assignment) → b ∈ bs → value bs b.0 ≡ b.1
+pub value_bound : (bs : List Assignment) → ((a b : Assignment) → a ∈ bs → b ∈ bs → a.0 ≡ b.0 → a.1 ≡ b.1) → (b : Assignment) → b ∈ bs → value bs b.0 ≡ b.1
 unfolding value
 value_bound [] once b i = absurd i
 value_bound (a ∷ bs) once b i = by (yes_or_no (nat_eq a.0 b.0)) i (λ j. value_bound bs (λ x y h k. once x y (inr h) (inr k)) b j)

@@ -1,5 +1,5 @@
 -- Pairs of terms, as equations between trees.
-use Rattle.std.specs.Prelude.{◌≡◌, ℕ, ◌+◌, ◌-◌, ◌*◌, ◌<◌, max, List, [], ◌∷◌, map, length, ◌⊎◌}
+use Rattle.std.specs.Prelude.{◌≡◌, ℕ, ◌+◌, ◌-◌, ◌*◌, ◌<◌, ◌≤◌, max, List, [], ◌∷◌, map, length, ◌⊎◌}
 use Rattle.inst_logic.specs.Tree.{Tree}
 use Rattle.inst_logic.specs.Substitution.{subst as apply}
 use Rattle.term_bank.specs.Forest.{Forest, arguments_of}
@@ -37,6 +37,13 @@ room f = (2 * length f.trees) * (2 * length f.trees)
 -- each pair is taken apart once, and leaves at most so many pairs
 abbrev pub left_to_do : Forest → List Pair → List Pair → ℕ
 left_to_do f done work = (room f - length done) * (widest f.trees + 2) + length work
+
+-- the pairs were added, but for some of two equal trees
+pub record AddsPairs (f : Forest) (old new pairs : List Pair) : Type 0 where
+  pub kept : (p : Pair) → p ∈ old → p ∈ new
+  pub all : (p : Pair) → p ∈ pairs → (p ∈ new) ⊎ (bound_tree f p.left ≡ bound_tree f p.right)
+  pub only : (p : Pair) → p ∈ new → (p ∈ old) ⊎ (p ∈ pairs)
+  pub short : length new ≤ length old + length pairs
 
 -- what the work on one pair makes of the bindings, of the other pairs and of the pairs that were taken apart
 pub record IsStep (f : Forest) (es : List Binding) (work done : List Pair) (p : Pair) (fs : List Binding) (next known : List Pair) : Type 0 where

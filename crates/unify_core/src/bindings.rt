@@ -137,6 +137,7 @@ impl Bindings {
         requires target { target < length bank.now.trees }
         requires matches { AreMatches bank.now self.old.entries }
         ensures yes { IfOk result (λ r. r ≡ true → IsMatch bank.now self.old.entries self.new.entries (tree_at bank.now pattern) (tree_at bank.now target)) }
+        ensures terms { IfOk result (λ r. r ≡ true → AreOfOneKind (tree_at bank.now pattern) (tree_at bank.now target) → AreTerms bank.now self.old.entries → AreTerms bank.now self.new.entries) }
         ensures no { IfOk result (λ r. r ≡ false → HasNoMatch bank.now self.old.entries (tree_at bank.now pattern) (tree_at bank.now target)) }
         ensures kept { IfOk result (λ r. r ≡ false → self.new.entries ≡ self.old.entries) }
         ensures held { OnErr result (self.new.entries ≡ self.old.entries) }

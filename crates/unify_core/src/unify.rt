@@ -11,7 +11,7 @@ ghost use Rattle.unify_core.specs.Chains.{AreBindings};
 ghost use Rattle.unify_core.specs.Pairs.{ArePairs, IsApart, IsStep};
 
 use crate::bind::bind;
-use crate::pairs::push_pairs;
+use crate::pairs::{are_two, has_two, is_same, push_pairs};
 use crate::side::{Bound, Pair, Side, Variable};
 use crate::walk::follow;
 use indexmap::{IndexMap, IndexSet};
@@ -28,38 +28,7 @@ pub fn same_root(bank: &Bank, a: TermId, b: TermId) -> bool
     bank.symbol_number(a) == bank.symbol_number(b)
 }
 
-// Whether the terms are equal before any binding: one term of one side, or one term without variables.
-fn is_same(bank: &Bank, left: &Bound, right: &Bound) -> bool
-    requires { left.now.term < length bank.now.trees }
-    ensures yes { result ≡ true → bound_tree bank.now left.now ≡ bound_tree bank.now right.now }
-    ensures no { result ≡ false → ¬ (left.now ≡ right.now) }
-{
-    if *left == *right {
-        return true;
-    }
-    if left.term != right.term {
-        return false;
-    }
-    bank.ground(left.term)
-}
-
-// Whether no substitution makes the terms equal, since they are two and have no variables.
-fn are_two(bank: &Bank, left: &Bound, right: &Bound) -> bool
-    requires once { AreDistinct bank.now.trees }
-    requires left { left.now.term < length bank.now.trees }
-    requires right { right.now.term < length bank.now.trees }
-    ensures { result ≡ true → (u : ℕ → Tree) → ¬ (apply u (bound_tree bank.now left.now) ≡ apply u (bound_tree bank.now right.now)) }
-{
-    if left.term == right.term {
-        return false;
-    }
-    if !bank.ground(left.term) {
-        return false;
-    }
-    bank.ground(right.term)
-}
-
-// Adds the pairs of the arguments, where the pair was not taken apart before.
+// Adds the pairs of the arguments that are not equal already, where the pair was not taken apart before.
 fn take_apart(
     bank: &Bank,
     work: &mut Vec<Pair>,
@@ -67,6 +36,7 @@ fn take_apart(
     left: Bound,
     right: Bound,
 ) -> Result<bool, Memory>
+    requires once { AreDistinct bank.now.trees }
     requires left { left.term < length bank.now.trees }
     requires right { right.term < length bank.now.trees }
     requires left_application { IsApplication (tree_at bank.now left.term) }
@@ -86,12 +56,15 @@ fn take_apart(
     if xs.len() != ys.len() {
         return Ok(false);
     }
+    if has_two(bank, side, xs, other, ys) {
+        return Ok(false);
+    }
     let pair = Pair { left, right };
     let added = done.insert(pair)?;
     if !added {
         return Ok(true);
     }
-    push_pairs(work, side, xs, other, ys)?;
+    push_pairs(bank, work, side, xs, other, ys)?;
     Ok(true)
 }
 
