@@ -5,6 +5,7 @@ ghost use Rattle.inst_logic.specs.Substitution.{subst as apply, tree_vars};
 ghost use Rattle.term_bank.specs.Forest.{tree_at};
 ghost use Rattle.unify_core.specs.Lists.{◌∈◌};
 ghost use Rattle.unify_core.specs.Terms.{IsPlain};
+ghost use Rattle.unify_core.specs.Pairs.{IsEitherBound};
 ghost use Rattle.unify_core.specs.Solved.{Respects, IsKey, IsSolvedBy};
 ghost use Rattle.unify_core.specs.Sides.{bound_tree, assignments, variable_number};
 ghost use Rattle.unify_core.specs.Chains.{IsRoot, AreBindings};
@@ -75,4 +76,40 @@ pub fn bind(
     }
     map.insert(x, t)?;
     Ok(true)
+}
+
+// Binds one of two terms that are not bound to the other: the left one, which is a variable, or the right one where it is one too
+// and is to be preferred.
+pub fn bind_either(
+    bank: &Bank,
+    map: &mut IndexMap<Variable, Bound>,
+    seen: &mut IndexSet<Bound>,
+    left: Bound,
+    v: usize,
+    right: Bound,
+    prefer_right: bool,
+) -> Result<bool, Memory>
+    requires bindings { AreBindings bank.now map.old.entries }
+    requires left { left.term < length bank.now.trees }
+    requires right { right.term < length bank.now.trees }
+    requires variable { tree_at bank.now left.term ≡ var v }
+    requires left_root { IsRoot (assignments bank.now map.old.entries) (bound_tree bank.now left) }
+    requires right_root { IsRoot (assignments bank.now map.old.entries) (bound_tree bank.now right) }
+    requires other { ¬ (bound_tree bank.now left ≡ bound_tree bank.now right) }
+    ensures bindings { AreBindings bank.now map.new.entries }
+    ensures yes { IfOk result (λ r. r ≡ true → IsEitherBound bank.now map.old.entries left v right map.new.entries) }
+    ensures no { IfOk result (λ r. r ≡ false → (u : ℕ → Tree) → Respects u (assignments bank.now map.old.entries) → ¬ (apply u (bound_tree bank.now left) ≡ apply u (bound_tree bank.now right))) }
+{
+    let side = left.side;
+    let x = Variable { side, var: v };
+    match bank.shape(right.term) {
+        Shape::App => bind(bank, map, seen, x, right),
+        Shape::Var(w) => {
+            if !prefer_right {
+                return bind(bank, map, seen, x, right);
+            }
+            let side = right.side;
+            bind(bank, map, seen, Variable { side, var: w }, left)
+        }
+    }
 }
