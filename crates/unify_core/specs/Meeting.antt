@@ -19,10 +19,15 @@ meetings [] ys = []
 meetings (x ∷ xs) [] = []
 meetings (x ∷ xs) (y ∷ ys) = (x, y) ∷ meetings xs ys
 
-pub record AddsMeetings (old new extra : List Meeting) : Type 0 where
+-- a node without variables and its own tree
+abbrev pub IsFixed : Forest → Meeting → Type 0
+IsFixed f m = (is_ground (tree_at f m.0) ≡ true) × (m.0 ≡ m.1)
+
+-- the meetings were added where they were not there, but for fixed ones
+pub record AddsMeetings (f : Forest) (old new extra : List Meeting) : Type 0 where
   pub more : List Meeting
   pub grown : new ≡ old ++ more
-  pub all : (m : Meeting) → m ∈ extra → m ∈ new
+  pub all : (m : Meeting) → m ∈ extra → IsFixed f m ⊎ (m ∈ new)
   pub only : (m : Meeting) → m ∈ new → (m ∈ old) ⊎ (m ∈ extra)
 
 -- one node is to become two terms
@@ -33,6 +38,10 @@ pub record IsClash (old extra : List Meeting) : Type 0 where
   pub first : (node, one) ∈ extra
   pub second : ((node, other) ∈ old) ⊎ ((node, other) ∈ extra)
   pub differ : ¬ (other ≡ one)
+
+-- one node is to become two terms, or one without variables is to become another
+abbrev pub CannotAdd : Forest → List Meeting → List Meeting → Type 0
+CannotAdd f old extra = IsClash old extra ⊎ ((m : Meeting) × (m ∈ extra) × (is_ground (tree_at f m.0) ≡ true) × (¬ (m.0 ≡ m.1)))
 
 abbrev pub AreMeetings : Forest → List Meeting → Type 0
 AreMeetings f ms = (m : Meeting) → m ∈ ms → (m.0 < length f.trees) × (m.1 < length f.trees)
@@ -55,7 +64,7 @@ pub record IsOpened (f : Forest) (p t : ℕ) (old new : List Meeting) : Type 0 w
   pub targets : map (tree_at f) ys ≡ arguments_of (tree_at f t)
   pub smaller : All (λ i. i < p) xs
   pub below : All (λ i. i < t) ys
-  pub adds : AddsMeetings old new (meetings xs ys)
+  pub adds : AddsMeetings f old new (meetings xs ys)
 
 -- a left variable, and the right term to which it is bound
 abbrev pub match_of : ℕ → ℕ → Binding
@@ -74,7 +83,8 @@ abbrev pub AreMet : Forest → List Meeting → Trees → Trees → Type 0
 AreMet f ms none none = Unit {0}
 AreMet f ms none (more r rs) = ⊥
 AreMet f ms (more t ts) none = ⊥
-AreMet f ms (more t ts) (more r rs) = ((m : Meeting) × (m ∈ ms) × (tree_at f m.0 ≡ t) × (tree_at f m.1 ≡ r)) × AreMet f ms ts rs
+AreMet f ms (more t ts) (more r rs) =
+    (((is_ground t ≡ true) × (t ≡ r)) ⊎ ((m : Meeting) × (m ∈ ms) × (tree_at f m.0 ≡ t) × (tree_at f m.1 ≡ r))) × AreMet f ms ts rs
 
 -- a variable is bound to the tree; an application is one of the same symbol, with arguments that meet
 abbrev pub IsMet : Forest → List Binding → List Meeting → Tree → Tree → Type 0
