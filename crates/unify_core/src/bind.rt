@@ -78,8 +78,8 @@ pub fn bind(
     Ok(true)
 }
 
-// Binds one of two terms that are not bound to the other: the left one, which is a variable, or the right one where it is one too
-// and is to be preferred.
+// Binds one of two roots to the other: the left one, which is a variable, or the right one where it is a variable too and is
+// preferred.
 pub fn bind_either(
     bank: &Bank,
     map: &mut IndexMap<Variable, Bound>,

@@ -15,7 +15,8 @@ use indexmap::IndexMap;
 use inst_logic::Memory;
 use term_bank::{Bank, Shape, TermId};
 
-// Notes that the node is to become the term. False comes where it is to become another. One without variables is compared at once.
+// Notes that the node is to become the term, or compares them at once where the node has no variables. False comes where it
+// is to become another.
 fn meet(
     bank: &Bank,
     met: &mut IndexMap<TermId, TermId>,

@@ -68,7 +68,8 @@ fn take_apart(
     Ok(true)
 }
 
-// Works on one pair. Of two variables the one to which fewer bindings led is bound to the other, so chains stay short. False comes where no substitution that respects the bindings makes the two equal.
+// Works on one pair. False comes where no substitution that respects the bindings makes the two equal. Of two variables the
+// one to which fewer bindings led is bound to the other, so that chains stay short.
 fn unify_pair(
     bank: &Bank,
     map: &mut IndexMap<Variable, Bound>,
