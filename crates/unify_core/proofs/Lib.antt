@@ -15,6 +15,7 @@ pub mod Stays
 pub mod Grounds
 pub mod BoundTerms
 pub mod Meetings
+pub mod PlainTerms
 pub mod MatchSteps
 pub mod MatchWalk
 pub mod MatchBindings

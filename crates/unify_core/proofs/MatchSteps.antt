@@ -12,7 +12,7 @@ use Rattle.term_bank.specs.Forest.{Forest, tree_at, symbol_of, arguments_of, Are
 use Rattle.unify_core.specs.Lists.{◌∈◌}
 use Rattle.unify_core.specs.Sides.{Binding}
 use Rattle.unify_core.specs.Matching.{AreMatches, Agrees}
-use Rattle.unify_core.specs.Meeting.{Meeting, meetings, IsClash, AreMeetings, CannotMeet, IsOpened, match_of, IsBoundNow, IsBoundElse, IsMet, IsPartOf, IsMatchStep}
+use Rattle.unify_core.specs.Meeting.{Meeting, meetings, CannotAdd, AreMeetings, CannotMeet, IsOpened, match_of, IsBoundNow, IsBoundElse, IsMet, IsPartOf, IsMatchStep}
 use Rattle.unify_core.specs.declared.side.Side.TheVariants.{Left}
 use Rattle.unify_core.specs.declared.side.Variable.{Variable}
 use Rattle.unify_core.proofs.Lists.{∈-append_right, ∈-push, ∈-map}
@@ -64,9 +64,17 @@ forced_parts f p t xs ys a ex ey s e m i =
     let r : tree_at f t ≡ app l.0 (apply_each s l.1) = sym e ∙ ap (apply s) l.2 in
     each_forced f s xs ys l.1 (apply_each s l.1) (ex ∙ ap arguments_of l.2) (ey ∙ ap arguments_of r) refl m i
 
-pub cannot_clash : (f : Forest) (ms : List Meeting) (p t : ℕ) (xs ys : List ℕ) → AreDistinct f.trees → t < length f.trees → AreMeetings f ms → IsApplication (tree_at f p)
-    → map (tree_at f) xs ≡ arguments_of (tree_at f p) → map (tree_at f) ys ≡ arguments_of (tree_at f t) → All (λ i. i < t) ys → IsClash ms (meetings xs ys) → CannotMeet f ms p t
-cannot_clash f ms p t xs ys distinct ht within a ex ey below k s h e =
+pub cannot_ground : (f : Forest) (p t : ℕ) → AreDistinct f.trees → p < length f.trees → t < length f.trees → is_ground (tree_at f p) ≡ true → ¬ (p ≡ t) → (s : Substitution) → ¬ (apply s (tree_at f p) ≡ tree_at f t)
+cannot_ground f p t distinct hp ht g n s e = n (distinct p t hp ht (sym (ground_apply s var (tree_at f p) g ∙ apply_var (tree_at f p)) ∙ e))
+
+pub cannot_clash : (f : Forest) (ms : List Meeting) (p t : ℕ) (xs ys : List ℕ) → AreDistinct f.trees → p < length f.trees → t < length f.trees → AreMeetings f ms → IsApplication (tree_at f p)
+    → map (tree_at f) xs ≡ arguments_of (tree_at f p) → map (tree_at f) ys ≡ arguments_of (tree_at f t) → All (λ i. i < p) xs → All (λ i. i < t) ys → CannotAdd f ms (meetings xs ys) → CannotMeet f ms p t
+cannot_clash f ms p t xs ys distinct hp ht within a ex ey smaller below (inr k) s h e =
+    let i = meetings_in xs ys k.0 k.1 in
+    let x = all_in p xs smaller k.0.0 i.0 in
+    let y = all_in t ys below k.0.1 i.1 in
+    cannot_ground f k.0.0 k.0.1 distinct (omega arith) (omega arith) k.2 k.3 s (forced_parts f p t xs ys a ex ey s e k.0 k.1)
+cannot_clash f ms p t xs ys distinct hp ht within a ex ey smaller below (inl k) s h e =
     k.differ (distinct k.other k.one other_within (inside k.one k.first) (sym other_is ∙ each (k.node, k.one) k.first))
   where
     each : (m : Meeting) → m ∈ meetings xs ys → apply s (tree_at f m.0) ≡ tree_at f m.1
@@ -93,9 +101,6 @@ step_ground f es ms p t b g e = record {
   only = λ m h. inl h;
   least = λ s h k. h;
 }
-
-pub cannot_ground : (f : Forest) (p t : ℕ) → AreDistinct f.trees → p < length f.trees → t < length f.trees → is_ground (tree_at f p) ≡ true → ¬ (p ≡ t) → (s : Substitution) → ¬ (apply s (tree_at f p) ≡ tree_at f t)
-cannot_ground f p t distinct hp ht g n s e = n (distinct p t hp ht (sym (ground_apply s var (tree_at f p) g ∙ apply_var (tree_at f p)) ∙ e))
 
 pub cannot_variable : (f : Forest) (es : List Binding) (p t v : ℕ) → AreDistinct f.trees → t < length f.trees → AreMatches f es → tree_at f p ≡ var v → IsBoundElse es v t
     → (s : Substitution) → Agrees f s es → ¬ (apply s (tree_at f p) ≡ tree_at f t)

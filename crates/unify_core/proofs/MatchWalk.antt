@@ -6,7 +6,7 @@ use Rattle.std.proofs.lemmas.List.{append-nil, take-append-le, take_more, take_a
 use Rattle.std.proofs.lemmas.Map.Steps.{length-le_from_distinct_below}
 use Rattle.inst_logic.specs.Tree.{Tree, var, app, Trees, none, more}
 use Rattle.inst_logic.specs.Substitution.{Substitution, subst as apply, substs as apply_each, tree_vars as variables, trees_vars as variables_each}
-use Rattle.term_bank.specs.Forest.{Forest, tree_at}
+use Rattle.term_bank.specs.Forest.{Forest, tree_at, is_ground}
 use Rattle.unify_core.specs.Lists.{◌∈◌}
 use Rattle.unify_core.specs.Sides.{Binding}
 use Rattle.unify_core.specs.Matching.{AreMatches, Agrees, IsBound, IsMatch, HasNoMatch}
@@ -51,7 +51,7 @@ met_more : (f : Forest) (ms also : List Meeting) (ts rs : Trees) → AreMet f ms
 met_more f ms also none none h = tt
 met_more f ms also none (more r rs) h = absurd h
 met_more f ms also (more t ts) none h = absurd h
-met_more f ms also (more t ts) (more r rs) h = ((h.0.0, ∈-append_left h.0.0 ms also h.0.1, h.0.2, h.0.3), met_more f ms also ts rs h.1)
+met_more f ms also (more t ts) (more r rs) h = (elim h.0 [ inl g ↦ inl g | inr k ↦ inr (k.0, ∈-append_left k.0 ms also k.1, k.2, k.3) ], met_more f ms also ts rs h.1)
 
 agreed_more : (f : Forest) (es beyond : List Binding) (ms also : List Meeting) (t r : Tree) → IsAgreed f es ms t r → IsAgreed f (es ++ beyond) (ms ++ also) t r
 agreed_more f es beyond ms also t r (inl h) = inl h
@@ -113,6 +113,10 @@ module _ (f : Forest) (fs : List Binding) (ms : List Meeting) (all : (m : Meetin
   of_meeting : (m : Meeting) (t r : Tree) → m ∈ ms → tree_at f m.0 ≡ t → tree_at f m.1 ≡ r → IsAgreed f fs ms t r
   of_meeting m t r i a b = subst (λ (z : Tree). IsAgreed f fs ms z r) a (subst (λ (z : Tree). IsAgreed f fs ms (tree_at f m.0) z) b (all m i))
 
+  of_argument : (t r : Tree) → ((is_ground t ≡ true) × (t ≡ r)) ⊎ ((m : Meeting) × (m ∈ ms) × (tree_at f m.0 ≡ t) × (tree_at f m.1 ≡ r)) → IsAgreed f fs ms t r
+  of_argument t r (inl g) = inl g
+  of_argument t r (inr h) = of_meeting h.0 t r h.1 h.2 h.3
+
   mutual
     agreed_same : (s : Substitution) → Agrees f s fs → (t r : Tree) → IsAgreed f fs ms t r → apply s t ≡ r
     agreed_same s a (var v) r (inl h) = absurd (let k : false ≡ true = h.0 in cc)
@@ -125,7 +129,7 @@ module _ (f : Forest) (fs : List Binding) (ms : List Meeting) (all : (m : Meetin
     each_same s a none none h = refl
     each_same s a none (more r rs) h = absurd h
     each_same s a (more t ts) none h = absurd h
-    each_same s a (more t ts) (more r rs) h = ap₂ more (agreed_same s a t r (of_meeting h.0.0 t r h.0.1 h.0.2 h.0.3)) (each_same s a ts rs h.1)
+    each_same s a (more t ts) (more r rs) h = ap₂ more (agreed_same s a t r (of_argument t r h.0)) (each_same s a ts rs h.1)
 
   mutual
     agreed_bound : (t r : Tree) → IsAgreed f fs ms t r → (v : ℕ) → v ∈ variables t → IsBound fs v
@@ -139,7 +143,7 @@ module _ (f : Forest) (fs : List Binding) (ms : List Meeting) (all : (m : Meetin
     each_bound none rs h v i = absurd i
     each_bound (more t ts) none h v i = absurd h
     each_bound (more t ts) (more r rs) h v i = elim (∈-append v (variables t) (variables_each ts) i) [
-      | inl j ↦ agreed_bound t r (of_meeting h.0.0 t r h.0.1 h.0.2 h.0.3) v j
+      | inl j ↦ agreed_bound t r (of_argument t r h.0) v j
       | inr j ↦ each_bound ts rs h.1 v j
     ]
 

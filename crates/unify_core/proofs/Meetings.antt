@@ -4,9 +4,9 @@ use Rattle.std.specs.Map.{lookup, keys_of}
 use Rattle.std.proofs.lemmas.List.{append-nil}
 use Rattle.inst_logic.specs.Tree.{Tree, Trees, none, more, to_list}
 use Rattle.inst_logic.specs.Substitution.{Substitution, subst as apply, substs as apply_each, tree_vars as variables, trees_vars as variables_each}
-use Rattle.term_bank.specs.Forest.{Forest, tree_at}
+use Rattle.term_bank.specs.Forest.{Forest, tree_at, is_ground}
 use Rattle.unify_core.specs.Lists.{◌∈◌}
-use Rattle.unify_core.specs.Meeting.{Meeting, meetings, AddsMeetings, IsClash, AreMet}
+use Rattle.unify_core.specs.Meeting.{Meeting, meetings, IsFixed, AddsMeetings, IsClash, CannotAdd, AreMet}
 use Rattle.unify_core.proofs.Lists.{∈-append, ∈-append_left, ∈-append_right}
 
 pub yes_or_no : (b : Bool) → (b ≡ true) ⊎ (b ≡ false)
@@ -41,20 +41,28 @@ pub lone : {A : Type 0} (x y : A) → x ∈ (y ∷ []) → x ≡ y
 lone x y (inl e) = e
 lone x y (inr h) = absurd h
 
-pub meet_old : (ms : List Meeting) (node term other : ℕ) → (node, other) ∈ ms → other ≡ term → AddsMeetings ms ms ((node, term) ∷ [])
-meet_old ms node term other h e = record {
+pub meet_old : (f : Forest) (ms : List Meeting) (node term other : ℕ) → (node, other) ∈ ms → other ≡ term → AddsMeetings f ms ms ((node, term) ∷ [])
+meet_old f ms node term other h e = record {
   more = [];
   grown = sym (append-nil ms);
-  all = λ m i. subst (λ (n : Meeting). n ∈ ms) (sym (lone m (node, term) i)) (subst (λ (t : ℕ). (node, t) ∈ ms) e h);
+  all = λ m i. inr (subst (λ (n : Meeting). n ∈ ms) (sym (lone m (node, term) i)) (subst (λ (t : ℕ). (node, t) ∈ ms) e h));
   only = λ m i. inl i;
 }
 
-pub meet_new : (ms ns : List Meeting) (node term : ℕ) → ns ≡ ms ++ (node, term) ∷ [] → AddsMeetings ms ns ((node, term) ∷ [])
-meet_new ms ns node term e = record {
+pub meet_new : (f : Forest) (ms ns : List Meeting) (node term : ℕ) → ns ≡ ms ++ (node, term) ∷ [] → AddsMeetings f ms ns ((node, term) ∷ [])
+meet_new f ms ns node term e = record {
   more = (node, term) ∷ [];
   grown = e;
-  all = λ m i. subst (λ (l : List Meeting). m ∈ l) (sym e) (∈-append_right m ms ((node, term) ∷ []) i);
+  all = λ m i. inr (subst (λ (l : List Meeting). m ∈ l) (sym e) (∈-append_right m ms ((node, term) ∷ []) i));
   only = λ m i. ∈-append m ms ((node, term) ∷ []) (subst (λ (l : List Meeting). m ∈ l) e i);
+}
+
+pub meet_fixed : (f : Forest) (ms : List Meeting) (node term : ℕ) → is_ground (tree_at f node) ≡ true → node ≡ term → AddsMeetings f ms ms ((node, term) ∷ [])
+meet_fixed f ms node term g e = record {
+  more = [];
+  grown = sym (append-nil ms);
+  all = λ m i. inl (subst (λ (n : Meeting). IsFixed f n) (sym (lone m (node, term) i)) (g, e));
+  only = λ m i. inl i;
 }
 
 pub meet_clash : (ms : List Meeting) (node term other : ℕ) → (node, other) ∈ ms → ¬ (other ≡ term) → IsClash ms ((node, term) ∷ [])
@@ -67,15 +75,15 @@ meet_clash ms node term other h n = record {
   differ = n;
 }
 
-pub adds_nothing : (ms : List Meeting) → AddsMeetings ms ms []
-adds_nothing ms = record { more = []; grown = sym (append-nil ms); all = λ m i. absurd i; only = λ m i. inl i }
+pub adds_nothing : (f : Forest) (ms : List Meeting) → AddsMeetings f ms ms []
+adds_nothing f ms = record { more = []; grown = sym (append-nil ms); all = λ m i. absurd i; only = λ m i. inl i }
 
-pub adds_then : (a b c x y : List Meeting) → AddsMeetings a b x → AddsMeetings b c y → AddsMeetings a c (x ++ y)
-adds_then a b c x y h k = record {
+pub adds_then : (f : Forest) (a b c x y : List Meeting) → AddsMeetings f a b x → AddsMeetings f b c y → AddsMeetings f a c (x ++ y)
+adds_then f a b c x y h k = record {
   more = h.more ++ k.more;
   grown = k.grown ∙ ap (λ (l : List Meeting). l ++ k.more) h.grown ∙ append_assoc a h.more k.more;
   all = λ m i. elim (∈-append m x y i) [
-    | inl l ↦ subst (λ (z : List Meeting). m ∈ z) (sym k.grown) (∈-append_left m b k.more (h.all m l))
+    | inl l ↦ elim (h.all m l) [ inl g ↦ inl g | inr j ↦ inr (subst (λ (z : List Meeting). m ∈ z) (sym k.grown) (∈-append_left m b k.more j)) ]
     | inr r ↦ k.all m r
   ];
   only = λ m i. elim (k.only m i) [
@@ -100,19 +108,9 @@ front_meetings (suc k) (x ∷ xs) [] m i = absurd i
 front_meetings (suc k) (x ∷ xs) (y ∷ ys) m (inl e) = inl e
 front_meetings (suc k) (x ∷ xs) (y ∷ ys) m (inr i) = inr (front_meetings k xs ys m i)
 
-pub clash_all : (a b : List Meeting) (xs ys : List ℕ) (i x y : ℕ) → AddsMeetings a b (meetings (take i xs) (take i ys)) → i < length xs → i < length ys → x ≡ get_or xs i x → y ≡ get_or ys i y
-    → IsClash b ((x, y) ∷ []) → IsClash a (meetings xs ys)
-clash_all a b xs ys i x y h p q ex ey k = record {
-  node = k.node;
-  one = k.one;
-  other = k.other;
-  first = last (k.node, k.one) k.first;
-  second = elim k.second [
-    | inl l ↦ elim (h.only (k.node, k.other) l) [ inl c ↦ inl c | inr d ↦ inr (front_meetings i xs ys (k.node, k.other) d) ]
-    | inr r ↦ inr (last (k.node, k.other) r)
-  ];
-  differ = k.differ;
-}
+pub clash_all : (f : Forest) (a b : List Meeting) (xs ys : List ℕ) (i x y : ℕ) → AddsMeetings f a b (meetings (take i xs) (take i ys)) → i < length xs → i < length ys → x ≡ get_or xs i x → y ≡ get_or ys i y
+    → CannotAdd f b ((x, y) ∷ []) → CannotAdd f a (meetings xs ys)
+clash_all f a b xs ys i x y h p q ex ey c = elim c [ inl k ↦ inl (clash k) | inr k ↦ inr (k.0, last k.0 k.1, k.2, k.3) ]
   where
     here : (x, y) ∈ meetings xs ys
     here = front_meetings (i + 1) xs ys (x, y)
@@ -121,6 +119,19 @@ clash_all a b xs ys i x y h p q ex ey k = record {
 
     last : (m : Meeting) → m ∈ ((x, y) ∷ []) → m ∈ meetings xs ys
     last m j = subst (λ (n : Meeting). n ∈ meetings xs ys) (sym (lone m (x, y) j)) here
+
+    clash : IsClash b ((x, y) ∷ []) → IsClash a (meetings xs ys)
+    clash k = record {
+      node = k.node;
+      one = k.one;
+      other = k.other;
+      first = last (k.node, k.one) k.first;
+      second = elim k.second [
+        | inl l ↦ elim (h.only (k.node, k.other) l) [ inl c ↦ inl c | inr d ↦ inr (front_meetings i xs ys (k.node, k.other) d) ]
+        | inr r ↦ inr (last (k.node, k.other) r)
+      ];
+      differ = k.differ;
+    }
 
 pub meetings_in : (xs ys : List ℕ) (m : Meeting) → m ∈ meetings xs ys → (m.0 ∈ xs) × (m.1 ∈ ys)
 meetings_in [] ys m i = absurd i
@@ -156,7 +167,7 @@ each_inside f (y ∷ xs) (more t ts) e x v (inr i) h =
     ∈-append_right v (variables t) (variables_each ts) (each_inside f xs ts a x v i h)
 
 pub each_met : (f : Forest) (ms : List Meeting) (xs ys : List ℕ) (ts rs : Trees) → map (tree_at f) xs ≡ to_list ts → map (tree_at f) ys ≡ to_list rs → length xs ≡ length ys
-    → ((m : Meeting) → m ∈ meetings xs ys → m ∈ ms) → AreMet f ms ts rs
+    → ((m : Meeting) → m ∈ meetings xs ys → IsFixed f m ⊎ (m ∈ ms)) → AreMet f ms ts rs
 each_met f ms [] [] none none ex ey n h = tt
 each_met f ms [] [] none (more r rs) ex ey n h = absurd (cc)
 each_met f ms [] [] (more t ts) rs ex ey n h = absurd (cc)
@@ -168,5 +179,10 @@ each_met f ms (x ∷ xs) (y ∷ ys) (more t ts) (more r rs) ex ey n h =
     let a : map (tree_at f) xs ≡ to_list ts = cc in
     let b : map (tree_at f) ys ≡ to_list rs = cc in
     let c : tree_at f x ≡ t = cc in
-    let d : tree_at f y ≡ r = cc in
-    (((x, y), h (x, y) (inl refl), c, d), each_met f ms xs ys ts rs a b (omega arith) (λ m i. h m (inr i)))
+    let d : tree_at f y ≡ r = cc in (
+      elim (h (x, y) (inl refl)) [
+        | inl g ↦ inl (ap is_ground (sym c) ∙ g.0, sym c ∙ ap (tree_at f) g.1 ∙ d)
+        | inr j ↦ inr ((x, y), j, c, d)
+      ],
+      each_met f ms xs ys ts rs a b (omega arith) (λ m i. h m (inr i)),
+    )

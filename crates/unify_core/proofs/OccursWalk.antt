@@ -1,5 +1,5 @@
 -- The walk of the occurs check, as far as it has come and at its ends.
-use Rattle.std.proofs.Common.{◌≡◌, ℕ, ◌+◌, ◌*◌, ◌<◌, ◌≤◌, List, [], ◌∷◌, ◌++◌, inl, inr, length, map, get_or, take, refl, ap, sym, ◌∙◌, subst, arith, Bool, true, false, nat_eq, Option, Some, None, MatchOption}
+use Rattle.std.proofs.Common.{◌≡◌, ℕ, ◌+◌, ◌*◌, ◌<◌, ◌≤◌, List, [], ◌∷◌, ◌++◌, ◌⊎◌, inl, inr, length, map, get_or, take, refl, ap, sym, ◌∙◌, subst, arith, Bool, true, false, nat_eq, Option, Some, None, MatchOption}
 use Rattle.std.specs.Prelude.{◌||◌}
 use Rattle.std.specs.List.{list_any, IsDistinct}
 use Rattle.std.proofs.lemmas.Bool.Decides.{Decides-eqb}
@@ -7,7 +7,7 @@ use Rattle.std.proofs.lemmas.List.{take-append-le, take_more, take_all, length-a
 use Rattle.indexmap.specs.IndexSet.{insert_key}
 use Rattle.inst_logic.specs.Tree.{Tree, var, app, Trees, none, more, to_list}
 use Rattle.inst_logic.specs.Substitution.{subst as apply, substs as apply_each, tree_vars as variables, trees_vars as variables_each}
-use Rattle.term_bank.specs.Forest.{Forest, tree_at}
+use Rattle.term_bank.specs.Forest.{Forest, tree_at, is_ground}
 use Rattle.unify_core.specs.Lists.{◌∈◌}
 use Rattle.unify_core.specs.Solved.{Assignment, IsKey, IsWithin, IsClosed, IsSolvedBy}
 use Rattle.unify_core.specs.Sides.{Binding, numbered, variable_number, on_side, bound_tree, assignment, assignments}
@@ -60,7 +60,7 @@ leads_more f es old also s (var v) n h = (h.0, h.1, still h.0 h.2)
     still None k = tt
     still (Some c) k = ∈-append_left c old also k
 leads_more f es old also s (app g ts) n (inl h) = inl h
-leads_more f es old also s (app g ts) n (inr h) = inr (h.0, h.1, λ a i. ∈-append_left (record { side = s; term = a }) old also (h.2 a i))
+leads_more f es old also s (app g ts) n (inr h) = inr (h.0, h.1, λ a i. elim (h.2 a i) [ inl k ↦ inl k | inr k ↦ inr (∈-append_left (record { side = s; term = a }) old also k) ])
 
 module _ (f : Forest) (es : List Binding) (b : AreBindings f es) where
   from_within : (s : Side) (t : Tree) (c : Bound) → IsStepFrom f es s t (on_side s t) c → c.term < length f.trees
@@ -159,12 +159,15 @@ module _ (f : Forest) (es : List Binding) (b : AreBindings f es) (x : ℕ) (t : 
         let l = subst (λ (r : Tree). LeadsTo f es seen c.side r (bound_tree f c)) e (behind c h).1 in
         elim l [ inl k ↦ absurd (no_variable_on c.side (app g ts) k n i) | inr m ↦ each_seen ts c.side m.0 m.1 m.2 n i ]
 
-    each_seen : (ts : Trees) (s : Side) (args : List ℕ) → map (tree_at f) args ≡ to_list ts → ((a : ℕ) → a ∈ args → (record { side = s; term = a }) ∈ seen)
+    each_seen : (ts : Trees) (s : Side) (args : List ℕ) → map (tree_at f) args ≡ to_list ts → ((a : ℕ) → a ∈ args → (is_ground (tree_at f a) ≡ true) ⊎ ((record { side = s; term = a }) ∈ seen))
         → (n : ℕ) → n ∈ variables_each (apply_each (λ v. var (numbered s v)) ts) → is_seen n ≡ true
     each_seen none s args e all n i = absurd i
     each_seen (more r rs) s [] e all n i = absurd (cc)
     each_seen (more r rs) s (a ∷ args) e all n i = elim (∈-append n (variables (on_side s r)) (variables_each (apply_each (λ v. var (numbered s v)) rs)) i) [
-      | inl y ↦ within_seen r (record { side = s; term = a }) (all a (inl refl)) (cc) n y
+      | inl y ↦ (let k : tree_at f a ≡ r = cc in elim (all a (inl refl)) [
+        | inl g ↦ absurd (no_variable_on s r (ap is_ground (sym k) ∙ g) n y)
+        | inr j ↦ within_seen r (record { side = s; term = a }) j k n y
+      ])
       | inr z ↦ each_seen rs s args (cc) (λ d k. all d (inr k)) n z
     ]
 

@@ -13,11 +13,9 @@ ghost use Rattle.unify_core.specs.Sizes.{IsSizeUnder};
 ghost use Rattle.unify_core.specs.Terms.{AreTerms, AreOfOneKind};
 ghost use Rattle.unify_core.specs.Passed.{IsPassed, no_binding};
 
-use crate::classes::Part;
 use crate::matching::match_terms;
-use crate::numbering::Waiting;
 use crate::side::{Bound, Pair, Side, Variable};
-use crate::sizes::{ClassLiteral, clause_size};
+use crate::sizes::{SizeRoom, clause_size};
 use crate::unify::unify_terms;
 use crate::walk::follow;
 use indexmap::{IndexMap, IndexSet};
@@ -39,10 +37,7 @@ pub struct Bindings {
     done: IndexSet<Pair>,
     seen: IndexSet<Bound>,
     met: IndexMap<TermId, TermId>,
-    classes: IndexMap<Part, u64>,
-    numbers: IndexMap<Bound, usize>,
-    path: Vec<Waiting>,
-    counted: IndexSet<ClassLiteral>,
+    size_room: SizeRoom,
     spent: bool,
 }
 
@@ -66,10 +61,12 @@ impl Bindings {
             done: IndexSet::new(alloc),
             seen: IndexSet::new(alloc),
             met: IndexMap::new(alloc),
-            classes: IndexMap::new(alloc),
-            numbers: IndexMap::new(alloc),
-            path: Vec::new(alloc),
-            counted: IndexSet::new(alloc),
+            size_room: SizeRoom {
+                classes: IndexMap::new(alloc),
+                numbers: IndexMap::new(alloc),
+                path: Vec::new(alloc),
+                counted: IndexSet::new(alloc),
+            },
             spent: false,
         }
     }
@@ -175,16 +172,7 @@ impl Bindings {
         if self.spent {
             return Err(Memory);
         }
-        let result = clause_size(
-            bank,
-            &self.map,
-            &mut self.classes,
-            &mut self.numbers,
-            &mut self.path,
-            &mut self.counted,
-            side,
-            c,
-        );
+        let result = clause_size(bank, &self.map, &mut self.size_room, side, c);
         self.spent = result.is_err();
         result
     }

@@ -24,6 +24,7 @@ pub fn size_at(bank: &Bank, classes: &IndexMap<Part, u64>, class: usize) -> u64
     requires within { class < length classes.now.entries }
     ensures { result ≡ min (tree_size (nth (class_trees bank.now classes.now.entries) class)) u64.MAX }
 {
+    // The contract names the bank, which the code does not need.
     let _ = bank;
     match classes.get_index(class) {
         Some((_, size)) => *size,

@@ -1,11 +1,11 @@
 // Matching: one walk over the pattern's nodes. Since terms share their parts, each node is worked once, and has to become one
 // term wherever it stands.
-ghost use Rattle.std.specs.Prelude.{◌≡◌, ◌<◌, ◌++◌, List, [], ◌∷◌, length, IfOk, OnErr, true, false, slice_get, Some};
+ghost use Rattle.std.specs.Prelude.{◌≡◌, ℕ, ◌<◌, ◌++◌, List, [], ◌∷◌, length, IfOk, OnErr, true, false, slice_get, Some};
 ghost use Rattle.inst_logic.specs.Unifiers.{IsApplication};
 ghost use Rattle.term_bank.specs.Forest.{tree_at, AreDistinct};
 ghost use Rattle.unify_core.specs.Sides.{Binding};
 ghost use Rattle.unify_core.specs.Matching.{AreMatches, Agrees, IsMatch, HasNoMatch};
-ghost use Rattle.unify_core.specs.Meeting.{meetings, AddsMeetings, IsClash, AreMeetings, Meets, CannotMeet, IsOpened, IsBoundNow, IsBoundElse, IsMatchStep};
+ghost use Rattle.unify_core.specs.Meeting.{meetings, AddsMeetings, CannotAdd, AreMeetings, Meets, CannotMeet, IsOpened, IsBoundNow, IsBoundElse, IsMatchStep};
 ghost use Rattle.inst_logic.specs.Substitution.{Substitution, subst};
 ghost use Rattle.unify_core.specs.Lists.{◌∈◌};
 
@@ -15,11 +15,21 @@ use indexmap::IndexMap;
 use inst_logic::Memory;
 use term_bank::{Bank, Shape, TermId};
 
-// Notes that the node is to become the term. False comes where it is to become another.
-fn meet(met: &mut IndexMap<TermId, TermId>, node: TermId, term: TermId) -> Result<bool, Memory>
-    ensures yes { IfOk result (λ r. r ≡ true → AddsMeetings met.old.entries met.new.entries (meetings (node ∷ []) (term ∷ []))) }
-    ensures no { IfOk result (λ r. r ≡ false → IsClash met.old.entries (meetings (node ∷ []) (term ∷ []))) }
+// Notes that the node is to become the term, or compares them at once where the node has no variables. False comes where it
+// is to become another.
+fn meet(
+    bank: &Bank,
+    met: &mut IndexMap<TermId, TermId>,
+    node: TermId,
+    term: TermId,
+) -> Result<bool, Memory>
+    requires { node < length bank.now.trees }
+    ensures yes { IfOk result (λ r. r ≡ true → AddsMeetings bank.now met.old.entries met.new.entries (meetings (node ∷ []) (term ∷ []))) }
+    ensures no { IfOk result (λ r. r ≡ false → CannotAdd bank.now met.old.entries (meetings (node ∷ []) (term ∷ []))) }
 {
+    if bank.ground(node) {
+        return Ok(node == term);
+    }
     match met.get(&node).copied() {
         Some(other) => Ok(other == term),
         None => {
@@ -31,16 +41,18 @@ fn meet(met: &mut IndexMap<TermId, TermId>, node: TermId, term: TermId) -> Resul
 
 // Notes that each node is to become the term at its place.
 fn meet_all(
+    bank: &Bank,
     met: &mut IndexMap<TermId, TermId>,
     nodes: &[TermId],
     terms: &[TermId],
 ) -> Result<bool, Memory>
-    requires { length nodes.now ≡ length terms.now }
-    ensures yes { IfOk result (λ r. r ≡ true → AddsMeetings met.old.entries met.new.entries (meetings nodes.now terms.now)) }
-    ensures no { IfOk result (λ r. r ≡ false → IsClash met.old.entries (meetings nodes.now terms.now)) }
+    requires lengths { length nodes.now ≡ length terms.now }
+    requires nodes { (a : ℕ) → a ∈ nodes.now → a < length bank.now.trees }
+    ensures yes { IfOk result (λ r. r ≡ true → AddsMeetings bank.now met.old.entries met.new.entries (meetings nodes.now terms.now)) }
+    ensures no { IfOk result (λ r. r ≡ false → CannotAdd bank.now met.old.entries (meetings nodes.now terms.now)) }
 {
     for (i, node) in nodes.iter().enumerate() {
-        let same = meet(met, *node, terms[i])?;
+        let same = meet(bank, met, *node, terms[i])?;
         if !same {
             return Ok(false);
         }
@@ -71,7 +83,7 @@ fn meet_arguments(
     if xs.len() != ys.len() {
         return Ok(false);
     }
-    meet_all(met, xs, ys)
+    meet_all(bank, met, xs, ys)
 }
 
 // A variable of the pattern is bound to the term, or was so.

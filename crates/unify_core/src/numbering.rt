@@ -57,6 +57,7 @@ fn begin(
     ensures keeps { OnOk result (KeepsClasses bank.now classes.old.entries classes.new.entries) }
     ensures reached { IfOk result (λ r. IsReached bank.now map.now.entries classes.new.entries at r) }
 {
+    // The contract names the bindings, which the code does not need.
     let _ = map;
     let left = bank.args(at.term).len();
     match bank.symbol_number(at.term) {

@@ -10,10 +10,10 @@ ghost use Rattle.unify_core.specs.Sides.{bound_tree, assignments, IsResolvedBy};
 ghost use Rattle.unify_core.specs.Chains.{AreBindings};
 ghost use Rattle.unify_core.specs.Pairs.{ArePairs, IsApart, IsStep};
 
-use crate::bind::bind;
+use crate::bind::{bind, bind_either};
 use crate::pairs::{are_two, has_two, is_same, push_pairs};
 use crate::side::{Bound, Pair, Side, Variable};
-use crate::walk::follow;
+use crate::walk::follow_steps;
 use indexmap::{IndexMap, IndexSet};
 use inst_logic::Memory;
 use term_bank::{Bank, Shape, TermId};
@@ -68,7 +68,8 @@ fn take_apart(
     Ok(true)
 }
 
-// Works on one pair. False comes where no substitution that respects the bindings makes the two equal.
+// Works on one pair. False comes where no substitution that respects the bindings makes the two equal. Of two variables the
+// one to which fewer bindings led is bound to the other, so that chains stay short.
 fn unify_pair(
     bank: &Bank,
     map: &mut IndexMap<Variable, Bound>,
@@ -86,8 +87,10 @@ fn unify_pair(
     ensures yes { IfOk result (λ r. r ≡ true → IsStep bank.now map.old.entries work.old.items done.old.keys pair map.new.entries work.new.items done.new.keys) }
     ensures no { IfOk result (λ r. r ≡ false → (u : ℕ → Tree) → Respects u (assignments bank.now map.old.entries) → ¬ (apply u (bound_tree bank.now pair.left) ≡ apply u (bound_tree bank.now pair.right))) }
 {
-    let left = follow(bank, map, pair.left);
-    let right = follow(bank, map, pair.right);
+    let to_left = follow_steps(bank, map, pair.left);
+    let to_right = follow_steps(bank, map, pair.right);
+    let left = to_left.0;
+    let right = to_right.0;
     if is_same(bank, &left, &right) {
         return Ok(true);
     }
@@ -95,10 +98,7 @@ fn unify_pair(
         return Ok(false);
     }
     match bank.shape(left.term) {
-        Shape::Var(var) => {
-            let side = left.side;
-            bind(bank, map, seen, Variable { side, var }, right)
-        }
+        Shape::Var(v) => bind_either(bank, map, seen, left, v, right, to_right.1 <= to_left.1),
         Shape::App => match bank.shape(right.term) {
             Shape::Var(var) => {
                 let side = right.side;

@@ -28,6 +28,26 @@ pub fn next(bank: &Bank, map: &IndexMap<Variable, Bound>, at: Bound) -> Option<B
     }
 }
 
+// The term that the bindings of variables lead to, as `follow` has it, and the number of steps to it.
+pub fn follow_steps(bank: &Bank, map: &IndexMap<Variable, Bound>, from: Bound) -> (Bound, usize)
+    requires within { from.term < length bank.now.trees }
+    requires bindings { AreBindings bank.now map.now.entries }
+    ensures within { result.0.term < length bank.now.trees }
+    ensures same { (u : ℕ → Tree) → Respects u (assignments bank.now map.now.entries) → apply u (bound_tree bank.now from) ≡ apply u (bound_tree bank.now result.0) }
+    ensures root { IsRoot (assignments bank.now map.now.entries) (bound_tree bank.now result.0) }
+    ensures below { (n : ℕ) → from.term < n → ((e : Binding) → e ∈ map.now.entries → e.1.term < n) → result.0.term < n }
+{
+    let mut side = from.side;
+    let mut term = from.term;
+    let mut steps: usize = 0;
+    while let Some(bound) = next(bank, map, Bound { side, term }) {
+        side = bound.side;
+        term = bound.term;
+        steps = steps.saturating_add(1);
+    }
+    (Bound { side, term }, steps)
+}
+
 // The term that the bindings of variables lead to: an application, or a variable that is not bound.
 pub fn follow(bank: &Bank, map: &IndexMap<Variable, Bound>, from: Bound) -> Bound
     requires within { from.term < length bank.now.trees }
@@ -37,11 +57,6 @@ pub fn follow(bank: &Bank, map: &IndexMap<Variable, Bound>, from: Bound) -> Boun
     ensures root { IsRoot (assignments bank.now map.now.entries) (bound_tree bank.now result) }
     ensures below { (n : ℕ) → from.term < n → ((e : Binding) → e ∈ map.now.entries → e.1.term < n) → result.term < n }
 {
-    let mut side = from.side;
-    let mut term = from.term;
-    while let Some(bound) = next(bank, map, Bound { side, term }) {
-        side = bound.side;
-        term = bound.term;
-    }
-    Bound { side, term }
+    let (end, _) = follow_steps(bank, map, from);
+    end
 }
