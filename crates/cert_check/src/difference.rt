@@ -10,8 +10,8 @@ use term_bank::{Bank, IdClause, IdClauseList};
 pub fn distinct_trees(bank: &Bank)
     ensures { AreDistinct bank.now.trees }
 {
-    // The law stands beside the length, which has no other use here.
-    let _count = bank.len();
+    // Beside the length stands the law that equal trees have equal ids.
+    let _ = bank.len();
 }
 
 pub fn same_clause(c: &IdClause, d: &IdClause) -> bool

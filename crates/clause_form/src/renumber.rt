@@ -36,6 +36,7 @@ pub fn canonical(alloc: Global, bank: &mut Bank, c: &IdClause) -> Result<IdClaus
     ensures formed { AreFormed bank.old → AreFormed bank.new }
 {
     let built = renumbered(alloc, bank, c)?;
+    // Beside the length stands the law that equal trees have equal ids.
     let _ = bank.len();
     clause_of(alloc, c.as_slice(), &built)
 }
