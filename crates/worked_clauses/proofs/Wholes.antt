@@ -1,6 +1,7 @@
 -- Whole clauses as a bank grows.
 use Rattle.std.proofs.Common.{◌≡◌, ℕ, ◌<◌, List, [], ◌∷◌, ◌++◌, sym, subst, ap, ◌∙◌, arith, inl, inr, length, get_or, Some}
-use Rattle.std.specs.Prelude.{All, slice_get}
+use Rattle.std.specs.Prelude.{All, slice_get, Option, None, IfSome, option_copied}
+use Rattle.std.specs.Borrow.{Bor}
 use Rattle.std.proofs.lemmas.Option.{slice_get_within, get_or_from_slice_get}
 use Rattle.inst_logic.specs.Tree.{Tree}
 use Rattle.inst_logic.specs.declared.signed.Signed.{Signed}
@@ -68,3 +69,14 @@ atom_within f cs i n c l whole at here =
     let k : IsWholeClause f c = subst (IsWholeClause f) (get_or_from_slice_get cs i c c at) h in
     let b : (get_or c n l).atom < length f.trees = k.ids n l (slice_get_within c n l here) in
     subst (λ (x : Signed ℕ). x.atom < length f.trees) (get_or_from_slice_get c n l l here) b
+
+-- the atoms of one of these clauses are in the bank
+pub clause_within : (f : Forest) (cs : List (List (Signed ℕ))) (i : ℕ) (c : List (Signed ℕ)) → All (IsWholeClause f) cs → slice_get cs i ≡ Some c → IsClauseOf f c
+clause_within f cs i c whole at =
+    let h : IsWholeClause f (get_or cs i c) = whole i c (slice_get_within cs i c at) in
+    let k : IsWholeClause f c = subst (IsWholeClause f) (get_or_from_slice_get cs i c c at) h in
+    k.ids
+
+pub found_within : (f : Forest) (cs : List (List (Signed ℕ))) (i : ℕ) (r : Option (Bor (List (Signed ℕ)))) → All (IsWholeClause f) cs → option_copied r ≡ slice_get cs i → IfSome r (λ c. IsClauseOf f c.now)
+found_within f cs i None whole e = tt
+found_within f cs i (Some c) whole e = clause_within f cs i c.now whole (sym e)

@@ -9,8 +9,6 @@ mod assumptions;
 #[cfg(test)]
 mod building;
 #[cfg(test)]
-mod doubling;
-#[cfg(test)]
 mod tests;
 #[cfg(test)]
 mod unification;

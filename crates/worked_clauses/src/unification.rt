@@ -1,13 +1,102 @@
 // Unifiers and matches of atoms that are read from texts.
-ghost use Rattle.std.specs.Prelude.{◌≡◌, ◌<◌, [], All, IfSome, length};
+ghost use Rattle.std.specs.Prelude.{◌≡◌, ◌<◌, [], All, IfOk, IfSome, length, true};
+ghost use Rattle.term_bank.specs.Forest.{IsClauseOf};
+ghost use Rattle.unify_core.specs.Chains.{AreBindings};
 ghost use Rattle.saturation_cert.specs.Wholes.{IsWholeClause};
 
 use crate::building::clauses_in;
 use inst_logic::Memory;
 use std::alloc::Global;
 use std::test::Fail;
-use term_bank::{Bank, IdClauseList, TermId};
+use term_bank::{Bank, IdClause, IdClauseList, TermId};
 use unify_core::{Bindings, Side};
+
+// How two atoms unify: not at all, or with a unifier that is proper for the left and for the right, or not, and under which
+// their clauses have these sizes.
+#[derive(Clone, Copy, Debug, PartialEq, Eq)]
+enum Answer {
+    NoUnifier,
+    Unifier {
+        proper: (bool, bool),
+        sizes: (u64, u64),
+    },
+}
+
+// Clause `i`, counted from 0.
+fn clause_at<'a>(bank: &Bank, clauses: &'a IdClauseList, i: usize) -> Option<&'a IdClause>
+    requires { All (IsWholeClause bank.now) clauses.now }
+    ensures { IfSome result (λ c. IsClauseOf bank.now c.now) }
+{
+    // The contract names the bank, which the code does not need.
+    let _ = bank;
+    clauses.get(i)
+}
+
+// Whether the first atoms of the clauses unify.
+fn unify_first(
+    bank: &Bank,
+    bindings: &mut Bindings,
+    c: &IdClause,
+    d: &IdClause,
+) -> Result<bool, Memory>
+    requires left { IsClauseOf bank.now c.now }
+    requires right { IsClauseOf bank.now d.now }
+    ensures { IfOk result (λ r. r ≡ true → AreBindings bank.now bindings.new.entries) }
+{
+    let (Some(l), Some(m)) = (c.get(0), d.get(0)) else {
+        return Ok(false);
+    };
+    bindings.unify(bank, l.atom, m.atom)
+}
+
+// How the first atoms of the first two clauses unify.
+fn unified(
+    bank: &Bank,
+    bindings: &mut Bindings,
+    clauses: &IdClauseList,
+) -> Result<Option<Answer>, Memory>
+    requires { All (IsWholeClause bank.now) clauses.now }
+{
+    let (Some(c), Some(d)) = (clause_at(bank, clauses, 0), clause_at(bank, clauses, 1)) else {
+        return Ok(None);
+    };
+    if !unify_first(bank, bindings, c, d)? {
+        return Ok(Some(Answer::NoUnifier));
+    }
+    let proper = (
+        bindings.proper(bank, Side::Left),
+        bindings.proper(bank, Side::Right),
+    );
+    let left = bindings.size_under(bank, Side::Left, c)?;
+    let right = bindings.size_under(bank, Side::Right, d)?;
+    Ok(Some(Answer::Unifier {
+        proper,
+        sizes: (left, right),
+    }))
+}
+
+// How the atoms of the two clauses of this text unify.
+fn unified_in(alloc: Global, text: &str) -> Result<Option<Answer>, Fail> {
+    let mut bank = Bank::new(alloc);
+    let clauses = clauses_in(alloc, &mut bank, text)?;
+    let mut bindings = Bindings::new(alloc);
+    Ok(unified(&bank, &mut bindings, &clauses)?)
+}
+
+// Two atoms of 128 arguments whose unifier doubles a term at each of 64 steps: `p(X1,X1,X2,X2,..,X64,X64)` and
+// `~p(f(Y0,Y0),Y1,f(Y1,Y1),Y2,..,f(Y63,Y63),Y64)`.
+fn doubling(alloc: Global) -> Result<String, Fail> {
+    let mut left = String::from_str(alloc, "cnf(a,axiom,p(X1,X1")?;
+    let mut right = String::from_str(alloc, ")). cnf(b,axiom,~p(f(Y0,Y0),Y1")?;
+    for n in 1..64 {
+        let next = n + 1;
+        left.push_str(&format!(in alloc; ",X{next},X{next}")?)?;
+        right.push_str(&format!(in alloc; ",f(Y{n},Y{n}),Y{next}")?)?;
+    }
+    left.push_str(&right)?;
+    left.push_str(")).")?;
+    Ok(left)
+}
 
 // The atom of the first literal of clause `i`, counted from 0.
 fn atom_at(bank: &Bank, clauses: &IdClauseList, i: usize) -> Option<TermId>
@@ -21,36 +110,6 @@ fn atom_at(bank: &Bank, clauses: &IdClauseList, i: usize) -> Option<TermId>
             Some(l) => Some(l.atom),
         },
     }
-}
-
-// How two atoms unify: not at all, or with a unifier that is proper for the left and for the right, or not.
-#[derive(Clone, Copy, Debug, PartialEq, Eq)]
-enum Answer {
-    NoUnifier,
-    Proper(bool, bool),
-}
-
-fn unified(bank: &Bank, bindings: &mut Bindings, a: TermId, b: TermId) -> Result<Answer, Memory>
-    requires left { a < length bank.now.trees }
-    requires right { b < length bank.now.trees }
-{
-    if !bindings.unify(bank, a, b)? {
-        return Ok(Answer::NoUnifier);
-    }
-    let left = bindings.proper(bank, Side::Left);
-    let right = bindings.proper(bank, Side::Right);
-    Ok(Answer::Proper(left, right))
-}
-
-// How the atoms of the two clauses of this text unify.
-fn unified_in(alloc: Global, text: &str) -> Result<Option<Answer>, Fail> {
-    let mut bank = Bank::new(alloc);
-    let clauses = clauses_in(alloc, &mut bank, text)?;
-    let mut bindings = Bindings::new(alloc);
-    let (Some(a), Some(b)) = (atom_at(&bank, &clauses, 0), atom_at(&bank, &clauses, 1)) else {
-        return Ok(None);
-    };
-    Ok(Some(unified(&bank, &mut bindings, a, b)?))
 }
 
 // Whether the second atom of this text is an instance of the first.
@@ -73,20 +132,40 @@ fn unifiers(rt: HostRuntime) -> Result<(), Fail> {
         ),
         (
             "cnf(a,axiom,p(X,a)). cnf(b,axiom,p(b,X)).",
-            Answer::Proper(true, true),
+            Answer::Unifier {
+                proper: (true, true),
+                sizes: (3, 3),
+            },
         ),
         (
             "cnf(a,axiom,p(X,X)). cnf(b,axiom,p(X,Y)).",
-            Answer::Proper(false, false),
+            Answer::Unifier {
+                proper: (false, false),
+                sizes: (3, 3),
+            },
         ),
         (
             "cnf(a,axiom,p(X)). cnf(b,axiom,p(f(X))).",
-            Answer::Proper(true, false),
+            Answer::Unifier {
+                proper: (true, false),
+                sizes: (3, 3),
+            },
         ),
     ];
     for row in rows {
         assert_eq!(rt; unified_in(rt.alloc(), row.0)?, Some(row.1));
     }
+    Ok(())
+}
+
+#[test]
+fn terms_that_double(rt: HostRuntime) -> Result<(), Fail> {
+    let text = doubling(rt.alloc())?;
+    let answer = Answer::Unifier {
+        proper: (true, true),
+        sizes: (u64::MAX, u64::MAX),
+    };
+    assert_eq!(rt; unified_in(rt.alloc(), &text)?, Some(answer));
     Ok(())
 }
 
