@@ -83,7 +83,26 @@ fn is_right(
     }
 }
 
-// The number of the first member that is not what its origin gives.
+// The number of the first member that is not what its origin gives. The bindings are room to work in.
+fn wrong_member_by(
+    alloc: Global,
+    base: &mut Base,
+    bindings: &mut Bindings,
+) -> Result<Option<usize>, Memory>
+    requires whole { IsWholeBase base.old }
+    requires axioms { (n : ℕ) → IsRightAxiom (base_of base.old) n }
+    ensures kept { KeepsBase base.old base.new }
+    ensures whole { OnOk result (IsWholeBase base.new) }
+    ensures first { IfOk result (IsFirstWrongOf (IsRightMember (base_of base.old))) }
+{
+    for i in 0..base.members.len() {
+        if !is_right(alloc, base, bindings, i)? {
+            return Ok(Some(i + 1));
+        }
+    }
+    Ok(None)
+}
+
 fn wrong_member(alloc: Global, base: &mut Base) -> Result<Option<usize>, Memory>
     requires whole { IsWholeBase base.old }
     requires axioms { (n : ℕ) → IsRightAxiom (base_of base.old) n }
@@ -92,12 +111,7 @@ fn wrong_member(alloc: Global, base: &mut Base) -> Result<Option<usize>, Memory>
     ensures first { IfOk result (IsFirstWrongOf (IsRightMember (base_of base.old))) }
 {
     let mut bindings = Bindings::new(alloc);
-    for i in 0..base.members.len() {
-        if !is_right(alloc, base, &mut bindings, i)? {
-            return Ok(Some(i + 1));
-        }
-    }
-    Ok(None)
+    wrong_member_by(alloc, base, &mut bindings)
 }
 
 // The first complaint about the axioms and then about the members, if there is one.

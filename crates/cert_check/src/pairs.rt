@@ -181,6 +181,30 @@ fn wrong_partner(
     Ok(None)
 }
 
+// The same with room to work in.
+fn wrong_pair_by(
+    alloc: Global,
+    cert: &mut Saturation,
+    lookup: &Lookup,
+    bindings: &mut Bindings,
+) -> Result<Option<(usize, usize)>, Memory>
+    requires whole { IsWholeSaturation cert.old }
+    requires base { IsValidBase (base_of cert.old.base) }
+    requires placed { HasPlaces (saturation_of cert.old) }
+    requires lookup { IsLookup cert.old.base.bank cert.old.base.members lookup.now }
+    requires partners { LeadThrough (saturation_of cert.old) lookup.now.partners.heads.items lookup.now.partners.same.items lookup.now.partners.opposed.items }
+    ensures kept { KeepsSaturation cert.old cert.new }
+    ensures whole { OnOk result (IsWholeSaturation cert.new) }
+    ensures first { IfOk result (IsFirstWrongPairOf (IsRightPair (saturation_of cert.old))) }
+{
+    for i in 0..cert.base.members.len() {
+        if let Some(right) = wrong_partner(alloc, cert, lookup, bindings, i)? {
+            return Ok(Some((i + 1, right)));
+        }
+    }
+    Ok(None)
+}
+
 // The numbers of the first two members that are not closed for each other. The selected literals have opposite signs and unify,
 // and the unifier is proper on neither side or a proper side's instance is not covered.
 pub fn wrong_pair(alloc: Global, cert: &mut Saturation) -> Result<Option<(usize, usize)>, Memory>
@@ -193,10 +217,5 @@ pub fn wrong_pair(alloc: Global, cert: &mut Saturation) -> Result<Option<(usize,
 {
     let lookup = find_lookup(alloc, cert)?;
     let mut bindings = Bindings::new(alloc);
-    for i in 0..cert.base.members.len() {
-        if let Some(right) = wrong_partner(alloc, cert, &lookup, &mut bindings, i)? {
-            return Ok(Some((i + 1, right)));
-        }
-    }
-    Ok(None)
+    wrong_pair_by(alloc, cert, &lookup, &mut bindings)
 }

@@ -221,6 +221,29 @@ fn by_rank(alloc: Global, bank: &Bank, f: &[IdLiteral]) -> Result<Vec<IdLiteral>
     literals_of(alloc, &all)
 }
 
+// The same where the literals of the first are in the order in which they are placed, and the bindings are empty.
+fn place_all(
+    alloc: Global,
+    bank: &Bank,
+    bindings: &mut Bindings,
+    ordered: &[IdLiteral],
+    c: &[IdLiteral],
+) -> Result<bool, Memory>
+    requires left { IsClauseOf bank.now ordered.now }
+    requires right { IsClauseOf bank.now c.now }
+    requires empty { bindings.old ≡ record { entries = []; spent = false } }
+    ensures yes { IfOk result (λ r. r ≡ true → (s : Substitution) × HasPlaces bank.now s ordered.now c.now) }
+    ensures no { IfOk result (λ r. r ≡ false → (s : Substitution) → ¬ (HasPlaces bank.now s ordered.now c.now)) }
+{
+    let mut choices = Vec::new(alloc);
+    choices.push(Choice {
+        literal: 0,
+        from: 0,
+        kept: 0,
+    })?;
+    search_places(bank, bindings, &mut choices, ordered, c)
+}
+
 // Whether some substitution puts each literal of the first clause onto one of the second.
 fn find_places(alloc: Global, bank: &Bank, f: &[IdLiteral], c: &[IdLiteral]) -> Result<bool, Memory>
     requires left { IsClauseOf bank.now f.now }
@@ -232,13 +255,7 @@ fn find_places(alloc: Global, bank: &Bank, f: &[IdLiteral], c: &[IdLiteral]) -> 
     }
     let ordered = by_rank(alloc, bank, f)?;
     let mut bindings = Bindings::new(alloc);
-    let mut choices = Vec::new(alloc);
-    choices.push(Choice {
-        literal: 0,
-        from: 0,
-        kept: 0,
-    })?;
-    search_places(bank, &mut bindings, &mut choices, &ordered, c)
+    place_all(alloc, bank, &mut bindings, &ordered, c)
 }
 
 /// Whether some instance of `f` has all its literals among those of `c`. Two literals of `f` may go to one of `c`.

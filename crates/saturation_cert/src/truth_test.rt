@@ -134,6 +134,24 @@ pub fn is_light(cert: &Saturation) -> bool
     true
 }
 
+// The same, with room to work in.
+fn is_true(bindings: &mut Bindings, cert: &Saturation, atom: TermId) -> Result<bool, Memory>
+    requires whole { IsWholeSaturation cert.now }
+    requires placed { HasPlaces (saturation_of cert.now) }
+    requires light { AreLight (selected_members (saturation_of cert.now)) }
+    requires atom { IsGroundAtom cert.now.base.bank atom }
+    ensures { IfOk result (λ r. IsTrue r ↔ IsTrueBy (selected_members (saturation_of cert.now)) (tree_at cert.now.base.bank atom)) }
+{
+    let mut best = Heaviest {
+        positive: None,
+        negative: None,
+    };
+    for i in 0..cert.base.members.len() {
+        best = with_member(bindings, cert, atom, i, best)?;
+    }
+    Ok(exceeds(best.positive, best.negative))
+}
+
 /// Whether the ground atom is true by the members: some selected positive literal has it as an instance, and each selected
 /// negative literal whose atom has it as an instance has fewer function symbols than that one. It scans all members.
 pub fn truth(alloc: Global, cert: &Saturation, atom: TermId) -> Result<bool, Memory>
@@ -144,12 +162,5 @@ pub fn truth(alloc: Global, cert: &Saturation, atom: TermId) -> Result<bool, Mem
     ensures { IfOk result (λ r. IsTrue r ↔ IsTrueBy (selected_members (saturation_of cert.now)) (tree_at cert.now.base.bank atom)) }
 {
     let mut bindings = Bindings::new(alloc);
-    let mut best = Heaviest {
-        positive: None,
-        negative: None,
-    };
-    for i in 0..cert.base.members.len() {
-        best = with_member(&mut bindings, cert, atom, i, best)?;
-    }
-    Ok(exceeds(best.positive, best.negative))
+    is_true(&mut bindings, cert, atom)
 }

@@ -54,7 +54,7 @@ fn unified(
     bank: &Bank,
     bindings: &mut Bindings,
     clauses: &IdClauseList,
-) -> Result<Option<Answer>, Memory>
+) -> Result<Option<Answer>, Fail>
     requires { All (IsWholeClause bank.now) clauses.now }
 {
     let (Some(c), Some(d)) = (clause_at(bank, clauses, 0), clause_at(bank, clauses, 1)) else {
@@ -75,12 +75,23 @@ fn unified(
     }))
 }
 
+// The same with bindings of its own.
+fn unified_afresh(
+    alloc: Global,
+    bank: &Bank,
+    clauses: &IdClauseList,
+) -> Result<Option<Answer>, Fail>
+    requires { All (IsWholeClause bank.now) clauses.now }
+{
+    let mut bindings = Bindings::new(alloc);
+    unified(bank, &mut bindings, clauses)
+}
+
 // How the atoms of the two clauses of this text unify.
 fn unified_in(alloc: Global, text: &str) -> Result<Option<Answer>, Fail> {
     let mut bank = Bank::new(alloc);
     let clauses = clauses_in(alloc, &mut bank, text)?;
-    let mut bindings = Bindings::new(alloc);
-    Ok(unified(&bank, &mut bindings, &clauses)?)
+    unified_afresh(alloc, &bank, &clauses)
 }
 
 // Two atoms of 128 arguments whose unifier doubles a term at each of 64 steps: `p(X1,X1,X2,X2,..,X64,X64)` and
@@ -112,15 +123,34 @@ fn atom_at(bank: &Bank, clauses: &IdClauseList, i: usize) -> Option<TermId>
     }
 }
 
+// Whether the first atom of the second clause is an instance of that of the first.
+fn matched(
+    bank: &Bank,
+    bindings: &mut Bindings,
+    clauses: &IdClauseList,
+) -> Result<Option<bool>, Fail>
+    requires clauses { All (IsWholeClause bank.now) clauses.now }
+    requires empty { bindings.old.entries ≡ [] }
+{
+    let (Some(a), Some(b)) = (atom_at(bank, clauses, 0), atom_at(bank, clauses, 1)) else {
+        return Ok(None);
+    };
+    Ok(Some(bindings.match_onto(bank, a, b)?))
+}
+
+// The same with bindings of its own.
+fn matched_afresh(alloc: Global, bank: &Bank, clauses: &IdClauseList) -> Result<Option<bool>, Fail>
+    requires { All (IsWholeClause bank.now) clauses.now }
+{
+    let mut bindings = Bindings::new(alloc);
+    matched(bank, &mut bindings, clauses)
+}
+
 // Whether the second atom of this text is an instance of the first.
 fn matched_in(alloc: Global, text: &str) -> Result<Option<bool>, Fail> {
     let mut bank = Bank::new(alloc);
     let clauses = clauses_in(alloc, &mut bank, text)?;
-    let mut bindings = Bindings::new(alloc);
-    let (Some(a), Some(b)) = (atom_at(&bank, &clauses, 0), atom_at(&bank, &clauses, 1)) else {
-        return Ok(None);
-    };
-    Ok(Some(bindings.match_onto(&bank, a, b)?))
+    matched_afresh(alloc, &bank, &clauses)
 }
 
 #[test]

@@ -5,7 +5,7 @@ use Rattle.saturation_cert.specs.Values.{base_of}
 use Rattle.cert_check.proofs.Bases.{base_same}
 use Rattle.cert_check.proofs.Passing.{all_right, one_more_right, first_wrong}
 use Rattle.cert_check.proofs.Refutations.{keeps_trans, not_true}
-use Rattle.cert_check.proofs.base.wrong_member.Goals as goal
+use Rattle.cert_check.proofs.base.wrong_member_by.Goals as goal
 
 pub is_right-requires-clause-axioms : goal.is_right-requires-clause-axioms
 is_right-requires-clause-axioms c =

@@ -9,7 +9,7 @@ use Rattle.cert_check.proofs.LookupLaws.{lookup_kept}
 use Rattle.cert_check.proofs.Bases.{none_wrong, some_wrong}
 use Rattle.cert_check.proofs.Saturations.{saturation_same, keeps_saturation_trans}
 use Rattle.cert_check.proofs.PairScans.{keeps_itself, valid_kept, placed_kept, first_pair, all_pairs}
-use Rattle.cert_check.proofs.pairs.wrong_pair.Goals as goal
+use Rattle.cert_check.proofs.pairs.wrong_pair_by.Goals as goal
 
 pub loop-i-init : goal.loop-i-init
 loop-i-init c = record { kept = keeps_itself c.args.cert.now; whole = c.requires.whole; before = λ k less. absurd (omega arith) }
@@ -23,11 +23,11 @@ wrong_partner-requires-clause-placed c = placed_kept c.args.cert.now c.loop-i.ce
 pub wrong_partner-requires-clause-partners : goal.wrong_partner-requires-clause-partners
 wrong_partner-requires-clause-partners c =
     let same = saturation_same c.args.cert.now c.loop-i.cert c.requires.whole c.loop-i.invariant.kept in
-    let p = c.in_ok-lookup.lookup.partners in
-    subst (λ (x : format.Saturation). LeadThrough x p.heads.items p.same.items p.opposed.items) (sym same) c.in_ok-lookup.ensures.partners
+    let p = c.args.lookup.now.partners in
+    subst (λ (x : format.Saturation). LeadThrough x p.heads.items p.same.items p.opposed.items) (sym same) c.requires.partners
 
 pub wrong_partner-requires-clause-lookup : goal.wrong_partner-requires-clause-lookup
-wrong_partner-requires-clause-lookup c = lookup_kept c.args.cert.now c.loop-i.cert c.requires.whole c.loop-i.invariant.kept c.in_ok-lookup.lookup c.in_ok-lookup.ensures.lookup
+wrong_partner-requires-clause-lookup c = lookup_kept c.args.cert.now c.loop-i.cert c.requires.whole c.loop-i.invariant.kept c.args.lookup.now c.requires.lookup
 
 pub returns-in-Some-clause-first : goal.returns-in-Some-clause-first
 returns-in-Some-clause-first c =

@@ -2,7 +2,7 @@ use Rattle.std.proofs.Common.{◌≤◌, length, arith}
 use Rattle.term_bank.specs.Forest.{tree_at}
 use Rattle.saturation_cert.specs.Truths.{level}
 use Rattle.saturation_cert.proofs.Scans.{true_by, by_true}
-use Rattle.saturation_cert.proofs.truth_test.truth.Goals as goal
+use Rattle.saturation_cert.proofs.truth_test.is_true.Goals as goal
 
 pub returns : goal.returns
 returns c =
