@@ -90,4 +90,9 @@ impl Solver for Cdcl {
             }
         }
     }
+
+    // They aren't counted.
+    fn conflicts(&self) -> u64 {
+        0
+    }
 }
