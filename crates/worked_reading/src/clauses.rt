@@ -1,21 +1,13 @@
 // The worked row, `p(X3) | q(X1) | p(X3)` becomes `p(X0) | q(X1)`, its measures, and each call that allocates once.
-ghost use Rattle.std.specs.Prelude.{IsTrue, IfOk};
-ghost use Rattle.inst_logic.specs.View.{tree};
-ghost use Rattle.inst_logic.specs.LiteralView.{literal};
-ghost use Rattle.inst_logic.specs.WellFormed.{tree_is_formed, atom_is_formed};
-
-use crate::{
+use indexmap::IndexSet;
+use inst_logic::{
     Clause, ClauseList, Kind, Literal, Memory, Name, NameList, PlaceList, Problem, Sym, Term,
     TermList, canonical, function_free, size, weight,
 };
-use indexmap::IndexSet;
 use std::alloc::Global;
 use std::test::Fail;
 
-fn applied(alloc: Global, name: &[u8], arg: Term) -> Result<Term, Memory>
-    requires { IsTrue (tree_is_formed (tree arg)) }
-    ensures { IfOk result (λ t. IsTrue (tree_is_formed (tree t))) }
-{
+fn applied(alloc: Global, name: &[u8], arg: Term) -> Result<Term, Memory> {
     let mut args = TermList::new(alloc);
     args.push(arg)?;
     Ok(Term::App(
@@ -28,10 +20,7 @@ fn applied(alloc: Global, name: &[u8], arg: Term) -> Result<Term, Memory>
     ))
 }
 
-fn atom(alloc: Global, name: &[u8], arg: Term) -> Result<Literal, Memory>
-    requires { IsTrue (tree_is_formed (tree arg)) }
-    ensures { IfOk result (λ l. IsTrue (atom_is_formed (literal l).atom)) }
-{
+fn atom(alloc: Global, name: &[u8], arg: Term) -> Result<Literal, Memory> {
     let mut args = TermList::new(alloc);
     args.push(arg)?;
     Ok(Literal {

@@ -1,9 +1,9 @@
 // Short reads, a failing call in mid-stream, and the real devices.
-use crate::{
+use inst_logic::{ByteList, Memory, Name};
+use outside_io::{
     CallList, Failed, FileList, FolderLibrary, Library, MemLibrary, MemSink, NamedFile, OutSink,
     Sink, SureLibrary, SureSink, Trouble, write_all,
 };
-use inst_logic::{ByteList, Memory, Name};
 use std::alloc::Global;
 use std::fs;
 use std::test::Fail;
