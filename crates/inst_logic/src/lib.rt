@@ -13,8 +13,6 @@ pub mod renumber;
 pub mod signed;
 pub mod symbol;
 pub mod term;
-#[cfg(test)]
-mod tests;
 
 pub use clause::{ByteList, Clause, ClauseList, Literal, NameList, NumberList, PlaceList, Problem};
 pub use list::ListOf;

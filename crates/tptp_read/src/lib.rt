@@ -3,8 +3,6 @@
 
 mod all;
 mod atom;
-#[cfg(test)]
-mod atom_tests;
 mod body;
 mod clause;
 mod cnf;
@@ -21,8 +19,6 @@ pub mod statement;
 mod step;
 mod stop;
 mod terms;
-#[cfg(test)]
-mod tests;
 pub mod text;
 mod value;
 mod whole_atom;
