@@ -1,4 +1,5 @@
-// Look-ups of members.
+// Look-ups of members, made once for the check of all pairs. The clauses are copies, since the certificate's bank grows
+// while they are looked up.
 ghost use Rattle.std.specs.Prelude.{◌≡◌, IfOk};
 ghost use Rattle.saturation_cert.specs.Values.{saturation_of};
 ghost use Rattle.saturation_cert.specs.Wholes.{HasPlaces, IsWholeSaturation};

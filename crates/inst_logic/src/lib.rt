@@ -1,4 +1,7 @@
-// Terms, literals and clauses of first-order logic, seen by contracts as trees and lists.
+//! Terms, literals and clauses of first-order logic: the data that the readers make, and in `specs/` the definitions that
+//! every crate cites. Contracts see plain trees and lists and no field, so nothing above depends on how a clause is stored.
+//! Trees are walked by recursion here, which the readers' limit on nesting bounds; instances, which may be deeper, are kept
+//! in a bank.
 #![tactic(auto)]
 
 pub mod clause;

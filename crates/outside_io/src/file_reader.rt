@@ -1,4 +1,4 @@
-// Files in memory, and where a reader of them stands.
+// Files in memory, and where a reader of them stands: what both libraries in memory have in common.
 ghost use Rattle.std.specs.Prelude.{◌≡◌, ◌≤◌, ◌<◌, ◌-◌, length, take, drop, min, Some, [], position, false};
 ghost use Rattle.outside_io.specs.Files.{Begins, bytes_at, is_named};
 
