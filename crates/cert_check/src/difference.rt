@@ -14,6 +14,7 @@ pub fn distinct_trees(bank: &Bank)
     let _ = bank.len();
 }
 
+// Whether the clauses have the same literals in the same order.
 pub fn same_clause(c: &IdClause, d: &IdClause) -> bool
     ensures { IsTrue result ↔ (c.now ≡ d.now) }
 {

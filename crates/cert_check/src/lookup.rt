@@ -37,6 +37,7 @@ fn clauses_of(alloc: Global, members: &[Member]) -> Result<IndexSet<IdClause>, M
     Ok(clauses)
 }
 
+// The look-ups of a certificate whose members have a literal at each place.
 pub fn find_lookup(alloc: Global, cert: &Saturation) -> Result<Lookup, Memory>
     requires whole { IsWholeSaturation cert.now }
     requires placed { HasPlaces (saturation_of cert.now) }

@@ -26,6 +26,7 @@ impl Model for FailingCalls {
 }
 
 impl FailingCalls {
+    // No call was made yet. The numbers count from 1.
     pub fn new(fail: CallList) -> FailingCalls
         ensures fail { result.fail ≡ fail }
         ensures calls { result.calls ≡ 0 }

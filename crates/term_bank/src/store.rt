@@ -64,6 +64,7 @@ pub fn measures_at(nodes: &IndexMap<Node, Measures>, id: TermId) -> Measures
     }
 }
 
+// The node of the id.
 pub fn node_at<'a>(nodes: &'a IndexMap<Node, Measures>, id: TermId) -> &'a Node
     requires { id < length nodes.now.entries }
     ensures { result.now ≡ (entry_at nodes.now.entries id).0 }
