@@ -1,4 +1,5 @@
-//! From bytes to the statements of a problem (the CNF part of the TPTP language).
+//! From bytes to the statements of a problem (the CNF part of the TPTP language). The grammar is data in `specs/`; the
+//! parser is proved to find a reading exactly where there is one, and that each text has one reading is a law.
 #![tactic(auto)]
 
 mod all;

@@ -1,4 +1,5 @@
-//! Canonical printing of names, terms, literals and clauses (the CNF part of the TPTP language).
+//! Canonical printing of names, terms, literals and clauses (the CNF part of the TPTP language). Each call puts its text at
+//! the end of one that grows, so a certificate is made without joining parts.
 #![tactic(auto)]
 
 mod clauses;
