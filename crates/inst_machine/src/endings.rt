@@ -8,13 +8,15 @@ ghost use Rattle.inst_logic.specs.Unifiers.{Sided, IsMostGeneral, IsProper};
 ghost use Rattle.inst_calculus.specs.Entries.{entry_clauses};
 ghost use Rattle.inst_calculus.specs.Models.{Member, member_clauses};
 ghost use Rattle.inst_calculus.specs.Saturation.{IsCovered};
-ghost use Rattle.inst_machine.specs.Machine.{State, Event};
+ghost use Rattle.inst_machine.specs.Machine.{State, Event, Concludes};
 ghost use Rattle.inst_machine.specs.Replay.{IsSelection, IsOpenConclusion};
 ghost use Rattle.inst_machine.specs.Budget.{RunsOut};
 
-/// An open conclusion is in canonical form and a variant of no entry. Every uncovered conclusion at two selected literals is
-/// open.
+/// An open conclusion is all of what two entries conclude. It is in canonical form and a variant of no entry. Every uncovered
+/// conclusion at two selected literals is open.
 pub fn open_conclusions()
+    ensures whole { (bot : Sym) (t : State) (ms : List Member) (c : TreeClause) → IsOpenConclusion bot t ms c
+        → (from : ℕ) × (place : ℕ) × (partner : ℕ) × (other : ℕ) × Concludes bot t from place partner other c }
     ensures canonical { (bot : Sym) (t : State) (ms : List Member) (c : TreeClause) → IsOpenConclusion bot t ms c → IsCanonical c }
     ensures is_new { (bot : Sym) (t : State) (ms : List Member) (c : TreeClause) → IsOpenConclusion bot t ms c → All (λ d. ¬ AreVariants c d) (entry_clauses t.entries) }
     ensures uncovered { (bot : Sym) (t : State) (ms : List Member) → IsSelection bot t ms → t.has_solved ≡ true
@@ -25,7 +27,7 @@ pub fn open_conclusions()
 {}
 
 /// A run that ends for want of budget leaves one number and wants one number. No open conclusion is smaller than what is wanted,
-/// and that is more than what is left, but for budgets at the end of 64 bits.
+/// which is more than what is left, for budgets below the greatest number of 64 bits.
 pub fn one_ending()
     ensures left { (cs : List TreeClause) (budget k l m n : ℕ) (bot : Sym) (journal : List Event) (t : State) (ms : List Member)
         → RunsOut cs budget k m bot journal t ms → RunsOut cs budget l n bot journal t ms → k ≡ l }
