@@ -91,6 +91,14 @@ entry c o = record { clause = c; origin = o }
 abbrev pub p_always : TreeClause
 p_always = yes (p (var 0)) ∷ []
 
+-- p(X0) | q(X0)
+abbrev pub p_or_q : TreeClause
+p_or_q = yes (p (var 0)) ∷ yes (q (var 0)) ∷ []
+
+-- ~p(X0)
+abbrev pub not_p : TreeClause
+not_p = no (p (var 0)) ∷ []
+
 -- ~p(c)
 abbrev pub not_p_c : TreeClause
 not_p_c = no (p constant_c) ∷ []

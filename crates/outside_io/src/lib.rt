@@ -12,8 +12,6 @@ mod memory_sink;
 mod sink;
 mod stdout;
 mod sure;
-#[cfg(test)]
-mod tests;
 
 pub use failing_calls::CallList;
 pub use folder::FolderLibrary;

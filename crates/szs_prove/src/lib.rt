@@ -19,8 +19,6 @@ mod refusal;
 mod solving;
 mod steps;
 mod text;
-#[cfg(test)]
-mod text_tests;
 mod verdict;
 mod walk;
 mod words;

@@ -1,6 +1,6 @@
 // A bank of trees, each stored once and named by its number (hash consing; Ershov, On programming of arithmetic
 // operations, 1958; Goto, Monocopy and associative algorithms in extended Lisp, 1974).
-ghost use Rattle.std.specs.Prelude.{◌≡◌, ◌↔◌, IsTrue, ℕ, ◌<◌, [], length, false, true, min, map, take, IfOk, OnOk, OnErr, option_copied, option_map};
+ghost use Rattle.std.specs.Prelude.{◌≡◌, ◌↔◌, IsTrue, ℕ, ◌<◌, [], length, false, true, min, map, take, IfOk, IfSome, OnOk, OnErr, option_copied, option_map};
 ghost use Rattle.std.specs.List.{All};
 ghost use Rattle.inst_logic.specs.Tree.{var, app, of_list};
 ghost use Rattle.inst_logic.specs.Measure.{tree_size, tree_weight};
@@ -138,6 +138,13 @@ impl Bank {
         self.nodes.len()
     }
 
+    /// Equal trees have equal ids.
+    pub fn distinct(&self)
+        ensures { AreDistinct self.now.trees }
+    {
+        let _ = self.len();
+    }
+
     /// The id of the variable of this number.
     pub fn var(&mut self, v: usize) -> Result<TermId, Memory>
         ensures at { IfOk result (λ id. IsAt self.new id (var v)) }
@@ -237,6 +244,7 @@ impl Bank {
         requires { id < length self.now.trees }
         ensures number { result ≡ option_map (number_of self.now.symbols) (symbol_of (tree_at self.now id)) }
         ensures symbol { option_map (symbol_at self.now.symbols) result ≡ symbol_of (tree_at self.now id) }
+        ensures within { IfSome result (λ number. number < length self.now.symbols) }
     {
         match node_at(&self.nodes, id) {
             Node::Var(_) => None,

@@ -4,8 +4,6 @@
 
 mod all;
 mod atom;
-#[cfg(test)]
-mod atom_tests;
 mod body;
 mod clause;
 mod cnf;
@@ -22,8 +20,6 @@ pub mod statement;
 mod step;
 mod stop;
 mod terms;
-#[cfg(test)]
-mod tests;
 pub mod text;
 mod value;
 mod whole_atom;

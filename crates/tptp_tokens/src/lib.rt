@@ -9,8 +9,6 @@ mod runs;
 mod scan;
 mod skip;
 pub mod stream;
-#[cfg(test)]
-mod tests;
 pub mod tokens;
 
 pub use kind::{Token, TokenKind};

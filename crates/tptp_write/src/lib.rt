@@ -5,8 +5,6 @@
 mod clauses;
 mod names;
 mod terms;
-#[cfg(test)]
-mod tests;
 
 pub use clauses::{clause_text, push_atom, push_clause, push_literal, push_literals, push_sign};
 pub use names::{name_text, push_bytes, push_name, push_number};
