@@ -22,7 +22,10 @@ returns-in_ok-valuation_of-in-None-clause-goes c = λ assumptions s all.
     record {
       kept = kept_same old (record old { marks = c.active_atom.new.marks }) refl refl refl (ap length c.active_atom.ensures.marks) refl c.requires.kept;
       same = record { atoms = refl; added = refl };
-      answered = satisfied assumptions old valuation c.requires.kept c.requires.trail c.requires.stable
-          (λ k h e. c.in-None.ensures.none k (omega (arith, h, c.len-atoms.ensures, c.requires.kept.phases)) e)
-          (λ k h. c.in_ok-valuation_of-in-None.ensures.values k (omega (arith, h, c.len-atoms.ensures, c.requires.kept.phases))) all;
+      answered = record {
+        within = omega (arith, c.in_ok-valuation_of-in-None.ensures.size, c.len-atoms.ensures, c.requires.kept.phases);
+        makes_true = satisfied assumptions old valuation c.requires.kept c.requires.trail c.requires.stable
+            (λ k h e. c.in-None.ensures.none k (omega (arith, h, c.len-atoms.ensures, c.requires.kept.phases)) e)
+            (λ k h. c.in_ok-valuation_of-in-None.ensures.values k (omega (arith, h, c.len-atoms.ensures, c.requires.kept.phases))) all;
+      };
     }
