@@ -91,8 +91,8 @@ impl Solver for Cdcl {
         }
     }
 
-    // They aren't counted.
+    // The steps: a conflict is answered by one.
     fn conflicts(&self) -> u64 {
-        0
+        self.search.log.steps.len() as u64
     }
 }

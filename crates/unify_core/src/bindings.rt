@@ -13,16 +13,13 @@ ghost use Rattle.unify_core.specs.Sizes.{IsSizeUnder};
 ghost use Rattle.unify_core.specs.Terms.{AreTerms, AreOfOneKind};
 ghost use Rattle.unify_core.specs.Passed.{IsPassed, no_binding};
 
-use crate::matching::match_terms;
-use crate::side::{Bound, Pair, Side, Variable};
-use crate::sizes::{SizeRoom, clause_size};
-use crate::unify::unify_terms;
+use crate::room::{Room, match_in, size_in, unify_in};
+use crate::side::{Bound, Side, Variable};
 use crate::walk::follow;
-use indexmap::{IndexMap, IndexSet};
+use indexmap::IndexMap;
 use inst_logic::Memory;
 use std::alloc::Global;
 use std::marker::Model;
-use std::mem::swap;
 use term_bank::{Bank, IdClause, Shape, TermId};
 
 /// What the variables of two sides are bound to. After want of memory every call that takes memory wants it, and the bindings
@@ -30,14 +27,9 @@ use term_bank::{Bank, IdClause, Shape, TermId};
 #[derive(Drop)]
 pub struct Bindings {
     map: IndexMap<Variable, Bound>,
-    // Room to work in, kept from call to call. A unifier is found beside the bindings and takes their place once it is whole.
-    // Maps and sets are emptied by `truncate(0)`, which takes time for what they hold: `clear` takes it for all their room.
-    found: IndexMap<Variable, Bound>,
-    work: Vec<Pair>,
-    done: IndexSet<Pair>,
-    seen: IndexSet<Bound>,
-    met: IndexMap<TermId, TermId>,
-    size_room: SizeRoom,
+    // None before the first call that takes memory, and one from then on: a caller's proof pays for each map that it owns.
+    rooms: Vec<Room>,
+    alloc: Global,
     spent: bool,
 }
 
@@ -56,17 +48,8 @@ impl Bindings {
     {
         Bindings {
             map: IndexMap::new(alloc),
-            found: IndexMap::new(alloc),
-            work: Vec::new(alloc),
-            done: IndexSet::new(alloc),
-            seen: IndexSet::new(alloc),
-            met: IndexMap::new(alloc),
-            size_room: SizeRoom {
-                classes: IndexMap::new(alloc),
-                numbers: IndexMap::new(alloc),
-                path: Vec::new(alloc),
-                counted: IndexSet::new(alloc),
-            },
+            rooms: Vec::new(alloc),
+            alloc,
             spent: false,
         }
     }
@@ -96,29 +79,9 @@ impl Bindings {
         if self.spent {
             return Err(Memory);
         }
-        self.found.truncate(0);
-        match unify_terms(
-            bank,
-            &mut self.found,
-            &mut self.work,
-            &mut self.done,
-            &mut self.seen,
-            a,
-            b,
-        ) {
-            Err(e) => {
-                self.spent = true;
-                Err(e)
-            }
-            Ok(true) => {
-                swap(&mut self.map, &mut self.found);
-                Ok(true)
-            }
-            Ok(false) => {
-                self.clear();
-                Ok(false)
-            }
-        }
+        let result = unify_in(self.alloc, bank, &mut self.rooms, &mut self.map, a, b);
+        self.spent = result.is_err();
+        result
     }
 
     /// Extends the left bindings by those that make the pattern the target, whose variables, as right ones, are held fixed
@@ -145,7 +108,14 @@ impl Bindings {
             return Err(Memory);
         }
         let kept = self.map.len();
-        match match_terms(bank, &mut self.map, &mut self.met, pattern, target) {
+        match match_in(
+            self.alloc,
+            bank,
+            &mut self.rooms,
+            &mut self.map,
+            pattern,
+            target,
+        ) {
             Err(e) => {
                 self.truncate(kept);
                 self.spent = true;
@@ -172,7 +142,7 @@ impl Bindings {
         if self.spent {
             return Err(Memory);
         }
-        let result = clause_size(bank, &self.map, &mut self.size_room, side, c);
+        let result = size_in(self.alloc, bank, &mut self.rooms, &self.map, side, c);
         self.spent = result.is_err();
         result
     }
