@@ -3,7 +3,6 @@ pub mod Packed
 pub mod Literal
 pub mod Solving
 pub mod Plain
-pub mod Trail
 pub mod Analysis
 pub mod Search
 pub mod Cut
