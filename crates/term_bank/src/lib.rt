@@ -6,8 +6,6 @@ pub mod id;
 pub mod intern;
 mod node;
 mod store;
-#[cfg(test)]
-mod tests;
 mod walk;
 
 pub use bank::{Bank, Shape};
