@@ -7,7 +7,7 @@ use Rattle.std.proofs.lemmas.Option.{same_Some, none-some, slice_get_within, sli
 use Rattle.std.proofs.lemmas.Bool.{cases_eq, true≢false}
 use Rattle.inst_logic.specs.declared.signed.Signed.{Signed}
 use Rattle.inst_logic.specs.Signed.{complement}
-use Rattle.inst_logic.specs.Derivations.{at_number, IsOnlyOutside, Closes}
+use Rattle.inst_logic.specs.Derivations.{at_number, IsOnlyOutside}
 use Rattle.prop_logic.specs.declared.literal.Hint.{Hint}
 use Rattle.prop_logic.specs.declared.literal.Hint.TheVariants.{Step as Earlier}
 use Rattle.prop_logic.specs.declared.literal.Step.{Step}
@@ -15,8 +15,8 @@ use Rattle.prop_logic.specs.declared.trail.Entry.{Entry}
 use Rattle.prop_logic.specs.declared.trail.Trail.{Trail}
 use Rattle.prop_logic.specs.declared.analysis.Analysis.{Analysis}
 use Rattle.prop_logic.specs.Literal.{cited}
-use Rattle.prop_logic.specs.Trail.{IsTrueAt, IsFalseAt, IsFalseBy, IsTrail, IsImplied, AreImplied, NamesFalse}
-use Rattle.prop_logic.specs.Analysis.{IsMarked, ClosesAll, IsLastChoice, AreChoices, ClosesFrom, Explains, IsAnalysis}
+use Rattle.prop_logic.specs.Trail.{IsTrueAt, IsFalseAt, IsFalseBy, IsTrail, AreImplied, NamesFalse}
+use Rattle.prop_logic.specs.Analysis.{IsMarked, ClosesAll, IsLastChoice, AreChoices, Explains, IsAnalysis}
 use Rattle.prop_logic.proofs.ListLaws.{slice_get_set, slice_get_set_other, All-slice_get, All-from_contained, slice_get_take, take_slice_get, take_whole, Contains-slice_get, slice_get-Contains}
 use Rattle.prop_logic.proofs.TrailLaws.{not_not}
 

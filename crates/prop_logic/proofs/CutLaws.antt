@@ -1,22 +1,22 @@
 -- Derivations cut to what their last step needs.
-use Rattle.std.proofs.Common.{◌≡◌, ◌≢◌, ℕ, suc, zero, ◌+◌, ◌-◌, ◌<◌, ◌≤◌, Bool, true, false, inl, inr, List, [], ◌∷◌, ◌++◌, length, map, take, set, get_or, Option, Some, None, refl, sym, ap, ◌∙◌, subst, arith}
+use Rattle.std.proofs.Common.{◌≡◌, ◌≢◌, ℕ, suc, zero, ◌+◌, ◌-◌, ◌<◌, ◌≤◌, Bool, true, inl, inr, List, [], ◌∷◌, ◌++◌, length, map, take, set, get_or, Option, Some, None, refl, sym, ap, ◌∙◌, subst, arith}
 use Rattle.std.specs.Prelude.{All, Contains, slice_get, unwrap_or}
 use Rattle.std.specs.Option.{option_map}
-use Rattle.std.proofs.lemmas.List.{length-map, take_more, length_push}
-use Rattle.std.proofs.lemmas.List.Elements.{All-nil, All-cons, All-head, All-tail, All-contains, All-weaker, All-more}
-use Rattle.std.proofs.lemmas.Option.{same_Some, none-some, slice_get_within, slice_get-get_or, slice_get-map}
-use Rattle.std.proofs.lemmas.Bool.{cases_eq, true≢false}
+use Rattle.std.proofs.lemmas.List.{length-map, length_push}
+use Rattle.std.proofs.lemmas.List.Elements.{All-head, All-tail, All-contains, All-weaker}
+use Rattle.std.proofs.lemmas.Option.{same_Some, slice_get_within, slice_get-get_or, slice_get-map}
+use Rattle.std.proofs.lemmas.Bool.{cases_eq}
 use Rattle.inst_logic.specs.declared.signed.Signed.{Signed}
 use Rattle.inst_logic.specs.Signed.{complement}
-use Rattle.inst_logic.specs.Derivations.{at_number, Closes, IsShown}
+use Rattle.inst_logic.specs.Derivations.{Closes, IsShown}
 use Rattle.prop_logic.specs.declared.literal.Hint.{Hint}
 use Rattle.prop_logic.specs.declared.literal.Hint.TheVariants.{Added, Step as Earlier}
 use Rattle.prop_logic.specs.declared.literal.Step.{Step}
-use Rattle.prop_logic.specs.Literal.{cited, AtomsBelow, IsShownStep}
+use Rattle.prop_logic.specs.Literal.{cited, AtomsBelow}
 use Rattle.prop_logic.specs.Solving.{EndsWith}
 use Rattle.prop_logic.specs.Search.{AreGood}
 use Rattle.prop_logic.specs.Cut.{IsNeeded, NeedsHint, AreNeeded, renumbered, IsCutOf}
-use Rattle.prop_logic.proofs.ListLaws.{slice_get_set, slice_get_set_other, slice_get_append, slice_get_last, slice_get_push, slice_get_take, take_slice_get, take_whole, All-slice_get}
+use Rattle.prop_logic.proofs.ListLaws.{slice_get_set, slice_get_set_other, slice_get_take, All-slice_get}
 use Rattle.prop_logic.proofs.SearchLaws.{good_push, good_none, last_cited, cited_later, ends_with_push}
 
 -- what is marked

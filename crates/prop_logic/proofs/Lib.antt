@@ -6,3 +6,6 @@ pub mod Measure
 pub mod ShownLaws
 pub mod SearchLaws
 pub mod CutLaws
+pub mod BitLaws
+pub mod PackedLaws
+pub mod ChangesLaws

@@ -1,18 +1,17 @@
 -- Clauses under the values of a trail, and what they imply.
-use Rattle.std.proofs.Common.{◌≡◌, ℕ, suc, zero, ◌+◌, ◌-◌, ◌<◌, ◌≤◌, Bool, true, false, not, ◌⊎◌, inl, inr, List, [], ◌∷◌, ◌++◌, length, take, set, get_or, Option, Some, None, refl, sym, ap, ◌∙◌, subst, arith, length-set}
-use Rattle.std.specs.Prelude.{All, Contains, slice_get, MatchOption, is_some}
+use Rattle.std.proofs.Common.{◌≡◌, ℕ, suc, ◌+◌, ◌<◌, Bool, true, false, not, ◌⊎◌, inl, inr, List, [], ◌∷◌, ◌++◌, length, take, set, get_or, Option, Some, None, refl, sym, ap, ◌∙◌, subst, arith, length-set}
+use Rattle.std.specs.Prelude.{All, slice_get, MatchOption, is_some}
 use Rattle.std.specs.Bool.{beq}
 use Rattle.std.proofs.lemmas.List.{take_more}
 use Rattle.std.proofs.lemmas.List.Elements.{All-more, All-push, All-weaker, Contains-push, Contains-append_left}
 use Rattle.std.proofs.lemmas.Option.{same_Some, slice_get-get_or}
 use Rattle.inst_logic.specs.declared.signed.Signed.{Signed}
-use Rattle.prop_logic.specs.declared.literal.Hint.{Hint}
 use Rattle.prop_logic.specs.declared.literal.Hint.TheVariants.{Added}
 use Rattle.prop_logic.specs.declared.literal.Step.{Step}
 use Rattle.prop_logic.specs.declared.trail.Entry.{Entry}
 use Rattle.prop_logic.specs.declared.trail.Trail.{Trail}
 use Rattle.prop_logic.specs.Literal.{cited}
-use Rattle.prop_logic.specs.Trail.{IsOpen, IsFalseAt, IsFalseBy, AreValuesOf, IsTrail, IsImplied, AreImplied, NamesFalse, IsUnitIn, Propagates}
+use Rattle.prop_logic.specs.Trail.{IsOpen, IsFalseAt, IsFalseBy, IsTrail, IsImplied, AreImplied, NamesFalse, IsUnitIn, Propagates}
 use Rattle.prop_logic.proofs.TrailLaws.{implied_push}
 
 -- a value that is not that of the literal makes it false

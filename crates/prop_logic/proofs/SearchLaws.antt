@@ -1,16 +1,16 @@
 -- The steps of the search, and how it ends.
-use Rattle.std.proofs.Common.{◌≡◌, ◌≢◌, ℕ, suc, zero, ◌+◌, ◌-◌, ◌^◌, ◌<◌, ◌≤◌, Bool, true, false, not, ◌⊎◌, inl, inr, List, [], ◌∷◌, ◌++◌, length, map, take, drop, set, get_or, Option, Some, None, Result, Ok, Err, refl, sym, ap, ◌∙◌, subst, arith}
-use Rattle.std.specs.Prelude.{All, Any, Contains, slice_get, unwrap_or, MatchOption, MatchBool, IfSome, IfOk}
+use Rattle.std.proofs.Common.{◌≡◌, ◌≢◌, ℕ, suc, zero, ◌+◌, ◌-◌, ◌^◌, ◌<◌, ◌≤◌, Bool, true, false, not, ◌⊎◌, inl, inr, List, [], ◌∷◌, ◌++◌, length, map, take, drop, get_or, Option, Some, None, Result, Ok, Err, refl, sym, ap, ◌∙◌, subst, arith}
+use Rattle.std.specs.Prelude.{All, Contains, slice_get, unwrap_or, MatchOption, MatchBool, IfSome, IfOk}
 use Rattle.std.specs.Bool.{beq}
 use Rattle.std.specs.Option.{option_map}
 use Rattle.std.proofs.lemmas.List.{length_push, map-append, length-map, length-take-le, drop-append-le, take_more, append-nil}
 use Rattle.std.proofs.lemmas.List.Elements.{All-nil, All-cons, All-contains, All-contains_itself, All-weaker, All-push, All-map, Contains-push, Contains-append_left}
 use Rattle.std.proofs.lemmas.Option.{same_Some, slice_get_within, none-some, slice_get-get_or, slice_get-map}
-use Rattle.std.proofs.lemmas.Bool.{cases_eq, false≢true}
+use Rattle.std.proofs.lemmas.Bool.{false≢true}
 use Rattle.inst_logic.specs.declared.signed.Signed.{Signed}
-use Rattle.inst_logic.specs.Signed.{complement, signed, IsTautology}
+use Rattle.inst_logic.specs.Signed.{complement, signed}
 use Rattle.inst_logic.specs.Truth.{IsTrueLiteral, IsTrueClause}
-use Rattle.inst_logic.specs.Derivations.{at_number, Closes, IsShown}
+use Rattle.inst_logic.specs.Derivations.{at_number, IsShown}
 use Rattle.prop_logic.specs.declared.literal.Hint.{Hint}
 use Rattle.prop_logic.specs.declared.literal.Hint.TheVariants.{Added, Step as Earlier}
 use Rattle.prop_logic.specs.declared.literal.Step.{Step}
@@ -19,16 +19,14 @@ use Rattle.prop_logic.specs.declared.trail.Trail.{Trail}
 use Rattle.prop_logic.specs.declared.analysis.Analysis.{Analysis}
 use Rattle.prop_logic.specs.declared.search.Search.{Search}
 use Rattle.prop_logic.specs.declared.search.Outcome.{Outcome}
-use Rattle.prop_logic.specs.declared.search.Outcome.TheVariants.{Sat, Unsat}
-use Rattle.prop_logic.specs.Literal.{cited, all_cited, IsShownStep, IsShownDerivation, AtomsBelow, StepsBelow}
-use Rattle.prop_logic.specs.Solving.{IsSubList, EndsWith, MakesTrue, Refutes}
+use Rattle.prop_logic.specs.Literal.{cited, IsShownStep, IsShownDerivation, AtomsBelow}
+use Rattle.prop_logic.specs.Solving.{IsSubList, EndsWith, MakesTrue, Satisfies, Refutes}
 use Rattle.prop_logic.specs.Valuation.{IsHeld}
-use Rattle.prop_logic.specs.Trail.{IsOpen, IsTrueAt, IsFalseAt, HasRest, IsFalseBy, HaveValuesBelow, AreValuesOf, IsTrail, IsImplied, AreImplied, NamesFalse, Propagates}
-use Rattle.prop_logic.specs.Analysis.{IsMarked, ClosesAll, IsLastChoice, AreChoices, IsAnalysis}
+use Rattle.prop_logic.specs.Trail.{IsOpen, IsTrueAt, IsFalseAt, HasRest, IsFalseBy, HaveValuesBelow, AreValuesOf, IsTrail, IsImplied, AreImplied, Propagates}
+use Rattle.prop_logic.specs.Analysis.{IsMarked, ClosesAll, IsLastChoice, IsAnalysis}
 use Rattle.prop_logic.specs.Search.{AreGood, IsTrueBy, AreAssumed, ClashesWith, AssumesToo, IsSearch, weight, Advances, IsCore, IsOutcome, Continues, Begins}
-use Rattle.prop_logic.proofs.ListLaws.{slice_get_append, slice_get_push, slice_get_last, slice_get_take, take_slice_get, take_of_append, take_of_take, take_whole, All-slice_get, All-from_slice_get, All-from_contained, Contains-slice_get, slice_get-Contains, Contains-take, Contains-take_more}
-use Rattle.prop_logic.proofs.TrailLaws.{not_not, implied_push, implied_take, implied_choice, false_by_value, room, count_some, open_within}
-use Rattle.prop_logic.proofs.AnalysisLaws.{not_both}
+use Rattle.prop_logic.proofs.ListLaws.{slice_get_append, slice_get_push, slice_get_last, slice_get_take, take_slice_get, take_of_append, take_of_take, take_whole, All-slice_get, All-from_contained, Contains-slice_get, slice_get-Contains, Contains-take, Contains-take_more}
+use Rattle.prop_logic.proofs.TrailLaws.{not_not, implied_push, implied_take, implied_choice, room, count_some}
 use Rattle.prop_logic.proofs.Measure.{weight_below, weight_push, weight_append, weight_flip}
 use Rattle.prop_logic.proofs.ShownLaws.{IsTwoValued, not_both_true, derivation_true}
 
@@ -454,19 +452,22 @@ rest_true values l all h n = by_value (get_or values l.atom None) refl
 
 pub satisfied : (clauses : List (List (Signed ℕ))) (assumptions : List (Signed ℕ)) (s : Search) (valuation : List Bool)
     → IsSearch clauses assumptions s → All (AtomsBelow (length s.trail.values.items)) clauses → HaveValuesBelow s.trail.values.items (length s.trail.values.items) → All (HasRest s.trail.values.items) clauses
-    → valuation ≡ map (λ o. unwrap_or o false) s.trail.values.items → MakesTrue valuation clauses assumptions
+    → valuation ≡ map (λ o. unwrap_or o false) s.trail.values.items → Satisfies (length s.trail.values.items) clauses assumptions valuation
 satisfied clauses assumptions s valuation v below all rest same =
     let values = s.trail.values.items in
     let held : List Bool = map (λ o. unwrap_or o false) values in
     let base = take s.assumed s.trail.entries.items in
-    subst (λ w. MakesTrue w clauses assumptions) (sym same)
+    subst (Satisfies (length values) clauses assumptions) (sym same)
     (record {
-      clauses_true = All-from_contained (IsTrueClause (IsHeld held)) clauses (λ c k.
-          let r = All-contains (HasRest values) clauses c rest k in
-          let low = All-contains (λ l. l.atom < length values) c r.0 (All-contains (AtomsBelow (length values)) clauses c below k) r.1 in
-          (r.1.0, r.0, r.1.1, r.1.2, value_true values r.0 (rest_true values r.0 all low r.2)));
-      assumptions_true = All-weaker (IsTrueBy base) (IsTrueLiteral (IsHeld held)) (λ l t.
-          value_true values l (subst (IsTrueAt values) (sym t.2) (All-contains (λ e. IsTrueAt values e.lit) s.trail.entries.items t.0 v.trail.values.all_true (Contains-take s.trail.entries.items s.assumed t.0 t.1)))) assumptions v.assumed.all_true;
+      within = omega (arith, length-map values (λ o. unwrap_or o false));
+      makes_true = record {
+        clauses_true = All-from_contained (IsTrueClause (IsHeld held)) clauses (λ c k.
+            let r = All-contains (HasRest values) clauses c rest k in
+            let low = All-contains (λ l. l.atom < length values) c r.0 (All-contains (AtomsBelow (length values)) clauses c below k) r.1 in
+            (r.1.0, r.0, r.1.1, r.1.2, value_true values r.0 (rest_true values r.0 all low r.2)));
+        assumptions_true = All-weaker (IsTrueBy base) (IsTrueLiteral (IsHeld held)) (λ l t.
+            value_true values l (subst (IsTrueAt values) (sym t.2) (All-contains (λ e. IsTrueAt values e.lit) s.trail.entries.items t.0 v.trail.values.all_true (Contains-take s.trail.entries.items s.assumed t.0 t.1)))) assumptions v.assumed.all_true;
+      };
     })
 
 -- the assumptions can't be true with the clauses

@@ -1,6 +1,6 @@
 -- One more entry on a trail, one less, and what is implied.
-use Rattle.std.proofs.Common.{◌≡◌, ◌≢◌, ℕ, suc, zero, ◌+◌, ◌-◌, ◌<◌, ◌≤◌, min, Bool, true, false, not, cond, ◌⊎◌, inl, inr, List, [], ◌∷◌, ◌++◌, length, take, set, replicate, Option, Some, None, get_or, refl, sym, ap, ◌∙◌, subst, arith}
-use Rattle.std.specs.Prelude.{All, AllPairs, Contains, slice_get, count_by, is_some}
+use Rattle.std.proofs.Common.{◌≡◌, ◌≢◌, ℕ, suc, zero, ◌+◌, ◌<◌, ◌≤◌, min, Bool, true, false, not, cond, inl, inr, List, [], ◌∷◌, ◌++◌, length, take, set, replicate, Option, Some, None, get_or, refl, sym, ap, ◌∙◌, subst, arith}
+use Rattle.std.specs.Prelude.{All, Contains, slice_get, count_by, is_some}
 use Rattle.std.proofs.lemmas.List.{length_push, append_assoc, append-nil, length-replicate, get_or-replicate}
 use Rattle.std.proofs.lemmas.List.Elements.{All-nil, All-push, All-weaker, All-contains, Contains-push, Contains-push_cases, Contains-append_left}
 use Rattle.std.proofs.lemmas.List.Quantifiers.{all_pairs_push}
@@ -10,13 +10,11 @@ use Rattle.std.proofs.lemmas.Option.{same_Some, slice_get_within, none-some, sli
 use Rattle.std.proofs.lemmas.Bool.{cases_eq}
 use Rattle.inst_logic.specs.declared.signed.Signed.{Signed}
 use Rattle.inst_logic.specs.Signed.{complement}
-use Rattle.prop_logic.specs.declared.literal.Hint.{Hint}
 use Rattle.prop_logic.specs.declared.literal.Step.{Step}
 use Rattle.prop_logic.specs.declared.trail.Entry.{Entry}
 use Rattle.prop_logic.specs.declared.trail.Trail.{Trail}
-use Rattle.prop_logic.specs.Literal.{cited}
 use Rattle.prop_logic.specs.Trail.{IsOpen, IsTrueAt, IsFalseAt, IsFalseBy, HaveValuesBelow, AreValuesOf, IsTrail, IsImplied, AreImplied, Propagates}
-use Rattle.prop_logic.proofs.ListLaws.{slice_get_set, slice_get_set_other, slice_get_append, slice_get_push, slice_get_take, take_of_append, take_of_take, take_whole, Contains-slice_get, slice_get-Contains, Contains-take, Contains-take_more}
+use Rattle.prop_logic.proofs.ListLaws.{slice_get_set, slice_get_set_other, slice_get_append, slice_get_push, slice_get_take, take_of_append, take_of_take, take_whole, Contains-slice_get, Contains-take, Contains-take_more}
 
 abbrev lit : ℕ → Bool → Signed ℕ
 lit a p = record { positive = p; atom = a }

@@ -1,5 +1,5 @@
 -- What the analysis of a conflict knows at each place of the trail, and what it leaves.
-use Rattle.std.specs.Prelude.{◌≡◌, ◌≤◌, ℕ, ◌+◌, ◌⊎◌, Bool, true, List, [], ◌∷◌, ◌++◌, map, take, reverse, Option, Some, None, All, Contains, slice_get, MatchOption}
+use Rattle.std.specs.Prelude.{◌≡◌, ◌≤◌, ℕ, ◌+◌, ◌⊎◌, Bool, true, List, [], ◌∷◌, map, take, reverse, Option, Some, None, All, Contains, slice_get, MatchOption}
 use Rattle.inst_logic.specs.declared.signed.Signed.{Signed}
 use Rattle.inst_logic.specs.Signed.{complement}
 use Rattle.inst_logic.specs.Derivations.{Closes}

@@ -1,5 +1,5 @@
 -- Derivations without the steps that their last step does not need.
-use Rattle.std.specs.Prelude.{◌≡◌, ◌≢◌, ℕ, zero, suc, ◌-◌, ◌<◌, Bool, true, List, [], length, map, take, Option, Some, All, slice_get, unwrap_or}
+use Rattle.std.specs.Prelude.{◌≡◌, ℕ, zero, suc, ◌-◌, ◌<◌, Bool, true, List, length, Some, All, slice_get, unwrap_or}
 use Rattle.inst_logic.specs.declared.signed.Signed.{Signed}
 use Rattle.prop_logic.specs.declared.literal.Hint.{Hint}
 use Rattle.prop_logic.specs.declared.literal.Hint.TheVariants.{Added, Step as Earlier}

@@ -1,4 +1,5 @@
 pub mod Valuation
+pub mod Packed
 pub mod Literal
 pub mod Solving
 pub mod Plain

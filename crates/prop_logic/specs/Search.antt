@@ -1,5 +1,5 @@
 -- The state of the plain solver's search, the number that rises with each of its steps, and how it ends.
-use Rattle.std.specs.Prelude.{◌≡◌, ◌≢◌, ℕ, zero, suc, ◌+◌, ◌*◌, ◌^◌, ◌<◌, ◌≤◌, List, [], ◌∷◌, ◌++◌, Option, Some, None, length, map, take, All, Contains, slice_get, is_some, if◌then◌else◌}
+use Rattle.std.specs.Prelude.{◌≡◌, ◌≢◌, ℕ, zero, suc, ◌+◌, ◌*◌, ◌^◌, ◌<◌, ◌≤◌, List, [], ◌∷◌, ◌++◌, Option, Some, None, length, map, take, All, Contains, is_some, if◌then◌else◌}
 use Rattle.inst_logic.specs.declared.signed.Signed.{Signed}
 use Rattle.inst_logic.specs.Signed.{complement}
 use Rattle.prop_logic.specs.declared.literal.Step.{Step}
@@ -8,9 +8,8 @@ use Rattle.prop_logic.specs.declared.search.Search.{Search}
 use Rattle.prop_logic.specs.declared.search.Outcome.{Outcome}
 use Rattle.prop_logic.specs.declared.search.Outcome.TheVariants.{Sat, Unsat}
 use Rattle.prop_logic.specs.Literal.{IsShownDerivation, StepsBelow}
-use Rattle.prop_logic.specs.Solving.{MakesTrue, IsSubList, EndsWith}
+use Rattle.prop_logic.specs.Solving.{Satisfies, IsSubList, EndsWith}
 use Rattle.prop_logic.specs.Trail.{IsTrail, AreImplied}
-use Rattle.prop_logic.specs.Analysis.{IsMarked}
 
 -- every step is shown by hints, and is about the atoms below n
 pub record AreGood (clauses : List (List (Signed ℕ))) (n : ℕ) (steps : List Step) : Type 0 where
@@ -61,7 +60,7 @@ pub record IsCore (clauses : List (List (Signed ℕ))) (assumptions core : List 
 
 -- how the search ends
 abbrev pub IsOutcome : List (List (Signed ℕ)) → List (Signed ℕ) → ℕ → List Step → Outcome → Type 0
-IsOutcome clauses assumptions n steps (Sat valuation) = MakesTrue valuation clauses assumptions
+IsOutcome clauses assumptions n steps (Sat valuation) = Satisfies n clauses assumptions valuation
 IsOutcome clauses assumptions n steps (Unsat core) = IsCore clauses assumptions core n steps
 
 -- the search goes on, or has ended

@@ -1,5 +1,5 @@
 -- Trails: literals that are true, by choice or by a reason.
-use Rattle.std.specs.Prelude.{◌≡◌, ◌≢◌, ℕ, ◌+◌, ◌<◌, ◌⊎◌, Bool, not, List, [], ◌∷◌, ◌++◌, length, take, Option, Some, None, All, AllPairs, Contains, slice_get, count_by, is_some}
+use Rattle.std.specs.Prelude.{◌≡◌, ◌≢◌, ℕ, ◌+◌, ◌<◌, ◌⊎◌, Bool, not, List, ◌++◌, length, take, Option, Some, None, All, AllPairs, Contains, slice_get, count_by, is_some}
 use Rattle.inst_logic.specs.declared.signed.Signed.{Signed}
 use Rattle.inst_logic.specs.Signed.{complement}
 use Rattle.prop_logic.specs.declared.literal.Hint.{Hint}

@@ -2,7 +2,9 @@
 #![tactic(auto)]
 
 mod analysis;
+mod bits;
 pub mod cut;
+mod differences;
 pub mod literal;
 pub mod plain;
 mod propagation;
@@ -13,6 +15,7 @@ mod tests;
 mod trail;
 pub mod valuation;
 
+pub use differences::changes;
 pub use literal::{Derivation, Hint, HintList, Lit, LitList, LitLists, Step};
 pub use plain::Plain;
 pub use search::complements;

@@ -1,9 +1,8 @@
-use Rattle.std.proofs.Common.{◌≡◌, ℕ, ◌+◌, ◌-◌, ◌<◌, ◌≤◌, [], ◌∷◌, ◌++◌, length, Some, None, refl, sym, ap, ◌∙◌, subst, arith}
-use Rattle.std.specs.Prelude.{slice_get}
+use Rattle.std.proofs.Common.{◌≡◌, ◌+◌, ◌-◌, ◌<◌, [], ◌∷◌, ◌++◌, length, Some, None, refl, sym, ap, ◌∙◌, subst, arith}
 use Rattle.std.proofs.lemmas.Option.{slice_get-get_or, slice_get_within}
 use Rattle.prop_logic.specs.declared.analysis.Analysis.{Analysis}
 use Rattle.prop_logic.specs.Analysis.{Explains}
-use Rattle.prop_logic.proofs.AnalysisLaws.{explained_first, explained_last, true_of}
+use Rattle.prop_logic.proofs.AnalysisLaws.{explained_first, true_of}
 use Rattle.prop_logic.proofs.analysis.analyze.Goals as goal
 
 pub loop-place-init : goal.loop-place-init

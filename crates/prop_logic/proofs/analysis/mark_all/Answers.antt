@@ -1,4 +1,4 @@
-use Rattle.std.proofs.Common.{ℕ, ◌<◌, List, Bool, false, get_or, length, subst, arith}
+use Rattle.std.proofs.Common.{ℕ, ◌<◌, false, get_or, length, subst, arith}
 use Rattle.std.specs.Prelude.{All}
 use Rattle.std.proofs.lemmas.List.{take_all}
 use Rattle.inst_logic.specs.declared.signed.Signed.{Signed}

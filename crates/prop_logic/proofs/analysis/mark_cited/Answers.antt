@@ -1,7 +1,6 @@
-use Rattle.std.proofs.Common.{◌≡◌, List, ℕ, Some, inl, inr, sym, ap, ◌∙◌, subst, arith}
+use Rattle.std.proofs.Common.{◌≡◌, inl, inr, sym, ap, ◌∙◌, subst}
 use Rattle.std.specs.Prelude.{All}
 use Rattle.std.proofs.lemmas.Option.{same_Some}
-use Rattle.prop_logic.specs.Literal.{cited}
 use Rattle.prop_logic.specs.Analysis.{IsMarked}
 use Rattle.prop_logic.proofs.AnalysisLaws.{cited_step, cited_no_step}
 use Rattle.prop_logic.proofs.analysis.mark_cited.Goals.{else-n-gt0-2-via-then-n-gt0-2+else-n-steps, else-n-gt0-2-via-else-n-gt0-2}

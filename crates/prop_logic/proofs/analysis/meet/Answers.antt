@@ -1,5 +1,4 @@
-use Rattle.std.proofs.Common.{◌≡◌, ◌++◌, ◌∷◌, [], Some, refl, ap, ◌∙◌}
-use Rattle.std.specs.Prelude.{unwrap_or}
+use Rattle.std.proofs.Common.{◌++◌, ◌∷◌, [], Some, refl, ap, ◌∙◌}
 use Rattle.prop_logic.specs.declared.analysis.Analysis.{Analysis}
 use Rattle.prop_logic.proofs.AnalysisLaws.{unmarked, is_marked, explained_unmarked, explained_reason, explained_choice}
 use Rattle.prop_logic.proofs.analysis.meet.Goals as goal

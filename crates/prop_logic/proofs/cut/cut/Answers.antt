@@ -1,4 +1,4 @@
-use Rattle.std.proofs.Common.{◌≡◌, ◌<◌, true, length, arith, sym, ap, ◌∙◌, Some, subst, false}
+use Rattle.std.proofs.Common.{◌≡◌, ◌<◌, true, length, arith, sym, ap, ◌∙◌, Some, false}
 use Rattle.std.proofs.lemmas.Option.{slice_get-get_or, same_Some}
 use Rattle.std.proofs.lemmas.Bool.{true≢false}
 use Rattle.prop_logic.proofs.CutLaws.{keeps_without, keeps_with, keeps_all}

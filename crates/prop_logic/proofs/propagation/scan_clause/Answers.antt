@@ -1,8 +1,8 @@
-use Rattle.std.proofs.Common.{◌≡◌, ℕ, ◌+◌, ◌<◌, Bool, false, List, Option, Some, None, get_or, take, length, sym, ap, ◌∙◌, subst, arith}
-use Rattle.std.specs.Prelude.{All, MatchOption, slice_get}
+use Rattle.std.proofs.Common.{ℕ, ◌+◌, ◌<◌, false, Option, Some, None, get_or, take, length, sym, ap, ◌∙◌, subst}
+use Rattle.std.specs.Prelude.{All, MatchOption}
 use Rattle.std.proofs.lemmas.Option.{slice_get-get_or}
 use Rattle.inst_logic.specs.declared.signed.Signed.{Signed}
-use Rattle.prop_logic.specs.Trail.{IsFalseAt, IsOpen, IsUnitIn}
+use Rattle.prop_logic.specs.Trail.{IsFalseAt, IsUnitIn}
 use Rattle.prop_logic.proofs.PropagationLaws.{false_value, scan_false, scan_open}
 use Rattle.prop_logic.proofs.propagation.scan_clause.Goals.{in-Some+else-value-lit, in-None+else-is_some}
 use Rattle.prop_logic.proofs.propagation.scan_clause.Goals as goal

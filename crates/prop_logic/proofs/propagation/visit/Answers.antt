@@ -1,7 +1,6 @@
-use Rattle.std.proofs.Common.{◌≡◌, ◌<◌, length, Some, sym, ap, ◌∙◌, subst, arith}
+use Rattle.std.proofs.Common.{◌<◌, length, subst, arith}
 use Rattle.std.specs.Prelude.{All}
-use Rattle.prop_logic.specs.Trail.{IsFalseAt, IsUnitIn, IsScanned}
-use Rattle.prop_logic.specs.declared.propagation.Scan.TheVariants.{Rest, Unit as UnitOf, False}
+use Rattle.prop_logic.specs.Trail.{IsFalseAt, IsUnitIn}
 use Rattle.prop_logic.proofs.PropagationLaws.{unit_propagates, false_named}
 use Rattle.prop_logic.proofs.propagation.visit.Goals as goal
 

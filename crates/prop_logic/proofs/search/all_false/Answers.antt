@@ -1,4 +1,4 @@
-use Rattle.std.proofs.Common.{◌≡◌, ℕ, ◌<◌, Bool, false, get_or, length, Some, ap, ◌∙◌, subst, None}
+use Rattle.std.proofs.Common.{ℕ, ◌<◌, false, get_or, length, Some, ap, ◌∙◌, subst, None}
 use Rattle.std.specs.Prelude.{All}
 use Rattle.std.proofs.lemmas.List.{take_all}
 use Rattle.std.proofs.lemmas.Option.{slice_get-get_or}

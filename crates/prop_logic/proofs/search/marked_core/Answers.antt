@@ -1,4 +1,4 @@
-use Rattle.std.proofs.Common.{ℕ, ◌<◌, false, get_or, length}
+use Rattle.std.proofs.Common.{ℕ, false, get_or}
 use Rattle.inst_logic.specs.declared.signed.Signed.{Signed}
 use Rattle.prop_logic.proofs.AnalysisLaws.{unmarked}
 use Rattle.prop_logic.proofs.SearchLaws.{core_more, core_same}

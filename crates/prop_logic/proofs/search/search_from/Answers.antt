@@ -1,4 +1,4 @@
-use Rattle.std.proofs.Common.{length, map, sym, subst}
+use Rattle.std.proofs.Common.{length, map, subst}
 use Rattle.inst_logic.specs.Signed.{complement}
 use Rattle.prop_logic.specs.Search.{IsCore, IsOutcome}
 use Rattle.prop_logic.specs.Cut.{IsCutOf}

@@ -1,9 +1,10 @@
-use Rattle.std.proofs.Common.{◌≡◌, ℕ, false, length, map, set, Some, None, ap, ◌∙◌, subst, sym, length-set}
+use Rattle.std.proofs.Common.{ℕ, false, length, map, Some, None, ap, ◌∙◌, subst, sym, length-set}
 use Rattle.std.specs.Prelude.{All, unwrap_or}
 use Rattle.inst_logic.specs.declared.signed.Signed.{Signed}
 use Rattle.prop_logic.specs.declared.search.Search.{Search}
 use Rattle.prop_logic.specs.Literal.{AtomsBelow}
-use Rattle.prop_logic.specs.Trail.{HasRest, IsOpen, NamesFalse}
+use Rattle.prop_logic.specs.Solving.{Satisfies}
+use Rattle.prop_logic.specs.Trail.{HasRest, NamesFalse}
 use Rattle.prop_logic.proofs.SearchLaws.{same_propagates, propagated, chosen, continues_from, satisfied}
 use Rattle.prop_logic.proofs.search.Search.choose.Goals as goal
 
@@ -41,5 +42,6 @@ returns-in_ok-valuation_of-in-None c =
     let v = propagated clauses c.args.assumptions.now old t c.requires.search (same_propagates clauses old.trail t c.open_atom.ensures.trail c.open_atom.ensures.entries c.open_atom.ensures.values) in
     let below = subst (λ n. All (AtomsBelow n) clauses) (sym (ap length c.open_atom.ensures.values)) c.requires.clauses in
     let rest = subst (λ vs. All (HasRest vs) clauses) c.deref.ensures.value c.in-None.ensures.none in
-    satisfied clauses c.args.assumptions.now mid c.in_ok-valuation_of-in-None.field-0 v below c.in_default.ensures.none rest
-    (c.in_ok-valuation_of-in-None.ensures ∙ ap (map (λ o. unwrap_or o false)) c.deref-in-None.ensures.value)
+    subst (λ n. Satisfies n clauses c.args.assumptions.now c.in_ok-valuation_of-in-None.field-0) (ap length c.open_atom.ensures.values)
+    (satisfied clauses c.args.assumptions.now mid c.in_ok-valuation_of-in-None.field-0 v below c.in_default.ensures.none rest
+    (c.in_ok-valuation_of-in-None.ensures ∙ ap (map (λ o. unwrap_or o false)) c.deref-in-None.ensures.value))

@@ -1,8 +1,7 @@
-use Rattle.std.proofs.Common.{◌≡◌, [], ◌∷◌, ◌++◌, length, take, Some, sym, ap, ◌∙◌, subst}
+use Rattle.std.proofs.Common.{◌≡◌, [], ◌∷◌, ◌++◌, take, Some, sym, ap, ◌∙◌, subst}
 use Rattle.std.proofs.lemmas.Option.{slice_get-get_or, same_Some}
 use Rattle.inst_logic.specs.Signed.{complement}
 use Rattle.prop_logic.specs.declared.literal.Hint.TheVariants.{Step as Earlier}
-use Rattle.prop_logic.specs.declared.trail.Entry.{Entry}
 use Rattle.prop_logic.specs.Trail.{IsOpen, AreValuesOf}
 use Rattle.prop_logic.proofs.SearchLaws.{open_after}
 use Rattle.prop_logic.proofs.search.Search.learn.Goals as goal

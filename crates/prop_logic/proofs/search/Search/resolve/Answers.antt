@@ -3,7 +3,7 @@ use Rattle.std.specs.Prelude.{All, Contains}
 use Rattle.prop_logic.specs.Trail.{AreImplied}
 use Rattle.prop_logic.specs.Analysis.{IsAnalysis, IsMarked}
 use Rattle.prop_logic.specs.Search.{IsCore}
-use Rattle.prop_logic.proofs.SearchLaws.{Learns, learned, refuted, lent_whole}
+use Rattle.prop_logic.proofs.SearchLaws.{learned, refuted, lent_whole}
 use Rattle.prop_logic.proofs.search.Search.resolve.Goals as goal
 
 pub analyze-requires-clause-implied : goal.analyze-requires-clause-implied

@@ -1,4 +1,4 @@
-use Rattle.std.proofs.Common.{◌++◌, ◌∷◌, [], set, Some, sym, subst}
+use Rattle.std.proofs.Common.{set, Some, sym, subst}
 use Rattle.prop_logic.specs.declared.trail.Entry.{Entry}
 use Rattle.prop_logic.specs.Trail.{AreValuesOf}
 use Rattle.prop_logic.proofs.TrailLaws.{assigned, assigned_next}
