@@ -8,12 +8,6 @@ pub mod laws;
 mod literals;
 mod renumber;
 pub mod subsumption;
-#[cfg(test)]
-mod subsumption_tests;
-#[cfg(test)]
-mod test_clauses;
-#[cfg(test)]
-mod tests;
 mod walk;
 
 pub use compare::{clause_size, greatest_variable, tautology, variant};

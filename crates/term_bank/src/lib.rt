@@ -7,8 +7,6 @@ pub mod intern;
 pub mod laws;
 mod node;
 mod store;
-#[cfg(test)]
-mod tests;
 mod walk;
 
 pub use bank::{Bank, Shape};

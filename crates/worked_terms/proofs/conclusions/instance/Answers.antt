@@ -2,7 +2,7 @@ use Rattle.std.proofs.Common.{◌≤◌, arith}
 use Rattle.term_bank.specs.Forest.{clause_at}
 use Rattle.clause_form.specs.Conclusions.{up_to}
 use Rattle.clause_form.proofs.Greatest.{variables_up_to}
-use Rattle.clause_form.proofs.tests.instance.Goals as goal
+use Rattle.worked_terms.proofs.conclusions.instance.Goals as goal
 
 pub under-requires-clause-each : goal.under-requires-clause-each
 under-requires-clause-each c =
