@@ -1,6 +1,6 @@
 // The axioms of equality of two clauses, and of their symbols.
 use equality_axioms::{SymList, axioms_from, axioms_of};
-use inst_logic::{ClauseList, Kind, Memory, Name, NameList, Problem, Sym};
+use inst_logic::{ClauseList, Kind, Memory, Name, NameList, Problem, Sym, canonical};
 use std::alloc::Global;
 use std::process::Abort;
 use std::str;
@@ -19,12 +19,12 @@ X0 != X1 | f(X0) = f(X1)
 X0 != X1 | ~p(X0) | p(X1)
 ";
 
-fn clauses_of(alloc: Global, statements: StatementList) -> Result<ClauseList, Memory> {
+// The clauses of the statements, in canonical form.
+fn clauses_of(alloc: Global, statements: &StatementList) -> Result<ClauseList, Memory> {
     let mut clauses = ClauseList::new(alloc);
-    for statement in Vec::from(statements) {
-        match statement {
-            Statement::Cnf { clause, .. } => clauses.push(clause)?,
-            Statement::Include { .. } => {}
+    for statement in statements.as_slice() {
+        if let Statement::Cnf { clause, .. } = statement {
+            clauses.push(canonical(alloc, clause)?)?;
         }
     }
     Ok(clauses)
@@ -65,7 +65,7 @@ fn check_axioms(rt: &impl Abort, alloc: Global, axioms: &ClauseList) -> Result<(
 #[test]
 fn five_axioms(rt: HostRuntime) -> Result<(), Fail> {
     let alloc = rt.alloc();
-    let clauses = clauses_of(alloc, read_text(alloc, CLAUSES)?)?;
+    let clauses = clauses_of(alloc, &read_text(alloc, CLAUSES)?)?;
     let names = NameList::new(alloc);
     check_axioms(&rt, alloc, &axioms_of(alloc, &Problem { clauses, names })?)?;
     check_axioms(&rt, alloc, &axioms_from(alloc, &symbols(alloc)?)?)
