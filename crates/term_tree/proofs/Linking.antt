@@ -102,18 +102,20 @@ pub record Links (ns ms : List Content) (from c : ℕ) : Type 0 where
 
 module _ (es : List Edge) (ns ms : List Content) (from c : ℕ) (l : Label) (a : IsArena es ns) (k : IsChild es from l c) (new : ¬ (Contains (content_at ns from).children c)) (h : Links ns ms from c) where
   more : (n d : ℕ) → Contains (content_at ns n).children d → Contains (content_at ms n).children d
-  more n d w = elim (same_number n from)
-      [ inl e ↦ subst (λ m. Contains (content_at ms m).children d) (sym e) (subst (λ xs. Contains xs d) (sym h.here) (Contains-append_left (content_at ns from).children (c ∷ []) d (subst (λ m. Contains (content_at ns m).children d) e w)))
-      | inr q ↦ subst (λ xs. Contains xs d) (sym (h.others n q)) w ]
+  more n d w = elim (same_number n from) [
+    | inl e ↦ subst (λ m. Contains (content_at ms m).children d) (sym e) (subst (λ xs. Contains xs d) (sym h.here) (Contains-append_left (content_at ns from).children (c ∷ []) d (subst (λ m. Contains (content_at ns m).children d) e w)))
+    | inr q ↦ subst (λ xs. Contains xs d) (sym (h.others n q)) w
+  ]
 
   here_too : Contains (content_at ms from).children c
   here_too = subst (λ xs. Contains xs c) (sym h.here) (Contains-push (content_at ns from).children c)
 
   cases : (n d : ℕ) → Contains (content_at ms n).children d → Contains (content_at ns n).children d ⊎ ((n ≡ from) × (c ≡ d))
-  cases n d w = elim (same_number n from)
-      [ inl e ↦ elim (Contains-push_cases (content_at ns from).children c d (subst (λ xs. Contains xs d) h.here (subst (λ m. Contains (content_at ms m).children d) e w)))
-            [ inl j ↦ inl (subst (λ m. Contains (content_at ns m).children d) (sym e) j) | inr j ↦ inr (e, j) ]
-      | inr q ↦ inl (subst (λ xs. Contains xs d) (h.others n q) w) ]
+  cases n d w = elim (same_number n from) [
+    | inl e ↦ elim (Contains-push_cases (content_at ns from).children c d (subst (λ xs. Contains xs d) h.here (subst (λ m. Contains (content_at ms m).children d) e w)))
+        [ inl j ↦ inl (subst (λ m. Contains (content_at ns m).children d) (sym e) j) | inr j ↦ inr (e, j) ]
+    | inr q ↦ inl (subst (λ xs. Contains xs d) (h.others n q) w)
+  ]
 
   pub now_linked : IsLinked es ms c
   now_linked n m j = subst (λ x. Contains (content_at ms x).children c) (sym (one_parent es n from c m l j k)) here_too
@@ -132,10 +134,11 @@ module _ (es : List Edge) (ns ms : List Content) (from c : ℕ) (l : Label) (a :
   old_place n i w e = ap (λ x. (content_at ms x).place) e ∙ h.places (child_at ns n i) (apart n i w) ∙ a.placed n i w
 
   here_placed : (i : ℕ) → i < length (content_at ms from).children → (content_at ms (child_at ms from i)).place ≡ i
-  here_placed i w = elim (last_or_before i (length (content_at ns from).children) (omega (arith, longer)))
-      [ inl b ↦ old_place from i b (ap (λ xs. get_or xs i 0) h.here ∙ get_or-append (content_at ns from).children (c ∷ []) 0 i b)
-      | inr s ↦ (let e : child_at ms from i ≡ c = ap (λ xs. get_or xs i 0) h.here ∙ ap (λ x. get_or ((content_at ns from).children ++ c ∷ []) x 0) s ∙ get_or-append_seam (content_at ns from).children c [] 0 in
-            ap (λ x. (content_at ms x).place) e ∙ h.place ∙ sym s) ]
+  here_placed i w = elim (last_or_before i (length (content_at ns from).children) (omega (arith, longer))) [
+    | inl b ↦ old_place from i b (ap (λ xs. get_or xs i 0) h.here ∙ get_or-append (content_at ns from).children (c ∷ []) 0 i b)
+    | inr s ↦ (let e : child_at ms from i ≡ c = ap (λ xs. get_or xs i 0) h.here ∙ ap (λ x. get_or ((content_at ns from).children ++ c ∷ []) x 0) s ∙ get_or-append_seam (content_at ns from).children c [] 0 in
+        ap (λ x. (content_at ms x).place) e ∙ h.place ∙ sym s)
+  ]
 
   pub linked_arena : IsLinked es ns from → IsArena es ms
   linked_arena up = record {
@@ -144,13 +147,15 @@ module _ (es : List Edge) (ns ms : List Content) (from c : ℕ) (l : Label) (a :
     order = a.order;
     once = a.once;
     children = λ n d w. elim (cases n d w) [ inl j ↦ a.children n d j | inr e ↦ (l, subst (λ x. IsChild es x l d) (sym e.0) (subst (IsChild es from l) e.1 k)) ];
-    linked = λ n d m j. elim (a.linked n d m j)
-        [ inl w ↦ inl (more n d w)
-        | inr b ↦ elim (same_number d from)
-              [ inl e ↦ inl (more n d (subst (λ x. Contains (content_at ns n).children x) (sym e) (up n m (subst (IsChild es n m) e j)))) | inr q ↦ inr (h.pairs d ∙ b.0, h.others d q ∙ b.1) ] ];
-    placed = λ n i w. elim (same_number n from)
-        [ inl e ↦ subst (λ x. (content_at ms (child_at ms x i)).place ≡ i) (sym e) (here_placed i (subst (λ x. i < length (content_at ms x).children) e w))
-        | inr q ↦ old_place n i (subst (λ (xs : List ℕ). i < length xs) (h.others n q) w) (ap (λ (xs : List ℕ). get_or xs i 0) (h.others n q)) ];
+    linked = λ n d m j. elim (a.linked n d m j) [
+      | inl w ↦ inl (more n d w)
+      | inr b ↦ elim (same_number d from)
+          [ inl e ↦ inl (more n d (subst (λ x. Contains (content_at ns n).children x) (sym e) (up n m (subst (IsChild es n m) e j)))) | inr q ↦ inr (h.pairs d ∙ b.0, h.others d q ∙ b.1) ]
+    ];
+    placed = λ n i w. elim (same_number n from) [
+      | inl e ↦ subst (λ x. (content_at ms (child_at ms x i)).place ≡ i) (sym e) (here_placed i (subst (λ x. i < length (content_at ms x).children) e w))
+      | inr q ↦ old_place n i (subst (λ (xs : List ℕ). i < length xs) (h.others n q) w) (ap (λ (xs : List ℕ). get_or xs i 0) (h.others n q))
+    ];
     pairs_once = λ n. subst (AllPairs ◌≢◌) (sym (h.pairs n)) (a.pairs_once n);
     one_place = λ m n p u v. a.one_place m n p (subst (λ xs. Contains xs p) (h.pairs m) u) (subst (λ xs. Contains xs p) (h.pairs n) v);
   }
@@ -178,32 +183,36 @@ module _ (es : List Edge) (ns ms : List Content) (from c p : ℕ) (a : IsArena e
   item xs i d w e = subst (Contains xs) e (Contains-get_or xs i 0 w)
 
   from_item : (i : ℕ) → i < length (content_at ms from).children → (j : ℕ) × (j < length (content_at ns from).children) × (child_at ms from i ≡ child_at ns from j)
-  from_item i w = elim (same_number i p)
-      [ inl e ↦ (length (content_at ms from).children, omega (arith, h.shorter), ap (child_at ms from) e ∙ h.moved (omega arith))
-      | inr q ↦ (i, omega (arith, h.shorter), h.stays i w q) ]
+  from_item i w = elim (same_number i p) [
+    | inl e ↦ (length (content_at ms from).children, omega (arith, h.shorter), ap (child_at ms from) e ∙ h.moved (omega arith))
+    | inr q ↦ (i, omega (arith, h.shorter), h.stays i w q)
+  ]
 
   fewer : (n d : ℕ) → Contains (content_at ms n).children d → Contains (content_at ns n).children d
-  fewer n d w = elim (same_number n from)
-      [ inl e ↦ (let r = read (content_at ms from).children d (subst (λ x. Contains (content_at ms x).children d) e w) in
-            let s = from_item r.0 r.1 in
-            subst (λ x. Contains (content_at ns x).children d) (sym e) (item (content_at ns from).children s.0 d s.1 (sym s.2 ∙ r.2)))
-      | inr q ↦ subst (λ xs. Contains xs d) (h.others n q) w ]
+  fewer n d w = elim (same_number n from) [
+    | inl e ↦ (let r = read (content_at ms from).children d (subst (λ x. Contains (content_at ms x).children d) e w) in
+        let s = from_item r.0 r.1 in
+        subst (λ x. Contains (content_at ns x).children d) (sym e) (item (content_at ns from).children s.0 d s.1 (sym s.2 ∙ r.2)))
+    | inr q ↦ subst (λ xs. Contains xs d) (h.others n q) w
+  ]
 
   to_item : (i d : ℕ) → i < length (content_at ns from).children → child_at ns from i ≡ d → ¬ (d ≡ c) → Contains (content_at ms from).children d
-  to_item i d w e differ = elim (last_or_before i (length (content_at ms from).children) (omega (arith, h.shorter)))
-      [ inl b ↦ item (content_at ms from).children i d b (h.stays i b (λ s. differ (sym e ∙ ap (child_at ns from) s ∙ at)) ∙ e)
-      | inr s ↦ (let other : ¬ (i ≡ p) = λ q. differ (sym e ∙ ap (child_at ns from) q ∙ at) in
-            let b : p < length (content_at ms from).children = below p (length (content_at ms from).children) (omega (arith, within, h.shorter)) (λ q. other (s ∙ sym q)) in
-            item (content_at ms from).children p d b (h.moved b ∙ ap (child_at ns from) (sym s) ∙ e)) ]
+  to_item i d w e differ = elim (last_or_before i (length (content_at ms from).children) (omega (arith, h.shorter))) [
+    | inl b ↦ item (content_at ms from).children i d b (h.stays i b (λ s. differ (sym e ∙ ap (child_at ns from) s ∙ at)) ∙ e)
+    | inr s ↦ (let other : ¬ (i ≡ p) = λ q. differ (sym e ∙ ap (child_at ns from) q ∙ at) in
+        let b : p < length (content_at ms from).children = below p (length (content_at ms from).children) (omega (arith, within, h.shorter)) (λ q. other (s ∙ sym q)) in
+        item (content_at ms from).children p d b (h.moved b ∙ ap (child_at ns from) (sym s) ∙ e))
+  ]
     where
       below : (m n : ℕ) → m ≤ n → ¬ (m ≡ n) → m < n
       below m n w q = elim (same_number m n) [ inl e ↦ absurd (q e) | inr e ↦ grind arith ]
 
   stay : (n d : ℕ) → ¬ (d ≡ c) → Contains (content_at ns n).children d → Contains (content_at ms n).children d
-  stay n d differ w = elim (same_number n from)
-      [ inl e ↦ (let r = read (content_at ns from).children d (subst (λ x. Contains (content_at ns x).children d) e w) in
-            subst (λ x. Contains (content_at ms x).children d) (sym e) (to_item r.0 d r.1 r.2 differ))
-      | inr q ↦ subst (λ xs. Contains xs d) (sym (h.others n q)) w ]
+  stay n d differ w = elim (same_number n from) [
+    | inl e ↦ (let r = read (content_at ns from).children d (subst (λ x. Contains (content_at ns x).children d) e w) in
+        subst (λ x. Contains (content_at ms x).children d) (sym e) (to_item r.0 d r.1 r.2 differ))
+    | inr q ↦ subst (λ xs. Contains xs d) (sym (h.others n q)) w
+  ]
 
   parent_has : Contains (content_at ns from).children c
   parent_has = item (content_at ns from).children p c within at
@@ -224,15 +233,17 @@ module _ (es : List Edge) (ns ms : List Content) (from c p : ℕ) (a : IsArena e
           let s = e ∙ h.moved b in
           let last : length (content_at ms from).children < length (content_at ns from).children = omega (arith, h.shorter) in
           let x = child_of n i w in
-          let y = child_of from (length (content_at ms from).children) last in
-          (one_parent es n from (child_at ns n i) x.0 y.0 x.1 (subst (IsChild es from y.0) (sym s) y.1),
-              sym (a.placed n i w) ∙ ap (λ z. (content_at ns z).place) s ∙ a.placed from (length (content_at ms from).children) last)
+          let y = child_of from (length (content_at ms from).children) last in (
+            one_parent es n from (child_at ns n i) x.0 y.0 x.1 (subst (IsChild es from y.0) (sym s) y.1),
+            sym (a.placed n i w) ∙ ap (λ z. (content_at ns z).place) s ∙ a.placed from (length (content_at ms from).children) last,
+          )
 
   swapped_placed : (i : ℕ) → i < length (content_at ms from).children → (content_at ms (child_at ms from i)).place ≡ i
-  swapped_placed i w = elim (same_number i p)
-      [ inl e ↦ (let b : p < length (content_at ms from).children = subst (λ x. x < length (content_at ms from).children) e w in
-            ap (λ x. (content_at ms (child_at ms from x)).place) e ∙ h.place b ∙ sym e)
-      | inr q ↦ ap (λ x. (content_at ms x).place) (h.stays i w q) ∙ unmoved from i (omega (arith, h.shorter)) (λ b s. (let z = s.1 in omega arith)) ]
+  swapped_placed i w = elim (same_number i p) [
+    | inl e ↦ (let b : p < length (content_at ms from).children = subst (λ x. x < length (content_at ms from).children) e w in
+        ap (λ x. (content_at ms (child_at ms from x)).place) e ∙ h.place b ∙ sym e)
+    | inr q ↦ ap (λ x. (content_at ms x).place) (h.stays i w q) ∙ unmoved from i (omega (arith, h.shorter)) (λ b s. (let z = s.1 in omega arith))
+  ]
 
   pub unlinked_arena : IsArena es ms
   unlinked_arena = record {
@@ -241,12 +252,14 @@ module _ (es : List Edge) (ns ms : List Content) (from c p : ℕ) (a : IsArena e
     order = a.order;
     once = a.once;
     children = λ n d w. a.children n d (fewer n d w);
-    linked = λ n d m j. elim (same_number d c)
-        [ inl e ↦ inr (subst (λ x. IsBare (content_at ms x)) (sym e) (still_bare c bare))
-        | inr q ↦ elim (a.linked n d m j) [ inl w ↦ inl (stay n d q w) | inr b ↦ inr (still_bare d b) ] ];
-    placed = λ n i w. elim (same_number n from)
-        [ inl e ↦ subst (λ x. (content_at ms (child_at ms x i)).place ≡ i) (sym e) (swapped_placed i (subst (λ x. i < length (content_at ms x).children) e w))
-        | inr q ↦ ap (λ (xs : List ℕ). (content_at ms (get_or xs i 0)).place) (h.others n q) ∙ unmoved n i (subst (λ (xs : List ℕ). i < length xs) (h.others n q) w) (λ b s. q s.0) ];
+    linked = λ n d m j. elim (same_number d c) [
+      | inl e ↦ inr (subst (λ x. IsBare (content_at ms x)) (sym e) (still_bare c bare))
+      | inr q ↦ elim (a.linked n d m j) [ inl w ↦ inl (stay n d q w) | inr b ↦ inr (still_bare d b) ]
+    ];
+    placed = λ n i w. elim (same_number n from) [
+      | inl e ↦ subst (λ x. (content_at ms (child_at ms x i)).place ≡ i) (sym e) (swapped_placed i (subst (λ x. i < length (content_at ms x).children) e w))
+      | inr q ↦ ap (λ (xs : List ℕ). (content_at ms (get_or xs i 0)).place) (h.others n q) ∙ unmoved n i (subst (λ (xs : List ℕ). i < length xs) (h.others n q) w) (λ b s. q s.0)
+    ];
     pairs_once = λ n. subst (AllPairs ◌≢◌) (sym (h.pairs n)) (a.pairs_once n);
     one_place = λ m n q u v. a.one_place m n q (subst (λ xs. Contains xs q) (h.pairs m) u) (subst (λ xs. Contains xs q) (h.pairs n) v);
   }
@@ -268,9 +281,11 @@ links_of ns mid ms from c place len1 here1 others1 pairs1 place1 len2 place2 oth
 -- the items after one was taken out and the last one took its place
 swapped : (xs ys : List ℕ) (p d : ℕ) → p < length xs → ys ≡ swap_remove xs p d
     → (length ys + 1 ≡ length xs) × ((i : ℕ) → i < length ys → ¬ (i ≡ p) → get_or ys i 0 ≡ get_or xs i 0) × (p < length ys → get_or ys p 0 ≡ get_or xs (length ys) 0)
-swapped xs ys p d w e =
-    (long, (λ i b q. at i b ∙ get_or-set_other xs p i (get_or xs (length xs - 1) d) 0 q),
-        (λ b. at p b ∙ get_or-set_same xs p (get_or xs (length xs - 1) d) 0 w ∙ get_or_default xs (length xs - 1) d 0 (omega arith) ∙ ap (λ k. get_or xs k 0) last))
+swapped xs ys p d w e = (
+  long,
+  (λ i b q. at i b ∙ get_or-set_other xs p i (get_or xs (length xs - 1) d) 0 q),
+  (λ b. at p b ∙ get_or-set_same xs p (get_or xs (length xs - 1) d) 0 w ∙ get_or_default xs (length xs - 1) d 0 (omega arith) ∙ ap (λ k. get_or xs k 0) last),
+)
   where
     long : length ys + 1 ≡ length xs
     long =

@@ -22,5 +22,5 @@ returns-clause-arena c =
     let w = subst (λ (x : ℕ). x < length (content_at ns from).children) (sym c.place_in-place.ensures) there.0 in
     let at = subst (λ (x : ℕ). child_at ns from x ≡ c.args.node) (sym c.place_in-place.ensures) there.1 in
     let h = unlinks_of ns mid ms from c.args.node p w c.take_child.ensures.len c.take_child.ensures.children c.take_child.ensures.others c.take_child.ensures.pairs c.take_child.ensures.place
-        c.renumber.ensures.len c.renumber.ensures.children c.renumber.ensures.pairs c.renumber.ensures.place c.renumber.ensures.places in
+    c.renumber.ensures.len c.renumber.ensures.children c.renumber.ensures.pairs c.renumber.ensures.place c.renumber.ensures.places in
     unlinked_arena c.args.edges.now.keys ns ms from c.args.node p c.requires.arena w at c.requires.bare h

@@ -21,7 +21,7 @@ returns-clause-linked c =
 pub returns-clause-child : goal.returns-clause-child
 returns-clause-child c =
     subst (λ n. IsChild c.push_edge.new.edges.keys c.args.from c.args.label n) (sym (number_is c))
-        (fresh c.args.edges.now.keys c.push_edge.new.edges.keys c.args.nodes.now.items c.push_node.new.nodes.items c.args.from c.args.label c.requires.arena c.requires.within c.in_default.ensures.some (grown c))
+    (fresh c.args.edges.now.keys c.push_edge.new.edges.keys c.args.nodes.now.items c.push_node.new.nodes.items c.args.from c.args.label c.requires.arena c.requires.within c.in_default.ensures.some (grown c))
 
 pub returns-clause-pairs : goal.returns-clause-pairs
 returns-clause-pairs c = pushed_pairs c.args.nodes.now.items c.push_node.new.nodes.items c.in_ok-push_node.ensures.ok
