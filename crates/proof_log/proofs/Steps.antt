@@ -15,7 +15,7 @@ use Rattle.prop_logic.specs.declared.literal.Step.{Step}
 use Rattle.prop_logic.specs.Literal.{cited, all_cited, IsShownStep, IsShownDerivation}
 use Rattle.prop_logic.specs.Solving.{EndsWith}
 use Rattle.proof_log.specs.Shown.{IsShownNumber, IsFirstNotShown}
-use Rattle.proof_log.proofs.Hints.{at_number_in, at_number_none}
+use Rattle.proof_log.proofs.Hints.{at_number_in}
 
 -- an answer for the step at a number is one for the number
 pub number_is_shown : (given : List (List (Signed ℕ))) (steps : List Step) (n : ℕ) (s : Step) (P : Type 0) → 0 < n → n ≤ length steps → s ≡ get_or steps (n - 1) s → P ↔ IsShownStep given (take (n - 1) steps) s → P ↔ IsShownNumber given steps n

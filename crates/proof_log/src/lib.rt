@@ -6,7 +6,5 @@
 mod checker;
 mod marks;
 mod propagation;
-#[cfg(test)]
-mod tests;
 
 pub use checker::{BadStep, Checker};

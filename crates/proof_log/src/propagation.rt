@@ -9,16 +9,7 @@ ghost use Rattle.proof_log.specs.Marks.{room, Holds};
 ghost use Rattle.proof_log.specs.Propagation.{ClosesAll};
 
 use crate::marks::Marks;
-use prop_logic::{Hint, Lit, LitList, Step};
-
-fn complement_of(l: Lit) -> Lit
-    ensures { result ≡ complement l }
-{
-    Lit {
-        positive: !l.positive,
-        atom: l.atom,
-    }
-}
+use prop_logic::{Hint, Lit, LitList, Step, complement};
 
 // Marks the literals of the clause.
 fn mark_all(marks: &mut Marks, clause: &[Lit])
@@ -73,7 +64,7 @@ fn is_tautology(marks: &Marks, clause: &[Lit]) -> bool
     ensures { IsTrue result ↔ IsTautology clause.now }
 {
     for lit in clause {
-        if marks.contains(complement_of(*lit)) {
+        if marks.contains(complement(*lit)) {
             return true;
         }
     }
@@ -117,7 +108,7 @@ fn closes(marks: &mut Marks, given: &[LitList], earlier: &[Step], hints: &[Hint]
             return all_marked(marks, clause.as_slice());
         }
         match only_unmarked(marks, clause.as_slice()) {
-            Some(l) => marks.insert(complement_of(l)),
+            Some(l) => marks.insert(complement(l)),
             None => return false,
         }
     }

@@ -18,7 +18,8 @@ use Rattle.prop_logic.specs.Solving.{IsSubList, EndsWith, MakesTrue, Refutes}
 use Rattle.prop_logic.specs.Valuation.{IsHeld}
 use Rattle.prop_logic.specs.Search.{AreGood, IsCore}
 use Rattle.prop_logic.proofs.ListLaws.{slice_get_append, slice_get_push, slice_get_last, take_of_append, take_whole, Contains-slice_get, slice_get-Contains}
-use Rattle.prop_logic.proofs.ShownLaws.{IsTwoValued, not_both_true, derivation_true}
+use Rattle.inst_logic.proofs.ShownLaws.{not_both_true}
+use Rattle.prop_logic.proofs.ShownLaws.{IsTwoValued, derivation_true}
 
 pub not_not : (b : Bool) → not (not b) ≡ b
 not_not = elim [ true ↦ refl | false ↦ refl ]
@@ -167,7 +168,7 @@ none_true clauses assumptions core steps shown within last valuation t =
     let in_last : Contains last.0.clause one.1 = (one.0, one.2, one.3) in
     let at : Contains (map complement core) one.1 = All-contains (Contains (map complement core)) last.0.clause one.1 last.2 in_last in
     let assumed : Contains assumptions (complement one.1) = All-contains (Contains assumptions) core (complement one.1) (sub_contains core assumptions within) (of_core core one.1 at) in
-    not_both_true held one.1 one.4 (All-contains (IsTrueLiteral held) assumptions (complement one.1) t.assumptions_true assumed)
+    not_both_true held (held_or_not valuation) one.1 one.4 (All-contains (IsTrueLiteral held) assumptions (complement one.1) t.assumptions_true assumed)
 
 pub core_refutes : (n : ℕ) (clauses : List (List (Signed ℕ))) (assumptions core : List (Signed ℕ)) (steps : List Step) → IsCore clauses assumptions core n steps → Refutes n clauses assumptions core steps
 core_refutes n clauses assumptions core steps c = record {

@@ -56,7 +56,7 @@ insert-requires c =
     let below : AtomsBelow (room c.args.marks.now) c.in-Some.clause.now = cited_below (room c.args.marks.now) c.args.given.now c.args.earlier.now c.requires.given c.requires.earlier _ c.in-Some.clause.now (sym c.in-Some.ensures) in
     let here : Contains c.in-Some.clause.now c.in-Some-only_unmarked.l = subst (λ xs. Contains xs c.in-Some-only_unmarked.l) c.as_slice-in-loop-i.ensures c.in-Some-only_unmarked.ensures.here in
     let low : c.in-Some-only_unmarked.l.atom < room c.args.marks.now = All-contains (λ l. l.atom < room c.args.marks.now) c.in-Some.clause.now c.in-Some-only_unmarked.l below here in
-    rw (c.complement_of.ensures, c.loop-i.invariant.same_room) low
+    rw (c.complement.ensures, c.loop-i.invariant.same_room) low
 
 pub returns-in-None-clause-closed : goal.returns-in-None-clause-closed
 returns-in-None-clause-closed c = λ F h.
@@ -81,7 +81,7 @@ loop-i-preserved c =
     let from = left_from name c.args.hints.now c.loop-i.i first_hint c.loop-i-test.true in
     let count = left_count name c.args.hints.now (c.loop-i.i + 1) in
     let some : 0 < length rest = omega (arith, count, c.if-i-hints.false) in
-    let added : c.insert.new.self ≡ with_mark c.loop-i.marks (complement l) = c.insert.ensures ∙ ap (with_mark c.loop-i.marks) c.complement_of.ensures in
+    let added : c.insert.new.self ≡ with_mark c.loop-i.marks (complement l) = c.insert.ensures ∙ ap (with_mark c.loop-i.marks) c.complement.ensures in
     let below : AtomsBelow (room c.args.marks.now) clause = cited_below (room c.args.marks.now) c.args.given.now c.args.earlier.now c.requires.given c.requires.earlier _ clause (sym c.in-Some.ensures) in
     let here : Contains clause l = subst (λ xs. Contains xs l) c.as_slice-in-loop-i.ensures c.in-Some-only_unmarked.ensures.here in
     let low : (complement l).atom < room c.loop-i.marks = subst (λ n. l.atom < n) (sym c.loop-i.invariant.same_room) (All-contains (λ l. l.atom < room c.args.marks.now) clause l below here) in

@@ -14,7 +14,7 @@ pub loop-lit-preserved : goal.loop-lit-preserved
 loop-lit-preserved c =
     let d : Signed ℕ = record { atom = 0; positive = false } in
     All-more (λ m. ¬ Contains c.args.clause.now (complement m)) c.args.clause.now c.loop-lit.lit-index d c.loop-lit-test.true c.loop-lit.invariant
-    (unmarked_out c.args.marks.now c.args.clause.now _ c.requires.marked (c.requires.atoms c.loop-lit.lit-index d c.loop-lit-test.true) (ap (is_marked c.args.marks.now) (sym c.complement_of.ensures) ∙ sym c.contains.ensures ∙ c.if-contains.false))
+    (unmarked_out c.args.marks.now c.args.clause.now _ c.requires.marked (c.requires.atoms c.loop-lit.lit-index d c.loop-lit-test.true) (ap (is_marked c.args.marks.now) (sym c.complement.ensures) ∙ sym c.contains.ensures ∙ c.if-contains.false))
 
 pub returns : goal.returns
 returns c =
@@ -30,7 +30,7 @@ returns-then-contains c =
       λ _. (
         l,
         Contains-get_or c.args.clause.now c.loop-lit.lit-index d c.loop-lit-test.true,
-        marked_in c.args.marks.now c.args.clause.now (complement l) c.requires.marked (c.requires.atoms c.loop-lit.lit-index d c.loop-lit-test.true) (ap (is_marked c.args.marks.now) (sym c.complement_of.ensures) ∙ sym c.contains.ensures ∙ c.if-contains.true),
+        marked_in c.args.marks.now c.args.clause.now (complement l) c.requires.marked (c.requires.atoms c.loop-lit.lit-index d c.loop-lit-test.true) (ap (is_marked c.args.marks.now) (sym c.complement.ensures) ∙ sym c.contains.ensures ∙ c.if-contains.true),
       ),
       λ _. refl,
     )

@@ -2,8 +2,8 @@
 ghost use Rattle.std.specs.Prelude.{◌<◌, IfOk};
 ghost use Rattle.prop_logic.specs.Literal.{AtomsBelow, AllAtomsBelow, StepsBelow};
 
-use crate::{BadStep, Checker};
 use inst_logic::Memory;
+use proof_log::{BadStep, Checker};
 use prop_logic::{Derivation, Hint, HintList, Lit, LitList, LitLists, Step};
 use std::alloc::Global;
 use std::test::Fail;

@@ -1,0 +1,9 @@
+//! Worked questions to the solvers, and worked calls on their trails.
+#![tactic(auto)]
+
+#[cfg(test)]
+mod derivations;
+#[cfg(test)]
+mod plain_rows;
+#[cfg(test)]
+mod valuations;
