@@ -11,6 +11,7 @@ use Rattle.cdcl_trail.specs.declared.entry.Entry.{Entry}
 use Rattle.cdcl_trail.specs.Attached.{AreAttached}
 use Rattle.cdcl_trail.specs.Clauses.{clause_number, RemovesClause}
 use Rattle.cdcl_trail.specs.Trail.{Trail, IsTrail, reason_of, literals_of}
+use Rattle.cdcl_core.specs.declared.learned.Learned.{Learned}
 use Rattle.cdcl_core.specs.declared.log.Log.{Log}
 use Rattle.cdcl_core.specs.declared.search.Search.{Search}
 use Rattle.cdcl_core.specs.Log.{IsFound, IsLog}
@@ -69,6 +70,16 @@ found_clause (Some b) clauses n some e = (b.now, sym e)
 -- such states one after another
 pub same_none : (s : Search) → IsKept s → IsSameButClauses s s
 same_none s k = record { kept = k; trail = refl; log = refl; assumed = refl; checked = refl }
+
+-- nothing rests on the list of the learned clauses
+pub same_learned : (s : Search) (learned : Learned) → IsKept s → IsSameButClauses s (record s { learned = learned })
+same_learned s learned k = record {
+  kept = record { log = k.log; given = k.given; attached = k.attached; marks = k.marks; phases = k.phases };
+  trail = refl;
+  log = refl;
+  assumed = refl;
+  checked = refl;
+}
 
 pub same_both : (first old new : Search) → IsSameButClauses first old → IsSameButClauses old new → IsSameButClauses first new
 same_both first old new a b = record {

@@ -7,6 +7,7 @@ mod analysis;
 mod cdcl;
 mod cut;
 mod explain;
+mod learned;
 mod log;
 mod marks;
 mod order;

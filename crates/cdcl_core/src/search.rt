@@ -17,6 +17,7 @@ ghost use Rattle.cdcl_core.specs.Search.{IsKept, IsTrueUpTo, IsSearch, IsCoreIn,
 
 use crate::analysis::{Analysis, analyze, analyze_given, literal_at};
 use crate::cut::cut;
+use crate::learned::{Learned, count_levels};
 use crate::log::{Log, put_name};
 use crate::marks::Marks;
 use crate::pace::Pace;
@@ -35,7 +36,7 @@ pub(crate) struct Search {
     pub(crate) log: Log,
     pub(crate) clauses: Clauses,
     pub(crate) trail: Trail,
-    pub(crate) learned: Vec<usize>,
+    pub(crate) learned: Learned,
     pub(crate) marks: Marks,
     pub(crate) phases: Vec<bool>,
     pub(crate) next: usize,
@@ -286,7 +287,7 @@ impl Search {
             log: Log::new(alloc),
             clauses: Clauses::new(alloc),
             trail: Trail::new(alloc),
-            learned: Vec::new(alloc),
+            learned: Learned::new(alloc),
             marks: Marks::new(alloc),
             phases: Vec::new(alloc),
             next: 0,
@@ -373,14 +374,14 @@ impl Search {
         self.clauses.forget(number);
     }
 
-    // Forgets the older half of the learned clauses.
+    // Forgets learned clauses of many levels, where there are too many.
     fn reduce(&mut self)
         requires kept { IsKept self.old }
         requires trail { IsTrail self.old.trail.trail }
         ensures same { IsSameButClauses self.old self.new }
     {
-        for place in 0..self.learned.len() / 2 {
-            let number = self.learned.get(place).copied().unwrap_or(0);
+        for _ in 0..self.learned.sort() {
+            let number = self.learned.pop();
             self.forget(number);
         }
     }
@@ -412,10 +413,12 @@ impl Search {
         ensures assumed { self.new.assumed ≡ self.old.assumed }
     {
         let hint = Hint::Step(self.log.steps.len());
-        let key = self.clauses.add(self.log.cited(hint))?;
+        let clause = self.log.cited(hint);
+        let levels = count_levels(self.alloc, &self.trail, clause)?;
+        let key = self.clauses.add(clause)?;
         put_name(&mut self.log.names, key, hint)?;
         self.trail.attach(&self.clauses, key)?;
-        self.learned.push(key)?;
+        self.learned.push(key, levels)?;
         Ok(key)
     }
 

@@ -1,8 +1,13 @@
-use Rattle.cdcl_core.proofs.ForgetLaws.{same_none, same_both}
+use Rattle.cdcl_core.specs.declared.search.Search.{Search}
+use Rattle.cdcl_core.proofs.ForgetLaws.{same_learned, same_both}
 use Rattle.cdcl_core.proofs.search.Search.reduce.Goals as goal
 
-pub loop-place-init : goal.loop-place-init
-loop-place-init c = same_none c.args.self.now c.requires.kept
+pub loop-init : goal.loop-init
+loop-init c = same_learned c.args.self.now c.sort-end.new.self c.requires.kept
 
-pub loop-place-preserved : goal.loop-place-preserved
-loop-place-preserved c = same_both c.args.self.now c.loop-place.self c.forget.new.self c.loop-place.invariant c.forget.ensures.same
+pub loop-preserved : goal.loop-preserved
+loop-preserved c =
+    let s = c.loop.self in
+    let learned = c.pop-number.new.self in
+    let mid : Search = record s { learned = learned } in
+    same_both c.args.self.now mid c.forget.new.self (same_both c.args.self.now s mid c.loop.invariant (same_learned s learned c.loop.invariant.kept)) c.forget.ensures.same
