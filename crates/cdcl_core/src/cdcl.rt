@@ -7,8 +7,8 @@ use prop_logic::{Answer, Lit, Solver};
 use std::alloc::Global;
 use std::marker::Model;
 
-/// A solver that learns the clause of the first unique implication point from each conflict. What it learned, the values
-/// that follow from the clauses alone and the last values of the atoms stay from one question to the next.
+/// A solver that learns the clause of the first unique implication point from each conflict. What it learned and did not
+/// forget, the values that it gave and the last values of the atoms stay from one question to the next.
 #[derive(Drop)]
 pub struct Cdcl {
     search: Search,

@@ -157,7 +157,7 @@ impl Order {
         self.rise(place);
     }
 
-    // Makes all activities smaller, without a change of their order.
+    // Makes all activities smaller; close ones become equal.
     fn shrink(&mut self) {
         for place in 0..self.activities.len() {
             if place < self.activities.len() {

@@ -8,7 +8,7 @@ use slab::Slab;
 use std::alloc::Global;
 use std::marker::Model;
 
-/// Clauses by numbers, counted from 1 in the order in which they were added.
+/// Clauses by numbers, counted from 1. The number of a clause that was forgotten may be given again.
 #[derive(Drop)]
 pub struct Clauses {
     alloc: Global,

@@ -8,9 +8,9 @@ use inst_logic::Memory;
 use std::alloc::Global;
 use std::marker::Model;
 
-/// A solver that searches with unit propagation and learns one clause from each conflict, which it keeps as long as the
-/// question lasts (Davis, Logemann and Loveland, 1962; Marques-Silva and Sakallah, GRASP, 1996). It is written to be seen
-/// right; each question begins anew.
+/// A solver that gives the atoms values one after the other and goes back from a clause that is false to the last choice that
+/// it depends on (Davis, Logemann and Loveland, A machine program for theorem-proving, 1962). It is written to be seen right,
+/// and looks at all clauses at each value; each question begins anew.
 #[derive(Drop)]
 pub struct Plain {
     alloc: Global,
