@@ -6,4 +6,8 @@ mod derivations;
 #[cfg(test)]
 mod plain_rows;
 #[cfg(test)]
+mod questions;
+#[cfg(test)]
+mod trails;
+#[cfg(test)]
 mod valuations;

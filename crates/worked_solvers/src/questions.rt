@@ -1,0 +1,348 @@
+// Questions whose answers are known, asked of both solvers through the trait.
+ghost use Rattle.std.specs.Prelude.{◌≡◌, ◌+◌, ◌*◌, ◌<◌, ◌≤◌, IfOk, OnOk};
+ghost use Rattle.prop_logic.specs.Literal.{AllAtomsBelow, StepsBelow};
+
+use cdcl_core::Cdcl;
+use inst_logic::Memory;
+use proof_log::Checker;
+use prop_logic::{Answer, Derivation, Lit, LitList, LitLists, Plain, Solver};
+use std::alloc::Global;
+use std::test::Fail;
+
+fn lit(atom: usize, positive: bool) -> Lit
+    ensures { result ≡ (record { positive = positive; atom = atom }) }
+{
+    Lit { positive, atom }
+}
+
+fn make_atoms<S: Solver>(solver: &mut S, count: usize) -> Result<(), Memory>
+    requires { S.atoms solver.old ≡ 0 }
+    ensures { OnOk result (S.atoms solver.new ≡ count) }
+{
+    for _ in 0..count {
+        solver.new_atom()?;
+    }
+    Ok(())
+}
+
+// The clauses that have two atoms each, for the first `count` pairs of atoms.
+fn add_pairs<S: Solver>(solver: &mut S, count: usize) -> Result<(), Memory>
+    requires atoms { count + count ≤ S.atoms solver.old }
+    requires few { count < 1000 }
+    ensures { OnOk result (S.atoms solver.new ≡ S.atoms solver.old) }
+{
+    for i in 0..count {
+        solver.add(&[lit(2 * i, true), lit(2 * i + 1, true)])?;
+    }
+    Ok(())
+}
+
+// The eight clauses of three atoms from this one on, with all signs.
+fn add_signs<S: Solver>(solver: &mut S, first: usize) -> Result<(), Memory>
+    requires atoms { first + 2 < S.atoms solver.old }
+    requires few { first < 1000 }
+    ensures { OnOk result (S.atoms solver.new ≡ S.atoms solver.old) }
+{
+    for bits in 0..8u8 {
+        solver.add(&[
+            lit(first, bits & 1 != 0),
+            lit(first + 1, bits & 2 != 0),
+            lit(first + 2, bits & 4 != 0),
+        ])?;
+    }
+    Ok(())
+}
+
+// The lengths of a core, of a derivation, and of its last clause, with the first literals of core and clause.
+#[derive(Clone, Copy, Debug, PartialEq, Eq)]
+struct Refutation {
+    core: usize,
+    steps: usize,
+    literals: usize,
+    assumed: Option<Lit>,
+    shown: Option<Lit>,
+}
+
+fn summary(answer: &Answer) -> Option<Refutation> {
+    match answer {
+        Answer::Sat(_) => None,
+        Answer::Unsat { core, derivation } => match derivation.as_slice().last() {
+            Some(step) => Some(Refutation {
+                core: core.len(),
+                steps: derivation.len(),
+                literals: step.clause.len(),
+                assumed: core.get(0).copied(),
+                shown: step.clause.get(0).copied(),
+            }),
+            None => None,
+        },
+    }
+}
+
+// The values of atoms 0 and 1.
+fn values(answer: &Answer) -> Option<(bool, bool)> {
+    match answer {
+        Answer::Sat(valuation) => Some((valuation.value(0), valuation.value(1))),
+        Answer::Unsat { .. } => None,
+    }
+}
+
+// What is answered of the clauses 0 | 1 and ~0: alone, under not 1, and under an assumption and its complement.
+#[derive(Drop)]
+struct Answers {
+    values: Option<(bool, bool)>,
+    refuted: Option<Refutation>,
+    clash: Option<usize>,
+}
+
+fn row_of<S: Solver>(solver: &mut S) -> Result<Answers, Memory>
+    requires { S.atoms solver.old ≡ 0 }
+{
+    make_atoms(solver, 2)?;
+    solver.add(&[lit(0, true), lit(1, true)])?;
+    solver.add(&[lit(0, false)])?;
+    let answer = solver.solve(&[])?;
+    let refuted = solver.solve(&[lit(1, false)])?;
+    let clash = solver.solve(&[lit(0, false), lit(1, true), lit(1, false)])?;
+    Ok(Answers {
+        values: values(&answer),
+        refuted: summary(&refuted),
+        clash: summary(&clash).map(|r| r.core),
+    })
+}
+
+fn row<S: Solver>(mut solver: S) -> Result<Answers, Memory>
+    requires { S.atoms solver ≡ 0 }
+{
+    row_of(&mut solver)
+}
+
+#[test]
+fn the_row_is_answered(rt: HostRuntime) -> Result<(), Fail> {
+    let found = row(Cdcl::new(rt.alloc()))?;
+    let want = Refutation {
+        core: 1,
+        steps: 1,
+        literals: 1,
+        assumed: Some(lit(1, false)),
+        shown: Some(lit(1, true)),
+    };
+    assert_eq!(rt; found.values, Some((false, true)));
+    assert_eq!(rt; found.refuted, Some(want));
+    assert_eq!(rt; found.clash, Some(1));
+    Ok(())
+}
+
+// The length of the core where the eight clauses over three atoms are refuted.
+fn core_of_signs<S: Solver>(mut solver: S) -> Result<Option<usize>, Memory>
+    requires { S.atoms solver ≡ 0 }
+{
+    make_atoms(&mut solver, 3)?;
+    add_signs(&mut solver, 0)?;
+    let answer = solver.solve(&[])?;
+    Ok(summary(&answer).map(|r| r.core))
+}
+
+#[test]
+fn both_solvers_refute_eight_clauses(rt: HostRuntime) -> Result<(), Fail> {
+    assert_eq!(rt; core_of_signs(Cdcl::new(rt.alloc()))?, Some(0));
+    assert_eq!(rt; core_of_signs(Plain::new(rt.alloc()))?, Some(0));
+    Ok(())
+}
+
+fn refute_signs_by<S: Solver>(solver: &mut S) -> Result<Option<Refutation>, Memory>
+    requires { S.atoms solver.old ≡ 0 }
+{
+    make_atoms(solver, 83)?;
+    add_pairs(solver, 40)?;
+    add_signs(solver, 80)?;
+    let answer = solver.solve(&[])?;
+    Ok(summary(&answer))
+}
+
+// What refutes the eight clauses over the last three atoms, after forty clauses over the others.
+fn refute_signs<S: Solver>(mut solver: S) -> Result<Option<Refutation>, Memory>
+    requires { S.atoms solver ≡ 0 }
+{
+    refute_signs_by(&mut solver)
+}
+
+#[test]
+fn clauses_of_forty_pairs_are_left_out(rt: HostRuntime) -> Result<(), Fail> {
+    let found = refute_signs(Cdcl::new(rt.alloc()))?;
+    assert_eq!(rt; found.map(|r| (r.core, r.steps <= 64)), Some((0, true)));
+    Ok(())
+}
+
+// The eight clauses of atoms 0, 1 and 2 with all signs.
+fn all_signs(alloc: Global) -> Result<LitLists, Memory>
+    ensures { IfOk result (AllAtomsBelow 3) }
+{
+    let mut clauses = LitLists::new(alloc);
+    for bits in 0..8u8 {
+        let signs = [
+            lit(0, bits & 1 != 0),
+            lit(1, bits & 2 != 0),
+            lit(2, bits & 4 != 0),
+        ];
+        clauses.push(LitList::from(Vec::from_slice(alloc, &signs)?))?;
+    }
+    Ok(clauses)
+}
+
+fn add_all<S: Solver>(solver: &mut S, clauses: &LitLists) -> Result<(), Memory>
+    requires { AllAtomsBelow (S.atoms solver.old) clauses.now }
+    ensures { OnOk result (S.atoms solver.new ≡ S.atoms solver.old) }
+{
+    for clause in clauses.as_slice() {
+        solver.add(clause.as_slice())?;
+    }
+    Ok(())
+}
+
+// Whether the checker says that the steps refute the clauses over three atoms.
+fn is_refuted(alloc: Global, given: &LitLists, derivation: &Derivation) -> Result<bool, Memory>
+    requires given { AllAtomsBelow 3 given.now }
+    requires derivation { StepsBelow 3 derivation.now }
+{
+    let mut checker = Checker::with_room(alloc, 3, given, derivation)?;
+    Ok(checker.refutes(given, derivation).is_ok())
+}
+
+// The length of the core, and whether the checker accepts the derivation.
+fn checked<S: Solver>(
+    alloc: Global,
+    solver: &mut S,
+    given: &LitLists,
+) -> Result<Option<(usize, bool)>, Memory>
+    requires given { AllAtomsBelow 3 given.now }
+    requires atoms { S.atoms solver.old ≡ 3 }
+{
+    match solver.solve(&[])? {
+        Answer::Sat(_) => Ok(None),
+        Answer::Unsat { core, derivation } => {
+            Ok(Some((core.len(), is_refuted(alloc, given, &derivation)?)))
+        }
+    }
+}
+
+#[test]
+fn the_checker_accepts_what_refutes_eight_clauses(rt: HostRuntime) -> Result<(), Fail> {
+    let given = all_signs(rt.alloc())?;
+    let mut cdcl = Cdcl::new(rt.alloc());
+    make_atoms(&mut cdcl, 3)?;
+    add_all(&mut cdcl, &given)?;
+    assert_eq!(rt; checked(rt.alloc(), &mut cdcl, &given)?, Some((0, true)));
+    Ok(())
+}
+
+// The clauses that say that atom i gives atom i + 1, for the first `count` atoms, after the first atom and before the
+// complement of the last.
+fn add_chain<S: Solver>(solver: &mut S, count: usize) -> Result<(), Memory>
+    requires atoms { count + 1 ≤ S.atoms solver.old }
+    requires few { count < 1000000 }
+    ensures { OnOk result (S.atoms solver.new ≡ S.atoms solver.old) }
+{
+    solver.add(&[lit(count, false)])?;
+    for i in 0..count {
+        solver.add(&[lit(i, false), lit(i + 1, true)])?;
+    }
+    solver.add(&[lit(0, true)])?;
+    Ok(())
+}
+
+// The number of steps that refute a chain.
+fn steps_of_chain<S: Solver>(mut solver: S, count: usize) -> Result<Option<usize>, Memory>
+    requires atoms { S.atoms solver ≡ 0 }
+    requires few { count < 1000000 }
+{
+    make_atoms(&mut solver, count + 1)?;
+    add_chain(&mut solver, count)?;
+    let answer = solver.solve(&[])?;
+    Ok(summary(&answer).map(|r| r.steps))
+}
+
+// The clauses that say that the pigeon has a hole.
+fn add_pigeon<S: Solver>(solver: &mut S, pigeon: usize, holes: usize) -> Result<(), Memory>
+    requires atoms { pigeon * 8 + 8 ≤ S.atoms solver.old }
+    requires few { pigeon < 100 }
+    ensures { OnOk result (S.atoms solver.new ≡ S.atoms solver.old) }
+{
+    let first = pigeon * 8;
+    let all = [
+        lit(first, true),
+        lit(first + 1, true),
+        lit(first + 2, true),
+        lit(first + 3, true),
+        lit(first + 4, true),
+        lit(first + 5, true),
+        lit(first + 6, true),
+        lit(first + 7, true),
+    ];
+    solver.add(&all[..holes.min(8)])?;
+    Ok(())
+}
+
+// No two of the pigeons have the hole.
+fn add_hole<S: Solver>(solver: &mut S, hole: usize, pigeons: usize) -> Result<(), Memory>
+    requires atoms { pigeons * 8 ≤ S.atoms solver.old }
+    requires hole { hole < 8 }
+    requires few { pigeons < 100 }
+    ensures { OnOk result (S.atoms solver.new ≡ S.atoms solver.old) }
+{
+    for one in 0..pigeons {
+        add_pairs_after(solver, hole, one, pigeons)?;
+    }
+    Ok(())
+}
+
+fn add_pairs_after<S: Solver>(
+    solver: &mut S,
+    hole: usize,
+    one: usize,
+    pigeons: usize,
+) -> Result<(), Memory>
+    requires atoms { pigeons * 8 ≤ S.atoms solver.old }
+    requires hole { hole < 8 }
+    requires one { one < pigeons }
+    requires few { pigeons < 100 }
+    ensures { OnOk result (S.atoms solver.new ≡ S.atoms solver.old) }
+{
+    for other in one + 1..pigeons {
+        solver.add(&[lit(one * 8 + hole, false), lit(other * 8 + hole, false)])?;
+    }
+    Ok(())
+}
+
+// The number of steps that refute that one pigeon more than holes has a hole of its own.
+fn steps_of_pigeons<S: Solver>(mut solver: S, holes: usize) -> Result<Option<usize>, Memory>
+    requires atoms { S.atoms solver ≡ 0 }
+    requires few { holes < 8 }
+{
+    make_atoms(&mut solver, holes * 8 + 8)?;
+    for pigeon in 0..holes + 1 {
+        add_pigeon(&mut solver, pigeon, holes)?;
+    }
+    for hole in 0..holes {
+        add_hole(&mut solver, hole, holes + 1)?;
+    }
+    let answer = solver.solve(&[])?;
+    Ok(summary(&answer).map(|r| r.steps))
+}
+
+#[test]
+fn a_chain_is_one_step(rt: HostRuntime) -> Result<(), Fail> {
+    for count in [1, 10, 10_000] {
+        assert_eq!(rt; steps_of_chain(Cdcl::new(rt.alloc()), count)?, Some(1));
+    }
+    Ok(())
+}
+
+#[test]
+fn pigeons_are_refuted_in_few_steps(rt: HostRuntime) -> Result<(), Fail> {
+    for row in [(2, 5), (4, 50), (6, 1500)] {
+        let steps = steps_of_pigeons(Cdcl::new(rt.alloc()), row.0)?;
+        assert!(rt; steps.is_some_and(|found| found <= row.1));
+    }
+    Ok(())
+}
