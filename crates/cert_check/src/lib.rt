@@ -18,8 +18,6 @@ mod places;
 pub mod refutation;
 pub mod saturation;
 mod steps;
-#[cfg(test)]
-mod tests;
 mod walk;
 
 pub use cert_format::Complaint;

@@ -1,4 +1,4 @@
-//! Worked clauses and certificates, mostly built from texts: what the solvers, unification, the checker and the truth test
+//! Worked clauses and certificates, mostly built from texts: what the solvers, the checker and the truth test
 //! say of them.
 #![tactic(auto)]
 
@@ -9,6 +9,6 @@ mod assumptions;
 #[cfg(test)]
 mod building;
 #[cfg(test)]
-mod tests;
+mod shared;
 #[cfg(test)]
-mod unification;
+mod tests;
