@@ -181,11 +181,11 @@ marks_more t c l m0 m1 m2 o0 o1 o2 a b = record {
 }
 
 -- one hint with one literal outside, and what is left
-unit_step : (F c : List (Signed ℕ)) (l : Signed ℕ) (rest : List (Option (List (Signed ℕ)))) → IsOnlyOutside F c l → ClosesAll (F ++ complement l ∷ []) rest → ClosesAll F (Some c ∷ rest)
+pub unit_step : (F c : List (Signed ℕ)) (l : Signed ℕ) (rest : List (Option (List (Signed ℕ)))) → IsOnlyOutside F c l → ClosesAll (F ++ complement l ∷ []) rest → ClosesAll F (Some c ∷ rest)
 unit_step F c l [] one k = absurd k
 unit_step F c l (h ∷ hs) one k = (l, one, k)
 
-named_closes : (F c : List (Signed ℕ)) (o : Option (List (Signed ℕ))) → o ≡ Some c → All (Contains F) c → ClosesAll F (o ∷ [])
+pub named_closes : (F c : List (Signed ℕ)) (o : Option (List (Signed ℕ))) → o ≡ Some c → All (Contains F) c → ClosesAll F (o ∷ [])
 named_closes F c None e all = absurd cc
 named_closes F c (Some d) e all = subst (λ x. All (Contains F) x) (sym (same_Some d c e)) all
 
@@ -209,7 +209,7 @@ closes_kept log whole entries i e marks stay more hints at has x = λ F none cov
     ]) h.0
 
 -- F with one literal more
-free_more : (t : Trail) (whole : List Entry) (e : Entry) (F : List (Signed ℕ)) → IsTrail t → ((d : Entry) → Contains whole d → Contains t.entries d) → Contains t.entries e → IsFree whole F → IsFree whole (F ++ complement e.lit ∷ [])
+pub free_more : (t : Trail) (whole : List Entry) (e : Entry) (F : List (Signed ℕ)) → IsTrail t → ((d : Entry) → Contains whole d → Contains t.entries d) → Contains t.entries e → IsFree whole F → IsFree whole (F ++ complement e.lit ∷ [])
 free_more t whole e F v part ce none = λ d c k.
     elim (Contains-push_cases F (complement e.lit) d.lit k) [
       | inl old ↦ none d c old

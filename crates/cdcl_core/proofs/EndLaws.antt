@@ -22,9 +22,9 @@ use Rattle.prop_logic.specs.Valuation.{IsHeld}
 use Rattle.prop_logic.proofs.ListLaws.{All-from_contained}
 use Rattle.prop_logic.proofs.SearchLaws.{sub_more, sub_push, contains_map, shown_push, good_none, none_true, core_refutes}
 use Rattle.cdcl_trail.specs.declared.entry.Entry.{Entry}
-use Rattle.cdcl_trail.specs.Clauses.{clause_number}
 use Rattle.cdcl_trail.specs.Trail.{Trail, IsTrail, IsDecision, level_of, value_of, reason_of, literals_of}
 use Rattle.cdcl_trail.specs.Propagation.{IsFalseIn, IsStable}
+use Rattle.cdcl_core.specs.Log.{IsFound}
 use Rattle.cdcl_core.specs.declared.search.Search.{Search}
 use Rattle.cdcl_core.specs.Analysis.{HasDecisionsAnd}
 use Rattle.cdcl_core.specs.Search.{IsKept, IsTrueUpTo, IsInCore, IsCoreIn}
@@ -90,17 +90,17 @@ literal_true t valuation l v values c =
     by_sign true s at = subst (λ b. signed b (IsHeld valuation l.atom)) (sym s) (at ∙ ap (λ b. Some (cond b true false)) s)
     by_sign false s at = subst (λ b. signed b (IsHeld valuation l.atom)) (sym s) (λ h. false≢true (same_Some false true (sym (at ∙ ap (λ b. Some (cond b true false)) s) ∙ h)))
 
-pub satisfied : (assumptions : List (Signed ℕ)) (s : Search) (valuation : List Bool) → IsKept s → IsTrail s.trail → IsStable s.clauses s.trail.entries → ((k : ℕ) → k < s.trail.atoms → level_of s.trail.entries k ≡ None → ⊥)
-    → ((k : ℕ) → k < s.trail.atoms → slice_get valuation k ≡ Some (unwrap_or (value_of s.trail.entries (record { positive = true; atom = k })) false)) → All (IsTrueUpTo s.trail.entries s.assumed) assumptions → MakesTrue valuation s.log.added assumptions
+pub satisfied : (assumptions : List (Signed ℕ)) (s : Search) (valuation : List Bool) → IsKept s → IsTrail s.trail.trail → IsStable s.clauses s.trail.trail.entries → ((k : ℕ) → k < s.trail.trail.atoms → level_of s.trail.trail.entries k ≡ None → ⊥)
+    → ((k : ℕ) → k < s.trail.trail.atoms → slice_get valuation k ≡ Some (unwrap_or (value_of s.trail.trail.entries (record { positive = true; atom = k })) false)) → All (IsTrueUpTo s.trail.trail.entries s.assumed) assumptions → MakesTrue valuation s.log.added assumptions
 satisfied assumptions s valuation k v stable full values all =
-    let t = s.trail in
+    let t = s.trail.trail in
     record {
       clauses_true = All-from_contained (IsTrueClause (IsHeld valuation)) s.log.added (λ c inside.
-          let n = All-contains (λ d. (j : ℕ) × (clause_number s.clauses j ≡ Some d)) s.log.added c k.log.held inside in
+          let n = All-contains (IsFound s.clauses s.log.names.items) s.log.added c k.log.held inside in
           let low = All-contains (AtomsBelow t.atoms) s.log.added c k.log.below inside in
           elim (clause_cases t c (All-weaker (λ l. l.atom < t.atoms) (λ l. Contains (literals_of t.entries) l ⊎ IsFalseIn t.entries l) (λ l h. true_or_false t l (full l.atom h)) c low)) [
             | inl f ↦ (f.1.0, f.0, f.1.1, f.1.2, literal_true t valuation f.0 v values f.2)
-            | inr none ↦ absurd (stable.no_conflict n.0 (c, n.1, none))
+            | inr none ↦ absurd (stable.no_conflict n.0 (c, n.2, none))
           ]);
       assumptions_true = All-weaker (IsTrueUpTo t.entries s.assumed) (IsTrueLiteral (IsHeld valuation)) (λ l f. literal_true t valuation l v values (subst (Contains (literals_of t.entries)) f.2 (to_literals t.entries f.0 f.1))) assumptions all;
     }

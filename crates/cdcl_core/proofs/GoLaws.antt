@@ -39,16 +39,16 @@ marks_continue assumptions s new m None c = (c.0, record { same = record { atoms
 marks_continue assumptions s new m (Some a) c = record { kept = c.kept; same = record { atoms = c.same.atoms; added = c.same.added }; answered = c.answered }
 
 -- the end by steps
-pub refuted_ends : (assumptions core : List (Signed ℕ)) (old new : Search) (clause : List (Signed ℕ)) (hints : List Hint) (derivation : List Step) → clause ≡ map complement core → IsSubList core assumptions → IsKept new → new.log.added ≡ old.log.added → new.trail ≡ old.trail
+pub refuted_ends : (assumptions core : List (Signed ℕ)) (old new : Search) (clause : List (Signed ℕ)) (hints : List Hint) (derivation : List Step) → clause ≡ map complement core → IsSubList core assumptions → IsKept new → new.log.added ≡ old.log.added → new.trail.trail ≡ old.trail.trail
     → new.log.steps ≡ old.log.steps ++ (record { clause = clause; hints = hints }) ∷ [] → IsCutOf new.log.steps derivation → Ends assumptions old new (Unsat core derivation)
 refuted_ends assumptions core old new clause hints derivation is within k added trail steps cuts =
-    let atoms : new.trail.atoms ≡ old.trail.atoms = ap (λ t. t.atoms) trail in
+    let atoms : new.trail.trail.atoms ≡ old.trail.trail.atoms = ap (λ t. t.atoms) trail in
     let last : EndsWith new.log.steps (map complement core) = subst (λ c. EndsWith new.log.steps c) is (subst (λ ss. EndsWith ss clause) (sym steps) (ends_with_push old.log.steps (record { clause = clause; hints = hints }))) in
     record {
       kept = k;
       same = record { atoms = atoms; added = added };
-      answered = subst (λ xs. IsAnswer old.trail.atoms xs assumptions (Unsat core derivation)) added
-          (subst (λ n. IsAnswer n new.log.added assumptions (Unsat core derivation)) atoms (answer_refutes new.trail.atoms new.log.added assumptions core new.log.steps derivation k.log.good within last cuts));
+      answered = subst (λ xs. IsAnswer old.trail.trail.atoms xs assumptions (Unsat core derivation)) added
+          (subst (λ n. IsAnswer n new.log.added assumptions (Unsat core derivation)) atoms (answer_refutes new.trail.trail.atoms new.log.added assumptions core new.log.steps derivation k.log.good within last cuts));
     }
 
 -- a false assumption
@@ -58,15 +58,15 @@ false_entry t l o v c read =
     (f.0, f.1, sym f.2, sym (read ∙ reason_found t f.0 l.atom v f.1 (ap (λ x. x.atom) (sym f.2))))
 
 -- all decisions are assumptions where no other level is open
-pub all_assumed : (assumptions : List (Signed ℕ)) (s : Search) → IsTrail s.trail → s.trail.level ≤ s.assumed → IsSearch assumptions s → (e : Entry) → Contains s.trail.entries e → IsDecision e → Contains assumptions e.lit
+pub all_assumed : (assumptions : List (Signed ℕ)) (s : Search) → IsTrail s.trail.trail → s.trail.trail.level ≤ s.assumed → IsSearch assumptions s → (e : Entry) → Contains s.trail.trail.entries e → IsDecision e → Contains assumptions e.lit
 all_assumed assumptions s v low k e c chosen =
-    let top = All-contains (λ x. x.level ≤ s.trail.level) s.trail.entries e v.levels c in
+    let top = All-contains (λ x. x.level ≤ s.trail.trail.level) s.trail.trail.entries e v.levels c in
     k.decisions e c chosen (omega (arith, top, low))
 
-pub core_closes : (s : Search) (marks : List Bool) (assumptions core : List (Signed ℕ)) (l : Signed ℕ) (hints : List Hint) → IsTrail s.trail → s.trail.level ≤ s.assumed → IsSearch assumptions s → Contains assumptions l → IsCoreIn s.trail.entries marks l assumptions core → ShowsGiven s.log s.trail.entries (complement l) marks hints
+pub core_closes : (s : Search) (marks : List Bool) (assumptions core : List (Signed ℕ)) (l : Signed ℕ) (hints : List Hint) → IsTrail s.trail.trail → s.trail.trail.level ≤ s.assumed → IsSearch assumptions s → Contains assumptions l → IsCoreIn s.trail.trail.entries marks l assumptions core → ShowsGiven s.log s.trail.trail.entries (complement l) marks hints
     → ClosesAll (map complement core) (map (cited s.log.added s.log.steps) hints)
 core_closes s marks assumptions core l hints v low k inside c shows =
-    shows (map complement core) (λ e d other h. core_free s.trail marks l assumptions core v c e d other h) (core_has s.trail marks l assumptions core inside (all_assumed assumptions s v low k) c)
+    shows (map complement core) (λ e d other h. core_free s.trail.trail marks l assumptions core v c e d other h) (core_has s.trail.trail marks l assumptions core inside (all_assumed assumptions s v low k) c)
 
 pub core_atoms : (n : ℕ) (assumptions core : List (Signed ℕ)) → AtomsBelow n assumptions → IsSubList core assumptions → AtomsBelow n core
 core_atoms n assumptions core low within = All-weaker (Contains assumptions) (λ l. l.atom < n) (λ l c. All-contains (λ x. x.atom < n) assumptions l low c) core (sub_contains core assumptions within)
@@ -75,10 +75,10 @@ pub if_ok : {T E : Type 0} (r : Result T E) (P Q : T → Type 0) → ((x : T) �
 if_ok (Ok x) P Q f h = f x h
 if_ok (Err e) P Q f h = tt
 
-pub up_to_all : (assumptions : List (Signed ℕ)) (s : Search) → IsTrail s.trail → s.trail.level ≤ s.assumed → All (Contains (literals_of s.trail.entries)) assumptions → All (IsTrueUpTo s.trail.entries s.assumed) assumptions
-up_to_all assumptions s v low all = All-weaker (Contains (literals_of s.trail.entries)) (IsTrueUpTo s.trail.entries s.assumed) (λ l c.
-    let f = of_literals s.trail.entries l c in
-    let top = All-contains (λ x. x.level ≤ s.trail.level) s.trail.entries f.0 v.levels f.1 in
+pub up_to_all : (assumptions : List (Signed ℕ)) (s : Search) → IsTrail s.trail.trail → s.trail.trail.level ≤ s.assumed → All (Contains (literals_of s.trail.trail.entries)) assumptions → All (IsTrueUpTo s.trail.trail.entries s.assumed) assumptions
+up_to_all assumptions s v low all = All-weaker (Contains (literals_of s.trail.trail.entries)) (IsTrueUpTo s.trail.trail.entries s.assumed) (λ l c.
+    let f = of_literals s.trail.trail.entries l c in
+    let top = All-contains (λ x. x.level ≤ s.trail.trail.level) s.trail.trail.entries f.0 v.levels f.1 in
     (f.0, f.1, sym f.2, omega (arith, top, low))) assumptions all
 
 pub none_of : {X : Type 0} (o : Option X) → is_some o ≡ false → o ≡ None
@@ -98,17 +98,17 @@ pub one_mark_size : (n a : ℕ) (m : List Bool) → m ≡ set (replicate n false
 one_mark_size n a m e h = (one_mark n a m e h).0
 
 -- an assumption and its complement
-pub clash_ends : (assumptions core : List (Signed ℕ)) (s : Search) (m : List Bool) (l : Signed ℕ) (derivation : List Step) → m ≡ set (replicate (length s.marks) false) l.atom true → IsKept s → AtomsBelow s.trail.atoms assumptions → IsCoreIn s.trail.entries m l assumptions core → Contains assumptions l → Contains assumptions (complement l)
-    → (e : Entry) × Contains s.trail.entries e × (e.lit ≡ complement l) × IsDecision e → derivation ≡ (record { clause = map complement core; hints = [] }) ∷ [] → Ends assumptions s (record s { marks = m }) (Unsat core derivation)
+pub clash_ends : (assumptions core : List (Signed ℕ)) (s : Search) (m : List Bool) (l : Signed ℕ) (derivation : List Step) → m ≡ set (replicate (length s.marks) false) l.atom true → IsKept s → AtomsBelow s.trail.trail.atoms assumptions → IsCoreIn s.trail.trail.entries m l assumptions core → Contains assumptions l → Contains assumptions (complement l)
+    → (e : Entry) × Contains s.trail.trail.entries e × (e.lit ≡ complement l) × IsDecision e → derivation ≡ (record { clause = map complement core; hints = [] }) ∷ [] → Ends assumptions s (record s { marks = m }) (Unsat core derivation)
 clash_ends assumptions core s m l derivation marks k low c here there e is =
     let n = length s.marks in
-    let inside : l.atom < n = let a = All-contains (λ x. x.atom < s.trail.atoms) assumptions l low here in omega (arith, a, k.marks) in
+    let inside : l.atom < n = let a = All-contains (λ x. x.atom < s.trail.trail.atoms) assumptions l low here in omega (arith, a, k.marks) in
     let one = one_mark n l.atom m marks inside in
     let marked : IsMarked m e.0.lit.atom = subst (λ x. IsMarked m x.atom) (sym e.2) one.1 in
-    let first = All-contains (λ x. IsInCore s.trail.entries m l x → Contains core x) assumptions l c.whole here (inl refl) in
-    let second = All-contains (λ x. IsInCore s.trail.entries m l x → Contains core x) assumptions (complement l) c.whole there (inr (e.0, e.1, e.2, e.3, marked)) in
+    let first = All-contains (λ x. IsInCore s.trail.trail.entries m l x → Contains core x) assumptions l c.whole here (inl refl) in
+    let second = All-contains (λ x. IsInCore s.trail.trail.entries m l x → Contains core x) assumptions (complement l) c.whole there (inr (e.0, e.1, e.2, e.3, marked)) in
     record {
       kept = kept_same s (record s { marks = m }) refl refl refl one.0 refl k;
       same = record { atoms = refl; added = refl };
-      answered = subst (λ d. IsAnswer s.trail.atoms s.log.added assumptions (Unsat core d)) (sym is) (clash_answer s.trail.atoms s.log.added assumptions core l c.within (core_atoms s.trail.atoms assumptions core low c.within) first second);
+      answered = subst (λ d. IsAnswer s.trail.trail.atoms s.log.added assumptions (Unsat core d)) (sym is) (clash_answer s.trail.trail.atoms s.log.added assumptions core l c.within (core_atoms s.trail.trail.atoms assumptions core low c.within) first second);
     }

@@ -16,11 +16,12 @@ use Rattle.prop_logic.specs.declared.solver.Answer.{Answer}
 use Rattle.prop_logic.specs.Solving.{IsAnswer}
 use Rattle.prop_logic.proofs.SearchLaws.{good_none}
 use Rattle.cdcl_trail.specs.declared.entry.Entry.{Entry}
+use Rattle.cdcl_trail.specs.Attached.{WatchedTrail, AreAttached}
 use Rattle.cdcl_trail.specs.Clauses.{clause_number, AddsClause}
 use Rattle.cdcl_trail.specs.Trail.{Trail, IsTrail, IsDecision, literals_of, with_atom, back_at}
 use Rattle.cdcl_trail.specs.Propagation.{Propagates}
 use Rattle.cdcl_core.specs.declared.search.Search.{Search}
-use Rattle.cdcl_core.specs.Log.{PutsName, IsLog}
+use Rattle.cdcl_core.specs.Log.{PutsName, IsFound, IsLog}
 use Rattle.cdcl_core.specs.Search.{AreGiven, IsKept, IsTrueUpTo, IsSearch, weight, Advances, Continues}
 use Rattle.cdcl_core.proofs.EntryLaws.{of_literals, to_literals}
 use Rattle.cdcl_core.proofs.LogLaws.{log_atom, log_added, log_step, log_learned}
@@ -30,57 +31,76 @@ no_clause : (n : ℕ) (c : List (Signed ℕ)) → clause_number [] n ≡ Some c 
 no_clause zero c e = none-some c e
 no_clause (suc n) c e = none-some c e
 
-pub new_kept : (s : Search) → s.log.added ≡ [] → s.log.steps ≡ [] → s.clauses ≡ [] → s.trail.entries ≡ [] → s.trail.atoms ≡ 0 → s.marks ≡ [] → s.phases.items ≡ [] → IsKept s
-new_kept s added steps clauses entries atoms marks phases = record {
+none_at : (n : ℕ) → clause_number [] n ≡ None
+none_at zero = refl
+none_at (suc n) = refl
+
+pub new_kept : (s : Search) → s.log.added ≡ [] → s.log.steps ≡ [] → s.clauses ≡ [] → s.trail.trail.entries ≡ [] → s.trail.trail.atoms ≡ 0 → s.marks ≡ [] → s.phases.items ≡ [] → ((clauses : List (Option (List (Signed ℕ)))) → ((n : ℕ) → clause_number clauses n ≡ None) → AreAttached s.trail clauses) → IsKept s
+new_kept s added steps clauses entries atoms marks phases attached = record {
+  attached = attached s.clauses (λ n. subst (λ x. clause_number x n ≡ None) (sym clauses) (none_at n));
   log = record {
     named = λ n c e. absurd (no_clause n c (ap (λ x. clause_number x n) (sym clauses) ∙ e));
-    held = subst (All (λ c. (n : ℕ) × (clause_number s.clauses n ≡ Some c))) (sym added) (All-nil (λ c. (n : ℕ) × (clause_number s.clauses n ≡ Some c)));
-    below = subst (All (AtomsBelow s.trail.atoms)) (sym added) (All-nil (AtomsBelow s.trail.atoms));
-    good = subst (λ x. AreGood s.log.added s.trail.atoms x) (sym steps) (good_none s.log.added s.trail.atoms);
+    held = subst (All (IsFound s.clauses s.log.names.items)) (sym added) (All-nil (IsFound s.clauses s.log.names.items));
+    below = subst (All (AtomsBelow s.trail.trail.atoms)) (sym added) (All-nil (AtomsBelow s.trail.trail.atoms));
+    good = subst (λ x. AreGood s.log.added s.trail.trail.atoms x) (sym steps) (good_none s.log.added s.trail.trail.atoms);
   };
   given = λ k n e at reason. absurd (none-some e (ap (λ x. slice_get x k) (sym entries) ∙ at));
   marks = ap length marks ∙ sym atoms;
   phases = ap length phases ∙ sym atoms;
 }
 
+attached_same : (old new : Search) → new.trail ≡ old.trail → new.clauses ≡ old.clauses → AreAttached old.trail old.clauses → AreAttached new.trail new.clauses
+attached_same old new trail clauses a = subst (λ t. AreAttached t new.clauses) (sym trail) (subst (AreAttached old.trail) (sym clauses) a)
+
+KeepsAttached : WatchedTrail → WatchedTrail → Type 0
+KeepsAttached old new = (clauses : List (Option (List (Signed ℕ)))) → AreAttached old clauses → AreAttached new clauses
+
+AttachesTo : WatchedTrail → WatchedTrail → ℕ → Type 0
+AttachesTo old new n = (before after : List (Option (List (Signed ℕ)))) (c : List (Signed ℕ)) → AddsClause before after c n → AreAttached old before → AreAttached new after
+
 -- the same state with other marks, phases and places to look at
 pub kept_same : (old new : Search) → new.log ≡ old.log → new.clauses ≡ old.clauses → new.trail ≡ old.trail → length new.marks ≡ length old.marks → length new.phases.items ≡ length old.phases.items → IsKept old → IsKept new
-kept_same old new log clauses trail marks phases k =
+kept_same old new log clauses watched marks phases k =
+    let trail = ap (λ x. x.trail) watched in
     let atoms = ap (λ x. x.atoms) trail in
     record {
-      log = subst (λ n. IsLog n new.clauses new.log) (sym atoms) (subst (λ x. IsLog old.trail.atoms x new.log) (sym clauses) (subst (IsLog old.trail.atoms old.clauses) (sym log) k.log));
-      given = subst (λ x. AreGiven x new.trail.entries) (sym clauses) (subst (AreGiven old.clauses) (sym (ap (λ x. x.entries) trail)) k.given);
+      attached = attached_same old new watched clauses k.attached;
+      log = subst (λ n. IsLog n new.clauses new.log) (sym atoms) (subst (λ x. IsLog old.trail.trail.atoms x new.log) (sym clauses) (subst (IsLog old.trail.trail.atoms old.clauses) (sym log) k.log));
+      given = subst (λ x. AreGiven x new.trail.trail.entries) (sym clauses) (subst (AreGiven old.clauses) (sym (ap (λ x. x.entries) trail)) k.given);
       marks = marks ∙ k.marks ∙ sym atoms;
       phases = phases ∙ k.phases ∙ sym atoms;
     }
 
-pub atom_kept : (old new : Search) → new.trail ≡ with_atom old.trail → new.clauses ≡ old.clauses → new.log ≡ old.log → new.marks ≡ old.marks ++ false ∷ [] → new.phases.items ≡ old.phases.items ++ false ∷ [] → IsKept old → IsKept new
-atom_kept old new trail clauses log marks phases k =
-    let atoms : new.trail.atoms ≡ old.trail.atoms + 1 = ap (λ x. x.atoms) trail in
+pub atom_kept : (old new : Search) → new.trail.trail ≡ with_atom old.trail.trail → ((clauses : List (Option (List (Signed ℕ)))) → AreAttached old.trail clauses → AreAttached new.trail clauses) → new.clauses ≡ old.clauses → new.log ≡ old.log → new.marks ≡ old.marks ++ false ∷ [] → new.phases.items ≡ old.phases.items ++ false ∷ [] → IsKept old → IsKept new
+atom_kept old new trail attached clauses log marks phases k =
+    let atoms : new.trail.trail.atoms ≡ old.trail.trail.atoms + 1 = ap (λ x. x.atoms) trail in
     record {
-      log = subst (λ n. IsLog n new.clauses new.log) (sym atoms) (subst (λ x. IsLog (old.trail.atoms + 1) x new.log) (sym clauses) (subst (IsLog (old.trail.atoms + 1) old.clauses) (sym log) (log_atom old.trail.atoms old.clauses old.log k.log)));
-      given = subst (λ x. AreGiven x new.trail.entries) (sym clauses) (subst (AreGiven old.clauses) (sym (ap (λ x. x.entries) trail)) k.given);
+      attached = subst (AreAttached new.trail) (sym clauses) (attached old.clauses k.attached);
+      log = subst (λ n. IsLog n new.clauses new.log) (sym atoms) (subst (λ x. IsLog (old.trail.trail.atoms + 1) x new.log) (sym clauses) (subst (IsLog (old.trail.trail.atoms + 1) old.clauses) (sym log) (log_atom old.trail.trail.atoms old.clauses old.log k.log)));
+      given = subst (λ x. AreGiven x new.trail.trail.entries) (sym clauses) (subst (AreGiven old.clauses) (sym (ap (λ x. x.entries) trail)) k.given);
       marks = omega (arith, ap length marks, length_push old.marks false, k.marks, atoms);
       phases = omega (arith, ap length phases, length_push old.phases.items false, k.phases, atoms);
     }
 
-pub added_kept : (old new : Search) (clause : List (Signed ℕ)) (key : ℕ) → AtomsBelow old.trail.atoms clause → AddsClause old.clauses new.clauses clause key → new.log.added ≡ old.log.added ++ clause ∷ [] → new.log.steps ≡ old.log.steps → PutsName old.log.names.items new.log.names.items key (Added (length new.log.added))
-    → new.trail ≡ old.trail → new.marks ≡ old.marks → new.phases ≡ old.phases → IsKept old → IsKept new
-added_kept old new clause key low a grown same p trail marks phases k =
+pub added_kept : (old new : Search) (clause : List (Signed ℕ)) (key : ℕ) → AtomsBelow old.trail.trail.atoms clause → AddsClause old.clauses new.clauses clause key → new.log.added ≡ old.log.added ++ clause ∷ [] → new.log.steps ≡ old.log.steps → PutsName old.log.names.items new.log.names.items key (Added (length new.log.added))
+    → new.trail.trail ≡ old.trail.trail → ((before after : List (Option (List (Signed ℕ)))) (c : List (Signed ℕ)) → AddsClause before after c key → AreAttached old.trail before → AreAttached new.trail after) → new.marks ≡ old.marks → new.phases ≡ old.phases → IsKept old → IsKept new
+added_kept old new clause key low a grown same p trail attached marks phases k =
     let atoms = ap (λ x. x.atoms) trail in
     record {
-      log = subst (λ n. IsLog n new.clauses new.log) (sym atoms) (log_added old.trail.atoms old.clauses new.clauses clause key old.log new.log k.log low a grown same p);
-      given = subst (AreGiven new.clauses) (sym (ap (λ x. x.entries) trail)) (given_clauses old.clauses new.clauses clause key old.trail.entries a k.given);
+      attached = attached old.clauses new.clauses clause a k.attached;
+      log = subst (λ n. IsLog n new.clauses new.log) (sym atoms) (log_added old.trail.trail.atoms old.clauses new.clauses clause key old.log new.log k.log low a grown same p);
+      given = subst (AreGiven new.clauses) (sym (ap (λ x. x.entries) trail)) (given_clauses old.clauses new.clauses clause key old.trail.trail.entries a k.given);
       marks = ap length marks ∙ k.marks ∙ sym atoms;
       phases = ap (λ x. length x.items) phases ∙ k.phases ∙ sym atoms;
     }
 
-pub back_kept : (old new : Search) (level : ℕ) → IsTrail old.trail → new.trail ≡ back_at old.trail level → new.clauses ≡ old.clauses → new.log ≡ old.log → new.marks ≡ old.marks → length new.phases.items ≡ length old.phases.items → IsKept old → IsKept new
-back_kept old new level v trail clauses log marks phases k =
-    let atoms : new.trail.atoms ≡ old.trail.atoms = ap (λ x. x.atoms) trail in
+pub back_kept : (old new : Search) (level : ℕ) → IsTrail old.trail.trail → new.trail.trail ≡ back_at old.trail.trail level → ((clauses : List (Option (List (Signed ℕ)))) → AreAttached old.trail clauses → AreAttached new.trail clauses) → new.clauses ≡ old.clauses → new.log ≡ old.log → new.marks ≡ old.marks → length new.phases.items ≡ length old.phases.items → IsKept old → IsKept new
+back_kept old new level v trail attached clauses log marks phases k =
+    let atoms : new.trail.trail.atoms ≡ old.trail.trail.atoms = ap (λ x. x.atoms) trail in
     record {
-      log = subst (λ n. IsLog n new.clauses new.log) (sym atoms) (subst (λ x. IsLog old.trail.atoms x new.log) (sym clauses) (subst (IsLog old.trail.atoms old.clauses) (sym log) k.log));
-      given = subst (λ x. AreGiven x new.trail.entries) (sym clauses) (subst (AreGiven old.clauses) (sym (ap (λ x. x.entries) trail)) (given_up_to old.clauses old.trail level v k.given));
+      attached = subst (AreAttached new.trail) (sym clauses) (attached old.clauses k.attached);
+      log = subst (λ n. IsLog n new.clauses new.log) (sym atoms) (subst (λ x. IsLog old.trail.trail.atoms x new.log) (sym clauses) (subst (IsLog old.trail.trail.atoms old.clauses) (sym log) k.log));
+      given = subst (λ x. AreGiven x new.trail.trail.entries) (sym clauses) (subst (AreGiven old.clauses) (sym (ap (λ x. x.entries) trail)) (given_up_to old.clauses old.trail.trail level v k.given));
       marks = ap length marks ∙ k.marks ∙ sym atoms;
       phases = phases ∙ k.phases ∙ sym atoms;
     }
@@ -93,35 +113,39 @@ closes_hinted : (added : List (List (Signed ℕ))) (steps : List Step) (F : List
 closes_hinted added steps F [] c e = c
 closes_hinted added steps F (h ∷ hints) c e = cc
 
-pub step_kept : (old new : Search) (clause : List (Signed ℕ)) (hints : List Hint) → AtomsBelow old.trail.atoms clause → ClosesAll clause (map (cited old.log.added old.log.steps) hints) → new.log.added ≡ old.log.added → new.log.steps ≡ old.log.steps ++ (record { clause = clause; hints = hints }) ∷ [] → new.log.names ≡ old.log.names
+pub step_kept : (old new : Search) (clause : List (Signed ℕ)) (hints : List Hint) → AtomsBelow old.trail.trail.atoms clause → ClosesAll clause (map (cited old.log.added old.log.steps) hints) → new.log.added ≡ old.log.added → new.log.steps ≡ old.log.steps ++ (record { clause = clause; hints = hints }) ∷ [] → new.log.names ≡ old.log.names
     → new.trail ≡ old.trail → new.clauses ≡ old.clauses → new.marks ≡ old.marks → new.phases ≡ old.phases → IsKept old → IsKept new
-step_kept old new clause hints low closes added steps names trail clauses marks phases k =
+step_kept old new clause hints low closes added steps names watched clauses marks phases k =
+    let trail = ap (λ x. x.trail) watched in
     let s : Step = record { clause = clause; hints = hints } in
     let atoms = ap (λ x. x.atoms) trail in
     record {
-      log = subst (λ n. IsLog n new.clauses new.log) (sym atoms) (subst (λ x. IsLog old.trail.atoms x new.log) (sym clauses)
-          (log_step old.trail.atoms old.clauses s old.log new.log k.log (closes_shown clause (map (cited old.log.added old.log.steps) hints) closes) (closes_hinted old.log.added old.log.steps clause hints closes) low added steps (ap (λ x. x.items) names)));
-      given = subst (λ x. AreGiven x new.trail.entries) (sym clauses) (subst (AreGiven old.clauses) (sym (ap (λ x. x.entries) trail)) k.given);
+      attached = attached_same old new watched clauses k.attached;
+      log = subst (λ n. IsLog n new.clauses new.log) (sym atoms) (subst (λ x. IsLog old.trail.trail.atoms x new.log) (sym clauses)
+          (log_step old.trail.trail.atoms old.clauses s old.log new.log k.log (closes_shown clause (map (cited old.log.added old.log.steps) hints) closes) (closes_hinted old.log.added old.log.steps clause hints closes) low added steps (ap (λ x. x.items) names)));
+      given = subst (λ x. AreGiven x new.trail.trail.entries) (sym clauses) (subst (AreGiven old.clauses) (sym (ap (λ x. x.entries) trail)) k.given);
       marks = ap length marks ∙ k.marks ∙ sym atoms;
       phases = ap (λ x. length x.items) phases ∙ k.phases ∙ sym atoms;
     }
 
 pub use_kept : (old new : Search) (key : ℕ) (before : List Step) (s : Step) → old.log.steps ≡ before ++ s ∷ [] → AddsClause old.clauses new.clauses s.clause key → new.log.added ≡ old.log.added → new.log.steps ≡ old.log.steps → PutsName old.log.names.items new.log.names.items key (Earlier (length new.log.steps))
-    → new.trail ≡ old.trail → new.marks ≡ old.marks → new.phases ≡ old.phases → IsKept old → IsKept new
-use_kept old new key before s ends a added steps p trail marks phases k =
+    → new.trail.trail ≡ old.trail.trail → ((before after : List (Option (List (Signed ℕ)))) (c : List (Signed ℕ)) → AddsClause before after c key → AreAttached old.trail before → AreAttached new.trail after) → new.marks ≡ old.marks → new.phases ≡ old.phases → IsKept old → IsKept new
+use_kept old new key before s ends a added steps p trail attached marks phases k =
     let atoms = ap (λ x. x.atoms) trail in
     record {
-      log = subst (λ n. IsLog n new.clauses new.log) (sym atoms) (log_learned old.trail.atoms old.clauses new.clauses key s before old.log new.log k.log ends a added steps p);
-      given = subst (AreGiven new.clauses) (sym (ap (λ x. x.entries) trail)) (given_clauses old.clauses new.clauses s.clause key old.trail.entries a k.given);
+      attached = attached old.clauses new.clauses s.clause a k.attached;
+      log = subst (λ n. IsLog n new.clauses new.log) (sym atoms) (log_learned old.trail.trail.atoms old.clauses new.clauses key s before old.log new.log k.log ends a added steps p);
+      given = subst (AreGiven new.clauses) (sym (ap (λ x. x.entries) trail)) (given_clauses old.clauses new.clauses s.clause key old.trail.trail.entries a k.given);
       marks = ap length marks ∙ k.marks ∙ sym atoms;
       phases = ap (λ x. length x.items) phases ∙ k.phases ∙ sym atoms;
     }
 
 -- propagation keeps the search
-pub propagated_kept : (old : Search) (t : Trail) → Propagates old.clauses old.trail t → IsKept old → IsKept (record old { trail = t })
-propagated_kept old t p k = record {
+pub propagated_kept : (old : Search) (t : WatchedTrail) → Propagates old.clauses old.trail.trail t.trail → AreAttached t old.clauses → IsKept old → IsKept (record old { trail = t })
+propagated_kept old t p attached k = record {
+  attached = attached;
   log = subst (λ n. IsLog n old.clauses old.log) (sym p.atoms) k.log;
-  given = given_propagated old.clauses old.trail t p k.given;
+  given = given_propagated old.clauses old.trail.trail t.trail p k.given;
   marks = k.marks ∙ sym p.atoms;
   phases = k.phases ∙ sym p.atoms;
 }
@@ -131,22 +155,22 @@ literal_new old new l kept c =
     let f = of_literals old l c in
     subst (Contains (literals_of new)) (sym f.2) (to_literals new f.0 (in_new old new f.0 kept f.1))
 
-pub propagated : (assumptions : List (Signed ℕ)) (old : Search) (t : Trail) → Propagates old.clauses old.trail t → IsSearch assumptions old → IsSearch assumptions (record old { trail = t })
-propagated assumptions old t p s = record {
-  kept = propagated_kept old t p s.kept;
+pub propagated : (assumptions : List (Signed ℕ)) (old : Search) (t : WatchedTrail) → Propagates old.clauses old.trail.trail t.trail → AreAttached t old.clauses → IsSearch assumptions old → IsSearch assumptions (record old { trail = t })
+propagated assumptions old t p attached s = record {
+  kept = propagated_kept old t p attached s.kept;
   low = omega (arith, s.low, p.level);
-  decisions = λ e c chosen h. s.decisions e (decision_old old.clauses old.trail t e p c chosen) chosen h;
-  all_true = λ h. All-weaker (IsTrueUpTo old.trail.entries old.assumed) (IsTrueUpTo t.entries old.assumed) (λ a f. (f.0, in_new old.trail.entries t.entries f.0 p.kept f.1, f.2, f.3)) assumptions (s.all_true (omega (arith, h, p.level)));
-  checked = All-weaker (Contains (literals_of old.trail.entries)) (Contains (literals_of t.entries)) (λ a c. literal_new old.trail.entries t.entries a p.kept c) (take old.checked assumptions) s.checked;
+  decisions = λ e c chosen h. s.decisions e (decision_old old.clauses old.trail.trail t.trail e p c chosen) chosen h;
+  all_true = λ h. All-weaker (IsTrueUpTo old.trail.trail.entries old.assumed) (IsTrueUpTo t.trail.entries old.assumed) (λ a f. (f.0, in_new old.trail.trail.entries t.trail.entries f.0 p.kept f.1, f.2, f.3)) assumptions (s.all_true (omega (arith, h, p.level)));
+  checked = All-weaker (Contains (literals_of old.trail.trail.entries)) (Contains (literals_of t.trail.entries)) (λ a c. literal_new old.trail.trail.entries t.trail.entries a p.kept c) (take old.checked assumptions) s.checked;
 }
 
 -- first propagation, and then a step of the search
-pub continues_from : (assumptions : List (Signed ℕ)) (old new : Search) (t : Trail) (found : Option Answer) → Propagates old.clauses old.trail t → Continues assumptions (record old { trail = t }) new found → Continues assumptions old new found
+pub continues_from : (assumptions : List (Signed ℕ)) (old new : Search) (t : WatchedTrail) (found : Option Answer) → Propagates old.clauses old.trail.trail t.trail → Continues assumptions (record old { trail = t }) new found → Continues assumptions old new found
 continues_from assumptions old new t None p c =
-    let n = old.trail.atoms in
-    let more = weight_kept n old.trail.entries t.entries p.kept in
-    let within = subst (λ k. weight k t.entries < (k + 1) ^ (k + 1)) p.atoms c.1.within in
-    let risen = subst (λ k. weight k t.entries < weight k new.trail.entries) p.atoms c.1.risen in (
+    let n = old.trail.trail.atoms in
+    let more = weight_kept n old.trail.trail.entries t.trail.entries p.kept in
+    let within = subst (λ k. weight k t.trail.entries < (k + 1) ^ (k + 1)) p.atoms c.1.within in
+    let risen = subst (λ k. weight k t.trail.entries < weight k new.trail.trail.entries) p.atoms c.1.risen in (
       c.0,
       record {
         same = record { atoms = c.1.same.atoms ∙ p.atoms; added = c.1.same.added };
@@ -161,7 +185,7 @@ continues_from assumptions old new t (Some answer) p c = record {
 }
 
 -- the beginning: no decision is left
-pub begun : (assumptions : List (Signed ℕ)) (old : Trail) (s : Search) → IsTrail old → s.trail ≡ back_at old 0 → s.assumed ≡ 0 → s.checked ≡ 0 → IsKept s → IsSearch assumptions s
+pub begun : (assumptions : List (Signed ℕ)) (old : Trail) (s : Search) → IsTrail old → s.trail.trail ≡ back_at old 0 → s.assumed ≡ 0 → s.checked ≡ 0 → IsKept s → IsSearch assumptions s
 begun assumptions old s v trail assumed checked k = record {
   kept = k;
   low = omega (arith, assumed);
@@ -170,7 +194,7 @@ begun assumptions old s v trail assumed checked k = record {
       let high = All-contains (λ x. IsDecision x → 0 < x.level) old.entries e v.above f.0 chosen in
       absurd (omega (arith, high, f.1));
   all_true = λ h. absurd (omega (arith, h, ap (λ x. x.level) trail));
-  checked = subst (λ n. All (Contains (literals_of s.trail.entries)) (take n assumptions)) (sym checked) (take_zero (Contains (literals_of s.trail.entries)) assumptions);
+  checked = subst (λ n. All (Contains (literals_of s.trail.trail.entries)) (take n assumptions)) (sym checked) (take_zero (Contains (literals_of s.trail.trail.entries)) assumptions);
 }
   where
     take_zero : (P : Signed ℕ → Type 0) (xs : List (Signed ℕ)) → All P (take 0 xs)

@@ -17,7 +17,7 @@ use Rattle.prop_logic.proofs.ListLaws.{All-slice_get, slice_get_append, slice_ge
 use Rattle.prop_logic.proofs.SearchLaws.{good_push, last_cited, cited_later}
 use Rattle.cdcl_trail.specs.Clauses.{clause_number, AddsClause, ClausesBelow}
 use Rattle.cdcl_core.specs.declared.log.Log.{Log}
-use Rattle.cdcl_core.specs.Log.{PutsName, IsNamed, IsLog}
+use Rattle.cdcl_core.specs.Log.{IsFound, PutsName, IsNamed, IsLog}
 
 pub cited_no_added : (added : List (List (Signed ℕ))) (steps : List Step) (h : Hint) (n : ℕ) (c : List (Signed ℕ)) → h ≡ Added n → (n ≤ 0) ⊎ (length added < n) → cited added steps h ≡ Some c → ⊥
 cited_no_added added steps h zero c is past e = none-some c (ap (cited added steps) (sym is) ∙ e)
@@ -93,8 +93,9 @@ named_more old new clause n h log next a p cites stays named k c e =
           (f.0, p.others k f.0 other f.1, stays f.0 c f.2)
     ]
 
-held_more : (old new : List (Option (List (Signed ℕ)))) (clause : List (Signed ℕ)) (n : ℕ) (cs : List (List (Signed ℕ))) → AddsClause old new clause n → All (λ c. (k : ℕ) × (clause_number old k ≡ Some c)) cs → All (λ c. (k : ℕ) × (clause_number new k ≡ Some c)) cs
-held_more old new clause n cs a h = All-weaker (λ c. (k : ℕ) × (clause_number old k ≡ Some c)) (λ c. (k : ℕ) × (clause_number new k ≡ Some c)) (λ c f. (f.0, clause_kept old new clause n f.0 c a f.1)) cs h
+held_more : (old new : List (Option (List (Signed ℕ)))) (names next : List Hint) (clause : List (Signed ℕ)) (n : ℕ) (h : Hint) (cs : List (List (Signed ℕ))) → AddsClause old new clause n → PutsName names next n h → All (IsFound old names) cs → All (IsFound new next) cs
+held_more old new names next clause n h cs a p all = All-weaker (IsFound old names) (IsFound new next)
+    (λ c f. (f.0, f.1, clause_kept old new clause n f.0 c a f.2, p.others f.0 (Added f.1) (λ same. none-some c (sym a.free ∙ ap (clause_number old) (sym same) ∙ f.2)) f.3)) cs all
 
 last_added : (added : List (List (Signed ℕ))) (clause : List (Signed ℕ)) (steps : List Step) → cited (added ++ clause ∷ []) steps (Added (length (added ++ clause ∷ []))) ≡ Some clause
 last_added added clause steps =
@@ -111,7 +112,7 @@ log_added n old new clause k log next v low a grown same p =
     λ g c e. ap (λ xs. cited xs next.steps g) grown ∙ ap (λ ss. cited (log.added ++ clause ∷ []) ss g) same ∙ cited_grown log.added (clause ∷ []) log.steps g c e in
     record {
       named = named_more old new clause k h log next a p cites stays v.named;
-      held = subst (All (λ c. (j : ℕ) × (clause_number new j ≡ Some c))) (sym grown) (All-push (λ c. (j : ℕ) × (clause_number new j ≡ Some c)) log.added clause (held_more old new clause k log.added a v.held) (k, a.added));
+      held = subst (All (IsFound new next.names.items)) (sym grown) (All-push (IsFound new next.names.items) log.added clause (held_more old new log.names.items next.names.items clause k h log.added a p v.held) (k, length next.added, a.added, p.here));
       below = subst (AllAtomsBelow n) (sym grown) (All-push (AtomsBelow n) log.added clause v.below low);
       good = subst (λ xs. AreGood xs n next.steps) (sym grown) (subst (AreGood (log.added ++ clause ∷ []) n) (sym same) (good_grown log.added (clause ∷ []) n log.steps v.good));
     }
@@ -123,7 +124,7 @@ log_step n clauses s log next v shown hinted low same grown names = record {
   named = λ k c e.
       let f = v.named k c e in
       (f.0, ap (λ xs. slice_get xs k) names ∙ f.1, ap (λ xs. cited xs next.steps f.0) same ∙ ap (λ ss. cited log.added ss f.0) grown ∙ cited_later log.added log.steps (s ∷ []) f.0 c f.2);
-  held = subst (All (λ c. (j : ℕ) × (clause_number clauses j ≡ Some c))) (sym same) v.held;
+  held = subst (All (IsFound clauses next.names.items)) (sym same) (subst (λ xs. All (IsFound clauses xs) log.added) (sym names) v.held);
   below = subst (AllAtomsBelow n) (sym same) v.below;
   good = subst (λ xs. AreGood xs n next.steps) (sym same) (subst (AreGood log.added n) (sym grown) (good_push log.added n log.steps s v.good shown hinted low));
 }
@@ -138,7 +139,7 @@ log_learned n old new k s before log next v ends a same_added same p =
     let stays : (g : Hint) (c : List (Signed ℕ)) → cited log.added log.steps g ≡ Some c → cited next.added next.steps g ≡ Some c = λ g c e. ap (λ xs. cited xs next.steps g) same_added ∙ ap (λ ss. cited log.added ss g) same ∙ e in
     record {
       named = named_more old new s.clause k h log next a p cites stays v.named;
-      held = subst (All (λ c. (j : ℕ) × (clause_number new j ≡ Some c))) (sym same_added) (held_more old new s.clause k log.added a v.held);
+      held = subst (All (IsFound new next.names.items)) (sym same_added) (held_more old new log.names.items next.names.items s.clause k h log.added a p v.held);
       below = subst (AllAtomsBelow n) (sym same_added) v.below;
       good = subst (λ xs. AreGood xs n next.steps) (sym same_added) (subst (AreGood log.added n) (sym same) v.good);
     }

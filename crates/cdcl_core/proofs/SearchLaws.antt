@@ -150,11 +150,11 @@ implied_of n clauses log es v g = λ k m e at reason.
 pub conflict_named : (n : ℕ) (clauses : List (Option (List (Signed ℕ)))) (log : Log) (es : List Entry) (k : ℕ) → IsLog n clauses log → IsConflict clauses es k → NamesFalse log es k
 conflict_named n clauses log es k v f = (f.0, v.named k f.0 f.1, f.2)
 
-pub ready_of : (s : Search) → IsKept s → IsTrail s.trail → length s.trail.entries ≤ 2 ^ 64 - 1 → IsReady s.log s.trail
+pub ready_of : (s : Search) → IsKept s → IsTrail s.trail.trail → length s.trail.trail.entries ≤ 2 ^ 64 - 1 → IsReady s.log s.trail.trail
 ready_of s v t room = record {
   trail = t;
   room = room;
   below = v.log.below;
   steps_below = v.log.good.below;
-  implied = implied_of s.trail.atoms s.clauses s.log s.trail.entries v.log v.given;
+  implied = implied_of s.trail.trail.atoms s.clauses s.log s.trail.trail.entries v.log v.given;
 }

@@ -1,5 +1,5 @@
 -- The steps of the search: what is learned, what is decided, and the end.
-use Rattle.std.proofs.Common.{◌≡◌, ◌≢◌, ℕ, suc, zero, ◌+◌, ◌-◌, ◌<◌, ◌≤◌, min, Bool, true, false, cond, ◌⊎◌, inl, inr, List, [], ◌∷◌, ◌++◌, length, take, drop, get_or, Some, None, refl, sym, ap, ◌∙◌, subst, arith}
+use Rattle.std.proofs.Common.{◌≡◌, ◌≢◌, ℕ, suc, zero, ◌+◌, ◌-◌, ◌<◌, ◌≤◌, min, Bool, true, false, cond, ◌⊎◌, inl, inr, List, [], ◌∷◌, ◌++◌, length, take, drop, get_or, Some, None, refl, sym, ap, ◌∙◌, subst, arith, Option}
 use Rattle.std.specs.Prelude.{All, Contains, slice_get, unwrap_or, ◌==◌}
 use Rattle.std.proofs.lemmas.List.{length-drop, take_all}
 use Rattle.std.proofs.lemmas.List.Elements.{All-nil, All-cons, All-tail, All-contains, All-weaker, Contains-push_cases, Contains-append_left}
@@ -11,6 +11,7 @@ use Rattle.inst_logic.specs.Signed.{complement}
 use Rattle.prop_logic.specs.Literal.{AtomsBelow}
 use Rattle.prop_logic.proofs.ListLaws.{All-from_contained, slice_get-Contains}
 use Rattle.cdcl_trail.specs.declared.entry.Entry.{Entry}
+use Rattle.cdcl_trail.specs.Attached.{AreAttached}
 use Rattle.cdcl_trail.specs.Clauses.{clause_number}
 use Rattle.cdcl_trail.specs.Trail.{Trail, IsTrail, IsUnset, level_of, literals_of, entries_up_to, with_decision, with_implied, back_at}
 use Rattle.cdcl_trail.specs.Propagation.{IsFalseIn, GivesUnit}
@@ -97,22 +98,23 @@ learned_unit t l ls level v h reached least =
     }
 
 -- the search after a clause is learned
-pub learned_search : (assumptions : List (Signed ℕ)) (old new : Search) (clause : List (Signed ℕ)) (l : Signed ℕ) (level key : ℕ) → IsTrail old.trail → IsUnitAt old.trail clause l level
-    → new.trail ≡ with_implied (back_at old.trail level) l key → IsLog new.trail.atoms new.clauses new.log → AreGiven new.clauses old.trail.entries → clause_number new.clauses key ≡ Some clause → length new.marks ≡ new.trail.atoms → length new.phases.items ≡ new.trail.atoms
+pub learned_search : (assumptions : List (Signed ℕ)) (old new : Search) (clause : List (Signed ℕ)) (l : Signed ℕ) (level key : ℕ) → IsTrail old.trail.trail → IsUnitAt old.trail.trail clause l level
+    → new.trail.trail ≡ with_implied (back_at old.trail.trail level) l key → IsLog new.trail.trail.atoms new.clauses new.log → AreGiven new.clauses old.trail.trail.entries → clause_number new.clauses key ≡ Some clause → length new.marks ≡ new.trail.trail.atoms → length new.phases.items ≡ new.trail.trail.atoms → AreAttached new.trail new.clauses
     → new.log.added ≡ old.log.added → new.assumed ≡ min old.assumed level → new.checked ≡ 0 → IsSearch assumptions old → IsSearch assumptions new × Advances old new
-learned_search assumptions old new clause l level key v u trail log given named marks phases added assumed checked s =
-    let t = old.trail in
+learned_search assumptions old new clause l level key v u trail log given named marks phases attached added assumed checked s =
+    let t = old.trail.trail in
     let up = entries_up_to t.entries level in
     let d : Entry = record { lit = l; level = level; reason = Some key } in
-    let entries : new.trail.entries ≡ up ++ d ∷ [] = ap (λ x. x.entries) trail in
-    let levels : new.trail.level ≡ level = ap (λ x. x.level) trail in
-    let atoms : new.trail.atoms ≡ t.atoms = ap (λ x. x.atoms) trail in
+    let entries : new.trail.trail.entries ≡ up ++ d ∷ [] = ap (λ x. x.entries) trail in
+    let levels : new.trail.trail.level ≡ level = ap (λ x. x.level) trail in
+    let atoms : new.trail.trail.atoms ≡ t.atoms = ap (λ x. x.atoms) trail in
     let full = room t v in
     let low = level_low t v in
-    let has : (a : Signed ℕ) → old.assumed ≤ level → IsTrueUpTo t.entries old.assumed a → IsTrueUpTo new.trail.entries new.assumed a =
+    let has : (a : Signed ℕ) → old.assumed ≤ level → IsTrueUpTo t.entries old.assumed a → IsTrueUpTo new.trail.trail.entries new.assumed a =
     λ a h f. (f.0, subst (λ es. Contains es f.0) (sym entries) (Contains-append_left up (d ∷ []) f.0 (up_to_contains t.entries level f.0 f.1 (omega (arith, f.3, h)))), f.2, omega (arith, f.3, h, assumed)) in (
       record {
         kept = record {
+          attached = attached;
           log = log;
           given = subst (AreGiven new.clauses) (sym entries) (given_push new.clauses up d (given_up_to new.clauses t level v given) (λ n e. (clause, ap (clause_number new.clauses) (sym (same_Some key n e)) ∙ named, u.unit)));
           marks = marks;
@@ -123,8 +125,8 @@ learned_search assumptions old new clause l level key v u trail log given named 
           | inl old_one ↦ let f = of_up_to t.entries level e old_one in s.decisions e f.0 chosen (omega (arith, h, assumed))
           | inr is ↦ absurd (none-some key (sym (ap (λ x. x.reason) is ∙ chosen)))
         ];
-        all_true = λ h. All-weaker (IsTrueUpTo t.entries old.assumed) (IsTrueUpTo new.trail.entries new.assumed) (λ a f. has a (omega (arith, h, assumed, levels)) f) assumptions (s.all_true (omega (arith, h, assumed, levels, u.within)));
-        checked = subst (λ n. All (Contains (literals_of new.trail.entries)) (take n assumptions)) (sym checked) (take_zero (Contains (literals_of new.trail.entries)) assumptions);
+        all_true = λ h. All-weaker (IsTrueUpTo t.entries old.assumed) (IsTrueUpTo new.trail.trail.entries new.assumed) (λ a f. has a (omega (arith, h, assumed, levels)) f) assumptions (s.all_true (omega (arith, h, assumed, levels, u.within)));
+        checked = subst (λ n. All (Contains (literals_of new.trail.trail.entries)) (take n assumptions)) (sym checked) (take_zero (Contains (literals_of new.trail.trail.entries)) assumptions);
       },
       record {
         same = record { atoms = atoms; added = added };
@@ -138,25 +140,26 @@ learned_search assumptions old new clause l level key v u trail log given named 
     take_zero P (x ∷ xs) = All-nil P
 
 -- a decision
-pub decided_kept : (old new : Search) (l : Signed ℕ) → new.trail ≡ with_decision old.trail l → new.clauses ≡ old.clauses → new.log ≡ old.log → new.marks ≡ old.marks → new.phases ≡ old.phases → IsKept old → IsKept new
-decided_kept old new l trail clauses log marks phases k =
-    let d : Entry = record { lit = l; level = old.trail.level + 1; reason = None } in
-    let entries : new.trail.entries ≡ old.trail.entries ++ d ∷ [] = ap (λ x. x.entries) trail in
-    let atoms : new.trail.atoms ≡ old.trail.atoms = ap (λ x. x.atoms) trail in
+pub decided_kept : (old new : Search) (l : Signed ℕ) → new.trail.trail ≡ with_decision old.trail.trail l → ((clauses : List (Option (List (Signed ℕ)))) → AreAttached old.trail clauses → AreAttached new.trail clauses) → new.clauses ≡ old.clauses → new.log ≡ old.log → new.marks ≡ old.marks → new.phases ≡ old.phases → IsKept old → IsKept new
+decided_kept old new l trail attached clauses log marks phases k =
+    let d : Entry = record { lit = l; level = old.trail.trail.level + 1; reason = None } in
+    let entries : new.trail.trail.entries ≡ old.trail.trail.entries ++ d ∷ [] = ap (λ x. x.entries) trail in
+    let atoms : new.trail.trail.atoms ≡ old.trail.trail.atoms = ap (λ x. x.atoms) trail in
     record {
-      log = subst (λ n. IsLog n new.clauses new.log) (sym atoms) (subst (λ x. IsLog old.trail.atoms x new.log) (sym clauses) (subst (IsLog old.trail.atoms old.clauses) (sym log) k.log));
-      given = subst (λ x. AreGiven x new.trail.entries) (sym clauses) (subst (AreGiven old.clauses) (sym entries) (given_push old.clauses old.trail.entries d k.given (λ n e. absurd (none-some n e))));
+      attached = subst (AreAttached new.trail) (sym clauses) (attached old.clauses k.attached);
+      log = subst (λ n. IsLog n new.clauses new.log) (sym atoms) (subst (λ x. IsLog old.trail.trail.atoms x new.log) (sym clauses) (subst (IsLog old.trail.trail.atoms old.clauses) (sym log) k.log));
+      given = subst (λ x. AreGiven x new.trail.trail.entries) (sym clauses) (subst (AreGiven old.clauses) (sym entries) (given_push old.clauses old.trail.trail.entries d k.given (λ n e. absurd (none-some n e))));
       marks = ap length marks ∙ k.marks ∙ sym atoms;
       phases = ap (λ x. length x.items) phases ∙ k.phases ∙ sym atoms;
     }
 
-pub decided_advances : (old new : Search) (l : Signed ℕ) → IsTrail old.trail → new.trail ≡ with_decision old.trail l → new.log ≡ old.log → Advances old new
+pub decided_advances : (old new : Search) (l : Signed ℕ) → IsTrail old.trail.trail → new.trail.trail ≡ with_decision old.trail.trail l → new.log ≡ old.log → Advances old new
 decided_advances old new l v trail log =
-    let d : Entry = record { lit = l; level = old.trail.level + 1; reason = None } in
+    let d : Entry = record { lit = l; level = old.trail.trail.level + 1; reason = None } in
     record {
       same = record { atoms = ap (λ x. x.atoms) trail; added = ap (λ x. x.added) log };
-      within = weight_below old.trail.atoms old.trail.entries (room old.trail v);
-      risen = subst (λ es. weight old.trail.atoms old.trail.entries < weight old.trail.atoms es) (sym (ap (λ x. x.entries) trail)) (weight_push old.trail.atoms old.trail.entries d);
+      within = weight_below old.trail.trail.atoms old.trail.trail.entries (room old.trail.trail v);
+      risen = subst (λ es. weight old.trail.trail.atoms old.trail.trail.entries < weight old.trail.trail.atoms es) (sym (ap (λ x. x.entries) trail)) (weight_push old.trail.trail.atoms old.trail.trail.entries d);
     }
 
 literal_stays : (es : List Entry) (d : Entry) (l : Signed ℕ) → Contains (literals_of es) l → Contains (literals_of (es ++ d ∷ [])) l
@@ -165,12 +168,12 @@ literal_stays es d l c =
     subst (Contains (literals_of (es ++ d ∷ []))) (sym f.2) (to_literals (es ++ d ∷ []) f.0 (Contains-append_left es (d ∷ []) f.0 f.1))
 
 -- where all assumptions are true
-pub chosen_search : (assumptions : List (Signed ℕ)) (old new : Search) (l : Signed ℕ) → new.trail ≡ with_decision old.trail l → IsKept new → new.assumed ≡ old.assumed → new.checked ≡ old.checked → IsSearch assumptions old → All (IsTrueUpTo old.trail.entries old.assumed) assumptions → IsSearch assumptions new
+pub chosen_search : (assumptions : List (Signed ℕ)) (old new : Search) (l : Signed ℕ) → new.trail.trail ≡ with_decision old.trail.trail l → IsKept new → new.assumed ≡ old.assumed → new.checked ≡ old.checked → IsSearch assumptions old → All (IsTrueUpTo old.trail.trail.entries old.assumed) assumptions → IsSearch assumptions new
 chosen_search assumptions old new l trail kept assumed checked s all =
-    let es = old.trail.entries in
-    let d : Entry = record { lit = l; level = old.trail.level + 1; reason = None } in
-    let entries : new.trail.entries ≡ es ++ d ∷ [] = ap (λ x. x.entries) trail in
-    let levels : new.trail.level ≡ old.trail.level + 1 = ap (λ x. x.level) trail in
+    let es = old.trail.trail.entries in
+    let d : Entry = record { lit = l; level = old.trail.trail.level + 1; reason = None } in
+    let entries : new.trail.trail.entries ≡ es ++ d ∷ [] = ap (λ x. x.entries) trail in
+    let levels : new.trail.trail.level ≡ old.trail.trail.level + 1 = ap (λ x. x.level) trail in
     record {
       kept = kept;
       low = omega (arith, assumed, levels, s.low);
@@ -178,27 +181,27 @@ chosen_search assumptions old new l trail kept assumed checked s all =
         | inl old_one ↦ s.decisions e old_one chosen (omega (arith, h, assumed))
         | inr is ↦ absurd (omega (arith, h, assumed, s.low, ap (λ x. x.level) is))
       ];
-      all_true = λ h. All-weaker (IsTrueUpTo es old.assumed) (IsTrueUpTo new.trail.entries new.assumed) (λ a f. (f.0, subst (λ xs. Contains xs f.0) (sym entries) (Contains-append_left es (d ∷ []) f.0 f.1), f.2, omega (arith, f.3, assumed))) assumptions all;
-      checked = subst (λ n. All (Contains (literals_of new.trail.entries)) (take n assumptions)) (sym checked)
+      all_true = λ h. All-weaker (IsTrueUpTo es old.assumed) (IsTrueUpTo new.trail.trail.entries new.assumed) (λ a f. (f.0, subst (λ xs. Contains xs f.0) (sym entries) (Contains-append_left es (d ∷ []) f.0 f.1), f.2, omega (arith, f.3, assumed))) assumptions all;
+      checked = subst (λ n. All (Contains (literals_of new.trail.trail.entries)) (take n assumptions)) (sym checked)
           (subst (λ xs. All (Contains (literals_of xs)) (take old.checked assumptions)) (sym entries) (All-weaker (Contains (literals_of es)) (Contains (literals_of (es ++ d ∷ []))) (λ a c. literal_stays es d a c) (take old.checked assumptions) s.checked));
     }
 
 -- the next assumption
-pub assumed_search : (assumptions : List (Signed ℕ)) (old new : Search) (l : Signed ℕ) (place : ℕ) → IsTrail old.trail → new.trail ≡ with_decision old.trail l → IsKept new → new.assumed ≡ new.trail.level → new.checked ≡ place → Contains assumptions l → old.trail.level ≤ old.assumed
-    → All (Contains (literals_of old.trail.entries)) (take place assumptions) → IsSearch assumptions old → IsSearch assumptions new
+pub assumed_search : (assumptions : List (Signed ℕ)) (old new : Search) (l : Signed ℕ) (place : ℕ) → IsTrail old.trail.trail → new.trail.trail ≡ with_decision old.trail.trail l → IsKept new → new.assumed ≡ new.trail.trail.level → new.checked ≡ place → Contains assumptions l → old.trail.trail.level ≤ old.assumed
+    → All (Contains (literals_of old.trail.trail.entries)) (take place assumptions) → IsSearch assumptions old → IsSearch assumptions new
 assumed_search assumptions old new l place v trail kept assumed checked inside low before s =
-    let es = old.trail.entries in
-    let d : Entry = record { lit = l; level = old.trail.level + 1; reason = None } in
-    let entries : new.trail.entries ≡ es ++ d ∷ [] = ap (λ x. x.entries) trail in
+    let es = old.trail.trail.entries in
+    let d : Entry = record { lit = l; level = old.trail.trail.level + 1; reason = None } in
+    let entries : new.trail.trail.entries ≡ es ++ d ∷ [] = ap (λ x. x.entries) trail in
     record {
       kept = kept;
       low = omega (arith, assumed);
       decisions = λ e c chosen h. elim (Contains-push_cases es d e (subst (λ xs. Contains xs e) entries c)) [
-        | inl old_one ↦ let top = All-contains (λ x. x.level ≤ old.trail.level) es e v.levels old_one in s.decisions e old_one chosen (omega (arith, top, low))
+        | inl old_one ↦ let top = All-contains (λ x. x.level ≤ old.trail.trail.level) es e v.levels old_one in s.decisions e old_one chosen (omega (arith, top, low))
         | inr is ↦ subst (Contains assumptions) (ap (λ x. x.lit) is) inside
       ];
       all_true = λ h. absurd (omega (arith, h, assumed));
-      checked = subst (λ n. All (Contains (literals_of new.trail.entries)) (take n assumptions)) (sym checked)
+      checked = subst (λ n. All (Contains (literals_of new.trail.trail.entries)) (take n assumptions)) (sym checked)
           (subst (λ xs. All (Contains (literals_of xs)) (take place assumptions)) (sym entries) (All-weaker (Contains (literals_of es)) (Contains (literals_of (es ++ d ∷ []))) (λ a c. literal_stays es d a c) (take place assumptions) before));
     }
 

@@ -4,8 +4,9 @@ use Rattle.inst_logic.specs.declared.signed.Signed.{Signed}
 use Rattle.prop_logic.specs.declared.solver.Answer.{Answer}
 use Rattle.prop_logic.specs.Solving.{IsAnswer, IsSubList}
 use Rattle.cdcl_trail.specs.declared.entry.Entry.{Entry}
+use Rattle.cdcl_trail.specs.Attached.{AreAttached}
 use Rattle.cdcl_trail.specs.Clauses.{clause_number}
-use Rattle.cdcl_trail.specs.Trail.{IsDecision, literals_of}
+use Rattle.cdcl_trail.specs.Trail.{IsTrail, IsDecision, literals_of, back_at}
 use Rattle.cdcl_trail.specs.Propagation.{GivesUnit}
 use Rattle.cdcl_core.specs.declared.search.Search.{Search}
 use Rattle.cdcl_core.specs.Log.{IsLog}
@@ -17,16 +18,16 @@ AreGiven clauses entries = (k n : ℕ) (e : Entry) → slice_get entries k ≡ S
 
 -- what is kept from one question to the next
 pub record IsKept (s : Search) : Type 0 where
-  pub log : IsLog s.trail.atoms s.clauses s.log
-  pub given : AreGiven s.clauses s.trail.entries
-  pub marks : length s.marks ≡ s.trail.atoms
-  pub phases : length s.phases.items ≡ s.trail.atoms
+  pub log : IsLog s.trail.trail.atoms s.clauses s.log
+  pub given : AreGiven s.clauses s.trail.trail.entries
+  pub attached : AreAttached s.trail s.clauses
+  pub marks : length s.marks ≡ s.trail.trail.atoms
+  pub phases : length s.phases.items ≡ s.trail.trail.atoms
 
 -- between questions
 pub record IsIdle (n : ℕ) (s : Search) : Type 0 where
   pub kept : IsKept s
-  pub level : s.trail.level ≡ 0
-  pub atoms : s.trail.atoms ≡ n
+  pub atoms : s.trail.trail.atoms ≡ n
 
 -- the literal is true at one of the levels up to this one
 abbrev pub IsTrueUpTo : List Entry → ℕ → Signed ℕ → Type 0
@@ -35,10 +36,10 @@ IsTrueUpTo entries level l = (e : Entry) × Contains entries e × (e.lit ≡ l) 
 -- the levels up to `assumed` were opened by assumptions, which are all true if there is a level above these
 pub record IsSearch (assumptions : List (Signed ℕ)) (s : Search) : Type 0 where
   pub kept : IsKept s
-  pub low : s.assumed ≤ s.trail.level
-  pub decisions : (e : Entry) → Contains s.trail.entries e → IsDecision e → e.level ≤ s.assumed → Contains assumptions e.lit
-  pub all_true : s.assumed < s.trail.level → All (IsTrueUpTo s.trail.entries s.assumed) assumptions
-  pub checked : All (Contains (literals_of s.trail.entries)) (take s.checked assumptions)
+  pub low : s.assumed ≤ s.trail.trail.level
+  pub decisions : (e : Entry) → Contains s.trail.trail.entries e → IsDecision e → e.level ≤ s.assumed → Contains assumptions e.lit
+  pub all_true : s.assumed < s.trail.trail.level → All (IsTrueUpTo s.trail.trail.entries s.assumed) assumptions
+  pub checked : All (Contains (literals_of s.trail.trail.entries)) (take s.checked assumptions)
 
 -- the literal is the false one, or its atom is marked and it is a decision
 abbrev pub IsInCore : List Entry → List Bool → Signed ℕ → Signed ℕ → Type 0
@@ -57,20 +58,37 @@ weight n (e ∷ es) = (n + 1) ^ (n - e.level) + weight n es
 
 -- the number of atoms and the added clauses are the same
 pub record IsSameProblem (old new : Search) : Type 0 where
-  pub atoms : new.trail.atoms ≡ old.trail.atoms
+  pub atoms : new.trail.trail.atoms ≡ old.trail.trail.atoms
   pub added : new.log.added ≡ old.log.added
+
+-- the same state with the levels above one taken back
+pub record IsBackFrom (old new : Search) : Type 0 where
+  pub trail : IsTrail old.trail.trail
+  pub level : ℕ
+  pub within : level ≤ old.trail.trail.level
+  pub back : new.trail.trail ≡ back_at old.trail.trail level
+  pub added : new.log.added ≡ old.log.added
+  pub search : (assumptions : List (Signed ℕ)) → IsSearch assumptions old → IsSearch assumptions new
+
+-- the same state with other clauses for the trail
+pub record IsSameButClauses (old new : Search) : Type 0 where
+  pub kept : IsKept new
+  pub trail : new.trail.trail ≡ old.trail.trail
+  pub log : new.log ≡ old.log
+  pub assumed : new.assumed ≡ old.assumed
+  pub checked : new.checked ≡ old.checked
 
 -- the search went on
 pub record Advances (old new : Search) : Type 0 where
   pub same : IsSameProblem old new
-  pub within : weight old.trail.atoms old.trail.entries < (old.trail.atoms + 1) ^ (old.trail.atoms + 1)
-  pub risen : weight old.trail.atoms old.trail.entries < weight old.trail.atoms new.trail.entries
+  pub within : weight old.trail.trail.atoms old.trail.trail.entries < (old.trail.trail.atoms + 1) ^ (old.trail.trail.atoms + 1)
+  pub risen : weight old.trail.trail.atoms old.trail.trail.entries < weight old.trail.trail.atoms new.trail.trail.entries
 
 -- the question is answered
 pub record Ends (assumptions : List (Signed ℕ)) (old new : Search) (answer : Answer) : Type 0 where
   pub kept : IsKept new
   pub same : IsSameProblem old new
-  pub answered : IsAnswer old.trail.atoms old.log.added assumptions answer
+  pub answered : IsAnswer old.trail.trail.atoms old.log.added assumptions answer
 
 -- the search goes on, or has ended
 abbrev pub Continues : List (Signed ℕ) → Search → Search → Option Answer → Type 0

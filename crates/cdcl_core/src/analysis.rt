@@ -33,21 +33,21 @@ pub(crate) struct Analysis {
 
 // The literal at a place of the trail.
 pub(crate) fn literal_at(trail: &Trail, place: usize) -> Lit
-    requires { place < length trail.now.entries }
-    ensures literal { (e : Entry) → slice_get trail.now.entries place ≡ Some e → result ≡ e.lit }
-    ensures atom { result.atom < trail.now.atoms }
+    requires { place < length trail.now.trail.entries }
+    ensures literal { (e : Entry) → slice_get trail.now.trail.entries place ≡ Some e → result ≡ e.lit }
+    ensures atom { result.atom < trail.now.trail.atoms }
 {
     let literals = trail.assigned();
     literals[place]
 }
 
 fn mark(trail: &Trail, marks: &mut Marks, counts: &mut Counts, lit: Lit)
-    requires trail { IsTrail trail.now }
-    requires room { length trail.now.entries ≤ usize.MAX }
-    requires size { length marks.old ≡ trail.now.atoms }
-    requires atom { lit.atom < trail.now.atoms }
+    requires trail { IsTrail trail.now.trail }
+    requires room { length trail.now.trail.entries ≤ usize.MAX }
+    requires size { length marks.old ≡ trail.now.trail.atoms }
+    requires atom { lit.atom < trail.now.trail.atoms }
     ensures size { length marks.new ≡ length marks.old }
-    ensures marked { MarksToo trail.now (lit ∷ []) marks.old marks.new counts.old counts.new }
+    ensures marked { MarksToo trail.now.trail (lit ∷ []) marks.old marks.new counts.old counts.new }
 {
     if marks.contains(lit.atom) {
         return;
@@ -63,12 +63,12 @@ fn mark(trail: &Trail, marks: &mut Marks, counts: &mut Counts, lit: Lit)
 
 // Marks the atoms of the clause.
 fn mark_all(trail: &Trail, marks: &mut Marks, counts: &mut Counts, clause: &[Lit])
-    requires trail { IsTrail trail.now }
-    requires room { length trail.now.entries ≤ usize.MAX }
-    requires size { length marks.old ≡ trail.now.atoms }
-    requires atoms { AtomsBelow trail.now.atoms clause.now }
+    requires trail { IsTrail trail.now.trail }
+    requires room { length trail.now.trail.entries ≤ usize.MAX }
+    requires size { length marks.old ≡ trail.now.trail.atoms }
+    requires atoms { AtomsBelow trail.now.trail.atoms clause.now }
     ensures size { length marks.new ≡ length marks.old }
-    ensures marked { MarksToo trail.now clause.now marks.old marks.new counts.old counts.new }
+    ensures marked { MarksToo trail.now.trail clause.now marks.old marks.new counts.old counts.new }
 {
     for lit in clause {
         mark(trail, marks, counts, *lit);
@@ -78,7 +78,7 @@ fn mark_all(trail: &Trail, marks: &mut Marks, counts: &mut Counts, clause: &[Lit
 // Whether a literal with a reason stays. The first one that stays is the last of the present level that all paths to the
 // conflict go through; after it those stay that are above level 0.
 fn stays(trail: &Trail, analysis: &Analysis, level: usize) -> bool
-    ensures { MatchBool result ((0 < level) × (analysis.now.clause.items ≡ [] → (level ≡ trail.now.level) × (analysis.now.counts.present ≤ 1))) ((analysis.now.clause.items ≡ [] → ⊥) → level ≡ 0) }
+    ensures { MatchBool result ((0 < level) × (analysis.now.clause.items ≡ [] → (level ≡ trail.now.trail.level) × (analysis.now.counts.present ≤ 1))) ((analysis.now.clause.items ≡ [] → ⊥) → level ≡ 0) }
 {
     if level == 0 {
         return false;
@@ -91,7 +91,7 @@ fn stays(trail: &Trail, analysis: &Analysis, level: usize) -> bool
 
 // Counts a literal as met.
 fn count_met(trail: &Trail, counts: &mut Counts, level: usize)
-    ensures { (i : ℕ) (e : Entry) (marks : List Bool) → slice_get trail.now.entries i ≡ Some e → IsMarked marks e.lit.atom → e.level ≡ level → AreCounted trail.now (i + 1) marks counts.old → AreCounted trail.now i marks counts.new }
+    ensures { (i : ℕ) (e : Entry) (marks : List Bool) → slice_get trail.now.trail.entries i ≡ Some e → IsMarked marks e.lit.atom → e.level ≡ level → AreCounted trail.now.trail (i + 1) marks counts.old → AreCounted trail.now.trail i marks counts.new }
 {
     if level == trail.level() {
         counts.present = counts.present.saturating_sub(1);
@@ -108,12 +108,12 @@ fn resolve(
     analysis: &mut Analysis,
     number: usize,
 ) -> Result<(), Memory>
-    requires ready { IsReady log.now trail.now }
-    requires size { length marks.old ≡ trail.now.atoms }
+    requires ready { IsReady log.now trail.now.trail }
+    requires size { length marks.old ≡ trail.now.trail.atoms }
     ensures size { OnOk result (length marks.new ≡ length marks.old) }
     ensures clause { OnOk result (analysis.new.clause ≡ analysis.old.clause) }
     ensures hints { OnOk result ((h : Hint) → slice_get log.now.names.items number ≡ Some h → analysis.new.hints.items ≡ analysis.old.hints.items ++ h ∷ []) }
-    ensures marked { OnOk result ((c : List (Signed ℕ)) → IsNamed log.now number c → MarksToo trail.now c marks.old marks.new analysis.old.counts analysis.new.counts) }
+    ensures marked { OnOk result ((c : List (Signed ℕ)) → IsNamed log.now number c → MarksToo trail.now.trail c marks.old marks.new analysis.old.counts analysis.new.counts) }
 {
     let hint = log.hint_of(number);
     analysis.hints.push(hint)?;
@@ -138,12 +138,12 @@ fn meet(
     analysis: &mut Analysis,
     place: usize,
 ) -> Result<(), Memory>
-    requires ready { IsReady log.now trail.now }
-    requires size { length marks.old ≡ trail.now.atoms }
-    requires place { place < length trail.now.entries }
-    requires met { IsMet log.now trail.now (place + 1) marks.old analysis.old }
+    requires ready { IsReady log.now trail.now.trail }
+    requires size { length marks.old ≡ trail.now.trail.atoms }
+    requires place { place < length trail.now.trail.entries }
+    requires met { IsMet log.now trail.now.trail (place + 1) marks.old analysis.old }
     ensures size { OnOk result (length marks.new ≡ length marks.old) }
-    ensures met { OnOk result (IsMet log.now trail.now place marks.new analysis.new) }
+    ensures met { OnOk result (IsMet log.now trail.now.trail place marks.new analysis.new) }
 {
     let lit = literal_at(trail, place);
     if !marks.contains(lit.atom) {
@@ -171,11 +171,11 @@ fn meet_decided(
     analysis: &mut Analysis,
     place: usize,
 ) -> Result<(), Memory>
-    requires ready { IsReady log.now trail.now }
-    requires size { length marks.old ≡ trail.now.atoms }
-    requires place { place < length trail.now.entries }
+    requires ready { IsReady log.now trail.now.trail }
+    requires size { length marks.old ≡ trail.now.trail.atoms }
+    requires place { place < length trail.now.trail.entries }
     ensures size { OnOk result (length marks.new ≡ length marks.old) }
-    ensures met { OnOk result ((start : ℕ) (l : Signed ℕ) → place < start → IsMetDecided log.now trail.now start (place + 1) l marks.old analysis.old → IsMetDecided log.now trail.now start place l marks.new analysis.new) }
+    ensures met { OnOk result ((start : ℕ) (l : Signed ℕ) → place < start → IsMetDecided log.now trail.now.trail start (place + 1) l marks.old analysis.old → IsMetDecided log.now trail.now.trail start place l marks.new analysis.new) }
 {
     let lit = literal_at(trail, place);
     if !marks.contains(lit.atom) {
@@ -219,10 +219,10 @@ fn begin(
     marks: &mut Marks,
     number: usize,
 ) -> Result<Analysis, Memory>
-    requires ready { IsReady log.now trail.now }
-    requires size { length marks.old ≡ trail.now.atoms }
+    requires ready { IsReady log.now trail.now.trail }
+    requires size { length marks.old ≡ trail.now.trail.atoms }
     ensures size { OnOk result (length marks.new ≡ length marks.old) }
-    ensures begun { IfOk result (λ a. (c : List (Signed ℕ)) → IsNamed log.now number c → IsBegun log.now trail.now number c marks.new a) }
+    ensures begun { IfOk result (λ a. (c : List (Signed ℕ)) → IsNamed log.now number c → IsBegun log.now trail.now.trail number c marks.new a) }
 {
     let mut analysis = no_analysis(alloc);
     marks.clear();
@@ -240,12 +240,12 @@ pub(crate) fn analyze(
     number: usize,
     count: usize,
 ) -> Result<Analysis, Memory>
-    requires ready { IsReady log.now trail.now }
-    requires size { length marks.old ≡ trail.now.atoms }
-    requires count { count ≡ length trail.now.entries }
-    requires conflict { NamesFalse log.now trail.now.entries number }
+    requires ready { IsReady log.now trail.now.trail }
+    requires size { length marks.old ≡ trail.now.trail.atoms }
+    requires count { count ≡ length trail.now.trail.entries }
+    requires conflict { NamesFalse log.now trail.now.trail.entries number }
     ensures size { OnOk result (length marks.new ≡ length marks.old) }
-    ensures analysis { IfOk result (IsAnalysis log.now trail.now.entries) }
+    ensures analysis { IfOk result (IsAnalysis log.now trail.now.trail.entries) }
 {
     let mut analysis = begin(alloc, log, trail, marks, number)?;
     let mut place = count;
@@ -281,11 +281,11 @@ pub(crate) fn analyze_given(
     lit: Lit,
     number: usize,
 ) -> Result<Vec<Hint>, Memory>
-    requires ready { IsReady log.now trail.now }
-    requires size { length marks.old ≡ trail.now.atoms }
-    requires given { (e : Entry) × Contains trail.now.entries e × (e.lit ≡ lit) × (e.reason ≡ Some number) }
+    requires ready { IsReady log.now trail.now.trail }
+    requires size { length marks.old ≡ trail.now.trail.atoms }
+    requires given { (e : Entry) × Contains trail.now.trail.entries e × (e.lit ≡ lit) × (e.reason ≡ Some number) }
     ensures size { OnOk result (length marks.new ≡ length marks.old) }
-    ensures hints { IfOk result (λ hints. ShowsGiven log.now trail.now.entries lit marks.new hints.items) }
+    ensures hints { IfOk result (λ hints. ShowsGiven log.now trail.now.trail.entries lit marks.new hints.items) }
 {
     let mut analysis = begin(alloc, log, trail, marks, number)?;
     let mut place = place_of(trail.assigned(), lit);

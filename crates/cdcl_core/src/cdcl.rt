@@ -90,4 +90,9 @@ impl Solver for Cdcl {
             }
         }
     }
+
+    // The steps: a conflict is answered by one.
+    fn conflicts(&self) -> u64 {
+        self.search.log.steps.len() as u64
+    }
 }

@@ -6,10 +6,11 @@
 mod analysis;
 mod cdcl;
 mod cut;
+mod explain;
 mod log;
 mod marks;
+mod order;
+mod pace;
 mod search;
-#[cfg(test)]
-mod tests;
 
 pub use cdcl::Cdcl;

@@ -1,7 +1,10 @@
-// A set of atoms that is emptied by one addition.
-ghost use Rattle.std.specs.Prelude.{◌≡◌, ◌<◌, ◌++◌, ◌∷◌, [], length, replicate, true, false, slice_set, OnOk};
+// A set of atoms that is emptied by one addition. What is put into it rises in the order of decisions.
+ghost use Rattle.std.specs.Prelude.{◌≡◌, ◌<◌, ◌++◌, ◌∷◌, [], length, replicate, true, false, slice_set, None, OnOk, IfSome};
+ghost use Rattle.cdcl_trail.specs.Trail.{level_of};
 ghost use Rattle.std.specs.List.{slice_index_or};
 
+use crate::order::Order;
+use cdcl_trail::Trail;
 use inst_logic::Memory;
 use std::alloc::Global;
 use std::marker::Model;
@@ -11,6 +14,7 @@ use std::marker::Model;
 pub(crate) struct Marks {
     stamps: Vec<u64>,
     present: u64,
+    order: Order,
 }
 
 impl Model for Marks {
@@ -32,6 +36,7 @@ impl Marks {
         Marks {
             stamps: Vec::new(alloc),
             present: 1,
+            order: Order::new(alloc),
         }
     }
 
@@ -39,14 +44,16 @@ impl Marks {
     pub(crate) fn grow(&mut self) -> Result<(), Memory>
         ensures { OnOk result (self.new ≡ self.old ++ false ∷ []) }
     {
+        self.order.grow()?;
         self.stamps.push(0)?;
         Ok(())
     }
 
-    // Stamps are set anew only once in 2^64 calls.
+    // Stamps are set anew only once in 2^64 calls. What is put in from now on rises by more.
     pub(crate) fn clear(&mut self)
         ensures { self.new ≡ replicate (length self.old) false }
     {
+        self.order.decay();
         if self.present < u64::MAX {
             self.present += 1;
         } else {
@@ -60,6 +67,23 @@ impl Marks {
         ensures { self.new ≡ slice_set self.old atom true }
     {
         self.stamps[atom] = self.present;
+        self.order.raise(atom);
+    }
+
+    // An atom without a value, of those that were marked often of late, or `None` where the order has none.
+    pub(crate) fn pick(&mut self, trail: &Trail) -> Option<usize>
+        requires { length self.old ≡ trail.now.trail.atoms }
+        ensures same { self.new ≡ self.old }
+        ensures some { IfSome result (λ atom. (atom < trail.now.trail.atoms) × (level_of trail.now.trail.entries atom ≡ None)) }
+    {
+        self.order.pick(trail, self.stamps.len())
+    }
+
+    // Puts an atom that lost its value back into the order.
+    pub(crate) fn put_back(&mut self, atom: usize)
+        ensures { self.new ≡ self.old }
+    {
+        self.order.insert(atom);
     }
 
     pub(crate) fn contains(&self, atom: usize) -> bool

@@ -1,22 +1,25 @@
 // The search: a loop over the trail. A conflict is answered by a learned clause, which gives a literal at a lower level.
-ghost use Rattle.std.specs.Prelude.{◌≡◌, ℕ, ◌+◌, ◌-◌, ◌++◌, ◌∷◌, [], ◌<◌, ◌≤◌, ◌⊎◌, List, Bool, true, false, Some, None, All, Contains, MatchBool, length, map, min, take, slice_get, unwrap_or, IfOk, IfSome, IfNone, OnOk};
+ghost use Rattle.std.specs.Prelude.{◌≡◌, ◌≢◌, IsTrue, IsFalse, ℕ, ◌+◌, ◌-◌, ◌++◌, ◌∷◌, [], ◌<◌, ◌≤◌, ◌⊎◌, List, Bool, true, false, Some, None, All, Contains, MatchBool, length, map, min, take, slice_get, unwrap_or, IfOk, IfSome, IfNone, OnOk};
 ghost use Rattle.inst_logic.specs.declared.signed.Signed.{Signed};
 ghost use Rattle.inst_logic.specs.Signed.{complement};
+ghost use Rattle.prop_logic.specs.declared.literal.Hint.TheVariants.{Added};
 ghost use Rattle.prop_logic.specs.declared.literal.Step.{Step};
 ghost use Rattle.prop_logic.specs.Literal.{AtomsBelow, cited};
 ghost use Rattle.prop_logic.specs.Solving.{IsAnswer, IsSubList};
 ghost use Rattle.prop_logic.specs.Analysis.{ClosesAll};
 ghost use Rattle.cdcl_trail.specs.declared.entry.Entry.{Entry};
 ghost use Rattle.cdcl_trail.specs.Clauses.{clause_number};
-ghost use Rattle.cdcl_trail.specs.Trail.{IsTrail, IsDecision, value_of, level_of, literals_of, back_at};
+ghost use Rattle.cdcl_trail.specs.Trail.{IsTrail, IsDecision, value_of, level_of, reason_of, literals_of, back_at};
 ghost use Rattle.cdcl_trail.specs.Propagation.{IsConflict, IsStable};
 ghost use Rattle.cdcl_core.specs.Analysis.{IsAnalysis};
-ghost use Rattle.cdcl_core.specs.Search.{IsKept, IsTrueUpTo, IsSearch, IsCoreIn, IsInCore, IsSameProblem, Advances, Ends, Continues};
+ghost use Rattle.cdcl_core.specs.declared.search.Search.{Search};
+ghost use Rattle.cdcl_core.specs.Search.{IsKept, IsTrueUpTo, IsSearch, IsCoreIn, IsInCore, IsSameProblem, IsBackFrom, IsSameButClauses, Advances, Ends, Continues};
 
 use crate::analysis::{Analysis, analyze, analyze_given, literal_at};
 use crate::cut::cut;
 use crate::log::{Log, put_name};
 use crate::marks::Marks;
+use crate::pace::Pace;
 use cdcl_trail::{Clauses, Trail};
 use inst_logic::Memory;
 use prop_logic::{
@@ -32,6 +35,7 @@ pub(crate) struct Search {
     pub(crate) log: Log,
     pub(crate) clauses: Clauses,
     pub(crate) trail: Trail,
+    pub(crate) learned: Vec<usize>,
     pub(crate) marks: Marks,
     pub(crate) phases: Vec<bool>,
     pub(crate) next: usize,
@@ -41,9 +45,9 @@ pub(crate) struct Search {
 
 // The values, where an atom without one is false.
 fn valuation_of(alloc: Global, trail: &Trail, atoms: usize) -> Result<Valuation, Memory>
-    requires { atoms ≡ trail.now.atoms }
+    requires { atoms ≡ trail.now.trail.atoms }
     ensures size { IfOk result (λ valuation. length valuation ≡ atoms) }
-    ensures values { IfOk result (λ valuation. (k : ℕ) → k < atoms → slice_get valuation k ≡ Some (unwrap_or (value_of trail.now.entries (record { positive = true; atom = k })) false)) }
+    ensures values { IfOk result (λ valuation. (k : ℕ) → k < atoms → slice_get valuation k ≡ Some (unwrap_or (value_of trail.now.trail.entries (record { positive = true; atom = k })) false)) }
 {
     let mut valuation = Valuation::new(alloc);
     for atom in 0..atoms {
@@ -58,9 +62,9 @@ fn valuation_of(alloc: Global, trail: &Trail, atoms: usize) -> Result<Valuation,
 
 // The first atom from `from` on that has no value.
 fn open_from(trail: &Trail, from: usize, atoms: usize) -> Option<usize>
-    requires { atoms ≡ trail.now.atoms }
-    ensures some { IfSome result (λ atom. (atom < atoms) × (level_of trail.now.entries atom ≡ None)) }
-    ensures none { IfNone result ((k : ℕ) → from ≤ k → k < atoms → level_of trail.now.entries k ≡ None → ⊥) }
+    requires { atoms ≡ trail.now.trail.atoms }
+    ensures some { IfSome result (λ atom. (atom < atoms) × (level_of trail.now.trail.entries atom ≡ None)) }
+    ensures none { IfNone result ((k : ℕ) → from ≤ k → k < atoms → level_of trail.now.trail.entries k ≡ None → ⊥) }
 {
     for atom in from..atoms {
         match trail.level_of(atom) {
@@ -73,9 +77,9 @@ fn open_from(trail: &Trail, from: usize, atoms: usize) -> Option<usize>
 
 // An atom that has no value, looked for from `next` on first.
 fn open_atom(trail: &Trail, next: usize, atoms: usize) -> Option<usize>
-    requires { atoms ≡ trail.now.atoms }
-    ensures some { IfSome result (λ atom. (atom < atoms) × (level_of trail.now.entries atom ≡ None)) }
-    ensures none { IfNone result ((k : ℕ) → k < atoms → level_of trail.now.entries k ≡ None → ⊥) }
+    requires { atoms ≡ trail.now.trail.atoms }
+    ensures some { IfSome result (λ atom. (atom < atoms) × (level_of trail.now.trail.entries atom ≡ None)) }
+    ensures none { IfNone result ((k : ℕ) → k < atoms → level_of trail.now.trail.entries k ≡ None → ⊥) }
 {
     match open_from(trail, next, atoms) {
         Some(atom) => Some(atom),
@@ -83,23 +87,40 @@ fn open_atom(trail: &Trail, next: usize, atoms: usize) -> Option<usize>
     }
 }
 
+// The same, in the order of activity.
+fn active_atom(trail: &Trail, marks: &mut Marks, next: usize, atoms: usize) -> Option<usize>
+    requires atoms { atoms ≡ trail.now.trail.atoms }
+    requires marks { length marks.old ≡ trail.now.trail.atoms }
+    ensures marks { marks.new ≡ marks.old }
+    ensures some { IfSome result (λ atom. (atom < atoms) × (level_of trail.now.trail.entries atom ≡ None)) }
+    ensures none { IfNone result ((k : ℕ) → k < atoms → level_of trail.now.trail.entries k ≡ None → ⊥) }
+{
+    if trail.is_whole() {
+        return None;
+    }
+    match marks.pick(trail) {
+        Some(atom) => Some(atom),
+        None => open_atom(trail, next, atoms),
+    }
+}
+
 fn is_true(trail: &Trail, lit: Lit) -> bool
-    requires trail { IsTrail trail.now }
-    requires atom { lit.atom < trail.now.atoms }
-    ensures { MatchBool result (Contains (literals_of trail.now.entries) lit) (¬ Contains (literals_of trail.now.entries) lit) }
+    requires trail { IsTrail trail.now.trail }
+    requires atom { lit.atom < trail.now.trail.atoms }
+    ensures { MatchBool result (Contains (literals_of trail.now.trail.entries) lit) (¬ Contains (literals_of trail.now.trail.entries) lit) }
 {
     trail.value(lit).unwrap_or(false)
 }
 
 // The place of the first assumption from `from` on that is not true.
 fn first_not_true(trail: &Trail, assumptions: &[Lit], from: usize) -> Option<usize>
-    requires trail { IsTrail trail.now }
-    requires atoms { AtomsBelow trail.now.atoms assumptions.now }
-    requires checked { All (Contains (literals_of trail.now.entries)) (take from assumptions.now) }
+    requires trail { IsTrail trail.now.trail }
+    requires atoms { AtomsBelow trail.now.trail.atoms assumptions.now }
+    requires checked { All (Contains (literals_of trail.now.trail.entries)) (take from assumptions.now) }
     ensures within { IfSome result (λ place. place < length assumptions.now) }
-    ensures some { IfSome result (λ place. (l : Signed ℕ) → slice_get assumptions.now place ≡ Some l → ¬ Contains (literals_of trail.now.entries) l) }
-    ensures before { IfSome result (λ place. All (Contains (literals_of trail.now.entries)) (take place assumptions.now)) }
-    ensures none { IfNone result (All (Contains (literals_of trail.now.entries)) assumptions.now) }
+    ensures some { IfSome result (λ place. (l : Signed ℕ) → slice_get assumptions.now place ≡ Some l → ¬ Contains (literals_of trail.now.trail.entries) l) }
+    ensures before { IfSome result (λ place. All (Contains (literals_of trail.now.trail.entries)) (take place assumptions.now)) }
+    ensures none { IfNone result (All (Contains (literals_of trail.now.trail.entries)) assumptions.now) }
 {
     let mut place = from;
     while place < assumptions.len() {
@@ -111,11 +132,34 @@ fn first_not_true(trail: &Trail, assumptions: &[Lit], from: usize) -> Option<usi
     None
 }
 
+// Whether the hint cites a step.
+fn is_step(hint: Hint) -> bool
+    ensures { IsTrue result → (i : ℕ) → hint ≢ Added i }
+{
+    match hint {
+        Hint::Added(_) => false,
+        Hint::Step(_) => true,
+    }
+}
+
+// Whether the clause gave one of its literals its value.
+fn is_reason(trail: &Trail, clause: &[Lit], number: usize) -> bool
+    requires { AtomsBelow trail.now.trail.atoms clause.now }
+    ensures { IsFalse result → All (λ l. reason_of trail.now.trail.entries l.atom ≢ Some number) clause.now }
+{
+    for lit in clause {
+        if trail.reason(lit.atom) == Some(number) {
+            return true;
+        }
+    }
+    false
+}
+
 // The highest level of the literals.
 fn highest_level(trail: &Trail, literals: &[Lit]) -> usize
-    requires { AtomsBelow trail.now.atoms literals.now }
-    ensures reached { All (λ l. unwrap_or (level_of trail.now.entries l.atom) 0 ≤ result) literals.now }
-    ensures least { (top : ℕ) → 0 < top → All (λ l. unwrap_or (level_of trail.now.entries l.atom) 0 < top) literals.now → result < top }
+    requires { AtomsBelow trail.now.trail.atoms literals.now }
+    ensures reached { All (λ l. unwrap_or (level_of trail.now.trail.entries l.atom) 0 ≤ result) literals.now }
+    ensures least { (top : ℕ) → 0 < top → All (λ l. unwrap_or (level_of trail.now.trail.entries l.atom) 0 < top) literals.now → result < top }
 {
     let mut highest = 0;
     for lit in literals {
@@ -124,12 +168,50 @@ fn highest_level(trail: &Trail, literals: &[Lit]) -> usize
     highest
 }
 
+// The place of the literal among the assumptions from `from` on.
+fn place_from(assumptions: &[Lit], from: usize, lit: Lit) -> Option<usize>
+    ensures { IfSome result (λ place. slice_get assumptions.now place ≡ Some lit) }
+{
+    let mut place = from;
+    while place < assumptions.len() {
+        if assumptions[place] == lit {
+            return Some(place);
+        }
+        place += 1;
+    }
+    None
+}
+
+// A level up to which each decision is an assumption. The decisions are looked for in the order of the assumptions.
+fn shared_level(trail: &Trail, assumptions: &[Lit], count: usize) -> usize
+    requires trail { IsTrail trail.now.trail }
+    requires count { count ≡ length trail.now.trail.entries }
+    ensures within { result ≤ trail.now.trail.level }
+    ensures decisions { (e : Entry) → Contains trail.now.trail.entries e → IsDecision e → e.level ≤ result → Contains assumptions.now e.lit }
+{
+    let mut from = 0;
+    for place in 0..count {
+        let lit = literal_at(trail, place);
+        if trail.reason(lit.atom).is_some() {
+            continue;
+        }
+        match place_from(assumptions, from, lit) {
+            Some(found) => from = found,
+            None => {
+                let level = trail.level_of(lit.atom).unwrap_or(0);
+                return level.saturating_sub(1).min(trail.level());
+            }
+        }
+    }
+    trail.level()
+}
+
 // Whether the assumption is the false one, or a marked decision.
 fn is_in_core(trail: &Trail, marks: &Marks, refuted: Lit, lit: Lit) -> bool
-    requires trail { IsTrail trail.now }
-    requires size { length marks.now ≡ trail.now.atoms }
-    requires atom { lit.atom < trail.now.atoms }
-    ensures { MatchBool result ((lit ≡ refuted) ⊎ Contains (literals_of trail.now.entries) lit) (¬ IsInCore trail.now.entries marks.now refuted lit) }
+    requires trail { IsTrail trail.now.trail }
+    requires size { length marks.now ≡ trail.now.trail.atoms }
+    requires atom { lit.atom < trail.now.trail.atoms }
+    ensures { MatchBool result ((lit ≡ refuted) ⊎ Contains (literals_of trail.now.trail.entries) lit) (¬ IsInCore trail.now.trail.entries marks.now refuted lit) }
 {
     if lit == refuted {
         return true;
@@ -151,10 +233,10 @@ fn core_of(
     refuted: Lit,
     assumptions: &[Lit],
 ) -> Result<LitList, Memory>
-    requires trail { IsTrail trail.now }
-    requires size { length marks.now ≡ trail.now.atoms }
-    requires atoms { AtomsBelow trail.now.atoms assumptions.now }
-    ensures { IfOk result (IsCoreIn trail.now.entries marks.now refuted assumptions.now) }
+    requires trail { IsTrail trail.now.trail }
+    requires size { length marks.now ≡ trail.now.trail.atoms }
+    requires atoms { AtomsBelow trail.now.trail.atoms assumptions.now }
+    ensures { IfOk result (IsCoreIn trail.now.trail.entries marks.now refuted assumptions.now) }
 {
     let mut core = LitList::new(alloc);
     for lit in assumptions {
@@ -167,9 +249,16 @@ fn core_of(
 }
 
 // Keeps the values of the literals that are above the level, and the first of their atoms to look at.
-fn save_phases(trail: &Trail, phases: &mut [bool], next: usize, level: usize) -> usize
-    requires { length phases.old ≡ trail.now.atoms }
-    ensures { IsTrail trail.now }
+fn save_phases(
+    trail: &Trail,
+    marks: &mut Marks,
+    phases: &mut [bool],
+    next: usize,
+    level: usize,
+) -> usize
+    requires { length phases.old ≡ trail.now.trail.atoms }
+    ensures trail { IsTrail trail.now.trail }
+    ensures marks { marks.new ≡ marks.old }
 {
     let mut first = next;
     let mut place = trail.assigned().len();
@@ -180,6 +269,7 @@ fn save_phases(trail: &Trail, phases: &mut [bool], next: usize, level: usize) ->
             return first;
         }
         phases[lit.atom] = lit.positive;
+        marks.put_back(lit.atom);
         first = first.min(lit.atom);
     }
     first
@@ -188,8 +278,7 @@ fn save_phases(trail: &Trail, phases: &mut [bool], next: usize, level: usize) ->
 impl Search {
     pub(crate) fn new(alloc: Global) -> Search
         ensures kept { IsKept result }
-        ensures atoms { result.trail.atoms ≡ 0 }
-        ensures level { result.trail.level ≡ 0 }
+        ensures atoms { result.trail.trail.atoms ≡ 0 }
         ensures added { result.log.added ≡ [] }
     {
         Search {
@@ -197,6 +286,7 @@ impl Search {
             log: Log::new(alloc),
             clauses: Clauses::new(alloc),
             trail: Trail::new(alloc),
+            learned: Vec::new(alloc),
             marks: Marks::new(alloc),
             phases: Vec::new(alloc),
             next: 0,
@@ -208,9 +298,8 @@ impl Search {
     pub(crate) fn new_atom(&mut self) -> Result<usize, Memory>
         requires kept { IsKept self.old }
         ensures kept { OnOk result (IsKept self.new) }
-        ensures number { IfOk result (λ n. n ≡ self.old.trail.atoms) }
-        ensures atoms { OnOk result (self.new.trail.atoms ≡ self.old.trail.atoms + 1) }
-        ensures level { OnOk result (self.new.trail.level ≡ self.old.trail.level) }
+        ensures number { IfOk result (λ n. n ≡ self.old.trail.trail.atoms) }
+        ensures atoms { OnOk result (self.new.trail.trail.atoms ≡ self.old.trail.trail.atoms + 1) }
         ensures added { OnOk result (self.new.log.added ≡ self.old.log.added) }
     {
         self.marks.grow()?;
@@ -220,7 +309,7 @@ impl Search {
 
     pub(crate) fn atoms(&self) -> usize
         requires { IsKept self.now }
-        ensures { result ≡ self.now.trail.atoms }
+        ensures { result ≡ self.now.trail.trail.atoms }
     {
         self.phases.len()
     }
@@ -228,10 +317,10 @@ impl Search {
     // Adds a copy of the clause, and answers its number.
     pub(crate) fn add(&mut self, clause: &[Lit]) -> Result<usize, Memory>
         requires kept { IsKept self.old }
-        requires atoms { AtomsBelow self.old.trail.atoms clause.now }
+        requires atoms { AtomsBelow self.old.trail.trail.atoms clause.now }
         ensures kept { OnOk result (IsKept self.new) }
         ensures number { IfOk result (λ n. n ≡ length self.new.log.added) }
-        ensures trail { OnOk result (self.new.trail ≡ self.old.trail) }
+        ensures trail { OnOk result (self.new.trail.trail ≡ self.old.trail.trail) }
         ensures added { OnOk result (self.new.log.added ≡ self.old.log.added ++ clause.now ∷ []) }
     {
         let copy = LitList::from(Vec::from_slice(self.alloc, clause)?);
@@ -239,31 +328,67 @@ impl Search {
         let number = self.log.added.len();
         let key = self.clauses.add(clause)?;
         put_name(&mut self.log.names, key, Hint::Added(number))?;
+        self.trail.attach(&self.clauses, key)?;
         Ok(number)
     }
 
     // Takes back the levels above this one.
     fn back_to(&mut self, level: usize)
-        requires level { level ≤ self.old.trail.level }
+        requires level { level ≤ self.old.trail.trail.level }
         requires kept { IsKept self.old }
         ensures kept { IsKept self.new }
-        ensures right { IsTrail self.old.trail }
-        ensures trail { self.new.trail ≡ back_at self.old.trail level }
+        ensures right { IsTrail self.old.trail.trail }
+        ensures trail { self.new.trail.trail ≡ back_at self.old.trail.trail level }
         ensures log { self.new.log ≡ self.old.log }
         ensures clauses { self.new.clauses ≡ self.old.clauses }
         ensures assumed { self.new.assumed ≡ min self.old.assumed level }
         ensures checked { self.new.checked ≡ 0 }
     {
-        self.next = save_phases(&self.trail, &mut self.phases, self.next, level);
+        self.next = save_phases(
+            &self.trail,
+            &mut self.marks,
+            &mut self.phases,
+            self.next,
+            level,
+        );
         self.trail.back_to(level);
         self.assumed = self.assumed.min(level);
         self.checked = 0;
     }
 
+    // Forgets the clause of this number, if it was learned and is the reason of no literal.
+    fn forget(&mut self, number: usize)
+        requires kept { IsKept self.old }
+        requires trail { IsTrail self.old.trail.trail }
+        ensures same { IsSameButClauses self.old self.new }
+    {
+        let hint = self.log.hint_of(number);
+        if !is_step(hint) || self.clauses.get(number).is_none() {
+            return;
+        }
+        if is_reason(&self.trail, self.log.cited(hint), number) {
+            return;
+        }
+        self.trail.detach(&self.clauses, number);
+        self.clauses.forget(number);
+    }
+
+    // Forgets the older half of the learned clauses.
+    fn reduce(&mut self)
+        requires kept { IsKept self.old }
+        requires trail { IsTrail self.old.trail.trail }
+        ensures same { IsSameButClauses self.old self.new }
+    {
+        for place in 0..self.learned.len() / 2 {
+            let number = self.learned.get(place).copied().unwrap_or(0);
+            self.forget(number);
+        }
+    }
+
     // Ends the steps with the clause.
     fn push_step(&mut self, clause: LitList, hints: Vec<Hint>) -> Result<(), Memory>
         requires kept { IsKept self.old }
-        requires atoms { AtomsBelow self.old.trail.atoms clause }
+        requires atoms { AtomsBelow self.old.trail.trail.atoms clause }
         requires closes { ClosesAll clause (map (cited self.old.log.added self.old.log.steps) hints.items) }
         ensures kept { OnOk result (IsKept self.new) }
         ensures added { self.new.log.added ≡ self.old.log.added }
@@ -282,23 +407,25 @@ impl Search {
     fn use_last_step(&mut self) -> Result<usize, Memory>
         requires { IsKept self.old }
         ensures kept { IfOk result (λ key. (before : List Step) (s : Step) → self.old.log.steps ≡ before ++ s ∷ [] → IsKept self.new × (clause_number self.new.clauses key ≡ Some s.clause)) }
-        ensures trail { self.new.trail ≡ self.old.trail }
+        ensures trail { OnOk result (self.new.trail.trail ≡ self.old.trail.trail) }
         ensures added { self.new.log.added ≡ self.old.log.added }
         ensures assumed { self.new.assumed ≡ self.old.assumed }
     {
         let hint = Hint::Step(self.log.steps.len());
         let key = self.clauses.add(self.log.cited(hint))?;
         put_name(&mut self.log.names, key, hint)?;
+        self.trail.attach(&self.clauses, key)?;
+        self.learned.push(key)?;
         Ok(key)
     }
 
     // Keeps the clause, whose first literal is above the levels of the others, and makes that literal true by it.
     fn learn(&mut self, analysis: Analysis) -> Result<(), Memory>
         requires kept { IsKept self.old }
-        requires trail { IsTrail self.old.trail }
-        requires analysis { IsAnalysis self.old.log self.old.trail.entries analysis }
+        requires trail { IsTrail self.old.trail.trail }
+        requires analysis { IsAnalysis self.old.log self.old.trail.trail.entries analysis }
         requires some { 0 < length analysis.clause.items }
-        ensures learned { OnOk result ((assumptions : List (Signed ℕ)) → IsSearch assumptions self.old → IsSearch assumptions self.new × Advances self.old self.new) }
+        ensures learned { OnOk result ((first : Search) (assumptions : List (Signed ℕ)) → IsBackFrom first self.old → IsSearch assumptions self.old → IsSearch assumptions self.new × Advances first self.new) }
         ensures added { self.new.log.added ≡ self.old.log.added }
     {
         let lit = analysis.clause[0];
@@ -313,7 +440,7 @@ impl Search {
     // The answer where the core can't be true, whose complements the hints show.
     fn refuted(&mut self, core: LitList, hints: Vec<Hint>) -> Result<Answer, Memory>
         requires kept { IsKept self.old }
-        requires atoms { AtomsBelow self.old.trail.atoms core }
+        requires atoms { AtomsBelow self.old.trail.trail.atoms core }
         requires closes { ClosesAll (map complement core) (map (cited self.old.log.added self.old.log.steps) hints.items) }
         ensures ends { IfOk result (λ answer. (assumptions : List (Signed ℕ)) → IsSubList core assumptions → Ends assumptions self.old self.new answer) }
         ensures added { self.new.log.added ≡ self.old.log.added }
@@ -324,15 +451,35 @@ impl Search {
         Ok(Answer::Unsat { core, derivation })
     }
 
-    // Answers a conflict: by what is learned from it, or with an end where it depends on no decision.
-    fn resolve(&mut self, number: usize, count: usize) -> Result<Option<Answer>, Memory>
+    // Goes back to the highest level of the literals of the clause of this number, which is false, and answers how many
+    // literals are left.
+    fn back_to_conflict(&mut self, number: usize) -> usize
         requires kept { IsKept self.old }
-        requires trail { IsTrail self.old.trail }
-        requires count { count ≡ length self.old.trail.entries }
-        requires conflict { IsConflict self.old.clauses self.old.trail.entries number }
+        requires trail { IsTrail self.old.trail.trail }
+        requires conflict { IsConflict self.old.clauses self.old.trail.trail.entries number }
+        ensures kept { IsKept self.new }
+        ensures back { IsBackFrom self.old self.new }
+        ensures trail { IsTrail self.new.trail.trail }
+        ensures count { result ≡ length self.new.trail.trail.entries }
+        ensures clauses { self.new.clauses ≡ self.old.clauses }
+        ensures added { self.new.log.added ≡ self.old.log.added }
+        ensures conflict { IsConflict self.new.clauses self.new.trail.trail.entries number }
+    {
+        let highest = highest_level(&self.trail, self.log.cited(self.log.hint_of(number)));
+        let level = highest.min(self.trail.level());
+        self.back_to(level);
+        self.trail.assigned().len()
+    }
+
+    // Answers a conflict: by what is learned from it, or with an end where it depends on no decision.
+    fn resolve(&mut self, number: usize) -> Result<Option<Answer>, Memory>
+        requires kept { IsKept self.old }
+        requires trail { IsTrail self.old.trail.trail }
+        requires conflict { IsConflict self.old.clauses self.old.trail.trail.entries number }
         ensures goes { IfOk result (λ found. (assumptions : List (Signed ℕ)) → IsSearch assumptions self.old → Continues assumptions self.old self.new found) }
         ensures added { self.new.log.added ≡ self.old.log.added }
     {
+        let count = self.back_to_conflict(number);
         let analysis = analyze(
             self.alloc,
             &self.log,
@@ -352,11 +499,11 @@ impl Search {
     // The answer where the complement of an assumption is assumed too, which no clause is needed for.
     fn clash(&mut self, assumptions: &[Lit], lit: Lit) -> Result<Answer, Memory>
         requires search { IsSearch assumptions.now self.old }
-        requires trail { IsTrail self.old.trail }
-        requires atoms { AtomsBelow self.old.trail.atoms assumptions.now }
+        requires trail { IsTrail self.old.trail.trail }
+        requires atoms { AtomsBelow self.old.trail.trail.atoms assumptions.now }
         requires assumption { Contains assumptions.now lit }
         requires other { Contains assumptions.now (complement lit) }
-        requires decided { (e : Entry) × Contains self.old.trail.entries e × (e.lit ≡ complement lit) × IsDecision e }
+        requires decided { (e : Entry) × Contains self.old.trail.trail.entries e × (e.lit ≡ complement lit) × IsDecision e }
         ensures ends { IfOk result (Ends assumptions.now self.old self.new) }
         ensures added { self.new.log.added ≡ self.old.log.added }
     {
@@ -375,12 +522,12 @@ impl Search {
     // The answer where an assumption is false.
     fn refute(&mut self, assumptions: &[Lit], lit: Lit, count: usize) -> Result<Answer, Memory>
         requires search { IsSearch assumptions.now self.old }
-        requires trail { IsTrail self.old.trail }
-        requires atoms { AtomsBelow self.old.trail.atoms assumptions.now }
-        requires count { count ≡ length self.old.trail.entries }
-        requires level { self.old.trail.level ≤ self.old.assumed }
+        requires trail { IsTrail self.old.trail.trail }
+        requires atoms { AtomsBelow self.old.trail.trail.atoms assumptions.now }
+        requires count { count ≡ length self.old.trail.trail.entries }
+        requires level { self.old.trail.trail.level ≤ self.old.assumed }
         requires assumption { Contains assumptions.now lit }
-        requires refuted { Contains (literals_of self.old.trail.entries) (complement lit) }
+        requires refuted { Contains (literals_of self.old.trail.trail.entries) (complement lit) }
         ensures ends { IfOk result (Ends assumptions.now self.old self.new) }
         ensures added { self.new.log.added ≡ self.old.log.added }
     {
@@ -404,13 +551,13 @@ impl Search {
     // Where the assumptions are true: decides an atom, if one has no value.
     fn choose(&mut self) -> Result<Option<Answer>, Memory>
         requires kept { IsKept self.old }
-        requires trail { IsTrail self.old.trail }
-        requires stable { IsStable self.old.clauses self.old.trail.entries }
-        ensures goes { IfOk result (λ found. (assumptions : List (Signed ℕ)) → IsSearch assumptions self.old → All (IsTrueUpTo self.old.trail.entries self.old.assumed) assumptions → Continues assumptions self.old self.new found) }
+        requires trail { IsTrail self.old.trail.trail }
+        requires stable { IsStable self.old.clauses self.old.trail.trail.entries }
+        ensures goes { IfOk result (λ found. (assumptions : List (Signed ℕ)) → IsSearch assumptions self.old → All (IsTrueUpTo self.old.trail.trail.entries self.old.assumed) assumptions → Continues assumptions self.old self.new found) }
         ensures added { self.new.log.added ≡ self.old.log.added }
     {
         let atoms = self.phases.len();
-        match open_atom(&self.trail, self.next, atoms) {
+        match active_atom(&self.trail, &mut self.marks, self.next, atoms) {
             Some(atom) => {
                 let positive = self.phases[atom];
                 self.trail.decide(Lit { positive, atom });
@@ -424,11 +571,11 @@ impl Search {
     // Where no level is open but for assumptions: decides the next assumption, or an atom where they are all true.
     fn assume(&mut self, assumptions: &[Lit], count: usize) -> Result<Option<Answer>, Memory>
         requires search { IsSearch assumptions.now self.old }
-        requires trail { IsTrail self.old.trail }
-        requires atoms { AtomsBelow self.old.trail.atoms assumptions.now }
-        requires count { count ≡ length self.old.trail.entries }
-        requires level { self.old.trail.level ≤ self.old.assumed }
-        requires stable { IsStable self.old.clauses self.old.trail.entries }
+        requires trail { IsTrail self.old.trail.trail }
+        requires atoms { AtomsBelow self.old.trail.trail.atoms assumptions.now }
+        requires count { count ≡ length self.old.trail.trail.entries }
+        requires level { self.old.trail.trail.level ≤ self.old.assumed }
+        requires stable { IsStable self.old.clauses self.old.trail.trail.entries }
         ensures goes { IfOk result (Continues assumptions.now self.old self.new) }
         ensures added { self.new.log.added ≡ self.old.log.added }
     {
@@ -446,13 +593,13 @@ impl Search {
         count: usize,
     ) -> Result<Option<Answer>, Memory>
         requires search { IsSearch assumptions.now self.old }
-        requires trail { IsTrail self.old.trail }
-        requires atoms { AtomsBelow self.old.trail.atoms assumptions.now }
-        requires count { count ≡ length self.old.trail.entries }
-        requires level { self.old.trail.level ≤ self.old.assumed }
+        requires trail { IsTrail self.old.trail.trail }
+        requires atoms { AtomsBelow self.old.trail.trail.atoms assumptions.now }
+        requires count { count ≡ length self.old.trail.trail.entries }
+        requires level { self.old.trail.trail.level ≤ self.old.assumed }
         requires place { place < length assumptions.now }
-        requires not_true { (l : Signed ℕ) → slice_get assumptions.now place ≡ Some l → ¬ Contains (literals_of self.old.trail.entries) l }
-        requires before { All (Contains (literals_of self.old.trail.entries)) (take place assumptions.now) }
+        requires not_true { (l : Signed ℕ) → slice_get assumptions.now place ≡ Some l → ¬ Contains (literals_of self.old.trail.trail.entries) l }
+        requires before { All (Contains (literals_of self.old.trail.trail.entries)) (take place assumptions.now) }
         ensures goes { IfOk result (Continues assumptions.now self.old self.new) }
         ensures added { self.new.log.added ≡ self.old.log.added }
     {
@@ -469,14 +616,14 @@ impl Search {
     // One decision or one conflict on.
     fn advance(&mut self, assumptions: &[Lit]) -> Result<Option<Answer>, Memory>
         requires search { IsSearch assumptions.now self.old }
-        requires atoms { AtomsBelow self.old.trail.atoms assumptions.now }
+        requires atoms { AtomsBelow self.old.trail.trail.atoms assumptions.now }
         ensures goes { IfOk result (Continues assumptions.now self.old self.new) }
         ensures added { self.new.log.added ≡ self.old.log.added }
     {
         let conflict = self.trail.propagate(&self.clauses)?;
         let count = self.trail.assigned().len();
         match conflict {
-            Some(number) => self.resolve(number, count),
+            Some(number) => self.resolve(number),
             None => {
                 if self.assumed < self.trail.level() {
                     return self.choose();
@@ -486,23 +633,56 @@ impl Search {
         }
     }
 
+    // Begins a question: keeps all levels where nothing is assumed, else those whose decisions are assumed again.
+    fn begin(&mut self, assumptions: &[Lit])
+        requires kept { IsKept self.old }
+        ensures search { IsSearch assumptions.now self.new }
+        ensures same { IsSameProblem self.old self.new }
+    {
+        let count = self.trail.assigned().len();
+        self.checked = 0;
+        if assumptions.is_empty() {
+            self.assumed = 0;
+            return;
+        }
+        let level = shared_level(&self.trail, assumptions, count);
+        self.back_to(level);
+        self.assumed = level;
+    }
+
+    // Takes back the levels that no assumption opened.
+    fn restart(&mut self)
+        requires kept { IsKept self.old }
+        ensures back { IsBackFrom self.old self.new }
+    {
+        let level = self.assumed.min(self.trail.level());
+        self.back_to(level);
+        let _ = self.trail.assigned();
+        self.reduce();
+    }
+
     // Whether the clauses and the assumptions can be true together.
     pub(crate) fn answer(&mut self, assumptions: &[Lit]) -> Result<Answer, Memory>
         requires kept { IsKept self.old }
-        requires level { self.old.trail.level ≡ 0 }
-        requires atoms { AtomsBelow self.old.trail.atoms assumptions.now }
+        requires atoms { AtomsBelow self.old.trail.trail.atoms assumptions.now }
         ensures kept { OnOk result (IsKept self.new) }
-        ensures level { OnOk result (self.new.trail.level ≡ 0) }
         ensures same { OnOk result (IsSameProblem self.old self.new) }
         ensures added { self.new.log.added ≡ self.old.log.added }
-        ensures answer { IfOk result (IsAnswer self.old.trail.atoms self.old.log.added assumptions.now) }
+        ensures answer { IfOk result (IsAnswer self.old.trail.trail.atoms self.old.log.added assumptions.now) }
     {
-        self.back_to(0);
+        self.begin(assumptions);
+        let mut pace = Pace::new();
         loop {
+            if pace.is_due() {
+                pace.restart();
+                self.restart();
+                continue;
+            }
+            let level = self.trail.level();
             if let Some(answer) = self.advance(assumptions)? {
-                self.back_to(0);
                 return Ok(answer);
             }
+            pace.see(level, self.trail.level());
         }
     }
 }

@@ -1,17 +1,14 @@
 -- What propagation adds.
-use Rattle.std.proofs.Common.{◌≡◌, ℕ, suc, zero, ◌+◌, ◌<◌, ◌≤◌, ◌⊎◌, inl, inr, List, [], ◌∷◌, ◌++◌, length, take, Option, Some, refl, sym, ap, ◌∙◌, subst, arith}
+use Rattle.std.proofs.Common.{◌≡◌, ℕ, ◌<◌, ◌≤◌, ◌⊎◌, inl, inr, List, [], ◌∷◌, ◌++◌, length, take, Option, Some, refl, sym, ap, ◌∙◌, subst, arith}
 use Rattle.std.specs.Prelude.{slice_get}
 use Rattle.std.proofs.lemmas.List.{length-take}
-use Rattle.std.proofs.lemmas.Option.{slice_get_within, none-some}
-use Rattle.std.proofs.lemmas.Bool.{cases_eq}
+use Rattle.std.proofs.lemmas.Option.{slice_get_within}
 use Rattle.inst_logic.specs.declared.signed.Signed.{Signed}
 use Rattle.prop_logic.proofs.ListLaws.{slice_get_push, take_slice_get, take_of_append, take_whole, take_of_take}
 use Rattle.cdcl_trail.specs.declared.entry.Entry.{Entry}
-use Rattle.cdcl_trail.specs.Clauses.{clause_in, clause_number}
+use Rattle.cdcl_trail.specs.Clauses.{clause_number}
 use Rattle.cdcl_trail.specs.Propagation.{GivesUnit, IsGiven, Propagates}
-use Rattle.cdcl_trail.specs.Scan.{RestsAt}
 use Rattle.cdcl_trail.specs.Trail.{Trail, with_implied}
-use Rattle.cdcl_trail.proofs.ClausesLaws.{none_past}
 
 pub nothing_added : (clauses : List (Option (List (Signed ℕ)))) (t : Trail) → Propagates clauses t t
 nothing_added clauses t = record {
@@ -68,29 +65,3 @@ more_added clauses old mid new p q =
 
     early : (k : ℕ) (e : Entry) → k < length mid.entries → slice_get new.entries k ≡ Some e → slice_get mid.entries k ≡ Some e
     early k e low get = subst (λ es. slice_get es k ≡ Some e) q.kept (take_slice_get new.entries (length mid.entries) k e low get)
-
--- one clause more has been visited
-pub visited : (clauses : List (Option (List (Signed ℕ)))) (old mid new : Trail) (place : ℕ) → Propagates clauses old mid
-    → (length mid.entries ≡ length old.entries → (k : ℕ) → k < place → RestsAt clauses mid.entries (k + 1))
-    → ((new ≡ mid) × RestsAt clauses new.entries (place + 1)) ⊎ (length new.entries ≡ length mid.entries + 1)
-    → length new.entries ≡ length old.entries → (k : ℕ) → k < place + 1 → RestsAt clauses new.entries (k + 1)
-visited clauses old mid new place p before (inl h) size k low =
-    elim (cases_eq k place) [
-      | inl same ↦ subst (λ n. RestsAt clauses new.entries (n + 1)) (sym same) h.1
-      | inr other ↦ subst (λ (t : Trail). RestsAt clauses t.entries (k + 1)) (sym h.0) (before (ap (λ (t : Trail). length t.entries) (sym h.0) ∙ size) k (omega (arith, low, other)))
-    ]
-visited clauses old mid new place p before (inr h) size k low = absurd (omega (arith, h, size, longer clauses old mid p))
-
--- past the slots there are no clauses
-pub all_visited : (clauses : List (Option (List (Signed ℕ)))) (entries : List Entry) (place : ℕ) → length clauses ≤ place → ((k : ℕ) → k < place → RestsAt clauses entries (k + 1)) → (n : ℕ) → RestsAt clauses entries n
-all_visited clauses entries place past rests zero c at = absurd (none-some c at)
-all_visited clauses entries place past rests (suc n) c at =
-    elim (within n) [
-      | inl low ↦
-          let s : n + 1 ≡ suc n = omega arith in
-          rests n low c (ap (clause_number clauses) s ∙ at)
-      | inr high ↦ absurd (none-some c (sym (ap clause_in (none_past clauses n (omega (arith, past, high)))) ∙ at))
-    ]
-  where
-    within : (k : ℕ) → (k < place) ⊎ (place ≤ k)
-    within k = grind arith

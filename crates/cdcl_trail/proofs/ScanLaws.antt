@@ -1,7 +1,8 @@
 -- What the values say of a clause.
-use Rattle.std.proofs.Common.{◌≡◌, ◌≢◌, ℕ, suc, zero, Bool, true, false, not, cond, ◌⊎◌, inl, inr, List, [], ◌∷◌, ◌++◌, take, Option, Some, None, refl, sym, ap, ◌∙◌, subst, arith}
-use Rattle.std.specs.Prelude.{All, AllPairs, Contains, ◌==◌, ◌&&◌}
-use Rattle.std.proofs.lemmas.List.Elements.{All-nil, All-cons, All-push, All-weaker, All-contains, All-map, All-contains_itself, Contains-push, Contains-append_left}
+use Rattle.std.proofs.Common.{◌≡◌, ◌≢◌, ℕ, suc, zero, Bool, true, false, not, cond, ◌⊎◌, inl, inr, List, [], ◌∷◌, ◌+◌, ◌<◌, ◌≤◌, length, get_or, take, Option, Some, None, refl, sym, ap, ◌∙◌, subst, arith}
+use Rattle.std.specs.Prelude.{All, AllPairs, Contains, MatchBool, ◌==◌, ◌&&◌}
+use Rattle.std.proofs.lemmas.List.{take_more, take_all}
+use Rattle.std.proofs.lemmas.List.Elements.{All-nil, All-cons, All-push, All-weaker, All-contains, All-map, All-contains_itself}
 use Rattle.std.proofs.lemmas.Option.{none-some, same_Some}
 use Rattle.std.proofs.lemmas.Bool.{eqb-true, eqb-false, eq-eqb}
 use Rattle.std.proofs.Math.Dec.{eqb}
@@ -10,14 +11,12 @@ use Rattle.prop_logic.proofs.ListLaws.{Contains-take}
 use Rattle.inst_logic.specs.declared.signed.Signed.{Signed}
 use Rattle.inst_logic.specs.Signed.{complement}
 use Rattle.cdcl_trail.specs.declared.entry.Entry.{Entry}
-use Rattle.cdcl_trail.specs.declared.propagation.Scan.{Scan}
-use Rattle.cdcl_trail.specs.declared.propagation.Scan.TheVariants.{False, Unit as UnitOf, Rest}
 use Rattle.cdcl_trail.specs.Propagation.{IsFalseIn, GivesUnit, IsStable}
-use Rattle.cdcl_trail.specs.Scan.{HasRest, IsScanned, RestsAt}
+use Rattle.cdcl_trail.specs.Scan.{HasRest, RestsAt}
 use Rattle.cdcl_trail.specs.Trail.{IsUnset, value_of, literals_of}
 use Rattle.cdcl_trail.proofs.TrailLaws.{contains_here, contains_there}
 
-same_lit : (a l : Signed ℕ) → a.atom ≡ l.atom → a.positive ≡ l.positive → a ≡ l
+pub same_lit : (a l : Signed ℕ) → a.atom ≡ l.atom → a.positive ≡ l.positive → a ≡ l
 same_lit a l atoms signs =
     let make : ℕ → Bool → Signed ℕ = λ n p. record { positive = p; atom = n } in
     ap (λ n. make n a.positive) atoms ∙ ap (λ p. make l.atom p) signs
@@ -64,48 +63,8 @@ none_value (e ∷ es) l h = by_test (e.lit.atom == l.atom) refl h (none_value es
     by_test true t v rest = let w = rw t at v in absurd (none-some (cond e.lit.positive l.positive (not l.positive)) (sym w))
     by_test false t v rest = let w = rw t at v in All-cons (λ x. x.lit.atom ≢ l.atom) e es (eqb-false e.lit.atom l.atom t) (rest w)
 
--- one literal more
-pub rest_more : (es : List Entry) (read more : List (Signed ℕ)) → HasRest es read → HasRest es (read ++ more)
-rest_more es read more (inl t) = inl (t.0, Contains-append_left read more t.0 t.1, t.2)
-rest_more es read more (inr t) = inr (t.0, t.1, Contains-append_left read more t.0 t.2, Contains-append_left read more t.1 t.3, t.4, t.5, t.6)
-
-pub step_true : (es : List Entry) (read : List (Signed ℕ)) (l : Signed ℕ) → value_of es l ≡ Some true → HasRest es (read ++ l ∷ [])
-step_true es read l v = inl (l, Contains-push read l, true_value es l v)
-
-pub step_false : (es : List Entry) (read : List (Signed ℕ)) (l : Signed ℕ) (scan : Scan) → IsScanned es read scan → value_of es l ≡ Some false → IsScanned es (read ++ l ∷ []) scan
-step_false es read l False s v = All-push (IsFalseIn es) read l s (false_value es l v)
-step_false es read l (UnitOf m) s v = (
-  s.0,
-  record {
-    here = Contains-append_left read (l ∷ []) m s.1.here;
-    others = All-push (λ x. IsFalseIn es x ⊎ (x ≡ m)) read l s.1.others (inl (false_value es l v));
-  },
-)
-step_false es read l Rest s v = rest_more es read (l ∷ []) s
-
-pub step_unit : (es : List Entry) (read : List (Signed ℕ)) (l : Signed ℕ) → All (IsFalseIn es) read → value_of es l ≡ None → IsScanned es (read ++ l ∷ []) (UnitOf l)
-step_unit es read l s v = (
-  none_value es l v,
-  record {
-    here = Contains-push read l;
-    others = All-push (λ x. IsFalseIn es x ⊎ (x ≡ l)) read l (All-weaker (IsFalseIn es) (λ x. IsFalseIn es x ⊎ (x ≡ l)) (λ x f. inl f) read s) (inr refl);
-  },
-)
-
-pub step_same : (es : List Entry) (read : List (Signed ℕ)) (l m : Signed ℕ) → IsScanned es read (UnitOf m) → m ≡ l → IsScanned es (read ++ l ∷ []) (UnitOf m)
-step_same es read l m s same = (
-  s.0,
-  record {
-    here = Contains-append_left read (l ∷ []) m s.1.here;
-    others = All-push (λ x. IsFalseIn es x ⊎ (x ≡ m)) read l s.1.others (inr (sym same));
-  },
-)
-
-pub step_other : (es : List Entry) (read : List (Signed ℕ)) (l m : Signed ℕ) → IsScanned es read (UnitOf m) → m ≢ l → value_of es l ≡ None → HasRest es (read ++ l ∷ [])
-step_other es read l m s other v = inr (m, l, Contains-append_left read (l ∷ []) m s.1.here, Contains-push read l, other, s.0, none_value es l v)
-
 -- an entry of a literal
-of_literal : (es : List Entry) (l : Signed ℕ) → Contains (literals_of es) l → (e : Entry) × Contains es e × (e.lit ≡ l)
+pub of_literal : (es : List Entry) (l : Signed ℕ) → Contains (literals_of es) l → (e : Entry) × Contains es e × (e.lit ≡ l)
 of_literal es l c =
     All-contains (λ x. (e : Entry) × Contains es e × (e.lit ≡ x)) (literals_of es) l
     (All-map (λ (x : Signed ℕ). (e : Entry) × Contains es e × (e.lit ≡ x)) (λ (e : Entry). e.lit) es
@@ -119,7 +78,7 @@ one_entry (e ∷ es) x y once (suc i, h, s) (zero, k, t) same = absurd (once 0 (
 one_entry (e ∷ es) x y once (suc i, h, s) (suc j, k, t) same =
     one_entry es x y (λ a b d p q. once (suc a) (suc b) d (omega (arith, p)) (omega (arith, q))) (i, omega (arith, h), s) (j, omega (arith, k), t) same
 
-not_both : (es : List Entry) (l : Signed ℕ) → AllPairs (λ a b. a.lit.atom ≢ b.lit.atom) es → Contains (literals_of es) l → IsFalseIn es l → ⊥
+pub not_both : (es : List Entry) (l : Signed ℕ) → AllPairs (λ a b. a.lit.atom ≢ b.lit.atom) es → Contains (literals_of es) l → IsFalseIn es l → ⊥
 not_both es l once c d =
     let x = of_literal es l c in
     let y = of_literal es (complement l) d in
@@ -182,3 +141,50 @@ unequal a l h e =
 pub rest_of_first : (es : List Entry) (clause : List (Signed ℕ)) (n : ℕ) → HasRest es (take n clause) → HasRest es clause
 rest_of_first es clause n (inl t) = inl (t.0, Contains-take clause n t.0 t.1, t.2)
 rest_of_first es clause n (inr t) = inr (t.0, t.1, Contains-take clause n t.0 t.2, Contains-take clause n t.1 t.3, t.4, t.5, t.6)
+
+-- what the value says of a literal
+pub false_has_value : (es : List Entry) (l : Signed ℕ) → AllPairs (λ a b. a.lit.atom ≢ b.lit.atom) es → IsFalseIn es l → value_of es l ≡ Some false
+false_has_value es l once f = by_value (value_of es l) refl
+  where
+    by_value : (o : Option Bool) → value_of es l ≡ o → value_of es l ≡ Some false
+    by_value None e = absurd (unset_not_false es l (none_value es l e) f)
+    by_value (Some true) e = absurd (not_both es l once (true_value es l e) f)
+    by_value (Some false) e = e
+
+pub true_has_value : (es : List Entry) (l : Signed ℕ) → AllPairs (λ a b. a.lit.atom ≢ b.lit.atom) es → Contains (literals_of es) l → value_of es l ≡ Some true
+true_has_value es l once f = by_value (value_of es l) refl
+  where
+    by_value : (o : Option Bool) → value_of es l ≡ o → value_of es l ≡ Some true
+    by_value None e = absurd (unset_not_in es l (none_value es l e) f)
+    by_value (Some true) e = e
+    by_value (Some false) e = absurd (not_both es l once f (false_value es l e))
+
+-- how a test of the value is decided
+pub is_false_by : (es : List Entry) (l : Signed ℕ) (held : Bool) → AllPairs (λ a b. a.lit.atom ≢ b.lit.atom) es → value_of es l ≡ Some held → MatchBool (not held) (IsFalseIn es l) (IsFalseIn es l → ⊥)
+is_false_by es l false once e = false_value es l e
+is_false_by es l true once e = λ f. not_both es l once (true_value es l e) f
+
+pub not_false_by : (es : List Entry) (l : Signed ℕ) → AllPairs (λ a b. a.lit.atom ≢ b.lit.atom) es → value_of es l ≡ None → IsFalseIn es l → ⊥
+not_false_by es l once e f = unset_not_false es l (none_value es l e) f
+
+pub is_true_by : (es : List Entry) (l : Signed ℕ) (held : Bool) → AllPairs (λ a b. a.lit.atom ≢ b.lit.atom) es → value_of es l ≡ Some held → MatchBool held (Contains (literals_of es) l) (Contains (literals_of es) l → ⊥)
+is_true_by es l true once e = true_value es l e
+is_true_by es l false once e = λ f. not_both es l once f (false_value es l e)
+
+pub not_true_by : (es : List Entry) (l : Signed ℕ) → AllPairs (λ a b. a.lit.atom ≢ b.lit.atom) es → value_of es l ≡ None → Contains (literals_of es) l → ⊥
+not_true_by es l once e f = unset_not_in es l (none_value es l e) f
+
+-- one item more of which it holds
+pub all_more : {X : Type 0} (P : X → Type 0) (xs : List X) (i : ℕ) (d : X) → i < length xs → All P (take i xs) → P (get_or xs i d) → All P (take (i + 1) xs)
+all_more P xs i d h before here = subst (All P) (sym (take_more xs i d h)) (All-push P (take i xs) (get_or xs i d) before here)
+
+pub all_past : {X : Type 0} (P : X → Type 0) (xs : List X) (i : ℕ) → length xs ≤ i → All P (take i xs) → All P xs
+all_past P xs i h all = subst (All P) (take_all i xs h) all
+
+pub decided_true : (b : Bool) (P Q : Type 0) → MatchBool b P Q → b ≡ true → P
+decided_true true P Q m h = m
+decided_true false P Q m h = absurd cc
+
+pub decided_false : (b : Bool) (P Q : Type 0) → MatchBool b P Q → b ≡ false → Q
+decided_false true P Q m h = absurd cc
+decided_false false P Q m h = m

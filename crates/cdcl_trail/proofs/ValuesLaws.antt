@@ -274,3 +274,10 @@ all_low es e n rising h =
     let a : (get_or (es ++ e ∷ []) k d).level ≡ (get_or es k d).level = ap (λ x. x.level) early in
     let b : (get_or (es ++ e ∷ []) (length es) d).level ≡ e.level = ap (λ x. x.level) late in
     omega (arith, up, a, b, h)) h
+
+pub split_nonempty : (es : List Entry) → 0 < length es → (ys : List Entry) × (y : Entry) × (es ≡ ys ++ y ∷ [])
+split_nonempty [] h = absurd (omega (arith, h))
+split_nonempty (x ∷ xs) h =
+    let y = get_or (x ∷ xs) (length (x ∷ xs) - 1) x in
+    let s = last_split (x ∷ xs) y (slice_get-get_or (x ∷ xs) (length (x ∷ xs) - 1) x (omega (arith, h))) in
+    (s.0, y, s.1)

@@ -1,11 +1,8 @@
 -- What a scan of a clause says.
-use Rattle.std.specs.Prelude.{◌≡◌, ◌≢◌, ℕ, ◌⊎◌, List, Option, Some, All, Contains}
+use Rattle.std.specs.Prelude.{◌≡◌, ◌≢◌, ℕ, ◌⊎◌, List, Option, Some, Contains}
 use Rattle.inst_logic.specs.declared.signed.Signed.{Signed}
 use Rattle.cdcl_trail.specs.declared.entry.Entry.{Entry}
-use Rattle.cdcl_trail.specs.declared.propagation.Scan.{Scan}
-use Rattle.cdcl_trail.specs.declared.propagation.Scan.TheVariants.{False, Unit as UnitOf, Rest}
 use Rattle.cdcl_trail.specs.Clauses.{clause_number}
-use Rattle.cdcl_trail.specs.Propagation.{IsFalseIn, GivesUnit}
 use Rattle.cdcl_trail.specs.Trail.{IsUnset, literals_of}
 
 -- a literal of the clause is true
@@ -23,8 +20,3 @@ HasRest entries clause = HasTrue entries clause ⊎ HasTwoUnset entries clause
 -- the same of the clause of this number, where there is one
 abbrev pub RestsAt : List (Option (List (Signed ℕ))) → List Entry → ℕ → Type 0
 RestsAt clauses entries n = (c : List (Signed ℕ)) → clause_number clauses n ≡ Some c → HasRest entries c
-
-abbrev pub IsScanned : List Entry → List (Signed ℕ) → Scan → Type 0
-IsScanned entries clause False = All (IsFalseIn entries) clause
-IsScanned entries clause (UnitOf l) = IsUnset entries l.atom × GivesUnit entries clause l
-IsScanned entries clause Rest = HasRest entries clause

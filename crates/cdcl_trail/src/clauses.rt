@@ -1,6 +1,6 @@
 // Clauses by their numbers.
-ghost use Rattle.std.specs.Prelude.{◌≡◌, ◌≤◌, [], length, IfOk, OnErr, option_copied};
-ghost use Rattle.cdcl_trail.specs.Clauses.{clause_number, AddsClause};
+ghost use Rattle.std.specs.Prelude.{◌≡◌, ◌≢◌, [], None, IfOk, OnErr, option_copied};
+ghost use Rattle.cdcl_trail.specs.Clauses.{clause_number, AddsClause, RemovesClause};
 
 use inst_logic::Memory;
 use prop_logic::{Lit, LitList};
@@ -62,10 +62,13 @@ impl Clauses {
         self.clauses.get(n - 1)
     }
 
-    // No clause has a number above this one.
-    pub(crate) fn slots(&self) -> usize
-        ensures { length self.now ≤ result }
+    /// Takes the clause of this number away. Its number may be given again.
+    pub fn forget(&mut self, n: usize)
+        requires { clause_number self.old n ≢ None }
+        ensures { RemovesClause self.old self.new n }
     {
-        self.clauses.capacity()
+        if n != 0 {
+            self.clauses.try_remove(n - 1);
+        }
     }
 }

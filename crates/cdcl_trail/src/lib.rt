@@ -3,12 +3,19 @@
 #![tactic(auto)]
 
 pub mod clauses;
+mod detach;
 pub mod entry;
+mod lists;
+mod loose;
 mod propagation;
-#[cfg(test)]
-mod tests;
+mod scan;
 pub mod trail;
 mod values;
+mod visit;
+mod visit_list;
+mod visit_trail;
+mod watch;
+mod watch_list;
 
 pub use clauses::Clauses;
 pub use entry::Entry;

@@ -1,109 +1,56 @@
-// Unit propagation by scans of all clauses.
-ghost use Rattle.std.specs.Prelude.{◌≡◌, ◌+◌, ◌<◌, ◌⊎◌, ◌∷◌, ◌++◌, [], ℕ, List, Some, None, IsTrue, true, false, length, IfSome, IfNone, All};
-ghost use Rattle.inst_logic.specs.declared.signed.Signed.{Signed};
-ghost use Rattle.prop_logic.specs.Literal.{AtomsBelow};
-ghost use Rattle.cdcl_trail.specs.declared.entry.Entry.{Entry};
-ghost use Rattle.cdcl_trail.specs.Clauses.{ClausesBelow};
-ghost use Rattle.cdcl_trail.specs.Propagation.{Propagates, IsConflict, IsStable};
-ghost use Rattle.cdcl_trail.specs.Scan.{IsScanned, RestsAt};
-ghost use Rattle.cdcl_trail.specs.Trail.{value_of};
+// Unit propagation by watched literals.
+ghost use Rattle.std.specs.Prelude.{◌≡◌, ◌≤◌, length, take, IfOk, IfSome, IfNone, OnOk};
+ghost use Rattle.cdcl_trail.specs.Propagation.{IsConflict, IsStable, Propagates};
+ghost use Rattle.cdcl_trail.specs.Values.{AreValues, entries_of};
+ghost use Rattle.cdcl_trail.specs.Watching.{IsSettled};
+ghost use Rattle.cdcl_trail.specs.Running.{at_level, IsRunning, Runs};
+ghost use Rattle.cdcl_trail.specs.Loose.{AreLoose};
 
 use crate::clauses::Clauses;
-use crate::trail::Trail;
-use prop_logic::Lit;
+use crate::loose::settle_loose;
+use crate::values::Values;
+use crate::visit_trail::visit_trail;
+use crate::watch::{Head, Pair};
+use crate::watch_list::WatchList;
+use inst_logic::Memory;
 
-// What a clause says under the values that there are.
-#[derive(Clone, Copy)]
-pub(crate) enum Scan {
-    // All literals are false.
-    False,
-    // All other literals are false, and this one has no value.
-    Unit(Lit),
-    // No literal follows.
-    Rest,
-}
-
-// What the literals that were read before say together with this one, which has this value.
-fn with_literal(scan: Scan, value: Option<bool>, l: Lit) -> Scan
-    ensures { (entries : List Entry) (read : List (Signed ℕ)) → IsScanned entries read scan → value ≡ value_of entries l → IsScanned entries (read ++ l ∷ []) result }
+// Makes true what the clauses give from the head on, until a clause is false, whose number is the answer, or none gives anything.
+pub(crate) fn saturate(
+    values: &mut Values,
+    lists: &mut [WatchList],
+    pairs: &mut [Option<Pair>],
+    loose: &mut Vec<usize>,
+    head: &mut Head,
+    clauses: &Clauses,
+    level: usize,
+) -> Result<Option<usize>, Memory>
+    requires running { IsRunning clauses.now level values.old lists.old pairs.old }
+    requires loose { AreLoose clauses.now (entries_of values.old) pairs.old loose.old.items head.old.passed }
+    requires head { head.old.place ≤ length (entries_of values.old) }
+    requires settled { IsSettled clauses.now pairs.old (entries_of values.old) head.old.place }
+    ensures running { OnOk result (IsRunning clauses.now level values.new lists.new pairs.new) }
+    ensures runs { OnOk result (Runs clauses.now level values.old pairs.old values.new pairs.new) }
+    ensures loose { OnOk result (AreLoose clauses.now (entries_of values.new) pairs.new loose.new.items head.new.passed) }
+    ensures front { OnOk result (take head.old.passed loose.new.items ≡ take head.old.passed loose.old.items) }
+    ensures on { OnOk result (head.old.passed ≤ head.new.passed) }
+    ensures head { OnOk result (head.new.place ≤ length (entries_of values.new)) }
+    ensures settled { OnOk result (IsSettled clauses.now pairs.new (entries_of values.new) head.new.place) }
+    ensures conflict { IfOk result (λ found. IfSome found (IsConflict clauses.now (entries_of values.new))) }
+    ensures stable { IfOk result (λ found. IfNone found (IsStable clauses.now (entries_of values.new))) }
+    ensures values { AreValues values.new }
+    ensures added { Propagates clauses.now (at_level level values.old) (at_level level values.new) }
 {
-    match value {
-        Some(true) => Scan::Rest,
-        Some(false) => scan,
-        None => match scan {
-            Scan::False => Scan::Unit(l),
-            Scan::Unit(other) => { if other == l { scan } else { Scan::Rest } }
-            Scan::Rest => Scan::Rest,
-        },
+    if let Some(number) = settle_loose(
+        values,
+        lists,
+        pairs,
+        loose,
+        &mut head.passed,
+        clauses,
+        level,
+    )? {
+        return Ok(Some(number));
     }
-}
-
-fn scan_clause(trail: &Trail, clause: &[Lit]) -> Scan
-    requires { AtomsBelow trail.now.atoms clause.now }
-    ensures { IsScanned trail.now.entries clause.now result }
-{
-    let mut scan = Scan::False;
-    for l in clause {
-        scan = with_literal(scan, trail.value(*l), *l);
-        if matches!(scan, Scan::Rest) {
-            return Scan::Rest;
-        }
-    }
-    scan
-}
-
-// Makes true what the clause of this number gives, or answers that it is false.
-fn visit(trail: &mut Trail, clauses: &Clauses, number: usize) -> bool
-    requires { ClausesBelow trail.old.atoms clauses.now }
-    ensures added { Propagates clauses.now trail.old trail.new }
-    ensures spent { trail.new.spent ≡ trail.old.spent }
-    ensures conflict { IsTrue result → IsConflict clauses.now trail.new.entries number }
-    ensures rests { result ≡ false → ((trail.new ≡ trail.old) × RestsAt clauses.now trail.new.entries number) ⊎ (length trail.new.entries ≡ length trail.old.entries + 1) }
-{
-    let Some(clause) = clauses.get(number) else {
-        return false;
-    };
-    match scan_clause(trail, clause.as_slice()) {
-        Scan::False => true,
-        Scan::Unit(l) => {
-            trail.imply(l, number);
-            false
-        }
-        Scan::Rest => false,
-    }
-}
-
-// Visits each clause once, up to one that is false, whose number is the answer.
-fn visit_all(trail: &mut Trail, clauses: &Clauses) -> Option<usize>
-    requires { ClausesBelow trail.old.atoms clauses.now }
-    ensures added { Propagates clauses.now trail.old trail.new }
-    ensures spent { trail.new.spent ≡ trail.old.spent }
-    ensures conflict { IfSome result (IsConflict clauses.now trail.new.entries) }
-    ensures rests { IfNone result (length trail.new.entries ≡ length trail.old.entries → (n : ℕ) → RestsAt clauses.now trail.new.entries n) }
-{
-    for place in 0..clauses.slots() {
-        if visit(trail, clauses, place + 1) {
-            return Some(place + 1);
-        }
-    }
-    None
-}
-
-// Visits all clauses until one is false, whose number is the answer, or none gives anything.
-pub(crate) fn saturate(trail: &mut Trail, clauses: &Clauses) -> Option<usize>
-    requires { ClausesBelow trail.old.atoms clauses.now }
-    ensures added { Propagates clauses.now trail.old trail.new }
-    ensures spent { trail.new.spent ≡ trail.old.spent }
-    ensures conflict { IfSome result (IsConflict clauses.now trail.new.entries) }
-    ensures stable { IfNone result (IsStable clauses.now trail.new.entries) }
-{
-    loop {
-        let before = trail.count();
-        if let Some(number) = visit_all(trail, clauses) {
-            return Some(number);
-        }
-        if trail.count() == before {
-            return None;
-        }
-    }
+    let found = visit_trail(values, lists, pairs, clauses, level, &mut head.place)?;
+    Ok(found)
 }

@@ -1,63 +1,163 @@
 // The trail of a solver.
-ghost use Rattle.std.specs.Prelude.{◌≡◌, ◌<◌, ◌≤◌, ◌≢◌, [], false, true, length, map, IfOk, OnOk, OnErr, IsErr, IfSome, IfNone, IsTrue};
-ghost use Rattle.cdcl_trail.specs.Clauses.{ClausesBelow};
+ghost use Rattle.std.specs.Prelude.{◌≡◌, ◌<◌, ◌≤◌, ◌≢◌, ◌+◌, ◌++◌, ◌∷◌, ℕ, List, Option, Some, None, All, [], false, true, length, take, vec_capacity, map, slice_get, IfOk, OnOk, OnErr, IsErr, IfSome, IfNone, IsTrue};
+ghost use Rattle.std.specs.List.{slice_index_or};
+ghost use Rattle.inst_logic.specs.declared.signed.Signed.{Signed};
+ghost use Rattle.cdcl_trail.specs.Attached.{WatchedTrail, AreAttached};
+ghost use Rattle.cdcl_trail.specs.Clauses.{clause_number, ClausesBelow, AddsClause, RemovesClause};
+ghost use Rattle.cdcl_trail.specs.Watch.{pair_at};
 ghost use Rattle.cdcl_trail.specs.Propagation.{Propagates, IsConflict, IsStable};
+ghost use Rattle.cdcl_trail.specs.Values.{AreValues, entries_of};
 ghost use Rattle.cdcl_trail.specs.Trail.{IsTrail, IsUnset, value_of, level_of, reason_of, literals_of, with_atom, with_decision, with_implied, back_at};
 
 use crate::clauses::Clauses;
+use crate::detach::{forget_loose, unpass_all, unwatch};
 use crate::entry::Entry;
 use crate::propagation::saturate;
 use crate::values::Values;
+use crate::watch::{Head, Pair};
+use crate::watch_list::WatchList;
 use inst_logic::Memory;
 use prop_logic::Lit;
 use std::alloc::Global;
 use std::marker::Model;
 
-/// The literals that are true, in the order in which they became so, each with its level and its reason. The room of each
-/// atom is taken when it is made, so that no value takes memory.
+/// The literals that are true, in the order in which they became so, each with its level and its reason, and the clauses that
+/// are attached. The room of each atom is taken when it is made, so that no value takes memory.
 #[derive(Drop)]
 pub struct Trail {
+    alloc: Global,
     values: Values,
     level: usize,
     spent: bool,
+    lists: Vec<WatchList>,
+    pairs: Vec<Option<Pair>>,
+    loose: Vec<usize>,
+    head: Head,
+    heads: Vec<Head>,
 }
 
 impl Model for Trail {
-    ghost use Rattle.std.specs.Prelude.{length};
-    ghost use Rattle.cdcl_trail.specs.Trail.{Trail};
+    ghost use Rattle.std.specs.Prelude.{◌≡◌, ◌+◌, ◌≤◌, length, vec_capacity};
+    ghost use Rattle.cdcl_trail.specs.Attached.{WatchedTrail};
 
-    ghost Value = { Trail };
+    ghost Value = { WatchedTrail };
 
     ghost use Rattle.cdcl_trail.specs.Values.{AreValues, entries_of};
     ghost use Rattle.cdcl_trail.specs.Trail.{IsTrail};
 
-    ghost view = { λ t. record { atoms = length t.values.entries.items; level = t.level; entries = entries_of t.values; spent = t.spent } };
+    ghost view = { λ t. record {
+      trail = record { atoms = length t.values.entries.items; level = t.level; entries = entries_of t.values; spent = t.spent };
+      watching = record { lists = t.lists.items; pairs = t.pairs.items; loose = t.loose.items; head = t.head; heads = t.heads.items };
+    } };
 
-    ghost invariant = { λ t. AreValues t.values × IsTrail (record { atoms = length t.values.entries.items; level = t.level; entries = entries_of t.values; spent = t.spent }) };
+    ghost invariant = { λ t. AreValues t.values × IsTrail (record { atoms = length t.values.entries.items; level = t.level; entries = entries_of t.values; spent = t.spent }) × (length t.lists.items ≡ length t.values.entries.items + length t.values.entries.items) × (length t.heads.items ≡ t.level) × (length t.values.entries.items ≤ vec_capacity t.heads) };
+}
+
+// Takes the room of one more atom.
+fn grow_all(
+    alloc: Global,
+    values: &mut Values,
+    lists: &mut Vec<WatchList>,
+    heads: &mut Vec<Head>,
+) -> Result<usize, Memory>
+    requires values { AreValues values.old }
+    requires heads { length heads.old.items ≤ length values.old.entries.items }
+    requires capacity { length values.old.entries.items ≤ vec_capacity heads.old }
+    ensures values { AreValues values.new }
+    ensures entries { entries_of values.new ≡ entries_of values.old }
+    ensures number { IfOk result (λ n. n ≡ length values.old.entries.items) }
+    ensures atoms { OnOk result (length values.new.entries.items ≡ length values.old.entries.items + 1) }
+    ensures lists { OnOk result (lists.new.items ≡ (lists.old.items ++ [] ∷ []) ++ [] ∷ []) }
+    ensures heads { heads.new.items ≡ heads.old.items }
+    ensures capacity { length values.new.entries.items ≤ vec_capacity heads.new }
+    ensures err_lists { OnErr result (lists.new.items ≡ lists.old.items) }
+    ensures err_atoms { OnErr result (length values.new.entries.items ≡ length values.old.entries.items) }
+{
+    let atom = values.atoms();
+    lists.reserve(2)?;
+    heads.reserve(atom + 1 - heads.len())?;
+    values.grow()?;
+    lists.push_reserved(WatchList::new(alloc));
+    lists.push_reserved(WatchList::new(alloc));
+    Ok(atom)
+}
+
+// Takes back the heads of the levels above this one, and answers how far propagation came at it.
+fn restore(heads: &mut Vec<Head>, present: Head, level: usize) -> Head
+    ensures head { result ≡ slice_index_or heads.old.items level present }
+    ensures heads { heads.new.items ≡ take level heads.old.items }
+    ensures capacity { vec_capacity heads.new ≡ vec_capacity heads.old }
+{
+    let head = match heads.get(level) {
+        Some(head) => *head,
+        None => present,
+    };
+    heads.truncate(level);
+    head
+}
+
+// Makes the list longer than n.
+fn lengthen(pairs: &mut Vec<Option<Pair>>, n: usize) -> Result<(), Memory>
+    ensures longer { OnOk result (n < length pairs.new.items) }
+    ensures kept { (k : ℕ) → pair_at pairs.new.items k ≡ pair_at pairs.old.items k }
+    ensures size { length pairs.old.items ≤ length pairs.new.items }
+{
+    while pairs.len() <= n {
+        pairs.push(None)?;
+    }
+    Ok(())
+}
+
+// Ends the loose clauses with this one.
+fn add_loose(pairs: &mut Vec<Option<Pair>>, loose: &mut Vec<usize>, n: usize) -> Result<(), Memory>
+    ensures longer { OnOk result (n < length pairs.new.items) }
+    ensures kept { (k : ℕ) → pair_at pairs.new.items k ≡ pair_at pairs.old.items k }
+    ensures size { length pairs.old.items ≤ length pairs.new.items }
+    ensures loose { OnOk result (loose.new.items ≡ loose.old.items ++ n ∷ []) }
+{
+    lengthen(pairs, n)?;
+    loose.push(n)?;
+    Ok(())
 }
 
 impl Trail {
-    /// A trail without atoms.
+    /// A trail without atoms, to which no clause is attached.
     pub fn new(alloc: Global) -> Trail
-        ensures { result ≡ record { atoms = 0; level = 0; entries = []; spent = false } }
+        ensures trail { result.trail ≡ record { atoms = 0; level = 0; entries = []; spent = false } }
+        ensures attached { (clauses : List (Option (List (Signed ℕ)))) → ((n : ℕ) → clause_number clauses n ≡ None) → AreAttached result clauses }
     {
         Trail {
+            alloc,
             values: Values::new(alloc),
             level: 0,
             spent: false,
+            lists: Vec::new(alloc),
+            pairs: Vec::new(alloc),
+            loose: Vec::new(alloc),
+            head: Head {
+                place: 0,
+                passed: 0,
+            },
+            heads: Vec::new(alloc),
         }
     }
 
     /// Makes an atom, takes its room, and answers its number.
     pub fn grow(&mut self) -> Result<usize, Memory>
-        ensures number { IfOk result (λ n. n ≡ self.old.atoms) }
-        ensures ok { OnOk result ((self.old.spent ≡ false) × (self.new ≡ with_atom self.old)) }
-        ensures err { OnErr result (self.new ≡ record self.old { spent = true }) }
+        ensures number { IfOk result (λ n. n ≡ self.old.trail.atoms) }
+        ensures ok { OnOk result ((self.old.trail.spent ≡ false) × (self.new.trail ≡ with_atom self.old.trail)) }
+        ensures attached { OnOk result ((clauses : List (Option (List (Signed ℕ)))) → AreAttached self.old clauses → AreAttached self.new clauses) }
+        ensures err { OnErr result (self.new.trail ≡ record self.old.trail { spent = true }) }
     {
         if self.spent {
             return Err(Memory);
         }
-        match self.values.grow() {
+        match grow_all(
+            self.alloc,
+            &mut self.values,
+            &mut self.lists,
+            &mut self.heads,
+        ) {
             Ok(atom) => Ok(atom),
             Err(error) => {
                 self.spent = true;
@@ -68,26 +168,23 @@ impl Trail {
 
     /// The value of the literal, or `None` where its atom has none.
     pub fn value(&self, l: Lit) -> Option<bool>
-        requires { l.atom < self.now.atoms }
-        ensures { result ≡ value_of self.now.entries l }
+        requires { l.atom < self.now.trail.atoms }
+        ensures { result ≡ value_of self.now.trail.entries l }
     {
-        match self.values.entry(l.atom) {
-            Some(entry) => Some(entry.lit.positive == l.positive),
-            None => None,
-        }
+        self.values.value(l)
     }
 
     /// The present level. Level 0 holds what follows from the clauses alone.
     pub fn level(&self) -> usize
-        ensures { result ≡ self.now.level }
+        ensures { result ≡ self.now.trail.level }
     {
         self.level
     }
 
     /// The number of the clause that gave the atom its value, or `None` where it has none or was decided.
     pub fn reason(&self, atom: usize) -> Option<usize>
-        requires { atom < self.now.atoms }
-        ensures { result ≡ reason_of self.now.entries atom }
+        requires { atom < self.now.trail.atoms }
+        ensures { result ≡ reason_of self.now.trail.entries atom }
     {
         match self.values.entry(atom) {
             Some(entry) => entry.reason,
@@ -97,8 +194,8 @@ impl Trail {
 
     /// The level at which the atom got its value, or `None` where it has none.
     pub fn level_of(&self, atom: usize) -> Option<usize>
-        requires { atom < self.now.atoms }
-        ensures { result ≡ level_of self.now.entries atom }
+        requires { atom < self.now.trail.atoms }
+        ensures { result ≡ level_of self.now.trail.entries atom }
     {
         match self.values.entry(atom) {
             Some(entry) => Some(entry.level),
@@ -106,20 +203,36 @@ impl Trail {
         }
     }
 
+    /// A place of `assigned` at which the atom's literal stands, counted from 0.
+    pub fn place_of(&self, atom: usize) -> Option<usize>
+        ensures { IfSome result (λ place. (l : Signed ℕ) × (slice_get (literals_of self.now.trail.entries) place ≡ Some l) × (l.atom ≡ atom)) }
+    {
+        self.values.place(atom)
+    }
+
     /// The true literals in the order in which they became so.
     pub fn assigned(&self) -> &[Lit]
-        ensures literals { result.now ≡ literals_of self.now.entries }
-        ensures trail { IsTrail self.now }
+        ensures literals { result.now ≡ literals_of self.now.trail.entries }
+        ensures trail { IsTrail self.now.trail }
     {
         self.values.literals.as_slice()
     }
 
+    /// Whether each atom has a value, without a look at the atoms.
+    pub fn is_whole(&self) -> bool
+        ensures { IsTrue result → (a : ℕ) → a < self.now.trail.atoms → ¬ IsUnset self.now.trail.entries a }
+    {
+        self.values.literals.len() == self.values.entries.len()
+    }
+
     /// Opens a level with the literal.
     pub fn decide(&mut self, l: Lit)
-        requires atom { l.atom < self.old.atoms }
-        requires unset { IsUnset self.old.entries l.atom }
-        ensures { self.new ≡ with_decision self.old l }
+        requires atom { l.atom < self.old.trail.atoms }
+        requires unset { IsUnset self.old.trail.entries l.atom }
+        ensures trail { self.new.trail ≡ with_decision self.old.trail l }
+        ensures attached { (clauses : List (Option (List (Signed ℕ)))) → AreAttached self.old clauses → AreAttached self.new clauses }
     {
+        self.heads.push_reserved(self.head);
         self.level += 1;
         self.values.put(Entry {
             lit: l,
@@ -130,9 +243,10 @@ impl Trail {
 
     /// Makes the literal true at the present level, by the clause of this number.
     pub fn imply(&mut self, l: Lit, reason: usize)
-        requires atom { l.atom < self.old.atoms }
-        requires unset { IsUnset self.old.entries l.atom }
-        ensures { self.new ≡ with_implied self.old l reason }
+        requires atom { l.atom < self.old.trail.atoms }
+        requires unset { IsUnset self.old.trail.entries l.atom }
+        ensures trail { self.new.trail ≡ with_implied self.old.trail l reason }
+        ensures attached { (clauses : List (Option (List (Signed ℕ)))) → AreAttached self.old clauses → AreAttached self.new clauses }
     {
         let entry = Entry {
             lit: l,
@@ -144,35 +258,79 @@ impl Trail {
 
     /// Takes back the levels above this one.
     pub fn back_to(&mut self, level: usize)
-        requires { level ≤ self.old.level }
-        ensures { self.new ≡ back_at self.old level }
+        requires { level ≤ self.old.trail.level }
+        ensures trail { self.new.trail ≡ back_at self.old.trail level }
+        ensures attached { (clauses : List (Option (List (Signed ℕ)))) → AreAttached self.old clauses → AreAttached self.new clauses }
     {
+        let head = restore(&mut self.heads, self.head, level);
+        self.head = head;
         self.values.back_to(level);
         self.level = level;
     }
 
-    /// Makes true what the clauses give, until a clause is false, whose number is the answer, or none gives anything. When the
-    /// answer is `Some`, other clauses may still give literals.
-    pub fn propagate(&mut self, clauses: &Clauses) -> Result<Option<usize>, Memory>
-        requires { ClausesBelow self.old.atoms clauses.now }
-        ensures added { OnOk result (Propagates clauses.now self.old self.new) }
-        ensures conflict { IfOk result (λ found. IfSome found (IsConflict clauses.now self.new.entries)) }
-        ensures stable { IfOk result (λ found. IfNone found (IsStable clauses.now self.new.entries)) }
-        ensures ok { OnOk result ((self.old.spent ≡ false) × (self.new.spent ≡ false)) }
-        ensures err { OnErr result (self.new ≡ record self.old { spent = true }) }
+    /// Attaches the clause of this number: `propagate` looks at it from now on.
+    pub fn attach(&mut self, clauses: &Clauses, n: usize) -> Result<(), Memory>
+        ensures trail { OnOk result ((self.old.trail.spent ≡ false) × (self.new.trail ≡ self.old.trail)) }
+        ensures attached { OnOk result ((before after : List (Option (List (Signed ℕ)))) (c : List (Signed ℕ)) → AddsClause before after c n → AreAttached self.old before → AreAttached self.new after) }
+        ensures err { OnErr result (self.new.trail ≡ record self.old.trail { spent = true }) }
     {
         if self.spent {
             return Err(Memory);
         }
-        Ok(saturate(self, clauses))
+        match add_loose(&mut self.pairs, &mut self.loose, n) {
+            Ok(()) => Ok(()),
+            Err(error) => {
+                self.spent = true;
+                Err(error)
+            }
+        }
     }
 
-    // The number of atoms that have a value.
-    pub(crate) fn count(&self) -> usize
-        ensures count { result ≡ length self.now.entries }
-        ensures room { result ≤ self.now.atoms }
-        ensures trail { IsTrail self.now }
+    /// Detaches the clause of this number, which is the reason of no atom: `propagate` looks at it no more.
+    pub fn detach(&mut self, clauses: &Clauses, n: usize)
+        requires reason { All (λ e. e.reason ≢ Some n) self.old.trail.entries }
+        ensures trail { self.new.trail ≡ self.old.trail }
+        ensures attached { (before after : List (Option (List (Signed ℕ)))) → RemovesClause before after n → AreAttached self.old before → AreAttached self.new after }
     {
-        self.values.literals.len()
+        let atoms = self.values.atoms();
+        unwatch(&mut self.lists, &mut self.pairs, atoms, n);
+        forget_loose(&mut self.loose, n);
+        unpass_all(&mut self.heads);
+        self.head.passed = 0;
+    }
+
+    /// Makes true what the attached clauses give, until a clause is false, whose number is the answer, or none gives anything.
+    /// When the answer is `Some`, other clauses may still give literals.
+    pub fn propagate(&mut self, clauses: &Clauses) -> Result<Option<usize>, Memory>
+        requires below { ClausesBelow self.old.trail.atoms clauses.now }
+        requires attached { AreAttached self.old clauses.now }
+        ensures added { OnOk result (Propagates clauses.now self.old.trail self.new.trail) }
+        ensures conflict { IfOk result (λ found. IfSome found (IsConflict clauses.now self.new.trail.entries)) }
+        ensures stable { IfOk result (λ found. IfNone found (IsStable clauses.now self.new.trail.entries)) }
+        ensures ok { OnOk result ((self.old.trail.spent ≡ false) × (self.new.trail.spent ≡ false)) }
+        ensures attached { OnOk result (AreAttached self.new clauses.now) }
+        ensures err { OnErr result (self.new.trail ≡ record self.old.trail { spent = true }) }
+    {
+        if self.spent {
+            return Err(Memory);
+        }
+        let before = self.values.literals.len();
+        let found = saturate(
+            &mut self.values,
+            &mut self.lists,
+            &mut self.pairs,
+            &mut self.loose,
+            &mut self.head,
+            clauses,
+            self.level,
+        );
+        match found {
+            Ok(found) => Ok(found),
+            Err(error) => {
+                self.values.undo_to(before);
+                self.spent = true;
+                Err(error)
+            }
+        }
     }
 }

@@ -1,6 +1,8 @@
 // The values of atoms, in the order in which they came.
-ghost use Rattle.std.specs.Prelude.{◌≡◌, ◌+◌, ◌<◌, ◌≤◌, ◌∷◌, ◌++◌, [], List, false, length, IsTrue, All, AllPairs, IfOk, OnErr};
-ghost use Rattle.cdcl_trail.specs.Trail.{IsUnset, entries_up_to};
+ghost use Rattle.std.specs.Prelude.{◌≡◌, ◌+◌, ◌<◌, ◌≤◌, ◌∷◌, ◌++◌, [], List, false, length, take, IsTrue, All, AllPairs, Contains, MatchBool, IfOk, IfSome, OnErr, ℕ, Some, slice_get};
+ghost use Rattle.inst_logic.specs.declared.signed.Signed.{Signed};
+ghost use Rattle.cdcl_trail.specs.Trail.{IsUnset, value_of, literals_of, entries_up_to};
+ghost use Rattle.cdcl_trail.specs.Propagation.{IsFalseIn};
 ghost use Rattle.cdcl_trail.specs.declared.entry.Entry.{Entry};
 ghost use Rattle.cdcl_trail.specs.Values.{AreValues, entries_of, found};
 
@@ -9,11 +11,20 @@ use inst_logic::Memory;
 use prop_logic::Lit;
 use std::alloc::Global;
 
-// The true literals in their order, with room for one of each atom, and for each atom its entry.
+// The true literals in their order, with room for one of each atom, for each atom its entry, and the place at which its
+// literal came last.
 #[derive(Drop)]
 pub(crate) struct Values {
     pub(crate) literals: Vec<Lit>,
     pub(crate) entries: Vec<Option<Entry>>,
+    pub(crate) places: Vec<usize>,
+}
+
+// Nothing rests on these places: who reads one looks whether the atom's literal is there.
+fn note_place(places: &mut [usize], atom: usize, place: usize) {
+    if atom < places.len() {
+        places[atom] = place;
+    }
 }
 
 impl Values {
@@ -25,6 +36,7 @@ impl Values {
         Values {
             literals: Vec::new(alloc),
             entries: Vec::new(alloc),
+            places: Vec::new(alloc),
         }
     }
 
@@ -39,8 +51,27 @@ impl Values {
     {
         let atom = self.entries.len();
         self.literals.reserve(atom + 1 - self.literals.len())?;
+        self.places.push(0)?;
         self.entries.push(None)?;
         Ok(atom)
+    }
+
+    pub(crate) fn atoms(&self) -> usize
+        ensures { result ≡ length self.now.entries.items }
+    {
+        self.entries.len()
+    }
+
+    // Takes back all values but the first `count`.
+    pub(crate) fn undo_to(&mut self, count: usize)
+        requires { AreValues self.old }
+        ensures values { AreValues self.new }
+        ensures entries { entries_of self.new ≡ take count (entries_of self.old) }
+        ensures atoms { length self.new.entries.items ≡ length self.old.entries.items }
+    {
+        while count < self.literals.len() {
+            self.undo();
+        }
     }
 
     // The entry of the atom.
@@ -52,6 +83,40 @@ impl Values {
         self.entries[atom]
     }
 
+    // The value of the literal, or `None` where its atom has none.
+    pub(crate) fn value(&self, l: Lit) -> Option<bool>
+        requires values { AreValues self.now }
+        requires atom { l.atom < length self.now.entries.items }
+        ensures { result ≡ value_of (entries_of self.now) l }
+    {
+        match self.entries[l.atom] {
+            Some(entry) => Some(entry.lit.positive == l.positive),
+            None => None,
+        }
+    }
+
+    pub(crate) fn is_false(&self, l: Lit) -> bool
+        requires values { AreValues self.now }
+        requires atom { l.atom < length self.now.entries.items }
+        ensures { MatchBool result (IsFalseIn (entries_of self.now) l) (¬ IsFalseIn (entries_of self.now) l) }
+    {
+        match self.value(l) {
+            Some(held) => !held,
+            None => false,
+        }
+    }
+
+    pub(crate) fn is_true(&self, l: Lit) -> bool
+        requires values { AreValues self.now }
+        requires atom { l.atom < length self.now.entries.items }
+        ensures { MatchBool result (Contains (literals_of (entries_of self.now)) l) (¬ Contains (literals_of (entries_of self.now)) l) }
+    {
+        match self.value(l) {
+            Some(held) => held,
+            None => false,
+        }
+    }
+
     // Gives the atom of the entry its value.
     pub(crate) fn put(&mut self, entry: Entry)
         requires values { AreValues self.old }
@@ -61,8 +126,25 @@ impl Values {
         ensures entries { entries_of self.new ≡ entries_of self.old ++ entry ∷ [] }
         ensures atoms { length self.new.entries.items ≡ length self.old.entries.items }
     {
+        note_place(&mut self.places, entry.lit.atom, self.literals.len());
         self.literals.push_reserved(entry.lit);
         self.entries[entry.lit.atom] = Some(entry);
+    }
+
+    // The place of the atom's literal.
+    pub(crate) fn place(&self, atom: usize) -> Option<usize>
+        ensures { IfSome result (λ place. (l : Signed ℕ) × (slice_get self.now.literals.items place ≡ Some l) × (l.atom ≡ atom)) }
+    {
+        let place = self.places.get(atom).copied().unwrap_or(0);
+        match self.literals.get(place) {
+            Some(l) => {
+                if l.atom == atom {
+                    return Some(place);
+                }
+                None
+            }
+            None => None,
+        }
     }
 
     // Whether the last value is of a level above this one.

@@ -1,4 +1,4 @@
-// The axioms of equality as clauses over a bank.
+// The axioms of equality as clauses over the certificate's bank, where they are compared by their ids.
 ghost use Rattle.std.specs.Prelude.{◌≡◌, All, IfOk, map};
 ghost use Rattle.inst_logic.specs.WellFormed.{AreFormedClauses};
 ghost use Rattle.term_bank.specs.Forest.{AreFormed, Extends, IsClauseOf, clause_at};

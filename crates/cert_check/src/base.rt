@@ -1,4 +1,5 @@
-// The check of what certificates of both kinds have: the axioms of equality and the members.
+// The check of what certificates of both kinds have: the axioms of equality and the members, in this order. One set of
+// bindings serves all members.
 ghost use Rattle.std.specs.Prelude.{◌+◌, ◌<◌, ◌↔◌, IfErr, IfOk, IsTrue, OnOk, length, ℕ};
 ghost use Rattle.cert_format.specs.Validity.{IsRightAxiom, IsRightMember};
 ghost use Rattle.cert_check.specs.Answers.{IsCheckCause};

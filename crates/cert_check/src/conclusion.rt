@@ -1,4 +1,5 @@
-// Conclusions of two members.
+// Conclusions of two members: found anew and compared, not matched against what the certificate has. Both are in canonical
+// form, so they are the same clause exactly where their ids are equal.
 ghost use Rattle.std.specs.Prelude.{◌≡◌, ◌+◌, ◌<◌, ◌↔◌, All, IfOk, IsTrue, false, length, map, option_copied, true};
 ghost use Rattle.inst_logic.specs.Clauses.{IsCanonical};
 ghost use Rattle.inst_logic.specs.Derivations.{at_number};

@@ -1,4 +1,5 @@
-// Covered instances.
+// Covered instances. A variant is one look-up. Of the shorter members only those are tried whose selected literal has the
+// head of a literal of the instance, since it has to go onto one; trying all would cost their number at each pair.
 ghost use Rattle.std.specs.Prelude.{◌≡◌, ◌↔◌, ◌<◌, map, length, All, Any, IfOk, IsTrue, true, false};
 ghost use Rattle.inst_logic.specs.Clauses.{IsCanonical, instance};
 ghost use Rattle.inst_logic.specs.Unifiers.{Sided};

@@ -1,4 +1,4 @@
-// The first place where two lists of clauses of one bank differ.
+// The first place where two lists of clauses of one bank differ, by ids: equal trees have equal ids.
 ghost use Rattle.std.specs.Prelude.{◌≡◌, ◌↔◌, IsTrue, All, map, slice_get};
 ghost use Rattle.inst_logic.specs.Derivations.{at_number};
 ghost use Rattle.term_bank.specs.Forest.{AreDistinct, IsClauseOf, clause_at};
@@ -14,6 +14,7 @@ pub fn distinct_trees(bank: &Bank)
     let _ = bank.len();
 }
 
+// Whether the clauses have the same literals in the same order.
 pub fn same_clause(c: &IdClause, d: &IdClause) -> bool
     ensures { IsTrue result ↔ (c.now ≡ d.now) }
 {

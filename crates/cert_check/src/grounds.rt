@@ -1,4 +1,4 @@
-// The ground clauses of the members.
+// The ground clauses of the members, made anew and compared by ids.
 ghost use Rattle.std.specs.Prelude.{◌≡◌, ◌<◌, ◌≤◌, All, IfOk, IsTrue, length, map};
 ghost use Rattle.inst_logic.specs.Clauses.{IsCanonical, instance, order_of};
 ghost use Rattle.inst_logic.specs.WellFormed.{IsTerm, is_constant};

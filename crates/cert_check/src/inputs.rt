@@ -1,4 +1,5 @@
-// The check that the members stand for the inputs and axioms.
+// The check that the members stand for the inputs and axioms. An input that is its own member, as is usual, is seen by one
+// look-up; for the others the member that names the input as its origin is tried before all.
 ghost use Rattle.std.specs.Prelude.{◌≡◌, ◌↔◌, ◌⊎◌, ◌+◌, length, true, All, Any, IfOk, IsTrue};
 ghost use Rattle.inst_logic.specs.Signed.{IsTautology};
 ghost use Rattle.inst_logic.specs.Clauses.{Subsumes};

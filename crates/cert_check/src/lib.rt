@@ -1,5 +1,6 @@
-//! The separate checker of certificates. It uses no crate of an engine and no solver; its look-ups are its own. What a reader must
-//! believe is here and in the crates below it.
+//! The separate checker of certificates. It uses no crate of an engine, no index and no solver; its look-ups are its own.
+//! What it finds is decided by the certificate alone, and its contract by definitions that say nothing of how a certificate
+//! is found.
 #![tactic(auto)]
 
 mod axioms;

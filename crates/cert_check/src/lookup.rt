@@ -1,4 +1,5 @@
-// Look-ups of members.
+// Look-ups of members, made once for the check of all pairs. The clauses are copies, since the certificate's bank grows
+// while they are looked up.
 ghost use Rattle.std.specs.Prelude.{◌≡◌, IfOk};
 ghost use Rattle.saturation_cert.specs.Values.{saturation_of};
 ghost use Rattle.saturation_cert.specs.Wholes.{HasPlaces, IsWholeSaturation};
@@ -36,6 +37,7 @@ fn clauses_of(alloc: Global, members: &[Member]) -> Result<IndexSet<IdClause>, M
     Ok(clauses)
 }
 
+// The look-ups of a certificate whose members have a literal at each place.
 pub fn find_lookup(alloc: Global, cert: &Saturation) -> Result<Lookup, Memory>
     requires whole { IsWholeSaturation cert.now }
     requires placed { HasPlaces (saturation_of cert.now) }

@@ -1,4 +1,5 @@
-// The check of the pairs of selected literals.
+// The check of the pairs of selected literals. Only pairs of one symbol and opposite signs are tried, along chains: no other
+// pair unifies. The chains keep the order of the numbers, since the complaint is about the first pair.
 ghost use Rattle.std.specs.Prelude.{◌↔◌, ◌<◌, suc, length, IfOk, IsTrue, OnOk};
 ghost use Rattle.cert_format.specs.Validity.{IsRightPair};
 ghost use Rattle.unify_core.specs.Chains.{AreBindings};

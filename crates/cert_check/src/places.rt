@@ -1,4 +1,4 @@
-// The check of the places of the selected literals.
+// The check of the places of the selected literals. It comes before all that reads a selected literal, and takes no memory.
 ghost use Rattle.cert_check.specs.Firsts.{IsFirstWrongOf};
 ghost use Rattle.cert_format.specs.Validity.{IsRightPlace};
 ghost use Rattle.saturation_cert.specs.Values.{saturation_of};

@@ -1,4 +1,4 @@
-// The check of refutations.
+// The check of refutations. Nothing else makes a checked one, so who has one needs no further proof.
 ghost use Rattle.std.specs.Prelude.{◌≡◌, ◌↔◌, IfErr, IfOk, OnOk, IsTrue, All, Any};
 ghost use Rattle.inst_logic.specs.Clauses.{IsGround, IsInstance};
 ghost use Rattle.inst_logic.specs.Truth.{IsRefuted};

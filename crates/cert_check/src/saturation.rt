@@ -1,4 +1,4 @@
-// The check of saturations.
+// The check of saturations. Nothing else makes a checked one, so who has one needs no further proof.
 ghost use Rattle.std.specs.Prelude.{◌≡◌, false, true, IfErr, IfOk, OnErr, OnOk, All};
 ghost use Rattle.inst_logic.specs.LiteralView.{literal};
 ghost use Rattle.inst_logic.specs.WellFormed.{IsAtom};

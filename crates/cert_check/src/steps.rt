@@ -1,4 +1,5 @@
-// The steps of a refutation as steps over numbers.
+// The steps of a refutation as steps over numbers. An atom's id serves as its number: equal atoms have equal ids, so no
+// table is built.
 ghost use Rattle.std.specs.Prelude.{◌≡◌, ◌↔◌, IfOk, IsTrue, ◌+◌, ◌<◌, length, map};
 ghost use Rattle.prop_logic.specs.Literal.{AllAtomsBelow, StepsBelow};
 ghost use Rattle.cert_check.specs.Firsts.{IsFirstWrongOf};

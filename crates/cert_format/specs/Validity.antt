@@ -1,16 +1,17 @@
 -- The checks of a certificate in their order, one for each complaint, and validity: every check is passed. Where a check
 -- speaks of a number that only one list has, or of members without a place, an earlier check is not passed there.
-use Rattle.std.specs.Prelude.{◌≡◌, ◌≢◌, ◌⊎◌, ℕ, ◌-◌, ◌<◌, ◌≤◌, max, List, [], length, map, take, IsTrue, Some, Any}
-use Rattle.inst_logic.specs.declared.signed.Signed.{Signed}
+use Rattle.std.specs.Prelude.{◌≡◌, ◌≢◌, ◌⊎◌, ℕ, ◌-◌, ◌<◌, ◌≤◌, max, [], length, map, take, IsTrue, Some, Any}
 use Rattle.inst_logic.specs.Tree.{Tree}
 use Rattle.inst_logic.specs.WellFormed.{is_constant}
 use Rattle.inst_logic.specs.Signed.{IsTautology}
-use Rattle.inst_logic.specs.Clauses.{TreeClause, instance, canonical_form, Subsumes}
+use Rattle.inst_logic.specs.Clauses.{TreeClause, Subsumes}
 use Rattle.inst_logic.specs.Derivations.{at_number, IsShown}
-use Rattle.inst_logic.specs.Unifiers.{Sided, IsMostGeneral, IsProper}
+use Rattle.inst_logic.specs.Unifiers.{Sided, IsMostGeneral}
 use Rattle.inst_calculus.specs.Axioms.{equality_axioms, with_axioms}
 use Rattle.inst_calculus.specs.Abstraction.{abstraction}
-use Rattle.inst_calculus.specs.Entries.{Origin, input, inst, Entry, entry_clauses}
+pub use Rattle.inst_calculus.specs.Conclusions.{IsConclusion}
+use Rattle.inst_calculus.specs.Conclusions.{IsGiven}
+use Rattle.inst_calculus.specs.Entries.{Origin, Entry, entry_clauses}
 use Rattle.inst_calculus.specs.Models.{Member}
 use Rattle.inst_calculus.specs.Saturation.{IsClosed}
 use Rattle.inst_calculus.specs.Steps.{Step, cited_clause, EndsEmpty}
@@ -18,27 +19,9 @@ use Rattle.cert_format.specs.Certificate.{Base, Refutation, Saturation, selected
 use Rattle.cert_format.specs.declared.complaint.Complaint.{Complaint}
 use Rattle.cert_format.specs.declared.complaint.Complaint.TheVariants.{Axiom, Member as Derived, Bot, Ground, Step as Shown, NotEmpty, Place, Input, Pair}
 
--- the instance of member `from` under the most general unifier of its literal `place` with literal `other` of member `partner`,
--- which is proper for the first
-pub record IsConclusion (members : List Entry) (from place partner other : ℕ) (clause : TreeClause) : Type 0 where
-  pub entry : Entry
-  pub partner_entry : Entry
-  pub literal : Signed Tree
-  pub other_literal : Signed Tree
-  pub entry_at : at_number members from ≡ Some entry
-  pub partner_at : at_number members partner ≡ Some partner_entry
-  pub literal_at : at_number entry.clause place ≡ Some literal
-  pub other_at : at_number partner_entry.clause other ≡ Some other_literal
-  pub opposite : literal.positive ≢ other_literal.positive
-  pub unifier : Sided
-  pub most_general : IsMostGeneral unifier literal.atom other_literal.atom
-  pub proper : IsProper unifier.left literal.atom
-  pub conclusion : clause ≡ canonical_form (instance unifier.left entry.clause)
-
 -- the origin of member n gives the clause: a clause of the inputs and axioms, or a conclusion of two members before n
 abbrev pub Gives : Base → ℕ → Origin → TreeClause → Type 0
-Gives base n (input k) c = (d : TreeClause) × (at_number (with_axioms base.inputs) k ≡ Some d) × (c ≡ canonical_form d)
-Gives base n (inst from place partner other) c = (from < n) × (partner < n) × IsConclusion base.members from place partner other c
+Gives base n o c = IsGiven (with_axioms base.inputs) base.members n o c
 
 -- axiom n is the axiom that the inputs have there, or neither is there
 abbrev pub IsRightAxiom : Base → ℕ → Type 0

@@ -1,4 +1,4 @@
-// Why a certificate is not valid.
+// Why a certificate is not valid: a variant for each check, in the order of the checks.
 
 /// What a certificate is refused for. All numbers count from 1.
 #[derive(Clone, Copy, Debug, PartialEq, Eq)]

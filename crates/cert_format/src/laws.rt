@@ -1,4 +1,5 @@
-// What valid certificates show.
+// What valid certificates show. It is proved once, of the one definition of validity that both the checker and whoever makes
+// certificates cite.
 ghost use Rattle.std.specs.Prelude.{List, All, Any};
 ghost use Rattle.inst_logic.specs.Clauses.{IsGround, IsInstance};
 ghost use Rattle.inst_logic.specs.Truth.{IsRefuted};

@@ -1,4 +1,4 @@
-// Tests and measures of clauses that take no memory.
+// Tests and measures of clauses that take no memory: they compare ids, and read measures that the bank keeps.
 ghost use Rattle.std.specs.Prelude.{◌≡◌, ◌↔◌, IsTrue, min};
 ghost use Rattle.inst_logic.specs.Signed.{IsTautology};
 ghost use Rattle.inst_logic.specs.Clauses.{AreVariants};

@@ -1,4 +1,5 @@
-// Instances of clauses in canonical form.
+// Instances of clauses in canonical form. One walk builds and renumbers; building first and renumbering then would intern
+// each term twice, and the first ones for nothing.
 ghost use Rattle.std.specs.Prelude.{◌≡◌, false, ◌≤◌, IfOk, OnOk, length};
 ghost use Rattle.inst_logic.specs.Clauses.{IsCanonical, instance, order_of};
 ghost use Rattle.term_bank.specs.Forest.{AreFormed, AreIds, Extends, IsClauseAt, IsClauseOf, clause_at};

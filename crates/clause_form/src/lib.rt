@@ -1,4 +1,5 @@
-//! Clauses over a bank: canonical forms, variants, tautologies, subsumption and conclusions.
+//! Clauses over a bank: canonical forms, variants, tautologies, subsumption and conclusions. Clauses are compared by the ids
+//! of their atoms, since equal trees have equal ids; only subsumption and conclusions look into terms.
 #![tactic(auto)]
 
 pub mod compare;

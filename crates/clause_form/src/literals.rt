@@ -1,4 +1,4 @@
-// Clauses whose atoms were built.
+// Clauses whose atoms were built: repeats are dropped only then, since different literals may become one.
 ghost use Rattle.std.specs.Prelude.{◌≡◌, ◌++◌, ◌∷◌, map, length, IfOk, OnOk};
 ghost use Rattle.inst_logic.specs.Lists.{distinct, with_item};
 ghost use Rattle.clause_form.specs.Literals.{with_atoms, id_eq};

@@ -1,4 +1,4 @@
-// Canonical forms.
+// Canonical forms: the walk that builds instances, under no bindings.
 ghost use Rattle.std.specs.Prelude.{◌≡◌, false, IfOk, OnOk, map};
 ghost use Rattle.inst_logic.specs.Clauses.{canonical_form, numbered, order_of};
 ghost use Rattle.inst_logic.specs.Substitution.{subst};

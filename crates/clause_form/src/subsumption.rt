@@ -1,4 +1,6 @@
-// Subsumption (Robinson, A machine-oriented logic based on the resolution principle, 1965).
+// Subsumption (Robinson, A machine-oriented logic based on the resolution principle, 1965): a search for a place of each
+// literal, depth first and with a stack of its own. The problem is NP-complete, so what can fail early comes first: signs
+// and symbols before any matching, then literals without variables, then large ones.
 ghost use Rattle.std.specs.Prelude.{◌≡◌, ◌↔◌, ◌++◌, ◌∷◌, ◌<◌, ◌≤◌, ℕ, [], true, false, length, map, IfOk, IfSome, IfNone, OnOk, IsTrue, slice_index_or};
 ghost use Rattle.std.specs.List.Sorted.{IsPermutation};
 ghost use Rattle.inst_logic.specs.Clauses.{Subsumes};

@@ -1,4 +1,5 @@
-// Axioms of equality.
+// Axioms of equality, from the symbols alone: the checker has its clauses in a bank and no problem of trees, and must find
+// the same list.
 ghost use Rattle.std.specs.Prelude.{◌≡◌, [], ◌∷◌, IfOk};
 ghost use Rattle.std.specs.List.{list_any};
 ghost use Rattle.inst_calculus.specs.Axioms.{axioms_for, equality_axioms, is_equality_kind, reflexivity, symmetry, transitivity};
@@ -58,7 +59,8 @@ pub fn axioms_of(alloc: Global, p: &Problem) -> Result<ClauseList, Memory>
     axioms_from(alloc, &symbols)
 }
 
-/// The same from the symbols alone, each once and in order of first occurrence.
+/// The same from the symbols alone, each once and in order of first occurrence: where equality is among them three axioms, and
+/// then one for each function symbol with arguments and one for each predicate with arguments; else none.
 pub fn axioms_from(alloc: Global, symbols: &SymList) -> Result<ClauseList, Memory>
     ensures { IfOk result (λ cs. cs ≡ axioms_for symbols.now) }
 {

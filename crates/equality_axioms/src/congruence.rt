@@ -1,4 +1,4 @@
-// The axioms of congruence.
+// The axioms of congruence. Argument i has the variables 2i and 2i + 1, so each axiom is in canonical form as it is built.
 ghost use Rattle.std.specs.Prelude.{◌≡◌, ◌≤◌, ◌+◌, [], ◌∷◌, ◌++◌, filter, map, if◌then◌else◌, IfOk, OnOk};
 ghost use Rattle.inst_logic.specs.LiteralView.{literal};
 ghost use Rattle.inst_logic.specs.Tree.{app, none, more, of_list};

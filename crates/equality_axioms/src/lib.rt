@@ -4,8 +4,6 @@
 pub mod axioms;
 pub mod congruence;
 pub mod symbols;
-#[cfg(test)]
-mod tests;
 
 pub use axioms::{axioms_from, axioms_of};
 pub use symbols::SymList;

@@ -12,7 +12,7 @@ use Rattle.inst_calculus.proofs.Trees.{subst_agree}
 use Rattle.inst_calculus.proofs.Clauses.{literal_of, from_instance}
 
 mutual
-  grounded_has_no_variables : (bot : Sym) (t : Tree) → tree_vars (subst (grounding bot) t) ≡ []
+  pub grounded_has_no_variables : (bot : Sym) (t : Tree) → tree_vars (subst (grounding bot) t) ≡ []
   grounded_has_no_variables bot (var v) = refl
   grounded_has_no_variables bot (app f ts) = grounded_have_no_variables bot ts
 

@@ -9,6 +9,7 @@ use Rattle.inst_logic.specs.Clauses.{TreeClause, instance, canonical_form, AreVa
 use Rattle.inst_logic.specs.Unifiers.{Sided, IsInstanceOf, IsMostGeneral, IsProper, IsApplication}
 use Rattle.inst_logic.proofs.SameLemmas.{literal_eq_decides}
 use Rattle.inst_logic.proofs.Substitutions.{subst_subst}
+pub use Rattle.inst_calculus.specs.Renamings.{swapped}
 use Rattle.inst_calculus.specs.Renamings.{IsRenamingOf}
 use Rattle.inst_calculus.specs.Models.{Member, member_clauses}
 use Rattle.inst_calculus.specs.Saturation.{IsClosed}
@@ -92,10 +93,6 @@ closed_of_choice ms m n s g c r h = record {
       covered_when_renamed (member_clauses ms) n.clause (instance s.right n.clause) (instance r.right n.clause)
       (c.right ((proper_of_choice m.selected.atom n.selected.atom r s h g n.selected.atom).1 p)) (instance_of_choice m.selected.atom n.selected.atom s r g h n.clause).1;
 }
-
--- the same with left and right exchanged
-abbrev pub swapped : Sided → Sided
-swapped s = record { left = s.right; right = s.left }
 
 pub swapped_general : (s : Sided) (a b : Tree) → IsMostGeneral s a b → IsMostGeneral (swapped s) b a
 swapped_general s a b g = record {

@@ -1,5 +1,5 @@
 -- What every axiom of equality has: it is well formed, and no function is applied in it but those that the clauses apply.
-use Rattle.std.proofs.Common.{◌≡◌, ℕ, zero, suc, ◌+◌, List, [], ◌∷◌, ◌++◌, ◌⊎◌, inl, inr, refl, sym, ap, ◌∙◌, subst as transport, map, filter, Bool, true, false, cond, not, ◌&&◌, ◌||◌, nat_eq, arith}
+use Rattle.std.proofs.Common.{◌≡◌, ℕ, zero, suc, ◌+◌, List, [], ◌∷◌, ◌++◌, inl, inr, refl, sym, ap, ◌∙◌, subst as transport, map, filter, Bool, true, false, cond, not, ◌&&◌, ◌||◌, nat_eq, arith}
 use Rattle.std.specs.Prelude.{IsTrue}
 use Rattle.std.specs.List.{list_any, list_all}
 use Rattle.std.proofs.Math.Bool.{or-true}
@@ -17,16 +17,8 @@ use Rattle.inst_logic.specs.Clauses.{TreeClause}
 use Rattle.inst_logic.proofs.SameLemmas.{and_both, sym_eq_decides}
 use Rattle.inst_calculus.specs.Axioms.{tree_symbols, trees_symbols, clause_symbols, occurrences, symbols_of, equal, reflexivity, symmetry, transitivity, unequal_pairs, every_second, function_congruence, predicate_congruence, is_of_kind, is_predicate_kind, is_equality_kind, axioms_for, equality_axioms, with_axioms}
 use Rattle.inst_calculus.proofs.Membership.{◌∈◌, in_either, from_map, all_pass}
+use Rattle.inst_calculus.proofs.Filters.{from_filter}
 use Rattle.inst_calculus.proofs.Distinct.{from_distinct}
-
-from_filter : {A : Type 0} (p : A → Bool) (x : A) (xs : List A) → x ∈ filter p xs → (x ∈ xs) × (p x ≡ true)
-from_filter p x [] i = absurd i
-from_filter p x (y ∷ ys) i = go (p y) refl i (from_filter p x ys)
-  where
-    go : (b : Bool) → p y ≡ b → x ∈ cond b (y ∷ filter p ys) (filter p ys) → (x ∈ filter p ys → (x ∈ ys) × (p x ≡ true)) → ((x ≡ y) ⊎ (x ∈ ys)) × (p x ≡ true)
-    go true e (inl same) rest = (inl same, ap p same ∙ e)
-    go true e (inr j) rest = let (k, h) = rest j in (inr k, h)
-    go false e j rest = let (k, h) = rest j in (inr k, h)
 
 -- what holds of the axioms of each form holds of each axiom
 module _ (P : TreeClause → Type 0) (symbols : List Sym) (first : P reflexivity) (second : P symmetry) (third : P transitivity)

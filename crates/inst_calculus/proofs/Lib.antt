@@ -1,4 +1,5 @@
 pub mod Membership
+pub mod Filters
 pub mod Distinct
 pub mod Trees
 pub mod Terms
@@ -8,6 +9,9 @@ pub mod CanonicalForms
 pub mod Instances
 pub mod CoveredInstances
 pub mod Choice
+pub mod Items
+pub mod OneConclusion
+pub mod InstanceSizes
 pub mod Weights
 pub mod Truth
 pub mod Saturated
@@ -15,7 +19,11 @@ pub mod Abstractions
 pub mod ShortLists
 pub mod Turns
 pub mod StepLaws
+pub mod SameLiterals
+pub mod NumberedAbstractions
+pub mod NewConstants
 pub mod EqualityAxioms
+pub mod Symbols
 pub mod Congruences
 pub mod GroundConstants
 pub mod TieMembers

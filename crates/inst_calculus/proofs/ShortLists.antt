@@ -1,6 +1,8 @@
 -- Facts on each item of a list that is written out.
-use Rattle.std.proofs.Common.{◌≡◌, ℕ, zero, suc, List, [], ◌∷◌, subst as transport, arith, All, Any, Contains}
+use Rattle.std.proofs.Common.{◌≡◌, ℕ, zero, suc, List, [], ◌∷◌, sym, subst as transport, arith, All, Any, Contains}
 use Rattle.std.specs.Prelude.{slice_get, Some, None}
+use Rattle.inst_logic.specs.declared.signed.Signed.{Signed}
+use Rattle.inst_logic.specs.Truth.{IsTrueLiteral, IsTrueClause}
 use Rattle.inst_logic.specs.Derivations.{at_number}
 
 -- the fact for each item, one after the other
@@ -23,6 +25,11 @@ module _ {A : Type 0} (P : A → Type 0) where
 pub contains_one : {A : Type 0} (x y : A) → Contains (x ∷ []) y → x ≡ y
 contains_one x y (zero, l, e) = e
 contains_one x y (suc k, l, e) = absurd (omega arith)
+
+-- a clause of one literal is true only where the literal is
+pub one_true : {A : Type 0} (holds : A → Type 0) (l : Signed A) → IsTrueClause holds (l ∷ []) → IsTrueLiteral holds l
+one_true holds l (zero, m, i, e, h) = transport (IsTrueLiteral holds) (sym e) h
+one_true holds l (suc k, m, i, e, h) = absurd (omega arith)
 
 pub each_none : {A : Type 0} (P : A → Type 0) (xs : List A) → Each (λ x. ¬ P x) xs → ¬ Any P xs
 each_none P xs h (k, x, l, e, p) = each_at (λ y. ¬ P y) xs h x (k, l, e) p

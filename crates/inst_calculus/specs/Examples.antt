@@ -8,7 +8,7 @@ use Rattle.inst_logic.specs.Substitution.{Substitution}
 use Rattle.inst_logic.specs.Clauses.{TreeClause}
 use Rattle.inst_logic.specs.Unifiers.{Sided}
 use Rattle.inst_logic.specs.Examples.{of_predicate, of_function, p, p_pair, q, f, equals, constant_c, yes, no, even_variable, odd_variable}
-use Rattle.inst_calculus.specs.Entries.{Origin, Entry}
+use Rattle.inst_calculus.specs.Entries.{Origin, input, Entry}
 use Rattle.inst_calculus.specs.Models.{Member}
 
 abbrev pub constant_a : Tree
@@ -91,9 +91,21 @@ entry c o = record { clause = c; origin = o }
 abbrev pub p_always : TreeClause
 p_always = yes (p (var 0)) ∷ []
 
+-- p(X0) | q(X0)
+abbrev pub p_or_q : TreeClause
+p_or_q = yes (p (var 0)) ∷ yes (q (var 0)) ∷ []
+
+-- ~p(X0)
+abbrev pub not_p : TreeClause
+not_p = no (p (var 0)) ∷ []
+
 -- ~p(c)
 abbrev pub not_p_c : TreeClause
 not_p_c = no (p constant_c) ∷ []
+
+-- p(X0) and ~p(c)
+abbrev pub two_entries : List Entry
+two_entries = entry p_always (input 1) ∷ entry not_p_c (input 2) ∷ []
 
 -- p(c)
 abbrev pub p_c : TreeClause

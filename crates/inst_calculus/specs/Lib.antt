@@ -1,6 +1,8 @@
 pub mod Axioms
 pub mod Abstraction
 pub mod Entries
+pub mod Conclusions
+pub mod Lemmas
 pub mod Models
 pub mod Saturation
 pub mod Steps

@@ -1,14 +1,16 @@
 // Worked examples of the definitions, as theorems: each function does nothing, and its clauses are closed facts.
 ghost use Rattle.std.specs.Prelude.{◌≡◌, ◌∷◌, [], codes};
 ghost use Rattle.inst_logic.specs.Tree.{var};
-ghost use Rattle.inst_logic.specs.Clauses.{instance};
 ghost use Rattle.inst_logic.specs.Unifiers.{Sided, IsMostGeneral, IsProper};
-ghost use Rattle.inst_logic.specs.Examples.{p, p_pair, f, equals, constant_c, constant_bot, yes, no};
+ghost use Rattle.inst_logic.specs.Examples.{p, p_pair, q, f, equals, constant_c, constant_bot, yes, no};
 ghost use Rattle.inst_calculus.specs.Axioms.{equality_axioms, with_axioms, function_congruence};
 ghost use Rattle.inst_calculus.specs.Abstraction.{IsBot, abstraction};
 ghost use Rattle.inst_calculus.specs.Models.{member_clauses, IsTrueBy};
 ghost use Rattle.inst_calculus.specs.Saturation.{IsCovered, IsClosed, IsSaturated};
-ghost use Rattle.inst_calculus.specs.Examples.{s, f_is_a, p_a, p_always, not_p_c, bot_predicate, constant_named, bot, g, g_symbol, constant_a, constant_b, tie_one, tie_two, tie_members, open_members, third_by_first, fourth_by_first, tie_unifier, apart};
+ghost use Rattle.inst_calculus.specs.Lemmas.{IsLemma};
+ghost use Rattle.inst_calculus.specs.Conclusions.{IsConclusion};
+ghost use Rattle.inst_logic.specs.Clauses.{TreeClause, instance};
+ghost use Rattle.inst_calculus.specs.Examples.{s, two_entries, p_c, p_or_q, not_p, f_is_a, p_a, p_always, not_p_c, bot_predicate, constant_named, bot, g, g_symbol, constant_a, constant_b, tie_one, tie_two, tie_members, open_members, third_by_first, fourth_by_first, tie_unifier, apart};
 
 /// The axioms of equality of `f(X0) = a` and `p(a)` are five. Clauses without equality have none.
 pub fn axioms()
@@ -62,4 +64,16 @@ pub fn open_pair()
 /// The first selection is saturated.
 pub fn saturated_list()
     ensures { IsSaturated tie_members (tie_one ∷ tie_two ∷ []) }
+{}
+
+/// Of `p(X0) | q(X0)` and `~p(X0)` the clause `q(X0)` is a lemma, and `q(X1)` is not: a variable stands for one proposition.
+pub fn implied_part()
+    ensures same_variable { IsLemma (p_or_q ∷ not_p ∷ []) (yes (q (var 0)) ∷ []) }
+    ensures other_variable { ¬ IsLemma (p_or_q ∷ not_p ∷ []) (yes (q (var 1)) ∷ []) }
+{}
+
+/// Of `p(X0)` and `~p(c)` the first concludes `p(c)`, and the second, to which the unifier binds nothing, no clause.
+pub fn one_side_concludes()
+    ensures first { IsConclusion two_entries 1 1 2 1 p_c }
+    ensures second { (c : TreeClause) → ¬ IsConclusion two_entries 2 1 1 1 c }
 {}

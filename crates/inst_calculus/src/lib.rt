@@ -5,17 +5,26 @@
 
 pub mod abstraction;
 pub mod axioms;
+pub mod conclusions;
 pub mod covering;
 pub mod derivations;
 pub mod examples;
+pub mod lemmas;
 pub mod model;
+pub mod sizes;
 pub mod unifiers;
 
-pub use abstraction::{bot_exists, bot_is_unique};
+pub use abstraction::{
+    abstracted_atoms, abstraction_with_repeats, abstractions_grow, bot_exists, bot_is_unique,
+};
 pub use axioms::axioms_keep;
+pub use conclusions::{given_when_grown, one_conclusion};
 pub use covering::{covered_when_grown, covered_when_renamed};
 pub use derivations::{
     kept_when_given_grows, refuted_by_numbered_steps, refuted_by_steps, shown_when_renamed,
+    shown_without_repeats,
 };
+pub use lemmas::lemma_with_constants;
 pub use model::model_of_saturated;
-pub use unifiers::{closed_by_one, most_general_choice, most_general_exists};
+pub use sizes::instance_sizes;
+pub use unifiers::{closed_by_one, most_general_choice, most_general_exists, most_general_swapped};

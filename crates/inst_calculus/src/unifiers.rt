@@ -3,13 +3,18 @@ ghost use Rattle.std.specs.Prelude.{List};
 ghost use Rattle.inst_logic.specs.Tree.{Tree};
 ghost use Rattle.inst_logic.specs.Clauses.{TreeClause, instance, AreVariants};
 ghost use Rattle.inst_logic.specs.Unifiers.{Sided, IsUnifier, IsMostGeneral, IsProper};
-ghost use Rattle.inst_calculus.specs.Renamings.{IsRenamingOf};
+ghost use Rattle.inst_calculus.specs.Renamings.{IsRenamingOf, swapped};
 ghost use Rattle.inst_calculus.specs.Models.{Member};
 ghost use Rattle.inst_calculus.specs.Saturation.{IsClosed};
 
 /// Two trees, renamed apart, that have a unifier have a most general one.
 pub fn most_general_exists()
     ensures { (a b : Tree) (u : Sided) → IsUnifier u a b → (s : Sided) × IsMostGeneral s a b }
+{}
+
+/// With its sides exchanged, a most general unifier of two trees is one of the second and the first.
+pub fn most_general_swapped()
+    ensures { (a b : Tree) (s : Sided) → IsMostGeneral s a b → IsMostGeneral (swapped s) b a }
 {}
 
 /// Any two most general unifiers of two trees differ by a renaming of variables. So which of them is taken changes neither

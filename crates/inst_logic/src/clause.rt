@@ -1,4 +1,5 @@
-// Literals, clauses and problems.
+// Literals, clauses and problems. A clause is a type of its own and no list of the generic type, since contracts see its
+// literals as signed trees and not as they are stored.
 ghost use Rattle.std.specs.Prelude.{◌≡◌, ◌↔◌, IsTrue, [], ◌∷◌, ◌++◌, length, OnOk, OnErr, slice_get, option_map, map};
 ghost use Rattle.inst_logic.specs.LiteralView.{literal};
 
@@ -39,6 +40,7 @@ impl Model for Clause {
 }
 
 impl Clause {
+    /// An empty one, which takes no memory. It keeps the allocator for what is pushed.
     pub fn new(alloc: Global) -> Self
         ensures { result ≡ [] }
     {
@@ -47,26 +49,28 @@ impl Clause {
         }
     }
 
+    /// How many literals.
     pub fn len(&self) -> usize
         ensures { result ≡ length self.now }
     {
         self.literals.len()
     }
 
+    /// Whether there is no literal.
     pub fn is_empty(&self) -> bool
         ensures { IsTrue result ↔ (self.now ≡ []) }
     {
         self.literals.is_empty()
     }
 
-    /// Literal `i`, counted from 0.
+    /// Literal `i`, counted from 0, where places count from 1; `None` past the last.
     pub fn get(&self, i: usize) -> Option<&Literal>
         ensures { option_map (λ l. literal l.now) result ≡ slice_get self.now i }
     {
         self.literals.get(i)
     }
 
-    /// Puts `x` at the end. A refused push drops it.
+    /// Puts `x` at the end. Where memory is refused `x` is dropped, and nothing else is changed.
     pub fn push(&mut self, x: Literal) -> Result<(), Memory>
         ensures ok { OnOk result (self.new ≡ self.old ++ literal x ∷ []) }
         ensures err { OnErr result (self.new ≡ self.old) }
@@ -75,6 +79,7 @@ impl Clause {
         Ok(())
     }
 
+    /// The literals in their order.
     pub fn as_slice(&self) -> &[Literal]
         ensures { map literal result.now ≡ self.now }
     {

@@ -1,4 +1,6 @@
-// Lists of values: all the lists of this crate but those of terms and of literals.
+// Lists of values: all the lists of this crate but those of terms and of literals. They are one generic type and not bare
+// vectors, so that a refused push has one meaning everywhere; a list is made from a vector and gives it back without taking
+// memory.
 ghost use Rattle.std.specs.Prelude.{◌≡◌, ◌↔◌, IsTrue, [], ◌∷◌, ◌++◌, length, OnOk, OnErr, slice_get, option_copied};
 ghost use Rattle.std.proofs.Common.{rules};
 ghost use Rattle.std.specs.Cmp.Lexicographic.{pointwise};
@@ -26,6 +28,7 @@ impl<T> Model for ListOf<T> {
 }
 
 impl<T: Drop> ListOf<T> {
+    /// An empty one, which takes no memory. It keeps the allocator for what is pushed.
     pub fn new(alloc: Global) -> Self
         ensures { result ≡ [] }
     {
@@ -34,26 +37,28 @@ impl<T: Drop> ListOf<T> {
         }
     }
 
+    /// How many items.
     pub fn len(&self) -> usize
         ensures { result ≡ length self.now }
     {
         self.items.len()
     }
 
+    /// Whether there is no item.
     pub fn is_empty(&self) -> bool
         ensures { IsTrue result ↔ (self.now ≡ []) }
     {
         self.items.is_empty()
     }
 
-    /// Item `i`, counted from 0.
+    /// Item `i`, counted from 0; `None` past the last.
     pub fn get(&self, i: usize) -> Option<&T>
         ensures { option_copied result ≡ slice_get self.now i }
     {
         self.items.get(i)
     }
 
-    /// Puts `x` at the end. A refused push drops it.
+    /// Puts `x` at the end. Where memory is refused `x` is dropped, and nothing else is changed.
     pub fn push(&mut self, x: T) -> Result<(), Memory>
         ensures ok { OnOk result (self.new ≡ self.old ++ x ∷ []) }
         ensures err { OnErr result (self.new ≡ self.old) }
@@ -62,6 +67,7 @@ impl<T: Drop> ListOf<T> {
         Ok(())
     }
 
+    /// The items in their order.
     pub fn as_slice(&self) -> &[T]
         ensures { result.now ≡ self.now }
     {

@@ -1,4 +1,5 @@
-// The canonical form of a clause.
+// The canonical form of a clause. It renumbers first and then drops repeats, in one walk: the numbering is injective on the
+// clause's variables, so this is the same as dropping first.
 ghost use Rattle.std.specs.Prelude.{◌≡◌, ℕ, nat_eq, fold, IfOk, OnOk, map};
 ghost use Rattle.std.specs.List.{position_or_len};
 ghost use Rattle.inst_logic.specs.Tree.{of_list, app};

@@ -6,3 +6,10 @@ pub mod ClosedRuns
 pub mod FlatClauses
 pub mod BoundedClauses
 pub mod EntryBound
+pub mod Prolonged
+pub mod Changes
+pub mod Origins
+pub mod Contents
+pub mod BySize
+pub mod OpenConclusions
+pub mod NestedRun

@@ -1,5 +1,5 @@
 -- What holds of the entries of every run: each is an instance of a clause, in canonical form, over the symbols of the
--- clauses and no longer than they are, and no two are variants.
+-- clauses and no longer than the longest of them, and no two are variants.
 use Rattle.std.proofs.Common.{◌≡◌, ℕ, suc, ◌≤◌, List, [], ◌∷◌, ◌++◌, ◌⊎◌, inl, inr, refl, sym, ap, ◌∙◌, subst as transport, arith, length, get_or, All, AllPairs, Contains}
 use Rattle.std.proofs.lemmas.List.Elements.{Contains-get_or}
 use Rattle.std.proofs.lemmas.List.Quantifiers.{all_pairs_push}
@@ -7,7 +7,7 @@ use Rattle.inst_logic.specs.declared.symbol.Sym.{Sym}
 use Rattle.inst_logic.specs.Clauses.{TreeClause, instance, numbered, order_of, canonical_form, IsCanonical, IsInstance, AreVariants}
 use Rattle.inst_logic.specs.WellFormed.{clause_is_formed, AreFormedClauses}
 use Rattle.inst_logic.proofs.ShownLaws.{at_number_contains}
-use Rattle.inst_calculus.specs.Entries.{input, inst, Entry, entry_clauses}
+use Rattle.inst_calculus.specs.Entries.{Origin, input, inst, Entry, entry_clauses}
 use Rattle.inst_calculus.specs.Saturation.{variant}
 use Rattle.inst_calculus.proofs.Membership.{◌∈◌, contains_in, in_contains, in_all, in_map, in_either, passes, all_pass}
 use Rattle.inst_calculus.proofs.Distinct.{map_append}
@@ -16,16 +16,16 @@ use Rattle.inst_calculus.proofs.Clauses.{length_instance}
 use Rattle.inst_calculus.proofs.CanonicalForms.{canonical_of_canonical}
 use Rattle.inst_calculus.proofs.Instances.{instance_is_instance, canonical_is_instance, instance_of_instance, HasAtomsOver, formed_clause_over, clause_over_formed, instance_over, canonical_over}
 use Rattle.inst_calculus.proofs.Unify.{most_general_terms}
-use Rattle.inst_machine.specs.Machine.{State, Event, IsFirst, all_read, passed_over, taken, Infers, IsStep, solve, infer, IsRun, ended, next}
+use Rattle.inst_machine.specs.Machine.{State, Event, IsFirst, all_read, passed_over, taken, Concludes, Appends, infer, IsStep, solve, append, IsRun, ended, next}
 use Rattle.inst_machine.specs.Replay.{Replays}
-use Rattle.inst_machine.specs.Bound.{total_length}
+use Rattle.inst_machine.specs.Bound.{longest}
 
--- no clause is longer than all of them together
-pub within_total_length : (c : TreeClause) (cs : List TreeClause) → c ∈ cs → length c ≤ total_length cs
-unfolding total_length
-within_total_length c [] i = absurd i
-within_total_length c (d ∷ cs) (inl e) = let h : length c ≡ length d = ap length e in omega arith
-within_total_length c (d ∷ cs) (inr i) = let h : length c ≤ total_length cs = within_total_length c cs i in omega arith
+-- no clause is longer than the longest
+pub within_longest : (c : TreeClause) (cs : List TreeClause) → c ∈ cs → length c ≤ longest cs
+unfolding longest
+within_longest c [] i = absurd i
+within_longest c (d ∷ cs) (inl e) = let h : length c ≡ length d = ap length e in omega arith
+within_longest c (d ∷ cs) (inr i) = let h : length c ≤ longest cs = within_longest c cs i in omega arith
 
 abbrev NoVariants : List TreeClause → Type 0
 NoVariants cs = AllPairs (λ c d. ¬ AreVariants c d) cs
@@ -35,7 +35,7 @@ module _ (cs : List TreeClause) (P G : Sym → Type 0) where
     pub from_clause : (d : TreeClause) × (d ∈ cs) × IsInstance c d
     pub canonical : IsCanonical c
     pub atoms : HasAtomsOver P G c
-    pub short : length c ≤ total_length cs
+    pub short : length c ≤ longest cs
 
   pub record AreEntriesFrom (es : List Entry) : Type 0 where
     pub each : (c : TreeClause) → c ∈ entry_clauses es → IsEntryFrom c
@@ -61,7 +61,7 @@ module _ (cs : List TreeClause) (P G : Sym → Type 0) where
       from_clause = (c, i, canonical_is_instance c);
       canonical = canonical_of_canonical c;
       atoms = canonical_over P G c (atoms c i);
-      short = omega (arith, length_instance (numbered (order_of c)) c, within_total_length c cs i);
+      short = omega (arith, length_instance (numbered (order_of c)) c, within_longest c cs i);
     }
 
     first_entries : (k : ℕ) (ds : List TreeClause) (before es : List Entry) → ((c : TreeClause) → c ∈ ds → c ∈ cs) → IsFirst k ds before es → AreEntriesFrom before → AreEntriesFrom es
@@ -73,50 +73,53 @@ module _ (cs : List TreeClause) (P G : Sym → Type 0) where
         (λ d i v. n (in_contains (canonical_form c) (entry_clauses before)
         (transport (λ x. x ∈ entry_clauses before) (sym (h.each d i).canonical ∙ v ∙ canonical_of_canonical c) i))))
 
-    module _ (bot : Sym) (s : State) (from place partner other : ℕ) (clause : TreeClause) (h : AreEntriesFrom s.entries) (q : Infers bot s from place partner other clause) where
+    module _ (bot : Sym) (s : State) (from place partner other : ℕ) (clause : TreeClause) (h : AreEntriesFrom s.entries) (q : Concludes bot s from place partner other clause) where
       abbrev concluded : TreeClause
-      concluded = instance q.unifier.left q.entry.clause
+      concluded = instance q.conclusion.unifier.left q.conclusion.entry.clause
 
-      entry_in : q.entry.clause ∈ entry_clauses s.entries
-      entry_in = in_map (λ (e : Entry). e.clause) q.entry s.entries (contains_in q.entry s.entries (at_number_contains s.entries from q.entry q.entry_at))
+      entry_in : q.conclusion.entry.clause ∈ entry_clauses s.entries
+      entry_in = in_map (λ (e : Entry). e.clause) q.conclusion.entry s.entries (contains_in q.conclusion.entry s.entries (at_number_contains s.entries from q.conclusion.entry q.conclusion.entry_at))
 
-      partner_in : q.partner_entry.clause ∈ entry_clauses s.entries
-      partner_in = in_map (λ (e : Entry). e.clause) q.partner_entry s.entries (contains_in q.partner_entry s.entries (at_number_contains s.entries partner q.partner_entry q.partner_at))
+      partner_in : q.conclusion.partner_entry.clause ∈ entry_clauses s.entries
+      partner_in = in_map (λ (e : Entry). e.clause) q.conclusion.partner_entry s.entries (contains_in q.conclusion.partner_entry s.entries (at_number_contains s.entries partner q.conclusion.partner_entry q.conclusion.partner_at))
 
-      old : IsEntryFrom q.entry.clause
-      old = h.each q.entry.clause entry_in
+      old : IsEntryFrom q.conclusion.entry.clause
+      old = h.each q.conclusion.entry.clause entry_in
 
-      terms : (v : ℕ) → IsTermOver G (q.unifier.left v)
-      terms v = (most_general_terms P G q.literal.atom q.other_literal.atom
-          (old.atoms q.literal (contains_in q.literal q.entry.clause (at_number_contains q.entry.clause place q.literal q.literal_at)))
-          ((h.each q.partner_entry.clause partner_in).atoms q.other_literal
-          (contains_in q.other_literal q.partner_entry.clause (at_number_contains q.partner_entry.clause other q.other_literal q.other_at)))
-          q.unifier q.most_general v).0
+      terms : (v : ℕ) → IsTermOver G (q.conclusion.unifier.left v)
+      terms v = (most_general_terms P G q.conclusion.literal.atom q.conclusion.other_literal.atom
+          (old.atoms q.conclusion.literal (contains_in q.conclusion.literal q.conclusion.entry.clause (at_number_contains q.conclusion.entry.clause place q.conclusion.literal q.conclusion.literal_at)))
+          ((h.each q.conclusion.partner_entry.clause partner_in).atoms q.conclusion.other_literal
+          (contains_in q.conclusion.other_literal q.conclusion.partner_entry.clause (at_number_contains q.conclusion.partner_entry.clause other q.conclusion.other_literal q.conclusion.other_at)))
+          q.conclusion.unifier q.conclusion.most_general v).0
 
       conclusion_gives : IsEntryFrom (canonical_form concluded)
       conclusion_gives = record {
         from_clause = (
           old.from_clause.0,
           old.from_clause.1,
-          instance_of_instance (canonical_form concluded) q.entry.clause old.from_clause.0
-              (instance_of_instance (canonical_form concluded) concluded q.entry.clause (canonical_is_instance concluded) (instance_is_instance q.unifier.left q.entry.clause)) old.from_clause.2,
+          instance_of_instance (canonical_form concluded) q.conclusion.entry.clause old.from_clause.0
+              (instance_of_instance (canonical_form concluded) concluded q.conclusion.entry.clause (canonical_is_instance concluded) (instance_is_instance q.conclusion.unifier.left q.conclusion.entry.clause)) old.from_clause.2,
         );
         canonical = canonical_of_canonical concluded;
-        atoms = canonical_over P G concluded (instance_over P G q.unifier.left q.entry.clause terms old.atoms);
-        short = omega (arith, length_instance (numbered (order_of concluded)) concluded, length_instance q.unifier.left q.entry.clause, old.short);
+        atoms = canonical_over P G concluded (instance_over P G q.conclusion.unifier.left q.conclusion.entry.clause terms old.atoms);
+        short = omega (arith, length_instance (numbered (order_of concluded)) concluded, length_instance q.conclusion.unifier.left q.conclusion.entry.clause, old.short);
       }
 
       conclusion_is_new : (c : TreeClause) → c ∈ entry_clauses s.entries → ¬ AreVariants c (canonical_form concluded)
       conclusion_is_new c i v = q.uncovered (variant c (in_contains c (entry_clauses s.entries) i) (sym (canonical_of_canonical concluded) ∙ sym v))
 
       inferred_entry : AreEntriesFrom (s.entries ++ record { clause = clause; origin = inst from place partner other } ∷ [])
-      inferred_entry = appended s.entries (record { clause = clause; origin = inst from place partner other }) h (transport IsEntryFrom (sym q.conclusion) conclusion_gives)
-          (λ c i. transport (λ d. ¬ AreVariants c d) (sym q.conclusion) (conclusion_is_new c i))
+      inferred_entry = appended s.entries (record { clause = clause; origin = inst from place partner other }) h (transport IsEntryFrom (sym q.conclusion.conclusion) conclusion_gives)
+          (λ c i. transport (λ d. ¬ AreVariants c d) (sym q.conclusion.conclusion) (conclusion_is_new c i))
+
+    appended_entry : (bot : Sym) (s : State) (origin : Origin) (clause : TreeClause) → AreEntriesFrom s.entries → Appends bot s origin clause
+        → AreEntriesFrom (s.entries ++ record { clause = clause; origin = origin } ∷ [])
+    appended_entry bot s origin clause h (infer {from = from} {place = place} {partner = partner} {other = other} q) = inferred_entry bot s from place partner other clause h q
 
     step_entries : (bot : Sym) (s : State) (e : Event) (t : State) → IsStep bot s e t → AreEntriesFrom s.entries → AreEntriesFrom t.entries
     step_entries bot s e t (solve a p u) h = transport (λ (x : State). AreEntriesFrom x.entries) (sym p) h
-    step_entries bot s e t (infer {from = from} {place = place} {partner = partner} {other = other} {clause = clause} q p) h =
-        transport (λ (x : State). AreEntriesFrom x.entries) (sym p) (inferred_entry bot s from place partner other clause h q)
+    step_entries bot s e t (append {origin = origin} {clause = clause} q p) h = transport (λ (x : State). AreEntriesFrom x.entries) (sym p) (appended_entry bot s origin clause h q)
 
     run_entries : (bot : Sym) (s : State) (es : List Event) (t : State) → IsRun bot s es t → AreEntriesFrom s.entries → AreEntriesFrom t.entries
     run_entries bot s es t ended h = h

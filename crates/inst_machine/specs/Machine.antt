@@ -1,5 +1,5 @@
 -- The machine: it takes valuations of the abstractions and appends instances, in any order.
-use Rattle.std.specs.Prelude.{◌≡◌, ◌≢◌, ◌⊎◌, ℕ, suc, List, [], ◌∷◌, ◌++◌, Bool, true, false, not, filter, Some, All, AllPairs, Contains, if◌then◌else◌}
+use Rattle.std.specs.Prelude.{◌≡◌, ◌≢◌, ◌⊎◌, ℕ, suc, List, [], ◌∷◌, ◌++◌, Bool, true, false, not, filter, All, AllPairs, Contains, if◌then◌else◌}
 use Rattle.std.specs.List.{list_any}
 use Rattle.inst_logic.specs.declared.symbol.Sym.{Sym}
 use Rattle.inst_logic.specs.declared.signed.Signed.{Signed}
@@ -10,10 +10,9 @@ use Rattle.inst_logic.specs.WellFormed.{IsAtom}
 use Rattle.inst_logic.specs.Substitution.{subst_literal, tree_vars}
 use Rattle.inst_logic.specs.Clauses.{TreeClause, instance, canonical_form}
 use Rattle.inst_logic.specs.Truth.{IsTrueLiteral, IsTrueClause}
-use Rattle.inst_logic.specs.Derivations.{at_number}
-use Rattle.inst_logic.specs.Unifiers.{Sided, IsMostGeneral, IsProper}
 use Rattle.inst_calculus.specs.Abstraction.{grounding, abstraction}
 use Rattle.inst_calculus.specs.Entries.{Origin, input, inst, Entry, entry_clauses}
+use Rattle.inst_calculus.specs.Conclusions.{IsConclusion}
 use Rattle.inst_calculus.specs.Saturation.{IsCovered}
 
 -- the entries, the ground atoms that the last valuation holds true, and whether one was taken yet
@@ -45,25 +44,19 @@ IsTrueIn bot s l = IsTrueLiteral (Contains s.valuation) (subst_literal (groundin
 abbrev pub IsSettled : Sym → State → Type 0
 IsSettled bot s = All (λ e. IsTrueClause (Contains s.valuation) (abstraction bot e.clause)) s.entries
 
--- the inference at these entries and literals may append the clause
-pub record Infers (bot : Sym) (s : State) (from place partner other : ℕ) (clause : TreeClause) : Type 0 where
-  pub entry : Entry
-  pub partner_entry : Entry
-  pub literal : Signed Tree
-  pub other_literal : Signed Tree
-  pub entry_at : at_number s.entries from ≡ Some entry
-  pub partner_at : at_number s.entries partner ≡ Some partner_entry
-  pub literal_at : at_number entry.clause place ≡ Some literal
-  pub other_at : at_number partner_entry.clause other ≡ Some other_literal
+-- The conclusion of entry `from` at its literal `place` with entry `partner` at its literal `other`, after a solve: the last
+-- valuation makes the abstractions of both literals true, and the entries do not cover what is concluded.
+pub record Concludes (bot : Sym) (s : State) (from place partner other : ℕ) (clause : TreeClause) : Type 0 where
+  pub conclusion : IsConclusion s.entries from place partner other clause
   pub solved : s.has_solved ≡ true
-  pub opposite : literal.positive ≢ other_literal.positive
-  pub literal_true : IsTrueIn bot s literal
-  pub other_true : IsTrueIn bot s other_literal
-  pub unifier : Sided
-  pub most_general : IsMostGeneral unifier literal.atom other_literal.atom
-  pub proper : IsProper unifier.left literal.atom
-  pub uncovered : ¬ IsCovered (entry_clauses s.entries) entry.clause (instance unifier.left entry.clause)
-  pub conclusion : clause ≡ canonical_form (instance unifier.left entry.clause)
+  pub literal_true : IsTrueIn bot s conclusion.literal
+  pub other_true : IsTrueIn bot s conclusion.other_literal
+  pub uncovered : ¬ IsCovered (entry_clauses s.entries) conclusion.entry.clause (instance conclusion.unifier.left conclusion.entry.clause)
+
+-- what may be appended, with its origin: a conclusion
+pub data Appends (bot : Sym) (s : State) : Origin → TreeClause → Type 0 where
+  infer : {from place partner other : ℕ} {clause : TreeClause} → Concludes bot s from place partner other clause
+      → Appends bot s (inst from place partner other) clause
 
 -- the atom is taken out where it is held true, and put in where it is not
 abbrev pub change : List Tree → Tree → List Tree
@@ -84,14 +77,13 @@ pub record AreChanges (atoms : List Tree) : Type 0 where
   pub without_variables : All (λ a. tree_vars a ≡ []) atoms
   pub once : AllPairs (λ a b. a ≢ b) atoms
 
--- A solve takes a valuation that makes the abstraction of every entry true. An inference appends what it infers. There is
--- no step to an input clause.
+-- A solve takes a valuation that makes the abstraction of every entry true. An inference appends an entry. There is no step
+-- to an input clause.
 pub data IsStep (bot : Sym) : State → Event → State → Type 0 where
   solve : {s t : State} {atoms : List Tree} → AreChanges atoms → t ≡ record { entries = s.entries; valuation = change_all s.valuation atoms; has_solved = true }
       → IsSettled bot t → IsStep bot s (solved atoms) t
-  infer : {s t : State} {from place partner other : ℕ} {clause : TreeClause} → Infers bot s from place partner other clause
-      → t ≡ record s { entries = s.entries ++ record { clause = clause; origin = inst from place partner other } ∷ [] }
-      → IsStep bot s (inferred (inst from place partner other)) t
+  append : {s t : State} {origin : Origin} {clause : TreeClause} → Appends bot s origin clause
+      → t ≡ record s { entries = s.entries ++ record { clause = clause; origin = origin } ∷ [] } → IsStep bot s (inferred origin) t
 
 -- the events, taken in order from s, are steps and end in t
 pub data IsRun (bot : Sym) : State → List Event → State → Type 0 where

@@ -1,7 +1,6 @@
--- Replay of a journal, what it leaves of a budget, and the conclusions that stay open.
-use Rattle.std.specs.Prelude.{◌≡◌, ◌≢◌, ℕ, ◌-◌, ◌+◌, List, [], ◌∷◌, Some, All, Contains}
+-- Replay of a journal, and the conclusions that stay open where it ends.
+use Rattle.std.specs.Prelude.{◌≡◌, ◌≢◌, ℕ, List, [], ◌∷◌, Bool, true, false, Some, All, Contains, filter, map}
 use Rattle.inst_logic.specs.declared.symbol.Sym.{Sym}
-use Rattle.inst_logic.specs.Measure.{clause_size}
 use Rattle.inst_logic.specs.Clauses.{TreeClause, instance}
 use Rattle.inst_logic.specs.Derivations.{at_number}
 use Rattle.inst_logic.specs.Unifiers.{Sided, IsMostGeneral, IsProper}
@@ -10,7 +9,7 @@ use Rattle.inst_calculus.specs.Saturation.{IsCovered}
 use Rattle.inst_calculus.specs.Axioms.{with_axioms}
 use Rattle.inst_calculus.specs.Abstraction.{IsBot}
 use Rattle.inst_calculus.specs.Entries.{Origin, input, inst, Entry, entry_clauses}
-use Rattle.inst_machine.specs.Machine.{State, Event, IsStart, IsRun, IsTrueIn, Infers}
+use Rattle.inst_machine.specs.Machine.{State, Event, solved, inferred, IsStart, IsRun, IsTrueIn, Concludes}
 
 -- the journal replays from the clauses to the state
 abbrev pub Replays : Sym → List TreeClause → List Event → State → Type 0
@@ -21,19 +20,20 @@ pub record ReplaysFrom (cs : List TreeClause) (bot : Sym) (journal : List Event)
   pub constant : IsBot cs bot
   pub replays : Replays bot (with_axioms cs) journal t
 
--- the size of an entry that an inference appended, and nothing for a first entry
-abbrev pub appended_size : Origin → TreeClause → ℕ
-appended_size (input k) c = 0
-appended_size (inst from place partner other) c = clause_size c
+-- an entry that an inference appended, and no first entry
+abbrev pub is_appended : Origin → Bool
+is_appended (input k) = false
+is_appended (inst from place partner other) = true
 
--- the sizes of the entries that inferences appended
-abbrev pub appended_sizes : List Entry → ℕ
-appended_sizes [] = 0
-appended_sizes (e ∷ es) = appended_size e.origin e.clause + appended_sizes es
+-- the origins of the appended entries, in their order
+abbrev pub appended_origins : List Entry → List Origin
+appended_origins es = filter is_appended (map (λ e. e.origin) es)
 
--- what the entries leave of the budget, in symbols
-abbrev pub budget_left : ℕ → List Entry → ℕ
-budget_left budget es = budget - appended_sizes es
+-- the origins that the events tell, in their order
+abbrev pub inferred_origins : List Event → List Origin
+inferred_origins [] = []
+inferred_origins (solved atoms ∷ es) = inferred_origins es
+inferred_origins (inferred origin ∷ es) = origin ∷ inferred_origins es
 
 -- the members are the entries with a literal selected whose abstraction is true in the last valuation
 pub record IsSelection (bot : Sym) (s : State) (ms : List Member) : Type 0 where
@@ -47,7 +47,7 @@ AreConclusionsCovered ms = (m n : Member) → Contains ms m → Contains ms n �
     → (s : Sided) → IsMostGeneral s m.selected.atom n.selected.atom → IsProper s.left m.selected.atom
     → IsCovered (member_clauses ms) m.clause (instance s.left m.clause)
 
--- an instance that an inference at the selected literals of two members could append
+-- what two members conclude at their selected literals, so that an inference could append it
 pub record IsOpenConclusion (bot : Sym) (s : State) (ms : List Member) (c : TreeClause) : Type 0 where
   pub from : ℕ
   pub place : ℕ
@@ -59,4 +59,4 @@ pub record IsOpenConclusion (bot : Sym) (s : State) (ms : List Member) (c : Tree
   pub partner_at : at_number ms partner ≡ Some partner_member
   pub selected_at : at_number member.clause place ≡ Some member.selected
   pub other_at : at_number partner_member.clause other ≡ Some partner_member.selected
-  pub infers : Infers bot s from place partner other c
+  pub concludes : Concludes bot s from place partner other c

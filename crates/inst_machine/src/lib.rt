@@ -2,7 +2,14 @@
 //! contracts of the public functions here, which have empty bodies.
 #![tactic(auto)]
 
+pub mod endings;
 pub mod examples;
 pub mod runs;
+pub mod steps;
 
-pub use runs::{entries_of_runs, finitely_many_entries, refuted_instances, saturated_when_closed};
+pub use endings::{one_ending, open_conclusions};
+pub use runs::{
+    contents_of_entries, entries_of_runs, finitely_many_entries, origins_of_entries,
+    refuted_instances, saturated_when_closed,
+};
+pub use steps::{changed_atoms, left_of_budget, one_more_clause, one_more_step};

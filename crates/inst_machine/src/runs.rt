@@ -1,17 +1,21 @@
 // Laws of the machine's runs.
-ghost use Rattle.std.specs.Prelude.{◌≡◌, ◌≢◌, ◌≤◌, ◌<◌, ℕ, List, IsTrue, length, map, All, AllPairs, Contains};
+ghost use Rattle.std.specs.Prelude.{◌≡◌, ◌≤◌, ◌+◌, ◌++◌, ℕ, List, IsTrue, Some, length, map, All, AllPairs, Contains};
 ghost use Rattle.inst_logic.specs.declared.symbol.Sym.{Sym};
 ghost use Rattle.inst_logic.specs.Clauses.{TreeClause, IsCanonical, IsInstance, IsGround, AreVariants};
+ghost use Rattle.inst_logic.specs.Derivations.{at_number};
 ghost use Rattle.inst_logic.specs.Measure.{is_function_free};
 ghost use Rattle.inst_logic.specs.WellFormed.{AreFormedClauses};
 ghost use Rattle.inst_logic.specs.Truth.{IsRefuted};
 ghost use Rattle.inst_calculus.specs.Abstraction.{abstraction};
 ghost use Rattle.inst_calculus.specs.Models.{Member};
 ghost use Rattle.inst_calculus.specs.Saturation.{IsSaturated};
-ghost use Rattle.inst_calculus.specs.Entries.{entry_clauses};
-ghost use Rattle.inst_machine.specs.Machine.{State, Event};
-ghost use Rattle.inst_machine.specs.Replay.{Replays, IsSelection, AreConclusionsCovered};
-ghost use Rattle.inst_machine.specs.Bound.{possible_entries, entry_bound};
+ghost use Rattle.inst_calculus.specs.Axioms.{clause_symbols, occurrences};
+ghost use Rattle.inst_calculus.specs.Conclusions.{IsGiven};
+ghost use Rattle.inst_calculus.specs.Entries.{Entry, entry_clauses};
+ghost use Rattle.inst_machine.specs.Machine.{State, Event, IsRun};
+ghost use Rattle.inst_machine.specs.Replay.{Replays, IsSelection, AreConclusionsCovered, appended_origins, inferred_origins};
+ghost use Rattle.inst_machine.specs.Budget.{appended_sizes};
+ghost use Rattle.inst_machine.specs.Bound.{longest, possible_entries, entry_bound};
 
 /// The entries of a run on well-formed clauses are instances of them, in canonical form and well formed, and no two are
 /// variants.
@@ -24,6 +28,25 @@ pub fn entries_of_runs()
         → All IsCanonical (entry_clauses t.entries) }
     ensures no_variants { (bot : Sym) (cs : List TreeClause) (journal : List Event) (t : State) → AreFormedClauses cs → Replays bot cs journal t
         → AllPairs (λ c d. ¬ AreVariants c d) (entry_clauses t.entries) }
+{}
+
+/// Every entry of a run is what its origin gives of the clauses and of earlier entries. The origins of the entries that
+/// inferences appended are those of the journal, in order. Entries stay.
+pub fn origins_of_entries()
+    ensures given { (bot : Sym) (cs : List TreeClause) (journal : List Event) (t : State) → Replays bot cs journal t
+        → (n : ℕ) (e : Entry) → at_number t.entries n ≡ Some e → IsGiven cs t.entries n e.origin e.clause }
+    ensures in_order { (bot : Sym) (cs : List TreeClause) (journal : List Event) (t : State) → Replays bot cs journal t
+        → appended_origins t.entries ≡ inferred_origins journal }
+    ensures entries_stay { (bot : Sym) (journal : List Event) (s t : State) → IsRun bot s journal t → (more : List Entry) × (t.entries ≡ s.entries ++ more) }
+{}
+
+/// On well-formed clauses the symbols of each entry are symbols of the clauses, and no entry has more literals than the longest
+/// of them.
+pub fn contents_of_entries()
+    ensures symbols { (bot : Sym) (cs : List TreeClause) (journal : List Event) (t : State) → AreFormedClauses cs → Replays bot cs journal t
+        → (d : TreeClause) → Contains (entry_clauses t.entries) d → All (Contains (occurrences cs)) (clause_symbols d) }
+    ensures literals { (bot : Sym) (cs : List TreeClause) (journal : List Event) (t : State) → AreFormedClauses cs → Replays bot cs journal t
+        → (d : TreeClause) → Contains (entry_clauses t.entries) d → length d ≤ longest cs }
 {}
 
 /// Where no valuation makes the abstractions of the entries of a run on well-formed clauses true, ground instances of the
@@ -43,10 +66,13 @@ pub fn saturated_when_closed()
         → (ms : List Member) → IsSelection bot t ms → AreConclusionsCovered ms → IsSaturated ms cs }
 {}
 
-/// On well-formed function-free clauses the entries of every run lie in a finite list of clauses, which its length bounds.
+/// On well-formed function-free clauses the entries of every run lie in a finite list of clauses, which its length bounds. On all
+/// clauses they are no more than the clauses and the sizes of the appended ones together.
 pub fn finitely_many_entries()
     ensures listed { (bot : Sym) (cs : List TreeClause) (journal : List Event) (t : State) → AreFormedClauses cs → IsTrue (is_function_free cs) → Replays bot cs journal t
         → All (Contains (possible_entries cs)) (entry_clauses t.entries) }
     ensures bounded { (bot : Sym) (cs : List TreeClause) (journal : List Event) (t : State) → AreFormedClauses cs → IsTrue (is_function_free cs) → Replays bot cs journal t
         → length t.entries ≤ entry_bound cs }
+    ensures by_size { (bot : Sym) (cs : List TreeClause) (journal : List Event) (t : State) → Replays bot cs journal t
+        → length t.entries ≤ length cs + appended_sizes t.entries }
 {}

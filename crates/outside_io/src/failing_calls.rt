@@ -1,4 +1,5 @@
-// Which calls of a device in memory fail.
+// Which calls of a device in memory fail: those of the numbers that it is given, so that a test can have each call fail in
+// turn.
 ghost use Rattle.std.specs.Prelude.{◌≡◌};
 ghost use Rattle.outside_io.specs.FailingCalls.{fails_next, after_call};
 
@@ -25,6 +26,7 @@ impl Model for FailingCalls {
 }
 
 impl FailingCalls {
+    // No call was made yet. The numbers count from 1.
     pub fn new(fail: CallList) -> FailingCalls
         ensures fail { result.fail ≡ fail }
         ensures calls { result.calls ≡ 0 }

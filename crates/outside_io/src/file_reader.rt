@@ -1,4 +1,4 @@
-// Files in memory, and where a reader of them stands.
+// Files in memory, and where a reader of them stands: what both libraries in memory have in common.
 ghost use Rattle.std.specs.Prelude.{◌≡◌, ◌≤◌, ◌<◌, ◌-◌, length, take, drop, min, Some, [], position, false};
 ghost use Rattle.outside_io.specs.Files.{Begins, bytes_at, is_named};
 
@@ -53,6 +53,7 @@ fn bytes_of(files: &[NamedFile], place: usize) -> &[u8]
 }
 
 impl FileReader {
+    // No file is begun.
     pub fn new(files: FileList) -> FileReader
         ensures files { result.files ≡ files }
         ensures rest { result.rest ≡ [] }
@@ -65,6 +66,7 @@ impl FileReader {
         }
     }
 
+    // Whether there is a file of this name, which is then begun; else none is.
     pub fn begin(&mut self, name: &str) -> bool
         ensures files { self.new.files ≡ self.old.files }
         ensures begun { Begins (Some self.old.files) name.now (Some self.new.rest) result }
@@ -83,6 +85,7 @@ impl FileReader {
         }
     }
 
+    // Leaves no file begun.
     pub fn finish(&mut self)
         ensures files { self.new.files ≡ self.old.files }
         ensures rest { self.new.rest ≡ [] }
@@ -91,6 +94,7 @@ impl FileReader {
         self.place = self.files.len();
     }
 
+    // Puts the next bytes, at most `most`, at the front of `buf`, and answers how many.
     pub fn read(&mut self, most: usize, buf: &mut [u8]) -> usize
         ensures files { self.new.files ≡ self.old.files }
         ensures count { result ≡ min (min (length self.old.rest) most) (length buf.new) }

@@ -1,4 +1,5 @@
-// Real files.
+// Real files. A missing one is an answer and no fault, so that an include can be looked for in two places; the count of
+// faults tells every other error.
 ghost use Rattle.std.specs.Prelude.{◌≡◌, ◌≢◌, ◌≤◌, ◌↔◌, IsTrue, IfOk, OnOk, OnErr, None, true, false};
 ghost use Rattle.std.specs.Io.{ReadsAtMost};
 ghost use Rattle.std.specs.Io.KnownBytes.{ReadConsumes};

@@ -1,4 +1,6 @@
-//! Where files are read from, and where answers are written to.
+//! Where files are read from, and where answers are written to: two traits, the real devices, and devices in memory. What is
+//! said of contents is said where a device tells them. The real ones tell none, since no contract can say what a file or a
+//! terminal gives: they are a few lines each, and trusted.
 #![tactic(auto)]
 
 mod failing_calls;
@@ -10,8 +12,6 @@ mod memory_sink;
 mod sink;
 mod stdout;
 mod sure;
-#[cfg(test)]
-mod tests;
 
 pub use failing_calls::CallList;
 pub use folder::FolderLibrary;

@@ -1,4 +1,5 @@
-// Where files are read from.
+// Where files are read from: one at a time, in pieces. A call that gave a whole file would have no place for a read that
+// fails in mid-stream, and would take memory of a size that its caller does not know.
 ghost use Rattle.std.specs.Prelude.{◌≡◌, ◌≢◌, ◌≤◌, ℕ, List, Option, true, IfOk, OnErr};
 ghost use Rattle.std.specs.Io.{ReadsAtMost};
 ghost use Rattle.std.specs.Io.KnownBytes.{ReadConsumes, IsAtEnd};

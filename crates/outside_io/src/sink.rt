@@ -1,4 +1,5 @@
-// Where answers are written to.
+// Where answers are written to. A write may take a part, as the system's does; one that takes nothing is a fault, so that
+// writing ends.
 ghost use Rattle.std.specs.Prelude.{◌≡◌, ◌≤◌, ◌<◌, ℕ, List, Option, IfOk, OnOk, OnErr, length};
 ghost use Rattle.std.specs.Io.{WritesAtMost};
 ghost use Rattle.std.specs.Io.KnownBytes.{Appends, WriteAppends};

@@ -1,4 +1,4 @@
-// Devices in memory of which no call fails.
+// Devices in memory of which no call fails: with these the answer of the program is told by its words and files alone.
 ghost use Rattle.std.specs.Prelude.{◌≡◌, ◌≢◌, IsOk, IfOk, [], Some, true, length, min};
 ghost use Rattle.std.specs.Io.{ReadsAtMost};
 ghost use Rattle.std.specs.Io.KnownBytes.{ReadConsumes, WriteAppends};

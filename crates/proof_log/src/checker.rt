@@ -1,4 +1,4 @@
-// The checker of derivations.
+// The checker of derivations. Its room is taken once, before the first step, so that a check has no answer but yes and no.
 ghost use Rattle.std.specs.Prelude.{◌≡◌, ◌↔◌, ℕ, [], IsTrue, IfOk, OnOk, IsOk, MatchOption};
 ghost use Rattle.std.specs.Result.{IsErrOf};
 ghost use Rattle.inst_logic.specs.Truth.{IsRefuted};

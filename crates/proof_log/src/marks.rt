@@ -1,4 +1,5 @@
-// A set of literals that is emptied by one addition.
+// A set of literals that is emptied by one addition. Clearing an array before each step would cost all atoms, however short
+// the step is.
 ghost use Rattle.std.specs.Prelude.{◌≡◌, ◌<◌, replicate, false, IfOk};
 ghost use Rattle.proof_log.specs.Marks.{is_marked, with_mark, room};
 

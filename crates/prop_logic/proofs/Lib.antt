@@ -1,8 +1,9 @@
 pub mod ListLaws
-pub mod TrailLaws
 pub mod AnalysisLaws
-pub mod PropagationLaws
 pub mod Measure
 pub mod ShownLaws
 pub mod SearchLaws
-pub mod CutLaws
+pub mod PlainLaws
+pub mod BitLaws
+pub mod PackedLaws
+pub mod ChangesLaws

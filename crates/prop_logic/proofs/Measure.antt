@@ -1,10 +1,10 @@
--- The number of a trail rises with each entry, and where a choice makes way for an implied literal.
-use Rattle.std.proofs.Common.{◌≡◌, ℕ, suc, zero, ◌+◌, ◌*◌, ◌^◌, ◌<◌, ◌≤◌, Bool, true, false, cond, List, [], ◌∷◌, ◌++◌, length, take, Option, Some, None, refl, sym, ap, ◌∙◌, subst, arith}
+-- The number of the entries rises with each entry, and where one with a reason takes the place of one without.
+use Rattle.std.proofs.Common.{◌≡◌, ℕ, suc, zero, ◌+◌, ◌*◌, ◌^◌, ◌<◌, ◌≤◌, Bool, true, false, cond, List, [], ◌∷◌, ◌++◌, length, take, Some, None, ap, ◌∙◌, arith}
 use Rattle.std.specs.Prelude.{slice_get, is_some}
 use Rattle.std.proofs.lemmas.Option.{same_Some}
 use Rattle.std.proofs.Math.Nat.{one-le-pow, pow-suc}
 use Rattle.prop_logic.specs.declared.literal.Hint.{Hint}
-use Rattle.prop_logic.specs.declared.trail.Entry.{Entry}
+use Rattle.prop_logic.specs.declared.search.Entry.{Entry}
 use Rattle.prop_logic.specs.Search.{weight}
 
 abbrev digit : Entry → ℕ
@@ -46,11 +46,6 @@ weight_push (suc n) [] e h =
     let p = at_place (digit e) (3 ^ n) d.0 d.1 in
     omega (arith, p.0, some_power n)
 weight_push (suc n) (x ∷ es) e h = omega (arith, weight_push n es e (omega arith))
-
-pub weight_append : (n : ℕ) (es more : List Entry) → weight n es ≤ weight n (es ++ more)
-weight_append n [] more = omega arith
-weight_append zero (x ∷ es) more = omega arith
-weight_append (suc n) (x ∷ es) more = omega (arith, weight_append n es more)
 
 chosen_digit : (e : Entry) → e.reason ≡ None → digit e ≡ 1
 chosen_digit e h = ap (λ o. cond (is_some o) 2 1) h

@@ -1,11 +1,11 @@
 -- A shown clause is true wherever the clauses that its hints cite are.
-use Rattle.std.proofs.Common.{◌≡◌, ℕ, suc, zero, ◌-◌, ◌<◌, Bool, true, false, not, ◌⊎◌, inl, inr, List, [], ◌∷◌, ◌++◌, length, take, map, Option, Some, None, refl, sym, ap, ◌∙◌, subst, arith}
+use Rattle.std.proofs.Common.{◌≡◌, ℕ, suc, zero, ◌<◌, Bool, true, false, not, ◌⊎◌, inl, inr, List, [], ◌∷◌, ◌++◌, take, map, Option, Some, None, refl, subst, arith}
 use Rattle.std.specs.Prelude.{All, Any, Contains, slice_get}
 use Rattle.std.proofs.lemmas.List.Elements.{All-nil, All-cons, All-push, All-contains, All-map}
 use Rattle.inst_logic.specs.declared.signed.Signed.{Signed}
 use Rattle.inst_logic.specs.Signed.{complement, signed, IsTautology}
 use Rattle.inst_logic.specs.Truth.{IsTrueLiteral, IsTrueClause}
-use Rattle.inst_logic.specs.Derivations.{at_number, Closes, IsShown, AreShown}
+use Rattle.inst_logic.specs.Derivations.{at_number, Closes, IsShown}
 use Rattle.prop_logic.specs.declared.literal.Hint.{Hint}
 use Rattle.prop_logic.specs.declared.literal.Hint.TheVariants.{Added, Step as Earlier}
 use Rattle.prop_logic.specs.declared.literal.Step.{Step}

@@ -1,8 +1,8 @@
 pub mod Valuation
+pub mod Packed
 pub mod Literal
 pub mod Solving
 pub mod Plain
-pub mod Trail
 pub mod Analysis
 pub mod Search
 pub mod Cut

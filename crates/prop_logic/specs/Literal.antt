@@ -1,5 +1,5 @@
 -- What hints cite, and derivations over numbered atoms.
-use Rattle.std.specs.Prelude.{◌≡◌, ℕ, ◌-◌, ◌<◌, List, [], take, length, map, Option, Some, All, slice_get}
+use Rattle.std.specs.Prelude.{ℕ, ◌<◌, List, map, Option, All}
 use Rattle.inst_logic.specs.declared.signed.Signed.{Signed}
 use Rattle.inst_logic.specs.Derivations.{at_number, IsShown, AreShown}
 use Rattle.prop_logic.specs.declared.literal.Hint.{Hint}

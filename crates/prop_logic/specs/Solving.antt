@@ -1,5 +1,5 @@
 -- What the answers of a solver say.
-use Rattle.std.specs.Prelude.{◌≡◌, ◌≢◌, ℕ, ◌+◌, ◌-◌, List, [], ◌∷◌, drop, length, map, Bool, Some, All, Contains, slice_get}
+use Rattle.std.specs.Prelude.{◌≡◌, ◌≢◌, ℕ, ◌+◌, ◌-◌, ◌≤◌, List, [], ◌∷◌, drop, length, map, Bool, Some, All, Contains, slice_get}
 use Rattle.inst_logic.specs.declared.signed.Signed.{Signed}
 use Rattle.inst_logic.specs.Signed.{complement, IsTautology}
 use Rattle.inst_logic.specs.Truth.{IsTrueLiteral, IsTrueClause}
@@ -23,6 +23,11 @@ IsSubList (x ∷ xs) ys = (k : ℕ) × (slice_get ys k ≡ Some x) × IsSubList 
 abbrev pub EndsWith : List Step → List (Signed ℕ) → Type 0
 EndsWith steps literals = (s : Step) × (slice_get steps (length steps - 1) ≡ Some s) × All (Contains literals) s.clause × All (Contains s.clause) literals
 
+-- the valuation makes every clause and every assumption true, and has no more items than there are atoms
+pub record Satisfies (atoms : ℕ) (clauses : List (List (Signed ℕ))) (assumptions : List (Signed ℕ)) (valuation : List Bool) : Type 0 where
+  pub makes_true : MakesTrue valuation clauses assumptions
+  pub within : length valuation ≤ atoms
+
 -- the core is a part of the assumptions, and the steps show that it can't be true with the clauses
 pub record Refutes (atoms : ℕ) (clauses : List (List (Signed ℕ))) (assumptions core : List (Signed ℕ)) (derivation : List Step) : Type 0 where
   pub none : (valuation : List Bool) → ¬ MakesTrue valuation clauses assumptions
@@ -34,5 +39,5 @@ pub record Refutes (atoms : ℕ) (clauses : List (List (Signed ℕ))) (assumptio
 
 -- the answer to whether the clauses and the assumptions can be true together
 abbrev pub IsAnswer : ℕ → List (List (Signed ℕ)) → List (Signed ℕ) → Answer → Type 0
-IsAnswer atoms clauses assumptions (Sat valuation) = MakesTrue valuation clauses assumptions
+IsAnswer atoms clauses assumptions (Sat valuation) = Satisfies atoms clauses assumptions valuation
 IsAnswer atoms clauses assumptions (Unsat core derivation) = Refutes atoms clauses assumptions core derivation

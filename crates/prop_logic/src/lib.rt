@@ -1,21 +1,20 @@
 //! Propositional clauses over numbered atoms, the trait of their solvers, and a plain solver.
 #![tactic(auto)]
 
-mod analysis;
-pub mod cut;
+mod bits;
+mod core_of;
+mod differences;
 pub mod literal;
 pub mod plain;
-mod propagation;
+mod resolution;
 mod search;
 pub mod solver;
-#[cfg(test)]
-mod tests;
-mod trail;
 pub mod valuation;
 
-pub use literal::{Derivation, Hint, HintList, Lit, LitList, LitLists, Step};
+pub use differences::changes;
+pub use literal::{
+    Derivation, Hint, HintList, Lit, LitList, LitLists, Step, cited, complement, complements,
+};
 pub use plain::Plain;
-pub use search::complements;
 pub use solver::{Answer, Solver};
-pub use trail::complement;
 pub use valuation::Valuation;

@@ -1,5 +1,11 @@
 // Literals of numbered atoms, clauses and derivations.
-use inst_logic::{ListOf, Signed};
+ghost use Rattle.std.specs.Prelude.{◌≡◌, ◌≢◌, ℕ, List, Some, All, Contains, MatchBool, IfOk, map};
+ghost use Rattle.inst_logic.specs.declared.signed.Signed.{Signed};
+ghost use Rattle.inst_logic.specs.Signed.{complement};
+ghost use Rattle.prop_logic.specs.Literal.{cited};
+
+use inst_logic::{ListOf, Memory, Signed};
+use std::alloc::Global;
 
 /// An atom with a sign. Atoms are counted from 0.
 pub type Lit = Signed<usize>;
@@ -29,3 +35,55 @@ pub struct Step {
 
 /// Steps, each shown by what its hints cite of the added clauses and of the steps before it.
 pub type Derivation = ListOf<Step>;
+
+/// The same atom with the other sign.
+pub fn complement(lit: Lit) -> Lit
+    ensures { result ≡ complement lit }
+{
+    Lit {
+        positive: !lit.positive,
+        atom: lit.atom,
+    }
+}
+
+/// The complements of the literals, in their order.
+pub fn complements(alloc: Global, literals: &[Lit]) -> Result<LitList, Memory>
+    ensures { IfOk result (λ others. others ≡ map complement literals.now) }
+{
+    let mut others = LitList::new(alloc);
+    for lit in literals {
+        others.push(complement(*lit))?;
+    }
+    Ok(others)
+}
+
+/// The clause that the hint cites, or no literal where it cites none.
+pub fn cited<'a>(clauses: &'a [LitList], steps: &'a [Step], hint: Hint) -> &'a [Lit]
+    ensures { (c : List (Signed ℕ)) → cited clauses.now steps.now hint ≡ Some c → result.now ≡ c }
+{
+    match hint {
+        Hint::Added(n) => {
+            if 0 < n && n <= clauses.len() {
+                return clauses[n - 1].as_slice();
+            }
+        }
+        Hint::Step(n) => {
+            if 0 < n && n <= steps.len() {
+                return steps[n - 1].clause.as_slice();
+            }
+        }
+    }
+    &[]
+}
+
+// Whether the literal is one of the clause.
+pub(crate) fn contains(clause: &[Lit], lit: Lit) -> bool
+    ensures { MatchBool result (Contains clause.now lit) (All (λ l. l ≢ lit) clause.now) }
+{
+    for other in clause {
+        if other.atom == lit.atom && other.positive == lit.positive {
+            return true;
+        }
+    }
+    false
+}

@@ -95,4 +95,9 @@ impl Solver for Plain {
             }
         }
     }
+
+    // They aren't counted.
+    fn conflicts(&self) -> u64 {
+        0
+    }
 }

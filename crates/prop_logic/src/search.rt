@@ -1,34 +1,37 @@
-// The search of the plain solver: a loop over its trail. A conflict is answered by a learned clause, which makes the
-// last choice that the conflict depends on false in the place where it stood.
-ghost use Rattle.std.specs.Prelude.{◌≡◌, ◌+◌, ◌++◌, ◌∷◌, [], ◌<◌, ◌≤◌, ℕ, false, List, Option, Some, All, Contains, MatchBool, length, map, take, slice_get, unwrap_or, IfOk, IfSome, IfNone, OnOk};
+// The search of the plain solver. The atoms get values in their order. A clause with all its literals false is a conflict:
+// it is resolved with the reasons of the last values, up to the last choice that it depends on, which it then turns.
+ghost use Rattle.std.specs.Prelude.{◌≡◌, ◌≢◌, ◌-◌, ◌++◌, ◌∷◌, [], ◌<◌, ◌≤◌, ℕ, List, Bool, Option, Some, None, All, Contains, MatchBool, length, map, take, not, IfOk, IfSome, IfNone, OnOk};
 ghost use Rattle.inst_logic.specs.declared.signed.Signed.{Signed};
 ghost use Rattle.inst_logic.specs.Signed.{complement};
 ghost use Rattle.prop_logic.specs.declared.literal.Step.{Step};
-ghost use Rattle.prop_logic.specs.declared.trail.Entry.{Entry};
-ghost use Rattle.prop_logic.specs.declared.literal.Hint.TheVariants.{Step as Earlier};
-ghost use Rattle.prop_logic.specs.Literal.{AtomsBelow, AllAtomsBelow};
-ghost use Rattle.prop_logic.specs.Solving.{IsAnswer, IsSubList};
-ghost use Rattle.prop_logic.specs.Trail.{IsTrail, IsFalseAt, HasRest, NamesFalse};
-ghost use Rattle.prop_logic.specs.Analysis.{IsMarked};
-ghost use Rattle.prop_logic.specs.Search.{AreAssumed, ClashesWith, AssumesToo, IsSearch, Continues, Begins, IsOutcome};
+ghost use Rattle.prop_logic.specs.declared.search.Entry.{Entry};
+ghost use Rattle.prop_logic.specs.Literal.{AtomsBelow, AllAtomsBelow, cited};
+ghost use Rattle.prop_logic.specs.Solving.{IsAnswer};
+ghost use Rattle.prop_logic.specs.Search.{AreConsistent, IsFalseIn, HasRest, IsConflict, IsResolvent, IsSearch, Turns, Undoes, AreGood, IsCore, IsOutcome, Continues, literal_of};
 
-use crate::analysis::{Analysis, analyze, clear_marks};
-use crate::cut::cut;
-use crate::literal::{Derivation, Hint, HintList, Lit, LitList, Step};
-use crate::propagation::{Occurrences, propagate, visit_each};
+use crate::core_of::{assumed_value, core_of, find_clash};
+use crate::literal::{
+    Derivation, Hint, HintList, Lit, LitList, Step, cited, complement, complements, contains,
+};
+use crate::resolution::resolvent;
 use crate::solver::Answer;
-use crate::trail::{Trail, complement};
 use crate::valuation::Valuation;
 use inst_logic::Memory;
 use std::alloc::Global;
 
-// The first `assumed` entries of the trail are the assumptions. The marks are of atoms, and for the analysis alone.
+// The value of the atom of its place. It is assumed or chosen, or has for its reason a clause with one literal that can
+// be true.
+#[derive(Clone, Copy)]
+pub(crate) struct Entry {
+    pub(crate) value: bool,
+    pub(crate) reason: Option<Hint>,
+}
+
 #[derive(Drop)]
 pub(crate) struct Search {
-    trail: Trail,
-    marks: Vec<bool>,
+    atoms: usize,
+    entries: Vec<Entry>,
     steps: Derivation,
-    assumed: usize,
 }
 
 #[derive(Drop)]
@@ -37,182 +40,177 @@ enum Outcome {
     Unsat(LitList),
 }
 
-// The values, where an atom without one is false.
-fn valuation_of(alloc: Global, values: &[Option<bool>]) -> Result<Valuation, Memory>
-    ensures { IfOk result (λ valuation. valuation ≡ map (λ value. unwrap_or value false) values.now) }
+fn valuation_of(alloc: Global, entries: &[Entry]) -> Result<Valuation, Memory>
+    ensures { IfOk result (λ valuation. valuation ≡ map (λ e. e.value) entries.now) }
 {
     let mut valuation = Valuation::new(alloc);
-    for value in values {
-        valuation.push(value.unwrap_or(false))?;
+    for entry in entries {
+        valuation.push(entry.value)?;
     }
     Ok(valuation)
 }
 
-fn all_false(values: &[Option<bool>], clause: &[Lit]) -> bool
-    requires { AtomsBelow (length values.now) clause.now }
-    ensures { MatchBool result (All (IsFalseAt values.now) clause.now) (HasRest values.now clause.now) }
+fn is_false(entries: &[Entry], lit: Lit) -> bool
+    ensures { MatchBool result (IsFalseIn entries.now lit) (¬ IsFalseIn entries.now lit) }
+{
+    match entries.get(lit.atom) {
+        Some(entry) => entry.value != lit.positive,
+        None => false,
+    }
+}
+
+fn all_false(entries: &[Entry], clause: &[Lit]) -> bool
+    ensures { MatchBool result (All (IsFalseIn entries.now) clause.now) (HasRest entries.now clause.now) }
 {
     for lit in clause {
-        match values[lit.atom] {
-            Some(value) => {
-                if value == lit.positive {
-                    return false;
-                }
-            }
-            None => return false,
+        if !is_false(entries, *lit) {
+            return false;
         }
     }
     true
 }
 
 // The number of a clause with all its literals false.
-fn find_false(clauses: &[LitList], values: &[Option<bool>]) -> Option<Hint>
-    requires { AllAtomsBelow (length values.now) clauses.now }
-    ensures some { IfSome result (λ h. (steps : List Step) → NamesFalse clauses.now steps values.now h) }
-    ensures none { IfNone result (All (HasRest values.now) clauses.now) }
+fn find_false(clauses: &[LitList], entries: &[Entry]) -> Option<Hint>
+    ensures some { IfSome result (λ h. (steps : List Step) (assumptions : List (Signed ℕ)) → IsConflict clauses.now steps assumptions entries.now h) }
+    ensures none { IfNone result (All (HasRest entries.now) clauses.now) }
 {
     for place in 0..clauses.len() {
-        if all_false(values, clauses[place].as_slice()) {
+        if all_false(entries, clauses[place].as_slice()) {
             return Some(Hint::Added(place + 1));
         }
     }
     None
 }
 
-// Makes the literal true, or answers that it is false.
-fn assume_one(trail: &mut Trail, lit: Lit) -> Result<bool, Memory>
-    requires trail { IsTrail trail.old }
-    requires atom { lit.atom < length trail.old.values.items }
-    ensures trail { OnOk result (IsTrail trail.new) }
-    ensures atoms { OnOk result (length trail.new.values.items ≡ length trail.old.values.items) }
-    ensures clash { IfOk result (λ found. MatchBool found (ClashesWith lit trail.old.entries.items) (AssumesToo lit trail.old.entries.items trail.new.entries.items)) }
-{
-    match trail.values[lit.atom] {
-        None => {
-            trail.assign(lit, None)?;
-            Ok(false)
-        }
-        Some(value) => Ok(value != lit.positive),
-    }
-}
-
-// Makes the assumptions true, up to one whose complement is an assumption before it: it answers the place of that one.
-fn assume(trail: &mut Trail, assumptions: &[Lit]) -> Result<Option<usize>, Memory>
-    requires trail { IsTrail trail.old }
-    requires entries { trail.old.entries.items ≡ [] }
-    requires atoms { AtomsBelow (length trail.old.values.items) assumptions.now }
-    ensures trail { OnOk result (IsTrail trail.new) }
-    ensures atoms { OnOk result (length trail.new.values.items ≡ length trail.old.values.items) }
-    ensures clash { IfOk result (λ found. IfSome found (λ i. (l : Signed ℕ) × (slice_get assumptions.now i ≡ Some l) × Contains (take i assumptions.now) (complement l))) }
-    ensures assumed { IfOk result (λ found. IfNone found (AreAssumed assumptions.now trail.new.entries.items)) }
-{
-    for place in 0..assumptions.len() {
-        if assume_one(trail, assumptions[place])? {
-            return Ok(Some(place));
-        }
-    }
-    Ok(None)
-}
-
-// The refutation of a literal's complement and the literal.
-fn clash(alloc: Global, lit: Lit) -> Result<Answer, Memory>
-    ensures { IfOk result (λ answer. answer ≡ Answer.Unsat (complement lit ∷ lit ∷ []) ((record { clause = lit ∷ complement lit ∷ []; hints = [] }) ∷ [])) }
-{
-    let mut core = LitList::new(alloc);
-    core.push(complement(lit))?;
-    core.push(lit)?;
-    let mut clause = LitList::new(alloc);
-    clause.push(lit)?;
-    clause.push(complement(lit))?;
-    let mut derivation = Derivation::new(alloc);
-    derivation.push(Step {
-        clause,
-        hints: HintList::new(alloc),
-    })?;
-    Ok(Answer::Unsat { core, derivation })
-}
-
-// The assumptions with marked atoms.
-fn marked_core(alloc: Global, assumptions: &[Lit], marks: &[bool]) -> Result<LitList, Memory>
-    requires { AtomsBelow (length marks.now) assumptions.now }
-    ensures within { IfOk result (λ core. IsSubList core assumptions.now) }
-    ensures whole { IfOk result (λ core. All (λ l. IsMarked marks.now l.atom → Contains core l) assumptions.now) }
-{
-    let mut core = LitList::new(alloc);
-    for lit in assumptions {
-        if !marks[lit.atom] {
-            continue;
-        }
-        core.push(*lit)?;
-    }
-    Ok(core)
-}
-
-/// The complements of the literals, in their order.
-pub fn complements(alloc: Global, literals: &[Lit]) -> Result<LitList, Memory>
-    ensures { IfOk result (λ others. others ≡ map complement literals.now) }
-{
-    let mut others = LitList::new(alloc);
-    for lit in literals {
-        others.push(complement(*lit))?;
-    }
-    Ok(others)
-}
-
-// The place, if it is not one of the first.
-fn choice_from(place: Option<usize>, first: usize) -> Option<usize>
-    ensures some { IfSome result (λ p. (place ≡ Some p) × (first ≤ p)) }
-    ensures none { IfNone result (IfSome place (λ p. p < first)) }
-{
-    match place {
-        Some(p) => { if first <= p { Some(p) } else { None } }
-        None => None,
-    }
-}
-
 impl Search {
-    // Keeps the learned clause, and makes the choice at the place false by it.
-    fn learn(&mut self, analysis: Analysis, place: usize) -> Result<(), Memory>
-        requires trail { IsTrail self.old.trail }
-        requires place { place < length self.old.trail.entries.items }
-        ensures trail { OnOk result (IsTrail self.new.trail) }
-        ensures entries { OnOk result ((e : Entry) → slice_get self.old.trail.entries.items place ≡ Some e → self.new.trail.entries.items ≡ take place self.old.trail.entries.items ++ (record { lit = complement e.lit; reason = Some (Earlier (length self.new.steps)) }) ∷ []) }
-        ensures atoms { OnOk result (length self.new.trail.values.items ≡ length self.old.trail.values.items) }
-        ensures steps { OnOk result (self.new.steps ≡ self.old.steps ++ (record { clause = analysis.clause.items; hints = analysis.hints.items }) ∷ []) }
-        ensures marks { OnOk result (length self.new.marks.items ≡ length self.old.marks.items) }
-        ensures assumed { OnOk result (self.new.assumed ≡ self.old.assumed) }
+    // Adds the step that the two clauses show, resolved at the atom of the next entry.
+    fn learn(
+        &mut self,
+        alloc: Global,
+        clauses: &[LitList],
+        reason: Hint,
+        conflict: Hint,
+    ) -> Result<(), Memory>
+        ensures steps { OnOk result ((r c : List (Signed ℕ)) → cited clauses.now self.old.steps reason ≡ Some r → cited clauses.now self.old.steps conflict ≡ Some c → (f : List (Signed ℕ)) × IsResolvent r c (length self.old.entries.items) f × (self.new.steps ≡ self.old.steps ++ (record { clause = f; hints = reason ∷ conflict ∷ [] }) ∷ [])) }
+        ensures entries { self.new.entries ≡ self.old.entries }
+        ensures atoms { self.new.atoms ≡ self.old.atoms }
     {
-        let lit = self.trail.entries[place].lit;
-        clear_marks(&mut self.marks, &self.trail.entries);
-        self.steps.push(Step {
-            clause: LitList::from(analysis.clause),
-            hints: HintList::from(analysis.hints),
-        })?;
-        self.trail.backtrack(place);
-        let reason = Hint::Step(self.steps.len());
-        self.trail.assign(complement(lit), Some(reason))?;
+        let steps = self.steps.as_slice();
+        let first = cited(clauses, steps, reason);
+        let second = cited(clauses, steps, conflict);
+        let clause = resolvent(alloc, first, second, self.entries.len())?;
+        let hints = HintList::from(vec![in alloc; reason, conflict]?);
+        self.steps.push(Step { clause, hints })?;
         Ok(())
+    }
+
+    // Gives the atom of the next entry the other value by the conflict, unless this one is assumed.
+    fn turn(
+        &mut self,
+        assumptions: &[Lit],
+        value: bool,
+        conflict: Hint,
+    ) -> Result<Option<Hint>, Memory>
+        ensures stays { IfOk result (λ found. IfSome found (λ h. (h ≡ conflict) × (self.new ≡ self.old) × ((v : Bool) × Contains assumptions.now (literal_of (length self.old.entries.items) v)))) }
+        ensures turned { IfOk result (λ found. IfNone found ((self.new.entries.items ≡ self.old.entries.items ++ (record { value = not value; reason = Some conflict }) ∷ []) × All (λ l. l.atom ≢ length self.old.entries.items) assumptions.now)) }
+        ensures steps { self.new.steps ≡ self.old.steps }
+        ensures atoms { self.new.atoms ≡ self.old.atoms }
+    {
+        if assumed_value(assumptions, self.entries.len()).is_some() {
+            return Ok(Some(conflict));
+        }
+        self.entries.push(Entry {
+            value: !value,
+            reason: Some(conflict),
+        })?;
+        Ok(None)
+    }
+
+    // Takes the last value away. Answers the conflict that is left, or none where the value was a choice and is turned.
+    fn undo(
+        &mut self,
+        alloc: Global,
+        clauses: &[LitList],
+        assumptions: &[Lit],
+        conflict: Hint,
+    ) -> Result<Option<Hint>, Memory>
+        requires search { IsSearch clauses.now assumptions.now self.old }
+        requires assumptions { AtomsBelow self.old.atoms assumptions.now }
+        requires conflict { IsConflict clauses.now self.old.steps assumptions.now self.old.entries.items conflict }
+        requires some { 0 < length self.old.entries.items }
+        ensures search { OnOk result (IsSearch clauses.now assumptions.now self.new) }
+        ensures atoms { OnOk result (self.new.atoms ≡ self.old.atoms) }
+        ensures undone { IfOk result (Undoes clauses.now assumptions.now self.old self.new) }
+    {
+        let place = self.entries.len() - 1;
+        let entry = self.entries[place];
+        let lit = Lit {
+            positive: !entry.value,
+            atom: place,
+        };
+        self.entries.truncate(place);
+        if !contains(cited(clauses, self.steps.as_slice(), conflict), lit) {
+            return Ok(Some(conflict));
+        }
+        match entry.reason {
+            Some(reason) => {
+                self.learn(alloc, clauses, reason, conflict)?;
+                Ok(Some(Hint::Step(self.steps.len())))
+            }
+            None => self.turn(assumptions, entry.value, conflict),
+        }
+    }
+
+    // Goes back from a conflict to the last choice that it depends on, and turns it. Answers the conflict that is left
+    // where there is no such choice.
+    fn back(
+        &mut self,
+        alloc: Global,
+        clauses: &[LitList],
+        assumptions: &[Lit],
+        conflict: Hint,
+    ) -> Result<Option<Hint>, Memory>
+        requires search { IsSearch clauses.now assumptions.now self.old }
+        requires assumptions { AtomsBelow self.old.atoms assumptions.now }
+        requires conflict { IsConflict clauses.now self.old.steps assumptions.now self.old.entries.items conflict }
+        ensures search { OnOk result (IsSearch clauses.now assumptions.now self.new) }
+        ensures atoms { OnOk result (self.new.atoms ≡ self.old.atoms) }
+        ensures turned { IfOk result (λ found. IfNone found (Turns self.old.entries.items self.new.entries.items)) }
+        ensures left { IfOk result (λ found. IfSome found (IsConflict clauses.now self.new.steps assumptions.now [])) }
+    {
+        let mut conflict = conflict;
+        while self.entries.len() > 0 {
+            match self.undo(alloc, clauses, assumptions, conflict)? {
+                Some(next) => conflict = next,
+                None => return Ok(None),
+            }
+        }
+        Ok(Some(conflict))
     }
 
     // Ends the derivation with the complements of the assumptions that the conflict depends on.
     fn refute(
         &mut self,
         alloc: Global,
+        clauses: &[LitList],
         assumptions: &[Lit],
-        analysis: Analysis,
+        conflict: Hint,
     ) -> Result<LitList, Memory>
-        requires { AtomsBelow (length self.old.marks.items) assumptions.now }
-        ensures within { IfOk result (λ core. IsSubList core assumptions.now) }
-        ensures whole { IfOk result (λ core. All (λ l. IsMarked self.old.marks.items l.atom → Contains core l) assumptions.now) }
-        ensures steps { IfOk result (λ core. self.new.steps ≡ self.old.steps ++ (record { clause = map complement core; hints = analysis.hints.items }) ∷ []) }
-        ensures trail { OnOk result (self.new.trail ≡ self.old.trail) }
+        requires steps { AreGood clauses.now self.old.atoms self.old.steps }
+        requires assumptions { AtomsBelow self.old.atoms assumptions.now }
+        requires conflict { IsConflict clauses.now self.old.steps assumptions.now [] conflict }
+        ensures core { IfOk result (λ core. IsCore clauses.now assumptions.now core self.old.atoms self.new.steps) }
+        ensures atoms { OnOk result (self.new.atoms ≡ self.old.atoms) }
     {
-        let core = marked_core(alloc, assumptions, &self.marks)?;
+        let core = core_of(
+            alloc,
+            assumptions,
+            cited(clauses, self.steps.as_slice(), conflict),
+        )?;
         let clause = complements(alloc, core.as_slice())?;
-        self.steps.push(Step {
-            clause,
-            hints: HintList::from(analysis.hints),
-        })?;
+        let hints = HintList::from(vec![in alloc; conflict]?);
+        self.steps.push(Step { clause, hints })?;
         Ok(core)
     }
 
@@ -225,91 +223,62 @@ impl Search {
         conflict: Hint,
     ) -> Result<Option<Outcome>, Memory>
         requires search { IsSearch clauses.now assumptions.now self.old }
-        requires clauses { AllAtomsBelow (length self.old.trail.values.items) clauses.now }
-        requires assumptions { AtomsBelow (length self.old.trail.values.items) assumptions.now }
-        requires conflict { NamesFalse clauses.now self.old.steps self.old.trail.values.items conflict }
+        requires assumptions { AtomsBelow self.old.atoms assumptions.now }
+        requires conflict { IsConflict clauses.now self.old.steps assumptions.now self.old.entries.items conflict }
         ensures { IfOk result (Continues clauses.now assumptions.now self.old self.new) }
     {
-        let analysis = analyze(
-            alloc,
-            clauses,
-            self.steps.as_slice(),
-            &self.trail,
-            &mut self.marks,
-            conflict,
-        )?;
-        match choice_from(analysis.place, self.assumed) {
-            Some(place) => {
-                self.learn(analysis, place)?;
-                Ok(None)
-            }
-            None => {
-                let core = self.refute(alloc, assumptions, analysis)?;
+        match self.back(alloc, clauses, assumptions, conflict)? {
+            Some(left) => {
+                let core = self.refute(alloc, clauses, assumptions, left)?;
                 Ok(Some(Outcome::Unsat(core)))
             }
+            None => Ok(None),
         }
     }
 
-    // Where nothing is left to propagate: one choice on, if an atom has no value.
-    fn choose(
+    // Where no clause is false: gives the next atom its value, if there is one.
+    fn extend(
         &mut self,
         alloc: Global,
         clauses: &[LitList],
         assumptions: &[Lit],
     ) -> Result<Option<Outcome>, Memory>
         requires search { IsSearch clauses.now assumptions.now self.old }
-        requires clauses { AllAtomsBelow (length self.old.trail.values.items) clauses.now }
-        requires assumptions { AtomsBelow (length self.old.trail.values.items) assumptions.now }
+        requires clauses { AllAtomsBelow self.old.atoms clauses.now }
+        requires assumptions { AtomsBelow self.old.atoms assumptions.now }
+        requires consistent { AreConsistent assumptions.now }
+        requires rest { All (HasRest self.old.entries.items) clauses.now }
         ensures { IfOk result (Continues clauses.now assumptions.now self.old self.new) }
     {
-        if let Some(atom) = self.trail.open_atom() {
-            let lit = Lit {
-                positive: false,
-                atom,
-            };
-            self.trail.assign(lit, None)?;
-            return Ok(None);
+        let atom = self.entries.len();
+        if atom == self.atoms {
+            let valuation = valuation_of(alloc, self.entries.as_slice())?;
+            return Ok(Some(Outcome::Sat(valuation)));
         }
-        match find_false(clauses, &self.trail.values) {
-            Some(hint) => self.resolve(alloc, clauses, assumptions, hint),
-            None => Ok(Some(Outcome::Sat(valuation_of(alloc, &self.trail.values)?))),
-        }
+        let value = assumed_value(assumptions, atom).unwrap_or(false);
+        self.entries.push(Entry {
+            value,
+            reason: None,
+        })?;
+        Ok(None)
     }
 
-    // One choice or one conflict on.
+    // One value or one conflict on.
     fn advance(
         &mut self,
         alloc: Global,
         clauses: &[LitList],
-        occurrences: &Occurrences,
         assumptions: &[Lit],
     ) -> Result<Option<Outcome>, Memory>
         requires search { IsSearch clauses.now assumptions.now self.old }
-        requires clauses { AllAtomsBelow (length self.old.trail.values.items) clauses.now }
-        requires assumptions { AtomsBelow (length self.old.trail.values.items) assumptions.now }
+        requires clauses { AllAtomsBelow self.old.atoms clauses.now }
+        requires assumptions { AtomsBelow self.old.atoms assumptions.now }
+        requires consistent { AreConsistent assumptions.now }
         ensures { IfOk result (Continues clauses.now assumptions.now self.old self.new) }
     {
-        match propagate(clauses, occurrences, &mut self.trail)? {
-            Some(hint) => self.resolve(alloc, clauses, assumptions, hint),
-            None => self.choose(alloc, clauses, assumptions),
-        }
-    }
-
-    // Propagates what single clauses imply.
-    fn begin(
-        &mut self,
-        alloc: Global,
-        clauses: &[LitList],
-        assumptions: &[Lit],
-    ) -> Result<Option<Outcome>, Memory>
-        requires search { IsSearch clauses.now assumptions.now self.old }
-        requires clauses { AllAtomsBelow (length self.old.trail.values.items) clauses.now }
-        requires assumptions { AtomsBelow (length self.old.trail.values.items) assumptions.now }
-        ensures { IfOk result (Begins clauses.now assumptions.now self.old self.new) }
-    {
-        match visit_each(clauses, &mut self.trail)? {
-            Some(hint) => self.resolve(alloc, clauses, assumptions, hint),
-            None => Ok(None),
+        match find_false(clauses, self.entries.as_slice()) {
+            Some(conflict) => self.resolve(alloc, clauses, assumptions, conflict),
+            None => self.extend(alloc, clauses, assumptions),
         }
     }
 
@@ -320,49 +289,58 @@ impl Search {
         assumptions: &[Lit],
     ) -> Result<Outcome, Memory>
         requires search { IsSearch clauses.now assumptions.now self.old }
-        requires clauses { AllAtomsBelow (length self.old.trail.values.items) clauses.now }
-        requires assumptions { AtomsBelow (length self.old.trail.values.items) assumptions.now }
-        ensures { IfOk result (IsOutcome clauses.now assumptions.now (length self.old.trail.values.items) self.new.steps) }
+        requires clauses { AllAtomsBelow self.old.atoms clauses.now }
+        requires assumptions { AtomsBelow self.old.atoms assumptions.now }
+        requires consistent { AreConsistent assumptions.now }
+        ensures { IfOk result (IsOutcome clauses.now assumptions.now self.old.atoms self.new.steps) }
     {
-        let occurrences = Occurrences::of_clauses(alloc, self.trail.values.len(), clauses)?;
-        if let Some(outcome) = self.begin(alloc, clauses, assumptions)? {
-            return Ok(outcome);
-        }
         loop {
-            if let Some(outcome) = self.advance(alloc, clauses, &occurrences, assumptions)? {
+            if let Some(outcome) = self.advance(alloc, clauses, assumptions)? {
                 return Ok(outcome);
             }
         }
     }
 }
 
-// Whether the clauses and the assumptions can be true together, where the trail makes the assumptions true.
-fn search_from(
+// The refutation of two assumptions that clash.
+fn clash(alloc: Global, assumptions: &[Lit], lit: Lit) -> Result<Answer, Memory>
+    requires lit { Contains assumptions.now lit }
+    requires other { Contains assumptions.now (complement lit) }
+    ensures { IfOk result (λ answer. (n : ℕ) (clauses : List (List (Signed ℕ))) → AtomsBelow n assumptions.now → IsAnswer n clauses assumptions.now answer) }
+{
+    let core = core_of(alloc, assumptions, &[lit, complement(lit)])?;
+    let clause = complements(alloc, core.as_slice())?;
+    let mut derivation = Derivation::new(alloc);
+    derivation.push(Step {
+        clause,
+        hints: HintList::new(alloc),
+    })?;
+    Ok(Answer::Unsat { core, derivation })
+}
+
+// Whether the clauses and the assumptions can be true together, where no two assumptions clash.
+fn run_search(
     alloc: Global,
+    atoms: usize,
     clauses: &[LitList],
     assumptions: &[Lit],
-    trail: Trail,
 ) -> Result<Answer, Memory>
-    requires trail { IsTrail trail }
-    requires assumed { AreAssumed assumptions.now trail.entries.items }
-    requires clauses { AllAtomsBelow (length trail.values.items) clauses.now }
-    requires assumptions { AtomsBelow (length trail.values.items) assumptions.now }
-    ensures { IfOk result (IsAnswer (length trail.values.items) clauses.now assumptions.now) }
+    requires clauses { AllAtomsBelow atoms clauses.now }
+    requires assumptions { AtomsBelow atoms assumptions.now }
+    requires consistent { AreConsistent assumptions.now }
+    ensures { IfOk result (IsAnswer atoms clauses.now assumptions.now) }
 {
-    let assumed = trail.entries.len();
-    let marks = vec![in alloc; false; trail.values.len()]?;
     let mut search = Search {
-        trail,
-        marks,
+        atoms,
+        entries: Vec::new(alloc),
         steps: Derivation::new(alloc),
-        assumed,
     };
     match search.run(alloc, clauses, assumptions)? {
         Outcome::Sat(valuation) => Ok(Answer::Sat(valuation)),
-        Outcome::Unsat(core) => {
-            let derivation = cut(alloc, search.steps.as_slice())?;
-            Ok(Answer::Unsat { core, derivation })
-        }
+        Outcome::Unsat(core) => Ok(Answer::Unsat {
+            core,
+            derivation: search.steps,
+        }),
     }
 }
 
@@ -377,9 +355,8 @@ pub(crate) fn decide(
     requires assumptions { AtomsBelow atoms assumptions.now }
     ensures { IfOk result (IsAnswer atoms clauses.now assumptions.now) }
 {
-    let mut trail = Trail::new(alloc, atoms)?;
-    match assume(&mut trail, assumptions)? {
-        Some(place) => clash(alloc, assumptions[place]),
-        None => search_from(alloc, clauses, assumptions, trail),
+    match find_clash(assumptions) {
+        Some(lit) => clash(alloc, assumptions, lit),
+        None => run_search(alloc, atoms, clauses, assumptions),
     }
 }

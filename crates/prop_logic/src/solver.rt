@@ -60,4 +60,7 @@ pub trait Solver: Drop {
         ensures ok { OnOk result (spent self.new ≡ false) }
         ensures err { OnErr result (IsTrue (spent self.new)) }
         ensures stays_spent { IsTrue (spent self.old) → IsErr result };
+
+    /// How many conflicts the searches met so far. Nothing is promised of it.
+    fn conflicts(&self) -> u64;
 }

@@ -1,23 +1,44 @@
 // Valuations of numbered atoms.
-ghost use Rattle.std.specs.Prelude.{◌≡◌, ◌↔◌, [], ◌∷◌, ◌++◌, length, IsTrue, OnOk, OnErr, slice_get, option_copied};
-ghost use Rattle.prop_logic.specs.Valuation.{IsHeld};
+ghost use Rattle.std.specs.Prelude.{◌≡◌, ◌↔◌, ◌≢◌, ◌+◌, ◌*◌, ◌<◌, ◌≤◌, ◌%◌, ◌/◌, ◌==◌, ℕ, [], ◌∷◌, ◌++◌, false, length, IsTrue, IfOk, OnOk, OnErr, slice_get, slice_set, option_copied};
+ghost use Rattle.std.specs.Int.{bit_at};
+ghost use Rattle.prop_logic.specs.Valuation.{IsHeld, value_at};
+ghost use Rattle.prop_logic.specs.Packed.{bit_of, values_of};
 
+use crate::bits::{has_bit, with_bit, word_at};
 use inst_logic::Memory;
 use std::alloc::Global;
 use std::marker::Model;
 
-/// The values of the atoms: item `n` is that of atom `n`. Atoms past the end are false.
+/// The values of the atoms: item `n` is that of atom `n`. Atoms past the end are false. Each takes a bit, 64 to a word.
 #[derive(Drop, Debug)]
 pub struct Valuation {
-    values: Vec<bool>,
+    words: Vec<u64>,
+    len: usize,
 }
 
 impl Model for Valuation {
-    ghost use Rattle.std.specs.Prelude.{List, Bool};
+    ghost use Rattle.std.specs.Prelude.{◌≡◌, ◌+◌, ◌*◌, ◌^◌, ◌≤◌, ℕ, List, Bool, length};
+    ghost use Rattle.prop_logic.specs.Packed.{bit_of, values_of};
 
     ghost Value = { List Bool };
 
-    ghost view = { λ v. v.values.items };
+    ghost view = { λ v. values_of v.words.items v.len };
+
+    ghost invariant = { λ v. (v.len + 128 ≤ 2 ^ 64) × (v.len ≤ 64 * length v.words.items) × ((k : ℕ) → v.len ≤ k → bit_of v.words.items k ≡ 0) };
+}
+
+// Takes the room of one value more.
+fn take_room(words: &mut Vec<u64>, len: usize) -> Result<(), Memory>
+    requires { len ≤ 64 * length words.old.items }
+    ensures room { OnOk result (len + 1 ≤ 64 * length words.new.items) }
+    ensures bits { (k : ℕ) → bit_of words.new.items k ≡ bit_of words.old.items k }
+    ensures values { (n : ℕ) → values_of words.new.items n ≡ values_of words.old.items n }
+    ensures err { OnErr result (words.new.items ≡ words.old.items) }
+{
+    if len / 64 == words.len() {
+        words.push(0)?;
+    }
+    Ok(())
 }
 
 impl Valuation {
@@ -25,27 +46,59 @@ impl Valuation {
         ensures { result ≡ [] }
     {
         Valuation {
-            values: Vec::new(alloc),
+            words: Vec::new(alloc),
+            len: 0,
         }
+    }
+
+    /// The same values.
+    pub fn copy(&self, alloc: Global) -> Result<Valuation, Memory>
+        ensures { IfOk result (λ valuation. valuation ≡ self.now) }
+    {
+        let words = Vec::from_slice(alloc, self.words.as_slice())?;
+        Ok(Valuation {
+            words,
+            len: self.len,
+        })
     }
 
     pub fn len(&self) -> usize
         ensures { result ≡ length self.now }
     {
-        self.values.len()
+        self.len
     }
 
     pub fn is_empty(&self) -> bool
         ensures { IsTrue result ↔ (self.now ≡ []) }
     {
-        self.values.is_empty()
+        self.len() == 0
     }
 
     /// The value of atom `i`, where the valuation has one.
     pub fn get(&self, i: usize) -> Option<&bool>
         ensures { option_copied result ≡ slice_get self.now i }
     {
-        self.values.get(i)
+        if self.len() <= i {
+            return None;
+        }
+        if self.bit(i) {
+            Some(&true)
+        } else {
+            Some(&false)
+        }
+    }
+
+    /// The value of the atom, false past the end.
+    pub fn value(&self, atom: usize) -> bool
+        ensures { IsTrue result ↔ IsHeld self.now atom }
+    {
+        self.bit(atom)
+    }
+
+    pub(crate) fn bit(&self, atom: usize) -> bool
+        ensures { result ≡ value_at self.now atom }
+    {
+        has_bit(word_at(self.words.as_slice(), atom / 64), atom % 64)
     }
 
     /// Gives the next atom this value. A refused push leaves the valuation as it was.
@@ -53,30 +106,46 @@ impl Valuation {
         ensures ok { OnOk result (self.new ≡ self.old ++ value ∷ []) }
         ensures err { OnErr result (self.new ≡ self.old) }
     {
-        self.values.push(value)?;
+        let atom = self.len();
+        self.grow()?;
+        self.set(atom, value);
         Ok(())
     }
 
-    /// The value of the atom, false past the end.
-    pub fn value(&self, atom: usize) -> bool
-        ensures { IsTrue result ↔ IsHeld self.now atom }
+    // Gives the next atom the value false.
+    fn grow(&mut self) -> Result<(), Memory>
+        ensures ok { OnOk result (self.new ≡ self.old ++ false ∷ []) }
+        ensures err { OnErr result (self.new ≡ self.old) }
     {
-        self.values.get(atom).copied().unwrap_or(false)
+        if usize::MAX - 128 <= self.len {
+            return Err(Memory);
+        }
+        take_room(&mut self.words, self.len)?;
+        self.len += 1;
+        Ok(())
     }
-}
 
-impl From<Vec<bool>> for Valuation {
-    ghost from_gives = { λ values valuation. valuation ≡ values.items };
-
-    fn from(values: Vec<bool>) -> Valuation {
-        Valuation { values }
+    /// Gives the atom another value, or the same.
+    pub fn set(&mut self, atom: usize, value: bool)
+        requires { atom < length self.old }
+        ensures { self.new ≡ slice_set self.old atom value }
+    {
+        let word = word_at(self.words.as_slice(), atom / 64);
+        self.words[atom / 64] = with_bit(word, atom % 64, value);
     }
-}
 
-impl From<Valuation> for Vec<bool> {
-    ghost from_gives = { λ valuation values. values.items ≡ valuation };
+    // The values of 64 atoms.
+    pub(crate) fn word(&self, place: usize) -> u64
+        ensures { (k : ℕ) → k / 64 ≡ place → value_at self.now k ≡ (bit_at result (k % 64) == 1) }
+    {
+        word_at(self.words.as_slice(), place)
+    }
 
-    fn from(valuation: Valuation) -> Vec<bool> {
-        valuation.values
+    // How many words there are, 64 values each.
+    pub(crate) fn word_count(&self) -> usize
+        ensures enough { length self.now ≤ 64 * result }
+        ensures bound { 64 * result ≤ usize.MAX }
+    {
+        self.len / 64 + 1
     }
 }

@@ -1,4 +1,5 @@
-// Certificates. All ids are those of the certificate's own bank.
+// Certificates. All ids are those of the certificate's own bank: so it is one value, which the checker takes whole, and no
+// id of it can be read in another bank.
 use crate::member::MemberList;
 use inst_logic::{ListOf, NameList, PlaceList, Sym};
 use term_bank::{Bank, IdClause, IdClauseList};

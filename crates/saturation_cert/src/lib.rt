@@ -1,4 +1,6 @@
-//! Certificates as values: clauses over one bank, with the origins of the members. And the truth test of a saturation.
+//! Certificates as values: clauses over one bank, with the origins of the members. And the truth test of a saturation. They
+//! stand for the plain records in which validity is defined, so that the checker and whoever makes certificates need know
+//! nothing of each other.
 #![tactic(auto)]
 
 pub mod certificate;

@@ -1,4 +1,4 @@
-// Members of certificates.
+// Members of certificates. An origin has numbers and no unifier: who checks it finds the unifier anew.
 use inst_logic::ListOf;
 use term_bank::IdClause;
 

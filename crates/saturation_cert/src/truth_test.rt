@@ -1,4 +1,5 @@
-// The truth test.
+// The truth test: one scan over the members keeps the heaviest matching literal of each sign. Comparing each positive one
+// with each negative one, as the definition reads, would take the product of their numbers.
 ghost use Rattle.std.specs.Prelude.{◌≡◌, ◌↔◌, ◌<◌, ◌^◌, ◌-◌, suc, max, length, true, false, [], IfOk, IsTrue, MatchOption};
 ghost use Rattle.inst_logic.specs.Measure.{tree_weight};
 ghost use Rattle.inst_logic.specs.Substitution.{Matches};
@@ -15,14 +16,15 @@ use std::alloc::Global;
 use term_bank::{Bank, IdLiteral, TermId};
 use unify_core::Bindings;
 
-// The weights of the heaviest selected literals of each sign that have an atom as an instance.
+// The weights, in occurrences of function symbols, of the heaviest selected literals of each sign that have an atom as an
+// instance. `None` where no literal of that sign has it, which is less than every weight.
 #[derive(Clone, Copy)]
 pub struct Heaviest {
     positive: Option<u64>,
     negative: Option<u64>,
 }
 
-/// The selected literal of member `i`, counted from 0.
+/// The selected literal of member `i`, counted from 0. Its place counts from 1.
 pub fn selected(cert: &Saturation, i: usize) -> &IdLiteral
     requires whole { IsWholeSaturation cert.now }
     requires placed { HasPlaces (saturation_of cert.now) }

@@ -1,4 +1,5 @@
-// Which clauses are built: those without variables and without equality.
+// Which clauses the program can decide: those without variables and without equality. It says of the others which is the
+// first, since an answer that leaves some out would be wrong.
 ghost use Rattle.std.specs.Prelude.{◌≡◌, IfOk, MatchOption, All};
 ghost use Rattle.inst_logic.specs.LiteralView.{literal};
 ghost use Rattle.inst_calculus.specs.Axioms.{is_equality_kind};

@@ -1,4 +1,4 @@
-// The top call.
+// The top call. Everything below it is written over the trait of solvers; only here one is named.
 ghost use Rattle.std.specs.Prelude.{◌≡◌, [], IfOk, IfErr, IfSome, map, string_bytes};
 ghost use Rattle.outside_io.specs.Causes.{Rose};
 ghost use Rattle.szs_prove.specs.Loading.{IsUnread};

@@ -1,4 +1,5 @@
-// The decision of a problem without variables and without equality by one call of a solver.
+// The decision of a problem without variables and without equality by one call of a solver: such clauses are their own
+// abstractions, and their selected literals have no instance but themselves.
 ghost use Rattle.std.specs.Prelude.{◌≡◌, [], false, map, length, IfOk};
 ghost use Rattle.inst_logic.specs.LiteralView.{literal};
 ghost use Rattle.prop_logic.specs.Literal.{AllAtomsBelow, StepsBelow, IsShownDerivation};

@@ -1,4 +1,5 @@
-// How the program ends.
+// How the program ends. Only here an end has a number: 1 and 7 are kept for a budget that ran out and for a certificate that
+// is not valid.
 ghost use Rattle.std.specs.Prelude.{◌≡◌};
 ghost use Rattle.szs_prove.specs.Texts.{code_of};
 
@@ -20,7 +21,7 @@ pub enum Exit {
 }
 
 impl Exit {
-    /// The status of the process.
+    /// The status of the process: Decided 0, Refused 2, Usage 3, ReadFault 4, WriteFault 5, Memory 6.
     pub fn code(self) -> u8
         ensures { result ≡ code_of self }
     {

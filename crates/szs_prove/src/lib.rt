@@ -1,4 +1,5 @@
-//! The top call of the program: reads the words, and the file that they name, decides it, and writes the answer.
+//! The top call of the program: reads the words, and the file that they name, decides it, and writes the answer. What is
+//! proved of it is proved over any library, sink and solver that keep the laws of their traits.
 #![tactic(auto)]
 
 mod bot;
@@ -18,8 +19,6 @@ mod refusal;
 mod solving;
 mod steps;
 mod text;
-#[cfg(test)]
-mod text_tests;
 mod verdict;
 mod walk;
 mod words;

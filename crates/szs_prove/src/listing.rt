@@ -79,6 +79,7 @@ pub fn push_grounds(text: &mut Vec<u8>, clauses: &[Clause], numbers: &[usize]) -
     Ok(())
 }
 
+// The steps of the derivation.
 pub fn push_steps(
     alloc: Global,
     text: &mut Vec<u8>,

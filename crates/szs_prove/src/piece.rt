@@ -1,4 +1,4 @@
-// Texts that are written piece by piece.
+// Texts that are written piece by piece. A refusal takes no memory, so that want of memory can be told too.
 ghost use Rattle.std.specs.Prelude.{◌≡◌, ◌≤◌, OnOk, OnErr};
 ghost use Rattle.std.specs.Io.KnownBytes.{Appends};
 ghost use Rattle.outside_io.specs.Causes.{Rose};

@@ -246,6 +246,7 @@ fn clause_piece<'a>(clause: usize, i: usize) -> Option<Piece<'a>>
 }
 
 impl Refusal {
+    // How the program ends after it, where its text is written whole.
     pub fn exit(&self) -> Exit
         ensures { result ≡ exit_of self.now }
     {

@@ -1,4 +1,5 @@
-// The text of a verdict's certificate.
+// The text of a verdict's certificate, made whole in memory before its first byte is written: where memory is refused there
+// is no verdict that breaks off.
 ghost use Rattle.std.specs.Prelude.{◌≡◌, ◌++◌, IfOk, OnOk, map};
 ghost use Rattle.cert_format.specs.Text.{head_lines, refutation_text, saturation_text};
 ghost use Rattle.cert_format.specs.Lines.{format_line};

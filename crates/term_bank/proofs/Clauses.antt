@@ -1,16 +1,28 @@
 -- A clause of ids and its trees, as the bank grows.
-use Rattle.std.proofs.Common.{◌≡◌, ℕ, zero, suc, ◌<◌, List, [], ◌∷◌, ◌++◌, length, map, get_or, true, refl, ap, ap₂, ◌∙◌, arith}
+use Rattle.std.proofs.Common.{◌≡◌, ℕ, zero, suc, ◌<◌, List, [], ◌∷◌, ◌++◌, length, map, get_or, true, refl, ap, ap₂, sym, subst, ◌∙◌, arith}
+use Rattle.std.specs.List.{All}
 use Rattle.std.proofs.lemmas.List.{map_push}
-use Rattle.std.proofs.lemmas.List.Elements.{All-head, All-tail, All-weaker, All-push}
+use Rattle.std.proofs.lemmas.List.Elements.{All-head, All-tail, All-weaker, All-push, All-nil, All-cons}
 use Rattle.inst_logic.specs.declared.signed.Signed.{Signed}
 use Rattle.inst_logic.specs.declared.clause.Literal.{Literal}
 use Rattle.inst_logic.specs.LiteralView.{literal}
 use Rattle.inst_logic.specs.Tree.{Tree}
-use Rattle.inst_logic.specs.WellFormed.{atom_is_formed, clause_is_formed}
+use Rattle.inst_logic.specs.WellFormed.{IsAtom, atom_is_formed, clause_is_formed}
 use Rattle.inst_logic.proofs.SameLemmas.{and_left, and_right}
 use Rattle.term_bank.specs.Forest.{Forest, tree_at, Extends, IsClauseOf, clause_at}
 
 module _ (f g : Forest) (e : Extends f g) where
+  pub clause_of_extends : (c : List (Signed ℕ)) → IsClauseOf f c → IsClauseOf g c
+  clause_of_extends c h = All-weaker (λ (m : Signed ℕ). m.atom < length f.trees) (λ (m : Signed ℕ). m.atom < length g.trees) (λ m k. omega (arith, e.trees.0)) c h
+
+  pub atoms_extend : (c : List (Signed ℕ)) → IsClauseOf f c → All (λ (m : Signed ℕ). IsAtom (tree_at f m.atom)) c → All (λ (m : Signed ℕ). IsAtom (tree_at g m.atom)) c
+  atoms_extend [] h a = All-nil (λ (m : Signed ℕ). IsAtom (tree_at g m.atom))
+  atoms_extend (l ∷ c) h a =
+      let within : l.atom < length f.trees = All-head (λ (m : Signed ℕ). m.atom < length f.trees) l c h in
+      All-cons (λ (m : Signed ℕ). IsAtom (tree_at g m.atom)) l c
+      (subst IsAtom (sym (e.trees.1 l.atom within)) (All-head (λ (m : Signed ℕ). IsAtom (tree_at f m.atom)) l c a))
+      (atoms_extend c (All-tail (λ (m : Signed ℕ). m.atom < length f.trees) l c h) (All-tail (λ (m : Signed ℕ). IsAtom (tree_at f m.atom)) l c a))
+
   -- an extension keeps the trees of a clause
   pub clause_extends : (c : List (Signed ℕ)) → IsClauseOf f c → clause_at g c ≡ clause_at f c
   clause_extends [] h = refl

@@ -8,14 +8,23 @@ use Rattle.term_bank.specs.Steps.{applied}
 use Rattle.term_bank.proofs.Walks.{applied_formed}
 use Rattle.std.proofs.lemmas.List.{map_push}
 use Rattle.inst_logic.specs.Tree.{Tree, app, of_list}
-use Rattle.std.proofs.lemmas.List.Elements.{All-head, All-tail, All-take}
-use Rattle.term_bank.specs.Forest.{Forest, tree_at, KeepsPlaces, AreIds, Extends}
+use Rattle.std.proofs.lemmas.List.Elements.{All-head, All-tail, All-take, All-weaker}
+use Rattle.term_bank.specs.Forest.{Forest, tree_at, KeepsPlaces, IsAt, AreIds, Extends}
 
 keeps_trans : {A : Type 0} (d : A) (xs ys zs : List A) → KeepsPlaces d xs ys → KeepsPlaces d ys zs → KeepsPlaces d xs zs
 keeps_trans d xs ys zs p q = (omega (arith, p.0, q.0), λ i h. q.1 i (omega (arith, p.0)) ∙ p.1 i h)
 
 pub extends_trans : (f g h : Forest) → Extends f g → Extends g h → Extends f h
 extends_trans f g h p q = record { trees = keeps_trans _ f.trees g.trees h.trees p.trees q.trees; symbols = keeps_trans _ f.symbols g.symbols h.symbols p.symbols q.symbols }
+
+pub extends_itself : (f : Forest) → Extends f f
+extends_itself f = record { trees = (omega arith, λ _ _. refl); symbols = (omega arith, λ _ _. refl) }
+
+pub at_extends : (f g : Forest) (id : ℕ) (t : Tree) → Extends f g → IsAt f id t → IsAt g id t
+at_extends f g id t e h = (omega (arith, e.trees.0, h.0), e.trees.1 id h.0 ∙ h.1)
+
+pub ids_extend : (f g : Forest) (ids : List ℕ) → Extends f g → AreIds f ids → AreIds g ids
+ids_extend f g ids e h = All-weaker (λ i. i < length f.trees) (λ i. i < length g.trees) (λ i k. omega (arith, e.trees.0)) ids h
 
 pub map_extends : (f g : Forest) (ids : List ℕ) → Extends f g → AreIds f ids → map (tree_at g) ids ≡ map (tree_at f) ids
 map_extends f g [] e h = refl

@@ -1,6 +1,6 @@
 // A bank of trees, each stored once and named by its number (hash consing; Ershov, On programming of arithmetic
 // operations, 1958; Goto, Monocopy and associative algorithms in extended Lisp, 1974).
-ghost use Rattle.std.specs.Prelude.{◌≡◌, ◌↔◌, IsTrue, ℕ, ◌<◌, [], length, false, true, min, map, take, IfOk, OnOk, OnErr, option_copied, option_map};
+ghost use Rattle.std.specs.Prelude.{◌≡◌, ◌↔◌, IsTrue, ℕ, ◌<◌, [], length, false, true, min, map, take, IfOk, IfSome, OnOk, OnErr, option_copied, option_map};
 ghost use Rattle.std.specs.List.{All};
 ghost use Rattle.inst_logic.specs.Tree.{var, app, of_list};
 ghost use Rattle.inst_logic.specs.Measure.{tree_size, tree_weight};
@@ -138,6 +138,13 @@ impl Bank {
         self.nodes.len()
     }
 
+    /// Equal trees have equal ids.
+    pub fn distinct(&self)
+        ensures { AreDistinct self.now.trees }
+    {
+        let _ = self.len();
+    }
+
     /// The id of the variable of this number.
     pub fn var(&mut self, v: usize) -> Result<TermId, Memory>
         ensures at { IfOk result (λ id. IsAt self.new id (var v)) }
@@ -155,7 +162,8 @@ impl Bank {
         result
     }
 
-    /// The id of an application of the symbol.
+    /// The id of the symbol applied to the terms of these ids; the bank stays well formed where they are as many as its arity.
+    /// The symbol is copied where it is new.
     pub fn app(&mut self, sym: &Sym, args: &[TermId]) -> Result<TermId, Memory>
         requires { AreIds self.old args.now }
         ensures at { IfOk result (λ id. IsAt self.new id (app sym.now (of_list (map (tree_at self.old) args.now)))) }
@@ -173,7 +181,8 @@ impl Bank {
         result
     }
 
-    /// The id of an application of the symbol that stands at the root of `like`.
+    /// The id of the symbol at the root of `like`, which is no variable, applied to the terms of these ids; the bank stays well
+    /// formed where they are as many as its arity. The symbol is not copied.
     pub fn app_like(&mut self, like: TermId, args: &[TermId]) -> Result<TermId, Memory>
         requires within { like < length self.old.trees }
         requires application { IsApplication (tree_at self.old like) }
@@ -207,7 +216,7 @@ impl Bank {
         self.spent = true;
     }
 
-    /// A variable with its number, or an application.
+    /// What stands at the root: a variable with its number, or an application.
     pub fn shape(&self, id: TermId) -> Shape
         requires { id < length self.now.trees }
         ensures { result ≡ shape_of (tree_at self.now id) }
@@ -229,11 +238,13 @@ impl Bank {
         }
     }
 
-    /// The number of the symbol of an application: equal symbols, and no others, have equal numbers.
+    /// The number of the symbol of an application, counted from 0, and `None` for a variable: equal symbols, and no others, have
+    /// equal numbers.
     pub fn symbol_number(&self, id: TermId) -> Option<usize>
         requires { id < length self.now.trees }
         ensures number { result ≡ option_map (number_of self.now.symbols) (symbol_of (tree_at self.now id)) }
         ensures symbol { option_map (symbol_at self.now.symbols) result ≡ symbol_of (tree_at self.now id) }
+        ensures within { IfSome result (λ number. number < length self.now.symbols) }
     {
         match node_at(&self.nodes, id) {
             Node::Var(_) => None,
@@ -241,7 +252,7 @@ impl Bank {
         }
     }
 
-    /// The ids of the arguments, and none for a variable.
+    /// The ids of the arguments in their order, and none for a variable.
     pub fn args(&self, id: TermId) -> &[TermId]
         requires { id < length self.now.trees }
         ensures trees { map (tree_at self.now) result.now ≡ arguments_of (tree_at self.now id) }
@@ -253,7 +264,7 @@ impl Bank {
         }
     }
 
-    /// The number of occurrences of symbols and variables, or `u64::MAX` where it is larger.
+    /// The number of occurrences of symbols and variables, or `u64::MAX` where it is larger. It is kept beside the node.
     pub fn size(&self, id: TermId) -> u64
         requires { id < length self.now.trees }
         ensures { result ≡ min (tree_size (tree_at self.now id)) u64.MAX }
@@ -261,7 +272,8 @@ impl Bank {
         measures_at(&self.nodes, id).size
     }
 
-    /// The number of occurrences of symbols of kind Function, or `u64::MAX` where it is larger.
+    /// The number of occurrences of symbols of kind Function, constants among them, or `u64::MAX` where it is larger. It is kept
+    /// beside the node.
     pub fn weight(&self, id: TermId) -> u64
         requires { id < length self.now.trees }
         ensures { result ≡ min (tree_weight (tree_at self.now id)) u64.MAX }

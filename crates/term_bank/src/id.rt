@@ -1,4 +1,4 @@
-// The numbers of interned trees, and clauses over them.
+// The numbers of interned trees, in a type of their own so that none is taken for another number, and clauses over them.
 ghost use Rattle.std.specs.Prelude.{◌≡◌, IfOk};
 
 use inst_logic::{ListOf, Memory, Signed};

@@ -1,4 +1,5 @@
-// The ids of terms, atoms and clauses.
+// The ids of terms, atoms and clauses. Each call notes how many trees there are, and after want of memory cuts off what it
+// added: keeping a part would serve a second try, but then no caller could say what the bank has.
 ghost use Rattle.std.specs.Prelude.{◌≡◌, [], false, true, IfOk, OnOk, OnErr};
 ghost use Rattle.inst_logic.specs.View.{tree};
 ghost use Rattle.inst_logic.specs.LiteralView.{literal};
@@ -12,7 +13,7 @@ use inst_logic::{Clause, Literal, Memory, Term};
 use std::alloc::Global;
 
 impl Bank {
-    /// The id of a term.
+    /// The id of a term. Its depth costs memory and no stack.
     pub fn intern(&mut self, t: &Term) -> Result<TermId, Memory>
         ensures at { IfOk result (λ id. IsAt self.new id (tree t.now)) }
         ensures extends { Extends self.old self.new }
@@ -32,7 +33,7 @@ impl Bank {
         result
     }
 
-    /// The id of the atom of a literal.
+    /// The id of the atom of a literal, whose sign does not matter.
     pub fn atom(&mut self, l: &Literal) -> Result<TermId, Memory>
         ensures at { IfOk result (λ id. IsAt self.new id (literal l.now).atom) }
         ensures extends { Extends self.old self.new }
@@ -53,7 +54,7 @@ impl Bank {
         result
     }
 
-    /// The clause with the id of each atom in its place.
+    /// The clause with the id of each atom in its place: literals keep their places, and repeats stay.
     pub fn clause(&mut self, c: &Clause) -> Result<IdClause, Memory>
         ensures at { IfOk result (λ ids. IsClauseAt self.new ids c.now) }
         ensures extends { Extends self.old self.new }

@@ -4,6 +4,7 @@
 pub mod bank;
 pub mod id;
 pub mod intern;
+pub mod laws;
 mod node;
 mod store;
 mod walk;

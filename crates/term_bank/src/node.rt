@@ -1,4 +1,5 @@
-// What a bank stores of each tree.
+// What a bank stores of each tree: the node, whose arguments are ids, and beside it the measures, found once from those of
+// the arguments. So a measure costs one look-up, however large the tree is.
 use crate::id::TermIdList;
 
 // A variable by its number, or the number of a symbol with the ids of its arguments.

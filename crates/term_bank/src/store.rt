@@ -1,4 +1,5 @@
-// Numbers for symbols and nodes, in the order of first use.
+// Numbers for symbols and nodes. These are functions over one map each, so that what is done with symbols needs no word on
+// the nodes.
 ghost use Rattle.std.specs.Prelude.{◌≡◌, ℕ, ◌<◌, ◌+◌, min, IfOk, OnErr, length, sum_by, fold, None};
 ghost use Rattle.std.specs.List.{All};
 ghost use Rattle.inst_logic.specs.Measure.{function_count};
@@ -63,6 +64,7 @@ pub fn measures_at(nodes: &IndexMap<Node, Measures>, id: TermId) -> Measures
     }
 }
 
+// The node of the id.
 pub fn node_at<'a>(nodes: &'a IndexMap<Node, Measures>, id: TermId) -> &'a Node
     requires { id < length nodes.now.entries }
     ensures { result.now ≡ (entry_at nodes.now.entries id).0 }

@@ -1,4 +1,5 @@
-// Files, read whole.
+// Files, read whole, in blocks, up to what is left of the bytes of the problem. A short read is not the end; only a read of
+// nothing is.
 ghost use Rattle.std.specs.Prelude.{◌≡◌, ◌≤◌, ◌+◌, IfOk, IfErr};
 ghost use Rattle.tptp_load.specs.Loading.{limit};
 ghost use Rattle.tptp_load.specs.Reading.{IsCutOff, IsHeld, IsUnread, IsWhole};

@@ -1,4 +1,5 @@
-// Files with what they include, level by level.
+// Files with what they include, by recursion over the levels, of which there are few. The bytes of a file are dropped once
+// its statements are read.
 ghost use Rattle.std.specs.Prelude.{◌≡◌, ◌≤◌, ◌+◌, ◌∷◌, ◌++◌, [], None, Some, All, IfOk, IfErr, OnOk, IsTrue, length, option_map};
 ghost use Rattle.inst_logic.specs.Printing.{is_readable_name};
 ghost use Rattle.tptp_read.specs.Names.{HasReadableNames};

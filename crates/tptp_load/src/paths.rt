@@ -1,4 +1,4 @@
-// Where the file of an include is looked for.
+// Where the file of an include is looked for. No name is rewritten: what `..` or a link means is the system's matter.
 ghost use Rattle.std.specs.Prelude.{◌≡◌, ◌≤◌, ◌∷◌, ◌++◌, [], IfOk, IfErr, IsTrue, Some, length, option_map, take};
 ghost use Rattle.std.specs.Str.{IsCharBoundary, IsUtf8};
 ghost use Rattle.std.specs.String.{string_bytes};

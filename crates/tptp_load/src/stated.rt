@@ -1,4 +1,5 @@
-// Clauses that statements state, and the selection of some of them by name.
+// Clauses that statements state, and the selection of some of them by name. Clauses that hold always are kept up to the end,
+// since a selection may name them.
 ghost use Rattle.std.specs.Prelude.{◌≡◌, ◌∷◌, ◌++◌, [], None, All, IfOk, IfErr, OnOk, filter, option_map};
 ghost use Rattle.std.specs.List.{list_any};
 ghost use Rattle.std.specs.Str.{bytes_eq};

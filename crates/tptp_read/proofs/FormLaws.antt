@@ -1,6 +1,6 @@
 -- Whole statements: what is read is spelled so, and what is spelled so is read.
 use Rattle.std.proofs.Common.{◌≡◌, ℕ, suc, ◌≤◌, Bool, true, false, cond, List, [], ◌∷◌, length, Some, None, refl, sym, ap, subst, ◌∙◌, inl, inr, arith}
-use Rattle.std.specs.Prelude.{◌&&◌, codes}
+use Rattle.std.specs.Prelude.{◌&&◌, codes, Option}
 use Rattle.std.specs.List.{list_all}
 use Rattle.std.specs.Str.{bytes_eq}
 use Rattle.std.proofs.lemmas.Slice.Eq.{bytes_eq-Decides}
@@ -48,6 +48,11 @@ tail_is ts e =
     let c = both_true (begins_with 46 (behind ts)) (is_nothing (behind (behind ts))) b.1 in
     begins_is 41 ts b.0 ∙ ap (λ us. mark 41 ∷ us) (begins_is 46 (behind ts) c.0 ∙ ap (λ us. mark 46 ∷ us) (nothing_is (behind (behind ts)) c.1))
 
+-- What is read behind a first part: an item is a variable here, since the projections of one reading inside the next make
+-- types that grow with each step.
+read_behind : {A B C : Type 0} (r : Option A) (f : A → Option B) (y : B) → (r >>= f) ≡ Some y → ((x : A) → r ≡ Some x → f x ≡ Some y → C) → C
+read_behind r f y e k = let a = bind_some r f y e in k a.0 a.1 a.2
+
 abbrev IsNoteAnd : List Tok → Note × List Tok → Type 0
 IsNoteAnd ts z = (ts ≡ note z.0 z.1) × (note_fits z.0 ≡ true)
 
@@ -78,32 +83,37 @@ note_spelled d ts z e =
 none_some : {A : Type 0} (x : A) → None ≡ Some x → ⊥
 none_some x e = cc
 
+cnf_parts : (d : ℕ) (ts a : List Tok) (n : Tok × List Tok) (b : List Tok) (r : Tok × List Tok) (c : List Tok) (i : Item × List Tok) (is : List Item × List Tok) (x : Note × List Tok)
+    → expect 40 ts ≡ Some a → one_of is_name a ≡ Some n → expect 44 n.1 ≡ Some b → one_of is_lower b ≡ Some r → expect 44 r.1 ≡ Some c → item_at d d c ≡ Some i
+    → many_at 124 (item_at d d) (length i.1) i.1 ≡ Some is → note_at d is.1 ≡ Some x → is_tail x.1 ≡ true → IsForm (lower (codes "cnf") ∷ ts) (cnf n.0 r.0 i.0 (items_of is.0) x.0)
+cnf_parts d ts a n b r c i is x ea en eb er ec ei es ex end =
+    let n' = one_is is_name a n en in
+    let r' = one_is is_lower b r er in
+    let i' = item_spelled d d c i ei in
+    let is' = spelled_many 124 item item_fits (item_at d d) (item_spelled d d) (length i.1) i.1 is es in
+    let x' = note_spelled d is.1 x ex in
+    let items' = is'.0 ∙ all_items_spelled is.0 is.1 ∙ ap (λ us. items (items_of is.0) us) (x'.0 ∙ ap (λ us. note x.0 us) (tail_is x.1 end)) in
+    let whole' = expect_is 40 ts a ea ∙ ap (λ us. mark 40 ∷ us) (n'.0 ∙ ap (λ us. n.0 ∷ us) (expect_is 44 n.1 b eb ∙ ap (λ us. mark 44 ∷ us) (r'.0 ∙ ap (λ us. r.0 ∷ us) (expect_is 44 r.1 c ec ∙ ap (λ us. mark 44 ∷ us) (i'.0 ∙ ap (λ us. item i.0 us) items'))))) in
+    let fits = and_both (is_name n.0) (is_lower_kind r.0.kind && (item_fits i.0 && (items_fit (items_of is.0) && note_fits x.0))) n'.1
+    (and_both (is_lower_kind r.0.kind) (item_fits i.0 && (items_fit (items_of is.0) && note_fits x.0)) r'.1
+    (and_both (item_fits i.0) (items_fit (items_of is.0) && note_fits x.0) i'.1 (and_both (items_fit (items_of is.0)) (note_fits x.0) (sym (all_items_fit is.0) ∙ is'.1) x'.1))) in
+    record { spelled = ap (λ us. lower (codes "cnf") ∷ us) (sym whole'); fits = fits }
+
 pub cnf_spelled : (d : ℕ) (ts : List Tok) (f : Form) → cnf_at d ts ≡ Some f → IsForm (lower (codes "cnf") ∷ ts) f
 unfolding cnf_at
 cnf_spelled d ts f e =
-    let a = bind_some (expect 40 ts) _ f e in
-    let n = bind_some (one_of is_name a.0) _ f a.2 in
-    let b = bind_some (expect 44 n.0.1) _ f n.2 in
-    let r = bind_some (one_of is_lower b.0) _ f b.2 in
-    let c = bind_some (expect 44 r.0.1) _ f r.2 in
-    let i = bind_some (item_at d d c.0) _ f c.2 in
-    let is = bind_some (many_at 124 (item_at d d) (length i.0.1) i.0.1) _ f i.2 in
-    let x = bind_some (note_at d is.0.1) _ f is.2 in
-    elim (chosen (is_tail x.0.1) (Some (cnf n.0.0 r.0.0 i.0.0 (items_of is.0.0) x.0.0)) None (Some f) x.2) [
-      | inl w ↦
-          let n' = one_is is_name a.0 n.0 n.1 in
-          let r' = one_is is_lower b.0 r.0 r.1 in
-          let i' = item_spelled d d c.0 i.0 i.1 in
-          let is' = spelled_many 124 item item_fits (item_at d d) (item_spelled d d) (length i.0.1) i.0.1 is.0 is.1 in
-          let x' = note_spelled d is.0.1 x.0 x.1 in
-          let items' = is'.0 ∙ all_items_spelled is.0.0 is.0.1 ∙ ap (λ us. items (items_of is.0.0) us) (x'.0 ∙ ap (λ us. note x.0.0 us) (tail_is x.0.1 w.0)) in
-          let whole' = expect_is 40 ts a.0 a.1 ∙ ap (λ us. mark 40 ∷ us) (n'.0 ∙ ap (λ us. n.0.0 ∷ us) (expect_is 44 n.0.1 b.0 b.1 ∙ ap (λ us. mark 44 ∷ us) (r'.0 ∙ ap (λ us. r.0.0 ∷ us) (expect_is 44 r.0.1 c.0 c.1 ∙ ap (λ us. mark 44 ∷ us) (i'.0 ∙ ap (λ us. item i.0.0 us) items'))))) in
-          let fits = and_both (is_name n.0.0) (is_lower_kind r.0.0.kind && (item_fits i.0.0 && (items_fit (items_of is.0.0) && note_fits x.0.0))) n'.1
-          (and_both (is_lower_kind r.0.0.kind) (item_fits i.0.0 && (items_fit (items_of is.0.0) && note_fits x.0.0)) r'.1
-          (and_both (item_fits i.0.0) (items_fit (items_of is.0.0) && note_fits x.0.0) i'.1 (and_both (items_fit (items_of is.0.0)) (note_fits x.0.0) (sym (all_items_fit is.0.0) ∙ is'.1) x'.1))) in
-          subst (IsForm (lower (codes "cnf") ∷ ts)) (some_is (cnf n.0.0 r.0.0 i.0.0 (items_of is.0.0) x.0.0) f w.1) (record { spelled = ap (λ us. lower (codes "cnf") ∷ us) (sym whole'); fits = fits })
+    read_behind (expect 40 ts) _ f e (λ a ea e1.
+    read_behind (one_of is_name a) _ f e1 (λ n en e2.
+    read_behind (expect 44 n.1) _ f e2 (λ b eb e3.
+    read_behind (one_of is_lower b) _ f e3 (λ r er e4.
+    read_behind (expect 44 r.1) _ f e4 (λ c ec e5.
+    read_behind (item_at d d c) _ f e5 (λ i ei e6.
+    read_behind (many_at 124 (item_at d d) (length i.1) i.1) _ f e6 (λ is es e7.
+    read_behind (note_at d is.1) _ f e7 (λ x ex e8.
+    elim (chosen (is_tail x.1) (Some (cnf n.0 r.0 i.0 (items_of is.0) x.0)) None (Some f) e8) [
+      | inl w ↦ subst (IsForm (lower (codes "cnf") ∷ ts)) (some_is (cnf n.0 r.0 i.0 (items_of is.0) x.0) f w.1) (cnf_parts d ts a n b r c i is x ea en eb er ec ei es ex w.0)
       | inr w ↦ absurd (none_some f w.1)
-    ]
+    ]))))))))
 
 note_again : (n : Note) (d : ℕ) (rest : List Tok) → begins_with 44 rest ≡ false → Goes rest → note_fits n ≡ true → length (note n rest) ≤ d → note_at d (note n rest) ≡ Some (n, rest)
 unfolding note_at expect
@@ -165,34 +175,41 @@ names_fit : (ns : List Tok) → all_fit 44 spell_token is_name ns ≡ list_all i
 names_fit [] = refl
 names_fit (n ∷ ns) = ap (λ b. is_name n && b) (names_fit ns)
 
+selected_parts : (ts a b c : List Tok) (q n : Tok × List Tok) (ns : List Tok × List Tok) (d : List Tok) → expect 40 ts ≡ Some a → one_of is_quoted a ≡ Some q → expect 44 q.1 ≡ Some b → expect 91 b ≡ Some c
+    → one_of is_name c ≡ Some n → many_at 44 (one_of is_name) (length n.1) n.1 ≡ Some ns → expect 93 ns.1 ≡ Some d → is_tail d ≡ true → IsForm (lower (codes "include") ∷ ts) (selected q.0 n.0 ns.0)
+selected_parts ts a b c q n ns d ea eq eb ec en es ed end =
+    let q' = one_is is_quoted a q eq in
+    let n' = one_is is_name c n en in
+    let ns' = spelled_many 44 spell_token is_name (one_of is_name) (one_is is_name) (length n.1) n.1 ns es in
+    let inside = ns'.0 ∙ names_are ns.0 ns.1 ∙ ap (λ us. names ns.0 us) (expect_is 93 ns.1 d ed ∙ ap (λ us. mark 93 ∷ us) (tail_is d end)) in
+    let all = expect_is 40 ts a ea ∙ ap (λ us. mark 40 ∷ us) q'.0 ∙ ap (λ us. mark 40 ∷ q.0 ∷ us) (expect_is 44 q.1 b eb ∙ ap (λ us. mark 44 ∷ us) (expect_is 91 b c ec ∙ ap (λ us. mark 91 ∷ us) (n'.0 ∙ ap (λ us. n.0 ∷ us) inside))) in
+    let fits = and_both (is_quoted q.0) (is_name n.0 && list_all is_name ns.0) q'.1 (and_both (is_name n.0) (list_all is_name ns.0) n'.1 (sym (names_fit ns.0) ∙ ns'.1)) in
+    record { spelled = ap (λ us. lower (codes "include") ∷ us) (sym all); fits = fits }
+
+whole_parts : (ts a : List Tok) (q : Tok × List Tok) → expect 40 ts ≡ Some a → one_of is_quoted a ≡ Some q → is_tail q.1 ≡ true → IsForm (lower (codes "include") ∷ ts) (whole q.0)
+whole_parts ts a q ea eq end =
+    let q' = one_is is_quoted a q eq in
+    let all = expect_is 40 ts a ea ∙ ap (λ us. mark 40 ∷ us) q'.0 ∙ ap (λ us. mark 40 ∷ q.0 ∷ us) (tail_is q.1 end) in
+    record { spelled = ap (λ us. lower (codes "include") ∷ us) (sym all); fits = q'.1 }
+
 pub include_spelled : (ts : List Tok) (f : Form) → include_at ts ≡ Some f → IsForm (lower (codes "include") ∷ ts) f
 unfolding include_at
 include_spelled ts f e =
-    let a = bind_some (expect 40 ts) _ f e in
-    let q = bind_some (one_of is_quoted a.0) _ f a.2 in
-    let q' = one_is is_quoted a.0 q.0 q.1 in
-    let front = expect_is 40 ts a.0 a.1 ∙ ap (λ us. mark 40 ∷ us) q'.0 in
-    elim (chosen (is_tail q.0.1) (Some (whole q.0.0)) (expect 44 q.0.1 >>= λ b. expect 91 b >>= λ c. one_of is_name c >>= λ n. many_at 44 (one_of is_name) (length n.1) n.1 >>= λ ns. expect 93 ns.1 >>= λ d. cond (is_tail d) (Some (selected q.0.0 n.0 ns.0)) None) (Some f) q.2) [
-      | inl w ↦
-          let all = front ∙ ap (λ us. mark 40 ∷ q.0.0 ∷ us) (tail_is q.0.1 w.0) in
-          subst (IsForm (lower (codes "include") ∷ ts)) (some_is (whole q.0.0) f w.1) (record { spelled = ap (λ us. lower (codes "include") ∷ us) (sym all); fits = q'.1 })
+    read_behind (expect 40 ts) _ f e (λ a ea e1.
+    read_behind (one_of is_quoted a) _ f e1 (λ q eq e2.
+    elim (chosen (is_tail q.1) (Some (whole q.0)) (expect 44 q.1 >>= λ b. expect 91 b >>= λ c. one_of is_name c >>= λ n. many_at 44 (one_of is_name) (length n.1) n.1 >>= λ ns. expect 93 ns.1 >>= λ d. cond (is_tail d) (Some (selected q.0 n.0 ns.0)) None) (Some f) e2) [
+      | inl w ↦ subst (IsForm (lower (codes "include") ∷ ts)) (some_is (whole q.0) f w.1) (whole_parts ts a q ea eq w.0)
       | inr w ↦
-          let b = bind_some (expect 44 q.0.1) _ f w.1 in
-          let c = bind_some (expect 91 b.0) _ f b.2 in
-          let n = bind_some (one_of is_name c.0) _ f c.2 in
-          let ns = bind_some (many_at 44 (one_of is_name) (length n.0.1) n.0.1) _ f n.2 in
-          let d = bind_some (expect 93 ns.0.1) _ f ns.2 in
-          elim (chosen (is_tail d.0) (Some (selected q.0.0 n.0.0 ns.0.0)) None (Some f) d.2) [
-            | inl v ↦
-                let n' = one_is is_name c.0 n.0 n.1 in
-                let ns' = spelled_many 44 spell_token is_name (one_of is_name) (one_is is_name) (length n.0.1) n.0.1 ns.0 ns.1 in
-                let inside = ns'.0 ∙ names_are ns.0.0 ns.0.1 ∙ ap (λ us. names ns.0.0 us) (expect_is 93 ns.0.1 d.0 d.1 ∙ ap (λ us. mark 93 ∷ us) (tail_is d.0 v.0)) in
-                let all = front ∙ ap (λ us. mark 40 ∷ q.0.0 ∷ us) (expect_is 44 q.0.1 b.0 b.1 ∙ ap (λ us. mark 44 ∷ us) (expect_is 91 b.0 c.0 c.1 ∙ ap (λ us. mark 91 ∷ us) (n'.0 ∙ ap (λ us. n.0.0 ∷ us) inside))) in
-                let fits = and_both (is_quoted q.0.0) (is_name n.0.0 && list_all is_name ns.0.0) q'.1 (and_both (is_name n.0.0) (list_all is_name ns.0.0) n'.1 (sym (names_fit ns.0.0) ∙ ns'.1)) in
-                subst (IsForm (lower (codes "include") ∷ ts)) (some_is (selected q.0.0 n.0.0 ns.0.0) f v.1) (record { spelled = ap (λ us. lower (codes "include") ∷ us) (sym all); fits = fits })
+          read_behind (expect 44 q.1) _ f w.1 (λ b eb e3.
+          read_behind (expect 91 b) _ f e3 (λ c ec e4.
+          read_behind (one_of is_name c) _ f e4 (λ n en e5.
+          read_behind (many_at 44 (one_of is_name) (length n.1) n.1) _ f e5 (λ ns es e6.
+          read_behind (expect 93 ns.1) _ f e6 (λ d ed e7.
+          elim (chosen (is_tail d) (Some (selected q.0 n.0 ns.0)) None (Some f) e7) [
+            | inl v ↦ subst (IsForm (lower (codes "include") ∷ ts)) (some_is (selected q.0 n.0 ns.0) f v.1) (selected_parts ts a b c q n ns d ea eq eb ec en es ed v.0)
             | inr v ↦ absurd (none_some f v.1)
-          ]
-    ]
+          ])))))
+    ]))
 
 whole_again : (file : Tok) → is_quoted file ≡ true → include_at (mark 40 ∷ file ∷ tail) ≡ Some (whole file)
 unfolding include_at expect one_of

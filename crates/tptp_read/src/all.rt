@@ -1,4 +1,4 @@
-// All tokens of a text.
+// All tokens of a text, for an atom: it is judged over its whole text, where a statement ends at its full stop.
 ghost use Rattle.std.specs.Prelude.{IfOk, MatchOption};
 ghost use Rattle.tptp_read.specs.Atoms.{AreTokens, HasNoTokens};
 ghost use Rattle.tptp_read.specs.LexemeView.{toks};

@@ -1,4 +1,5 @@
-// Bodies of statements, read from tokens.
+// Bodies of statements, read from tokens. Variables get their numbers before the clause is read, from all tokens that are
+// left: those of an annotation come later, and so change no number.
 ghost use Rattle.std.specs.Prelude.{◌≡◌, ◌≤◌, ◌<◌, IfOk, drop, length, fold, nat_le};
 ghost use Rattle.std.specs.List.{list_any};
 ghost use Rattle.tptp_read.specs.LexemeView.{toks, texts, Gives};

@@ -1,4 +1,5 @@
-// Disjunctions, read from tokens.
+// Disjunctions, read from tokens. Parentheses are read by recursion, which the limit on nesting bounds; it is judged before.
+// What is joined by `|` is read by a loop.
 ghost use Rattle.std.specs.Prelude.{◌≡◌, ◌++◌, ◌∷◌, [], ◌≤◌, ◌<◌, IfOk, OnOk, drop, length, fold};
 ghost use Rattle.std.specs.Option.{option_map};
 ghost use Rattle.inst_logic.specs.View.{tree};

@@ -1,4 +1,5 @@
-// The tokens of a statement: up to and including the first full stop.
+// The tokens of a statement: up to and including the first full stop. They are gathered before any is read by the grammar,
+// since another language, a place without a token and the nesting are judged first, on tokens alone.
 ghost use Rattle.std.specs.Prelude.{◌≡◌, ◌≤◌, IfOk};
 ghost use Rattle.std.specs.Option.{option_map};
 ghost use Rattle.tptp_read.specs.Lexemes.{is_lower_kind};

@@ -1,4 +1,4 @@
-// Annotations: they are read and not kept.
+// Annotations: they are read and not kept, so only where they end is found, without memory.
 ghost use Rattle.std.specs.Prelude.{◌≡◌, ◌≤◌, ◌<◌, IfSome, drop, length};
 ghost use Rattle.std.specs.Option.{option_map};
 ghost use Rattle.tptp_read.specs.LexemeView.{toks};

@@ -1,4 +1,5 @@
-// A token by its kind and its bytes.
+// A token by its kind and its bytes, in the place of one by its place in the text: the parser asks what a token is and never
+// where it stands.
 use tptp_tokens::TokenKind;
 
 #[derive(Clone, Copy, Debug)]

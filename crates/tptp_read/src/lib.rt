@@ -1,10 +1,9 @@
-//! From bytes to the statements of a problem (the CNF part of the TPTP language).
+//! From bytes to the statements of a problem (the CNF part of the TPTP language). The grammar is data in `specs/`; the
+//! parser is proved to find a reading exactly where there is one, and that each text has one reading is a law.
 #![tactic(auto)]
 
 mod all;
 mod atom;
-#[cfg(test)]
-mod atom_tests;
 mod body;
 mod clause;
 mod cnf;
@@ -21,8 +20,6 @@ pub mod statement;
 mod step;
 mod stop;
 mod terms;
-#[cfg(test)]
-mod tests;
 pub mod text;
 mod value;
 mod whole_atom;

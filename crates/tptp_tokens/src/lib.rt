@@ -1,4 +1,6 @@
-//! The tokens of a text of first-order clauses (the CNF part of the TPTP language).
+//! The tokens of a text of first-order clauses (the CNF part of the TPTP language). They are a crate below the reader, so
+//! that the table of spellings and the scanner are proved apart from the grammar. A token is defined by the table and by
+//! being the longest; the scanner is one way to find it.
 #![tactic(auto)]
 
 pub mod kind;
@@ -7,8 +9,6 @@ mod runs;
 mod scan;
 mod skip;
 pub mod stream;
-#[cfg(test)]
-mod tests;
 pub mod tokens;
 
 pub use kind::{Token, TokenKind};

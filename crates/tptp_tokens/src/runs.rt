@@ -1,4 +1,4 @@
-// Classes of bytes, and runs of one class.
+// Classes of bytes, and runs of one class. A run is a count: tokens are slices of the text, and nothing is copied.
 ghost use Rattle.std.specs.Prelude.{◌≡◌, ◌≤◌, length, false, true, IfSome};
 ghost use Rattle.std.specs.Char.{is_ascii_digit};
 ghost use Rattle.tptp_tokens.specs.Bytes.{is_word_byte, is_sign, is_blank, is_no_line_feed, is_printed, is_mark, run, closing, comment_end};

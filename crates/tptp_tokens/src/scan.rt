@@ -1,4 +1,5 @@
-// The longest token at the front of a text.
+// The longest token at the front of a text. The first byte tells its kind, but for the three kinds of numbers, of which the
+// longest is taken; so no byte is looked at by several spellings.
 ghost use Rattle.std.specs.Prelude.{◌≡◌, ◌+◌, ◌≤◌, ◌<◌, ◌==◌, length, IfSome};
 ghost use Rattle.std.specs.Char.{is_ascii_lowercase};
 ghost use Rattle.tptp_tokens.specs.Bytes.{is_sign};

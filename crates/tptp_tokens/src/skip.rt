@@ -1,4 +1,4 @@
-// Blanks and comments.
+// Blanks and comments. Of a comment that is not closed nothing is skipped, so that no token begins there.
 ghost use Rattle.std.specs.Prelude.{◌≡◌, ◌≤◌, ◌+◌, length};
 ghost use Rattle.tptp_tokens.specs.Gap.{block, piece, gap};
 

@@ -1,4 +1,4 @@
-// The tokens of a text, one after the other.
+// The tokens of a text, one after the other. A list of all would take memory before the first one is judged.
 ghost use Rattle.std.specs.Prelude.{◌≡◌, ◌-◌, ◌≤◌, length};
 ghost use Rattle.std.specs.Iterator.{at_most};
 ghost use Rattle.tptp_tokens.specs.Stream.{Advances};

@@ -1,20 +1,16 @@
-//! Worked rows, as tests of the top call, of `load` and of `read_text` over files and an output in memory, and of `load` over
-//! a real folder.
+//! Worked rows of the top call, as tests over files and an output in memory: what is printed, and that memory, where there is
+//! enough, gives answers.
 #![tactic(auto)]
 
 #[cfg(test)]
-mod folders;
-#[cfg(test)]
-mod loading;
+mod faults;
 #[cfg(test)]
 mod long_rows;
 #[cfg(test)]
-mod readable_texts;
-#[cfg(test)]
 mod refused_texts;
+#[cfg(test)]
+mod refutations;
 #[cfg(test)]
 mod rows;
 #[cfg(test)]
 mod runs;
-#[cfg(test)]
-mod tests;

@@ -5,6 +5,9 @@ use std::process::Abort;
 use std::str;
 use std::test::Fail;
 
+// The most bytes over all files.
+const LIMIT: usize = 16_777_216;
+
 // `p(f(..f(c)..))` with so many f.
 fn nested(alloc: Global, depth: usize) -> Result<Vec<u8>, Fail> {
     let mut text = Vec::from_slice(alloc, b"cnf(a,axiom,p(")?;
@@ -59,49 +62,43 @@ fn is_satisfiable(rt: &impl Abort, alloc: Global, text: &[u8]) -> Result<(), Fai
     Ok(())
 }
 
-// The text is refused with this line.
-fn is_refused(rt: &impl Abort, alloc: Global, text: &[u8], line: &str) -> Result<(), Fail> {
+// The text is refused, since its first statement passes the limit of this name.
+fn is_refused(rt: &impl Abort, alloc: Global, text: &[u8], limit: &str) -> Result<(), Fail> {
     let (exit, out) = answer_of(alloc, file_of(alloc, "n.p", text)?, &["prove", "n.p"])?;
     assert_eq!(rt; exit.code(), 2);
-    let written = str::from_utf8(out.bytes())?;
-    assert_eq!(rt;
-        written.split_once("\n"),
-        Some(("% SZS status InputError for n.p", line))
-    );
+    let expected = format!(in alloc;
+        "% SZS status InputError for n.p\n% limit {limit}: statement 1 of n.p\n"
+    )?;
+    assert_eq!(rt; str::from_utf8(out.bytes())?, expected.as_str());
     Ok(())
 }
 
 #[test]
-fn nesting(rt: HostRuntime) -> Result<(), Fail> {
+fn limits(rt: HostRuntime) -> Result<(), Fail> {
     let alloc = rt.alloc();
     is_satisfiable(&rt, alloc, nested(alloc, 254)?.as_slice())?;
-    is_refused(
-        &rt,
-        alloc,
-        nested(alloc, 255)?.as_slice(),
-        "% limit nesting: statement 1 of n.p\n",
-    )
-}
-
-#[test]
-fn arity(rt: HostRuntime) -> Result<(), Fail> {
-    let alloc = rt.alloc();
+    is_refused(&rt, alloc, nested(alloc, 255)?.as_slice(), "nesting")?;
     is_satisfiable(&rt, alloc, wide(alloc, 1023)?.as_slice())?;
-    is_refused(
-        &rt,
-        alloc,
-        wide(alloc, 1024)?.as_slice(),
-        "% limit arity: statement 1 of n.p\n",
-    )
+    is_refused(&rt, alloc, wide(alloc, 1024)?.as_slice(), "arity")?;
+    is_refused(&rt, alloc, with_variables(alloc)?.as_slice(), "variables")
 }
 
+// As many blanks as a file may have, and one more.
 #[test]
-fn variables(rt: HostRuntime) -> Result<(), Fail> {
+fn blanks(rt: HostRuntime) -> Result<(), Fail> {
     let alloc = rt.alloc();
-    is_refused(
-        &rt,
+    let mut blanks = vec![in alloc; b' '; LIMIT]?;
+    is_satisfiable(&rt, alloc, blanks.as_slice())?;
+    blanks.push(b' ')?;
+    let (exit, out) = answer_of(
         alloc,
-        with_variables(alloc)?.as_slice(),
-        "% limit variables: statement 1 of n.p\n",
-    )
+        file_of(alloc, "n.p", blanks.as_slice())?,
+        &["prove", "n.p"],
+    )?;
+    assert_eq!(rt; exit.code(), 2);
+    assert_eq!(rt;
+        str::from_utf8(out.bytes())?,
+        "% SZS status InputError for n.p\n% limit bytes\n"
+    );
+    Ok(())
 }

@@ -1,13 +1,96 @@
 // One row each: the answer to some words where the files are told.
-use crate::runs::{Row, calls_of, check_row, file_of, words_of};
-use outside_io::{MemLibrary, SureSink};
+use crate::runs::{Row, answer_of, check_row, file_of};
+use std::alloc::Global;
+use std::process::Abort;
 use std::str;
 use std::test::Fail;
-use szs_prove::run;
 
-#[test]
-fn the_empty_clause(rt: HostRuntime) -> Result<(), Fail> {
-    let row = Row {
+const ROWS: [Row<'static>; 21] = [
+    // an empty file
+    Row {
+        files: &[("r.p", "")],
+        words: &["prove", "r.p"],
+        status: 0,
+        text: "\
+% SZS status Satisfiable for r.p
+% SZS output start Saturation for r.p
+% instgen certificate 1
+% SZS output end Saturation for r.p
+",
+    },
+    // satisfiable clauses
+    Row {
+        files: &[("r.p", "cnf(a,axiom,p | q). cnf(b,axiom,~p).")],
+        words: &["prove", "r.p"],
+        status: 0,
+        text: "\
+% SZS status Satisfiable for r.p
+% SZS output start Saturation for r.p
+% instgen certificate 1
+cnf(i1,axiom,p | q,named(a)).
+cnf(i2,axiom,~p,named(b)).
+cnf(m1,plain,p | q,input(1),[selected(2)]).
+cnf(m2,plain,~p,input(2),[selected(1)]).
+% SZS output end Saturation for r.p
+",
+    },
+    // tautologies and repeats are no members
+    Row {
+        files: &[("r.p", "cnf(a,axiom,p). cnf(b,axiom,p). cnf(c,axiom,q|~q).")],
+        words: &["prove", "r.p"],
+        status: 0,
+        text: "\
+% SZS status Satisfiable for r.p
+% SZS output start Saturation for r.p
+% instgen certificate 1
+cnf(i1,axiom,p,named(a)).
+cnf(i2,axiom,p,named(b)).
+cnf(i3,axiom,q | ~q,named(c)).
+cnf(m1,plain,p,input(1),[selected(1)]).
+% SZS output end Saturation for r.p
+",
+    },
+    // names in quotes
+    Row {
+        files: &[(
+            "t.p",
+            "cnf(one,axiom,p('A')|~q('b')). cnf('it\\'s',axiom,~p('A')|'P').",
+        )],
+        words: &["prove", "t.p"],
+        status: 0,
+        text: "\
+% SZS status Satisfiable for t.p
+% SZS output start Saturation for t.p
+% instgen certificate 1
+cnf(i1,axiom,p('A') | ~q(b),named(one)).
+cnf(i2,axiom,~p('A') | 'P',named('it\\'s')).
+cnf(m1,plain,p('A') | ~q(b),input(1),[selected(2)]).
+cnf(m2,plain,~p('A') | 'P',input(2),[selected(1)]).
+% SZS output end Saturation for t.p
+",
+    },
+    // a file that is absent
+    Row {
+        files: &[("r.p", "")],
+        words: &["prove", "s.p"],
+        status: 2,
+        text: "\
+% SZS status InputError for s.p
+% absent: s.p
+",
+    },
+    // a second clause with a variable
+    Row {
+        files: &[("r.p", "cnf(a,axiom,p). cnf(b,axiom,p(X)).")],
+        words: &["prove", "r.p"],
+        status: 2,
+        text: "\
+% SZS status Inappropriate for r.p
+% not built: clause 2
+",
+    },
+    // the empty clause
+    Row {
         files: &[("empty.p", "cnf(a,axiom,$false).")],
         words: &["prove", "empty.p"],
         status: 0,
@@ -22,13 +105,9 @@ cnf(g1,plain,$false,ground(m1)).
 cnf(r1,plain,$false,rup([g1])).
 % SZS output end CNFRefutation for empty.p
 ",
-    };
-    check_row(&rt, rt.alloc(), &row)
-}
-
-#[test]
-fn a_clause_with_a_variable(rt: HostRuntime) -> Result<(), Fail> {
-    let row = Row {
+    },
+    // a clause with a variable
+    Row {
         files: &[(
             "two.p",
             "cnf(one,axiom,'cat'|~ dog(X),file('x',one),[a:b,\"t\",3]). /* c */ cnf(2,axiom,(~ a = b)). % d\ncnf('three',hypothesis,~ (p)).",
@@ -39,13 +118,9 @@ fn a_clause_with_a_variable(rt: HostRuntime) -> Result<(), Fail> {
 % SZS status Inappropriate for two.p
 % not built: clause 1
 ",
-    };
-    check_row(&rt, rt.alloc(), &row)
-}
-
-#[test]
-fn a_clause_with_equality(rt: HostRuntime) -> Result<(), Fail> {
-    let row = Row {
+    },
+    // a clause with equality
+    Row {
         files: &[("two.p", "cnf(one,axiom,p). cnf(2,axiom,(~ a = b)).")],
         words: &["prove", "two.p"],
         status: 2,
@@ -53,13 +128,9 @@ fn a_clause_with_equality(rt: HostRuntime) -> Result<(), Fail> {
 % SZS status Inappropriate for two.p
 % not built: clause 2
 ",
-    };
-    check_row(&rt, rt.alloc(), &row)
-}
-
-#[test]
-fn a_selection_reaches_nested_includes(rt: HostRuntime) -> Result<(), Fail> {
-    let row = Row {
+    },
+    // a selection reaches nested includes
+    Row {
         files: &[
             ("m.p", "include('a.p',[b])."),
             ("a.p", "include('b.p'). cnf(x,axiom,q)."),
@@ -75,13 +146,9 @@ cnf(i1,axiom,p,named(b)).
 cnf(m1,plain,p,input(1),[selected(1)]).
 % SZS output end Saturation for m.p
 ",
-    };
-    check_row(&rt, rt.alloc(), &row)
-}
-
-#[test]
-fn a_selected_statement_that_is_absent(rt: HostRuntime) -> Result<(), Fail> {
-    let row = Row {
+    },
+    // a selected statement that is absent
+    Row {
         files: &[
             (
                 "m.p",
@@ -95,13 +162,9 @@ fn a_selected_statement_that_is_absent(rt: HostRuntime) -> Result<(), Fail> {
 % SZS status InputError for m.p
 % not selected: zz in ax.p
 ",
-    };
-    check_row(&rt, rt.alloc(), &row)
-}
-
-#[test]
-fn an_include_that_is_absent(rt: HostRuntime) -> Result<(), Fail> {
-    let row = Row {
+    },
+    // an include that is absent
+    Row {
         files: &[("m.p", "include('no.p').")],
         words: &["prove", "m.p"],
         status: 2,
@@ -109,13 +172,9 @@ fn an_include_that_is_absent(rt: HostRuntime) -> Result<(), Fail> {
 % SZS status InputError for m.p
 % absent: no.p
 ",
-    };
-    check_row(&rt, rt.alloc(), &row)
-}
-
-#[test]
-fn a_file_that_includes_itself(rt: HostRuntime) -> Result<(), Fail> {
-    let row = Row {
+    },
+    // a file that includes itself
+    Row {
         files: &[("loop.p", "include('loop.p').")],
         words: &["prove", "loop.p"],
         status: 2,
@@ -123,13 +182,9 @@ fn a_file_that_includes_itself(rt: HostRuntime) -> Result<(), Fail> {
 % SZS status InputError for loop.p
 % limit include depth: loop.p
 ",
-    };
-    check_row(&rt, rt.alloc(), &row)
-}
-
-#[test]
-fn an_include_under_the_root(rt: HostRuntime) -> Result<(), Fail> {
-    let row = Row {
+    },
+    // an include under the root
+    Row {
         files: &[
             ("d/m.p", "include('A/x.ax')."),
             ("t/A/x.ax", "cnf(a,axiom,p)."),
@@ -144,13 +199,9 @@ cnf(i1,axiom,p,named(a)).
 cnf(m1,plain,p,input(1),[selected(1)]).
 % SZS output end Saturation for d/m.p
 ",
-    };
-    check_row(&rt, rt.alloc(), &row)
-}
-
-#[test]
-fn an_include_beside_its_file_comes_first(rt: HostRuntime) -> Result<(), Fail> {
-    let row = Row {
+    },
+    // an include beside its file comes first
+    Row {
         files: &[
             ("d/m.p", "include('A/x.ax')."),
             ("t/A/x.ax", "cnf(a,axiom,p)."),
@@ -166,13 +217,9 @@ cnf(i1,axiom,q,named(b)).
 cnf(m1,plain,q,input(1),[selected(1)]).
 % SZS output end Saturation for d/m.p
 ",
-    };
-    check_row(&rt, rt.alloc(), &row)
-}
-
-#[test]
-fn another_language(rt: HostRuntime) -> Result<(), Fail> {
-    let row = Row {
+    },
+    // another language
+    Row {
         files: &[("r.p", "cnf(a,axiom,p). cnf(b,axiom,q). fof(x,axiom,p).")],
         words: &["prove", "r.p"],
         status: 2,
@@ -180,13 +227,9 @@ fn another_language(rt: HostRuntime) -> Result<(), Fail> {
 % SZS status Inappropriate for r.p
 % language fof: statement 3 of r.p
 ",
-    };
-    check_row(&rt, rt.alloc(), &row)
-}
-
-#[test]
-fn a_distinct_object(rt: HostRuntime) -> Result<(), Fail> {
-    let row = Row {
+    },
+    // a distinct object
+    Row {
         files: &[("r.p", "cnf(a,axiom,p(\"obj\")).")],
         words: &["prove", "r.p"],
         status: 2,
@@ -194,13 +237,9 @@ fn a_distinct_object(rt: HostRuntime) -> Result<(), Fail> {
 % SZS status Inappropriate for r.p
 % feature \"obj\": statement 1 of r.p
 ",
-    };
-    check_row(&rt, rt.alloc(), &row)
-}
-
-#[test]
-fn a_number(rt: HostRuntime) -> Result<(), Fail> {
-    let row = Row {
+    },
+    // a number
+    Row {
         files: &[("r.p", "cnf(a,axiom,p(7)).")],
         words: &["prove", "r.p"],
         status: 2,
@@ -208,13 +247,9 @@ fn a_number(rt: HostRuntime) -> Result<(), Fail> {
 % SZS status Inappropriate for r.p
 % feature 7: statement 1 of r.p
 ",
-    };
-    check_row(&rt, rt.alloc(), &row)
-}
-
-#[test]
-fn another_role(rt: HostRuntime) -> Result<(), Fail> {
-    let row = Row {
+    },
+    // another role
+    Row {
         files: &[("r.p", "cnf(a,conjecture,p).")],
         words: &["prove", "r.p"],
         status: 2,
@@ -222,13 +257,9 @@ fn another_role(rt: HostRuntime) -> Result<(), Fail> {
 % SZS status Inappropriate for r.p
 % role conjecture: statement 1 of r.p
 ",
-    };
-    check_row(&rt, rt.alloc(), &row)
-}
-
-#[test]
-fn a_statement_without_an_end(rt: HostRuntime) -> Result<(), Fail> {
-    let row = Row {
+    },
+    // a statement without an end
+    Row {
         files: &[(
             "cut.p",
             "cnf(a,axiom,p). cnf(b,axiom,q). cnf(c,axiom,r). cnf(d,axiom,p(",
@@ -239,13 +270,9 @@ fn a_statement_without_an_end(rt: HostRuntime) -> Result<(), Fail> {
 % SZS status SyntaxError for cut.p
 % syntax: statement 4 of cut.p
 ",
-    };
-    check_row(&rt, rt.alloc(), &row)
-}
-
-#[test]
-fn another_language_in_an_include(rt: HostRuntime) -> Result<(), Fail> {
-    let row = Row {
+    },
+    // another language in an include
+    Row {
         files: &[
             ("m.p", "include('ax.p')."),
             ("ax.p", "cnf(a,axiom,p). fof(b,axiom,p)."),
@@ -256,22 +283,46 @@ fn another_language_in_an_include(rt: HostRuntime) -> Result<(), Fail> {
 % SZS status Inappropriate for m.p
 % language fof: statement 2 of ax.p
 ",
-    };
-    check_row(&rt, rt.alloc(), &row)
+    },
+];
+
+// Words that are not read, though there is a file r.p.
+const UNREAD: [&[&str]; 11] = [
+    &[],
+    &["prove"],
+    &["prove", "r.p", "s.p"],
+    &["prove", ""],
+    &["prove", "-r.p"],
+    &["prove", "r\n.p"],
+    &["check", "r.p"],
+    &["prove", "r.p", "--root"],
+    &["prove", "r.p", "--root", "-d"],
+    &["prove", "--root", "d", "r.p"],
+    &["prove", "r.p", "--root", "d", "e"],
+];
+
+#[test]
+fn files_have_these_answers(rt: HostRuntime) -> Result<(), Fail> {
+    for row in &ROWS {
+        check_row(&rt, rt.alloc(), row)?;
+    }
+    Ok(())
+}
+
+fn check_unread(rt: &impl Abort, alloc: Global, words: &[&str]) -> Result<(), Fail> {
+    let (exit, out) = answer_of(alloc, file_of(alloc, "r.p", b"")?, words)?;
+    assert_eq!(rt; exit.code(), 3);
+    assert_eq!(rt;
+        str::from_utf8(out.bytes())?,
+        "% SZS status UsageError for instgen\n% usage\n"
+    );
+    Ok(())
 }
 
 #[test]
-fn a_read_that_fails_at_the_third_call(rt: HostRuntime) -> Result<(), Fail> {
-    let alloc = rt.alloc();
-    let words = words_of(alloc, &["prove", "r.p"])?;
-    let files = file_of(alloc, "r.p", b"cnf(one,axiom,p(X)). cnf(two,axiom,~p(c)).")?;
-    let mut library = MemLibrary::new(alloc, files, 24, calls_of(alloc, 3)?);
-    let mut out = SureSink::new(alloc);
-    let exit = run(alloc, words.as_slice(), &mut library, &mut out);
-    assert_eq!(rt; exit.code(), 4);
-    assert_eq!(rt;
-        str::from_utf8(out.bytes())?,
-        "% SZS status OSError for r.p\n% read fault\n"
-    );
+fn unread_words(rt: HostRuntime) -> Result<(), Fail> {
+    for words in UNREAD {
+        check_unread(&rt, rt.alloc(), words)?;
+    }
     Ok(())
 }

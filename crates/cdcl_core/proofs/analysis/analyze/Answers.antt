@@ -8,7 +8,7 @@ loop-place-init c =
     record {
       within = omega (arith, c.requires.count);
       size = c.in_ok-analysis.ensures.size ∙ c.requires.size;
-      met = met_first c.args.log.now c.args.trail.now c.args.count c.args.number c.begin.new.marks c.in_ok-analysis.analysis c.requires.count c.requires.conflict
+      met = met_first c.args.log.now c.args.trail.now.trail c.args.count c.args.number c.begin.new.marks c.in_ok-analysis.analysis c.requires.count c.requires.conflict
           (c.in_ok-analysis.ensures.begun c.requires.conflict.0 c.requires.conflict.1);
     }
 
@@ -19,4 +19,4 @@ returns-clause-analysis c =
       | then-loop-place-test+else-any_left w ↦ inr w.if-any_left.ensures
       | else-loop-place-test w ↦ inl (λ h. omega (arith, h, w.loop-place-test.false))
     ] in
-    analysis_done c.args.log.now c.args.trail.now c.loop-place.place c.loop-place.marks a (record { clause = a.clause; hints = c.reverse.new.self; counts = a.counts }) c.requires.ready.trail done refl c.reverse.ensures.items c.loop-place.invariant.met
+    analysis_done c.args.log.now c.args.trail.now.trail c.loop-place.place c.loop-place.marks a (record { clause = a.clause; hints = c.reverse.new.self; counts = a.counts }) c.requires.ready.trail done refl c.reverse.ensures.items c.loop-place.invariant.met

@@ -4,9 +4,9 @@ use Rattle.cdcl_core.proofs.analysis.analyze.Given as goal
 
 abbrev pub invariant-loop-place : goal.invariant-loop-place
 invariant-loop-place l = record {
-  within : l.place ≤ length l.trail.entries;
-  size : length l.marks ≡ l.trail.atoms;
-  met : IsMet l.log l.trail l.place l.marks l.analysis;
+  within : l.place ≤ length l.trail.trail.entries;
+  size : length l.marks ≡ l.trail.trail.atoms;
+  met : IsMet l.log l.trail.trail l.place l.marks l.analysis;
 }
 
 abbrev pub decreases-loop-place : goal.decreases-loop-place

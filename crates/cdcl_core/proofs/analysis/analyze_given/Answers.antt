@@ -8,7 +8,7 @@ use Rattle.cdcl_core.proofs.analysis.analyze_given.Goals as goal
 
 pub loop-place-init : goal.loop-place-init
 loop-place-init c =
-    let t = c.args.trail.now in
+    let t = c.args.trail.now.trail in
     let f = given_at t c.place_of-place.result c.args.lit c.args.number c.requires.ready.trail c.requires.given (ap (λ xs. slice_get xs c.place_of-place.result) (sym c.assigned.ensures.literals) ∙ c.place_of-place.ensures) in
     record {
       within = omega arith;
@@ -19,14 +19,14 @@ loop-place-init c =
 
 pub meet_decided-requires-clause-place : goal.meet_decided-requires-clause-place
 meet_decided-requires-clause-place c =
-    let t = c.args.trail.now in
+    let t = c.args.trail.now.trail in
     let f = given_at t c.place_of-place.result c.args.lit c.args.number c.requires.ready.trail c.requires.given (ap (λ xs. slice_get xs c.place_of-place.result) (sym c.assigned.ensures.literals) ∙ c.place_of-place.ensures) in
     let inside = slice_get_within t.entries c.place_of-place.result f.0 f.1 in
     omega (arith, inside, c.loop-place.invariant.within)
 
 pub loop-place-preserved : goal.loop-place-preserved
 loop-place-preserved c =
-    let t = c.args.trail.now in
+    let t = c.args.trail.now.trail in
     let p = c.loop-place.place in
     let start = c.place_of-place.result in
     let inv = c.loop-place.invariant in
@@ -40,7 +40,7 @@ loop-place-preserved c =
 
 pub returns-clause-hints : goal.returns-clause-hints
 returns-clause-hints c =
-    let t = c.args.trail.now in
+    let t = c.args.trail.now.trail in
     let start = c.place_of-place.result in
     let a = c.loop-place.analysis in
     let f = given_at t start c.args.lit c.args.number c.requires.ready.trail c.requires.given (ap (λ xs. slice_get xs start) (sym c.assigned.ensures.literals) ∙ c.place_of-place.ensures) in

@@ -5,7 +5,7 @@ use Rattle.cdcl_core.proofs.analysis.begin.Goals as goal
 
 pub returns-clause-begun : goal.returns-clause-begun
 returns-clause-begun c = λ d named.
-    let t = c.args.trail.now in
+    let t = c.args.trail.now.trail in
     let f = c.in_ok-resolve.ensures in
     let too = f.marked d named in
     let o = c.no_analysis-analysis.result.counts in

@@ -6,7 +6,7 @@ use Rattle.cdcl_core.proofs.analysis.literal_at.Goals as goal
 
 pub returns-clause-atom : goal.returns-clause-atom
 returns-clause-atom c =
-    let t = c.args.trail.now in
+    let t = c.args.trail.now.trail in
     let d : Signed ℕ = record { positive = false; atom = 0 } in
     let f = entry_at t.entries c.args.place d c.requires in
     subst (λ l. l.atom < t.atoms) (sym (ap (λ xs. get_or xs c.args.place d) c.assigned-literals.ensures.literals ∙ f.2))

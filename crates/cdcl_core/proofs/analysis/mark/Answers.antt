@@ -7,7 +7,7 @@ use Rattle.cdcl_core.proofs.analysis.mark.Goals as goal
 
 pub returns-then-level-clause-marked : goal.returns-then-level-clause-marked
 returns-then-level-clause-marked c =
-    let t = c.args.trail.now in
+    let t = c.args.trail.now.trail in
     let l = c.args.lit in
     let is : Counts = record { present = c.saturating_add-counts.result; below = c.args.counts.now.below } in
     let here = ap (λ o. unwrap_or o 0) (sym c.level_of.ensures) ∙ sym c.unwrap_or-level.ensures ∙ c.if-level.true ∙ c.level.ensures in
@@ -17,7 +17,7 @@ returns-then-level-clause-marked c =
 
 pub returns-else-level-clause-marked : goal.returns-else-level-clause-marked
 returns-else-level-clause-marked c =
-    let t = c.args.trail.now in
+    let t = c.args.trail.now.trail in
     let l = c.args.lit in
     let is : Counts = record { present = c.args.counts.now.present; below = c.saturating_add-counts-else-level.result } in
     subst (λ m. MarksToo t (l ∷ []) c.args.marks.now m c.args.counts.now is) (sym c.insert.ensures)

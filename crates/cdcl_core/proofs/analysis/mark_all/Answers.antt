@@ -10,7 +10,7 @@ mark-requires-clause-size c = c.loop-lit.invariant.size
 
 pub loop-lit-preserved : goal.loop-lit-preserved
 loop-lit-preserved c =
-    let t = c.args.trail.now in
+    let t = c.args.trail.now.trail in
     let clause = c.args.clause.now in
     let i = c.loop-lit.lit-index in
     let d : Signed ℕ = record { positive = false; atom = 0 } in

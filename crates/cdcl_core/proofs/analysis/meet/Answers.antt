@@ -14,7 +14,7 @@ use Rattle.cdcl_core.proofs.analysis.meet.Goals as goal
 
 pub returns-then-not-contains-clause-met : goal.returns-then-not-contains-clause-met
 returns-then-not-contains-clause-met c =
-    let t = c.args.trail.now in
+    let t = c.args.trail.now.trail in
     let f = entry_at t.entries c.args.place (record { positive = false; atom = 0 }) c.requires.place in
     let is = c.literal_at-lit.ensures.literal f.0 f.1 in
     met_unmarked c.args.log.now t c.args.place f.0 c.args.marks.now c.args.analysis.now f.1
@@ -22,7 +22,7 @@ returns-then-not-contains-clause-met c =
 
 pub returns-in-None-clause-met : goal.returns-in-None-clause-met
 returns-in-None-clause-met c =
-    let t = c.args.trail.now in
+    let t = c.args.trail.now.trail in
     let v = c.requires.ready.trail in
     let a = c.args.analysis.now in
     let i = c.args.place in
@@ -44,7 +44,7 @@ returns-in-None-clause-met c =
 
 pub returns-then-remains-clause-met : goal.returns-then-remains-clause-met
 returns-then-remains-clause-met c =
-    let t = c.args.trail.now in
+    let t = c.args.trail.now.trail in
     let v = c.requires.ready.trail in
     let a = c.args.analysis.now in
     let i = c.args.place in
@@ -67,7 +67,7 @@ returns-then-remains-clause-met c =
 
 pub returns-else-remains-clause-met : goal.returns-else-remains-clause-met
 returns-else-remains-clause-met c =
-    let t = c.args.trail.now in
+    let t = c.args.trail.now.trail in
     let log = c.args.log.now in
     let v = c.requires.ready.trail in
     let a = c.args.analysis.now in

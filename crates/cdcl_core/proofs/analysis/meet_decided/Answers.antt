@@ -11,7 +11,7 @@ use Rattle.cdcl_core.proofs.analysis.meet_decided.Goals as goal
 
 pub returns-then-not-contains-clause-met : goal.returns-then-not-contains-clause-met
 returns-then-not-contains-clause-met c = λ start l low m.
-    let t = c.args.trail.now in
+    let t = c.args.trail.now.trail in
     let f = entry_at t.entries c.args.place (record { positive = false; atom = 0 }) c.requires.place in
     let is = c.literal_at-lit.ensures.literal f.0 f.1 in
     met_decided_unmarked c.args.log.now t start c.args.place l f.0 c.args.marks.now c.args.analysis.now f.1
@@ -19,7 +19,7 @@ returns-then-not-contains-clause-met c = λ start l low m.
 
 pub returns-in-None-clause-met : goal.returns-in-None-clause-met
 returns-in-None-clause-met c = λ start l low m.
-    let t = c.args.trail.now in
+    let t = c.args.trail.now.trail in
     let v = c.requires.ready.trail in
     let a = c.args.analysis.now in
     let f = entry_at t.entries c.args.place (record { positive = false; atom = 0 }) c.requires.place in
@@ -35,7 +35,7 @@ returns-in-None-clause-met c = λ start l low m.
 
 pub returns-in-Some-clause-met : goal.returns-in-Some-clause-met
 returns-in-Some-clause-met c =
-    let t = c.args.trail.now in
+    let t = c.args.trail.now.trail in
     let log = c.args.log.now in
     let v = c.requires.ready.trail in
     let a = c.args.analysis.now in

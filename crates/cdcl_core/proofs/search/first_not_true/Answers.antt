@@ -9,7 +9,7 @@ use Rattle.cdcl_core.proofs.search.first_not_true.Goals as goal
 pub loop-place-preserved : goal.loop-place-preserved
 loop-place-preserved c =
     let d : Signed ℕ = record { positive = false; atom = 0 } in
-    All-more (Contains (literals_of c.args.trail.now.entries)) c.args.assumptions.now c.loop-place.place d c.loop-place-test.true c.loop-place.invariant c.if-not-is_true.ensures
+    All-more (Contains (literals_of c.args.trail.now.trail.entries)) c.args.assumptions.now c.loop-place.place d c.loop-place-test.true c.loop-place.invariant c.if-not-is_true.ensures
 
 pub returns-clause-none : goal.returns-clause-none
-returns-clause-none c = subst (λ xs. All (Contains (literals_of c.args.trail.now.entries)) xs) (take_all c.loop-place.place c.args.assumptions.now c.loop-place-test.false) c.loop-place.invariant
+returns-clause-none c = subst (λ xs. All (Contains (literals_of c.args.trail.now.trail.entries)) xs) (take_all c.loop-place.place c.args.assumptions.now c.loop-place-test.false) c.loop-place.invariant

@@ -10,7 +10,7 @@ use Rattle.cdcl_core.proofs.search.highest_level.Goals as goal
 
 pub loop-lit-preserved : goal.loop-lit-preserved
 loop-lit-preserved c =
-    let es = c.args.trail.now.entries in
+    let es = c.args.trail.now.trail.entries in
     let xs = c.args.literals.now in
     let i = c.loop-lit.lit-index in
     let d : Signed ℕ = record { positive = false; atom = 0 } in
@@ -31,7 +31,7 @@ loop-lit-preserved c =
     }
 
 pub returns-clause-reached : goal.returns-clause-reached
-returns-clause-reached c = subst (λ ys. All (λ l. unwrap_or (level_of c.args.trail.now.entries l.atom) 0 ≤ c.loop-lit.highest) ys) (take_all c.loop-lit.lit-index c.args.literals.now c.loop-lit-test.false) c.loop-lit.invariant.reached
+returns-clause-reached c = subst (λ ys. All (λ l. unwrap_or (level_of c.args.trail.now.trail.entries l.atom) 0 ≤ c.loop-lit.highest) ys) (take_all c.loop-lit.lit-index c.args.literals.now c.loop-lit-test.false) c.loop-lit.invariant.reached
 
 pub returns-clause-least : goal.returns-clause-least
-returns-clause-least c = λ top low all. c.loop-lit.invariant.least top low (subst (λ ys. All (λ l. unwrap_or (level_of c.args.trail.now.entries l.atom) 0 < top) ys) (sym (take_all c.loop-lit.lit-index c.args.literals.now c.loop-lit-test.false)) all)
+returns-clause-least c = λ top low all. c.loop-lit.invariant.least top low (subst (λ ys. All (λ l. unwrap_or (level_of c.args.trail.now.trail.entries l.atom) 0 < top) ys) (sym (take_all c.loop-lit.lit-index c.args.literals.now c.loop-lit-test.false)) all)

@@ -6,5 +6,5 @@ use Rattle.cdcl_core.proofs.search.valuation_of.Given as goal
 abbrev pub invariant-loop-atom : goal.invariant-loop-atom
 invariant-loop-atom l = record {
   size : length l.valuation ≡ l.atom;
-  values : (k : ℕ) → k < l.atom → slice_get l.valuation k ≡ Some (unwrap_or (value_of l.trail.entries (record { positive = true; atom = k })) false);
+  values : (k : ℕ) → k < l.atom → slice_get l.valuation k ≡ Some (unwrap_or (value_of l.trail.trail.entries (record { positive = true; atom = k })) false);
 }

@@ -1,19 +1,45 @@
-use Rattle.std.proofs.Common.{◌≡◌, length, sym, ◌∙◌}
+use Rattle.std.proofs.Common.{◌≡◌, length, subst}
+use Rattle.std.specs.Prelude.{IfNone}
+use Rattle.cdcl_trail.specs.Running.{at_level}
+use Rattle.cdcl_trail.specs.Values.{entries_of}
 use Rattle.cdcl_trail.proofs.PropagationLaws.{more_added}
-use Rattle.cdcl_trail.proofs.ScanLaws.{rests_stable}
+use Rattle.cdcl_trail.proofs.LooseLaws.{loose_on}
+use Rattle.cdcl_trail.proofs.StableLaws.{all_stable, stable_when}
+use Rattle.cdcl_trail.proofs.TrailRunLaws.{settled_more}
+use Rattle.cdcl_trail.proofs.VisitLaws.{runs_on}
 use Rattle.cdcl_trail.proofs.propagation.saturate.Goals as goal
 
-pub returns-in-Some-clause-added : goal.returns-in-Some-clause-added
-returns-in-Some-clause-added c =
-    more_added c.args.clauses.now c.args.trail.now c.loop-number.trail c.visit_all.new.trail c.loop-number.invariant.added c.in-Some.ensures.added
+pub returns-in-Some-clause-settled : goal.returns-in-Some-clause-settled
+returns-in-Some-clause-settled c =
+    let e = c.in_ok-number.ensures in
+    let es = entries_of c.args.values.now in
+    settled_more c.args.clauses.now c.settle_loose.new.pairs es (entries_of c.settle_loose.new.values) c.args.head.now.place e.added.kept c.requires.head (e.runs.kept es c.args.head.now.place (λ l h. h) c.requires.settled)
 
-pub returns-then-count-before-clause-stable : goal.returns-then-count-before-clause-stable
-returns-then-count-before-clause-stable c =
-    let size : length c.visit_all.new.trail.entries ≡ length c.loop-number.trail.entries = sym c.count.ensures.count ∙ c.if-count-before.true ∙ c.count-before.ensures.count in
-    rests_stable c.args.clauses.now c.visit_all.new.trail.entries c.count.ensures.trail.once (c.in_default.ensures.rests size)
+pub visit_trail-requires-clause-settled : goal.visit_trail-requires-clause-settled
+visit_trail-requires-clause-settled c =
+    let e = c.in_ok-number.ensures in
+    let es = entries_of c.args.values.now in
+    settled_more c.args.clauses.now c.settle_loose.new.pairs es (entries_of c.settle_loose.new.values) c.args.head.now.place e.added.kept c.requires.head (e.runs.kept es c.args.head.now.place (λ l h. h) c.requires.settled)
 
-pub loop-number-preserved : goal.loop-number-preserved
-loop-number-preserved c = record {
-  added = more_added c.args.clauses.now c.args.trail.now c.loop-number.trail c.visit_all.new.trail c.loop-number.invariant.added c.in_default.ensures.added;
-  spent = c.in_default.ensures.spent ∙ c.loop-number.invariant.spent;
-}
+pub returns-clause-runs : goal.returns-clause-runs
+returns-clause-runs c =
+    runs_on c.args.clauses.now c.args.level c.args.values.now c.settle_loose.new.values c.visit_trail.new.values c.args.pairs.now c.settle_loose.new.pairs c.visit_trail.new.pairs c.in_ok-number.ensures.runs c.in_ok-found.ensures.runs
+
+pub returns-clause-loose : goal.returns-clause-loose
+returns-clause-loose c =
+    loose_on c.args.clauses.now c.args.level c.settle_loose.new.values c.visit_trail.new.values c.settle_loose.new.pairs c.visit_trail.new.pairs c.settle_loose.new.loose.items c.settle_loose.new.passed c.in_ok-found.ensures.runs c.in_ok-number.ensures.loose
+
+pub returns-clause-added : goal.returns-clause-added
+returns-clause-added c =
+    more_added c.args.clauses.now (at_level c.args.level c.args.values.now) (at_level c.args.level c.settle_loose.new.values) (at_level c.args.level c.visit_trail.new.values) c.in_ok-number.ensures.added c.in_ok-found.ensures.added
+
+pub returns-clause-stable : goal.returns-clause-stable
+returns-clause-stable c =
+    let a = c.in_ok-number.ensures in
+    let b = c.in_ok-found.ensures in
+    let loose = loose_on c.args.clauses.now c.args.level c.settle_loose.new.values c.visit_trail.new.values c.settle_loose.new.pairs c.visit_trail.new.pairs c.settle_loose.new.loose.items c.settle_loose.new.passed b.runs a.loose in
+    stable_when c.in_ok-found.found (λ ends. all_stable c.args.clauses.now c.args.level c.visit_trail.new.values c.visit_trail.new.lists c.visit_trail.new.pairs c.settle_loose.new.loose.items c.settle_loose.new.passed c.visit_trail.new.head b.running loose (subst (λ o. IfNone o (c.settle_loose.new.passed ≡ length c.settle_loose.new.loose.items)) c.in_default.is a.whole) b.settled ends) b.whole
+
+pub returns-in_err-found-clause-added : goal.returns-in_err-found-clause-added
+returns-in_err-found-clause-added c =
+    more_added c.args.clauses.now (at_level c.args.level c.args.values.now) (at_level c.args.level c.settle_loose.new.values) (at_level c.args.level c.visit_trail.new.values) c.in_ok-number.ensures.added c.visit_trail.ensures.added

@@ -1,4 +1,4 @@
-use Rattle.std.proofs.Common.{◌≡◌, ◌<◌, zero, suc, List, [], ◌∷◌, length, refl, subst as transport, lit<, inl, inr, ◌⊎◌, true, false, rules, arith}
+use Rattle.std.proofs.Common.{◌≡◌, ◌+◌, ◌<◌, zero, suc, List, [], ◌∷◌, length, refl, subst as transport, lit<, inl, inr, ◌⊎◌, true, false, rules, arith}
 use Rattle.std.specs.Prelude.{All, Contains, Decides, Bool}
 use Rattle.std.specs.Fmt.{digits}
 use Rattle.inst_logic.specs.Tree.{Tree, var}
@@ -13,11 +13,11 @@ use Rattle.inst_calculus.specs.Abstraction.{abstraction}
 use Rattle.inst_calculus.specs.Entries.{Entry, input, inst}
 use Rattle.inst_calculus.specs.Saturation.{IsCovered, tautology, variant, shorter}
 use Rattle.inst_calculus.specs.Examples.{entry, bot, p_always, not_p_c, p_c}
-use Rattle.inst_calculus.proofs.ShortLists.{each_at, each_all, each_none, contains_one}
+use Rattle.inst_calculus.proofs.ShortLists.{each_at, each_all, each_none, contains_one, one_true}
 use Rattle.inst_calculus.proofs.Turns.{instance_unifier}
-use Rattle.inst_machine.specs.Machine.{State, IsStart, IsStep, Infers, AreChanges, IsSettled, all_read, taken, solve, infer, ended, next, solved, inferred, change_all}
+use Rattle.inst_machine.specs.Machine.{State, IsStart, IsStep, Concludes, AreChanges, IsSettled, all_read, taken, solve, append, infer, ended, next, solved, inferred, change_all}
 use Rattle.inst_machine.specs.Examples.{start_state, solved_state, last_state}
-use Rattle.inst_machine.proofs.ExampleSteps.{solve_settles, no_tautology, one_true}
+use Rattle.inst_machine.proofs.ExampleSteps.{solve_settles, no_tautology}
 use Rattle.inst_machine.proofs.examples.instance_run.Goals as goal
 
 start : IsStart (p_always ∷ not_p_c ∷ []) start_state
@@ -52,29 +52,31 @@ uncovered (tautology t) = no_tautology (yes (p constant_c)) t
 uncovered (variant e i v) = each_at (λ (d : TreeClause). ¬ AreVariants p_c d) (p_always ∷ not_p_c ∷ []) ((λ h. search rules), ((λ h. search rules), tt)) e i v
 uncovered (shorter e i l s) = each_at (λ (d : TreeClause). ¬ (length d < 1)) (p_always ∷ not_p_c ∷ []) ((λ h. omega arith), ((λ h. omega arith), tt)) e i l
 
-inference : Infers bot solved_state 1 1 2 1 p_c
+inference : Concludes bot solved_state 1 1 2 1 p_c
 inference = record {
-  entry = entry p_always (input 1);
-  partner_entry = entry not_p_c (input 2);
-  literal = yes (p (var 0));
-  other_literal = no (p constant_c);
-  entry_at = refl;
-  partner_at = refl;
-  literal_at = refl;
-  other_at = refl;
+  conclusion = record {
+    entry = entry p_always (input 1);
+    partner_entry = entry not_p_c (input 2);
+    literal = yes (p (var 0));
+    other_literal = no (p constant_c);
+    entry_at = refl;
+    partner_at = refl;
+    literal_at = refl;
+    other_at = refl;
+    opposite = λ e. let d : true ≡ false = e in cc;
+    unifier = binding;
+    most_general = instance_unifier;
+    proper = (0, (0, lit< tt, refl), tt);
+    conclusion = refl;
+  };
   solved = refl;
-  opposite = λ e. let d : true ≡ false = e in cc;
   literal_true = (0, lit< tt, refl);
   other_true = not_held;
-  unifier = binding;
-  most_general = instance_unifier;
-  proper = (0, (0, lit< tt, refl), tt);
   uncovered = uncovered;
-  conclusion = refl;
 }
 
 infers : IsStep bot solved_state (inferred (inst 1 1 2 1)) last_state
-infers = infer inference refl
+infers = append (infer inference) refl
 
 pub returns-clause-open_conclusion : goal.returns-clause-open_conclusion
 returns-clause-open_conclusion c = record {
@@ -88,7 +90,7 @@ returns-clause-open_conclusion c = record {
   partner_at = refl;
   selected_at = refl;
   other_at = refl;
-  infers = inference;
+  concludes = inference;
 }
 
 pub returns-clause-start : goal.returns-clause-start
@@ -141,3 +143,6 @@ returns-clause-refuted c = λ v. elim (is_held v (p constant_c)) [
   | inl i ↦ (1, not_p_c, lit< tt, refl, each_none (IsTrueLiteral (Contains v)) not_p_c ((λ h. h i), tt))
   | inr g ↦ (2, p_c, lit< tt, refl, each_none (IsTrueLiteral (Contains v)) p_c (g, tt))
 ]
+
+pub returns-clause-overspent : goal.returns-clause-overspent
+returns-clause-overspent c = λ left h. let e : left + 2 ≡ 1 = h in omega arith

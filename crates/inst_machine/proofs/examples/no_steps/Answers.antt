@@ -14,7 +14,8 @@ use Rattle.inst_calculus.specs.Saturation.{IsCovered, variant}
 use Rattle.inst_calculus.specs.Examples.{entry, bot, p_always, not_p_c, p_c}
 use Rattle.inst_machine.specs.Machine.{State, IsSettled}
 use Rattle.inst_machine.specs.Examples.{last_state}
-use Rattle.inst_machine.proofs.ExampleSteps.{solve_settles, one_true}
+use Rattle.inst_machine.proofs.ExampleSteps.{solve_settles}
+use Rattle.inst_calculus.proofs.ShortLists.{one_true}
 use Rattle.inst_machine.proofs.examples.no_steps.Goals as goal
 
 pub returns-clause-unsettled : goal.returns-clause-unsettled
@@ -29,8 +30,8 @@ same_item x y e = cc
 
 pub returns-clause-false_literal : goal.returns-clause-false_literal
 returns-clause-false_literal c = λ d h.
-    let i : entry p_always (input 1) ≡ h.entry = same_item _ _ h.entry_at in
-    let j : yes (p (var 0)) ≡ h.literal = same_item _ _ (transport (λ (x : Entry). at_number x.clause 1 ≡ Some h.literal) (sym i) h.literal_at) in
+    let i : entry p_always (input 1) ≡ h.conclusion.entry = same_item _ _ h.conclusion.entry_at in
+    let j : yes (p (var 0)) ≡ h.conclusion.literal = same_item _ _ (transport (λ (x : Entry). at_number x.clause 1 ≡ Some h.conclusion.literal) (sym i) h.conclusion.literal_at) in
     let k : IsTrueLiteral (Contains []) (yes (p constant_bot)) = transport (λ (x : Signed Tree). IsTrueLiteral (Contains []) (subst_literal (grounding bot) x)) (sym j) h.literal_true in
     omega (arith, k.1)
 
@@ -45,8 +46,8 @@ conclusion_covered e l m r i j k u =
 
 pub returns-clause-covered : goal.returns-clause-covered
 returns-clause-covered c = λ d h.
-    let i : entry p_always (input 1) ≡ h.entry = same_item _ _ h.entry_at in
-    let o : entry not_p_c (input 2) ≡ h.partner_entry = same_item _ _ h.partner_at in
-    let j : yes (p (var 0)) ≡ h.literal = same_item _ _ (transport (λ (x : Entry). at_number x.clause 1 ≡ Some h.literal) (sym i) h.literal_at) in
-    let k : no (p constant_c) ≡ h.other_literal = same_item _ _ (transport (λ (x : Entry). at_number x.clause 1 ≡ Some h.other_literal) (sym o) h.other_at) in
-    h.uncovered (conclusion_covered h.entry h.literal h.other_literal h.unifier i j k h.most_general.unifies)
+    let i : entry p_always (input 1) ≡ h.conclusion.entry = same_item _ _ h.conclusion.entry_at in
+    let o : entry not_p_c (input 2) ≡ h.conclusion.partner_entry = same_item _ _ h.conclusion.partner_at in
+    let j : yes (p (var 0)) ≡ h.conclusion.literal = same_item _ _ (transport (λ (x : Entry). at_number x.clause 1 ≡ Some h.conclusion.literal) (sym i) h.conclusion.literal_at) in
+    let k : no (p constant_c) ≡ h.conclusion.other_literal = same_item _ _ (transport (λ (x : Entry). at_number x.clause 1 ≡ Some h.conclusion.other_literal) (sym o) h.conclusion.other_at) in
+    h.uncovered (conclusion_covered h.conclusion.entry h.conclusion.literal h.conclusion.other_literal h.conclusion.unifier i j k h.conclusion.most_general.unifies)

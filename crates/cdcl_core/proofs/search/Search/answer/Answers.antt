@@ -1,11 +1,14 @@
-use Rattle.std.proofs.Common.{ap, arith}
-use Rattle.cdcl_core.proofs.KeptLaws.{begun}
+use Rattle.std.proofs.Common.{ap, ◌∙◌}
 use Rattle.cdcl_core.proofs.search.Search.answer.Goals as goal
 
-pub loop-answer-init : goal.loop-answer-init
-loop-answer-init c =
-    let b = c.back_to.ensures in
+pub loop-pace-init : goal.loop-pace-init
+loop-pace-init c = record { search = c.begin.ensures.search; same = c.begin.ensures.same }
+
+pub loop-pace-preserved-then-is_due : goal.loop-pace-preserved-then-is_due
+loop-pace-preserved-then-is_due c =
+    let b = c.restart-then-is_due.ensures.back in
+    let i = c.loop-pace.invariant in
     record {
-      search = begun c.args.assumptions.now c.args.self.now.trail c.back_to.new.self b.right b.trail (omega (arith, b.assumed)) b.checked b.kept;
-      same = record { atoms = ap (λ t. t.atoms) b.trail; added = ap (λ x. x.added) b.log };
+      search = b.search c.args.assumptions.now i.search;
+      same = record { atoms = ap (λ t. t.atoms) b.back ∙ i.same.atoms; added = b.added ∙ i.same.added };
     }

@@ -10,7 +10,7 @@ returns-in-None-clause-goes c =
     let old = c.args.self.now in
     let assumptions = c.args.assumptions.now in
     if_ok c.choose.result
-    (λ found. (xs : List (Signed ℕ)) → IsSearch xs old → All (IsTrueUpTo old.trail.entries old.assumed) xs → Continues xs old c.choose.new.self found)
+    (λ found. (xs : List (Signed ℕ)) → IsSearch xs old → All (IsTrueUpTo old.trail.trail.entries old.assumed) xs → Continues xs old c.choose.new.self found)
     (Continues assumptions old c.choose.new.self)
     (λ found h. h assumptions c.requires.search (up_to_all assumptions old c.requires.trail c.requires.level c.in-None.ensures.none))
     c.choose.ensures.goes

@@ -12,7 +12,7 @@ use Rattle.cdcl_core.proofs.search.Search.assume_one.Goals as goal
 
 pub refute-requires-clause-refuted : goal.refute-requires-clause-refuted
 refute-requires-clause-refuted c =
-    let t = c.args.self.now.trail in
+    let t = c.args.self.now.trail.trail in
     let xs = c.args.assumptions.now in
     let d : Signed ℕ = record { positive = false; atom = 0 } in
     let l = get_or xs c.args.place d in
@@ -26,7 +26,7 @@ pub decide-requires-clause-unset : goal.decide-requires-clause-unset
 decide-requires-clause-unset c =
     let xs = c.args.assumptions.now in
     let d : Signed ℕ = record { positive = false; atom = 0 } in
-    unset_of c.args.self.now.trail.entries (get_or xs c.args.place d).atom (sym c.level_of.ensures ∙ none_of c.level_of.result (sym c.is_some.ensures ∙ c.if-is_some.false))
+    unset_of c.args.self.now.trail.trail.entries (get_or xs c.args.place d).atom (sym c.level_of.ensures ∙ none_of c.level_of.result (sym c.is_some.ensures ∙ c.if-is_some.false))
 
 pub returns-clause-goes : goal.returns-clause-goes
 returns-clause-goes c =
@@ -35,6 +35,6 @@ returns-clause-goes c =
     let d : Signed ℕ = record { positive = false; atom = 0 } in
     let l = get_or xs c.args.place d in
     let new : Search = record old { trail = c.decide.new.self; assumed = c.level-self.result; checked = c.args.place } in
-    let kept = decided_kept old new l c.decide.ensures refl refl refl refl c.requires.search.kept in
+    let kept = decided_kept old new l c.decide.ensures.trail c.decide.ensures.attached refl refl refl refl c.requires.search.kept in
     let inside = Contains-slice_get xs c.args.place l (slice_get-get_or xs c.args.place d c.requires.place) in
-    (assumed_search xs old new l c.args.place c.requires.trail c.decide.ensures kept c.level-self.ensures refl inside c.requires.level c.requires.before c.requires.search, decided_advances old new l c.requires.trail c.decide.ensures refl)
+    (assumed_search xs old new l c.args.place c.requires.trail c.decide.ensures.trail kept c.level-self.ensures refl inside c.requires.level c.requires.before c.requires.search, decided_advances old new l c.requires.trail c.decide.ensures.trail refl)

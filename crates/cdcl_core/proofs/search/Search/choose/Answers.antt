@@ -1,27 +1,31 @@
-use Rattle.std.proofs.Common.{refl, arith}
+use Rattle.std.proofs.Common.{length, refl, ap, arith}
 use Rattle.cdcl_core.specs.declared.search.Search.{Search}
 use Rattle.cdcl_core.proofs.StepLaws.{unset_of, decided_kept, decided_advances, chosen_search}
+use Rattle.cdcl_core.proofs.KeptLaws.{kept_same}
 use Rattle.cdcl_core.proofs.EndLaws.{satisfied}
 use Rattle.cdcl_core.proofs.search.Search.choose.Goals as goal
 
 pub decide-requires-clause-unset : goal.decide-requires-clause-unset
-decide-requires-clause-unset c = unset_of c.args.self.now.trail.entries c.in-Some.atom c.in-Some.ensures.some.1
+decide-requires-clause-unset c = unset_of c.args.self.now.trail.trail.entries c.in-Some.atom c.in-Some.ensures.some.1
 
 pub returns-in-Some-clause-goes : goal.returns-in-Some-clause-goes
 returns-in-Some-clause-goes c = λ assumptions s all.
     let old = c.args.self.now in
-    let new : Search = record old { trail = c.decide.new.self; next = c.in-Some.atom } in
-    let kept = decided_kept old new _ c.decide.ensures refl refl refl refl c.requires.kept in
-    (chosen_search assumptions old new _ c.decide.ensures kept refl refl s all, decided_advances old new _ c.requires.trail c.decide.ensures refl)
+    let new : Search = record old { trail = c.decide.new.self; next = c.in-Some.atom; marks = c.active_atom.new.marks } in
+    let kept = decided_kept old new _ c.decide.ensures.trail c.decide.ensures.attached refl refl c.active_atom.ensures.marks refl c.requires.kept in
+    (chosen_search assumptions old new _ c.decide.ensures.trail kept refl refl s all, decided_advances old new _ c.requires.trail c.decide.ensures.trail refl)
 
 pub returns-in_ok-valuation_of-in-None-clause-goes : goal.returns-in_ok-valuation_of-in-None-clause-goes
 returns-in_ok-valuation_of-in-None-clause-goes c = λ assumptions s all.
     let old = c.args.self.now in
     let valuation = c.in_ok-valuation_of-in-None.field-0 in
     record {
-      kept = c.requires.kept;
+      kept = kept_same old (record old { marks = c.active_atom.new.marks }) refl refl refl (ap length c.active_atom.ensures.marks) refl c.requires.kept;
       same = record { atoms = refl; added = refl };
-      answered = satisfied assumptions old valuation c.requires.kept c.requires.trail c.requires.stable
-          (λ k h e. c.in-None.ensures.none k (omega (arith, h, c.len-atoms.ensures, c.requires.kept.phases)) e)
-          (λ k h. c.in_ok-valuation_of-in-None.ensures.values k (omega (arith, h, c.len-atoms.ensures, c.requires.kept.phases))) all;
+      answered = record {
+        within = omega (arith, c.in_ok-valuation_of-in-None.ensures.size, c.len-atoms.ensures, c.requires.kept.phases);
+        makes_true = satisfied assumptions old valuation c.requires.kept c.requires.trail c.requires.stable
+            (λ k h e. c.in-None.ensures.none k (omega (arith, h, c.len-atoms.ensures, c.requires.kept.phases)) e)
+            (λ k h. c.in_ok-valuation_of-in-None.ensures.values k (omega (arith, h, c.len-atoms.ensures, c.requires.kept.phases))) all;
+      };
     }

@@ -7,45 +7,46 @@ use Rattle.cdcl_core.specs.declared.search.Search.{Search}
 use Rattle.cdcl_core.specs.Log.{IsLog}
 use Rattle.cdcl_core.specs.Search.{AreGiven}
 use Rattle.cdcl_core.proofs.StepLaws.{learned_below, rest_below, rest_is, learned_unit_of, learned_search}
+use Rattle.cdcl_core.proofs.BackLaws.{advances_from}
 use Rattle.cdcl_core.proofs.search.Search.learn.Goals as goal
 
 pub highest_level-level-requires : goal.highest_level-level-requires
 highest_level-level-requires c =
-    let t = c.args.self.now.trail in
+    let t = c.args.self.now.trail.trail in
     let clause = c.args.analysis.clause.items in
     let xs = c.deref.result.now in
     rest_below t.atoms clause (take (length xs - 1) (drop 1 xs)) (rest_is clause xs c.deref.ensures.value) (learned_below t clause c.requires.trail c.requires.analysis.learned)
 
 pub push_step-requires-clause-atoms : goal.push_step-requires-clause-atoms
 push_step-requires-clause-atoms c =
-    let t = c.args.self.now.trail in
+    let t = c.args.self.now.trail.trail in
     subst (AtomsBelow t.atoms) (sym c.from.ensures) (learned_below t c.args.analysis.clause.items c.requires.trail c.requires.analysis.learned)
 
 pub back_to-requires-clause-level : goal.back_to-requires-clause-level
 back_to-requires-clause-level c =
-    let t = c.args.self.now.trail in
+    let t = c.args.self.now.trail.trail in
     let clause = c.args.analysis.clause.items in
     let xs = c.deref.result.now in
     let l = c.index-lit.result.now in
     let level = c.highest_level-level.result in
     let u = learned_unit_of t clause (take (length xs - 1) (drop 1 xs)) l l level c.requires.trail c.requires.analysis.learned c.requires.some c.index-lit.ensures (rest_is clause xs c.deref.ensures.value) c.highest_level-level.ensures.reached c.highest_level-level.ensures.least in
-    omega (arith, u.within, ap (λ x. x.level) c.in_ok-key.ensures.trail, ap (λ x. x.level) c.in_ok-push_step.ensures.trail)
+    omega (arith, u.within, ap (λ x. x.level) c.in_ok-key.ensures.trail, ap (λ x. x.trail.level) c.in_ok-push_step.ensures.trail)
 
 pub imply-requires-clause-unset : goal.imply-requires-clause-unset
 imply-requires-clause-unset c =
-    let t = c.args.self.now.trail in
+    let t = c.args.self.now.trail.trail in
     let clause = c.args.analysis.clause.items in
     let xs = c.deref.result.now in
     let l = c.index-lit.result.now in
     let level = c.highest_level-level.result in
     let u = learned_unit_of t clause (take (length xs - 1) (drop 1 xs)) l l level c.requires.trail c.requires.analysis.learned c.requires.some c.index-lit.ensures (rest_is clause xs c.deref.ensures.value) c.highest_level-level.ensures.reached c.highest_level-level.ensures.least in
-    let trail = c.back_to.ensures.trail ∙ ap (λ x. back_at x level) (c.in_ok-key.ensures.trail ∙ c.in_ok-push_step.ensures.trail) in
+    let trail = c.back_to.ensures.trail ∙ ap (λ x. back_at x level) (c.in_ok-key.ensures.trail ∙ ap (λ x. x.trail) c.in_ok-push_step.ensures.trail) in
     subst (λ x. IsUnset x.entries l.atom) (sym trail) u.unset
 
 pub returns-clause-learned : goal.returns-clause-learned
-returns-clause-learned c = λ assumptions s.
+returns-clause-learned c = λ first assumptions from s.
     let old = c.args.self.now in
-    let t = old.trail in
+    let t = old.trail.trail in
     let clause = c.args.analysis.clause.items in
     let xs = c.deref.result.now in
     let l = c.index-lit.result.now in
@@ -59,12 +60,14 @@ returns-clause-learned c = λ assumptions s.
     let backed = c.back_to.ensures in
     let last : Step = record { clause = c.from.result; hints = c.args.analysis.hints.items } in
     let k = used.kept old.log.steps last pushed.steps in
-    let same_trail = used.trail ∙ pushed.trail in
-    let atoms : new.trail.atoms ≡ back.trail.atoms = ap (λ x. x.atoms) c.imply.ensures in
+    let same_trail = used.trail ∙ ap (λ x. x.trail) pushed.trail in
+    let atoms : new.trail.trail.atoms ≡ back.trail.trail.atoms = ap (λ x. x.atoms) c.imply.ensures.trail in
     let given = subst (λ x. AreGiven x t.entries) (sym backed.clauses) (subst (λ x. AreGiven c.use_last_step.new.self.clauses x.entries) same_trail k.0.given) in
-    learned_search assumptions old new clause l level key c.requires.trail u
-    (c.imply.ensures ∙ ap (λ x. with_implied x l key) (backed.trail ∙ ap (λ x. back_at x level) same_trail))
+    let shape = c.imply.ensures.trail ∙ ap (λ x. with_implied x l key) (backed.trail ∙ ap (λ x. back_at x level) same_trail) in
+    let went = learned_search assumptions old new clause l level key c.requires.trail u
+    shape
     (subst (λ n. IsLog n back.clauses back.log) (sym atoms) backed.kept.log) given
     (ap (λ x. clause_number x key) backed.clauses ∙ k.1 ∙ ap Some c.from.ensures)
-    (backed.kept.marks ∙ sym atoms) (backed.kept.phases ∙ sym atoms)
-    (ap (λ x. x.added) backed.log ∙ used.added ∙ pushed.added) (backed.assumed ∙ ap (λ n. min n level) (used.assumed ∙ pushed.assumed)) backed.checked s
+    (backed.kept.marks ∙ sym atoms) (backed.kept.phases ∙ sym atoms) (c.imply.ensures.attached back.clauses backed.kept.attached)
+    (ap (λ x. x.added) backed.log ∙ used.added ∙ pushed.added) (backed.assumed ∙ ap (λ n. min n level) (used.assumed ∙ pushed.assumed)) backed.checked s in
+    (went.0, advances_from first old new l level key from shape u.within went.1.same.added)

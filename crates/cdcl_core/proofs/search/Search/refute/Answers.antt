@@ -8,13 +8,13 @@ use Rattle.cdcl_core.proofs.search.Search.refute.Goals as goal
 pub clash-requires-clause-other : goal.clash-requires-clause-other
 clash-requires-clause-other c =
     let s = c.args.self.now in
-    let f = false_entry s.trail c.args.lit c.reason.result c.requires.trail c.requires.refuted c.reason.ensures in
+    let f = false_entry s.trail.trail c.args.lit c.reason.result c.requires.trail c.requires.refuted c.reason.ensures in
     subst (Contains c.args.assumptions.now) f.2 (all_assumed c.args.assumptions.now s c.requires.trail c.requires.level c.requires.search f.0 f.1 (f.3 ∙ c.in-None.is))
 
 pub clash-requires-clause-decided : goal.clash-requires-clause-decided
 clash-requires-clause-decided c =
     let s = c.args.self.now in
-    let f = false_entry s.trail c.args.lit c.reason.result c.requires.trail c.requires.refuted c.reason.ensures in
+    let f = false_entry s.trail.trail c.args.lit c.reason.result c.requires.trail c.requires.refuted c.reason.ensures in
     (f.0, f.1, f.2, f.3 ∙ c.in-None.is)
 
 pub analyze_given-requires-clause-ready : goal.analyze_given-requires-clause-ready
@@ -23,15 +23,15 @@ analyze_given-requires-clause-ready c = ready_of c.args.self.now c.requires.sear
 pub analyze_given-requires-clause-given : goal.analyze_given-requires-clause-given
 analyze_given-requires-clause-given c =
     let s = c.args.self.now in
-    let f = false_entry s.trail c.args.lit c.reason.result c.requires.trail c.requires.refuted c.reason.ensures in
+    let f = false_entry s.trail.trail c.args.lit c.reason.result c.requires.trail c.requires.refuted c.reason.ensures in
     (f.0, f.1, f.2 ∙ sym c.complement.ensures, f.3 ∙ c.in-Some.is)
 
 pub refuted-requires-clause-atoms : goal.refuted-requires-clause-atoms
-refuted-requires-clause-atoms c = core_atoms c.args.self.now.trail.atoms c.args.assumptions.now c.in_ok-core-in-Some.core c.requires.atoms c.in_ok-core-in-Some.ensures.within
+refuted-requires-clause-atoms c = core_atoms c.args.self.now.trail.trail.atoms c.args.assumptions.now c.in_ok-core-in-Some.core c.requires.atoms c.in_ok-core-in-Some.ensures.within
 
 pub refuted-requires-clause-closes : goal.refuted-requires-clause-closes
 refuted-requires-clause-closes c =
     let s = c.args.self.now in
     let marks = c.analyze_given.new.marks in
     core_closes s marks c.args.assumptions.now c.in_ok-core-in-Some.core c.args.lit c.in_ok-hints-in-Some.hints.items c.requires.trail c.requires.level c.requires.search c.requires.assumption c.in_ok-core-in-Some.ensures
-    (subst (λ l. ShowsGiven s.log s.trail.entries l marks c.in_ok-hints-in-Some.hints.items) c.complement.ensures c.in_ok-hints-in-Some.ensures.hints)
+    (subst (λ l. ShowsGiven s.log s.trail.trail.entries l marks c.in_ok-hints-in-Some.hints.items) c.complement.ensures c.in_ok-hints-in-Some.ensures.hints)

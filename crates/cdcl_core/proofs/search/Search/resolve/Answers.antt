@@ -1,18 +1,24 @@
-use Rattle.std.proofs.Common.{None, sym, subst, arith}
+use Rattle.std.proofs.Common.{sym, subst, arith}
 use Rattle.prop_logic.specs.Solving.{IsSubList}
 use Rattle.cdcl_core.proofs.SearchLaws.{ready_of}
-use Rattle.cdcl_core.proofs.GoLaws.{marks_search, marks_continue, marks_ends}
+use Rattle.cdcl_core.proofs.BackLaws.{back_marks, back_ends}
+use Rattle.cdcl_core.proofs.GoLaws.{marks_search, marks_ends}
 use Rattle.cdcl_core.proofs.search.Search.resolve.Goals as goal
 
 pub analyze-requires-clause-ready : goal.analyze-requires-clause-ready
-analyze-requires-clause-ready c = ready_of c.args.self.now c.requires.kept c.requires.trail (omega (arith, c.requires.count))
+analyze-requires-clause-ready c = ready_of c.back_to_conflict-count.new.self c.back_to_conflict-count.ensures.kept c.back_to_conflict-count.ensures.trail (omega (arith, c.back_to_conflict-count.ensures.count))
 
 pub returns-then-is_empty-clause-goes : goal.returns-then-is_empty-clause-goes
 returns-then-is_empty-clause-goes c = λ assumptions s.
-    marks_ends assumptions c.args.self.now c.refuted.new.self c.analyze.new.marks c.in_ok-refuted.field-0 (c.in_ok-refuted.ensures.ends assumptions (subst (λ x. IsSubList x assumptions) (sym c.new-core.ensures) tt))
+    let mid = c.back_to_conflict-count.new.self in
+    back_ends assumptions c.args.self.now mid c.refuted.new.self c.in_ok-refuted.field-0 c.back_to_conflict-count.ensures.back
+    (marks_ends assumptions mid c.refuted.new.self c.analyze.new.marks c.in_ok-refuted.field-0 (c.in_ok-refuted.ensures.ends assumptions (subst (λ x. IsSubList x assumptions) (sym c.new-core.ensures) tt)))
 
 pub returns-clause-goes : goal.returns-clause-goes
 returns-clause-goes c = λ assumptions s.
     let old = c.args.self.now in
+    let mid = c.back_to_conflict-count.new.self in
+    let back = c.back_to_conflict-count.ensures.back in
     let m = c.analyze.new.marks in
-    marks_continue assumptions old c.learn.new.self m None (c.in_ok-learn.ensures.learned assumptions (marks_search assumptions old m c.in_ok-analysis.ensures.size s))
+    let same = c.in_ok-analysis.ensures.size in
+    c.in_ok-learn.ensures.learned old assumptions (back_marks old mid m same back) (marks_search assumptions mid m same (back.search assumptions s))

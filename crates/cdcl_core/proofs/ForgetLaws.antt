@@ -1,0 +1,102 @@
+-- A learned clause is forgotten.
+use Rattle.std.proofs.Common.{◌≡◌, ◌≢◌, ℕ, inl, inr, List, length, take, true, Bor, Option, Some, None, refl, sym, ap, ◌∙◌, subst, arith}
+use Rattle.std.specs.Prelude.{All, Contains, slice_get, is_some, option_copied}
+use Rattle.std.proofs.lemmas.List.Elements.{All-contains, All-weaker}
+use Rattle.std.proofs.lemmas.Option.{none-some, same_Some}
+use Rattle.std.proofs.lemmas.Bool.{cases_eq, false≢true}
+use Rattle.inst_logic.specs.declared.signed.Signed.{Signed}
+use Rattle.prop_logic.specs.declared.literal.Hint.TheVariants.{Added}
+use Rattle.prop_logic.proofs.ListLaws.{All-from_contained, slice_get-Contains, Contains-slice_get}
+use Rattle.cdcl_trail.specs.declared.entry.Entry.{Entry}
+use Rattle.cdcl_trail.specs.Attached.{AreAttached}
+use Rattle.cdcl_trail.specs.Clauses.{clause_number, RemovesClause}
+use Rattle.cdcl_trail.specs.Trail.{Trail, IsTrail, reason_of, literals_of}
+use Rattle.cdcl_core.specs.declared.log.Log.{Log}
+use Rattle.cdcl_core.specs.declared.search.Search.{Search}
+use Rattle.cdcl_core.specs.Log.{IsFound, IsLog}
+use Rattle.cdcl_core.specs.Search.{AreGiven, IsKept, IsTrueUpTo, IsSearch, IsBackFrom, IsSameButClauses}
+use Rattle.cdcl_core.proofs.EntryLaws.{reason_found}
+
+still_there : (old new : List (Option (List (Signed ℕ)))) (n k : ℕ) (o : Option (List (Signed ℕ))) → RemovesClause old new n → (k ≡ n → ⊥) → clause_number old k ≡ o → clause_number new k ≡ o
+still_there old new n k o r other e = r.others k other ∙ e
+
+was_there : (old new : List (Option (List (Signed ℕ)))) (n k : ℕ) (c : List (Signed ℕ)) → RemovesClause old new n → clause_number new k ≡ Some c → clause_number old k ≡ Some c
+was_there old new n k c r e =
+    elim (cases_eq k n) [
+      | inl same ↦ absurd (none-some c (sym r.removed ∙ ap (clause_number new) (sym same) ∙ e))
+      | inr other ↦ sym (r.others k other) ∙ e
+    ]
+
+log_forgot : (atoms : ℕ) (old new : List (Option (List (Signed ℕ)))) (n : ℕ) (log : Log) → RemovesClause old new n → ((i : ℕ) → slice_get log.names.items n ≡ Some (Added i) → ⊥) → IsLog atoms old log → IsLog atoms new log
+log_forgot atoms old new n log r step v = record {
+  named = λ k c e. v.named k c (was_there old new n k c r e);
+  held = All-weaker (IsFound old log.names.items) (IsFound new log.names.items) (λ c f. (f.0, f.1, still_there old new n f.0 (Some c) r (λ same. step f.1 (ap (slice_get log.names.items) (sym same) ∙ f.3)) f.2, f.3)) log.added v.held;
+  below = v.below;
+  good = v.good;
+}
+
+given_forgot : (old new : List (Option (List (Signed ℕ)))) (n : ℕ) (es : List Entry) → RemovesClause old new n → All (λ e. e.reason ≢ Some n) es → AreGiven old es → AreGiven new es
+given_forgot old new n es r free g = λ k m e at reason.
+    let f = g k m e at reason in
+    let other : (m ≡ n → ⊥) = λ same. All-contains (λ x. x.reason ≢ Some n) es e free (Contains-slice_get es k e at) (reason ∙ ap Some same) in
+    (f.0, still_there old new n m (Some f.0) r other f.1, f.2)
+
+-- a clause with no literal that it gave is the reason of none
+pub no_reason : (t : Trail) (clauses : List (Option (List (Signed ℕ)))) (c : List (Signed ℕ)) (n : ℕ) → IsTrail t → AreGiven clauses t.entries → clause_number clauses n ≡ Some c → All (λ l. reason_of t.entries l.atom ≢ Some n) c → All (λ e. e.reason ≢ Some n) t.entries
+no_reason t clauses c n v g here all = All-from_contained (λ e. e.reason ≢ Some n) t.entries (λ e inside reason.
+    let at = slice_get-Contains t.entries e inside in
+    let f = g at.0 n e at.1 reason in
+    let same : f.0 ≡ c = same_Some f.0 c (sym f.1 ∙ here) in
+    All-contains (λ l. reason_of t.entries l.atom ≢ Some n) c e.lit all (subst (λ x. Contains x e.lit) same f.2.here) (reason_found t e e.lit.atom v inside refl ∙ reason))
+
+pub forgot : (old new : Search) (n : ℕ) → RemovesClause old.clauses new.clauses n → ((i : ℕ) → slice_get old.log.names.items n ≡ Some (Added i) → ⊥) → All (λ e. e.reason ≢ Some n) old.trail.trail.entries
+    → new.trail.trail ≡ old.trail.trail → ((before after : List (Option (List (Signed ℕ)))) → RemovesClause before after n → AreAttached old.trail before → AreAttached new.trail after)
+    → new.log ≡ old.log → new.marks ≡ old.marks → new.phases ≡ old.phases → IsKept old → IsKept new
+forgot old new n r step free trail attached log marks phases k =
+    let atoms : new.trail.trail.atoms ≡ old.trail.trail.atoms = ap (λ x. x.atoms) trail in
+    record {
+      log = subst (λ m. IsLog m new.clauses new.log) (sym atoms) (subst (IsLog old.trail.trail.atoms new.clauses) (sym log) (log_forgot old.trail.trail.atoms old.clauses new.clauses n old.log r step k.log));
+      given = subst (AreGiven new.clauses) (sym (ap (λ x. x.entries) trail)) (given_forgot old.clauses new.clauses n old.trail.trail.entries r free k.given);
+      attached = attached old.clauses new.clauses r k.attached;
+      marks = ap length marks ∙ k.marks ∙ sym atoms;
+      phases = ap (λ x. length x.items) phases ∙ k.phases ∙ sym atoms;
+    }
+
+pub found_clause : (r : Option (Bor (List (Signed ℕ)))) (clauses : List (Option (List (Signed ℕ)))) (n : ℕ) → is_some r ≡ true → option_copied r ≡ clause_number clauses n → (c : List (Signed ℕ)) × (clause_number clauses n ≡ Some c)
+found_clause None clauses n some e = absurd (false≢true some)
+found_clause (Some b) clauses n some e = (b.now, sym e)
+
+-- such states one after another
+pub same_none : (s : Search) → IsKept s → IsSameButClauses s s
+same_none s k = record { kept = k; trail = refl; log = refl; assumed = refl; checked = refl }
+
+pub same_both : (first old new : Search) → IsSameButClauses first old → IsSameButClauses old new → IsSameButClauses first new
+same_both first old new a b = record {
+  kept = b.kept;
+  trail = b.trail ∙ a.trail;
+  log = b.log ∙ a.log;
+  assumed = b.assumed ∙ a.assumed;
+  checked = b.checked ∙ a.checked;
+}
+
+same_search : (assumptions : List (Signed ℕ)) (old new : Search) → IsSameButClauses old new → IsSearch assumptions old → IsSearch assumptions new
+same_search assumptions old new b s =
+    let entries : new.trail.trail.entries ≡ old.trail.trail.entries = ap (λ t. t.entries) b.trail in
+    let level : new.trail.trail.level ≡ old.trail.trail.level = ap (λ t. t.level) b.trail in
+    record {
+      kept = b.kept;
+      low = omega (arith, s.low, b.assumed, level);
+      decisions = λ e c chosen h. s.decisions e (subst (λ es. Contains es e) entries c) chosen (omega (arith, h, b.assumed));
+      all_true = λ h. subst (λ es. All (IsTrueUpTo es new.assumed) assumptions) (sym entries) (subst (λ n. All (IsTrueUpTo old.trail.trail.entries n) assumptions) (sym b.assumed) (s.all_true (omega (arith, h, b.assumed, level))));
+      checked = subst (λ es. All (Contains (literals_of es)) (take new.checked assumptions)) (sym entries) (subst (λ n. All (Contains (literals_of old.trail.trail.entries)) (take n assumptions)) (sym b.checked) s.checked);
+    }
+
+pub back_forgot : (first old new : Search) → IsBackFrom first old → IsSameButClauses old new → IsBackFrom first new
+back_forgot first old new b s = record {
+  trail = b.trail;
+  level = b.level;
+  within = b.within;
+  back = s.trail ∙ b.back;
+  added = ap (λ x. x.added) s.log ∙ b.added;
+  search = λ assumptions x. same_search assumptions old new s (b.search assumptions x);
+}

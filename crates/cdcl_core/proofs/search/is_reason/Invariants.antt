@@ -1,0 +1,7 @@
+use Rattle.std.proofs.Common.{◌≢◌, take, Some}
+use Rattle.std.specs.Prelude.{All}
+use Rattle.cdcl_trail.specs.Trail.{reason_of}
+use Rattle.cdcl_core.proofs.search.is_reason.Given as goal
+
+abbrev pub invariant-loop-lit : goal.invariant-loop-lit
+invariant-loop-lit l = All (λ x. reason_of l.trail.trail.entries x.atom ≢ Some l.fn.number) (take l.lit-index l.clause)

@@ -1,5 +1,0 @@
-use Rattle.std.proofs.Common.{◌≡◌}
-use Rattle.cdcl_core.proofs.tests.add_pairs.Given as goal
-
-abbrev pub invariant-loop-i : goal.invariant-loop-i
-invariant-loop-i g l = g.S.Solver.atoms l.solver ≡ g.S.Solver.atoms l.initial.solver

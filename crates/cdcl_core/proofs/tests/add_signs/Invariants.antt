@@ -1,5 +1,0 @@
-use Rattle.std.proofs.Common.{◌≡◌}
-use Rattle.cdcl_core.proofs.tests.add_signs.Given as goal
-
-abbrev pub invariant-loop-bits : goal.invariant-loop-bits
-invariant-loop-bits g l = g.S.Solver.atoms l.solver ≡ g.S.Solver.atoms l.initial.solver

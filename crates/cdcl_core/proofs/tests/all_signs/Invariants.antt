@@ -1,5 +1,0 @@
-use Rattle.prop_logic.specs.Literal.{AllAtomsBelow}
-use Rattle.cdcl_core.proofs.tests.all_signs.Given as goal
-
-abbrev pub invariant-loop-bits : goal.invariant-loop-bits
-invariant-loop-bits l = AllAtomsBelow 3 l.clauses

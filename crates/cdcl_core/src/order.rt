@@ -1,0 +1,190 @@
+// The order in which atoms are decided: those that were in recent conflicts first (Moskewicz and others, Chaff, 2001; Eén
+// and Sörensson, 2003). Nothing is proved of the order: who asks tests what it gives, and looks elsewhere where it has
+// nothing more.
+ghost use Rattle.std.specs.Prelude.{◌≡◌, ◌<◌, ◌/◌, ℕ, length, None, IfSome};
+ghost use Rattle.cdcl_trail.specs.Trail.{level_of};
+
+use cdcl_trail::Trail;
+use inst_logic::Memory;
+use std::alloc::Global;
+
+const HIGHEST: u64 = 1 << 60;
+
+// A heap of atoms by activity, with the place of each atom in it.
+#[derive(Drop)]
+pub(crate) struct Order {
+    heap: Vec<usize>,
+    places: Vec<usize>,
+    activities: Vec<u64>,
+    step: u64,
+}
+
+impl Order {
+    pub(crate) fn new(alloc: Global) -> Order {
+        Order {
+            heap: Vec::new(alloc),
+            places: Vec::new(alloc),
+            activities: Vec::new(alloc),
+            step: 1 << 10,
+        }
+    }
+
+    // Takes the room of one more atom, which is the last.
+    pub(crate) fn grow(&mut self) -> Result<(), Memory> {
+        let atom = self.places.len();
+        self.activities.push(0)?;
+        self.places.push(0)?;
+        self.insert(atom);
+        Ok(())
+    }
+
+    fn activity(&self, atom: usize) -> u64 {
+        self.activities.get(atom).copied().unwrap_or(0)
+    }
+
+    // Puts the atom at the place.
+    fn put(&mut self, place: usize, atom: usize)
+        ensures { length self.new.heap.items ≡ length self.old.heap.items }
+    {
+        if place < self.heap.len() {
+            self.heap[place] = atom;
+        }
+        if atom < self.places.len() {
+            self.places[atom] = place;
+        }
+    }
+
+    // Exchanges the atoms at the places, if the one at `lower` is more active.
+    fn exchange(&mut self, upper: usize, lower: usize) -> bool
+        ensures { length self.new.heap.items ≡ length self.old.heap.items }
+    {
+        let above = self.heap.get(upper).copied().unwrap_or(0);
+        let below = self.heap.get(lower).copied().unwrap_or(0);
+        if self.activity(below) <= self.activity(above) {
+            return false;
+        }
+        self.put(upper, below);
+        self.put(lower, above);
+        true
+    }
+
+    fn rise(&mut self, from: usize)
+        ensures { length self.new.heap.items ≡ length self.old.heap.items }
+    {
+        let mut place = from;
+        while 0 < place {
+            let parent = (place - 1) / 2;
+            if !self.exchange(parent, place) {
+                return;
+            }
+            place = parent;
+        }
+    }
+
+    // The more active of the two below the place.
+    fn best_below(&self, place: usize) -> usize
+        requires { place < length self.now.heap.items / 2 }
+        ensures { place < result }
+    {
+        let left = 2 * place + 1;
+        let first = self.heap.get(left).copied().unwrap_or(0);
+        match self.heap.get(left + 1) {
+            Some(second) => {
+                if self.activity(first) < self.activity(*second) {
+                    return left + 1;
+                }
+            }
+            None => {}
+        }
+        left
+    }
+
+    fn sink(&mut self, from: usize)
+        ensures { length self.new.heap.items ≡ length self.old.heap.items }
+    {
+        let mut place = from;
+        while place < self.heap.len() / 2 {
+            let below = self.best_below(place);
+            if !self.exchange(place, below) {
+                return;
+            }
+            place = below;
+        }
+    }
+
+    // Takes the most active atom out.
+    pub(crate) fn pop(&mut self) -> Option<usize>
+        ensures some { IfSome result (λ atom. length self.new.heap.items < length self.old.heap.items) }
+    {
+        let last = self.heap.pop()?;
+        if self.heap.is_empty() {
+            return Some(last);
+        }
+        let top = self.heap[0];
+        self.put(0, last);
+        self.sink(0);
+        Some(top)
+    }
+
+    // Takes atoms out until one has no value.
+    pub(crate) fn pick(&mut self, trail: &Trail, atoms: usize) -> Option<usize>
+        requires { atoms ≡ trail.now.trail.atoms }
+        ensures { IfSome result (λ atom. (atom < trail.now.trail.atoms) × (level_of trail.now.trail.entries atom ≡ None)) }
+    {
+        while let Some(atom) = self.pop() {
+            if atom < atoms && trail.level_of(atom).is_none() {
+                return Some(atom);
+            }
+        }
+        None
+    }
+
+    fn holds(&self, atom: usize) -> bool {
+        let place = self.places.get(atom).copied().unwrap_or(0);
+        self.heap.get(place).copied() == Some(atom)
+    }
+
+    // Puts the atom in again, if it is not there.
+    pub(crate) fn insert(&mut self, atom: usize) {
+        if self.holds(atom) {
+            return;
+        }
+        let place = self.heap.len();
+        if self.heap.push(atom).is_err() {
+            return;
+        }
+        self.put(place, atom);
+        self.rise(place);
+    }
+
+    // Makes all activities smaller, without a change of their order.
+    fn shrink(&mut self) {
+        for place in 0..self.activities.len() {
+            if place < self.activities.len() {
+                self.activities[place] = self.activities[place] >> 40;
+            }
+        }
+        self.step = (self.step >> 40).max(1);
+    }
+
+    // The atom was in a conflict.
+    pub(crate) fn raise(&mut self, atom: usize) {
+        if atom >= self.activities.len() {
+            return;
+        }
+        let activity = self.activities[atom].saturating_add(self.step);
+        self.activities[atom] = activity;
+        if HIGHEST < activity {
+            self.shrink();
+        }
+        if self.holds(atom) {
+            let place = self.places.get(atom).copied().unwrap_or(0);
+            self.rise(place);
+        }
+    }
+
+    // A conflict is over: what is raised from now on counts more.
+    pub(crate) fn decay(&mut self) {
+        self.step = self.step.saturating_add(self.step / 16);
+    }
+}

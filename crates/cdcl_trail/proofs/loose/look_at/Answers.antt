@@ -1,0 +1,85 @@
+use Rattle.std.proofs.Common.{◌≡◌, ◌<◌, ◌⊎◌, length, set, Some, None, sym, ap, ◌∙◌, subst}
+use Rattle.std.proofs.lemmas.Option.{none-some, same_Some}
+use Rattle.std.specs.Prelude.{All, Contains}
+use Rattle.cdcl_trail.specs.Clauses.{clause_number}
+use Rattle.cdcl_trail.specs.Propagation.{IsFalseIn}
+use Rattle.cdcl_trail.specs.Running.{Runs}
+use Rattle.cdcl_trail.specs.Values.{entries_of}
+use Rattle.cdcl_trail.specs.Watch.{slot_of, pair_at, AreWatched}
+use Rattle.cdcl_trail.specs.declared.watch.Pair.{Pair}
+use Rattle.cdcl_trail.proofs.ScanLaws.{decided_false}
+use Rattle.cdcl_trail.proofs.VisitLaws.{runs_none, neither, atom_below, slot_below, slot_injective}
+use Rattle.cdcl_trail.proofs.WatchLaws.{pair_at_set}
+use Rattle.cdcl_trail.proofs.LooseLaws.{paired_watched, paired_runs, unit_running, unit_runs, last_true, none_at}
+use Rattle.cdcl_trail.proofs.loose.look_at.Goals as goal
+
+pub returns-in_default-first_open-clause-looked : goal.returns-in_default-first_open-clause-looked
+returns-in_default-first_open-clause-looked c =
+    (c.in-Some.clause.now, sym c.in-Some.ensures, subst (All (IsFalseIn (entries_of c.args.values.now))) c.as_slice.ensures c.in_default-first_open.ensures.none)
+
+pub put-requires-clause-unset : goal.put-requires-clause-unset
+put-requires-clause-unset c = neither (entries_of c.args.values.now) c.in-Some-first_open.first (decided_false _ _ _ c.is_true.ensures c.if-not-is_true.true) c.in-Some-first_open.ensures.some.1
+
+pub returns-in_ok-watch_pair-in-Some-other_open-clause-running : goal.returns-in_ok-watch_pair-in-Some-other_open-clause-running
+returns-in_ok-watch_pair-in-Some-other_open-clause-running c =
+    let clauses = c.args.clauses.now in
+    let n = c.args.number in
+    let r = c.requires.running in
+    let a = c.in-Some-first_open.first in
+    let b = c.in-Some-other_open.second in
+    let atoms = length c.args.values.now.entries.items in
+    let at : clause_number clauses n ≡ Some c.in-Some.clause.now = sym c.in-Some.ensures in
+    let room = c.requires.room c.in-Some.clause.now at in
+    let none : pair_at c.args.pairs.now n ≡ None = none_at c.args.pairs.now n None room (sym c.if-is_some.ensures) in
+    let has_a : Contains c.in-Some.clause.now a = subst (λ ls. Contains ls a) c.as_slice.ensures c.in-Some-first_open.ensures.some.0 in
+    let has_b : Contains c.in-Some.clause.now b = subst (λ ls. Contains ls b) c.as_slice-2.ensures c.in-Some-other_open.ensures.some.0 in
+    let in_a = subst (λ m. slot_of a < m) (sym r.slots) (slot_below a atoms (atom_below clauses n atoms c.in-Some.clause.now a r.below at has_a)) in
+    let in_b = subst (λ m. slot_of b < m) (sym r.slots) (slot_below b atoms (atom_below clauses n atoms c.in-Some.clause.now b r.below at has_b)) in
+    let e = c.in_ok-watch_pair-in-Some-other_open.ensures in
+    let w = paired_watched clauses c.args.lists.now c.args.pairs.now n (record { first = a; second = b }) c.in-Some.clause.now r.watched none at has_a has_b (λ s. c.in-Some-other_open.ensures.some.1 (sym (slot_injective a b s))) in_a in_b room in
+    record {
+      values = r.values;
+      trail = r.trail;
+      watched = subst (AreWatched clauses c.watch_pair.new.lists) (sym e.pairs) (subst (λ ls. AreWatched clauses ls (set c.args.pairs.now n (Some (record { first = a; second = b })))) (sym e.lists) w);
+      slots = e.size ∙ r.slots;
+      below = r.below;
+    }
+
+pub returns-in_ok-watch_pair-in-Some-other_open-clause-runs : goal.returns-in_ok-watch_pair-in-Some-other_open-clause-runs
+returns-in_ok-watch_pair-in-Some-other_open-clause-runs c =
+    let n = c.args.number in
+    let room = c.requires.room c.in-Some.clause.now (sym c.in-Some.ensures) in
+    subst (Runs c.args.clauses.now c.args.level c.args.values.now c.args.pairs.now c.args.values.now) (sym c.in_ok-watch_pair-in-Some-other_open.ensures.pairs)
+    (paired_runs c.args.clauses.now c.args.level c.args.values.now c.args.pairs.now n (record { first = c.in-Some-first_open.first; second = c.in-Some-other_open.second }) room c.in-Some-first_open.ensures.some.1 c.in-Some-other_open.ensures.some.2)
+
+pub returns-in_ok-watch_pair-in-Some-other_open-clause-looked : goal.returns-in_ok-watch_pair-in-Some-other_open-clause-looked
+returns-in_ok-watch_pair-in-Some-other_open-clause-looked c d at e =
+    let n = c.args.number in
+    let p : Pair = record { first = c.in-Some-first_open.first; second = c.in-Some-other_open.second } in
+    none-some p (sym e ∙ ap (λ ps. pair_at ps n) c.in_ok-watch_pair-in-Some-other_open.ensures.pairs ∙ pair_at_set c.args.pairs.now n (Some p) (c.requires.room d at))
+
+pub returns-then-not-is_true-clause-running : goal.returns-then-not-is_true-clause-running
+returns-then-not-is_true-clause-running c =
+    let a = c.in-Some-first_open.first in
+    let r = c.requires.running in
+    let has_a : Contains c.in-Some.clause.now a = subst (λ ls. Contains ls a) c.as_slice.ensures c.in-Some-first_open.ensures.some.0 in
+    let low = atom_below c.args.clauses.now c.args.number (length c.args.values.now.entries.items) c.in-Some.clause.now a r.below (sym c.in-Some.ensures) has_a in
+    let unset = neither (entries_of c.args.values.now) a (decided_false _ _ _ c.is_true.ensures c.if-not-is_true.true) c.in-Some-first_open.ensures.some.1 in
+    unit_running c.args.clauses.now c.args.level c.args.values.now c.put.new.self c.args.lists.now c.args.pairs.now c.args.number a r low unset c.put.ensures.values c.put.ensures.entries c.put.ensures.atoms
+
+pub returns-then-not-is_true-clause-runs : goal.returns-then-not-is_true-clause-runs
+returns-then-not-is_true-clause-runs c =
+    let a = c.in-Some-first_open.first in
+    let es = entries_of c.args.values.now in
+    let has_a : Contains c.in-Some.clause.now a = subst (λ ls. Contains ls a) c.as_slice.ensures c.in-Some-first_open.ensures.some.0 in
+    let all : All (λ m. IsFalseIn es m ⊎ (m ≡ a)) c.in-Some.clause.now = subst (All (λ m. IsFalseIn es m ⊎ (m ≡ a))) c.as_slice-2.ensures c.in-None.ensures.none in
+    unit_runs c.args.clauses.now c.args.level c.args.values.now c.put.new.self c.args.pairs.now c.args.number a c.in-Some.clause.now (sym c.in-Some.ensures) has_a all c.put.ensures.entries c.put.ensures.atoms
+
+pub returns-then-not-is_true-clause-looked : goal.returns-then-not-is_true-clause-looked
+returns-then-not-is_true-clause-looked c d at =
+    let a = c.in-Some-first_open.first in
+    let has_a : Contains c.in-Some.clause.now a = subst (λ ls. Contains ls a) c.as_slice.ensures c.in-Some-first_open.ensures.some.0 in
+    (a, subst (λ e. Contains e a) (same_Some c.in-Some.clause.now d (c.in-Some.ensures ∙ at)) has_a, last_true (entries_of c.args.values.now) (entries_of c.put.new.self) a c.args.level c.args.number c.put.ensures.entries)
+
+pub returns-else-not-is_true-clause-runs : goal.returns-else-not-is_true-clause-runs
+returns-else-not-is_true-clause-runs c = runs_none c.args.clauses.now c.args.level c.args.values.now c.args.pairs.now

@@ -1,0 +1,8 @@
+use Rattle.std.proofs.Common.{take}
+use Rattle.std.specs.Prelude.{All}
+use Rattle.cdcl_trail.specs.Propagation.{IsFalseIn}
+use Rattle.cdcl_trail.specs.Values.{entries_of}
+use Rattle.cdcl_trail.proofs.scan.first_open.Given as goal
+
+abbrev pub invariant-loop-l : goal.invariant-loop-l
+invariant-loop-l l = All (IsFalseIn (entries_of l.values)) (take l.l-index l.clause)

@@ -1,6 +1,0 @@
-use Rattle.std.proofs.Common.{sym}
-use Rattle.cdcl_trail.proofs.ScanLaws.{none_value}
-use Rattle.cdcl_trail.proofs.tests.decide.Goals as goal
-
-pub decide-requires-clause-unset : goal.decide-requires-clause-unset
-decide-requires-clause-unset c = none_value c.args.trail.now.entries c.args.l (sym c.in-None.ensures)

@@ -1,0 +1,12 @@
+use Rattle.cdcl_trail.proofs.WatchLaws.{moved_by, moved_list}
+use Rattle.cdcl_trail.proofs.visit.move_watch.Goals as goal
+
+pub returns-clause-watched : goal.returns-clause-watched
+returns-clause-watched c clauses w p d same m =
+    moved_by clauses c.args.lists.now c.add_watch.new.lists c.drop_watch.new.lists c.args.pairs.now c.args.l c.args.other c.args.next c.args.place c.args.number c.drop_watch.result w p d
+    c.in_ok-add_watch.ensures.added c.drop_watch.ensures.value c.drop_watch.ensures.dropped same m
+
+pub returns-clause-lists : goal.returns-clause-lists
+returns-clause-lists c w at =
+    moved_list c.args.lists.now c.add_watch.new.lists c.drop_watch.new.lists c.args.l c.args.next c.args.place (record { number = c.args.number; blocker = c.args.other }) c.drop_watch.result w
+    c.requires.slot c.requires.apart c.in_ok-add_watch.ensures.added c.drop_watch.ensures.value c.drop_watch.ensures.dropped at

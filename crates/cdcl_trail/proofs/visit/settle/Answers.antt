@@ -1,0 +1,74 @@
+use Rattle.std.proofs.Common.{◌≡◌, set, ◌++◌, ◌∷◌, [], ◌⊎◌, Some, sym, ap, ◌∙◌, subst}
+use Rattle.std.proofs.lemmas.Option.{slice_get_within, none-some}
+use Rattle.std.specs.Prelude.{All, Contains}
+use Rattle.cdcl_trail.specs.Clauses.{clause_number}
+use Rattle.cdcl_trail.specs.Propagation.{IsFalseIn}
+use Rattle.cdcl_trail.specs.Values.{entries_of}
+use Rattle.cdcl_trail.specs.Watch.{slot_of, list_at, pair_at, pair_of}
+use Rattle.cdcl_trail.proofs.ScanLaws.{decided_true, decided_false}
+use Rattle.cdcl_trail.proofs.VisitLaws.{of_pair, other_below, neither, visits_false, visits_moved, visits_implied, move_of}
+use Rattle.cdcl_trail.proofs.WatchLaws.{pair_within}
+use Rattle.cdcl_trail.proofs.visit.settle.Goals as goal
+
+pub move_watch-requires-clause-place : goal.move_watch-requires-clause-place
+move_watch-requires-clause-place c = slice_get_within (list_at c.args.lists.now (slot_of c.args.l)) c.args.place c.requires.watch.0 c.requires.watch.1
+
+pub move_watch-requires-clause-number : goal.move_watch-requires-clause-number
+move_watch-requires-clause-number c = pair_within c.args.pairs.now c.args.number c.requires.pair.0 c.requires.pair.1
+
+pub returns-in_default-clause-visits : goal.returns-in_default-clause-visits
+returns-in_default-clause-visits c =
+    let x = c.requires.running.watched.of_clauses c.args.number c.requires.pair.0 c.requires.pair.1 in
+    absurd (none-some x.clause (c.in_default.ensures ∙ x.here))
+
+pub is_false-requires-clause-atom : goal.is_false-requires-clause-atom
+is_false-requires-clause-atom c =
+    let p = c.requires.pair in
+    other_below c.args.clauses.now c.args.level c.args.values.now c.args.lists.now c.args.pairs.now c.args.number p.0 c.args.l c.args.other c.requires.running p.1 p.2
+
+pub put-requires-clause-atom : goal.put-requires-clause-atom
+put-requires-clause-atom c =
+    let p = c.requires.pair in
+    other_below c.args.clauses.now c.args.level c.args.values.now c.args.lists.now c.args.pairs.now c.args.number p.0 c.args.l c.args.other c.requires.running p.1 p.2
+
+pub put-requires-clause-unset : goal.put-requires-clause-unset
+put-requires-clause-unset c =
+    neither (entries_of c.args.values.now) c.args.other c.requires.not_true (decided_false _ _ _ c.is_false.ensures c.if-is_false.false)
+
+pub returns-then-is_false-clause-visits : goal.returns-then-is_false-clause-visits
+returns-then-is_false-clause-visits c =
+    let es = entries_of c.args.values.now in
+    let at : clause_number c.args.clauses.now c.args.number ≡ Some c.in-Some.clause.now = sym c.in-Some.ensures in
+    let all : All (λ m. IsFalseIn es m ⊎ (m ≡ c.args.other)) c.in-Some.clause.now = subst (All (λ m. IsFalseIn es m ⊎ (m ≡ c.args.other))) c.as_slice.ensures c.in-None.ensures.none in
+    visits_false c.args.clauses.now c.args.level c.args.l c.args.place c.args.values.now c.args.lists.now c.args.pairs.now c.args.number c.args.other c.in-Some.clause.now c.requires.running at all
+    (decided_true _ _ _ c.is_false.ensures c.if-is_false.true)
+
+pub returns-else-is_false-clause-visits : goal.returns-else-is_false-clause-visits
+returns-else-is_false-clause-visits c =
+    let es = entries_of c.args.values.now in
+    let p = c.requires.pair in
+    let w = c.requires.watch in
+    let o = c.args.other in
+    let at : clause_number c.args.clauses.now c.args.number ≡ Some c.in-Some.clause.now = sym c.in-Some.ensures in
+    let all : All (λ m. IsFalseIn es m ⊎ (m ≡ o)) c.in-Some.clause.now = subst (All (λ m. IsFalseIn es m ⊎ (m ≡ o))) c.as_slice.ensures c.in-None.ensures.none in
+    let has = (of_pair c.args.clauses.now c.args.lists.now c.args.pairs.now c.args.number p.0 c.args.l o c.in-Some.clause.now c.requires.running.watched p.1 p.2 at).1 in
+    visits_implied c.args.clauses.now c.args.level c.args.l c.args.place c.args.values.now c.put.new.self c.args.lists.now c.args.pairs.now w.0 o c.in-Some.clause.now c.requires.running
+    w.1 (ap (clause_number c.args.clauses.now) w.2 ∙ at) has all
+    (other_below c.args.clauses.now c.args.level c.args.values.now c.args.lists.now c.args.pairs.now c.args.number p.0 c.args.l o c.requires.running p.1 p.2)
+    (neither es o c.requires.not_true (decided_false _ _ _ c.is_false.ensures c.if-is_false.false))
+    c.put.ensures.values (c.put.ensures.entries ∙ ap (λ n. es ++ (record { lit = o; level = c.args.level; reason = Some n }) ∷ []) (sym w.2)) c.put.ensures.atoms
+
+pub returns-in_ok-move_watch-in-Some-other_open-clause-visits : goal.returns-in_ok-move_watch-in-Some-other_open-clause-visits
+returns-in_ok-move_watch-in-Some-other_open-clause-visits c =
+    let p = c.requires.pair in
+    let w = c.requires.watch in
+    let o = c.args.other in
+    let next = c.in-Some-other_open.next in
+    let at : clause_number c.args.clauses.now w.0.number ≡ Some c.in-Some.clause.now = ap (clause_number c.args.clauses.now) w.2 ∙ sym c.in-Some.ensures in
+    let pair : pair_at c.args.pairs.now w.0.number ≡ Some p.0 = ap (pair_at c.args.pairs.now) w.2 ∙ p.1 in
+    let some = c.in-Some-other_open.ensures.some in
+    let has : Contains c.in-Some.clause.now next = subst (λ ls. Contains ls next) c.as_slice.ensures some.0 in
+    let e = c.in_ok-move_watch-in-Some-other_open.ensures in
+    let move = move_of c.args.clauses.now c.args.level c.args.l c.args.place c.args.values.now c.args.lists.now c.args.pairs.now w.0 p.0 o next c.in-Some.clause.now c.requires.running w.1 pair p.2 at has some.1 c.requires.is_false some.2 in
+    visits_moved c.args.clauses.now c.args.level c.args.l c.args.place c.args.values.now c.args.lists.now c.move_watch.new.lists c.args.pairs.now c.move_watch.new.pairs w.0 p.0 o next c.requires.running
+    w.1 pair p.2 some.2 (e.watched c.args.clauses.now w.0 p.0 c.in-Some.clause.now w.2 move) (e.lists w.0 w.1) e.size (e.pairs ∙ ap (λ n. set c.args.pairs.now n (Some (pair_of o next))) (sym w.2))

@@ -1,0 +1,62 @@
+// The watch lists of all literals.
+ghost use Rattle.std.specs.Prelude.{◌≡◌, ◌++◌, ◌∷◌, [], ◌<◌, ◌≤◌, length, slice_get, slice_set, Some, OnOk};
+ghost use Rattle.std.specs.List.{swap_remove};
+ghost use Rattle.cdcl_trail.specs.Watch.{slot_of, list_at};
+
+use crate::watch::Watch;
+use crate::watch_list::WatchList;
+use inst_logic::Memory;
+use prop_logic::Lit;
+
+// The place of the literal's list.
+pub(crate) fn slot(l: Lit) -> usize
+    requires { slot_of l ≤ usize.MAX }
+    ensures { result ≡ slot_of l }
+{
+    if l.positive {
+        l.atom + l.atom + 1
+    } else {
+        l.atom + l.atom
+    }
+}
+
+// How many clauses watch the literal.
+pub(crate) fn count_at(lists: &[WatchList], l: Lit) -> usize
+    requires { slot_of l < length lists.now }
+    ensures { result ≡ length (list_at lists.now (slot_of l)) }
+{
+    lists[slot(l)].len()
+}
+
+pub(crate) fn watch_at(lists: &[WatchList], l: Lit, place: usize) -> Watch
+    requires slot { slot_of l < length lists.now }
+    requires place { place < length (list_at lists.now (slot_of l)) }
+    ensures { slice_get (list_at lists.now (slot_of l)) place ≡ Some result }
+{
+    lists[slot(l)].at(place)
+}
+
+pub(crate) fn add_watch(lists: &mut [WatchList], l: Lit, watch: Watch) -> Result<(), Memory>
+    requires { slot_of l < length lists.old }
+    ensures added { OnOk result (lists.new ≡ slice_set lists.old (slot_of l) (list_at lists.old (slot_of l) ++ watch ∷ [])) }
+    ensures size { length lists.new ≡ length lists.old }
+{
+    lists[slot(l)].push(watch)
+}
+
+pub(crate) fn drop_watch(lists: &mut [WatchList], l: Lit, place: usize) -> Watch
+    requires slot { slot_of l < length lists.old }
+    requires place { place < length (list_at lists.old (slot_of l)) }
+    ensures value { slice_get (list_at lists.old (slot_of l)) place ≡ Some result }
+    ensures dropped { lists.new ≡ slice_set lists.old (slot_of l) (swap_remove (list_at lists.old (slot_of l)) place result) }
+{
+    lists[slot(l)].swap_remove(place)
+}
+
+pub(crate) fn put_watch(lists: &mut [WatchList], l: Lit, place: usize, watch: Watch)
+    requires slot { slot_of l < length lists.old }
+    requires place { place < length (list_at lists.old (slot_of l)) }
+    ensures { lists.new ≡ slice_set lists.old (slot_of l) (slice_set (list_at lists.old (slot_of l)) place watch) }
+{
+    lists[slot(l)].put(place, watch)
+}

@@ -1,0 +1,185 @@
+// What comes of one watch of a literal that became false.
+ghost use Rattle.std.specs.Prelude.{◌≡◌, ◌≢◌, ◌⊎◌, ◌<◌, ℕ, Option, List, Some, length, slice_get, slice_set, IfOk, OnOk, OnErr, Contains};
+ghost use Rattle.std.specs.List.{swap_remove};
+ghost use Rattle.inst_logic.specs.declared.signed.Signed.{Signed};
+ghost use Rattle.cdcl_trail.specs.Propagation.{IsFalseIn};
+ghost use Rattle.cdcl_trail.specs.Trail.{literals_of};
+ghost use Rattle.cdcl_trail.specs.Values.{entries_of};
+ghost use Rattle.cdcl_trail.specs.Watch.{slot_of, list_at, pair_at, pair_of, HasBoth, AreWatched, IsMove};
+ghost use Rattle.cdcl_trail.specs.Running.{IsRunning, Visits};
+ghost use Rattle.cdcl_trail.specs.declared.watch.Watch.{Watch};
+ghost use Rattle.cdcl_trail.specs.declared.watch.Pair.{Pair};
+
+use crate::clauses::Clauses;
+use crate::entry::Entry;
+use crate::lists::{add_watch, drop_watch, put_watch, slot, watch_at};
+use crate::scan::other_open;
+use crate::values::Values;
+use crate::watch::{Pair, Watch};
+use crate::watch_list::WatchList;
+use inst_logic::Memory;
+use prop_logic::Lit;
+
+// What came of a watch.
+#[derive(Clone, Copy)]
+pub(crate) enum Visit {
+    // The clause has a true literal, and still watches this one.
+    Kept,
+    // The clause watches another literal in place of this one.
+    Moved,
+    // All literals of this clause are false.
+    False(usize),
+}
+
+// The clause that watched the literal and the other one watches the next one in its place.
+fn move_watch(
+    lists: &mut [WatchList],
+    pairs: &mut [Option<Pair>],
+    l: Lit,
+    place: usize,
+    number: usize,
+    other: Lit,
+    next: Lit,
+) -> Result<(), Memory>
+    requires slot { slot_of l < length lists.old }
+    requires next { slot_of next < length lists.old }
+    requires apart { slot_of next ≢ slot_of l }
+    requires place { place < length (list_at lists.old (slot_of l)) }
+    requires number { number < length pairs.old }
+    ensures watched { OnOk result ((clauses : List (Option (List (Signed ℕ)))) (w : Watch) (p : Pair) (c : List (Signed ℕ)) → w.number ≡ number → IsMove clauses lists.old pairs.old l other next place w p c → AreWatched clauses lists.new pairs.new) }
+    ensures lists { OnOk result ((w : Watch) → slice_get (list_at lists.old (slot_of l)) place ≡ Some w → list_at lists.new (slot_of l) ≡ swap_remove (list_at lists.old (slot_of l)) place w) }
+    ensures size { OnOk result (length lists.new ≡ length lists.old) }
+    ensures pairs { OnOk result (pairs.new ≡ slice_set pairs.old number (Some (pair_of other next))) }
+{
+    let watch = Watch {
+        number,
+        blocker: other,
+    };
+    add_watch(lists, next, watch)?;
+    drop_watch(lists, l, place);
+    pairs[number] = Some(Pair {
+        first: other,
+        second: next,
+    });
+    Ok(())
+}
+
+// What the clause of this number watches, if it watches.
+pub(crate) fn pair_of_clause(pairs: &[Option<Pair>], number: usize) -> Option<Pair>
+    ensures { result ≡ pair_at pairs.now number }
+{
+    match pairs.get(number) {
+        Some(pair) => *pair,
+        None => None,
+    }
+}
+
+// The other literal of the pair.
+fn other_of(pair: Pair, l: Lit) -> Lit
+    ensures { (pair.first ≡ l) ⊎ (pair.second ≡ l) → HasBoth pair l result }
+{
+    if pair.first == l {
+        pair.second
+    } else {
+        pair.first
+    }
+}
+
+// Looks for another literal of the clause to watch, where the other watch is not true.
+fn settle(
+    values: &mut Values,
+    lists: &mut [WatchList],
+    pairs: &mut [Option<Pair>],
+    clauses: &Clauses,
+    level: usize,
+    l: Lit,
+    place: usize,
+    number: usize,
+    other: Lit,
+) -> Result<Visit, Memory>
+    requires running { IsRunning clauses.now level values.old lists.old pairs.old }
+    requires is_false { IsFalseIn (entries_of values.old) l }
+    requires watch { (w : Watch) × (slice_get (list_at lists.old (slot_of l)) place ≡ Some w) × (w.number ≡ number) }
+    requires pair { (p : Pair) × (pair_at pairs.old number ≡ Some p) × HasBoth p l other }
+    requires not_true { ¬ Contains (literals_of (entries_of values.old)) other }
+    ensures visits { IfOk result (Visits clauses.now level l place values.old lists.old pairs.old values.new lists.new pairs.new) }
+    ensures err { OnErr result (values.new ≡ values.old) }
+{
+    let Some(clause) = clauses.get(number) else {
+        return Ok(Visit::False(number));
+    };
+    match other_open(values, clause.as_slice(), other) {
+        Some(next) => {
+            move_watch(lists, pairs, l, place, number, other, next)?;
+            Ok(Visit::Moved)
+        }
+        None => {
+            if values.is_false(other) {
+                return Ok(Visit::False(number));
+            }
+            values.put(Entry {
+                lit: other,
+                level,
+                reason: Some(number),
+            });
+            Ok(Visit::Kept)
+        }
+    }
+}
+
+// Visits the clause of a watch whose blocker is not true.
+fn visit_clause(
+    values: &mut Values,
+    lists: &mut [WatchList],
+    pairs: &mut [Option<Pair>],
+    clauses: &Clauses,
+    level: usize,
+    l: Lit,
+    place: usize,
+    number: usize,
+) -> Result<Visit, Memory>
+    requires running { IsRunning clauses.now level values.old lists.old pairs.old }
+    requires is_false { IsFalseIn (entries_of values.old) l }
+    requires watch { (w : Watch) × (slice_get (list_at lists.old (slot_of l)) place ≡ Some w) × (w.number ≡ number) }
+    ensures visits { IfOk result (Visits clauses.now level l place values.old lists.old pairs.old values.new lists.new pairs.new) }
+    ensures err { OnErr result (values.new ≡ values.old) }
+{
+    let Some(pair) = pair_of_clause(pairs, number) else {
+        return Ok(Visit::False(number));
+    };
+    let other = other_of(pair, l);
+    if values.is_true(other) {
+        let watch = Watch {
+            number,
+            blocker: other,
+        };
+        put_watch(lists, l, place, watch);
+        return Ok(Visit::Kept);
+    }
+    settle(
+        values, lists, pairs, clauses, level, l, place, number, other,
+    )
+}
+
+// Visits the clause at a place of the literal's list.
+pub(crate) fn visit_at(
+    values: &mut Values,
+    lists: &mut [WatchList],
+    pairs: &mut [Option<Pair>],
+    clauses: &Clauses,
+    level: usize,
+    l: Lit,
+    place: usize,
+) -> Result<Visit, Memory>
+    requires running { IsRunning clauses.now level values.old lists.old pairs.old }
+    requires is_false { IsFalseIn (entries_of values.old) l }
+    requires place { place < length (list_at lists.old (slot_of l)) }
+    ensures visits { IfOk result (Visits clauses.now level l place values.old lists.old pairs.old values.new lists.new pairs.new) }
+    ensures err { OnErr result (values.new ≡ values.old) }
+{
+    let watch = watch_at(lists, l, place);
+    if values.is_true(watch.blocker) {
+        return Ok(Visit::Kept);
+    }
+    visit_clause(values, lists, pairs, clauses, level, l, place, watch.number)
+}

@@ -1,0 +1,25 @@
+// Watched literals (Moskewicz and others, Chaff, 2001) with blockers (Sörensson and Eén, MiniSat 2.1, 2008).
+
+use prop_logic::Lit;
+
+/// A clause that watches the literal of its list, and another literal of it: where that one is true, the clause need not be
+/// looked at.
+#[derive(Clone, Copy, Debug, PartialEq, Eq)]
+pub struct Watch {
+    pub number: usize,
+    pub blocker: Lit,
+}
+
+/// The two literals that a clause watches.
+#[derive(Clone, Copy, Debug, PartialEq, Eq)]
+pub struct Pair {
+    pub first: Lit,
+    pub second: Lit,
+}
+
+/// How far propagation came: before this place of the trail, and before this place of the loose clauses.
+#[derive(Clone, Copy, Debug, PartialEq, Eq)]
+pub struct Head {
+    pub place: usize,
+    pub passed: usize,
+}

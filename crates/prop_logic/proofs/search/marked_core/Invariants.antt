@@ -1,6 +1,0 @@
-use Rattle.std.proofs.Common.{take}
-use Rattle.prop_logic.proofs.SearchLaws.{IsCoreOf}
-use Rattle.prop_logic.proofs.search.marked_core.Given as goal
-
-abbrev pub invariant-loop-lit : goal.invariant-loop-lit
-invariant-loop-lit l = IsCoreOf l.marks (take l.lit-index l.assumptions) l.core

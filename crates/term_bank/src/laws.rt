@@ -1,0 +1,27 @@
+// Laws of banks that grow.
+ghost use Rattle.std.specs.Prelude.{◌≡◌, ℕ, List, map};
+ghost use Rattle.std.specs.List.{All};
+ghost use Rattle.inst_logic.specs.Tree.{Tree};
+ghost use Rattle.inst_logic.specs.WellFormed.{IsAtom};
+ghost use Rattle.inst_logic.specs.declared.signed.Signed.{Signed};
+ghost use Rattle.term_bank.specs.Forest.{Forest, Extends, IsAt, AreIds, IsClauseOf, tree_at, clause_at};
+
+/// A bank extends itself, and what extends an extension extends the first.
+pub fn extensions()
+    ensures itself { (f : Forest) → Extends f f }
+    ensures transitive { (f g h : Forest) → Extends f g → Extends g h → Extends f h }
+{}
+
+/// Ids keep their trees as the bank grows.
+pub fn trees_stay()
+    ensures at { (f g : Forest) (id : ℕ) (t : Tree) → Extends f g → IsAt f id t → IsAt g id t }
+    ensures ids { (f g : Forest) (ids : List ℕ) → Extends f g → AreIds f ids → AreIds g ids }
+    ensures trees { (f g : Forest) (ids : List ℕ) → Extends f g → AreIds f ids → map (tree_at g) ids ≡ map (tree_at f) ids }
+{}
+
+/// Clauses of ids stand for the same clauses as the bank grows, and their atoms stay atoms.
+pub fn clauses_stay()
+    ensures ids { (f g : Forest) (c : List (Signed ℕ)) → Extends f g → IsClauseOf f c → IsClauseOf g c }
+    ensures trees { (f g : Forest) (c : List (Signed ℕ)) → Extends f g → IsClauseOf f c → clause_at g c ≡ clause_at f c }
+    ensures atoms { (f g : Forest) (c : List (Signed ℕ)) → Extends f g → IsClauseOf f c → All (λ l. IsAtom (tree_at f l.atom)) c → All (λ l. IsAtom (tree_at g l.atom)) c }
+{}
