@@ -4,13 +4,12 @@ use Rattle.std.specs.Prelude.{All, IfOk, Result, Ok, Err, option_map}
 use Rattle.std.proofs.lemmas.Option.{slice_get-map}
 use Rattle.inst_logic.specs.declared.signed.Signed.{Signed}
 use Rattle.inst_logic.specs.Tree.{Tree}
-use Rattle.inst_logic.specs.Clauses.{TreeClause, instance, canonical_form, IsCanonical}
+use Rattle.inst_logic.specs.Clauses.{TreeClause, IsCanonical}
 use Rattle.inst_logic.specs.Derivations.{at_number}
 use Rattle.inst_logic.specs.Unifiers.{IsMostGeneral, IsProper}
 use Rattle.inst_logic.specs.WellFormed.{IsAtom}
 use Rattle.inst_logic.proofs.ShownLaws.{at_number_contains}
 use Rattle.inst_calculus.specs.Entries.{Entry}
-use Rattle.inst_calculus.proofs.Choice.{instance_of_choice}
 use Rattle.inst_calculus.proofs.Membership.{all_in, contains_in}
 use Rattle.cert_format.specs.Validity.{IsConclusion}
 use Rattle.saturation_cert.specs.declared.member.Member.{Member}
@@ -130,20 +129,6 @@ module _ (f : Forest) where
           conclusion = h.conclusion;
         },
       )
-
--- the members have one conclusion, whichever most general unifier is taken
-pub one_conclusion : (es : List Entry) (from place partner other : ℕ) (c d : TreeClause) → IsConclusion es from place partner other c → IsConclusion es from place partner other d → c ≡ d
-one_conclusion es from place partner other c d h k =
-    let e : h.entry ≡ k.entry = some_same h.entry k.entry (sym h.entry_at ∙ k.entry_at) in
-    let p : h.partner_entry ≡ k.partner_entry = some_same h.partner_entry k.partner_entry (sym h.partner_at ∙ k.partner_at) in
-    let l : h.literal ≡ k.literal = some_same h.literal k.literal (sym h.literal_at ∙ ap (λ (x : Entry). at_number x.clause place) e ∙ k.literal_at) in
-    let m : h.other_literal ≡ k.other_literal = some_same h.other_literal k.other_literal (sym h.other_at ∙ ap (λ (x : Entry). at_number x.clause other) p ∙ k.other_at) in
-    let general : IsMostGeneral k.unifier h.literal.atom h.other_literal.atom =
-    subst (λ (z : Signed Tree). IsMostGeneral k.unifier z.atom h.other_literal.atom) (sym l) (subst (λ (z : Signed Tree). IsMostGeneral k.unifier k.literal.atom z.atom) (sym m) k.most_general) in
-    h.conclusion
-    ∙ (instance_of_choice h.literal.atom h.other_literal.atom h.unifier k.unifier h.most_general general h.entry.clause).0
-    ∙ ap (λ (x : Entry). canonical_form (instance k.unifier.left x.clause)) e
-    ∙ sym k.conclusion
 
 -- what follows of the value of a result
 pub when_ok : {A E : Type 0} (P Q : A → Type 0) → ((x : A) → P x → Q x) → (r : Result A E) → IfOk r P → IfOk r Q

@@ -4,6 +4,7 @@ use Rattle.std.specs.Prelude.{◌↔◌, Bool, false, IfOk, IsTrue, Result, Ok, 
 use Rattle.inst_logic.specs.declared.signed.Signed.{Signed}
 use Rattle.inst_logic.specs.Clauses.{TreeClause}
 use Rattle.inst_calculus.specs.Entries.{Entry}
+use Rattle.inst_calculus.proofs.OneConclusion.{one_conclusion}
 use Rattle.term_bank.specs.Forest.{Forest, AreDistinct, Extends, IsClauseOf, clause_at}
 use Rattle.term_bank.proofs.Clauses.{clause_extends}
 use Rattle.cert_format.specs.Validity.{Gives, IsConclusion, IsRightMember}
@@ -14,7 +15,6 @@ use Rattle.saturation_cert.specs.declared.certificate.Base.{Base}
 use Rattle.saturation_cert.specs.Values.{base_of, entry_of, origin_of}
 use Rattle.cert_check.specs.Conclusions.{IsCanonicalMember, MembersGive}
 use Rattle.cert_check.proofs.Bases.{member_canonical}
-use Rattle.cert_check.proofs.Conclusions.{one_conclusion}
 use Rattle.cert_check.proofs.Differences.{same_ids}
 use Rattle.cert_check.proofs.Interning.{ids_grown}
 use Rattle.cert_check.proofs.Rightness.{right_by}
