@@ -45,7 +45,7 @@ one_whole f l h = in_all (IsWholeClause f) ((l ∷ []) ∷ []) (λ c i. elim i [
 
 -- the only clause has the atom as its only literal
 pub only_whole : (f : Forest) (l : Signed ℕ) (none_yet c : List (Signed ℕ)) (empty cs : List (List (Signed ℕ))) → none_yet ≡ [] → c ≡ none_yet ++ l ∷ [] → empty ≡ [] → cs ≡ empty ++ c ∷ [] → IsAtomOf f l.atom → All (IsWholeClause f) cs
-only_whole f l none_yet c empty cs e is n more h =
+only_whole f l none_yet c empty cs e is n all_is h =
     let one : c ≡ l ∷ [] = is ∙ ap (λ (x : List (Signed ℕ)). x ++ l ∷ []) e in
-    let all : cs ≡ (l ∷ []) ∷ [] = more ∙ ap (λ (x : List (List (Signed ℕ))). x ++ c ∷ []) n ∙ ap (λ (x : List (Signed ℕ)). x ∷ []) one in
+    let all : cs ≡ (l ∷ []) ∷ [] = all_is ∙ ap (λ (x : List (List (Signed ℕ))). x ++ c ∷ []) n ∙ ap (λ (x : List (Signed ℕ)). x ∷ []) one in
     subst (All (IsWholeClause f)) (sym all) (one_whole f l h)

@@ -1,11 +1,8 @@
-//! Worked clauses and certificates, mostly built from texts: what the solvers, the checker and the truth test
-//! say of them.
+//! Worked certificates, mostly built from texts: what the checker and the truth test say of them.
 #![tactic(auto)]
 
 #[cfg(test)]
 mod answers;
-#[cfg(test)]
-mod assumptions;
 #[cfg(test)]
 mod building;
 #[cfg(test)]
