@@ -1,25 +1,21 @@
 -- The ground clauses of the members under one term.
-use Rattle.std.proofs.Common.{◌≡◌, ℕ, zero, suc, ◌-◌, ◌^◌, ◌<◌, ◌≤◌, List, [], ◌∷◌, refl, ap, sym, ◌∙◌, map, min, subst, arith, length, length-append, get_or}
-use Rattle.std.specs.Prelude.{All, option_map, nat_eq}
-use Rattle.std.proofs.lemmas.Bool.Decides.{Decides-eqb}
+use Rattle.std.proofs.Common.{◌≡◌, ℕ, zero, suc, ◌<◌, ◌≤◌, List, [], ◌∷◌, refl, ap, sym, ◌∙◌, map, subst, arith, length, get_or}
+use Rattle.std.specs.Prelude.{All, option_map}
 use Rattle.std.proofs.lemmas.List.{length-map}
 use Rattle.std.proofs.lemmas.List.Elements.{All-get_or}
-use Rattle.std.proofs.lemmas.List.Sums.{sum_by-cons}
 use Rattle.std.proofs.lemmas.Option.{slice_get-map}
 use Rattle.inst_logic.specs.declared.signed.Signed.{Signed}
 use Rattle.inst_logic.specs.declared.symbol.Sym.{Sym}
-use Rattle.inst_logic.specs.Tree.{Tree, var, app, Trees, none, more}
+use Rattle.inst_logic.specs.Tree.{Tree, app, none}
 use Rattle.inst_logic.specs.Equal.{literal_eq}
 use Rattle.inst_logic.specs.Lists.{distinct}
-use Rattle.inst_logic.specs.Measure.{tree_size, trees_size, clause_size}
-use Rattle.inst_logic.specs.Substitution.{tree_vars, trees_vars, clause_vars}
+use Rattle.inst_logic.specs.Substitution.{clause_vars}
 use Rattle.inst_logic.specs.Clauses.{TreeClause, IsCanonical, instance, order_of}
 use Rattle.inst_logic.proofs.ShownLaws.{All-from_slice_get}
 use Rattle.inst_calculus.specs.Abstraction.{abstraction}
 use Rattle.inst_calculus.specs.Entries.{Entry, entry_clauses}
 use Rattle.inst_calculus.proofs.CanonicalForms.{canonical_variable_below}
 use Rattle.inst_calculus.proofs.Clauses.{literals_agree}
-use Rattle.inst_calculus.proofs.Distinct.{length_distinct}
 use Rattle.inst_calculus.proofs.Membership.{◌∈◌}
 use Rattle.term_bank.specs.Forest.{Forest, Extends, IsAt, IsClauseOf, clause_at, tree_at}
 use Rattle.term_bank.proofs.Clauses.{clause_extends}

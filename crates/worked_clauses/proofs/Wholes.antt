@@ -1,15 +1,12 @@
 -- Whole clauses as a bank grows.
-use Rattle.std.proofs.Common.{◌≡◌, ℕ, ◌<◌, List, [], ◌∷◌, ◌++◌, sym, subst, ap, ◌∙◌, arith, inl, inr, length, get_or, Some}
-use Rattle.std.specs.Prelude.{All, slice_get, Option, None, IfSome, option_copied}
-use Rattle.std.specs.Borrow.{Bor}
-use Rattle.std.proofs.lemmas.Option.{slice_get_within, get_or_from_slice_get}
+use Rattle.std.proofs.Common.{ℕ, ◌<◌, List, [], ◌∷◌, ◌++◌, sym, subst, ap, ◌∙◌, arith, inl, inr, length}
+use Rattle.std.specs.Prelude.{All}
 use Rattle.inst_logic.specs.Tree.{Tree}
 use Rattle.inst_logic.specs.declared.signed.Signed.{Signed}
 use Rattle.inst_logic.specs.WellFormed.{IsAtom, IsFormedClause, atom_is_formed, clause_is_formed}
 use Rattle.inst_calculus.proofs.Membership.{◌∈◌, all_in, in_all, in_either, in_map, passes}
-use Rattle.term_bank.specs.Forest.{Forest, AreFormed, Extends, IsClauseAt, IsClauseOf, clause_at, tree_at}
-use Rattle.saturation_cert.specs.Wholes.{IsWholeBase, IsWholeClause}
-use Rattle.saturation_cert.specs.declared.certificate.Base.{Base}
+use Rattle.term_bank.specs.Forest.{Forest, Extends, IsClauseAt, clause_at, tree_at}
+use Rattle.saturation_cert.specs.Wholes.{IsWholeClause}
 use Rattle.saturation_cert.specs.declared.certificate.GroundStep.{GroundStep}
 use Rattle.saturation_cert.specs.declared.member.Member.{Member}
 
@@ -53,30 +50,5 @@ one_step_more f g grown ss s whole here = in_all (λ (x : GroundStep). IsWholeCl
     each : (d : GroundStep) → d ∈ (ss ++ s ∷ []) → IsWholeClause g d.clause
     each d i = elim (in_either d ss (s ∷ []) i) [ inl k ↦ clause_grown f g grown d.clause (all_in (λ (x : GroundStep). IsWholeClause f x.clause) ss whole d k) | inr (inl e) ↦ subst (λ (x : GroundStep). IsWholeClause g x.clause) (sym e) here | inr (inr b) ↦ absurd b ]
 
--- what a whole base has stays whole as its bank grows
-pub base_grown : (b : Base) (g : Forest) → Extends b.bank g → AreFormed g → IsWholeBase b → IsWholeBase (record b { bank = g })
-base_grown b g grown formed h = record {
-  bank = formed;
-  inputs = clauses_grown b.bank g grown b.inputs h.inputs;
-  axioms = clauses_grown b.bank g grown b.axioms h.axioms;
-  members = in_all (λ (m : Member). IsWholeClause g m.clause) b.members (λ m i. clause_grown b.bank g grown m.clause (all_in (λ (n : Member). IsWholeClause b.bank n.clause) b.members h.members m i));
-}
-
--- the atom of a literal of one of these clauses is in the bank
-pub atom_within : (f : Forest) (cs : List (List (Signed ℕ))) (i n : ℕ) (c : List (Signed ℕ)) (l : Signed ℕ) → All (IsWholeClause f) cs → slice_get cs i ≡ Some c → slice_get c n ≡ Some l → l.atom < length f.trees
-atom_within f cs i n c l whole at here =
-    let h : IsWholeClause f (get_or cs i c) = whole i c (slice_get_within cs i c at) in
-    let k : IsWholeClause f c = subst (IsWholeClause f) (get_or_from_slice_get cs i c c at) h in
-    let b : (get_or c n l).atom < length f.trees = k.ids n l (slice_get_within c n l here) in
-    subst (λ (x : Signed ℕ). x.atom < length f.trees) (get_or_from_slice_get c n l l here) b
-
--- the atoms of one of these clauses are in the bank
-pub clause_within : (f : Forest) (cs : List (List (Signed ℕ))) (i : ℕ) (c : List (Signed ℕ)) → All (IsWholeClause f) cs → slice_get cs i ≡ Some c → IsClauseOf f c
-clause_within f cs i c whole at =
-    let h : IsWholeClause f (get_or cs i c) = whole i c (slice_get_within cs i c at) in
-    let k : IsWholeClause f c = subst (IsWholeClause f) (get_or_from_slice_get cs i c c at) h in
-    k.ids
-
-pub found_within : (f : Forest) (cs : List (List (Signed ℕ))) (i : ℕ) (r : Option (Bor (List (Signed ℕ)))) → All (IsWholeClause f) cs → option_copied r ≡ slice_get cs i → IfSome r (λ c. IsClauseOf f c.now)
-found_within f cs i None whole e = tt
-found_within f cs i (Some c) whole e = clause_within f cs i c.now whole (sym e)
+pub members_grown : (f g : Forest) → Extends f g → (ms : List Member) → All (λ m. IsWholeClause f m.clause) ms → All (λ (m : Member). IsWholeClause g m.clause) ms
+members_grown f g grown ms h = in_all (λ (m : Member). IsWholeClause g m.clause) ms (λ m i. clause_grown f g grown m.clause (all_in (λ (n : Member). IsWholeClause f n.clause) ms h m i))

@@ -1,14 +1,13 @@
-// Certificates from texts of clauses.
+// The lists of certificates from texts of clauses. Only whoever puts them together owns a bank.
 ghost use Rattle.std.specs.Prelude.{◌≡◌, ◌∷◌, ◌++◌, [], All, IfOk, List, OnOk};
 ghost use Rattle.inst_logic.specs.declared.signed.Signed.{Signed};
 ghost use Rattle.term_bank.specs.Forest.{AreFormed, Extends, Forest};
 ghost use Rattle.tptp_read.specs.Text.{IsFormedStatement};
-ghost use Rattle.saturation_cert.specs.Wholes.{IsWholeBase, IsWholeClause, IsWholeRefutation, IsWholeSaturation};
+ghost use Rattle.saturation_cert.specs.Wholes.{IsWholeClause};
 
-use inst_logic::{Kind, Memory, Name, NameList, PlaceList, Sym};
+use inst_logic::Memory;
 use saturation_cert::{
-    Base, GroundHint, GroundHintList, GroundStep, GroundStepList, Member, MemberList, Origin,
-    Refutation, Saturation,
+    GroundHint, GroundHintList, GroundStep, GroundStepList, Member, MemberList, Origin,
 };
 use std::alloc::Global;
 use std::test::Fail;
@@ -31,7 +30,7 @@ fn add_clause(bank: &mut Bank, ids: &mut IdClauseList, statement: &Statement) ->
 }
 
 // The clauses of the text, in this bank.
-pub fn clauses_in(alloc: Global, bank: &mut Bank, text: &str) -> Result<IdClauseList, Fail>
+fn clauses_in(alloc: Global, bank: &mut Bank, text: &str) -> Result<IdClauseList, Fail>
     requires bank { AreFormed bank.old }
     ensures formed { AreFormed bank.new }
     ensures extends { Extends bank.old bank.new }
@@ -89,45 +88,6 @@ fn members_in(
     Ok(members)
 }
 
-// The inputs, the axioms and the members of these texts.
-pub fn base_of(
-    alloc: Global,
-    inputs: &str,
-    axioms: &str,
-    members: &str,
-    origins: &[Origin],
-) -> Result<Base, Fail>
-    ensures { IfOk result IsWholeBase }
-{
-    let mut bank = Bank::new(alloc);
-    let inputs = clauses_in(alloc, &mut bank, inputs)?;
-    let axioms = clauses_in(alloc, &mut bank, axioms)?;
-    let members = members_in(alloc, &mut bank, members, origins)?;
-    Ok(Base {
-        bank,
-        inputs,
-        names: NameList::new(alloc),
-        axioms,
-        members,
-    })
-}
-
-// The saturation of these texts, with a place for each member.
-pub fn saturation_of(
-    alloc: Global,
-    inputs: &str,
-    members: &str,
-    origins: &[Origin],
-    places: &[usize],
-) -> Result<Saturation, Fail>
-    ensures { IfOk result IsWholeSaturation }
-{
-    Ok(Saturation {
-        base: base_of(alloc, inputs, "", members, origins)?,
-        places: PlaceList::from(places.to_vec(alloc)?),
-    })
-}
-
 // Adds the clause of the statement, if it has one, as a step with these hints.
 fn add_step(
     alloc: Global,
@@ -173,29 +133,87 @@ fn steps_in(
     Ok(steps)
 }
 
-// The refutation of these texts with the function `bot_0` of this many arguments, whose steps have these hints.
-pub fn refutation_of(
-    alloc: Global,
-    base: Base,
-    arity: usize,
-    grounds: &str,
-    steps: &str,
-    hints: &[GroundHint],
-) -> Result<Refutation, Fail>
-    requires { IsWholeBase base }
-    ensures { IfOk result IsWholeRefutation }
+// The texts of a certificate. The members have these origins, or `input` with their own number where there are no more, and
+// each step has these hints.
+#[derive(Drop)]
+pub struct Worked<'a> {
+    pub inputs: &'a str,
+    pub axioms: &'a str,
+    pub members: &'a str,
+    pub origins: &'a [Origin],
+    pub grounds: &'a str,
+    pub steps: &'a str,
+    pub hints: &'a [GroundHint],
+}
+
+// The lists of a base.
+#[derive(Drop)]
+pub struct BaseLists {
+    pub inputs: IdClauseList,
+    pub axioms: IdClauseList,
+    pub members: MemberList,
+}
+
+// The lists of a derivation.
+#[derive(Drop)]
+pub struct ProofLists {
+    pub grounds: IdClauseList,
+    pub steps: GroundStepList,
+}
+
+// All lists of a refutation.
+#[derive(Drop)]
+pub struct RefutationLists {
+    pub base: BaseLists,
+    pub proof: ProofLists,
+}
+
+// The inputs, the axioms and the members of these texts.
+pub fn base_lists(alloc: Global, bank: &mut Bank, worked: &Worked) -> Result<BaseLists, Fail>
+    requires { AreFormed bank.old }
+    ensures formed { AreFormed bank.new }
+    ensures inputs { IfOk result (λ l. All (IsWholeClause bank.new) l.inputs) }
+    ensures axioms { IfOk result (λ l. All (IsWholeClause bank.new) l.axioms) }
+    ensures members { IfOk result (λ l. All (λ m. IsWholeClause bank.new m.clause) l.members) }
 {
-    let mut base = base;
-    let grounds = clauses_in(alloc, &mut base.bank, grounds)?;
-    let steps = steps_in(alloc, &mut base.bank, steps, hints)?;
-    Ok(Refutation {
-        base,
-        bot: Sym {
-            name: Name::of(alloc, b"bot_0")?,
-            kind: Kind::Function,
-            arity,
-        },
-        grounds,
-        steps,
+    let inputs = clauses_in(alloc, bank, worked.inputs)?;
+    let axioms = clauses_in(alloc, bank, worked.axioms)?;
+    let members = members_in(alloc, bank, worked.members, worked.origins)?;
+    Ok(BaseLists {
+        inputs,
+        axioms,
+        members,
     })
+}
+
+// The ground clauses and the steps of these texts.
+fn proof_lists(alloc: Global, bank: &mut Bank, worked: &Worked) -> Result<ProofLists, Fail>
+    requires { AreFormed bank.old }
+    ensures formed { AreFormed bank.new }
+    ensures extends { Extends bank.old bank.new }
+    ensures grounds { IfOk result (λ l. All (IsWholeClause bank.new) l.grounds) }
+    ensures steps { IfOk result (λ l. All (λ s. IsWholeClause bank.new s.clause) l.steps) }
+{
+    let grounds = clauses_in(alloc, bank, worked.grounds)?;
+    let steps = steps_in(alloc, bank, worked.steps, worked.hints)?;
+    Ok(ProofLists { grounds, steps })
+}
+
+// The lists of the refutation of these texts.
+pub fn refutation_lists(
+    alloc: Global,
+    bank: &mut Bank,
+    worked: &Worked,
+) -> Result<RefutationLists, Fail>
+    requires { AreFormed bank.old }
+    ensures formed { AreFormed bank.new }
+    ensures inputs { IfOk result (λ l. All (IsWholeClause bank.new) l.base.inputs) }
+    ensures axioms { IfOk result (λ l. All (IsWholeClause bank.new) l.base.axioms) }
+    ensures members { IfOk result (λ l. All (λ m. IsWholeClause bank.new m.clause) l.base.members) }
+    ensures grounds { IfOk result (λ l. All (IsWholeClause bank.new) l.proof.grounds) }
+    ensures steps { IfOk result (λ l. All (λ s. IsWholeClause bank.new s.clause) l.proof.steps) }
+{
+    let base = base_lists(alloc, bank, worked)?;
+    let proof = proof_lists(alloc, bank, worked)?;
+    Ok(RefutationLists { base, proof })
 }

@@ -1,14 +1,11 @@
-//! Worked clauses and certificates, mostly built from texts: what the solvers, unification, the checker and the truth test
-//! say of them.
+//! Worked certificates, mostly built from texts: what the checker and the truth test say of them.
 #![tactic(auto)]
 
 #[cfg(test)]
 mod answers;
 #[cfg(test)]
-mod assumptions;
-#[cfg(test)]
 mod building;
 #[cfg(test)]
-mod tests;
+mod shared;
 #[cfg(test)]
-mod unification;
+mod tests;

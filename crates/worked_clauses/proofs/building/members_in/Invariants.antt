@@ -1,4 +1,4 @@
-use Rattle.std.specs.Prelude.{All, List, ℕ}
+use Rattle.std.specs.Prelude.{All, List}
 use Rattle.term_bank.specs.Forest.{AreFormed, Extends, Forest}
 use Rattle.saturation_cert.specs.declared.member.Member.{Member}
 use Rattle.saturation_cert.specs.Wholes.{IsWholeClause}

@@ -1,5 +1,0 @@
-use Rattle.std.proofs.Common.{◌≡◌}
-use Rattle.worked_clauses.proofs.assumptions.make_atoms.Given as goal
-
-abbrev pub invariant-loop : goal.invariant-loop
-invariant-loop g l = g.S.Solver.atoms l.solver ≡ l.counter
