@@ -1,0 +1,2 @@
+pub mod Trues
+pub mod SlotLaws

@@ -1,0 +1,106 @@
+// The queue of the entries that wait to be worked. Every other pick is the oldest, so that none waits forever behind smaller
+// ones.
+ghost use Rattle.std.specs.Prelude.{◌≡◌, [], ◌∷◌, ◌++◌, length, false, true, not, Contains, IfSome, IfNone, OnSome, OnOk, OnErr, IsTrue, IsErr};
+ghost use Rattle.instgen_select.specs.Queues.{numbers, IsPicked};
+
+use crate::slots::{Item, Ranked, take_least, take_oldest};
+use inst_logic::Memory;
+use std::alloc::Global;
+use std::cmp::Reverse;
+use std::collections::BinaryHeap;
+use std::marker::Model;
+
+/// Numbers with their sizes. A pick takes logarithmic time for each put, taken over all of them.
+#[derive(Drop)]
+pub struct Queue {
+    slots: Vec<Option<Item>>,
+    front: usize,
+    heap: BinaryHeap<Ranked>,
+    even: bool,
+    spent: bool,
+}
+
+impl Model for Queue {
+    ghost use Rattle.std.specs.BinaryHeap.{heap_items};
+    ghost use Rattle.instgen_select.specs.Queues.{Waiting_list};
+    ghost use Rattle.instgen_select.specs.Slots.{waiting_of, AreSlots};
+
+    ghost Value = { Waiting_list };
+
+    ghost view = { λ q. record { items = waiting_of q.slots.items; even = q.even; spent = q.spent } };
+
+    ghost invariant = { λ q. AreSlots q.slots.items q.front (heap_items q.heap) };
+}
+
+impl Queue {
+    /// An empty queue. Its first pick that gives a number is an odd one.
+    pub fn new(alloc: Global) -> Queue
+        ensures { result ≡ record { items = []; even = false; spent = false } }
+    {
+        Queue {
+            slots: Vec::new(alloc),
+            front: 0,
+            heap: BinaryHeap::new(alloc),
+            even: false,
+            spent: false,
+        }
+    }
+
+    // The slot is made before the heap names it, and is a gap until then.
+    fn store(&mut self, item: Item) -> Result<(), Memory>
+        ensures ok { OnOk result (self.new.items ≡ self.old.items ++ (item.number, item.size) ∷ []) }
+        ensures err { OnErr result (self.new.items ≡ self.old.items) }
+        ensures even { self.new.even ≡ self.old.even }
+        ensures spent { self.new.spent ≡ self.old.spent }
+    {
+        let place = self.slots.len();
+        self.slots.push(None)?;
+        self.heap.push(Reverse((item.size, item.number, place)))?;
+        self.slots[place] = Some(item);
+        Ok(())
+    }
+
+    /// Puts the number at the end.
+    pub fn put(&mut self, number: usize, size: u64) -> Result<(), Memory>
+        requires absent { ¬ Contains (numbers self.old.items) number }
+        ensures ok { OnOk result (self.new ≡ record { items = self.old.items ++ (number, size) ∷ []; even = self.old.even; spent = false }) }
+        ensures err { OnErr result (self.new ≡ record { items = self.old.items; even = self.old.even; spent = true }) }
+        ensures stays_spent { IsTrue self.old.spent → IsErr result }
+    {
+        if self.spent {
+            return Err(Memory);
+        }
+        let stored = self.store(Item { number, size });
+        self.spent = stored.is_err();
+        stored
+    }
+
+    fn take(&mut self) -> Option<Item>
+        ensures none { IfNone result ((self.old.items ≡ []) × (self.new.items ≡ self.old.items)) }
+        ensures some { IfSome result (λ item. IsPicked self.old.even self.old.items self.new.items item.number) }
+        ensures even { self.new.even ≡ self.old.even }
+        ensures spent { self.new.spent ≡ self.old.spent }
+    {
+        if self.even {
+            take_oldest(&mut self.slots, &mut self.front)
+        } else {
+            take_least(&mut self.slots, &mut self.heap)
+        }
+    }
+
+    /// Takes a number out: the least by size and number, and every other time the one that was put longest ago.
+    pub fn pick(&mut self) -> Option<usize>
+        ensures none { IfNone result ((self.old.items ≡ []) × (self.new ≡ self.old)) }
+        ensures some { IfSome result (λ number. IsPicked self.old.even self.old.items self.new.items number) }
+        ensures turn { OnSome result (self.new.even ≡ not self.old.even) }
+        ensures spent { self.new.spent ≡ self.old.spent }
+    {
+        match self.take() {
+            None => None,
+            Some(item) => {
+                self.even = !self.even;
+                Some(item.number)
+            }
+        }
+    }
+}
