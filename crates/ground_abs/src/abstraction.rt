@@ -1,5 +1,6 @@
 // The numbers of ground atoms.
-ghost use Rattle.std.specs.Prelude.{◌≡◌, [], nat_eq, false, IsTrue, IsErr, IfOk, OnOk, OnErr, slice_get, Some};
+ghost use Rattle.std.specs.Prelude.{◌≡◌, [], length, nat_eq, false, IsTrue, IsErr, IfOk, OnOk, OnErr, slice_get, Some};
+ghost use Rattle.std.specs.List.{IsDistinct, position_or_len};
 ghost use Rattle.inst_logic.specs.Lists.{with_item};
 ghost use Rattle.inst_logic.specs.WellFormed.{is_constant};
 
@@ -30,7 +31,8 @@ impl Model for Abstraction {
 // The number of the id, which is added where the set does not have it.
 fn number_of(ids: &mut IndexSet<TermId>, atom: TermId) -> Result<usize, Memory>
     ensures numbered { OnOk result (ids.new.keys ≡ with_item nat_eq ids.old.keys atom) }
-    ensures number { IfOk result (λ n. slice_get ids.new.keys n ≡ Some atom) }
+    ensures number { IfOk result (λ n. n ≡ position_or_len (nat_eq atom) ids.old.keys) }
+    ensures stored { IfOk result (λ n. slice_get ids.new.keys n ≡ Some atom) }
     ensures held { OnErr result (ids.new.keys ≡ ids.old.keys) }
 {
     let (number, _) = ids.insert_full(atom)?;
@@ -50,10 +52,19 @@ impl Abstraction {
         }
     }
 
-    /// The number of a ground atom. A new atom gets the next number.
+    /// How many atoms have numbers: the numbers below it, each for another atom.
+    pub fn len(&self) -> usize
+        ensures len { result ≡ length self.now.ids }
+        ensures once { IsDistinct nat_eq self.now.ids }
+    {
+        self.ids.len()
+    }
+
+    /// The number of a ground atom: an old one keeps its number, and a new one gets the next.
     pub fn atom_of(&mut self, atom: TermId) -> Result<usize, Memory>
         ensures numbered { OnOk result (self.new.ids ≡ with_item nat_eq self.old.ids atom) }
-        ensures number { IfOk result (λ n. slice_get self.new.ids n ≡ Some atom) }
+        ensures number { IfOk result (λ n. n ≡ position_or_len (nat_eq atom) self.old.ids) }
+        ensures stored { IfOk result (λ n. slice_get self.new.ids n ≡ Some atom) }
         ensures bot { self.new.bot ≡ self.old.bot }
         ensures ok { OnOk result ((self.old.spent ≡ false) × (self.new.spent ≡ false)) }
         ensures err { OnErr result (IsTrue self.new.spent) }
