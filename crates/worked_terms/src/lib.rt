@@ -2,6 +2,8 @@
 #![tactic(auto)]
 
 #[cfg(test)]
+mod abstractions;
+#[cfg(test)]
 mod building;
 #[cfg(test)]
 mod clauses;

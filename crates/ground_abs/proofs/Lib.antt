@@ -1,0 +1,2 @@
+mod LeftTerms
+mod SymbolNames

@@ -1,0 +1,8 @@
+//! Abstractions of clauses over a bank: one constant stands for every variable, and ground atoms have numbers.
+#![tactic(auto)]
+
+pub mod abstraction;
+pub mod bot;
+
+pub use abstraction::Abstraction;
+pub use bot::bot_of;
