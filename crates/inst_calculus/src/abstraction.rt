@@ -1,4 +1,5 @@
-// The constant for abstractions, and abstractions with repeats and by numbers of atoms.
+// Laws of abstractions, in which one new constant stands for all variables. By definition an abstraction has no repeats;
+// these laws let a solver be given abstractions with their repeats, and over numbers of atoms that grow with the clauses.
 ghost use Rattle.std.specs.Prelude.{◌≡◌, ◌↔◌, ◌<◌, ◌^◌, ◌++◌, ◌∷◌, [], ℕ, List, All, Contains, IsTrue, length, map};
 ghost use Rattle.inst_logic.specs.declared.signed.Signed.{Signed};
 ghost use Rattle.inst_logic.specs.declared.symbol.Sym.{Sym};

@@ -1,4 +1,5 @@
-// What the axioms of equality keep.
+// Clauses keep what the theorems ask of them when their axioms of equality are put behind them: the calculus knows no
+// equality and sees both as one list.
 ghost use Rattle.std.specs.Prelude.{List, All, IsTrue};
 ghost use Rattle.inst_logic.specs.Clauses.{TreeClause, IsCanonical};
 ghost use Rattle.inst_logic.specs.Measure.{is_function_free};
