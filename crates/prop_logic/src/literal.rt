@@ -1,4 +1,6 @@
-// Literals of numbered atoms, clauses and derivations.
+// Literals of numbered atoms, clauses and derivations. A step names the clauses that show it, in the order in which they are
+// used (as in Cruz-Filipe and others, Efficient certified RAT verification, 2017), so that a check needs no search. Added
+// clauses and steps have numbers of their own, so no step is renumbered where a clause is added later.
 ghost use Rattle.std.specs.Prelude.{◌≡◌, ◌≢◌, ℕ, List, Some, All, Contains, MatchBool, IfOk, map};
 ghost use Rattle.inst_logic.specs.declared.signed.Signed.{Signed};
 ghost use Rattle.inst_logic.specs.Signed.{complement};
@@ -57,7 +59,7 @@ pub fn complements(alloc: Global, literals: &[Lit]) -> Result<LitList, Memory>
     Ok(others)
 }
 
-/// The clause that the hint cites, or no literal where it cites none.
+/// The clause that the hint cites, or an empty slice where it cites none: who asks knows that it cites one.
 pub fn cited<'a>(clauses: &'a [LitList], steps: &'a [Step], hint: Hint) -> &'a [Lit]
     ensures { (c : List (Signed ℕ)) → cited clauses.now steps.now hint ≡ Some c → result.now ≡ c }
 {

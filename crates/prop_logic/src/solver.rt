@@ -32,7 +32,7 @@ pub trait Solver: Drop {
     /// Whether a call was refused memory. From then on every call is.
     ghost spent: { Self → Bool };
 
-    /// Makes an atom, and answers its number.
+    /// Makes an atom, and answers its number, counted from 0.
     fn new_atom(&mut self) -> Result<usize, Memory>
         ensures number { IfOk result (λ n. n ≡ atoms self.old) }
         ensures grown { OnOk result (atoms self.new ≡ atoms self.old + 1) }
@@ -41,7 +41,7 @@ pub trait Solver: Drop {
         ensures err { OnErr result (IsTrue (spent self.new)) }
         ensures stays_spent { IsTrue (spent self.old) → IsErr result };
 
-    /// Adds a clause, and answers its number, counted from 1.
+    /// Adds a clause, and answers its number, counted from 1. Derivations cite the clause by it.
     fn add(&mut self, clause: &[Lit]) -> Result<usize, Memory>
         requires { AtomsBelow (atoms self.old) clause.now }
         ensures number { IfOk result (λ n. n ≡ length (added self.new)) }
