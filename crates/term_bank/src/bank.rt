@@ -145,7 +145,7 @@ impl Bank {
         let _ = self.len();
     }
 
-    /// The id of the variable of this number.
+    /// The id of the variable of this number, which counts from 0. One look-up.
     pub fn var(&mut self, v: usize) -> Result<TermId, Memory>
         ensures at { IfOk result (λ id. IsAt self.new id (var v)) }
         ensures extends { Extends self.old self.new }
@@ -162,8 +162,8 @@ impl Bank {
         result
     }
 
-    /// The id of the symbol applied to the terms of these ids; the bank stays well formed where they are as many as its arity.
-    /// The symbol is copied where it is new.
+    /// The id of the symbol applied to the terms of these ids; the bank stays well formed where they are as many as its
+    /// arity. The symbol is copied where it is new. Two look-ups, of the symbol by its name and of the node by its arguments.
     pub fn app(&mut self, sym: &Sym, args: &[TermId]) -> Result<TermId, Memory>
         requires { AreIds self.old args.now }
         ensures at { IfOk result (λ id. IsAt self.new id (app sym.now (of_list (map (tree_at self.old) args.now)))) }
@@ -181,8 +181,8 @@ impl Bank {
         result
     }
 
-    /// The id of the symbol at the root of `like`, which is no variable, applied to the terms of these ids; the bank stays well
-    /// formed where they are as many as its arity. The symbol is not copied.
+    /// The id of the symbol at the root of `like`, which is no variable, applied to the terms of these ids; the bank stays
+    /// well formed where they are as many as its arity. The symbol is neither copied nor looked up: one look-up, of the node.
     pub fn app_like(&mut self, like: TermId, args: &[TermId]) -> Result<TermId, Memory>
         requires within { like < length self.old.trees }
         requires application { IsApplication (tree_at self.old like) }
@@ -281,7 +281,7 @@ impl Bank {
         measures_at(&self.nodes, id).weight
     }
 
-    /// Whether the tree has no variables.
+    /// Whether the tree has no variables. It is read off the greatest variable, which is kept beside the node.
     pub fn ground(&self, id: TermId) -> bool
         requires { id < length self.now.trees }
         ensures test { result ≡ is_ground (tree_at self.now id) }
@@ -290,7 +290,7 @@ impl Bank {
         measures_at(&self.nodes, id).greatest.is_none()
     }
 
-    /// The greatest number of a variable of the tree, and `None` where it has no variable.
+    /// The greatest number of a variable of the tree, and `None` where it has no variable. It is kept beside the node.
     pub fn greatest_variable(&self, id: TermId) -> Option<usize>
         requires { id < length self.now.trees }
         ensures { IsGreatest (tree_vars (tree_at self.now id)) result }

@@ -34,7 +34,7 @@ impl TermId {
     }
 }
 
-/// A list of ids of one bank.
+/// A list of ids of one bank: an id of another bank may be the number of another tree.
 pub type TermIdList = ListOf<TermId>;
 
 // A list of these ids.

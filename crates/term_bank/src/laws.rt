@@ -1,4 +1,5 @@
-// Laws of banks that grow.
+// Laws of banks that grow: what is known of ids stays so over every call that adds trees. Callers name these contracts and
+// need not know how a bank stores its trees.
 ghost use Rattle.std.specs.Prelude.{◌≡◌, ℕ, List, map};
 ghost use Rattle.std.specs.List.{All};
 ghost use Rattle.inst_logic.specs.Tree.{Tree};
