@@ -1,4 +1,7 @@
-// The bindings of the variables of two sides.
+// The bindings of the variables of two sides. A variable is bound to a term of the bank with the side of its variables, which
+// may be bound in their turn: nothing is built while terms are unified (Boyer and Moore, The sharing of structure in
+// theorem-proving programs, 1972). They stand in the order in which they were made, so that a search can take back the last
+// ones.
 ghost use Rattle.std.specs.Prelude.{◌≡◌, ℕ, ◌<◌, [], length, IfOk, OnOk, OnErr, true, false, IfNone, IfSome, Some, slice_get, slice_index_or, take};
 ghost use Rattle.std.specs.Map.{keys_of};
 ghost use Rattle.inst_logic.specs.Tree.{Tree, var};
@@ -54,7 +57,7 @@ impl Bindings {
         }
     }
 
-    /// Forgets the bindings, and keeps the room to work in.
+    /// Forgets the bindings, and keeps the room to work in. Time follows the number of bindings.
     pub fn clear(&mut self)
         ensures entries { self.new.entries ≡ [] }
         ensures spent { self.new.spent ≡ self.old.spent }
@@ -86,7 +89,8 @@ impl Bindings {
 
     /// Extends the left bindings by those that make the pattern the target, whose variables, as right ones, are held fixed
     /// (subsumption's one-sided unification; Robinson, 1965). False comes where no extension does. After false and after an
-    /// error they stay.
+    /// error they stay. Time: one visit for each different node of the pattern that has variables, and one comparison for
+    /// each argument there.
     pub fn match_onto(
         &mut self,
         bank: &Bank,
@@ -182,7 +186,8 @@ impl Bindings {
         self.map.get(&variable).copied()
     }
 
-    /// Whether the most general unifier that was found makes a variable of the side a term that is no variable.
+    /// Whether the most general unifier that was found makes a variable of the side a term that is no variable. Each binding
+    /// of the side is followed to its end, up to the first that is.
     pub fn proper(&self, bank: &Bank, side: Side) -> bool
         requires { AreBindings bank.now self.now.entries }
         ensures yes { result ≡ true → (a b : Tree) (s : Sided) → IsResolvedBy bank.now self.now.entries s → IsMostGeneral s a b → IsProper (of_side s side) (of_pair side a b) }

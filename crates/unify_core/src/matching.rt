@@ -1,5 +1,6 @@
-// Matching: one walk over the pattern's nodes. Since terms share their parts, each node is worked once, and has to become one
-// term wherever it stands.
+// Matching, by a list of meetings: which term a node of the pattern has to become. Terms share their parts, so a node is
+// opened once, however often it occurs, and matching fails where it is to become two terms. Nodes without variables are
+// compared by their ids. Nothing of the target is bound or followed.
 ghost use Rattle.std.specs.Prelude.{◌≡◌, ℕ, ◌<◌, ◌++◌, List, [], ◌∷◌, length, IfOk, OnErr, true, false, slice_get, Some};
 ghost use Rattle.inst_logic.specs.Unifiers.{IsApplication};
 ghost use Rattle.term_bank.specs.Forest.{tree_at, AreDistinct};

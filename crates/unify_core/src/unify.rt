@@ -1,4 +1,5 @@
-// Unification by a list of pairs. Each pair of terms is taken apart once.
+// Unification by a list of pairs. Terms share their parts, so the same two applications may meet many times: their arguments
+// are put on the list the first time only.
 ghost use Rattle.std.specs.Prelude.{◌≡◌, ℕ, ◌<◌, length, IfOk, true, false, [], Some};
 ghost use Rattle.inst_logic.specs.declared.symbol.Sym.{Sym};
 ghost use Rattle.inst_logic.specs.Tree.{Tree};
