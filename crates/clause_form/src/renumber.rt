@@ -1,4 +1,4 @@
-// Canonical forms: the walk that builds instances, under no bindings.
+// Canonical forms, by the walk that builds instances, under no bindings: that walk numbers variables as it meets them.
 ghost use Rattle.std.specs.Prelude.{◌≡◌, false, IfOk, OnOk, map};
 ghost use Rattle.inst_logic.specs.Clauses.{canonical_form, numbered, order_of};
 ghost use Rattle.inst_logic.specs.Substitution.{subst};
