@@ -1,4 +1,5 @@
-// Clauses by their numbers.
+// Clauses by numbers that stay while others are forgotten, since watches and reasons name them. In a list that closes up
+// after each removal all of these would have to be renamed.
 ghost use Rattle.std.specs.Prelude.{◌≡◌, ◌≢◌, [], None, IfOk, OnErr, option_copied};
 ghost use Rattle.cdcl_trail.specs.Clauses.{clause_number, AddsClause, RemovesClause};
 
