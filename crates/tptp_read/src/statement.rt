@@ -1,4 +1,5 @@
-// Statements of problems.
+// Statements of problems, as they are written: an include is not followed here, and a clause that holds always is kept, since
+// an include may select it by name.
 use inst_logic::{Clause, ListOf, Name, NameList};
 
 /// What a formula is given as.
