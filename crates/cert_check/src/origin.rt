@@ -1,4 +1,5 @@
-// What the origin of a member gives.
+// What an origin among the inputs and axioms gives: the canonical form of that clause, made anew and compared by ids. Inputs
+// need not be in canonical form.
 ghost use Rattle.std.specs.Prelude.{◌≡◌, ◌↔◌, ◌++◌, All, IfOk, IsTrue, map, option_copied};
 ghost use Rattle.inst_logic.specs.Clauses.{canonical_form};
 ghost use Rattle.inst_logic.specs.Derivations.{at_number};
