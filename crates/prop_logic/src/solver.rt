@@ -11,9 +11,10 @@ use inst_logic::Memory;
 /// Whether the added clauses and the assumptions can be true together.
 #[derive(Drop, Debug)]
 pub enum Answer {
-    /// A valuation that makes them true.
+    /// A valuation that makes them true, where an atom past its end is false.
     Sat(Valuation),
-    /// Assumptions that can't be true with the clauses, and steps that show it.
+    /// Assumptions that can't be true with the clauses, and steps that show it, of which the last has the complements of
+    /// these assumptions for its clause.
     Unsat {
         core: LitList,
         derivation: Derivation,
@@ -51,7 +52,8 @@ pub trait Solver: Drop {
         ensures err { OnErr result (IsTrue (spent self.new)) }
         ensures stays_spent { IsTrue (spent self.old) → IsErr result };
 
-    /// Whether the clauses and the assumptions can be true together.
+    /// Whether the clauses and the assumptions can be true together. The assumptions are for this question alone; they may
+    /// come in any order, with repeats, and with complements of each other.
     fn solve(&mut self, assumptions: &[Lit]) -> Result<Answer, Memory>
         requires { AtomsBelow (atoms self.old) assumptions.now }
         ensures atoms { atoms self.new ≡ atoms self.old }
