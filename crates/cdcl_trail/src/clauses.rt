@@ -39,7 +39,7 @@ impl Clauses {
     }
 
     /// Adds a copy of the clause, and answers its number, which is 1 for the first. A refused call leaves the clauses as they
-    /// were.
+    /// were. The clause is attached to no trail by it.
     pub fn add(&mut self, c: &[Lit]) -> Result<usize, Memory>
         ensures number { IfOk result (AddsClause self.old self.new c.now) }
         ensures err { OnErr result (self.new ≡ self.old) }
@@ -53,7 +53,7 @@ impl Clauses {
         Ok(key + 1)
     }
 
-    /// The clause of this number.
+    /// The clause of this number, or `None` where there is none or it was forgotten.
     pub fn get(&self, n: usize) -> Option<&LitList>
         ensures { option_copied result ≡ clause_number self.now n }
     {
