@@ -14,7 +14,7 @@ pub enum TokenKind {
     QuotedWord,
     /// The same between two `"`, and there may be nothing between them.
     DistinctObject,
-    /// Digits, with a sign or not.
+    /// Digits, behind `+`, `-` or neither.
     Integer,
     /// An integer, `/` and digits.
     Rational,
