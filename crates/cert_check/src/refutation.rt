@@ -128,7 +128,8 @@ fn check(alloc: Global, cert: &mut Refutation) -> Result<(), CheckError>
     Ok(())
 }
 
-/// Checks the certificate and owns it from then on. After a refusal it is dropped.
+/// Checks the certificate and owns it from then on. After a refusal it is dropped. Time: a unification for each member that
+/// is an instance, and for each step its literals and those of the clauses that its hints cite.
 pub fn check_refutation(alloc: Global, cert: Refutation) -> Result<CheckedRefutation, CheckError>
     requires { IsWholeRefutation cert }
     ensures kept { IfOk result (KeepsRefutation cert) }
