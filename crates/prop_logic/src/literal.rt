@@ -12,10 +12,10 @@ use std::alloc::Global;
 /// An atom with a sign. Atoms are counted from 0.
 pub type Lit = Signed<usize>;
 
-/// A clause, as the list of its literals.
+/// A clause, as the list of its literals in the order in which they were given. Repeats and complements may stand in it.
 pub type LitList = ListOf<Lit>;
 
-/// A list of clauses.
+/// Clauses in their order: `get` counts them from 0, and hints from 1.
 pub type LitLists = ListOf<LitList>;
 
 /// What a step cites: an added clause or an earlier step, by its number. Both are counted from 1.
@@ -35,7 +35,8 @@ pub struct Step {
     pub hints: HintList,
 }
 
-/// Steps, each shown by what its hints cite of the added clauses and of the steps before it.
+/// Steps, each shown by what its hints cite of the added clauses and of the steps before it: `get` counts them from 0, and
+/// hints from 1.
 pub type Derivation = ListOf<Step>;
 
 /// The same atom with the other sign.
