@@ -50,5 +50,5 @@ pub type IdLiteral = Signed<TermId>;
 /// A disjunction of literals, each over the id of its atom.
 pub type IdClause = ListOf<IdLiteral>;
 
-/// A list of clauses over one bank.
+/// A list of clauses over one bank, which `get` counts from 0.
 pub type IdClauseList = ListOf<IdClause>;
