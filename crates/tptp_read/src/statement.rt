@@ -33,7 +33,7 @@ pub enum Statement {
     },
 }
 
-/// The statements of a text, in their order.
+/// The statements of a text, in their order: `get` counts them from 0, and refusals from 1.
 pub type StatementList = ListOf<Statement>;
 
 /// Which limit of a statement is passed.
