@@ -1,4 +1,5 @@
-// Questions whose answers are known, asked of both solvers through the trait.
+// Questions whose answers are known, asked of both solvers through the trait: what it promises, both keep. Derivations go
+// through the checker too.
 ghost use Rattle.std.specs.Prelude.{◌≡◌, ◌+◌, ◌*◌, ◌<◌, ◌≤◌, IfOk, OnOk};
 ghost use Rattle.prop_logic.specs.Literal.{AllAtomsBelow, StepsBelow};
 
