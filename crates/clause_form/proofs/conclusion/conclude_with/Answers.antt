@@ -4,8 +4,8 @@ use Rattle.inst_logic.specs.Clauses.{order_of}
 use Rattle.term_bank.specs.Forest.{clause_at}
 use Rattle.unify_core.specs.Sides.{of_side}
 use Rattle.clause_form.proofs.Led.{led_reading, led_is_reading, led_formed}
-use Rattle.clause_form.proofs.Concluded.{concluded, met_all, solution_of, long_enough, final_order, nodes_within}
-use Rattle.clause_form.proofs.TermsSolved.{terms_solved}
+use Rattle.clause_form.proofs.Concluded.{concluded, met_all, long_enough, final_order, nodes_within}
+use Rattle.unify_core.proofs.Solutions.{solution_of, terms_solved}
 use Rattle.clause_form.proofs.conclusion.conclude_with.Goals as goal
 
 pub build_all-requires-clause-ids : goal.build_all-requires-clause-ids
