@@ -19,6 +19,7 @@ use Rattle.inst_calculus.proofs.CanonicalForms.{canonical_of_distinct}
 use Rattle.term_bank.specs.Forest.{Forest, tree_at, Extends, IsAt}
 use Rattle.clause_form.specs.Conclusions.{AreVariables}
 use Rattle.clause_form.proofs.Led.{ids_vars}
+use Rattle.inst_calculus.proofs.CanonicalForms.{order_of_distinct}
 
 -- one more variable
 pub no_variables : (f : Forest) → AreVariables f 0 []
@@ -41,32 +42,6 @@ one_variable f g n id ids x old made = record {
     by v d (inr e) = transport (λ m. IsAt g m (var v)) (sym (get_or_push ids id d v (old.count_of ∙ e))) (transport (λ m. IsAt g id (var m)) e made)
 
 -- repeats of literals do not count in the order of variables
-vars_without : (seen : List ℕ) (l : Signed Tree) (c : TreeClause) → ((v : ℕ) → v ∈ tree_vars l.atom → v ∈ seen)
-    → fold (with_item nat_eq) seen (clause_vars (without literal_eq l c)) ≡ fold (with_item nat_eq) seen (clause_vars c)
-vars_without seen l [] h = refl
-vars_without seen l (k ∷ c) h = go (literal_eq l k) (literal_eq_decides l k) (λ more. vars_without more l c)
-  where
-    go : (b : Bool) → Decides b (l ≡ k)
-        → ((more : List ℕ) → ((v : ℕ) → v ∈ tree_vars l.atom → v ∈ more) → fold (with_item nat_eq) more (clause_vars (without literal_eq l c)) ≡ fold (with_item nat_eq) more (clause_vars c))
-        → fold (with_item nat_eq) seen (clause_vars (cond (not b) (k ∷ without literal_eq l c) (without literal_eq l c))) ≡ fold (with_item nat_eq) seen (tree_vars k.atom ++ clause_vars c)
-    go true d rest =
-        rest seen h
-        ∙ ap (λ vs. fold (with_item nat_eq) vs (clause_vars c))
-        (sym (items_present nat_eq Decides-eqb seen (tree_vars k.atom) (λ v i. h v (transport (λ (x : Signed Tree). v ∈ tree_vars x.atom) (sym (d.0 refl)) i))))
-        ∙ sym (fold-append (with_item nat_eq) seen (tree_vars k.atom) (clause_vars c))
-    go false d rest =
-        fold-append (with_item nat_eq) seen (tree_vars k.atom) (clause_vars (without literal_eq l c))
-        ∙ rest (fold (with_item nat_eq) seen (tree_vars k.atom)) (λ v i. in_with_items nat_eq Decides-eqb v seen (tree_vars k.atom) (h v i))
-        ∙ sym (fold-append (with_item nat_eq) seen (tree_vars k.atom) (clause_vars c))
-
-order_of_distinct : (c : TreeClause) → order_of (distinct literal_eq c) ≡ order_of c
-order_of_distinct [] = refl
-order_of_distinct (l ∷ c) =
-    sym (distinct_append nat_eq Decides-eqb (tree_vars l.atom) (clause_vars (without literal_eq l (distinct literal_eq c))))
-    ∙ vars_without (distinct nat_eq (tree_vars l.atom)) l (distinct literal_eq c) (λ v i. in_distinct nat_eq Decides-eqb v (tree_vars l.atom) i)
-    ∙ distinct_append nat_eq Decides-eqb (tree_vars l.atom) (clause_vars (distinct literal_eq c))
-    ∙ distinct_joined nat_eq Decides-eqb (tree_vars l.atom) (clause_vars (distinct literal_eq c)) (clause_vars c) (order_of_distinct c)
-
 pub order_of_instance : (s : Substitution) (c : TreeClause) → order_of (instance s c) ≡ order_of (literals_under s c)
 order_of_instance s c = order_of_distinct (literals_under s c)
 

@@ -7,7 +7,7 @@ ghost use Rattle.inst_logic.specs.Substitution.{tree_vars};
 ghost use Rattle.inst_logic.specs.Truth.{IsTrueClause};
 ghost use Rattle.inst_logic.specs.WellFormed.{IsAtom, IsFormedClause, is_constant};
 ghost use Rattle.inst_logic.specs.Clauses.{TreeClause};
-ghost use Rattle.inst_calculus.specs.Axioms.{occurrences};
+ghost use Rattle.inst_calculus.specs.Axioms.{clause_symbols, occurrences};
 ghost use Rattle.inst_calculus.specs.Abstraction.{IsBot, abstraction, abstract_literals, named_literal, AreAbstracted};
 
 /// Clauses with fewer occurrences of symbols than there are numbers of 64 bits have a constant for abstractions.
@@ -29,6 +29,12 @@ pub fn abstraction_with_repeats()
 pub fn abstracted_atoms()
     ensures formed { (bot : Sym) (c : TreeClause) → IsTrue (is_constant bot) → IsFormedClause c → All (λ l. IsAtom l.atom) (abstract_literals bot c) }
     ensures without_variables { (bot : Sym) (c : TreeClause) → All (λ l. tree_vars l.atom ≡ []) (abstract_literals bot c) }
+{}
+
+/// The symbols of an abstraction are those of the clause, and the constant.
+pub fn symbols_of_abstraction()
+    ensures symbols { (bot : Sym) (c : TreeClause) → All (Contains (bot ∷ clause_symbols c)) (clause_symbols (abstraction bot c)) }
+    ensures with_repeats { (bot : Sym) (c : TreeClause) → All (Contains (bot ∷ clause_symbols c)) (clause_symbols (abstract_literals bot c)) }
 {}
 
 /// Numbered abstractions stay so where more atoms get numbers, and one more clause comes with its own.
