@@ -68,8 +68,7 @@ fn conclude_with(
     let leaves = Leaves::Led(b);
     let mut atoms = build_all(alloc, bank, &leaves, side, &nodes)?;
     let terms = atoms.split_off(c.len())?;
-    // Beside the length stands the law that equal trees have equal ids.
-    let _ = bank.len();
+    bank.distinct();
     let clause = clause_of(alloc, c.as_slice(), &atoms)?;
     Ok(Conclusion {
         clause,
@@ -124,7 +123,6 @@ pub fn under(
     let atoms = atoms_of(alloc, c.as_slice())?;
     let leaves = Leaves::Listed(terms.as_slice());
     let built = build_all(alloc, bank, &leaves, Side::Left, &atoms)?;
-    // Beside the length stands the law that equal trees have equal ids.
-    let _ = bank.len();
+    bank.distinct();
     clause_of(alloc, c.as_slice(), &built)
 }

@@ -167,8 +167,7 @@ pub fn match_terms(
     ensures no { IfOk result (λ r. r ≡ false → HasNoMatch bank.now map.old.entries (tree_at bank.now pattern) (tree_at bank.now target)) }
     ensures behind { (more : List Binding) × (map.new.entries ≡ map.old.entries ++ more) }
 {
-    // Beside the length stands the law that equal trees have equal ids.
-    let _ = bank.len();
+    bank.distinct();
     met.truncate(0);
     met.insert(pattern, target)?;
     let mut i: usize = 0;

@@ -127,8 +127,7 @@ pub fn unify_terms(
     ensures bindings { IfOk result (λ r. r ≡ true → AreBindings bank.now map.new.entries) }
     ensures no { IfOk result (λ r. r ≡ false → (s : Sided) → ¬ (IsUnifier s (tree_at bank.now a) (tree_at bank.now b))) }
 {
-    // Beside the length stands the law that equal trees have equal ids.
-    let _ = bank.len();
+    bank.distinct();
     work.clear();
     done.truncate(0);
     let left = Bound {
