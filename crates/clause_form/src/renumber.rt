@@ -36,7 +36,6 @@ pub fn canonical(alloc: Global, bank: &mut Bank, c: &IdClause) -> Result<IdClaus
     ensures formed { AreFormed bank.old → AreFormed bank.new }
 {
     let built = renumbered(alloc, bank, c)?;
-    // Beside the length stands the law that equal trees have equal ids.
-    let _ = bank.len();
+    bank.distinct();
     clause_of(alloc, c.as_slice(), &built)
 }

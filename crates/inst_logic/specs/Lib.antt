@@ -17,3 +17,4 @@ pub mod Printing
 pub mod Examples
 pub mod Fed
 pub mod EqualLaws
+pub mod Membership

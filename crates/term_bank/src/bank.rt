@@ -9,12 +9,12 @@ ghost use Rattle.inst_logic.specs.Unifiers.{IsApplication};
 ghost use Rattle.term_bank.specs.Forest.{tree_at, nth, symbol_at, number_of, IsAt, AreIds, AreDistinct, Extends, ExtendsTrees, KeepsPlaces, no_symbol, IsFormed, AreFormed, AreFormedTrees, symbol_of, arguments_of, with_arguments, is_ground};
 ghost use Rattle.term_bank.specs.Greatest.{IsGreatest};
 ghost use Rattle.term_bank.specs.Nodes.{trees_of, IsBank};
-ghost use Rattle.term_bank.specs.Shapes.{shape_of};
+ghost use Rattle.term_bank.specs.Shapes.{shape_of, IsRootOf};
 
 use crate::id::{TermId, copied};
 use crate::node::{Measures, Node};
 use crate::store::{
-    application_measures, kind_at, measures_at, node_at, node_number, symbol_number,
+    application_measures, kind_at, measures_at, node_at, node_number, symbol_in, symbol_number,
 };
 use indexmap::{IndexMap, IndexSet};
 use inst_logic::{Memory, Sym};
@@ -45,13 +45,22 @@ impl Model for Bank {
     ghost invariant = { λ b. IsBank b.symbols.keys b.nodes.entries };
 }
 
-/// What stands at the root of a tree.
+/// Whether a tree is a variable or an application.
 #[derive(Clone, Copy, Debug, PartialEq, Eq)]
 pub enum Shape {
     /// A variable with its number, from 0.
     Var(usize),
     /// A symbol with its arguments.
     App,
+}
+
+/// A tree at its root.
+#[derive(Clone, Copy)]
+pub enum Root<'a> {
+    /// A variable with its number, from 0.
+    Var(usize),
+    /// A symbol with the ids of its arguments in their order.
+    App(&'a Sym, &'a [TermId]),
 }
 
 fn insert_variable(
@@ -224,6 +233,19 @@ impl Bank {
         match node_at(&self.nodes, id) {
             Node::Var(v) => Shape::Var(*v),
             Node::App(_, _) => Shape::App,
+        }
+    }
+
+    /// The tree at its root, in one reading that takes no memory. The ids of arguments are below the tree's own.
+    pub fn root(&self, id: TermId) -> Root<'_>
+        requires { id < length self.now.trees }
+        ensures { IsRootOf self.now id result }
+    {
+        match node_at(&self.nodes, id) {
+            Node::Var(v) => Root::Var(*v),
+            Node::App(number, args) => {
+                Root::App(symbol_in(&self.symbols, *number), args.as_slice())
+            }
         }
     }
 

@@ -10,5 +10,5 @@ mod node;
 mod store;
 mod walk;
 
-pub use bank::{Bank, Shape};
+pub use bank::{Bank, Root, Shape};
 pub use id::{IdClause, IdClauseList, IdLiteral, TermId, TermIdList};
