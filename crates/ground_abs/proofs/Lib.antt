@@ -1,2 +1,5 @@
+mod Images
 mod LeftTerms
+mod Literals
 mod SymbolNames
+mod Walking

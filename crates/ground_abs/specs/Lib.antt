@@ -1,3 +1,4 @@
 pub mod Abstracts
 pub mod Names
 pub mod Numbering
+pub mod Walks

@@ -3,6 +3,7 @@
 
 pub mod abstraction;
 pub mod bot;
+mod grounding;
 pub mod laws;
 
 pub use abstraction::Abstraction;

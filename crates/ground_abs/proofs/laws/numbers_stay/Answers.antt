@@ -2,6 +2,7 @@ use Rattle.std.proofs.Common.{List, subst, sym}
 use Rattle.inst_logic.specs.Tree.{Tree}
 use Rattle.inst_calculus.specs.Abstraction.{AreGroundAtoms}
 use Rattle.term_bank.proofs.Growth.{ids_extend, map_extends}
+use Rattle.ground_abs.proofs.Images.{notes_stay}
 use Rattle.ground_abs.proofs.laws.numbers_stay.Goals as goal
 
 pub returns-clause-atoms : goal.returns-clause-atoms
@@ -12,3 +13,6 @@ returns-clause-atoms c = λ f g ids grown fit. record {
 
 pub returns-clause-trees : goal.returns-clause-trees
 returns-clause-trees c = map_extends
+
+pub returns-clause-notes : goal.returns-clause-notes
+returns-clause-notes c = notes_stay
