@@ -7,16 +7,15 @@ use Rattle.inst_logic.specs.declared.symbol.Sym.{Sym}
 use Rattle.inst_logic.specs.Tree.{Tree, Trees, var, app, none, more, of_list, to_list}
 use Rattle.inst_logic.specs.Substitution.{Substitution, subst, substs}
 use Rattle.inst_logic.specs.Unifiers.{IsApplication}
-use Rattle.inst_logic.specs.WellFormed.{tree_is_formed, atom_is_formed, is_function_kind, is_constant}
+use Rattle.inst_logic.specs.WellFormed.{IsAtom, tree_is_formed, atom_is_formed, is_function_kind, is_constant}
 use Rattle.inst_logic.proofs.SameLemmas.{and_left, and_right, and_both}
 use Rattle.inst_logic.proofs.Formed.{tree_stays_formed, literals_stay_formed}
 use Rattle.inst_logic.proofs.Substitutions.{subst_var}
 use Rattle.inst_calculus.specs.Abstraction.{grounding}
 use Rattle.inst_calculus.proofs.Membership.{◌∈◌}
 use Rattle.inst_calculus.proofs.Trees.{subst_agree}
-use Rattle.term_bank.specs.declared.bank.Shape.{Shape}
 use Rattle.term_bank.specs.declared.bank.Shape.TheVariants.{Var, App}
-use Rattle.term_bank.specs.Forest.{Forest, Extends, AreDistinct, AreFormed, IsAt, IsFormed, is_formed, is_ground, tree_at, arguments_of, with_arguments}
+use Rattle.term_bank.specs.Forest.{Forest, Extends, AreDistinct, AreFormed, IsAt, IsFormed, is_ground, tree_at, arguments_of, with_arguments}
 use Rattle.term_bank.specs.Shapes.{shape_of}
 use Rattle.term_bank.proofs.Growth.{at_extends, extends_trans}
 use Rattle.term_bank.proofs.GroundTrees.{ground_by_variables}
@@ -56,23 +55,27 @@ constant_formed bot h n =
     and_both (is_function_kind bot.kind) _ (and_left (is_function_kind bot.kind) _ h)
     (and_both (nat_eq 0 bot.arity) true ((Decides-eqb 0 bot.arity).1 (sym ((Decides-eqb bot.arity 0).0 (and_right (is_function_kind bot.kind) _ h)))) refl)
 
--- terms stay terms, and atoms stay atoms
-pub grounded_formed : (bot : Sym) → IsTrue (is_constant bot) → (t : Tree) → IsFormed t → IsFormed (subst (grounding bot) t)
-grounded_formed bot h t k = by (tree_is_formed t) (atom_is_formed t) refl refl
-  where
-    or_right : (a : Bool) → (a || true) ≡ true
-    or_right true = refl
-    or_right false = refl
+pub or_true : (a : Bool) → (a || true) ≡ true
+or_true true = refl
+or_true false = refl
 
-    u : Tree
-    u = subst (grounding bot) t
+module _ (bot : Sym) (constant : IsTrue (is_constant bot)) where
+  pub atom_grounded : (t : Tree) → IsAtom t → IsAtom (subst (grounding bot) t)
+  atom_grounded t h =
+      and_left (atom_is_formed (subst (grounding bot) t)) true
+      (literals_stay_formed (grounding bot) (constant_formed bot constant) (record { positive = true; atom = t } ∷ []) (and_both (atom_is_formed t) true h refl))
 
-    by : (a b : Bool) → tree_is_formed t ≡ a → atom_is_formed t ≡ b → IsFormed u
-    by true b p q = ap (λ x. x || atom_is_formed u) (tree_stays_formed (grounding bot) (constant_formed bot h) t p)
-    by false true p q =
-        ap (λ x. tree_is_formed u || x) (and_left (atom_is_formed u) true (literals_stay_formed (grounding bot) (constant_formed bot h) (record { positive = true; atom = t } ∷ []) (and_both (atom_is_formed t) true q refl)))
-        ∙ or_right (tree_is_formed u)
-    by false false p q = absurd (cc)
+  -- terms stay terms, and atoms stay atoms
+  pub grounded_formed : (t : Tree) → IsFormed t → IsFormed (subst (grounding bot) t)
+  grounded_formed t k = by (tree_is_formed t) (atom_is_formed t) refl refl
+    where
+      u : Tree
+      u = subst (grounding bot) t
+
+      by : (a b : Bool) → tree_is_formed t ≡ a → atom_is_formed t ≡ b → IsFormed u
+      by true b p q = ap (λ x. x || atom_is_formed u) (tree_stays_formed (grounding bot) (constant_formed bot constant) t p)
+      by false true p q = ap (λ x. tree_is_formed u || x) (atom_grounded t q) ∙ or_true (tree_is_formed u)
+      by false false p q = absurd (cc)
 
 -- Notes
 

@@ -25,6 +25,6 @@ literal_pushed f g h bot ls made later i r l first second inside within is at ne
     let n : Signed ℕ = record { positive = l.positive; atom = r } in (
       transport (IsClauseOf h) (sym pushed) (clause_within g h second made n at.0 new.0),
       ap (clause_at h) pushed ∙ clause_pushed g h second made n m at.0 refl (new.1 ∙ ap (subst s) (first.trees.1 l.atom here)) ∙ ap (λ (c : List (Signed Tree)). c ++ m ∷ []) at.1
-      ∙ sym (map_push (subst_literal s) (clause_at f (take i ls)) (literal_at f l)) ∙ ap (map (subst_literal s)) (sym (map_push (literal_at f) (take i ls) l))
-      ∙ ap (λ (c : List (Signed ℕ)). abstract_literals bot (clause_at f c)) (sym more),
+          ∙ sym (map_push (subst_literal s) (clause_at f (take i ls)) (literal_at f l)) ∙ ap (map (subst_literal s)) (sym (map_push (literal_at f) (take i ls) l))
+          ∙ ap (λ (c : List (Signed ℕ)). abstract_literals bot (clause_at f c)) (sym more),
     )

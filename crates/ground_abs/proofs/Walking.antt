@@ -8,7 +8,7 @@ use Rattle.inst_logic.specs.Measure.{tree_size, trees_size}
 use Rattle.inst_logic.specs.Unifiers.{IsApplication}
 use Rattle.term_bank.specs.Forest.{Forest, Extends, AreIds, tree_at, arguments_of}
 use Rattle.term_bank.proofs.Growth.{map_extends}
-use Rattle.ground_abs.specs.Walks.{Adds, AreReady, step_size, steps_size}
+use Rattle.ground_abs.specs.Walks.{Adds, AreReady, steps_size}
 use Rattle.ground_abs.specs.declared.grounding.Step.{Step}
 use Rattle.ground_abs.specs.declared.grounding.Step.TheVariants.{Visit, Build}
 
@@ -70,7 +70,7 @@ module _ (f : Forest) (goal : Tree) where
       let u = tree_at f a in (
         All-head (λ (n : ℕ). n < length f.trees) a args ids,
         ready_visits (Adds u found) args ss (All-tail (λ (n : ℕ). n < length f.trees) a args ids)
-        (λ later more all. k later (λ t h. more t (inr h)) (All-cons later u (map (tree_at f) args) (more u (inl refl)) all)),
+            (λ later more all. k later (λ t h. more t (inr h)) (All-cons later u (map (tree_at f) args) (more u (inl refl)) all)),
       )
 
   -- an application is built once its arguments are found

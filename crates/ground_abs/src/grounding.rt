@@ -165,12 +165,7 @@ impl Grounding {
     }
 
     // One step of those that are left.
-    fn take(
-        &mut self,
-        bank: &mut Bank,
-        steps: &mut Vec<Step>,
-        step: Step,
-    ) -> Result<(), Memory>
+    fn take(&mut self, bank: &mut Bank, steps: &mut Vec<Step>, step: Step) -> Result<(), Memory>
         requires notes { AreNotesIn bank.old self.old.bot self.old.notes.entries }
         requires ready { (f : Forest) × (goal : Tree) × Extends f bank.old × AreReady f goal (IsFound bank.old self.old.notes.entries) (step ∷ reverse steps.old.items) }
         ensures ready { OnOk result ((f : Forest) (goal : Tree) → Extends f bank.old → AreReady f goal (IsFound bank.old self.old.notes.entries) (step ∷ reverse steps.old.items) → AreReady f goal (IsFound bank.new self.new.notes.entries) (reverse steps.new.items)) }

@@ -1,7 +1,6 @@
-use Rattle.std.proofs.Common.{◌≡◌, ℕ, List, sym, ◌∙◌, ap, All, ◌∷◌, ◌++◌, [], length, ◌<◌}
-use Rattle.std.proofs.lemmas.List.Elements.{All-push, All-get_or}
+use Rattle.std.proofs.Common.{ℕ, sym, ◌∙◌, All, length, ◌<◌}
+use Rattle.std.proofs.lemmas.List.Elements.{All-push}
 use Rattle.std.proofs.Common.{subst as transport}
-use Rattle.inst_logic.specs.Tree.{Tree}
 use Rattle.inst_calculus.specs.Abstraction.{grounding}
 use Rattle.term_bank.specs.Forest.{AreIds}
 use Rattle.ground_abs.specs.Walks.{IsFound}

@@ -1,5 +1,4 @@
-use Rattle.std.proofs.Common.{subst as transport, sym, ◌∙◌, List, ℕ}
-use Rattle.inst_logic.specs.declared.signed.Signed.{Signed}
+use Rattle.std.proofs.Common.{subst as transport, sym, ◌∙◌}
 use Rattle.inst_logic.specs.declared.symbol.Sym.{Sym}
 use Rattle.inst_logic.specs.Substitution.{subst}
 use Rattle.inst_calculus.specs.Abstraction.{grounding}

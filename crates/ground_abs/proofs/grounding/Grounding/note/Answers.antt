@@ -1,5 +1,4 @@
-use Rattle.std.proofs.Common.{ℕ, List, sym, ap, subst}
-use Rattle.indexmap.specs.IndexMap.{IndexMap}
+use Rattle.std.proofs.Common.{ℕ, List, sym, subst}
 use Rattle.ground_abs.specs.Abstracts.{AreNotesIn}
 use Rattle.ground_abs.proofs.Images.{notes_more, found_noted, found_more}
 use Rattle.ground_abs.proofs.grounding.Grounding.note.Goals as goal

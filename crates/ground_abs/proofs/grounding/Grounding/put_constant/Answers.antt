@@ -1,7 +1,3 @@
-use Rattle.inst_logic.specs.Tree.{Tree}
-use Rattle.term_bank.proofs.Growth.{extends_itself}
-use Rattle.std.proofs.Common.{subst}
-use Rattle.ground_abs.specs.Walks.{IsFound}
 use Rattle.ground_abs.proofs.Images.{constant_is_formed, constant_noted, found_added, notes_stay}
 use Rattle.ground_abs.proofs.grounding.Grounding.put_constant.Goals as goal
 

@@ -1,8 +1,7 @@
 use Rattle.std.proofs.Common.{ap, sym, ◌∙◌, reverse}
 use Rattle.std.specs.Prelude.{is_some}
 use Rattle.std.proofs.lemmas.Result.{on_ok_weaker}
-use Rattle.inst_logic.specs.Tree.{Tree}
-use Rattle.ground_abs.specs.Walks.{Adds, IsFound}
+use Rattle.ground_abs.specs.Walks.{IsFound}
 use Rattle.ground_abs.specs.declared.grounding.Step.TheVariants.{Visit}
 use Rattle.ground_abs.proofs.Images.{image_found}
 use Rattle.ground_abs.proofs.Walking.{ready_taken, size_taken}
