@@ -2,6 +2,7 @@
 use Rattle.std.proofs.Common.{◌≡◌, ℕ, ◌<◌, ◌+◌, List, [], ◌∷◌, ◌++◌, inl, inr, refl, sym, ap, ap₂, ◌∙◌, subst as transport, map, length, take, get_or, arith, All, true, false, Some, None, Bool, cond}
 use Rattle.std.proofs.lemmas.List.{length-map, get_or-map, map_push, take_more}
 use Rattle.std.specs.Prelude.{nat_eq, IsTrue, Option, is_some, ◌||◌}
+use Rattle.std.proofs.Math.Bool.{or-true}
 use Rattle.std.proofs.lemmas.Bool.Decides.{Decides-eqb}
 use Rattle.inst_logic.specs.declared.symbol.Sym.{Sym}
 use Rattle.inst_logic.specs.Tree.{Tree, Trees, var, app, none, more, of_list, to_list}
@@ -55,10 +56,6 @@ constant_formed bot h n =
     and_both (is_function_kind bot.kind) _ (and_left (is_function_kind bot.kind) _ h)
     (and_both (nat_eq 0 bot.arity) true ((Decides-eqb 0 bot.arity).1 (sym ((Decides-eqb bot.arity 0).0 (and_right (is_function_kind bot.kind) _ h)))) refl)
 
-pub or_true : (a : Bool) → (a || true) ≡ true
-or_true true = refl
-or_true false = refl
-
 module _ (bot : Sym) (constant : IsTrue (is_constant bot)) where
   pub atom_grounded : (t : Tree) → IsAtom t → IsAtom (subst (grounding bot) t)
   atom_grounded t h =
@@ -74,7 +71,7 @@ module _ (bot : Sym) (constant : IsTrue (is_constant bot)) where
 
       by : (a b : Bool) → tree_is_formed t ≡ a → atom_is_formed t ≡ b → IsFormed u
       by true b p q = ap (λ x. x || atom_is_formed u) (tree_stays_formed (grounding bot) (constant_formed bot constant) t p)
-      by false true p q = ap (λ x. tree_is_formed u || x) (atom_grounded t q) ∙ or_true (tree_is_formed u)
+      by false true p q = ap (λ x. tree_is_formed u || x) (atom_grounded t q) ∙ or-true (tree_is_formed u)
       by false false p q = absurd (cc)
 
 -- Notes

@@ -14,16 +14,13 @@ use Rattle.ground_abs.specs.declared.grounding.Step.TheVariants.{Visit, Build}
 
 -- The stack, whose last step comes first
 
-pub reverse_push : {A : Type 0} (xs : List A) (x : A) → reverse (xs ++ x ∷ []) ≡ x ∷ reverse xs
-reverse_push xs x = reverse-append xs (x ∷ [])
-
 pub one_visit : (terms : List ℕ) (old now new : List Step) (i t : ℕ) → 0 < i → i ≤ length terms → t ≡ get_or terms (i - 1) t
     → reverse now ≡ map Visit (drop i terms) ++ reverse old → new ≡ now ++ Visit t ∷ [] → reverse new ≡ map Visit (drop (i - 1) terms) ++ reverse old
 one_visit terms old now new i t positive within is before pushed =
     let next : suc (i - 1) ≡ i = omega arith in
     let d : drop (i - 1) terms ≡ get_or terms (i - 1) t ∷ drop (suc (i - 1)) terms = drop-cons terms (i - 1) t (omega arith) in
     let e : drop (i - 1) terms ≡ t ∷ drop i terms = d ∙ ap₂ (λ x xs. x ∷ xs) (sym is) (ap (λ j. drop j terms) next) in
-    ap reverse pushed ∙ reverse_push now (Visit t) ∙ ap (λ ss. Visit t ∷ ss) before ∙ ap (λ (xs : List ℕ). map Visit xs ++ reverse old) (sym e)
+    ap reverse pushed ∙ reverse-append now (Visit t ∷ []) ∙ ap (λ ss. Visit t ∷ ss) before ∙ ap (λ (xs : List ℕ). map Visit xs ++ reverse old) (sym e)
 
 -- The arguments of an application
 

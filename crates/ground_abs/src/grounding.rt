@@ -123,8 +123,8 @@ impl Grounding {
         ensures bot { self.new.bot ≡ self.old.bot }
         ensures unspent { OnOk result (bank.old.spent ≡ false → bank.new.spent ≡ false) }
     {
-        let image = bank.app(&self.bot, &[])?;
-        self.note(id, image)?;
+        let constant = bank.app(&self.bot, &[])?;
+        self.note(id, constant)?;
         Ok(())
     }
 

@@ -14,7 +14,7 @@ returns-clause-goes c =
     record {
       extends = c.app.ensures.extends;
       notes = c.note.ensures.notes g (notes_stay f g bot c.args.self.now.notes.entries c.app.ensures.extends c.requires.notes)
-          (constant_noted f g bot c.args.id c.in_ok-image.image c.requires.variable.0 c.app.ensures.extends c.requires.within c.requires.variable.1 c.in_ok-image.ensures.at);
+          (constant_noted f g bot c.args.id c.in_ok-constant.constant c.requires.variable.0 c.app.ensures.extends c.requires.within c.requires.variable.1 c.in_ok-constant.ensures.at);
       formed = λ h old. c.app.ensures.formed old (constant_is_formed bot h);
     }
 
@@ -26,12 +26,12 @@ returns-in_err-note-clause-goes c =
     record {
       extends = c.app.ensures.extends;
       notes = c.note.ensures.notes g (notes_stay f g bot c.args.self.now.notes.entries c.app.ensures.extends c.requires.notes)
-          (constant_noted f g bot c.args.id c.in_ok-image.image c.requires.variable.0 c.app.ensures.extends c.requires.within c.requires.variable.1 c.in_ok-image.ensures.at);
+          (constant_noted f g bot c.args.id c.in_ok-constant.constant c.requires.variable.0 c.app.ensures.extends c.requires.within c.requires.variable.1 c.in_ok-constant.ensures.at);
       formed = λ h old. c.app.ensures.formed old (constant_is_formed bot h);
     }
 
-pub returns-in_err-image-clause-goes : goal.returns-in_err-image-clause-goes
-returns-in_err-image-clause-goes c =
+pub returns-in_err-constant-clause-goes : goal.returns-in_err-constant-clause-goes
+returns-in_err-constant-clause-goes c =
     let f = c.args.bank.now in
     let g = c.app.new.self in
     let bot = c.args.self.now.bot in

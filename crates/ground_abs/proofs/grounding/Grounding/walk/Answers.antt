@@ -1,11 +1,11 @@
-use Rattle.std.proofs.Common.{subst, sym, ap, ◌∙◌, reverse, List}
+use Rattle.std.proofs.Common.{subst, sym, ap, ◌∙◌, reverse, List, ◌∷◌, []}
+use Rattle.std.proofs.lemmas.List.{reverse-append}
 use Rattle.inst_logic.specs.declared.symbol.Sym.{Sym}
 use Rattle.term_bank.specs.Forest.{tree_at}
 use Rattle.ground_abs.specs.Abstracts.{AreNotesIn}
 use Rattle.ground_abs.specs.Walks.{AreReady, Goes, IsFound}
 use Rattle.ground_abs.specs.declared.grounding.Step.{Step}
 use Rattle.ground_abs.proofs.Images.{goes_on}
-use Rattle.ground_abs.proofs.Walking.{reverse_push}
 use Rattle.ground_abs.proofs.grounding.Grounding.walk.Goals as goal
 
 pub take-requires-clause-notes : goal.take-requires-clause-notes
@@ -16,7 +16,7 @@ loop-step-preserved c =
     let f = c.args.bank.now in
     let before = c.loop-step.invariant in
     let after = c.in_ok-take.ensures in
-    let popped = ap reverse c.in-Some.ensures.items ∙ reverse_push c.pop.new.self.items c.in-Some.step in
+    let popped = ap reverse c.in-Some.ensures.items ∙ reverse-append c.pop.new.self.items (c.in-Some.step ∷ []) in
     let ready = subst (λ (ss : List Step). AreReady f (tree_at f c.args.id) (IsFound c.loop-step.bank c.loop-step.self.notes.entries) ss) popped before.ready in
     record {
       ready = after.ready f (tree_at f c.args.id) before.goes.extends ready;
