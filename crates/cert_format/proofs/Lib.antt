@@ -5,4 +5,5 @@ pub mod Members
 pub mod GroundInstances
 pub mod ExampleMembers
 pub mod RightCertificates
+pub mod Fitting
 pub mod TieChecks
