@@ -1,5 +1,5 @@
 // Verdicts on problems without variables and without equality.
-use inst_logic::{ListOf, Literal, Name, NumberList, PlaceList};
+use inst_logic::{ListOf, Literal, NumberList, PlaceList, Sym};
 use prop_logic::Derivation;
 
 /// What was found of a problem, with what its certificate needs beside the problem.
@@ -10,11 +10,11 @@ pub enum Verdict {
         members: NumberList,
         places: PlaceList,
     },
-    /// The numbers of the clauses that are members, the name of the ground constant, the atoms as positive literals in the
+    /// The numbers of the clauses that are members, the ground constant, the atoms as positive literals in the
     /// order of their numbers, and a derivation of the empty clause over these numbers.
     Unsatisfiable {
         members: NumberList,
-        bot: Name,
+        bot: Sym,
         atoms: ListOf<Literal>,
         derivation: Derivation,
     },
