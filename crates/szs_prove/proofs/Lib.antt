@@ -8,7 +8,6 @@ pub mod SatisfiableProblems
 pub mod SameClauses
 pub mod GroundClauses
 pub mod UnsatisfiableProblems
-pub mod SymbolNames
 pub mod Exact
 pub mod Pieces
 pub mod LeftTerms

@@ -5,7 +5,7 @@ use Rattle.outside_io.specs.declared.library.NamedFile.{NamedFile}
 use Rattle.tptp_load.specs.Problems.{Loads, Told}
 use Rattle.szs_prove.specs.Answered.{HasVerdict, Reading, Writing}
 use Rattle.szs_prove.specs.Answers.{verdict, refusal}
-use Rattle.szs_prove.specs.Certificates.{certificate_text}
+use Rattle.cert_format.specs.Text.{certificate_text}
 use Rattle.szs_prove.specs.Loading.{IsBuilt, IsProblemOf, IsUnread}
 use Rattle.szs_prove.specs.Told.{AnsweredBuilt, LoadsBuilt}
 use Rattle.szs_prove.specs.Texts.{exit_of, refusal_text}
@@ -38,7 +38,7 @@ verdict_told words read write exit asked text written some v b same w = record {
   answered = record {
     answer = verdict v.0;
     cause = (asked, sym some, v.1);
-    written = subst (λ o. Wrote write Decided (certificate_text (shown_name o) v.0) exit) some (subst (λ t. Wrote write Decided t exit) (same ∙ v.2) w);
+    written = subst (λ o. Wrote write Decided (certificate_text 1 (shown_name o) v.0) exit) some (subst (λ t. Wrote write Decided t exit) (same ∙ v.2) w);
   };
   built = (asked, sym some, b);
 }

@@ -2,8 +2,10 @@
 use Rattle.std.specs.Prelude.{ℕ, ◌≡◌, List, Option, None, Some}
 use Rattle.inst_logic.specs.declared.clause.Problem.{Problem}
 use Rattle.outside_io.specs.declared.library.NamedFile.{NamedFile}
-use Rattle.szs_prove.specs.Certificates.{Certificate, Certifies, certificate_text}
+use Rattle.cert_format.specs.Certificate.{Certificate}
+use Rattle.cert_format.specs.Certifies.{Certifies}
 use Rattle.cert_format.specs.Printable.{IsTextName}
+use Rattle.cert_format.specs.Text.{certificate_text}
 use Rattle.szs_prove.specs.Loading.{IsProblemOf, IsUnread}
 use Rattle.szs_prove.specs.Texts.{exit_of, refusal_text}
 use Rattle.szs_prove.specs.Words.{Asked, asked_of}
@@ -21,7 +23,7 @@ pub data Answer : Type 0 where
 pub record IsCertificateFor (files : Option (List NamedFile)) (asked : Asked) (c : Certificate) : Type 0 where
   pub problem : Problem
   pub is_problem : IsProblemOf files asked problem
-  pub certifies : Certifies problem c
+  pub certifies : Certifies problem 1 c
   pub name : IsTextName asked.file
 
 -- the words name a file, and the certificate is one for it
@@ -39,5 +41,5 @@ exit_for (verdict c) = Decided
 exit_for (refusal why) = exit_of why
 
 abbrev pub text_for : List ℕ → Answer → List ℕ
-text_for name (verdict c) = certificate_text name c
+text_for name (verdict c) = certificate_text 1 name c
 text_for name (refusal why) = refusal_text name why

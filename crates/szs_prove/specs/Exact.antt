@@ -9,7 +9,8 @@ use Rattle.tptp_load.specs.Problems.{Loads, Refuses}
 use Rattle.tptp_load.specs.declared.error.LoadError.{LoadError}
 use Rattle.szs_prove.specs.Answered.{Reading, Writing}
 use Rattle.szs_prove.specs.Answers.{Answer, IsAnswer, IsVerdict, text_for}
-use Rattle.szs_prove.specs.Certificates.{Certificate, certificate_text}
+use Rattle.cert_format.specs.Certificate.{Certificate}
+use Rattle.cert_format.specs.Text.{certificate_text}
 use Rattle.szs_prove.specs.Loading.{IsBuilt, IsFirstUnbuilt}
 use Rattle.szs_prove.specs.Texts.{refusal_text}
 use Rattle.szs_prove.specs.Words.{Asked, asked_of, shown_name}
@@ -54,7 +55,7 @@ pub record IsExact (words : List (List ℕ)) (files : List NamedFile) (read : Re
 pub record WritesCertificate (words : List (List ℕ)) (files : Option (List NamedFile)) (old new : Option (List ℕ)) : Type 0 where
   pub certificate : Certificate
   pub is_verdict : IsVerdict words files certificate
-  pub written : Appends old new (certificate_text is_verdict.0.file certificate)
+  pub written : Appends old new (certificate_text 1 is_verdict.0.file certificate)
 
 -- A proper prefix of the text of an answer with its cause was written.
 pub record IsInterrupted (words : List (List ℕ)) (read : Reading) (old new : Option (List ℕ)) : Type 0 where
