@@ -13,6 +13,12 @@ use Rattle.cdcl_trail.specs.declared.entry.Entry.{Entry}
 use Rattle.cdcl_trail.specs.Trail.{Trail, IsTrail, level_of, reason_of, value_of, literals_of}
 use Rattle.cdcl_trail.specs.Propagation.{IsFalseIn}
 
+-- an item at each place
+pub item : (es : List Entry) (k : ℕ) → k < length es → (e : Entry) × (slice_get es k ≡ Some e)
+item [] k h = absurd (omega (arith, h))
+item (e ∷ es) zero h = (e, refl)
+item (e ∷ es) (suc k) h = item es k (omega (arith, h))
+
 -- pairs of a list
 pub pairs_tail : {X : Type 0} (R : X → X → Type 0) (x : X) (xs : List X) → AllPairs R (x ∷ xs) → AllPairs R xs
 pairs_tail R x xs h = λ i j d low high. h (suc i) (suc j) d (omega arith) (omega arith)

@@ -12,8 +12,7 @@ use Rattle.cdcl_trail.specs.Trail.{Trail, IsTrail, reason_of}
 use Rattle.cdcl_core.specs.declared.log.Log.{Log}
 use Rattle.cdcl_core.specs.Analysis.{IsMarked, IsReady}
 use Rattle.cdcl_core.specs.Closure.{IsOpened, IsGivenAt, IsReasonAt}
-use Rattle.cdcl_core.proofs.EntryLaws.{reason_found}
-use Rattle.cdcl_core.proofs.BackLaws.{item}
+use Rattle.cdcl_core.proofs.EntryLaws.{item, reason_found}
 
 reason_at : (t : Trail) (k : ℕ) (lit : Signed ℕ) (e : Entry) (o : Option ℕ) → IsTrail t → slice_get t.entries k ≡ Some e → lit ≡ e.lit → o ≡ reason_of t.entries lit.atom → e.reason ≡ o
 reason_at t k lit e o v at is read = sym (read ∙ reason_found t e lit.atom v (Contains-slice_get t.entries k e at) (ap (λ x. x.atom) (sym is)))

@@ -27,7 +27,7 @@ use Rattle.cdcl_core.proofs.EndLaws.{answer_refutes, core_free, core_has, clash_
 -- other marks
 pub marks_search : (assumptions : List (Signed ℕ)) (s : Search) (m : List Bool) → length m ≡ length s.marks → IsSearch assumptions s → IsSearch assumptions (record s { marks = m })
 marks_search assumptions s m same k = record {
-  kept = kept_same s (record s { marks = m }) refl refl refl same refl k.kept;
+  kept = kept_same s (record s { marks = m }) refl refl refl same (λ p. p) k.kept;
   low = k.low;
   decisions = k.decisions;
   all_true = k.all_true;
@@ -108,7 +108,7 @@ clash_ends assumptions core s m l derivation marks k low c here there e is =
     let first = All-contains (λ x. IsInCore s.trail.trail.entries m l x → Contains core x) assumptions l c.whole here (inl refl) in
     let second = All-contains (λ x. IsInCore s.trail.trail.entries m l x → Contains core x) assumptions (complement l) c.whole there (inr (e.0, e.1, e.2, e.3, marked)) in
     record {
-      kept = kept_same s (record s { marks = m }) refl refl refl one.0 refl k;
+      kept = kept_same s (record s { marks = m }) refl refl refl one.0 (λ p. p) k;
       same = record { atoms = refl; added = refl };
       answered = subst (λ d. IsAnswer s.trail.trail.atoms s.log.added assumptions (Unsat core d)) (sym is) (clash_answer s.trail.trail.atoms s.log.added assumptions core l c.within (core_atoms s.trail.trail.atoms assumptions core low c.within) first second);
     }

@@ -12,6 +12,7 @@ mod log;
 mod marks;
 mod order;
 mod pace;
+mod phases;
 mod search;
 
 pub use cdcl::Cdcl;
