@@ -107,11 +107,11 @@ back_kept old new level v trail attached clauses log marks size whole within k =
       phases = phases_back old.trail.trail new.trail.trail new.phases level atoms (ap (λ x. x.entries) trail) size whole within;
     }
 
-closes_shown : (F : List (Signed ℕ)) (hints : List (Option (List (Signed ℕ)))) → ClosesAll F hints → IsShown F hints
+pub closes_shown : (F : List (Signed ℕ)) (hints : List (Option (List (Signed ℕ)))) → ClosesAll F hints → IsShown F hints
 closes_shown F [] c = absurd c
 closes_shown F (h ∷ hints) c = c
 
-closes_hinted : (added : List (List (Signed ℕ))) (steps : List Step) (F : List (Signed ℕ)) (hints : List Hint) → ClosesAll F (map (cited added steps) hints) → hints ≡ [] → ⊥
+pub closes_hinted : (added : List (List (Signed ℕ))) (steps : List Step) (F : List (Signed ℕ)) (hints : List Hint) → ClosesAll F (map (cited added steps) hints) → hints ≡ [] → ⊥
 closes_hinted added steps F [] c e = c
 closes_hinted added steps F (h ∷ hints) c e = cc
 

@@ -409,17 +409,18 @@ impl Search {
         Ok(())
     }
 
-    // The answer where the core can't be true, whose complements the hints show.
-    fn refuted(&mut self, core: LitList, hints: Vec<Hint>) -> Result<Answer, Memory>
-        requires kept { IsKept self.old }
-        requires atoms { AtomsBelow self.old.trail.trail.atoms core }
-        requires closes { ClosesAll (map complement core) (map (cited self.old.log.added self.old.log.steps) hints.items) }
-        ensures ends { IfOk result (λ answer. (assumptions : List (Signed ℕ)) → IsSubList core assumptions → Ends assumptions self.old self.new answer) }
-        ensures added { self.new.log.added ≡ self.old.log.added }
+    // The answer where the core can't be true, whose complements the hints show. Nothing of it stays in the log.
+    fn refuted(&self, core: LitList, hints: Vec<Hint>) -> Result<Answer, Memory>
+        requires kept { IsKept self.now }
+        requires atoms { AtomsBelow self.now.trail.trail.atoms core }
+        requires closes { ClosesAll (map complement core) (map (cited self.now.log.added self.now.log.steps) hints.items) }
+        ensures { IfOk result (λ answer. (assumptions : List (Signed ℕ)) → IsSubList core assumptions → Ends assumptions self.now self.now answer) }
     {
-        let clause = complements(self.alloc, core.as_slice())?;
-        self.push_step(clause, hints)?;
-        let derivation = cut(self.alloc, self.log.steps.as_slice())?;
+        let last = Step {
+            clause: complements(self.alloc, core.as_slice())?,
+            hints: HintList::from(hints),
+        };
+        let derivation = cut(self.alloc, self.log.steps.as_slice(), &last)?;
         Ok(Answer::Unsat { core, derivation })
     }
 
