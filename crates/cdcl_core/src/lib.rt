@@ -6,7 +6,6 @@
 mod analysis;
 mod cdcl;
 mod cut;
-mod explain;
 mod learned;
 mod log;
 mod marks;
