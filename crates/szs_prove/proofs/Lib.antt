@@ -17,3 +17,4 @@ pub mod PlainProblems
 pub mod Told
 pub mod Texts
 pub mod TermLiterals
+pub mod VerdictTexts

@@ -1,6 +1,6 @@
 -- The base of a certificate of ground clauses without equality: it is the problem's, its members are right, and it is printable.
 use Rattle.std.proofs.Common.{◌≡◌, ℕ, zero, suc, ◌<◌, ◌≤◌, ◌^◌, List, [], ◌∷◌, ◌++◌, inl, refl, sym, ap, ◌∙◌, subst, map, length, Some, None, Option, arith}
-use Rattle.std.specs.Prelude.{slice_get, All, option_map}
+use Rattle.std.specs.Prelude.{slice_get, option_map}
 use Rattle.std.proofs.lemmas.List.{append-nil, length-map}
 use Rattle.std.proofs.lemmas.Option.{slice_get-map}
 use Rattle.std.proofs.lemmas.List.Elements.{All-nil}
@@ -9,15 +9,15 @@ use Rattle.inst_logic.specs.declared.clause.Problem.{Problem}
 use Rattle.inst_logic.specs.Tree.{Tree, var}
 use Rattle.inst_logic.specs.Substitution.{Substitution, subst as put, subst_literal, tree_vars}
 use Rattle.inst_logic.specs.Clauses.{TreeClause, IsGround, IsCanonical, Subsumes}
-use Rattle.inst_logic.specs.WellFormed.{clause_is_formed, AreFormedClauses}
+use Rattle.inst_logic.specs.WellFormed.{clause_is_formed}
 use Rattle.inst_logic.specs.Readable.{clause_is_readable}
 use Rattle.inst_logic.specs.Derivations.{at_number}
 use Rattle.inst_logic.proofs.ShownLaws.{at_number_contains}
 use Rattle.inst_logic.proofs.Substitutions.{subst_var}
 use Rattle.inst_calculus.specs.Axioms.{with_axioms}
-use Rattle.inst_calculus.specs.Entries.{Entry, input, entry_clauses}
+use Rattle.inst_calculus.specs.Entries.{Entry, input}
 use Rattle.inst_calculus.specs.Steps.{renamed_clause}
-use Rattle.inst_calculus.proofs.Membership.{◌∈◌, contains_in, all_in, in_all, from_map, equal_in, passes, all_pass}
+use Rattle.inst_calculus.proofs.Membership.{◌∈◌, contains_in, all_in, in_all, from_map, equal_in, passes}
 use Rattle.inst_calculus.proofs.Trees.{subst_agree}
 use Rattle.inst_calculus.proofs.Clauses.{literal_var, within_part, variable_of}
 use Rattle.cert_format.specs.Printable.{IsPrintableClause, IsPrintableBase, ClauseFits, EntryFits, BaseFits}

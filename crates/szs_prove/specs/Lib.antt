@@ -11,5 +11,6 @@ pub mod Places
 pub mod Built
 pub mod Told
 pub mod Words
+pub mod Replayed
 pub mod Requests
 pub mod Written
