@@ -325,7 +325,8 @@ fn begins<I: PartnerIndex>(index: &I, bank: &Bank, query: TermId) -> bool
 // Whether a walk over an index with this flag begins.
 fn refusing_begins(alloc: Global, bank: &mut Bank, refuses: bool) -> Result<bool, Memory> {
     let query = bank.var(0)?;
-    let index = Refusing::new(alloc, refuses);
+    let mut index = Refusing::new(alloc, !refuses);
+    index.set_refuses(refuses);
     Ok(begins(&index, bank, query))
 }
 
