@@ -18,7 +18,7 @@ use Rattle.term_tree.proofs.PathLaws.{leads_split, from_root, one_way, leads_app
 use Rattle.term_tree.proofs.TermLaws.{passes_split, first_terms}
 use Rattle.term_tree.proofs.EdgeLaws.{span_eq, span_same, span_itself}
 
-same_number : (m n : ℕ) → (m ≡ n) ⊎ (¬ (m ≡ n))
+pub same_number : (m n : ℕ) → (m ≡ n) ⊎ (¬ (m ≡ n))
 same_number m n = by (nat_eq m n) refl
   where
     by : (b : Bool) → nat_eq m n ≡ b → (m ≡ n) ⊎ (¬ (m ≡ n))
@@ -199,12 +199,12 @@ lists_more ss ts us ns ms os added s a cases there kept = record {
 }
 
 -- the items after one was taken out and the last one took its place
-swapped : (xs ys : List ℕ) (p d : ℕ) → p < length xs → ys ≡ swap_remove xs p d
-    → (length ys + 1 ≡ length xs) × ((i : ℕ) → i < length ys → ¬ (i ≡ p) → get_or ys i 0 ≡ get_or xs i 0) × (p < length ys → get_or ys p 0 ≡ get_or xs (length ys) 0)
-swapped xs ys p d w e = (
+pub swapped : {A : Type 0} (xs ys : List A) (p : ℕ) (d z : A) → p < length xs → ys ≡ swap_remove xs p d
+    → (length ys + 1 ≡ length xs) × ((i : ℕ) → i < length ys → ¬ (i ≡ p) → get_or ys i z ≡ get_or xs i z) × (p < length ys → get_or ys p z ≡ get_or xs (length ys) z)
+swapped xs ys p d z w e = (
   long,
-  (λ i b q. at i b ∙ get_or-set_other xs p i (get_or xs (length xs - 1) d) 0 q),
-  (λ b. at p b ∙ get_or-set_same xs p (get_or xs (length xs - 1) d) 0 w ∙ get_or_default xs (length xs - 1) d 0 (omega arith) ∙ ap (λ k. get_or xs k 0) last),
+  (λ i b q. at i b ∙ get_or-set_other xs p i (get_or xs (length xs - 1) d) z q),
+  (λ b. at p b ∙ get_or-set_same xs p (get_or xs (length xs - 1) d) z w ∙ get_or_default xs (length xs - 1) d z (omega arith) ∙ ap (λ k. get_or xs k z) last),
 )
   where
     long : length ys + 1 ≡ length xs
@@ -215,8 +215,8 @@ swapped xs ys p d w e = (
     last : length xs - 1 ≡ length ys
     last = omega (arith, long)
 
-    at : (i : ℕ) → i < length ys → get_or ys i 0 ≡ get_or (slice_set xs p (get_or xs (length xs - 1) d)) i 0
-    at i b = ap (λ zs. get_or zs i 0) e ∙ get_or-take (length xs - 1) (slice_set xs p (get_or xs (length xs - 1) d)) i 0 (omega (arith, long))
+    at : (i : ℕ) → i < length ys → get_or ys i z ≡ get_or (slice_set xs p (get_or xs (length xs - 1) d)) i z
+    at i b = ap (λ zs. get_or zs i z) e ∙ get_or-take (length xs - 1) (slice_set xs p (get_or xs (length xs - 1) d)) i z (omega (arith, long))
 
 -- one exit less: the last one takes its place
 module _ (ps qs : List ℕ) (ns ms : List Content) (node number p d : ℕ) (w : p < length (content_at ns node).exits) (at : exit_at ns node p ≡ number)
@@ -224,7 +224,7 @@ module _ (ps qs : List ℕ) (ns ms : List Content) (node number p d : ℕ) (w : 
     (place : p < length (content_at ms node).exits → place_at qs (exit_at ms node p) ≡ p) (places : (r : ℕ) → (p < length (content_at ms node).exits → ¬ (r ≡ exit_at ms node p)) → place_at qs r ≡ place_at ps r) where
   swap : (length (content_at ms node).exits + 1 ≡ length (content_at ns node).exits) × ((i : ℕ) → i < length (content_at ms node).exits → ¬ (i ≡ p) → exit_at ms node i ≡ exit_at ns node i)
       × (p < length (content_at ms node).exits → exit_at ms node p ≡ exit_at ns node (length (content_at ms node).exits))
-  swap = swapped (content_at ns node).exits (content_at ms node).exits p d w is
+  swap = swapped (content_at ns node).exits (content_at ms node).exits p d 0 w is
 
   from_item : (i : ℕ) → i < length (content_at ms node).exits → (j : ℕ) × (j < length (content_at ns node).exits) × (exit_at ms node i ≡ exit_at ns node j)
   from_item i v = elim (same_number i p) [

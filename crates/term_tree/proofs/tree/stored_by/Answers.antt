@@ -3,6 +3,7 @@ use Rattle.term_index.specs.Pairs.{Adds}
 use Rattle.term_tree.specs.Lists.{AreWithin}
 use Rattle.term_tree.specs.Paths.{IsArena, IsLinked, KeepsPairs}
 use Rattle.term_tree.specs.State.{pairs_of}
+use Rattle.term_tree.specs.StateLaws.{held_stored}
 use Rattle.term_tree.proofs.DescentLaws.{way_linked, way_within}
 use Rattle.term_tree.proofs.Growing.{grown_arena, grown_keeps}
 use Rattle.term_tree.proofs.Linking.{listed_arena}
@@ -81,3 +82,7 @@ pub returns-clause-added : goal.returns-clause-added
 returns-clause-added c =
     subst (λ ps. Adds (c.args.atom, c.args.entry) ps (pairs_of c.put_pair.new.nodes.items)) (same c)
     (put_adds c.in_ok-node.node c.link_all.new.nodes.items c.put_pair.new.nodes.items (changes c) (c.args.atom, c.args.entry) c.in_ok-put_pair.ensures.pairs (gone c))
+
+pub put_pair-requires-clause-absent : goal.put_pair-requires-clause-absent
+put_pair-requires-clause-absent c = λ n h. c.requires.absent (subst (λ ps. Contains ps (c.args.atom, c.args.entry))
+    (pairs_kept c.args.nodes.now.items c.link_all.new.nodes.items (λ k. c.link_all.ensures.pairs k ∙ c.grown_leaf.ensures.pairs k ∙ c.rooted.ensures.pairs k)) (held_stored c.link_all.new.nodes.items n (c.args.atom, c.args.entry) h))
