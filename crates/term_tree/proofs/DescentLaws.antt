@@ -1,5 +1,5 @@
 -- An atom on its way down the tree.
-use Rattle.std.proofs.Common.{◌≡◌, ◌≢◌, ◌<◌, ◌≤◌, ◌+◌, ◌-◌, ◌⊎◌, inl, inr, ℕ, zero, suc, List, [], ◌∷◌, ◌++◌, length, map, reverse, get_or, Contains, All, refl, sym, ◌∙◌, ap, subst, arith, append_assoc, length-append}
+use Rattle.std.proofs.Common.{◌≡◌, ◌<◌, ◌≤◌, ◌+◌, ◌-◌, ◌⊎◌, inl, inr, ℕ, List, [], ◌∷◌, ◌++◌, length, map, reverse, get_or, Contains, All, refl, sym, ◌∙◌, ap, subst, arith, append_assoc, length-append}
 use Rattle.std.proofs.lemmas.List.{length-map}
 use Rattle.std.proofs.lemmas.List.Elements.{All-contains, All-cons, All-nil, Contains-append_left, Contains-push, Contains-push_cases, Contains-get_or}
 use Rattle.std.proofs.lemmas.List.Quantifiers.{all_pairs_push}
@@ -11,17 +11,13 @@ use Rattle.term_tree.specs.declared.node.Edge.{Edge}
 use Rattle.term_tree.specs.declared.node.Span.{Span}
 use Rattle.term_tree.specs.Nodes.{Content}
 use Rattle.term_tree.specs.Labels.{label_of, arity_of, labels}
-use Rattle.term_tree.specs.Left.{IsOpen, IsSorted, Begins, IsDescent, AreBelow, Closes, IsWay, IsIndexed, left_labels}
+use Rattle.term_tree.specs.Left.{IsOpen, IsSorted, Begins, IsDescent, AreBelow, Closes, IsWay, IsIndexed}
 use Rattle.term_tree.specs.Paths.{IsChild, Leads, Passes, Spans, Exits, IsLinked, KeepsEdges, edge_at}
 use Rattle.term_tree.proofs.LabelLaws.{length_to_list}
 use Rattle.term_tree.proofs.LeftLaws.{left_on, ids_on}
 use Rattle.term_tree.proofs.PathLaws.{leads_append, leads_kept, leads_once, leads_up, one_way, from_root}
 use Rattle.term_tree.proofs.SpotLaws.{pairs_front, pairs_across}
 use Rattle.term_tree.proofs.TermLaws.{passes_on, prefix_free}
-
--- none closed yet
-pub closes_none : (xs : List Open) (ss : List Span) (node height : ℕ) → Closes xs xs ss ss node height
-closes_none xs ss node height = record { front = ([], sym (Rattle.std.proofs.Common.append-nil xs)); kept = λ s h. h; sound = λ s h. inl h; all = λ o h. inl h }
 
 -- one more
 pub closes_more : (first before after : List Open) (last : Open) (old new more : List Span) (node height : ℕ) → before ≡ after ++ last ∷ [] → more ≡ new ++ record { begin = last.begin; end = node } ∷ [] → height ≤ last.height
@@ -179,21 +175,6 @@ descent_kept f es fs kept all node left opened closed d = record {
   closes = λ s h. (let k = d.closes s h in ((k.0.0, leads_kept es fs kept s.begin k.0.0 s.end k.0.1, k.0.2), (k.1.0, leads_kept es fs kept s.end k.1.0 node k.1.1)));
   total = λ ds l ms e. (let k = d.total ds l ms e in (k.0, leads_kept es fs kept 0 ds k.0 k.1, k.2));
 }
-
--- nothing is left
-pub descent_end : (f : Forest) (es : List Edge) (atom node : ℕ) (left : List ℕ) (opened : List Open) (closed : List Span) → left ≡ [] → IsDescent f es (labels f (tree_at f atom)) node left opened closed
-    → AreBelow (length left) opened → IsWay f es atom node closed
-descent_end f es atom node left opened closed e d low = record {
-  leads = subst (λ ls. Leads es 0 ls node) whole d.leads;
-  sound = d.closes;
-  total = λ ds l ms h. (let k = d.total ds l ms (whole ∙ h) in (k.0, k.1, elim k.2 [ inl x ↦ x | inr x ↦ absurd (none x.0 k.0 x.1) ]));
-}
-  where
-    whole : d.path ≡ labels f (tree_at f atom)
-    whole = sym (Rattle.std.proofs.Common.append-nil d.path) ∙ ap (λ xs. d.path ++ left_labels f xs) (sym e) ∙ d.split
-
-    none : (h b : ℕ) → Contains opened (record { begin = b; height = h }) → ⊥
-    none h b k = let w : h < length left = All-contains (λ (p : Open). p.height < length left) opened (record { begin = b; height = h }) low k in omega (arith, w, ap length e)
 
 -- the spans of an atom's terms are all those to nodes on its way
 pub way_linked : (f : Forest) (es : List Edge) (ts : List Span) (ms : List Content) → ((k : ℕ) → k < length es → (edge_at es k).from ≤ k) → IsIndexed es → (atom leaf : ℕ) (spans : List Span) → leaf ≤ length es

@@ -86,13 +86,6 @@ module _ (ss ts : List Span) (s : Span) (r : ℕ) (h : Numbers ss ts s r) where
   pub old_span : (k : ℕ) → k < length ss → span_at ts k ≡ span_at ss k
   old_span k w = elim h.cases [ inl e ↦ ap (λ xs. span_at xs k) e | inr e ↦ ap (λ xs. span_at xs k) e.0 ∙ get_or-append ss (s ∷ []) no_span k w ]
 
-  pub span_cases : (k : ℕ) → k < length ts → ((k < length ss) × (span_at ts k ≡ span_at ss k)) ⊎ (span_at ts k ≡ s)
-  span_cases k w = elim h.cases [
-    | inl e ↦ (let b : k < length ss = omega (arith, w, ap length e) in inl (b, old_span k b))
-    | inr e ↦ elim (last_or_before k (length ss) (omega (arith, w, ap length e.0, length-append ss (s ∷ []))))
-        [ inl b ↦ inl (b, old_span k b) | inr q ↦ inr (ap (λ xs. span_at xs k) e.0 ∙ ap (span_at (ss ++ s ∷ [])) q ∙ get_or-append_seam ss s [] no_span) ]
-  ]
-
   spans_once : ((i j : ℕ) → i < length ss → j < length ss → span_at ss i ≡ span_at ss j → i ≡ j) → (i j : ℕ) → i < length ts → j < length ts → span_at ts i ≡ span_at ts j → i ≡ j
   spans_once once i j v w q = elim h.cases [
     | inl e ↦ once i j (omega (arith, v, ap length e)) (omega (arith, w, ap length e)) (ap (λ xs. span_at xs i) (sym e) ∙ q ∙ ap (λ xs. span_at xs j) e)
@@ -166,9 +159,6 @@ module _ (ss : List Span) (ps qs : List ℕ) (ns ms : List Content) (s : Span) (
     ];
   }
 
-  pub pushed_there : Exits ss ms s.begin s.end
-  pushed_there = (r, subst (λ xs. Contains xs r) (sym here) (Contains-push (content_at ns s.begin).exits r), is)
-
   pub pushed_kept : KeepsExits ss ns ss ms
   pushed_kept n c x = (
     x.0,
@@ -178,14 +168,6 @@ module _ (ss : List Span) (ps qs : List ℕ) (ns ms : List Content) (s : Span) (
     ],
     x.2,
   )
-
--- a number that is at its place is listed
-pub linked_there : (ss : List Span) (ns : List Content) (s : Span) (r i : ℕ) → i < length (content_at ns s.begin).exits → exit_at ns s.begin i ≡ r → span_at ss r ≡ s → Exits ss ns s.begin s.end
-linked_there ss ns s r i w e is = (r, item (content_at ns s.begin).exits i r w e, is)
-
--- all of them, one after the other
-pub lists_none : (ss : List Span) (ns : List Content) → ListsAll ss ns [] ss ns
-lists_none ss ns = record { spans = λ r w. inl (w, refl); all = λ s h. absurd (omega (arith, h.1)); kept = λ n c x. x }
 
 pub lists_more : (ss ts us : List Span) (ns ms os : List Content) (added : List Span) (s : Span) → ListsAll ss ns added ts ms
     → ((r : ℕ) → r < length us → ((r < length ts) × (span_at us r ≡ span_at ts r)) ⊎ (span_at us r ≡ s)) → Exits us os s.begin s.end → KeepsExits ts ms us os → ListsAll ss ns (added ++ s ∷ []) us os
@@ -289,9 +271,6 @@ module _ (ps qs : List ℕ) (ns ms : List Content) (node number p d : ℕ) (w : 
         | inr q ↦ ap (λ (x : Content). place_at qs (get_or x.exits i 0)) (others n q) ∙ unmoved n i (subst (λ (x : Content). i < length x.exits) (others n q) v) (λ b s. q s.0)
       ];
     }
-
-pub kept_all : (ps : List ℕ) (ns : List Content) (node number : ℕ) → KeepsOthers ps ns node number ps ns
-kept_all ps ns node number = record { len = refl; pairs = λ n. refl; others = λ n d. refl; listed = λ ss a. a; kept = λ r h d. h; fewer = λ r h. h }
 
 -- no pair ends at a bare node or below it
 pub bare_reaches : (es : List Edge) (ss : List Span) (ps : List ℕ) (ns : List Content) → IsArena es ss ps ns → (c : ℕ) → c < length ns → IsBare (content_at ns c) → ¬ (Reaches es ns c)

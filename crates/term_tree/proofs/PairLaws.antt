@@ -11,7 +11,7 @@ use Rattle.term_bank.proofs.Nodes.{last_or_before}
 use Rattle.term_index.specs.Pairs.{Pair, Removes}
 use Rattle.term_tree.specs.Found.{place_of, AreFound}
 use Rattle.term_tree.specs.Nodes.{Content}
-use Rattle.term_tree.specs.Paths.{content_at, Holds, KeepsPairs}
+use Rattle.term_tree.specs.Paths.{content_at, Holds}
 use Rattle.term_tree.proofs.Linking.{swapped, same_number}
 
 abbrev pair_eq : Pair → Pair → Bool
@@ -151,7 +151,3 @@ take_found found mid more ns ms node i p last d w at is others once one end chan
               (λ e. (let z : r.0 ≡ length xs - 1 = one_at xs ys p d i w at is once r.0 (length xs - 1) q r.1 (omega (arith, w)) (t ∙ sym (subst (λ y. get_or xs (length xs - 1) y ≡ y) e end)) in omega (arith, z, x.1, b, sw.0)))
               ∙ old node r.0 q r.1 t ∙ ap Some x.1
         ]
-
--- the same pairs
-pub same_found : (found : List (Pair × ℕ)) (ns ms : List Content) → KeepsPairs ns ms → AreFound found ns → AreFound found ms
-same_found found ns ms same h n i p w is = h n i p (subst (λ (xs : List Pair). i < length xs) (same n) w) (subst (λ (xs : List Pair). get_or xs i p ≡ p) (same n) is)

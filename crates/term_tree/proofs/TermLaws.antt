@@ -10,10 +10,6 @@ use Rattle.term_tree.specs.Labels.{arity_of, labels, all_labels}
 use Rattle.term_tree.specs.Paths.{Passes, Leads, Spans}
 use Rattle.term_tree.specs.Run.{Graph, run, nothing_left}
 
--- the counts under other names
-pub passes_of : (k j : ℕ) (ls : List Label) (m n : ℕ) → k ≡ j → m ≡ n → Passes k ls m → Passes j ls n
-passes_of k j ls m n e h p = subst (λ x. Passes x ls n) e (subst (λ y. Passes k ls y) h p)
-
 pub passes_append : (ls ms : List Label) (k m n : ℕ) → Passes k ls m → Passes m ms n → Passes k (ls ++ ms) n
 passes_append [] ms k m n p q = subst (λ x. Passes x ms n) (sym p) q
 passes_append (l ∷ ls) ms zero m n p q = absurd p
