@@ -3,7 +3,6 @@ use Rattle.std.proofs.Common.{◌≡◌, ◌<◌, ◌≤◌, ◌+◌, ◌-◌, �
 use Rattle.std.proofs.lemmas.List.{length-map}
 use Rattle.std.proofs.lemmas.List.Elements.{All-contains, All-cons, All-nil, Contains-append_left, Contains-push, Contains-push_cases, Contains-get_or}
 use Rattle.std.proofs.lemmas.List.Quantifiers.{all_pairs_push}
-use Rattle.inst_logic.specs.Tree.{Tree, var, app}
 use Rattle.term_bank.specs.Forest.{Forest, tree_at, arguments_of}
 use Rattle.term_tree.specs.declared.descent.Open.{Open}
 use Rattle.term_tree.specs.declared.label.Label.{Label}
@@ -13,7 +12,7 @@ use Rattle.term_tree.specs.Nodes.{Content}
 use Rattle.term_tree.specs.Labels.{label_of, arity_of, labels}
 use Rattle.term_tree.specs.Left.{IsOpen, IsSorted, Begins, IsDescent, AreBelow, Closes, IsWay, IsIndexed}
 use Rattle.term_tree.specs.Paths.{IsChild, Leads, Passes, Spans, Exits, IsLinked, KeepsEdges, edge_at}
-use Rattle.term_tree.proofs.LabelLaws.{length_to_list}
+use Rattle.term_tree.proofs.CopyLaws.{arity_is}
 use Rattle.term_tree.proofs.LeftLaws.{left_on, ids_on}
 use Rattle.term_tree.proofs.PathLaws.{leads_append, leads_kept, leads_once, leads_up, one_way, from_root}
 use Rattle.term_tree.proofs.SpotLaws.{pairs_front, pairs_across}
@@ -62,10 +61,6 @@ snoc_cases (y ∷ done) (d ∷ ds) x l ms e =
     let h : y ≡ d = cc in
     let t : done ++ x ∷ [] ≡ ds ++ l ∷ ms = cc in
     elim (snoc_cases done ds x l ms t) [ inl r ↦ inl (λ i. sym h i ∷ r i) | inr r ↦ inr (r.0, λ i. h i ∷ r.1 i) ]
-
-arity_is : (f : Forest) (t : Tree) → arity_of (label_of f t) ≡ length (arguments_of t)
-arity_is f (var v) = refl
-arity_is f (app s ts) = sym (length_to_list ts)
 
 length_reversed : (xs : List ℕ) → length (reverse xs) ≡ length xs
 length_reversed xs = Rattle.std.proofs.lemmas.List.length-reverse xs
