@@ -1,0 +1,5 @@
+pub mod Lines
+pub mod Tokens
+pub mod Numbers
+pub mod Form
+pub mod Header
