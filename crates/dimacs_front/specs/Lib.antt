@@ -3,3 +3,5 @@ pub mod Tokens
 pub mod Numbers
 pub mod Form
 pub mod Header
+pub mod Texts
+pub mod Answers

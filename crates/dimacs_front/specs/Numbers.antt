@@ -1,5 +1,5 @@
 -- Numbers, and what a token among the clauses says.
-use Rattle.std.specs.Prelude.{ℕ, ◌+◌, ◌-◌, ◌*◌, List, [], ◌∷◌, length, drop, Bool, true, false, ◌&&◌, ◌==◌, nat_le, nat_lt, Option, None, Some, if◌then◌else◌}
+use Rattle.std.specs.Prelude.{ℕ, ◌<◌, ◌+◌, ◌-◌, ◌*◌, List, [], ◌∷◌, length, drop, Bool, true, false, ◌&&◌, ◌==◌, nat_le, nat_lt, Option, None, Some, if◌then◌else◌}
 use Rattle.std.specs.List.{list_all}
 use Rattle.std.specs.Char.{is_ascii_digit}
 use Rattle.dimacs_front.specs.Lines.{begins}
@@ -35,3 +35,8 @@ mark_by positive (Some n) = if n == 0 then (if positive then Some End else None)
 -- a number, or a `-` and a number that isn't 0
 abbrev pub mark_of : List ℕ → Option Mark
 mark_of text = if begins 45 text then mark_by false (number (drop 1 text)) else mark_by true (number text)
+
+-- a literal's atom is below n
+abbrev pub IsMarkBelow : ℕ → Mark → Type 0
+IsMarkBelow n End = Unit {0}
+IsMarkBelow n (Literal l) = l.atom < n

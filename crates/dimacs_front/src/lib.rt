@@ -1,15 +1,20 @@
-//! Propositional problems in the DIMACS form: the reader.
+//! Propositional problems in the DIMACS form: the reader, and the answers of a solver that learns clauses, with the values
+//! or the derivation that show them.
 #![tactic(auto)]
 
+mod answers;
 mod bytes;
-pub mod cnf;
-pub mod error;
+mod cnf;
+mod error;
 mod header;
 mod numbers;
 mod read;
+mod solving;
 mod stream;
+mod texts;
 mod tokens;
 
+pub use answers::{SatAnswer, answer};
 pub use cnf::Cnf;
 pub use error::DimacsError;
 pub use read::read_dimacs;

@@ -1,6 +1,8 @@
 // The reader of the DIMACS form (Second DIMACS Implementation Challenge, Satisfiability: Suggested Format, 1993), of which
 // each clause is kept as it stands.
-ghost use Rattle.std.specs.Prelude.{◌≡◌};
+ghost use Rattle.std.specs.Prelude.{◌≡◌, IfOk};
+ghost use Rattle.prop_logic.specs.Literal.{AllAtomsBelow};
+ghost use Rattle.dimacs_front.specs.Numbers.{IsMarkBelow};
 ghost use Rattle.dimacs_front.specs.Lines.{placed};
 ghost use Rattle.dimacs_front.specs.Tokens.{coming, end_of};
 ghost use Rattle.dimacs_front.specs.Form.{clauses_in, judged, reading, within, IsRead};
@@ -15,7 +17,8 @@ use std::alloc::Global;
 
 // What a token behind the header says.
 fn judge(token: &Token, header: &Header) -> Result<Mark, DimacsError>
-    ensures { result ≡ judged header.now (placed token.now.line token.now.text.now) }
+    ensures is { result ≡ judged header.now (placed token.now.line token.now.text.now) }
+    ensures below { IfOk result (IsMarkBelow header.now.vars) }
 {
     let line = token.line;
     if line == header.line {
@@ -40,7 +43,8 @@ fn read_clauses(
     tokens: &mut Tokens,
     header: &Header,
 ) -> Result<LitLists, DimacsError>
-    ensures { IsRead (clauses_in (end_of tokens.old) header.now (coming tokens.old)) result }
+    ensures is { IsRead (clauses_in (end_of tokens.old) header.now (coming tokens.old)) result }
+    ensures below { IfOk result (AllAtomsBelow header.now.vars) }
 {
     let mut clauses = LitLists::new(alloc);
     let mut clause = LitList::new(alloc);
@@ -64,7 +68,8 @@ fn read_clauses(
 /// The clauses of a text in the DIMACS form, in their order, each with its literals in their order. It takes time in proportion
 /// to the text.
 pub fn read_dimacs(alloc: Global, text: &[u8]) -> Result<Cnf, DimacsError>
-    ensures { IsRead (reading text.now) result }
+    ensures read { IsRead (reading text.now) result }
+    ensures below { IfOk result (λ cnf. AllAtomsBelow cnf.vars cnf.clauses) }
 {
     let mut tokens = Tokens::new(text);
     let header = read_header(&mut tokens)?;
