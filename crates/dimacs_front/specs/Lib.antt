@@ -5,3 +5,5 @@ pub mod Form
 pub mod Header
 pub mod Texts
 pub mod Answers
+pub mod Files
+pub mod Dimacs

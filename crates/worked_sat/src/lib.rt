@@ -1,0 +1,7 @@
+//! Worked texts in the DIMACS form, and worked answers.
+#![tactic(auto)]
+
+#[cfg(test)]
+mod answers;
+#[cfg(test)]
+mod texts;
