@@ -8,6 +8,7 @@ mod cnf;
 mod error;
 mod file;
 mod header;
+pub mod laws;
 mod numbers;
 mod read;
 mod sat;

@@ -2,6 +2,7 @@
 // each clause is kept as it stands.
 ghost use Rattle.std.specs.Prelude.{◌≡◌, IfOk};
 ghost use Rattle.prop_logic.specs.Literal.{AllAtomsBelow};
+ghost use Rattle.dimacs_front.specs.Dimacs.{IsDimacs};
 ghost use Rattle.dimacs_front.specs.Numbers.{IsMarkBelow};
 ghost use Rattle.dimacs_front.specs.Lines.{placed};
 ghost use Rattle.dimacs_front.specs.Tokens.{coming, end_of};
@@ -10,6 +11,7 @@ ghost use Rattle.dimacs_front.specs.Form.{clauses_in, judged, reading, within, I
 use crate::cnf::Cnf;
 use crate::error::DimacsError;
 use crate::header::{Header, read_header};
+use crate::laws::read_as_spelled;
 use crate::numbers::{Mark, mark_of};
 use crate::stream::{Token, Tokens};
 use prop_logic::{LitList, LitLists};
@@ -68,9 +70,11 @@ fn read_clauses(
 /// The clauses of a text in the DIMACS form, in their order, each with its literals in their order. It takes time in proportion
 /// to the text.
 pub fn read_dimacs(alloc: Global, text: &[u8]) -> Result<Cnf, DimacsError>
+    ensures dimacs { IfOk result (IsDimacs text.now) }
     ensures read { IsRead (reading text.now) result }
     ensures below { IfOk result (λ cnf. AllAtomsBelow cnf.vars cnf.clauses) }
 {
+    read_as_spelled();
     let mut tokens = Tokens::new(text);
     let header = read_header(&mut tokens)?;
     let clauses = read_clauses(alloc, &mut tokens, &header)?;
