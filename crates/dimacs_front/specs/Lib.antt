@@ -7,3 +7,4 @@ pub mod Texts
 pub mod Answers
 pub mod Files
 pub mod Dimacs
+pub mod Command

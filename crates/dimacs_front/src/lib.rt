@@ -5,6 +5,7 @@
 mod answers;
 mod bytes;
 mod cnf;
+mod command;
 mod error;
 mod file;
 mod header;
@@ -19,6 +20,7 @@ mod tokens;
 
 pub use answers::{SatAnswer, answer};
 pub use cnf::Cnf;
+pub use command::{SatExit, sat_file};
 pub use error::DimacsError;
 pub use file::SatError;
 pub use read::read_dimacs;
