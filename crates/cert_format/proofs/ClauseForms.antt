@@ -17,7 +17,7 @@ use Rattle.inst_logic.specs.Readable.{kind_is_readable, tree_is_readable, trees_
 use Rattle.cert_format.specs.Printable.{IsPrintableClause, ClauseFits}
 use Rattle.cert_format.specs.Spelling.{term, arguments, following, is_printable, are_printable}
 use Rattle.cert_format.specs.Forms.{as_function, Form, plain, equal, form_text, form_is_printable, form_atom, more_forms, forms_text, ArePrintableForms}
-use Rattle.cert_format.proofs.Tests.{both_true, and_both}
+use Rattle.std.proofs.lemmas.Bool.{and_parts, and_from}
 use Rattle.cert_format.proofs.Spelling.{number_is}
 
 -- ---- texts
@@ -69,20 +69,20 @@ mutual
   tree_printable : (t : Tree) → tree_is_formed t ≡ true → tree_is_readable t ≡ true → tree_fits t ≡ true → is_printable t ≡ true
   tree_printable (var n) f r w = w
   tree_printable (app s ts) f r w =
-      let a = both_true (is_function_kind s.kind) (nat_eq (count_of ts) s.arity && trees_are_formed ts) f in
-      let b = both_true (nat_eq (count_of ts) s.arity) (trees_are_formed ts) a.1 in
-      let c = both_true (kind_is_readable s.kind s.name) (trees_are_readable ts) r in
-      and_both (is_function_kind s.kind) (is_readable_name s.name && (nat_eq (count_of ts) s.arity && are_printable ts)) a.0
-      (and_both (is_readable_name s.name) (nat_eq (count_of ts) s.arity && are_printable ts) (function_name s.kind s.name a.0 c.0)
-      (and_both (nat_eq (count_of ts) s.arity) (are_printable ts) b.0 (trees_printable ts b.1 c.1 w)))
+      let a = and_parts (is_function_kind s.kind) (nat_eq (count_of ts) s.arity && trees_are_formed ts) f in
+      let b = and_parts (nat_eq (count_of ts) s.arity) (trees_are_formed ts) a.1 in
+      let c = and_parts (kind_is_readable s.kind s.name) (trees_are_readable ts) r in
+      and_from (is_function_kind s.kind) (is_readable_name s.name && (nat_eq (count_of ts) s.arity && are_printable ts)) a.0
+      (and_from (is_readable_name s.name) (nat_eq (count_of ts) s.arity && are_printable ts) (function_name s.kind s.name a.0 c.0)
+      (and_from (nat_eq (count_of ts) s.arity) (are_printable ts) b.0 (trees_printable ts b.1 c.1 w)))
 
   trees_printable : (ts : Trees) → trees_are_formed ts ≡ true → trees_are_readable ts ≡ true → trees_fit ts ≡ true → are_printable ts ≡ true
   trees_printable none f r w = refl
   trees_printable (more t ts) f r w =
-      let a = both_true (tree_is_formed t) (trees_are_formed ts) f in
-      let b = both_true (tree_is_readable t) (trees_are_readable ts) r in
-      let c = both_true (tree_fits t) (trees_fit ts) w in
-      and_both (is_printable t) (are_printable ts) (tree_printable t a.0 b.0 c.0) (trees_printable ts a.1 b.1 c.1)
+      let a = and_parts (tree_is_formed t) (trees_are_formed ts) f in
+      let b = and_parts (tree_is_readable t) (trees_are_readable ts) r in
+      let c = and_parts (tree_fits t) (trees_fit ts) w in
+      and_from (is_printable t) (are_printable ts) (tree_printable t a.0 b.0 c.0) (trees_printable ts a.1 b.1 c.1)
 
 pub record IsOfForm (l : Signed Tree) : Type 0 where
   pub form : Form
@@ -93,20 +93,20 @@ two_sides : (positive : Bool) (ts : Trees) → nat_eq (count_of ts) 2 ≡ true �
 two_sides positive none e p = absurd cc
 two_sides positive (more t none) e p = absurd cc
 two_sides positive (more t (more u none)) e p =
-    let a = both_true (is_printable t) (is_printable u && true) p in
-    let b = both_true (is_printable u) true a.1 in
-    record { form = equal positive t u; printable = and_both (is_printable t) (is_printable u) a.0 b.0; is = refl }
+    let a = and_parts (is_printable t) (is_printable u && true) p in
+    let b = and_parts (is_printable u) true a.1 in
+    record { form = equal positive t u; printable = and_from (is_printable t) (is_printable u) a.0 b.0; is = refl }
 two_sides positive (more t (more u (more v ts))) e p = absurd (let n = number_is (count_of ts + 1 + 1 + 1) 2 e in omega (arith, n))
 
 by_kind : (positive : Bool) (k : Kind) (name : List ℕ) (arity : ℕ) (ts : Trees) → atom_is_formed (app (record { kind = k; name = name; arity = arity }) ts) ≡ true → kind_is_readable k name ≡ true → are_printable ts ≡ true
     → IsOfForm (record { positive = positive; atom = app (record { kind = k; name = name; arity = arity }) ts })
 by_kind positive Predicate name arity ts f r p =
-    let b = both_true (nat_eq (count_of ts) arity) (trees_are_formed ts) f in
-    record { form = plain positive name ts; printable = and_both (is_readable_name name) (are_printable ts) r p; is = ap (λ (n : ℕ). record { positive = positive; atom = app (record { kind = Predicate; name = name; arity = n }) ts }) (number_is (count_of ts) arity b.0) }
+    let b = and_parts (nat_eq (count_of ts) arity) (trees_are_formed ts) f in
+    record { form = plain positive name ts; printable = and_from (is_readable_name name) (are_printable ts) r p; is = ap (λ (n : ℕ). record { positive = positive; atom = app (record { kind = Predicate; name = name; arity = n }) ts }) (number_is (count_of ts) arity b.0) }
 by_kind positive Equality name arity ts f r p =
-    let a = both_true (bytes_eq name (61 ∷ []) && nat_eq arity 2) (nat_eq (count_of ts) arity && trees_are_formed ts) f in
-    let s = both_true (bytes_eq name (61 ∷ [])) (nat_eq arity 2) a.0 in
-    let b = both_true (nat_eq (count_of ts) arity) (trees_are_formed ts) a.1 in
+    let a = and_parts (bytes_eq name (61 ∷ []) && nat_eq arity 2) (nat_eq (count_of ts) arity && trees_are_formed ts) f in
+    let s = and_parts (bytes_eq name (61 ∷ [])) (nat_eq arity 2) a.0 in
+    let b = and_parts (nat_eq (count_of ts) arity) (trees_are_formed ts) a.1 in
     let n : name ≡ 61 ∷ [] = (bytes_eq-Decides name (61 ∷ [])).0 s.0 in
     let m : arity ≡ 2 = number_is arity 2 s.1 in
     let c : nat_eq (count_of ts) 2 ≡ true = ap (nat_eq (count_of ts)) (sym m) ∙ b.0 in
@@ -115,14 +115,14 @@ by_kind positive Function name arity ts f r p = absurd cc
 
 arguments_formed : (s : Sym) (ts : Trees) → atom_is_formed (app s ts) ≡ true → trees_are_formed ts ≡ true
 arguments_formed s ts f =
-    let a = both_true (not (is_function_kind s.kind)) (symbol_is_formed s && (nat_eq (count_of ts) s.arity && trees_are_formed ts)) f in
-    let b = both_true (symbol_is_formed s) (nat_eq (count_of ts) s.arity && trees_are_formed ts) a.1 in
-    (both_true (nat_eq (count_of ts) s.arity) (trees_are_formed ts) b.1).1
+    let a = and_parts (not (is_function_kind s.kind)) (symbol_is_formed s && (nat_eq (count_of ts) s.arity && trees_are_formed ts)) f in
+    let b = and_parts (symbol_is_formed s) (nat_eq (count_of ts) s.arity && trees_are_formed ts) a.1 in
+    (and_parts (nat_eq (count_of ts) s.arity) (trees_are_formed ts) b.1).1
 
 literal_form : (positive : Bool) (t : Tree) → atom_is_formed t ≡ true → tree_is_readable t ≡ true → tree_fits t ≡ true → IsOfForm (record { positive = positive; atom = t })
 literal_form positive (var n) f r w = absurd cc
 literal_form positive (app s ts) f r w =
-    let c = both_true (kind_is_readable s.kind s.name) (trees_are_readable ts) r in
+    let c = and_parts (kind_is_readable s.kind s.name) (trees_are_readable ts) r in
     by_kind positive s.kind s.name s.arity ts f c.0 (trees_printable ts (arguments_formed s ts f) c.1 w)
 
 pub record AreOfForms (c : TreeClause) : Type 0 where
@@ -133,12 +133,12 @@ pub record AreOfForms (c : TreeClause) : Type 0 where
 clause_forms : (c : TreeClause) → clause_is_formed c ≡ true → clause_is_readable c ≡ true → clause_fits c ≡ true → AreOfForms c
 clause_forms [] f r w = record { forms = []; printable = refl; are = refl }
 clause_forms (l ∷ ls) f r w =
-    let a = both_true (atom_is_formed l.atom) (clause_is_formed ls) f in
-    let b = both_true (tree_is_readable l.atom) (clause_is_readable ls) r in
-    let d = both_true (tree_fits l.atom) (clause_fits ls) w in
+    let a = and_parts (atom_is_formed l.atom) (clause_is_formed ls) f in
+    let b = and_parts (tree_is_readable l.atom) (clause_is_readable ls) r in
+    let d = and_parts (tree_fits l.atom) (clause_fits ls) w in
     let h = literal_form l.positive l.atom a.0 b.0 d.0 in
     let k = clause_forms ls a.1 b.1 d.1 in
-    record { forms = h.form ∷ k.forms; printable = and_both (form_is_printable h.form) (list_all form_is_printable k.forms) h.printable k.printable; are = ap₂ (λ (x : Signed Tree) (xs : TreeClause). x ∷ xs) h.is k.are }
+    record { forms = h.form ∷ k.forms; printable = and_from (form_is_printable h.form) (list_all form_is_printable k.forms) h.printable k.printable; are = ap₂ (λ (x : Signed Tree) (xs : TreeClause). x ∷ xs) h.is k.are }
 
 -- a clause that can be written: printable, with numbers that fit
 pub record IsWritableClause (c : TreeClause) : Type 0 where
@@ -171,26 +171,26 @@ mutual
   tree_gives : (t : Tree) → is_printable t ≡ true → GivesTree t
   tree_gives (var n) p = record { formed = refl; readable = refl; numbers = p }
   tree_gives (app s ts) p =
-      let a = both_true (is_function_kind s.kind) (is_readable_name s.name && (nat_eq (count_of ts) s.arity && are_printable ts)) p in
-      let b = both_true (is_readable_name s.name) (nat_eq (count_of ts) s.arity && are_printable ts) a.1 in
-      let c = both_true (nat_eq (count_of ts) s.arity) (are_printable ts) b.1 in
+      let a = and_parts (is_function_kind s.kind) (is_readable_name s.name && (nat_eq (count_of ts) s.arity && are_printable ts)) p in
+      let b = and_parts (is_readable_name s.name) (nat_eq (count_of ts) s.arity && are_printable ts) a.1 in
+      let c = and_parts (nat_eq (count_of ts) s.arity) (are_printable ts) b.1 in
       let g = trees_give ts c.1 in
       record {
-        formed = and_both (is_function_kind s.kind) (nat_eq (count_of ts) s.arity && trees_are_formed ts) a.0 (and_both (nat_eq (count_of ts) s.arity) (trees_are_formed ts) c.0 g.formed);
-        readable = and_both (kind_is_readable s.kind s.name) (trees_are_readable ts) (function_readable s.kind s.name a.0 b.0) g.readable;
+        formed = and_from (is_function_kind s.kind) (nat_eq (count_of ts) s.arity && trees_are_formed ts) a.0 (and_from (nat_eq (count_of ts) s.arity) (trees_are_formed ts) c.0 g.formed);
+        readable = and_from (kind_is_readable s.kind s.name) (trees_are_readable ts) (function_readable s.kind s.name a.0 b.0) g.readable;
         numbers = g.numbers;
       }
 
   trees_give : (ts : Trees) → are_printable ts ≡ true → GivesTrees ts
   trees_give none p = record { formed = refl; readable = refl; numbers = refl }
   trees_give (more t ts) p =
-      let a = both_true (is_printable t) (are_printable ts) p in
+      let a = and_parts (is_printable t) (are_printable ts) p in
       let g = tree_gives t a.0 in
       let h = trees_give ts a.1 in
       record {
-        formed = and_both (tree_is_formed t) (trees_are_formed ts) g.formed h.formed;
-        readable = and_both (tree_is_readable t) (trees_are_readable ts) g.readable h.readable;
-        numbers = and_both (tree_fits t) (trees_fit ts) g.numbers h.numbers;
+        formed = and_from (tree_is_formed t) (trees_are_formed ts) g.formed h.formed;
+        readable = and_from (tree_is_readable t) (trees_are_readable ts) g.readable h.readable;
+        numbers = and_from (tree_fits t) (trees_fit ts) g.numbers h.numbers;
       }
 
 record GivesLiteral (l : Signed Tree) : Type 0 where
@@ -200,17 +200,17 @@ record GivesLiteral (l : Signed Tree) : Type 0 where
 
 literal_gives : (f : Form) → form_is_printable f ≡ true → GivesLiteral (form_atom f)
 literal_gives (plain b name ts) p =
-    let a = both_true (is_readable_name name) (are_printable ts) p in
+    let a = and_parts (is_readable_name name) (are_printable ts) p in
     let g = trees_give ts a.1 in
     let n : nat_eq (count_of ts) (count_of ts) ≡ true = grind (arith, nat_tests) in
     record {
-      formed = and_both (nat_eq (count_of ts) (count_of ts)) (trees_are_formed ts) n g.formed;
-      readable = and_both (is_readable_name name) (trees_are_readable ts) a.0 g.readable;
+      formed = and_from (nat_eq (count_of ts) (count_of ts)) (trees_are_formed ts) n g.formed;
+      readable = and_from (is_readable_name name) (trees_are_readable ts) a.0 g.readable;
       numbers = g.numbers;
     }
 literal_gives (equal b t u) p =
-    let a = both_true (is_printable t) (is_printable u) p in
-    let g = trees_give (more t (more u none)) (and_both (is_printable t) (is_printable u && true) a.0 (and_both (is_printable u) true a.1 refl)) in
+    let a = and_parts (is_printable t) (is_printable u) p in
+    let g = trees_give (more t (more u none)) (and_from (is_printable t) (is_printable u && true) a.0 (and_from (is_printable u) true a.1 refl)) in
     record { formed = g.formed; readable = g.readable; numbers = g.numbers }
 
 record GivesClause (c : TreeClause) : Type 0 where
@@ -221,13 +221,13 @@ record GivesClause (c : TreeClause) : Type 0 where
 clause_gives : (fs : List Form) → ArePrintableForms fs → GivesClause (map form_atom fs)
 clause_gives [] p = record { formed = refl; readable = refl; numbers = refl }
 clause_gives (f ∷ fs) p =
-    let a = both_true (form_is_printable f) (list_all form_is_printable fs) p in
+    let a = and_parts (form_is_printable f) (list_all form_is_printable fs) p in
     let g = literal_gives f a.0 in
     let h = clause_gives fs a.1 in
     record {
-      formed = and_both (atom_is_formed (form_atom f).atom) (clause_is_formed (map form_atom fs)) g.formed h.formed;
-      readable = and_both (tree_is_readable (form_atom f).atom) (clause_is_readable (map form_atom fs)) g.readable h.readable;
-      numbers = and_both (tree_fits (form_atom f).atom) (clause_fits (map form_atom fs)) g.numbers h.numbers;
+      formed = and_from (atom_is_formed (form_atom f).atom) (clause_is_formed (map form_atom fs)) g.formed h.formed;
+      readable = and_from (tree_is_readable (form_atom f).atom) (clause_is_readable (map form_atom fs)) g.readable h.readable;
+      numbers = and_from (tree_fits (form_atom f).atom) (clause_fits (map form_atom fs)) g.numbers h.numbers;
     }
 
 -- the clause of printable forms can be written where it is canonical

@@ -21,7 +21,8 @@ use Rattle.cert_format.specs.LineMachine as machine
 use Rattle.cert_format.specs.Machines.{no_line_feed, IsLine, IsExact}
 use Rattle.cert_format.specs.LineTexts.{status_word, letter, role, note_text, line, line_text, is_text_name, note_is_printable}
 use Rattle.cert_format.specs.FirstFormat.{clause_eq, symbol_is_printable, atom_is_printable, clause_is_printable, is_read, may_follow, step, is_done, AreLines, text_of_lines}
-use Rattle.cert_format.proofs.Tests.{both_true, and_both}
+use Rattle.std.proofs.lemmas.Bool.{and_parts, and_from}
+use Rattle.cert_format.proofs.Spelling.{number_is}
 use Rattle.cert_format.proofs.Runs.{one_split}
 use Rattle.cert_format.proofs.Names.{names_once}
 use Rattle.cert_format.proofs.Clauses.{one_clause}
@@ -38,31 +39,28 @@ clause_eq_yes [] [] h = refl
 clause_eq_yes [] (m ∷ d) h = absurd cc
 clause_eq_yes (l ∷ c) [] h = absurd cc
 clause_eq_yes (l ∷ c) (m ∷ d) h =
-    let a = both_true (literal_eq l m) (clause_eq c d) h in
+    let a = and_parts (literal_eq l m) (clause_eq c d) h in
     ap₂ (λ (x : Signed Tree) (xs : TreeClause). x ∷ xs) ((literal_eq_decides l m).0 a.0) (clause_eq_yes c d a.1)
 
 pub clause_eq_itself : (c : TreeClause) → clause_eq c c ≡ true
 clause_eq_itself [] = refl
-clause_eq_itself (l ∷ c) = and_both (literal_eq l l) (clause_eq c c) ((literal_eq_decides l l).1 refl) (clause_eq_itself c)
-
-pub numbers_equal : (m n : ℕ) → nat_eq m n ≡ true → m ≡ n
-numbers_equal m n h = grind (arith, nat_tests)
+clause_eq_itself (l ∷ c) = and_from (literal_eq l l) (clause_eq c c) ((literal_eq_decides l l).1 refl) (clause_eq_itself c)
 
 atom_by : (positive : Bool) (kind : Kind) (name : List ℕ) (arity : ℕ) (ts : Trees) → (symbol_is_printable kind name arity (count_of ts) && are_printable ts) ≡ true → IsOfForm (record { positive = positive; atom = app (record { kind = kind; name = name; arity = arity }) ts })
 atom_by positive Predicate name arity ts h =
-    let a = both_true _ (are_printable ts) h in
-    let b = both_true (is_readable_name name) _ a.0 in
-    let n = numbers_equal (count_of ts) arity b.1 in
-    record { form = plain positive name ts; printable = and_both (is_readable_name name) (are_printable ts) b.0 a.1; is = λ i. record { positive = positive; atom = app (record { kind = Predicate; name = name; arity = n i }) ts } }
+    let a = and_parts _ (are_printable ts) h in
+    let b = and_parts (is_readable_name name) _ a.0 in
+    let n = number_is (count_of ts) arity b.1 in
+    record { form = plain positive name ts; printable = and_from (is_readable_name name) (are_printable ts) b.0 a.1; is = λ i. record { positive = positive; atom = app (record { kind = Predicate; name = name; arity = n i }) ts } }
 atom_by positive Function name arity ts h = absurd cc
 atom_by positive Equality name arity (more t (more u none)) h =
-    let a = both_true _ (is_printable t && (is_printable u && true)) h in
-    let b = both_true (bytes_eq name (61 ∷ [])) _ a.0 in
-    let n = numbers_equal arity 2 (both_true (nat_eq arity 2) _ b.1).0 in
+    let a = and_parts _ (is_printable t && (is_printable u && true)) h in
+    let b = and_parts (bytes_eq name (61 ∷ [])) _ a.0 in
+    let n = number_is arity 2 (and_parts (nat_eq arity 2) _ b.1).0 in
     let e = (bytes_eq-Decides name (61 ∷ [])).0 b.0 in
-    let p = both_true (is_printable t) (is_printable u && true) a.1 in
-    let q = both_true (is_printable u) true p.1 in
-    record { form = equal positive t u; printable = and_both (is_printable t) (is_printable u) p.0 q.0; is = λ i. record { positive = positive; atom = app (record { kind = Equality; name = sym e i; arity = sym n i }) (more t (more u none)) } }
+    let p = and_parts (is_printable t) (is_printable u && true) a.1 in
+    let q = and_parts (is_printable u) true p.1 in
+    record { form = equal positive t u; printable = and_from (is_printable t) (is_printable u) p.0 q.0; is = λ i. record { positive = positive; atom = app (record { kind = Equality; name = sym e i; arity = sym n i }) (more t (more u none)) } }
 atom_by positive Equality name arity none h = absurd (wrong (bytes_eq name (61 ∷ [])) (nat_eq arity 2) true h)
   where
     wrong : (x y z : Bool) → ((x && (y && false)) && z) ≡ true → ⊥
@@ -76,9 +74,9 @@ atom_by positive Equality name arity (more t none) h = absurd (wrong (bytes_eq n
     wrong true false z h = cc
     wrong false y z h = cc
 atom_by positive Equality name arity (more t (more u (more v ts))) h = absurd (
-    let a = both_true _ (are_printable (more t (more u (more v ts)))) h in
-    let b = both_true (bytes_eq name (61 ∷ [])) _ a.0 in
-    let c = numbers_equal (count_of (more t (more u (more v ts)))) 2 (both_true (nat_eq arity 2) _ b.1).1 in
+    let a = and_parts _ (are_printable (more t (more u (more v ts)))) h in
+    let b = and_parts (bytes_eq name (61 ∷ [])) _ a.0 in
+    let c = number_is (count_of (more t (more u (more v ts)))) 2 (and_parts (nat_eq arity 2) _ b.1).1 in
     omega arith
     )
 
@@ -92,38 +90,38 @@ literal_of_form l h = by l.positive l.atom h
 clause_of_forms : (c : TreeClause) → list_all (λ (l : Signed Tree). atom_is_printable l.atom) c ≡ true → AreOfForms c
 clause_of_forms [] h = record { forms = []; printable = refl; are = refl }
 clause_of_forms (l ∷ c) h =
-    let a = both_true (atom_is_printable l.atom) _ h in
+    let a = and_parts (atom_is_printable l.atom) _ h in
     let f = literal_of_form l a.0 in
     let g = clause_of_forms c a.1 in
-    record { forms = f.form ∷ g.forms; printable = and_both (form_is_printable f.form) (list_all form_is_printable g.forms) f.printable g.printable; are = ap₂ (λ (x : Signed Tree) (xs : TreeClause). x ∷ xs) f.is g.are }
+    record { forms = f.form ∷ g.forms; printable = and_from (form_is_printable f.form) (list_all form_is_printable g.forms) f.printable g.printable; are = ap₂ (λ (x : Signed Tree) (xs : TreeClause). x ∷ xs) f.is g.are }
 
 same_number : (n : ℕ) → nat_eq n n ≡ true
 same_number n = grind (arith, nat_tests)
 
 form_printable : (f : Form) → form_is_printable f ≡ true → atom_is_printable (form_atom f).atom ≡ true
 form_printable (plain b name ts) h =
-    let a = both_true (is_readable_name name) (are_printable ts) h in
-    and_both (is_readable_name name && nat_eq (count_of ts) (count_of ts)) (are_printable ts) (and_both (is_readable_name name) _ a.0 (same_number (count_of ts))) a.1
-form_printable (equal b t u) h = let a = both_true (is_printable t) (is_printable u) h in and_both (is_printable t) (is_printable u && true) a.0 (and_both (is_printable u) true a.1 refl)
+    let a = and_parts (is_readable_name name) (are_printable ts) h in
+    and_from (is_readable_name name && nat_eq (count_of ts) (count_of ts)) (are_printable ts) (and_from (is_readable_name name) _ a.0 (same_number (count_of ts))) a.1
+form_printable (equal b t u) h = let a = and_parts (is_printable t) (is_printable u) h in and_from (is_printable t) (is_printable u && true) a.0 (and_from (is_printable u) true a.1 refl)
 
 forms_are_printable : (fs : List Form) → list_all form_is_printable fs ≡ true → list_all (λ (l : Signed Tree). atom_is_printable l.atom) (map form_atom fs) ≡ true
 forms_are_printable [] h = refl
-forms_are_printable (f ∷ fs) h = let a = both_true (form_is_printable f) (list_all form_is_printable fs) h in and_both (atom_is_printable (form_atom f).atom) _ (form_printable f a.0) (forms_are_printable fs a.1)
+forms_are_printable (f ∷ fs) h = let a = and_parts (form_is_printable f) (list_all form_is_printable fs) h in and_from (atom_is_printable (form_atom f).atom) _ (form_printable f a.0) (forms_are_printable fs a.1)
 
 -- the test is that of a printable clause
 pub test_forms : (c : TreeClause) → clause_is_printable c ≡ true → AreOfForms c
-test_forms c h = clause_of_forms c (both_true (list_all (λ (l : Signed Tree). atom_is_printable l.atom) c) _ h).0
+test_forms c h = clause_of_forms c (and_parts (list_all (λ (l : Signed Tree). atom_is_printable l.atom) c) _ h).0
 
 pub test_yes : (c : TreeClause) → clause_is_printable c ≡ true → IsWritableClause c
 test_yes c h =
-    let a = both_true (list_all (λ (l : Signed Tree). atom_is_printable l.atom) c) (clause_eq (canonical_form c) c) h in
+    let a = and_parts (list_all (λ (l : Signed Tree). atom_is_printable l.atom) c) (clause_eq (canonical_form c) c) h in
     let f = clause_of_forms c a.0 in
     subst IsWritableClause f.are (forms_printable f.forms f.printable (subst IsCanonical (sym f.are) (clause_eq_yes (canonical_form c) c a.1)))
 
 pub test_is : (c : TreeClause) → IsWritableClause c → clause_is_printable c ≡ true
 test_is c p =
     let f = printable_forms c p in
-    and_both (list_all (λ (l : Signed Tree). atom_is_printable l.atom) c) (clause_eq (canonical_form c) c)
+    and_from (list_all (λ (l : Signed Tree). atom_is_printable l.atom) c) (clause_eq (canonical_form c) c)
     (subst (λ (d : TreeClause). list_all (λ (l : Signed Tree). atom_is_printable l.atom) d ≡ true) f.are (forms_are_printable f.forms f.printable))
     (subst (λ (d : TreeClause). clause_eq d c ≡ true) (sym p.printable.canonical) (clause_eq_itself c))
 
@@ -151,12 +149,12 @@ pub record IsNext (h : Header) (is : List Item) (n : ℕ) (c : TreeClause) (note
 
 pub next_of : (h : Header) (is : List Item) (n : ℕ) (c : TreeClause) (note : Note) → may_follow h is n c note ≡ true → IsNext h is n c note
 next_of h is n c note m =
-    let a = both_true (fits h note) _ m in
-    let b = both_true (nat_le (machine.last_rank is) (rank note)) _ a.1 in
-    let d = both_true (nat_eq n (suc (count (rank note) is))) _ b.1 in
-    let q = both_true (is_number n) _ d.1 in
-    let f = both_true (clause_is_printable c) (note_is_printable note) q.1 in
-    record { form = fits_form h note a.0; at = numbers_equal n (suc (count (rank note) is)) d.0; fits_number = q.0; clause_is = f.0; note_is = f.1 }
+    let a = and_parts (fits h note) _ m in
+    let b = and_parts (nat_le (machine.last_rank is) (rank note)) _ a.1 in
+    let d = and_parts (nat_eq n (suc (count (rank note) is))) _ b.1 in
+    let q = and_parts (is_number n) _ d.1 in
+    let f = and_parts (clause_is_printable c) (note_is_printable note) q.1 in
+    record { form = fits_form h note a.0; at = number_is n (suc (count (rank note) is)) d.0; fits_number = q.0; clause_is = f.0; note_is = f.1 }
 
 item_once : (h : Header) (is : List Item) (n k : ℕ) (c d : TreeClause) (a b : Note) (x y : List ℕ) → IsNext h is n c a → IsNext h is k d b → line (item n c a) x ≡ line (item k d b) y → (item n c a ≡ item k d b) × (x ≡ y)
 item_once h is n k c d a b x y p q e =
@@ -202,12 +200,12 @@ status_once r q m n x y h k e = by r q (behind_front (codes "% SZS status ") _ _
 
 -- ---- steps
 
-guard_is : (b : Bool) (t u : State) → guarded b t ≡ Some u → b ≡ true
+pub guard_is : (b : Bool) (t u : State) → guarded b t ≡ Some u → b ≡ true
 guard_is true t u h = refl
 guard_is false t u h = absurd cc
 
 same_header : (r q : Bool) (m n : List ℕ) → (bool_eq r q && bytes_eq m n) ≡ true → (r ≡ q) × (m ≡ n)
-same_header r q m n h = let a = both_true (bool_eq r q) (bytes_eq m n) h in ((bool_eq_decides r q).0 a.0, (bytes_eq-Decides m n).0 a.1)
+same_header r q m n h = let a = and_parts (bool_eq r q) (bytes_eq m n) h in ((bool_eq_decides r q).0 a.0, (bytes_eq-Decides m n).0 a.1)
 
 -- lines with the same header, equal to each other
 equal_lines : (l k m : Line) (x y : List ℕ) → l ≡ k → l ≡ m → line k x ≡ line m y → (k ≡ m) × (x ≡ y)
@@ -217,13 +215,13 @@ equal_lines l k m x y a b e =
     (same, behind_front (line_text k) x y (line_more k [] x ∙ (e ∙ f) ∙ sym (line_more k [] y)))
 
 only_format : (f : ℕ) → is_read f ≡ true → f ≡ 1
-only_format f h = numbers_equal f 1 h
+only_format f h = number_is f 1 h
 
 once : (s t u : State) (l m : Line) (x y : List ℕ) → step s l ≡ Some t → step s m ≡ Some u → line l x ≡ line m y → (l ≡ m) × (x ≡ y)
 once nothing t u (status r n) (status q k) x y a b e = status_once r q n k x y (guard_is _ _ _ a) (guard_is _ _ _ b) e
 once (begun r n) t u (opening q k) (opening p j) x y a b e =
-    let c = same_header r q n k (both_true (is_text_name k) _ (guard_is _ _ _ a)).1 in
-    let d = same_header r p n j (both_true (is_text_name j) _ (guard_is _ _ _ b)).1 in
+    let c = same_header r q n k (and_parts (is_text_name k) _ (guard_is _ _ _ a)).1 in
+    let d = same_header r p n j (and_parts (is_text_name j) _ (guard_is _ _ _ b)).1 in
     equal_lines (opening r n) (opening q k) (opening p j) x y (ap₂ opening c.0 c.1) (ap₂ opening d.0 d.1) e
 once (opened r n) t u (version f) (version g) x y a b e = equal_lines (version 1) (version f) (version g) x y (ap version (sym (only_format f (guard_is _ _ _ a)))) (ap version (sym (only_format g (guard_is _ _ _ b)))) e
 once (awaits f n) t u (constant c) (constant d) x y a b e =
@@ -233,8 +231,8 @@ once (body h is) t u (item n c note) (item k d other) x y a b e = item_once h is
 once (body h is) t u (item n c note) (closing q k) x y a b e = absurd (apart_by 99 _ _ e refl refl)
 once (body h is) t u (closing q k) (item n c note) x y a b e = absurd (apart_by 99 _ _ (sym e) refl refl)
 once (body h is) t u (closing q k) (closing p j) x y a b e =
-    let c0 = both_true (bool_eq h.refutation q) _ (both_true (is_text_name k) _ (guard_is _ _ _ a)).1 in
-    let d0 = both_true (bool_eq h.refutation p) _ (both_true (is_text_name j) _ (guard_is _ _ _ b)).1 in
+    let c0 = and_parts (bool_eq h.refutation q) _ (and_parts (is_text_name k) _ (guard_is _ _ _ a)).1 in
+    let d0 = and_parts (bool_eq h.refutation p) _ (and_parts (is_text_name j) _ (guard_is _ _ _ b)).1 in
     equal_lines (closing h.refutation h.name) (closing q k) (closing p j) x y (ap₂ closing ((bool_eq_decides h.refutation q).0 c0.0) ((bytes_eq-Decides h.name k).0 c0.1)) (ap₂ closing ((bool_eq_decides h.refutation p).0 d0.0) ((bytes_eq-Decides h.name j).0 d0.1)) e
 once s t u l m x y a b e = absurd cc
 
@@ -243,8 +241,8 @@ whole nothing t (status r n) a = status_is_line r n (guard_is _ _ _ a)
 whole (awaits f n) t (constant c) a = constant_is_line c (guard_is _ _ _ a)
 whole (body h is) t (item n c note) a = let p = next_of h is n c note (guard_is _ _ _ a) in item_is_line n c note p.fits_number (test_forms c p.clause_is) p.note_is
 whole (opened r n) t (version f) a = subst (λ (g : ℕ). IsLine (line_text (version g))) (sym (only_format f (guard_is _ _ _ a))) (version_is_line 1 refl)
-whole (begun r n) t (opening q k) a = opening_is_line q k (both_true (is_text_name k) _ (guard_is _ _ _ a)).0
-whole (body h is) t (closing q k) a = closing_is_line q k (both_true (is_text_name k) _ (guard_is _ _ _ a)).0
+whole (begun r n) t (opening q k) a = opening_is_line q k (and_parts (is_text_name k) _ (guard_is _ _ _ a)).0
+whole (body h is) t (closing q k) a = closing_is_line q k (and_parts (is_text_name k) _ (guard_is _ _ _ a)).0
 whole s t l a = absurd cc
 
 -- lines by their texts

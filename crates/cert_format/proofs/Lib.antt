@@ -6,7 +6,6 @@ pub mod GroundInstances
 pub mod ExampleMembers
 pub mod RightCertificates
 pub mod Fitting
-pub mod Tests
 pub mod Runs
 pub mod Digits
 pub mod Marked

@@ -9,7 +9,7 @@ use Rattle.inst_logic.specs.Equal.{bool_eq}
 use Rattle.cert_format.specs.LineMachine.{Note, rank, Item, Header, Line, status, opening, version, constant, item, closing, State, nothing, begun, opened, awaits, body, done, count, last_rank_from, guarded}
 use Rattle.cert_format.specs.LineMachine as machine
 use Rattle.cert_format.specs.Machines.{run, Ends, IsLine, IsExact}
-use Rattle.cert_format.proofs.Tests.{and_both}
+use Rattle.std.proofs.lemmas.Bool.{and_from}
 
 -- ---- one more item
 
@@ -53,7 +53,7 @@ module _ (is_format : ℕ → Bool) (first_format : is_format 1 ≡ true) (is_na
   closes : (h : Header) (is : List Item) → is_name h.name ≡ true → Completes (body h is)
   closes h is name_is =
       one_more (body h is) (done h is) (closing h.refutation h.name)
-      (ap (λ (t : Bool). guarded t (done h is)) (and_both (is_name h.name) _ name_is (and_both (bool_eq h.refutation h.refutation) (bytes_eq h.name h.name) (same_bool h.refutation) (same_bytes h.name))))
+      (ap (λ (t : Bool). guarded t (done h is)) (and_from (is_name h.name) _ name_is (and_from (bool_eq h.refutation h.refutation) (bytes_eq h.name h.name) (same_bool h.refutation) (same_bytes h.name))))
       (finished h is)
 
   -- what is said of a state
@@ -77,7 +77,7 @@ module _ (is_format : ℕ → Bool) (first_format : is_format 1 ≡ true) (is_na
   completes_begun : (r : Bool) (name : List ℕ) → is_name name ≡ true → Completes (begun r name)
   completes_begun r name name_is =
       one_more (begun r name) (opened r name) (opening r name)
-      (ap (λ (t : Bool). guarded t (opened r name)) (and_both (is_name name) _ name_is (and_both (bool_eq r r) (bytes_eq name name) (same_bool r) (same_bytes name)))) (completes_opened r name name_is)
+      (ap (λ (t : Bool). guarded t (opened r name)) (and_from (is_name name) _ name_is (and_from (bool_eq r r) (bytes_eq name name) (same_bool r) (same_bytes name)))) (completes_opened r name name_is)
 
   pub completes : (s : State) → Good s → Completes s
   completes nothing g = one_more nothing (begun false some_name) (status false some_name) (ap (λ (t : Bool). guarded t (begun false some_name)) some_name_is) (completes_begun false some_name some_name_is)

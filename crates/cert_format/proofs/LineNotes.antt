@@ -10,7 +10,7 @@ use Rattle.inst_calculus.specs.Entries.{Origin, input, inst}
 use Rattle.cert_format.specs.LineMachine.{is_number, Note, named, equality, member, selected, ground_of, shown_by, rank, Line, status, opening, version, constant, item, closing}
 use Rattle.cert_format.specs.LineTexts.{status_word, form_word, letter, role, origin_text, hint, more_hints, hints, note_text, line, origin_is_printable, hint_is_printable, hints_are_printable, note_is_printable}
 use Rattle.cert_format.specs.Runs.{begins, Ends}
-use Rattle.cert_format.proofs.Tests.{both_true}
+use Rattle.std.proofs.lemmas.Bool.{and_parts}
 use Rattle.cert_format.proofs.Digits.{numbers_once}
 use Rattle.cert_format.proofs.Marked.{marked_once}
 use Rattle.cert_format.proofs.Names.{names_once}
@@ -82,8 +82,8 @@ origin_once (input k) (input j) x y h g e =
     let r = marked_once k j 41 x y (below k h) (below j g) refl (behind_front (codes "input(") _ _ e) in
     (ap input r.0, r.1)
 origin_once (inst a p b q) (inst c r d s) x y h g e =
-    let h0 = both_true (is_number a) _ h in let h1 = both_true (is_number p) _ h0.1 in let h2 = both_true (is_number b) _ h1.1 in
-    let g0 = both_true (is_number c) _ g in let g1 = both_true (is_number r) _ g0.1 in let g2 = both_true (is_number d) _ g1.1 in
+    let h0 = and_parts (is_number a) _ h in let h1 = and_parts (is_number p) _ h0.1 in let h2 = and_parts (is_number b) _ h1.1 in
+    let g0 = and_parts (is_number c) _ g in let g1 = and_parts (is_number r) _ g0.1 in let g2 = and_parts (is_number d) _ g1.1 in
     let e0 = marked_once a c 44 _ _ (below a h0.0) (below c g0.0) refl (behind_front (codes "inst(m") _ _ e) in
     let e1 = marked_once p r 44 _ _ (below p h1.0) (below r g1.0) refl e0.1 in
     let e2 = marked_once b d 44 _ _ (below b h2.0) (below d g2.0) refl (behind_front (109 ∷ []) _ _ e1.1) in
@@ -108,8 +108,8 @@ more_hints_once [] [] x y h g e = (refl, behind_front (93 ∷ 41 ∷ []) x y e)
 more_hints_once [] (k ∷ ks) x y h g e = absurd (let q = ap (begins (λ (z : ℕ). nat_eq z 93)) e in cc)
 more_hints_once (k ∷ ks) [] x y h g e = absurd (let q = ap (begins (λ (z : ℕ). nat_eq z 93)) e in cc)
 more_hints_once (j ∷ hs) (k ∷ ks) x y h g e =
-    let a = both_true (hint_is_printable j) _ h in
-    let b = both_true (hint_is_printable k) _ g in
+    let a = and_parts (hint_is_printable j) _ h in
+    let b = and_parts (hint_is_printable k) _ g in
     let c = hint_once j k (more_hints hs x) (more_hints ks y) a.0 b.0 (more_ends hs x) (more_ends ks y) (behind_front (44 ∷ []) _ _ e) in
     let d = more_hints_once hs ks x y a.1 b.1 c.1 in
     (ap₂ (λ (u : Cited) (us : List Cited). u ∷ us) c.0 d.0, d.1)
@@ -118,8 +118,8 @@ hints_once : (hs ks : List Cited) (x y : List ℕ) → hints_are_printable hs �
 hints_once [] ks x y h g e = absurd cc
 hints_once (j ∷ hs) [] x y h g e = absurd cc
 hints_once (j ∷ hs) (k ∷ ks) x y h g e =
-    let a = both_true (hint_is_printable j) _ h in
-    let b = both_true (hint_is_printable k) _ g in
+    let a = and_parts (hint_is_printable j) _ h in
+    let b = and_parts (hint_is_printable k) _ g in
     let c = hint_once j k (more_hints hs x) (more_hints ks y) a.0 b.0 (more_ends hs x) (more_ends ks y) e in
     let d = more_hints_once hs ks x y a.1 b.1 c.1 in
     (ap₂ (λ (u : Cited) (us : List Cited). u ∷ us) c.0 d.0, d.1)
@@ -160,8 +160,8 @@ module _ (r : Bool) where
   note_once n equality equality x y a f g p q e = (refl, behind_front (codes "equality") x y e)
   note_once n (member o) (member s) x y a f g p q e = let r = origin_once o s x y p q e in (ap member r.0, r.1)
   note_once n (selected o i) (selected s j) x y a f g p q e =
-      let p0 = both_true (origin_is_printable o) (is_number i) p in
-      let q0 = both_true (origin_is_printable s) (is_number j) q in
+      let p0 = and_parts (origin_is_printable o) (is_number i) p in
+      let q0 = and_parts (origin_is_printable s) (is_number j) q in
       let r = origin_once o s _ _ p0.0 q0.0 e in
       let t = marked_once i j 41 (93 ∷ x) (93 ∷ y) (below i p0.1) (below j q0.1) refl (behind_front (codes ",[selected(") _ _ r.1) in
       (ap₂ selected r.0 t.0, behind_front (93 ∷ []) x y t.1)

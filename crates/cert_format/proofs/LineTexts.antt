@@ -15,9 +15,10 @@ use Rattle.cert_format.specs.LineMachine.{Note, named, equality, member, selecte
 use Rattle.cert_format.specs.LineTexts.{letter, role, line_text, hint, hints, more_hints, origin_text, note_text}
 use Rattle.cert_format.specs.FirstFormat.{step, is_done, text_of_lines}
 use Rattle.cert_format.specs.ValueLines.{input_items, axiom_items, member_items, selected_items, ground_items, step_items, items_of, item_lines, lines_of}
+use Rattle.cert_format.proofs.Spelling.{number_is}
 use Rattle.cert_format.proofs.LineMachine.{count_push}
-use Rattle.cert_format.proofs.Tests.{both_true}
-use Rattle.cert_format.proofs.FirstFormat.{numbers_equal, exact}
+use Rattle.std.proofs.lemmas.Bool.{and_parts}
+use Rattle.cert_format.proofs.FirstFormat.{exact}
 use Rattle.cert_format.proofs.Machines.{texts_append}
 
 -- ---- each line
@@ -176,15 +177,15 @@ step_ranks (s ∷ ss) = step_ranks ss
 pub count_other : (r k : ℕ) (is : List Item) → list_all (λ (i : Item). nat_eq (rank i.note) r) is ≡ true → nat_eq r k ≡ false → count k is ≡ 0
 count_other r k [] h n = refl
 count_other r k (i ∷ is) h n =
-    let a = both_true (nat_eq (rank i.note) r) _ h in
-    let e = numbers_equal (rank i.note) r a.0 in
+    let a = and_parts (nat_eq (rank i.note) r) _ h in
+    let e = number_is (rank i.note) r a.0 in
     let f : nat_eq (rank i.note) k ≡ false = ap (λ (j : ℕ). nat_eq j k) e ∙ n in
     ap (λ (b : Bool). cond b (suc (count k is)) (count k is)) f ∙ count_other r k is a.1 n
 
 pub count_own : (k : ℕ) (is : List Item) → list_all (λ (i : Item). nat_eq (rank i.note) k) is ≡ true → count k is ≡ length is
 count_own k [] h = refl
 count_own k (i ∷ is) h =
-    let a = both_true (nat_eq (rank i.note) k) _ h in
+    let a = and_parts (nat_eq (rank i.note) k) _ h in
     let c = count_own k is a.1 in
     ap (λ (b : Bool). cond b (suc (count k is)) (count k is)) a.0 ∙ omega arith
 

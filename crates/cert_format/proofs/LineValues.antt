@@ -16,6 +16,7 @@ use Rattle.inst_calculus.specs.Entries.{Origin, input, inst, Entry}
 use Rattle.inst_calculus.specs.Steps.{Step, Cited, given, earlier}
 use Rattle.cert_format.specs.Certificate.{FirstRefutation, Saturation, Certificate, first_refutation, saturation}
 use Rattle.cert_format.specs.Printable.{IsNumber, HasNumbers, cited_number, IsTextName}
+use Rattle.cert_format.proofs.Spelling.{number_is}
 use Rattle.cert_format.proofs.ClauseForms.{IsWritableClause}
 use Rattle.cert_format.proofs.Writables.{IsWritableEntry, IsWritableStep, IsWritable}
 use Rattle.cert_format.specs.LineMachine.{is_number, Note, named, equality, member, selected, ground_of, shown_by, rank, Item, Header, Line, status, opening, version, constant, item, closing, count, State, nothing, body, done, fits, last_rank, last_rank_from, guarded}
@@ -25,10 +26,10 @@ use Rattle.cert_format.specs.LineTexts.{line_text, is_name_byte, is_text_name, o
 use Rattle.cert_format.specs.FirstFormat.{clause_is_printable, may_follow, step, is_done}
 use Rattle.cert_format.specs.ValueLines.{input_items, axiom_items, member_items, selected_items, ground_items, step_items, items_of, item_lines, header_of, lines_of}
 use Rattle.cert_format.proofs.LineMachine.{count_push}
-use Rattle.cert_format.proofs.Tests.{both_true, and_both}
+use Rattle.std.proofs.lemmas.Bool.{and_parts, and_from}
 use Rattle.cert_format.proofs.LineNotes.{below}
 use Rattle.cert_format.proofs.Machines.{first_step}
-use Rattle.cert_format.proofs.FirstFormat.{numbers_equal, test_yes, exact}
+use Rattle.cert_format.proofs.FirstFormat.{test_yes, exact}
 use Rattle.cert_format.proofs.LineTexts.{count_append, count_own}
 use Rattle.cert_format.proofs.ValueRuns.{IsSorted, good, Few, all_append}
 use Rattle.cert_format.proofs.ValueLaws.{only}
@@ -50,22 +51,22 @@ at_most m n h = grind (arith, nat_tests)
 body_push : (h : Header) (is : List Item) (n : ℕ) (c : TreeClause) (note : Note) → may_follow h is n c note ≡ true → IsBody h is → (n ≡ suc (count (rank note) is)) × IsBody h (is ++ record { clause = c; note = note } ∷ [])
 body_push h is n c note m b =
     let i : Item = record { clause = c; note = note } in
-    let a = both_true (fits h note) _ m in
-    let l = both_true (nat_le (last_rank is) (rank note)) _ a.1 in
-    let d = both_true (nat_eq n (suc (count (rank note) is))) _ l.1 in
-    let q = both_true (is_number n) _ d.1 in
-    let at = numbers_equal n (suc (count (rank note) is)) d.0 in
+    let a = and_parts (fits h note) _ m in
+    let l = and_parts (nat_le (last_rank is) (rank note)) _ a.1 in
+    let d = and_parts (nat_eq n (suc (count (rank note) is))) _ l.1 in
+    let q = and_parts (is_number n) _ d.1 in
+    let at = number_is n (suc (count (rank note) is)) d.0 in
     let small = below n q.0 in (
       at,
       record {
         sorted = sorted_push 0 is i (at_most (last_rank is) (rank note) l.0) b.sorted;
-        all_good = all_append (good h) is (i ∷ []) b.all_good (and_both (good h i) true (and_both (fits h note) _ a.0 q.1) refl);
+        all_good = all_append (good h) is (i ∷ []) b.all_good (and_from (good h i) true (and_from (fits h note) _ a.0 q.1) refl);
         few = λ k. (let f = b.few k in subst (λ (j : ℕ). j < 2 ^ 64) (sym (count_push k is i)) (by k (nat_eq (rank note) k) refl at small f));
       },
     )
   where
     by : (k : ℕ) (t : Bool) → nat_eq (rank note) k ≡ t → n ≡ suc (count (rank note) is) → n < 2 ^ 64 → count k is < 2 ^ 64 → cond t (suc (count k is)) (count k is) < 2 ^ 64
-    by k true e at small f = let g = ap (λ (j : ℕ). suc (count j is)) (numbers_equal (rank note) k e) in omega arith
+    by k true e at small f = let g = ap (λ (j : ℕ). suc (count j is)) (number_is (rank note) k e) in omega arith
     by k false e at small f = f
 
 -- ---- the lines of a run that ends
@@ -106,8 +107,8 @@ finish h before (item n c note ∷ ls) t e d b =
 finish h before (closing r name ∷ ls) t e d b =
     let x = next (body h before) (closing r name) ls t e in
     let g = guard_both _ _ _ x.1 in
-    let q = both_true (is_text_name name) _ g.0 in
-    let a = both_true (bool_eq h.refutation r) _ q.1 in
+    let q = and_parts (is_text_name name) _ g.0 in
+    let a = and_parts (bool_eq h.refutation r) _ q.1 in
     let form = (bool_eq_decides h.refutation r).0 a.0 in
     let same = (bytes_eq-Decides h.name name).0 a.1 in
     let left = alone h before ls t (ap (λ (u : State). run u ls) g.1 ∙ x.2) in
@@ -133,7 +134,7 @@ pub record IsSplit (k : ℕ) (is : List Item) : Type 0 where
 
 front : (k : ℕ) (is : List Item) → IsSorted k is → IsSplit k is
 front k [] s = record { rest = []; parts = refl; sorted = tt }
-front k (i ∷ is) s = by (nat_eq (rank i.note) k) refl (λ e. front k is (subst (λ (r : ℕ). IsSorted r is) (numbers_equal (rank i.note) k e) s.1))
+front k (i ∷ is) s = by (nat_eq (rank i.note) k) refl (λ e. front k is (subst (λ (r : ℕ). IsSorted r is) (number_is (rank i.note) k e) s.1))
   where
     by : (t : Bool) → nat_eq (rank i.note) k ≡ t → (nat_eq (rank i.note) k ≡ true → IsSplit k is) → IsSplit k (i ∷ is)
     by true e more =
@@ -149,12 +150,12 @@ only_ranks k [] = refl
 only_ranks k (i ∷ is) = by (nat_eq (rank i.note) k) refl (only_ranks k is)
   where
     by : (t : Bool) → nat_eq (rank i.note) k ≡ t → list_all (λ (x : Item). nat_eq (rank x.note) k) (only k is) ≡ true → list_all (λ (x : Item). nat_eq (rank x.note) k) (cond t (i ∷ only k is) (only k is)) ≡ true
-    by true e h = and_both (nat_eq (rank i.note) k) _ e h
+    by true e h = and_from (nat_eq (rank i.note) k) _ e h
     by false e h = h
 
 parts_good : (p : Item → Bool) (is js : List Item) → list_all p (is ++ js) ≡ true → (list_all p is ≡ true) × (list_all p js ≡ true)
 parts_good p [] js h = (refl, h)
-parts_good p (i ∷ is) js h = let a = both_true (p i) (list_all p (is ++ js)) h in let b = parts_good p is js a.1 in (and_both (p i) (list_all p is) a.0 b.0, b.1)
+parts_good p (i ∷ is) js h = let a = and_parts (p i) (list_all p (is ++ js)) h in let b = parts_good p is js a.1 in (and_from (p i) (list_all p is) a.0 b.0, b.1)
 
 -- ---- groups as values
 
@@ -195,7 +196,7 @@ steps_of is = map (λ (i : Item). record { clause = i.clause; hints = hints_of i
 
 inputs_back : (is : List Item) → IsGroup 0 is → input_items (clauses_of is) (names_of is) ≡ is
 inputs_back [] h = refl
-inputs_back (i ∷ is) h = let a = both_true (nat_eq (rank i.note) 0) _ h in by i.clause i.note a.0 (inputs_back is a.1)
+inputs_back (i ∷ is) h = let a = and_parts (nat_eq (rank i.note) 0) _ h in by i.clause i.note a.0 (inputs_back is a.1)
   where
     by : (c : TreeClause) (note : Note) → nat_eq (rank note) 0 ≡ true → input_items (clauses_of is) (names_of is) ≡ is → record { clause = c; note = named (name_of note) } ∷ input_items (clauses_of is) (names_of is) ≡ record { clause = c; note = note } ∷ is
     by c (named w) e h = ap (λ (xs : List Item). record { clause = c; note = named w } ∷ xs) h
@@ -203,7 +204,7 @@ inputs_back (i ∷ is) h = let a = both_true (nat_eq (rank i.note) 0) _ h in by 
 
 axioms_back : (is : List Item) → IsGroup 1 is → axiom_items (clauses_of is) ≡ is
 axioms_back [] h = refl
-axioms_back (i ∷ is) h = let a = both_true (nat_eq (rank i.note) 1) _ h in by i.clause i.note a.0 (axioms_back is a.1)
+axioms_back (i ∷ is) h = let a = and_parts (nat_eq (rank i.note) 1) _ h in by i.clause i.note a.0 (axioms_back is a.1)
   where
     by : (c : TreeClause) (note : Note) → nat_eq (rank note) 1 ≡ true → axiom_items (clauses_of is) ≡ is → record { clause = c; note = equality } ∷ axiom_items (clauses_of is) ≡ record { clause = c; note = note } ∷ is
     by c equality e h = ap (λ (xs : List Item). record { clause = c; note = equality } ∷ xs) h
@@ -212,7 +213,7 @@ axioms_back (i ∷ is) h = let a = both_true (nat_eq (rank i.note) 1) _ h in by 
 origin_back : (o : Origin) → origin_is_printable o ≡ true → HasNumbers o
 origin_back (input k) h = below k h
 origin_back (inst a p b q) h =
-    let h0 = both_true (is_number a) _ h in let h1 = both_true (is_number p) _ h0.1 in let h2 = both_true (is_number b) (is_number q) h1.1 in
+    let h0 = and_parts (is_number a) _ h in let h1 = and_parts (is_number p) _ h0.1 in let h2 = and_parts (is_number b) (is_number q) h1.1 in
     (below a h0.0, below p h1.0, below b h2.0, below q h2.1)
 
 module _ (name bot : List ℕ) where
@@ -224,7 +225,7 @@ module _ (name bot : List ℕ) where
 
   members_back : (is : List Item) → IsGroup 2 is → list_all (good of_refutation) is ≡ true → member_items (entries_of is) ≡ is
   members_back [] h g = refl
-  members_back (i ∷ is) h g = let a = both_true (nat_eq (rank i.note) 2) _ h in let b = both_true (good of_refutation i) _ g in by i.clause i.note a.0 (both_true _ _ (both_true _ _ b.0).1).1 (both_true _ _ b.0).0 (members_back is a.1 b.1)
+  members_back (i ∷ is) h g = let a = and_parts (nat_eq (rank i.note) 2) _ h in let b = and_parts (good of_refutation i) _ g in by i.clause i.note a.0 (and_parts _ _ (and_parts _ _ b.0).1).1 (and_parts _ _ b.0).0 (members_back is a.1 b.1)
     where
       by : (c : TreeClause) (note : Note) → nat_eq (rank note) 2 ≡ true → note_is_printable note ≡ true → fits of_refutation note ≡ true → member_items (entries_of is) ≡ is → record { clause = c; note = member (entry_origin note) } ∷ member_items (entries_of is) ≡ record { clause = c; note = note } ∷ is
       by c (member o) e p f h = ap (λ (xs : List Item). record { clause = c; note = member o } ∷ xs) h
@@ -233,7 +234,7 @@ module _ (name bot : List ℕ) where
 
   selected_back : (is : List Item) → IsGroup 2 is → list_all (good of_saturation) is ≡ true → selected_items (entries_of is) (places_of is) ≡ is
   selected_back [] h g = refl
-  selected_back (i ∷ is) h g = let a = both_true (nat_eq (rank i.note) 2) _ h in let b = both_true (good of_saturation i) _ g in by i.clause i.note a.0 (both_true _ _ (both_true _ _ b.0).1).1 (both_true _ _ b.0).0 (selected_back is a.1 b.1)
+  selected_back (i ∷ is) h g = let a = and_parts (nat_eq (rank i.note) 2) _ h in let b = and_parts (good of_saturation i) _ g in by i.clause i.note a.0 (and_parts _ _ (and_parts _ _ b.0).1).1 (and_parts _ _ b.0).0 (selected_back is a.1 b.1)
     where
       by : (c : TreeClause) (note : Note) → nat_eq (rank note) 2 ≡ true → note_is_printable note ≡ true → fits of_saturation note ≡ true → selected_items (entries_of is) (places_of is) ≡ is → record { clause = c; note = selected (entry_origin note) (place_at note) } ∷ selected_items (entries_of is) (places_of is) ≡ record { clause = c; note = note } ∷ is
       by c (selected o k) e p f h = ap (λ (xs : List Item). record { clause = c; note = selected o k } ∷ xs) h
@@ -242,7 +243,7 @@ module _ (name bot : List ℕ) where
 
 grounds_back : (is : List Item) (h : Header) → IsGroup 3 is → list_all (good h) is ≡ true → ground_items (clauses_of is) ≡ is
 grounds_back [] k h g = refl
-grounds_back (i ∷ is) k h g = let a = both_true (nat_eq (rank i.note) 3) _ h in let b = both_true (good k i) _ g in by i.clause i.note a.0 (both_true _ _ (both_true _ _ b.0).1).1 (grounds_back is k a.1 b.1)
+grounds_back (i ∷ is) k h g = let a = and_parts (nat_eq (rank i.note) 3) _ h in let b = and_parts (good k i) _ g in by i.clause i.note a.0 (and_parts _ _ (and_parts _ _ b.0).1).1 (grounds_back is k a.1 b.1)
   where
     by : (c : TreeClause) (note : Note) → nat_eq (rank note) 3 ≡ true → note_is_printable note ≡ true → ground_items (clauses_of is) ≡ is → record { clause = c; note = ground_of } ∷ ground_items (clauses_of is) ≡ record { clause = c; note = note } ∷ is
     by c ground_of e p h = ap (λ (xs : List Item). record { clause = c; note = ground_of } ∷ xs) h
@@ -250,7 +251,7 @@ grounds_back (i ∷ is) k h g = let a = both_true (nat_eq (rank i.note) 3) _ h i
 
 steps_back : (is : List Item) → IsGroup 4 is → step_items (steps_of is) ≡ is
 steps_back [] h = refl
-steps_back (i ∷ is) h = let a = both_true (nat_eq (rank i.note) 4) _ h in by i.clause i.note a.0 (steps_back is a.1)
+steps_back (i ∷ is) h = let a = and_parts (nat_eq (rank i.note) 4) _ h in by i.clause i.note a.0 (steps_back is a.1)
   where
     by : (c : TreeClause) (note : Note) → nat_eq (rank note) 4 ≡ true → step_items (steps_of is) ≡ is → record { clause = c; note = shown_by (hints_of note) } ∷ step_items (steps_of is) ≡ record { clause = c; note = note } ∷ is
     by c (shown_by hs) e h = ap (λ (xs : List Item). record { clause = c; note = shown_by hs } ∷ xs) h
@@ -260,14 +261,14 @@ steps_back (i ∷ is) h = let a = both_true (nat_eq (rank i.note) 4) _ h in by i
 
 clauses_printable : (h : Header) (is : List Item) → list_all (good h) is ≡ true → All IsWritableClause (clauses_of is)
 clauses_printable h [] g = All-nil IsWritableClause
-clauses_printable h (i ∷ is) g = let b = both_true (good h i) _ g in All-cons IsWritableClause i.clause (clauses_of is) (test_yes i.clause (both_true (clause_is_printable i.clause) _ (both_true (fits h i.note) _ b.0).1).0) (clauses_printable h is b.1)
+clauses_printable h (i ∷ is) g = let b = and_parts (good h i) _ g in All-cons IsWritableClause i.clause (clauses_of is) (test_yes i.clause (and_parts (clause_is_printable i.clause) _ (and_parts (fits h i.note) _ b.0).1).0) (clauses_printable h is b.1)
 
 names_printable : (h : Header) (is : List Item) → IsGroup 0 is → list_all (good h) is ≡ true → All (λ n. IsTrue (is_readable_name n)) (names_of is)
 names_printable h [] k g = All-nil (λ (n : List ℕ). IsTrue (is_readable_name n))
 names_printable h (i ∷ is) k g =
-    let a = both_true (nat_eq (rank i.note) 0) _ k in
-    let b = both_true (good h i) _ g in
-    All-cons (λ (n : List ℕ). IsTrue (is_readable_name n)) (name_of i.note) (names_of is) (by i.note a.0 (both_true (clause_is_printable i.clause) _ (both_true (fits h i.note) _ b.0).1).1) (names_printable h is a.1 b.1)
+    let a = and_parts (nat_eq (rank i.note) 0) _ k in
+    let b = and_parts (good h i) _ g in
+    All-cons (λ (n : List ℕ). IsTrue (is_readable_name n)) (name_of i.note) (names_of is) (by i.note a.0 (and_parts (clause_is_printable i.clause) _ (and_parts (fits h i.note) _ b.0).1).1) (names_printable h is a.1 b.1)
   where
     by : (note : Note) → nat_eq (rank note) 0 ≡ true → note_is_printable note ≡ true → is_readable_name (name_of note) ≡ true
     by (named w) e p = p
@@ -275,11 +276,11 @@ names_printable h (i ∷ is) k g =
 
 entry_numbers : (note : Note) → nat_eq (rank note) 2 ≡ true → note_is_printable note ≡ true → HasNumbers (entry_origin note)
 entry_numbers (member o) e p = origin_back o p
-entry_numbers (selected o k) e p = origin_back o (both_true (origin_is_printable o) (is_number k) p).0
+entry_numbers (selected o k) e p = origin_back o (and_parts (origin_is_printable o) (is_number k) p).0
 entry_numbers _ e p = absurd cc
 
 place_number : (note : Note) → note_is_printable note ≡ true → IsNumber (place_at note)
-place_number (selected o k) p = below k (both_true (origin_is_printable o) (is_number k) p).1
+place_number (selected o k) p = below k (and_parts (origin_is_printable o) (is_number k) p).1
 place_number (member o) p = omega arith
 place_number (named w) p = omega arith
 place_number equality p = omega arith
@@ -289,16 +290,16 @@ place_number (shown_by hs) p = omega arith
 entries_printable : (h : Header) (is : List Item) → IsGroup 2 is → list_all (good h) is ≡ true → All IsWritableEntry (entries_of is)
 entries_printable h [] k g = All-nil IsWritableEntry
 entries_printable h (i ∷ is) k g =
-    let a = both_true (nat_eq (rank i.note) 2) _ k in
-    let b = both_true (good h i) _ g in
-    let c = both_true (clause_is_printable i.clause) _ (both_true (fits h i.note) _ b.0).1 in
+    let a = and_parts (nat_eq (rank i.note) 2) _ k in
+    let b = and_parts (good h i) _ g in
+    let c = and_parts (clause_is_printable i.clause) _ (and_parts (fits h i.note) _ b.0).1 in
     All-cons IsWritableEntry (record { clause = i.clause; origin = entry_origin i.note }) (entries_of is) (record { clause = test_yes i.clause c.0; origin = entry_numbers i.note a.0 c.1 }) (entries_printable h is a.1 b.1)
 
 places_printable : (h : Header) (is : List Item) → list_all (good h) is ≡ true → All IsNumber (places_of is)
 places_printable h [] g = All-nil IsNumber
 places_printable h (i ∷ is) g =
-    let b = both_true (good h i) _ g in
-    All-cons IsNumber (place_at i.note) (places_of is) (place_number i.note (both_true (clause_is_printable i.clause) _ (both_true (fits h i.note) _ b.0).1).1) (places_printable h is b.1)
+    let b = and_parts (good h i) _ g in
+    All-cons IsNumber (place_at i.note) (places_of is) (place_number i.note (and_parts (clause_is_printable i.clause) _ (and_parts (fits h i.note) _ b.0).1).1) (places_printable h is b.1)
 
 hint_number : (h : Cited) → hint_is_printable h ≡ true → IsNumber (cited_number h)
 hint_number (given k) h = below k h
@@ -306,7 +307,7 @@ hint_number (earlier k) h = below k h
 
 hint_numbers : (hs : List Cited) → list_all hint_is_printable hs ≡ true → All (λ h. IsNumber (cited_number h)) hs
 hint_numbers [] h = All-nil (λ (x : Cited). IsNumber (cited_number x))
-hint_numbers (k ∷ hs) h = let a = both_true (hint_is_printable k) _ h in All-cons (λ (x : Cited). IsNumber (cited_number x)) k hs (hint_number k a.0) (hint_numbers hs a.1)
+hint_numbers (k ∷ hs) h = let a = and_parts (hint_is_printable k) _ h in All-cons (λ (x : Cited). IsNumber (cited_number x)) k hs (hint_number k a.0) (hint_numbers hs a.1)
 
 step_hints : (note : Note) → nat_eq (rank note) 4 ≡ true → note_is_printable note ≡ true → (hints_of note ≢ []) × All (λ h. IsNumber (cited_number h)) (hints_of note)
 step_hints (shown_by []) e p = absurd cc
@@ -316,9 +317,9 @@ step_hints _ e p = absurd cc
 steps_printable : (h : Header) (is : List Item) → IsGroup 4 is → list_all (good h) is ≡ true → All IsWritableStep (steps_of is)
 steps_printable h [] k g = All-nil IsWritableStep
 steps_printable h (i ∷ is) k g =
-    let a = both_true (nat_eq (rank i.note) 4) _ k in
-    let b = both_true (good h i) _ g in
-    let c = both_true (clause_is_printable i.clause) _ (both_true (fits h i.note) _ b.0).1 in
+    let a = and_parts (nat_eq (rank i.note) 4) _ k in
+    let b = and_parts (good h i) _ g in
+    let c = and_parts (clause_is_printable i.clause) _ (and_parts (fits h i.note) _ b.0).1 in
     let s = step_hints i.note a.0 c.1 in
     All-cons IsWritableStep (record { clause = i.clause; hints = hints_of i.note }) (steps_of is) (record { clause = test_yes i.clause c.0; hinted = s.0; hints = s.1 }) (steps_printable h is a.1 b.1)
 
@@ -348,7 +349,7 @@ rank_of_saturation name bot (shown_by hs) f = absurd cc
 
 none_left : (h : Header) (k : ℕ) → ((note : Note) → fits h note ≡ true → rank note ≤ k) → (is : List Item) → IsSorted (suc k) is → list_all (good h) is ≡ true → is ≡ []
 none_left h k low [] s g = refl
-none_left h k low (i ∷ is) s g = absurd (let a = low i.note (both_true (fits h i.note) _ (both_true (good h i) _ g).0).0 in let b = s.0 in omega arith)
+none_left h k low (i ∷ is) s g = absurd (let a = low i.note (and_parts (fits h i.note) _ (and_parts (good h i) _ g).0).0 in let b = s.0 in omega arith)
 
 pub record IsOfValue (h : Header) (is : List Item) : Type 0 where
   pub value : Certificate
@@ -455,17 +456,17 @@ is_less m n h = grind (arith, nat_tests)
 
 name_byte : (b : ℕ) → is_name_byte b ≡ true → (32 ≤ b) × (b ≢ 127)
 name_byte b h =
-    let a = both_true (nat_le 32 b) (not (nat_eq b 127)) h in
+    let a = and_parts (nat_le 32 b) (not (nat_eq b 127)) h in
     (at_most 32 b a.0, λ e. (let k : not (nat_eq b 127) ≡ false = ap (λ (j : ℕ). not (nat_eq j 127)) e in cc))
 
 name_bytes : (n : List ℕ) → list_all is_name_byte n ≡ true → All (λ b. (32 ≤ b) × (b ≢ 127)) n
 name_bytes [] h = All-nil (λ (b : ℕ). (32 ≤ b) × (b ≢ 127))
-name_bytes (b ∷ n) h = let a = both_true (is_name_byte b) _ h in All-cons (λ (x : ℕ). (32 ≤ x) × (x ≢ 127)) b n (name_byte b a.0) (name_bytes n a.1)
+name_bytes (b ∷ n) h = let a = and_parts (is_name_byte b) _ h in All-cons (λ (x : ℕ). (32 ≤ x) × (x ≢ 127)) b n (name_byte b a.0) (name_bytes n a.1)
 
 text_name : (n : List ℕ) → is_text_name n ≡ true → IsTextName n
 text_name n h =
-    let a = both_true (nat_lt 0 (length n)) _ h in
-    let b = both_true (nat_le (length n) 4096) (list_all is_name_byte n) a.1 in
+    let a = and_parts (nat_lt 0 (length n)) _ h in
+    let b = and_parts (nat_le (length n) 4096) (list_all is_name_byte n) a.1 in
     record { some = is_less 0 (length n) a.0; short = at_most (length n) 4096 b.0; bytes = name_bytes n b.1 }
 
 pub empty_body : (h : Header) → IsBody h []

@@ -6,7 +6,7 @@ use Rattle.std.specs.Option.{option_map, option_and_then}
 use Rattle.std.proofs.lemmas.List.{append-nil}
 use Rattle.cert_format.specs.Fronts.{first_lines, IsFront, IsBadLine}
 use Rattle.cert_format.specs.Machines.{no_line_feed, IsLine, run, texts, Ends, IsTaken, IsExact}
-use Rattle.cert_format.proofs.Tests.{both_true}
+use Rattle.std.proofs.lemmas.Bool.{and_parts}
 
 -- ---- first lines
 
@@ -23,7 +23,7 @@ first_by b false e f n bs rest h = ap (option_map (λ (ws : List ℕ). b ∷ ws)
 first_body : (n : ℕ) (bs rest : List ℕ) → list_all no_line_feed bs ≡ true → first_lines (suc n) (bs ++ 10 ∷ rest) ≡ option_map (λ (ws : List ℕ). (bs ++ 10 ∷ []) ++ ws) (first_lines n rest)
 first_body n [] rest h = refl
 first_body n (b ∷ bs) rest h =
-    let both = both_true (no_line_feed b) (list_all no_line_feed bs) h in
+    let both = and_parts (no_line_feed b) (list_all no_line_feed bs) h in
     first_by b (b == 10) refl both.0 n bs rest (first_body n bs rest both.1)
 
 first_line : (n : ℕ) (line rest : List ℕ) → IsLine line → first_lines (suc n) (line ++ rest) ≡ option_map (λ (ws : List ℕ). line ++ ws) (first_lines n rest)

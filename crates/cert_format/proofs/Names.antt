@@ -9,7 +9,7 @@ use Rattle.std.proofs.Math.Seq.{take-append_seam, drop-append_seam}
 use Rattle.inst_logic.specs.Printing.{is_between, is_lower, is_lower_word, is_word_byte, is_readable_name, name_text, escaped, escaped_all}
 use Rattle.cert_format.specs.Runs.{run, begins, Ends}
 use Rattle.cert_format.specs.Names.{closing, is_empty, quoted_len, name_len, unquoted, IsNameText}
-use Rattle.cert_format.proofs.Tests.{both_true, and_both, or_parts}
+use Rattle.std.proofs.lemmas.Bool.{and_parts, and_from, or_parts}
 use Rattle.cert_format.proofs.Runs.{run_all, run_is}
 
 abbrev printed : ℕ → Bool
@@ -35,7 +35,7 @@ closing_at b rest n false e p h = let o = or_parts (b == 39) (b == 92) e in rw (
 closing_name : (n rest : List ℕ) → list_all printed n ≡ true → closing false (escaped_all n ++ 39 ∷ rest) ≡ Some (length (escaped_all n) + 1)
 closing_name [] rest h = refl
 closing_name (b ∷ bs) rest h =
-    let both = both_true (printed b) (list_all printed bs) h in
+    let both = and_parts (printed b) (list_all printed bs) h in
     ap (closing false) (append_assoc (escaped b) (escaped_all bs) (39 ∷ rest))
     ∙ closing_at b (escaped_all bs ++ 39 ∷ rest) (length (escaped_all bs) + 1) (b == 39 || b == 92) refl both.0 (closing_name bs rest both.1)
     ∙ ap Some (omega (arith, length-append (escaped b) (escaped_all bs)))
@@ -63,14 +63,14 @@ one_closed bs n e = record { name = []; bytes = refl; is = rw e refl }
 next_closed : (b : ℕ) (bs : List ℕ) (k n : ℕ) → n ≡ suc k → (b == 39 || b == 92) ≡ false → printed b ≡ true → IsClosed false bs k → IsClosed false (b ∷ bs) n
 next_closed b bs k n e o p h = record {
   name = b ∷ h.name;
-  bytes = and_both (printed b) (list_all printed h.name) p h.bytes;
+  bytes = and_from (printed b) (list_all printed h.name) p h.bytes;
   is = rw (e, o) (ap (λ (xs : List ℕ). b ∷ xs) h.is);
 }
 
 escape_closed : (b : ℕ) (bs : List ℕ) (k n : ℕ) → n ≡ suc k → (b == 39 || b == 92) ≡ true → IsClosed false bs k → IsClosed true (b ∷ bs) n
 escape_closed b bs k n e o h = record {
   name = b ∷ h.name;
-  bytes = and_both (printed b) (list_all printed h.name) (grind (arith, nat_tests)) h.bytes;
+  bytes = and_from (printed b) (list_all printed h.name) (grind (arith, nat_tests)) h.bytes;
   is = rw (e, o) (ap (λ (xs : List ℕ). 92 ∷ b ∷ xs) h.is);
 }
 
@@ -165,7 +165,7 @@ lower_no_quote b h = grind (arith, nat_tests)
 bare_found : (n rest : List ℕ) → is_lower_word n ≡ true → Ends is_word_byte rest → name_len (n ++ rest) ≡ length n
 bare_found [] rest low e = absurd cc
 bare_found (b ∷ bs) rest low e =
-    let both = both_true (is_lower b) (list_all is_word_byte bs) low in
+    let both = and_parts (is_lower b) (list_all is_word_byte bs) low in
     let no_quote = lower_no_quote b both.0 in
     let low_b = both.0 in
     let k = run_is is_word_byte bs rest both.1 e in
@@ -189,9 +189,9 @@ name_some n = some_by n (is_lower_word n) refl
 once_by : (m n : List ℕ) (t u : Bool) → is_lower_word m ≡ t → is_lower_word n ≡ u → cond t m (39 ∷ escaped_all m ++ 39 ∷ []) ≡ cond u n (39 ∷ escaped_all n ++ 39 ∷ []) → m ≡ n
 once_by m n true true p q h = h
 once_by [] n true false p q h = absurd cc
-once_by (b ∷ bs) n true false p q h = absurd (let e : b ≡ 39 = cc in let both = both_true (is_lower b) (list_all is_word_byte bs) p in let no_quote = lower_no_quote b both.0 in grind (arith, nat_tests))
+once_by (b ∷ bs) n true false p q h = absurd (let e : b ≡ 39 = cc in let both = and_parts (is_lower b) (list_all is_word_byte bs) p in let no_quote = lower_no_quote b both.0 in grind (arith, nat_tests))
 once_by m [] false true p q h = absurd cc
-once_by m (b ∷ bs) false true p q h = absurd (let e : b ≡ 39 = cc in let both = both_true (is_lower b) (list_all is_word_byte bs) q in let no_quote = lower_no_quote b both.0 in grind (arith, nat_tests))
+once_by m (b ∷ bs) false true p q h = absurd (let e : b ≡ 39 = cc in let both = and_parts (is_lower b) (list_all is_word_byte bs) q in let no_quote = lower_no_quote b both.0 in grind (arith, nat_tests))
 once_by m n false false p q h = let e : escaped_all m ++ 39 ∷ [] ≡ escaped_all n ++ 39 ∷ [] = cc in sym (content m []) ∙ ap (unquoted false) e ∙ content n []
 
 -- names with one text are one
@@ -244,16 +244,16 @@ word_readable b h = grind (arith, nat_tests)
 
 all_printed : (bs : List ℕ) → list_all is_word_byte bs ≡ true → list_all printed bs ≡ true
 all_printed [] h = refl
-all_printed (b ∷ bs) h = let both = both_true (is_word_byte b) (list_all is_word_byte bs) h in and_both (printed b) (list_all printed bs) (word_readable b both.0) (all_printed bs both.1)
+all_printed (b ∷ bs) h = let both = and_parts (is_word_byte b) (list_all is_word_byte bs) h in and_from (printed b) (list_all printed bs) (word_readable b both.0) (all_printed bs both.1)
 
 -- a bare name
 bare_text : (b : ℕ) (bs : List ℕ) → is_lower b ≡ true → IsNameText (take (run is_word_byte bs + 1) (b ∷ bs))
 bare_text b bs h =
     let all = run_all is_word_byte bs in
     let k : run is_word_byte bs + 1 ≡ suc (run is_word_byte bs) = omega arith in
-    let low : is_lower_word (b ∷ take (run is_word_byte bs) bs) ≡ true = and_both (is_lower b) _ h all in
+    let low : is_lower_word (b ∷ take (run is_word_byte bs) bs) ≡ true = and_from (is_lower b) _ h all in
     let text : name_text (b ∷ take (run is_word_byte bs) bs) ≡ b ∷ take (run is_word_byte bs) bs = ap (λ (t : Bool). cond t (b ∷ take (run is_word_byte bs) bs) (39 ∷ escaped_all (b ∷ take (run is_word_byte bs) bs) ++ 39 ∷ [])) low in
-    (b ∷ take (run is_word_byte bs) bs, and_both (printed b) _ (lower_readable b h) (all_printed (take (run is_word_byte bs) bs) all), ap (λ (n : ℕ). take n (b ∷ bs)) k ∙ sym text)
+    (b ∷ take (run is_word_byte bs) bs, and_from (printed b) _ (lower_readable b h) (all_printed (take (run is_word_byte bs) bs) all), ap (λ (n : ℕ). take n (b ∷ bs)) k ∙ sym text)
 
 pub text_found : (bytes : List ℕ) → 0 < name_len bytes → IsNameText (take (name_len bytes) bytes)
 text_found [] h = absurd (omega arith)
@@ -299,7 +299,7 @@ no_front bytes text rest len f bad n after r e is =
 
 first_by : (n : List ℕ) (t : Bool) → is_lower_word n ≡ t → (b : ℕ) (bs rest : List ℕ) → cond t n (39 ∷ escaped_all n ++ 39 ∷ []) ++ rest ≡ b ∷ bs → (b == 39 || is_lower b) ≡ true
 first_by [] true e b bs rest h = absurd cc
-first_by (a ∷ as_) true e b bs rest h = let p = both_true (is_lower a) (list_all is_word_byte as_) e in let q : a ≡ b = cc in let r : is_lower b ≡ true = subst (λ (x : ℕ). is_lower x ≡ true) q p.0 in grind (arith, nat_tests)
+first_by (a ∷ as_) true e b bs rest h = let p = and_parts (is_lower a) (list_all is_word_byte as_) e in let q : a ≡ b = cc in let r : is_lower b ≡ true = subst (λ (x : ℕ). is_lower x ≡ true) q p.0 in grind (arith, nat_tests)
 first_by n false e b bs rest h = let q : 39 ≡ b = cc in grind (arith, nat_tests)
 
 -- it is a quote or a small letter
@@ -310,7 +310,7 @@ name_first n b bs rest h = first_by n (is_lower_word n) refl b bs rest h
 
 spelled_by : (n : List ℕ) (t : Bool) → is_lower_word n ≡ t → (bs : List ℕ) → 39 ∷ bs ≡ cond t n (39 ∷ escaped_all n ++ 39 ∷ []) → unquoted false bs ≡ n
 spelled_by [] true e bs h = absurd cc
-spelled_by (b ∷ as_) true e bs h = absurd (let p = both_true (is_lower b) (list_all is_word_byte as_) e in let q : 39 ≡ b = cc in let no_quote = lower_no_quote b p.0 in grind (arith, nat_tests))
+spelled_by (b ∷ as_) true e bs h = absurd (let p = and_parts (is_lower b) (list_all is_word_byte as_) e in let q : 39 ≡ b = cc in let no_quote = lower_no_quote b p.0 in grind (arith, nat_tests))
 spelled_by n false e bs h = let q : bs ≡ escaped_all n ++ 39 ∷ [] = cc in ap (unquoted false) q ∙ content n []
 
 pub quoted_name : (bs n : List ℕ) → 39 ∷ bs ≡ name_text n → unquoted false bs ≡ n

@@ -11,7 +11,7 @@ use Rattle.inst_logic.specs.WellFormed.{count_of, is_function_kind}
 use Rattle.inst_logic.specs.Printing.{is_word_byte, is_readable_name, name_text}
 use Rattle.cert_format.specs.Runs.{begins, Ends}
 use Rattle.cert_format.specs.Spelling.{term, arguments, following, is_printable, are_printable, goes_on, Follows, IsClose}
-use Rattle.cert_format.proofs.Tests.{both_true, or_parts}
+use Rattle.std.proofs.lemmas.Bool.{and_parts, or_parts}
 use Rattle.cert_format.proofs.Digits.{numbers_once}
 use Rattle.cert_format.proofs.Names.{names_once, name_first}
 
@@ -58,7 +58,7 @@ small_number n h = grind (arith, nat_tests)
 pub no_variable : (n : ℕ) (x : List ℕ) (name rest : List ℕ) → 88 ∷ decimal n ++ x ≢ name_text name ++ rest
 no_variable n x name rest h = let p = name_first name 88 (decimal n ++ x) rest (sym h) in cc
 
-function_of : (k : Kind) → is_function_kind k ≡ true → k ≡ Function
+pub function_of : (k : Kind) → is_function_kind k ≡ true → k ≡ Function
 function_of Predicate h = absurd cc
 function_of Equality h = absurd cc
 function_of Function h = refl
@@ -75,9 +75,9 @@ pub record IsApplication (s : Sym) (ts : Trees) : Type 0 where
 
 pub parts : (s : Sym) (ts : Trees) → is_printable (app s ts) ≡ true → IsApplication s ts
 parts s ts h =
-    let a = both_true (is_function_kind s.kind) (is_readable_name s.name && (nat_eq (count_of ts) s.arity && are_printable ts)) h in
-    let b = both_true (is_readable_name s.name) (nat_eq (count_of ts) s.arity && are_printable ts) a.1 in
-    let d = both_true (nat_eq (count_of ts) s.arity) (are_printable ts) b.1 in
+    let a = and_parts (is_function_kind s.kind) (is_readable_name s.name && (nat_eq (count_of ts) s.arity && are_printable ts)) h in
+    let b = and_parts (is_readable_name s.name) (nat_eq (count_of ts) s.arity && are_printable ts) a.1 in
+    let d = and_parts (nat_eq (count_of ts) s.arity) (are_printable ts) b.1 in
     record { kind = function_of s.kind a.0; name = b.0; arity = sym (number_is (count_of ts) s.arity d.0); args = d.1 }
 
 same_symbol : (s r : Sym) → s.kind ≡ r.kind → s.name ≡ r.name → s.arity ≡ r.arity → s ≡ r
@@ -104,8 +104,8 @@ mutual
   one_arguments s r (more t ts) none x y p q f g h = absurd (let e = ap (begins goes_on) h in cc)
   one_arguments s r (more t ts) (more u us) x y p q f g h =
       let e : term t (following 41 ts x) ≡ term u (following 41 us y) = cc in
-      let a = both_true (is_printable t) (are_printable ts) p in
-      let b = both_true (is_printable u) (are_printable us) q in
+      let a = and_parts (is_printable t) (are_printable ts) p in
+      let b = and_parts (is_printable u) (are_printable us) q in
       let k = one_term t u (following 41 ts x) (following 41 us y) a.0 b.0 (following_follows t 41 ts x parenthesis) (following_follows u 41 us y parenthesis) e in
       let m = one_following 41 parenthesis ts us x y a.1 b.1 k.1 in
       (ap₂ more k.0 m.0, m.1)
@@ -116,8 +116,8 @@ mutual
   one_following c close (more t ts) none x y p q h = absurd (let e : 44 ≡ c = cc in let k = close.1 in grind (arith, nat_tests))
   one_following c close (more t ts) (more u us) x y p q h =
       let e : term t (following c ts x) ≡ term u (following c us y) = cc in
-      let a = both_true (is_printable t) (are_printable ts) p in
-      let b = both_true (is_printable u) (are_printable us) q in
+      let a = and_parts (is_printable t) (are_printable ts) p in
+      let b = and_parts (is_printable u) (are_printable us) q in
       let k = one_term t u (following c ts x) (following c us y) a.0 b.0 (following_follows t c ts x close) (following_follows u c us y close) e in
       let m = one_following c close ts us x y a.1 b.1 k.1 in
       (ap₂ more k.0 m.0, m.1)

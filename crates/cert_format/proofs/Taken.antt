@@ -12,10 +12,11 @@ use Rattle.cert_format.specs.LineTexts.{line_text, is_text_name, note_is_printab
 use Rattle.cert_format.specs.FirstFormat.{clause_is_printable, is_read, step, is_done, AreLines, IsText, text_of_lines}
 use Rattle.cert_format.specs.ValueLines.{BeginCertificate, lines_of, IsCertificateText}
 use Rattle.cert_format.specs.Text.{certificate_text}
+use Rattle.cert_format.proofs.Spelling.{number_is}
 use Rattle.cert_format.proofs.Writables.{writable, printable, only_format}
-use Rattle.cert_format.proofs.Tests.{both_true}
+use Rattle.std.proofs.lemmas.Bool.{and_parts}
 use Rattle.cert_format.proofs.Machines as machines
-use Rattle.cert_format.proofs.FirstFormat.{numbers_equal, exact}
+use Rattle.cert_format.proofs.FirstFormat.{exact}
 use Rattle.cert_format.proofs.LineTexts.{text_is}
 use Rattle.cert_format.proofs.ValueRuns.{are_lines}
 use Rattle.cert_format.proofs.LineValues.{run, next, guard_both, finish, empty_body, AreOfValue, saturated_lines, refuted_lines, of_refutation, of_saturation}
@@ -35,7 +36,7 @@ behind_opening r name [] t n e d = absurd (let k : opened r name ≡ t = cc in l
 behind_opening r name (version f ∷ ls) t n e d =
     let x = next (opened r name) (version f) ls t e in
     let g = guard_both _ _ _ x.1 in
-    let one = numbers_equal f 1 g.0 in
+    let one = number_is f 1 g.0 in
     let y = formatted r name ls t n (ap (λ (k : ℕ). run (machine.formatted is_read is_text_name clause_is_printable note_is_printable r name k) ls) (sym one) ∙ ap (λ (u : State). run u ls) g.1 ∙ x.2) d in
     subst (λ (k : ℕ). AreOfValue (status r name ∷ opening r name ∷ version k ∷ ls)) (sym one) y
 behind_opening r name (l ∷ ls) t n e d = absurd cc
@@ -45,8 +46,8 @@ behind_status r name [] t n e d = absurd (let k : begun r name ≡ t = cc in let
 behind_status r name (opening q other ∷ ls) t n e d =
     let x = next (begun r name) (opening q other) ls t e in
     let g = guard_both _ _ _ x.1 in
-    let a = both_true (is_text_name other) _ g.0 in
-    let b = both_true (bool_eq r q) (bytes_eq name other) a.1 in
+    let a = and_parts (is_text_name other) _ g.0 in
+    let b = and_parts (bool_eq r q) (bytes_eq name other) a.1 in
     let form = (bool_eq_decides r q).0 b.0 in
     let same = (bytes_eq-Decides name other).0 b.1 in
     let y = behind_opening r name ls t n (ap (λ (u : State). run u ls) g.1 ∙ x.2) d in

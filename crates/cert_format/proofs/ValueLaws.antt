@@ -4,8 +4,6 @@ use Rattle.std.specs.Prelude.{nat_eq}
 use Rattle.std.specs.List.{list_all}
 use Rattle.std.proofs.lemmas.List.{append-nil}
 use Rattle.inst_logic.specs.declared.symbol.Sym.{Sym}
-use Rattle.inst_logic.specs.declared.symbol.Kind.{Kind}
-use Rattle.inst_logic.specs.declared.symbol.Kind.TheVariants.{Predicate, Equality, Function}
 use Rattle.inst_logic.specs.Tree.{Tree}
 use Rattle.inst_logic.specs.WellFormed.{is_constant, is_function_kind}
 use Rattle.inst_logic.specs.Clauses.{TreeClause}
@@ -13,13 +11,14 @@ use Rattle.inst_calculus.specs.Entries.{Entry}
 use Rattle.inst_calculus.specs.Steps.{Step}
 use Rattle.cert_format.specs.Certificate.{FirstRefutation, Saturation, Certificate, first_refutation, saturation}
 use Rattle.cert_format.specs.Printable.{IsTextName}
+use Rattle.cert_format.proofs.Spelling.{number_is, function_of}
 use Rattle.cert_format.proofs.Writables.{IsWritableRefutation, IsWritableSaturation, IsWritable, writable, only_format}
 use Rattle.cert_format.specs.LineMachine.{Note, rank, Item, Line, status, constant, item, closing}
 use Rattle.cert_format.specs.Printable.{IsPrintable}
 use Rattle.cert_format.specs.Text.{certificate_text}
 use Rattle.cert_format.specs.ValueLines.{input_items, axiom_items, member_items, selected_items, ground_items, step_items, items_of, item_lines, lines_of}
-use Rattle.cert_format.proofs.Tests.{both_true}
-use Rattle.cert_format.proofs.FirstFormat.{numbers_equal, one_list}
+use Rattle.std.proofs.lemmas.Bool.{and_parts}
+use Rattle.cert_format.proofs.FirstFormat.{one_list}
 use Rattle.cert_format.proofs.LineTexts.{text_is, input_ranks, axiom_ranks, member_ranks, selected_ranks, ground_ranks, step_ranks}
 use Rattle.cert_format.proofs.ValueRuns.{are_lines}
 
@@ -60,13 +59,13 @@ IsGroup r is = list_all (λ (i : Item). nat_eq (rank i.note) r) is ≡ true
 
 only_own : (k : ℕ) (is : List Item) → list_all (λ (i : Item). nat_eq (rank i.note) k) is ≡ true → only k is ≡ is
 only_own k [] h = refl
-only_own k (i ∷ is) h = let a = both_true (nat_eq (rank i.note) k) _ h in ap (λ (b : Bool). cond b (i ∷ only k is) (only k is)) a.0 ∙ ap (λ (xs : List Item). i ∷ xs) (only_own k is a.1)
+only_own k (i ∷ is) h = let a = and_parts (nat_eq (rank i.note) k) _ h in ap (λ (b : Bool). cond b (i ∷ only k is) (only k is)) a.0 ∙ ap (λ (xs : List Item). i ∷ xs) (only_own k is a.1)
 
 only_other : (r k : ℕ) (is : List Item) → list_all (λ (i : Item). nat_eq (rank i.note) r) is ≡ true → nat_eq r k ≡ false → only k is ≡ []
 only_other r k [] h n = refl
 only_other r k (i ∷ is) h n =
-    let a = both_true (nat_eq (rank i.note) r) _ h in
-    ap (λ (b : Bool). cond b (i ∷ only k is) (only k is)) (ap (λ (j : ℕ). nat_eq j k) (numbers_equal (rank i.note) r a.0) ∙ n) ∙ only_other r k is a.1 n
+    let a = and_parts (nat_eq (rank i.note) r) _ h in
+    ap (λ (b : Bool). cond b (i ∷ only k is) (only k is)) (ap (λ (j : ℕ). nat_eq j k) (number_is (rank i.note) r a.0) ∙ n) ∙ only_other r k is a.1 n
 
 -- a group in front of items of other ranks, and behind one of another rank
 only_front : (k : ℕ) (is js : List Item) → list_all (λ (i : Item). nat_eq (rank i.note) k) is ≡ true → only k js ≡ [] → only k (is ++ js) ≡ is
@@ -144,17 +143,12 @@ steps_once (s ∷ ss) (t ∷ ts) h =
 
 -- ---- values
 
-function_is : (k : Kind) → is_function_kind k ≡ true → k ≡ Function
-function_is Function h = refl
-function_is Predicate h = absurd cc
-function_is Equality h = absurd cc
-
 constants_once : (s r : Sym) → is_constant s ≡ true → is_constant r ≡ true → s.name ≡ r.name → s ≡ r
 constants_once s r h g e =
-    let a = both_true (is_function_kind s.kind) (nat_eq s.arity 0) h in
-    let b = both_true (is_function_kind r.kind) (nat_eq r.arity 0) g in
-    let k = function_is s.kind a.0 ∙ sym (function_is r.kind b.0) in
-    let n = numbers_equal s.arity 0 a.1 ∙ sym (numbers_equal r.arity 0 b.1) in
+    let a = and_parts (is_function_kind s.kind) (nat_eq s.arity 0) h in
+    let b = and_parts (is_function_kind r.kind) (nat_eq r.arity 0) g in
+    let k = function_of s.kind a.0 ∙ sym (function_of r.kind b.0) in
+    let n = number_is s.arity 0 a.1 ∙ sym (number_is r.arity 0 b.1) in
     λ i. record { kind = k i; name = e i; arity = n i }
 
 -- the groups of a refutation, and of a saturation

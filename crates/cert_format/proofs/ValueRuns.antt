@@ -25,9 +25,9 @@ use Rattle.cert_format.specs.Machines.{Ends}
 use Rattle.cert_format.specs.LineTexts.{line_text, is_name_byte, is_text_name, origin_is_printable, hint_is_printable, hints_are_printable, note_is_printable}
 use Rattle.cert_format.specs.FirstFormat.{clause_is_printable, may_follow, step, is_done, AreLines}
 use Rattle.cert_format.specs.ValueLines.{input_items, axiom_items, member_items, selected_items, ground_items, step_items, items_of, item_lines, header_of, lines_of}
-use Rattle.cert_format.proofs.Tests.{both_true, and_both}
-use Rattle.cert_format.proofs.Spelling.{small_number}
-use Rattle.cert_format.proofs.FirstFormat.{numbers_equal, test_is}
+use Rattle.std.proofs.lemmas.Bool.{and_parts, and_from}
+use Rattle.cert_format.proofs.Spelling.{small_number, number_is}
+use Rattle.cert_format.proofs.FirstFormat.{test_is}
 use Rattle.cert_format.proofs.LineTexts.{count_append, count_other, count_own, input_ranks, axiom_ranks, member_ranks, selected_ranks, ground_ranks, step_ranks}
 
 last_push : (k : ℕ) (is : List Item) (i : Item) → last_rank_from k (is ++ i ∷ []) ≡ rank i.note
@@ -47,8 +47,8 @@ sorted_weaker j k (i ∷ is) h s = let a = s.0 in (omega arith, s.1)
 sorted_group : (j k : ℕ) (is js : List Item) → list_all (λ (i : Item). nat_eq (rank i.note) k) is ≡ true → j ≤ k → IsSorted k js → IsSorted j (is ++ js)
 sorted_group j k [] js h l s = sorted_weaker j k js l s
 sorted_group j k (i ∷ is) js h l s =
-    let a = both_true (nat_eq (rank i.note) k) _ h in
-    let e = numbers_equal (rank i.note) k a.0 in
+    let a = and_parts (nat_eq (rank i.note) k) _ h in
+    let e = number_is (rank i.note) k a.0 in
     (omega arith, subst (λ (r : ℕ). IsSorted r (is ++ js)) (sym e) (sorted_group k k is js a.1 (omega arith) s))
 
 abbrev pub good : Header → Item → Bool
@@ -63,9 +63,9 @@ same_number n = grind (arith, nat_tests)
 follows : (h : Header) (before : List Item) (i : Item) → last_rank before ≤ rank i.note → good h i ≡ true → suc (count (rank i.note) before) < 2 ^ 64 → may_follow h before (suc (count (rank i.note) before)) i.clause i.note ≡ true
 follows h before i l g few =
     let n = suc (count (rank i.note) before) in
-    let a = both_true (fits h i.note) _ g in
-    and_both (fits h i.note) _ a.0 (and_both (nat_le (last_rank before) (rank i.note)) _ (less_equal (last_rank before) (rank i.note) l) (and_both (nat_eq n n) _ (same_number n)
-    (and_both (is_number n) _ (small_number n few) a.1)))
+    let a = and_parts (fits h i.note) _ g in
+    and_from (fits h i.note) _ a.0 (and_from (nat_le (last_rank before) (rank i.note)) _ (less_equal (last_rank before) (rank i.note) l) (and_from (nat_eq n n) _ (same_number n)
+    (and_from (is_number n) _ (small_number n few) a.1)))
 
 abbrev run : State → List Line → Option State
 run = machines.run line_text step is_done
@@ -79,7 +79,7 @@ rank_count k before is i e h =
 run_items : (h : Header) (before is : List Item) (rest : List Line) → IsSorted (last_rank before) is → list_all (good h) is ≡ true → ((k : ℕ) → count k (before ++ is) < 2 ^ 64) → run (body h before) (item_lines before is ++ rest) ≡ run (body h (before ++ is)) rest
 run_items h before [] rest s g few = ap (λ (b : List Item). run (body h b) rest) (sym (append-nil before))
 run_items h before (i ∷ is) rest s g few =
-    let a = both_true (good h i) _ g in
+    let a = and_parts (good h i) _ g in
     let m = follows h before i s.0 a.0 (rank_count (rank i.note) before is i refl (few (rank i.note))) in
     let group = append_assoc before (i ∷ []) is in
     ap (λ (t : Bool). option_and_then (λ (u : State). run u (item_lines (before ++ i ∷ []) is ++ rest)) (guarded t (body h (before ++ i ∷ [])))) m
@@ -93,7 +93,7 @@ number_yes n h = small_number n h
 
 pub origin_yes : (o : Origin) → HasNumbers o → origin_is_printable o ≡ true
 origin_yes (input k) h = number_yes k h
-origin_yes (inst a p b q) h = and_both (is_number a) _ (number_yes a h.0) (and_both (is_number p) _ (number_yes p h.1) (and_both (is_number b) (is_number q) (number_yes b h.2) (number_yes q h.3)))
+origin_yes (inst a p b q) h = and_from (is_number a) _ (number_yes a h.0) (and_from (is_number p) _ (number_yes p h.1) (and_from (is_number b) (is_number q) (number_yes b h.2) (number_yes q h.3)))
 
 hint_yes : (h : Cited) → IsNumber (cited_number h) → hint_is_printable h ≡ true
 hint_yes (given k) h = number_yes k h
@@ -101,42 +101,42 @@ hint_yes (earlier k) h = number_yes k h
 
 all_hints : (hs : List Cited) → All (λ h. IsNumber (cited_number h)) hs → list_all hint_is_printable hs ≡ true
 all_hints [] a = refl
-all_hints (h ∷ hs) a = and_both (hint_is_printable h) _ (hint_yes h (All-head (λ (x : Cited). IsNumber (cited_number x)) h hs a)) (all_hints hs (All-tail (λ (x : Cited). IsNumber (cited_number x)) h hs a))
+all_hints (h ∷ hs) a = and_from (hint_is_printable h) _ (hint_yes h (All-head (λ (x : Cited). IsNumber (cited_number x)) h hs a)) (all_hints hs (All-tail (λ (x : Cited). IsNumber (cited_number x)) h hs a))
 
 hints_yes : (hs : List Cited) → hs ≢ [] → All (λ h. IsNumber (cited_number h)) hs → hints_are_printable hs ≡ true
 hints_yes [] n a = absurd (n refl)
 hints_yes (h ∷ hs) n a = all_hints (h ∷ hs) a
 
 byte_yes : (b : ℕ) → 32 ≤ b → b ≢ 127 → is_name_byte b ≡ true
-byte_yes b h k = and_both (nat_le 32 b) (not (nat_eq b 127)) (less_equal 32 b h) (by (nat_eq b 127) refl)
+byte_yes b h k = and_from (nat_le 32 b) (not (nat_eq b 127)) (less_equal 32 b h) (by (nat_eq b 127) refl)
   where
     by : (t : Bool) → nat_eq b 127 ≡ t → not (nat_eq b 127) ≡ true
-    by true e = absurd (k (numbers_equal b 127 e))
+    by true e = absurd (k (number_is b 127 e))
     by false e = ap not e
 
 bytes_yes : (n : List ℕ) → All (λ b. (32 ≤ b) × (b ≢ 127)) n → list_all is_name_byte n ≡ true
 bytes_yes [] a = refl
 bytes_yes (b ∷ n) a =
     let h = All-head (λ (x : ℕ). (32 ≤ x) × (x ≢ 127)) b n a in
-    and_both (is_name_byte b) _ (byte_yes b h.0 h.1) (bytes_yes n (All-tail (λ (x : ℕ). (32 ≤ x) × (x ≢ 127)) b n a))
+    and_from (is_name_byte b) _ (byte_yes b h.0 h.1) (bytes_yes n (All-tail (λ (x : ℕ). (32 ≤ x) × (x ≢ 127)) b n a))
 
 less_yes : (m n : ℕ) → m < n → nat_lt m n ≡ true
 less_yes m n h = grind (arith, nat_tests)
 
 pub name_yes : (n : List ℕ) → IsTextName n → is_text_name n ≡ true
-name_yes n h = and_both (nat_lt 0 (length n)) _ (less_yes 0 (length n) h.some) (and_both (nat_le (length n) 4096) _ (less_equal (length n) 4096 h.short) (bytes_yes n h.bytes))
+name_yes n h = and_from (nat_lt 0 (length n)) _ (less_yes 0 (length n) h.some) (and_from (nat_le (length n) 4096) _ (less_equal (length n) 4096 h.short) (bytes_yes n h.bytes))
 
 input_good : (h : Header) (cs : List TreeClause) (ws : List (List ℕ)) → All IsWritableClause cs → All (λ n. IsTrue (is_readable_name n)) ws → list_all (good h) (input_items cs ws) ≡ true
 input_good h [] ws a b = refl
 input_good h (c ∷ cs) [] a b = refl
 input_good h (c ∷ cs) (w ∷ ws) a b =
-    and_both (good h (record { clause = c; note = named w })) _
-    (and_both (clause_is_printable c) _ (test_is c (All-head IsWritableClause c cs a)) (All-head (λ (n : List ℕ). IsTrue (is_readable_name n)) w ws b))
+    and_from (good h (record { clause = c; note = named w })) _
+    (and_from (clause_is_printable c) _ (test_is c (All-head IsWritableClause c cs a)) (All-head (λ (n : List ℕ). IsTrue (is_readable_name n)) w ws b))
     (input_good h cs ws (All-tail IsWritableClause c cs a) (All-tail (λ (n : List ℕ). IsTrue (is_readable_name n)) w ws b))
 
 axiom_good : (h : Header) (cs : List TreeClause) → All IsWritableClause cs → list_all (good h) (axiom_items cs) ≡ true
 axiom_good h [] a = refl
-axiom_good h (c ∷ cs) a = and_both (good h (record { clause = c; note = equality })) _ (and_both (clause_is_printable c) true (test_is c (All-head IsWritableClause c cs a)) refl) (axiom_good h cs (All-tail IsWritableClause c cs a))
+axiom_good h (c ∷ cs) a = and_from (good h (record { clause = c; note = equality })) _ (and_from (clause_is_printable c) true (test_is c (All-head IsWritableClause c cs a)) refl) (axiom_good h cs (All-tail IsWritableClause c cs a))
 
 module _ (name bot : List ℕ) where
   abbrev of_refutation : Header
@@ -149,8 +149,8 @@ module _ (name bot : List ℕ) where
   member_good [] a = refl
   member_good (e ∷ es) a =
       let p = All-head IsWritableEntry e es a in
-      and_both (good of_refutation (record { clause = e.clause; note = member e.origin })) _
-      (and_both (clause_is_printable e.clause) _ (test_is e.clause p.clause) (origin_yes e.origin p.origin))
+      and_from (good of_refutation (record { clause = e.clause; note = member e.origin })) _
+      (and_from (clause_is_printable e.clause) _ (test_is e.clause p.clause) (origin_yes e.origin p.origin))
       (member_good es (All-tail IsWritableEntry e es a))
 
   selected_good : (es : List Entry) (ps : List ℕ) → All IsWritableEntry es → All IsNumber ps → list_all (good of_saturation) (selected_items es ps) ≡ true
@@ -158,25 +158,25 @@ module _ (name bot : List ℕ) where
   selected_good (e ∷ es) [] a b = refl
   selected_good (e ∷ es) (k ∷ ps) a b =
       let p = All-head IsWritableEntry e es a in
-      and_both (good of_saturation (record { clause = e.clause; note = selected e.origin k })) _
-      (and_both (clause_is_printable e.clause) _ (test_is e.clause p.clause) (and_both (origin_is_printable e.origin) (is_number k) (origin_yes e.origin p.origin) (number_yes k (All-head IsNumber k ps b))))
+      and_from (good of_saturation (record { clause = e.clause; note = selected e.origin k })) _
+      (and_from (clause_is_printable e.clause) _ (test_is e.clause p.clause) (and_from (origin_is_printable e.origin) (is_number k) (origin_yes e.origin p.origin) (number_yes k (All-head IsNumber k ps b))))
       (selected_good es ps (All-tail IsWritableEntry e es a) (All-tail IsNumber k ps b))
 
   ground_good : (cs : List TreeClause) → All IsWritableClause cs → list_all (good of_refutation) (ground_items cs) ≡ true
   ground_good [] a = refl
-  ground_good (c ∷ cs) a = and_both (good of_refutation (record { clause = c; note = ground_of })) _ (and_both (clause_is_printable c) true (test_is c (All-head IsWritableClause c cs a)) refl) (ground_good cs (All-tail IsWritableClause c cs a))
+  ground_good (c ∷ cs) a = and_from (good of_refutation (record { clause = c; note = ground_of })) _ (and_from (clause_is_printable c) true (test_is c (All-head IsWritableClause c cs a)) refl) (ground_good cs (All-tail IsWritableClause c cs a))
 
   step_good : (ss : List (Step Tree)) → All IsWritableStep ss → list_all (good of_refutation) (step_items ss) ≡ true
   step_good [] a = refl
   step_good (s ∷ ss) a =
       let p = All-head IsWritableStep s ss a in
-      and_both (good of_refutation (record { clause = s.clause; note = shown_by s.hints })) _
-      (and_both (clause_is_printable s.clause) _ (test_is s.clause p.clause) (hints_yes s.hints p.hinted p.hints))
+      and_from (good of_refutation (record { clause = s.clause; note = shown_by s.hints })) _
+      (and_from (clause_is_printable s.clause) _ (test_is s.clause p.clause) (hints_yes s.hints p.hinted p.hints))
       (step_good ss (All-tail IsWritableStep s ss a))
 
 pub all_append : (p : Item → Bool) (is js : List Item) → list_all p is ≡ true → list_all p js ≡ true → list_all p (is ++ js) ≡ true
 all_append p [] js h k = k
-all_append p (i ∷ is) js h k = let a = both_true (p i) (list_all p is) h in and_both (p i) (list_all p (is ++ js)) a.0 (all_append p is js a.1 k)
+all_append p (i ∷ is) js h k = let a = and_parts (p i) (list_all p is) h in and_from (p i) (list_all p (is ++ js)) a.0 (all_append p is js a.1 k)
 
 -- ---- how many
 
@@ -211,7 +211,7 @@ count_group : (r k : ℕ) (is : List Item) → list_all (λ (i : Item). nat_eq (
 count_group r k is h = by (nat_eq r k) refl
   where
     by : (t : Bool) → nat_eq r k ≡ t → count k is ≡ cond t (length is) 0
-    by true e = count_own k is (subst (λ (j : ℕ). list_all (λ (i : Item). nat_eq (rank i.note) j) is ≡ true) (numbers_equal r k e) h)
+    by true e = count_own k is (subst (λ (j : ℕ). list_all (λ (i : Item). nat_eq (rank i.note) j) is ≡ true) (number_is r k e) h)
     by false e = count_other r k is h e
 
 -- groups of different ranks: the count of a rank is at most the length of one of them
@@ -226,7 +226,7 @@ few_group m r is js h less none_ few k = by (nat_eq r k) refl
   where
     by : (t : Bool) → nat_eq r k ≡ t → count k (is ++ js) < m
     by true e =
-        let rk = numbers_equal r k e in
+        let rk = number_is r k e in
         let a : count r (is ++ js) ≡ count r is + count r js = count_append r is js in
         let b = count_own r is h in
         subst (λ (j : ℕ). count j (is ++ js) < m) rk (omega arith)
@@ -248,7 +248,7 @@ body_run : (h : Header) (is : List Item) → is_text_name h.name ≡ true → Is
 body_run h is n s g few =
     run_items h [] is (closing h.refutation h.name ∷ []) s g few
     ∙ ap (λ (t : Bool). option_and_then (λ (u : State). Some u) (guarded t (done h is)))
-    (and_both (is_text_name h.name) _ n (and_both (bool_eq h.refutation h.refutation) _ ((bool_eq_decides h.refutation h.refutation).1 refl) (same_bytes h.name)))
+    (and_from (is_text_name h.name) _ n (and_from (bool_eq h.refutation h.refutation) _ ((bool_eq_decides h.refutation h.refutation).1 refl) (same_bytes h.name)))
 
 refutation_run : (name : List ℕ) (c : FirstRefutation) → is_text_name name ≡ true → IsWritableRefutation c → run (body (header_of 1 name (first_refutation c)) []) (item_lines [] (items_of (first_refutation c)) ++ closing true name ∷ []) ≡ Some (done (header_of 1 name (first_refutation c)) (items_of (first_refutation c)))
 refutation_run name c n p =
@@ -317,11 +317,11 @@ are_lines name v t p = record { last = done (header_of 1 name v) (items_of v); r
     by (first_refutation c) q =
         let n = name_yes name t in
         ap (λ (b : Bool). option_and_then (λ (u : State). run u (opening true name ∷ version 1 ∷ constant c.bot.name ∷ (item_lines [] (items_of (first_refutation c)) ++ closing true name ∷ []))) (guarded b (begun true name))) n
-        ∙ ap (λ (b : Bool). option_and_then (λ (u : State). run u (version 1 ∷ constant c.bot.name ∷ (item_lines [] (items_of (first_refutation c)) ++ closing true name ∷ []))) (guarded b (opened true name))) (and_both (is_text_name name) _ n (same_bytes name))
+        ∙ ap (λ (b : Bool). option_and_then (λ (u : State). run u (version 1 ∷ constant c.bot.name ∷ (item_lines [] (items_of (first_refutation c)) ++ closing true name ∷ []))) (guarded b (opened true name))) (and_from (is_text_name name) _ n (same_bytes name))
         ∙ ap (λ (b : Bool). option_and_then (λ (u : State). run u (item_lines [] (items_of (first_refutation c)) ++ closing true name ∷ [])) (guarded b (body (header_of 1 name (first_refutation c)) []))) q.bot_name
         ∙ refutation_run name c n q
     by (saturation c) q =
         let n = name_yes name t in
         ap (λ (b : Bool). option_and_then (λ (u : State). run u (opening false name ∷ version 1 ∷ (item_lines [] (items_of (saturation c)) ++ closing false name ∷ []))) (guarded b (begun false name))) n
-        ∙ ap (λ (b : Bool). option_and_then (λ (u : State). run u (version 1 ∷ (item_lines [] (items_of (saturation c)) ++ closing false name ∷ []))) (guarded b (opened false name))) (and_both (is_text_name name) _ n (same_bytes name))
+        ∙ ap (λ (b : Bool). option_and_then (λ (u : State). run u (version 1 ∷ (item_lines [] (items_of (saturation c)) ++ closing false name ∷ []))) (guarded b (opened false name))) (and_from (is_text_name name) _ n (same_bytes name))
         ∙ saturation_run name c n q
