@@ -90,8 +90,9 @@ fn files_have_their_answers(rt: HostRuntime) -> Result<(), Fail> {
 #[test]
 fn a_file_at_the_limit_and_one_past_it(rt: HostRuntime) -> Result<(), Fail> {
     let alloc = rt.alloc();
-    let mut text = Vec::from_slice(alloc, b"p cnf 0 0\n")?;
-    while text.len() < LIMIT {
+    let header = b"p cnf 0 0\n";
+    let mut text = header.to_vec(alloc)?;
+    for _ in header.len()..LIMIT {
         text.push(b' ')?;
     }
     let (exit, _) = answer_of(alloc, "d.cnf", text.as_slice())?;
