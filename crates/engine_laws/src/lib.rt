@@ -1,0 +1,2 @@
+//! What the engine's loop keeps, in the machine's words.
+#![tactic(auto)]
