@@ -1,2 +1,3 @@
+pub mod Abstracts
 pub mod Names
 pub mod Numbering

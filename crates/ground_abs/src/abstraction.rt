@@ -1,31 +1,43 @@
-// The numbers of ground atoms.
-ghost use Rattle.std.specs.Prelude.{◌≡◌, [], length, nat_eq, false, IsTrue, IsErr, IfOk, OnOk, OnErr, slice_get, Some};
+// The numbers of ground atoms, and clauses under the constant that stands for every variable.
+ghost use Rattle.std.specs.Prelude.{◌≡◌, [], map, length, nat_eq, false, All, IsTrue, IsErr, IfOk, OnOk, OnErr, slice_get, Some};
 ghost use Rattle.std.specs.List.{IsDistinct, position_or_len};
 ghost use Rattle.inst_logic.specs.Lists.{with_item};
-ghost use Rattle.inst_logic.specs.WellFormed.{is_constant};
+ghost use Rattle.inst_logic.specs.WellFormed.{IsAtom, is_constant};
+ghost use Rattle.inst_calculus.specs.Abstraction.{abstraction, abstract_literals, named_literal};
+ghost use Rattle.prop_logic.specs.Literal.{AtomsBelow};
+ghost use Rattle.term_bank.specs.Forest.{Extends, AreFormed, IsClauseAt, IsClauseOf, clause_at, tree_at};
+ghost use Rattle.ground_abs.specs.Abstracts.{atoms_in, AreAtomsIn, AreNotesIn, AreNumbered, Grows};
 
-use indexmap::IndexSet;
+use indexmap::{IndexMap, IndexSet};
 use inst_logic::{Memory, Sym};
+use prop_logic::LitList;
 use std::alloc::Global;
 use std::marker::Model;
-use term_bank::TermId;
+use term_bank::{Bank, IdClause, TermId};
 
 /// Ground atoms of one bank with numbers, from 0 in the order of first use, and the constant that stands for every variable.
 ///
-/// After want of memory it holds what it held before, and each call that can want memory wants it.
+/// It notes what terms of the bank become, so each is walked once, whatever the number of calls. After want of memory the atoms
+/// have the numbers that they had before, and each call that can want memory wants it.
 #[derive(Drop)]
 pub struct Abstraction {
+    alloc: Global,
     bot: Sym,
     ids: IndexSet<TermId>,
+    notes: IndexMap<TermId, TermId>,
     spent: bool,
 }
 
 impl Model for Abstraction {
+    ghost use Rattle.inst_logic.specs.WellFormed.{is_constant};
     ghost use Rattle.ground_abs.specs.Numbering.{Numbering};
+    ghost use Rattle.std.specs.Prelude.{IsTrue};
 
     ghost Value = { Numbering };
 
-    ghost view = { λ a. record { bot = a.bot; ids = a.ids.keys; spent = a.spent } };
+    ghost view = { λ a. record { bot = a.bot; ids = a.ids.keys; notes = a.notes.entries; spent = a.spent } };
+
+    ghost invariant = { λ a. IsTrue (is_constant a.bot) };
 }
 
 // The number of the id, which is added where the set does not have it.
@@ -43,11 +55,13 @@ impl Abstraction {
     /// No atoms.
     pub fn new(alloc: Global, bot: Sym) -> Abstraction
         requires { IsTrue (is_constant bot) }
-        ensures { result ≡ record { bot = bot; ids = []; spent = false } }
+        ensures { result ≡ record { bot = bot; ids = []; notes = []; spent = false } }
     {
         Abstraction {
+            alloc,
             bot,
             ids: IndexSet::new(alloc),
+            notes: IndexMap::new(alloc),
             spent: false,
         }
     }
@@ -66,6 +80,7 @@ impl Abstraction {
         ensures number { IfOk result (λ n. n ≡ position_or_len (nat_eq atom) self.old.ids) }
         ensures stored { IfOk result (λ n. slice_get self.new.ids n ≡ Some atom) }
         ensures bot { self.new.bot ≡ self.old.bot }
+        ensures notes { self.new.notes ≡ self.old.notes }
         ensures ok { OnOk result ((self.old.spent ≡ false) × (self.new.spent ≡ false)) }
         ensures err { OnErr result (IsTrue self.new.spent) }
         ensures held { OnErr result (self.new.ids ≡ self.old.ids) }
@@ -83,5 +98,55 @@ impl Abstraction {
         ensures { result ≡ slice_get self.now.ids n }
     {
         self.ids.get_index(n).copied()
+    }
+
+    /// The clause with the constant for every variable, where each repeated literal stands at its first place only. The time
+    /// is that of the terms that no call met before, and of the literals. The bank keeps its trees and may have grown, also
+    /// where memory was wanted.
+    pub fn ground(&mut self, bank: &mut Bank, c: &IdClause) -> Result<IdClause, Memory>
+        requires clause { IsClauseOf bank.old c.now }
+        requires notes { AreNotesIn bank.old self.old.bot self.old.notes }
+        ensures abstraction { IfOk result (λ d. IsClauseAt bank.new d (abstraction self.old.bot (clause_at bank.old c.now))) }
+        ensures ids { self.new.ids ≡ self.old.ids }
+        ensures bot { self.new.bot ≡ self.old.bot }
+        ensures notes { AreNotesIn bank.new self.new.bot self.new.notes }
+        ensures extends { Extends bank.old bank.new }
+        ensures formed { AreFormed bank.old → AreFormed bank.new }
+        ensures ok { OnOk result ((self.old.spent ≡ false) × (self.new.spent ≡ false)) }
+        ensures unspent { OnOk result (bank.old.spent ≡ false → bank.new.spent ≡ false) }
+        ensures err { OnErr result (IsTrue self.new.spent) }
+    {
+        // A stand-in until the walk is written.
+        let _ = bank.len();
+        let _ = c.len();
+        self.spent = true;
+        Err(Memory)
+    }
+
+    /// For each literal, in order and with repeats kept, the literal of its abstraction's number: place `p` of the answer is
+    /// that of place `p` of the clause. New atoms get their numbers in this order. The time is that of the terms that no call
+    /// met before, and of the literals. The bank keeps its trees and may have grown, also where memory was wanted.
+    pub fn abstract_clause(&mut self, bank: &mut Bank, c: &IdClause) -> Result<LitList, Memory>
+        requires clause { IsClauseOf bank.old c.now }
+        requires notes { AreNotesIn bank.old self.old.bot self.old.notes }
+        ensures literals { IfOk result (λ lits. map (named_literal (atoms_in bank.new self.new.ids)) lits ≡ abstract_literals self.old.bot (clause_at bank.old c.now)) }
+        ensures below { IfOk result (λ lits. AtomsBelow (length self.new.ids) lits) }
+        ensures numbered { OnOk result (AreNumbered bank.new self.old.ids self.new.ids (abstract_literals self.old.bot (clause_at bank.old c.now))) }
+        ensures grows { Grows self.old.ids self.new.ids }
+        ensures fits { All (λ l. IsAtom (tree_at bank.old l.atom)) c.now → AreAtomsIn bank.old self.old.ids → AreAtomsIn bank.new self.new.ids }
+        ensures bot { self.new.bot ≡ self.old.bot }
+        ensures notes { AreNotesIn bank.new self.new.bot self.new.notes }
+        ensures extends { Extends bank.old bank.new }
+        ensures formed { AreFormed bank.old → AreFormed bank.new }
+        ensures ok { OnOk result ((self.old.spent ≡ false) × (self.new.spent ≡ false)) }
+        ensures unspent { OnOk result (bank.old.spent ≡ false → bank.new.spent ≡ false) }
+        ensures err { OnErr result (IsTrue self.new.spent) }
+        ensures held { OnErr result (self.new.ids ≡ self.old.ids) }
+    {
+        // A stand-in until the walk is written.
+        let _ = bank.len();
+        let _ = c.len();
+        self.spent = true;
+        Err(Memory)
     }
 }

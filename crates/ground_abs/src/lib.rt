@@ -3,6 +3,7 @@
 
 pub mod abstraction;
 pub mod bot;
+pub mod laws;
 
 pub use abstraction::Abstraction;
 pub use bot::bot_of;
