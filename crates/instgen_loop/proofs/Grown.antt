@@ -6,12 +6,14 @@ use Rattle.inst_logic.specs.Tree.{Tree}
 use Rattle.inst_logic.specs.WellFormed.{IsAtom}
 use Rattle.inst_logic.specs.Clauses.{TreeClause, IsCanonical}
 use Rattle.inst_logic.proofs.ShownLaws.{slice_get_append}
+use Rattle.inst_calculus.specs.Entries.{Entry}
 use Rattle.inst_calculus.proofs.Membership.{◌∈◌, in_all, all_in}
 use Rattle.inst_calculus.proofs.Distinct.{map_append}
 use Rattle.term_bank.specs.Forest.{Forest, AreFormed, IsClauseOf, Extends, clause_at, tree_at}
 use Rattle.saturation_cert.specs.Wholes.{IsWholeClause}
+use Rattle.saturation_cert.specs.Values.{origin_of}
 use Rattle.saturation_cert.specs.declared.member.Origin.{Origin}
-use Rattle.instgen_loop.specs.Clauses.{Item, AreEntries, clauses_in}
+use Rattle.instgen_loop.specs.Clauses.{Item, AreEntries, entries_in, clauses_in}
 use Rattle.instgen_loop.specs.Loops.{IsLiteralPlace}
 use Rattle.term_bank.proofs.Clauses.{clause_of_extends, atoms_extend, clause_extends}
 
@@ -46,6 +48,11 @@ one_more_entry f g e formed es c o h w k =
 pub clauses_kept : (f g : Forest) → Extends f g → (es : List Item) → ((x : Item) → x ∈ es → IsClauseOf f x.0) → clauses_in g es ≡ clauses_in f es
 clauses_kept f g e [] h = refl
 clauses_kept f g e (x ∷ es) h = ap₂ (λ (y : TreeClause) ys. y ∷ ys) (clause_extends f g e x.0 (h x (inl refl))) (clauses_kept f g e es (λ y i. h y (inr i)))
+
+pub entries_stay : (f g : Forest) → Extends f g → (es : List Item) → ((x : Item) → x ∈ es → IsClauseOf f x.0) → entries_in g es ≡ entries_in f es
+entries_stay f g e [] h = refl
+entries_stay f g e (x ∷ es) h =
+    ap₂ (λ (c : TreeClause) (ys : List Entry). record { clause = c; origin = origin_of x.1 } ∷ ys) (clause_extends f g e x.0 (h x (inl refl))) (entries_stay f g e es (λ y i. h y (inr i)))
 
 pub clauses_pushed : (f g : Forest) → Extends f g → (es : List Item) (c : List (Signed ℕ)) (o : Origin) → AreEntries f es → IsClauseOf f c → clauses_in g (es ++ (c, o) ∷ []) ≡ clauses_in f es ++ clause_at f c ∷ []
 clauses_pushed f g e es c o h k =

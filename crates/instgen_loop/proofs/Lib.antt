@@ -3,3 +3,7 @@ pub mod Covers
 pub mod Firsts
 pub mod Links
 pub mod Grown
+pub mod Selected
+pub mod Works
+pub mod Inferred
+pub mod Runs
