@@ -7,3 +7,6 @@ pub mod Selected
 pub mod Works
 pub mod Inferred
 pub mod Runs
+pub mod Opposites
+pub mod Waiting
+pub mod Tending
