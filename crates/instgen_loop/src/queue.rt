@@ -1,5 +1,6 @@
 // The work on the entries that wait.
-ghost use Rattle.std.specs.Prelude.{◌≡◌, ◌<◌, ◌≤◌, [], ◌⊎◌, ◌↔◌, ℕ, true, false, length, All, Contains, IfOk, OnOk};
+ghost use Rattle.std.specs.Prelude.{◌≡◌, ◌<◌, ◌≤◌, [], ◌⊎◌, ◌↔◌, ◌++◌, ℕ, List, true, false, length, All, Contains, IfOk, OnOk};
+ghost use Rattle.inst_logic.specs.declared.signed.Signed.{Signed};
 ghost use Rattle.instgen_select.specs.Queues.{numbers};
 ghost use Rattle.instgen_loop.specs.Loops.{IsSafe, Goes, items, ArePartners, AreWaiting, IsSigned, IsPairWorked};
 ghost use Rattle.instgen_loop.specs.Running.{KeepsRunning};
@@ -91,7 +92,8 @@ pub fn work_queue<S: Solver, I: PartnerIndex>(
     ensures tended { OnOk result (AreTended I.pairs run.new partners.new) }
     ensures running { OnOk result (KeepsRunning S.atoms S.added run.old run.new) }
     ensures appended { IfOk result (λ r. r ≡ true → length (items run.old) < length (items run.new)) }
-    ensures places { OnOk result (run.new.selection.places ≡ run.old.selection.places) }
+    ensures selection { OnOk result (run.new.selection ≡ run.old.selection) }
+    ensures literals { OnOk result ((more : List (List (Signed ℕ))) × (run.new.ground.literals ≡ run.old.ground.literals ++ more)) }
     ensures none_waits { IfOk result (λ r. r ≡ false → (run.new.queue.items ≡ []) × (length (items run.new) ≡ length (items run.old))) }
 {
     loop {

@@ -1,4 +1,5 @@
-use Rattle.std.proofs.Common.{◌≡◌, ◌≤◌, length}
+use Rattle.std.proofs.Common.{◌≡◌, ◌++◌, ℕ, List, length}
+use Rattle.inst_logic.specs.declared.signed.Signed.{Signed}
 use Rattle.instgen_loop.specs.Loops.{IsSafe, AreWaiting, ArePartners, items}
 use Rattle.instgen_loop.specs.Running.{KeepsRunning}
 use Rattle.instgen_loop.specs.Tended.{AreTended}
@@ -13,7 +14,8 @@ invariant-loop-n g l =
       partners : ArePartners index.pairs index.fits l.run l.partners;
       tended : AreTended index.pairs l.run l.partners;
       running : KeepsRunning g.S.Solver.atoms g.S.Solver.added l.fn.run l.run;
-      places : l.run.selection.places ≡ l.fn.run.selection.places;
+      selection : l.run.selection ≡ l.fn.run.selection;
+      literals : (more : List (List (Signed ℕ))) × (l.run.ground.literals ≡ l.fn.run.ground.literals ++ more);
       same : length (items l.run) ≡ length (items l.fn.run);
     }
 
