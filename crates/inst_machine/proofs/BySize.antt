@@ -14,7 +14,7 @@ use Rattle.inst_machine.specs.Replay.{Replays}
 use Rattle.inst_machine.specs.Budget.{appended_size, appended_sizes}
 use Rattle.inst_machine.proofs.Prolonged.{sizes_push}
 
-conclusion_has_size : (es : List Entry) (from place partner other : ℕ) (c : TreeClause) → IsConclusion es from place partner other c → 0 < clause_size c
+pub conclusion_has_size : (es : List Entry) (from place partner other : ℕ) (c : TreeClause) → IsConclusion es from place partner other c → 0 < clause_size c
 conclusion_has_size es from place partner other c k =
     transport (λ d. 0 < clause_size d) (sym k.conclusion)
     (transport (λ n. 0 < n) (sym (canonical_size k.unifier.left k.entry.clause)) (instance_has_size k.unifier.left k.entry.clause (not_empty k.entry.clause place k.literal k.literal_at)))
@@ -29,7 +29,7 @@ conclusion_has_size es from place partner other c k =
 appended_has_size : (bot : Sym) (s : State) (o : Origin) (c : TreeClause) → Appends bot s o c → 0 < appended_size o c
 appended_has_size bot s o c (infer {from = from} {place = place} {partner = partner} {other = other} q) = conclusion_has_size s.entries from place partner other c q.conclusion
 
-first_count : (k : ℕ) (cs : List TreeClause) (before es : List Entry) → IsFirst k cs before es → length es ≤ length before + length cs
+pub first_count : (k : ℕ) (cs : List TreeClause) (before es : List Entry) → IsFirst k cs before es → length es ≤ length before + length cs
 first_count k cs before es all_read = omega arith
 first_count k cs before es (passed_over {cs = rest} o f) = let h = first_count (suc k) rest before es f in omega arith
 first_count k cs before es (taken {c = c} {cs = rest} a b f) =

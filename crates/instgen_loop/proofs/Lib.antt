@@ -6,6 +6,7 @@ pub mod Grown
 pub mod Selected
 pub mod Works
 pub mod Inferred
+pub mod Counted
 pub mod Runs
 pub mod Opposites
 pub mod Waiting

@@ -28,7 +28,6 @@ use Rattle.inst_calculus.proofs.Items.{same_item, at_number_within}
 use Rattle.engine_laws.proofs.WorkedPairs.{placed_before}
 use Rattle.engine_laws.proofs.Bits.{grown}
 use Rattle.inst_machine.proofs.EntryBound.{entries_are_bounded}
-use Rattle.inst_machine.proofs.BySize.{entries_by_size}
 use Rattle.inst_logic.specs.WellFormed.{AreFormedClauses}
 use Rattle.instgen_loop.specs.Running.{IsRunningFor, IsSolvedFor, KeepsTruth, most_entries}
 use Rattle.inst_machine.proofs.Prolonged.{replay_goes_on, left_after}
@@ -56,6 +55,7 @@ use Rattle.term_bank.proofs.Growth.{map_extends}
 use Rattle.term_bank.proofs.Clauses.{clause_extends}
 use Rattle.instgen_loop.proofs.Grown.{clauses_kept, entries_stay}
 use Rattle.instgen_loop.proofs.Links.{atoms_grow}
+use Rattle.instgen_loop.proofs.Counted.{entries_counted, appended_by_size}
 use Rattle.instgen_loop.proofs.Selected.{same_places}
 use Rattle.inst_calculus.proofs.InstanceSizes.{canonical_size}
 use Rattle.instgen_loop.proofs.Inferred.{same_clauses, length_at}
@@ -379,7 +379,7 @@ entries_bounded atoms added r cs budget formed (bot, v, b, h) = go r.left refl
 
     go : (o : Option ℕ) → r.left ≡ o → length (items r) ≤ most_entries cs budget
     go None e = let l = entries_are_bounded bot cs formed (h.free e) (map (event_in r.entries.bank) r.journal) (state_of r v b) h.replays in let c = count in omega arith
-    go (Some k) e = let l = entries_by_size bot cs (map (event_in r.entries.bank) r.journal) (state_of r v b) h.replays in let m = h.left k e in let c = count in omega arith
+    go (Some k) e = let l = entries_counted bot cs (map (event_in r.entries.bank) r.journal) (state_of r v b) h.replays in let n = appended_by_size bot cs (map (event_in r.entries.bank) r.journal) (state_of r v b) h.replays in let m = h.left k e in let c = count in omega arith
 
 -- a solve, and then work under its valuation
 pub solved_on : {S I C : Type 0} (atoms : S → ℕ) (added : S → List (List (Signed ℕ))) (old mid new : Run S I C) (cs : List TreeClause) (budget : ℕ) → KeepsTruth atoms added old mid → KeepsRunning atoms added mid new
