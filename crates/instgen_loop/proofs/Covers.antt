@@ -32,8 +32,7 @@ at_suc es (suc j) e n q = let p : suc j - 1 ≡ j = omega arith in sym (q ∙ ap
 pub shorter_here : (f : Forest) (es : List Item) (d : List (Signed ℕ)) (len k : ℕ) (e : List (Signed ℕ)) (o : Origin) → ¬ (k ≡ 0) → Some (e, o) ≡ slice_get es (k - 1) → length e < len
     → (r : Bool) → IsTrue r ↔ Subsumes (clause_at f e) (clause_at f d) → IsTrue r ↔ IsShorterPart f es d len k
 shorter_here f es d len k e o n q l r h =
-    let here = at_suc es k (e, o) n q in
-    (
+    let here = at_suc es k (e, o) n q in (
       λ t. record { item = (e, o); item_at = here; shorter = l; within = h.0 t },
       λ s. h.1 (transport (λ (x : Item). Subsumes (clause_at f x.0) (clause_at f d)) (same_item (at_number es k) s.item (e, o) s.item_at here) s.within),
     )
@@ -132,12 +131,15 @@ module _ (f : Forest) (es : List Item) (d : List (Signed ℕ)) (c : TreeClause) 
   not_covered len q distinct entries within canonical no_tautology no_key none (shorter e i l s) =
       let (x, j, p) = from_map (λ (x : Item). clause_at f x.0) e es (contains_in e (clauses_in f es) i) in
       let (k, at) = in_slice_get x es j in
-      none (suc k, record {
-        item = x;
-        item_at = at;
-        shorter = let m : length (clause_at f x.0) ≡ length e = ap length p in omega (arith, length_at2 x.0);
-        within = transport (λ y. Subsumes y (clause_at f d)) (sym p) s;
-      })
+      none (
+        suc k,
+        record {
+          item = x;
+          item_at = at;
+          shorter = let m : length (clause_at f x.0) ≡ length e = ap length p in omega (arith, length_at2 x.0);
+          within = transport (λ y. Subsumes y (clause_at f d)) (sym p) s;
+        },
+      )
     where
       length_at2 : (x : List (Signed ℕ)) → length (clause_at f x) ≡ length x
       length_at2 [] = refl

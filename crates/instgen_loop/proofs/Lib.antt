@@ -11,3 +11,5 @@ pub mod Runs
 pub mod Opposites
 pub mod Waiting
 pub mod Tending
+pub mod UnderWay
+pub mod Withdrawn

@@ -54,14 +54,30 @@ same_atom r n a l h k =
 -- other bindings, or another queue
 pub running_rebound : {S I C : Type 0} (atoms : S → ℕ) (added : S → List (List (Signed ℕ))) (r : Run S I C) (b : Bound_list) → KeepsRunning atoms added r (record r { bindings = b })
 running_rebound atoms added r b bot cs budget v h = record {
-  events = h.events; replays = h.replays; linked = record { constant = h.linked.constant; fits = h.linked.fits; count = h.linked.count; given = h.linked.given; same = h.linked.same };
-  bits = h.bits; width = h.width; places = h.places; left = h.left; light = h.light; free = h.free; held = h.held;
+  events = h.events;
+  replays = h.replays;
+  linked = record { constant = h.linked.constant; fits = h.linked.fits; count = h.linked.count; given = h.linked.given; same = h.linked.same };
+  bits = h.bits;
+  width = h.width;
+  places = h.places;
+  left = h.left;
+  light = h.light;
+  free = h.free;
+  held = h.held;
 }
 
 pub running_requeued : {S I C : Type 0} (atoms : S → ℕ) (added : S → List (List (Signed ℕ))) (r : Run S I C) (q : Waiting_list) → KeepsRunning atoms added r (record r { queue = q })
 running_requeued atoms added r q bot cs budget v h = record {
-  events = h.events; replays = h.replays; linked = record { constant = h.linked.constant; fits = h.linked.fits; count = h.linked.count; given = h.linked.given; same = h.linked.same };
-  bits = h.bits; width = h.width; places = h.places; left = h.left; light = h.light; free = h.free; held = h.held;
+  events = h.events;
+  replays = h.replays;
+  linked = record { constant = h.linked.constant; fits = h.linked.fits; count = h.linked.count; given = h.linked.given; same = h.linked.same };
+  bits = h.bits;
+  width = h.width;
+  places = h.places;
+  left = h.left;
+  light = h.light;
+  free = h.free;
+  held = h.held;
 }
 
 pub literal_rebound : {S I C : Type 0} (r : Run S I C) (b : Bound_list) (n : ℕ) (l : Signed ℕ) → IsSelectedLiteral r n l → IsSelectedLiteral (record r { bindings = b }) n l

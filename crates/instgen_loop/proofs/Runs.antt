@@ -256,8 +256,7 @@ module _ {S I C : Type 0} (atoms : S → ℕ) (added : S → List (List (Signed 
   left_now budget l light left e =
       let (k, q, r) = left_before old.left size l (sym appends.left ∙ e) in
       let before = left k q in
-      let (same, le) = fits k q (omega arith) in
-      (
+      let (same, le) = fits k q (omega arith) in (
         transport (λ n. IsLeft budget (entries_of old ++ last ∷ []) n) (sym (r ∙ ap (λ n. k - n) same))
             (left_after budget k (entries_of old) last before (omega arith)),
         (k, q, omega arith),
@@ -269,16 +268,16 @@ module _ {S I C : Type 0} (atoms : S → ℕ) (added : S → List (List (Signed 
     events = transport (All (IsEventOf g)) (sym appends.event) (All-push (IsEventOf g) old.journal (Inferred (Inst from m.0.literals.left_at.place partner m.0.literals.right_at.place)) (events_later f g appends.bank old.journal h.events) tt);
     replays = transport (λ es. Replays bot cs (map (event_in g) new.journal) (record { entries = es; valuation = v; has_solved = true })) (sym entries_now)
         (transport (λ js. Replays bot cs js (record { entries = entries_of old ++ last ∷ []; valuation = v; has_solved = true })) (sym (journal_now h.events))
-            (replay_goes_on bot cs (map (event_in f) old.journal) (state_of old v true) (record { entries = entries_of old ++ last ∷ []; valuation = v; has_solved = true })
-                (machine.inferred (inst from m.0.literals.left_at.place partner m.0.literals.right_at.place)) h.replays
-                (step bot (state_of old v true) from m.0.literals.left_at.place partner m.0.literals.right_at.place (canonical_form (concluded old side from partner m))
-                    (concludes_at bot (state_of old v true) old.selection.places from m.0.literals.left_at.place partner m.0.literals.right_at.place (canonical_form (concluded old side from partner m)) h.places refl
-                    m.0.literals.left_at.place_at m.0.literals.right_at.place_at (concludes old side from partner m) uncovered))));
+        (replay_goes_on bot cs (map (event_in f) old.journal) (state_of old v true) (record { entries = entries_of old ++ last ∷ []; valuation = v; has_solved = true })
+        (machine.inferred (inst from m.0.literals.left_at.place partner m.0.literals.right_at.place)) h.replays
+        (step bot (state_of old v true) from m.0.literals.left_at.place partner m.0.literals.right_at.place (canonical_form (concluded old side from partner m))
+        (concludes_at bot (state_of old v true) old.selection.places from m.0.literals.left_at.place partner m.0.literals.right_at.place (canonical_form (concluded old side from partner m)) h.places refl
+        m.0.literals.left_at.place_at m.0.literals.right_at.place_at (concludes old side from partner m) uncovered))));
     linked = links bot h.linked;
     bits = let (more, q) = atoms_grow f g old.ground.abstraction.ids new.ground.abstraction.ids appends.bank h.linked.fits.within appends.atoms in
         transport (λ ts. IsValuationOf ts new.ground.valuation v) (sym q)
         (transport (λ b. IsValuationOf (atoms_in f old.ground.abstraction.ids ++ more) b v) (sym appends.valuation)
-            (grown (atoms_in f old.ground.abstraction.ids) more old.ground.valuation v (transport (λ n. length old.ground.valuation ≤ n) (sym (length_map (tree_at f) old.ground.abstraction.ids)) h.width) h.bits));
+        (grown (atoms_in f old.ground.abstraction.ids) more old.ground.valuation v (transport (λ n. length old.ground.valuation ≤ n) (sym (length_map (tree_at f) old.ground.abstraction.ids)) h.width) h.bits));
     width = let (more, q) = appends.atoms in let a = h.width in let b = length-append old.ground.abstraction.ids more in
         transport (λ b. length b ≤ length new.ground.abstraction.ids) (sym appends.valuation) (transport (λ xs. length old.ground.valuation ≤ length xs) (sym q) (omega arith));
     places = transport (λ es. ArePlacedTrue bot (record { entries = es; valuation = v; has_solved = true }) new.selection.places) (sym entries_now)
@@ -290,22 +289,27 @@ module _ {S I C : Type 0} (atoms : S → ℕ) (added : S → List (List (Signed 
         let (k, q, le) = (left_now budget l h.light h.left e).1 in
         transport (λ es. All (IsHeldBack es l) (held_of new)) (sym entries_now)
         (transport (λ hs. All (IsHeldBack (entries_of old ++ last ∷ []) l) hs) (sym (ap held_in appends.held))
-            (in_all (IsHeldBack (entries_of old ++ last ∷ []) l) (held_of old) (λ x i. held_later (entries_of old) (last ∷ []) k l x le (all_in (IsHeldBack (entries_of old) k) (held_of old) (h.held k q) x i))));
+        (in_all (IsHeldBack (entries_of old ++ last ∷ []) l) (held_of old) (λ x i. held_later (entries_of old) (last ∷ []) k l x le (all_in (IsHeldBack (entries_of old) k) (held_of old) (h.held k q) x i))));
   }
 
 -- what may be inferred may be after a read, and it is the same
 pub may_read : {S I C : Type 0} (old new : Run S I C) (side : Side) (from partner : ℕ) → Reads old new → new.bindings.entries ≡ old.bindings.entries → AreBindings old.entries.bank old.bindings.entries
     → AreEntries old.entries.bank (items old) → (m : MayInfer old side from partner) → (n : MayInfer new side from partner) × (concluded new side from partner n ≡ concluded old side from partner m)
 may_read old new side from partner reads same bindings entries m =
-    transport (λ r. (n : MayInfer r side from partner) × (concluded r side from partner n ≡ concluded old side from partner m)) (sym reads.rest) ((record {
-      literals = record { left = a; right = b; left_at = literal from a m.0.literals.left_at; right_at = literal partner b m.0.literals.right_at; opposite = m.0.literals.opposite };
-      unifier = m.0.unifier;
-      resolved = transport (λ (bs : List Binding). IsResolvedBy g bs m.0.unifier) (sym same) (substitutions_stay f g old.bindings.entries m.0.unifier reads.bank bindings m.0.resolved);
-      most_general = transport (λ x. IsMostGeneral (from_side side m.0.unifier) x (tree_at g b.atom)) (sym (kept from a m.0.literals.left_at))
-          (transport (λ y. IsMostGeneral (from_side side m.0.unifier) (tree_at f a.atom) y) (sym (kept partner b m.0.literals.right_at)) m.0.most_general);
-    }, transport (λ x. IsProper (from_side side m.0.unifier).left x) (sym (kept from a m.0.literals.left_at)) m.1),
-    ap (instance (from_side side m.0.unifier).left) (clause_extends f g reads.bank m.0.literals.left_at.item.0
-        (all_in (λ (x : Item). IsClauseOf f x.0) (items old) entries.ids m.0.literals.left_at.item (contains_in m.0.literals.left_at.item (items old) (at_number_contains (items old) from m.0.literals.left_at.item m.0.literals.left_at.item_at)))))
+    transport (λ r. (n : MayInfer r side from partner) × (concluded r side from partner n ≡ concluded old side from partner m)) (sym reads.rest) (
+      (
+        record {
+          literals = record { left = a; right = b; left_at = literal from a m.0.literals.left_at; right_at = literal partner b m.0.literals.right_at; opposite = m.0.literals.opposite };
+          unifier = m.0.unifier;
+          resolved = transport (λ (bs : List Binding). IsResolvedBy g bs m.0.unifier) (sym same) (substitutions_stay f g old.bindings.entries m.0.unifier reads.bank bindings m.0.resolved);
+          most_general = transport (λ x. IsMostGeneral (from_side side m.0.unifier) x (tree_at g b.atom)) (sym (kept from a m.0.literals.left_at))
+              (transport (λ y. IsMostGeneral (from_side side m.0.unifier) (tree_at f a.atom) y) (sym (kept partner b m.0.literals.right_at)) m.0.most_general);
+        },
+        transport (λ x. IsProper (from_side side m.0.unifier).left x) (sym (kept from a m.0.literals.left_at)) m.1,
+      ),
+      ap (instance (from_side side m.0.unifier).left) (clause_extends f g reads.bank m.0.literals.left_at.item.0
+          (all_in (λ (x : Item). IsClauseOf f x.0) (items old) entries.ids m.0.literals.left_at.item (contains_in m.0.literals.left_at.item (items old) (at_number_contains (items old) from m.0.literals.left_at.item m.0.literals.left_at.item_at)))),
+    )
   where
     f : Forest
     f = old.entries.bank
@@ -334,7 +338,7 @@ size_concluded r side from partner n m item at sized =
     let same : item ≡ l.item = same_item (at_number (items r) from) item l.item at l.item_at in
     sized m.0.unifier m.0.resolved
     ∙ ap (λ k. min k (2 ^ 64 - 1)) (ap (λ (x : Item). clause_size (instance (of_side m.0.unifier side) (clause_at f x.0))) same
-        ∙ ap (λ s. clause_size (instance s (clause_at f l.item.0))) (sym (from_left side m.0.unifier)) ∙ sym (canonical_size (from_side side m.0.unifier).left (clause_at f l.item.0)))
+    ∙ ap (λ s. clause_size (instance s (clause_at f l.item.0))) (sym (from_left side m.0.unifier)) ∙ sym (canonical_size (from_side side m.0.unifier).left (clause_at f l.item.0)))
 
 pub made_concluded : {S I C : Type 0} (old new : Run S I C) (side : Side) (from partner : ℕ) (d : List (Signed ℕ)) (m : MayInfer old side from partner) → IsConclusionFor old new side from d
     → clause_at new.entries.bank d ≡ canonical_form (concluded old side from partner m)
@@ -361,12 +365,12 @@ running_inferred atoms added old new side from partner size place other len d it
     let same : l.item ≡ item = same_item (at_number (items old) from) l.item item l.item_at at in
     running_appended atoms added old new side from partner size d m entries ids
     (transport (λ x. Appends (record old { left = option_map (λ k. k - size) old.left }) new d (Inst from x partner m.0.literals.right_at.place)) p
-        (transport (λ y. Appends (record old { left = option_map (λ k. k - size) old.left }) new d (Inst from place partner y)) q appends))
+    (transport (λ y. Appends (record old { left = option_map (λ k. k - size) old.left }) new d (Inst from place partner y)) q appends))
     links made
     (λ covered. uncovered (clause_at f l.item.0) (length_at f l.item.0 ∙ ap (λ (x : Item). length x.0) same ∙ long)
-        (covered_when_renamed (clauses_in f (items old)) (clause_at f l.item.0) (concluded old side from partner m) (clause_at f d)
-            (transport (λ cs. IsCovered cs (clause_at f l.item.0) (concluded old side from partner m)) (same_clauses f (items old)) covered)
-            (sym (ap canonical_form made ∙ canonical_of_canonical (concluded old side from partner m)))))
+    (covered_when_renamed (clauses_in f (items old)) (clause_at f l.item.0) (concluded old side from partner m) (clause_at f d)
+    (transport (λ cs. IsCovered cs (clause_at f l.item.0) (concluded old side from partner m)) (same_clauses f (items old)) covered)
+    (sym (ap canonical_form made ∙ canonical_of_canonical (concluded old side from partner m)))))
     (λ k e light. let le = fits k e in (omega arith, le)) bot cs budget v h
 
 -- there are no more entries than can be

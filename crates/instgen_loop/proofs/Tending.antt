@@ -35,9 +35,9 @@ placed_sign r n b m (l, h, e) k =
     let same = same_item (at_number (entries_of r) n) k.entry (record { clause = clause_at f h.item.0; origin = origin_of h.item.1 }) k.entry_at entry in
     let q : k.place ≡ h.place = same_item (at_number r.selection.places n) k.place h.place k.place_at h.place_at in
     let literal : at_number (clause_at f h.item.0) h.place ≡ Some (record { positive = l.positive; atom = tree_at f l.atom }) =
-        at_number_map (λ (x : Signed ℕ). record { positive = x.positive; atom = tree_at f x.atom }) h.item.0 h.place l h.literal_at in
+    at_number_map (λ (x : Signed ℕ). record { positive = x.positive; atom = tree_at f x.atom }) h.item.0 h.place l h.literal_at in
     ap (λ (x : Signed Tree). x.positive) (same_item (at_number k.entry.clause k.place) m.selected (record { positive = l.positive; atom = tree_at f l.atom }) k.selected
-        (ap (λ (x : Entry). at_number x.clause k.place) same ∙ ap (at_number (clause_at f h.item.0)) q ∙ literal)) ∙ e
+    (ap (λ (x : Entry). at_number x.clause k.place) same ∙ ap (at_number (clause_at f h.item.0)) q ∙ literal)) ∙ e
 
 pub same_sign_worked : {S I C : Type 0} (r : Run S I C) (i j : ℕ) (b : Bool) → IsSigned r i b → IsSigned r j b → IsPairWorked r i j
 same_sign_worked r i j b h k = (
@@ -62,8 +62,7 @@ module _ {I C : Type 0} (pairs : I → List Pair) (p : Partners I C) where
 once_split : (xs : List ℕ) (n : ℕ) (ys : List ℕ) → AreOnce (xs ++ n ∷ ys) → AreOnce (xs ++ ys) × (¬ Contains (xs ++ ys) n)
 once_split [] n ys h = (h.1, h.0)
 once_split (x ∷ xs) n ys h =
-    let (a, b) = once_split xs n ys h.1 in
-    (
+    let (a, b) = once_split xs n ys h.1 in (
       (λ i. h.0 (in_contains x (xs ++ n ∷ ys) (elim (in_either x xs ys (contains_in x (xs ++ ys) i)) [ inl k ↦ in_left x xs (n ∷ ys) k | inr k ↦ in_right x xs (n ∷ ys) (inr k) ])), a),
       λ i. elim (contains_in n (x ∷ (xs ++ ys)) i) [ inl e ↦ h.0 (in_contains x (xs ++ n ∷ ys) (in_right x xs (n ∷ ys) (inl (sym e)))) | inr k ↦ b (in_contains n (xs ++ ys) k) ],
     )

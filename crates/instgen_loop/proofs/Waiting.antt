@@ -44,7 +44,7 @@ module _ (old new : List Waiting) (n : ℕ) (h : IsTaken old new n) where
 
   pub others : (m : ℕ) → Contains (numbers old) m → (m ≡ n) ⊎ Contains (numbers new) m
   others m i = elim (in_either m h.front (n ∷ h.back) (transport (λ xs. m ∈ xs) h.before (contains_in m (numbers old) i))) [
-      inl a ↦ inr (back (in_left m h.front h.back a))
+    | inl a ↦ inr (back (in_left m h.front h.back a))
     | inr b ↦ elim b [ inl e ↦ inl e | inr d ↦ inr (back (in_right m h.front h.back d)) ]
   ]
     where

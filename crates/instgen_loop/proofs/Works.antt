@@ -65,8 +65,7 @@ module _ {S I C : Type 0} (old new : Run S I C) (goes : Goes old new) (entries :
   pub entries_grow : (more : List Entry) × (entries_in new.entries.bank (items new) ≡ entries_in old.entries.bank (items old) ++ more)
   entries_grow =
       let (more, q) = goes.entries in
-      let f = new.entries.bank in
-      (
+      let f = new.entries.bank in (
         entries_in f more,
         ap (entries_in f) q ∙ map_append (λ (x : Item). record { clause = clause_at f x.0; origin = origin_of x.1 }) (items old) more
             ∙ ap (λ (ys : List Entry). ys ++ entries_in f more) (entries_stay old.entries.bank f goes.bank (items old) (λ x i. all_in (λ (x : Item). IsClauseOf old.entries.bank x.0) (items old) entries.ids x i)),
@@ -86,11 +85,11 @@ module _ {S I C : Type 0} (old new : Run S I C) (goes : Goes old new) (entries :
       let (more, q) = entries_grow in
       let es = entries_in old.entries.bank (items old) in
       let whole : (E : List Entry) (P : List ℕ) → es ++ more ≡ E → old.selection.places ≡ P → IsWorked E P (held_of new) i j × IsWorked E P (held_of new) j i =
-          λ E P e p. transport (λ (x : List Entry). IsWorked x P (held_of new) i j × IsWorked x P (held_of new) j i) e
-          (transport (λ (x : List ℕ). IsWorked (es ++ more) x (held_of new) i j × IsWorked (es ++ more) x (held_of new) j i) p (
-            pair_stays_worked es more old.selection.places old.selection.places (held_of old) (held_of new) i j held_grow (omega (arith, length_entries)) (omega (arith, length_entries)) refl refl there,
-            pair_stays_worked es more old.selection.places old.selection.places (held_of old) (held_of new) j i held_grow (omega (arith, length_entries)) (omega (arith, length_entries)) refl refl back,
-          )) in
+      λ E P e p. transport (λ (x : List Entry). IsWorked x P (held_of new) i j × IsWorked x P (held_of new) j i) e
+      (transport (λ (x : List ℕ). IsWorked (es ++ more) x (held_of new) i j × IsWorked (es ++ more) x (held_of new) j i) p (
+        pair_stays_worked es more old.selection.places old.selection.places (held_of old) (held_of new) i j held_grow (omega (arith, length_entries)) (omega (arith, length_entries)) refl refl there,
+        pair_stays_worked es more old.selection.places old.selection.places (held_of old) (held_of new) j i held_grow (omega (arith, length_entries)) (omega (arith, length_entries)) refl refl back,
+      )) in
       whole (entries_in new.entries.bank (items new)) new.selection.places (sym q) (sym (same_places goes.selection))
 
   side_in : (es more : List Entry) (places : List ℕ) (held later : List Held) (s : Substitution) (i j : ℕ) → All (Contains later) held → i ≤ length es → j ≤ length es
@@ -133,9 +132,12 @@ goes_on a b c g h = record {
   bank = extends_trans a.entries.bank b.entries.bank c.entries.bank g.bank h.bank;
   entries = let (x, p) = g.entries in let (y, q) = h.entries in (x ++ y, q ∙ ap (λ zs. zs ++ y) p ∙ simp append_assoc);
   held = let (x, p) = g.held in let (y, q) = h.held in (x ++ y, q ∙ ap (λ zs. zs ++ y) p ∙ simp append_assoc);
-  waits = let (x, k, p) = g.waits in let (y, l, q) = h.waits in (x + y, omega arith,
-      q ∙ ap₂ (λ zs n. zs ++ after n y) p (let e : length (items b) ≡ length (items a) + x = omega arith in e) ∙ join (numbers a.queue.items) (after (length (items a)) x) (after (length (items a) + x) y)
-      ∙ ap (λ zs. numbers a.queue.items ++ zs) (sym (after_more (length (items a)) x y)));
+  waits = let (x, k, p) = g.waits in let (y, l, q) = h.waits in (
+    x + y,
+    omega arith,
+    q ∙ ap₂ (λ zs n. zs ++ after n y) p (let e : length (items b) ≡ length (items a) + x = omega arith in e) ∙ join (numbers a.queue.items) (after (length (items a)) x) (after (length (items a) + x) y)
+        ∙ ap (λ zs. numbers a.queue.items ++ zs) (sym (after_more (length (items a)) x y)),
+  );
   selection = h.selection ∙ g.selection;
   valuation = h.valuation ∙ g.valuation;
   literals = let (x, p) = g.literals in let (y, q) = h.literals in (x ++ y, q ∙ ap (λ zs. zs ++ y) p ∙ simp append_assoc);
@@ -165,8 +167,7 @@ pub selected_within : {S I C : Type 0} (r : Run S I C) (n a : ℕ) → AreEntrie
 selected_within r n a entries h =
     let f = r.entries.bank in
     let i = contains_in h.item (items r) (at_number_contains (items r) n h.item h.item_at) in
-    let j = contains_in h.literal h.item.0 (at_number_contains h.item.0 h.place h.literal h.literal_at) in
-    (
+    let j = contains_in h.literal h.item.0 (at_number_contains h.item.0 h.place h.literal h.literal_at) in (
       transport (λ x. x < length f.trees) (sym h.atom) (all_in (λ (l : Signed ℕ). l.atom < length f.trees) h.item.0 (all_in (λ (x : Item). IsClauseOf f x.0) (items r) entries.ids h.item i) h.literal j),
       transport (λ x. IsAtom (tree_at f x)) (sym h.atom) (all_in (λ (l : Signed ℕ). IsAtom (tree_at f l.atom)) h.item.0 (all_in (λ (x : Item). All (λ l. IsAtom (tree_at f l.atom)) x.0) (items r) entries.atoms h.item i) h.literal j),
     )

@@ -7,3 +7,5 @@ pub mod Running
 pub mod Tended
 pub mod Solves
 pub mod Outcomes
+pub mod Choosing
+pub mod Settling

@@ -13,6 +13,7 @@ pub mod infer;
 pub mod laws;
 pub mod outcome;
 pub mod queue;
+pub mod reselect;
 pub mod selection;
 pub mod settle;
 pub mod state;

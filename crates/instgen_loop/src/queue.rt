@@ -21,8 +21,8 @@ pub struct Partners<I: PartnerIndex> {
     pub negative: I,
 }
 
-// Whether the selected literal of entry `n` is positive.
-fn is_positive<S: Solver, I: PartnerIndex>(run: &Run<S, I>, n: usize) -> bool
+/// Whether the selected literal of entry `n` is positive.
+pub fn is_positive<S: Solver, I: PartnerIndex>(run: &Run<S, I>, n: usize) -> bool
     requires safe { IsSafe S.atoms I.pairs I.fits run.now }
     requires within { (0 < n) × (n ≤ length run.now.selection.places) }
     ensures { IsSigned run.now n result }

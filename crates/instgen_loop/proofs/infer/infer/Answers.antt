@@ -71,7 +71,7 @@ returns-clause-worked g c = λ s resolved.
     side_by_cover r1 new (of_side s c.args.side) c.args.from c.args.partner c.len-len.result m.item r2.entries.bank c.in_ok-conclusion.conclusion m.item_at
     (clause_of_placed r1 new c.args.from m.item (goes_on r1 r2 new later c.in_ok-append_uncovered.ensures.goes) c.in_ok-size.ensures.safe.entries m.item_at) long
     (m.made s (subst (λ (bs : List Binding). IsResolvedBy r1.entries.bank bs s) (sym c.in_ok-size.ensures.bindings)
-        (substitutions_stay run.entries.bank r1.entries.bank run.bindings.entries s c.in_ok-size.ensures.goes.bank c.requires.unified.bindings resolved)))
+    (substitutions_stay run.entries.bank r1.entries.bank run.bindings.entries s c.in_ok-size.ensures.goes.bank c.requires.unified.bindings resolved)))
     c.in_ok-append_uncovered.ensures.covered
 
 pub returns-then-not-fits-clause-running : goal.returns-then-not-fits-clause-running
@@ -97,7 +97,7 @@ returns-clause-running g c = λ may bot cs budget v h.
     let (entry, here, same) = c.clause_of.ensures in
     let (m, q) = may_read run r1 c.args.side c.args.from c.args.partner c.in_ok-size.ensures.reads c.in_ok-size.ensures.bindings c.requires.unified.bindings c.requires.safe.entries may in
     let later : IsUnified r1.entries.bank r1.bindings.entries =
-        subst (IsUnified r1.entries.bank) (sym c.in_ok-size.ensures.bindings) (unified_stays run.entries.bank r1.entries.bank run.bindings.entries c.in_ok-size.ensures.goes.bank c.requires.unified) in
+    subst (IsUnified r1.entries.bank) (sym c.in_ok-size.ensures.bindings) (unified_stays run.entries.bank r1.entries.bank run.bindings.entries c.in_ok-size.ensures.goes.bank c.requires.unified) in
     let (n, p) = may_read r1 r2 c.args.side c.args.from c.args.partner c.in_ok-conclusion.ensures.reads c.in_ok-conclusion.ensures.bindings later.bindings c.in_ok-size.ensures.safe.entries m in
     let cut = size_concluded r1 c.args.side c.args.from c.args.partner c.in_ok-size.size m item at sized in
     running_inferred S.atoms S.added r2 c.append_uncovered.new.run c.args.side c.args.from c.args.partner c.in_ok-size.size c.place_of.result c.place_of-2.result c.len-len.result c.in_ok-conclusion.conclusion entry n
@@ -108,7 +108,7 @@ returns-clause-running g c = λ may bot cs budget v h.
     (λ k e. fits_some r1.left c.in_ok-size.size k (c.fits.ensures.yes (search rules)) (sym c.in_ok-conclusion.ensures.left ∙ e))
     bot cs budget v
     (running_read S.atoms S.added r1 r2 c.in_ok-conclusion.ensures.reads c.in_ok-size.ensures.safe.entries bot cs budget v
-        (running_read S.atoms S.added run r1 c.in_ok-size.ensures.reads c.requires.safe.entries bot cs budget v h))
+    (running_read S.atoms S.added run r1 c.in_ok-size.ensures.reads c.requires.safe.entries bot cs budget v h))
   where
     fits_some : (o : Option ℕ) (size k : ℕ) → IfSome o (λ n. size ≤ n) → o ≡ Some k → size ≤ k
     fits_some o size k h e = subst (λ x. IfSome x (λ n. size ≤ n)) e h

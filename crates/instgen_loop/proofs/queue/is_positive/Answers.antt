@@ -11,5 +11,3 @@ literal_at-requires g c =
     let (l, here) = literal_of run.entries.clauses.entries run.selection.places c.requires.safe.placed c.args.n c.place_of-place.result item c.place_of-place.ensures at in
     let q : item.0 ≡ c.as_slice.result.now = same ∙ sym c.as_slice.ensures in
     place_positive c.as_slice.result.now c.place_of-place.result l (ap (λ (xs : List _). at_number xs c.place_of-place.result) (sym q) ∙ here)
-
-

@@ -31,10 +31,10 @@ returns-clause-safe g c =
           let n = c.len-number.result in
           let m : length later.clauses.entries ≡ length es + 1 = ap length pushed ∙ length-append es (item ∷ []) in
           let q : numbers c.put.new.self.items ≡ numbers old.queue.items ++ (length es + 1) ∷ [] =
-              ap (λ (w : Waiting_list). numbers w.items) c.in_ok-put.ensures.ok ∙ map_append (λ (x : Waiting). x.0) old.queue.items ((n + 1, c.args.size) ∷ [])
-              ∙ ap (λ k. numbers old.queue.items ++ (k + 1) ∷ []) c.len-number.ensures.len in
+          ap (λ (w : Waiting_list). numbers w.items) c.in_ok-put.ensures.ok ∙ map_append (λ (x : Waiting). x.0) old.queue.items ((n + 1, c.args.size) ∷ [])
+          ∙ ap (λ k. numbers old.queue.items ++ (k + 1) ∷ []) c.len-number.ensures.len in
           subst (All (λ k. k ≤ length later.clauses.entries)) (sym q) (subst (λ k. All (λ j. j ≤ k) (numbers old.queue.items ++ (length es + 1) ∷ [])) (sym m)
-              (waiting_pushed (numbers old.queue.items) (length es) (length es + 1) refl c.requires.safe.waiting));
+          (waiting_pushed (numbers old.queue.items) (length es) (length es + 1) refl c.requires.safe.waiting));
       within = let m : length later.clauses.entries ≡ length es + 1 = ap length pushed ∙ length-append es (item ∷ []) in omega (arith, c.requires.safe.within);
       placed = λ i l. subst (λ (xs : List Item). IsLiteralPlace xs old.selection.places i) (sym pushed) (place_kept es (item ∷ []) old.selection.places i (c.requires.safe.placed i l));
     }
@@ -47,8 +47,8 @@ returns-clause-linked g c = λ bot h.
     let pushed = c.in_ok-push_entry.ensures.pushed in
     let add = c.in_ok-add_entry.ensures in
     let same : clauses_in later.bank later.clauses.entries ≡ clauses_in old.entries.bank old.entries.clauses.entries ++ clause_at old.entries.bank c.args.clause ∷ [] =
-        ap (λ (f : Forest). clauses_in f later.clauses.entries) bank ∙ ap (clauses_in c.add_entry.new.bank) pushed
-        ∙ clauses_pushed old.entries.bank c.add_entry.new.bank add.extends old.entries.clauses.entries c.args.clause c.args.origin c.requires.safe.entries c.requires.whole.ids in
+    ap (λ (f : Forest). clauses_in f later.clauses.entries) bank ∙ ap (clauses_in c.add_entry.new.bank) pushed
+    ∙ clauses_pushed old.entries.bank c.add_entry.new.bank add.extends old.entries.clauses.entries c.args.clause c.args.origin c.requires.safe.entries c.requires.whole.ids in
     subst (IsLinked later.bank c.add_entry.new.ground (g.S.Solver.atoms c.add_entry.new.ground.solver) (g.S.Solver.added c.add_entry.new.ground.solver) bot) (sym same)
     (subst (λ (f : Forest). IsLinked f c.add_entry.new.ground (g.S.Solver.atoms c.add_entry.new.ground.solver) (g.S.Solver.added c.add_entry.new.ground.solver) bot (clauses_in old.entries.bank old.entries.clauses.entries ++ clause_at old.entries.bank c.args.clause ∷ [])) (sym bank)
     (add.linked bot (clauses_in old.entries.bank old.entries.clauses.entries) h))

@@ -27,7 +27,7 @@ pub infer_where_proper-requires-clause-unified : goal.infer_where_proper-require
 infer_where_proper-requires-clause-unified g c =
     let old = c.args.run.now in
     let kinds : AreOfOneKind (tree_at old.entries.bank c.selected_atom-a.result) (tree_at old.entries.bank c.selected_atom-b.result) =
-        inl ((selected_within old c.args.i c.selected_atom-a.result c.requires.safe.entries c.selected_atom-a.ensures).1, (selected_within old c.args.j c.selected_atom-b.result c.requires.safe.entries c.selected_atom-b.ensures).1) in
+    inl ((selected_within old c.args.i c.selected_atom-a.result c.requires.safe.entries c.selected_atom-a.ensures).1, (selected_within old c.args.j c.selected_atom-b.result c.requires.safe.entries c.selected_atom-b.ensures).1) in
     let (s, resolved, general) = c.in_ok-unify.ensures.yes (search rules) in
     record {
       bindings = c.in_ok-unify.ensures.bindings (search rules);
@@ -46,7 +46,7 @@ infer_where_proper-requires-2-clause-unified g c =
     let old = c.args.run.now in
     let mid = c.infer_where_proper.new.run in
     let kinds : AreOfOneKind (tree_at old.entries.bank c.selected_atom-a.result) (tree_at old.entries.bank c.selected_atom-b.result) =
-        inl ((selected_within old c.args.i c.selected_atom-a.result c.requires.safe.entries c.selected_atom-a.ensures).1, (selected_within old c.args.j c.selected_atom-b.result c.requires.safe.entries c.selected_atom-b.ensures).1) in
+    inl ((selected_within old c.args.i c.selected_atom-a.result c.requires.safe.entries c.selected_atom-a.ensures).1, (selected_within old c.args.j c.selected_atom-b.result c.requires.safe.entries c.selected_atom-b.ensures).1) in
     let (s, resolved, general) = c.in_ok-unify.ensures.yes (search rules) in
     let first : IsUnified old.entries.bank c.unify.new.self.entries = record {
       bindings = c.in_ok-unify.ensures.bindings (search rules);
@@ -84,7 +84,7 @@ returns-clause-worked g c =
     let first = tree_stays old same (goes_rebound old c.unify.new.self) entries c.args.i t (c.selected_atom-a.result, c.selected_atom-a.ensures, refl) in
     let second = tree_stays old same (goes_rebound old c.unify.new.self) entries c.args.j u (c.selected_atom-b.result, c.selected_atom-b.ensures, refl) in
     let resolved_later : IsResolvedBy mid.entries.bank mid.bindings.entries s =
-        subst (λ (bs : List Binding). IsResolvedBy mid.entries.bank bs s) (sym one.bindings) (substitutions_stay old.entries.bank mid.entries.bank es s one.goes.bank (c.in_ok-unify.ensures.bindings (search rules)) resolved) in
+    subst (λ (bs : List Binding). IsResolvedBy mid.entries.bank bs s) (sym one.bindings) (substitutions_stay old.entries.bank mid.entries.bank es s one.goes.bank (c.in_ok-unify.ensures.bindings (search rules)) resolved) in
     let short : length mid.selection.places ≤ length (items mid) = one.safe.within in
     let places : length mid.selection.places ≡ length old.selection.places = ap length (same_places one.goes.selection) in
     worked_after same mid new c.args.i c.args.j t u s one.goes two.goes entries later (omega (arith, c.requires.first.1)) (omega (arith, c.requires.second.1)) general first second
@@ -110,10 +110,10 @@ returns-clause-running g c = λ o bot cs budget v h.
     let second = selected_stays old same rebound entries c.args.j b c.selected_atom-b.ensures in
     let here = opposite_stays old same rebound c.args.i c.args.j o in
     let resolved_later : IsResolvedBy mid.entries.bank mid.bindings.entries s =
-        subst (λ (bs : List Binding). IsResolvedBy mid.entries.bank bs s) (sym one.bindings) (substitutions_stay old.entries.bank mid.entries.bank c.unify.new.self.entries s one.goes.bank (c.in_ok-unify.ensures.bindings (search rules)) resolved) in
+    subst (λ (bs : List Binding). IsResolvedBy mid.entries.bank bs s) (sym one.bindings) (substitutions_stay old.entries.bank mid.entries.bank c.unify.new.self.entries s one.goes.bank (c.in_ok-unify.ensures.bindings (search rules)) resolved) in
     let left : tree_at mid.entries.bank a ≡ tree_at old.entries.bank a = one.goes.bank.trees.1 a (selected_within old c.args.i a entries c.selected_atom-a.ensures).0 in
     let right : tree_at mid.entries.bank b ≡ tree_at old.entries.bank b = one.goes.bank.trees.1 b (selected_within old c.args.j b entries c.selected_atom-b.ensures).0 in
     two.running (paired_right mid c.args.i c.args.j a b s (opposite_swapped mid c.args.i c.args.j (opposite_stays same mid one.goes c.args.i c.args.j here))
-        (selected_stays same mid one.goes entries c.args.i a first) (selected_stays same mid one.goes entries c.args.j b second) resolved_later
-        (subst (λ x. IsMostGeneral s x (tree_at mid.entries.bank b)) (sym left) (subst (λ y. IsMostGeneral s (tree_at old.entries.bank a) y) (sym right) general)))
+    (selected_stays same mid one.goes entries c.args.i a first) (selected_stays same mid one.goes entries c.args.j b second) resolved_later
+    (subst (λ x. IsMostGeneral s x (tree_at mid.entries.bank b)) (sym left) (subst (λ y. IsMostGeneral s (tree_at old.entries.bank a) y) (sym right) general)))
     bot cs budget v (one.running (paired_left same c.args.i c.args.j a b s here first second resolved general) bot cs budget v (running_rebound S.atoms S.added old c.unify.new.self bot cs budget v h))

@@ -29,10 +29,10 @@ loop-cursor-preserved g c =
     let inv = c.loop-cursor.invariant in
     let w = c.in_ok-work_pair-in-Some.ensures in
     let within : (p : Pair) → index.to_come partners c.in_ok-cursor.cursor p → p.1 ≤ length (items c.loop-cursor.run) =
-        λ p k.
-            let h = (c.requires.stored p (c.in_ok-cursor.ensures.asked.stored p k)).1 in
-            let q : length c.loop-cursor.run.selection.places ≡ length c.args.run.now.selection.places = ap length (same_places inv.goes.selection) in
-            omega (arith, inv.safe.within) in
+    λ p k.
+    let h = (c.requires.stored p (c.in_ok-cursor.ensures.asked.stored p k)).1 in
+    let q : length c.loop-cursor.run.selection.places ≡ length c.args.run.now.selection.places = ap length (same_places inv.goes.selection) in
+    omega (arith, inv.safe.within) in
     record {
       safe = w.safe;
       goes = goes_on c.args.run.now c.loop-cursor.run c.work_pair.new.run inv.goes w.goes;
