@@ -13,3 +13,4 @@ pub mod Waiting
 pub mod Tending
 pub mod UnderWay
 pub mod Withdrawn
+pub mod Flipped

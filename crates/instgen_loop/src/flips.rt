@@ -1,7 +1,6 @@
 // What a solve changes: the atoms whose values are others than before.
 ghost use Rattle.std.specs.Prelude.{◌<◌, ◌≤◌, All, length, map, slice_get, Some, ◌≡◌, IfOk};
-ghost use Rattle.std.specs.List.Sorted.{IsStrictlyIncreasing};
-ghost use Rattle.term_bank.specs.Forest.{tree_at};
+ghost use Rattle.term_bank.specs.Forest.{AreIds, tree_at};
 ghost use Rattle.prop_logic.specs.Valuation.{AreChanges};
 ghost use Rattle.ground_abs.specs.Abstracts.{AreAtomsIn, atoms_in};
 ghost use Rattle.engine_laws.specs.Valuations.{AreFlips};
@@ -56,7 +55,8 @@ pub fn flips_between(
     requires old { length old.now ≤ length abstraction.now.ids }
     requires new { length new.now ≤ length abstraction.now.ids }
     ensures numbers { IfOk result (λ f. AreChanges old.now new.now f.numbers.items) }
-    ensures rising { IfOk result (λ f. IsStrictlyIncreasing f.numbers.items) }
+    ensures below { IfOk result (λ f. All (λ n. n < length abstraction.now.ids) f.numbers.items) }
+    ensures ids { IfOk result (λ f. AreIds _bank.now f.atoms) }
     ensures flips { IfOk result (λ f. AreFlips (atoms_in _bank.now abstraction.now.ids) old.now new.now (map (tree_at _bank.now) f.atoms)) }
 {
     let numbers = changes(alloc, old, new)?;
