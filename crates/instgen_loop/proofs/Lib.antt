@@ -6,8 +6,9 @@ pub mod Grown
 pub mod Selected
 pub mod Works
 pub mod Inferred
-pub mod Counted
 pub mod Runs
+pub mod Counted
+pub mod Bounded
 pub mod Opposites
 pub mod Waiting
 pub mod Tending

@@ -27,9 +27,7 @@ use Rattle.inst_calculus.specs.Abstraction.{AreAbstracted, AreGroundAtoms}
 use Rattle.inst_calculus.proofs.Items.{same_item, at_number_within}
 use Rattle.engine_laws.proofs.WorkedPairs.{placed_before}
 use Rattle.engine_laws.proofs.Bits.{grown}
-use Rattle.inst_machine.proofs.EntryBound.{entries_are_bounded}
-use Rattle.inst_logic.specs.WellFormed.{AreFormedClauses}
-use Rattle.instgen_loop.specs.Running.{IsRunningFor, IsSolvedFor, KeepsTruth, most_entries}
+use Rattle.instgen_loop.specs.Running.{IsRunningFor, IsSolvedFor, KeepsTruth}
 use Rattle.inst_machine.proofs.Prolonged.{replay_goes_on, left_after}
 use Rattle.engine_laws.proofs.ConclusionSteps.{concludes as concludes_at, step}
 use Rattle.term_bank.specs.Forest.{Forest, Extends, AreIds, IsClauseOf, clause_at, tree_at}
@@ -55,7 +53,6 @@ use Rattle.term_bank.proofs.Growth.{map_extends}
 use Rattle.term_bank.proofs.Clauses.{clause_extends}
 use Rattle.instgen_loop.proofs.Grown.{clauses_kept, entries_stay}
 use Rattle.instgen_loop.proofs.Links.{atoms_grow}
-use Rattle.instgen_loop.proofs.Counted.{entries_counted, appended_by_size}
 use Rattle.instgen_loop.proofs.Selected.{same_places}
 use Rattle.inst_calculus.proofs.InstanceSizes.{canonical_size}
 use Rattle.instgen_loop.proofs.Inferred.{same_clauses, length_at}
@@ -372,18 +369,6 @@ running_inferred atoms added old new side from partner size place other len d it
     (transport (λ cs. IsCovered cs (clause_at f l.item.0) (concluded old side from partner m)) (same_clauses f (items old)) covered)
     (sym (ap canonical_form made ∙ canonical_of_canonical (concluded old side from partner m)))))
     (λ k e light. let le = fits k e in (omega arith, le)) bot cs budget v h
-
--- there are no more entries than can be
-pub entries_bounded : {S I C : Type 0} (atoms : S → ℕ) (added : S → List (List (Signed ℕ))) (r : Run S I C) (cs : List TreeClause) (budget : ℕ) → AreFormedClauses cs
-    → IsRunningFor atoms added r cs budget → length (items r) ≤ most_entries cs budget
-entries_bounded atoms added r cs budget formed (bot, v, b, h) = go r.left refl
-  where
-    count : length (entries_of r) ≡ length (items r)
-    count = length_map (λ (x : Item). record { clause = clause_at r.entries.bank x.0; origin = origin_of x.1 }) (items r)
-
-    go : (o : Option ℕ) → r.left ≡ o → length (items r) ≤ most_entries cs budget
-    go None e = let l = entries_are_bounded bot cs formed (h.free e) (map (event_in r.entries.bank) r.journal) (state_of r v b) h.replays in let c = count in omega arith
-    go (Some k) e = let l = entries_counted bot cs (map (event_in r.entries.bank) r.journal) (state_of r v b) h.replays in let n = appended_by_size bot cs (map (event_in r.entries.bank) r.journal) (state_of r v b) h.replays in let m = h.left k e in let c = count in omega arith
 
 -- a solve, and then work under its valuation
 pub solved_on : {S I C : Type 0} (atoms : S → ℕ) (added : S → List (List (Signed ℕ))) (old mid new : Run S I C) (cs : List TreeClause) (budget : ℕ) → KeepsTruth atoms added old mid → KeepsRunning atoms added mid new

@@ -4,6 +4,7 @@
 //! or the budget is spent.
 #![tactic(auto)]
 
+pub mod bounds;
 pub mod cycle;
 pub mod entries;
 pub mod event;
