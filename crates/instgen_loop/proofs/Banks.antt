@@ -1,9 +1,6 @@
 -- What a grown bank keeps.
-use Rattle.std.proofs.Common.{◌≡◌, ℕ, zero, suc, ◌+◌, ◌<◌, List, [], ◌∷◌, ◌++◌, refl, sym, ap, ap₂, subst, map, take, get_or, length, arith, add-one, All}
-use Rattle.std.proofs.lemmas.List.Elements.{All-head, All-tail, All-push}
-use Rattle.inst_logic.specs.declared.signed.Signed.{Signed}
-use Rattle.inst_logic.specs.Tree.{Tree}
-use Rattle.term_bank.specs.Forest.{Forest, tree_at, clause_at, AreIds, IsClauseOf, Extends}
+use Rattle.std.proofs.Common.{◌≡◌, ℕ, zero, suc, ◌+◌, ◌<◌, List, [], ◌∷◌, ◌++◌, refl, sym, ap, subst, take, get_or, length, arith, add-one, All}
+use Rattle.std.proofs.lemmas.List.Elements.{All-push}
 
 take_more : {X : Type 0} (xs : List X) (i : ℕ) (d : X) → i < length xs → take (suc i) xs ≡ take i xs ++ get_or xs i d ∷ []
 take_more [] i d l = absurd (omega arith)

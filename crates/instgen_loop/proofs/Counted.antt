@@ -1,8 +1,7 @@
 -- How many entries a run has: those of its clauses, and those that inferences appended, each of which has a size.
-use Rattle.std.proofs.Common.{◌≡◌, ℕ, suc, ◌+◌, ◌<◌, ◌≤◌, List, [], ◌∷◌, ◌++◌, inl, inr, refl, sym, ap, ◌∙◌, subst as transport, map, filter, length, length-append, arith, Some}
+use Rattle.std.proofs.Common.{◌≡◌, ℕ, suc, ◌+◌, ◌<◌, ◌≤◌, List, [], ◌∷◌, ◌++◌, inl, inr, refl, sym, ap, ◌∙◌, subst as transport, map, filter, length, length-append, arith}
 use Rattle.std.proofs.lemmas.List.Elements.{filter-append}
 use Rattle.inst_logic.specs.declared.symbol.Sym.{Sym}
-use Rattle.inst_logic.specs.Derivations.{at_number}
 use Rattle.inst_logic.specs.Measure.{clause_size}
 use Rattle.inst_logic.specs.Clauses.{TreeClause}
 use Rattle.inst_calculus.specs.Entries.{Origin, input, inst, Entry}
@@ -10,30 +9,30 @@ use Rattle.inst_calculus.specs.Conclusions.{IsGiven}
 use Rattle.inst_calculus.proofs.Membership.{◌∈◌}
 use Rattle.inst_calculus.proofs.Distinct.{map_append}
 use Rattle.cert_format.proofs.Numbers.{in_slice_get}
-use Rattle.inst_machine.specs.Machine.{State, Event, solved, inferred, IsStep, solve, append, infer, IsRun, ended, next}
-use Rattle.inst_machine.specs.Replay.{Replays, is_appended, appended_origins, inferred_origins}
+use Rattle.inst_machine.specs.Machine.{State, Event, IsStep, solve, append, infer, IsRun, ended, next}
+use Rattle.inst_machine.specs.Replay.{Replays, is_appended, appended_origins}
 use Rattle.inst_machine.specs.Budget.{appended_size, appended_sizes}
 use Rattle.inst_machine.proofs.BySize.{conclusion_has_size, first_count}
-use Rattle.inst_machine.proofs.Origins.{entries_are_given, origins_in_order}
+use Rattle.inst_machine.proofs.Origins.{entries_are_given}
 
 -- so many entries, and those that were appended, bound the entries
-abbrev AreCounted : ℕ → List Entry → Type 0
-AreCounted n es = length es ≤ n + length (appended_origins es)
+abbrev AreFew : ℕ → List Entry → Type 0
+AreFew n es = length es ≤ n + length (appended_origins es)
 
 origins_push : (es : List Entry) (e : Entry) → appended_origins (es ++ e ∷ []) ≡ appended_origins es ++ filter is_appended (e.origin ∷ [])
 origins_push es e = ap (filter is_appended) (map_append (λ (x : Entry). x.origin) es (e ∷ [])) ∙ filter-append is_appended (map (λ (x : Entry). x.origin) es) (e.origin ∷ [])
 
-step_counts : (bot : Sym) (n : ℕ) (s t : State) (e : Event) → IsStep bot s e t → AreCounted n s.entries → AreCounted n t.entries
-step_counts bot n s t e (solve c q d) h = transport (λ (u : State). AreCounted n u.entries) (sym q) h
+step_counts : (bot : Sym) (n : ℕ) (s t : State) (e : Event) → IsStep bot s e t → AreFew n s.entries → AreFew n t.entries
+step_counts bot n s t e (solve c q d) h = transport (λ (u : State). AreFew n u.entries) (sym q) h
 step_counts bot n s t e (append {clause = clause} (infer {from = from} {place = place} {partner = partner} {other = other} k) q) h =
-    transport (λ (u : State). AreCounted n u.entries) (sym q)
+    transport (λ (u : State). AreFew n u.entries) (sym q)
     (let o : Origin = inst from place partner other in
     let last : Entry = record { clause = clause; origin = o } in
     let p : length (appended_origins (s.entries ++ last ∷ [])) ≡ length (appended_origins s.entries) + 1 = ap length (origins_push s.entries last) ∙ length-append (appended_origins s.entries) (o ∷ []) in
     let l = length-append s.entries (last ∷ []) in
     omega arith)
 
-run_counts : (bot : Sym) (n : ℕ) (s : State) (journal : List Event) (t : State) → IsRun bot s journal t → AreCounted n s.entries → AreCounted n t.entries
+run_counts : (bot : Sym) (n : ℕ) (s : State) (journal : List Event) (t : State) → IsRun bot s journal t → AreFew n s.entries → AreFew n t.entries
 run_counts bot n s journal t ended h = h
 run_counts bot n s journal t (next {t = u} {e = e} {es = rest} p r) h = run_counts bot n u rest t r (step_counts bot n s u e p h)
 

@@ -1,5 +1,5 @@
 -- What the index of first literals finds.
-use Rattle.std.proofs.Common.{◌≡◌, ◌↔◌, ℕ, zero, suc, ◌<◌, ◌-◌, List, [], ◌∷◌, ◌⊎◌, inl, inr, refl, sym, ap, ap₂, ◌∙◌, subst as transport, map, length, arith, All, Any, Contains, Bool, true, false, Option, Some, None, IsTrue, nat_eq, Decides, ◌||◌}
+use Rattle.std.proofs.Common.{◌≡◌, ◌↔◌, ℕ, zero, suc, ◌<◌, ◌-◌, List, [], ◌∷◌, ◌⊎◌, inl, inr, refl, sym, ap, ◌∙◌, subst as transport, length, arith, All, Contains, Bool, true, false, Some, IsTrue, nat_eq, Decides, ◌||◌}
 use Rattle.std.specs.Prelude.{slice_get}
 use Rattle.std.specs.Option.{is_some}
 use Rattle.std.specs.Map.{lookup, keys_of}
@@ -10,8 +10,8 @@ use Rattle.std.proofs.lemmas.Bool.Decides.{Decides-eqb, not_from_Decides}
 use Rattle.inst_logic.specs.declared.signed.Signed.{Signed}
 use Rattle.inst_logic.specs.Tree.{Tree, var}
 use Rattle.inst_logic.specs.Signed.{IsTautology}
-use Rattle.inst_logic.specs.Substitution.{Matches, subst, subst_literal}
-use Rattle.inst_logic.specs.Clauses.{TreeClause, instance, Subsumes, IsCanonical, AreVariants, canonical_form}
+use Rattle.inst_logic.specs.Substitution.{Matches, subst_literal}
+use Rattle.inst_logic.specs.Clauses.{TreeClause, instance, Subsumes, IsCanonical, canonical_form}
 use Rattle.inst_logic.specs.Derivations.{at_number}
 use Rattle.inst_calculus.specs.Saturation.{IsCovered, tautology, variant, shorter}
 use Rattle.inst_calculus.proofs.Membership.{◌∈◌, contains_in, in_contains, in_all, all_in, in_map, from_map}
@@ -20,8 +20,8 @@ use Rattle.inst_logic.proofs.ShownLaws.{slice_get_contains}
 use Rattle.cert_format.proofs.Numbers.{in_slice_get}
 use Rattle.term_bank.specs.Forest.{Forest, AreDistinct, IsClauseOf, clause_at, tree_at}
 use Rattle.clause_form.proofs.Ids.{same_ids}
-use Rattle.term_index.specs.Pairs.{Pair, Gives, IsOver}
-use Rattle.inst_calculus.proofs.Items.{same_item, slice_get_below}
+use Rattle.term_index.specs.Pairs.{Pair, Gives}
+use Rattle.inst_calculus.proofs.Items.{same_item}
 use Rattle.saturation_cert.specs.declared.member.Origin.{Origin}
 use Rattle.instgen_loop.specs.Clauses.{Item, AreEntries, AreFirsts, IsShorterPart, HasShorterPart, clauses_in}
 

@@ -1,12 +1,11 @@
 -- One more entry in the map and in the index of first literals.
-use Rattle.std.proofs.Common.{◌≡◌, ◌↔◌, ℕ, zero, suc, ◌+◌, ◌<◌, ◌≤◌, List, [], ◌∷◌, ◌++◌, ◌⊎◌, inl, inr, refl, sym, ap, ◌∙◌, subst as transport, length, length-append, arith, Contains, Bool, true, false, cond, Option, Some, None, Decides}
+use Rattle.std.proofs.Common.{◌≡◌, ℕ, zero, suc, ◌+◌, ◌≤◌, List, [], ◌∷◌, ◌++◌, ◌⊎◌, inl, inr, refl, sym, ap, ◌∙◌, length, length-append, arith, Contains, Bool, true, false, cond, Some, None, Decides}
 use Rattle.std.specs.Prelude.{slice_get}
 use Rattle.std.specs.Cmp.Lexicographic.{pointwise, pointwise_decides}
-use Rattle.std.proofs.lemmas.Bool.Decides.{not_from_Decides}
 use Rattle.indexmap.specs.IndexMap.{insert_entry}
 use Rattle.inst_logic.specs.declared.signed.Signed.{Signed}
 use Rattle.inst_logic.proofs.ShownLaws.{slice_get_append}
-use Rattle.inst_calculus.proofs.Membership.{◌∈◌, contains_in, in_contains}
+use Rattle.inst_calculus.proofs.Membership.{◌∈◌}
 use Rattle.engine_laws.proofs.Lists.{slice_get_last}
 use Rattle.inst_calculus.proofs.Items.{same_item}
 use Rattle.term_index.specs.Pairs.{Pair, Adds}

@@ -1,8 +1,7 @@
 -- What stays of the entries as the bank and the entries grow.
-use Rattle.std.proofs.Common.{◌≡◌, ℕ, suc, ◌≤◌, ◌<◌, List, [], ◌∷◌, ◌++◌, ◌+◌, inl, inr, refl, sym, ap, ap₂, ◌∙◌, subst as transport, map, length, length-append, arith, All}
+use Rattle.std.proofs.Common.{◌≡◌, ℕ, ◌≤◌, List, [], ◌∷◌, ◌++◌, ◌+◌, inl, inr, refl, sym, ap, ap₂, ◌∙◌, subst as transport, arith, All}
 use Rattle.std.proofs.lemmas.List.Elements.{All-push}
 use Rattle.inst_logic.specs.declared.signed.Signed.{Signed}
-use Rattle.inst_logic.specs.Tree.{Tree}
 use Rattle.inst_logic.specs.WellFormed.{IsAtom}
 use Rattle.inst_logic.specs.Clauses.{TreeClause, IsCanonical}
 use Rattle.inst_logic.proofs.ShownLaws.{slice_get_append}

@@ -1,5 +1,5 @@
 -- Conclusions as entries.
-use Rattle.std.proofs.Common.{◌≡◌, ℕ, ◌<◌, ◌≤◌, List, [], ◌∷◌, ◌++◌, ◌⊎◌, inl, inr, refl, sym, ap, ◌∙◌, subst as transport, map, length, length-append, append-nil, suc, ◌+◌, arith, All, Contains, Option, Some}
+use Rattle.std.proofs.Common.{◌≡◌, ℕ, List, [], ◌∷◌, ◌++◌, inl, inr, refl, sym, ap, ◌∙◌, subst as transport, length, length-append, append-nil, ◌+◌, arith, All, Contains, Option, Some}
 use Rattle.inst_logic.specs.declared.signed.Signed.{Signed}
 use Rattle.inst_logic.specs.Tree.{Tree}
 use Rattle.inst_logic.specs.Derivations.{at_number}
@@ -15,14 +15,13 @@ use Rattle.inst_logic.proofs.ShownLaws.{at_number_contains, at_number_append}
 use Rattle.inst_calculus.specs.Entries.{Entry, entry_clauses}
 use Rattle.inst_calculus.specs.Models.{Member}
 use Rattle.inst_calculus.specs.Saturation.{IsCovered, variant}
-use Rattle.inst_calculus.proofs.Membership.{◌∈◌, contains_in, in_contains, in_all, all_in, in_map, in_right, passes, all_pass}
+use Rattle.inst_calculus.proofs.Membership.{◌∈◌, contains_in, in_contains, in_all, all_in, in_map, in_right, passes}
 use Rattle.inst_calculus.proofs.Instances.{instance_is_formed}
 use Rattle.inst_calculus.proofs.Unify.{most_general_formed}
 use Rattle.inst_calculus.proofs.CanonicalForms.{canonical_of_canonical}
 use Rattle.inst_calculus.proofs.CoveredInstances.{covered_when_renamed}
 use Rattle.term_bank.specs.Forest.{Forest, AreFormed, IsClauseOf, IsClauseAt, IsAt, Extends, clause_at, tree_at}
 use Rattle.unify_core.specs.Sides.{Binding, IsResolvedBy, of_side}
-use Rattle.unify_core.specs.Chains.{AreBindings}
 use Rattle.unify_core.specs.declared.side.Side.{Side}
 use Rattle.unify_core.specs.declared.side.Side.TheVariants.{Left, Right}
 use Rattle.unify_core.proofs.Stays.{bindings_stay, substitutions_stay}
@@ -32,15 +31,13 @@ use Rattle.saturation_cert.specs.Values.{origin_of}
 use Rattle.saturation_cert.specs.declared.member.Origin.{Origin}
 use Rattle.inst_calculus.proofs.Distinct.{length_map}
 use Rattle.engine_laws.specs.Places.{IsPlaced}
-use Rattle.engine_laws.specs.Pairs.{Held}
 use Rattle.inst_calculus.specs.Abstraction.{AreGroundAtoms, grounding}
 use Rattle.inst_calculus.proofs.Items.{same_item}
 use Rattle.term_index.specs.Pairs.{Pair}
-use Rattle.instgen_select.specs.Queues.{numbers, Waiting}
-use Rattle.ground_abs.specs.Abstracts.{atoms_in, AreAtomsIn, IsNote, AreNotesIn}
+use Rattle.ground_abs.specs.Abstracts.{IsNote, AreNotesIn}
 use Rattle.instgen_loop.specs.declared.state.Run.{Run}
 use Rattle.instgen_loop.specs.Clauses.{Item, AreEntries, entries_in, clauses_in}
-use Rattle.instgen_loop.specs.Loops.{items, IsSafe, IsUnified, IsSideWorkedIn, IsSideWorked, held_of, Goes, Appends}
+use Rattle.instgen_loop.specs.Loops.{items, IsSafe, IsUnified, IsSideWorked, Goes, Appends}
 use Rattle.term_bank.proofs.Growth.{at_extends, ids_extend, map_extends}
 use Rattle.term_bank.proofs.Clauses.{clause_extends}
 use Rattle.instgen_loop.proofs.Grown.{entries_kept}

@@ -1,5 +1,5 @@
 -- Selected literals of opposite signs, and the invariant of a run whose bindings change.
-use Rattle.std.proofs.Common.{◌≡◌, ◌≢◌, ℕ, ◌<◌, ◌≤◌, List, refl, sym, ap, ◌∙◌, subst as transport, Bool, true, false, not, length, arith, Contains}
+use Rattle.std.proofs.Common.{◌≡◌, ◌≢◌, ℕ, List, sym, ap, ◌∙◌, subst as transport, Bool}
 use Rattle.inst_logic.specs.declared.signed.Signed.{Signed}
 use Rattle.inst_logic.specs.Derivations.{at_number}
 use Rattle.inst_logic.specs.Tree.{Tree}
@@ -7,17 +7,16 @@ use Rattle.inst_logic.specs.Unifiers.{Sided, IsMostGeneral, IsProper}
 use Rattle.inst_calculus.proofs.Choice.{swapped_general}
 use Rattle.engine_laws.proofs.Lists.{at_number_front}
 use Rattle.inst_calculus.proofs.Items.{same_item, at_number_within}
-use Rattle.term_bank.specs.Forest.{Forest, tree_at}
+use Rattle.term_bank.specs.Forest.{tree_at}
 use Rattle.unify_core.specs.Bindings.{Bound_list}
-use Rattle.unify_core.specs.Sides.{Binding, IsResolvedBy, of_side, of_pair}
+use Rattle.unify_core.specs.Sides.{IsResolvedBy, of_side, of_pair}
 use Rattle.unify_core.specs.declared.side.Side.{Side}
 use Rattle.unify_core.specs.declared.side.Side.TheVariants.{Left, Right}
 use Rattle.instgen_select.specs.Queues.{Waiting_list}
 use Rattle.instgen_loop.proofs.Selected.{same_places}
 use Rattle.instgen_loop.specs.declared.state.Run.{Run}
-use Rattle.instgen_loop.specs.Clauses.{AreEntries}
 use Rattle.instgen_loop.specs.Loops.{items, Goes, IsSelectedLiteral, IsSelectedAtom, IsSigned}
-use Rattle.instgen_loop.specs.Running.{IsRunning, KeepsRunning, AreOpposite, ArePaired, from_side}
+use Rattle.instgen_loop.specs.Running.{KeepsRunning, AreOpposite, ArePaired, from_side}
 
 pub literal_stays : {S I C : Type 0} (old new : Run S I C) → Goes old new → (n : ℕ) (l : Signed ℕ) → IsSelectedLiteral old n l → IsSelectedLiteral new n l
 literal_stays old new goes n l h = record {

@@ -1,6 +1,6 @@
 -- The invariant of a run as it reads, holds back and appends.
-use Rattle.std.proofs.Common.{◌≡◌, ℕ, zero, suc, ◌+◌, ◌-◌, ◌^◌, ◌<◌, ◌≤◌, List, [], ◌∷◌, ◌++◌, refl, sym, ap, ap₂, ◌∙◌, subst as transport, map, length, length-append, min, arith, Bool, true, All, Contains, Option, Some, None, ◌⊎◌, inl, inr}
-use Rattle.std.specs.Prelude.{slice_get, option_map}
+use Rattle.std.proofs.Common.{◌≡◌, ℕ, suc, ◌-◌, ◌^◌, ◌<◌, ◌≤◌, List, [], ◌∷◌, ◌++◌, refl, sym, ap, ap₂, ◌∙◌, subst as transport, map, length, length-append, min, arith, true, All, Option, Some, None, inl, inr}
+use Rattle.std.specs.Prelude.{option_map}
 use Rattle.std.proofs.lemmas.List.Elements.{All-push}
 use Rattle.inst_logic.specs.declared.symbol.Sym.{Sym}
 use Rattle.inst_logic.specs.declared.signed.Signed.{Signed}
@@ -24,16 +24,14 @@ use Rattle.engine_laws.specs.Places.{IsPlaced, ArePlacedTrue}
 use Rattle.engine_laws.specs.Pairs.{Held, IsHeldBack}
 use Rattle.engine_laws.specs.Valuations.{IsValuationOf}
 use Rattle.inst_calculus.specs.Abstraction.{AreAbstracted, AreGroundAtoms}
-use Rattle.inst_calculus.proofs.Items.{same_item, at_number_within}
-use Rattle.engine_laws.proofs.WorkedPairs.{placed_before}
+use Rattle.inst_calculus.proofs.Items.{same_item}
 use Rattle.engine_laws.proofs.Bits.{grown}
 use Rattle.instgen_loop.specs.Running.{IsRunningFor, IsSolvedFor, KeepsTruth}
 use Rattle.inst_machine.proofs.Prolonged.{replay_goes_on, left_after}
 use Rattle.engine_laws.proofs.ConclusionSteps.{concludes as concludes_at, step}
-use Rattle.term_bank.specs.Forest.{Forest, Extends, AreIds, IsClauseOf, clause_at, tree_at}
-use Rattle.ground_abs.specs.Abstracts.{atoms_in, AreAtomsIn, Grows}
+use Rattle.term_bank.specs.Forest.{Forest, Extends, IsClauseOf, clause_at, tree_at}
+use Rattle.ground_abs.specs.Abstracts.{atoms_in}
 use Rattle.saturation_cert.specs.Values.{origin_of}
-use Rattle.saturation_cert.specs.declared.member.Origin.{Origin}
 use Rattle.saturation_cert.specs.declared.member.Origin.TheVariants.{Inst}
 use Rattle.unify_core.specs.Sides.{Binding, IsResolvedBy, of_side}
 use Rattle.unify_core.specs.Chains.{AreBindings}
@@ -46,9 +44,8 @@ use Rattle.instgen_loop.specs.declared.event.Event.TheVariants.{Solved, Inferred
 use Rattle.instgen_loop.specs.declared.state.Run.{Run}
 use Rattle.instgen_loop.specs.declared.state.Held as code
 use Rattle.instgen_loop.specs.Clauses.{Item, AreEntries, entries_in, clauses_in}
-use Rattle.instgen_loop.specs.Grounds.{IsLinked}
-use Rattle.instgen_loop.specs.Loops.{items, held_in, held_of, Appends, KeepsLink, Goes, IsSelectedLiteral, IsSigned}
-use Rattle.instgen_loop.specs.Running.{event_in, IsEventOf, entries_of, state_of, IsRunning, KeepsRunning, Reads, Holds, from_side, AreOpposite, ArePaired, MayInfer}
+use Rattle.instgen_loop.specs.Loops.{items, held_in, held_of, Appends, KeepsLink, IsSelectedLiteral}
+use Rattle.instgen_loop.specs.Running.{event_in, IsEventOf, entries_of, state_of, IsRunning, KeepsRunning, Reads, Holds, from_side, MayInfer}
 use Rattle.term_bank.proofs.Growth.{map_extends}
 use Rattle.term_bank.proofs.Clauses.{clause_extends}
 use Rattle.instgen_loop.proofs.Grown.{clauses_kept, entries_stay}

@@ -1,6 +1,6 @@
 -- What is worked and stored is tended.
-use Rattle.std.proofs.Common.{◌≡◌, ◌⊎◌, ◌↔◌, inl, inr, ℕ, zero, suc, ◌+◌, ◌<◌, ◌≤◌, List, [], ◌∷◌, ◌++◌, refl, sym, ap, ◌∙◌, subst as transport, map, length, arith, All, Contains, Bool, true, false, Some}
-use Rattle.std.specs.Prelude.{slice_get, OnOk, Result, Ok, Err}
+use Rattle.std.proofs.Common.{◌≡◌, ◌⊎◌, ◌↔◌, inl, inr, ℕ, zero, suc, ◌+◌, ◌<◌, ◌≤◌, List, [], ◌∷◌, ◌++◌, refl, sym, ap, ◌∙◌, subst as transport, length, arith, All, Contains, Bool, true, false, Some}
+use Rattle.std.specs.Prelude.{OnOk, Result, Ok, Err}
 use Rattle.inst_logic.specs.declared.signed.Signed.{Signed}
 use Rattle.inst_logic.specs.Tree.{Tree}
 use Rattle.inst_logic.specs.Derivations.{at_number}
@@ -9,7 +9,7 @@ use Rattle.inst_calculus.specs.Models.{Member}
 use Rattle.inst_calculus.proofs.Membership.{◌∈◌, contains_in, in_contains, in_all, all_in, in_left, in_right, in_either, in_map, from_map}
 use Rattle.inst_calculus.proofs.Distinct.{length_map}
 use Rattle.engine_laws.specs.Places.{IsPlaced}
-use Rattle.engine_laws.specs.Pairs.{IsWorked, AreWorked}
+use Rattle.engine_laws.specs.Pairs.{IsWorked}
 use Rattle.inst_calculus.proofs.Items.{same_item}
 use Rattle.engine_laws.proofs.WorkedPairs.{one_more_is_worked}
 use Rattle.term_bank.specs.Forest.{Forest, tree_at, clause_at}
@@ -18,8 +18,8 @@ use Rattle.instgen_select.specs.Queues.{Waiting_list, numbers, Waiting}
 use Rattle.saturation_cert.specs.Values.{origin_of}
 use Rattle.instgen_loop.specs.declared.state.Run.{Run}
 use Rattle.instgen_loop.specs.declared.queue.Partners.{Partners}
-use Rattle.instgen_loop.specs.Clauses.{Item, AreEntries, entries_in}
-use Rattle.instgen_loop.specs.Loops.{items, held_of, Goes, after, IsSelectedLiteral, IsSigned, IsPairWorked, ArePartners, IsStored, IsSelectedAtom}
+use Rattle.instgen_loop.specs.Clauses.{Item, AreEntries}
+use Rattle.instgen_loop.specs.Loops.{items, held_of, Goes, after, IsSigned, IsPairWorked, ArePartners, IsStored, IsSelectedAtom}
 use Rattle.instgen_loop.specs.Running.{entries_of}
 use Rattle.instgen_loop.specs.Tended.{AreTended, AreOnce, indexed_of}
 use Rattle.instgen_loop.proofs.Works.{at_number_map, pair_stays}

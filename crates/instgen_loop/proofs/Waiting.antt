@@ -1,5 +1,5 @@
 -- Picks from the queue, and partners as a run goes on.
-use Rattle.std.proofs.Common.{◌≡◌, ◌⊎◌, inl, inr, map, ℕ, ◌+◌, ◌<◌, ◌≤◌, List, [], ◌∷◌, ◌++◌, refl, sym, ap, ◌∙◌, subst as transport, length, length-append, append-nil, arith, All, Contains, Bool, true, false}
+use Rattle.std.proofs.Common.{◌≡◌, ◌⊎◌, inl, inr, map, ℕ, ◌+◌, ◌<◌, ◌≤◌, List, ◌∷◌, ◌++◌, refl, sym, ap, ◌∙◌, subst as transport, length, length-append, append-nil, arith, All, Contains, Bool, true, false}
 use Rattle.inst_calculus.proofs.Membership.{◌∈◌, contains_in, in_contains, in_all, all_in, in_left, in_right, in_either}
 use Rattle.inst_calculus.proofs.Distinct.{map_append}
 use Rattle.term_bank.specs.Forest.{Forest, Extends}
@@ -8,7 +8,7 @@ use Rattle.instgen_select.specs.Queues.{Waiting_list, Waiting, numbers, IsPicked
 use Rattle.instgen_loop.specs.declared.state.Run.{Run}
 use Rattle.instgen_loop.specs.declared.queue.Partners.{Partners}
 use Rattle.instgen_loop.specs.Clauses.{AreEntries}
-use Rattle.instgen_loop.specs.Loops.{items, IsSafe, IsSelectedAtom, IsStored, ArePartners, AreWaiting, Goes, IsSelectedLiteral, IsSigned, after}
+use Rattle.instgen_loop.specs.Loops.{items, IsSafe, IsStored, ArePartners, AreWaiting, Goes, IsSigned, after}
 use Rattle.instgen_loop.proofs.Works.{selected_stays}
 use Rattle.instgen_loop.proofs.Selected.{same_places}
 use Rattle.instgen_loop.proofs.Opposites.{signed_stays}

@@ -1,14 +1,14 @@
 -- Work on pairs, and what stays worked as a run goes on.
-use Rattle.std.proofs.Common.{◌≡◌, ◌≢◌, ℕ, zero, suc, ◌<◌, ◌≤◌, List, [], ◌∷◌, ◌++◌, ◌⊎◌, inl, inr, refl, sym, ap, ap₂, ◌∙◌, subst as transport, map, length, length-append, append-nil, append_assoc, ◌+◌, arith, All, Contains, Some}
+use Rattle.std.proofs.Common.{◌≡◌, ℕ, zero, suc, ◌<◌, ◌≤◌, List, [], ◌∷◌, ◌++◌, ◌⊎◌, inl, inr, refl, sym, ap, ap₂, ◌∙◌, subst as transport, map, length, append-nil, append_assoc, ◌+◌, arith, All, Contains, Some}
 use Rattle.std.specs.Prelude.{slice_get}
 use Rattle.inst_logic.specs.declared.signed.Signed.{Signed}
 use Rattle.inst_logic.specs.Tree.{Tree}
 use Rattle.inst_logic.specs.Derivations.{at_number}
-use Rattle.inst_logic.specs.Clauses.{TreeClause, instance}
+use Rattle.inst_logic.specs.Clauses.{instance}
 use Rattle.inst_logic.specs.Substitution.{Substitution, subst as apply}
 use Rattle.inst_logic.specs.WellFormed.{IsAtom}
 use Rattle.inst_logic.proofs.ShownLaws.{at_number_contains}
-use Rattle.inst_logic.specs.Unifiers.{Sided, IsUnifier, IsMostGeneral, IsProper}
+use Rattle.inst_logic.specs.Unifiers.{Sided, IsUnifier, IsMostGeneral}
 use Rattle.inst_calculus.specs.Entries.{Entry, entry_clauses}
 use Rattle.inst_calculus.specs.Models.{Member}
 use Rattle.inst_calculus.specs.Saturation.{IsCovered}
@@ -21,7 +21,7 @@ use Rattle.engine_laws.specs.Pairs.{Held, IsWorked}
 use Rattle.engine_laws.proofs.Lists.{at_number_front}
 use Rattle.inst_calculus.proofs.Items.{same_item, at_number_within}
 use Rattle.engine_laws.proofs.WorkedPairs.{placed_before, clauses_stay, worked_by_one, pair_stays_worked}
-use Rattle.term_bank.specs.Forest.{Forest, Extends, IsClauseOf, clause_at, tree_at}
+use Rattle.term_bank.specs.Forest.{Forest, IsClauseOf, clause_at, tree_at}
 use Rattle.term_index.specs.Pairs.{Pair, Gives, IsOver}
 use Rattle.instgen_loop.specs.declared.state.Run.{Run}
 use Rattle.instgen_loop.specs.declared.state.Held as code

@@ -3,7 +3,7 @@ use Rattle.std.specs.Prelude.{◌≡◌, ◌⊎◌, ℕ, zero, suc, ◌+◌, ◌
 use Rattle.inst_logic.specs.declared.symbol.Sym.{Sym}
 use Rattle.inst_logic.specs.declared.signed.Signed.{Signed}
 use Rattle.inst_logic.specs.Derivations.{at_number}
-use Rattle.inst_logic.specs.Clauses.{TreeClause, instance, canonical_form}
+use Rattle.inst_logic.specs.Clauses.{instance, canonical_form}
 use Rattle.inst_logic.specs.Substitution.{Substitution}
 use Rattle.inst_logic.specs.Unifiers.{Sided, IsProper, IsMostGeneral}
 use Rattle.inst_logic.specs.WellFormed.{IsAtom}

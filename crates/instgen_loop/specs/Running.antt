@@ -19,7 +19,7 @@ use Rattle.engine_laws.specs.Places.{ArePlacedTrue}
 use Rattle.engine_laws.specs.Pairs.{IsHeldBack}
 use Rattle.engine_laws.specs.Valuations.{IsValuationOf}
 use Rattle.term_bank.specs.Forest.{Forest, Extends, AreIds, tree_at, clause_at}
-use Rattle.unify_core.specs.Sides.{IsResolvedBy, of_side}
+use Rattle.unify_core.specs.Sides.{IsResolvedBy}
 use Rattle.unify_core.specs.declared.side.Side.{Side}
 use Rattle.unify_core.specs.declared.side.Side.TheVariants.{Left, Right}
 use Rattle.ground_abs.specs.Abstracts.{atoms_in}
@@ -28,7 +28,7 @@ use Rattle.saturation_cert.specs.declared.member.Origin.{Origin}
 use Rattle.instgen_loop.specs.declared.event.Event.{Event}
 use Rattle.instgen_loop.specs.declared.event.Event.TheVariants.{Solved, Inferred}
 use Rattle.instgen_loop.specs.declared.state.Run.{Run}
-use Rattle.instgen_loop.specs.Clauses.{Item, entries_in, clauses_in}
+use Rattle.instgen_loop.specs.Clauses.{entries_in, clauses_in}
 use Rattle.instgen_loop.specs.Grounds.{IsLinked}
 use Rattle.instgen_loop.specs.Loops.{items, held_of, Appends, IsSelectedLiteral}
 

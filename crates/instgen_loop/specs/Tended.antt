@@ -1,5 +1,5 @@
 -- Each entry waits or is indexed, and those that are indexed are worked.
-use Rattle.std.specs.Prelude.{◌≡◌, ◌<◌, ℕ, zero, suc, List, [], ◌∷◌, ◌++◌, map, length, All, Contains}
+use Rattle.std.specs.Prelude.{◌<◌, ℕ, List, [], ◌∷◌, ◌++◌, map, length, All, Contains}
 use Rattle.engine_laws.specs.Pairs.{AreWorked, AreQueuedOrIndexed}
 use Rattle.term_index.specs.Pairs.{Pair}
 use Rattle.instgen_select.specs.Queues.{numbers}

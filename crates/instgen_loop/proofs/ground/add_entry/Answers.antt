@@ -1,8 +1,7 @@
-use Rattle.std.proofs.Common.{◌≡◌, ◌+◌, ◌++◌, ◌∷◌, [], List, length, rules, arith, ap, sym, ◌∙◌, length-append, map, subst}
+use Rattle.std.proofs.Common.{◌≡◌, ◌+◌, ◌++◌, ◌∷◌, [], List, length, arith, ap, sym, ◌∙◌, length-append, subst}
 use Rattle.inst_logic.specs.declared.signed.Signed.{Signed}
-use Rattle.inst_logic.specs.Clauses.{TreeClause}
 use Rattle.term_bank.specs.Forest.{clause_at}
-use Rattle.inst_calculus.specs.Abstraction.{named_literal, abstract_literals, AreAbstracted}
+use Rattle.inst_calculus.specs.Abstraction.{abstract_literals, AreAbstracted}
 use Rattle.ground_abs.specs.Abstracts.{atoms_in}
 use Rattle.instgen_loop.proofs.Links.{one_more_linked}
 use Rattle.instgen_loop.proofs.ground.add_entry.Goals as goal

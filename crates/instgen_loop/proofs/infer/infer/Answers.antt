@@ -1,15 +1,14 @@
-use Rattle.std.proofs.Common.{◌≡◌, ◌<◌, ◌≤◌, ℕ, List, length, rules, arith, refl, sym, ap, ◌∙◌, subst, Some, true, false, Option, min, ◌^◌, ◌-◌}
+use Rattle.std.proofs.Common.{◌≡◌, ◌≤◌, ℕ, List, length, rules, arith, sym, ap, ◌∙◌, subst, Some, Option, min, ◌^◌, ◌-◌}
 use Rattle.std.specs.Prelude.{IfSome}
 use Rattle.inst_logic.proofs.ShownLaws.{at_number_append}
 use Rattle.unify_core.proofs.Stays.{substitutions_stay}
-use Rattle.inst_logic.specs.declared.signed.Signed.{Signed}
 use Rattle.inst_logic.specs.Derivations.{at_number}
-use Rattle.inst_logic.specs.Clauses.{instance, canonical_form}
+use Rattle.inst_logic.specs.Clauses.{canonical_form}
 use Rattle.term_bank.specs.Forest.{clause_at}
 use Rattle.unify_core.specs.Sides.{Binding, IsResolvedBy, of_side}
 use Rattle.inst_calculus.proofs.Items.{same_item}
 use Rattle.instgen_loop.specs.Clauses.{Item}
-use Rattle.instgen_loop.specs.Loops.{items, IsUnified, Goes}
+use Rattle.instgen_loop.specs.Loops.{items, IsUnified}
 use Rattle.instgen_loop.proofs.Selected.{literal_of, place_positive}
 use Rattle.instgen_loop.proofs.Works.{goes_on}
 use Rattle.instgen_loop.proofs.Inferred.{unified_stays, made_canonical, side_by_cover, clause_of_placed, length_at}

@@ -1,6 +1,5 @@
-use Rattle.std.proofs.Common.{◌≡◌, ◌++◌, append_assoc, ◌<◌, ◌≤◌, ℕ, ◌+◌, List, length, rules, arith, sym, ap, ◌∙◌, subst, All}
-use Rattle.inst_calculus.proofs.Distinct.{length_map}
-use Rattle.instgen_select.specs.Queues.{numbers, Waiting}
+use Rattle.std.proofs.Common.{◌≡◌, ◌++◌, append_assoc, ◌<◌, ◌≤◌, ℕ, List, length, arith, sym, ap, ◌∙◌, subst, All}
+use Rattle.instgen_select.specs.Queues.{numbers}
 use Rattle.instgen_loop.proofs.Selected.{same_places}
 use Rattle.instgen_loop.specs.Loops.{items}
 use Rattle.instgen_loop.proofs.Waiting.{taken, there, safe_picked, still_waiting, picked_waits, partners_picked, partners_stay, nothing_queued}

@@ -1,6 +1,5 @@
-use Rattle.std.proofs.Common.{◌≡◌, ◌≤◌, ◌+◌, ℕ, suc, List, ◌++◌, ◌∷◌, [], length, length-append, arith, refl, ap, sym, ◌∙◌, subst, All, add-one}
-use Rattle.inst_logic.specs.Clauses.{TreeClause}
-use Rattle.term_bank.specs.Forest.{Forest, clause_at, IsClauseOf}
+use Rattle.std.proofs.Common.{◌≡◌, ◌≤◌, ◌+◌, List, ◌++◌, ◌∷◌, [], length, length-append, arith, refl, ap, sym, ◌∙◌, subst, All}
+use Rattle.term_bank.specs.Forest.{Forest, clause_at}
 use Rattle.ground_abs.specs.Abstracts.{AreAtomsIn, AreNotesIn}
 use Rattle.instgen_select.specs.Queues.{numbers, Waiting, Waiting_list}
 use Rattle.inst_calculus.proofs.Distinct.{map_append}

@@ -1,10 +1,9 @@
-use Rattle.std.proofs.Common.{◌≡◌, ◌≤◌, ◌<◌, ℕ, length, ap, sym, ◌∙◌, subst, arith, rules, true, refl, inl, List, ◌⊎◌}
-use Rattle.inst_logic.specs.Unifiers.{Sided, IsMostGeneral}
+use Rattle.std.proofs.Common.{◌≡◌, ◌≤◌, length, ap, sym, subst, arith, rules, refl, inl, List}
+use Rattle.inst_logic.specs.Unifiers.{IsMostGeneral}
 use Rattle.term_bank.specs.Forest.{tree_at}
 use Rattle.unify_core.specs.Sides.{Binding, IsResolvedBy}
-use Rattle.unify_core.specs.Chains.{AreBindings}
-use Rattle.unify_core.specs.Terms.{AreTerms, AreOfOneKind}
-use Rattle.unify_core.proofs.Stays.{bindings_stay, substitutions_stay}
+use Rattle.unify_core.specs.Terms.{AreOfOneKind}
+use Rattle.unify_core.proofs.Stays.{substitutions_stay}
 use Rattle.instgen_loop.proofs.Selected.{same_places}
 use Rattle.instgen_loop.proofs.Inferred.{unified_stays}
 use Rattle.instgen_loop.specs.Loops.{items, IsUnified}

@@ -1,7 +1,7 @@
-use Rattle.std.proofs.Common.{◌≡◌, ◌≤◌, ◌<◌, ℕ, length, ap, sym, ◌∙◌, subst, arith, rules, List, Contains}
+use Rattle.std.proofs.Common.{◌≡◌, ◌≤◌, ℕ, length, ap, sym, subst, arith, List}
 use Rattle.term_index.specs.Pairs.{Pair}
 use Rattle.instgen_loop.proofs.Selected.{same_places}
-use Rattle.instgen_loop.specs.Loops.{items, IsStored}
+use Rattle.instgen_loop.specs.Loops.{items}
 use Rattle.instgen_loop.proofs.Works.{all_worked, done_on, goes_on}
 use Rattle.instgen_loop.proofs.Opposites.{opposite_stays}
 use Rattle.instgen_loop.proofs.work.work_with.Goals as goal
