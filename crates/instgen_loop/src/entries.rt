@@ -168,8 +168,8 @@ pub fn is_covered<I: PartnerIndex>(
     ensures new { IfOk result (λ r. r ≡ false → (e : Item) → Contains entries.now.clauses.entries e → ¬ (e.0 ≡ d.now)) }
     ensures covered { IfOk result (λ r. (c : TreeClause) → length c ≡ len → IsTrue r ↔ IsCovered (clauses_in entries.now.bank entries.now.clauses.entries) c (clause_at entries.now.bank d.now)) }
 {
-    // Beside the length stands the law that equal trees have equal ids.
-    let _ = entries.bank.len();
+    // So a variant, whose canonical form is equal, has an equal key.
+    entries.bank.distinct();
     if entries.has_empty {
         return Ok(true);
     }
