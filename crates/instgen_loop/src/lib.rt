@@ -17,6 +17,7 @@ pub mod queue;
 pub mod reselect;
 pub mod selection;
 pub mod settle;
+pub mod start;
 pub mod state;
 pub mod work;
 

@@ -1,0 +1,83 @@
+-- What a run begins with: the clauses of the problem and their axioms over its bank, and the first entries.
+use Rattle.std.specs.Prelude.{◌≡◌, ℕ, suc, ◌++◌, ◌∷◌, [], List, false, length, map, All, IsTrue}
+use Rattle.inst_logic.specs.declared.symbol.Sym.{Sym}
+use Rattle.inst_logic.specs.declared.signed.Signed.{Signed}
+use Rattle.inst_logic.specs.Clauses.{TreeClause}
+use Rattle.inst_logic.specs.Printing.{is_readable_name}
+use Rattle.inst_logic.specs.WellFormed.{is_constant}
+use Rattle.inst_calculus.specs.Abstraction.{IsBot}
+use Rattle.inst_calculus.specs.Axioms.{equality_axioms}
+use Rattle.inst_machine.specs.Machine.{IsFirst}
+use Rattle.term_bank.specs.Forest.{Forest, AreFormed, Extends, clause_at}
+use Rattle.term_index.specs.Pairs.{Pair}
+use Rattle.ground_abs.specs.Abstracts.{Grows}
+use Rattle.instgen_select.specs.Queues.{numbers}
+use Rattle.saturation_cert.specs.declared.member.Origin.{Origin}
+use Rattle.saturation_cert.specs.Wholes.{IsWholeClause}
+use Rattle.instgen_loop.specs.declared.start.Given.{Given}
+use Rattle.instgen_loop.specs.declared.state.Run.{Run}
+use Rattle.instgen_loop.specs.Clauses.{clauses_in}
+use Rattle.instgen_loop.specs.Grounds.{IsLinked}
+use Rattle.instgen_loop.specs.Loops.{items, after}
+use Rattle.instgen_loop.specs.Running.{entries_of}
+
+-- one more entry, which waits in the queue; the journal and the rest are as they were
+pub record MakesEntry {S I C : Type 0} (old new : Run S I C) (clause : List (Signed ℕ)) (origin : Origin) : Type 0 where
+  pub bank : Extends old.entries.bank new.entries.bank
+  pub entry : items new ≡ items old ++ (clause, origin) ∷ []
+  pub waits : numbers new.queue.items ≡ numbers old.queue.items ++ suc (length (items old)) ∷ []
+  pub valuation : new.ground.valuation ≡ old.ground.valuation
+  pub bot : new.ground.abstraction.bot ≡ old.ground.abstraction.bot
+  pub atoms : Grows old.ground.abstraction.ids new.ground.abstraction.ids
+  pub literals : (abstracted : List (Signed ℕ)) × (new.ground.literals ≡ old.ground.literals ++ abstracted ∷ [])
+  pub selection : new.selection ≡ old.selection
+  pub held : new.held.items ≡ old.held.items
+  pub journal : new.journal ≡ old.journal
+  pub left : new.left ≡ old.left
+  pub bindings : new.bindings ≡ old.bindings
+
+-- the ids are those of atoms of the bank, and stand for these clauses
+pub record AreGiven (f : Forest) (ids : List (List (Signed ℕ))) (cs : List TreeClause) : Type 0 where
+  pub whole : All (IsWholeClause f) ids
+  pub same : map (clause_at f) ids ≡ cs
+
+-- the bank may have grown, and the constant is the same
+pub record KeepsProblem {S I C : Type 0} (old new : Run S I C) : Type 0 where
+  pub bank : Extends old.entries.bank new.entries.bank
+  pub bot : new.ground.abstraction.bot ≡ old.ground.abstraction.bot
+
+-- the lists are those of the problem over the run's bank, and the run's constant is that of its clauses and can be printed
+pub record IsOfProblem {S I C : Type 0} (r : Run S I C) (g : Given) (clauses : List TreeClause) (names : List (List ℕ)) : Type 0 where
+  pub inputs : AreGiven r.entries.bank g.inputs clauses
+  pub named : g.names ≡ names
+  pub axioms : AreGiven r.entries.bank g.axioms (equality_axioms clauses)
+  pub bot : IsBot clauses r.ground.abstraction.bot
+  pub constant : IsTrue (is_constant r.ground.abstraction.bot)
+  pub readable : IsTrue (is_readable_name r.ground.abstraction.bot.name)
+
+-- nothing happened yet, and there are no entries
+pub record IsFresh {S I C : Type 0} (atoms : S → ℕ) (added : S → List (List (Signed ℕ))) (pairs : I → List Pair) (r : Run S I C) : Type 0 where
+  pub bank : AreFormed r.entries.bank
+  pub entries : items r ≡ []
+  pub first : pairs r.entries.first ≡ []
+  pub has_empty : r.entries.has_empty ≡ false
+  pub ids : r.ground.abstraction.ids ≡ []
+  pub notes : r.ground.abstraction.notes ≡ []
+  pub no_atoms : atoms r.ground.solver ≡ 0
+  pub none_added : added r.ground.solver ≡ []
+  pub literals : r.ground.literals ≡ []
+  pub valuation : r.ground.valuation ≡ []
+  pub selection : r.selection ≡ record { places = []; users = [] }
+  pub queue : r.queue.items ≡ []
+  pub held : r.held.items ≡ []
+  pub journal : r.journal ≡ []
+
+-- the entries are the first ones of the clauses, all of them wait, and nothing else happened yet
+pub record IsStarted {S I C : Type 0} (atoms : S → ℕ) (added : S → List (List (Signed ℕ))) (r : Run S I C) (cs : List TreeClause) : Type 0 where
+  pub first : IsFirst 1 cs [] (entries_of r)
+  pub linked : IsLinked r.entries.bank r.ground (atoms r.ground.solver) (added r.ground.solver) r.ground.abstraction.bot (clauses_in r.entries.bank (items r))
+  pub waits : numbers r.queue.items ≡ after 0 (length (items r))
+  pub valuation : r.ground.valuation ≡ []
+  pub selection : r.selection ≡ record { places = []; users = [] }
+  pub held : r.held.items ≡ []
+  pub journal : r.journal ≡ []
