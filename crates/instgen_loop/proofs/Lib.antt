@@ -15,3 +15,5 @@ pub mod Tending
 pub mod UnderWay
 pub mod Withdrawn
 pub mod Flipped
+pub mod Starting
+pub mod Started

@@ -1,8 +1,9 @@
 -- What a run begins with: the clauses of the problem and their axioms over its bank, and the first entries.
-use Rattle.std.specs.Prelude.{◌≡◌, ℕ, suc, ◌++◌, ◌∷◌, [], List, false, length, map, All, IsTrue}
+use Rattle.std.specs.Prelude.{◌≡◌, ℕ, suc, ◌++◌, ◌∷◌, [], List, false, length, map, All, IsTrue, IsFalse, Option, Some, None}
 use Rattle.inst_logic.specs.declared.symbol.Sym.{Sym}
 use Rattle.inst_logic.specs.declared.signed.Signed.{Signed}
 use Rattle.inst_logic.specs.Clauses.{TreeClause}
+use Rattle.inst_logic.specs.Measure.{is_function_free}
 use Rattle.inst_logic.specs.Printing.{is_readable_name}
 use Rattle.inst_logic.specs.WellFormed.{is_constant}
 use Rattle.inst_calculus.specs.Abstraction.{IsBot}
@@ -81,3 +82,8 @@ pub record IsStarted {S I C : Type 0} (atoms : S → ℕ) (added : S → List (L
   pub selection : r.selection ≡ record { places = []; users = [] }
   pub held : r.held.items ≡ []
   pub journal : r.journal ≡ []
+
+-- there is no budget where the clauses are function-free, and else all of it is left
+abbrev pub IsAllowed : List TreeClause → ℕ → Option ℕ → Type 0
+IsAllowed clauses budget None = IsTrue (is_function_free clauses)
+IsAllowed clauses budget (Some left) = (left ≡ budget) × IsFalse (is_function_free clauses)

@@ -7,6 +7,7 @@ ghost use Rattle.instgen_loop.specs.Loops.{IsSafe, items, ArePartners};
 ghost use Rattle.instgen_loop.specs.Selections.{AreUsers};
 ghost use Rattle.instgen_loop.specs.Tended.{AreTended};
 ghost use Rattle.instgen_loop.specs.Running.{IsRunningFor, IsSolvedFor};
+ghost use Rattle.instgen_loop.specs.Starting.{KeepsProblem};
 
 use crate::queue::{Partners, work_queue};
 use crate::settle::settle;
@@ -37,6 +38,7 @@ pub fn cycle<S: Solver, I: PartnerIndex>(
     ensures users { OnOk result (AreUsers run.new.ground.literals run.new.selection) }
     ensures running { OnOk result (IsRunningFor S.atoms S.added run.new (with_axioms _p.now.clauses) _budget) }
     ensures rests { IfOk result (λ r. IfNone r ((run.new.queue.items ≡ []) × (length run.new.selection.places ≡ length (items run.new)) × IsSolvedFor S.atoms S.added run.new (with_axioms _p.now.clauses) _budget)) }
+    ensures problem { OnOk result (KeepsProblem run.old run.new) }
     ensures refuted { IfOk result (λ r. IfSome r (λ d. Refutes (S.atoms run.new.ground.solver) (S.added run.new.ground.solver) [] [] d)) }
 {
     loop {

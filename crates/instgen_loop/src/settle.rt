@@ -6,6 +6,7 @@ ghost use Rattle.instgen_loop.specs.Loops.{IsSafe, items, ArePartners};
 ghost use Rattle.instgen_loop.specs.Selections.{AreUsers};
 ghost use Rattle.instgen_loop.specs.Tended.{AreTended};
 ghost use Rattle.instgen_loop.specs.Running.{IsRunningFor, KeepsTruth};
+ghost use Rattle.instgen_loop.specs.Starting.{KeepsProblem};
 
 use crate::queue::Partners;
 use crate::state::Run;
@@ -33,6 +34,7 @@ pub fn settle<S: Solver, I: PartnerIndex>(
     ensures placed { IfOk result (λ r. IfNone r (length _run.new.selection.places ≡ length (items _run.new))) }
     ensures solved { IfOk result (λ r. IfNone r (KeepsTruth S.atoms S.added _run.old _run.new)) }
     ensures running { OnOk result ((cs : List TreeClause) (budget : ℕ) → IsRunningFor S.atoms S.added _run.old cs budget → IsRunningFor S.atoms S.added _run.new cs budget) }
+    ensures problem { OnOk result (KeepsProblem _run.old _run.new) }
     ensures refuted { IfOk result (λ r. IfSome r (λ d. Refutes (S.atoms _run.new.ground.solver) (S.added _run.new.ground.solver) [] [] d)) }
 {
     Err(Memory)

@@ -115,6 +115,16 @@ fn copied_clause(alloc: Global, c: &IdClause) -> Result<IdClause, Memory>
     Ok(IdClause::from(Vec::from_slice(alloc, c.as_slice())?))
 }
 
+// The next number; want of memory past the last one.
+fn next_number(k: usize) -> Result<usize, Memory>
+    ensures { IfOk result (λ n. n ≡ k + 1) }
+{
+    match k.checked_add(1) {
+        Some(n) => Ok(n),
+        None => Err(Memory),
+    }
+}
+
 // Clause `k` becomes an entry, where it is no tautology and no variant of an entry.
 fn start_entry<S: Solver, I: PartnerIndex>(
     alloc: Global,
@@ -130,6 +140,8 @@ fn start_entry<S: Solver, I: PartnerIndex>(
     ensures left { OnOk result (run.new.left ≡ run.old.left) }
     ensures started { OnOk result ((cs : List TreeClause) → k ≡ length cs + 1 → IsStarted S.atoms S.added run.old cs → IsStarted S.atoms S.added run.new (cs ++ clause_at run.old.entries.bank clause.now ∷ [])) }
 {
+    // So a variant has an equal key.
+    run.entries.bank.distinct();
     if tautology(clause) {
         return Ok(());
     }
@@ -158,7 +170,7 @@ fn start_entries<S: Solver, I: PartnerIndex>(
 {
     let mut k = before;
     for c in clauses.as_slice() {
-        k = k.checked_add(1).ok_or(Memory)?;
+        k = next_number(k)?;
         start_entry(alloc, run, c, k)?;
     }
     Ok(())
