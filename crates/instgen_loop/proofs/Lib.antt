@@ -15,3 +15,6 @@ pub mod Tending
 pub mod UnderWay
 pub mod Withdrawn
 pub mod Flipped
+pub mod Solved
+pub mod Settled
+pub mod Grounded
