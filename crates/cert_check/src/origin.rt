@@ -5,7 +5,7 @@ ghost use Rattle.inst_logic.specs.Derivations.{at_number};
 ghost use Rattle.term_bank.specs.Forest.{AreFormed, Extends, IsClauseOf, clause_at};
 ghost use Rattle.cert_check.specs.Inputs.{GivesInput};
 
-use crate::difference::{distinct_trees, same_clause};
+use crate::difference::same_clause;
 use clause_form::canonical;
 use inst_logic::Memory;
 use std::alloc::Global;
@@ -42,7 +42,7 @@ fn is_canonical_form(
     ensures same { IfOk result (λ r. IsTrue r ↔ (clause_at bank.old clause.now ≡ canonical_form (clause_at bank.old from.now))) }
 {
     let d = canonical(alloc, bank, from)?;
-    distinct_trees(bank);
+    bank.distinct();
     Ok(same_clause(&d, clause))
 }
 

@@ -6,7 +6,7 @@ ghost use Rattle.inst_calculus.specs.Axioms.{with_axioms};
 ghost use Rattle.cert_format.specs.Validity.{IsRightGround, IsValidRefutation, RefutationPasses};
 ghost use Rattle.inst_logic.specs.WellFormed.{is_constant};
 ghost use Rattle.inst_calculus.specs.Steps.{EndsEmpty};
-ghost use Rattle.cert_check.specs.Bases.{IsValidBase};
+ghost use Rattle.cert_format.specs.Validity.{IsValidBase};
 ghost use Rattle.cert_check.specs.Firsts.{IsFirstWrongOf};
 ghost use Rattle.cert_check.specs.Stages.{IsRightStepNumber};
 ghost use Rattle.saturation_cert.specs.Values.{refutation_of};
