@@ -62,7 +62,7 @@ pub fn append<S: Solver, I: PartnerIndex>(
     let number = run.entries.clauses.len() + 1;
     add_entry(&mut run.entries.bank, &mut run.ground, &clause)?;
     run.queue.put(number, size)?;
-    run.journal.push(Event::Inferred(origin))?;
+    run.journal.push(Event::Inferred(origin.clone()?))?;
     push_entry(&mut run.entries, clause, origin)?;
     Ok(())
 }
