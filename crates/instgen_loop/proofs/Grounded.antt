@@ -106,6 +106,8 @@ module _ {S I C : Type 0} (atoms : S → ℕ) (added : S → List (List (Signed 
     left = h.left;
     light = h.light;
     free = h.free;
+    budgeted = h.budgeted;
+    none_held = h.none_held;
     held = h.held;
   }
 

@@ -18,3 +18,4 @@ pub mod Flipped
 pub mod Solved
 pub mod Settled
 pub mod Grounded
+pub mod Saturated

@@ -105,6 +105,8 @@ running_solved atoms added old new flips solves holds bot cs budget v b h =
       left = λ k e. transport (λ (x : Entries _ _). IsLeft budget (entries_in x.bank x.clauses.entries) k) (sym solves.entries) (h.left k (sym solves.left ∙ e));
       light = h.light;
       free = λ e. h.free (sym solves.left ∙ e);
+      budgeted = λ k e. h.budgeted k (sym solves.left ∙ e);
+      none_held = λ e. solves.held ∙ h.none_held (sym solves.left ∙ e);
       held = λ k e. transport (λ (x : Entries _ _). All (IsHeldBack (entries_in x.bank x.clauses.entries) k) (held_in new.held.items)) (sym solves.entries)
           (transport (λ hs. All (IsHeldBack (entries_of old) k) (held_in hs)) (sym solves.held) (h.held k (sym solves.left ∙ e)));
     }
