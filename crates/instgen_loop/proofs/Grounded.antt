@@ -29,7 +29,7 @@ use Rattle.instgen_loop.specs.declared.state.Run.{Run}
 use Rattle.instgen_loop.specs.declared.queue.Partners.{Partners}
 use Rattle.instgen_loop.specs.Clauses.{Item, clauses_in}
 use Rattle.instgen_loop.specs.Loops.{items, IsStored, IsSigned}
-use Rattle.instgen_loop.specs.Running.{IsRunning, IsRunningFor, KeepsTruth, entries_of}
+use Rattle.instgen_loop.specs.Running.{IsRunning, IsRunningFor, IsRunningWith, KeepsTruth, entries_of}
 use Rattle.instgen_loop.specs.Settling.{IsOrderly, IsGrounded, IsSomeRun}
 use Rattle.instgen_loop.specs.Solves.{IsTruePlace, Solves}
 use Rattle.instgen_loop.proofs.Inferred.{same_clauses}
@@ -114,6 +114,9 @@ module _ {S I C : Type 0} (atoms : S → ℕ) (added : S → List (List (Signed 
   pub asked_some : (cs : List TreeClause) (budget : ℕ) → IsRunningFor atoms added r cs budget → IsRunningFor atoms added asked cs budget
   asked_some cs budget (bot, v, b, h) = (bot, v, b, asked_running bot cs budget v b h)
 
+  pub asked_with : (bot : Sym) (cs : List TreeClause) (budget : ℕ) → IsRunningWith atoms added r bot cs budget → IsRunningWith atoms added asked bot cs budget
+  asked_with bot cs budget (v, b, h) = (v, b, asked_running bot cs budget v b h)
+
   pub asked_grounded : IsSomeRun atoms added r → IsGrounded added asked
   asked_grounded (cs, budget, h) = run_grounded atoms added asked (cs, budget, asked_some cs budget h)
 
@@ -157,6 +160,9 @@ module _ {S I C : Type 0} (atoms : S → ℕ) (added : S → List (List (Signed 
 
     pub some_kept : (cs : List TreeClause) (budget : ℕ) → IsRunningFor atoms added r cs budget → IsRunningFor atoms added new cs budget
     some_kept cs budget (bot, v, b, h) = let (w, k) = truth_kept bot cs budget v b h in (bot, w, true, k)
+
+    pub with_kept : (bot : Sym) (cs : List TreeClause) (budget : ℕ) → IsRunningWith atoms added r bot cs budget → IsRunningWith atoms added new bot cs budget
+    with_kept bot cs budget (v, b, h) = let (w, k) = truth_kept bot cs budget v b h in (w, true, k)
 
 -- Answers without assumptions
 

@@ -19,3 +19,4 @@ pub mod Solved
 pub mod Settled
 pub mod Grounded
 pub mod Saturated
+pub mod Kept

@@ -118,6 +118,10 @@ AppendsUncovered old new clause origin len size =
 abbrev pub IsRunningFor : {S I C : Type 0} → (S → ℕ) → (S → List (List (Signed ℕ))) → Run S I C → List TreeClause → ℕ → Type 0
 IsRunningFor atoms added r cs budget = (bot : Sym) × (v : List Tree) × (b : Bool) × IsRunning atoms added r bot cs budget v b
 
+-- the same with this constant
+abbrev pub IsRunningWith : {S I C : Type 0} → (S → ℕ) → (S → List (List (Signed ℕ))) → Run S I C → Sym → List TreeClause → ℕ → Type 0
+IsRunningWith atoms added r bot cs budget = (v : List Tree) × (b : Bool) × IsRunning atoms added r bot cs budget v b
+
 abbrev pub IsSolvedFor : {S I C : Type 0} → (S → ℕ) → (S → List (List (Signed ℕ))) → Run S I C → List TreeClause → ℕ → Type 0
 IsSolvedFor atoms added r cs budget = (bot : Sym) × (v : List Tree) × IsRunning atoms added r bot cs budget v true
 

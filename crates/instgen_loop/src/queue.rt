@@ -1,6 +1,7 @@
 // The work on the entries that wait.
 ghost use Rattle.std.specs.Prelude.{◌≡◌, ◌<◌, ◌≤◌, [], ◌⊎◌, ◌↔◌, ◌++◌, ℕ, List, true, false, length, All, Contains, IfOk, OnOk};
 ghost use Rattle.inst_logic.specs.declared.signed.Signed.{Signed};
+ghost use Rattle.term_bank.specs.Forest.{Extends};
 ghost use Rattle.instgen_select.specs.Queues.{numbers};
 ghost use Rattle.instgen_loop.specs.Loops.{IsSafe, Goes, items, ArePartners, AreWaiting, IsSigned, IsPairWorked};
 ghost use Rattle.instgen_loop.specs.Running.{KeepsRunning};
@@ -91,6 +92,7 @@ pub fn work_queue<S: Solver, I: PartnerIndex>(
     ensures partners { OnOk result (ArePartners I.pairs I.fits run.new partners.new) }
     ensures tended { OnOk result (AreTended I.pairs run.new partners.new) }
     ensures running { OnOk result (KeepsRunning S.atoms S.added run.old run.new) }
+    ensures bank { OnOk result (Extends run.old.entries.bank run.new.entries.bank) }
     ensures appended { IfOk result (λ r. r ≡ true → length (items run.old) < length (items run.new)) }
     ensures selection { OnOk result (run.new.selection ≡ run.old.selection) }
     ensures literals { OnOk result ((more : List (List (Signed ℕ))) × (run.new.ground.literals ≡ run.old.ground.literals ++ more)) }

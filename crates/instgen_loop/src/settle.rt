@@ -1,5 +1,6 @@
 // A solve, and what follows from it: entries whose selected literal became false choose another one and wait again.
 ghost use Rattle.std.specs.Prelude.{◌≡◌, ◌<◌, ◌≤◌, ◌+◌, ◌++◌, ◌∷◌, [], ℕ, List, length, slice_get, Some, All, IfOk, OnOk, IfNone, IfSome};
+ghost use Rattle.inst_logic.specs.declared.symbol.Sym.{Sym};
 ghost use Rattle.inst_logic.specs.Clauses.{TreeClause};
 ghost use Rattle.inst_logic.specs.Truth.{IsTrueClause};
 ghost use Rattle.prop_logic.specs.Literal.{AllAtomsBelow};
@@ -9,7 +10,7 @@ ghost use Rattle.instgen_loop.specs.Loops.{IsSafe, items, ArePartners};
 ghost use Rattle.instgen_loop.specs.Selections.{AreUsers};
 ghost use Rattle.instgen_loop.specs.Solves.{Solves};
 ghost use Rattle.instgen_loop.specs.Tended.{AreTended};
-ghost use Rattle.instgen_loop.specs.Running.{IsRunningFor, KeepsTruth};
+ghost use Rattle.instgen_loop.specs.Running.{IsRunningFor, IsRunningWith, KeepsTruth};
 ghost use Rattle.instgen_loop.specs.Choosing.{IsUnderWay, AreNumbersPlaced};
 ghost use Rattle.instgen_loop.specs.Settling.{IsOrderly, IsGrounded, IsSomeRun, Settles};
 
@@ -137,9 +138,11 @@ pub fn settle<S: Solver, I: PartnerIndex>(
     ensures tended { OnOk result (AreTended I.pairs run.new partners.new) }
     ensures users { OnOk result (AreUsers run.new.ground.literals run.new.selection) }
     ensures entries { OnOk result (items run.new ≡ items run.old) }
+    ensures bank { OnOk result (run.new.entries.bank ≡ run.old.entries.bank) }
     ensures placed { IfOk result (λ r. IfNone r (length run.new.selection.places ≡ length (items run.new))) }
     ensures solved { IfOk result (λ r. IfNone r (KeepsTruth S.atoms S.added run.old run.new)) }
     ensures running { OnOk result ((cs : List TreeClause) (budget : ℕ) → IsRunningFor S.atoms S.added run.old cs budget → IsRunningFor S.atoms S.added run.new cs budget) }
+    ensures kept { OnOk result ((bot : Sym) (cs : List TreeClause) (budget : ℕ) → IsRunningWith S.atoms S.added run.old bot cs budget → IsRunningWith S.atoms S.added run.new bot cs budget) }
     ensures refuted { IfOk result (λ r. IfSome r (λ d. Refutes (S.atoms run.new.ground.solver) (S.added run.new.ground.solver) [] [] d)) }
 {
     match run.ground.solver.solve(&[])? {

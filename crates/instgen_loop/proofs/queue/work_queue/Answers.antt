@@ -5,6 +5,7 @@ use Rattle.instgen_loop.specs.Loops.{items}
 use Rattle.instgen_loop.proofs.Waiting.{taken, there, safe_picked, still_waiting, picked_waits, partners_picked, partners_stay, nothing_queued}
 use Rattle.instgen_loop.proofs.Opposites.{running_requeued}
 use Rattle.instgen_loop.proofs.Tending.{tended_on, indexed_within, within, fewer_waits}
+use Rattle.term_bank.proofs.Growth.{extends_trans}
 use Rattle.instgen_loop.proofs.queue.work_queue.Goals as goal
 
 pub work_entry-requires-clause-safe : goal.work_entry-requires-clause-safe
@@ -75,6 +76,7 @@ loop-n-preserved g c =
       tended = tended_on index.pairs c.loop-n.run new c.pick.new.self c.loop-n.partners c.store.new.partners c.in-Some.n picked w.goes inv.safe.entries inv.safe.waiting
           (λ m i. within c.loop-n.run.selection.places (items c.loop-n.run) m (indexed_within index.pairs index.fits c.loop-n.run c.loop-n.partners inv.partners m i) inv.safe.within) w.worked c.in_ok-store-in-Some.ensures.stored inv.tended;
       running = λ bot cs budget v h. w.running bot cs budget v (running_requeued g.S.Solver.atoms g.S.Solver.added c.loop-n.run c.pick.new.self bot cs budget v (inv.running bot cs budget v h));
+      bank = extends_trans c.args.run.now.entries.bank c.loop-n.run.entries.bank new.entries.bank inv.bank w.goes.bank;
       selection = w.goes.selection ∙ inv.selection;
       literals = let (x, p) = inv.literals in let (y, q) = w.goes.literals in (x ++ y, q ∙ ap (λ zs. zs ++ y) p ∙ simp append_assoc);
       same = let e = inv.same in let t = w.goes.waits.1 in omega arith;
@@ -108,3 +110,7 @@ returns-then-len-before-clause-literals g c =
     let (x, p) = c.loop-n.invariant.literals in
     let (y, q) = c.in_ok-work_entry-in-Some.ensures.goes.literals in
     (x ++ y, q ∙ ap (λ zs. zs ++ y) p ∙ simp append_assoc)
+
+pub returns-then-len-before-clause-bank : goal.returns-then-len-before-clause-bank
+returns-then-len-before-clause-bank g c =
+    extends_trans c.args.run.now.entries.bank c.loop-n.run.entries.bank c.work_entry.new.run.entries.bank c.loop-n.invariant.bank c.in_ok-work_entry-in-Some.ensures.goes.bank

@@ -1,5 +1,6 @@
 use Rattle.std.proofs.Common.{◌≡◌, ◌++◌, ℕ, List, length}
 use Rattle.inst_logic.specs.declared.signed.Signed.{Signed}
+use Rattle.term_bank.specs.Forest.{Extends}
 use Rattle.instgen_loop.specs.Loops.{IsSafe, AreWaiting, ArePartners, items}
 use Rattle.instgen_loop.specs.Running.{KeepsRunning}
 use Rattle.instgen_loop.specs.Tended.{AreTended}
@@ -14,6 +15,7 @@ invariant-loop-n g l =
       partners : ArePartners index.pairs index.fits l.run l.partners;
       tended : AreTended index.pairs l.run l.partners;
       running : KeepsRunning g.S.Solver.atoms g.S.Solver.added l.fn.run l.run;
+      bank : Extends l.fn.run.entries.bank l.run.entries.bank;
       selection : l.run.selection ≡ l.fn.run.selection;
       literals : (more : List (List (Signed ℕ))) × (l.run.ground.literals ≡ l.fn.run.ground.literals ++ more);
       same : length (items l.run) ≡ length (items l.fn.run);

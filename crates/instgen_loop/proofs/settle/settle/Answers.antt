@@ -1,7 +1,8 @@
-use Rattle.std.proofs.Common.{◌≡◌, [], ℕ, List, sym, subst}
+use Rattle.std.proofs.Common.{◌≡◌, [], ℕ, List, sym, ap, subst}
+use Rattle.instgen_loop.specs.declared.entries.Entries.{Entries}
 use Rattle.inst_logic.specs.declared.signed.Signed.{Signed}
 use Rattle.prop_logic.specs.Solving.{Refutes, Satisfies}
-use Rattle.instgen_loop.proofs.Grounded.{asked_orderly, asked_grounded, asked_some, truth_kept, some_kept, unsat_refutes, sat_satisfies}
+use Rattle.instgen_loop.proofs.Grounded.{asked_orderly, asked_grounded, asked_some, truth_kept, some_kept, asked_with, with_kept, unsat_refutes, sat_satisfies}
 use Rattle.instgen_loop.proofs.settle.settle.Goals as goal
 
 pub accept-requires-clause-orderly : goal.accept-requires-clause-orderly
@@ -49,3 +50,18 @@ returns-clause-running g c =
         (sat_satisfies (g.S.Solver.atoms c.args.run.now.ground.solver) (g.S.Solver.added c.args.run.now.ground.solver) c.in_ok-derivation.field-0 c.in-Sat.v c.in_ok-derivation.ensures.answer c.in-Sat.is)) in
     let (flips, solves) = c.in_ok-accept-in-Sat.ensures.solves in
     some_kept g.S.Solver.atoms g.S.Solver.added c.args.run.now c.solve.new.self c.in_ok-derivation.ensures.atoms c.in_ok-derivation.ensures.added c.accept.new.run c.in-Sat.v satisfies c.in_ok-accept-in-Sat.ensures.valuation flips solves
+
+pub returns-clause-kept : goal.returns-clause-kept
+returns-clause-kept g c =
+    let satisfies = subst (λ n. Satisfies n (g.S.Solver.added c.solve.new.self) [] c.in-Sat.v) (sym c.in_ok-derivation.ensures.atoms)
+        (subst (λ cs. Satisfies (g.S.Solver.atoms c.args.run.now.ground.solver) cs [] c.in-Sat.v) (sym c.in_ok-derivation.ensures.added)
+        (sat_satisfies (g.S.Solver.atoms c.args.run.now.ground.solver) (g.S.Solver.added c.args.run.now.ground.solver) c.in_ok-derivation.field-0 c.in-Sat.v c.in_ok-derivation.ensures.answer c.in-Sat.is)) in
+    let (flips, solves) = c.in_ok-accept-in-Sat.ensures.solves in
+    with_kept g.S.Solver.atoms g.S.Solver.added c.args.run.now c.solve.new.self c.in_ok-derivation.ensures.atoms c.in_ok-derivation.ensures.added c.accept.new.run c.in-Sat.v satisfies c.in_ok-accept-in-Sat.ensures.valuation flips solves
+
+pub returns-in-Unsat-clause-kept : goal.returns-in-Unsat-clause-kept
+returns-in-Unsat-clause-kept g c =
+    asked_with g.S.Solver.atoms g.S.Solver.added c.args.run.now c.solve.new.self c.in_ok-derivation.ensures.atoms c.in_ok-derivation.ensures.added
+
+pub returns-clause-bank : goal.returns-clause-bank
+returns-clause-bank g c = let (flips, solves) = c.in_ok-accept-in-Sat.ensures.solves in ap (λ (e : Entries _ _). e.bank) solves.entries
