@@ -1,4 +1,7 @@
-// Analysis of conflicts: which false literals can't all be false, and the hints that show it.
+// Analysis of conflicts, up to the first unique implication point (Marques-Silva and Sakallah, GRASP, 1999; Zhang and others,
+// Efficient conflict driven learning in a Boolean satisfiability solver, 2001): one walk down the trail, which ends where no
+// marked literal is left. Literals of level 0 are resolved away, so no learned clause has one. The hints come out from the
+// last to the first, and are turned round at the end.
 ghost use Rattle.std.specs.Prelude.{◌≡◌, ℕ, ◌+◌, ◌++◌, ◌∷◌, [], ◌<◌, ◌≤◌, List, Bool, Some, All, Contains, MatchBool, length, map, slice_get, IfOk, OnOk};
 ghost use Rattle.inst_logic.specs.declared.signed.Signed.{Signed};
 ghost use Rattle.inst_logic.specs.Signed.{complement};

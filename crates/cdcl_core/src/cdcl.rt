@@ -1,4 +1,5 @@
-// A solver by clause learning.
+// The solver as its callers see it: the search, the number of atoms, and whether memory was refused. Once it was, the search
+// is never entered again, so nothing needs to be known of what a refused call left there.
 ghost use Rattle.std.specs.Prelude.{◌≡◌, [], false};
 
 use crate::search::Search;

@@ -1,4 +1,5 @@
-// Derivations without the steps that their last step does not need, in time that follows what is kept.
+// Derivations without the steps that their last step does not need. The log keeps the steps of all questions, and an answer
+// needs few of them; so the time follows what is kept, and no mark is set for each step of the log.
 ghost use Rattle.std.specs.Prelude.{◌≡◌, ◌<◌, ◌-◌, ℕ, length, All, Contains, IfOk, OnOk};
 ghost use Rattle.std.specs.List.{AllZip};
 ghost use Rattle.prop_logic.specs.Cut.{IsCutOf};

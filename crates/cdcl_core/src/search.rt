@@ -1,4 +1,6 @@
-// The search: a loop over the trail. A conflict is answered by a learned clause, which gives a literal at a lower level.
+// The search: a loop over the trail. Each turn propagates, and then decides a literal or answers a conflict by a learned
+// clause, which gives a literal at a lower level. A restart takes back all levels but those of assumptions; only then are
+// learned clauses forgotten.
 ghost use Rattle.std.specs.Prelude.{◌≡◌, ◌≢◌, IsTrue, IsFalse, ℕ, ◌+◌, ◌-◌, ◌++◌, ◌∷◌, [], ◌<◌, ◌≤◌, ◌⊎◌, List, Bool, true, false, Some, None, All, Contains, MatchBool, length, map, min, take, slice_get, unwrap_or, IfOk, IfSome, IfNone, OnOk};
 ghost use Rattle.inst_logic.specs.declared.signed.Signed.{Signed};
 ghost use Rattle.inst_logic.specs.Signed.{complement};

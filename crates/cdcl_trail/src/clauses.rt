@@ -1,4 +1,5 @@
-// Clauses by their numbers.
+// Clauses by numbers that stay while others are forgotten, since watches and reasons name them. In a list that closes up
+// after each removal all of these would have to be renamed.
 ghost use Rattle.std.specs.Prelude.{◌≡◌, ◌≢◌, [], None, IfOk, OnErr, option_copied};
 ghost use Rattle.cdcl_trail.specs.Clauses.{clause_number, AddsClause, RemovesClause};
 
@@ -38,7 +39,7 @@ impl Clauses {
     }
 
     /// Adds a copy of the clause, and answers its number, which is 1 for the first. A refused call leaves the clauses as they
-    /// were.
+    /// were. The clause is attached to no trail by it.
     pub fn add(&mut self, c: &[Lit]) -> Result<usize, Memory>
         ensures number { IfOk result (AddsClause self.old self.new c.now) }
         ensures err { OnErr result (self.new ≡ self.old) }
@@ -52,7 +53,7 @@ impl Clauses {
         Ok(key + 1)
     }
 
-    /// The clause of this number.
+    /// The clause of this number, or `None` where there is none or it was forgotten.
     pub fn get(&self, n: usize) -> Option<&LitList>
         ensures { option_copied result ≡ clause_number self.now n }
     {

@@ -1,4 +1,5 @@
-// Clauses that are detached.
+// Clauses are taken out of their watch lists at once, by a scan of both. Watches that are left until they are met, as in
+// MiniSat, would need a mark, since the number of a clause that was forgotten may be given again.
 ghost use Rattle.std.specs.Prelude.{◌≡◌, ◌≢◌, ◌+◌, ◌<◌, ℕ, List, Option, None, length, map, vec_capacity, slice_set, Contains};
 ghost use Rattle.inst_logic.specs.declared.signed.Signed.{Signed};
 ghost use Rattle.cdcl_trail.specs.Watch.{slot_of, list_at, times, pair_at, AreWatched};

@@ -1,4 +1,5 @@
-// The watch lists of all literals.
+// The watch lists of all literals, in one vector: for atom a, at place 2a that of its negative literal and at 2a + 1 that of
+// its positive one.
 ghost use Rattle.std.specs.Prelude.{◌≡◌, ◌++◌, ◌∷◌, [], ◌<◌, ◌≤◌, length, slice_get, slice_set, Some, OnOk};
 ghost use Rattle.std.specs.List.{swap_remove};
 ghost use Rattle.cdcl_trail.specs.Watch.{slot_of, list_at};

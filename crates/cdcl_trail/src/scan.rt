@@ -1,4 +1,5 @@
-// What a clause says under the values that there are.
+// What a clause says under the values that there are. Clauses are read and never reordered: which of their literals are
+// watched stands beside them.
 ghost use Rattle.std.specs.Prelude.{◌≡◌, ◌≢◌, ◌⊎◌, ◌∷◌, ◌++◌, [], ℕ, List, Option, Some, None, length, IfSome, IfNone, All, Contains, map};
 ghost use Rattle.inst_logic.specs.declared.signed.Signed.{Signed};
 ghost use Rattle.prop_logic.specs.Literal.{AtomsBelow};

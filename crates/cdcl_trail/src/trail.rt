@@ -1,4 +1,6 @@
-// The trail of a solver.
+// The trail of a solver, with the clauses that are attached to it. Whoever searches sees true literals, levels and reasons,
+// and no watch. The room of an atom's value is taken with the atom, so decisions, implied literals and ways back cannot fail;
+// only new atoms, attached clauses and new watches can want memory.
 ghost use Rattle.std.specs.Prelude.{◌≡◌, ◌<◌, ◌≤◌, ◌≢◌, ◌+◌, ◌++◌, ◌∷◌, ℕ, List, Option, Some, None, All, [], false, true, length, take, vec_capacity, map, slice_get, IfOk, OnOk, OnErr, IsErr, IfSome, IfNone, IsTrue};
 ghost use Rattle.std.specs.List.{slice_index_or};
 ghost use Rattle.inst_logic.specs.declared.signed.Signed.{Signed};
@@ -142,7 +144,8 @@ impl Trail {
         }
     }
 
-    /// Makes an atom, takes its room, and answers its number.
+    /// Makes an atom, takes its room, and answers its number, counted from 0. After want of memory the atoms and values are
+    /// those from before, nothing is promised of the attached clauses, and every later call that can want memory wants it.
     pub fn grow(&mut self) -> Result<usize, Memory>
         ensures number { IfOk result (λ n. n ≡ self.old.trail.atoms) }
         ensures ok { OnOk result ((self.old.trail.spent ≡ false) × (self.new.trail ≡ with_atom self.old.trail)) }
@@ -203,7 +206,7 @@ impl Trail {
         }
     }
 
-    /// A place of `assigned` at which the atom's literal stands, counted from 0.
+    /// A place of `assigned` at which the atom's literal stands, counted from 0. `None` says nothing of the atom.
     pub fn place_of(&self, atom: usize) -> Option<usize>
         ensures { IfSome result (λ place. (l : Signed ℕ) × (slice_get (literals_of self.now.trail.entries) place ≡ Some l) × (l.atom ≡ atom)) }
     {
@@ -225,7 +228,7 @@ impl Trail {
         self.values.literals.len() == self.values.entries.len()
     }
 
-    /// Opens a level with the literal.
+    /// Opens a level with the literal. It takes no memory.
     pub fn decide(&mut self, l: Lit)
         requires atom { l.atom < self.old.trail.atoms }
         requires unset { IsUnset self.old.trail.entries l.atom }
@@ -241,7 +244,8 @@ impl Trail {
         });
     }
 
-    /// Makes the literal true at the present level, by the clause of this number.
+    /// Makes the literal true at the present level, by the clause of this number. It takes no memory, and the clause is not
+    /// looked at: that it gives the literal is the caller's word.
     pub fn imply(&mut self, l: Lit, reason: usize)
         requires atom { l.atom < self.old.trail.atoms }
         requires unset { IsUnset self.old.trail.entries l.atom }
@@ -256,7 +260,7 @@ impl Trail {
         self.values.put(entry);
     }
 
-    /// Takes back the levels above this one.
+    /// Takes back the levels above this one, in time that follows the values that are taken back. Watches stay as they are.
     pub fn back_to(&mut self, level: usize)
         requires { level ≤ self.old.trail.level }
         ensures trail { self.new.trail ≡ back_at self.old.trail level }
@@ -268,7 +272,9 @@ impl Trail {
         self.level = level;
     }
 
-    /// Attaches the clause of this number: `propagate` looks at it from now on.
+    /// Attaches the clause of this number: `propagate` looks at it from now on. It watches nothing before that first look, so
+    /// it may have any literals, true and false ones among them. After want of memory the values are those from before,
+    /// nothing is promised of the attached clauses, and every later call that can want memory wants it.
     pub fn attach(&mut self, clauses: &Clauses, n: usize) -> Result<(), Memory>
         ensures trail { OnOk result ((self.old.trail.spent ≡ false) × (self.new.trail ≡ self.old.trail)) }
         ensures attached { OnOk result ((before after : List (Option (List (Signed ℕ)))) (c : List (Signed ℕ)) → AddsClause before after c n → AreAttached self.old before → AreAttached self.new after) }
@@ -286,7 +292,8 @@ impl Trail {
         }
     }
 
-    /// Detaches the clause of this number, which is the reason of no atom: `propagate` looks at it no more.
+    /// Detaches the clause of this number, which is the reason of no atom: `propagate` looks at it no more. Time: a scan of
+    /// two watch lists, of the clauses that watch nothing, and of the levels; those clauses are all looked at again.
     pub fn detach(&mut self, clauses: &Clauses, n: usize)
         requires reason { All (λ e. e.reason ≢ Some n) self.old.trail.entries }
         ensures trail { self.new.trail ≡ self.old.trail }
@@ -299,8 +306,12 @@ impl Trail {
         self.head.passed = 0;
     }
 
-    /// Makes true what the attached clauses give, until a clause is false, whose number is the answer, or none gives anything.
-    /// When the answer is `Some`, other clauses may still give literals.
+    /// Makes true what the attached clauses give, until a clause is false, whose number is the answer, or none gives
+    /// anything. When the answer is `Some`, other clauses may still give literals, and those that were given stay on the
+    /// trail. After want of memory the values are those from before the call, nothing is promised of the attached clauses,
+    /// and every later call that can want memory wants it. Time: for each literal that became false one step for each clause
+    /// that watches it, and a walk over the literals of such a clause where neither its blocker nor its other watched literal
+    /// is true.
     pub fn propagate(&mut self, clauses: &Clauses) -> Result<Option<usize>, Memory>
         requires below { ClausesBelow self.old.trail.atoms clauses.now }
         requires attached { AreAttached self.old clauses.now }

@@ -1,4 +1,5 @@
-// The values of atoms, in the order in which they came.
+// The values of atoms, kept twice: in the order in which they came, so that the last ones are taken back in one step each,
+// and by atom, so that each is read in one step.
 ghost use Rattle.std.specs.Prelude.{◌≡◌, ◌+◌, ◌<◌, ◌≤◌, ◌∷◌, ◌++◌, [], List, false, length, take, IsTrue, All, AllPairs, Contains, MatchBool, IfOk, IfSome, OnErr, ℕ, Some, slice_get};
 ghost use Rattle.inst_logic.specs.declared.signed.Signed.{Signed};
 ghost use Rattle.cdcl_trail.specs.Trail.{IsUnset, value_of, literals_of, entries_up_to};

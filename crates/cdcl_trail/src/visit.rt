@@ -1,4 +1,5 @@
-// What comes of one watch of a literal that became false.
+// What comes of one watch of a literal that became false. The blocker is looked at first, then the other literal that the
+// clause watches, and the clause itself only where neither is true, since reading it is what costs.
 ghost use Rattle.std.specs.Prelude.{◌≡◌, ◌≢◌, ◌⊎◌, ◌<◌, ℕ, Option, List, Some, length, slice_get, slice_set, IfOk, OnOk, OnErr, Contains};
 ghost use Rattle.std.specs.List.{swap_remove};
 ghost use Rattle.inst_logic.specs.declared.signed.Signed.{Signed};

@@ -1,4 +1,5 @@
-// The clauses that watch a literal that became false.
+// The clauses that watch a literal that became false. Where one goes over to another literal, the last of the list takes its
+// place; so the walk stays where it is, and nothing is copied to close the gap.
 ghost use Rattle.std.specs.Prelude.{◌≡◌, ◌<◌, ℕ, length, IfOk, IfSome, IfNone, OnOk, Contains};
 ghost use Rattle.cdcl_trail.specs.Propagation.{IsFalseIn, IsConflict, Propagates};
 ghost use Rattle.cdcl_trail.specs.Values.{AreValues, entries_of};

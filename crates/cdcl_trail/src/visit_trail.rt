@@ -1,4 +1,5 @@
-// The literals that became false, in their order.
+// The literals that became false, in the order of the trail, which is the queue of propagation too. No other queue is kept,
+// and what is taken off the trail is off the queue.
 ghost use Rattle.std.specs.Prelude.{◌≡◌, ◌<◌, ◌≤◌, length, IfOk, IfSome, IfNone, OnOk};
 ghost use Rattle.cdcl_trail.specs.Propagation.{IsConflict, Propagates};
 ghost use Rattle.cdcl_trail.specs.Values.{AreValues, entries_of};

@@ -1,4 +1,4 @@
-// The watches of one literal.
+// The watches of one literal. They have no order, so that one is taken away in one step.
 ghost use Rattle.std.specs.Prelude.{◌≡◌, ◌++◌, ◌∷◌, [], ◌<◌, length, slice_get, slice_set, Some, OnOk};
 ghost use Rattle.std.specs.List.{swap_remove, slice_index_or};
 

@@ -17,7 +17,7 @@ use Rattle.saturation_cert.specs.declared.member.Member.{Member}
 use Rattle.saturation_cert.specs.declared.certificate.Base.{Base}
 use Rattle.saturation_cert.specs.Values.{base_of, entry_of}
 use Rattle.saturation_cert.specs.Wholes.{IsWholeClause, IsWholeBase, KeepsBase}
-use Rattle.cert_check.specs.Bases.{BasePasses, IsValidBase}
+use Rattle.cert_format.specs.Validity.{BasePasses, IsValidBase}
 use Rattle.cert_check.specs.Firsts.{IsFirstWrong, IsFirstWrongOf}
 
 -- the clauses of a bank stay as it grows
@@ -113,7 +113,7 @@ valid_base b axioms members (Input k) = tt
 valid_base b axioms members (Pair l m) = tt
 
 -- the first complaint about the axioms and members is the first one about a refutation
-pub first_of_refutation : (c : format.Refutation) (complaint : Complaint) → IsFirstComplaint (BasePasses c.base) complaint → IsFirstComplaint (RefutationPasses c) complaint
+pub first_of_refutation : (c : format.FirstRefutation) (complaint : Complaint) → IsFirstComplaint (BasePasses c.base) complaint → IsFirstComplaint (RefutationPasses c) complaint
 first_of_refutation c complaint h = by complaint h
   where
     earlier : (k : Complaint) → rank k < 2 → ((other : Complaint) → Precedes other k → BasePasses c.base other) → (other : Complaint) → Precedes other k → RefutationPasses c other

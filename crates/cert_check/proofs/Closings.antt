@@ -16,7 +16,7 @@ use Rattle.inst_calculus.proofs.Membership.{◌∈◌, in_all, in_map, from_map,
 use Rattle.term_bank.specs.Forest.{Forest, clause_at, tree_at}
 use Rattle.cert_format.specs.Certificate as format
 use Rattle.cert_format.specs.Certificate.{selected_members}
-use Rattle.cert_format.specs.Validity.{IsSelected}
+use Rattle.cert_format.specs.Validity.{SelectsAt}
 use Rattle.cert_format.specs.declared.complaint.Complaint.TheVariants.{Member as Derived}
 use Rattle.cert_format.proofs.Numbers.{in_slice_get, same_item, slice_get_of_map}
 use Rattle.cert_format.proofs.SelectedMembers.{selected_number, selected_is_member}
@@ -30,7 +30,7 @@ use Rattle.saturation_cert.specs.declared.certificate.Saturation.{Saturation}
 use Rattle.saturation_cert.specs.Truths.{IsSelectedLiteral}
 use Rattle.saturation_cert.specs.Values.{base_of, saturation_of, entry_of}
 use Rattle.saturation_cert.specs.Wholes.{IsWholeSaturation, HasPlaces, KeepsSaturation}
-use Rattle.cert_check.specs.Bases.{IsValidBase}
+use Rattle.cert_format.specs.Validity.{IsValidBase}
 use Rattle.cert_check.specs.Closings.{IsSideCovered, IsSideClosed, IsProperSomewhere, IsPairClosed}
 use Rattle.cert_check.specs.Grounds.{AreCanonicalMembers}
 use Rattle.cert_check.proofs.Bases.{member_canonical}
@@ -106,7 +106,7 @@ module _ (old new : Saturation) (whole : IsWholeSaturation old) (kept : KeepsSat
   side_before es b x n r h s resolved m sel a b2 g =
       let same = saturation_same old new whole kept in
       subst (λ (y : format.Saturation). IsTrue r ↔ (IsProper (of_side s x) (of_pair x a b2) → IsCovered (member_clauses (selected_members y)) m.clause (instance (of_side s x) m.clause))) same
-      (h s (resolved_later old.base.bank new.base.bank es s kept.base.bank b resolved) m (subst (λ (y : format.Saturation). IsSelected y n m) (sym same) sel) a b2 g)
+      (h s (resolved_later old.base.bank new.base.bank es s kept.base.bank b resolved) m (subst (λ (y : format.Saturation). SelectsAt y n m) (sym same) sel) a b2 g)
 
 pub decided : {P : Type 0} (b : Bool) → (b ≡ true → P) → (b ≡ false → ¬ P) → IsTrue b ↔ P
 decided true y n = ((λ t. y refl), (λ p. refl))

@@ -13,13 +13,13 @@ use Rattle.inst_calculus.proofs.Choice.{closed_of_choice}
 use Rattle.term_bank.specs.Forest.{Forest, Extends, tree_at}
 use Rattle.cert_format.specs.Certificate as format
 use Rattle.cert_format.specs.Certificate.{selected_members}
-use Rattle.cert_format.specs.Validity.{IsRightPair, IsSelected}
+use Rattle.cert_format.specs.Validity.{IsRightPair, SelectsAt}
 use Rattle.cert_format.proofs.SelectedMembers.{selected_once}
 use Rattle.saturation_cert.specs.declared.certificate.Saturation.{Saturation}
 use Rattle.saturation_cert.specs.Truths.{IsSelectedLiteral}
 use Rattle.saturation_cert.specs.Values.{base_of, saturation_of}
 use Rattle.saturation_cert.specs.Wholes.{IsWholeSaturation, HasPlaces, KeepsSaturation}
-use Rattle.cert_check.specs.Bases.{IsValidBase}
+use Rattle.cert_format.specs.Validity.{IsValidBase}
 use Rattle.cert_check.specs.Firsts.{IsFirstWrong}
 use Rattle.cert_check.specs.FirstPairs.{IsFirstWrongPair}
 use Rattle.cert_check.proofs.Saturations.{saturation_same}
@@ -88,21 +88,21 @@ signs_differ false false e same = absurd (cc)
 
 -- one pair
 module _ (c : Saturation) (i j : ℕ) (less : i < j) (l r : Signed ℕ) (left : IsSelectedLiteral c (suc i) l) (right : IsSelectedLiteral c (suc j) r) where
-  same_left : (m : Member) → IsSelected (saturation_of c) (suc i) m → m ≡ left.member
-  same_left m s = selected_once (saturation_of c) (suc i) m left.member s left.is
+  same_left : (m : Member) → SelectsAt (saturation_of c) (suc i) m → m ≡ left.member
+  same_left m s = selected_once (saturation_of c).base.members (saturation_of c).places (suc i) m left.member s left.is
 
-  same_right : (m : Member) → IsSelected (saturation_of c) (suc j) m → m ≡ right.member
-  same_right m s = selected_once (saturation_of c) (suc j) m right.member s right.is
+  same_right : (m : Member) → SelectsAt (saturation_of c) (suc j) m → m ≡ right.member
+  same_right m s = selected_once (saturation_of c).base.members (saturation_of c).places (suc j) m right.member s right.is
 
   pub same_sign : l.positive ≡ r.positive → IsRightPair (saturation_of c) (suc i) (suc j)
   same_sign same below m n s t signs =
       absurd (signs (ap (λ (x : Member). x.selected.positive) (same_left m s) ∙ ap (λ (k : Signed Tree). k.positive) left.literal ∙ same
       ∙ sym (ap (λ (k : Signed Tree). k.positive) right.literal) ∙ sym (ap (λ (x : Member). x.selected.positive) (same_right n t))))
 
-  left_atom : (m : Member) → IsSelected (saturation_of c) (suc i) m → m.selected.atom ≡ tree_at c.base.bank l.atom
+  left_atom : (m : Member) → SelectsAt (saturation_of c) (suc i) m → m.selected.atom ≡ tree_at c.base.bank l.atom
   left_atom m s = ap (λ (x : Member). x.selected.atom) (same_left m s) ∙ ap (λ (k : Signed Tree). k.atom) left.literal
 
-  right_atom : (m : Member) → IsSelected (saturation_of c) (suc j) m → m.selected.atom ≡ tree_at c.base.bank r.atom
+  right_atom : (m : Member) → SelectsAt (saturation_of c) (suc j) m → m.selected.atom ≡ tree_at c.base.bank r.atom
   right_atom m s = ap (λ (x : Member). x.selected.atom) (same_right m s) ∙ ap (λ (k : Signed Tree). k.atom) right.literal
 
   pub no_unifier : ((u : Sided) → ¬ IsUnifier u (tree_at c.base.bank l.atom) (tree_at c.base.bank r.atom)) → IsRightPair (saturation_of c) (suc i) (suc j)

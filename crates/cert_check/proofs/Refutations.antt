@@ -21,7 +21,7 @@ use Rattle.saturation_cert.specs.declared.certificate.GroundStep.{GroundStep}
 use Rattle.saturation_cert.specs.declared.certificate.Refutation.{Refutation}
 use Rattle.saturation_cert.specs.Values.{refutation_of, step_of}
 use Rattle.saturation_cert.specs.Wholes.{IsWholeClause, IsWholeBase, IsWholeRefutation, KeepsBase, KeepsRefutation}
-use Rattle.cert_check.specs.Bases.{IsValidBase}
+use Rattle.cert_format.specs.Validity.{IsValidBase}
 use Rattle.cert_check.specs.Firsts.{IsFirstWrong}
 use Rattle.cert_check.specs.Stages.{IsRightStepNumber}
 use Rattle.cert_check.proofs.Bases.{base_same, clauses_same, at_most, smaller}
@@ -93,7 +93,7 @@ keeps_all_trans a b c p q = record {
 }
 
 -- the checks that come before a complaint, by their kinds
-module _ (c : format.Refutation) where
+module _ (c : format.FirstRefutation) where
   first_by : (k : Complaint) → ¬ RefutationPasses c k → ((n : ℕ) → Precedes (Axiom n) k → IsRightAxiom c.base n) → ((n : ℕ) → Precedes (Derived n) k → IsRightMember c.base n)
       → (Precedes Bot k → IsTrue (is_constant c.bot)) → ((n : ℕ) → Precedes (Ground n) k → IsRightGround c n) → ((n : ℕ) → Precedes (Shown n) k → IsRightStepNumber c n)
       → (Precedes NotEmpty k → EndsEmpty c.steps) → IsFirstComplaint (RefutationPasses c) k

@@ -18,7 +18,7 @@ use Rattle.saturation_cert.specs.declared.certificate.Saturation.{Saturation}
 use Rattle.saturation_cert.specs.Values.{saturation_of, entry_of}
 use Rattle.saturation_cert.specs.Wholes.{IsWholeClause, IsWholeBase, IsWholeSaturation, KeepsBase, KeepsSaturation}
 use Rattle.cert_check.specs.Answers.{IsCheckCause}
-use Rattle.cert_check.specs.Bases.{BasePasses, IsValidBase}
+use Rattle.cert_format.specs.Validity.{BasePasses, IsValidBase}
 use Rattle.cert_check.specs.declared.error.CheckError.{CheckError}
 use Rattle.cert_check.specs.declared.error.CheckError.TheVariants as errors
 use Rattle.cert_check.specs.Firsts.{IsFirstWrong}

@@ -117,12 +117,12 @@ module _ (r : Refutation) (whole : IsWholeRefutation r) (once : AreDistinct r.ba
       let both = shown_same (suc k - 1) s i in (
         (λ h t e.
             let right = h (numbered_step s) low in
-            subst (IsRightStep (refutation_of r) (suc k)) (some_same (step_of f s) t (sym high ∙ e)) (record {
+            subst (IsRightStep (refutation_of r).grounds (refutation_of r).steps (suc k)) (some_same (step_of f s) t (sym high ∙ e)) (record {
               hinted = none_left hint_of s.hints (λ z. right.0 (ap (map numbered_hint) z));
               shown = both.0 right.1;
             })),
         (λ h t e.
-            let right : IsRightStep (refutation_of r) (suc k) (step_of f s) = h (step_of f s) high in
+            let right : IsRightStep (refutation_of r).grounds (refutation_of r).steps (suc k) (step_of f s) = h (step_of f s) high in
             subst (λ (x : Step). (x.hints ≢ []) × IsShownStep r.grounds (take (suc k - 1) numbered) x) (some_same (numbered_step s) t (sym low ∙ e))
             (none_left numbered_hint s.hints (λ z. right.hinted (ap (map hint_of) z)), both.1 right.shown)),
       )

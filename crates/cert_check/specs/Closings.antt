@@ -7,7 +7,7 @@ use Rattle.inst_calculus.specs.Models.{Member, member_clauses}
 use Rattle.inst_calculus.specs.Saturation.{IsClosed, IsCovered}
 use Rattle.term_bank.specs.Forest.{Forest}
 use Rattle.cert_format.specs.Certificate.{selected_members}
-use Rattle.cert_format.specs.Validity.{IsSelected}
+use Rattle.cert_format.specs.Validity.{SelectsAt}
 use Rattle.unify_core.specs.Sides.{Binding, IsResolvedBy, of_pair, of_side}
 use Rattle.unify_core.specs.declared.side.Side.{Side}
 use Rattle.saturation_cert.specs.declared.certificate.Saturation.{Saturation}
@@ -19,11 +19,11 @@ HasCoveredSide c s side m = IsCovered (member_clauses (selected_members (saturat
 
 -- the answer is whether the instance of member n on the side is covered
 abbrev pub IsSideCovered : Saturation → List Binding → Side → ℕ → Bool → Type 0
-IsSideCovered c es side n r = (s : Sided) → IsResolvedBy c.base.bank es s → (m : Member) → IsSelected (saturation_of c) n m → IsTrue r ↔ HasCoveredSide c s side m
+IsSideCovered c es side n r = (s : Sided) → IsResolvedBy c.base.bank es s → (m : Member) → SelectsAt (saturation_of c) n m → IsTrue r ↔ HasCoveredSide c s side m
 
 -- the answer is whether it is so if the unifier is proper on the side
 abbrev pub IsSideClosed : Saturation → List Binding → Side → ℕ → Bool → Type 0
-IsSideClosed c es side n r = (s : Sided) → IsResolvedBy c.base.bank es s → (m : Member) → IsSelected (saturation_of c) n m → (a b : Tree) → IsMostGeneral s a b
+IsSideClosed c es side n r = (s : Sided) → IsResolvedBy c.base.bank es s → (m : Member) → SelectsAt (saturation_of c) n m → (a b : Tree) → IsMostGeneral s a b
     → IsTrue r ↔ (IsProper (of_side s side) (of_pair side a b) → HasCoveredSide c s side m)
 
 -- the answer is whether the unifier is proper on a side
@@ -32,5 +32,5 @@ IsProperSomewhere f es r = (s : Sided) → IsResolvedBy f es s → (a b : Tree) 
 
 -- the answer is whether members i and j are closed for the unifier
 abbrev pub IsPairClosed : Saturation → List Binding → ℕ → ℕ → Bool → Type 0
-IsPairClosed c es i j r = (s : Sided) → IsResolvedBy c.base.bank es s → (m n : Member) → IsSelected (saturation_of c) i m → IsSelected (saturation_of c) j n → IsMostGeneral s m.selected.atom n.selected.atom
+IsPairClosed c es i j r = (s : Sided) → IsResolvedBy c.base.bank es s → (m n : Member) → SelectsAt (saturation_of c) i m → SelectsAt (saturation_of c) j n → IsMostGeneral s m.selected.atom n.selected.atom
     → IsTrue r ↔ IsClosed (selected_members (saturation_of c)) m n s

@@ -3,7 +3,7 @@
 ghost use Rattle.std.specs.Prelude.{◌+◌, ◌<◌, ◌↔◌, IfErr, IfOk, IsTrue, OnOk, length, ℕ};
 ghost use Rattle.cert_format.specs.Validity.{IsRightAxiom, IsRightMember};
 ghost use Rattle.cert_check.specs.Answers.{IsCheckCause};
-ghost use Rattle.cert_check.specs.Bases.{BasePasses, IsValidBase};
+ghost use Rattle.cert_format.specs.Validity.{BasePasses, IsValidBase};
 ghost use Rattle.cert_check.specs.Firsts.{IsFirstWrongOf};
 ghost use Rattle.saturation_cert.specs.Values.{base_of};
 ghost use Rattle.saturation_cert.specs.Wholes.{IsWholeBase, KeepsBase};

@@ -9,7 +9,7 @@ ghost use Rattle.saturation_cert.specs.Values.{entry_of};
 ghost use Rattle.saturation_cert.specs.Wholes.{IsWholeClause};
 ghost use Rattle.cert_check.specs.Conclusions.{Concludes, HasNoProper, IsAtomOf, IsCanonicalMember, IsProperlyUnified, MembersConclude, MembersGive, literal_of};
 
-use crate::difference::{distinct_trees, same_clause};
+use crate::difference::same_clause;
 use clause_form::conclude;
 use inst_logic::Memory;
 use saturation_cert::Member;
@@ -136,7 +136,7 @@ fn is_conclusion(
     match conclusion(alloc, bank, bindings, members, premises)? {
         None => Ok(false),
         Some(d) => {
-            distinct_trees(bank);
+            bank.distinct();
             Ok(same_clause(&d, clause))
         }
     }

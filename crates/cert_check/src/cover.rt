@@ -13,7 +13,6 @@ ghost use Rattle.cert_check.specs.Covers.{IsCoveredIn, IsShorter, ShorterOf};
 ghost use Rattle.cert_check.specs.Grounds.{AreCanonicalMembers};
 ghost use Rattle.cert_check.specs.Lookups.{HasNoShorter, IsLookup};
 
-use crate::difference::distinct_trees;
 use crate::lookup::Lookup;
 use clause_form::{conclude, subsumes, tautology};
 use inst_logic::Memory;
@@ -109,7 +108,7 @@ fn has_cover(
     requires canonical { IsCanonical (clause_at bank.now c.now) }
     ensures { IfOk result (λ r. IsTrue r ↔ IsCoveredIn bank.now members.now len c.now) }
 {
-    distinct_trees(bank);
+    bank.distinct();
     if tautology(c) {
         return Ok(true);
     }

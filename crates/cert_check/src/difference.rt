@@ -1,18 +1,10 @@
 // The first place where two lists of clauses of one bank differ, by ids: equal trees have equal ids.
 ghost use Rattle.std.specs.Prelude.{◌≡◌, ◌↔◌, IsTrue, All, map, slice_get};
 ghost use Rattle.inst_logic.specs.Derivations.{at_number};
-ghost use Rattle.term_bank.specs.Forest.{AreDistinct, IsClauseOf, clause_at};
+ghost use Rattle.term_bank.specs.Forest.{IsClauseOf, clause_at};
 ghost use Rattle.cert_check.specs.Firsts.{IsFirstWrongOf};
 
 use term_bank::{Bank, IdClause, IdClauseList};
-
-// Equal trees have equal ids: a law of the bank.
-pub fn distinct_trees(bank: &Bank)
-    ensures { AreDistinct bank.now.trees }
-{
-    // Beside the length stands the law that equal trees have equal ids.
-    let _ = bank.len();
-}
 
 // Whether the clauses have the same literals in the same order.
 pub fn same_clause(c: &IdClause, d: &IdClause) -> bool
@@ -50,6 +42,6 @@ pub fn difference(bank: &Bank, xs: &IdClauseList, ys: &IdClauseList) -> Option<u
     requires right { All (IsClauseOf bank.now) ys.now }
     ensures { IsFirstWrongOf (λ n. at_number (map (clause_at bank.now) xs.now) n ≡ at_number (map (clause_at bank.now) ys.now) n) result }
 {
-    distinct_trees(bank);
+    bank.distinct();
     different_ids(xs.as_slice(), ys.as_slice())
 }

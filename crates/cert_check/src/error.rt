@@ -1,4 +1,5 @@
-// Why a certificate is not accepted.
+// Why a certificate is not accepted. The checks have one order, so the complaint is decided by the certificate alone; want of
+// memory is no complaint, and says nothing of it.
 ghost use Rattle.std.specs.Prelude.{◌≡◌};
 ghost use Rattle.cert_check.specs.declared.error.CheckError.TheVariants as errors;
 

@@ -7,10 +7,10 @@ ghost use Rattle.cert_format.specs.Validity.{IsRightInput};
 ghost use Rattle.term_bank.specs.Forest.{IsClauseOf, clause_at};
 ghost use Rattle.saturation_cert.specs.Values.{base_of, saturation_of};
 ghost use Rattle.saturation_cert.specs.Wholes.{IsWholeSaturation};
-ghost use Rattle.cert_check.specs.Bases.{IsValidBase};
+ghost use Rattle.cert_format.specs.Validity.{IsValidBase};
 ghost use Rattle.cert_check.specs.Firsts.{IsFirstWrongOf};
 
-use crate::difference::{distinct_trees, same_clause};
+use crate::difference::same_clause;
 use crate::origin::numbered;
 use clause_form::{subsumes, tautology};
 use indexmap::IndexMap;
@@ -95,7 +95,7 @@ fn is_met(
     if is_member(members, first, c) {
         return Ok(true);
     }
-    distinct_trees(bank);
+    bank.distinct();
     if tautology(c) {
         return Ok(true);
     }

@@ -1,11 +1,12 @@
-// What the origin of a member gives.
+// What an origin among the inputs and axioms gives: the canonical form of that clause, made anew and compared by ids. Inputs
+// need not be in canonical form.
 ghost use Rattle.std.specs.Prelude.{◌≡◌, ◌↔◌, ◌++◌, All, IfOk, IsTrue, map, option_copied};
 ghost use Rattle.inst_logic.specs.Clauses.{canonical_form};
 ghost use Rattle.inst_logic.specs.Derivations.{at_number};
 ghost use Rattle.term_bank.specs.Forest.{AreFormed, Extends, IsClauseOf, clause_at};
 ghost use Rattle.cert_check.specs.Inputs.{GivesInput};
 
-use crate::difference::{distinct_trees, same_clause};
+use crate::difference::same_clause;
 use clause_form::canonical;
 use inst_logic::Memory;
 use std::alloc::Global;
@@ -42,7 +43,7 @@ fn is_canonical_form(
     ensures same { IfOk result (λ r. IsTrue r ↔ (clause_at bank.old clause.now ≡ canonical_form (clause_at bank.old from.now))) }
 {
     let d = canonical(alloc, bank, from)?;
-    distinct_trees(bank);
+    bank.distinct();
     Ok(same_clause(&d, clause))
 }
 

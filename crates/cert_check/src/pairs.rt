@@ -6,7 +6,7 @@ ghost use Rattle.unify_core.specs.Chains.{AreBindings};
 ghost use Rattle.unify_core.specs.Terms.{AreTerms};
 ghost use Rattle.saturation_cert.specs.Values.{base_of, saturation_of};
 ghost use Rattle.saturation_cert.specs.Wholes.{HasPlaces, IsWholeSaturation, KeepsSaturation};
-ghost use Rattle.cert_check.specs.Bases.{IsValidBase};
+ghost use Rattle.cert_format.specs.Validity.{IsValidBase};
 ghost use Rattle.cert_check.specs.Closings.{IsPairClosed, IsProperSomewhere, IsSideClosed, IsSideCovered};
 ghost use Rattle.cert_check.specs.FirstPairs.{IsFirstWrongPairOf};
 ghost use Rattle.cert_check.specs.Firsts.{IsFirstWrongOf};

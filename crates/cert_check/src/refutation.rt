@@ -6,7 +6,7 @@ ghost use Rattle.inst_calculus.specs.Axioms.{with_axioms};
 ghost use Rattle.cert_format.specs.Validity.{IsRightGround, IsValidRefutation, RefutationPasses};
 ghost use Rattle.inst_logic.specs.WellFormed.{is_constant};
 ghost use Rattle.inst_calculus.specs.Steps.{EndsEmpty};
-ghost use Rattle.cert_check.specs.Bases.{IsValidBase};
+ghost use Rattle.cert_format.specs.Validity.{IsValidBase};
 ghost use Rattle.cert_check.specs.Firsts.{IsFirstWrongOf};
 ghost use Rattle.cert_check.specs.Stages.{IsRightStepNumber};
 ghost use Rattle.saturation_cert.specs.Values.{refutation_of};
@@ -128,7 +128,8 @@ fn check(alloc: Global, cert: &mut Refutation) -> Result<(), CheckError>
     Ok(())
 }
 
-/// Checks the certificate and owns it from then on. After a refusal it is dropped.
+/// Checks the certificate and owns it from then on. After a refusal it is dropped. Time: a unification for each member that
+/// is an instance, and for each step its literals and those of the clauses that its hints cite.
 pub fn check_refutation(alloc: Global, cert: Refutation) -> Result<CheckedRefutation, CheckError>
     requires { IsWholeRefutation cert }
     ensures kept { IfOk result (KeepsRefutation cert) }

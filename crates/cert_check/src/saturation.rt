@@ -58,7 +58,8 @@ impl CheckedSaturation {
         &self.cert
     }
 
-    /// The id of the literal's atom in the certificate's bank.
+    /// The id of the literal's atom in the certificate's bank, which may grow. After want of memory the certificate is what
+    /// it was, and every later call wants memory.
     pub fn atom(&mut self, l: &Literal) -> Result<TermId, Memory>
         requires { IsAtom (literal l.now).atom }
         ensures at { IfOk result (λ id. IsAt self.new.base.bank id (literal l.now).atom) }
@@ -92,7 +93,9 @@ fn check(alloc: Global, cert: &mut Saturation) -> Result<(), CheckError>
     Ok(())
 }
 
-/// Checks the certificate and owns it from then on. After a refusal it is dropped.
+/// Checks the certificate and owns it from then on. After a refusal it is dropped. Time: a unification for any two members
+/// whose selected literals have one symbol and opposite signs; and where they unify, look-ups of the instances, and tests of
+/// subsumption where these do not suffice.
 pub fn check_saturation(alloc: Global, cert: Saturation) -> Result<CheckedSaturation, CheckError>
     requires { IsWholeSaturation cert }
     ensures kept { IfOk result (KeepsSaturation cert) }

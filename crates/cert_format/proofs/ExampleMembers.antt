@@ -11,7 +11,7 @@ use Rattle.inst_calculus.specs.Models.{Member}
 use Rattle.inst_calculus.specs.Examples.{entry, p_always, not_p_c}
 use Rattle.inst_calculus.proofs.ShortLists.{each_all, each_number}
 use Rattle.inst_calculus.proofs.Turns.{instance_unifier}
-use Rattle.cert_format.specs.Validity.{Gives, IsSelected, IsRightMember, IsRightPlace}
+use Rattle.cert_format.specs.Validity.{Gives, SelectsAt, IsRightMember, IsRightPlace}
 use Rattle.cert_format.specs.Examples.{chain_saturation, p_or_not_q, q_always, instance_refutation}
 use Rattle.cert_format.proofs.Selected.{selected_is, is_placed}
 
@@ -25,7 +25,7 @@ chain_places (suc zero) l h = is_placed chain_saturation 1 (entry p_or_not_q (in
 chain_places (suc (suc zero)) l h = is_placed chain_saturation 2 (entry q_always (input 2)) 1 (yes (q (var 0))) refl refl refl
 chain_places (suc (suc (suc n))) l h = absurd (omega arith)
 
-pub chain_positive : (n : ℕ) (m : Member) → IsSelected chain_saturation n m → m.selected.positive ≡ true
+pub chain_positive : (n : ℕ) (m : Member) → SelectsAt chain_saturation n m → m.selected.positive ≡ true
 chain_positive zero m s = absurd (let e = s.entry_at in cc)
 chain_positive (suc zero) m s = ap (λ (l : Signed Tree). l.positive) (selected_is chain_saturation 1 m s (entry p_or_not_q (input 1)) 1 (yes (p (var 0))) refl refl refl)
 chain_positive (suc (suc zero)) m s = ap (λ (l : Signed Tree). l.positive) (selected_is chain_saturation 2 m s (entry q_always (input 2)) 1 (yes (q (var 0))) refl refl refl)

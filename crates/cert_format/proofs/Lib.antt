@@ -4,4 +4,6 @@ pub mod SelectedMembers
 pub mod Members
 pub mod GroundInstances
 pub mod ExampleMembers
+pub mod RightCertificates
+pub mod Fitting
 pub mod TieChecks

@@ -20,36 +20,27 @@ use Rattle.inst_calculus.proofs.CanonicalForms.{canonical_of_canonical}
 use Rattle.inst_calculus.proofs.Choice.{swapped, swapped_general, closed_in_other_order}
 use Rattle.inst_calculus.proofs.Saturated.{model_of_saturated}
 use Rattle.cert_format.specs.Certificate.{Base, Saturation, with_selected, selected_at, selected_members}
-use Rattle.cert_format.specs.Validity.{Gives, IsSelected, IsValidSaturation}
+use Rattle.cert_format.specs.Validity.{Gives, IsSelected, SelectsAt, IsValidSaturation}
 use Rattle.cert_format.specs.declared.complaint.Complaint.TheVariants.{Member as Derived, Place, Input, Pair}
 use Rattle.cert_format.proofs.Numbers.{in_slice_get, same_item}
 
--- entry and place at k, and the member that they are
-record IsAt (es : List Entry) (ps : List ℕ) (k : ℕ) (m : Member) : Type 0 where
-  entry : Entry
-  place : ℕ
-  entry_at : slice_get es k ≡ Some entry
-  place_at : slice_get ps k ≡ Some place
-  clause : m.clause ≡ entry.clause
-  selected : at_number entry.clause place ≡ Some m.selected
-
 -- each selected member is at some place
-at_of_selected : (es : List Entry) (ps : List ℕ) (m : Member) → m ∈ selected_at es ps → (k : ℕ) × IsAt es ps k m
+pub at_of_selected : (es : List Entry) (ps : List ℕ) (m : Member) → m ∈ selected_at es ps → (k : ℕ) × IsSelected es ps (suc k) m
 at_of_selected [] ps m i = absurd i
 at_of_selected (e ∷ es) [] m i = absurd i
 at_of_selected (e ∷ es) (p ∷ ps) m i = go (at_number e.clause p) refl i (at_of_selected es ps m)
   where
-    next : (k : ℕ) × IsAt es ps k m → (k : ℕ) × IsAt (e ∷ es) (p ∷ ps) k m
+    next : (k : ℕ) × IsSelected es ps (suc k) m → (k : ℕ) × IsSelected (e ∷ es) (p ∷ ps) (suc k) m
     next (k, h) = (suc k, record { entry = h.entry; place = h.place; entry_at = h.entry_at; place_at = h.place_at; clause = h.clause; selected = h.selected })
 
-    go : (o : Option (Signed Tree)) → at_number e.clause p ≡ o → m ∈ with_selected e.clause o (selected_at es ps) → (m ∈ selected_at es ps → (k : ℕ) × IsAt es ps k m)
-        → (k : ℕ) × IsAt (e ∷ es) (p ∷ ps) k m
+    go : (o : Option (Signed Tree)) → at_number e.clause p ≡ o → m ∈ with_selected e.clause o (selected_at es ps) → (m ∈ selected_at es ps → (k : ℕ) × IsSelected es ps (suc k) m)
+        → (k : ℕ) × IsSelected (e ∷ es) (p ∷ ps) (suc k) m
     go None q j rest = next (rest j)
     go (Some l) q (inl same) rest = (0, record { entry = e; place = p; entry_at = refl; place_at = refl; clause = ap (λ (x : Member). x.clause) same; selected = q ∙ ap (λ (x : Member). Some x.selected) (sym same) })
     go (Some l) q (inr j) rest = next (rest j)
 
 -- what is at a place is selected
-selected_of_at : (es : List Entry) (ps : List ℕ) (k : ℕ) (m : Member) → IsAt es ps k m → m ∈ selected_at es ps
+pub selected_of_at : (es : List Entry) (ps : List ℕ) (k : ℕ) (m : Member) → IsSelected es ps (suc k) m → m ∈ selected_at es ps
 selected_of_at [] ps k m h = absurd (cc (h.entry_at))
 selected_of_at (e ∷ es) [] k m h = absurd (cc (h.place_at))
 selected_of_at (e ∷ es) (p ∷ ps) zero m h = go (at_number e.clause p) here
@@ -69,24 +60,21 @@ selected_of_at (e ∷ es) (p ∷ ps) (suc k) m h = go (at_number e.clause p) (se
     go None i = i
     go (Some l) i = inr i
 
-pub selected_number : (c : Saturation) (m : Member) → m ∈ selected_members c → (k : ℕ) × IsSelected c (suc k) m
-selected_number c m i =
-    let (k, h) = at_of_selected c.base.members c.places m i in
-    (k, record { entry = h.entry; place = h.place; entry_at = h.entry_at; place_at = h.place_at; clause = h.clause; selected = h.selected })
+pub selected_number : (c : Saturation) (m : Member) → m ∈ selected_members c → (k : ℕ) × SelectsAt c (suc k) m
+selected_number c m i = at_of_selected c.base.members c.places m i
 
-pub selected_is_member : (c : Saturation) (k : ℕ) (m : Member) → IsSelected c (suc k) m → m ∈ selected_members c
-selected_is_member c k m h =
-    selected_of_at c.base.members c.places k m (record { entry = h.entry; place = h.place; entry_at = h.entry_at; place_at = h.place_at; clause = h.clause; selected = h.selected })
+pub selected_is_member : (c : Saturation) (k : ℕ) (m : Member) → SelectsAt c (suc k) m → m ∈ selected_members c
+selected_is_member c k m h = selected_of_at c.base.members c.places k m h
 
 -- a number has one member
-pub selected_once : (c : Saturation) (n : ℕ) (l m : Member) → IsSelected c n l → IsSelected c n m → l ≡ m
-selected_once c n l m g h = λ i. record { clause = (g.clause ∙ ap (λ (x : Entry). x.clause) same_entry ∙ sym h.clause) i; selected = same_literal i }
+pub selected_once : (es : List Entry) (ps : List ℕ) (n : ℕ) (l m : Member) → IsSelected es ps n l → IsSelected es ps n m → l ≡ m
+selected_once es ps n l m g h = λ i. record { clause = (g.clause ∙ ap (λ (x : Entry). x.clause) same_entry ∙ sym h.clause) i; selected = same_literal i }
   where
     same_entry : g.entry ≡ h.entry
-    same_entry = same_item (at_number c.base.members n) g.entry h.entry g.entry_at h.entry_at
+    same_entry = same_item (at_number es n) g.entry h.entry g.entry_at h.entry_at
 
     same_place : g.place ≡ h.place
-    same_place = same_item (at_number c.places n) g.place h.place g.place_at h.place_at
+    same_place = same_item (at_number ps n) g.place h.place g.place_at h.place_at
 
     same_literal : l.selected ≡ m.selected
     same_literal =
@@ -135,14 +123,14 @@ module _ (c : Saturation) (valid : IsValidSaturation c) where
       let (l, at_n) = selected_number c n (contains_in n (selected_members c) j) in
       by_order k l at_m at_n (dec_lt k l) (dec_lt l k)
     where
-      by_order : (k l : ℕ) → IsSelected c (suc k) m → IsSelected c (suc l) n → Dec (k < l) → Dec (l < k) → IsClosed (selected_members c) m n s
+      by_order : (k l : ℕ) → SelectsAt c (suc k) m → SelectsAt c (suc l) n → Dec (k < l) → Dec (l < k) → IsClosed (selected_members c) m n s
       by_order k l at_m at_n (yes below) d = valid (Pair (suc k) (suc l)) (omega arith) m n at_m at_n signs s g
       by_order k l at_m at_n (no not_below) (yes above) =
           closed_in_other_order (selected_members c) n m (swapped s) (swapped_general s m.selected.atom n.selected.atom g)
           (valid (Pair (suc l) (suc k)) (omega arith) n m at_n at_m (λ e. signs (sym e)) (swapped s) (swapped_general s m.selected.atom n.selected.atom g)) s g
       by_order k l at_m at_n (no not_below) (no not_above) =
           let same : k ≡ l = omega arith in
-          absurd (signs (ap (λ (x : Member). x.selected.positive) (selected_once c (suc l) m n (transport (λ j. IsSelected c (suc j) m) same at_m) at_n)))
+          absurd (signs (ap (λ (x : Member). x.selected.positive) (selected_once c.base.members c.places (suc l) m n (transport (λ j. SelectsAt c (suc j) m) same at_m) at_n)))
 
   pub valid_is_saturated : IsSaturated (selected_members c) (with_axioms c.base.inputs)
   valid_is_saturated = record {

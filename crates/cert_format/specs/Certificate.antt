@@ -16,8 +16,9 @@ pub record Base : Type 0 where
   pub axioms : List TreeClause
   pub members : List Entry
 
--- the constant that was put for every variable, the ground clauses, and a derivation of the empty clause from them
-pub record Refutation : Type 0 where
+-- A refutation of the first format: the constant that was put for every variable, for each member its ground clause, and a
+-- derivation of the empty clause from them.
+pub record FirstRefutation : Type 0 where
   pub base : Base
   pub bot : Sym
   pub grounds : List TreeClause
@@ -27,6 +28,14 @@ pub record Refutation : Type 0 where
 pub record Saturation : Type 0 where
   pub base : Base
   pub places : List ℕ
+
+pub data Certificate : Type 0 where
+  first_refutation : FirstRefutation → Certificate
+  saturation : Saturation → Certificate
+
+abbrev pub base_of : Certificate → Base
+base_of (first_refutation r) = r.base
+base_of (saturation s) = s.base
 
 abbrev pub with_selected : TreeClause → Option (Signed Tree) → List Member → List Member
 with_selected c None ms = ms

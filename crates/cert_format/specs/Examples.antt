@@ -6,7 +6,7 @@ use Rattle.inst_logic.specs.Examples.{p, p_pair, q, constant_bot, yes, no}
 use Rattle.inst_calculus.specs.Entries.{input, inst, Entry}
 use Rattle.inst_calculus.specs.Steps.{given, Step}
 use Rattle.inst_calculus.specs.Examples.{constant_a, constant_b, tie_one, tie_two, tie_three, tie_four, entry, p_a, p_always, not_p_c, p_c, bot}
-use Rattle.cert_format.specs.Certificate.{Refutation, Saturation}
+use Rattle.cert_format.specs.Certificate.{FirstRefutation, Saturation}
 
 -- the lines, each with a line feed behind it
 abbrev pub text_of_lines : List (List ℕ) → List ℕ
@@ -38,7 +38,7 @@ chain_saturation = record {
 }
 
 -- p(X0) and ~p(c) with the conclusion p(c), and the steps that are given
-abbrev pub instance_refutation : List (Step Tree) → Refutation
+abbrev pub instance_refutation : List (Step Tree) → FirstRefutation
 instance_refutation steps = record {
   base = record {
     inputs = p_always ∷ not_p_c ∷ [];
@@ -56,7 +56,7 @@ abbrev pub one_step : ℕ → ℕ → List (Step Tree)
 one_step m n = record { clause = []; hints = given m ∷ given n ∷ [] } ∷ []
 
 -- the first ground clause is p(a)
-abbrev pub changed_refutation : Refutation
+abbrev pub changed_refutation : FirstRefutation
 changed_refutation = record (instance_refutation (one_step 2 3)) { grounds = p_a ∷ not_p_c ∷ p_c ∷ [] }
 
 -- the tied clauses with these members and places

@@ -3,4 +3,5 @@ pub mod Validity
 pub mod Printable
 pub mod Lines
 pub mod Text
+pub mod Certifies
 pub mod Examples

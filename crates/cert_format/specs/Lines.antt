@@ -22,9 +22,9 @@ start_line form name = text_line (codes "% SZS output start " ++ form ++ codes "
 abbrev pub end_line : List ℕ → List ℕ → List ℕ
 end_line form name = text_line (codes "% SZS output end " ++ form ++ codes " for " ++ name)
 
--- `% instgen certificate 1`
-abbrev pub format_line : List ℕ
-format_line = text_line (codes "% instgen certificate 1")
+-- `% instgen certificate F`
+abbrev pub format_line : ℕ → List ℕ
+format_line format = text_line (codes "% instgen certificate " ++ decimal format)
 
 -- `% ground constant C`
 abbrev pub constant_line : Sym → List ℕ

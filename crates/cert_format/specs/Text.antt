@@ -1,6 +1,6 @@
--- The text of a certificate, format 1, as a list of bytes.
+-- The text of a certificate, in a format, as a list of bytes.
 use Rattle.std.specs.Prelude.{ℕ, ◌+◌, List, [], ◌∷◌, ◌++◌, codes}
-use Rattle.cert_format.specs.Certificate.{Base, Refutation, Saturation}
+use Rattle.cert_format.specs.Certificate.{Base, FirstRefutation, Saturation, Certificate, first_refutation, saturation}
 use Rattle.cert_format.specs.Lines.{status_line, start_line, end_line, format_line, constant_line, input_line, axiom_line, member_line, selected_line, ground_line, step_line}
 
 -- the lines of the items, numbered from n on
@@ -20,19 +20,23 @@ input_lines b = paired_lines input_line 1 b.inputs b.names
 abbrev pub axiom_lines : Base → List ℕ
 axiom_lines b = numbered_lines axiom_line 1 b.axioms
 
-abbrev pub ground_lines : Refutation → List ℕ
+abbrev pub ground_lines : FirstRefutation → List ℕ
 ground_lines c = numbered_lines ground_line 1 c.grounds
 
 -- the first two lines, with the status, the form and the name
 abbrev pub head_lines : List ℕ → List ℕ → List ℕ → List ℕ
 head_lines status form name = status_line status name ++ start_line form name
 
-abbrev pub refutation_text : List ℕ → Refutation → List ℕ
-refutation_text name c = head_lines (codes "Unsatisfiable") (codes "CNFRefutation") name ++ format_line ++ constant_line c.bot
+abbrev pub refutation_text : ℕ → List ℕ → FirstRefutation → List ℕ
+refutation_text format name c = head_lines (codes "Unsatisfiable") (codes "CNFRefutation") name ++ format_line format ++ constant_line c.bot
     ++ input_lines c.base ++ axiom_lines c.base ++ numbered_lines member_line 1 c.base.members
     ++ ground_lines c ++ numbered_lines step_line 1 c.steps ++ end_line (codes "CNFRefutation") name
 
-abbrev pub saturation_text : List ℕ → Saturation → List ℕ
-saturation_text name c = head_lines (codes "Satisfiable") (codes "Saturation") name ++ format_line
+abbrev pub saturation_text : ℕ → List ℕ → Saturation → List ℕ
+saturation_text format name c = head_lines (codes "Satisfiable") (codes "Saturation") name ++ format_line format
     ++ input_lines c.base ++ axiom_lines c.base ++ paired_lines selected_line 1 c.base.members c.places
     ++ end_line (codes "Saturation") name
+
+abbrev pub certificate_text : ℕ → List ℕ → Certificate → List ℕ
+certificate_text format name (first_refutation r) = refutation_text format name r
+certificate_text format name (saturation s) = saturation_text format name s

@@ -1,6 +1,6 @@
 -- The checks of a certificate in their order, one for each complaint, and validity: every check is passed. Where a check
 -- speaks of a number that only one list has, or of members without a place, an earlier check is not passed there.
-use Rattle.std.specs.Prelude.{◌≡◌, ◌≢◌, ◌⊎◌, ℕ, ◌-◌, ◌<◌, ◌≤◌, max, [], length, map, take, IsTrue, Some, Any}
+use Rattle.std.specs.Prelude.{◌≡◌, ◌≢◌, ◌⊎◌, ℕ, ◌-◌, ◌<◌, ◌≤◌, max, List, [], length, map, take, IsTrue, Some, Any}
 use Rattle.inst_logic.specs.Tree.{Tree}
 use Rattle.inst_logic.specs.WellFormed.{is_constant}
 use Rattle.inst_logic.specs.Signed.{IsTautology}
@@ -15,7 +15,7 @@ use Rattle.inst_calculus.specs.Entries.{Origin, Entry, entry_clauses}
 use Rattle.inst_calculus.specs.Models.{Member}
 use Rattle.inst_calculus.specs.Saturation.{IsClosed}
 use Rattle.inst_calculus.specs.Steps.{Step, cited_clause, EndsEmpty}
-use Rattle.cert_format.specs.Certificate.{Base, Refutation, Saturation, selected_members}
+use Rattle.cert_format.specs.Certificate.{Base, FirstRefutation, Saturation, Certificate, first_refutation, saturation, selected_members}
 use Rattle.cert_format.specs.declared.complaint.Complaint.{Complaint}
 use Rattle.cert_format.specs.declared.complaint.Complaint.TheVariants.{Axiom, Member as Derived, Bot, Ground, Step as Shown, NotEmpty, Place, Input, Pair}
 
@@ -32,26 +32,30 @@ abbrev pub IsRightMember : Base → ℕ → Type 0
 IsRightMember base n = (e : Entry) → at_number base.members n ≡ Some e → Gives base n e.origin e.clause
 
 -- ground clause n is member n with the constant for every variable, or neither is there
-abbrev pub IsRightGround : Refutation → ℕ → Type 0
+abbrev pub IsRightGround : FirstRefutation → ℕ → Type 0
 IsRightGround c n = at_number c.grounds n ≡ at_number (map (abstraction c.bot) (entry_clauses c.base.members)) n
 
--- step n has a hint, and is shown from the ground clauses and the steps before it
-pub record IsRightStep (c : Refutation) (n : ℕ) (s : Step Tree) : Type 0 where
+-- step n of the steps has a hint, and is shown from the given clauses and the steps before it
+pub record IsRightStep (given : List TreeClause) (steps : List (Step Tree)) (n : ℕ) (s : Step Tree) : Type 0 where
   pub hinted : s.hints ≢ []
-  pub shown : IsShown s.clause (map (cited_clause c.grounds (take (n - 1) c.steps)) s.hints)
+  pub shown : IsShown s.clause (map (cited_clause given (take (n - 1) steps)) s.hints)
 
 -- member n with the literal at its place
-pub record IsSelected (c : Saturation) (n : ℕ) (m : Member) : Type 0 where
+pub record IsSelected (members : List Entry) (places : List ℕ) (n : ℕ) (m : Member) : Type 0 where
   pub entry : Entry
   pub place : ℕ
-  pub entry_at : at_number c.base.members n ≡ Some entry
-  pub place_at : at_number c.places n ≡ Some place
+  pub entry_at : at_number members n ≡ Some entry
+  pub place_at : at_number places n ≡ Some place
   pub clause : m.clause ≡ entry.clause
   pub selected : at_number entry.clause place ≡ Some m.selected
 
+-- the same of the members and places of the saturation
+abbrev pub SelectsAt : Saturation → ℕ → Member → Type 0
+SelectsAt c n m = IsSelected c.base.members c.places n m
+
 -- where there is a member n or a place n, there is member n with a literal at its place
 abbrev pub IsRightPlace : Saturation → ℕ → Type 0
-IsRightPlace c n = 0 < n → n ≤ max (length c.base.members) (length c.places) → (m : Member) × IsSelected c n m
+IsRightPlace c n = 0 < n → n ≤ max (length c.base.members) (length c.places) → (m : Member) × SelectsAt c n m
 
 -- clause k of the inputs and axioms is a tautology, or has all literals of an instance of a member among its own
 abbrev pub IsRightInput : Saturation → ℕ → Type 0
@@ -59,16 +63,28 @@ IsRightInput c k = (d : TreeClause) → at_number (with_axioms c.base.inputs) k 
 
 -- where the selected literals of the two members have opposite signs and unify, what they conclude is covered
 abbrev pub IsRightPair : Saturation → ℕ → ℕ → Type 0
-IsRightPair c left right = left < right → (m n : Member) → IsSelected c left m → IsSelected c right n → m.selected.positive ≢ n.selected.positive
+IsRightPair c left right = left < right → (m n : Member) → SelectsAt c left m → SelectsAt c right n → m.selected.positive ≢ n.selected.positive
     → (s : Sided) → IsMostGeneral s m.selected.atom n.selected.atom → IsClosed (selected_members c) m n s
 
+-- The base passes the check that the complaint names, where it is one of the two that a base alone decides.
+abbrev pub BasePasses : Base → Complaint → Type 0
+BasePasses b (Axiom n) = IsRightAxiom b n
+BasePasses b (Derived n) = IsRightMember b n
+BasePasses b Bot = Unit {0}
+BasePasses b (Ground n) = Unit {0}
+BasePasses b (Shown n) = Unit {0}
+BasePasses b NotEmpty = Unit {0}
+BasePasses b (Place n) = Unit {0}
+BasePasses b (Input k) = Unit {0}
+BasePasses b (Pair left right) = Unit {0}
+
 -- The refutation passes the check that the complaint names: a complaint applies exactly where its check is not passed.
-abbrev pub RefutationPasses : Refutation → Complaint → Type 0
+abbrev pub RefutationPasses : FirstRefutation → Complaint → Type 0
 RefutationPasses c (Axiom n) = IsRightAxiom c.base n
 RefutationPasses c (Derived n) = IsRightMember c.base n
 RefutationPasses c Bot = IsTrue (is_constant c.bot)
 RefutationPasses c (Ground n) = IsRightGround c n
-RefutationPasses c (Shown n) = (s : Step Tree) → at_number c.steps n ≡ Some s → IsRightStep c n s
+RefutationPasses c (Shown n) = (s : Step Tree) → at_number c.steps n ≡ Some s → IsRightStep c.grounds c.steps n s
 RefutationPasses c NotEmpty = EndsEmpty c.steps
 RefutationPasses c (Place n) = Unit {0}
 RefutationPasses c (Input k) = Unit {0}
@@ -122,9 +138,17 @@ pub record IsFirstComplaint (Passes : Complaint → Type 0) (complaint : Complai
   pub applies : ¬ Passes complaint
   pub first : (other : Complaint) → Precedes other complaint → Passes other
 
+-- the axioms and the members are right
+abbrev pub IsValidBase : Base → Type 0
+IsValidBase b = (complaint : Complaint) → BasePasses b complaint
+
 -- no complaint applies: every check is passed
-abbrev pub IsValidRefutation : Refutation → Type 0
+abbrev pub IsValidRefutation : FirstRefutation → Type 0
 IsValidRefutation c = (complaint : Complaint) → RefutationPasses c complaint
 
 abbrev pub IsValidSaturation : Saturation → Type 0
 IsValidSaturation c = (complaint : Complaint) → SaturationPasses c complaint
+
+abbrev pub IsValid : Certificate → Type 0
+IsValid (first_refutation r) = IsValidRefutation r
+IsValid (saturation s) = IsValidSaturation s

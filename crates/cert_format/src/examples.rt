@@ -2,7 +2,8 @@
 ghost use Rattle.std.specs.Prelude.{◌≡◌, ◌∷◌, [], codes};
 ghost use Rattle.cert_format.specs.declared.complaint.Complaint.TheVariants.{Member as Derived, Ground, Step as Shown, NotEmpty, Place, Input, Pair};
 ghost use Rattle.cert_format.specs.Validity.{RefutationPasses, SaturationPasses, IsFirstComplaint, IsValidRefutation, IsValidSaturation};
-ghost use Rattle.cert_format.specs.Printable.{IsPrintableRefutation, IsPrintableSaturation, IsTextName};
+ghost use Rattle.cert_format.specs.Printable.{IsPrintable, IsTextName};
+ghost use Rattle.cert_format.specs.Certificate.{first_refutation, saturation};
 ghost use Rattle.cert_format.specs.Text.{refutation_text, saturation_text};
 ghost use Rattle.cert_format.specs.Examples.{text_of_lines, empty_saturation, chain_saturation, instance_refutation, one_step, tie_with, tie_entries, wrong_entries, changed_refutation};
 ghost use Rattle.inst_calculus.specs.Entries.{input};
@@ -10,11 +11,11 @@ ghost use Rattle.inst_calculus.specs.Examples.{entry, tie_one, tie_two};
 
 /// Whole texts, byte by byte.
 pub fn texts()
-    ensures empty { saturation_text (codes "empty.p") empty_saturation ≡ text_of_lines (codes "% SZS status Satisfiable for empty.p"
+    ensures empty { saturation_text 1 (codes "empty.p") empty_saturation ≡ text_of_lines (codes "% SZS status Satisfiable for empty.p"
         ∷ codes "% SZS output start Saturation for empty.p"
         ∷ codes "% instgen certificate 1"
         ∷ codes "% SZS output end Saturation for empty.p" ∷ []) }
-    ensures saturation { saturation_text (codes "chain.p") chain_saturation ≡ text_of_lines (codes "% SZS status Satisfiable for chain.p"
+    ensures saturation { saturation_text 1 (codes "chain.p") chain_saturation ≡ text_of_lines (codes "% SZS status Satisfiable for chain.p"
         ∷ codes "% SZS output start Saturation for chain.p"
         ∷ codes "% instgen certificate 1"
         ∷ codes "cnf(i1,axiom,p(X0) | ~q(X0),named(a))."
@@ -22,7 +23,7 @@ pub fn texts()
         ∷ codes "cnf(m1,plain,p(X0) | ~q(X0),input(1),[selected(1)])."
         ∷ codes "cnf(m2,plain,q(X0),input(2),[selected(1)])."
         ∷ codes "% SZS output end Saturation for chain.p" ∷ []) }
-    ensures refutation { refutation_text (codes "r.p") (instance_refutation (one_step 2 3)) ≡ text_of_lines (codes "% SZS status Unsatisfiable for r.p"
+    ensures refutation { refutation_text 1 (codes "r.p") (instance_refutation (one_step 2 3)) ≡ text_of_lines (codes "% SZS status Unsatisfiable for r.p"
         ∷ codes "% SZS output start CNFRefutation for r.p"
         ∷ codes "% instgen certificate 1"
         ∷ codes "% ground constant bot_0"
@@ -36,7 +37,7 @@ pub fn texts()
         ∷ codes "cnf(g3,plain,p(c),ground(m3))."
         ∷ codes "cnf(r1,plain,$false,rup([g2,g3]))."
         ∷ codes "% SZS output end CNFRefutation for r.p" ∷ []) }
-    ensures tie { saturation_text (codes "tie.p") (tie_with tie_entries (1 ∷ 1 ∷ 2 ∷ 2 ∷ [])) ≡ text_of_lines (codes "% SZS status Satisfiable for tie.p"
+    ensures tie { saturation_text 1 (codes "tie.p") (tie_with tie_entries (1 ∷ 1 ∷ 2 ∷ 2 ∷ [])) ≡ text_of_lines (codes "% SZS status Satisfiable for tie.p"
         ∷ codes "% SZS output start Saturation for tie.p"
         ∷ codes "% instgen certificate 1"
         ∷ codes "cnf(i1,axiom,p(X0,a) | q(X0),named(one))."
@@ -50,10 +51,10 @@ pub fn texts()
 
 /// Certificates with a text, and a name that may stand in it.
 pub fn printable()
-    ensures empty { IsPrintableSaturation empty_saturation }
-    ensures saturation { IsPrintableSaturation chain_saturation }
-    ensures refutation { IsPrintableRefutation (instance_refutation (one_step 2 3)) }
-    ensures tie { IsPrintableSaturation (tie_with tie_entries (1 ∷ 1 ∷ 2 ∷ 2 ∷ [])) }
+    ensures empty { IsPrintable 1 (saturation empty_saturation) }
+    ensures saturation { IsPrintable 1 (saturation chain_saturation) }
+    ensures refutation { IsPrintable 1 (first_refutation (instance_refutation (one_step 2 3))) }
+    ensures tie { IsPrintable 1 (saturation (tie_with tie_entries (1 ∷ 1 ∷ 2 ∷ 2 ∷ []))) }
     ensures name { IsTextName (codes "r.p") }
     ensures no_name { ¬ IsTextName [] }
     ensures line_feed { ¬ IsTextName (114 ∷ 10 ∷ []) }

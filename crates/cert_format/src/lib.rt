@@ -8,4 +8,7 @@ pub mod examples;
 pub mod laws;
 
 pub use complaint::Complaint;
-pub use laws::{valid_refutations_refute, valid_saturations_are_models};
+pub use laws::{
+    refuted_is_valid, saturated_is_valid, selected_by_number, valid_certificates_certify,
+    valid_refutations_refute, valid_saturations_are_models,
+};

@@ -13,11 +13,11 @@ use Rattle.inst_logic.specs.Substitution.{Substitution, subst, subst_literal}
 use Rattle.inst_logic.specs.Clauses.{instance}
 use Rattle.inst_logic.proofs.SameLemmas.{signed_eq_decides, literal_eq_decides}
 use Rattle.inst_logic.proofs.Distinct.{distinct_more}
-use Rattle.term_bank.specs.Forest.{Forest, tree_at, AreDistinct, AreIds, IsClauseAt, clause_at}
+use Rattle.term_bank.specs.Forest.{Forest, tree_at, AreDistinct, AreIds, IsClauseAt, clause_at, literal_tree}
 use Rattle.inst_calculus.proofs.Membership.{◌∈◌, all_in, in_all}
 use Rattle.inst_calculus.proofs.Distinct.{distinct_map, from_distinct}
 use Rattle.clause_form.specs.Literals.{with_atoms, id_eq}
-use Rattle.clause_form.proofs.Ids.{literal_at, same_literal}
+use Rattle.clause_form.proofs.Ids.{same_literal}
 
 pub id_eq_decides : (k l : Signed ℕ) → Decides (id_eq k l) (k ≡ l)
 id_eq_decides = signed_eq_decides nat_eq Decides-eqb
@@ -60,7 +60,7 @@ assembled f g s c ids once within e =
     let ds = with_atoms c ids in
     let inside = λ (k : Signed ℕ) (i : k ∈ ds). all_in (λ (n : ℕ). n < length g.trees) ids within k.atom (atom_among c ids k i) in (
       in_all (λ (k : Signed ℕ). k.atom < length g.trees) (distinct id_eq ds) (λ k i. inside k (from_distinct id_eq id_eq_decides k ds i)),
-      sym (distinct_map id_eq id_eq_decides literal_eq literal_eq_decides (literal_at g) ds (λ k i l j h. same_literal g once k l (inside k i) (inside l j) h)) ∙ ap (distinct literal_eq) (made_trees f g s c ids e),
+      sym (distinct_map id_eq id_eq_decides literal_eq literal_eq_decides (literal_tree g) ds (λ k i l j h. same_literal g once k l (inside k i) (inside l j) h)) ∙ ap (distinct literal_eq) (made_trees f g s c ids e),
     )
 
 -- one more literal of the list

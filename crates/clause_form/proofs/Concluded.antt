@@ -1,29 +1,31 @@
 -- Conclusions whose atoms and terms were built together.
-use Rattle.std.proofs.Common.{◌≡◌, ℕ, ◌+◌, ◌*◌, ◌<◌, ◌≤◌, List, [], ◌++◌, refl, sym, ap, ◌∙◌, subst as transport, map, length, take, drop, arith, inl, inr}
+use Rattle.std.proofs.Common.{◌≡◌, ℕ, ◌+◌, ◌<◌, ◌≤◌, List, [], ◌++◌, refl, sym, ap, ◌∙◌, subst as transport, map, length, take, drop, arith, inl, inr}
 use Rattle.inst_logic.specs.declared.signed.Signed.{Signed}
 use Rattle.inst_logic.specs.Tree.{Tree}
 use Rattle.inst_logic.specs.Substitution.{Substitution, subst, followed_by, clause_vars}
 use Rattle.inst_logic.specs.Clauses.{instance, numbered, order_of, canonical_form, IsCanonical}
 use Rattle.inst_logic.specs.Lists.{distinct}
 use Rattle.inst_logic.specs.Unifiers.{Sided}
+use Rattle.inst_logic.specs.WellFormed.{IsTerm, IsFormedClause}
+use Rattle.inst_logic.proofs.Formed.{tree_stays_formed, canonical_is_formed}
 use Rattle.inst_calculus.proofs.Clauses.{literals_under}
 use Rattle.inst_calculus.proofs.Distinct.{length_map}
-use Rattle.std.proofs.lemmas.List.{length-append}
+use Rattle.inst_calculus.proofs.Instances.{instance_is_formed}
+use Rattle.inst_calculus.proofs.CanonicalForms.{canonical_of_canonical}
+use Rattle.std.proofs.lemmas.List.{length-append, get_or_default}
 use Rattle.std.proofs.lemmas.List.Elements.{All-drop, All-take}
 use Rattle.term_bank.specs.Forest.{Forest, tree_at, clause_at, AreDistinct, AreIds, IsClauseAt, IsClauseOf, Extends}
 use Rattle.term_bank.proofs.Clauses.{clause_extends}
 use Rattle.unify_core.specs.Chains.{AreBindings}
 use Rattle.unify_core.specs.Terms.{AreTerms}
-use Rattle.inst_logic.specs.WellFormed.{IsTerm}
-use Rattle.unify_core.specs.Sides.{Binding, IsResolvedBy, of_side, numbered as side_number, variable_number, on_side, assignment}
+use Rattle.unify_core.specs.Sides.{Binding, of_side}
 use Rattle.unify_core.specs.declared.side.Side.{Side}
-use Rattle.unify_core.specs.declared.side.Side.TheVariants.{Left, Right}
-use Rattle.unify_core.proofs.Lists.{∈-map}
-use Rattle.unify_core.proofs.Sides.{apply_on_side, key_of}
-use Rattle.clause_form.specs.Conclusions.{AreVariables, AreTermsOf, IsConclusionUnder, IsConclusionOf}
+pub use Rattle.unify_core.proofs.Solutions.{solution_of, terms_stay as terms_later}
+use Rattle.unify_core.proofs.Solutions.{terms_solved}
+use Rattle.clause_form.specs.Conclusions.{AreVariables, AreTermsOf, AreTermIds, IsConclusionUnder, IsConclusionOf}
 use Rattle.clause_form.specs.Literals.{with_atoms, id_eq}
 use Rattle.clause_form.specs.Walks.{trees_on, vars_on, with_vars}
-use Rattle.clause_form.proofs.Leaves.{resolved_later}
+use Rattle.unify_core.proofs.Stays.{substitutions_stay}
 use Rattle.clause_form.proofs.Led.{led_reading, ids_vars, vars_led, trees_led, all_met, atom_vars, atom_trees, made_instance}
 use Rattle.clause_form.proofs.Readings.{atoms_within}
 use Rattle.inst_calculus.proofs.Membership.{all_in, in_all, in_either}
@@ -93,29 +95,6 @@ concluded f g s side c literals d nodes vars xs atoms terms ids k h once within 
       terms = transport (AreTermsOf g (of_side s side) (clause_at f c)) (sym (same ∙ second)) (terms_become f g (of_side s side) c vars (drop k xs) h (All-drop (λ (n : ℕ). n < length g.trees) k xs within) parts.1);
     }
 
--- the solution of bindings, for each side
-halves : (ℕ → Tree) → Sided
-halves u = record { left = λ v. u (2 * v); right = λ v. u (2 * v + 1) }
-
-half_of : (u : ℕ → Tree) (s : Side) (v : ℕ) → of_side (halves u) s v ≡ u (side_number s v)
-unfolding halves
-half_of u Left v = refl
-half_of u Right v = refl
-
-half_on : (u : ℕ → Tree) (s : Side) (t : Tree) → subst u (on_side s t) ≡ subst (of_side (halves u) s) t
-half_on u s t = apply_on_side u s t ∙ ap (λ (r : Substitution). subst r t) (λ i v. sym (half_of u s v) i)
-
-pub solution_of : (f : Forest) (es : List Binding) → AreBindings f es → (s : Sided) × IsResolvedBy f es s
-solution_of f es b =
-    let by = b.solved.by in
-    let s = b.solved.solves in (
-      halves by,
-      record {
-        bound = λ e i. half_of by e.0.side e.0.var ∙ s.respects (assignment f e) (∈-map (assignment f) e es i) ∙ half_on by e.1.side (tree_at f e.1.term);
-        free = λ x n. half_of by x.side x.var ∙ s.free (variable_number x) (λ k. n (key_of f es x k));
-      },
-    )
-
 pub long_enough : (f g : Forest) (s : Sided) (final : List ℕ) (side : Side) (c : List (Signed ℕ)) (nodes vars xs : List ℕ) (k : ℕ) → nodes ≡ map (λ l. l.atom) c ++ vars → map (tree_at g) xs ≡ trees_on (led_reading f s final) side nodes → k ≡ length c → k ≤ length xs
 long_enough f g s final side c nodes vars xs k e built len =
     let a : length xs ≡ length nodes =
@@ -129,15 +108,33 @@ long_enough f g s final side c nodes vars xs k e built len =
 -- a conclusion over a later bank
 pub concluded_before : (f g h : Forest) (es : List Binding) (side : Side) (c d : List (Signed ℕ)) (ids : List ℕ) → Extends f g → IsClauseOf f c → AreBindings f es → IsConclusionOf g h es side c d ids → IsConclusionOf f h es side c d ids
 concluded_before f g h es side c d ids x inside b k s r =
-    let m = k s (resolved_later f g es s x b r) in
+    let m = k s (substitutions_stay f g es s x b r) in
     let e : clause_at g c ≡ clause_at f c = clause_extends f g x c inside in
     record {
       clause = transport (λ (z : List (Signed Tree)). IsClauseAt h d (canonical_form (instance (of_side s side) z))) e m.clause;
       terms = transport (λ (z : List (Signed Tree)). AreTermsOf h (of_side s side) z ids) e m.terms;
     }
 
-pub terms_later : (f g : Forest) (es : List Binding) → Extends f g → AreBindings f es → AreTerms f es → AreTerms g es
-terms_later f g es x b h e i = transport IsTerm (sym (x.trees.1 e.1.term (b.within e i))) (h e i)
+-- a conclusion is a canonical clause of the bank, and its terms are of the bank
+pub conclusion_in : (f g : Forest) (es : List Binding) (side : Side) (c d : List (Signed ℕ)) (ids : List ℕ) → AreBindings f es → IsConclusionOf f g es side c d ids → IsClauseOf g d × AreIds g ids × IsCanonical (clause_at g d)
+conclusion_in f g es side c d ids b m =
+    let (s, r) = solution_of f es b in
+    let k = m s r in (
+      k.clause.0,
+      λ v n l. transport (λ (i : ℕ). i < length g.trees) (get_or_default ids v 0 n l) (k.terms.become v l).0,
+      transport IsCanonical (sym k.clause.1) (canonical_of_canonical (instance (of_side s side) (clause_at f c))),
+    )
+
+-- under bindings to terms an atom becomes an atom, and a variable a term
+pub conclusion_formed : (f g : Forest) (es : List Binding) (side : Side) (c d : List (Signed ℕ)) (ids : List ℕ) → AreBindings f es → AreTerms f es → IsConclusionOf f g es side c d ids
+    → (IsFormedClause (clause_at f c) → IsFormedClause (clause_at g d)) × AreTermIds g ids
+conclusion_formed f g es side c d ids b all m =
+    let (s, r) = solution_of f es b in
+    let k = m s r in (
+      λ h. transport IsFormedClause (sym k.clause.1) (canonical_is_formed (instance (of_side s side) (clause_at f c)) (instance_is_formed (of_side s side) (clause_at f c) (terms_solved f es b all s r side) h)),
+      λ v n l. transport (λ (i : ℕ). IsTerm (tree_at g i)) (get_or_default ids v 0 n l)
+          (transport IsTerm (sym (k.terms.become v l).1) (tree_stays_formed (numbered (order_of (instance (of_side s side) (clause_at f c)))) (λ w. refl) (of_side s side v) (terms_solved f es b all s r side v))),
+    )
 
 pub nodes_within : (f : Forest) (c : List (Signed ℕ)) (nodes vars : List ℕ) (n : ℕ) → nodes ≡ map (λ l. l.atom) c ++ vars → IsClauseOf f c → AreVariables f n vars → AreIds f nodes
 nodes_within f c nodes vars n e inside h =

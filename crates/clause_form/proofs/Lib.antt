@@ -14,6 +14,5 @@ pub mod Concluded
 pub mod Led
 pub mod Placing
 pub mod PlacingSteps
-pub mod TermsSolved
 pub mod Variables
 pub mod Greatest

@@ -22,6 +22,8 @@ use Rattle.inst_calculus.proofs.Clauses.{IsWithin, part_within, within_part}
 use Rattle.clause_form.specs.Placements.{no_literal, literal_at, Goes, IsPlacedIn, HasPlaces, IsPut, IsMissed, IsReached, IsAhead, IsRising, IsPlacing}
 use Rattle.clause_form.specs.declared.subsumption.Choice.{Choice}
 use Rattle.clause_form.specs.declared.subsumption.Ranked.{Ranked}
+use Rattle.term_bank.specs.Forest.{literal_tree}
+use Rattle.inst_logic.proofs.Membership.{in_take}
 
 -- the substitution of bindings
 value : Forest → List Binding → Substitution
@@ -43,12 +45,6 @@ value_agrees f (d ∷ es) once e i = by (nat_eq d.0.var e.0.var) refl i (λ j. v
       where
         differs : d.0.var ≡ e.0.var → ⊥
         differs h = let k : nat_eq d.0.var e.0.var ≡ true = (Decides-eqb d.0.var e.0.var).1 h in cc
-
-in_take : {A : Type 0} (x : A) (n : ℕ) (xs : List A) → x ∈ take n xs → x ∈ xs
-in_take x zero xs i = absurd i
-in_take x (suc n) [] i = absurd i
-in_take x (suc n) (y ∷ ys) (inl e) = inl e
-in_take x (suc n) (y ∷ ys) (inr i) = inr (in_take x n ys i)
 
 pub matches_take : (f : Forest) (n : ℕ) (es : List Binding) → AreMatches f es → AreMatches f (take n es)
 matches_take f n es h = record {
@@ -322,9 +318,6 @@ at_place : (c : List (Signed ℕ)) (i : ℕ) → i < length c → literal_at c i
 at_place [] i l = absurd (omega arith)
 at_place (k ∷ c) zero l = inl refl
 at_place (k ∷ c) (suc i) l = inr (at_place c i (omega arith))
-
-abbrev literal_tree : Forest → Signed ℕ → Signed Tree
-literal_tree f l = record { positive = l.positive; atom = tree_at f l.atom }
 
 module _ (f : Forest) (d c : List (Signed ℕ)) where
   places_within : (s : Substitution) → HasPlaces f s d c → IsWithin s (clause_at f d) (clause_at f c)

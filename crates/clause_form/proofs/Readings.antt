@@ -1,5 +1,5 @@
 -- What nodes become, by a list of terms or by bindings.
-use Rattle.std.proofs.Common.{◌≡◌, ℕ, ◌<◌, ◌≤◌, List, [], ◌∷◌, refl, sym, ap, ◌∙◌, subst as transport, map, length, Bool, true, false, Some, slice_get, get_or, arith, ◌⊎◌, inl, inr}
+use Rattle.std.proofs.Common.{◌≡◌, ℕ, ◌<◌, ◌≤◌, List, [], ◌∷◌, refl, sym, ap, ◌∙◌, subst as transport, map, length, true, Some, slice_get, get_or, arith, ◌⊎◌, inl, inr}
 use Rattle.std.specs.Prelude.{◌&&◌, ◌||◌, None}
 use Rattle.std.proofs.lemmas.Option.{slice_get-get_or, slice_get_cases}
 use Rattle.std.proofs.lemmas.List.{length-map}
@@ -23,6 +23,7 @@ use Rattle.clause_form.specs.Conclusions.{by_terms, AreTermIds}
 use Rattle.clause_form.specs.Literals.{with_atoms, id_eq}
 use Rattle.clause_form.proofs.Assembly.{assembled}
 use Rattle.clause_form.specs.Walks.{Reading, IsReading, listed, tree_or, trees_on, vars_on, IsFormedReading}
+use Rattle.inst_logic.proofs.Booleans.{or_cases, or_right}
 
 mutual
   pub ground_stays : (s : Substitution) (t : Tree) → is_ground t ≡ true → subst s t ≡ t
@@ -95,14 +96,6 @@ instance_listed f g ts terms c literals d ids once within e same lits canonical 
 pub same_length : (f g : Forest) (ts : List ℕ) (c literals : List (Signed ℕ)) (ids : List ℕ) → map (tree_at g) ids ≡ map (λ l. subst (listed f ts) (tree_at f l.atom)) c → literals ≡ c → length literals ≡ length ids
 same_length f g ts c literals ids e lits =
     ap (λ (x : List (Signed ℕ)). length x) lits ∙ sym (length-map c (λ (l : Signed ℕ). subst (listed f ts) (tree_at f l.atom))) ∙ ap (λ (x : List Tree). length x) (sym e) ∙ length-map ids (tree_at g)
-
-or_cases : (x y : Bool) → (x || y) ≡ true → (x ≡ true) ⊎ (y ≡ true)
-or_cases true y h = inl refl
-or_cases false y h = inr h
-
-or_right : (x y : Bool) → y ≡ true → (x || y) ≡ true
-or_right true y h = refl
-or_right false y h = h
 
 pub subst_formed : (s : Substitution) → ((v : ℕ) → tree_is_formed (s v) ≡ true) → (t : Tree) → is_formed t ≡ true → is_formed (subst s t) ≡ true
 subst_formed s each t h = by (or_cases (tree_is_formed t) (atom_is_formed t) h)

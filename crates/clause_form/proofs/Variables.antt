@@ -1,31 +1,27 @@
 -- The variables of a canonical clause, and what they become.
-use Rattle.std.proofs.Common.{◌≡◌, ℕ, zero, suc, ◌+◌, ◌<◌, List, [], ◌∷◌, ◌++◌, ◌⊎◌, inl, inr, refl, sym, ap, ap₂, ◌∙◌, subst as transport, map, length, get_or, nat_eq, Bool, true, false, cond, not, fold, Decides, arith, append_assoc, take, drop}
+use Rattle.std.proofs.Common.{◌≡◌, ℕ, zero, suc, ◌+◌, ◌<◌, List, [], ◌∷◌, ◌++◌, ◌⊎◌, inl, inr, refl, sym, ap, ap₂, ◌∙◌, subst as transport, map, length, get_or, nat_eq, Bool, true, false, cond, not, Decides, arith, append_assoc, take, drop}
 use Rattle.std.proofs.lemmas.Bool.Decides.{Decides-eqb}
 use Rattle.std.proofs.lemmas.List.{length_push, get_or_append_left, get_or_push}
 use Rattle.std.proofs.lemmas.List.Elements.{Contains-get_or}
-use Rattle.std.proofs.lemmas.List.Sums.{fold-append}
-use Rattle.inst_logic.specs.declared.signed.Signed.{Signed}
 use Rattle.inst_logic.specs.Tree.{Tree, var, app, Trees, none, more}
 use Rattle.inst_logic.specs.Substitution.{Substitution, subst, substs, subst_literal, followed_by, tree_vars, trees_vars, clause_vars}
 use Rattle.inst_logic.specs.Clauses.{TreeClause, instance, numbered, order_of, canonical_form, IsCanonical}
-use Rattle.inst_logic.specs.Lists.{distinct, with_item}
+use Rattle.inst_logic.specs.Lists.{distinct}
 use Rattle.inst_logic.specs.Equal.{literal_eq}
 use Rattle.inst_logic.proofs.Distinct.{distinct_append}
-use Rattle.inst_logic.proofs.SameLemmas.{literal_eq_decides}
 use Rattle.inst_calculus.proofs.Membership.{◌∈◌, contains_in, all_in, in_left, in_right, in_either, in_map}
-use Rattle.inst_calculus.proofs.Distinct.{IsDistinct, place, from_distinct, in_distinct, without, distinct_joined, distinct_is_distinct, items_present, in_with_items}
+use Rattle.inst_calculus.proofs.Distinct.{IsDistinct, place, from_distinct, in_distinct, distinct_is_distinct, items_present}
 use Rattle.inst_calculus.proofs.Clauses.{literals_under, literals_followed, variable_of, literal_of, in_instance}
 use Rattle.inst_calculus.proofs.CanonicalForms.{canonical_of_distinct}
 use Rattle.term_bank.specs.Forest.{Forest, tree_at, Extends, IsAt}
 use Rattle.clause_form.specs.Conclusions.{AreVariables}
 use Rattle.clause_form.proofs.Led.{ids_vars}
+use Rattle.inst_calculus.proofs.CanonicalForms.{order_of_distinct}
+use Rattle.inst_logic.proofs.Numbers.{last_or_before}
 
 -- one more variable
 pub no_variables : (f : Forest) → AreVariables f 0 []
 no_variables f = record { count_of = refl; each = λ v d h. absurd (omega arith) }
-
-last_or_before : (i n : ℕ) → i < n + 1 → (i < n) ⊎ (n ≡ i)
-last_or_before i n h = grind arith
 
 pub one_variable : (f g : Forest) (n id : ℕ) (ids : List ℕ) → Extends f g → AreVariables f n ids → IsAt g id (var n) → AreVariables g (n + 1) (ids ++ id ∷ [])
 one_variable f g n id ids x old made = record {
@@ -33,40 +29,14 @@ one_variable f g n id ids x old made = record {
   each = λ v d h. by v d (last_or_before v n h);
 }
   where
-    by : (v d : ℕ) → (v < n) ⊎ (n ≡ v) → IsAt g (get_or (ids ++ id ∷ []) v d) (var v)
+    by : (v d : ℕ) → (v < n) ⊎ (v ≡ n) → IsAt g (get_or (ids ++ id ∷ []) v d) (var v)
     by v d (inl l) =
         let l' : v < length ids = let e = old.count_of in omega arith in
         let k = old.each v d l in
         transport (λ m. IsAt g m (var v)) (sym (get_or_append_left ids (id ∷ []) d v l')) (let m = x.trees.0 in omega arith, x.trees.1 (get_or ids v d) k.0 ∙ k.1)
-    by v d (inr e) = transport (λ m. IsAt g m (var v)) (sym (get_or_push ids id d v (old.count_of ∙ e))) (transport (λ m. IsAt g id (var m)) e made)
+    by v d (inr e) = transport (λ m. IsAt g m (var v)) (sym (get_or_push ids id d v (old.count_of ∙ sym e))) (transport (λ m. IsAt g id (var m)) (sym e) made)
 
 -- repeats of literals do not count in the order of variables
-vars_without : (seen : List ℕ) (l : Signed Tree) (c : TreeClause) → ((v : ℕ) → v ∈ tree_vars l.atom → v ∈ seen)
-    → fold (with_item nat_eq) seen (clause_vars (without literal_eq l c)) ≡ fold (with_item nat_eq) seen (clause_vars c)
-vars_without seen l [] h = refl
-vars_without seen l (k ∷ c) h = go (literal_eq l k) (literal_eq_decides l k) (λ more. vars_without more l c)
-  where
-    go : (b : Bool) → Decides b (l ≡ k)
-        → ((more : List ℕ) → ((v : ℕ) → v ∈ tree_vars l.atom → v ∈ more) → fold (with_item nat_eq) more (clause_vars (without literal_eq l c)) ≡ fold (with_item nat_eq) more (clause_vars c))
-        → fold (with_item nat_eq) seen (clause_vars (cond (not b) (k ∷ without literal_eq l c) (without literal_eq l c))) ≡ fold (with_item nat_eq) seen (tree_vars k.atom ++ clause_vars c)
-    go true d rest =
-        rest seen h
-        ∙ ap (λ vs. fold (with_item nat_eq) vs (clause_vars c))
-        (sym (items_present nat_eq Decides-eqb seen (tree_vars k.atom) (λ v i. h v (transport (λ (x : Signed Tree). v ∈ tree_vars x.atom) (sym (d.0 refl)) i))))
-        ∙ sym (fold-append (with_item nat_eq) seen (tree_vars k.atom) (clause_vars c))
-    go false d rest =
-        fold-append (with_item nat_eq) seen (tree_vars k.atom) (clause_vars (without literal_eq l c))
-        ∙ rest (fold (with_item nat_eq) seen (tree_vars k.atom)) (λ v i. in_with_items nat_eq Decides-eqb v seen (tree_vars k.atom) (h v i))
-        ∙ sym (fold-append (with_item nat_eq) seen (tree_vars k.atom) (clause_vars c))
-
-order_of_distinct : (c : TreeClause) → order_of (distinct literal_eq c) ≡ order_of c
-order_of_distinct [] = refl
-order_of_distinct (l ∷ c) =
-    sym (distinct_append nat_eq Decides-eqb (tree_vars l.atom) (clause_vars (without literal_eq l (distinct literal_eq c))))
-    ∙ vars_without (distinct nat_eq (tree_vars l.atom)) l (distinct literal_eq c) (λ v i. in_distinct nat_eq Decides-eqb v (tree_vars l.atom) i)
-    ∙ distinct_append nat_eq Decides-eqb (tree_vars l.atom) (clause_vars (distinct literal_eq c))
-    ∙ distinct_joined nat_eq Decides-eqb (tree_vars l.atom) (clause_vars (distinct literal_eq c)) (clause_vars c) (order_of_distinct c)
-
 pub order_of_instance : (s : Substitution) (c : TreeClause) → order_of (instance s c) ≡ order_of (literals_under s c)
 order_of_instance s c = order_of_distinct (literals_under s c)
 

@@ -2,6 +2,7 @@
 // each term twice, and the first ones for nothing.
 ghost use Rattle.std.specs.Prelude.{◌≡◌, false, ◌≤◌, IfOk, OnOk, length};
 ghost use Rattle.inst_logic.specs.Clauses.{IsCanonical, instance, order_of};
+ghost use Rattle.inst_logic.specs.WellFormed.{IsFormedClause};
 ghost use Rattle.term_bank.specs.Forest.{AreFormed, AreIds, Extends, IsClauseAt, IsClauseOf, clause_at};
 ghost use Rattle.unify_core.specs.Chains.{AreBindings};
 ghost use Rattle.unify_core.specs.Terms.{AreTerms};
@@ -67,8 +68,7 @@ fn conclude_with(
     let leaves = Leaves::Led(b);
     let mut atoms = build_all(alloc, bank, &leaves, side, &nodes)?;
     let terms = atoms.split_off(c.len())?;
-    // Beside the length stands the law that equal trees have equal ids.
-    let _ = bank.len();
+    bank.distinct();
     let clause = clause_of(alloc, c.as_slice(), &atoms)?;
     Ok(Conclusion {
         clause,
@@ -89,6 +89,11 @@ pub fn conclude(
     requires canonical { IsCanonical (clause_at bank.old c.now) }
     requires bindings { AreBindings bank.old b.now.entries }
     ensures conclusion { IfOk result (λ d. IsConclusionOf bank.old bank.new b.now.entries side c.now d.clause d.terms) }
+    ensures ids { IfOk result (λ d. IsClauseOf bank.new d.clause) }
+    ensures term_ids { IfOk result (λ d. AreIds bank.new d.terms) }
+    ensures canonical { IfOk result (λ d. IsCanonical (clause_at bank.new d.clause)) }
+    ensures atoms { IfOk result (λ d. AreTerms bank.old b.now.entries → IsFormedClause (clause_at bank.old c.now) → IsFormedClause (clause_at bank.new d.clause)) }
+    ensures terms { IfOk result (λ d. AreTerms bank.old b.now.entries → AreTermIds bank.new d.terms) }
     ensures extends { Extends bank.old bank.new }
     ensures unspent { OnOk result (bank.old.spent ≡ false → bank.new.spent ≡ false) }
     ensures formed { AreFormed bank.old → AreTerms bank.old b.now.entries → AreFormed bank.new }
@@ -118,7 +123,6 @@ pub fn under(
     let atoms = atoms_of(alloc, c.as_slice())?;
     let leaves = Leaves::Listed(terms.as_slice());
     let built = build_all(alloc, bank, &leaves, Side::Left, &atoms)?;
-    // Beside the length stands the law that equal trees have equal ids.
-    let _ = bank.len();
+    bank.distinct();
     clause_of(alloc, c.as_slice(), &built)
 }

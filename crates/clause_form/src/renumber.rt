@@ -1,4 +1,4 @@
-// Canonical forms: the walk that builds instances, under no bindings.
+// Canonical forms, by the walk that builds instances, under no bindings: that walk numbers variables as it meets them.
 ghost use Rattle.std.specs.Prelude.{◌≡◌, false, IfOk, OnOk, map};
 ghost use Rattle.inst_logic.specs.Clauses.{canonical_form, numbered, order_of};
 ghost use Rattle.inst_logic.specs.Substitution.{subst};
@@ -36,7 +36,6 @@ pub fn canonical(alloc: Global, bank: &mut Bank, c: &IdClause) -> Result<IdClaus
     ensures formed { AreFormed bank.old → AreFormed bank.new }
 {
     let built = renumbered(alloc, bank, c)?;
-    // Beside the length stands the law that equal trees have equal ids.
-    let _ = bank.len();
+    bank.distinct();
     clause_of(alloc, c.as_slice(), &built)
 }

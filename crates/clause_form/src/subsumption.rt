@@ -260,7 +260,8 @@ fn find_places(alloc: Global, bank: &Bank, f: &[IdLiteral], c: &[IdLiteral]) -> 
     place_all(alloc, bank, &mut bindings, &ordered, c)
 }
 
-/// Whether some instance of `f` has all its literals among those of `c`. Two literals of `f` may go to one of `c`.
+/// Whether some instance of `f` has all its literals among those of `c`. Two literals of `f` may go to one of `c`. At worst
+/// the time is exponential in the number of literals of `f`.
 pub fn subsumes(alloc: Global, bank: &Bank, f: &IdClause, c: &IdClause) -> Result<bool, Memory>
     requires pattern { IsClauseOf bank.now f.now }
     requires target { IsClauseOf bank.now c.now }

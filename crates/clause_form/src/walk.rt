@@ -1,4 +1,5 @@
-// The walk that builds terms: a list of steps stands for what is left of it, and each shared node is built once.
+// The walk that builds terms. A list of steps stands for what is left of it, so no depth of term exhausts a stack. A shared
+// node is built once, and one without variables stays as it is.
 ghost use Rattle.std.specs.Prelude.{◌≡◌, ℕ, false, ◌<◌, ◌++◌, ◌∷◌, List, length, map, reverse, IfOk, OnOk, None, []};
 ghost use Rattle.std.specs.List.{All, IsDistinct};
 ghost use Rattle.std.specs.Map.{keys_of};

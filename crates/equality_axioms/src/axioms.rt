@@ -51,7 +51,8 @@ fn transitive(alloc: Global) -> Result<Clause, Memory>
     Ok(c)
 }
 
-/// The axioms of equality of the problem's clauses, in their order; none where no clause has `=`.
+/// The axioms of equality of the problem's clauses, in their order; none where no clause has `=`. The clauses are walked
+/// once.
 pub fn axioms_of(alloc: Global, p: &Problem) -> Result<ClauseList, Memory>
     ensures { IfOk result (λ cs. cs ≡ equality_axioms p.now.clauses) }
 {
@@ -59,8 +60,11 @@ pub fn axioms_of(alloc: Global, p: &Problem) -> Result<ClauseList, Memory>
     axioms_from(alloc, &symbols)
 }
 
-/// The same from the symbols alone, each once and in order of first occurrence: where equality is among them three axioms, and
-/// then one for each function symbol with arguments and one for each predicate with arguments; else none.
+/// The axioms of equality from the symbols alone. Where `=` is among them: reflexivity, symmetry and transitivity, then an
+/// axiom for each function symbol with arguments and then one for each predicate with arguments, both in the order of the
+/// list; else none. They are those of `axioms_of` where the list has the symbols of the clauses, each once and in order of
+/// first occurrence; a symbol that stands twice has its axiom twice. The axiom of a symbol with n arguments has n + 1
+/// literals for a function and n + 2 for a predicate, over the variables from 0 to 2n - 1.
 pub fn axioms_from(alloc: Global, symbols: &SymList) -> Result<ClauseList, Memory>
     ensures { IfOk result (λ cs. cs ≡ axioms_for symbols.now) }
 {

@@ -1,4 +1,6 @@
 //! The axioms of equality of a problem: reflexivity, symmetry, transitivity, and congruence for each symbol with arguments.
+//! The calculus has no rules for equality, so these clauses stand beside the problem's, and their number grows with its
+//! symbols.
 #![tactic(auto)]
 
 pub mod axioms;

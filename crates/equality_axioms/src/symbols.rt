@@ -15,7 +15,7 @@ use indexmap::IndexSet;
 use inst_logic::{Clause, ClauseList, ListOf, Literal, Memory, Sym, Term};
 use std::alloc::Global;
 
-/// A list of symbols.
+/// Symbols in their order; `symbols_in` lists each once.
 pub type SymList = ListOf<Sym>;
 
 // Adds the symbol where the set does not have it.

@@ -1,2 +1,8 @@
+mod Atoms
+mod DistinctLiterals
+mod Images
 mod LeftTerms
+mod Literals
+mod Numbered
 mod SymbolNames
+mod Walking

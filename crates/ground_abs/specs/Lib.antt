@@ -1,3 +1,5 @@
 pub mod Abstracts
 pub mod Names
 pub mod Numbering
+pub mod Numbers
+pub mod Walks

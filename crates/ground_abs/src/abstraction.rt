@@ -1,14 +1,19 @@
 // The numbers of ground atoms, and clauses under the constant that stands for every variable.
-ghost use Rattle.std.specs.Prelude.{◌≡◌, [], map, length, nat_eq, false, All, IsTrue, IsErr, IfOk, OnOk, OnErr, slice_get, Some};
+ghost use Rattle.std.specs.Prelude.{◌≡◌, ◌<◌, [], map, take, length, nat_eq, false, true, All, IsTrue, IfOk, OnOk, OnErr, slice_get, Some};
 ghost use Rattle.std.specs.List.{IsDistinct, position_or_len};
 ghost use Rattle.inst_logic.specs.Lists.{with_item};
+ghost use Rattle.inst_logic.specs.Substitution.{tree_vars};
 ghost use Rattle.inst_logic.specs.WellFormed.{IsAtom, is_constant};
 ghost use Rattle.inst_calculus.specs.Abstraction.{abstraction, abstract_literals, named_literal};
 ghost use Rattle.prop_logic.specs.Literal.{AtomsBelow};
-ghost use Rattle.term_bank.specs.Forest.{Extends, AreFormed, IsClauseAt, IsClauseOf, clause_at, tree_at};
+ghost use Rattle.term_bank.specs.Forest.{Forest, Extends, AreDistinct, AreFormed, IsClauseAt, IsClauseOf, clause_at, tree_at};
 ghost use Rattle.ground_abs.specs.Abstracts.{atoms_in, AreAtomsIn, AreNotesIn, AreNumbered, Grows};
+ghost use Rattle.ground_abs.specs.Walks.{Goes};
 
-use indexmap::{IndexMap, IndexSet};
+use crate::grounding::Grounding;
+use crate::numbers::{number_of, numbered_literals};
+use crate::repeats::without_repeats;
+use indexmap::IndexSet;
 use inst_logic::{Memory, Sym};
 use prop_logic::LitList;
 use std::alloc::Global;
@@ -22,9 +27,8 @@ use term_bank::{Bank, IdClause, TermId};
 #[derive(Drop)]
 pub struct Abstraction {
     alloc: Global,
-    bot: Sym,
+    grounding: Grounding,
     ids: IndexSet<TermId>,
-    notes: IndexMap<TermId, TermId>,
     spent: bool,
 }
 
@@ -35,20 +39,54 @@ impl Model for Abstraction {
 
     ghost Value = { Numbering };
 
-    ghost view = { λ a. record { bot = a.bot; ids = a.ids.keys; notes = a.notes.entries; spent = a.spent } };
+    ghost view = { λ a. record { bot = a.grounding.bot; ids = a.ids.keys; notes = a.grounding.notes.entries; spent = a.spent } };
 
-    ghost invariant = { λ a. IsTrue (is_constant a.bot) };
+    ghost invariant = { λ a. IsTrue (is_constant a.grounding.bot) };
 }
 
-// The number of the id, which is added where the set does not have it.
-fn number_of(ids: &mut IndexSet<TermId>, atom: TermId) -> Result<usize, Memory>
-    ensures numbered { OnOk result (ids.new.keys ≡ with_item nat_eq ids.old.keys atom) }
-    ensures number { IfOk result (λ n. n ≡ position_or_len (nat_eq atom) ids.old.keys) }
-    ensures stored { IfOk result (λ n. slice_get ids.new.keys n ≡ Some atom) }
-    ensures held { OnErr result (ids.new.keys ≡ ids.old.keys) }
+// The clause under the constant, without repeats.
+fn grounded(
+    alloc: Global,
+    grounding: &mut Grounding,
+    bank: &mut Bank,
+    c: &IdClause,
+) -> Result<IdClause, Memory>
+    requires clause { IsClauseOf bank.old c.now }
+    requires notes { AreNotesIn bank.old grounding.old.bot grounding.old.notes.entries }
+    ensures abstraction { IfOk result (λ d. IsClauseAt bank.new d (abstraction grounding.old.bot (clause_at bank.old c.now))) }
+    ensures goes { Goes bank.old bank.new grounding.old.bot grounding.new.notes.entries }
+    ensures bot { grounding.new.bot ≡ grounding.old.bot }
+    ensures unspent { OnOk result (bank.old.spent ≡ false → bank.new.spent ≡ false) }
 {
-    let (number, _) = ids.insert_full(atom)?;
-    Ok(number)
+    let literals = grounding.literals(bank, c)?;
+    bank.distinct();
+    let clause = without_repeats(alloc, &literals)?;
+    Ok(clause)
+}
+
+// The clause under the constant, by the numbers of its atoms. After want of memory some of the atoms may have numbers.
+fn numbered(
+    alloc: Global,
+    grounding: &mut Grounding,
+    ids: &mut IndexSet<TermId>,
+    bank: &mut Bank,
+    c: &IdClause,
+) -> Result<LitList, Memory>
+    requires clause { IsClauseOf bank.old c.now }
+    requires notes { AreNotesIn bank.old grounding.old.bot grounding.old.notes.entries }
+    ensures literals { IfOk result (λ lits. map (named_literal (atoms_in bank.new ids.new.keys)) lits ≡ abstract_literals grounding.old.bot (clause_at bank.old c.now)) }
+    ensures below { IfOk result (λ lits. AtomsBelow (length ids.new.keys) lits) }
+    ensures numbered { OnOk result (AreNumbered bank.new ids.old.keys ids.new.keys (abstract_literals grounding.old.bot (clause_at bank.old c.now))) }
+    ensures grows { Grows ids.old.keys ids.new.keys }
+    ensures fits { OnOk result (IsTrue (is_constant grounding.old.bot) → All (λ l. IsAtom (tree_at bank.old l.atom)) c.now → AreAtomsIn bank.old ids.old.keys → AreAtomsIn bank.new ids.new.keys) }
+    ensures goes { Goes bank.old bank.new grounding.old.bot grounding.new.notes.entries }
+    ensures bot { grounding.new.bot ≡ grounding.old.bot }
+    ensures unspent { OnOk result (bank.old.spent ≡ false → bank.new.spent ≡ false) }
+{
+    let literals = grounding.literals(bank, c)?;
+    bank.distinct();
+    let lits = numbered_literals(alloc, ids, &literals)?;
+    Ok(lits)
 }
 
 impl Abstraction {
@@ -59,9 +97,8 @@ impl Abstraction {
     {
         Abstraction {
             alloc,
-            bot,
+            grounding: Grounding::new(alloc, bot),
             ids: IndexSet::new(alloc),
-            notes: IndexMap::new(alloc),
             spent: false,
         }
     }
@@ -79,6 +116,7 @@ impl Abstraction {
         ensures numbered { OnOk result (self.new.ids ≡ with_item nat_eq self.old.ids atom) }
         ensures number { IfOk result (λ n. n ≡ position_or_len (nat_eq atom) self.old.ids) }
         ensures stored { IfOk result (λ n. slice_get self.new.ids n ≡ Some atom) }
+        ensures fits { OnOk result ((f : Forest) → AreDistinct f.trees → atom < length f.trees → IsAtom (tree_at f atom) → tree_vars (tree_at f atom) ≡ [] → AreAtomsIn f self.old.ids → AreAtomsIn f self.new.ids) }
         ensures bot { self.new.bot ≡ self.old.bot }
         ensures notes { self.new.notes ≡ self.old.notes }
         ensures ok { OnOk result ((self.old.spent ≡ false) × (self.new.spent ≡ false)) }
@@ -100,6 +138,17 @@ impl Abstraction {
         self.ids.get_index(n).copied()
     }
 
+    // After want of memory the first `len` atoms keep their numbers, and the others have none.
+    fn give_up(&mut self, len: usize)
+        ensures ids { self.new.ids ≡ take len self.old.ids }
+        ensures bot { self.new.bot ≡ self.old.bot }
+        ensures notes { self.new.notes ≡ self.old.notes }
+        ensures spent { self.new.spent ≡ true }
+    {
+        self.ids.truncate(len);
+        self.spent = true;
+    }
+
     /// The clause with the constant for every variable, where each repeated literal stands at its first place only. The time
     /// is that of the terms that no call met before, and of the literals. The bank keeps its trees and may have grown, also
     /// where memory was wanted.
@@ -116,11 +165,12 @@ impl Abstraction {
         ensures unspent { OnOk result (bank.old.spent ≡ false → bank.new.spent ≡ false) }
         ensures err { OnErr result (IsTrue self.new.spent) }
     {
-        // A stand-in until the walk is written.
-        let _ = bank.len();
-        let _ = c.len();
-        self.spent = true;
-        Err(Memory)
+        if self.spent {
+            return Err(Memory);
+        }
+        let result = grounded(self.alloc, &mut self.grounding, bank, c);
+        self.spent = result.is_err();
+        result
     }
 
     /// For each literal, in order and with repeats kept, the literal of its abstraction's number: place `p` of the answer is
@@ -143,10 +193,14 @@ impl Abstraction {
         ensures err { OnErr result (IsTrue self.new.spent) }
         ensures held { OnErr result (self.new.ids ≡ self.old.ids) }
     {
-        // A stand-in until the walk is written.
-        let _ = bank.len();
-        let _ = c.len();
-        self.spent = true;
-        Err(Memory)
+        if self.spent {
+            return Err(Memory);
+        }
+        let len = self.ids.len();
+        let result = numbered(self.alloc, &mut self.grounding, &mut self.ids, bank, c);
+        if result.is_err() {
+            self.give_up(len);
+        }
+        result
     }
 }

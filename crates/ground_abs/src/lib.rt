@@ -3,7 +3,10 @@
 
 pub mod abstraction;
 pub mod bot;
+mod grounding;
 pub mod laws;
+mod numbers;
+mod repeats;
 
 pub use abstraction::Abstraction;
 pub use bot::bot_of;

@@ -100,7 +100,7 @@ variant_within d e v = (
 )
 
 -- the variables of literals whose variables are all there already can be left out
-vars_without : (seen : List ℕ) (l : Signed Tree) (c : TreeClause) → ((v : ℕ) → v ∈ tree_vars l.atom → v ∈ seen)
+pub vars_without : (seen : List ℕ) (l : Signed Tree) (c : TreeClause) → ((v : ℕ) → v ∈ tree_vars l.atom → v ∈ seen)
     → fold (with_item nat_eq) seen (clause_vars (without literal_eq l c)) ≡ fold (with_item nat_eq) seen (clause_vars c)
 vars_without seen l [] h = refl
 vars_without seen l (k ∷ c) h = go (literal_eq l k) (literal_eq_decides l k) (λ more. vars_without more l c)
@@ -119,7 +119,7 @@ vars_without seen l (k ∷ c) h = go (literal_eq l k) (literal_eq_decides l k) (
         ∙ sym (fold-append (with_item nat_eq) seen (tree_vars k.atom) (clause_vars c))
 
 -- repeats of literals do not count in the order of variables
-order_of_distinct : (c : TreeClause) → order_of (distinct literal_eq c) ≡ order_of c
+pub order_of_distinct : (c : TreeClause) → order_of (distinct literal_eq c) ≡ order_of c
 order_of_distinct [] = refl
 order_of_distinct (l ∷ c) =
     sym (distinct_append nat_eq Decides-eqb (tree_vars l.atom) (clause_vars (without literal_eq l (distinct literal_eq c))))

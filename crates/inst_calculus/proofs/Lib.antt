@@ -24,6 +24,7 @@ pub mod NumberedAbstractions
 pub mod NewConstants
 pub mod EqualityAxioms
 pub mod Symbols
+pub mod KeptSymbols
 pub mod Congruences
 pub mod GroundConstants
 pub mod TieMembers

@@ -1,4 +1,5 @@
-// What lemmas are.
+// A lemma is a clause with variables, and a propositional solver knows none: with a new constant for each variable the
+// question is the same.
 ghost use Rattle.std.specs.Prelude.{◌↔◌, ◌∷◌, ℕ, List, map};
 ghost use Rattle.inst_logic.specs.declared.symbol.Sym.{Sym};
 ghost use Rattle.inst_logic.specs.Clauses.{TreeClause, instance};

@@ -16,6 +16,7 @@ pub mod unifiers;
 
 pub use abstraction::{
     abstracted_atoms, abstraction_with_repeats, abstractions_grow, bot_exists, bot_is_unique,
+    symbols_of_abstraction,
 };
 pub use axioms::axioms_keep;
 pub use conclusions::{given_when_grown, one_conclusion};

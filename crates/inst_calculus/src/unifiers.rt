@@ -1,4 +1,5 @@
-// The theory of unifiers of trees that are renamed apart.
+// Unifiers of two trees that are renamed apart: a substitution for each side takes the place of a renaming. Which most
+// general unifier is taken makes no difference to the calculus, so its definitions may speak of one.
 ghost use Rattle.std.specs.Prelude.{List};
 ghost use Rattle.inst_logic.specs.Tree.{Tree};
 ghost use Rattle.inst_logic.specs.Clauses.{TreeClause, instance, AreVariants};

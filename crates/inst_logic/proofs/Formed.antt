@@ -6,7 +6,7 @@ use Rattle.inst_logic.specs.Tree.{Tree, var, app, Trees, none, more}
 use Rattle.inst_logic.specs.Signed.{Signed}
 use Rattle.inst_logic.specs.Lists.{distinct}
 use Rattle.inst_logic.specs.Equal.{literal_eq}
-use Rattle.inst_logic.specs.Substitution.{subst as put, substs, subst_literal}
+use Rattle.inst_logic.specs.Substitution.{Substitution, subst as put, substs, subst_literal}
 use Rattle.inst_logic.specs.Clauses.{numbered, order_of, canonical_form}
 use Rattle.inst_logic.specs.WellFormed.{count_of, tree_is_formed, trees_are_formed, atom_is_formed, is_function_kind, symbol_is_formed, IsFormedClause}
 use Rattle.inst_logic.proofs.SameLemmas.{and_left, and_right, and_both}
@@ -25,7 +25,7 @@ module _ {A : Type 0} (p : A → Bool) where
   list_all_distinct same (x ∷ xs) h =
       and_both (p x) _ (and_left (p x) _ h) (list_all_filter (λ y. not (same x y)) (distinct same xs) (list_all_distinct same xs (and_right (p x) _ h)))
 
-count_of_substs : (s : ℕ → Tree) (ts : Trees) → count_of (substs s ts) ≡ count_of ts
+pub count_of_substs : (s : Substitution) (ts : Trees) → count_of (substs s ts) ≡ count_of ts
 count_of_substs s none = refl
 count_of_substs s (more t ts) = ap (λ n. n + 1) (count_of_substs s ts)
 

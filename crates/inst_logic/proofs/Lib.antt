@@ -1,3 +1,10 @@
+pub mod Booleans
+pub mod Outcomes
+pub mod Membership
+pub mod Items
+pub mod Numbers
+pub mod Applications
+pub mod Turns
 pub mod Sums
 pub mod Pairs
 pub mod SameLemmas

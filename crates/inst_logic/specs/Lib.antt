@@ -14,6 +14,8 @@ pub mod Substitution
 pub mod Clauses
 pub mod Unifiers
 pub mod Printing
+pub mod Readable
 pub mod Examples
 pub mod Fed
 pub mod EqualLaws
+pub mod Membership

@@ -123,7 +123,8 @@ fn clause_of(alloc: Global, kept: IndexSet<Literal>) -> Result<Clause, Memory>
     Ok(Clause { literals })
 }
 
-/// The clause with its variables 0, 1, 2 by first occurrence, and without repeats.
+/// The clause with its variables 0, 1, 2 by first occurrence, each repeated literal at its first place only. Two look-ups in
+/// a map for each variable that occurs and one for each literal; the names of symbols are copied.
 #[tactic(auto, using(std::proofs::lemmas::Grind::common_steps, crate::proofs::Numbering::distinct_literal, crate::proofs::Numbering::map_map))]
 pub fn canonical(alloc: Global, c: &Clause) -> Result<Clause, Memory>
     ensures value { IfOk result (λ d. d ≡ canonical_form c.now) }

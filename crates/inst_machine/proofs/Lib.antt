@@ -13,3 +13,4 @@ pub mod Contents
 pub mod BySize
 pub mod OpenConclusions
 pub mod NestedRun
+pub mod NoSolve

@@ -20,7 +20,8 @@ use Rattle.inst_calculus.specs.Saturation.{IsCovered, tautology, variant, shorte
 use Rattle.inst_calculus.specs.Examples.{entry, bot, first_is}
 use Rattle.inst_calculus.proofs.InstanceSizes.{canonical_size}
 use Rattle.inst_calculus.proofs.ShortLists.{each_at, each_all, contains_one}
-use Rattle.inst_calculus.proofs.Turns.{in_turn, in_turn-odd, left_from}
+use Rattle.inst_logic.proofs.Turns.{in_turn, in_turn-odd}
+use Rattle.inst_calculus.proofs.Turns.{left_from}
 use Rattle.inst_machine.specs.Machine.{IsStart, IsStep, Concludes, AreChanges, IsSettled, all_read, taken, solve, append, infer, ended, next, solved, inferred}
 use Rattle.inst_machine.specs.Replay.{ReplaysFrom}
 use Rattle.inst_machine.specs.Examples.{g_of, p_of_f, not_p_ff, not_p_fg, p_ff, p_fg, nested_clauses, nested_valuation, nested_start, nested_solved, second_state, third_state, third_event}

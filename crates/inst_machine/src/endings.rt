@@ -1,4 +1,5 @@
-// Laws of the ends of runs.
+// Laws of the ends of runs: what is still to be concluded where a run stops, and that want of budget is reported by the same
+// two numbers whoever counts them.
 ghost use Rattle.std.specs.Prelude.{◌≡◌, ◌≢◌, ◌≤◌, ◌<◌, ◌^◌, ◌-◌, ℕ, List, All, Some, true};
 ghost use Rattle.inst_logic.specs.declared.symbol.Sym.{Sym};
 ghost use Rattle.inst_logic.specs.Clauses.{TreeClause, instance, canonical_form, IsCanonical, AreVariants};

@@ -12,4 +12,6 @@ pub use runs::{
     contents_of_entries, entries_of_runs, finitely_many_entries, origins_of_entries,
     refuted_instances, saturated_when_closed,
 };
-pub use steps::{changed_atoms, left_of_budget, one_more_clause, one_more_step};
+pub use steps::{
+    changed_atoms, left_of_budget, no_solve_when_refuted, one_more_clause, one_more_step,
+};

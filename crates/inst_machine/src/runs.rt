@@ -1,4 +1,6 @@
-// Laws of the machine's runs.
+// Laws of runs from the first entries on: what the entries are, where they come from, and what follows where their
+// abstractions are refuted or their conclusions covered. They hold of every journal, so they fix no order in which an engine
+// works.
 ghost use Rattle.std.specs.Prelude.{◌≡◌, ◌≤◌, ◌+◌, ◌++◌, ℕ, List, IsTrue, Some, length, map, All, AllPairs, Contains};
 ghost use Rattle.inst_logic.specs.declared.symbol.Sym.{Sym};
 ghost use Rattle.inst_logic.specs.Clauses.{TreeClause, IsCanonical, IsInstance, IsGround, AreVariants};

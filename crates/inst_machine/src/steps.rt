@@ -1,11 +1,13 @@
 // Laws of single steps: what one more of them makes of a run, of a valuation and of a budget.
-ghost use Rattle.std.specs.Prelude.{◌≡◌, ◌≢◌, ◌↔◌, ◌⊎◌, ◌≤◌, ◌+◌, ◌-◌, ◌++◌, ◌∷◌, [], ℕ, List, AllPairs, Contains, length, false};
+ghost use Rattle.std.specs.Prelude.{◌≡◌, ◌≢◌, ◌↔◌, ◌⊎◌, ◌≤◌, ◌+◌, ◌-◌, ◌++◌, ◌∷◌, [], ℕ, List, AllPairs, Contains, length, map, false};
 ghost use Rattle.inst_logic.specs.declared.symbol.Sym.{Sym};
 ghost use Rattle.inst_logic.specs.Signed.{IsTautology};
 ghost use Rattle.inst_logic.specs.Tree.{Tree};
 ghost use Rattle.inst_logic.specs.Clauses.{TreeClause, canonical_form};
+ghost use Rattle.inst_logic.specs.Truth.{IsRefuted};
+ghost use Rattle.inst_calculus.specs.Abstraction.{abstraction};
 ghost use Rattle.inst_calculus.specs.Entries.{Entry, input, entry_clauses};
-ghost use Rattle.inst_machine.specs.Machine.{State, Event, IsFirst, IsStep, IsRun, change_all};
+ghost use Rattle.inst_machine.specs.Machine.{State, Event, solved, IsFirst, IsSettled, IsStep, IsRun, change_all};
 ghost use Rattle.inst_machine.specs.Replay.{Replays, ReplaysFrom};
 ghost use Rattle.inst_machine.specs.Budget.{IsLeft, appended_size, appended_sizes};
 
@@ -37,10 +39,18 @@ pub fn changed_atoms()
         → Contains (change_all v atoms) a ↔ ((Contains v a × (¬ Contains atoms a)) ⊎ ((¬ Contains v a) × Contains atoms a)) }
 {}
 
-/// What is left of a budget is one number, or none where the entries took more. One more entry takes its size.
+/// What is left of a budget is one number, or none where the entries took more. First entries leave all of it, and one more
+/// entry takes its size.
 pub fn left_of_budget()
     ensures one_number { (budget k l : ℕ) (es : List Entry) → IsLeft budget es k → IsLeft budget es l → k ≡ l }
     ensures within { (budget left : ℕ) (es : List Entry) → IsLeft budget es left → appended_sizes es ≤ budget }
+    ensures whole { (k budget : ℕ) (cs : List TreeClause) (es : List Entry) → IsFirst k cs [] es → IsLeft budget es budget }
     ensures one_more { (budget left : ℕ) (es : List Entry) (e : Entry) → IsLeft budget es left → appended_size e.origin e.clause ≤ left
         → IsLeft budget (es ++ e ∷ []) (left - appended_size e.origin e.clause) }
+{}
+
+/// Where the abstractions of the entries are refuted, no valuation makes all of them true, so there is no solve.
+pub fn no_solve_when_refuted()
+    ensures unsettled { (bot : Sym) (s : State) → IsRefuted (map (abstraction bot) (entry_clauses s.entries)) → ¬ IsSettled bot s }
+    ensures no_solve { (bot : Sym) (s t : State) (atoms : List Tree) → IsRefuted (map (abstraction bot) (entry_clauses s.entries)) → ¬ IsStep bot s (solved atoms) t }
 {}

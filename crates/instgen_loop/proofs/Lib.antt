@@ -17,3 +17,8 @@ pub mod Withdrawn
 pub mod Flipped
 pub mod Starting
 pub mod Started
+pub mod Solved
+pub mod Settled
+pub mod Grounded
+pub mod Saturated
+pub mod Kept

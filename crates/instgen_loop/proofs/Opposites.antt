@@ -62,6 +62,8 @@ running_rebound atoms added r b bot cs budget v h = record {
   left = h.left;
   light = h.light;
   free = h.free;
+  budgeted = h.budgeted;
+  none_held = h.none_held;
   held = h.held;
 }
 
@@ -76,6 +78,8 @@ running_requeued atoms added r q bot cs budget v h = record {
   left = h.left;
   light = h.light;
   free = h.free;
+  budgeted = h.budgeted;
+  none_held = h.none_held;
   held = h.held;
 }
 

@@ -101,6 +101,8 @@ running_read atoms added old new reads entries bot cs budget v h =
       left = λ k e. transport (λ es. IsLeft budget es k) (sym es_same) (h.left k e);
       light = h.light;
       free = h.free;
+      budgeted = h.budgeted;
+      none_held = h.none_held;
       held = λ k e. transport (λ es. All (IsHeldBack es k) (held_of old)) (sym es_same) (h.held k e);
     })
   where
@@ -157,10 +159,13 @@ concludes r side from partner m =
 pub held_later : (es more : List Entry) (k l : ℕ) (h : Held) → l ≤ k → IsHeldBack es k h → IsHeldBack (es ++ more) l h
 held_later es more k l h le b = record { clause = b.clause; concluded = conclusion_when_grown es more h.from h.place h.partner h.other b.clause b.concluded; large = let m = b.large in omega arith }
 
+some_is_not_none : (k : ℕ) → Some k ≡ None → ⊥
+some_is_not_none k e = cc
+
 -- the invariant of a run that held a large conclusion back
 pub running_held : {S I C : Type 0} (atoms : S → ℕ) (added : S → List (List (Signed ℕ))) (old new : Run S I C) (side : Side) (from partner : ℕ) → Holds old new from partner → (m : MayInfer old side from partner)
-    → ((k : ℕ) → old.left ≡ Some k → k < clause_size (canonical_form (concluded old side from partner m))) → KeepsRunning atoms added old new
-running_held atoms added old new side from partner holds m large bot cs budget v h =
+    → ((k : ℕ) → old.left ≡ Some k → k < clause_size (canonical_form (concluded old side from partner m))) → (k : ℕ) × (old.left ≡ Some k) → KeepsRunning atoms added old new
+running_held atoms added old new side from partner holds m large some bot cs budget v h =
     transport (λ r. IsRunning atoms added r bot cs budget v true) (sym holds.rest) (record {
       events = h.events;
       replays = h.replays;
@@ -171,6 +176,8 @@ running_held atoms added old new side from partner holds m large bot cs budget v
       left = h.left;
       light = h.light;
       free = h.free;
+      budgeted = h.budgeted;
+      none_held = λ e. absurd (some_is_not_none some.0 (sym some.1 ∙ e));
       held = λ k e. transport (All (IsHeldBack (entries_of old) k)) (sym (ap held_in holds.held ∙ map_append one old.held.items (record { from = from; place = holds.place; partner = partner; other = holds.other } ∷ [])))
           (All-push (IsHeldBack (entries_of old) k) (held_of old) (record { from = from; place = holds.place; partner = partner; other = holds.other }) (h.held k e) (record {
             clause = canonical_form (concluded old side from partner m);
@@ -279,6 +286,8 @@ module _ {S I C : Type 0} (atoms : S → ℕ) (added : S → List (List (Signed 
     left = λ l e. transport (λ es. IsLeft budget es l) (sym entries_now) (left_now budget l h.light h.left e).0;
     light = h.light;
     free = λ e. h.free (none_before old.left size (sym appends.left ∙ e));
+    budgeted = λ l e. let (k, q, r) = left_before old.left size l (sym appends.left ∙ e) in h.budgeted k q;
+    none_held = λ e. appends.held ∙ h.none_held (none_before old.left size (sym appends.left ∙ e));
     held = λ l e.
         let (k, q, le) = (left_now budget l h.light h.left e).1 in
         transport (λ es. All (IsHeldBack es l) (held_of new)) (sym entries_now)

@@ -273,7 +273,7 @@ item_before : {X : Type 0} (xs : List X) (n : ℕ) (x : X) → at_number xs n �
 item_before xs zero x e = absurd cc
 item_before xs (suc k) x e = ap (slice_get xs) (let q : suc k - 1 ≡ k = omega arith in q) ∙ e
 
-place_there : {X : Type 0} (c : List X) (p : ℕ) → (0 < p) × (p ≤ length c) → (l : X) × (at_number c p ≡ Some l)
+pub place_there : {X : Type 0} (c : List X) (p : ℕ) → (0 < p) × (p ≤ length c) → (l : X) × (at_number c p ≡ Some l)
 place_there c zero h = absurd (omega (arith, h.0))
 place_there c (suc k) h = slice_get_there c k (let m = h.1 in omega arith)
 

@@ -1,5 +1,5 @@
 -- The invariant of a run in the machine's words, and which steps keep it.
-use Rattle.std.specs.Prelude.{◌≡◌, ◌≢◌, ◌⊎◌, ℕ, ◌+◌, ◌-◌, ◌<◌, ◌≤◌, ◌^◌, List, [], ◌∷◌, ◌++◌, map, length, Bool, true, Some, None, All, IsTrue, option_map}
+use Rattle.std.specs.Prelude.{◌≡◌, ◌≢◌, ◌⊎◌, ℕ, ◌+◌, ◌-◌, ◌<◌, ◌≤◌, ◌^◌, List, [], ◌∷◌, ◌++◌, map, length, Bool, true, Some, None, All, IsTrue, IsFalse, option_map}
 use Rattle.inst_logic.specs.declared.symbol.Sym.{Sym}
 use Rattle.inst_logic.specs.declared.signed.Signed.{Signed}
 use Rattle.inst_logic.specs.Tree.{Tree}
@@ -50,7 +50,7 @@ abbrev pub state_of : {S I C : Type 0} → Run S I C → List Tree → Bool → 
 state_of r v solved = record { entries = entries_of r; valuation = v; has_solved = solved }
 
 -- The journal replays to the entries, the solver has their abstractions, the valuation's bits are its atoms, selected literals are
--- true, what is left of the budget is known, and what is held back is a conclusion too large for it.
+-- true, what is left of the budget is known where there are functions, and what is held back is a conclusion too large for it.
 pub record IsRunning {S I C : Type 0} (atoms : S → ℕ) (added : S → List (List (Signed ℕ))) (r : Run S I C) (bot : Sym) (cs : List TreeClause) (budget : ℕ) (v : List Tree) (solved : Bool) : Type 0 where
   pub events : All (IsEventOf r.entries.bank) r.journal
   pub replays : Replays bot cs (map (event_in r.entries.bank) r.journal) (state_of r v solved)
@@ -61,6 +61,8 @@ pub record IsRunning {S I C : Type 0} (atoms : S → ℕ) (added : S → List (L
   pub left : (k : ℕ) → r.left ≡ Some k → IsLeft budget (entries_of r) k
   pub light : budget < 2 ^ 64 - 1
   pub free : r.left ≡ None → IsTrue (is_function_free cs)
+  pub budgeted : (k : ℕ) → r.left ≡ Some k → IsFalse (is_function_free cs)
+  pub none_held : r.left ≡ None → r.held.items ≡ []
   pub held : (k : ℕ) → r.left ≡ Some k → All (IsHeldBack (entries_of r) k) (held_of r)
 
 -- what runs after a solve still does
@@ -115,6 +117,10 @@ AppendsUncovered old new clause origin len size =
 -- some valuation and constant make it so; after a solve
 abbrev pub IsRunningFor : {S I C : Type 0} → (S → ℕ) → (S → List (List (Signed ℕ))) → Run S I C → List TreeClause → ℕ → Type 0
 IsRunningFor atoms added r cs budget = (bot : Sym) × (v : List Tree) × (b : Bool) × IsRunning atoms added r bot cs budget v b
+
+-- the same with this constant
+abbrev pub IsRunningWith : {S I C : Type 0} → (S → ℕ) → (S → List (List (Signed ℕ))) → Run S I C → Sym → List TreeClause → ℕ → Type 0
+IsRunningWith atoms added r bot cs budget = (v : List Tree) × (b : Bool) × IsRunning atoms added r bot cs budget v b
 
 abbrev pub IsSolvedFor : {S I C : Type 0} → (S → ℕ) → (S → List (List (Signed ℕ))) → Run S I C → List TreeClause → ℕ → Type 0
 IsSolvedFor atoms added r cs budget = (bot : Sym) × (v : List Tree) × IsRunning atoms added r bot cs budget v true

@@ -1,13 +1,14 @@
 // The outer loop: solve, and work until an entry is appended.
 ghost use Rattle.std.specs.Prelude.{◌≡◌, [], length, IfOk, OnOk, IfNone, IfSome};
+ghost use Rattle.inst_logic.specs.declared.symbol.Sym.{Sym};
+ghost use Rattle.term_bank.specs.Forest.{Extends};
 ghost use Rattle.inst_logic.specs.WellFormed.{AreFormedClauses};
 ghost use Rattle.inst_calculus.specs.Axioms.{with_axioms};
 ghost use Rattle.prop_logic.specs.Solving.{Refutes};
 ghost use Rattle.instgen_loop.specs.Loops.{IsSafe, items, ArePartners};
 ghost use Rattle.instgen_loop.specs.Selections.{AreUsers};
 ghost use Rattle.instgen_loop.specs.Tended.{AreTended};
-ghost use Rattle.instgen_loop.specs.Running.{IsRunningFor, IsSolvedFor};
-ghost use Rattle.instgen_loop.specs.Starting.{KeepsProblem};
+ghost use Rattle.instgen_loop.specs.Running.{IsRunningFor, IsRunningWith, IsSolvedFor};
 
 use crate::queue::{Partners, work_queue};
 use crate::settle::settle;
@@ -37,8 +38,9 @@ pub fn cycle<S: Solver, I: PartnerIndex>(
     ensures tended { OnOk result (AreTended I.pairs run.new partners.new) }
     ensures users { OnOk result (AreUsers run.new.ground.literals run.new.selection) }
     ensures running { OnOk result (IsRunningFor S.atoms S.added run.new (with_axioms _p.now.clauses) _budget) }
+    ensures bank { OnOk result (Extends run.old.entries.bank run.new.entries.bank) }
+    ensures kept { OnOk result ((bot : Sym) → IsRunningWith S.atoms S.added run.old bot (with_axioms _p.now.clauses) _budget → IsRunningWith S.atoms S.added run.new bot (with_axioms _p.now.clauses) _budget) }
     ensures rests { IfOk result (λ r. IfNone r ((run.new.queue.items ≡ []) × (length run.new.selection.places ≡ length (items run.new)) × IsSolvedFor S.atoms S.added run.new (with_axioms _p.now.clauses) _budget)) }
-    ensures problem { OnOk result (KeepsProblem run.old run.new) }
     ensures refuted { IfOk result (λ r. IfSome r (λ d. Refutes (S.atoms run.new.ground.solver) (S.added run.new.ground.solver) [] [] d)) }
 {
     loop {

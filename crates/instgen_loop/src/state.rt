@@ -82,7 +82,7 @@ pub fn append<S: Solver, I: PartnerIndex>(
     ensures appends { OnOk result (Appends run.old run.new clause origin) }
     ensures linked { OnOk result (KeepsLink S.atoms S.added run.old run.new) }
 {
-    make_entry(run, clause, origin, size)?;
+    make_entry(run, clause, origin.clone()?, size)?;
     run.journal.push(Event::Inferred(origin))?;
     Ok(())
 }

@@ -1,4 +1,5 @@
-//! The literal of a clause that is selected, and the entry that is worked next.
+//! The two choices of an engine: the literal of a clause that is selected, and the entry that is worked next. Neither needs a
+//! term: clauses are over numbered atoms here, and entries are numbers with sizes.
 #![tactic(auto)]
 
 mod choice;

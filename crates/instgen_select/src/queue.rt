@@ -60,7 +60,8 @@ impl Queue {
         Ok(())
     }
 
-    /// Puts the number at the end.
+    /// Puts the number at the end. After want of memory it is not there, what was there is, and every later put is refused;
+    /// picks go on.
     pub fn put(&mut self, number: usize, size: u64) -> Result<(), Memory>
         requires absent { ¬ Contains (numbers self.old.items) number }
         ensures ok { OnOk result (self.new ≡ record { items = self.old.items ++ (number, size) ∷ []; even = self.old.even; spent = false }) }
@@ -88,7 +89,8 @@ impl Queue {
         }
     }
 
-    /// Takes a number out: the least by size and number, and every other time the one that was put longest ago.
+    /// Takes a number out: the least by size and number, and every other time the one that was put longest ago. `None` where
+    /// none is left, which does not count as a time.
     pub fn pick(&mut self) -> Option<usize>
         ensures none { IfNone result ((self.old.items ≡ []) × (self.new ≡ self.old)) }
         ensures some { IfSome result (λ number. IsPicked self.old.even self.old.items self.new.items number) }

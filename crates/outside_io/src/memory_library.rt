@@ -1,4 +1,5 @@
-// Files in memory, of which chosen calls fail.
+// Files in memory, of which chosen calls fail and each read is short: what a real library may do at any call is done here at
+// the calls that a test names.
 ghost use Rattle.std.specs.Prelude.{◌≡◌, ◌≢◌, ◌<◌, ◌↔◌, IsTrue, IsErr, IfOk, Some, [], true, length, min};
 ghost use Rattle.std.specs.Io.{ReadsAtMost};
 ghost use Rattle.std.specs.Io.KnownBytes.{ReadConsumes};

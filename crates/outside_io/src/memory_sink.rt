@@ -1,4 +1,5 @@
-// Bytes in memory, of which chosen writes fail.
+// Bytes in memory, of which chosen writes fail and each write is short: what a real output may do at any call is done here at
+// the calls that a test names.
 ghost use Rattle.std.specs.Prelude.{◌≡◌, ◌<◌, ◌↔◌, IsTrue, IfOk, Some, [], length, min};
 ghost use Rattle.std.specs.Io.KnownBytes.{WriteAppends};
 ghost use Rattle.outside_io.specs.FailingCalls.{fails_next, after_call};

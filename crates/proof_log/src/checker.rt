@@ -24,9 +24,10 @@ pub enum BadStep {
     NotEmpty,
 }
 
-/// A checker of derivations, seen as the number of atoms that it has room for (reverse unit propagation; Goldberg and Novikov,
-/// 2003; here with hints, as Cruz-Filipe et al., 2017). It takes time in proportion to the
-/// literals of the step and of the clauses that its hints cite.
+/// A checker of derivations, seen as the number of atoms that it has room for (reverse unit propagation; Goldberg and
+/// Novikov, Verification of proofs of unsatisfiability for CNF formulas, 2003; here with hints, as in Cruz-Filipe and others,
+/// Efficient certified RAT verification, 2017). A step takes time in proportion to its literals and those of the clauses that
+/// its hints cite.
 #[derive(Drop)]
 pub struct Checker {
     marks: Marks,
@@ -67,7 +68,8 @@ fn ends_empty(steps: &[Step]) -> bool
 }
 
 impl Checker {
-    /// A checker for derivations over the atoms below `atoms`.
+    /// A checker for derivations over the atoms below `atoms`. It takes two numbers of 64 bits for each atom, and nothing for
+    /// the clauses and steps, which only its contract names.
     pub fn with_room(
         alloc: Global,
         atoms: usize,
@@ -82,7 +84,8 @@ impl Checker {
         Ok(Checker { marks })
     }
 
-    /// Whether step `n`, counted from 1, is shown from the given clauses and the steps before it.
+    /// Whether step `n`, counted from 1, is shown from the given clauses and the steps before it. No where there is no such
+    /// step.
     pub fn step(&mut self, given: &LitLists, derivation: &Derivation, n: usize) -> bool
         requires given { AllAtomsBelow self.old given.now }
         requires derivation { StepsBelow self.old derivation.now }

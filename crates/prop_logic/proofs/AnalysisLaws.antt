@@ -1,25 +1,13 @@
 -- What a hint cites.
-use Rattle.std.proofs.Common.{◌≡◌, ℕ, suc, zero, ◌-◌, ◌<◌, ◌≤◌, ◌⊎◌, inl, inr, List, length, map, get_or, Some, None, refl, sym, ap, ◌∙◌, subst, arith, [], ◌∷◌}
-use Rattle.std.specs.Prelude.{slice_get}
+use Rattle.std.proofs.Common.{◌≡◌, ℕ, suc, zero, ◌-◌, ◌<◌, ◌≤◌, ◌⊎◌, inl, inr, List, length, map, get_or, Some, refl, sym, ap, ◌∙◌, arith, [], ◌∷◌}
 use Rattle.std.proofs.lemmas.List.{length-map}
-use Rattle.std.proofs.lemmas.Option.{none-some, slice_get_past, slice_get-get_or}
+use Rattle.std.proofs.lemmas.Option.{none-some}
 use Rattle.inst_logic.specs.declared.signed.Signed.{Signed}
-use Rattle.inst_logic.specs.Derivations.{at_number}
 use Rattle.prop_logic.specs.declared.literal.Hint.{Hint}
 use Rattle.prop_logic.specs.declared.literal.Hint.TheVariants.{Added, Step as Earlier}
 use Rattle.prop_logic.specs.declared.literal.Step.{Step}
 use Rattle.prop_logic.specs.Literal.{cited}
-
-at_number_in : {X : Type 0} (xs : List X) (n : ℕ) (d : X) → 0 < n → n ≤ length xs → at_number xs n ≡ Some (get_or xs (n - 1) d)
-at_number_in xs zero d h k = absurd (omega arith)
-at_number_in xs (suc n) d h k =
-    let e : suc n - 1 ≡ n = omega arith in
-    subst (λ m. slice_get xs n ≡ Some (get_or xs m d)) (sym e) (slice_get-get_or xs n d (omega arith))
-
-at_number_past : {X : Type 0} (xs : List X) (n : ℕ) → (n ≤ 0) ⊎ (length xs < n) → at_number xs n ≡ None
-at_number_past xs zero h = refl
-at_number_past xs (suc n) (inl h) = absurd (omega arith)
-at_number_past xs (suc n) (inr h) = slice_get_past xs n (omega arith)
+use Rattle.inst_logic.proofs.Items.{at_number_in, at_number_past}
 
 get_clause : (steps : List Step) (i : ℕ) (d : Step) → get_or (map (λ s. s.clause) steps) i d.clause ≡ (get_or steps i d).clause
 get_clause [] i d = refl

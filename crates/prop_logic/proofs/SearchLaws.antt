@@ -1,10 +1,9 @@
 -- Derivations that grow by a step, parts of lists, cores, and what a refutation says.
-use Rattle.std.proofs.Common.{◌≡◌, ◌≢◌, ℕ, suc, zero, ◌+◌, ◌-◌, ◌<◌, Bool, true, false, not, ◌⊎◌, inl, inr, List, [], ◌∷◌, ◌++◌, length, map, take, drop, get_or, Option, Some, None, Result, Ok, Err, refl, sym, ap, ◌∙◌, subst, arith}
-use Rattle.std.specs.Prelude.{All, Contains, slice_get, IfOk}
-use Rattle.std.specs.Option.{option_map}
+use Rattle.std.proofs.Common.{◌≡◌, ◌≢◌, ℕ, suc, zero, ◌+◌, ◌-◌, ◌<◌, Bool, true, false, ◌⊎◌, inl, inr, List, [], ◌∷◌, ◌++◌, length, map, take, drop, get_or, Option, Some, None, refl, sym, ap, ◌∙◌, subst, arith}
+use Rattle.std.specs.Prelude.{All, Contains, slice_get}
 use Rattle.std.proofs.lemmas.List.{length_push, map-append, length-map, drop-append-le, take_more}
 use Rattle.std.proofs.lemmas.List.Elements.{All-nil, All-cons, All-contains, All-contains_itself, All-weaker, All-push, All-map, Contains-push, Contains-append_left}
-use Rattle.std.proofs.lemmas.Option.{same_Some, slice_get_within, none-some, slice_get-map}
+use Rattle.std.proofs.lemmas.Option.{same_Some, slice_get_within, none-some}
 use Rattle.std.proofs.lemmas.Bool.{false≢true}
 use Rattle.inst_logic.specs.declared.signed.Signed.{Signed}
 use Rattle.inst_logic.specs.Signed.{complement}
@@ -20,9 +19,9 @@ use Rattle.prop_logic.specs.Search.{AreGood, IsCore}
 use Rattle.prop_logic.proofs.ListLaws.{slice_get_append, slice_get_push, slice_get_last, take_of_append, take_whole, Contains-slice_get, slice_get-Contains}
 use Rattle.inst_logic.proofs.ShownLaws.{not_both_true}
 use Rattle.prop_logic.proofs.ShownLaws.{IsTwoValued, derivation_true}
-
-pub not_not : (b : Bool) → not (not b) ≡ b
-not_not = elim [ true ↦ refl | false ↦ refl ]
+use Rattle.inst_logic.proofs.Items.{at_number_append}
+pub use Rattle.inst_logic.proofs.Items.{contains_map}
+pub use Rattle.inst_logic.proofs.Booleans.{not_not}
 
 pub complement_twice : (l : Signed ℕ) → complement (complement l) ≡ l
 complement_twice l = ap (λ p. record { positive = p; atom = l.atom }) (not_not l.positive)
@@ -57,10 +56,6 @@ last_cited clauses steps s =
     ∙ ap (slice_get (map (λ x. x.clause) steps ++ s.clause ∷ [])) same ∙ slice_get_last (map (λ x. x.clause) steps) s.clause
 
 -- what a hint cites stays as steps are added
-at_number_append : {X : Type 0} (xs ys : List X) (n : ℕ) (x : X) → at_number xs n ≡ Some x → at_number (xs ++ ys) n ≡ Some x
-at_number_append xs ys zero x e = absurd cc
-at_number_append xs ys (suc n) x e = slice_get_append xs ys n x e
-
 pub cited_later : (clauses : List (List (Signed ℕ))) (steps more : List Step) (h : Hint) (c : List (Signed ℕ)) → cited clauses steps h ≡ Some c → cited clauses (steps ++ more) h ≡ Some c
 cited_later clauses steps more (Added n) c e = e
 cited_later clauses steps more (Earlier n) c e =
@@ -82,11 +77,6 @@ sub_contains [] ys s = All-nil (Contains ys)
 sub_contains (x ∷ xs) ys s =
     All-cons (Contains ys) x xs (Contains-slice_get ys s.0 x s.1)
     (All-weaker (Contains (drop (s.0 + 1) ys)) (Contains ys) (λ z c. contains_drop ys (s.0 + 1) z c) xs (sub_contains xs (drop (s.0 + 1) ys) s.2))
-
-pub contains_map : {X Y : Type 0} (f : X → Y) (xs : List X) (x : X) → Contains xs x → Contains (map f xs) (f x)
-contains_map f xs x c =
-    let at = slice_get-Contains xs x c in
-    Contains-slice_get (map f xs) at.0 (f x) (slice_get-map f xs at.0 ∙ ap (option_map f) at.1)
 
 pub sub_more : {X : Type 0} (xs ys zs : List X) → IsSubList xs ys → IsSubList xs (ys ++ zs)
 sub_more [] ys zs s = tt
@@ -141,10 +131,6 @@ core_same clause assumptions core i d h free c =
 pub lent_whole : (marks new : List Bool) (n : ℕ) → n ≡ length marks → length new ≡ length marks → take n (new ++ drop (length new) marks) ≡ new
 lent_whole marks new n count same =
     take_of_append new (drop (length new) marks) n (omega arith) ∙ ap (λ k. take k new) (count ∙ sym same) ∙ take_whole new
-
-pub of_ok : {T E : Type 0} (r : Result T E) (P Q : T → Type 0) → ((x : T) → P x → Q x) → IfOk r P → IfOk r Q
-of_ok (Ok x) P Q f h = f x h
-of_ok (Err e) P Q f h = tt
 
 -- the assumptions can't be true with the clauses
 held_or_not : (valuation : List Bool) → IsTwoValued (IsHeld valuation)

@@ -1,4 +1,4 @@
-// Bits of the words in which values are packed.
+// Bits of the words in which values are packed. Shifts and masks are here only: the rest sees bits by their numbers.
 ghost use Rattle.std.specs.Prelude.{◌≡◌, ◌≢◌, ◌<◌, ◌==◌, ℕ, cond};
 ghost use Rattle.std.specs.Int.{bit_at};
 ghost use Rattle.std.specs.List.{slice_index_or};

@@ -1,4 +1,5 @@
-// Cores of assumptions.
+// Cores of assumptions, and assumptions that clash. Literals are found by scans of the list, so the time is quadratic in its
+// length: the plain solver is made to be read, and not for many assumptions.
 ghost use Rattle.std.specs.Prelude.{◌≡◌, ◌≢◌, ℕ, All, Contains, Some, IfOk, IfSome, IfNone, slice_get};
 ghost use Rattle.inst_logic.specs.declared.signed.Signed.{Signed};
 ghost use Rattle.inst_logic.specs.Signed.{complement};

@@ -1,4 +1,5 @@
-//! Propositional clauses over numbered atoms, the trait of their solvers, and a plain solver.
+//! Propositional clauses over numbered atoms, the trait of their solvers, and a plain solver. An engine and a fast solver
+//! meet in the trait alone, so each is proved without the other.
 #![tactic(auto)]
 
 mod bits;

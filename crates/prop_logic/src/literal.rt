@@ -1,4 +1,6 @@
-// Literals of numbered atoms, clauses and derivations.
+// Literals of numbered atoms, clauses and derivations. A step names the clauses that show it, in the order in which they are
+// used (as in Cruz-Filipe and others, Efficient certified RAT verification, 2017), so that a check needs no search. Added
+// clauses and steps have numbers of their own, so no step is renumbered where a clause is added later.
 ghost use Rattle.std.specs.Prelude.{◌≡◌, ◌≢◌, ℕ, List, Some, All, Contains, MatchBool, IfOk, map};
 ghost use Rattle.inst_logic.specs.declared.signed.Signed.{Signed};
 ghost use Rattle.inst_logic.specs.Signed.{complement};
@@ -10,10 +12,10 @@ use std::alloc::Global;
 /// An atom with a sign. Atoms are counted from 0.
 pub type Lit = Signed<usize>;
 
-/// A clause, as the list of its literals.
+/// A clause, as the list of its literals in the order in which they were given. Repeats and complements may stand in it.
 pub type LitList = ListOf<Lit>;
 
-/// A list of clauses.
+/// Clauses in their order: `get` counts them from 0, and hints from 1.
 pub type LitLists = ListOf<LitList>;
 
 /// What a step cites: an added clause or an earlier step, by its number. Both are counted from 1.
@@ -33,7 +35,8 @@ pub struct Step {
     pub hints: HintList,
 }
 
-/// Steps, each shown by what its hints cite of the added clauses and of the steps before it.
+/// Steps, each shown by what its hints cite of the added clauses and of the steps before it: `get` counts them from 0, and
+/// hints from 1.
 pub type Derivation = ListOf<Step>;
 
 /// The same atom with the other sign.
@@ -57,7 +60,7 @@ pub fn complements(alloc: Global, literals: &[Lit]) -> Result<LitList, Memory>
     Ok(others)
 }
 
-/// The clause that the hint cites, or no literal where it cites none.
+/// The clause that the hint cites, or an empty slice where it cites none: who asks knows that it cites one.
 pub fn cited<'a>(clauses: &'a [LitList], steps: &'a [Step], hint: Hint) -> &'a [Lit]
     ensures { (c : List (Signed ℕ)) → cited clauses.now steps.now hint ≡ Some c → result.now ≡ c }
 {

@@ -1,4 +1,5 @@
-// A plain solver.
+// A plain solver, beside which a fast one can be seen to answer the same. It has no watched literals, and forgets what it
+// learned with each question.
 ghost use Rattle.std.specs.Prelude.{◌≡◌, ◌++◌, ◌∷◌, [], false, OnOk, OnErr};
 
 use crate::literal::{Lit, LitList, LitLists};

@@ -1,4 +1,5 @@
-// The resolvent of two clauses.
+// The resolvent of two clauses. A literal is added where a scan does not find it, which is quadratic in their lengths and
+// needs no set.
 ghost use Rattle.std.specs.Prelude.{◌≡◌, ◌≢◌, ◌⊎◌, ℕ, All, Contains, IfOk, OnOk};
 ghost use Rattle.inst_logic.specs.declared.signed.Signed.{Signed};
 ghost use Rattle.prop_logic.specs.Search.{IsResolvent};

@@ -11,9 +11,10 @@ use inst_logic::Memory;
 /// Whether the added clauses and the assumptions can be true together.
 #[derive(Drop, Debug)]
 pub enum Answer {
-    /// A valuation that makes them true.
+    /// A valuation that makes them true, where an atom past its end is false.
     Sat(Valuation),
-    /// Assumptions that can't be true with the clauses, and steps that show it.
+    /// Assumptions that can't be true with the clauses, and steps that show it, of which the last has the complements of
+    /// these assumptions for its clause.
     Unsat {
         core: LitList,
         derivation: Derivation,
@@ -32,7 +33,7 @@ pub trait Solver: Drop {
     /// Whether a call was refused memory. From then on every call is.
     ghost spent: { Self → Bool };
 
-    /// Makes an atom, and answers its number.
+    /// Makes an atom, and answers its number, counted from 0.
     fn new_atom(&mut self) -> Result<usize, Memory>
         ensures number { IfOk result (λ n. n ≡ atoms self.old) }
         ensures grown { OnOk result (atoms self.new ≡ atoms self.old + 1) }
@@ -41,7 +42,7 @@ pub trait Solver: Drop {
         ensures err { OnErr result (IsTrue (spent self.new)) }
         ensures stays_spent { IsTrue (spent self.old) → IsErr result };
 
-    /// Adds a clause, and answers its number, counted from 1.
+    /// Adds a clause, and answers its number, counted from 1. Derivations cite the clause by it.
     fn add(&mut self, clause: &[Lit]) -> Result<usize, Memory>
         requires { AtomsBelow (atoms self.old) clause.now }
         ensures number { IfOk result (λ n. n ≡ length (added self.new)) }
@@ -51,7 +52,8 @@ pub trait Solver: Drop {
         ensures err { OnErr result (IsTrue (spent self.new)) }
         ensures stays_spent { IsTrue (spent self.old) → IsErr result };
 
-    /// Whether the clauses and the assumptions can be true together.
+    /// Whether the clauses and the assumptions can be true together. The assumptions are for this question alone; they may
+    /// come in any order, with repeats, and with complements of each other.
     fn solve(&mut self, assumptions: &[Lit]) -> Result<Answer, Memory>
         requires { AtomsBelow (atoms self.old) assumptions.now }
         ensures atoms { atoms self.new ≡ atoms self.old }

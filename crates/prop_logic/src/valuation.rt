@@ -1,4 +1,4 @@
-// Valuations of numbered atoms.
+// Valuations of numbered atoms, packed into words so that two of them are compared 64 atoms at a time.
 ghost use Rattle.std.specs.Prelude.{◌≡◌, ◌↔◌, ◌≢◌, ◌+◌, ◌*◌, ◌<◌, ◌≤◌, ◌%◌, ◌/◌, ◌==◌, ℕ, [], ◌∷◌, ◌++◌, false, length, IsTrue, IfOk, OnOk, OnErr, slice_get, slice_set, option_copied};
 ghost use Rattle.std.specs.Int.{bit_at};
 ghost use Rattle.prop_logic.specs.Valuation.{IsHeld, value_at};
@@ -42,6 +42,7 @@ fn take_room(words: &mut Vec<u64>, len: usize) -> Result<(), Memory>
 }
 
 impl Valuation {
+    /// No values, which take no memory.
     pub fn new(alloc: Global) -> Self
         ensures { result ≡ [] }
     {
@@ -51,7 +52,7 @@ impl Valuation {
         }
     }
 
-    /// The same values.
+    /// A copy of the values, which takes a word for 64 atoms.
     pub fn copy(&self, alloc: Global) -> Result<Valuation, Memory>
         ensures { IfOk result (λ valuation. valuation ≡ self.now) }
     {
@@ -62,19 +63,21 @@ impl Valuation {
         })
     }
 
+    /// How many atoms have a value: those whose numbers are below it.
     pub fn len(&self) -> usize
         ensures { result ≡ length self.now }
     {
         self.len
     }
 
+    /// Whether no atom has a value.
     pub fn is_empty(&self) -> bool
         ensures { IsTrue result ↔ (self.now ≡ []) }
     {
         self.len() == 0
     }
 
-    /// The value of atom `i`, where the valuation has one.
+    /// The value of atom `i`, counted from 0; `None` past the last.
     pub fn get(&self, i: usize) -> Option<&bool>
         ensures { option_copied result ≡ slice_get self.now i }
     {
@@ -101,7 +104,8 @@ impl Valuation {
         has_bit(word_at(self.words.as_slice(), atom / 64), atom % 64)
     }
 
-    /// Gives the next atom this value. A refused push leaves the valuation as it was.
+    /// Gives the next atom this value. A refused push leaves the valuation as it was. Pushes are refused too once there are
+    /// `usize::MAX - 128` values, so that numbers of words never overflow.
     pub fn push(&mut self, value: bool) -> Result<(), Memory>
         ensures ok { OnOk result (self.new ≡ self.old ++ value ∷ []) }
         ensures err { OnErr result (self.new ≡ self.old) }

@@ -8,7 +8,7 @@ use Rattle.inst_logic.specs.Derivations.{at_number}
 use Rattle.inst_calculus.specs.Entries.{Entry}
 use Rattle.inst_calculus.specs.Models.{Member as Selected}
 use Rattle.term_bank.specs.Forest.{clause_at}
-use Rattle.cert_format.specs.Validity.{IsSelected}
+use Rattle.cert_format.specs.Validity.{SelectsAt}
 use Rattle.cert_format.proofs.Numbers.{slice_get_of_map, same_item}
 use Rattle.saturation_cert.specs.declared.member.Member.{Member}
 use Rattle.saturation_cert.specs.declared.certificate.Saturation.{Saturation}
@@ -25,7 +25,7 @@ record IsChosen (c : Saturation) (i : ℕ) (x : Member) : Type 0 where
   stands : IsSelectedLiteral c (suc i) literal
 
 module _ (c : Saturation) (whole : IsWholeSaturation c) (i : ℕ) where
-  literal_of : (x : Member) → slice_get c.base.members i ≡ Some x → (m : Selected) → IsSelected (saturation_of c) (suc i) m
+  literal_of : (x : Member) → slice_get c.base.members i ≡ Some x → (m : Selected) → SelectsAt (saturation_of c) (suc i) m
       → (place : ℕ) → slice_get c.places i ≡ Some (suc place) → (literal : Signed ℕ) → slice_get x.clause place ≡ Some literal → literal_at c.base.bank literal ≡ m.selected
       → IsChosen c i x
   literal_of x at m s place place_at literal here same =
@@ -43,7 +43,7 @@ module _ (c : Saturation) (whole : IsWholeSaturation c) (i : ℕ) where
         stands = record { member = m; is = s; within = subst (λ (k : Signed ℕ). k.atom < length c.base.bank.trees) l t; literal = sym same };
       }
 
-  chosen_by : (x : Member) → slice_get c.base.members i ≡ Some x → (m : Selected) → IsSelected (saturation_of c) (suc i) m → IsChosen c i x
+  chosen_by : (x : Member) → slice_get c.base.members i ≡ Some x → (m : Selected) → SelectsAt (saturation_of c) (suc i) m → IsChosen c i x
   chosen_by x at m s = by_place s.place s.place_at here
     where
       entry : entry_of c.base.bank x ≡ s.entry

@@ -1,3 +1,5 @@
 pub mod Chosen
 pub mod Matched
 pub mod Scans
+pub mod Fitting
+pub mod EachItem

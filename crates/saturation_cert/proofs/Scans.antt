@@ -12,7 +12,7 @@ use Rattle.inst_calculus.specs.Models.{Member, Supports, IsTrueBy}
 use Rattle.inst_calculus.proofs.Membership.{contains_in, in_contains, any_in, in_any, all_in, in_all}
 use Rattle.term_bank.specs.Forest.{tree_at}
 use Rattle.cert_format.specs.Certificate.{selected_members}
-use Rattle.cert_format.specs.Validity.{IsSelected}
+use Rattle.cert_format.specs.Validity.{SelectsAt}
 use Rattle.cert_format.proofs.SelectedMembers.{selected_number, selected_is_member, selected_once}
 use Rattle.saturation_cert.specs.declared.certificate.Saturation.{Saturation}
 use Rattle.saturation_cert.specs.Truths.{IsSelectedLiteral, IsLight, Speaks, IsReached, IsHeaviest, level}
@@ -32,20 +32,20 @@ module _ (c : Saturation) (a : Tree) (i : ℕ) (l : Signed ℕ) (s : IsSelectedL
       let h : tree_weight s.member.selected.atom < 2 ^ 64 - 1 = all_in (λ (m : Member). tree_weight m.selected.atom < 2 ^ 64 - 1) (selected_members (saturation_of c)) light s.member (selected_is_member (saturation_of c) i s.member s.is) in
       subst (λ (k : Signed Tree). tree_weight k.atom < 2 ^ 64 - 1) s.literal h
 
-  pub same_member : (m : Member) → IsSelected (saturation_of c) (suc i) m → m ≡ s.member
-  same_member m t = selected_once (saturation_of c) (suc i) m s.member t s.is
+  pub same_member : (m : Member) → SelectsAt (saturation_of c) (suc i) m → m ≡ s.member
+  same_member m t = selected_once (saturation_of c).base.members (saturation_of c).places (suc i) m s.member t s.is
 
   -- one more member: the height is as before, or that of the member
   grown : (b : Bool) (h n : ℕ) → h ≤ n → (Speaks a b s.member → tree_weight s.member.selected.atom < n) → (n ≡ h) ⊎ (Speaks a b s.member × (suc (tree_weight s.member.selected.atom) ≡ n))
       → IsHeaviest c a b i h → IsHeaviest c a b (suc i) n
   grown b h n le here is old = record { above = above; reached = reached is old.reached }
     where
-      above : (k : ℕ) → k < suc i → (m : Member) → IsSelected (saturation_of c) (suc k) m → Speaks a b m → tree_weight m.selected.atom < n
+      above : (k : ℕ) → k < suc i → (m : Member) → SelectsAt (saturation_of c) (suc k) m → Speaks a b m → tree_weight m.selected.atom < n
       above k below m t p = elim (cases_lt k i) [
         | inl less ↦ let w : tree_weight m.selected.atom < h = old.above k less m t p in omega arith
         | inr not_less ↦
             let same : k ≡ i = omega arith in
-            let e : m ≡ s.member = same_member m (subst (λ j. IsSelected (saturation_of c) (suc j) m) same t) in
+            let e : m ≡ s.member = same_member m (subst (λ j. SelectsAt (saturation_of c) (suc j) m) same t) in
             let w : tree_weight s.member.selected.atom < n = here (subst (Speaks a b) e p) in
             subst (λ (x : Member). tree_weight x.selected.atom < n) (sym e) w
       ]
@@ -81,7 +81,7 @@ module _ (c : Saturation) (a : Tree) (i : ℕ) (l : Signed ℕ) (s : IsSelectedL
 
 pub light_at : (c : Saturation) (i : ℕ) (l : Signed ℕ) → IsSelectedLiteral c (suc i) l → tree_weight (tree_at c.base.bank l.atom) < 2 ^ 64 - 1 → IsLight c i
 light_at c i l s light m is =
-    let e : m ≡ s.member = selected_once (saturation_of c) (suc i) m s.member is s.is in
+    let e : m ≡ s.member = selected_once (saturation_of c).base.members (saturation_of c).places (suc i) m s.member is s.is in
     let w : tree_weight s.member.selected.atom < 2 ^ 64 - 1 = subst (λ (k : Signed Tree). tree_weight k.atom < 2 ^ 64 - 1) (sym s.literal) light in
     subst (λ (x : Member). tree_weight x.selected.atom < 2 ^ 64 - 1) (sym e) w
 
@@ -93,7 +93,7 @@ all_light c n all each = in_all (λ (m : Member). tree_weight m.selected.atom < 
 
 -- the answer after all members
 module _ (c : Saturation) (a : Tree) (n p q : ℕ) (all : length c.base.members ≤ n) (pos : IsHeaviest c a true n p) (neg : IsHeaviest c a false n q) where
-  number_within : (k : ℕ) (m : Member) → IsSelected (saturation_of c) (suc k) m → k < n
+  number_within : (k : ℕ) (m : Member) → SelectsAt (saturation_of c) (suc k) m → k < n
   number_within k m s =
       let w : k < length (map (entry_of c.base.bank) c.base.members) = slice_get_within (map (entry_of c.base.bank) c.base.members) k s.entry s.entry_at in
       omega (arith, length-map c.base.members (entry_of c.base.bank))

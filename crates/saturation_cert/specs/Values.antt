@@ -37,7 +37,7 @@ hint_of (Step n) = steps.earlier n
 abbrev pub step_of : Forest → GroundStep → steps.Step Tree
 step_of f s = record { clause = clause_at f s.clause; hints = map hint_of s.hints }
 
-abbrev pub refutation_of : Refutation → format.Refutation
+abbrev pub refutation_of : Refutation → format.FirstRefutation
 refutation_of r = record {
   base = base_of r.base;
   bot = r.bot;

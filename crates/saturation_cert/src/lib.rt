@@ -5,10 +5,12 @@
 
 pub mod certificate;
 pub mod member;
+pub mod numbers;
 pub mod truth_test;
 
 pub use certificate::{
     Base, GroundHint, GroundHintList, GroundStep, GroundStepList, Refutation, Saturation,
 };
 pub use member::{Member, MemberList, Origin};
+pub use numbers::{refutation_numbers, saturation_numbers};
 pub use truth_test::{is_light, selected, truth};

@@ -3,7 +3,7 @@ use inst_logic::ListOf;
 use term_bank::IdClause;
 
 /// Where a member comes from. All numbers count from 1.
-#[derive(Clone, Copy, Debug, PartialEq, Eq)]
+#[derive(Clone, Debug, Drop, PartialEq, Eq)]
 pub enum Origin {
     /// This clause of the inputs and their axioms.
     Input(usize),

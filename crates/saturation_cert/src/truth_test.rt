@@ -16,8 +16,9 @@ use std::alloc::Global;
 use term_bank::{Bank, IdLiteral, TermId};
 use unify_core::Bindings;
 
-// The weights, in occurrences of function symbols, of the heaviest selected literals of each sign that have an atom as an
-// instance. `None` where no literal of that sign has it, which is less than every weight.
+/// The weights of the heaviest selected literals of each sign that have an atom as an instance. A weight is the number of
+/// occurrences of function symbols in the literal's atom, constants among them. `None` where no literal of that sign has the
+/// atom as an instance, which is less than every weight.
 #[derive(Clone, Copy)]
 pub struct Heaviest {
     positive: Option<u64>,
@@ -155,7 +156,8 @@ fn is_true(bindings: &mut Bindings, cert: &Saturation, atom: TermId) -> Result<b
 }
 
 /// Whether the ground atom is true by the members: some selected positive literal has it as an instance, and each selected
-/// negative literal whose atom has it as an instance has fewer function symbols than that one. It scans all members.
+/// negative literal whose atom has it as an instance has fewer function symbols than that one. It scans all members, and
+/// matches each selected literal once. The only error is want of memory.
 pub fn truth(alloc: Global, cert: &Saturation, atom: TermId) -> Result<bool, Memory>
     requires whole { IsWholeSaturation cert.now }
     requires placed { HasPlaces (saturation_of cert.now) }

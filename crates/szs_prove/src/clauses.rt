@@ -1,4 +1,5 @@
-// The clauses of steps in canonical printing, each put at the end of a text.
+// The clauses of steps, printed. Steps are over numbers of atoms, and an atom is copied into the place of its number only
+// while its step is printed: a derivation over trees would have each atom as often as it occurs.
 ghost use Rattle.std.specs.Prelude.{◌≡◌, ◌++◌, [], ◌∷◌, OnOk, IfOk, map, codes};
 ghost use Rattle.inst_logic.specs.View.{tree};
 ghost use Rattle.inst_logic.specs.LiteralView.{literal};

@@ -21,7 +21,8 @@ pub enum Exit {
 }
 
 impl Exit {
-    /// The status of the process: Decided 0, Refused 2, Usage 3, ReadFault 4, WriteFault 5, Memory 6.
+    /// The status of the process, as the byte that the system takes: Decided 0, Refused 2, Usage 3, ReadFault 4, WriteFault
+    /// 5, Memory 6. Only with 0 a verdict was written whole.
     pub fn code(self) -> u8
         ensures { result ≡ code_of self }
     {

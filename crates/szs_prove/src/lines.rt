@@ -1,4 +1,5 @@
-// The lines of a certificate, each put at the end of a text.
+// The lines of a certificate. Each is a comment or a `cnf` statement of the TPTP language, and what a line says beside its
+// clause stands there as an annotation.
 ghost use Rattle.std.specs.Prelude.{◌≡◌, ◌++◌, ◌∷◌, OnOk, decimal, map, codes};
 ghost use Rattle.inst_logic.specs.LiteralView.{literal};
 ghost use Rattle.inst_logic.specs.Printing.{clause_text, name_text};

@@ -1,4 +1,4 @@
-// The problem that is asked of.
+// The problem that is asked of. What the program cannot decide is refused here, so what comes after it need not ask again.
 ghost use Rattle.std.specs.Prelude.{◌≡◌, ◌≤◌, IfOk, IfErr, All};
 ghost use Rattle.szs_prove.specs.Loading.{IsProblemOf, IsBuilt, IsUnread};
 ghost use Rattle.szs_prove.specs.Requests.{asked};

@@ -1,4 +1,5 @@
-// Atoms by numbers, in the order of first use.
+// Atoms by numbers, in the order of first use: the solver and the derivation have numbers, and the table leads back to the
+// atoms. Each literal costs a copy of its atom and one look-up.
 ghost use Rattle.std.specs.Prelude.{◌≡◌, [], ◌∷◌, map, fold, slice_get, Some, IfOk, OnOk};
 ghost use Rattle.inst_logic.specs.LiteralView.{literal};
 ghost use Rattle.inst_logic.specs.Equal.{literal_eq};

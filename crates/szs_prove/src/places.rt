@@ -1,4 +1,4 @@
-// The places of true literals.
+// The places of true literals: of each clause the first, so the valuation alone decides them.
 ghost use Rattle.std.specs.Prelude.{map, All, IfOk};
 ghost use Rattle.inst_logic.specs.Truth.{IsTrueClause};
 ghost use Rattle.prop_logic.specs.Valuation.{IsHeld};

@@ -1,4 +1,5 @@
-// Answers without a verdict. Their texts take no memory.
+// Answers without a verdict. Their texts take no memory: each is a list of pieces that are asked for by number, and written
+// one by one.
 ghost use Rattle.std.specs.Prelude.{◌≡◌, ◌≤◌, [], ◌∷◌, OnOk, OnErr, codes, option_map, slice_get};
 ghost use Rattle.std.specs.Io.KnownBytes.{Appends};
 ghost use Rattle.outside_io.specs.Causes.{Rose};

@@ -1,4 +1,5 @@
-// A solver with the members' clauses.
+// A solver that is given the members' clauses, in their order: clause n of the solver is member n, so its hints are those of
+// the certificate.
 ghost use Rattle.std.specs.Prelude.{◌≡◌, ◌<◌, ◌≤◌, ◌+◌, [], length, map, OnOk};
 ghost use Rattle.prop_logic.specs.Literal.{AllAtomsBelow};
 ghost use Rattle.szs_prove.specs.Places.{literals_at, AreNumbers};

@@ -1,4 +1,5 @@
-// The lines of the steps of a derivation, each put at the end of a text.
+// The lines of the steps of a derivation. The hints are printed in the order in which they are used, so that whoever checks a
+// step need not search.
 ghost use Rattle.std.specs.Prelude.{◌≡◌, ◌++◌, [], ◌∷◌, OnOk, map, codes};
 ghost use Rattle.inst_logic.specs.Printing.{joined};
 ghost use Rattle.cert_format.specs.Lines.{hint_text, step_line};

@@ -1,4 +1,5 @@
-// Verdicts on problems without variables and without equality.
+// Verdicts on problems without variables and without equality. Clauses of the problem are named by their numbers, and none is
+// copied.
 use inst_logic::{ListOf, Literal, Name, NumberList, PlaceList};
 use prop_logic::Derivation;
 

@@ -1,10 +1,11 @@
-// The words of the command line.
+// The words of the command line, in the two forms that are read. They are matched whole and without memory, so wrong words
+// can be answered whatever memory there is.
 ghost use Rattle.std.specs.Prelude.{◌≡◌, [], ◌∷◌, map, string_bytes, option_map};
 ghost use Rattle.std.specs.List.{list_all};
 ghost use Rattle.szs_prove.specs.Requests.{asked};
 ghost use Rattle.szs_prove.specs.Words.{asked_of, asked_with, begins_with_dash, is_file_word, is_name_byte};
 
-/// What `prove` is asked.
+/// What `prove` is asked: the name of the file as it was given, and the folder behind `--root`, where there is one.
 #[derive(Clone, Copy)]
 pub struct Request<'a> {
     pub file: &'a str,

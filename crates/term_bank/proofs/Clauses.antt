@@ -41,6 +41,29 @@ module _ (f g : Forest) (e : Extends f g) where
   clause_within c l within last =
       All-push (λ (m : Signed ℕ). m.atom < length g.trees) c l (All-weaker (λ (m : Signed ℕ). m.atom < length f.trees) (λ (m : Signed ℕ). m.atom < length g.trees) (λ m k. omega (arith, e.trees.0)) c within) last
 
+-- clauses that items of a list have, as members of a certificate
+module _ {A : Type 0} (ids : A → List (Signed ℕ)) (f g : Forest) (e : Extends f g) where
+  pub lists_extend : (xs : List A) → All (λ x. IsClauseOf f (ids x)) xs → All (λ x. IsClauseOf g (ids x)) xs
+  lists_extend xs h = All-weaker (λ x. IsClauseOf f (ids x)) (λ x. IsClauseOf g (ids x)) (λ x k. clause_of_extends f g e (ids x) k) xs h
+
+  pub list_trees_extend : (xs : List A) → All (λ x. IsClauseOf f (ids x)) xs → map (λ x. clause_at g (ids x)) xs ≡ map (λ x. clause_at f (ids x)) xs
+  list_trees_extend [] h = refl
+  list_trees_extend (x ∷ xs) h =
+      ap₂ (λ y ys. y ∷ ys) (clause_extends f g e (ids x) (All-head (λ x. IsClauseOf f (ids x)) x xs h)) (list_trees_extend xs (All-tail (λ x. IsClauseOf f (ids x)) x xs h))
+
+  pub list_atoms_extend : (xs : List A) → All (λ x. IsClauseOf f (ids x)) xs → All (λ x. All (λ m. IsAtom (tree_at f m.atom)) (ids x)) xs → All (λ x. All (λ m. IsAtom (tree_at g m.atom)) (ids x)) xs
+  list_atoms_extend [] h a = All-nil (λ x. All (λ m. IsAtom (tree_at g m.atom)) (ids x))
+  list_atoms_extend (x ∷ xs) h a =
+      All-cons (λ x. All (λ m. IsAtom (tree_at g m.atom)) (ids x)) x xs
+      (atoms_extend f g e (ids x) (All-head (λ x. IsClauseOf f (ids x)) x xs h) (All-head (λ x. All (λ m. IsAtom (tree_at f m.atom)) (ids x)) x xs a))
+      (list_atoms_extend xs (All-tail (λ x. IsClauseOf f (ids x)) x xs h) (All-tail (λ x. All (λ m. IsAtom (tree_at f m.atom)) (ids x)) x xs a))
+
+  pub list_pushed : (xs : List A) (y : A) → All (λ x. IsClauseOf f (ids x)) xs → IsClauseOf g (ids y) → All (λ x. IsClauseOf g (ids x)) (xs ++ y ∷ [])
+  list_pushed xs y h k = All-push (λ x. IsClauseOf g (ids x)) xs y (lists_extend xs h) k
+
+  pub list_trees_pushed : (xs : List A) (y : A) → All (λ x. IsClauseOf f (ids x)) xs → map (λ x. clause_at g (ids x)) (xs ++ y ∷ []) ≡ map (λ x. clause_at f (ids x)) xs ++ clause_at g (ids y) ∷ []
+  list_trees_pushed xs y h = map_push (λ x. clause_at g (ids x)) xs y ∙ ap (λ ys. ys ++ clause_at g (ids y) ∷ []) (list_trees_extend xs h)
+
 -- each atom of a formed clause is formed
 pub literal_formed : (ls : List Literal) (i : ℕ) (l : Literal) → i < length ls → l ≡ get_or ls i l → clause_is_formed (map literal ls) ≡ true → atom_is_formed (literal l).atom ≡ true
 literal_formed [] i l within is h = absurd (omega arith)

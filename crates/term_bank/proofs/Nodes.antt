@@ -12,6 +12,7 @@ use Rattle.term_bank.specs.declared.node.Node.TheVariants.{Var, App}
 use Rattle.term_bank.specs.Forest.{ExtendsTrees, AreDistinct, symbol_at, nth}
 use Rattle.term_bank.specs.Nodes.{Entry, no_entry, entry_at, node_tree, with_tree, trees_of, node_fits, AreMeasuresOf, IsBank}
 use Rattle.std.proofs.lemmas.Bool.{ltb-true, lt-ltb}
+pub use Rattle.inst_logic.proofs.Numbers.{last_or_before}
 
 pub below : (i k : ℕ) → nat_lt i k ≡ true → i < k
 below i k h = ltb-true i k h
@@ -134,9 +135,6 @@ more_symbols m n k (Var v) le fits = refl
 more_symbols m n k (App s args) le fits =
     let h : s < m = below s m (and_left (nat_lt s m) _ fits) in
     ap₂ (λ a b. a && b) (lt-ltb s n (omega arith)) (and_right (nat_lt s m) _ fits)
-
-pub last_or_before : (i n : ℕ) → i < n + 1 → (i < n) ⊎ (i ≡ n)
-last_or_before i n h = grind arith
 
 pub bank_symbol : (ss : List Sym) (s : Sym) (es : List Entry) → IsBank ss es → ((i : ℕ) → i < length ss → ¬ (symbol_at ss i ≡ s)) → IsBank (ss ++ s ∷ []) es
 bank_symbol ss s es b absent = record {

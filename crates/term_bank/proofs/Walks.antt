@@ -1,5 +1,5 @@
 -- What the steps of an interning walk make.
-use Rattle.std.proofs.Common.{◌≡◌, ℕ, suc, ◌+◌, ◌-◌, ◌*◌, ◌<◌, ◌≤◌, List, [], ◌∷◌, ◌++◌, length, map, take, drop, get_or, Bool, true, false, refl, ap, ap₂, sym, ◌∙◌, arith, length-append, append_assoc, ◌⊎◌, inl, inr}
+use Rattle.std.proofs.Common.{◌≡◌, ℕ, suc, ◌+◌, ◌-◌, ◌*◌, ◌<◌, ◌≤◌, List, [], ◌∷◌, ◌++◌, length, map, take, drop, get_or, true, refl, ap, ap₂, sym, ◌∙◌, arith, length-append, append_assoc, ◌⊎◌, inl, inr}
 use Rattle.std.proofs.Math.Seq.{take-append_seam, drop-append_seam, drop-cons}
 use denote.Bor.{Bor}
 use Rattle.std.proofs.lemmas.List.{take-append-drop}
@@ -17,6 +17,7 @@ use Rattle.term_bank.specs.declared.walk.Step.{Step}
 use Rattle.term_bank.specs.declared.walk.Step.TheVariants.{Visit, Apply}
 use Rattle.term_bank.specs.Forest.{is_formed}
 use Rattle.term_bank.specs.Steps.{applied, done, all_done, step_size, steps_size}
+use Rattle.inst_logic.proofs.Booleans.{or_cases}
 
 -- the last step comes first
 pub all_done_push : (ss : List Step) (s : Step) (ts : List Tree) → all_done (ss ++ s ∷ []) ts ≡ all_done ss (done s ts)
@@ -36,10 +37,6 @@ drop_front ts us = let e : length (ts ++ us) - length us ≡ length ts = omega (
 -- the arguments are on top
 pub applied_to : (s : Sym) (ts us : List Tree) → applied s (length us) (ts ++ us) ≡ ts ++ app s (of_list us) ∷ []
 applied_to s ts us = ap₂ (λ xs ys. xs ++ app s (of_list ys) ∷ []) (take_front ts us) (drop_front ts us)
-
-or_cases : (x y : Bool) → (x || y) ≡ true → (x ≡ true) ⊎ (y ≡ true)
-or_cases true y h = inl refl
-or_cases false y h = inr h
 
 -- arguments of a formed tree are terms
 arguments_formed : (s : Sym) (ts : List Tree) → is_formed (app s (of_list ts)) ≡ true → trees_are_formed (of_list ts) ≡ true

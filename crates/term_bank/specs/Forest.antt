@@ -36,6 +36,10 @@ IsAt f id t = (id < length f.trees) × (tree_at f id ≡ t)
 abbrev pub AreIds : Forest → List ℕ → Type 0
 AreIds f ids = All (λ id. id < length f.trees) ids
 
+-- the literal of trees that a literal of ids stands for
+abbrev pub literal_tree : Forest → Signed ℕ → Signed Tree
+literal_tree f l = record { positive = l.positive; atom = tree_at f l.atom }
+
 -- the clause of trees that a clause of ids stands for
 abbrev pub clause_at : Forest → List (Signed ℕ) → List (Signed Tree)
 clause_at f c = map (λ l. record { positive = l.positive; atom = tree_at f l.atom }) c

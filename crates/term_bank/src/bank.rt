@@ -9,12 +9,12 @@ ghost use Rattle.inst_logic.specs.Unifiers.{IsApplication};
 ghost use Rattle.term_bank.specs.Forest.{tree_at, nth, symbol_at, number_of, IsAt, AreIds, AreDistinct, Extends, ExtendsTrees, KeepsPlaces, no_symbol, IsFormed, AreFormed, AreFormedTrees, symbol_of, arguments_of, with_arguments, is_ground};
 ghost use Rattle.term_bank.specs.Greatest.{IsGreatest};
 ghost use Rattle.term_bank.specs.Nodes.{trees_of, IsBank};
-ghost use Rattle.term_bank.specs.Shapes.{shape_of};
+ghost use Rattle.term_bank.specs.Shapes.{shape_of, IsRootOf};
 
 use crate::id::{TermId, copied};
 use crate::node::{Measures, Node};
 use crate::store::{
-    application_measures, kind_at, measures_at, node_at, node_number, symbol_number,
+    application_measures, kind_at, measures_at, node_at, node_number, symbol_in, symbol_number,
 };
 use indexmap::{IndexMap, IndexSet};
 use inst_logic::{Memory, Sym};
@@ -45,13 +45,22 @@ impl Model for Bank {
     ghost invariant = { λ b. IsBank b.symbols.keys b.nodes.entries };
 }
 
-/// What stands at the root of a tree.
+/// Whether a tree is a variable or an application.
 #[derive(Clone, Copy, Debug, PartialEq, Eq)]
 pub enum Shape {
     /// A variable with its number, from 0.
     Var(usize),
     /// A symbol with its arguments.
     App,
+}
+
+/// A tree at its root.
+#[derive(Clone, Copy)]
+pub enum Root<'a> {
+    /// A variable with its number, from 0.
+    Var(usize),
+    /// A symbol with the ids of its arguments in their order.
+    App(&'a Sym, &'a [TermId]),
 }
 
 fn insert_variable(
@@ -145,7 +154,7 @@ impl Bank {
         let _ = self.len();
     }
 
-    /// The id of the variable of this number.
+    /// The id of the variable of this number, which counts from 0. One look-up.
     pub fn var(&mut self, v: usize) -> Result<TermId, Memory>
         ensures at { IfOk result (λ id. IsAt self.new id (var v)) }
         ensures extends { Extends self.old self.new }
@@ -162,8 +171,8 @@ impl Bank {
         result
     }
 
-    /// The id of the symbol applied to the terms of these ids; the bank stays well formed where they are as many as its arity.
-    /// The symbol is copied where it is new.
+    /// The id of the symbol applied to the terms of these ids; the bank stays well formed where they are as many as its
+    /// arity. The symbol is copied where it is new. Two look-ups, of the symbol by its name and of the node by its arguments.
     pub fn app(&mut self, sym: &Sym, args: &[TermId]) -> Result<TermId, Memory>
         requires { AreIds self.old args.now }
         ensures at { IfOk result (λ id. IsAt self.new id (app sym.now (of_list (map (tree_at self.old) args.now)))) }
@@ -181,8 +190,8 @@ impl Bank {
         result
     }
 
-    /// The id of the symbol at the root of `like`, which is no variable, applied to the terms of these ids; the bank stays well
-    /// formed where they are as many as its arity. The symbol is not copied.
+    /// The id of the symbol at the root of `like`, which is no variable, applied to the terms of these ids; the bank stays
+    /// well formed where they are as many as its arity. The symbol is neither copied nor looked up: one look-up, of the node.
     pub fn app_like(&mut self, like: TermId, args: &[TermId]) -> Result<TermId, Memory>
         requires within { like < length self.old.trees }
         requires application { IsApplication (tree_at self.old like) }
@@ -224,6 +233,19 @@ impl Bank {
         match node_at(&self.nodes, id) {
             Node::Var(v) => Shape::Var(*v),
             Node::App(_, _) => Shape::App,
+        }
+    }
+
+    /// The tree at its root, in one reading that takes no memory. The ids of arguments are below the tree's own.
+    pub fn root(&self, id: TermId) -> Root<'_>
+        requires { id < length self.now.trees }
+        ensures { IsRootOf self.now id result }
+    {
+        match node_at(&self.nodes, id) {
+            Node::Var(v) => Root::Var(*v),
+            Node::App(number, args) => {
+                Root::App(symbol_in(&self.symbols, *number), args.as_slice())
+            }
         }
     }
 
@@ -281,7 +303,7 @@ impl Bank {
         measures_at(&self.nodes, id).weight
     }
 
-    /// Whether the tree has no variables.
+    /// Whether the tree has no variables. It is read off the greatest variable, which is kept beside the node.
     pub fn ground(&self, id: TermId) -> bool
         requires { id < length self.now.trees }
         ensures test { result ≡ is_ground (tree_at self.now id) }
@@ -290,7 +312,7 @@ impl Bank {
         measures_at(&self.nodes, id).greatest.is_none()
     }
 
-    /// The greatest number of a variable of the tree, and `None` where it has no variable.
+    /// The greatest number of a variable of the tree, and `None` where it has no variable. It is kept beside the node.
     pub fn greatest_variable(&self, id: TermId) -> Option<usize>
         requires { id < length self.now.trees }
         ensures { IsGreatest (tree_vars (tree_at self.now id)) result }

@@ -34,7 +34,7 @@ impl TermId {
     }
 }
 
-/// A list of ids of one bank.
+/// A list of ids of one bank: an id of another bank may be the number of another tree.
 pub type TermIdList = ListOf<TermId>;
 
 // A list of these ids.
@@ -50,5 +50,5 @@ pub type IdLiteral = Signed<TermId>;
 /// A disjunction of literals, each over the id of its atom.
 pub type IdClause = ListOf<IdLiteral>;
 
-/// A list of clauses over one bank.
+/// A list of clauses over one bank, which `get` counts from 0.
 pub type IdClauseList = ListOf<IdClause>;

@@ -1,5 +1,6 @@
-// Laws of banks that grow.
-ghost use Rattle.std.specs.Prelude.{◌≡◌, ℕ, List, map};
+// Laws of banks that grow: what is known of ids stays so over every call that adds trees. Callers name these contracts and
+// need not know how a bank stores its trees.
+ghost use Rattle.std.specs.Prelude.{◌≡◌, ◌++◌, ◌∷◌, [], ℕ, List, map};
 ghost use Rattle.std.specs.List.{All};
 ghost use Rattle.inst_logic.specs.Tree.{Tree};
 ghost use Rattle.inst_logic.specs.WellFormed.{IsAtom};
@@ -24,4 +25,16 @@ pub fn clauses_stay()
     ensures ids { (f g : Forest) (c : List (Signed ℕ)) → Extends f g → IsClauseOf f c → IsClauseOf g c }
     ensures trees { (f g : Forest) (c : List (Signed ℕ)) → Extends f g → IsClauseOf f c → clause_at g c ≡ clause_at f c }
     ensures atoms { (f g : Forest) (c : List (Signed ℕ)) → Extends f g → IsClauseOf f c → All (λ l. IsAtom (tree_at f l.atom)) c → All (λ l. IsAtom (tree_at g l.atom)) c }
+{}
+
+/// Lists of such clauses stay too, and may take one more clause of the grown bank at their end.
+pub fn lists_stay()
+    ensures ids { (f g : Forest) (cs : List (List (Signed ℕ))) → Extends f g → All (IsClauseOf f) cs → All (IsClauseOf g) cs }
+    ensures trees { (f g : Forest) (cs : List (List (Signed ℕ))) → Extends f g → All (IsClauseOf f) cs → map (clause_at g) cs ≡ map (clause_at f) cs }
+    ensures atoms { (f g : Forest) (cs : List (List (Signed ℕ))) → Extends f g → All (IsClauseOf f) cs → All (All (λ l. IsAtom (tree_at f l.atom))) cs
+        → All (All (λ l. IsAtom (tree_at g l.atom))) cs }
+    ensures one_more { (f g : Forest) (cs : List (List (Signed ℕ))) (c : List (Signed ℕ)) → Extends f g → All (IsClauseOf f) cs → IsClauseOf g c
+        → All (IsClauseOf g) (cs ++ c ∷ []) }
+    ensures one_more_tree { (f g : Forest) (cs : List (List (Signed ℕ))) (c : List (Signed ℕ)) → Extends f g → All (IsClauseOf f) cs
+        → map (clause_at g) (cs ++ c ∷ []) ≡ map (clause_at f) cs ++ clause_at g c ∷ [] }
 {}

@@ -26,15 +26,23 @@ pub fn symbol_number(symbols: &mut IndexSet<Sym>, sym: &Sym) -> Result<usize, Me
     Ok(number)
 }
 
+// The symbol of this number.
+pub fn symbol_in<'a>(symbols: &'a IndexSet<Sym>, number: usize) -> &'a Sym
+    requires { number < length symbols.now.keys }
+    ensures { result.now ≡ symbol_at symbols.now.keys number }
+{
+    match symbols.get_index(number) {
+        Some(sym) => sym,
+        None => unreachable!(),
+    }
+}
+
 // The kind of the symbol of this number.
 pub fn kind_at(symbols: &IndexSet<Sym>, number: usize) -> Kind
     requires { number < length symbols.now.keys }
     ensures { result ≡ (symbol_at symbols.now.keys number).kind }
 {
-    match symbols.get_index(number) {
-        Some(sym) => sym.kind,
-        None => unreachable!(),
-    }
+    symbol_in(symbols, number).kind
 }
 
 // The number of the node. A new one goes last, and one that is there has these measures.

@@ -1,4 +1,5 @@
-// Why a file gives no problem.
+// Why a file gives no problem. Want of memory is one case here, wherever it comes from: it is no fault of a text, and needs
+// no name of a file.
 ghost use Rattle.std.specs.Prelude.{◌≡◌};
 ghost use Rattle.tptp_load.specs.declared.error.LoadError.TheVariants as errors;
 

@@ -1,4 +1,4 @@
-// Laws of loading.
+// A law of loading: what a file gives is decided by the files, so one may speak of its problem.
 ghost use Rattle.std.specs.Prelude.{◌≡◌, ℕ, List, Option};
 ghost use Rattle.inst_logic.specs.declared.clause.Problem.{Problem};
 ghost use Rattle.outside_io.specs.declared.library.NamedFile.{NamedFile};

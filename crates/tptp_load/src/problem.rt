@@ -1,4 +1,5 @@
-// The problem of a file with its includes.
+// The problem of a file with its includes. Canonical forms are made at the end, so none is made of a clause that a selection
+// drops; clauses that hold always are left out then too.
 ghost use Rattle.std.specs.Prelude.{◌≡◌, ◌≤◌, ◌++◌, ◌∷◌, [], IfOk, IfErr, OnOk, map, option_map};
 ghost use Rattle.inst_logic.specs.Clauses.{canonical_form};
 ghost use Rattle.tptp_load.specs.Problems.{IsGoodProblem, IsLoadCause, Loads, Told, giving, problem_of};

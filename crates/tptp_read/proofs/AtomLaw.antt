@@ -1,5 +1,5 @@
 -- Each text reads as one ground atom or has a fault, never both, and in one way.
-use Rattle.std.proofs.Common.{◌≡◌, ℕ, zero, suc, ◌<◌, ◌≤◌, List, [], ◌∷◌, Bool, true, false, not, length, Option, Some, None, refl, sym, ap, subst, ◌∙◌, inl, inr, arith}
+use Rattle.std.proofs.Common.{◌≡◌, ℕ, zero, suc, ◌<◌, ◌≤◌, List, [], ◌∷◌, Bool, true, false, length, Option, Some, None, refl, sym, ap, subst, ◌∙◌, inl, inr, arith}
 use Rattle.std.specs.Prelude.{◌⊎◌}
 use Rattle.std.proofs.lemmas.Bool.{cases_lt}
 use Rattle.inst_logic.specs.Tree.{Tree}
@@ -10,17 +10,16 @@ use Rattle.tptp_read.specs.Lexemes.{Begins}
 use Rattle.tptp_read.specs.Grammar.{Simple}
 use Rattle.tptp_read.specs.Meaning.{from_simple, literal_of, first_feature, wrote_wide, syntax_fault, feature, limit}
 use Rattle.tptp_read.specs.ParseClause.{simple_at}
-use Rattle.tptp_read.specs.Atoms.{AreTokens, HasNoTokens, nesting_within, is_plain_atom, has_variable, IsAtomForm, ReadsAtom, OffendsAtom, no_tokens, too_deep, no_atom, refused_feature, too_wide, AtomOutcome, reads, faulty, HasAtom, IsDecidedAtom}
+use Rattle.tptp_read.specs.Atoms.{AreTokens, HasNoTokens, nesting_within, is_plain_atom, has_variable, IsAtomForm, no_tokens, too_deep, no_atom, refused_feature, too_wide, AtomOutcome, reads, faulty, HasAtom, IsDecidedAtom}
 use Rattle.tptp_read.proofs.AllTokens.{same_next, same_tokens}
 use Rattle.tptp_read.proofs.AtomForms.{atom_again, same_read, plain_one}
 use Rattle.tptp_read.proofs.ItemLaws.{simple_spelled}
 use Rattle.tptp_read.proofs.Nexts.{next, is_next, next_is, next_shorter, done_none, done_or}
+use Rattle.inst_logic.proofs.Booleans.{not_both}
+use Rattle.inst_logic.proofs.Outcomes.{not_some_and_none}
 
 same_all : (text : List ℕ) (ts us : List Tok) → AreTokens text ts → AreTokens text us → ts ≡ us
 same_all text ts us a b = (same_tokens ts us text a.rest b.rest a.begins (done_none a.rest a.done) b.begins (done_none b.rest b.done)).0
-
-some_none : {A : Type 0} {B : Type 0} (x : A) (r : Option A) → r ≡ Some x → r ≡ None → B
-some_none x r p q = absurd cc
 
 -- ---- the tokens, or none
 
@@ -32,7 +31,7 @@ first_tokens text z e (inl found) = inl (z.0 ∷ found.0, record { rest = found.
 first_tokens text z e (inr none) = inr no
   where
     no : HasNoTokens text
-    no [] a = some_none z (next text) e (ap next a.begins ∙ done_none a.rest a.done)
+    no [] a = not_some_and_none z (next text) e (ap next a.begins ∙ done_none a.rest a.done)
     no (t ∷ ts) a =
         let same = same_next text t z.0 a.begins.0 z.1 a.begins.1 (is_next text z e) in
         none ts (record { rest = a.rest; begins = subst (λ (x : List ℕ). Begins x ts a.rest) same.1 a.begins.2; done = a.done })
@@ -43,7 +42,7 @@ last_tokens text e (inr left) = inr no
   where
     no : HasNoTokens text
     no [] a = left (subst (λ (x : List ℕ). IsDone x) (sym a.begins) a.done)
-    no (t ∷ ts) a = some_none (t, a.begins.0) (next text) (next_is text t a.begins.0 a.begins.1) e
+    no (t ∷ ts) a = not_some_and_none (t, a.begins.0) (next text) (next_is text t a.begins.0 a.begins.1) e
 
 either_tokens : (text : List ℕ) → ((z : Tok × List ℕ) → next text ≡ Some z → Tokens z.1) → (o : Option (Tok × List ℕ)) → next text ≡ o → Tokens text
 either_tokens text later None e = last_tokens text e (done_or text)
@@ -58,22 +57,19 @@ tokens_or (suc n) text le = either_tokens text (λ z e. let less = next_shorter 
 abbrev Form : List Tok → Type 0
 Form ts = ((a : Simple) × IsAtomForm ts a) ⊎ ((a : Simple) → ¬ IsAtomForm ts a)
 
-true_false : {A : Type 0} (b : Bool) → b ≡ true → b ≡ false → A
-true_false b p q = absurd cc
-
 abbrev read_to : Simple → List Tok → Simple × List Tok
 read_to s us = (s, us)
 
 whole_form : (ts : List Tok) (s : Simple) → simple_at (length ts) ts ≡ Some (read_to s []) → (plain : Bool) → is_plain_atom s ≡ plain → (variable : Bool) → has_variable ts ≡ variable → Form ts
 whole_form ts s e true p false v = let spelled = simple_spelled (length ts) ts (read_to s []) e in inl (s, record { spelled = sym spelled.0; fits = spelled.1; plain = p; variable_free = v })
-whole_form ts s e true p true v = inr (λ a f. true_false (has_variable ts) v f.variable_free)
-whole_form ts s e false p variable v = inr (λ a f. true_false (is_plain_atom a) f.plain (ap is_plain_atom (sym (same_read ts [] s a e f).0) ∙ p))
+whole_form ts s e true p true v = inr (λ a f. not_both (has_variable ts) v f.variable_free)
+whole_form ts s e false p variable v = inr (λ a f. not_both (is_plain_atom a) f.plain (ap is_plain_atom (sym (same_read ts [] s a e f).0) ∙ p))
 
 form_or : (ts : List Tok) → Form ts
 form_or ts = known (simple_at (length ts) ts) refl
   where
     known : (o : Option (Simple × List Tok)) → simple_at (length ts) ts ≡ o → Form ts
-    known None e = inr (λ a f. some_none (read_to a []) (simple_at (length ts) ts) (atom_again ts a f) e)
+    known None e = inr (λ a f. not_some_and_none (read_to a []) (simple_at (length ts) ts) (atom_again ts a f) e)
     known (Some (s, [])) e = whole_form ts s e (is_plain_atom s) refl (has_variable ts) refl
     known (Some (s, u ∷ us)) e = inr (λ a f. let nil = (same_read ts (u ∷ us) s a e f).1 in absurd (cc))
 
@@ -127,7 +123,7 @@ module _ (text : List ℕ) (ts : List Tok) (t : AreTokens text ts) where
       same_simple us b a g = same_form ts us s b (same_all text ts us t a) f g
 
       feature_only : (w : List ℕ) → first_feature ts ≡ Some w → (o : AtomOutcome) → HasAtom text o → o ≡ faulty (feature w)
-      feature_only w some (reads l) r = some_none w (first_feature ts) some (featured r.tokens r.are_tokens ∙ r.no_feature)
+      feature_only w some (reads l) r = not_some_and_none w (first_feature ts) some (featured r.tokens r.are_tokens ∙ r.no_feature)
       feature_only w some (faulty e) (no_tokens n is) = absurd (n ts t)
       feature_only w some (faulty e) (too_deep us a d is) = absurd (omega (arith, flat, d, nested us a))
       feature_only w some (faulty e) (no_atom us a d n is) = absurd (n s (subst (λ (x : List Tok). IsAtomForm x s) (same_all text ts us t a) f))
@@ -135,15 +131,15 @@ module _ (text : List ℕ) (ts : List Tok) (t : AreTokens text ts) where
         where
           some_same : (x y : List ℕ) → ◌≡◌ {A = Option (List ℕ)} (Some x) (Some y) → x ≡ y
           some_same x y e = cc
-      feature_only w some (faulty e) (too_wide us a d b g n h is) = some_none w (first_feature ts) some (featured us a ∙ n)
+      feature_only w some (faulty e) (too_wide us a d b g n h is) = not_some_and_none w (first_feature ts) some (featured us a ∙ n)
 
       module _ (none : first_feature ts ≡ None) where
         wide_only : wrote_wide (from_simple s) ≡ true → (o : AtomOutcome) → HasAtom text o → o ≡ faulty (limit Arity)
-        wide_only wide (reads l) r = true_false (wrote_wide (from_simple s)) wide (ap (λ x. wrote_wide (from_simple x)) (same_simple r.tokens r.form r.are_tokens r.is_form) ∙ r.narrow)
+        wide_only wide (reads l) r = not_both (wrote_wide (from_simple s)) wide (ap (λ x. wrote_wide (from_simple x)) (same_simple r.tokens r.form r.are_tokens r.is_form) ∙ r.narrow)
         wide_only wide (faulty e) (no_tokens n is) = absurd (n ts t)
         wide_only wide (faulty e) (too_deep us a d is) = absurd (omega (arith, flat, d, nested us a))
         wide_only wide (faulty e) (no_atom us a d n is) = absurd (n s (subst (λ (x : List Tok). IsAtomForm x s) (same_all text ts us t a) f))
-        wide_only wide (faulty e) (refused_feature us a d b g w h is) = some_none w (first_feature ts) (featured us a ∙ h) none
+        wide_only wide (faulty e) (refused_feature us a d b g w h is) = not_some_and_none w (first_feature ts) (featured us a ∙ h) none
         wide_only wide (faulty e) (too_wide us a d b g n h is) = ap faulty is
 
         reads_only : (l : Signed Tree) → wrote_wide (from_simple s) ≡ false → literal_of [] (from_simple s) ≡ l ∷ [] → (o : AtomOutcome) → HasAtom text o → o ≡ reads l
@@ -154,8 +150,8 @@ module _ (text : List ℕ) (ts : List Tok) (t : AreTokens text ts) where
         reads_only l narrow value (faulty e) (no_tokens n is) = absurd (n ts t)
         reads_only l narrow value (faulty e) (too_deep us a d is) = absurd (omega (arith, flat, d, nested us a))
         reads_only l narrow value (faulty e) (no_atom us a d n is) = absurd (n s (subst (λ (x : List Tok). IsAtomForm x s) (same_all text ts us t a) f))
-        reads_only l narrow value (faulty e) (refused_feature us a d b g w h is) = some_none w (first_feature ts) (featured us a ∙ h) none
-        reads_only l narrow value (faulty e) (too_wide us a d b g n h is) = true_false (wrote_wide (from_simple s)) (ap (λ x. wrote_wide (from_simple x)) (same_simple us b a g) ∙ h) narrow
+        reads_only l narrow value (faulty e) (refused_feature us a d b g w h is) = not_some_and_none w (first_feature ts) (featured us a ∙ h) none
+        reads_only l narrow value (faulty e) (too_wide us a d b g n h is) = not_both (wrote_wide (from_simple s)) (ap (λ x. wrote_wide (from_simple x)) (same_simple us b a g) ∙ h) narrow
 
         narrow_or : (wide : Bool) → wrote_wide (from_simple s) ≡ wide → IsDecidedAtom text
         narrow_or true wide = record { outcome = faulty (limit Arity); holds = too_wide ts t flat s f none wide refl; only = wide_only wide }

@@ -1,6 +1,6 @@
 -- Statements that are clauses are read token by token.
 use Rattle.std.proofs.Common.{◌≡◌, ℕ, Bool, true, false, cond, List, [], ◌∷◌, length, Option, Some, None, Result, Err, refl, ap, ◌∙◌, inl, inr}
-use Rattle.std.specs.Prelude.{◌&&◌, ◌⊎◌}
+use Rattle.std.specs.Prelude.{◌&&◌}
 use Rattle.tptp_tokens.specs.Stream.{Tok}
 use Rattle.tptp_read.specs.declared.statement.Statement.{Statement}
 use Rattle.tptp_read.specs.declared.stop.Stop.{Stop}
@@ -20,10 +20,7 @@ use Rattle.tptp_read.specs.Bodies.{disjunction_at, wrotes, Body, body_of, judged
 use Rattle.tptp_read.specs.Judging.{IsRefused}
 use Rattle.tptp_read.specs.Verdicts.{judged_form, refusal_of, refusal_as, IsOf}
 use Rattle.tptp_read.proofs.ParseLaws.{some_is}
-
-both_or : (a b : Bool) → (a && b) ≡ false → (a ≡ false) ⊎ ((a ≡ true) × (b ≡ false))
-both_or true b e = inr (refl, e)
-both_or false b e = inl refl
+use Rattle.inst_logic.proofs.Booleans.{first_false}
 
 -- ---- the name and the role
 
@@ -63,16 +60,16 @@ starts_is p (t ∷ us) e = (t, refl, e)
 
 pub no_head : (d : ℕ) (t1 t2 t3 t4 t5 : List Tok) → behind t1 ≡ t2 → behind t2 ≡ t3 → behind t3 ≡ t4 → behind t4 ≡ t5
     → (begins_with 40 t1 && (starts is_name t2 && (begins_with 44 t3 && (starts is_lower t4 && begins_with 44 t5)))) ≡ false → cnf_at d t1 ≡ None
-no_head d t1 t2 t3 t4 t5 b1 b2 b3 b4 e = elim (both_or (begins_with 40 t1) (starts is_name t2 && (begins_with 44 t3 && (starts is_lower t4 && begins_with 44 t5))) e) [
+no_head d t1 t2 t3 t4 t5 b1 b2 b3 b4 e = elim (first_false (begins_with 40 t1) (starts is_name t2 && (begins_with 44 t3 && (starts is_lower t4 && begins_with 44 t5))) e) [
   | inl a ↦ no_1 d t1 a
-  | inr a ↦ elim (both_or (starts is_name t2) (begins_with 44 t3 && (starts is_lower t4 && begins_with 44 t5)) a.1) [
+  | inr a ↦ elim (first_false (starts is_name t2) (begins_with 44 t3 && (starts is_lower t4 && begins_with 44 t5)) a.1) [
     | inl b ↦ no_2 d t1 a.0 (ap (starts is_name) b1 ∙ b)
     | inr b ↦
         let n = starts_is is_name t2 b.0 in
         let at2 = b1 ∙ n.1 ∙ ap (λ us. n.0 ∷ us) b2 in
-        elim (both_or (begins_with 44 t3) (starts is_lower t4 && begins_with 44 t5) b.1) [
+        elim (first_false (begins_with 44 t3) (starts is_lower t4 && begins_with 44 t5) b.1) [
           | inl c ↦ no_3 d t1 t3 n.0 a.0 at2 n.2 c
-          | inr c ↦ elim (both_or (starts is_lower t4) (begins_with 44 t5) c.1) [
+          | inr c ↦ elim (first_false (starts is_lower t4) (begins_with 44 t5) c.1) [
             | inl f ↦ no_4 d t1 t3 n.0 a.0 at2 n.2 c.0 (ap (starts is_lower) b3 ∙ f)
             | inr f ↦
                 let r = starts_is is_lower t4 f.0 in

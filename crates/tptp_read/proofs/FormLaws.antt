@@ -19,6 +19,7 @@ use Rattle.tptp_read.proofs.ManyLaws.{spell_all, all_fit, spelled_many, AllAgain
 use Rattle.tptp_read.proofs.Lengths.{item_deep_len, items_deep_len}
 use Rattle.tptp_read.proofs.ItemLaws.{item_depth, items_depth, listed_items, items_len, items_listed, items_spelled, all_items_spelled, all_items_fit, item_spelled, item_again, items_again, after_or, follows_items}
 use Rattle.tptp_read.proofs.GeneralLaws.{Goes, general_len, generals_len, no_close, listing_spelled, general_spelled, listing_at, general_again, generals_again}
+use Rattle.std.proofs.lemmas.Option.{none-some}
 
 pub expect_is : (b : ℕ) (ts us : List Tok) → expect b ts ≡ Some us → ts ≡ mark b ∷ us
 unfolding expect
@@ -80,9 +81,6 @@ note_spelled d ts z e =
       | inr w ↦ subst (IsNoteAnd ts) (some_is (unnoted, ts) z w.1) (refl, refl)
     ]
 
-none_some : {A : Type 0} (x : A) → None ≡ Some x → ⊥
-none_some x e = cc
-
 cnf_parts : (d : ℕ) (ts a : List Tok) (n : Tok × List Tok) (b : List Tok) (r : Tok × List Tok) (c : List Tok) (i : Item × List Tok) (is : List Item × List Tok) (x : Note × List Tok)
     → expect 40 ts ≡ Some a → one_of is_name a ≡ Some n → expect 44 n.1 ≡ Some b → one_of is_lower b ≡ Some r → expect 44 r.1 ≡ Some c → item_at d d c ≡ Some i
     → many_at 124 (item_at d d) (length i.1) i.1 ≡ Some is → note_at d is.1 ≡ Some x → is_tail x.1 ≡ true → IsForm (lower (codes "cnf") ∷ ts) (cnf n.0 r.0 i.0 (items_of is.0) x.0)
@@ -112,7 +110,7 @@ cnf_spelled d ts f e =
     read_behind (note_at d is.1) _ f e7 (λ x ex e8.
     elim (chosen (is_tail x.1) (Some (cnf n.0 r.0 i.0 (items_of is.0) x.0)) None (Some f) e8) [
       | inl w ↦ subst (IsForm (lower (codes "cnf") ∷ ts)) (some_is (cnf n.0 r.0 i.0 (items_of is.0) x.0) f w.1) (cnf_parts d ts a n b r c i is x ea en eb er ec ei es ex w.0)
-      | inr w ↦ absurd (none_some f w.1)
+      | inr w ↦ absurd (none-some f w.1)
     ]))))))))
 
 note_again : (n : Note) (d : ℕ) (rest : List Tok) → begins_with 44 rest ≡ false → Goes rest → note_fits n ≡ true → length (note n rest) ≤ d → note_at d (note n rest) ≡ Some (n, rest)
@@ -207,7 +205,7 @@ include_spelled ts f e =
           read_behind (expect 93 ns.1) _ f e6 (λ d ed e7.
           elim (chosen (is_tail d) (Some (selected q.0 n.0 ns.0)) None (Some f) e7) [
             | inl v ↦ subst (IsForm (lower (codes "include") ∷ ts)) (some_is (selected q.0 n.0 ns.0) f v.1) (selected_parts ts a b c q n ns d ea eq eb ec en es ed v.0)
-            | inr v ↦ absurd (none_some f v.1)
+            | inr v ↦ absurd (none-some f v.1)
           ])))))
     ]))
 
@@ -263,7 +261,7 @@ form_spelled ts f e =
       | inl w ↦ subst (λ (us : List Tok). IsForm us f) (sym (word (codes "cnf") w.0)) (cnf_spelled (length ts) k.0.1 f w.1)
       | inr w ↦ elim (chosen (bytes_eq k.0.0.text (codes "include")) (include_at k.0.1) None (Some f) w.1) [
         | inl v ↦ subst (λ (us : List Tok). IsForm us f) (sym (word (codes "include") v.0)) (include_spelled k.0.1 f v.1)
-        | inr v ↦ absurd (none_some f v.1)
+        | inr v ↦ absurd (none-some f v.1)
       ]
     ]
   where

@@ -8,6 +8,9 @@ use Rattle.tptp_read.specs.Fronts.{are_other, other_word}
 use Rattle.tptp_read.proofs.ParseLaws.{both_true, some_is, mark_is}
 use Rattle.tptp_read.proofs.Law.{word_is}
 use Rattle.tptp_read.proofs.Nexts.{next, next_is, end_none, done_none, end_done}
+use Rattle.std.proofs.lemmas.Option.{none-some}
+use Rattle.inst_logic.proofs.Booleans.{true_is}
+use Rattle.tptp_read.proofs.AllTokens.{same_next}
 
 -- no full stop among the tokens
 abbrev pub has_no_stop : List Tok → Bool
@@ -35,21 +38,13 @@ stop_ends (u ∷ v ∷ ts) t h e = let b = both_true (not (is_mark_token 46 u)) 
 abbrev Found : Type 0
 Found = Tok × List ℕ
 
-none_some : {A : Type 0} (x : A) → None ≡ Some x → ⊥
-none_some x e = cc
-
 not_both : (b : Bool) → b ≡ true → not b ≡ true → ⊥
 not_both true e h = cc
 not_both false e h = cc
 
-same_next : (text : List ℕ) (t u : Tok) (after behind : List ℕ) → IsNext text t after → IsNext text u behind → (t ≡ u) × (after ≡ behind)
-same_next text t u after behind h k =
-    let same = some_is (t, after) (u, behind) (sym (next_is text t after h) ∙ next_is text u behind k) in
-    (ap (λ (z : Found). z.0) same, ap (λ (z : Found). z.1) same)
-
 nothing_stops : (found : List Tok) (text mid : List ℕ) → Begins text found mid → has_no_stop found ≡ true → next mid ≡ None → (ts : List Tok) (rest : List ℕ) → Begins text ts rest → stops_last ts ≡ true → ⊥
 nothing_stops found text mid b h e [] rest front s = cc
-nothing_stops [] text mid b h e (t ∷ ts) rest front s = none_some (t, front.0) (sym e ∙ ap next (sym b) ∙ next_is text t front.0 front.1)
+nothing_stops [] text mid b h e (t ∷ ts) rest front s = none-some (t, front.0) (sym e ∙ ap next (sym b) ∙ next_is text t front.0 front.1)
 nothing_stops (u ∷ found) text mid b h e (t ∷ []) rest front s =
     let same = same_next text u t b.0 front.0 b.1 front.1 in
     let split = both_true (not (is_mark_token 46 u)) (has_no_stop found) h in
@@ -100,10 +95,10 @@ whole_no_language (t ∷ []) text rest b o s w h = stop_lower w t (same_next tex
 whole_no_language (t ∷ u ∷ ts) text rest b o s w h = no_two text rest t u ts b o w h
 
 end_no_language : (ts : List Tok) (text rest : List ℕ) → Begins text ts rest → is_other ts ≡ false → next rest ≡ None → IsNoOtherLanguage text
-end_no_language [] text rest b o e w h = none_some (lower w, h.behind) (sym e ∙ ap next (sym b) ∙ next_is text (lower w) h.behind h.word)
+end_no_language [] text rest b o e w h = none-some (lower w, h.behind) (sym e ∙ ap next (sym b) ∙ next_is text (lower w) h.behind h.word)
 end_no_language (t ∷ []) text rest b o e w h =
     let first = same_next text t (lower w) b.0 h.behind b.1 h.word in
-    none_some (mark 40, h.rest) (sym e ∙ ap next (sym b.2 ∙ first.1) ∙ next_is h.behind (mark 40) h.rest h.parenthesis)
+    none-some (mark 40, h.rest) (sym e ∙ ap next (sym b.2 ∙ first.1) ∙ next_is h.behind (mark 40) h.rest h.parenthesis)
 end_no_language (t ∷ u ∷ ts) text rest b o e w h = no_two text rest t u ts b o w h
 
 chosen_true : (b : Bool) (v w : List ℕ) → cond b (Some v) None ≡ Some w → (b ≡ true) × (v ≡ w)
@@ -130,8 +125,8 @@ is_other_language (t ∷ u ∷ []) text rest w b e =
 -- ---- what is found
 
 some_more : (ts : List Tok) (t : Tok) (text rest : List ℕ) → Begins text (ts ++ t ∷ []) rest → IsDone text → ⊥
-some_more [] t text rest b d = none_some (t, b.0) (sym (done_none text d) ∙ next_is text t b.0 b.1)
-some_more (u ∷ ts) t text rest b d = none_some (u, b.0) (sym (done_none text d) ∙ next_is text u b.0 b.1)
+some_more [] t text rest b d = none-some (t, b.0) (sym (done_none text d) ∙ next_is text t b.0 b.1)
+some_more (u ∷ ts) t text rest b d = none-some (u, b.0) (sym (done_none text d) ∙ next_is text u b.0 b.1)
 
 -- the tokens so far
 pub record SoFar (text : List ℕ) (ts : List Tok) (rest : List ℕ) : Type 0 where
@@ -149,9 +144,6 @@ pub record IsWhole (text : List ℕ) (ts : List Tok) (rest : List ℕ) : Type 0 
   pub some : ¬ IsDone text
   pub language : IsNoOtherLanguage text
   pub front : IsFront text ts rest
-
-true_is : (b : Bool) → b ≡ true → IsTrue b
-true_is b e = e
 
 pub whole : (text rest after : List ℕ) (ts : List Tok) (t : Tok) → SoFar text ts rest → IsNext rest t after → is_mark_token 46 t ≡ true → IsWhole text (ts ++ t ∷ []) after
 whole text rest after ts t s h e =
@@ -175,7 +167,7 @@ done text rest ts s e h =
 
 not_done : (ts : List Tok) (text rest last : List ℕ) → Begins text ts rest → IsEnd rest last → (ts ≡ [] → last ≡ [] → ⊥) → IsDone text → ⊥
 not_done [] text rest last b h k d = k refl (end_done rest last h (subst (λ (x : List ℕ). IsDone x) b d))
-not_done (t ∷ ts) text rest last b h k d = none_some (t, b.0) (sym (done_none text d) ∙ next_is text t b.0 b.1)
+not_done (t ∷ ts) text rest last b h k d = none-some (t, b.0) (sym (done_none text d) ∙ next_is text t b.0 b.1)
 
 pub unfinished : (text rest last : List ℕ) (ts : List Tok) → SoFar text ts rest → IsEnd rest last → (ts ≡ [] → last ≡ [] → ⊥) → (¬ IsDone text) × IsNoOtherLanguage text × HasNoFront text
 unfinished text rest last ts s h k =

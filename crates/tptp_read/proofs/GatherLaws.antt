@@ -21,6 +21,7 @@ use Rattle.tptp_read.specs.Gathered.{Gathered, gather, put, or_else, atom_litera
 use Rattle.tptp_read.proofs.ParseLaws.{both_true}
 use Rattle.tptp_read.proofs.ItemLaws.{simple_spelled}
 use Rattle.tptp_read.proofs.PlainTokens.{simple_wrote, literal_feature}
+use Rattle.inst_logic.proofs.Outcomes.{same_pair}
 
 pub or_false : (b : Bool) → b ≡ (b || false)
 or_false true = refl
@@ -71,9 +72,6 @@ put_gather vs g (equal sign t u) fits = λ i. record { clause = g.clause ++ lite
 
 abbrev some : {A : Type 0} → A → Option A
 some x = Some x
-
-same_pair : {A B : Type 0} (x y : A × B) → some x ≡ some y → (x.0 ≡ y.0) × (x.1 ≡ y.1)
-same_pair x y e = let p : x ≡ y = cc in (ap (λ q. q.0) p, ap (λ q. q.1) p)
 
 pub seen_some : {A V : Type 0} (f : A → V) (r : Option (A × List Tok)) (v : V) (us : List Tok) → seen f r ≡ Some (v, us) → (a : A) × (r ≡ Some (a, us)) × (f a ≡ v)
 seen_some f (Some z) v us e = let p = same_pair (f z.0, z.1) (v, us) e in (z.0, ap (λ (y : List Tok). Some (z.0, y)) p.1, p.0)

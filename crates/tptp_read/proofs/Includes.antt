@@ -1,6 +1,6 @@
 -- Includes are read token by token.
 use Rattle.std.proofs.Common.{◌≡◌, ℕ, zero, suc, ◌≤◌, Bool, true, false, cond, List, [], ◌∷◌, ◌++◌, length, Option, Some, None, Ok, Result, refl, sym, ap, subst, ◌∙◌, append_assoc, inl, inr, arith}
-use Rattle.std.specs.Prelude.{◌&&◌, ◌⊎◌, map}
+use Rattle.std.specs.Prelude.{◌&&◌, map}
 use Rattle.std.specs.Option.{option_map}
 use Rattle.std.proofs.lemmas.List.{append-nil}
 use Rattle.tptp_tokens.specs.Stream.{Tok}
@@ -15,6 +15,7 @@ use Rattle.tptp_read.specs.ParseForm.{one_of, expect, is_tail, is_quoted, includ
 use Rattle.tptp_read.specs.LexemeView.{Fails}
 use Rattle.tptp_read.specs.Selected.{in_names, starts}
 use Rattle.tptp_read.proofs.ParseLaws.{some_is}
+use Rattle.inst_logic.proofs.Booleans.{first_false}
 
 -- ---- names
 
@@ -95,10 +96,6 @@ names_done front us total e h = sym h ∙ ap (in_names front) (done_at (length u
 abbrev names_then : Tok → Tok → Names → Option Form
 names_then f n ns = ◌>>=◌ {B = Form} (expect 93 ns.1) (λ e. cond (is_tail e) (Some (selected f n ns.0)) None)
 
-both_or : (a b : Bool) → (a && b) ≡ false → (a ≡ false) ⊎ ((a ≡ true) × (b ≡ false))
-both_or true b e = inr (refl, e)
-both_or false b e = inl refl
-
 no_open : (ts : List Tok) → begins_with 40 ts ≡ false → include_at ts ≡ None
 unfolding include_at expect
 no_open ts e = rw e refl
@@ -109,7 +106,7 @@ no_quoted ts [] e b k = rw (e, b) refl
 no_quoted ts (t ∷ us) e b k = rw (e, b, k) refl
 
 pub no_file : (ts us : List Tok) → behind ts ≡ us → (begins_with 40 ts && starts is_quoted us) ≡ false → include_at ts ≡ None
-no_file ts us b e = elim (both_or (begins_with 40 ts) (starts is_quoted us) e) [ inl k ↦ no_open ts k | inr k ↦ no_quoted ts us k.0 b k.1 ]
+no_file ts us b e = elim (first_false (begins_with 40 ts) (starts is_quoted us) e) [ inl k ↦ no_open ts k | inr k ↦ no_quoted ts us k.0 b k.1 ]
 
 -- the file is there
 abbrev pub IsFile : List Tok → Tok → List Tok → Type 0
@@ -133,9 +130,9 @@ no_first ts f us [] h e k l b m = rw (h.0, h.1, h.2, e, k, l, b) refl
 no_first ts f us (t ∷ vs) h e k l b m = rw (h.0, h.1, h.2, e, k, l, b, m) refl
 
 pub no_names : (ts : List Tok) (f : Tok) (us vs : List Tok) → IsFile ts f us → is_tail us ≡ false → behind (behind us) ≡ vs → (begins_with 44 us && (begins_with 91 (behind us) && starts is_name vs)) ≡ false → include_at ts ≡ None
-no_names ts f us vs h e b k = elim (both_or (begins_with 44 us) (begins_with 91 (behind us) && starts is_name vs) k) [
+no_names ts f us vs h e b k = elim (first_false (begins_with 44 us) (begins_with 91 (behind us) && starts is_name vs) k) [
   | inl l ↦ no_comma ts f us h e l
-  | inr l ↦ elim (both_or (begins_with 91 (behind us)) (starts is_name vs) l.1) [
+  | inr l ↦ elim (first_false (begins_with 91 (behind us)) (starts is_name vs) l.1) [
     | inl m ↦ no_bracket ts f us h e l.0 m
     | inr m ↦ no_first ts f us vs h e l.0 m.0 b m.1
   ]

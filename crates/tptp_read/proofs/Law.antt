@@ -1,6 +1,6 @@
 -- Each text is readable or offends, and never both, nor in two ways.
 use Rattle.std.proofs.Common.{◌≡◌, ℕ, zero, suc, ◌+◌, ◌≤◌, ◌<◌, Bool, true, false, cond, List, [], ◌∷◌, length, Option, Some, None, Result, Ok, Err, refl, sym, ap, subst, ◌∙◌, inl, inr, arith}
-use Rattle.std.specs.Prelude.{◌&&◌, ◌⊎◌, not, IsTrue, nat_le}
+use Rattle.std.specs.Prelude.{◌&&◌, not, nat_le}
 use Rattle.std.specs.Option.{option_map_or}
 use Rattle.std.proofs.lemmas.Bool.{le-leb}
 use Rattle.std.proofs.lemmas.Bool.Decides.{leb_tells}
@@ -20,6 +20,9 @@ use Rattle.tptp_read.specs.Text.{Outcome, readable, offends, Has, IsDecided}
 use Rattle.tptp_read.proofs.ParseLaws.{chosen, some_is, bind_some, both_true, mark_is}
 use Rattle.tptp_read.proofs.FormLaws.{form_spelled, form_read}
 use Rattle.tptp_read.proofs.Nexts.{next, next_is, is_next, next_shorter, done_none, done_or}
+use Rattle.std.proofs.lemmas.Option.{none-some}
+use Rattle.inst_logic.proofs.Booleans.{is_true, true_is, not_true}
+use Rattle.inst_logic.proofs.Outcomes.{some_or_none}
 
 -- ---- the tokens up to the first full stop
 
@@ -27,22 +30,12 @@ front_of : ℕ → List ℕ → Option (List Tok × List ℕ)
 front_of zero text = None
 front_of (suc n) text = next text >>= λ t. cond (is_mark_token 46 t.0) (Some (t.0 ∷ [], t.1)) (front_of n t.1 >>= λ f. Some (t.0 ∷ f.0, f.1))
 
-is_true : (b : Bool) → IsTrue b → b ≡ true
-is_true b h = h
-
-true_is : (b : Bool) → b ≡ true → IsTrue b
-true_is b e = e
-
 -- how long the tokens are at most
 pub begins_len : (ts : List Tok) (text rest : List ℕ) → Begins text ts rest → length rest + length ts ≤ length text
 begins_len [] text rest b = omega (arith, ap length b)
 begins_len (t ∷ ts) text rest b = omega (arith, begins_len ts b.0 rest b.2, next_shorter text t b.0 b.1)
 
-not_true : (b : Bool) → not b ≡ true → b ≡ false
-not_true true e = absurd cc
-not_true false e = refl
-
-stops_cons : (t : Tok) (ts : List Tok) → is_mark_token 46 t ≡ false → stops_last ts ≡ true → stops_last (t ∷ ts) ≡ true
+pub stops_cons : (t : Tok) (ts : List Tok) → is_mark_token 46 t ≡ false → stops_last ts ≡ true → stops_last (t ∷ ts) ≡ true
 stops_cons t [] other s = absurd cc
 stops_cons t (u ∷ ts) other s = rw other s
 
@@ -94,9 +87,6 @@ lower_is Integer e = absurd cc
 lower_is Rational e = absurd cc
 lower_is Real e = absurd cc
 
-none_some : {A : Type 0} (x : A) → None ≡ Some x → ⊥
-none_some x e = cc
-
 pub word_is : (t : Tok) (w : List ℕ) → is_lower_kind t.kind ≡ true → t.text ≡ w → t ≡ lower w
 word_is t w k e = let kind = lower_is t.kind k in λ i. record { kind = kind i; text = e i }
 
@@ -120,21 +110,17 @@ language_found text w e =
                   word = subst (λ (t : Tok). IsNext text t a.0.1) tok_is (is_next text a.0 a.1);
                   parenthesis = subst (λ (t : Tok). IsNext a.0.1 t b.0.1) (mark_is 40 b.0.0 u.0) (is_next a.0.1 b.0 b.1);
                 }
-            | inr u ↦ absurd (none_some w u.1)
+            | inr u ↦ absurd (none-some w u.1)
           ]
-      | inr v ↦ absurd (none_some w v.1)
+      | inr v ↦ absurd (none-some w v.1)
     ]
 
 -- an option with the equation that says what it is
-known : {A : Type 0} (o : Option A) → (o ≡ None) ⊎ ((x : A) × (o ≡ Some x))
-known None = inl refl
-known (Some x) = inr (x, refl)
-
 no_language : (text : List ℕ) → IsNoOtherLanguage text → language_of text ≡ None
-no_language text none = elim (known (language_of text)) [ inl e ↦ e | inr w ↦ absurd (none w.0 (language_found text w.0 w.1)) ]
+no_language text none = elim (some_or_none (language_of text)) [ inl e ↦ e | inr w ↦ absurd (none w.0 (language_found text w.0 w.1)) ]
 
 no_language_is : (text : List ℕ) → language_of text ≡ None → IsNoOtherLanguage text
-no_language_is text e w h = none_some w (sym e ∙ language_is text w h)
+no_language_is text e w h = none-some w (sym e ∙ language_is text w h)
 
 -- ---- one statement
 
@@ -150,7 +136,7 @@ is_flat : (n : ℕ) → n < 257 → leb 257 n ≡ false
 is_flat n lt = elim (leb_tells 257 n) [ inl deep ↦ absurd (omega (arith, deep.1)) | inr flat ↦ flat.0 ]
 
 no_cut : (text : List ℕ) → HasNoFront text → front_of (length text) text ≡ None
-no_cut text none = elim (known (front_of (length text) text)) [
+no_cut text none = elim (some_or_none (front_of (length text) text)) [
   | inl e ↦ e
   | inr z ↦ let found = front_found (length text) text z.0 z.1 in absurd (none z.0.0 z.0.1 (record { begins = found.0; stops = found.1 }))
 ]
@@ -159,7 +145,7 @@ some_front : (ts : List Tok) (text rest : List ℕ) → Begins text ts rest → 
 some_front [] text rest b s = absurd cc
 some_front (t ∷ ts) text rest b s =
     let len = begins_len (t ∷ ts) text rest b in
-    (omega (arith, len), λ d. none_some (t, b.0) (sym (done_none text d) ∙ next_is text t b.0 b.1))
+    (omega (arith, len), λ d. none-some (t, b.0) (sym (done_none text d) ∙ next_is text t b.0 b.1))
 
 pub read_shrinks : (text : List ℕ) (s : Statement) (rest : List ℕ) → IsRead text s rest → length rest < length text
 read_shrinks text s rest r = (some_front r.tokens text rest r.front.begins r.front.stops).0
@@ -189,7 +175,7 @@ one : List ℕ → One
 one text = option_map_or (λ w. faults (language w)) (language_of text) (option_map_or of_front (front_of (length text) text) (faults syntax_fault))
 
 no_parse : (ts : List Tok) → ((f : Form) → IsForm ts f → ⊥) → form_at ts ≡ None
-no_parse ts none = elim (known (form_at ts)) [ inl e ↦ e | inr f ↦ absurd (none f.0 (form_spelled ts f.0 f.1)) ]
+no_parse ts none = elim (some_or_none (form_at ts)) [ inl e ↦ e | inr f ↦ absurd (none f.0 (form_spelled ts f.0 f.1)) ]
 
 front_is : (text : List ℕ) (ts : List Tok) (rest : List ℕ) → IsFront text ts rest → front_of (length text) text ≡ Some (ts, rest)
 front_is text ts rest f = front_again (length text) ts text rest f.begins (is_true _ f.stops) (omega (arith, begins_len ts text rest f.begins))
@@ -208,8 +194,8 @@ by_value text lang ts rest front flat f is_form (Ok s) e = (reads s rest, record
 by_value text lang ts rest front flat f is_form (Err d) e = (faults d, refused lang ts rest front flat f is_form e)
 
 by_form : (text : List ℕ) → IsNoOtherLanguage text → (ts : List Tok) (rest : List ℕ) → IsFront text ts rest → nesting ts < 257 → (o : One) × HasOne text o
-by_form text lang ts rest front flat = elim (known (form_at ts)) [
-  | inl none ↦ (faults syntax_fault, no_form lang ts rest front flat (λ f is_form. none_some f (sym none ∙ form_read ts f is_form)) refl)
+by_form text lang ts rest front flat = elim (some_or_none (form_at ts)) [
+  | inl none ↦ (faults syntax_fault, no_form lang ts rest front flat (λ f is_form. none-some f (sym none ∙ form_read ts f is_form)) refl)
   | inr f ↦ by_value text lang ts rest front flat f.0 (form_spelled ts f.0 f.1) (judged f.0) refl
 ]
 
@@ -220,10 +206,10 @@ by_front text lang ts rest front = elim (leb_tells 257 (nesting ts)) [
 ]
 
 one_exists : (text : List ℕ) → (o : One) × HasOne text o
-one_exists text = elim (known (language_of text)) [
+one_exists text = elim (some_or_none (language_of text)) [
   | inr w ↦ (faults (language w.0), other_language w.0 (language_found text w.0 w.1) refl)
-  | inl lang ↦ elim (known (front_of (length text) text)) [
-    | inl none ↦ (faults syntax_fault, no_front (no_language_is text lang) (λ ts rest f. none_some (ts, rest) (sym none ∙ front_is text ts rest f)) refl)
+  | inl lang ↦ elim (some_or_none (front_of (length text) text)) [
+    | inl none ↦ (faults syntax_fault, no_front (no_language_is text lang) (λ ts rest f. none-some (ts, rest) (sym none ∙ front_is text ts rest f)) refl)
     | inr z ↦ let found = front_found (length text) text z.0 z.1 in by_front text (no_language_is text lang) z.0.0 z.0.1 (record { begins = found.0; stops = found.1 })
   ]
 ]

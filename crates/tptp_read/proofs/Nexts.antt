@@ -1,10 +1,11 @@
 -- The first token of a text, as a function.
-use Rattle.std.proofs.Common.{◌≡◌, ℕ, ◌<◌, List, [], ◌∷◌, length, Option, Some, None, MatchOption, refl, sym, subst, ◌∙◌, inl, inr}
+use Rattle.std.proofs.Common.{◌≡◌, ℕ, List, [], ◌∷◌, length, Option, Some, None, MatchOption, refl, sym, subst, ◌∙◌, inl, inr}
 use Rattle.std.specs.Prelude.{◌⊎◌}
 use Rattle.tptp_tokens.specs.Stream.{Tok, IsNext, IsEnd, IsDone, HasNoToken}
 use Rattle.tptp_tokens.proofs.Longest.{longest_found}
 use Rattle.tptp_tokens.proofs.Skipping.{done_ends}
 use Rattle.tptp_tokens.proofs.Decided.{decided, token_no_piece, end_is_gap, done_is_end, same_ends}
+pub use Rattle.tptp_tokens.proofs.Decided.{next_shorter}
 
 pub next : List ℕ → Option (Tok × List ℕ)
 next text = (decided text).found
@@ -26,9 +27,6 @@ is_next text z e = found_next text z (decided text).found e (decided text).is
 pub ends : (text : List ℕ) → next text ≡ None → (rest : List ℕ) × IsEnd text rest
 unfolding next
 ends text e = found_none text (decided text).found e (decided text).is
-
-pub next_shorter : (text : List ℕ) (t : Tok) (after : List ℕ) → IsNext text t after → length after < length text
-next_shorter text t after h = (decided text).shorter t after h
 
 -- where a text ends no token begins
 pub end_no_next : (text rest : List ℕ) → IsEnd text rest → (t : Tok) (after : List ℕ) → IsNext text t after → ⊥

@@ -9,6 +9,7 @@ use Rattle.tptp_tokens.specs.Stream.{Tok}
 use Rattle.tptp_read.specs.Lexemes.{mark, is_punctuation, is_mark_token, is_head, is_plain}
 use Rattle.tptp_read.specs.Grammar.{Written, single, applied, Writtens, none, more, term, terms, term_fits, terms_fit}
 use Rattle.tptp_read.specs.Parse.{◌>>=◌, Reads, begins_with, behind, many_at, writtens, applied_at, term_with, term_at}
+pub use Rattle.inst_logic.proofs.Booleans.{both_true, and_both, right_false as and_false}
 
 -- ---- what is spelled so is read
 
@@ -29,18 +30,6 @@ listed (more t ts) = t ∷ listed ts
 writtens_listed : (ts : Writtens) → writtens (listed ts) ≡ ts
 writtens_listed none = refl
 writtens_listed (more t ts) = ap (λ us. more t us) (writtens_listed ts)
-
-pub both_true : (a b : Bool) → (a && b) ≡ true → (a ≡ true) × (b ≡ true)
-both_true true true e = (refl, refl)
-both_true true false e = absurd cc
-both_true false b e = absurd cc
-
-pub and_both : (a b : Bool) → a ≡ true → b ≡ true → (a && b) ≡ true
-and_both a b p q = rw (p, q) refl
-
-pub and_false : (a b : Bool) → b ≡ false → (a && b) ≡ false
-and_false true b e = e
-and_false false b e = refl
 
 -- how many tokens there are at least
 mutual

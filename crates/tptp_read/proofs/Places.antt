@@ -26,6 +26,7 @@ toks_at ls i d lt = rw (add-one, drop-cons ls i d) refl
 pub toks_end : (ls : List Lexeme) (i : ℕ) → length ls ≤ i → toks (drop i ls) ≡ []
 toks_end ls i le = rw (drop_of_length-le ls le) refl
 
+-- a token, where a place has none
 abbrev pub other : Lexeme
 other = record { kind = LowerWord; text = record { ref_ptr = (0, 0); now = [] } }
 

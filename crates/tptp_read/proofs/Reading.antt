@@ -1,29 +1,22 @@
 -- The steps of reading terms, as the code takes them.
-use Rattle.std.proofs.Common.{◌≡◌, ℕ, zero, suc, ◌+◌, ◌-◌, ◌≤◌, ◌<◌, Bool, true, false, cond, List, [], ◌∷◌, ◌++◌, length, drop, Option, Some, None, refl, sym, ap, subst, ◌∙◌, append_assoc, drop-cons, add-one, get_or, arith}
-use Rattle.std.proofs.Math.ListN.{drop_of_length-le}
+use Rattle.std.proofs.Common.{◌≡◌, ℕ, zero, suc, ◌+◌, ◌-◌, ◌≤◌, ◌<◌, true, false, cond, List, [], ◌∷◌, ◌++◌, length, Option, Some, None, refl, sym, ap, subst, ◌∙◌, append_assoc, arith}
 use Rattle.std.proofs.lemmas.List.{append-nil}
 use Rattle.std.specs.Prelude.{map, ◌&&◌}
 use Rattle.inst_logic.specs.Tree.{Tree, app, of_list}
 use Rattle.inst_logic.specs.Tree as logic
 use Rattle.inst_logic.specs.declared.symbol.Kind.TheVariants.{Function}
-use Rattle.tptp_read.specs.declared.lexeme.Lexeme.{Lexeme}
 use Rattle.tptp_read.specs.declared.stop.Stop.{Stop}
 use Rattle.tptp_read.specs.declared.stop.Stop.TheVariants as stops
-use Rattle.tptp_tokens.specs.declared.kind.TokenKind.TheVariants.{LowerWord}
 use Rattle.tptp_tokens.specs.Stream.{Tok}
 use Rattle.tptp_read.specs.Lexemes.{is_head, is_plain}
 use Rattle.tptp_read.specs.Grammar.{Written, single, applied}
 use Rattle.tptp_read.specs.Meaning.{tree_of, trees_of, count, name_of}
 use Rattle.tptp_read.specs.Parse.{◌>>=◌, begins_with, behind, many_at, writtens, applied_at, term_with, term_at}
-use Rattle.tptp_read.specs.LexemeView.{tok, toks, in_trees, in_lists, Fails}
+use Rattle.tptp_read.specs.LexemeView.{in_trees, in_lists, Fails}
 use Rattle.tptp_read.proofs.ParseLaws.{term_spelled, term_len}
-
--- a token, where a place has none
-abbrev pub other : Lexeme
-other = record { kind = LowerWord; text = record { ref_ptr = (0, 0); now = [] } }
-
-pub false_and : (a b : Bool) → a ≡ false → (a && b) ≡ false
-false_and a b e = rw e refl
+pub use Rattle.tptp_read.proofs.Places.{other, behind_toks, toks_at, toks_end}
+pub use Rattle.inst_logic.proofs.Booleans.{left_false as false_and}
+use Rattle.inst_logic.proofs.Outcomes.{same_pair}
 
 -- a term takes a token
 shorter : (d : ℕ) (ts : List Tok) (z : Written × List Tok) → term_at d ts ≡ Some z → length z.1 < length ts
@@ -44,22 +37,6 @@ many_fuel d (suc n) zero [] le le' = refl
 many_fuel d (suc n) zero (t ∷ ts) le le' = absurd (omega arith)
 many_fuel d (suc n) (suc m) [] le le' = refl
 many_fuel d (suc n) (suc m) (t ∷ ts) le le' = ap (λ r. cond (begins_with 44 (t ∷ ts)) r (Some ([], t ∷ ts))) (more_fuel d n m ts (term_at d ts) refl (λ us lt. many_fuel d n m us (omega arith) (omega arith)))
-
--- what stands behind a token
-behind_drop : (f : Lexeme → Tok) (i : ℕ) (ls : List Lexeme) → behind (map f (drop i ls)) ≡ map f (drop (i + 1) ls)
-behind_drop f zero [] = refl
-behind_drop f zero (l ∷ ls) = refl
-behind_drop f (suc i) [] = let e : suc i + 1 ≡ suc (i + 1) = omega arith in rw e refl
-behind_drop f (suc i) (l ∷ ls) = let e : suc i + 1 ≡ suc (i + 1) = omega arith in rw e (behind_drop f i ls)
-
-pub behind_toks : (i : ℕ) (ls : List Lexeme) → behind (toks (drop i ls)) ≡ toks (drop (i + 1) ls)
-behind_toks i ls = behind_drop tok i ls
-
-pub toks_at : (ls : List Lexeme) (i : ℕ) (d : Lexeme) → i < length ls → toks (drop i ls) ≡ tok (get_or ls i d) ∷ toks (drop (i + 1) ls)
-toks_at ls i d lt = rw (add-one, drop-cons ls i d) refl
-
-pub toks_end : (ls : List Lexeme) (i : ℕ) → length ls ≤ i → toks (drop i ls) ≡ []
-toks_end ls i le = rw (drop_of_length-le ls le) refl
 
 -- ---- a term
 
@@ -93,11 +70,8 @@ term_nothing (suc d) t rest e plain = rw (e, plain) refl
 abbrev some : {A : Type 0} → A → Option A
 some x = Some x
 
-some_pair : {A B : Type 0} (x y : A × B) → some x ≡ some y → (x.0 ≡ y.0) × (x.1 ≡ y.1)
-some_pair x y e = let p : x ≡ y = cc in (ap (λ q. q.0) p, ap (λ q. q.1) p)
-
 in_trees_some : (vs : List (List ℕ)) (r : Option (Written × List Tok)) (u : Tree) (us : List Tok) → in_trees vs r ≡ Some (u, us) → (w : Written) × (r ≡ Some (w, us)) × (tree_of vs w ≡ u)
-in_trees_some vs (Some z) u us e = let p = some_pair (tree_of vs z.0, z.1) (u, us) e in (z.0, ap (λ (y : List Tok). Some (z.0, y)) p.1, p.0)
+in_trees_some vs (Some z) u us e = let p = same_pair (tree_of vs z.0, z.1) (u, us) e in (z.0, ap (λ (y : List Tok). Some (z.0, y)) p.1, p.0)
 in_trees_some vs None u us e = absurd cc
 
 in_trees_fails : (vs : List (List ℕ)) (r : Option (Written × List Tok)) (e : Stop) → Fails e (in_trees vs r) → Fails e r
@@ -155,7 +129,7 @@ count_listed vs [] = refl
 count_listed vs (w ∷ ws) = omega (arith, count_listed vs ws)
 
 in_lists_some : (vs : List (List ℕ)) (front : List Tree) (r : Option (List Written × List Tok)) (args : List Tree) (us : List Tok) → in_lists vs front r ≡ Some (args, us) → (ws : List Written) × (r ≡ Some (ws, us)) × (front ++ map (tree_of vs) ws ≡ args)
-in_lists_some vs front (Some z) args us e = let p = some_pair (front ++ map (tree_of vs) z.0, z.1) (args, us) e in (z.0, ap (λ (y : List Tok). Some (z.0, y)) p.1, p.0)
+in_lists_some vs front (Some z) args us e = let p = same_pair (front ++ map (tree_of vs) z.0, z.1) (args, us) e in (z.0, ap (λ (y : List Tok). Some (z.0, y)) p.1, p.0)
 in_lists_some vs front None args us e = absurd cc
 
 applied_is : (d : ℕ) (f : Tok) (ts us rest : List Tok) (w : Written) (ws : List Written) → term_at d ts ≡ Some (w, us) → many_at 44 (term_at d) (length us) us ≡ Some (ws, rest)

@@ -99,9 +99,6 @@ pub place_append : (v : List ℕ) (d e : List (List ℕ)) → has v d ≡ true �
 place_append v [] e any = absurd cc
 place_append v (x ∷ d) e any = past v x d e (bytes_eq x v) refl (place_append v d e) any
 
-or_left : (a b : Bool) → a ≡ true → (a || b) ≡ true
-or_left a b e = rw e refl
-
 has_append : (v : List ℕ) (d e : List (List ℕ)) → has v d ≡ true → has v (d ++ e) ≡ true
 has_append v [] e any = absurd cc
 has_append v (x ∷ d) e any = by (bytes_eq x v) (has_append v d e) any

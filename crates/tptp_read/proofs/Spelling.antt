@@ -14,6 +14,7 @@ use Rattle.tptp_tokens.specs.Stream.{Tok, IsNext}
 use Rattle.tptp_read.specs.Lexemes.{Begins, is_name_kind}
 use Rattle.tptp_read.specs.Meaning.{unquoted, name_of}
 use Rattle.tptp_read.proofs.ParseLaws.{both_true, and_both}
+use Rattle.inst_logic.proofs.Booleans.{not_true}
 
 abbrev printed : ℕ → Bool
 printed b = is_between 32 126 b
@@ -49,10 +50,6 @@ lower_name (b ∷ bs) h =
 
 -- ---- quoted words
 
-was_false : (b : Bool) → not b ≡ true → b ≡ false
-was_false true e = absurd cc
-was_false false e = refl
-
 kept : (e : Bool) (b : ℕ) (r : List ℕ) → printed b ≡ true → list_all printed (unquoted e r) ≡ true → list_all printed (cond e (unquoted true r) (b ∷ unquoted false r)) ≡ true
 kept true b r p h = h
 kept false b r p h = and_both (printed b) (list_all printed (unquoted false r)) p h
@@ -66,7 +63,7 @@ items_printed true (b ∷ bs) h =
 items_printed false (b ∷ bs) h =
     let a = both_true (is_printed b) (not (b == 39) && are_items 39 (b == 92) bs) h in
     let c = both_true (not (b == 39)) (are_items 39 (b == 92) bs) a.1 in
-    let no = was_false (b == 39) c.0 in
+    let no = not_true (b == 39) c.0 in
     rw no (kept (b == 92) b (bs ++ 39 ∷ []) a.0 (items_printed (b == 92) bs c.1))
 
 not_empty : (e : Bool) (b : ℕ) (bs : List ℕ) → are_items 39 e bs ≡ true → cond e (unquoted true (bs ++ 39 ∷ [])) (b ∷ unquoted false (bs ++ 39 ∷ [])) ≡ [] → ⊥
@@ -79,7 +76,7 @@ some_content [] some h k = absurd (omega arith)
 some_content (b ∷ bs) some h k =
     let a = both_true (is_printed b) (not (b == 39) && are_items 39 (b == 92) bs) h in
     let c = both_true (not (b == 39)) (are_items 39 (b == 92) bs) a.1 in
-    let no = was_false (b == 39) c.0 in
+    let no = not_true (b == 39) c.0 in
     not_empty (b == 92) b bs c.1 (sym (rw no refl) ∙ k)
 
 quoted_name : (items text : List ℕ) → IsBetween 39 items text → 0 < length items → is_readable_name (unquoted false (drop 1 text)) ≡ true

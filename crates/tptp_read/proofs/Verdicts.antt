@@ -1,6 +1,6 @@
 -- What a statement's first word decides.
-use Rattle.std.proofs.Common.{◌≡◌, ℕ, ◌≤◌, ◌<◌, Bool, true, false, List, [], ◌∷◌, length, Option, Some, None, Result, Ok, Err, refl, sym, ap, ◌∙◌, inl, inr, arith}
-use Rattle.std.specs.Prelude.{◌&&◌, ◌⊎◌, codes}
+use Rattle.std.proofs.Common.{◌≡◌, ℕ, ◌≤◌, ◌<◌, true, false, List, [], ◌∷◌, length, Option, Some, None, Result, Ok, Err, refl, sym, ap, ◌∙◌, inl, inr, arith}
+use Rattle.std.specs.Prelude.{codes}
 use Rattle.std.specs.Option.{option_map}
 use Rattle.std.specs.Str.{bytes_eq}
 use Rattle.tptp_tokens.specs.Stream.{Tok, IsDone}
@@ -21,15 +21,13 @@ use Rattle.tptp_read.specs.Words.{is_word}
 use Rattle.tptp_read.specs.Verdicts.{judged_form, verdict, refusal_of, IsOf}
 use Rattle.tptp_read.proofs.ParseLaws.{both_true}
 use Rattle.tptp_read.proofs.FormLaws.{form_spelled, form_read}
+use Rattle.inst_logic.proofs.Booleans.{first_false}
+use Rattle.std.proofs.lemmas.Option.{none-some}
 
 pub cnf_told : (ts : List Tok) → starts (is_word (codes "cnf")) ts ≡ true → verdict ts ≡ judged_form (cnf_at (length ts) (behind ts))
 unfolding verdict form_at one_of
 cnf_told [] e = absurd cc
 cnf_told (t ∷ us) e = let b = both_true (is_lower_kind t.kind) (bytes_eq t.text (codes "cnf")) e in rw (b.0, b.1) refl
-
-both_or : (a b : Bool) → (a && b) ≡ false → (a ≡ false) ⊎ ((a ≡ true) × (b ≡ false))
-both_or true b e = inr (refl, e)
-both_or false b e = inl refl
 
 pub include_told : (ts : List Tok) → starts (is_word (codes "cnf")) ts ≡ false → starts (is_word (codes "include")) ts ≡ true → verdict ts ≡ judged_form (include_at (behind ts))
 unfolding verdict form_at one_of
@@ -50,17 +48,13 @@ no_words t us l c i = rw (l, c, i) refl
 pub none_told : (ts : List Tok) → starts (is_word (codes "cnf")) ts ≡ false → starts (is_word (codes "include")) ts ≡ false → verdict ts ≡ Err syntax_fault
 unfolding verdict form_at one_of
 none_told [] n m = refl
-none_told (t ∷ us) n m = elim (both_or (is_lower_kind t.kind) (bytes_eq t.text (codes "cnf")) n) [
+none_told (t ∷ us) n m = elim (first_false (is_lower_kind t.kind) (bytes_eq t.text (codes "cnf")) n) [
   | inl e ↦ not_lower t us e
-  | inr e ↦ elim (both_or (is_lower_kind t.kind) (bytes_eq t.text (codes "include")) m) [
+  | inr e ↦ elim (first_false (is_lower_kind t.kind) (bytes_eq t.text (codes "include")) m) [
     | inl f ↦ not_lower t us f
     | inr f ↦ no_words t us e.0 e.1 f.1
   ]
 ]
-
-known : {A : Type 0} (o : Option A) → (o ≡ None) ⊎ ((x : A) × (o ≡ Some x))
-known None = inl refl
-known (Some x) = inr (x, refl)
 
 -- what an include gives is its verdict
 pub include_done : (f : Option Form) (s : Statement) → option_map judged f ≡ Some (Ok s) → judged_form f ≡ Ok s
@@ -97,11 +91,8 @@ reads text ts rest s lang front flat v =
     let g = by_form ts s (form_at ts) refl (sym (unfold_verdict ts) ∙ v) in
     record { language = lang; tokens = ts; front = front; flat = omega (arith, flat); form = g.0; is_form = g.1; value = g.2 }
 
-none_some : {A : Type 0} (x : A) → None ≡ Some x → ⊥
-none_some x e = cc
-
 fault_by_form : (text : List ℕ) (ts : List Tok) (rest : List ℕ) (e : Fault) → IsNoOtherLanguage text → IsFront text ts rest → nesting ts < 257 → (f : Option Form) → form_at ts ≡ f → judged_form f ≡ Err e → IsOffence text e
-fault_by_form text ts rest e lang front flat None is v = no_form lang ts rest front flat (λ f is_form. none_some f (sym is ∙ form_read ts f is_form)) (sym (same_fault syntax_fault e v))
+fault_by_form text ts rest e lang front flat None is v = no_form lang ts rest front flat (λ f is_form. none-some f (sym is ∙ form_read ts f is_form)) (sym (same_fault syntax_fault e v))
 fault_by_form text ts rest e lang front flat (Some f) is v = refused lang ts rest front flat f (form_spelled ts f is) v
 
 pub faults : (text : List ℕ) (ts : List Tok) (rest : List ℕ) (e : Fault) → IsNoOtherLanguage text → IsFront text ts rest → nesting ts ≤ 256 → verdict ts ≡ Err e → IsOffence text e

@@ -1,4 +1,5 @@
-// Atoms without variables, read from tokens.
+// Atoms without variables. They are read by the reader of a clause's literals, and what is not one positive literal of all
+// the tokens is refused then: a grammar of their own would be the same again.
 ghost use Rattle.std.specs.Prelude.{◌≡◌, [], ◌∷◌, length, MatchOption};
 ghost use Rattle.inst_logic.specs.LiteralView.{literal};
 ghost use Rattle.tptp_read.specs.Atoms.{has_variable};

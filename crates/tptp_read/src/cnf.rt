@@ -1,4 +1,5 @@
-// Statements that are clauses.
+// Statements that are clauses. The whole form is read before the role, the symbols and their arguments are judged: what is no
+// statement of the grammar is refused for that, whatever else is wrong with it.
 ghost use Rattle.std.specs.Prelude.{◌≡◌, ◌&&◌, ◌<◌, IfOk, IsTrue, drop, length};
 ghost use Rattle.tptp_read.specs.declared.refusal.Refusal.TheVariants as refusals;
 ghost use Rattle.tptp_read.specs.Parse.{begins_with};

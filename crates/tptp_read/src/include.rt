@@ -1,4 +1,5 @@
-// Statements that name another file.
+// Includes. Nothing is opened here: whether there is such a file, and such names in it, is the loader's matter. A selection
+// has one name at least.
 ghost use Rattle.std.specs.Prelude.{◌≡◌, ◌<◌, ◌≤◌, ◌&&◌, ◌+◌, IfOk, IsTrue, Ok, [], ◌∷◌, drop, length};
 ghost use Rattle.std.specs.Option.{option_map};
 ghost use Rattle.tptp_read.specs.Meaning.{judged, name_of};

@@ -1,4 +1,4 @@
-// Laws of texts.
+// Laws of texts: the grammar leaves no choice, so what the parser finds is the reading of a text and not one of several.
 ghost use Rattle.std.specs.Prelude.{ℕ, List, All};
 ghost use Rattle.tptp_read.specs.declared.statement.Statement.{Statement};
 ghost use Rattle.tptp_read.specs.Atoms.{IsDecidedAtom};

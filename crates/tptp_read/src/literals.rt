@@ -1,4 +1,6 @@
-// Literals, read from tokens.
+// Literals. What stands first is read as a term, since only the token behind it tells whether it is the left side of an
+// equation. `~` is for the whole equation: `~ t = u` is `t != u`. Behind `~` there may be parentheses, read by recursion,
+// which the limit on nesting bounds, and no `!=`.
 ghost use Rattle.std.specs.Prelude.{◌≡◌, ◌≤◌, ◌<◌, IfOk, IsTrue, drop, length};
 ghost use Rattle.tptp_read.specs.Grammar.{single, is_atom};
 ghost use Rattle.tptp_read.specs.Meaning.{from_negated, from_simple};

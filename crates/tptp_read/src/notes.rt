@@ -1,4 +1,5 @@
-// What may stand behind the formula of a statement, and its end.
+// What may stand behind the formula of a statement, and its end: a source, which is any general term, and a list of notes,
+// which has brackets. Neither is kept.
 ghost use Rattle.std.specs.Prelude.{◌≡◌, ◌≤◌, IfSome, drop, length};
 ghost use Rattle.std.specs.Option.{option_map};
 ghost use Rattle.tptp_read.specs.LexemeView.{toks};

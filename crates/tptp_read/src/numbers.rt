@@ -1,4 +1,4 @@
-// The numbers of the variables of a statement, by first occurrence.
+// The numbers of the variables of a statement, by first occurrence. Their names stay in the text, and none is copied.
 ghost use Rattle.std.specs.Prelude.{◌≡◌, IfOk, OnOk, length, map};
 ghost use Rattle.std.specs.List.{position_or_len};
 ghost use Rattle.std.specs.Str.{bytes_eq};

@@ -1,4 +1,5 @@
-// Why a statement is refused.
+// Why a statement is refused. Words are slices of the text until the number of the statement is known; they are copied then,
+// and where the copy is refused memory, that is the answer.
 ghost use Rattle.std.specs.Prelude.{◌≡◌};
 ghost use Rattle.tptp_read.specs.declared.refusal.Refusal.TheVariants as refusals;
 ghost use Rattle.tptp_read.specs.declared.stop.Stop.TheVariants as stops;

@@ -1,4 +1,5 @@
-// Statements of problems.
+// Statements of problems, as they are written: an include is not followed here, and a clause that holds always is kept, since
+// an include may select it by name.
 use inst_logic::{Clause, ListOf, Name, NameList};
 
 /// What a formula is given as.
@@ -32,7 +33,7 @@ pub enum Statement {
     },
 }
 
-/// The statements of a text, in their order.
+/// The statements of a text, in their order: `get` counts them from 0, and refusals from 1.
 pub type StatementList = ListOf<Statement>;
 
 /// Which limit of a statement is passed.

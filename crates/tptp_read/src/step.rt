@@ -1,4 +1,5 @@
-// The statement that stands first in a text.
+// The statement that stands first in a text. Its faults are judged in one order: another language, tokens that reach no full
+// stop, nesting, and then its form.
 ghost use Rattle.std.specs.Prelude.{◌≡◌, ◌&&◌, IfOk, codes, drop};
 ghost use Rattle.std.specs.Str.{bytes_eq};
 ghost use Rattle.tptp_read.specs.LexemeView.{toks};

@@ -1,4 +1,5 @@
-// Terms, read from tokens.
+// Terms. Nested ones are read by recursion, which the limit on nesting bounds, and those side by side by a loop. Every word
+// is a function symbol here; whoever reads a literal makes the outermost one a predicate.
 ghost use Rattle.std.specs.Prelude.{◌≡◌, ◌≤◌, ◌<◌, IfOk, drop, [], ◌∷◌, length};
 ghost use Rattle.inst_logic.specs.View.{tree};
 ghost use Rattle.tptp_read.specs.Meaning.{tree_of};

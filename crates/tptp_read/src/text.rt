@@ -1,4 +1,5 @@
-// Whole texts, and texts of atoms.
+// Whole texts, statement by statement: the tokens of one statement are held at a time, and the first one that is refused ends
+// the reading.
 ghost use Rattle.std.specs.Prelude.{◌≡◌, ◌≤◌, IfOk, IfErr, IsTrue, All, drop, length};
 ghost use Rattle.inst_logic.specs.LiteralView.{literal};
 ghost use Rattle.inst_logic.specs.WellFormed.{IsAtom};
@@ -55,7 +56,8 @@ fn behind(text: &[u8], end: usize) -> &[u8]
 }
 
 /// The statements of a text, in their order. A clause has its literals in order, without those over `$true` and `$false`, and
-/// its variables are numbered by first occurrence.
+/// its variables are numbered from 0 by first occurrence. The text is bytes, and need not be UTF-8. A refusal names the first
+/// statement that is refused, and no statement is given then.
 pub fn read_text(alloc: Global, text: &[u8]) -> Result<StatementList, ReadError>
     ensures readable { IfOk result (Readable text.now) }
     ensures formed { IfOk result (All IsFormedStatement) }

@@ -1,4 +1,5 @@
-// From the parts of a `cnf` statement to the statement.
+// From the parts of a `cnf` statement to the statement. Its faults are judged in one order: the role, tokens that are not
+// supported, arguments, variables.
 ghost use Rattle.std.specs.Prelude.{◌≡◌};
 ghost use Rattle.tptp_read.specs.Meaning.{role_of};
 ghost use Rattle.tptp_read.specs.LexemeView.{tok};

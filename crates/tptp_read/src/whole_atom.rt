@@ -1,4 +1,5 @@
-// The atom that a whole text is.
+// The atom that a whole text is. One bracket counts as open before its first token, as that of `cnf(` is in a statement: so
+// an atom is within the limit on nesting exactly where it is in a clause.
 ghost use Rattle.std.specs.Prelude.{IfOk, IfErr};
 ghost use Rattle.inst_logic.specs.LiteralView.{literal};
 ghost use Rattle.tptp_read.specs.Atoms.{ReadsAtom, IsAtomCause};

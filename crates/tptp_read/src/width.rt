@@ -1,4 +1,4 @@
-// Symbols with too many arguments.
+// Symbols with too many arguments. They are looked for once a clause is read, so that its form is judged before its limits.
 ghost use Rattle.std.specs.Prelude.{◌≡◌, map};
 ghost use Rattle.std.specs.List.{list_any};
 ghost use Rattle.inst_logic.specs.Tree.{app, of_list};

@@ -1,4 +1,5 @@
-// Marks, and the names of words.
+// Which tokens may stand where, and the names of words. The name of a quoted word is what stands between the quotes, without
+// the escapes: so a word has one name with quotes and without.
 ghost use Rattle.std.specs.Prelude.{◌≡◌, ◌<◌, IfOk, IsTrue, length, true, false, drop};
 ghost use Rattle.tptp_read.specs.Lexemes.{is_mark_token, is_head, is_plain, is_quoted_kind, is_variable_kind, is_dollar_kind, is_feature, is_punctuation};
 ghost use Rattle.tptp_read.specs.Parse.{begins_with};

@@ -99,7 +99,7 @@ next_found_from rest after o t e whole =
     let behind : drop (length t.text) rest ≡ after = ap (λ (xs : List ℕ). drop (length t.text) xs) whole ∙ drop_at t.text after (length t.text) refl in
     ap (λ (p : Option (TokenKind × ℕ)). found_from p rest) e ∙ (λ i. Some (record { kind = t.kind; text = front i }, behind i))
 
-next_shorter : (text : List ℕ) (t : Tok) (after : List ℕ) → IsNext text t after → length after < length text
+pub next_shorter : (text : List ℕ) (t : Tok) (after : List ℕ) → IsNext text t after → length after < length text
 next_shorter text t after h =
     let some = token_some h.rest t.kind (length t.text) h.longest.spelled in
     omega (arith, skips_shorter text h.rest h.skipped, ap length h.spelled, length-append t.text after, some)

@@ -1,4 +1,5 @@
-// Laws of tokens.
+// Laws of tokens: a text leaves no choice of its next token and of where its tokens end. So whoever reads one by one misses
+// no other reading.
 ghost use Rattle.std.specs.Prelude.{◌≡◌, ℕ, List, []};
 ghost use Rattle.tptp_tokens.specs.Skipped.{Skips};
 ghost use Rattle.tptp_tokens.specs.Stream.{IsEnd, IsDone, IsDecidedToken};

@@ -20,9 +20,7 @@ use Rattle.tptp_write.proofs.Spelled.{statement_begins}
 use Rattle.tptp_write.proofs.Nested.{is_flat}
 use Rattle.tptp_write.proofs.Stops.{statement_stops}
 use Rattle.tptp_write.proofs.Judged.{is_good, form_judged, all_fit, fits}
-
-true_is : (b : Bool) → b ≡ true → IsTrue b
-true_is b e = e
+use Rattle.inst_logic.proofs.Booleans.{true_is}
 
 stops : (c : TreeClause) → list_all good_literal c ≡ true → stops_last (form (form_of c)) ≡ true
 stops [] g = refl

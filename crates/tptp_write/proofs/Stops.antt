@@ -7,10 +7,7 @@ use Rattle.tptp_read.specs.Rules.{stops_last}
 use Rattle.tptp_read.specs.Grammar.{Written, single, applied, Writtens, none, more, term, terms, term_fits, terms_fit, Negated, no_atom, no_equation, in_parens, negated_text, negated_fits, is_atom, Simple, atom, equation, unequal, negated, simple_text, simple_fits, unequal_mark, Item, simple, nested, Items, last, or, item, items, item_fits, items_fit}
 use Rattle.tptp_read.proofs.ClauseLaws.{plain_is_no_mark, head_is_no_mark}
 use Rattle.tptp_write.proofs.Tokens.{both_true, and_both}
-
-pub goes_on : (t : Tok) (ts : List Tok) → is_mark_token 46 t ≡ false → stops_last ts ≡ true → stops_last (t ∷ ts) ≡ true
-goes_on t [] e h = absurd cc
-goes_on t (u ∷ ts) e h = and_both (not (is_mark_token 46 t)) (stops_last (u ∷ ts)) (ap not e) h
+pub use Rattle.tptp_read.proofs.Law.{stops_cons as goes_on}
 
 plain_goes_on : (t : Tok) (ts : List Tok) → is_plain t.kind ≡ true → stops_last ts ≡ true → stops_last (t ∷ ts) ≡ true
 plain_goes_on t ts e h = let other = plain_is_no_mark t.kind e in goes_on t ts (rw other refl) h

@@ -22,13 +22,7 @@ use Rattle.tptp_read.specs.Lexemes.{mark, lower}
 use Rattle.tptp_read.specs.Grammar.{unequal_mark}
 use Rattle.tptp_read.specs.Meaning.{unquoted}
 use Rattle.tptp_write.proofs.Written.{variable_text, variable_tok, name_kind, name_tok, false_tok}
-
-pub both_true : (a b : Bool) → (a && b) ≡ true → (a ≡ true) × (b ≡ true)
-both_true true b h = (refl, h)
-both_true false b h = absurd cc
-
-pub and_both : (a b : Bool) → a ≡ true → b ≡ true → (a && b) ≡ true
-and_both a b e h = rw (e, h) refl
+pub use Rattle.inst_logic.proofs.Booleans.{both_true, and_both}
 
 or_parts : (a b : Bool) → (a || b) ≡ false → (a ≡ false) × (b ≡ false)
 or_parts true b h = absurd cc

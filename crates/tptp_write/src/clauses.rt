@@ -1,4 +1,5 @@
-// Literals and clauses, each put at the end of a text.
+// Literals and clauses. Variables are printed by their numbers and not by the names that they had, so clauses that are equal
+// have one text.
 ghost use Rattle.std.specs.Prelude.{◌≡◌, ◌++◌, OnOk, IfOk, map};
 ghost use Rattle.inst_logic.specs.Tree.{of_list};
 ghost use Rattle.inst_logic.specs.LiteralView.{literal};

@@ -1,5 +1,6 @@
 //! Canonical printing of names, terms, literals and clauses (the CNF part of the TPTP language). Each call puts its text at
-//! the end of one that grows, so a certificate is made without joining parts.
+//! the end of one that grows, so a certificate is made without joining parts. After want of memory nothing is promised of
+//! that text.
 #![tactic(auto)]
 
 mod clauses;

@@ -1,4 +1,5 @@
-// Bytes, numbers and names, each put at the end of a text.
+// Bytes, numbers and names. A name is bare where it is a lower word, and in quotes else, however it was written: so equal
+// names have one text.
 ghost use Rattle.std.specs.Prelude.{◌≡◌, ◌++◌, OnOk, IfOk, decimal};
 ghost use Rattle.std.specs.List.{list_all};
 ghost use Rattle.inst_logic.specs.Printing as printing;
@@ -76,7 +77,7 @@ fn push_all_escaped(text: &mut Vec<u8>, name: &[u8]) -> Result<(), Memory>
     Ok(())
 }
 
-/// Puts the name at the end, bare or in quotes.
+/// Puts the name at the end: bare where it is a lower word, else in quotes, with `\` before each `'` and `\`.
 pub fn push_name(text: &mut Vec<u8>, name: &[u8]) -> Result<(), Memory>
     ensures { OnOk result (text.new.items ≡ text.old.items ++ name_text name.now) }
 {

@@ -87,7 +87,7 @@ fn run_steps(text: &mut Vec<u8>, steps: &mut Vec<Step<'_>>) -> Result<(), Memory
     Ok(())
 }
 
-/// Puts the term at the end.
+/// Puts the term at the end, a variable as `X` with its number. Its depth costs memory and no stack.
 pub fn push_term(text: &mut Vec<u8>, t: &Term) -> Result<(), Memory>
     ensures { OnOk result (text.new.items ≡ text.old.items ++ tree_text (tree t.now)) }
 {

@@ -11,6 +11,7 @@ pub mod OccursWalk
 pub mod Apart
 pub mod Runs
 pub mod Proper
+pub mod Solutions
 pub mod Stays
 pub mod Grounds
 pub mod BoundTerms

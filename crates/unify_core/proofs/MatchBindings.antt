@@ -13,7 +13,7 @@ use Rattle.unify_core.specs.declared.side.Side.TheVariants.{Right}
 use Rattle.unify_core.proofs.Lists.{map-∈, ∈-get_or}
 use Rattle.unify_core.proofs.Trees.{apply_agree}
 use Rattle.unify_core.proofs.Sides.{apply_on_side, same_variable}
-use Rattle.unify_core.proofs.Meetings.{yes_or_no}
+use Rattle.inst_logic.proofs.Booleans.{true_or_false}
 use Rattle.unify_core.proofs.MatchSteps.{number_same, number_differs}
 
 -- the tree of the first binding of the variable
@@ -24,7 +24,7 @@ value (b ∷ bs) n = cond (nat_eq b.0 n) b.1 (value bs n)
 pub value_bound : (bs : List Assignment) → ((a b : Assignment) → a ∈ bs → b ∈ bs → a.0 ≡ b.0 → a.1 ≡ b.1) → (b : Assignment) → b ∈ bs → value bs b.0 ≡ b.1
 unfolding value
 value_bound [] once b i = absurd i
-value_bound (a ∷ bs) once b i = by (yes_or_no (nat_eq a.0 b.0)) i (λ j. value_bound bs (λ x y h k. once x y (inr h) (inr k)) b j)
+value_bound (a ∷ bs) once b i = by (true_or_false (nat_eq a.0 b.0)) i (λ j. value_bound bs (λ x y h k. once x y (inr h) (inr k)) b j)
   where
     by : (nat_eq a.0 b.0 ≡ true) ⊎ (nat_eq a.0 b.0 ≡ false) → b ∈ (a ∷ bs) → (b ∈ bs → value bs b.0 ≡ b.1) → cond (nat_eq a.0 b.0) a.1 (value bs b.0) ≡ b.1
     by (inl t) j rest = ap (λ (z : Bool). cond z a.1 (value bs b.0)) t ∙ once a b (inl refl) j (number_same a.0 b.0 t)
@@ -39,7 +39,7 @@ pub record Valued (bs : List Assignment) (n : ℕ) : Type 0 where
 value_cases : (bs : List Assignment) (n : ℕ) → Valued bs n ⊎ (value bs n ≡ var n)
 unfolding value
 value_cases [] n = inr refl
-value_cases (a ∷ bs) n = by (yes_or_no (nat_eq a.0 n)) (value_cases bs n)
+value_cases (a ∷ bs) n = by (true_or_false (nat_eq a.0 n)) (value_cases bs n)
   where
     by : (nat_eq a.0 n ≡ true) ⊎ (nat_eq a.0 n ≡ false) → Valued bs n ⊎ (value bs n ≡ var n) → Valued (a ∷ bs) n ⊎ (cond (nat_eq a.0 n) a.1 (value bs n) ≡ var n)
     by (inl t) rest = let e = number_same a.0 n t in inl (record { tree = a.1; among = inl (λ k. (sym e k, a.1)); is = ap (λ (z : Bool). cond z a.1 (value bs n)) t })
@@ -48,7 +48,7 @@ value_cases (a ∷ bs) n = by (yes_or_no (nat_eq a.0 n)) (value_cases bs n)
 
 place_far : (n : ℕ) (bs : List Assignment) → ((b : Assignment) → b ∈ bs → ¬ (b.0 ≡ n)) → length bs ≤ place n bs
 place_far n [] h = omega arith
-place_far n (b ∷ bs) h = let rest = place_far n bs (λ c i. h c (inr i)) in elim (yes_or_no (nat_eq b.0 n)) [
+place_far n (b ∷ bs) h = let rest = place_far n bs (λ c i. h c (inr i)) in elim (true_or_false (nat_eq b.0 n)) [
   | inl e ↦ absurd (h b (inl refl) (number_same b.0 n e))
   | inr e ↦ rw e (omega arith)
 ]

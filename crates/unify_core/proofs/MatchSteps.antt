@@ -20,6 +20,7 @@ use Rattle.unify_core.proofs.Trees.{apply_var}
 use Rattle.unify_core.proofs.Grounds.{ground_apply}
 use Rattle.unify_core.proofs.Visits.{all_in}
 use Rattle.unify_core.proofs.Meetings.{meetings_in, each_forced, each_inside, each_met}
+use Rattle.inst_logic.proofs.Applications.{application_of}
 
 pub number_same : (m n : ℕ) → nat_eq m n ≡ true → m ≡ n
 number_same m n h = (Decides-eqb m n).0 h
@@ -27,15 +28,11 @@ number_same m n h = (Decides-eqb m n).0 h
 pub number_differs : (m n : ℕ) → nat_eq m n ≡ false → ¬ (m ≡ n)
 number_differs m n h e = let t : nat_eq m n ≡ true = (Decides-eqb m n).1 e in absurd (cc)
 
-application : (t : Tree) → IsApplication t → (g : Sym) × (ts : Trees) × (t ≡ app g ts)
-application (var v) h = absurd h
-application (app g ts) h = (g, ts, refl)
-
 of_symbol : (t : Tree) (g : Sym) → symbol_of t ≡ Some g → (ts : Trees) × (t ≡ app g ts)
 of_symbol (var v) g h = absurd (cc)
 of_symbol (app k ts) g h = let e : k ≡ g = cc in (ts, ap (λ (s : Sym). app s ts) e)
 
--- an application's symbol and the number of its arguments stay under a substitution
+-- an application_of's symbol and the number of its arguments stay under a substitution
 pub symbols_stay : (s : Substitution) (t : Tree) → IsApplication t → symbol_of (apply s t) ≡ symbol_of t
 symbols_stay s (var v) h = absurd h
 symbols_stay s (app g ts) h = refl
@@ -56,11 +53,11 @@ pub cannot_length : (f : Forest) (ms : List Meeting) (p t : ℕ) (xs ys : List �
 cannot_length f ms p t xs ys a ex ey n s h e =
     n (sym (length-map xs (tree_at f)) ∙ ap (λ (l : List Tree). length l) ex ∙ sym (arguments_stay s (tree_at f p) a) ∙ ap (λ (z : Tree). length (arguments_of z)) e ∙ sym (ap (λ (l : List Tree). length l) ey) ∙ length-map ys (tree_at f))
 
--- the arguments are forced with the application
+-- the arguments are forced with the application_of
 pub forced_parts : (f : Forest) (p t : ℕ) (xs ys : List ℕ) → IsApplication (tree_at f p) → map (tree_at f) xs ≡ arguments_of (tree_at f p) → map (tree_at f) ys ≡ arguments_of (tree_at f t)
     → (s : Substitution) → apply s (tree_at f p) ≡ tree_at f t → (m : Meeting) → m ∈ meetings xs ys → apply s (tree_at f m.0) ≡ tree_at f m.1
 forced_parts f p t xs ys a ex ey s e m i =
-    let l = application (tree_at f p) a in
+    let l = application_of (tree_at f p) a in
     let r : tree_at f t ≡ app l.0 (apply_each s l.1) = sym e ∙ ap (apply s) l.2 in
     each_forced f s xs ys l.1 (apply_each s l.1) (ex ∙ ap arguments_of l.2) (ey ∙ ap arguments_of r) refl m i
 
@@ -166,7 +163,7 @@ step_application f es ms ns p t b a hp ht o = record {
 }
   where
     l : (g : Sym) × (ts : Trees) × (tree_at f p ≡ app g ts)
-    l = application (tree_at f p) a
+    l = application_of (tree_at f p) a
 
     r : (rs : Trees) × (tree_at f t ≡ app l.0 rs)
     r = of_symbol (tree_at f t) l.0 (sym o.same ∙ ap symbol_of l.2)

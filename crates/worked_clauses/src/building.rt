@@ -82,7 +82,10 @@ fn members_in(
     let statements = read_text(alloc, text.as_bytes())?;
     let mut members = MemberList::new(alloc);
     for (i, statement) in statements.as_slice().iter().enumerate() {
-        let origin = origins.get(i).copied().unwrap_or(Origin::Input(i + 1));
+        let origin = match origins.get(i) {
+            Some(origin) => origin.clone()?,
+            None => Origin::Input(i + 1),
+        };
         add_member(bank, &mut members, statement, origin)?;
     }
     Ok(members)

@@ -1,4 +1,5 @@
-//! Worked certificates, mostly built from texts: what the checker and the truth test say of them.
+//! Worked certificates, mostly built from texts: what the checker and the truth test say of them. They stand here and not
+//! beside the checker, which is proved without a reader.
 #![tactic(auto)]
 
 #[cfg(test)]

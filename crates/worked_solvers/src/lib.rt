@@ -1,4 +1,5 @@
-//! Worked questions to the solvers, and worked calls on their trails.
+//! Worked questions to the solvers, and worked calls on their trails. They stand here and not beside what they test, since a
+//! crate with tests is proved once more with them.
 #![tactic(auto)]
 
 #[cfg(test)]

@@ -1,4 +1,5 @@
-// Questions whose answers are known, asked of both solvers through the trait.
+// Questions whose answers are known, asked through the trait: of the fast solver, and one of the plain solver too. One
+// derivation goes through the checker.
 ghost use Rattle.std.specs.Prelude.{◌≡◌, ◌+◌, ◌*◌, ◌<◌, ◌≤◌, IfOk, OnOk};
 ghost use Rattle.prop_logic.specs.Literal.{AllAtomsBelow, StepsBelow};
 

@@ -1,13 +1,16 @@
-// The constant for abstractions of a problem, and the numbers of ground atoms.
-ghost use Rattle.std.specs.Prelude.{IfOk, IsTrue};
+// The constant for abstractions of a problem, the numbers of ground atoms, and abstractions of clauses.
+ghost use Rattle.std.specs.Prelude.{All, IfOk, IsTrue};
 ghost use Rattle.inst_logic.specs.WellFormed.{is_constant};
+ghost use Rattle.term_bank.specs.Forest.{Forest, IsClauseOf};
+ghost use Rattle.ground_abs.specs.Abstracts.{AreNotesIn};
 
-use crate::building::{clauses_in, last_atom};
+use crate::building::{clause_at, clauses_in, last_atom};
 use ground_abs::{Abstraction, bot_of};
 use inst_logic::{ClauseList, NameList, Problem, Sym, canonical};
+use prop_logic::Lit;
 use std::alloc::Global;
 use std::test::Fail;
-use term_bank::{Bank, TermId};
+use term_bank::{Bank, IdClauseList, TermId};
 use tptp_read::{Statement, read_text};
 
 // The clauses of the text.
@@ -96,6 +99,78 @@ fn numbers_of_atoms(rt: HostRuntime) -> Result<(), Fail> {
     ];
     for row in rows {
         assert!(rt; are_numbers(rt.alloc(), row.0, row.1)?);
+    }
+    Ok(())
+}
+
+// Whether the first clause becomes the second one, and its literals are these by the numbers of their atoms.
+fn are_abstractions(
+    bank: &mut Bank,
+    abstraction: &mut Abstraction,
+    clauses: &IdClauseList,
+    literals: &[Lit],
+) -> Result<bool, Fail>
+    requires clauses { All (IsClauseOf bank.old) clauses.now }
+    requires notes { AreNotesIn bank.old abstraction.old.bot abstraction.old.notes }
+{
+    let (Some(c), Some(wanted)) = (clause_at(bank, clauses, 0), clauses.get(1)) else {
+        return Ok(false);
+    };
+    let lits = abstraction.abstract_clause(bank, c)?;
+    let d = abstraction.ground(bank, c)?;
+    Ok(d.as_slice() == wanted.as_slice() && lits.as_slice() == literals)
+}
+
+fn are_abstractions_by(
+    alloc: Global,
+    bank: &mut Bank,
+    abstraction: &mut Abstraction,
+    text: &str,
+    literals: &[Lit],
+) -> Result<bool, Fail>
+    requires { (f : Forest) → AreNotesIn f abstraction.old.bot abstraction.old.notes }
+{
+    let clauses = clauses_in(alloc, bank, text)?;
+    let answer = are_abstractions(bank, abstraction, &clauses, literals)?;
+    Ok(answer)
+}
+
+fn are_abstractions_in(
+    alloc: Global,
+    bank: &mut Bank,
+    text: &str,
+    literals: &[Lit],
+) -> Result<bool, Fail> {
+    let bot = constant_of(alloc, "cnf(c,axiom,p).")?;
+    let mut abstraction = Abstraction::new(alloc, bot);
+    are_abstractions_by(alloc, bank, &mut abstraction, text, literals)
+}
+
+fn are_abstractions_of(alloc: Global, text: &str, literals: &[Lit]) -> Result<bool, Fail> {
+    let mut bank = Bank::new(alloc);
+    are_abstractions_in(alloc, &mut bank, text, literals)
+}
+
+fn lit(positive: bool, atom: usize) -> Lit {
+    Lit { positive, atom }
+}
+
+#[test]
+fn abstractions_of_clauses(rt: HostRuntime) -> Result<(), Fail> {
+    let rows = [
+        // Variables become one constant, and repeats are dropped from the clause, not from the literals.
+        (
+            "cnf(c,axiom,p(X)|~q(f(X,a))|p(Y)|p(a)). cnf(w,axiom,p(bot_0)|~q(f(bot_0,a))|p(a)).",
+            [lit(true, 0), lit(false, 1), lit(true, 0), lit(true, 2)],
+        ),
+        // A literal and its complement stay two, over one atom.
+        (
+            "cnf(c,axiom,p(f(X,Y))|~p(f(Y,Y))|q|~q). cnf(w,axiom,p(f(bot_0,bot_0))|~p(f(bot_0,bot_0))|q|~q).",
+            [lit(true, 0), lit(false, 0), lit(true, 1), lit(false, 1)],
+        ),
+    ];
+    for row in &rows {
+        assert!(rt; are_abstractions_of(rt.alloc(), row.0, row.1.as_slice())?);
     }
     Ok(())
 }

@@ -1,4 +1,6 @@
-//! Worked terms: what the bank, unification and the calls on clauses answer for clauses that are read from small texts.
+//! Worked terms: what the bank, unification and the calls on clauses answer for clauses that are read from small texts. They
+//! stand here and not beside what they test, since a crate with tests is proved once more with them, and since no reader
+//! stands below those crates.
 #![tactic(auto)]
 
 #[cfg(test)]

@@ -4,7 +4,7 @@ ghost use Rattle.std.specs.Prelude.{◌<◌, length};
 use inst_logic::{Kind, Memory, Name, Sym, Term};
 use std::alloc::Global;
 use std::test::Fail;
-use term_bank::{Bank, Shape, TermId};
+use term_bank::{Bank, Root, Shape, TermId};
 use tptp_read::{Statement, StatementList, read_text};
 
 // What a bank says of a term, and how many trees it has then.
@@ -18,6 +18,16 @@ struct Facts {
     trees: usize,
 }
 
+// Whether the one reading of a node says what the others do.
+fn is_root_same(bank: &Bank, id: TermId) -> bool
+    requires { id < length bank.now.trees }
+{
+    match bank.root(id) {
+        Root::Var(v) => bank.shape(id) == Shape::Var(v),
+        Root::App(sym, args) => bank.sym(id) == Some(sym) && bank.args(id) == args,
+    }
+}
+
 // The numbers are checked against the calls that say the same in other words.
 fn told(bank: &Bank, id: TermId) -> Option<Facts>
     requires { id < length bank.now.trees }
@@ -27,6 +37,9 @@ fn told(bank: &Bank, id: TermId) -> Option<Facts>
         return None;
     }
     if bank.sym(id).is_some() != bank.symbol_number(id).is_some() {
+        return None;
+    }
+    if !is_root_same(bank, id) {
         return None;
     }
     Some(Facts {

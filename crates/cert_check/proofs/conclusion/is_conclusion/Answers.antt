@@ -18,6 +18,6 @@ returns-in-Some-clause-gives c =
     let p = c.args.premises in
     let es = map (entry_of c.args.bank.now) c.args.members.now in
     let h = subst (λ (o : Option (List (Signed ℕ))). MembersConclude c.conclusion.new.bank es p.from p.place p.partner p.other o) c.in-Some.is c.in_ok-conclusion.ensures.concludes in
-    let k = gives_by c.args.bank.now c.conclusion.new.bank c.conclusion.ensures.extends c.distinct_trees.ensures es p.from p.place p.partner p.other
+    let k = gives_by c.args.bank.now c.conclusion.new.bank c.conclusion.ensures.extends c.distinct.ensures es p.from p.place p.partner p.other
     c.args.clause.now c.in-Some.d c.requires.clause h.0 h.1 in
     (λ t. k.0 (c.same_clause.ensures.0 t), λ e. c.same_clause.ensures.1 (k.1 e))

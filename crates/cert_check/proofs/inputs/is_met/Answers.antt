@@ -11,5 +11,5 @@ returns-then-is_member c = ((λ t. inr (member_subsumes c.args.bank.now c.args.m
 pub returns : goal.returns
 returns c =
     let none : ¬ (IsTautology (clause_at c.args.bank.now c.args.c.now)) =
-    λ t. let e : false ≡ true = sym c.if-tautology.false ∙ (c.tautology.ensures.trees c.args.bank.now c.distinct_trees.ensures c.requires.clause).1 t in cc in
+    λ t. let e : false ≡ true = sym c.if-tautology.false ∙ (c.tautology.ensures.trees c.args.bank.now c.distinct.ensures c.requires.clause).1 t in cc in
     IfOk-weaker c.is_subsumed_first.result _ _ (λ r p. met_or none p) c.is_subsumed_first.ensures

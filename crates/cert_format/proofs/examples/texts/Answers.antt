@@ -2,6 +2,10 @@ use Rattle.std.proofs.Common.{refl}
 use Rattle.std.specs.Fmt.{digits}
 use Rattle.cert_format.proofs.examples.texts.Goals as goal
 
+pub returns-clause-empty : goal.returns-clause-empty
+unfolding digits
+returns-clause-empty c = refl
+
 pub returns-clause-saturation : goal.returns-clause-saturation
 unfolding digits
 returns-clause-saturation c = refl

@@ -32,13 +32,13 @@ chain (Pair l r) = λ o m n s t opposite. absurd (opposite (chain_positive l m s
 pub returns-clause-saturation : goal.returns-clause-saturation
 returns-clause-saturation c = chain
 
-refutation_of : (steps : List (Step Tree)) → EachNumbered (λ n s. IsRightStep (instance_refutation steps) (suc n) s) steps → EndsEmpty steps
+refutation_of : (steps : List (Step Tree)) → EachNumbered (λ n s. IsRightStep (instance_refutation steps).grounds steps (suc n) s) steps → EndsEmpty steps
     → (k : Complaint) → RefutationPasses (instance_refutation steps) k
 refutation_of steps shown ends (Axiom n) = refl
 refutation_of steps shown ends (Derived n) = instance_members steps n
 refutation_of steps shown ends Bot = refl
 refutation_of steps shown ends (Ground n) = refl
-refutation_of steps shown ends (Shown n) = λ s i. each_number (IsRightStep (instance_refutation steps)) steps shown n s i
+refutation_of steps shown ends (Shown n) = λ s i. each_number (IsRightStep (instance_refutation steps).grounds steps) steps shown n s i
 refutation_of steps shown ends NotEmpty = ends
 refutation_of steps shown ends (Place n) = tt
 refutation_of steps shown ends (Input k) = tt

@@ -84,6 +84,7 @@ returns-then-not-fits-clause-running g c = λ may bot cs budget v h.
     let cut = size_concluded r1 c.args.side c.args.from c.args.partner c.in_ok-size.size m item at sized in
     running_held S.atoms S.added r1 c.hold.new.run c.args.side c.args.from c.args.partner c.in_ok-hold.ensures.holds m
     (λ n e. let q : k ≡ n = same_item r1.left k n left e in omega (arith, cut))
+    (k, left)
     bot cs budget v (running_read S.atoms S.added run r1 c.in_ok-size.ensures.reads c.requires.safe.entries bot cs budget v h)
 
 pub returns-clause-running : goal.returns-clause-running

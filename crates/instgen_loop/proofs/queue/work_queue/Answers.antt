@@ -1,11 +1,11 @@
 use Rattle.std.proofs.Common.{◌≡◌, ◌++◌, append_assoc, ◌<◌, ◌≤◌, ℕ, List, length, arith, sym, ap, ◌∙◌, subst, All}
-use Rattle.term_bank.proofs.Growth.{extends_trans}
 use Rattle.instgen_select.specs.Queues.{numbers}
 use Rattle.instgen_loop.proofs.Selected.{same_places}
 use Rattle.instgen_loop.specs.Loops.{items}
 use Rattle.instgen_loop.proofs.Waiting.{taken, there, safe_picked, still_waiting, picked_waits, partners_picked, partners_stay, nothing_queued}
 use Rattle.instgen_loop.proofs.Opposites.{running_requeued}
 use Rattle.instgen_loop.proofs.Tending.{tended_on, indexed_within, within, fewer_waits}
+use Rattle.term_bank.proofs.Growth.{extends_trans}
 use Rattle.instgen_loop.proofs.queue.work_queue.Goals as goal
 
 pub work_entry-requires-clause-safe : goal.work_entry-requires-clause-safe

@@ -5,7 +5,8 @@ use Rattle.inst_logic.specs.LiteralView.{literal}
 use Rattle.tptp_read.specs.LexemeView.{tok, toks, texts}
 use Rattle.tptp_read.specs.Gathered.{gathered}
 use Rattle.tptp_read.proofs.Reading.{toks_end}
-use Rattle.tptp_read.proofs.AtomForms.{read_as, form_fails, form_more, form_none, form_negative, form_is, was_false, was_true}
+use Rattle.tptp_read.proofs.AtomForms.{read_as, form_fails, form_more, form_none, form_negative, form_is}
+use Rattle.inst_logic.proofs.Booleans.{not_true, not_false}
 use Rattle.tptp_read.proofs.atom.form.Goals as goal
 
 pub returns-in_err-after : goal.returns-in_err-after
@@ -34,11 +35,11 @@ returns-then-not-l c =
     let ls = c.args.tokens.now in
     let after = c.in_ok-after.after in
     let r = read_as (toks ls) (toks (drop after ls)) (texts c.new-vars.result.keys) c.new.result (gathered c.single.new.into) (length ls) (sym (length-map ls tok)) (ap texts c.new-vars.ensures.empty) c.new.ensures c.in_ok-after.ensures.is in
-    form_negative (toks ls) (toks (drop after ls)) c.single.new.into.clause (literal c.in-Some.l) r c.in-Some.ensures (was_false c.in-Some.l.positive c.if-not-l.true)
+    form_negative (toks ls) (toks (drop after ls)) c.single.new.into.clause (literal c.in-Some.l) r c.in-Some.ensures (not_true c.in-Some.l.positive c.if-not-l.true)
 
 pub returns : goal.returns
 returns c =
     let ls = c.args.tokens.now in
     let after = c.in_ok-after.after in
     let r = read_as (toks ls) (toks (drop after ls)) (texts c.new-vars.result.keys) c.new.result (gathered c.single.new.into) (length ls) (sym (length-map ls tok)) (ap texts c.new-vars.ensures.empty) c.new.ensures c.in_ok-after.ensures.is in
-    form_is (toks ls) (toks (drop after ls)) c.single.new.into.clause (literal c.in-Some.l) (sym c.has_variable.ensures ∙ c.if-has_variable.false) r (toks_end ls after (omega arith)) c.in-Some.ensures (was_true c.in-Some.l.positive c.if-not-l.false)
+    form_is (toks ls) (toks (drop after ls)) c.single.new.into.clause (literal c.in-Some.l) (sym c.has_variable.ensures ∙ c.if-has_variable.false) r (toks_end ls after (omega arith)) c.in-Some.ensures (not_false c.in-Some.l.positive c.if-not-l.false)

@@ -1,4 +1,4 @@
-use Rattle.std.proofs.Common.{◌≡◌, Bool, ◌+◌, Some, drop, get_or, false, sym, ap, ◌∙◌, refl, arith}
+use Rattle.std.proofs.Common.{◌≡◌, ◌+◌, Some, drop, get_or, false, sym, ap, ◌∙◌, arith}
 use Rattle.std.specs.Prelude.{◌&&◌}
 use Rattle.tptp_read.specs.Lexemes.{is_head}
 use Rattle.tptp_read.specs.Parse.{begins_with}
@@ -9,9 +9,7 @@ use Rattle.tptp_read.proofs.Places.{behind_toks, toks_at, toks_end, other}
 use Rattle.tptp_read.proofs.Skimming.{general_bracket, general_none, general_one, general_more, bracket_empty, bracket_filled, listing_none, listing_some, listing_shut, listing_open, listing_on, listing_off, thing_calls, thing_token, thing_other, no_thing}
 use Rattle.tptp_read.proofs.general.+general.Goals as goal
 use Rattle.tptp_read.proofs.general.+general.Goals.{thing-else-is_head-via-then-is_head+else-stands_at, thing-else-is_head-via-else-is_head}
-
-left_false : (a b : Bool) → a ≡ false → (a && b) ≡ false
-left_false a b e = rw e refl
+use Rattle.inst_logic.proofs.Booleans.{left_false}
 
 pub general-returns-then-stands_at-clause-is : goal.general-returns-then-stands_at-clause-is
 general-returns-then-stands_at-clause-is t c =

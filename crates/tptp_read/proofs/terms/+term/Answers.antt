@@ -1,4 +1,4 @@
-use Rattle.std.proofs.Common.{◌≡◌, ◌+◌, ◌-◌, Bool, Some, drop, [], get_or, true, false, sym, ap, refl, subst, ◌∙◌, arith}
+use Rattle.std.proofs.Common.{◌≡◌, ◌+◌, ◌-◌, Some, drop, [], get_or, true, false, sym, ap, subst, ◌∙◌, arith}
 use Rattle.std.specs.Prelude.{◌&&◌}
 use Rattle.std.proofs.lemmas.Result.{err_from_is_err_and}
 use Rattle.tptp_tokens.specs.declared.kind.TokenKind.TheVariants.{LowerWord}
@@ -13,12 +13,10 @@ use Rattle.tptp_read.proofs.ParseLaws.{and_false}
 use Rattle.tptp_read.proofs.Reading.{behind_toks, toks_at, toks_end, term_none, term_deep, term_calls, term_single, term_nothing, arguments_go_on, arguments_end, arguments_done, applied_done}
 use Rattle.tptp_read.proofs.terms.+term.Goals as goal
 use Rattle.tptp_read.proofs.terms.+term.Goals.{term-else-is_head-via-then-is_head+else-stands_at, term-else-is_head-via-else-is_head}
+use Rattle.inst_logic.proofs.Booleans.{left_false}
 
 abbrev other : Lexeme
 other = record { kind = LowerWord; text = record { ref_ptr = (0, 0); now = [] } }
-
-left_false : (a b : Bool) → a ≡ false → (a && b) ≡ false
-left_false a b e = rw e refl
 
 pub term-returns-then-at-tokens-clause-is : goal.term-returns-then-at-tokens-clause-is
 term-returns-then-at-tokens-clause-is t c = ap (λ r. in_trees (texts c.args.vars.now.keys) r) (term_none c.args.depth (toks (drop c.args.at c.args.tokens.now)) (toks_end c.args.tokens.now c.args.at c.if-at-tokens.true))
