@@ -15,8 +15,8 @@ pub mod Tending
 pub mod UnderWay
 pub mod Withdrawn
 pub mod Flipped
-pub mod Starting
-pub mod Started
+pub mod FirstEntries
+pub mod FreshRuns
 pub mod Solved
 pub mod Settled
 pub mod Grounded

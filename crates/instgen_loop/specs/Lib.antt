@@ -6,7 +6,7 @@ pub mod Loops
 pub mod Running
 pub mod Tended
 pub mod Solves
-pub mod Starting
+pub mod FirstEntries
 pub mod Outcomes
 pub mod Choosing
 pub mod Settling

@@ -6,7 +6,7 @@ ghost use Rattle.term_bank.specs.Forest.{clause_at};
 ghost use Rattle.saturation_cert.specs.Wholes.{IsWholeClause};
 ghost use Rattle.instgen_loop.specs.Clauses.{Item};
 ghost use Rattle.instgen_loop.specs.Loops.{IsSafe, Appends, KeepsLink};
-ghost use Rattle.instgen_loop.specs.Starting.{MakesEntry};
+ghost use Rattle.instgen_loop.specs.FirstEntries.{MakesEntry};
 
 use crate::entries::{Entries, push_entry};
 use crate::event::{Event, Journal};

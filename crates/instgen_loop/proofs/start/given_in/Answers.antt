@@ -1,6 +1,6 @@
 use Rattle.std.proofs.Common.{sym, subst}
 use Rattle.inst_logic.specs.WellFormed.{AreFormedClauses}
-use Rattle.instgen_loop.proofs.Starting.{given_grown, axioms_formed}
+use Rattle.instgen_loop.proofs.FirstEntries.{given_grown, axioms_formed}
 use Rattle.instgen_loop.proofs.start.given_in.Goals as goal
 
 pub interned-requires-2-clause-clauses : goal.interned-requires-2-clause-clauses

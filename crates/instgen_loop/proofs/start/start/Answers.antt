@@ -5,9 +5,9 @@ use Rattle.inst_calculus.proofs.Distinct.{length_map}
 use Rattle.inst_calculus.proofs.Congruences.{axioms_canonical}
 use Rattle.term_bank.specs.Forest.{clause_at}
 use Rattle.term_bank.proofs.Growth.{extends_trans}
-use Rattle.instgen_loop.specs.Starting.{IsStarted}
-use Rattle.instgen_loop.proofs.Starting.{given_grown, given_canonical}
-use Rattle.instgen_loop.proofs.Started.{fresh_interned, fresh_safe, fresh_started, kept_problem}
+use Rattle.instgen_loop.specs.FirstEntries.{IsStarted}
+use Rattle.instgen_loop.proofs.FirstEntries.{given_grown, given_canonical}
+use Rattle.instgen_loop.proofs.FreshRuns.{fresh_interned, fresh_safe, fresh_started, kept_problem}
 use Rattle.instgen_loop.proofs.start.start.Goals as goal
 
 pub start_entries-requires-clause-safe : goal.start_entries-requires-clause-safe

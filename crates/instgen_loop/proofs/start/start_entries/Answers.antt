@@ -4,9 +4,9 @@ use Rattle.inst_logic.specs.Clauses.{TreeClause, IsCanonical}
 use Rattle.term_bank.specs.Forest.{clause_at}
 use Rattle.term_bank.proofs.Growth.{extends_trans}
 use Rattle.saturation_cert.specs.Wholes.{IsWholeClause}
-use Rattle.instgen_loop.specs.Starting.{IsStarted}
+use Rattle.instgen_loop.specs.FirstEntries.{IsStarted}
 use Rattle.instgen_loop.proofs.Grown.{whole_kept, canonical_kept}
-use Rattle.instgen_loop.proofs.Starting.{next_clause, taken_count, whole_item, canonical_item}
+use Rattle.instgen_loop.proofs.FirstEntries.{next_clause, taken_count, whole_item, canonical_item}
 use Rattle.instgen_loop.proofs.start.start_entries.Goals as goal
 
 pub start_entry-requires-clause-whole : goal.start_entry-requires-clause-whole

@@ -2,7 +2,7 @@ use Rattle.std.proofs.Common.{◌≡◌, ◌+◌, ◌++◌, List, length, map, t
 use Rattle.inst_logic.specs.Clauses.{TreeClause}
 use Rattle.term_bank.specs.Forest.{clause_at}
 use Rattle.instgen_loop.specs.Loops.{IsSafe}
-use Rattle.instgen_loop.specs.Starting.{KeepsProblem, IsStarted}
+use Rattle.instgen_loop.specs.FirstEntries.{KeepsProblem, IsStarted}
 use Rattle.instgen_loop.proofs.start.start_entries.Given as goal
 
 abbrev pub invariant-loop-c : goal.invariant-loop-c

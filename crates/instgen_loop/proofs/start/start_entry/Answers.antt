@@ -6,9 +6,9 @@ use Rattle.inst_calculus.specs.Entries.{entry_clauses}
 use Rattle.term_bank.specs.Forest.{clause_at}
 use Rattle.saturation_cert.specs.declared.member.Origin.TheVariants.{Input}
 use Rattle.instgen_loop.specs.Clauses.{Item}
-use Rattle.instgen_loop.specs.Starting.{MakesEntry}
+use Rattle.instgen_loop.specs.FirstEntries.{MakesEntry}
 use Rattle.instgen_loop.proofs.Covers.{has_key}
-use Rattle.instgen_loop.proofs.Starting.{known_clause, new_clause, passes_over, takes}
+use Rattle.instgen_loop.proofs.FirstEntries.{known_clause, new_clause, passes_over, takes}
 use Rattle.instgen_loop.proofs.start.start_entry.Goals as goal
 
 pub returns-then-tautology-clause-started : goal.returns-then-tautology-clause-started

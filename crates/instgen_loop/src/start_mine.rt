@@ -9,7 +9,7 @@ ghost use Rattle.inst_calculus.specs.Axioms.{equality_axioms, with_axioms};
 ghost use Rattle.term_bank.specs.Forest.{AreFormed, Extends, clause_at};
 ghost use Rattle.saturation_cert.specs.Wholes.{IsWholeClause};
 ghost use Rattle.instgen_loop.specs.Loops.{IsSafe};
-ghost use Rattle.instgen_loop.specs.Starting.{AreGiven, KeepsProblem, IsOfProblem, IsFresh, IsStarted};
+ghost use Rattle.instgen_loop.specs.FirstEntries.{AreGiven, KeepsProblem, IsOfProblem, IsFresh, IsStarted};
 
 use crate::entries::Entries;
 use crate::event::Journal;

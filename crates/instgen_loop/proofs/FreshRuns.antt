@@ -33,9 +33,9 @@ use Rattle.instgen_loop.specs.Grounds.{IsLinked}
 use Rattle.instgen_loop.specs.Loops.{items, after, held_in, held_of, IsSafe, ArePartners}
 use Rattle.instgen_loop.specs.Running.{IsRunning, IsEventOf, event_in, entries_of, state_of}
 use Rattle.instgen_loop.specs.Selections.{Placing, AreUsers}
-use Rattle.instgen_loop.specs.Starting.{IsFresh, IsStarted, IsAllowed, IsOfProblem, KeepsProblem}
+use Rattle.instgen_loop.specs.FirstEntries.{IsFresh, IsStarted, IsAllowed, IsOfProblem, KeepsProblem}
 use Rattle.instgen_loop.specs.declared.start.Given.{Given}
-use Rattle.instgen_loop.proofs.Starting.{given_grown}
+use Rattle.instgen_loop.proofs.FirstEntries.{given_grown}
 use Rattle.instgen_loop.specs.Tended.{AreTended, AreOnce, indexed_of}
 use Rattle.instgen_loop.proofs.Tending.{above, there, after_once}
 
