@@ -20,3 +20,4 @@ pub mod Settled
 pub mod Grounded
 pub mod Saturated
 pub mod Kept
+pub mod Started

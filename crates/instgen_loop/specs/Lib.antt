@@ -9,3 +9,4 @@ pub mod Solves
 pub mod Outcomes
 pub mod Choosing
 pub mod Settling
+pub mod Starting
