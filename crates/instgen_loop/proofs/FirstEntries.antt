@@ -18,6 +18,7 @@ use Rattle.inst_calculus.proofs.EqualityAxioms.{with_axioms_formed}
 use Rattle.inst_calculus.specs.Entries.{Entry, entry_clauses, input}
 use Rattle.inst_calculus.proofs.Membership.{◌∈◌, contains_in, in_contains, in_all, all_in, in_map, from_map, passes}
 use Rattle.inst_calculus.proofs.Distinct.{map_append, length_map}
+use Rattle.cert_format.specs.Printable.{IsPrintableClause}
 use Rattle.inst_machine.specs.Machine.{IsFirst}
 use Rattle.inst_machine.proofs.Prolonged.{first_passed_over, first_taken}
 use Rattle.term_bank.specs.Forest.{Forest, AreDistinct, AreFormed, Extends, IsClauseOf, IsClauseAt, clause_at, tree_at}
@@ -165,3 +166,6 @@ axioms_formed cs h = and_right (list_all clause_is_formed cs) (list_all clause_i
 
 pub given_canonical : (f : Forest) (ids : List (List (Signed ℕ))) (cs : List TreeClause) → AreGiven f ids cs → All IsCanonical cs → All IsCanonical (map (clause_at f) ids)
 given_canonical f ids cs h c = transport (All IsCanonical) (sym h.same) c
+
+pub printable_canonical : (cs : List TreeClause) → All IsPrintableClause cs → All IsCanonical cs
+printable_canonical cs h = in_all IsCanonical cs (λ c i. (all_in IsPrintableClause cs h c i).canonical)

@@ -61,13 +61,13 @@ true_by_bits atoms added r bot cs budget v b h i l =
     let (m, p, t) = h.places.placed i l in
     let same : AreAbstracted bot trees r.ground.literals (entry_clauses (entries_of r)) = transport (AreAbstracted bot trees r.ground.literals) (sym (same_clauses f (items r))) h.linked.same in
     let at_clause : slice_get (map (abstract_literals bot) (entry_clauses (entries_of r))) i ≡ Some (abstract_literals bot p.entry.clause) =
-        slice_get_map (abstract_literals bot) (entry_clauses (entries_of r)) i p.entry.clause (slice_get_map (λ (x : Entry). x.clause) (entries_of r) i p.entry p.entry_at) in
+    slice_get_map (abstract_literals bot) (entry_clauses (entries_of r)) i p.entry.clause (slice_get_map (λ (x : Entry). x.clause) (entries_of r) i p.entry p.entry_at) in
     let (c, at, q) = slice_get_of_map (map (named_literal trees)) r.ground.literals i (abstract_literals bot p.entry.clause) (ap (λ xs. slice_get xs i) same.same ∙ at_clause) in
     let named : at_number (map (named_literal trees) c) p.place ≡ Some (subst_literal (grounding bot) m.selected) =
-        ap (λ xs. at_number xs p.place) q ∙ at_number_map (subst_literal (grounding bot)) p.entry.clause p.place m.selected p.selected in
+    ap (λ xs. at_number xs p.place) q ∙ at_number_map (subst_literal (grounding bot)) p.entry.clause p.place m.selected p.selected in
     let (k, here, e) = from_map_number (named_literal trees) c p.place (subst_literal (grounding bot) m.selected) named in
     let below : k.atom < length trees = all_in (λ (x : Signed ℕ). x.atom < length trees) c
-        (all_in (λ c. All (λ (x : Signed ℕ). x.atom < length trees) c) r.ground.literals same.below c (contains_in c r.ground.literals (at_number_contains r.ground.literals (suc i) c at))) k (contains_in k c (at_number_contains c p.place k here)) in
+    (all_in (λ c. All (λ (x : Signed ℕ). x.atom < length trees) c) r.ground.literals same.below c (contains_in c r.ground.literals (at_number_contains r.ground.literals (suc i) c at))) k (contains_in k c (at_number_contains c p.place k here)) in
     record {
       clause = c;
       place = p.place;

@@ -22,3 +22,4 @@ pub mod Settled
 pub mod Grounded
 pub mod Saturated
 pub mod Kept
+pub mod Started

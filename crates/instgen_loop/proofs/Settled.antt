@@ -135,8 +135,8 @@ module _ {S I C : Type 0} (atoms : S → ℕ) (pairs : I → List Pair) (fits : 
     hold = hold;
     below = in_all (λ (c : List (Signed ℕ)). All (λ l. l.atom < length s.users) c) r.ground.literals (λ c i.
         in_all (λ (l : Signed ℕ). l.atom < length s.users) c (λ l j.
-            let b = all_in (λ (l : Signed ℕ). l.atom < length r.ground.abstraction.ids) c (all_in (λ (c : List (Signed ℕ)). All (λ l. l.atom < length r.ground.abstraction.ids) c) r.ground.literals grounded.below c i) l j in
-            omega arith));
+        let b = all_in (λ (l : Signed ℕ). l.atom < length r.ground.abstraction.ids) c (all_in (λ (c : List (Signed ℕ)). All (λ l. l.atom < length r.ground.abstraction.ids) c) r.ground.literals grounded.below c i) l j in
+        omega arith));
     placed = more_users.numbers;
   }
 

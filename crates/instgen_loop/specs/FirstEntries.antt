@@ -1,4 +1,4 @@
--- What a run begins with: the clauses of the problem and their axioms over its bank, and the first entries.
+-- The first entries of a run, made of clauses in its bank.
 use Rattle.std.specs.Prelude.{◌≡◌, ℕ, suc, ◌++◌, ◌∷◌, [], List, false, length, map, All, IsTrue, IsFalse, Option, Some, None}
 use Rattle.inst_logic.specs.declared.symbol.Sym.{Sym}
 use Rattle.inst_logic.specs.declared.signed.Signed.{Signed}
@@ -42,22 +42,14 @@ pub record AreGiven (f : Forest) (ids : List (List (Signed ℕ))) (cs : List Tre
   pub whole : All (IsWholeClause f) ids
   pub same : map (clause_at f) ids ≡ cs
 
--- the bank may have grown, and the constant is the same
-pub record KeepsProblem {S I C : Type 0} (old new : Run S I C) : Type 0 where
+-- the bank may have grown, and the constant and what is left are the same
+pub record Continues {S I C : Type 0} (old new : Run S I C) : Type 0 where
   pub bank : Extends old.entries.bank new.entries.bank
   pub bot : new.ground.abstraction.bot ≡ old.ground.abstraction.bot
-
--- the lists are those of the problem over the run's bank, and the run's constant is that of its clauses and can be printed
-pub record IsOfProblem {S I C : Type 0} (r : Run S I C) (g : Given) (clauses : List TreeClause) (names : List (List ℕ)) : Type 0 where
-  pub inputs : AreGiven r.entries.bank g.inputs clauses
-  pub named : g.names ≡ names
-  pub axioms : AreGiven r.entries.bank g.axioms (equality_axioms clauses)
-  pub bot : IsBot clauses r.ground.abstraction.bot
-  pub constant : IsTrue (is_constant r.ground.abstraction.bot)
-  pub readable : IsTrue (is_readable_name r.ground.abstraction.bot.name)
+  pub left : new.left ≡ old.left
 
 -- nothing happened yet, and there are no entries
-pub record IsFresh {S I C : Type 0} (atoms : S → ℕ) (added : S → List (List (Signed ℕ))) (pairs : I → List Pair) (r : Run S I C) : Type 0 where
+pub record IsBare {S I C : Type 0} (atoms : S → ℕ) (added : S → List (List (Signed ℕ))) (pairs : I → List Pair) (r : Run S I C) : Type 0 where
   pub bank : AreFormed r.entries.bank
   pub entries : items r ≡ []
   pub first : pairs r.entries.first ≡ []
@@ -82,8 +74,3 @@ pub record IsStarted {S I C : Type 0} (atoms : S → ℕ) (added : S → List (L
   pub selection : r.selection ≡ record { places = []; users = [] }
   pub held : r.held.items ≡ []
   pub journal : r.journal ≡ []
-
--- there is no budget where the clauses are function-free, and else all of it is left
-abbrev pub IsAllowed : List TreeClause → ℕ → Option ℕ → Type 0
-IsAllowed clauses budget None = IsTrue (is_function_free clauses)
-IsAllowed clauses budget (Some left) = (left ≡ budget) × IsFalse (is_function_free clauses)

@@ -10,3 +10,4 @@ pub mod FirstEntries
 pub mod Outcomes
 pub mod Choosing
 pub mod Settling
+pub mod Starting

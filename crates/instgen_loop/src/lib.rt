@@ -8,15 +8,18 @@ pub mod bounds;
 pub mod cycle;
 pub mod entries;
 pub mod event;
+pub mod finish;
 pub mod flips;
 pub mod ground;
 pub mod infer;
 pub mod laws;
 pub mod outcome;
 pub mod queue;
+pub mod refuted;
 pub mod reselect;
 pub mod selection;
 pub mod settle;
+pub mod start;
 pub mod state;
 pub mod work;
 

@@ -3,14 +3,31 @@ ghost use Rattle.std.specs.Prelude.{◌≡◌, ◌≤◌, [], length, All, IsTru
 ghost use Rattle.inst_logic.specs.Measure.{is_function_free};
 ghost use Rattle.inst_logic.specs.Printing.{is_readable_name};
 ghost use Rattle.cert_format.specs.Printable.{IsPrintableClause};
+ghost use Rattle.inst_logic.specs.declared.symbol.Sym.{Sym};
+ghost use Rattle.inst_calculus.specs.Abstraction.{IsBot};
+ghost use Rattle.instgen_loop.specs.Starting.{IsFresh, IsAllowed};
 ghost use Rattle.instgen_loop.specs.Outcomes.{IsOutcome, IsDecided, appended_count, journal_of};
 
+use crate::cycle::cycle;
+use crate::entries::Entries;
 use crate::event::Journal;
-use inst_logic::{Memory, Problem};
-use prop_logic::Solver;
+use crate::finish::finish;
+use crate::ground::Ground;
+use crate::queue::Partners;
+use crate::refuted::refuted;
+use crate::selection::Selection;
+use crate::start::start;
+use crate::state::Run;
+use ground_abs::{Abstraction, bot_of};
+use indexmap::IndexMap;
+use inst_logic::{Memory, Problem, function_free};
+use instgen_select::Queue;
+use prop_logic::{LitLists, Solver, Valuation};
 use saturation_cert::{Refutation, Saturation};
 use std::alloc::Global;
+use term_bank::Bank;
 use term_index::PartnerIndex;
+use unify_core::Bindings;
 
 /// A certificate, or what the budget left open. The ids of the journal are those of the certificate's bank.
 #[derive(Drop)]
@@ -33,30 +50,77 @@ pub enum Outcome {
     },
 }
 
+// Starts a run, lets it work, and ends it.
+fn drive<S: Solver, I: PartnerIndex>(
+    alloc: Global,
+    run: &mut Run<S, I>,
+    partners: &mut Partners<I>,
+    p: &Problem,
+    budget: u64,
+) -> Result<Outcome, Memory>
+    requires fresh { (bot : Sym) × IsFresh S.atoms S.added I.pairs run.old bot × IsBot p.now.clauses bot }
+    requires allowed { IsAllowed run.old p.now.clauses budget }
+    requires positive { I.pairs partners.old.positive ≡ [] }
+    requires negative { I.pairs partners.old.negative ≡ [] }
+    requires clauses { All IsPrintableClause p.now.clauses }
+    requires named { length p.now.names ≡ length p.now.clauses }
+    requires readable { All (λ n. IsTrue (is_readable_name n)) p.now.names }
+    ensures outcome { IfOk result (IsOutcome p.now.clauses p.now.names budget) }
+    ensures appended { IfOk result (λ o. IsFalse (is_function_free p.now.clauses) → appended_count (journal_of o) ≤ budget) }
+{
+    let given = start(alloc, run, p, budget)?;
+    match cycle(alloc, run, partners, p, budget)? {
+        Some(derivation) => refuted(alloc, run, p, given, &derivation, budget),
+        None => finish(alloc, run, partners, p, given, budget),
+    }
+}
+
 /// Runs the engine on the problem's clauses and their axioms of equality. The budget counts the symbols and variables of the
 /// entries that are appended; it does not count on problems without function symbols, where the entries are bounded anyway.
-/// (A stand-in for the body.)
 pub fn run<S: Solver, I: PartnerIndex>(
-    _alloc: Global,
-    _p: &Problem,
-    _solver: S,
-    _positive: I,
-    _negative: I,
-    _first: I,
-    _budget: u64,
+    alloc: Global,
+    p: &Problem,
+    solver: S,
+    positive: I,
+    negative: I,
+    first: I,
+    budget: u64,
 ) -> Result<Outcome, Memory>
-    requires atoms { S.atoms _solver ≡ 0 }
-    requires added { S.added _solver ≡ [] }
-    requires positive { I.pairs _positive ≡ [] }
-    requires negative { I.pairs _negative ≡ [] }
-    requires first { I.pairs _first ≡ [] }
-    requires clauses { All IsPrintableClause _p.now.clauses }
-    requires named { length _p.now.names ≡ length _p.now.clauses }
-    requires readable { All (λ n. IsTrue (is_readable_name n)) _p.now.names }
-    requires budget { _budget ≤ 1000000000000 }
-    ensures outcome { IfOk result (IsOutcome _p.now.clauses _p.now.names _budget) }
-    ensures function_free { IfOk result (λ o. IsTrue (is_function_free _p.now.clauses) → IsDecided o) }
-    ensures appended { IfOk result (λ o. IsFalse (is_function_free _p.now.clauses) → appended_count (journal_of o) ≤ _budget) }
+    requires atoms { S.atoms solver ≡ 0 }
+    requires added { S.added solver ≡ [] }
+    requires positive { I.pairs positive ≡ [] }
+    requires negative { I.pairs negative ≡ [] }
+    requires first { I.pairs first ≡ [] }
+    requires clauses { All IsPrintableClause p.now.clauses }
+    requires named { length p.now.names ≡ length p.now.clauses }
+    requires readable { All (λ n. IsTrue (is_readable_name n)) p.now.names }
+    requires budget { budget ≤ 1000000000000 }
+    ensures outcome { IfOk result (IsOutcome p.now.clauses p.now.names budget) }
+    ensures function_free { IfOk result (λ o. IsTrue (is_function_free p.now.clauses) → IsDecided o) }
+    ensures appended { IfOk result (λ o. IsFalse (is_function_free p.now.clauses) → appended_count (journal_of o) ≤ budget) }
 {
-    Err(Memory)
+    let bot = bot_of(alloc, p)?;
+    let left = if function_free(p) { None } else { Some(budget) };
+    let mut run = Run {
+        entries: Entries {
+            bank: Bank::new(alloc),
+            clauses: IndexMap::new(alloc),
+            first,
+            has_empty: false,
+        },
+        ground: Ground {
+            abstraction: Abstraction::new(alloc, bot),
+            solver,
+            literals: LitLists::new(alloc),
+            valuation: Valuation::new(alloc),
+        },
+        selection: Selection::new(alloc),
+        queue: Queue::new(alloc),
+        held: Vec::new(alloc),
+        journal: Journal::new(alloc),
+        bindings: Bindings::new(alloc),
+        left,
+    };
+    let mut partners = Partners { positive, negative };
+    drive(alloc, &mut run, &mut partners, p, budget)
 }

@@ -2,14 +2,16 @@
 ghost use Rattle.std.specs.Prelude.{◌≡◌, ◌≤◌, ◌+◌, ◌++◌, ◌∷◌, [], ℕ, List, All, length, map, false, IsTrue, IfOk, OnOk};
 ghost use Rattle.inst_logic.specs.declared.symbol.Sym.{Sym};
 ghost use Rattle.inst_logic.specs.Clauses.{TreeClause, IsCanonical};
-ghost use Rattle.inst_logic.specs.Printing.{is_readable_name};
 ghost use Rattle.inst_logic.specs.WellFormed.{AreFormedClauses, is_constant};
-ghost use Rattle.inst_calculus.specs.Abstraction.{IsBot};
 ghost use Rattle.inst_calculus.specs.Axioms.{equality_axioms, with_axioms};
 ghost use Rattle.term_bank.specs.Forest.{AreFormed, Extends, clause_at};
 ghost use Rattle.saturation_cert.specs.Wholes.{IsWholeClause};
-ghost use Rattle.instgen_loop.specs.Loops.{IsSafe};
-ghost use Rattle.instgen_loop.specs.FirstEntries.{AreGiven, KeepsProblem, IsOfProblem, IsFresh, IsStarted};
+ghost use Rattle.cert_format.specs.Printable.{IsPrintableClause};
+ghost use Rattle.instgen_select.specs.Queues.{numbers};
+ghost use Rattle.instgen_loop.specs.Loops.{IsSafe, items, after};
+ghost use Rattle.instgen_loop.specs.Running.{IsRunningWith};
+ghost use Rattle.instgen_loop.specs.Starting.{IsFresh, IsAllowed, IsGivenFor};
+ghost use Rattle.instgen_loop.specs.FirstEntries.{AreGiven, Continues, IsStarted};
 
 use crate::entries::Entries;
 use crate::event::Journal;
@@ -17,9 +19,10 @@ use crate::ground::Ground;
 use crate::selection::Selection;
 use crate::state::{Run, make_entry};
 use clause_form::{clause_size, tautology};
+use equality_axioms::axioms_of;
 use ground_abs::Abstraction;
 use indexmap::IndexMap;
-use inst_logic::{ClauseList, Memory, NameList, Problem, Sym};
+use inst_logic::{ClauseList, Memory, Problem, Sym};
 use instgen_select::Queue;
 use prop_logic::{LitLists, Solver, Valuation};
 use saturation_cert::Origin;
@@ -28,12 +31,10 @@ use term_bank::{Bank, IdClause, IdClauseList};
 use term_index::PartnerIndex;
 use unify_core::Bindings;
 
-/// What certificates tell of the problem, over the bank of its run: its clauses with the names of their statements, and their
-/// axioms of equality.
+/// The clauses of the problem and its axioms of equality, over the bank of a run.
 #[derive(Drop)]
 pub struct Given {
     pub inputs: IdClauseList,
-    pub names: NameList,
     pub axioms: IdClauseList,
 }
 
@@ -63,8 +64,7 @@ pub fn new_run<S: Solver, I: PartnerIndex>(
     requires atoms { S.atoms solver ≡ 0 }
     requires added { S.added solver ≡ [] }
     requires first { I.pairs first ≡ [] }
-    ensures fresh { IsFresh S.atoms S.added I.pairs result }
-    ensures bot { result.ground.abstraction.bot ≡ bot }
+    ensures fresh { IsFresh S.atoms S.added I.pairs result bot }
     ensures left { result.left ≡ left }
 {
     Run {
@@ -99,16 +99,6 @@ fn interned(alloc: Global, bank: &mut Bank, clauses: &ClauseList) -> Result<IdCl
     Ok(ids)
 }
 
-fn copied_names(alloc: Global, names: &NameList) -> Result<NameList, Memory>
-    ensures { IfOk result (λ copy. copy ≡ names.now) }
-{
-    let mut copy = NameList::new(alloc);
-    for name in names.as_slice() {
-        copy.push(name.clone()?)?;
-    }
-    Ok(copy)
-}
-
 fn copied_clause(alloc: Global, c: &IdClause) -> Result<IdClause, Memory>
     ensures { IfOk result (λ d. d ≡ c.now) }
 {
@@ -136,8 +126,8 @@ fn start_entry<S: Solver, I: PartnerIndex>(
     requires whole { IsWholeClause run.old.entries.bank clause.now }
     requires canonical { IsCanonical (clause_at run.old.entries.bank clause.now) }
     ensures safe { OnOk result (IsSafe S.atoms I.pairs I.fits run.new) }
-    ensures problem { OnOk result (KeepsProblem run.old run.new) }
-    ensures left { OnOk result (run.new.left ≡ run.old.left) }
+    ensures problem { OnOk result (Continues run.old run.new) }
+
     ensures started { OnOk result ((cs : List TreeClause) → k ≡ length cs + 1 → IsStarted S.atoms S.added run.old cs → IsStarted S.atoms S.added run.new (cs ++ clause_at run.old.entries.bank clause.now ∷ [])) }
 {
     // So a variant has an equal key.
@@ -164,8 +154,8 @@ fn start_entries<S: Solver, I: PartnerIndex>(
     requires whole { All (IsWholeClause run.old.entries.bank) clauses.now }
     requires canonical { All IsCanonical (map (clause_at run.old.entries.bank) clauses.now) }
     ensures safe { OnOk result (IsSafe S.atoms I.pairs I.fits run.new) }
-    ensures problem { OnOk result (KeepsProblem run.old run.new) }
-    ensures left { OnOk result (run.new.left ≡ run.old.left) }
+    ensures problem { OnOk result (Continues run.old run.new) }
+
     ensures started { OnOk result ((cs : List TreeClause) → before ≡ length cs → IsStarted S.atoms S.added run.old cs → IsStarted S.atoms S.added run.new (cs ++ map (clause_at run.old.entries.bank) clauses.now)) }
 {
     let mut k = before;
@@ -177,52 +167,38 @@ fn start_entries<S: Solver, I: PartnerIndex>(
 }
 
 // The problem's clauses and their axioms, in the bank.
-fn given_in(
-    alloc: Global,
-    bank: &mut Bank,
-    p: &Problem,
-    axioms: &ClauseList,
-) -> Result<Given, Memory>
+fn given_in(alloc: Global, bank: &mut Bank, p: &Problem) -> Result<Given, Memory>
     requires formed { AreFormed bank.old }
     requires clauses { AreFormedClauses p.now.clauses }
-    requires axioms { axioms.now ≡ equality_axioms p.now.clauses }
     ensures inputs { IfOk result (λ g. AreGiven bank.new g.inputs p.now.clauses) }
-    ensures names { IfOk result (λ g. g.names ≡ p.now.names) }
     ensures axioms { IfOk result (λ g. AreGiven bank.new g.axioms (equality_axioms p.now.clauses)) }
     ensures extends { Extends bank.old bank.new }
     ensures formed { AreFormed bank.new }
 {
     let inputs = interned(alloc, bank, &p.clauses)?;
-    let axioms = interned(alloc, bank, axioms)?;
-    let names = copied_names(alloc, &p.names)?;
-    Ok(Given {
-        inputs,
-        names,
-        axioms,
-    })
+    let axioms = axioms_of(alloc, p)?;
+    let axioms = interned(alloc, bank, &axioms)?;
+    Ok(Given { inputs, axioms })
 }
 
-/// Gives the run its first entries: the problem's clauses, and then the axioms, without tautologies and without variants of earlier
-/// entries. Entries have the numbers of their clauses for origins, counted from 1 over both lists.
+/// Gives a run its first entries, which all wait: the problem's clauses and then their axioms of equality, without tautologies and
+/// without variants of earlier entries. Their origins are the numbers of the clauses, counted from 1 over both lists.
 pub fn start<S: Solver, I: PartnerIndex>(
     alloc: Global,
-    p: &Problem,
-    axioms: &ClauseList,
     run: &mut Run<S, I>,
+    p: &Problem,
+    _budget: u64,
 ) -> Result<Given, Memory>
-    requires fresh { IsFresh S.atoms S.added I.pairs run.old }
-    requires clauses { AreFormedClauses p.now.clauses }
-    requires canonical { All IsCanonical p.now.clauses }
-    requires axioms { axioms.now ≡ equality_axioms p.now.clauses }
-    requires bot { IsBot p.now.clauses run.old.ground.abstraction.bot }
-    requires constant { IsTrue (is_constant run.old.ground.abstraction.bot) }
-    requires readable { IsTrue (is_readable_name run.old.ground.abstraction.bot.name) }
+    requires fresh { (bot : Sym) × IsFresh S.atoms S.added I.pairs run.old bot }
+    requires allowed { IsAllowed run.old p.now.clauses _budget }
+    requires clauses { All IsPrintableClause p.now.clauses }
+    ensures given { IfOk result (IsGivenFor run.new.entries.bank p.now.clauses) }
     ensures safe { OnOk result (IsSafe S.atoms I.pairs I.fits run.new) }
-    ensures started { OnOk result (IsStarted S.atoms S.added run.new (with_axioms p.now.clauses)) }
-    ensures problem { IfOk result (λ g. IsOfProblem run.new g p.now.clauses p.now.names) }
-    ensures left { OnOk result (run.new.left ≡ run.old.left) }
+    ensures waiting { OnOk result (numbers run.new.queue.items ≡ after 0 (length (items run.new))) }
+    ensures selection { OnOk result (run.new.selection ≡ record { places = []; users = [] }) }
+    ensures running { OnOk result (IsRunningWith S.atoms S.added run.new run.old.ground.abstraction.bot (with_axioms p.now.clauses) _budget) }
 {
-    let given = given_in(alloc, &mut run.entries.bank, p, axioms)?;
+    let given = given_in(alloc, &mut run.entries.bank, p)?;
     start_entries(alloc, run, &given.inputs, 0)?;
     start_entries(alloc, run, &given.axioms, given.inputs.len())?;
     Ok(given)
