@@ -1,5 +1,5 @@
 // What the engine answers.
-ghost use Rattle.std.specs.Prelude.{◌≡◌, ◌≤◌, [], length, All, IsTrue, IsFalse, IfOk};
+ghost use Rattle.std.specs.Prelude.{◌≡◌, ◌≤◌, [], length, true, false, Some, None, All, IsTrue, IsFalse, IfOk};
 ghost use Rattle.inst_logic.specs.Measure.{is_function_free};
 ghost use Rattle.inst_logic.specs.Printing.{is_readable_name};
 ghost use Rattle.cert_format.specs.Printable.{IsPrintableClause};
@@ -9,25 +9,18 @@ ghost use Rattle.instgen_loop.specs.Starting.{IsFresh, IsAllowed};
 ghost use Rattle.instgen_loop.specs.Outcomes.{IsOutcome, IsDecided, appended_count, journal_of};
 
 use crate::cycle::cycle;
-use crate::entries::Entries;
 use crate::event::Journal;
 use crate::finish::finish;
-use crate::ground::Ground;
 use crate::queue::Partners;
 use crate::refuted::refuted;
-use crate::selection::Selection;
-use crate::start::start;
+use crate::start::{new_run, start};
 use crate::state::Run;
-use ground_abs::{Abstraction, bot_of};
-use indexmap::IndexMap;
+use ground_abs::bot_of;
 use inst_logic::{Memory, Problem, function_free};
-use instgen_select::Queue;
-use prop_logic::{LitLists, Solver, Valuation};
+use prop_logic::Solver;
 use saturation_cert::{Refutation, Saturation};
 use std::alloc::Global;
-use term_bank::Bank;
 use term_index::PartnerIndex;
-use unify_core::Bindings;
 
 /// A certificate, or what the budget left open. The ids of the journal are those of the certificate's bank.
 #[derive(Drop)]
@@ -75,6 +68,14 @@ fn drive<S: Solver, I: PartnerIndex>(
     }
 }
 
+// What is left of the budget at first.
+fn allowed(p: &Problem, budget: u64) -> Option<u64>
+    ensures free { is_function_free p.now.clauses ≡ true → result ≡ None }
+    ensures budgeted { is_function_free p.now.clauses ≡ false → result ≡ Some budget }
+{
+    if function_free(p) { None } else { Some(budget) }
+}
+
 /// Runs the engine on the problem's clauses and their axioms of equality. The budget counts the symbols and variables of the
 /// entries that are appended; it does not count on problems without function symbols, where the entries are bounded anyway.
 pub fn run<S: Solver, I: PartnerIndex>(
@@ -100,27 +101,7 @@ pub fn run<S: Solver, I: PartnerIndex>(
     ensures appended { IfOk result (λ o. IsFalse (is_function_free p.now.clauses) → appended_count (journal_of o) ≤ budget) }
 {
     let bot = bot_of(alloc, p)?;
-    let left = if function_free(p) { None } else { Some(budget) };
-    let mut run = Run {
-        entries: Entries {
-            bank: Bank::new(alloc),
-            clauses: IndexMap::new(alloc),
-            first,
-            has_empty: false,
-        },
-        ground: Ground {
-            abstraction: Abstraction::new(alloc, bot),
-            solver,
-            literals: LitLists::new(alloc),
-            valuation: Valuation::new(alloc),
-        },
-        selection: Selection::new(alloc),
-        queue: Queue::new(alloc),
-        held: Vec::new(alloc),
-        journal: Journal::new(alloc),
-        bindings: Bindings::new(alloc),
-        left,
-    };
+    let mut run = new_run(alloc, solver, first, bot, allowed(p, budget));
     let mut partners = Partners { positive, negative };
     drive(alloc, &mut run, &mut partners, p, budget)
 }

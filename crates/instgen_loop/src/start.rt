@@ -126,7 +126,7 @@ fn start_entry<S: Solver, I: PartnerIndex>(
     requires whole { IsWholeClause run.old.entries.bank clause.now }
     requires canonical { IsCanonical (clause_at run.old.entries.bank clause.now) }
     ensures safe { OnOk result (IsSafe S.atoms I.pairs I.fits run.new) }
-    ensures problem { OnOk result (Continues run.old run.new) }
+    ensures continues { OnOk result (Continues run.old run.new) }
 
     ensures started { OnOk result ((cs : List TreeClause) → k ≡ length cs + 1 → IsStarted S.atoms S.added run.old cs → IsStarted S.atoms S.added run.new (cs ++ clause_at run.old.entries.bank clause.now ∷ [])) }
 {
@@ -154,7 +154,7 @@ fn start_entries<S: Solver, I: PartnerIndex>(
     requires whole { All (IsWholeClause run.old.entries.bank) clauses.now }
     requires canonical { All IsCanonical (map (clause_at run.old.entries.bank) clauses.now) }
     ensures safe { OnOk result (IsSafe S.atoms I.pairs I.fits run.new) }
-    ensures problem { OnOk result (Continues run.old run.new) }
+    ensures continues { OnOk result (Continues run.old run.new) }
 
     ensures started { OnOk result ((cs : List TreeClause) → before ≡ length cs → IsStarted S.atoms S.added run.old cs → IsStarted S.atoms S.added run.new (cs ++ map (clause_at run.old.entries.bank) clauses.now)) }
 {
