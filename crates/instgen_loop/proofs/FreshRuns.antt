@@ -1,10 +1,12 @@
 -- A run without entries, and one with its first.
-use Rattle.std.proofs.Common.{◌≡◌, ◌↔◌, inl, inr, ℕ, zero, suc, ◌+◌, ◌-◌, ◌^◌, ◌<◌, ◌≤◌, List, [], ◌∷◌, ◌++◌, refl, sym, ap, ◌∙◌, subst as transport, map, length, arith, All, Contains, Bool, true, false, Option, Some, None, IsTrue, IsFalse}
+use Rattle.std.proofs.Common.{◌≡◌, ◌↔◌, inl, inr, ℕ, zero, suc, ◌+◌, ◌-◌, ◌^◌, ◌<◌, ◌≤◌, List, [], ◌∷◌, ◌++◌, refl, sym, ap, ◌∙◌, subst as transport, map, length, arith, All, Contains, Bool, true, false, Option, Some, None, IsTrue, IsFalse, not, ◌||◌}
 use Rattle.std.proofs.lemmas.List.Elements.{All-nil, All-from_recursion}
 use Rattle.std.specs.Prelude.{slice_get}
 use Rattle.inst_logic.specs.declared.symbol.Sym.{Sym}
 use Rattle.inst_logic.specs.declared.signed.Signed.{Signed}
-use Rattle.inst_logic.specs.Measure.{is_function_free}
+use Rattle.std.specs.List.{list_any}
+use Rattle.std.proofs.lemmas.List.Folds.{list_any-append}
+use Rattle.inst_logic.specs.Measure.{is_function_free, clause_applies}
 use Rattle.inst_logic.specs.Tree.{Tree}
 use Rattle.inst_logic.specs.Clauses.{TreeClause, IsCanonical, canonical_form}
 use Rattle.inst_logic.specs.WellFormed.{IsAtom, is_constant}
@@ -24,7 +26,7 @@ use Rattle.prop_logic.specs.Valuation.{IsHeld}
 use Rattle.term_bank.specs.Forest.{Forest, AreFormed, Extends, IsClauseOf, clause_at, tree_at}
 use Rattle.term_index.specs.Pairs.{Pair}
 use Rattle.ground_abs.specs.Numbering.{Numbering}
-use Rattle.ground_abs.specs.Abstracts.{AreAtomsIn, AreNotesIn, IsNote, atoms_in}
+use Rattle.ground_abs.specs.Abstracts.{AreAtomsIn, AreNotesIn, atoms_in}
 use Rattle.instgen_select.specs.Queues.{numbers, Waiting}
 use Rattle.instgen_loop.specs.declared.event.Event.{Event}
 use Rattle.instgen_loop.specs.declared.queue.Partners.{Partners}
@@ -69,9 +71,9 @@ module _ {S I C : Type 0} (atoms : S → ℕ) (added : S → List (List (Signed 
   bare_numbered r h = transport (AreAtomsIn r.entries.bank) (sym h.ids) (record {
     within = All-nil (λ n. n < length r.entries.bank.trees);
     atoms = record {
-      once = λ i j a p q. let l = slice_get_below {X = Tree} [] i a p in absurd (omega arith);
-      formed = λ i a p. let l = slice_get_below {X = Tree} [] i a p in absurd (omega arith);
-      without_variables = λ i a p. let l = slice_get_below {X = Tree} [] i a p in absurd (omega arith);
+      once = λ i j a p q. let l = slice_get_below [] i a p in absurd (omega arith);
+      formed = λ i a p. let l = slice_get_below [] i a p in absurd (omega arith);
+      without_variables = λ i a p. let l = slice_get_below [] i a p in absurd (omega arith);
     };
   })
 
@@ -84,14 +86,14 @@ module _ {S I C : Type 0} (atoms : S → ℕ) (added : S → List (List (Signed 
       canonical = All-nil (λ (e : Item). IsCanonical (clause_at r.entries.bank e.0));
     });
     firsts = transport (AreFirsts (pairs r.entries.first) r.entries.has_empty) (sym h.entries) (record {
-      first = λ i e l p q. let m = slice_get_below {X = Item} [] i e p in absurd (omega arith);
-      flagged = λ i e p q. let m = slice_get_below {X = Item} [] i e p in absurd (omega arith);
+      first = λ i e l p q. let m = slice_get_below [] i e p in absurd (omega arith);
+      flagged = λ i e p q. let m = slice_get_below [] i e p in absurd (omega arith);
       below = λ p i. absurd (contains_in p [] (transport (λ ps. Contains ps p) h.first i));
       empty = λ t. let e : false ≡ true = sym h.has_empty ∙ t in absurd cc;
     });
     stored = empty r.entries.bank r.entries.first h.first;
     numbered = bare_numbered r h;
-    notes = transport (AreNotesIn r.entries.bank r.ground.abstraction.bot) (sym h.notes) (All-nil (IsNote r.entries.bank r.ground.abstraction.bot));
+    notes = transport (AreNotesIn r.entries.bank r.ground.abstraction.bot) (sym h.notes) (λ i k e. absurd cc);
     count = h.no_atoms ∙ sym (ap length h.ids);
     waiting = transport (λ (ws : List Waiting). All (λ n. n ≤ length (items r)) (numbers ws)) (sym h.queue) (All-nil (λ n. n ≤ length (items r)));
     within = let e : length r.selection.places ≡ 0 = ap (λ (s : Placing). length s.places) h.selection in omega arith;
@@ -119,11 +121,30 @@ module _ {S I C : Type 0} (atoms : S → ℕ) (added : S → List (List (Signed 
 
 -- The budget at first
 
-some_or_none : {S I C : Type 0} (r : Run S I C) (clauses : List TreeClause) (budget : ℕ) → IsAllowed r clauses budget → (b : Bool) → is_function_free clauses ≡ b
-    → ((k : ℕ) → r.left ≡ Some k → k ≡ budget) × (r.left ≡ None → IsTrue (is_function_free clauses))
-some_or_none r clauses budget h true e = (λ k q. let p : None ≡ Some k = sym (h.free e) ∙ q in absurd cc, λ q. e)
-some_or_none r clauses budget h false e =
-    (λ k q. let p : Some budget ≡ Some k = sym (h.budgeted e) ∙ q in same_item (Some k) k budget refl (sym p), λ q. let p : Some budget ≡ None = sym (h.budgeted e) ∙ q in absurd cc)
+not_free : (clauses more : List TreeClause) → is_function_free clauses ≡ false → is_function_free (clauses ++ more) ≡ false
+not_free clauses more e = ap not (list_any-append clause_applies clauses more) ∙ go (list_any clause_applies clauses) e
+  where
+    go : (b : Bool) → not b ≡ false → not (b || list_any clause_applies more) ≡ false
+    go true e = refl
+    go false e = absurd cc
+
+-- what is left is all of the budget, and there is one where the clauses are not function-free
+record IsKnown (left : Option ℕ) (clauses : List TreeClause) (budget : ℕ) : Type 0 where
+  all : (k : ℕ) → left ≡ Some k → k ≡ budget
+  free : left ≡ None → is_function_free clauses ≡ true
+  budgeted : (k : ℕ) → left ≡ Some k → is_function_free clauses ≡ false
+
+known : {S I C : Type 0} (r : Run S I C) (clauses : List TreeClause) (budget : ℕ) → IsAllowed r clauses budget → (b : Bool) → is_function_free clauses ≡ b → IsKnown r.left clauses budget
+known r clauses budget h true e = record {
+  all = λ k q. let p : None ≡ Some k = sym (h.free e) ∙ q in absurd cc;
+  free = λ q. e;
+  budgeted = λ k q. let p : None ≡ Some k = sym (h.free e) ∙ q in absurd cc;
+}
+known r clauses budget h false e = record {
+  all = λ k q. same_item r.left k budget q (h.budgeted e);
+  free = λ q. let p : Some budget ≡ None = sym (h.budgeted e) ∙ q in absurd cc;
+  budgeted = λ k q. e;
+}
 
 started_runs : {S I C : Type 0} (atoms : S → ℕ) (added : S → List (List (Signed ℕ))) (r : Run S I C) (clauses : List TreeClause) (budget : ℕ) → IsStarted atoms added r (with_axioms clauses)
     → IsAllowed r clauses budget → IsRunning atoms added r r.ground.abstraction.bot (with_axioms clauses) budget [] false
@@ -133,20 +154,22 @@ started_runs atoms added r clauses budget h allowed = record {
   linked = h.linked;
   bits = λ a. (
     λ i. absurd (contains_in a [] i),
-    λ s. let (n, p, q) = s in let e : slice_get [] n ≡ Some true = transport (λ (bs : List Bool). IsHeld bs n) h.valuation q in let l = slice_get_below {X = Bool} [] n true e in absurd (omega arith),
+    λ s. let (n, p, q) = s in let e : slice_get [] n ≡ Some true = transport (λ (bs : List Bool). IsHeld bs n) h.valuation q in let l = slice_get_below [] n true e in absurd (omega arith),
   );
   width = let e : length r.ground.valuation ≡ 0 = ap length h.valuation in omega arith;
   places =
       let e : length r.selection.places ≡ 0 = ap (λ (s : Placing). length s.places) h.selection in
       record { within = omega arith; placed = λ i l. absurd (omega arith) };
-  left = λ k e. transport (IsLeft budget (entries_of r)) (sym (known.0 k e)) (left_at_first 1 budget (with_axioms clauses) (entries_of r) h.first);
+  left = λ k e. transport (IsLeft budget (entries_of r)) (sym (first.all k e)) (left_at_first 1 budget (with_axioms clauses) (entries_of r) h.first);
   light = allowed.light;
-  free = λ e. with_axioms_function_free clauses (known.1 e);
+  free = λ e. with_axioms_function_free clauses (first.free e);
+  budgeted = λ k e. not_free clauses (equality_axioms clauses) (first.budgeted k e);
+  none_held = λ e. h.held;
   held = λ k e. transport (λ (hs : List code.Held). All (IsHeldBack (entries_of r) k) (held_in hs)) (sym h.held) (All-nil (IsHeldBack (entries_of r) k));
 }
   where
-    known : ((k : ℕ) → r.left ≡ Some k → k ≡ budget) × (r.left ≡ None → IsTrue (is_function_free clauses))
-    known = some_or_none r clauses budget allowed (is_function_free clauses) refl
+    first : IsKnown r.left clauses budget
+    first = known r clauses budget allowed (is_function_free clauses) refl
 
 pub starts_with : {S I C : Type 0} (atoms : S → ℕ) (added : S → List (List (Signed ℕ))) (old r : Run S I C) (clauses : List TreeClause) (budget : ℕ) → IsStarted atoms added r (with_axioms clauses)
     → IsAllowed old clauses budget → Continues old r → IsRunningWith atoms added r old.ground.abstraction.bot (with_axioms clauses) budget
