@@ -20,3 +20,6 @@ pub mod Settled
 pub mod Grounded
 pub mod Saturated
 pub mod Kept
+pub mod Grounding
+pub mod Printed
+pub mod Refuting

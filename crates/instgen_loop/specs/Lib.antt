@@ -9,3 +9,5 @@ pub mod Solves
 pub mod Outcomes
 pub mod Choosing
 pub mod Settling
+pub mod Starting
+pub mod Refuting

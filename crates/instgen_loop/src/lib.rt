@@ -10,14 +10,18 @@ pub mod entries;
 pub mod event;
 pub mod flips;
 pub mod ground;
+pub mod hand_over;
 pub mod infer;
 pub mod laws;
 pub mod outcome;
 pub mod queue;
+pub mod refuted;
 pub mod reselect;
 pub mod selection;
 pub mod settle;
+pub mod start;
 pub mod state;
+pub mod steps;
 pub mod work;
 
 pub use event::{Event, FlipList, Journal};
