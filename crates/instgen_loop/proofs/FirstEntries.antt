@@ -34,7 +34,8 @@ use Rattle.instgen_loop.specs.Clauses.{Item, AreEntries, entries_in, clauses_in}
 use Rattle.instgen_loop.specs.Grounds.{IsLinked}
 use Rattle.instgen_loop.specs.Loops.{items, after, KeepsLink}
 use Rattle.instgen_loop.specs.Running.{entries_of}
-use Rattle.instgen_loop.specs.FirstEntries.{MakesEntry, AreGiven, IsStarted}
+use Rattle.instgen_loop.specs.FirstEntries.{MakesEntry, IsStarted}
+use Rattle.instgen_loop.specs.Starting.{AreGiven}
 use Rattle.instgen_loop.proofs.Grown.{whole_kept, entries_stay}
 use Rattle.instgen_loop.proofs.Works.{after_more}
 

@@ -33,32 +33,30 @@ use Rattle.instgen_loop.specs.declared.queue.Partners.{Partners}
 use Rattle.instgen_loop.specs.declared.state.Run.{Run}
 use Rattle.instgen_loop.specs.declared.state.Held as code
 use Rattle.instgen_loop.specs.Clauses.{Item, AreEntries, AreFirsts, entries_in, clauses_in}
-use Rattle.instgen_loop.specs.Grounds.{IsLinked}
+use Rattle.instgen_loop.specs.Grounds.{IsLinked, IsUsed}
 use Rattle.instgen_loop.specs.Loops.{items, after, held_in, held_of, IsSafe, ArePartners}
-use Rattle.instgen_loop.specs.Running.{IsRunning, IsRunningWith, IsEventOf, event_in, entries_of, state_of}
+use Rattle.instgen_loop.specs.Running.{IsRunning, IsRunningFor, IsRunningWith, IsSolvedFor, IsEventOf, event_in, entries_of, state_of}
 use Rattle.instgen_loop.specs.Selections.{Placing, AreUsers}
-use Rattle.instgen_loop.specs.FirstEntries.{AreGiven, Continues, IsBare, IsStarted}
-use Rattle.instgen_loop.specs.Starting.{IsFresh, IsAllowed, IsGivenFor}
+use Rattle.instgen_loop.specs.FirstEntries.{Continues, IsStarted}
+use Rattle.instgen_loop.specs.Starting.{IsFresh, IsAllowed, IsGivenFor, AreGiven, IsOfProblem, IsSolvedProblem}
 use Rattle.instgen_loop.specs.declared.start.Given.{Given}
 use Rattle.instgen_loop.proofs.FirstEntries.{given_grown}
 use Rattle.instgen_loop.specs.Tended.{AreTended, AreOnce, indexed_of}
-use Rattle.instgen_loop.proofs.Tending.{above, there, after_once}
+use Rattle.instgen_loop.specs.Outcomes.{appended_count}
+use Rattle.instgen_loop.proofs.Bounded.{appended_bounded}
 
 module _ {S I C : Type 0} (atoms : S → ℕ) (added : S → List (List (Signed ℕ))) (pairs : I → List Pair) where
-  pub fresh_formed : (r : Run S I C) (bot : Sym) → IsFresh atoms added pairs r bot → AreFormed r.entries.bank
-  fresh_formed r bot h = transport AreFormed (sym h.bank) (λ i l. absurd (omega arith))
-
-  -- a bank of clauses, and nothing else yet
-  pub bare_run : (r : Run S I C) (bot : Sym) (g : Forest) → AreFormed g → IsFresh atoms added pairs r bot → IsBare atoms added pairs (record r { entries = record r.entries { bank = g } })
-  bare_run r bot g formed h = record {
+  -- the bank does not matter
+  pub fresh_interned : (r : Run S I C) (g : Forest) → AreFormed g → IsFresh atoms added pairs r → IsFresh atoms added pairs (record r { entries = record r.entries { bank = g } })
+  fresh_interned r g formed h = record {
     bank = formed;
-    entries = h.clauses;
+    entries = h.entries;
     first = h.first;
-    has_empty = h.nonempty;
-    ids = ap (λ (n : Numbering). n.ids) h.abstraction;
-    notes = ap (λ (n : Numbering). n.notes) h.abstraction;
-    no_atoms = h.atoms_none;
-    none_added = h.added_none;
+    has_empty = h.has_empty;
+    ids = h.ids;
+    notes = h.notes;
+    no_atoms = h.no_atoms;
+    none_added = h.none_added;
     literals = h.literals;
     valuation = h.valuation;
     selection = h.selection;
@@ -67,8 +65,8 @@ module _ {S I C : Type 0} (atoms : S → ℕ) (added : S → List (List (Signed 
     journal = h.journal;
   }
 
-  bare_numbered : (r : Run S I C) → IsBare atoms added pairs r → AreAtomsIn r.entries.bank r.ground.abstraction.ids
-  bare_numbered r h = transport (AreAtomsIn r.entries.bank) (sym h.ids) (record {
+  fresh_numbered : (r : Run S I C) → IsFresh atoms added pairs r → AreAtomsIn r.entries.bank r.ground.abstraction.ids
+  fresh_numbered r h = transport (AreAtomsIn r.entries.bank) (sym h.ids) (record {
     within = All-nil (λ n. n < length r.entries.bank.trees);
     atoms = record {
       once = λ i j a p q. let l = slice_get_below [] i a p in absurd (omega arith);
@@ -77,8 +75,8 @@ module _ {S I C : Type 0} (atoms : S → ℕ) (added : S → List (List (Signed 
     };
   })
 
-  pub bare_safe : (fits : Forest → I → Type 0) → ((f : Forest) (s : I) → pairs s ≡ [] → fits f s) → (r : Run S I C) → IsBare atoms added pairs r → IsSafe atoms pairs fits r
-  bare_safe fits empty r h = record {
+  pub fresh_safe : (fits : Forest → I → Type 0) → ((f : Forest) (s : I) → pairs s ≡ [] → fits f s) → (r : Run S I C) → IsFresh atoms added pairs r → IsSafe atoms pairs fits r
+  fresh_safe fits empty r h = record {
     entries = transport (AreEntries r.entries.bank) (sym h.entries) (record {
       formed = h.bank;
       ids = All-nil (λ (e : Item). IsClauseOf r.entries.bank e.0);
@@ -92,7 +90,7 @@ module _ {S I C : Type 0} (atoms : S → ℕ) (added : S → List (List (Signed 
       empty = λ t. let e : false ≡ true = sym h.has_empty ∙ t in absurd cc;
     });
     stored = empty r.entries.bank r.entries.first h.first;
-    numbered = bare_numbered r h;
+    numbered = fresh_numbered r h;
     notes = transport (AreNotesIn r.entries.bank r.ground.abstraction.bot) (sym h.notes) (λ i k e. absurd cc);
     count = h.no_atoms ∙ sym (ap length h.ids);
     waiting = transport (λ (ws : List Waiting). All (λ n. n ≤ length (items r)) (numbers ws)) (sym h.queue) (All-nil (λ n. n ≤ length (items r)));
@@ -100,14 +98,15 @@ module _ {S I C : Type 0} (atoms : S → ℕ) (added : S → List (List (Signed 
     placed = λ i l. let e : length r.selection.places ≡ 0 = ap (λ (s : Placing). length s.places) h.selection in absurd (omega arith);
   }
 
-  pub bare_started : (r : Run S I C) → IsBare atoms added pairs r → IsStarted atoms added r []
-  bare_started r h = record {
+  pub fresh_started : (r : Run S I C) → IsFresh atoms added pairs r → IsStarted atoms added r []
+  fresh_started r h = record {
     first = transport (IsFirst 1 [] []) (sym (ap (entries_in r.entries.bank) h.entries)) all_read;
     linked = record {
       constant = refl;
-      fits = bare_numbered r h;
+      fits = fresh_numbered r h;
       count = h.no_atoms ∙ sym (ap length h.ids);
       given = h.none_added ∙ sym h.literals;
+      used = transport (λ ids. All (IsUsed r.ground.abstraction.bot (clauses_in r.entries.bank (items r))) (atoms_in r.entries.bank ids)) (sym h.ids) (All-nil (IsUsed r.ground.abstraction.bot (clauses_in r.entries.bank (items r))));
       same = transport (λ ls. AreAbstracted r.ground.abstraction.bot (atoms_in r.entries.bank r.ground.abstraction.ids) ls (clauses_in r.entries.bank (items r))) (sym h.literals)
           (transport (λ (es : List Item). AreAbstracted r.ground.abstraction.bot (atoms_in r.entries.bank r.ground.abstraction.ids) [] (clauses_in r.entries.bank es)) (sym h.entries)
           (record { below = All-nil (λ (c : List (Signed ℕ)). All (λ l. l.atom < length (atoms_in r.entries.bank r.ground.abstraction.ids)) c); same = refl }));
@@ -172,18 +171,39 @@ started_runs atoms added r clauses budget h allowed = record {
     first = known r clauses budget allowed (is_function_free clauses) refl
 
 pub starts_with : {S I C : Type 0} (atoms : S → ℕ) (added : S → List (List (Signed ℕ))) (old r : Run S I C) (clauses : List TreeClause) (budget : ℕ) → IsStarted atoms added r (with_axioms clauses)
-    → IsAllowed old clauses budget → Continues old r → IsRunningWith atoms added r old.ground.abstraction.bot (with_axioms clauses) budget
-starts_with atoms added old r clauses budget h allowed k = (
-  [],
-  false,
-  transport (λ (b : Sym). IsRunning atoms added r b (with_axioms clauses) budget [] false) k.bot
-      (started_runs atoms added r clauses budget h (record { free = λ e. k.left ∙ allowed.free e; budgeted = λ e. k.left ∙ allowed.budgeted e; light = allowed.light })),
-)
+    → IsAllowed old clauses budget → Continues old r → IsRunningWith atoms added r r.ground.abstraction.bot (with_axioms clauses) budget
+starts_with atoms added old r clauses budget h allowed k =
+    ([], false, started_runs atoms added r clauses budget h (record { free = λ e. k.left ∙ allowed.free e; budgeted = λ e. k.left ∙ allowed.budgeted e; light = allowed.light }))
 
--- What start answers
+-- What stays of the problem
 
-pub given_for : (f g : Forest) → Extends f g → (given : Given) (clauses : List TreeClause) → AreGiven f given.inputs clauses → AreGiven f given.axioms (equality_axioms clauses) → IsGivenFor g clauses given
-given_for f g grown given clauses a b =
-    let c = given_grown f g grown given.inputs clauses a in
-    let d = given_grown f g grown given.axioms (equality_axioms clauses) b in
-    record { inputs = c.same; axioms = d.same; whole_inputs = c.whole; whole_axioms = d.whole }
+pub problem_later : {S I C : Type 0} (old new : Run S I C) (g : Given) (clauses : List TreeClause) (names : List (List ℕ)) → Extends old.entries.bank new.entries.bank → new.ground.abstraction.bot ≡ old.ground.abstraction.bot
+    → IsOfProblem old g clauses names → IsOfProblem new g clauses names
+problem_later old new g clauses names grown bot h = record {
+  inputs = given_grown old.entries.bank new.entries.bank grown g.inputs clauses h.inputs;
+  named = h.named;
+  axioms = given_grown old.entries.bank new.entries.bank grown g.axioms (equality_axioms clauses) h.axioms;
+  bot = transport (IsBot clauses) (sym bot) h.bot;
+  constant = transport (λ (s : Sym). IsTrue (is_constant s)) (sym bot) h.constant;
+  readable = transport (λ (s : Sym). IsTrue (is_readable_name s.name)) (sym bot) h.readable;
+}
+
+pub given_of : {S I C : Type 0} (r : Run S I C) (g : Given) (clauses : List TreeClause) (names : List (List ℕ)) → IsOfProblem r g clauses names → IsGivenFor r.entries.bank clauses g
+given_of r g clauses names h = record { inputs = h.inputs.same; axioms = h.axioms.same; whole_inputs = h.inputs.whole; whole_axioms = h.axioms.whole }
+
+pub solved_problem : {S I C : Type 0} (atoms : S → ℕ) (added : S → List (List (Signed ℕ))) (r : Run S I C) (g : Given) (clauses : List TreeClause) (names : List (List ℕ)) (budget : ℕ) → IsOfProblem r g clauses names
+    → IsSolvedFor atoms added r (with_axioms clauses) budget → IsSolvedProblem atoms added r clauses budget
+solved_problem atoms added r g clauses names budget p (bot, v, h) = (bot, transport (IsBot clauses) h.linked.constant p.bot, v, h)
+
+-- the run's constant is the one that it began with
+pub same_constant : {S I C : Type 0} (atoms : S → ℕ) (added : S → List (List (Signed ℕ))) (r : Run S I C) (bot : Sym) (cs : List TreeClause) (budget : ℕ) → IsRunningWith atoms added r bot cs budget → r.ground.abstraction.bot ≡ bot
+same_constant atoms added r bot cs budget (v, b, h) = h.linked.constant
+
+-- no more entries were appended than the budget has symbols, where there is one
+pub appended_within : {S I C : Type 0} (atoms : S → ℕ) (added : S → List (List (Signed ℕ))) (r : Run S I C) (clauses : List TreeClause) (budget : ℕ) → IsRunningFor atoms added r (with_axioms clauses) budget
+    → IsFalse (is_function_free clauses) → appended_count r.journal ≤ budget
+appended_within atoms added r clauses budget (bot, v, b, h) functions = go r.left refl
+  where
+    go : (o : Option ℕ) → r.left ≡ o → appended_count r.journal ≤ budget
+    go None e = let f = h.free e in let n = not_free clauses (equality_axioms clauses) functions in absurd cc
+    go (Some k) e = appended_bounded atoms added r bot (with_axioms clauses) budget v b h k e

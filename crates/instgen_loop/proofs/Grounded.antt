@@ -99,7 +99,7 @@ module _ {S I C : Type 0} (atoms : S → ℕ) (added : S → List (List (Signed 
   asked_running bot cs budget v b h = record {
     events = h.events;
     replays = h.replays;
-    linked = record { constant = h.linked.constant; fits = h.linked.fits; count = same_atoms ∙ h.linked.count; given = same_added ∙ h.linked.given; same = h.linked.same };
+    linked = record { constant = h.linked.constant; fits = h.linked.fits; count = same_atoms ∙ h.linked.count; given = same_added ∙ h.linked.given; same = h.linked.same; used = h.linked.used };
     bits = h.bits;
     width = h.width;
     places = h.places;

@@ -23,3 +23,6 @@ pub mod Grounded
 pub mod Saturated
 pub mod Kept
 pub mod Started
+pub mod Grounding
+pub mod Printed
+pub mod Refuting

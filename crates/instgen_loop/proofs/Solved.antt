@@ -31,6 +31,7 @@ use Rattle.ground_abs.specs.Abstracts.{atoms_in, AreAtomsIn}
 use Rattle.ground_abs.specs.Numbering.{Numbering}
 use Rattle.inst_machine.specs.Budget.{IsLeft}
 use Rattle.engine_laws.specs.Pairs.{IsHeldBack}
+use Rattle.instgen_loop.specs.Grounds.{IsUsed}
 use Rattle.instgen_loop.specs.Loops.{held_in}
 use Rattle.instgen_loop.specs.declared.entries.Entries.{Entries}
 use Rattle.saturation_cert.specs.Values.{origin_of}
@@ -96,6 +97,8 @@ running_solved atoms added old new flips solves holds bot cs budget v b h =
         same = transport (λ (e : Entries _ _). AreAbstracted bot (atoms_in e.bank new.ground.abstraction.ids) new.ground.literals (clauses_in e.bank e.clauses.entries)) (sym solves.entries)
             (transport (λ (a : Numbering). AreAbstracted bot (atoms_in f a.ids) new.ground.literals (clauses_in f (items old))) (sym solves.numbering)
             (transport (λ ls. AreAbstracted bot (atoms_in f ids) ls (clauses_in f (items old))) (sym solves.literals) h.linked.same));
+        used = transport (λ (e : Entries _ _). All (IsUsed bot (clauses_in e.bank e.clauses.entries)) (atoms_in e.bank new.ground.abstraction.ids)) (sym solves.entries)
+            (transport (λ (a : Numbering). All (IsUsed bot (clauses_in f (items old))) (atoms_in f a.ids)) (sym solves.numbering) h.linked.used);
       };
       bits = transport (λ (e : Entries _ _). IsValuationOf (atoms_in e.bank new.ground.abstraction.ids) new.ground.valuation w) (sym solves.entries)
           (transport (λ (a : Numbering). IsValuationOf (atoms_in f a.ids) new.ground.valuation w) (sym solves.numbering) bits);

@@ -44,34 +44,10 @@ all_wait pairs r p positive negative waiting = record {
     none : (n : ℕ) → ¬ Contains (indexed_of pairs p) n
     none n i = contains_in n [] (transport (λ (qs : List Pair). Contains (map (λ (q : Pair). q.1) qs) n) (ap₂ (λ (xs ys : List Pair). xs ++ ys) positive negative) i)
 
--- What was given stays
-
-wholes_later : (f g : Forest) → Extends f g → (cs : List (List (Signed ℕ))) → All (IsWholeClause f) cs → All (IsWholeClause g) cs
-wholes_later f g e cs h = in_all (IsWholeClause g) cs (λ c i. whole_kept f g e c (all_in (IsWholeClause f) cs h c i))
-
-clauses_later : (f g : Forest) → Extends f g → (cs : List (List (Signed ℕ))) → All (IsWholeClause f) cs → map (clause_at g) cs ≡ map (clause_at f) cs
-clauses_later f g e [] h = refl
-clauses_later f g e (c ∷ cs) h =
-    ap₂ (λ (d : TreeClause) ds. d ∷ ds) (clause_extends f g e c (All-head (IsWholeClause f) c cs h).ids) (clauses_later f g e cs (All-tail (IsWholeClause f) c cs h))
-
-pub given_later : (f g : Forest) (clauses : List TreeClause) (given : Given) → Extends f g → IsGivenFor f clauses given → IsGivenFor g clauses given
-given_later f g clauses given e h = record {
-  inputs = clauses_later f g e given.inputs h.whole_inputs ∙ h.inputs;
-  axioms = clauses_later f g e given.axioms h.whole_axioms ∙ h.axioms;
-  whole_inputs = wholes_later f g e given.inputs h.whole_inputs;
-  whole_axioms = wholes_later f g e given.axioms h.whole_axioms;
-}
-
 -- Printable clauses are well formed
 
 pub printable_formed : (cs : List TreeClause) → All IsPrintableClause cs → AreFormedClauses cs
 printable_formed cs h = all_pass clause_is_formed cs (λ c i. (all_in IsPrintableClause cs h c i).formed)
-
--- The constant is that of the abstraction
-
-pub constant_kept : {S I C : Type 0} (atoms : S → ℕ) (added : S → List (List (Signed ℕ))) (r : Run S I C) (clauses : List TreeClause) (budget : ℕ) (bot : Sym) → IsBot clauses bot
-    → IsRunningWith atoms added r bot (with_axioms clauses) budget → IsSolvedFor atoms added r (with_axioms clauses) budget → IsSolvedProblem atoms added r clauses budget
-constant_kept atoms added r clauses budget bot is (w, b, k) (other, v, h) = (other, transport (IsBot clauses) (sym k.linked.constant ∙ h.linked.constant) is, v, h)
 
 -- Function-free clauses are decided
 

@@ -31,33 +31,11 @@ pub record MakesEntry {S I C : Type 0} (old new : Run S I C) (clause : List (Sig
   pub left : new.left ≡ old.left
   pub bindings : new.bindings ≡ old.bindings
 
--- the ids are those of atoms of the bank, and stand for these clauses
-pub record AreGiven (f : Forest) (ids : List (List (Signed ℕ))) (cs : List TreeClause) : Type 0 where
-  pub whole : All (IsWholeClause f) ids
-  pub same : map (clause_at f) ids ≡ cs
-
 -- the bank may have grown, and the constant and what is left are the same
 pub record Continues {S I C : Type 0} (old new : Run S I C) : Type 0 where
   pub bank : Extends old.entries.bank new.entries.bank
   pub bot : new.ground.abstraction.bot ≡ old.ground.abstraction.bot
   pub left : new.left ≡ old.left
-
--- nothing happened yet, and there are no entries
-pub record IsBare {S I C : Type 0} (atoms : S → ℕ) (added : S → List (List (Signed ℕ))) (pairs : I → List Pair) (r : Run S I C) : Type 0 where
-  pub bank : AreFormed r.entries.bank
-  pub entries : items r ≡ []
-  pub first : pairs r.entries.first ≡ []
-  pub has_empty : r.entries.has_empty ≡ false
-  pub ids : r.ground.abstraction.ids ≡ []
-  pub notes : r.ground.abstraction.notes ≡ []
-  pub no_atoms : atoms r.ground.solver ≡ 0
-  pub none_added : added r.ground.solver ≡ []
-  pub literals : r.ground.literals ≡ []
-  pub valuation : r.ground.valuation ≡ []
-  pub selection : r.selection ≡ record { places = []; users = [] }
-  pub queue : r.queue.items ≡ []
-  pub held : r.held.items ≡ []
-  pub journal : r.journal ≡ []
 
 -- the entries are the first ones of the clauses, all of them wait, and nothing else happened yet
 pub record IsStarted {S I C : Type 0} (atoms : S → ℕ) (added : S → List (List (Signed ℕ))) (r : Run S I C) (cs : List TreeClause) : Type 0 where

@@ -11,3 +11,4 @@ pub mod Outcomes
 pub mod Choosing
 pub mod Settling
 pub mod Starting
+pub mod Refuting

@@ -11,6 +11,7 @@ pub mod event;
 pub mod finish;
 pub mod flips;
 pub mod ground;
+pub mod hand_over;
 pub mod infer;
 pub mod laws;
 pub mod outcome;
@@ -21,6 +22,7 @@ pub mod selection;
 pub mod settle;
 pub mod start;
 pub mod state;
+pub mod steps;
 pub mod work;
 
 pub use event::{Event, FlipList, Journal};

@@ -3,7 +3,7 @@ ghost use Rattle.std.specs.Prelude.{◌≡◌, ◌≤◌, [], length, true, fals
 ghost use Rattle.inst_logic.specs.Measure.{is_function_free};
 ghost use Rattle.inst_logic.specs.Printing.{is_readable_name};
 ghost use Rattle.cert_format.specs.Printable.{IsPrintableClause};
-ghost use Rattle.inst_logic.specs.declared.symbol.Sym.{Sym};
+ghost use Rattle.inst_logic.specs.WellFormed.{is_constant};
 ghost use Rattle.inst_calculus.specs.Abstraction.{IsBot};
 ghost use Rattle.instgen_loop.specs.Starting.{IsFresh, IsAllowed};
 ghost use Rattle.instgen_loop.specs.Outcomes.{IsOutcome, IsDecided, appended_count, journal_of};
@@ -51,8 +51,11 @@ fn drive<S: Solver, I: PartnerIndex>(
     p: &Problem,
     budget: u64,
 ) -> Result<Outcome, Memory>
-    requires fresh { (bot : Sym) × IsFresh S.atoms S.added I.pairs run.old bot × IsBot p.now.clauses bot }
+    requires fresh { IsFresh S.atoms S.added I.pairs run.old }
     requires allowed { IsAllowed run.old p.now.clauses budget }
+    requires bot { IsBot p.now.clauses run.old.ground.abstraction.bot }
+    requires constant { IsTrue (is_constant run.old.ground.abstraction.bot) }
+    requires bot_name { IsTrue (is_readable_name run.old.ground.abstraction.bot.name) }
     requires positive { I.pairs partners.old.positive ≡ [] }
     requires negative { I.pairs partners.old.negative ≡ [] }
     requires clauses { All IsPrintableClause p.now.clauses }
@@ -63,7 +66,7 @@ fn drive<S: Solver, I: PartnerIndex>(
 {
     let given = start(alloc, run, p, budget)?;
     match cycle(alloc, run, partners, p, budget)? {
-        Some(derivation) => refuted(alloc, run, p, given, &derivation, budget),
+        Some(derivation) => refuted(alloc, p, run, given, derivation, budget),
         None => finish(alloc, run, partners, p, given, budget),
     }
 }

@@ -3,6 +3,8 @@ ghost use Rattle.std.specs.Prelude.{◌≡◌, ◌≤◌, ◌+◌, ◌++◌, ◌
 ghost use Rattle.inst_logic.specs.declared.symbol.Sym.{Sym};
 ghost use Rattle.inst_logic.specs.Clauses.{TreeClause, IsCanonical};
 ghost use Rattle.inst_logic.specs.WellFormed.{AreFormedClauses, is_constant};
+ghost use Rattle.inst_logic.specs.Printing.{is_readable_name};
+ghost use Rattle.inst_calculus.specs.Abstraction.{IsBot};
 ghost use Rattle.inst_calculus.specs.Axioms.{equality_axioms, with_axioms};
 ghost use Rattle.term_bank.specs.Forest.{AreFormed, Extends, clause_at};
 ghost use Rattle.saturation_cert.specs.Wholes.{IsWholeClause};
@@ -10,8 +12,8 @@ ghost use Rattle.cert_format.specs.Printable.{IsPrintableClause};
 ghost use Rattle.instgen_select.specs.Queues.{numbers};
 ghost use Rattle.instgen_loop.specs.Loops.{IsSafe, items, after};
 ghost use Rattle.instgen_loop.specs.Running.{IsRunningWith};
-ghost use Rattle.instgen_loop.specs.Starting.{IsFresh, IsAllowed, IsGivenFor};
-ghost use Rattle.instgen_loop.specs.FirstEntries.{AreGiven, Continues, IsStarted};
+ghost use Rattle.instgen_loop.specs.Starting.{IsFresh, IsAllowed, AreGiven, IsOfProblem};
+ghost use Rattle.instgen_loop.specs.FirstEntries.{Continues, IsStarted};
 
 use crate::entries::Entries;
 use crate::event::Journal;
@@ -22,7 +24,7 @@ use clause_form::{clause_size, tautology};
 use equality_axioms::axioms_of;
 use ground_abs::Abstraction;
 use indexmap::IndexMap;
-use inst_logic::{ClauseList, Memory, Problem, Sym};
+use inst_logic::{ClauseList, Memory, NameList, Problem, Sym};
 use instgen_select::Queue;
 use prop_logic::{LitLists, Solver, Valuation};
 use saturation_cert::Origin;
@@ -31,10 +33,12 @@ use term_bank::{Bank, IdClause, IdClauseList};
 use term_index::PartnerIndex;
 use unify_core::Bindings;
 
-/// The clauses of the problem and its axioms of equality, over the bank of a run.
+/// What certificates tell of the problem: its clauses and its axioms of equality, over the bank of a run, and the names of the
+/// clauses.
 #[derive(Drop)]
 pub struct Given {
     pub inputs: IdClauseList,
+    pub names: NameList,
     pub axioms: IdClauseList,
 }
 
@@ -64,7 +68,8 @@ pub fn new_run<S: Solver, I: PartnerIndex>(
     requires atoms { S.atoms solver ≡ 0 }
     requires added { S.added solver ≡ [] }
     requires first { I.pairs first ≡ [] }
-    ensures fresh { IsFresh S.atoms S.added I.pairs result bot }
+    ensures fresh { IsFresh S.atoms S.added I.pairs result }
+    ensures bot { result.ground.abstraction.bot ≡ bot }
     ensures left { result.left ≡ left }
 {
     Run {
@@ -97,6 +102,16 @@ fn interned(alloc: Global, bank: &mut Bank, clauses: &ClauseList) -> Result<IdCl
         ids.push(bank.clause(c)?)?;
     }
     Ok(ids)
+}
+
+fn copied_names(alloc: Global, names: &NameList) -> Result<NameList, Memory>
+    ensures { IfOk result (λ copy. copy ≡ names.now) }
+{
+    let mut copy = NameList::new(alloc);
+    for name in names.as_slice() {
+        copy.push(name.clone()?)?;
+    }
+    Ok(copy)
 }
 
 fn copied_clause(alloc: Global, c: &IdClause) -> Result<IdClause, Memory>
@@ -171,6 +186,7 @@ fn given_in(alloc: Global, bank: &mut Bank, p: &Problem) -> Result<Given, Memory
     requires formed { AreFormed bank.old }
     requires clauses { AreFormedClauses p.now.clauses }
     ensures inputs { IfOk result (λ g. AreGiven bank.new g.inputs p.now.clauses) }
+    ensures names { IfOk result (λ g. g.names ≡ p.now.names) }
     ensures axioms { IfOk result (λ g. AreGiven bank.new g.axioms (equality_axioms p.now.clauses)) }
     ensures extends { Extends bank.old bank.new }
     ensures formed { AreFormed bank.new }
@@ -178,7 +194,12 @@ fn given_in(alloc: Global, bank: &mut Bank, p: &Problem) -> Result<Given, Memory
     let inputs = interned(alloc, bank, &p.clauses)?;
     let axioms = axioms_of(alloc, p)?;
     let axioms = interned(alloc, bank, &axioms)?;
-    Ok(Given { inputs, axioms })
+    let names = copied_names(alloc, &p.names)?;
+    Ok(Given {
+        inputs,
+        names,
+        axioms,
+    })
 }
 
 /// Gives a run its first entries, which all wait: the problem's clauses and then their axioms of equality, without tautologies and
@@ -189,14 +210,17 @@ pub fn start<S: Solver, I: PartnerIndex>(
     p: &Problem,
     _budget: u64,
 ) -> Result<Given, Memory>
-    requires fresh { (bot : Sym) × IsFresh S.atoms S.added I.pairs run.old bot }
+    requires fresh { IsFresh S.atoms S.added I.pairs run.old }
     requires allowed { IsAllowed run.old p.now.clauses _budget }
+    requires bot { IsBot p.now.clauses run.old.ground.abstraction.bot }
+    requires constant { IsTrue (is_constant run.old.ground.abstraction.bot) }
+    requires readable { IsTrue (is_readable_name run.old.ground.abstraction.bot.name) }
     requires clauses { All IsPrintableClause p.now.clauses }
-    ensures given { IfOk result (IsGivenFor run.new.entries.bank p.now.clauses) }
+    ensures problem { IfOk result (λ g. IsOfProblem run.new g p.now.clauses p.now.names) }
     ensures safe { OnOk result (IsSafe S.atoms I.pairs I.fits run.new) }
     ensures waiting { OnOk result (numbers run.new.queue.items ≡ after 0 (length (items run.new))) }
     ensures selection { OnOk result (run.new.selection ≡ record { places = []; users = [] }) }
-    ensures running { OnOk result (IsRunningWith S.atoms S.added run.new run.old.ground.abstraction.bot (with_axioms p.now.clauses) _budget) }
+    ensures running { OnOk result (IsRunningWith S.atoms S.added run.new run.new.ground.abstraction.bot (with_axioms p.now.clauses) _budget) }
 {
     let given = given_in(alloc, &mut run.entries.bank, p)?;
     start_entries(alloc, run, &given.inputs, 0)?;

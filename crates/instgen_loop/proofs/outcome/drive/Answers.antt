@@ -1,10 +1,13 @@
-use Rattle.std.proofs.Common.{ap, sym, subst, rules}
-use Rattle.inst_logic.specs.declared.symbol.Sym.{Sym}
+use Rattle.std.proofs.Common.{◌≡◌, ◌≤◌, sym, subst, rules}
+use Rattle.std.specs.Prelude.{IfOk, IsFalse}
+use Rattle.std.proofs.lemmas.Result.{IfOk-weaker}
+use Rattle.inst_logic.specs.Measure.{is_function_free}
 use Rattle.inst_calculus.specs.Axioms.{with_axioms}
 use Rattle.inst_calculus.proofs.EqualityAxioms.{with_axioms_formed}
-use Rattle.ground_abs.specs.Numbering.{Numbering}
-use Rattle.instgen_loop.specs.Running.{IsRunningWith}
-use Rattle.instgen_loop.proofs.Started.{all_wait, given_later, printable_formed, constant_kept}
+use Rattle.instgen_loop.specs.declared.outcome.Outcome.{Outcome}
+use Rattle.instgen_loop.specs.Outcomes.{appended_count, journal_of}
+use Rattle.instgen_loop.proofs.Started.{all_wait, printable_formed}
+use Rattle.instgen_loop.proofs.FreshRuns.{problem_later, given_of, solved_problem, same_constant, appended_within}
 use Rattle.instgen_loop.proofs.outcome.drive.Goals as goal
 
 pub cycle-requires-clause-tended : goal.cycle-requires-clause-tended
@@ -13,21 +16,32 @@ cycle-requires-clause-tended g c = all_wait g.I.PartnerIndex.pairs c.start.new.r
 pub cycle-requires-clause-formed : goal.cycle-requires-clause-formed
 cycle-requires-clause-formed g c = with_axioms_formed c.args.p.now.clauses (printable_formed c.args.p.now.clauses c.requires.clauses)
 
-pub refuted-requires-clause-running : goal.refuted-requires-clause-running
-refuted-requires-clause-running g c =
-    let (bot, fresh, is) = c.requires.fresh in
-    (bot, is, c.in_ok-derivation.ensures.kept bot (subst (λ (b : Sym). IsRunningWith g.S.Solver.atoms g.S.Solver.added c.start.new.run b (with_axioms c.args.p.now.clauses) c.args.budget) (ap (λ (a : Numbering). a.bot) fresh.abstraction) c.in_ok-given.ensures.running))
-
-pub refuted-requires-clause-given : goal.refuted-requires-clause-given
-refuted-requires-clause-given g c = given_later c.start.new.run.entries.bank c.cycle.new.run.entries.bank c.args.p.now.clauses c.in_ok-given.given c.in_ok-derivation.ensures.bank c.in_ok-given.ensures.given
+pub refuted-requires-clause-problem : goal.refuted-requires-clause-problem
+refuted-requires-clause-problem g c =
+    let d = c.in_ok-derivation.ensures in
+    let clauses = c.args.p.now.clauses in
+    let old = c.start.new.run in
+    let new = c.cycle.new.run in
+    problem_later old new c.in_ok-given.given clauses c.args.p.now.names d.bank
+    (same_constant g.S.Solver.atoms g.S.Solver.added new old.ground.abstraction.bot (with_axioms clauses) c.args.budget (d.kept old.ground.abstraction.bot c.in_ok-given.ensures.running)) c.in_ok-given.ensures.problem
 
 pub finish-requires-clause-running : goal.finish-requires-clause-running
 finish-requires-clause-running g c =
-    let (bot, fresh, is) = c.requires.fresh in
-    let rests = rw c.in-None.is at c.in_ok-derivation.ensures.rests in
-    constant_kept g.S.Solver.atoms g.S.Solver.added c.cycle.new.run c.args.p.now.clauses c.args.budget bot is
-    (c.in_ok-derivation.ensures.kept bot (subst (λ (b : Sym). IsRunningWith g.S.Solver.atoms g.S.Solver.added c.start.new.run b (with_axioms c.args.p.now.clauses) c.args.budget) (ap (λ (a : Numbering). a.bot) fresh.abstraction) c.in_ok-given.ensures.running))
+    let d = c.in_ok-derivation.ensures in
+    let clauses = c.args.p.now.clauses in
+    let old = c.start.new.run in
+    let new = c.cycle.new.run in
+    let rests = rw c.in-None.is at d.rests in
+    solved_problem g.S.Solver.atoms g.S.Solver.added new c.in_ok-given.given clauses c.args.p.now.names c.args.budget
+    (problem_later old new c.in_ok-given.given clauses c.args.p.now.names d.bank
+    (same_constant g.S.Solver.atoms g.S.Solver.added new old.ground.abstraction.bot (with_axioms clauses) c.args.budget (d.kept old.ground.abstraction.bot c.in_ok-given.ensures.running)) c.in_ok-given.ensures.problem)
     rests.2
 
 pub finish-requires-clause-given : goal.finish-requires-clause-given
-finish-requires-clause-given g c = given_later c.start.new.run.entries.bank c.cycle.new.run.entries.bank c.args.p.now.clauses c.in_ok-given.given c.in_ok-derivation.ensures.bank c.in_ok-given.ensures.given
+finish-requires-clause-given g c =
+    let d = c.in_ok-derivation.ensures in
+    let clauses = c.args.p.now.clauses in
+    let old = c.start.new.run in
+    let new = c.cycle.new.run in
+    given_of new c.in_ok-given.given clauses c.args.p.now.names (problem_later old new c.in_ok-given.given clauses c.args.p.now.names d.bank
+    (same_constant g.S.Solver.atoms g.S.Solver.added new old.ground.abstraction.bot (with_axioms clauses) c.args.budget (d.kept old.ground.abstraction.bot c.in_ok-given.ensures.running)) c.in_ok-given.ensures.problem)

@@ -7,12 +7,9 @@ use Rattle.term_bank.specs.Forest.{clause_at}
 use Rattle.term_bank.proofs.Growth.{extends_trans}
 use Rattle.instgen_loop.specs.FirstEntries.{IsStarted}
 use Rattle.instgen_loop.proofs.FirstEntries.{given_grown, given_canonical, printable_canonical}
-use Rattle.instgen_loop.proofs.FreshRuns.{fresh_formed, bare_run, bare_safe, bare_started, starts_with, given_for}
+use Rattle.instgen_loop.proofs.FreshRuns.{fresh_interned, fresh_safe, fresh_started, starts_with, problem_later}
 use Rattle.instgen_loop.proofs.Started.{printable_formed}
 use Rattle.instgen_loop.proofs.start.start.Goals as goal
-
-pub given_in-requires-clause-formed : goal.given_in-requires-clause-formed
-given_in-requires-clause-formed g c = fresh_formed g.S.Solver.atoms g.S.Solver.added g.I.PartnerIndex.pairs c.args.run.now c.requires.fresh.0 c.requires.fresh.1
 
 pub given_in-requires-clause-clauses : goal.given_in-requires-clause-clauses
 given_in-requires-clause-clauses g c = printable_formed c.args.p.now.clauses c.requires.clauses
@@ -23,8 +20,8 @@ start_entries-requires-clause-safe g c =
     let added = g.S.Solver.added in
     let index = g.I.PartnerIndex in
     let run = c.args.run.now in
-    bare_safe atoms added index.pairs index.fits g.met.I.PartnerIndex.empty_fits (record run { entries = record run.entries { bank = c.given_in.new.bank } })
-    (bare_run atoms added index.pairs run c.requires.fresh.0 c.given_in.new.bank c.given_in.ensures.formed c.requires.fresh.1)
+    fresh_safe atoms added index.pairs index.fits g.met.I.PartnerIndex.empty_fits (record run { entries = record run.entries { bank = c.given_in.new.bank } })
+    (fresh_interned atoms added index.pairs run c.given_in.new.bank c.given_in.ensures.formed c.requires.fresh)
 
 pub start_entries-requires-clause-canonical : goal.start_entries-requires-clause-canonical
 start_entries-requires-clause-canonical g c =
@@ -51,7 +48,7 @@ returns-clause-waiting g c =
     let f = c.start_entries.new.run.entries.bank in
     let clauses = c.args.p.now.clauses in
     let given = c.in_ok-given.given in
-    let empty = bare_started atoms added pairs (record run { entries = record run.entries { bank = mid } }) (bare_run atoms added pairs run c.requires.fresh.0 mid c.given_in.ensures.formed c.requires.fresh.1) in
+    let empty = fresh_started atoms added pairs (record run { entries = record run.entries { bank = mid } }) (fresh_interned atoms added pairs run mid c.given_in.ensures.formed c.requires.fresh) in
     let first = c.in_ok-start_entries.ensures.started [] refl empty in
     let all = c.in_ok-start_entries-2.ensures.started (map (clause_at mid) given.inputs) (c.len.ensures ∙ sym (length_map (clause_at mid) given.inputs)) first in
     let later = given_grown mid f c.in_ok-start_entries.ensures.continues.bank given.axioms (equality_axioms clauses) c.in_ok-given.ensures.axioms in
@@ -69,7 +66,7 @@ returns-clause-selection g c =
     let f = c.start_entries.new.run.entries.bank in
     let clauses = c.args.p.now.clauses in
     let given = c.in_ok-given.given in
-    let empty = bare_started atoms added pairs (record run { entries = record run.entries { bank = mid } }) (bare_run atoms added pairs run c.requires.fresh.0 mid c.given_in.ensures.formed c.requires.fresh.1) in
+    let empty = fresh_started atoms added pairs (record run { entries = record run.entries { bank = mid } }) (fresh_interned atoms added pairs run mid c.given_in.ensures.formed c.requires.fresh) in
     let first = c.in_ok-start_entries.ensures.started [] refl empty in
     let all = c.in_ok-start_entries-2.ensures.started (map (clause_at mid) given.inputs) (c.len.ensures ∙ sym (length_map (clause_at mid) given.inputs)) first in
     let later = given_grown mid f c.in_ok-start_entries.ensures.continues.bank given.axioms (equality_axioms clauses) c.in_ok-given.ensures.axioms in
@@ -87,7 +84,7 @@ returns-clause-running g c =
     let f = c.start_entries.new.run.entries.bank in
     let clauses = c.args.p.now.clauses in
     let given = c.in_ok-given.given in
-    let empty = bare_started atoms added pairs (record run { entries = record run.entries { bank = mid } }) (bare_run atoms added pairs run c.requires.fresh.0 mid c.given_in.ensures.formed c.requires.fresh.1) in
+    let empty = fresh_started atoms added pairs (record run { entries = record run.entries { bank = mid } }) (fresh_interned atoms added pairs run mid c.given_in.ensures.formed c.requires.fresh) in
     let first = c.in_ok-start_entries.ensures.started [] refl empty in
     let all = c.in_ok-start_entries-2.ensures.started (map (clause_at mid) given.inputs) (c.len.ensures ∙ sym (length_map (clause_at mid) given.inputs)) first in
     let later = given_grown mid f c.in_ok-start_entries.ensures.continues.bank given.axioms (equality_axioms clauses) c.in_ok-given.ensures.axioms in
@@ -98,8 +95,13 @@ returns-clause-running g c =
     starts_with atoms added run c.start_entries-2.new.run clauses c.args._budget started c.requires.allowed
     (record { bank = extends_trans run.entries.bank mid c.start_entries-2.new.run.entries.bank c.given_in.ensures.extends (extends_trans mid f c.start_entries-2.new.run.entries.bank a.bank b.bank); bot = b.bot ∙ a.bot; left = b.left ∙ a.left })
 
-pub returns-clause-given : goal.returns-clause-given
-returns-clause-given g c =
+pub returns-clause-problem : goal.returns-clause-problem
+returns-clause-problem g c =
     let a = c.in_ok-start_entries.ensures.continues in
     let b = c.in_ok-start_entries-2.ensures.continues in
-    given_for c.given_in.new.bank c.start_entries-2.new.run.entries.bank (extends_trans c.given_in.new.bank c.start_entries.new.run.entries.bank c.start_entries-2.new.run.entries.bank a.bank b.bank) c.in_ok-given.given c.args.p.now.clauses c.in_ok-given.ensures.inputs c.in_ok-given.ensures.axioms
+    let e = c.in_ok-given.ensures in
+    let run = c.args.run.now in
+    let mid = c.given_in.new.bank in
+    let last = c.start_entries-2.new.run in
+    problem_later (record run { entries = record run.entries { bank = mid } }) last c.in_ok-given.given c.args.p.now.clauses c.args.p.now.names (extends_trans mid c.start_entries.new.run.entries.bank last.entries.bank a.bank b.bank) (b.bot ∙ a.bot)
+    (record { inputs = e.inputs; named = e.names; axioms = e.axioms; bot = c.requires.bot; constant = c.requires.constant; readable = c.requires.readable })
