@@ -2,7 +2,7 @@ use Rattle.std.proofs.Common.{◌<◌, ◌+◌, length, arith, sym, subst, take,
 use Rattle.inst_logic.specs.declared.signed.Signed.{Signed}
 use Rattle.inst_logic.specs.WellFormed.{AreFormedClauses}
 use Rattle.term_bank.proofs.Growth.{extends_trans}
-use Rattle.instgen_loop.specs.FirstEntries.{AreGiven}
+use Rattle.instgen_loop.specs.Starting.{AreGiven}
 use Rattle.instgen_loop.proofs.FirstEntries.{one_more_given, formed_at}
 use Rattle.instgen_loop.proofs.start.interned.Goals as goal
 

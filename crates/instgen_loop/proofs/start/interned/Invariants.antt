@@ -1,6 +1,6 @@
 use Rattle.std.proofs.Common.{take}
 use Rattle.term_bank.specs.Forest.{AreFormed, Extends}
-use Rattle.instgen_loop.specs.FirstEntries.{AreGiven}
+use Rattle.instgen_loop.specs.Starting.{AreGiven}
 use Rattle.instgen_loop.proofs.start.interned.Given as goal
 
 abbrev pub invariant-loop-c : goal.invariant-loop-c
