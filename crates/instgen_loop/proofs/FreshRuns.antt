@@ -35,10 +35,10 @@ use Rattle.instgen_loop.specs.declared.state.Held as code
 use Rattle.instgen_loop.specs.Clauses.{Item, AreEntries, AreFirsts, entries_in, clauses_in}
 use Rattle.instgen_loop.specs.Grounds.{IsLinked, IsUsed}
 use Rattle.instgen_loop.specs.Loops.{items, after, held_in, held_of, IsSafe, ArePartners}
-use Rattle.instgen_loop.specs.Running.{IsRunning, IsRunningFor, IsRunningWith, IsSolvedFor, IsEventOf, event_in, entries_of, state_of}
+use Rattle.instgen_loop.specs.Running.{IsRunning, IsRunningFor, IsRunningWith, IsEventOf, event_in, entries_of, state_of}
 use Rattle.instgen_loop.specs.Selections.{Placing, AreUsers}
 use Rattle.instgen_loop.specs.FirstEntries.{Continues, IsStarted}
-use Rattle.instgen_loop.specs.Starting.{IsFresh, IsAllowed, IsGivenFor, AreGiven, IsOfProblem, IsSolvedProblem}
+use Rattle.instgen_loop.specs.Starting.{IsFresh, IsAllowed, AreGiven, IsOfProblem}
 use Rattle.instgen_loop.specs.declared.start.Given.{Given}
 use Rattle.instgen_loop.proofs.FirstEntries.{given_grown}
 use Rattle.instgen_loop.specs.Tended.{AreTended, AreOnce, indexed_of}
@@ -187,13 +187,6 @@ problem_later old new g clauses names grown bot h = record {
   constant = transport (λ (s : Sym). IsTrue (is_constant s)) (sym bot) h.constant;
   readable = transport (λ (s : Sym). IsTrue (is_readable_name s.name)) (sym bot) h.readable;
 }
-
-pub given_of : {S I C : Type 0} (r : Run S I C) (g : Given) (clauses : List TreeClause) (names : List (List ℕ)) → IsOfProblem r g clauses names → IsGivenFor r.entries.bank clauses g
-given_of r g clauses names h = record { inputs = h.inputs.same; axioms = h.axioms.same; whole_inputs = h.inputs.whole; whole_axioms = h.axioms.whole }
-
-pub solved_problem : {S I C : Type 0} (atoms : S → ℕ) (added : S → List (List (Signed ℕ))) (r : Run S I C) (g : Given) (clauses : List TreeClause) (names : List (List ℕ)) (budget : ℕ) → IsOfProblem r g clauses names
-    → IsSolvedFor atoms added r (with_axioms clauses) budget → IsSolvedProblem atoms added r clauses budget
-solved_problem atoms added r g clauses names budget p (bot, v, h) = (bot, transport (IsBot clauses) h.linked.constant p.bot, v, h)
 
 -- the run's constant is the one that it began with
 pub same_constant : {S I C : Type 0} (atoms : S → ℕ) (added : S → List (List (Signed ℕ))) (r : Run S I C) (bot : Sym) (cs : List TreeClause) (budget : ℕ) → IsRunningWith atoms added r bot cs budget → r.ground.abstraction.bot ≡ bot

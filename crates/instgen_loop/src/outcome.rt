@@ -46,9 +46,9 @@ pub enum Outcome {
 // Starts a run, lets it work, and ends it.
 fn drive<S: Solver, I: PartnerIndex>(
     alloc: Global,
+    p: &Problem,
     run: &mut Run<S, I>,
     partners: &mut Partners<I>,
-    p: &Problem,
     budget: u64,
 ) -> Result<Outcome, Memory>
     requires fresh { IsFresh S.atoms S.added I.pairs run.old }
@@ -64,10 +64,10 @@ fn drive<S: Solver, I: PartnerIndex>(
     ensures outcome { IfOk result (IsOutcome p.now.clauses p.now.names budget) }
     ensures appended { IfOk result (λ o. IsFalse (is_function_free p.now.clauses) → appended_count (journal_of o) ≤ budget) }
 {
-    let given = start(alloc, run, p, budget)?;
+    let given = start(alloc, p, run, budget)?;
     match cycle(alloc, run, partners, p, budget)? {
         Some(derivation) => refuted(alloc, p, run, given, derivation, budget),
-        None => finish(alloc, run, partners, p, given, budget),
+        None => finish(alloc, p, run, partners, given, budget),
     }
 }
 
@@ -106,5 +106,5 @@ pub fn run<S: Solver, I: PartnerIndex>(
     let bot = bot_of(alloc, p)?;
     let mut run = new_run(alloc, solver, first, bot, allowed(p, budget));
     let mut partners = Partners { positive, negative };
-    drive(alloc, &mut run, &mut partners, p, budget)
+    drive(alloc, p, &mut run, &mut partners, budget)
 }
