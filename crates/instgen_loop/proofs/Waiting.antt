@@ -1,0 +1,112 @@
+-- Picks from the queue, and partners as a run goes on.
+use Rattle.std.proofs.Common.{◌≡◌, ◌⊎◌, inl, inr, map, ℕ, ◌+◌, ◌<◌, ◌≤◌, List, ◌∷◌, ◌++◌, refl, sym, ap, ◌∙◌, subst as transport, length, length-append, append-nil, arith, All, Contains, Bool, true, false}
+use Rattle.inst_calculus.proofs.Membership.{◌∈◌, contains_in, in_contains, in_all, all_in, in_left, in_right, in_either}
+use Rattle.inst_calculus.proofs.Distinct.{map_append}
+use Rattle.term_bank.specs.Forest.{Forest, Extends}
+use Rattle.term_index.specs.Pairs.{Pair}
+use Rattle.instgen_select.specs.Queues.{Waiting_list, Waiting, numbers, IsPicked}
+use Rattle.instgen_loop.specs.declared.state.Run.{Run}
+use Rattle.instgen_loop.specs.declared.queue.Partners.{Partners}
+use Rattle.instgen_loop.specs.Clauses.{AreEntries}
+use Rattle.instgen_loop.specs.Loops.{items, IsSafe, IsStored, ArePartners, AreWaiting, Goes, IsSigned, after}
+use Rattle.instgen_loop.proofs.Works.{selected_stays}
+use Rattle.instgen_loop.proofs.Selected.{same_places}
+use Rattle.instgen_loop.proofs.Opposites.{signed_stays}
+
+-- the number stood in the queue, and the others stay
+pub record IsTaken (old new : List Waiting) (n : ℕ) : Type 0 where
+  pub count : length old ≡ length new + 1
+  pub front : List ℕ
+  pub back : List ℕ
+  pub before : numbers old ≡ front ++ n ∷ back
+  pub after : numbers new ≡ front ++ back
+
+pub taken : (even : Bool) (old new : List Waiting) (n : ℕ) → IsPicked even old new n → IsTaken old new n
+taken even old new n h =
+    let first : Waiting → ℕ = λ x. x.0 in
+    let item : Waiting = (n, h.size) in
+    record {
+      count = let a : length old ≡ length h.front + length (item ∷ h.back) = ap length h.before ∙ length-append h.front (item ∷ h.back) in
+          let b : length new ≡ length h.front + length h.back = ap length h.after ∙ length-append h.front h.back in omega arith;
+      front = map first h.front;
+      back = map first h.back;
+      before = ap (map first) h.before ∙ map_append first h.front (item ∷ h.back);
+      after = ap (map first) h.after ∙ map_append first h.front h.back;
+    }
+
+module _ (old new : List Waiting) (n : ℕ) (h : IsTaken old new n) where
+  pub there : Contains (numbers old) n
+  there = in_contains n (numbers old) (transport (λ xs. n ∈ xs) (sym h.before) (in_right n h.front (n ∷ h.back) (inl refl)))
+
+  pub kept : (m : ℕ) → Contains (numbers new) m → Contains (numbers old) m
+  kept m i = in_contains m (numbers old) (transport (λ xs. m ∈ xs) (sym h.before)
+      (elim (in_either m h.front h.back (transport (λ xs. m ∈ xs) h.after (contains_in m (numbers new) i))) [ inl a ↦ in_left m h.front (n ∷ h.back) a | inr b ↦ in_right m h.front (n ∷ h.back) (inr b) ]))
+
+  pub others : (m : ℕ) → Contains (numbers old) m → (m ≡ n) ⊎ Contains (numbers new) m
+  others m i = elim (in_either m h.front (n ∷ h.back) (transport (λ xs. m ∈ xs) h.before (contains_in m (numbers old) i))) [
+    | inl a ↦ inr (back (in_left m h.front h.back a))
+    | inr b ↦ elim b [ inl e ↦ inl e | inr d ↦ inr (back (in_right m h.front h.back d)) ]
+  ]
+    where
+      back : m ∈ (h.front ++ h.back) → Contains (numbers new) m
+      back j = in_contains m (numbers new) (transport (λ xs. m ∈ xs) (sym h.after) j)
+
+module _ {S I C : Type 0} (pairs : I → List Pair) (fits : Forest → I → Type 0) (r : Run S I C) where
+  module _ (q : Waiting_list) (n : ℕ) (picked : IsTaken r.queue.items q.items n) where
+    fewer : (P : ℕ → Type 0) → All P (numbers r.queue.items) → All P (numbers q.items)
+    fewer P h = in_all P (numbers q.items) (λ m i. all_in P (numbers r.queue.items) h m (contains_in m (numbers r.queue.items) (kept r.queue.items q.items n picked m (in_contains m (numbers q.items) i))))
+
+    pub safe_picked : (atoms : S → ℕ) → IsSafe atoms pairs fits r → IsSafe atoms pairs fits (record r { queue = q })
+    safe_picked atoms h = record {
+      entries = h.entries;
+      firsts = h.firsts;
+      stored = h.stored;
+      numbered = h.numbered;
+      notes = h.notes;
+      count = h.count;
+      waiting = fewer (λ k. k ≤ length (items r)) h.waiting;
+      within = h.within;
+      placed = h.placed;
+    }
+
+    pub still_waiting : AreWaiting r → AreWaiting (record r { queue = q })
+    still_waiting h = fewer (λ k. (0 < k) × (k ≤ length r.selection.places)) h
+
+    pub picked_waits : AreWaiting r → (0 < n) × (n ≤ length r.selection.places)
+    picked_waits h = all_in (λ k. (0 < k) × (k ≤ length r.selection.places)) (numbers r.queue.items) h n (contains_in n (numbers r.queue.items) (there r.queue.items q.items n picked))
+
+    pub partners_picked : (p : Partners I C) → ArePartners pairs fits r p → ArePartners pairs fits (record r { queue = q }) p
+    partners_picked p h = record {
+      positive_fits = h.positive_fits;
+      negative_fits = h.negative_fits;
+      positive_stored = λ x i. same x (h.positive_stored x i);
+      negative_stored = λ x i. same x (h.negative_stored x i);
+      positive_signed = λ x i. sign x.1 true (h.positive_signed x i);
+      negative_signed = λ x i. sign x.1 false (h.negative_signed x i);
+    }
+      where
+        sign : (m : ℕ) (b : Bool) → IsSigned r m b → IsSigned (record r { queue = q }) m b
+        sign m b (l, k, e) = (l, record { item = k.item; place = k.place; item_at = k.item_at; place_at = k.place_at; literal_at = k.literal_at }, e)
+
+        same : (x : Pair) → IsStored r x → IsStored (record r { queue = q }) x
+        same x (a, b, k) = (a, b, record { item = k.item; place = k.place; literal = k.literal; item_at = k.item_at; place_at = k.place_at; literal_at = k.literal_at; atom = k.atom })
+
+  pub partners_stay : (new : Run S I C) (p : Partners I C) → Goes r new → AreEntries r.entries.bank (items r) → ((f g : Forest) (s : I) → Extends f g → fits f s → fits g s) → ArePartners pairs fits r p → ArePartners pairs fits new p
+  partners_stay new p goes entries grown h = record {
+    positive_fits = grown r.entries.bank new.entries.bank p.positive goes.bank h.positive_fits;
+    negative_fits = grown r.entries.bank new.entries.bank p.negative goes.bank h.negative_fits;
+    positive_stored = λ x i. stays x (h.positive_stored x i);
+    negative_stored = λ x i. stays x (h.negative_stored x i);
+    positive_signed = λ x i. signed_stays r new goes x.1 true (h.positive_signed x i);
+    negative_signed = λ x i. signed_stays r new goes x.1 false (h.negative_signed x i);
+  }
+    where
+      stays : (x : Pair) → IsStored r x → IsStored new x
+      stays x (a, b, k) = (a, transport (λ (ps : List ℕ). x.1 ≤ length ps) (sym (same_places goes.selection)) b, selected_stays r new goes entries x.1 x.0 k)
+
+  -- where no entry was appended nothing was queued
+  pub nothing_queued : (new : Run S I C) → Goes r new → length (items new) ≤ length (items r) → numbers new.queue.items ≡ numbers r.queue.items
+  nothing_queued new goes l =
+      let (count, e, q) = goes.waits in
+      let none : count ≡ 0 = omega arith in
+      q ∙ ap (λ n. numbers r.queue.items ++ after (length (items r)) n) none ∙ append-nil (numbers r.queue.items)

@@ -1,0 +1,14 @@
+pub mod Clauses
+pub mod Grounds
+pub mod Selections
+pub mod Flips
+pub mod Loops
+pub mod Running
+pub mod Tended
+pub mod Solves
+pub mod FirstEntries
+pub mod Outcomes
+pub mod Choosing
+pub mod Settling
+pub mod Starting
+pub mod Refuting

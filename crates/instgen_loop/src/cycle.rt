@@ -1,0 +1,56 @@
+// The outer loop: solve, and work until an entry is appended.
+ghost use Rattle.std.specs.Prelude.{◌≡◌, [], length, IfOk, OnOk, IfNone, IfSome};
+ghost use Rattle.inst_logic.specs.declared.symbol.Sym.{Sym};
+ghost use Rattle.term_bank.specs.Forest.{Extends};
+ghost use Rattle.inst_logic.specs.WellFormed.{AreFormedClauses};
+ghost use Rattle.inst_calculus.specs.Axioms.{with_axioms};
+ghost use Rattle.prop_logic.specs.Solving.{Refutes};
+ghost use Rattle.instgen_loop.specs.Loops.{IsSafe, items, ArePartners};
+ghost use Rattle.instgen_loop.specs.Selections.{AreUsers};
+ghost use Rattle.instgen_loop.specs.Tended.{AreTended};
+ghost use Rattle.instgen_loop.specs.Running.{IsRunningFor, IsRunningWith, IsSolvedFor};
+
+use crate::queue::{Partners, work_queue};
+use crate::settle::settle;
+use crate::state::Run;
+use inst_logic::{Memory, Problem};
+use prop_logic::{Derivation, Solver};
+use std::alloc::Global;
+use term_index::PartnerIndex;
+
+/// Solves and works by turns until the abstractions are refuted, or nothing waits any more and each entry has a true literal
+/// selected.
+pub fn cycle<S: Solver, I: PartnerIndex>(
+    alloc: Global,
+    run: &mut Run<S, I>,
+    partners: &mut Partners<I>,
+    _p: &Problem,
+    _budget: u64,
+) -> Result<Option<Derivation>, Memory>
+    requires safe { IsSafe S.atoms I.pairs I.fits run.old }
+    requires partners { ArePartners I.pairs I.fits run.old partners.old }
+    requires tended { AreTended I.pairs run.old partners.old }
+    requires users { AreUsers run.old.ground.literals run.old.selection }
+    requires running { IsRunningFor S.atoms S.added run.old (with_axioms _p.now.clauses) _budget }
+    requires formed { AreFormedClauses (with_axioms _p.now.clauses) }
+    ensures safe { OnOk result (IsSafe S.atoms I.pairs I.fits run.new) }
+    ensures partners { OnOk result (ArePartners I.pairs I.fits run.new partners.new) }
+    ensures tended { OnOk result (AreTended I.pairs run.new partners.new) }
+    ensures users { OnOk result (AreUsers run.new.ground.literals run.new.selection) }
+    ensures running { OnOk result (IsRunningFor S.atoms S.added run.new (with_axioms _p.now.clauses) _budget) }
+    ensures bank { OnOk result (Extends run.old.entries.bank run.new.entries.bank) }
+    ensures kept { OnOk result ((bot : Sym) → IsRunningWith S.atoms S.added run.old bot (with_axioms _p.now.clauses) _budget → IsRunningWith S.atoms S.added run.new bot (with_axioms _p.now.clauses) _budget) }
+    ensures rests { IfOk result (λ r. IfNone r ((run.new.queue.items ≡ []) × (length run.new.selection.places ≡ length (items run.new)) × IsSolvedFor S.atoms S.added run.new (with_axioms _p.now.clauses) _budget)) }
+    ensures refuted { IfOk result (λ r. IfSome r (λ d. Refutes (S.atoms run.new.ground.solver) (S.added run.new.ground.solver) [] [] d)) }
+{
+    loop {
+        match settle(alloc, run, partners)? {
+            Some(derivation) => return Ok(Some(derivation)),
+            None => {
+                if !work_queue(alloc, run, partners)? {
+                    return Ok(None);
+                }
+            }
+        }
+    }
+}

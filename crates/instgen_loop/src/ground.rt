@@ -1,0 +1,66 @@
+// The propositional side: the abstraction of each entry, in the solver and beside it.
+ghost use Rattle.std.specs.Prelude.{◌≡◌, ◌+◌, ◌-◌, ◌≤◌, ◌++◌, ◌∷◌, [], ℕ, List, length, map, All, OnOk, IfOk, false};
+ghost use Rattle.inst_logic.specs.declared.symbol.Sym.{Sym};
+ghost use Rattle.inst_logic.specs.declared.signed.Signed.{Signed};
+ghost use Rattle.inst_logic.specs.Clauses.{TreeClause};
+ghost use Rattle.inst_logic.specs.WellFormed.{IsAtom};
+ghost use Rattle.term_bank.specs.Forest.{Extends, AreFormed, IsClauseOf, clause_at, tree_at};
+ghost use Rattle.ground_abs.specs.Abstracts.{AreAtomsIn, AreNotesIn, Grows};
+ghost use Rattle.instgen_loop.specs.Grounds.{IsLinked};
+
+use ground_abs::Abstraction;
+use inst_logic::Memory;
+use prop_logic::{LitLists, Solver, Valuation};
+use term_bank::{Bank, IdClause};
+
+/// The abstractions of the entries, one for one, and the last valuation of their atoms.
+#[derive(Drop)]
+pub struct Ground<S: Solver> {
+    pub abstraction: Abstraction,
+    pub solver: S,
+    pub literals: LitLists,
+    pub valuation: Valuation,
+}
+
+// Makes so many atoms.
+fn make_atoms<S: Solver>(solver: &mut S, count: usize) -> Result<(), Memory>
+    ensures atoms { OnOk result (S.atoms solver.new ≡ S.atoms solver.old + count) }
+    ensures added { OnOk result (S.added solver.new ≡ S.added solver.old) }
+{
+    for _ in 0..count {
+        solver.new_atom()?;
+    }
+    Ok(())
+}
+
+/// Adds the abstraction of one more entry.
+pub fn add_entry<S: Solver>(
+    bank: &mut Bank,
+    ground: &mut Ground<S>,
+    clause: &IdClause,
+) -> Result<(), Memory>
+    requires clause { IsClauseOf bank.old clause.now }
+    requires atoms { All (λ l. IsAtom (tree_at bank.old l.atom)) clause.now }
+    requires fits { AreAtomsIn bank.old ground.old.abstraction.ids }
+    requires notes { AreNotesIn bank.old ground.old.abstraction.bot ground.old.abstraction.notes }
+    requires count { S.atoms ground.old.solver ≡ length ground.old.abstraction.ids }
+    ensures linked { OnOk result ((bot : Sym) (cs : List TreeClause) → IsLinked bank.old ground.old (S.atoms ground.old.solver) (S.added ground.old.solver) bot cs
+        → IsLinked bank.new ground.new (S.atoms ground.new.solver) (S.added ground.new.solver) bot (cs ++ clause_at bank.old clause.now ∷ [])) }
+    ensures fits { AreAtomsIn bank.new ground.new.abstraction.ids }
+    ensures notes { AreNotesIn bank.new ground.new.abstraction.bot ground.new.abstraction.notes }
+    ensures count { OnOk result (S.atoms ground.new.solver ≡ length ground.new.abstraction.ids) }
+    ensures bot { ground.new.abstraction.bot ≡ ground.old.abstraction.bot }
+    ensures valuation { ground.new.valuation ≡ ground.old.valuation }
+    ensures literals { OnOk result ((abstracted : List (Signed ℕ)) × (ground.new.literals ≡ ground.old.literals ++ abstracted ∷ [])) }
+    ensures grows { OnOk result (Grows ground.old.abstraction.ids ground.new.abstraction.ids) }
+    ensures extends { Extends bank.old bank.new }
+    ensures formed { AreFormed bank.old → AreFormed bank.new }
+{
+    let before = ground.abstraction.len();
+    let lits = ground.abstraction.abstract_clause(bank, clause)?;
+    let count = ground.abstraction.len() - before;
+    make_atoms(&mut ground.solver, count)?;
+    ground.solver.add(lits.as_slice())?;
+    ground.literals.push(lits)?;
+    Ok(())
+}

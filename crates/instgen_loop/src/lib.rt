@@ -1,0 +1,29 @@
+//! The engine: a saturation loop over instances (Ganzinger and Korovin, New directions in instantiation-based theorem proving,
+//! 2003), generic over its solver and its indexes. It solves the abstractions of its entries, selects a true literal of each,
+//! and works the entries whose literals changed with all others, until the abstractions are refuted, nothing is open any more,
+//! or the budget is spent.
+#![tactic(auto)]
+
+pub mod bounds;
+pub mod cycle;
+pub mod entries;
+pub mod event;
+pub mod finish;
+pub mod flips;
+pub mod ground;
+pub mod hand_over;
+pub mod infer;
+pub mod laws;
+pub mod outcome;
+pub mod queue;
+pub mod refuted;
+pub mod reselect;
+pub mod selection;
+pub mod settle;
+pub mod start;
+pub mod state;
+pub mod steps;
+pub mod work;
+
+pub use event::{Event, FlipList, Journal};
+pub use outcome::{Outcome, run};

@@ -1,0 +1,114 @@
+// The work on the entries that wait.
+ghost use Rattle.std.specs.Prelude.{◌≡◌, ◌<◌, ◌≤◌, [], ◌⊎◌, ◌↔◌, ◌++◌, ℕ, List, true, false, length, All, Contains, IfOk, OnOk};
+ghost use Rattle.inst_logic.specs.declared.signed.Signed.{Signed};
+ghost use Rattle.term_bank.specs.Forest.{Extends};
+ghost use Rattle.instgen_select.specs.Queues.{numbers};
+ghost use Rattle.instgen_loop.specs.Loops.{IsSafe, Goes, items, ArePartners, AreWaiting, IsSigned, IsPairWorked};
+ghost use Rattle.instgen_loop.specs.Running.{KeepsRunning};
+ghost use Rattle.instgen_loop.specs.Tended.{AreTended, indexed_of};
+
+use crate::infer::{clause_of, literal_at, place_of};
+use crate::state::Run;
+use crate::work::{selected_atom, work_with};
+use inst_logic::Memory;
+use prop_logic::Solver;
+use std::alloc::Global;
+use term_index::PartnerIndex;
+
+/// The indexes of the selected literals of each sign.
+#[derive(Drop)]
+pub struct Partners<I: PartnerIndex> {
+    pub positive: I,
+    pub negative: I,
+}
+
+/// Whether the selected literal of entry `n` is positive.
+pub fn is_positive<S: Solver, I: PartnerIndex>(run: &Run<S, I>, n: usize) -> bool
+    requires safe { IsSafe S.atoms I.pairs I.fits run.now }
+    requires within { (0 < n) × (n ≤ length run.now.selection.places) }
+    ensures { IsSigned run.now n result }
+{
+    let place = place_of(run, n);
+    literal_at(clause_of(run, n).as_slice(), place).positive
+}
+
+// Works an entry with those of the other sign.
+fn work_entry<S: Solver, I: PartnerIndex>(
+    alloc: Global,
+    run: &mut Run<S, I>,
+    partners: &Partners<I>,
+    n: usize,
+) -> Result<(), Memory>
+    requires safe { IsSafe S.atoms I.pairs I.fits run.old }
+    requires within { (0 < n) × (n ≤ length run.old.selection.places) }
+    requires partners { ArePartners I.pairs I.fits run.old partners.now }
+    ensures safe { OnOk result (IsSafe S.atoms I.pairs I.fits run.new) }
+    ensures goes { OnOk result (Goes run.old run.new) }
+    ensures running { OnOk result (KeepsRunning S.atoms S.added run.old run.new) }
+    ensures worked { OnOk result ((m : ℕ) → Contains (indexed_of I.pairs partners.now) m → IsPairWorked run.new n m) }
+{
+    if is_positive(run, n) {
+        work_with(alloc, run, &partners.negative, n)
+    } else {
+        work_with(alloc, run, &partners.positive, n)
+    }
+}
+
+// Stores the selected atom of an entry, under its number, with those of its sign.
+fn store<S: Solver, I: PartnerIndex>(
+    run: &Run<S, I>,
+    partners: &mut Partners<I>,
+    n: usize,
+) -> Result<(), Memory>
+    requires safe { IsSafe S.atoms I.pairs I.fits run.now }
+    requires within { (0 < n) × (n ≤ length run.now.selection.places) }
+    requires partners { ArePartners I.pairs I.fits run.now partners.old }
+    requires absent { ¬ Contains (indexed_of I.pairs partners.old) n }
+    ensures partners { OnOk result (ArePartners I.pairs I.fits run.now partners.new) }
+    ensures stored { OnOk result ((m : ℕ) → Contains (indexed_of I.pairs partners.new) m ↔ ((m ≡ n) ⊎ Contains (indexed_of I.pairs partners.old) m)) }
+{
+    let atom = selected_atom(run, n);
+    if is_positive(run, n) {
+        partners.positive.insert(&run.entries.bank, atom, n)?;
+        Ok(())
+    } else {
+        partners.negative.insert(&run.entries.bank, atom, n)?;
+        Ok(())
+    }
+}
+
+/// Works the entries that wait until one is appended, and stores what was worked. False comes where none was and none waits any
+/// more.
+pub fn work_queue<S: Solver, I: PartnerIndex>(
+    alloc: Global,
+    run: &mut Run<S, I>,
+    partners: &mut Partners<I>,
+) -> Result<bool, Memory>
+    requires safe { IsSafe S.atoms I.pairs I.fits run.old }
+    requires waiting { AreWaiting run.old }
+    requires partners { ArePartners I.pairs I.fits run.old partners.old }
+    requires tended { AreTended I.pairs run.old partners.old }
+    ensures safe { OnOk result (IsSafe S.atoms I.pairs I.fits run.new) }
+    ensures partners { OnOk result (ArePartners I.pairs I.fits run.new partners.new) }
+    ensures tended { OnOk result (AreTended I.pairs run.new partners.new) }
+    ensures running { OnOk result (KeepsRunning S.atoms S.added run.old run.new) }
+    ensures bank { OnOk result (Extends run.old.entries.bank run.new.entries.bank) }
+    ensures appended { IfOk result (λ r. r ≡ true → length (items run.old) < length (items run.new)) }
+    ensures selection { OnOk result (run.new.selection ≡ run.old.selection) }
+    ensures literals { OnOk result ((more : List (List (Signed ℕ))) × (run.new.ground.literals ≡ run.old.ground.literals ++ more)) }
+    ensures none_waits { IfOk result (λ r. r ≡ false → (run.new.queue.items ≡ []) × (length (items run.new) ≡ length (items run.old))) }
+{
+    loop {
+        match run.queue.pick() {
+            None => return Ok(false),
+            Some(n) => {
+                let before = run.entries.clauses.len();
+                work_entry(alloc, run, partners, n)?;
+                store(run, partners, n)?;
+                if run.entries.clauses.len() > before {
+                    return Ok(true);
+                }
+            }
+        }
+    }
+}

@@ -1,0 +1,137 @@
+// The selected literals of the entries.
+ghost use Rattle.std.specs.Prelude.{◌≡◌, ◌<◌, ◌≤◌, ◌-◌, ◌++◌, ◌∷◌, [], suc, Some, length, OnOk, IfSome, slice_get, slice_set, slice_index_or};
+ghost use Rattle.inst_logic.specs.Derivations.{at_number};
+ghost use Rattle.inst_logic.specs.Truth.{IsTrueClause};
+ghost use Rattle.prop_logic.specs.Valuation.{IsHeld};
+ghost use Rattle.instgen_select.specs.Choices.{IsTrueAt};
+ghost use Rattle.instgen_loop.specs.Choosing.{IsChoice, AreUsersKept};
+
+use inst_logic::{Memory, NumberList};
+use instgen_select::choose;
+use prop_logic::{LitList, Valuation};
+use std::alloc::Global;
+use std::marker::Model;
+use std::mem::replace;
+
+/// The place of a literal, counted from 1, with the number of its atom.
+#[derive(Clone, Copy, Debug, PartialEq, Eq)]
+pub struct Chosen {
+    pub place: usize,
+    pub atom: usize,
+}
+
+// The place of a true literal of a true clause: the old one where it is true.
+fn chosen_place(old: Option<usize>, clause: &LitList, v: &Valuation) -> usize
+    requires place { IfSome old (λ p. (0 < p) × (p ≤ length clause.now)) }
+    requires holds { IsTrueClause (IsHeld v.now) clause.now }
+    ensures { IsTrueAt clause.now v.now result }
+{
+    match choose(old, clause, v) {
+        Some(place) => place,
+        None => unreachable!(),
+    }
+}
+
+/// The choice of a true literal of a true clause: that at the old place where it is true.
+pub fn chosen_literal(old: Option<usize>, clause: &LitList, v: &Valuation) -> Chosen
+    requires place { IfSome old (λ p. (0 < p) × (p ≤ length clause.now)) }
+    requires holds { IsTrueClause (IsHeld v.now) clause.now }
+    ensures { IsChoice clause.now v.now result.place result.atom }
+{
+    let place = chosen_place(old, clause, v);
+    Chosen {
+        place,
+        atom: clause.as_slice()[place - 1].atom,
+    }
+}
+
+fn add_user(users: &mut Vec<NumberList>, atom: usize, n: usize) -> Result<(), Memory>
+    requires { atom < length users.old.items }
+    ensures { OnOk result (users.new.items ≡ slice_set users.old.items atom (slice_index_or users.old.items atom [] ++ n ∷ [])) }
+{
+    users[atom].push(n)
+}
+
+/// For each of the first entries the place of its selected literal, counted from 1, and for each numbered atom the entries that
+/// may have it selected: after a solve those of the atoms that changed are chosen again, and no others. The entries after
+/// the last solve have no place yet.
+#[derive(Drop)]
+pub struct Selection {
+    places: Vec<usize>,
+    users: Vec<NumberList>,
+}
+
+impl Model for Selection {
+    ghost use Rattle.instgen_loop.specs.Selections.{Placing};
+
+    ghost Value = { Placing };
+
+    ghost view = { λ s. record { places = s.places.items; users = s.users.items } };
+}
+
+impl Selection {
+    /// No places.
+    pub fn new(alloc: Global) -> Selection
+        ensures { result ≡ record { places = []; users = [] } }
+    {
+        Selection {
+            places: Vec::new(alloc),
+            users: Vec::new(alloc),
+        }
+    }
+
+    /// How many entries have places.
+    pub fn len(&self) -> usize
+        ensures { result ≡ length self.now.places }
+    {
+        self.places.len()
+    }
+
+    /// The place of entry `n`.
+    pub fn place_of(&self, n: usize) -> usize
+        requires { (0 < n) × (n ≤ length self.now.places) }
+        ensures { at_number self.now.places n ≡ Some result }
+    {
+        self.places[n - 1]
+    }
+
+    /// Makes lists of users for so many atoms.
+    pub fn make_users(&mut self, alloc: Global, count: usize) -> Result<(), Memory>
+        ensures places { OnOk result (self.new.places ≡ self.old.places) }
+        ensures count { OnOk result (count ≤ length self.new.users) }
+        ensures users { OnOk result (AreUsersKept self.old.users self.new.users) }
+    {
+        for _ in self.users.len()..count {
+            self.users.push(NumberList::new(alloc))?;
+        }
+        Ok(())
+    }
+
+    /// The users of the atom, taken out.
+    pub fn take_users(&mut self, alloc: Global, atom: usize) -> NumberList
+        requires { atom < length self.old.users }
+        ensures taken { slice_get self.old.users atom ≡ Some result }
+        ensures rest { self.new ≡ record { places = self.old.places; users = slice_set self.old.users atom [] } }
+    {
+        replace(&mut self.users[atom], NumberList::new(alloc))
+    }
+
+    /// Selects the literal for entry `n`.
+    pub fn select(&mut self, n: usize, chosen: Chosen) -> Result<(), Memory>
+        requires within { (0 < n) × (n ≤ length self.old.places) }
+        requires atom { chosen.atom < length self.old.users }
+        ensures { OnOk result (self.new ≡ record { places = slice_set self.old.places (n - 1) chosen.place; users = slice_set self.old.users chosen.atom (slice_index_or self.old.users chosen.atom [] ++ n ∷ []) }) }
+    {
+        self.places[n - 1] = chosen.place;
+        add_user(&mut self.users, chosen.atom, n)
+    }
+
+    /// Selects the literal for the next entry, which has no place yet.
+    pub fn select_next(&mut self, chosen: Chosen) -> Result<(), Memory>
+        requires atom { chosen.atom < length self.old.users }
+        ensures { OnOk result (self.new ≡ record { places = self.old.places ++ chosen.place ∷ []; users = slice_set self.old.users chosen.atom (slice_index_or self.old.users chosen.atom [] ++ suc (length self.old.places) ∷ []) }) }
+    {
+        self.places.push(chosen.place)?;
+        add_user(&mut self.users, chosen.atom, self.places.len())
+    }
+}

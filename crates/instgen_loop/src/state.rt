@@ -1,0 +1,88 @@
+// The state of the loop.
+ghost use Rattle.std.specs.Prelude.{◌≡◌, ◌++◌, ◌∷◌, [], List, Contains, OnOk};
+ghost use Rattle.inst_logic.specs.declared.symbol.Sym.{Sym};
+ghost use Rattle.inst_logic.specs.Clauses.{TreeClause, IsCanonical};
+ghost use Rattle.term_bank.specs.Forest.{clause_at};
+ghost use Rattle.saturation_cert.specs.Wholes.{IsWholeClause};
+ghost use Rattle.instgen_loop.specs.Clauses.{Item};
+ghost use Rattle.instgen_loop.specs.Loops.{IsSafe, Appends, KeepsLink};
+ghost use Rattle.instgen_loop.specs.FirstEntries.{MakesEntry};
+
+use crate::entries::{Entries, push_entry};
+use crate::event::{Event, Journal};
+use crate::ground::{Ground, add_entry};
+use crate::selection::Selection;
+use inst_logic::Memory;
+use instgen_select::Queue;
+use prop_logic::Solver;
+use saturation_cert::Origin;
+use std::alloc::Global;
+use term_bank::IdClause;
+use term_index::PartnerIndex;
+use unify_core::Bindings;
+
+/// A conclusion that did not fit into the budget: that of entry `from` at its literal `place` with entry `partner` at its literal
+/// `other`. All numbers count from 1.
+#[derive(Clone, Copy, Debug, PartialEq, Eq)]
+pub struct Held {
+    pub from: usize,
+    pub place: usize,
+    pub partner: usize,
+    pub other: usize,
+}
+
+/// What the loop keeps beside the indexes of selected literals.
+#[derive(Drop)]
+pub struct Run<S: Solver, I: PartnerIndex> {
+    pub entries: Entries<I>,
+    pub ground: Ground<S>,
+    pub selection: Selection,
+    pub queue: Queue,
+    pub held: Vec<Held>,
+    pub journal: Journal,
+    pub bindings: Bindings,
+    /// What is left of the budget, in symbols. There is none on function-free problems.
+    pub left: Option<u64>,
+}
+
+/// Makes a new clause with its origin an entry, which waits: the one place at which entries are made.
+pub fn make_entry<S: Solver, I: PartnerIndex>(
+    run: &mut Run<S, I>,
+    clause: IdClause,
+    origin: Origin,
+    size: u64,
+) -> Result<(), Memory>
+    requires safe { IsSafe S.atoms I.pairs I.fits run.old }
+    requires whole { IsWholeClause run.old.entries.bank clause }
+    requires canonical { IsCanonical (clause_at run.old.entries.bank clause) }
+    requires new { (e : Item) → Contains run.old.entries.clauses.entries e → ¬ (e.0 ≡ clause) }
+    ensures safe { OnOk result (IsSafe S.atoms I.pairs I.fits run.new) }
+    ensures makes { OnOk result (MakesEntry run.old run.new clause origin) }
+    ensures linked { OnOk result (KeepsLink S.atoms S.added run.old run.new) }
+{
+    let number = run.entries.clauses.len() + 1;
+    add_entry(&mut run.entries.bank, &mut run.ground, &clause)?;
+    run.queue.put(number, size)?;
+    push_entry(&mut run.entries, clause, origin)?;
+    Ok(())
+}
+
+/// Appends a new clause that was inferred.
+pub fn append<S: Solver, I: PartnerIndex>(
+    run: &mut Run<S, I>,
+    clause: IdClause,
+    origin: Origin,
+    size: u64,
+) -> Result<(), Memory>
+    requires safe { IsSafe S.atoms I.pairs I.fits run.old }
+    requires whole { IsWholeClause run.old.entries.bank clause }
+    requires canonical { IsCanonical (clause_at run.old.entries.bank clause) }
+    requires new { (e : Item) → Contains run.old.entries.clauses.entries e → ¬ (e.0 ≡ clause) }
+    ensures safe { OnOk result (IsSafe S.atoms I.pairs I.fits run.new) }
+    ensures appends { OnOk result (Appends run.old run.new clause origin) }
+    ensures linked { OnOk result (KeepsLink S.atoms S.added run.old run.new) }
+{
+    make_entry(run, clause, origin.clone()?, size)?;
+    run.journal.push(Event::Inferred(origin))?;
+    Ok(())
+}
