@@ -22,4 +22,5 @@ pub mod Saturated
 pub mod Kept
 pub mod Grounding
 pub mod Printed
+pub mod Handed
 pub mod Refuting

@@ -63,6 +63,7 @@ use Rattle.instgen_loop.specs.Outcomes.{IsRefutedRun}
 use Rattle.instgen_loop.specs.Refuting.{ground_clause, ground_hint, ground_step, member_of, refutation_from}
 use Rattle.instgen_loop.specs.Running.{entries_of, state_of, event_in, IsRunning, IsRunningFor}
 use Rattle.instgen_loop.specs.Starting.{IsOfProblem}
+use Rattle.instgen_loop.proofs.Handed.{plain_base, base_same, base_whole, base_run, base_printable, entry_symbol_readable, entry_printable}
 use Rattle.instgen_loop.proofs.Inferred.{same_clauses}
 use Rattle.instgen_loop.proofs.Printed.{IsReadable, IsPlain, readable_by_symbols, name_is_readable, plain_printable, all_formed, all_symbols_readable, axiom_printable}
 
@@ -183,14 +184,6 @@ numbers_literals trees bot cs lits e = ap (map (distinct literal_eq)) e ∙ map_
 same_count : {A B C : Type 0} (g : A → C) (h : B → C) (xs : List A) (ys : List B) → map g xs ≡ map h ys → length xs ≡ length ys
 same_count g h xs ys e = sym (length_map g xs) ∙ ap length e ∙ length_map h ys
 
-whole_items : (f : Forest) (es : List Item) → AreEntries f es → All (λ (m : Member). IsWholeClause f m.clause) (map member_of es)
-whole_items f es h = in_all (λ (m : Member). IsWholeClause f m.clause) (map member_of es) (λ m i.
-    let (e, j, q) = from_map member_of m es i in
-    transport (λ (x : Member). IsWholeClause f x.clause) q (record {
-      ids = all_in (λ (x : Item). IsClauseOf f x.0) es h.ids e j;
-      atoms = all_in (λ (x : Item). All (λ l. IsAtom (tree_at f l.atom)) x.0) es h.atoms e j;
-    }))
-
 module _ {S I C : Type 0} (atoms : S → ℕ) (added : S → List (List (Signed ℕ))) (pairs : I → List Pair) (fits : Forest → I → Type 0) (r : Run S I C) (g : Given) (clauses : List TreeClause) (names : List (List ℕ))
     (budget : ℕ) (v : List Tree) (b : Bool) (steps : List NumberedStep) (once : AreDistinct r.entries.bank.trees) (safe : IsSafe atoms pairs fits r)
     (h : IsRunning atoms added r r.ground.abstraction.bot (with_axioms clauses) budget v b) (refutes : Refutes (atoms r.ground.solver) (added r.ground.solver) [] [] steps)
@@ -216,7 +209,7 @@ module _ {S I C : Type 0} (atoms : S → ℕ) (added : S → List (List (Signed 
   -- the refutation as a plain record of trees
   abbrev plain : FirstRefutation
   plain = record {
-    base = record { inputs = clauses; names = names; axioms = equality_axioms clauses; members = entries_of r };
+    base = plain_base r clauses names;
     bot = bot;
     grounds = map (abstraction bot) given_clauses;
     steps = map (tree_step names_of) steps;
@@ -242,20 +235,8 @@ module _ {S I C : Type 0} (atoms : S → ℕ) (added : S → List (List (Signed 
   steps_same : map (step_of f) (map (ground_step ids) steps) ≡ map (tree_step names_of) steps
   steps_same = map_map (step_of f) (ground_step ids) steps ∙ map_agree (λ s. step_of f (ground_step ids s)) (tree_step names_of) steps (λ s i. step_trees f ids h.linked.fits once s (step_below s i))
 
-  members_same : map (entry_of f) (map member_of (items r)) ≡ entries_of r
-  members_same = map_map (entry_of f) member_of (items r)
-
   same : refutation_of (refutation_from r g steps) ≡ plain
-  same =
-      let inputs = problem.inputs.same in
-      let axioms = problem.axioms.same in
-      let named = problem.named in
-      λ i. record {
-        base = record { inputs = inputs i; names = named i; axioms = axioms i; members = members_same i };
-        bot = bot;
-        grounds = grounds_same i;
-        steps = steps_same i;
-      }
+  same = let base = base_same atoms added pairs fits r g clauses names budget v b safe h problem printable count readable in λ i. record { base = base i; bot = bot; grounds = grounds_same i; steps = steps_same i }
 
   -- it is valid
 
@@ -297,27 +278,10 @@ module _ {S I C : Type 0} (atoms : S → ℕ) (added : S → List (List (Signed 
 
   -- it can be printed
 
-  entry_symbol_readable : (c : TreeClause) → c ∈ given_clauses → (s : Sym) → s ∈ clause_symbols c → IsReadable s
-  entry_symbol_readable c i s k =
-      let listed : Contains (entry_clauses (entries_of r)) c = in_contains c (entry_clauses (entries_of r)) (transport (λ cs. c ∈ cs) (sym (same_clauses f (items r))) i) in
-      let all = symbols_of_entries bot (with_axioms clauses) (map (event_in f) r.journal) (state_of r v b) (all_formed clauses printable) h.replays c listed in
-      all_symbols_readable clauses printable s (contains_in s (occurrences (with_axioms clauses)) (all_in (Contains (occurrences (with_axioms clauses))) (clause_symbols c) all s k))
-
-  entry_printable : (c : TreeClause) → c ∈ given_clauses → IsPrintableClause c
-  entry_printable c i =
-      let (e, j, q) = from_map (λ (e : Item). clause_at f e.0) c (items r) i in
-      transport IsPrintableClause q (record {
-        formed = all_pass (λ (l : Signed Tree). atom_is_formed l.atom) (clause_at f e.0) (λ l m.
-            let (k, n, w) = from_map (literal_tree f) l e.0 m in
-            transport (λ (x : Signed Tree). atom_is_formed x.atom ≡ true) w (all_in (λ (x : Signed ℕ). IsAtom (tree_at f x.atom)) e.0 (all_in (λ (x : Item). All (λ l. IsAtom (tree_at f l.atom)) x.0) (items r) safe.entries.atoms e j) k n));
-        canonical = all_in (λ (x : Item). IsCanonical (clause_at f x.0)) (items r) safe.entries.canonical e j;
-        readable = readable_by_symbols (clause_at f e.0) (λ s k. entry_symbol_readable (clause_at f e.0) (in_map (λ (e : Item). clause_at f e.0) e (items r) j) s k);
-      })
-
   -- what the abstractions of entries have for literals
   abstracted_plain : (c : TreeClause) → c ∈ given_clauses → (l : Signed Tree) → l ∈ abstract_literals bot c → IsPlain l
   abstracted_plain c i l j = record {
-    formed = all_in (λ (l : Signed Tree). IsAtom l.atom) (abstract_literals bot c) (abstracted_formed bot c problem.constant (entry_printable c i).formed) l j;
+    formed = all_in (λ (l : Signed Tree). IsAtom l.atom) (abstract_literals bot c) (abstracted_formed bot c problem.constant (entry_printable atoms added pairs fits r g clauses names budget v b safe h problem printable count readable c i).formed) l j;
     without_variables = all_in (λ (l : Signed Tree). tree_vars l.atom ≡ []) (abstract_literals bot c) (abstracted_ground bot c) l j;
     symbols = λ s k. by s (contains_in s (bot ∷ clause_symbols c)
         (all_in (Contains (bot ∷ clause_symbols c)) (clause_symbols (abstract_literals bot c)) (symbols_with_repeats bot c) s (symbol_of_literal s l (abstract_literals bot c) j k)));
@@ -325,7 +289,7 @@ module _ {S I C : Type 0} (atoms : S → ℕ) (added : S → List (List (Signed 
     where
       by : (s : Sym) → (s ≡ bot) ⊎ (s ∈ clause_symbols c) → IsReadable s
       by s (inl e) = transport IsReadable (sym e) (name_is_readable bot problem.readable)
-      by s (inr k) = entry_symbol_readable c i s k
+      by s (inr k) = entry_symbol_readable atoms added pairs fits r g clauses names budget v b safe h problem printable count readable c i s k
 
   ground_printable : (c : TreeClause) → c ∈ given_clauses → IsPrintableClause (abstraction bot c)
   ground_printable c i = plain_printable (abstraction bot c) (distinct_is_distinct literal_eq literal_eq_decides (abstract_literals bot c))
@@ -353,14 +317,7 @@ module _ {S I C : Type 0} (atoms : S → ℕ) (added : S → List (List (Signed 
 
   can_be_printed : IsPrintableRefutation plain
   can_be_printed = record {
-    base = record {
-      inputs = printable;
-      named = count;
-      names = readable;
-      axioms = in_all IsPrintableClause (equality_axioms clauses) (axiom_printable clauses printable);
-      members = in_all (λ (e : Entry). IsPrintableClause e.clause) (entries_of r) (λ e i.
-          entry_printable e.clause (transport (λ cs. e.clause ∈ cs) (same_clauses f (items r)) (in_map (λ (x : Entry). x.clause) e (entries_of r) i)));
-    };
+    base = base_printable atoms added pairs fits r g clauses names budget v b safe h problem printable count readable;
     constant = problem.constant;
     bot_name = problem.readable;
     grounds = in_all IsPrintableClause (map (abstraction bot) given_clauses) (λ d i. let (c, j, e) = from_map (abstraction bot) d given_clauses i in transport IsPrintableClause e (ground_printable c j));
@@ -371,7 +328,7 @@ module _ {S I C : Type 0} (atoms : S → ℕ) (added : S → List (List (Signed 
 
   is_whole : IsWholeRefutation (refutation_from r g steps)
   is_whole = record {
-    base = record { bank = safe.entries.formed; inputs = problem.inputs.whole; axioms = problem.axioms.whole; members = whole_items f (items r) safe.entries };
+    base = base_whole atoms added pairs fits r g clauses names budget v b safe h problem printable count readable;
     grounds = in_all (IsWholeClause f) (map (ground_clause ids) lits) (λ d i.
         let (c, j, e) = from_map (ground_clause ids) d lits i in transport (IsWholeClause f) e (ground_whole f ids h.linked.fits c (all_in (AtomsBelow (length ids)) lits lits_below c j)));
     steps = in_all (λ (s : GroundStep). IsWholeClause f s.clause) (map (ground_step ids) steps) (λ t i.
@@ -386,13 +343,7 @@ module _ {S I C : Type 0} (atoms : S → ℕ) (added : S → List (List (Signed 
   pub refuted_run : IsRefutedRun clauses names (refutation_from r g steps) r.journal
   refuted_run = record {
     state = state_of r v b;
-    run = record {
-      inputs = problem.inputs.same;
-      named = problem.named;
-      axioms = problem.axioms.same;
-      replays = record { constant = problem.bot; replays = h.replays };
-      members = sym members_same;
-    };
+    run = base_run atoms added pairs fits r g clauses names budget v b safe h problem printable count readable;
     whole = is_whole;
     valid = transport IsValidRefutation (sym same) valid;
     printable = transport IsPrintableRefutation (sym same) can_be_printed;
