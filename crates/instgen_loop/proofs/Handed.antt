@@ -1,5 +1,5 @@
 -- What a run and its problem give to a certificate.
-use Rattle.std.proofs.Common.{◌≡◌, ℕ, List, refl, sym, subst as transport, map, length, Bool, true, All, Contains}
+use Rattle.std.proofs.Common.{◌≡◌, ℕ, List, sym, subst as transport, map, length, Bool, true, All, Contains}
 use Rattle.std.specs.Prelude.{IsTrue}
 use Rattle.inst_logic.specs.declared.symbol.Sym.{Sym}
 use Rattle.inst_logic.specs.declared.signed.Signed.{Signed}

@@ -1,5 +1,5 @@
 -- A run whose abstractions are refuted gives a refutation.
-use Rattle.std.proofs.Common.{◌≡◌, ◌⊎◌, inl, inr, ℕ, zero, suc, ◌-◌, ◌<◌, List, [], ◌∷◌, refl, sym, ap, ap₂, ◌∙◌, subst as transport, map, take, length, get_or, arith, nat_eq, Bool, true, All, Contains, Some, Decides}
+use Rattle.std.proofs.Common.{◌≡◌, ◌⊎◌, inl, inr, ℕ, ◌-◌, ◌<◌, List, [], ◌∷◌, refl, sym, ap, ap₂, ◌∙◌, subst as transport, map, take, length, get_or, arith, nat_eq, Bool, All, Contains, Some}
 use Rattle.std.specs.Prelude.{slice_get, option_map, IsTrue, ◌≢◌}
 use Rattle.std.proofs.lemmas.Bool.Decides.{Decides-eqb}
 use Rattle.std.proofs.lemmas.List.{get_or-map, take-map}
@@ -11,61 +11,56 @@ use Rattle.inst_logic.specs.Signed.{IsTautology}
 use Rattle.inst_logic.specs.Tree.{Tree, var}
 use Rattle.inst_logic.specs.Equal.{literal_eq, signed_eq}
 use Rattle.inst_logic.specs.Lists.{distinct}
-use Rattle.inst_logic.specs.Clauses.{TreeClause, IsCanonical}
+use Rattle.inst_logic.specs.Clauses.{TreeClause}
 use Rattle.inst_logic.specs.Derivations.{at_number, IsShown}
 use Rattle.inst_logic.specs.Printing.{is_readable_name}
-use Rattle.inst_logic.specs.WellFormed.{IsAtom, atom_is_formed, clause_is_formed, is_constant}
-use Rattle.inst_logic.specs.Substitution.{subst_literal, tree_vars}
+use Rattle.inst_logic.specs.WellFormed.{IsAtom}
+use Rattle.inst_logic.specs.Substitution.{tree_vars}
 use Rattle.inst_logic.proofs.SameLemmas.{signed_eq_decides, literal_eq_decides}
 use Rattle.inst_logic.proofs.Numbering.{map_map}
 use Rattle.inst_logic.proofs.Membership.{get_or_in}
-use Rattle.inst_logic.proofs.Items.{slice_get_contains}
-use Rattle.inst_calculus.specs.Abstraction.{abstraction, abstract_literals, grounding, named_literal}
-use Rattle.inst_calculus.specs.Axioms.{clause_symbols, tree_symbols, occurrences, equality_axioms, with_axioms}
-use Rattle.inst_calculus.specs.Entries.{Entry, entry_clauses}
+use Rattle.inst_calculus.specs.Abstraction.{abstraction, abstract_literals, named_literal}
+use Rattle.inst_calculus.specs.Axioms.{clause_symbols, tree_symbols, with_axioms}
 use Rattle.inst_calculus.specs.Steps.{Cited, given, earlier, Step, cited_clause, IsShownFrom, EndsEmpty, renamed_literal, renamed_clause, renamed_step, without_repeats, HasAtomsBelow}
-use Rattle.inst_calculus.proofs.Membership.{◌∈◌, contains_in, in_contains, in_map, from_map, all_in, in_all, passes, all_pass}
+use Rattle.inst_calculus.proofs.Membership.{◌∈◌, contains_in, in_map, from_map, all_in, in_all}
 use Rattle.inst_calculus.proofs.Distinct.{length_map, distinct_map, from_distinct, distinct_is_distinct}
 use Rattle.inst_calculus.proofs.NumberedAbstractions.{abstracted_formed, abstracted_ground}
 use Rattle.inst_calculus.proofs.KeptSymbols.{symbols_with_repeats}
 use Rattle.inst_calculus.proofs.Symbols.{symbol_of_literal}
 use Rattle.inst_calculus.proofs.StepLaws.{shown_when_renamed_below}
 use Rattle.inst_calculus.proofs.SameLiterals.{shown_without_repeats}
-use Rattle.inst_machine.specs.Machine.{State}
-use Rattle.inst_machine.proofs.Contents.{symbols_of_entries}
 use Rattle.inst_machine.proofs.Origins.{entries_are_given}
 use Rattle.prop_logic.specs.declared.literal.Hint.{Hint}
 use Rattle.prop_logic.specs.declared.literal.Hint.TheVariants as hint
 use Rattle.prop_logic.specs.declared.literal.Step.{Step as NumberedStep}
 use Rattle.prop_logic.specs.Literal.{cited, AtomsBelow, AllAtomsBelow, StepsBelow, IsShownDerivation}
-use Rattle.prop_logic.specs.Solving.{Refutes, EndsWith}
+use Rattle.prop_logic.specs.Solving.{Refutes}
 use Rattle.cert_format.specs.Certificate.{FirstRefutation}
-use Rattle.cert_format.specs.Printable.{IsPrintableClause, IsPrintableStep, IsPrintableBase, IsPrintableRefutation}
+use Rattle.cert_format.specs.Printable.{IsPrintableClause, IsPrintableStep, IsPrintableRefutation}
 use Rattle.cert_format.specs.Validity.{IsValidRefutation}
 use Rattle.cert_format.proofs.Numbers.{slice_get_of_map, in_slice_get}
 use Rattle.cert_format.proofs.RightCertificates.{refuted_is_valid}
-use Rattle.term_bank.specs.Forest.{Forest, AreDistinct, IsClauseOf, clause_at, literal_tree, tree_at}
+use Rattle.term_bank.specs.Forest.{Forest, AreDistinct, clause_at, literal_tree, tree_at}
 use Rattle.term_index.specs.Pairs.{Pair}
 use Rattle.ground_abs.specs.Abstracts.{atoms_in, AreAtomsIn}
 use Rattle.ground_abs.specs.Numbers.{named}
 use Rattle.saturation_cert.specs.declared.certificate.GroundStep.{GroundStep}
 use Rattle.saturation_cert.specs.declared.certificate.Refutation.{Refutation}
-use Rattle.saturation_cert.specs.declared.member.Member.{Member}
-use Rattle.saturation_cert.specs.Values.{entry_of, hint_of, step_of, refutation_of}
+use Rattle.saturation_cert.specs.Values.{hint_of, step_of, refutation_of}
 use Rattle.saturation_cert.specs.Wholes.{IsWholeClause, IsWholeRefutation}
 use Rattle.instgen_loop.specs.declared.event.Event.{Event}
 use Rattle.instgen_loop.specs.declared.start.Given.{Given}
 use Rattle.instgen_loop.specs.declared.state.Run.{Run}
-use Rattle.instgen_loop.specs.Clauses.{Item, AreEntries, clauses_in}
+use Rattle.instgen_loop.specs.Clauses.{Item, clauses_in}
 use Rattle.instgen_loop.specs.Grounds.{IsUsed}
 use Rattle.instgen_loop.specs.Loops.{items, IsSafe}
 use Rattle.instgen_loop.specs.Outcomes.{IsRefutedRun}
 use Rattle.instgen_loop.specs.Refuting.{ground_clause, ground_hint, ground_step, member_of, refutation_from}
-use Rattle.instgen_loop.specs.Running.{entries_of, state_of, event_in, IsRunning, IsRunningFor}
+use Rattle.instgen_loop.specs.Running.{state_of, event_in, IsRunning, IsRunningFor}
 use Rattle.instgen_loop.specs.Starting.{IsOfProblem}
 use Rattle.instgen_loop.proofs.Handed.{plain_base, base_same, base_whole, base_run, base_printable, entry_symbol_readable, entry_printable}
 use Rattle.instgen_loop.proofs.Inferred.{same_clauses}
-use Rattle.instgen_loop.proofs.Printed.{IsReadable, IsPlain, readable_by_symbols, name_is_readable, plain_printable, all_formed, all_symbols_readable, axiom_printable}
+use Rattle.instgen_loop.proofs.Printed.{IsReadable, IsPlain, name_is_readable, plain_printable}
 
 -- Hints and steps as those of the calculus
 
@@ -254,8 +249,8 @@ module _ {S I C : Type 0} (atoms : S → ℕ) (added : S → List (List (Signed 
   shown =
       transport (λ gs. IsShownFrom gs (map (tree_step names_of) steps)) (numbers_literals (atoms_in f ids) bot given_clauses lits h.linked.same.same)
       (transport (IsShownFrom (map (distinct literal_eq) (map (renamed_clause names_of) lits)))
-          (ap (map without_repeats) (map_map (renamed_step names_of) plain_step steps) ∙ map_map without_repeats (λ s. renamed_step names_of (plain_step s)) steps)
-          ((shown_without_repeats (map (renamed_clause names_of) lits) (map (renamed_step names_of) (map plain_step steps))).0 trees_shown))
+      (ap (map without_repeats) (map_map (renamed_step names_of) plain_step steps) ∙ map_map without_repeats (λ s. renamed_step names_of (plain_step s)) steps)
+      ((shown_without_repeats (map (renamed_clause names_of) lits) (map (renamed_step names_of) (map plain_step steps))).0 trees_shown))
 
   step_hinted : (s : NumberedStep) → s ∈ steps → map cited_of s.hints ≢ []
   step_hinted s i = none_left cited_of s.hints (all_in (λ (s : NumberedStep). s.hints ≢ []) steps (refutes.hinted empty_no_tautology) s i)

@@ -100,11 +100,7 @@ fn ground_hints(alloc: Global, hints: &HintList) -> Result<GroundHintList, Memor
 }
 
 // The step with its clause so, and the same hints.
-fn ground_step(
-    alloc: Global,
-    abstraction: &Abstraction,
-    step: &Step,
-) -> Result<GroundStep, Memory>
+fn ground_step(alloc: Global, abstraction: &Abstraction, step: &Step) -> Result<GroundStep, Memory>
     requires below { AtomsBelow (length abstraction.now.ids) step.now.clause }
     ensures { IfOk result (λ s. s ≡ ground_step abstraction.now.ids step.now) }
 {
