@@ -18,7 +18,7 @@ use Rattle.inst_logic.specs.WellFormed.{IsAtom}
 use Rattle.inst_logic.specs.Substitution.{tree_vars}
 use Rattle.inst_logic.proofs.SameLemmas.{signed_eq_decides, literal_eq_decides}
 use Rattle.inst_logic.proofs.Numbering.{map_map}
-use Rattle.inst_logic.proofs.Membership.{get_or_in}
+use Rattle.inst_logic.proofs.Membership.{get_or_in, map_agree}
 use Rattle.inst_calculus.specs.Abstraction.{abstraction, abstract_literals, named_literal}
 use Rattle.inst_calculus.specs.Axioms.{clause_symbols, tree_symbols, with_axioms}
 use Rattle.inst_calculus.specs.Steps.{Cited, given, earlier, Step, cited_clause, IsShownFrom, EndsEmpty, renamed_literal, renamed_clause, renamed_step, without_repeats, HasAtomsBelow}
@@ -40,6 +40,7 @@ use Rattle.cert_format.specs.Printable.{IsPrintableClause, IsPrintableStep, IsPr
 use Rattle.cert_format.specs.Validity.{IsValidRefutation}
 use Rattle.cert_format.proofs.Numbers.{slice_get_of_map, in_slice_get}
 use Rattle.cert_format.proofs.RightCertificates.{refuted_is_valid}
+use Rattle.clause_form.proofs.Ids.{same_literal}
 use Rattle.term_bank.specs.Forest.{Forest, AreDistinct, clause_at, literal_tree, tree_at}
 use Rattle.term_index.specs.Pairs.{Pair}
 use Rattle.ground_abs.specs.Abstracts.{atoms_in, AreAtomsIn}
@@ -71,10 +72,6 @@ cited_of (hint.Step n) = earlier n
 abbrev plain_step : NumberedStep → Step ℕ
 plain_step s = record { clause = s.clause; hints = map cited_of s.hints }
 
-map_agree : {A B : Type 0} (f g : A → B) (xs : List A) → ((x : A) → x ∈ xs → f x ≡ g x) → map f xs ≡ map g xs
-map_agree f g [] h = refl
-map_agree f g (x ∷ xs) h = ap₂ (λ y ys. y ∷ ys) (h x (inl refl)) (map_agree f g xs (λ y i. h y (inr i)))
-
 hint_same : (gs : List (List (Signed ℕ))) (before : List NumberedStep) (h : Hint) → cited gs before h ≡ cited_clause gs (map plain_step before) (cited_of h)
 hint_same gs before (hint.Added n) = refl
 hint_same gs before (hint.Step n) = ap (λ cs. at_number cs n) (sym (map_map (λ (s : Step ℕ). s.clause) plain_step before))
@@ -102,12 +99,6 @@ none_left f [] n e = n refl
 none_left f (x ∷ xs) n e = absurd cc
 
 -- Literals of ids in a bank where equal trees have equal ids
-
-same_literal : (f : Forest) → AreDistinct f.trees → (k l : Signed ℕ) → k.atom < length f.trees → l.atom < length f.trees → literal_tree f k ≡ literal_tree f l → k ≡ l
-same_literal f once k l a b e =
-    let s : k.positive ≡ l.positive = ap (λ (x : Signed Tree). x.positive) e in
-    let t : k.atom ≡ l.atom = once k.atom l.atom a b (ap (λ (x : Signed Tree). x.atom) e) in
-    ap₂ (λ p n. record { positive = p; atom = n }) s t
 
 repeats_dropped : (f : Forest) → AreDistinct f.trees → (ls : List (Signed ℕ)) → ((l : Signed ℕ) → l ∈ ls → l.atom < length f.trees) → clause_at f (distinct (signed_eq nat_eq) ls) ≡ distinct literal_eq (clause_at f ls)
 repeats_dropped f once ls h =
