@@ -25,4 +25,5 @@ pub mod Kept
 pub mod Started
 pub mod Grounding
 pub mod Printed
+pub mod Handed
 pub mod Refuting
