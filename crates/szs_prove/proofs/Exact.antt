@@ -214,15 +214,15 @@ module _ (words : List (List ℕ)) (read : Reading) (write : Writing) (e : Exit)
 
   pub memory : e ≡ exit.Memory → WantsMemory words read write.old write.new
   memory is = elim a.written [
-    | inl w ↦ by a.answer (sym w.0 ∙ is) w.1
-    | inr v ↦ inr (inr (elim v [ inl w ↦ record { answer = a.answer; cause = a.cause; written = w.1 } | inr w ↦ record { answer = a.answer; cause = a.cause; written = w.1 } ]))
+    | inl w ↦ by a.answer a.cause (sym w.0 ∙ is) w.1
+    | inr v ↦ inr (elim v [ inl w ↦ record { answer = a.answer; cause = a.cause; written = w.1 } | inr w ↦ record { answer = a.answer; cause = a.cause; written = w.1 } ])
   ]
     where
-      by : (answer : Answer) → exit_for answer ≡ exit.Memory
+      by : (answer : Answer) → IsAnswer words read.files read.before read.now answer → exit_for answer ≡ exit.Memory
           → Appends write.old write.new (text_for (shown_name (asked_of words)) answer) → WantsMemory words read write.old write.new
-      by (verdict c) x t = absurd (cc)
-      by (refusal Usage) x t = absurd (cc)
-      by (refusal (Load why)) x t = inl (subst (Appends write.old write.new) (memory_text (shown_name (asked_of words)) why x) t)
-      by (refusal (NotBuilt k)) x t = absurd (cc)
-      by (refusal Memory) x t = inl t
-      by no_words x t = inr (inl t)
+      by (verdict c) h x t = absurd (cc)
+      by (refusal Usage) h x t = absurd (cc)
+      by (refusal (Load why)) h x t = inl (subst (Appends write.old write.new) (memory_text (shown_name (asked_of words)) why x) t)
+      by (refusal (NotBuilt k)) h x t = absurd (cc)
+      by (refusal Memory) h x t = inl t
+      by no_words h x t = inl (subst (λ (o : Option Asked). Appends write.old write.new (refusal_text (shown_name o) Memory)) (sym h) t)

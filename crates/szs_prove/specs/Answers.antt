@@ -1,5 +1,5 @@
 -- The answers to some words and files: what each says, how it is written, and how the program ends.
-use Rattle.std.specs.Prelude.{ℕ, ◌≡◌, List, Option, None, Some, ⊤}
+use Rattle.std.specs.Prelude.{ℕ, ◌≡◌, List, Option, None, Some}
 use Rattle.inst_logic.specs.declared.clause.Problem.{Problem}
 use Rattle.outside_io.specs.declared.library.NamedFile.{NamedFile}
 use Rattle.cert_format.specs.Certificate.{Certificate}
@@ -14,7 +14,7 @@ use Rattle.szs_prove.specs.declared.exit.Exit.TheVariants.{Decided}
 use Rattle.szs_prove.specs.declared.refusal.Refusal.{Refusal}
 use Rattle.szs_prove.specs.declared.refusal.Refusal.TheVariants.{Usage, Memory as Wanting}
 
--- a certificate of the problem of the file, or why there is none, or that memory was wanted before the words were read
+-- a certificate of the problem of the file, or why there is none, or that memory was wanted where the words name none
 pub data Answer : Type 0 where
   verdict : Certificate → Answer
   refusal : Refusal → Answer
@@ -34,7 +34,7 @@ IsVerdict words files c = (asked : Asked) × (asked_of words ≡ Some asked) × 
 -- the cause of an answer; the count of faults goes from before to now
 abbrev pub IsAnswer : List (List ℕ) → Option (List NamedFile) → ℕ → ℕ → Answer → Type 0
 IsAnswer words files before now (verdict c) = IsVerdict words files c
-IsAnswer words files before now no_words = ⊤
+IsAnswer words files before now no_words = asked_of words ≡ None
 IsAnswer words files before now (refusal Usage) = asked_of words ≡ None
 IsAnswer words files before now (refusal why) = (asked : Asked) × (asked_of words ≡ Some asked) × IsUnread files before now asked why
 

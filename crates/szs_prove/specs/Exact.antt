@@ -72,7 +72,6 @@ pub record IsInterrupted (words : List (List ℕ)) (read : Reading) (old new : O
   pub cause : IsAnswer words read.files read.before read.now answer
   pub written : AppendsProperPrefix old new (text_for (shown_name (asked_of words)) answer)
 
--- That memory is wanted was written, of the file or before the words were read, or an answer was not written whole.
+-- That memory is wanted was written, or an answer was not written whole.
 abbrev pub WantsMemory : List (List ℕ) → Reading → Option (List ℕ) → Option (List ℕ) → Type 0
-WantsMemory words read old new = Appends old new (refusal_text (shown_name (asked_of words)) why.Memory)
-    ⊎ Appends old new (refusal_text (shown_name None) why.Memory) ⊎ IsInterrupted words read old new
+WantsMemory words read old new = Appends old new (refusal_text (shown_name (asked_of words)) why.Memory) ⊎ IsInterrupted words read old new

@@ -10,6 +10,7 @@ returns c =
     record {
       none = λ values m. c.requires.refutes.none values (record { clauses_true = m.clauses_true; assumptions_true = All-nil (IsTrueLiteral (IsHeld values)) });
       derivation = c.args.derivation.now;
+      hinted = c.requires.refutes.hinted (λ t. absurd (let x = t.1.0 in cc));
       shown = c.requires.refutes.shown;
       last = c.requires.refutes.last;
       is = c.from.ensures ∙ text;
