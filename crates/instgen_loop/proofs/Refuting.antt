@@ -183,7 +183,7 @@ numbers_literals trees bot cs lits e = ap (map (distinct literal_eq)) e ∙ map_
 same_count : {A B C : Type 0} (g : A → C) (h : B → C) (xs : List A) (ys : List B) → map g xs ≡ map h ys → length xs ≡ length ys
 same_count g h xs ys e = sym (length_map g xs) ∙ ap length e ∙ length_map h ys
 
-whole_items : (f : Forest) (es : List Item) → AreEntries f es → All (λ (m : Member). IsWholeClause f m.clause) (map member_of es)
+pub whole_items : (f : Forest) (es : List Item) → AreEntries f es → All (λ (m : Member). IsWholeClause f m.clause) (map member_of es)
 whole_items f es h = in_all (λ (m : Member). IsWholeClause f m.clause) (map member_of es) (λ m i.
     let (e, j, q) = from_map member_of m es i in
     transport (λ (x : Member). IsWholeClause f x.clause) q (record {
