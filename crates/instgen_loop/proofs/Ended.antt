@@ -7,7 +7,7 @@ use Rattle.inst_logic.specs.Clauses.{TreeClause}
 use Rattle.inst_logic.specs.Measure.{is_function_free}
 use Rattle.inst_calculus.specs.Axioms.{with_axioms}
 use Rattle.inst_calculus.specs.Entries.{Entry}
-use Rattle.inst_calculus.proofs.Membership.{all_in}
+use Rattle.inst_calculus.proofs.Membership.{all_in, in_all}
 use Rattle.engine_laws.specs.Pairs.{AreWorked, IsHeldBack}
 use Rattle.term_bank.specs.Forest.{Forest, IsClauseOf}
 use Rattle.term_index.specs.Pairs.{Pair}
@@ -17,6 +17,7 @@ use Rattle.instgen_loop.specs.declared.state.Run.{Run}
 use Rattle.instgen_loop.specs.declared.state.Held as code
 use Rattle.instgen_loop.specs.declared.queue.Partners.{Partners}
 use Rattle.instgen_loop.specs.Clauses.{Item, entries_in}
+use Rattle.instgen_loop.specs.Deciding.{IsSomeConclusion}
 use Rattle.instgen_loop.specs.Ending.{IsAtRest}
 use Rattle.instgen_loop.specs.Loops.{items, held_in, held_of, IsSafe}
 use Rattle.instgen_loop.specs.Outcomes.{appended_count}
@@ -27,14 +28,14 @@ use Rattle.instgen_loop.proofs.FreshRuns.{problem_later, appended_within}
 use Rattle.instgen_loop.proofs.Grown.{entries_stay}
 use Rattle.instgen_loop.proofs.Runs.{running_read}
 
--- what is held back does not fit into what is left
-pub held_back : {S I C : Type 0} (atoms : S → ℕ) (added : S → List (List (Signed ℕ))) (r : Run S I C) (cs : List TreeClause) (budget : ℕ) → IsSolvedFor atoms added r cs budget
-    → (left : ℕ) × All (IsHeldBack (entries_of r) left) (held_of r)
-held_back atoms added r cs budget (bot, v, h) = go r.left refl
+-- what is held back is a conclusion
+pub held_conclude : {S I C : Type 0} (atoms : S → ℕ) (added : S → List (List (Signed ℕ))) (r : Run S I C) (cs : List TreeClause) (budget : ℕ) → IsSolvedFor atoms added r cs budget
+    → All (IsSomeConclusion (entries_of r)) (held_of r)
+held_conclude atoms added r cs budget (bot, v, h) = go r.left refl
   where
-    go : (o : Option ℕ) → r.left ≡ o → (left : ℕ) × All (IsHeldBack (entries_of r) left) (held_of r)
-    go None e = (0, transport (λ (hs : List code.Held). All (IsHeldBack (entries_of r) 0) (held_in hs)) (sym (h.none_held e)) (All-nil (IsHeldBack (entries_of r) 0)))
-    go (Some k) e = (k, h.held k e)
+    go : (o : Option ℕ) → r.left ≡ o → All (IsSomeConclusion (entries_of r)) (held_of r)
+    go None e = transport (λ (hs : List code.Held). All (IsSomeConclusion (entries_of r)) (held_in hs)) (sym (h.none_held e)) (All-nil (IsSomeConclusion (entries_of r)))
+    go (Some k) e = in_all (IsSomeConclusion (entries_of r)) (held_of r) (λ x i. let b = all_in (IsHeldBack (entries_of r) k) (held_of r) (h.held k e) x i in (b.clause, b.concluded))
 
 module _ {S I C : Type 0} (old new : Run S I C) (reads : Reads old new) where
   tended_read : (pairs : I → List Pair) (p : Partners I C) → entries_in new.entries.bank (items old) ≡ entries_of old → AreTended pairs old p → AreTended pairs new p

@@ -76,7 +76,7 @@ module _ {S I C : Type 0} (atoms : S → ℕ) (added : S → List (List (Signed 
   t = state_of r v true
 
   -- the base as a plain record of trees, without its members
-  abbrev base : format.Base
+  abbrev pub base : format.Base
   base = record { inputs = clauses; names = names; axioms = equality_axioms clauses; members = [] }
 
   members_same : map (entry_of f) (map member_of (items r)) ≡ entries_of r
@@ -135,7 +135,7 @@ module _ {S I C : Type 0} (atoms : S → ℕ) (added : S → List (List (Signed 
 
 -- from what the cycle leaves
 
-own_constant : {S I C : Type 0} (atoms : S → ℕ) (added : S → List (List (Signed ℕ))) (r : Run S I C) (constant : Sym) (cs : List TreeClause) (budget : ℕ) (v : List Tree)
+pub own_constant : {S I C : Type 0} (atoms : S → ℕ) (added : S → List (List (Signed ℕ))) (r : Run S I C) (constant : Sym) (cs : List TreeClause) (budget : ℕ) (v : List Tree)
     → IsRunning atoms added r constant cs budget v true → IsRunning atoms added r r.ground.abstraction.bot cs budget v true
 own_constant atoms added r constant cs budget v h = transport (λ x. IsRunning atoms added r x cs budget v true) (sym h.linked.constant) h
 

@@ -29,3 +29,4 @@ pub mod PrintedEntries
 pub mod Refuting
 pub mod Ended
 pub mod Endings
+pub mod Stopped

@@ -1,9 +1,8 @@
 // What is decided at the end of conclusions that were held back. (A stand-in for the body.)
-ghost use Rattle.std.specs.Prelude.{◌≡◌, ℕ, length, Some, All, OnOk, IfOk};
-ghost use Rattle.engine_laws.specs.Pairs.{IsHeldBack};
+ghost use Rattle.std.specs.Prelude.{◌≡◌, length, Some, All, OnOk, IfOk};
 ghost use Rattle.instgen_loop.specs.Loops.{IsSafe, items, held_of};
 ghost use Rattle.instgen_loop.specs.Running.{Reads, entries_of};
-ghost use Rattle.instgen_loop.specs.Deciding.{IsDecision};
+ghost use Rattle.instgen_loop.specs.Deciding.{IsSomeConclusion, IsDecision};
 
 use crate::state::Run;
 use inst_logic::Memory;
@@ -18,7 +17,7 @@ pub fn decide<S: Solver, I: PartnerIndex>(
 ) -> Result<Option<u64>, Memory>
     requires safe { IsSafe S.atoms I.pairs I.fits run.old }
     requires whole { length run.old.selection.places ≡ length (items run.old) }
-    requires held { (left : ℕ) × All (IsHeldBack (entries_of run.old) left) (held_of run.old) }
+    requires held { All (IsSomeConclusion (entries_of run.old)) (held_of run.old) }
     ensures safe { OnOk result (IsSafe S.atoms I.pairs I.fits run.new) }
     ensures reads { OnOk result (Reads run.old run.new) }
     ensures decision { IfOk result (IsDecision run.new) }

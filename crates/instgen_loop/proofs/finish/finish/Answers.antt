@@ -3,11 +3,11 @@ use Rattle.std.proofs.lemmas.Result.{IfOk-weaker}
 use Rattle.inst_calculus.specs.Axioms.{with_axioms}
 use Rattle.instgen_loop.specs.declared.outcome.Outcome.{Outcome}
 use Rattle.instgen_loop.specs.Outcomes.{journal_of}
-use Rattle.instgen_loop.proofs.Ended.{held_back, rest_read, solved_read, problem_read, journal_read, solved_within}
+use Rattle.instgen_loop.proofs.Ended.{held_conclude, rest_read, solved_read, problem_read, journal_read, solved_within}
 use Rattle.instgen_loop.proofs.finish.finish.Goals as goal
 
 pub decide-requires-clause-held : goal.decide-requires-clause-held
-decide-requires-clause-held g c = held_back g.S.Solver.atoms g.S.Solver.added c.args.run.now (with_axioms c.args.p.now.clauses) c.args.budget c.requires.running
+decide-requires-clause-held g c = held_conclude g.S.Solver.atoms g.S.Solver.added c.args.run.now (with_axioms c.args.p.now.clauses) c.args.budget c.requires.running
 
 pub saturated-requires-clause-rest : goal.saturated-requires-clause-rest
 saturated-requires-clause-rest g c = rest_read c.args.run.now c.decide.new.run c.in_ok-decide.ensures.reads g.S.Solver.atoms g.I.PartnerIndex.pairs g.I.PartnerIndex.fits c.args.partners.now c.requires.safe c.in_ok-decide.ensures.safe c.requires.tended c.requires.rests c.requires.whole
