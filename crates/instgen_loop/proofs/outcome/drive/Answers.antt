@@ -25,23 +25,18 @@ refuted-requires-clause-problem g c =
     problem_later old new c.in_ok-given.given clauses c.args.p.now.names d.bank
     (same_constant g.S.Solver.atoms g.S.Solver.added new old.ground.abstraction.bot (with_axioms clauses) c.args.budget (d.kept old.ground.abstraction.bot c.in_ok-given.ensures.running)) c.in_ok-given.ensures.problem
 
-pub finish-requires-clause-running : goal.finish-requires-clause-running
-finish-requires-clause-running g c =
+pub finish-requires-clause-problem : goal.finish-requires-clause-problem
+finish-requires-clause-problem g c =
     let d = c.in_ok-derivation.ensures in
     let clauses = c.args.p.now.clauses in
     let old = c.start.new.run in
     let new = c.cycle.new.run in
-    let rests = rw c.in-None.is at d.rests in
-    solved_problem g.S.Solver.atoms g.S.Solver.added new c.in_ok-given.given clauses c.args.p.now.names c.args.budget
-    (problem_later old new c.in_ok-given.given clauses c.args.p.now.names d.bank
-    (same_constant g.S.Solver.atoms g.S.Solver.added new old.ground.abstraction.bot (with_axioms clauses) c.args.budget (d.kept old.ground.abstraction.bot c.in_ok-given.ensures.running)) c.in_ok-given.ensures.problem)
-    rests.2
+    problem_later old new c.in_ok-given.given clauses c.args.p.now.names d.bank
+    (same_constant g.S.Solver.atoms g.S.Solver.added new old.ground.abstraction.bot (with_axioms clauses) c.args.budget (d.kept old.ground.abstraction.bot c.in_ok-given.ensures.running)) c.in_ok-given.ensures.problem
 
-pub finish-requires-clause-given : goal.finish-requires-clause-given
-finish-requires-clause-given g c =
-    let d = c.in_ok-derivation.ensures in
-    let clauses = c.args.p.now.clauses in
-    let old = c.start.new.run in
-    let new = c.cycle.new.run in
-    given_of new c.in_ok-given.given clauses c.args.p.now.names (problem_later old new c.in_ok-given.given clauses c.args.p.now.names d.bank
-    (same_constant g.S.Solver.atoms g.S.Solver.added new old.ground.abstraction.bot (with_axioms clauses) c.args.budget (d.kept old.ground.abstraction.bot c.in_ok-given.ensures.running)) c.in_ok-given.ensures.problem)
+pub returns-in-Some-clause-appended : goal.returns-in-Some-clause-appended
+returns-in-Some-clause-appended g c =
+    IfOk-weaker c.refuted.result _ _
+    (λ (o : Outcome) e h. subst (λ j. appended_count j ≤ c.args.budget) (sym e)
+        (appended_within g.S.Solver.atoms g.S.Solver.added c.cycle.new.run c.args.p.now.clauses c.args.budget c.in_ok-derivation.ensures.running h))
+    c.refuted.ensures.journal
