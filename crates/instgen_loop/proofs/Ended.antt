@@ -65,9 +65,3 @@ module _ {S I C : Type 0} (old new : Run S I C) (reads : Reads old new) where
 
   pub journal_read : new.journal ≡ old.journal
   journal_read = ap (λ (r : Run S I C). r.journal) reads.rest
-
--- no more entries were appended than the budget has symbols
-pub solved_within : {S I C : Type 0} (atoms : S → ℕ) (added : S → List (List (Signed ℕ))) (r : Run S I C) (clauses : List TreeClause) (budget : ℕ) → IsSolvedFor atoms added r (with_axioms clauses) budget
-    → (journal : List Event) → journal ≡ r.journal → IsFalse (is_function_free clauses) → appended_count journal ≤ budget
-solved_within atoms added r clauses budget (bot, v, h) journal e functions =
-    transport (λ (js : List Event). appended_count js ≤ budget) (sym e) (appended_within atoms added r clauses budget (bot, v, true, h) functions)

@@ -1,12 +1,10 @@
 -- The first entries, one after the other, and what holds when all were made.
-use Rattle.std.proofs.Common.{◌≡◌, ◌↔◌, ◌⊎◌, inl, inr, ℕ, zero, suc, ◌+◌, ◌-◌, ◌^◌, ◌<◌, ◌≤◌, List, [], ◌∷◌, ◌++◌, refl, sym, ap, ap₂, ◌∙◌, subst as transport, map, take, get_or, length, length-append, append_assoc, arith, All, Contains, Bool, true, false, Option, Some, None, IsTrue, IsFalse}
-use Rattle.std.specs.Prelude.{slice_get}
+use Rattle.std.proofs.Common.{◌≡◌, ◌⊎◌, inl, inr, ℕ, zero, suc, ◌+◌, ◌<◌, List, [], ◌∷◌, ◌++◌, refl, sym, ap, ap₂, ◌∙◌, subst as transport, map, take, get_or, length, length-append, append_assoc, arith, All, Contains, Bool, true, false}
 use Rattle.std.proofs.lemmas.List.{take_more, length-take-le}
 use Rattle.std.proofs.lemmas.List.Folds.{list_all_at, list_all-append}
-use Rattle.std.proofs.lemmas.List.Elements.{All-nil, All-push}
+use Rattle.std.proofs.lemmas.List.Elements.{All-push}
 use Rattle.inst_logic.specs.declared.symbol.Sym.{Sym}
 use Rattle.inst_logic.specs.declared.signed.Signed.{Signed}
-use Rattle.inst_logic.specs.Measure.{is_function_free}
 use Rattle.inst_logic.specs.Tree.{Tree}
 use Rattle.inst_logic.specs.Signed.{IsTautology}
 use Rattle.inst_logic.specs.Clauses.{TreeClause, canonical_form, IsCanonical}
@@ -21,11 +19,9 @@ use Rattle.inst_calculus.proofs.Distinct.{map_append, length_map}
 use Rattle.cert_format.specs.Printable.{IsPrintableClause}
 use Rattle.inst_machine.specs.Machine.{IsFirst}
 use Rattle.inst_machine.proofs.Prolonged.{first_passed_over, first_taken}
-use Rattle.term_bank.specs.Forest.{Forest, AreDistinct, AreFormed, Extends, IsClauseOf, IsClauseAt, clause_at, tree_at}
+use Rattle.term_bank.specs.Forest.{Forest, AreDistinct, Extends, IsClauseOf, IsClauseAt, clause_at, tree_at}
 use Rattle.term_bank.proofs.Clauses.{clause_extends}
 use Rattle.clause_form.proofs.Ids.{same_ids}
-use Rattle.instgen_select.specs.Queues.{numbers}
-use Rattle.saturation_cert.specs.declared.member.Origin.{Origin}
 use Rattle.saturation_cert.specs.declared.member.Origin.TheVariants.{Input}
 use Rattle.saturation_cert.specs.Values.{origin_of}
 use Rattle.saturation_cert.specs.Wholes.{IsWholeClause}

@@ -1,5 +1,5 @@
 -- The atoms at which two valuations differ.
-use Rattle.std.proofs.Common.{◌≡◌, ◌≢◌, ℕ, zero, suc, ◌<◌, ◌≤◌, List, [], ◌∷◌, refl, sym, ap, ◌∙◌, subst as transport, map, length, arith, Bool, true, false, All, AllPairs, Contains, Some, get_or}
+use Rattle.std.proofs.Common.{◌≡◌, ◌≢◌, ℕ, zero, suc, ◌<◌, ◌≤◌, List, [], ◌∷◌, refl, sym, ap, ◌∙◌, subst as transport, map, length, arith, Bool, false, All, AllPairs, Some, get_or}
 use Rattle.std.specs.Prelude.{slice_get}
 use Rattle.std.specs.List.Sorted.{IsStrictlyIncreasing}
 use Rattle.std.proofs.lemmas.List.Kept.{AllPairs-from_increasing}

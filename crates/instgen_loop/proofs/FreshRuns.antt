@@ -1,47 +1,42 @@
 -- A run without entries, and one with its first.
-use Rattle.std.proofs.Common.{◌≡◌, ◌↔◌, inl, inr, ℕ, zero, suc, ◌+◌, ◌-◌, ◌^◌, ◌<◌, ◌≤◌, List, [], ◌∷◌, ◌++◌, refl, sym, ap, ◌∙◌, subst as transport, map, length, arith, All, Contains, Bool, true, false, Option, Some, None, IsTrue, IsFalse, not, ◌||◌}
-use Rattle.std.proofs.lemmas.List.Elements.{All-nil, All-from_recursion}
+use Rattle.std.proofs.Common.{◌≡◌, ℕ, ◌<◌, ◌≤◌, List, [], ◌++◌, refl, sym, ap, ◌∙◌, subst as transport, map, length, arith, All, Contains, Bool, true, false, Option, Some, None, IsTrue, IsFalse, not, ◌||◌}
+use Rattle.std.proofs.lemmas.List.Elements.{All-nil}
 use Rattle.std.specs.Prelude.{slice_get}
 use Rattle.inst_logic.specs.declared.symbol.Sym.{Sym}
 use Rattle.inst_logic.specs.declared.signed.Signed.{Signed}
 use Rattle.std.specs.List.{list_any}
 use Rattle.std.proofs.lemmas.List.Folds.{list_any-append}
 use Rattle.inst_logic.specs.Measure.{is_function_free, clause_applies}
-use Rattle.inst_logic.specs.Tree.{Tree}
-use Rattle.inst_logic.specs.Clauses.{TreeClause, IsCanonical, canonical_form}
+use Rattle.inst_logic.specs.Clauses.{TreeClause, IsCanonical}
 use Rattle.inst_logic.specs.WellFormed.{IsAtom, is_constant}
 use Rattle.inst_logic.specs.Printing.{is_readable_name}
 use Rattle.inst_calculus.specs.Abstraction.{AreAbstracted, IsBot}
 use Rattle.inst_calculus.specs.Axioms.{equality_axioms, with_axioms}
 use Rattle.inst_calculus.proofs.EqualityAxioms.{with_axioms_function_free}
-use Rattle.inst_calculus.specs.Entries.{Entry, input}
 use Rattle.inst_calculus.proofs.Items.{slice_get_below, same_item}
-use Rattle.inst_calculus.proofs.Membership.{◌∈◌, contains_in, in_contains, in_all}
-use Rattle.inst_machine.specs.Machine.{IsFirst, all_read, passed_over, taken}
+use Rattle.inst_calculus.proofs.Membership.{contains_in}
+use Rattle.inst_machine.specs.Machine.{IsFirst, all_read}
 use Rattle.inst_machine.specs.Replay.{Replays}
-use Rattle.inst_machine.specs.Budget.{IsLeft, appended_sizes}
+use Rattle.inst_machine.specs.Budget.{IsLeft}
 use Rattle.inst_machine.proofs.Prolonged.{replay_begins, left_at_first}
 use Rattle.engine_laws.specs.Pairs.{IsHeldBack}
 use Rattle.prop_logic.specs.Valuation.{IsHeld}
 use Rattle.term_bank.specs.Forest.{Forest, AreFormed, Extends, IsClauseOf, clause_at, tree_at}
 use Rattle.term_index.specs.Pairs.{Pair}
-use Rattle.ground_abs.specs.Numbering.{Numbering}
 use Rattle.ground_abs.specs.Abstracts.{AreAtomsIn, AreNotesIn, atoms_in}
 use Rattle.instgen_select.specs.Queues.{numbers, Waiting}
 use Rattle.instgen_loop.specs.declared.event.Event.{Event}
-use Rattle.instgen_loop.specs.declared.queue.Partners.{Partners}
 use Rattle.instgen_loop.specs.declared.state.Run.{Run}
 use Rattle.instgen_loop.specs.declared.state.Held as code
 use Rattle.instgen_loop.specs.Clauses.{Item, AreEntries, AreFirsts, entries_in, clauses_in}
-use Rattle.instgen_loop.specs.Grounds.{IsLinked, IsUsed}
-use Rattle.instgen_loop.specs.Loops.{items, after, held_in, held_of, IsSafe, ArePartners}
-use Rattle.instgen_loop.specs.Running.{IsRunning, IsRunningFor, IsRunningWith, IsSolvedFor, IsEventOf, event_in, entries_of, state_of}
-use Rattle.instgen_loop.specs.Selections.{Placing, AreUsers}
+use Rattle.instgen_loop.specs.Grounds.{IsUsed}
+use Rattle.instgen_loop.specs.Loops.{items, after, held_in, IsSafe}
+use Rattle.instgen_loop.specs.Running.{IsRunning, IsRunningFor, IsRunningWith, IsEventOf, event_in, entries_of, state_of}
+use Rattle.instgen_loop.specs.Selections.{Placing}
 use Rattle.instgen_loop.specs.FirstEntries.{Continues, IsStarted}
-use Rattle.instgen_loop.specs.Starting.{IsFresh, IsAllowed, IsGivenFor, AreGiven, IsOfProblem, IsSolvedProblem}
+use Rattle.instgen_loop.specs.Starting.{IsFresh, IsAllowed, IsOfProblem}
 use Rattle.instgen_loop.specs.declared.start.Given.{Given}
 use Rattle.instgen_loop.proofs.FirstEntries.{given_grown}
-use Rattle.instgen_loop.specs.Tended.{AreTended, AreOnce, indexed_of}
 use Rattle.instgen_loop.specs.Outcomes.{appended_count}
 use Rattle.instgen_loop.proofs.Bounded.{appended_bounded}
 
@@ -187,13 +182,6 @@ problem_later old new g clauses names grown bot h = record {
   constant = transport (λ (s : Sym). IsTrue (is_constant s)) (sym bot) h.constant;
   readable = transport (λ (s : Sym). IsTrue (is_readable_name s.name)) (sym bot) h.readable;
 }
-
-pub given_of : {S I C : Type 0} (r : Run S I C) (g : Given) (clauses : List TreeClause) (names : List (List ℕ)) → IsOfProblem r g clauses names → IsGivenFor r.entries.bank clauses g
-given_of r g clauses names h = record { inputs = h.inputs.same; axioms = h.axioms.same; whole_inputs = h.inputs.whole; whole_axioms = h.axioms.whole }
-
-pub solved_problem : {S I C : Type 0} (atoms : S → ℕ) (added : S → List (List (Signed ℕ))) (r : Run S I C) (g : Given) (clauses : List TreeClause) (names : List (List ℕ)) (budget : ℕ) → IsOfProblem r g clauses names
-    → IsSolvedFor atoms added r (with_axioms clauses) budget → IsSolvedProblem atoms added r clauses budget
-solved_problem atoms added r g clauses names budget p (bot, v, h) = (bot, transport (IsBot clauses) h.linked.constant p.bot, v, h)
 
 -- the run's constant is the one that it began with
 pub same_constant : {S I C : Type 0} (atoms : S → ℕ) (added : S → List (List (Signed ℕ))) (r : Run S I C) (bot : Sym) (cs : List TreeClause) (budget : ℕ) → IsRunningWith atoms added r bot cs budget → r.ground.abstraction.bot ≡ bot

@@ -1,5 +1,5 @@
 -- What a run knows of its solver, and what a question to it changes.
-use Rattle.std.proofs.Common.{◌≡◌, ℕ, zero, suc, ◌<◌, ◌≤◌, List, [], ◌∷◌, refl, sym, ap, ap₂, ◌∙◌, subst as transport, map, length, arith, Bool, true, false, All, Contains, Some}
+use Rattle.std.proofs.Common.{◌≡◌, ℕ, suc, ◌<◌, List, [], ◌∷◌, refl, sym, ap, ap₂, ◌∙◌, subst as transport, map, length, Bool, true, false, All, Contains, Some}
 use Rattle.std.specs.Prelude.{slice_get}
 use Rattle.inst_logic.specs.declared.symbol.Sym.{Sym}
 use Rattle.inst_logic.specs.declared.signed.Signed.{Signed}
@@ -11,7 +11,7 @@ use Rattle.inst_logic.specs.Truth.{IsTrueLiteral, IsTrueClause}
 use Rattle.inst_logic.proofs.ShownLaws.{at_number_contains}
 use Rattle.inst_calculus.specs.Abstraction.{grounding, named_literal, abstract_literals, AreAbstracted}
 use Rattle.inst_calculus.specs.Entries.{Entry, entry_clauses}
-use Rattle.inst_calculus.proofs.Membership.{all_in, in_all, contains_in}
+use Rattle.inst_calculus.proofs.Membership.{all_in, contains_in}
 use Rattle.inst_calculus.proofs.Distinct.{length_map}
 use Rattle.inst_machine.specs.Machine.{change_all}
 use Rattle.cert_format.proofs.Numbers.{slice_get_of_map}
@@ -22,7 +22,7 @@ use Rattle.prop_logic.specs.Literal.{AllAtomsBelow}
 use Rattle.prop_logic.specs.Solving.{IsAnswer, Refutes, Satisfies, IsSubList}
 use Rattle.prop_logic.specs.Valuation.{IsHeld}
 use Rattle.engine_laws.proofs.Bits.{literal_is_as_true}
-use Rattle.term_bank.specs.Forest.{Forest, tree_at, clause_at}
+use Rattle.term_bank.specs.Forest.{Forest, tree_at}
 use Rattle.term_index.specs.Pairs.{Pair}
 use Rattle.ground_abs.specs.Abstracts.{atoms_in}
 use Rattle.instgen_loop.specs.declared.state.Run.{Run}

@@ -34,7 +34,7 @@ use Rattle.engine_laws.specs.Places.{IsPlaced}
 use Rattle.inst_calculus.specs.Abstraction.{AreGroundAtoms, grounding}
 use Rattle.inst_calculus.proofs.Items.{same_item}
 use Rattle.term_index.specs.Pairs.{Pair}
-use Rattle.ground_abs.specs.Abstracts.{IsNote, AreNotesIn}
+use Rattle.ground_abs.specs.Abstracts.{AreNotesIn}
 use Rattle.instgen_loop.specs.declared.state.Run.{Run}
 use Rattle.instgen_loop.specs.Clauses.{Item, AreEntries, entries_in, clauses_in}
 use Rattle.instgen_loop.specs.Loops.{items, IsSafe, IsUnified, IsSideWorked, Goes, Appends}

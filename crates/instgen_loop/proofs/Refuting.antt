@@ -1,5 +1,5 @@
 -- A run whose abstractions are refuted gives a refutation.
-use Rattle.std.proofs.Common.{◌≡◌, ◌⊎◌, inl, inr, ℕ, zero, suc, ◌-◌, ◌<◌, List, [], ◌∷◌, refl, sym, ap, ap₂, ◌∙◌, subst as transport, map, take, length, get_or, arith, nat_eq, Bool, true, All, Contains, Some, Decides}
+use Rattle.std.proofs.Common.{◌≡◌, ◌⊎◌, inl, inr, ℕ, ◌-◌, ◌<◌, List, [], ◌∷◌, refl, sym, ap, ap₂, ◌∙◌, subst as transport, map, take, length, get_or, arith, nat_eq, Bool, true, All, Contains, Some}
 use Rattle.std.specs.Prelude.{slice_get, option_map, IsTrue, ◌≢◌}
 use Rattle.std.proofs.lemmas.Bool.Decides.{Decides-eqb}
 use Rattle.std.proofs.lemmas.List.{get_or-map, take-map}
@@ -14,33 +14,31 @@ use Rattle.inst_logic.specs.Lists.{distinct}
 use Rattle.inst_logic.specs.Clauses.{TreeClause, IsCanonical}
 use Rattle.inst_logic.specs.Derivations.{at_number, IsShown}
 use Rattle.inst_logic.specs.Printing.{is_readable_name}
-use Rattle.inst_logic.specs.WellFormed.{IsAtom, atom_is_formed, clause_is_formed, is_constant}
-use Rattle.inst_logic.specs.Substitution.{subst_literal, tree_vars}
+use Rattle.inst_logic.specs.WellFormed.{IsAtom, atom_is_formed}
+use Rattle.inst_logic.specs.Substitution.{tree_vars}
 use Rattle.inst_logic.proofs.SameLemmas.{signed_eq_decides, literal_eq_decides}
 use Rattle.inst_logic.proofs.Numbering.{map_map}
 use Rattle.inst_logic.proofs.Membership.{get_or_in}
-use Rattle.inst_logic.proofs.Items.{slice_get_contains}
-use Rattle.inst_calculus.specs.Abstraction.{abstraction, abstract_literals, grounding, named_literal}
+use Rattle.inst_calculus.specs.Abstraction.{abstraction, abstract_literals, named_literal}
 use Rattle.inst_calculus.specs.Axioms.{clause_symbols, tree_symbols, occurrences, equality_axioms, with_axioms}
 use Rattle.inst_calculus.specs.Entries.{Entry, entry_clauses}
 use Rattle.inst_calculus.specs.Steps.{Cited, given, earlier, Step, cited_clause, IsShownFrom, EndsEmpty, renamed_literal, renamed_clause, renamed_step, without_repeats, HasAtomsBelow}
-use Rattle.inst_calculus.proofs.Membership.{◌∈◌, contains_in, in_contains, in_map, from_map, all_in, in_all, passes, all_pass}
+use Rattle.inst_calculus.proofs.Membership.{◌∈◌, contains_in, in_contains, in_map, from_map, all_in, in_all, all_pass}
 use Rattle.inst_calculus.proofs.Distinct.{length_map, distinct_map, from_distinct, distinct_is_distinct}
 use Rattle.inst_calculus.proofs.NumberedAbstractions.{abstracted_formed, abstracted_ground}
 use Rattle.inst_calculus.proofs.KeptSymbols.{symbols_with_repeats}
 use Rattle.inst_calculus.proofs.Symbols.{symbol_of_literal}
 use Rattle.inst_calculus.proofs.StepLaws.{shown_when_renamed_below}
 use Rattle.inst_calculus.proofs.SameLiterals.{shown_without_repeats}
-use Rattle.inst_machine.specs.Machine.{State}
 use Rattle.inst_machine.proofs.Contents.{symbols_of_entries}
 use Rattle.inst_machine.proofs.Origins.{entries_are_given}
 use Rattle.prop_logic.specs.declared.literal.Hint.{Hint}
 use Rattle.prop_logic.specs.declared.literal.Hint.TheVariants as hint
 use Rattle.prop_logic.specs.declared.literal.Step.{Step as NumberedStep}
 use Rattle.prop_logic.specs.Literal.{cited, AtomsBelow, AllAtomsBelow, StepsBelow, IsShownDerivation}
-use Rattle.prop_logic.specs.Solving.{Refutes, EndsWith}
+use Rattle.prop_logic.specs.Solving.{Refutes}
 use Rattle.cert_format.specs.Certificate.{FirstRefutation}
-use Rattle.cert_format.specs.Printable.{IsPrintableClause, IsPrintableStep, IsPrintableBase, IsPrintableRefutation}
+use Rattle.cert_format.specs.Printable.{IsPrintableClause, IsPrintableStep, IsPrintableRefutation}
 use Rattle.cert_format.specs.Validity.{IsValidRefutation}
 use Rattle.cert_format.proofs.Numbers.{slice_get_of_map, in_slice_get}
 use Rattle.cert_format.proofs.RightCertificates.{refuted_is_valid}

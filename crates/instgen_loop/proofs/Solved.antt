@@ -1,5 +1,5 @@
 -- A solve keeps the invariant of a run, with the valuation that it leads to.
-use Rattle.std.proofs.Common.{◌≡◌, ℕ, zero, suc, ◌+◌, ◌<◌, ◌≤◌, List, [], ◌∷◌, ◌++◌, refl, sym, ap, ◌∙◌, subst as transport, map, length, arith, Bool, true, All, Contains, Some}
+use Rattle.std.proofs.Common.{◌≡◌, ℕ, zero, suc, ◌<◌, ◌≤◌, List, [], ◌∷◌, ◌++◌, sym, ap, ◌∙◌, subst as transport, map, length, Bool, true, All, Contains, Some}
 use Rattle.std.specs.Prelude.{slice_get}
 use Rattle.std.proofs.lemmas.List.Elements.{All-push}
 use Rattle.inst_logic.specs.declared.symbol.Sym.{Sym}
@@ -12,7 +12,7 @@ use Rattle.inst_logic.specs.Clauses.{TreeClause}
 use Rattle.inst_calculus.specs.Abstraction.{grounding}
 use Rattle.inst_calculus.specs.Entries.{Entry, entry_clauses}
 use Rattle.inst_calculus.specs.Models.{Member}
-use Rattle.inst_calculus.proofs.Membership.{◌∈◌, all_in, contains_in}
+use Rattle.inst_calculus.proofs.Membership.{all_in, contains_in}
 use Rattle.inst_calculus.proofs.Distinct.{map_append, length_map}
 use Rattle.inst_logic.proofs.ShownLaws.{at_number_contains}
 use Rattle.inst_machine.specs.Machine as machine
@@ -22,11 +22,10 @@ use Rattle.prop_logic.specs.Valuation.{IsHeld}
 use Rattle.engine_laws.specs.Places.{IsPlaced, ArePlacedTrue}
 use Rattle.inst_calculus.specs.Abstraction.{AreAbstracted, AreGroundAtoms, named_literal, abstract_literals}
 use Rattle.engine_laws.specs.Valuations.{IsValuationOf}
-use Rattle.inst_calculus.proofs.Items.{same_item}
 use Rattle.cert_format.proofs.Numbers.{slice_get_of_map}
 use Rattle.engine_laws.proofs.Bits.{literal_is_as_true}
 use Rattle.engine_laws.proofs.Solves.{valuation_is_a_step}
-use Rattle.term_bank.specs.Forest.{Forest, tree_at, clause_at}
+use Rattle.term_bank.specs.Forest.{tree_at, clause_at}
 use Rattle.ground_abs.specs.Abstracts.{atoms_in, AreAtomsIn}
 use Rattle.ground_abs.specs.Numbering.{Numbering}
 use Rattle.inst_machine.specs.Budget.{IsLeft}
@@ -35,7 +34,6 @@ use Rattle.instgen_loop.specs.Grounds.{IsUsed}
 use Rattle.instgen_loop.specs.Loops.{held_in}
 use Rattle.instgen_loop.specs.declared.entries.Entries.{Entries}
 use Rattle.saturation_cert.specs.Values.{origin_of}
-use Rattle.instgen_loop.specs.declared.event.Event.{Event}
 use Rattle.instgen_loop.specs.declared.event.Event.TheVariants.{Solved}
 use Rattle.instgen_loop.specs.declared.state.Run.{Run}
 use Rattle.instgen_loop.specs.Clauses.{Item, entries_in, clauses_in}

@@ -1,33 +1,20 @@
 -- A run that begins, and what stays of what it was given.
-use Rattle.std.proofs.Common.{◌≡◌, ◌⊎◌, inl, inr, ℕ, zero, suc, ◌+◌, ◌<◌, ◌≤◌, List, [], ◌∷◌, ◌++◌, refl, sym, ap, ap₂, ◌∙◌, subst as transport, map, length, arith, Bool, true, false, All, Contains}
+use Rattle.std.proofs.Common.{◌≡◌, inl, ℕ, suc, ◌<◌, List, [], ◌++◌, sym, ap₂, subst as transport, map, length, arith, Bool, true, false, All, Contains}
 use Rattle.std.specs.Prelude.{IfOk, Result, Ok, Err, IsTrue, IsFalse}
-use Rattle.std.proofs.lemmas.List.Elements.{All-head, All-tail}
-use Rattle.inst_logic.specs.declared.symbol.Sym.{Sym}
-use Rattle.inst_logic.specs.declared.signed.Signed.{Signed}
 use Rattle.inst_logic.specs.Clauses.{TreeClause}
 use Rattle.inst_logic.specs.Measure.{is_function_free}
-use Rattle.inst_logic.specs.WellFormed.{clause_is_formed, AreFormedClauses, IsAtom}
-use Rattle.inst_calculus.specs.Abstraction.{IsBot}
-use Rattle.inst_calculus.specs.Axioms.{with_axioms}
+use Rattle.inst_logic.specs.WellFormed.{clause_is_formed, AreFormedClauses}
 use Rattle.inst_calculus.proofs.Membership.{contains_in, in_contains, all_in, in_all, all_pass}
 use Rattle.cert_format.specs.Printable.{IsPrintableClause}
-use Rattle.term_bank.specs.Forest.{Forest, Extends, IsClauseOf, clause_at, tree_at}
 use Rattle.term_index.specs.Pairs.{Pair}
 use Rattle.instgen_select.specs.Queues.{numbers}
-use Rattle.saturation_cert.specs.Wholes.{IsWholeClause}
-use Rattle.ground_abs.specs.Numbering.{Numbering}
 use Rattle.instgen_loop.specs.declared.outcome.Outcome.{Outcome}
 use Rattle.instgen_loop.specs.declared.outcome.Outcome.TheVariants.{Refuted, Saturated, OutOfBudget}
 use Rattle.instgen_loop.specs.declared.queue.Partners.{Partners}
-use Rattle.instgen_loop.specs.declared.start.Given.{Given}
 use Rattle.instgen_loop.specs.declared.state.Run.{Run}
 use Rattle.instgen_loop.specs.Loops.{items, after}
 use Rattle.instgen_loop.specs.Outcomes.{IsOutcome, IsDecided}
-use Rattle.instgen_loop.specs.Running.{IsRunningWith, IsSolvedFor}
-use Rattle.instgen_loop.specs.Starting.{IsGivenFor, IsSolvedProblem}
 use Rattle.instgen_loop.specs.Tended.{AreTended, AreOnce, indexed_of}
-use Rattle.term_bank.proofs.Clauses.{clause_extends}
-use Rattle.instgen_loop.proofs.Grown.{whole_kept}
 use Rattle.instgen_loop.proofs.Tending.{above, there, after_once}
 
 -- All entries wait, and none is indexed

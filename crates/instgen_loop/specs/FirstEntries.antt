@@ -1,15 +1,12 @@
 -- The first entries of a run, made of clauses in its bank.
-use Rattle.std.specs.Prelude.{◌≡◌, ℕ, suc, ◌++◌, ◌∷◌, [], List, false, length, map, All}
-use Rattle.inst_logic.specs.declared.symbol.Sym.{Sym}
+use Rattle.std.specs.Prelude.{◌≡◌, ℕ, suc, ◌++◌, ◌∷◌, [], List, length}
 use Rattle.inst_logic.specs.declared.signed.Signed.{Signed}
 use Rattle.inst_logic.specs.Clauses.{TreeClause}
 use Rattle.inst_machine.specs.Machine.{IsFirst}
-use Rattle.term_bank.specs.Forest.{Forest, AreFormed, Extends, clause_at}
-use Rattle.term_index.specs.Pairs.{Pair}
+use Rattle.term_bank.specs.Forest.{Extends}
 use Rattle.ground_abs.specs.Abstracts.{Grows}
 use Rattle.instgen_select.specs.Queues.{numbers}
 use Rattle.saturation_cert.specs.declared.member.Origin.{Origin}
-use Rattle.saturation_cert.specs.Wholes.{IsWholeClause}
 use Rattle.instgen_loop.specs.declared.state.Run.{Run}
 use Rattle.instgen_loop.specs.Clauses.{clauses_in}
 use Rattle.instgen_loop.specs.Grounds.{IsLinked}

@@ -1,21 +1,18 @@
 -- How a run begins, and of which problem it is.
 use Rattle.std.specs.Prelude.{◌≡◌, ◌<◌, ◌^◌, ◌-◌, ℕ, List, [], map, true, false, Some, None, All, IsTrue}
 use Rattle.inst_logic.specs.declared.signed.Signed.{Signed}
-use Rattle.inst_logic.specs.declared.symbol.Sym.{Sym}
-use Rattle.inst_logic.specs.Tree.{Tree}
 use Rattle.inst_logic.specs.Clauses.{TreeClause}
 use Rattle.inst_logic.specs.Measure.{is_function_free}
 use Rattle.inst_logic.specs.Printing.{is_readable_name}
 use Rattle.inst_logic.specs.WellFormed.{is_constant}
 use Rattle.inst_calculus.specs.Abstraction.{IsBot}
-use Rattle.inst_calculus.specs.Axioms.{equality_axioms, with_axioms}
+use Rattle.inst_calculus.specs.Axioms.{equality_axioms}
 use Rattle.term_bank.specs.Forest.{Forest, AreFormed, clause_at}
 use Rattle.term_index.specs.Pairs.{Pair}
 use Rattle.saturation_cert.specs.Wholes.{IsWholeClause}
 use Rattle.instgen_loop.specs.declared.start.Given.{Given}
 use Rattle.instgen_loop.specs.declared.state.Run.{Run}
 use Rattle.instgen_loop.specs.Loops.{items}
-use Rattle.instgen_loop.specs.Running.{IsRunning}
 
 -- nothing happened yet, and there are no entries
 pub record IsFresh {S I C : Type 0} (atoms : S → ℕ) (added : S → List (List (Signed ℕ))) (pairs : I → List Pair) (r : Run S I C) : Type 0 where
@@ -53,14 +50,3 @@ pub record IsOfProblem {S I C : Type 0} (r : Run S I C) (g : Given) (clauses : L
   pub bot : IsBot clauses r.ground.abstraction.bot
   pub constant : IsTrue (is_constant r.ground.abstraction.bot)
   pub readable : IsTrue (is_readable_name r.ground.abstraction.bot.name)
-
--- the clauses of the bank are those of the problem, and its axioms of equality
-pub record IsGivenFor (f : Forest) (clauses : List TreeClause) (g : Given) : Type 0 where
-  pub inputs : map (clause_at f) g.inputs ≡ clauses
-  pub axioms : map (clause_at f) g.axioms ≡ equality_axioms clauses
-  pub whole_inputs : All (IsWholeClause f) g.inputs
-  pub whole_axioms : All (IsWholeClause f) g.axioms
-
--- the run is one of the problem with its own constant, after a solve
-abbrev pub IsSolvedProblem : {S I C : Type 0} → (S → ℕ) → (S → List (List (Signed ℕ))) → Run S I C → List TreeClause → ℕ → Type 0
-IsSolvedProblem atoms added r clauses budget = (bot : Sym) × IsBot clauses bot × (v : List Tree) × IsRunning atoms added r bot (with_axioms clauses) budget v true

@@ -1,11 +1,10 @@
 // The end of a run at rest: a saturation, or the conclusions that the budget left open.
-ghost use Rattle.std.specs.Prelude.{◌≡◌, ◌≤◌, [], length, Some, None, All, IsTrue, IsFalse, IfOk, OnOk};
-ghost use Rattle.inst_logic.specs.Measure.{is_function_free};
+ghost use Rattle.std.specs.Prelude.{◌≡◌, [], length, Some, None, All, IsTrue, IfOk, OnOk};
 ghost use Rattle.inst_logic.specs.Printing.{is_readable_name};
 ghost use Rattle.inst_calculus.specs.Axioms.{with_axioms};
 ghost use Rattle.cert_format.specs.Printable.{IsPrintableClause};
 ghost use Rattle.instgen_loop.specs.Loops.{IsSafe, items};
-ghost use Rattle.instgen_loop.specs.Outcomes.{IsOutcome, appended_count, journal_of};
+ghost use Rattle.instgen_loop.specs.Outcomes.{IsOutcome, journal_of};
 ghost use Rattle.instgen_loop.specs.Deciding.{IsDecision, IsLeastOpen};
 ghost use Rattle.instgen_loop.specs.Ending.{IsAtRest, saturation_from};
 ghost use Rattle.instgen_loop.specs.Running.{IsSolvedFor};
@@ -43,9 +42,9 @@ fn saturation_of<S: Solver, I: PartnerIndex>(
 // The saturation that a run gives of which nothing that was held back is open.
 fn saturated<S: Solver, I: PartnerIndex>(
     alloc: Global,
+    _p: &Problem,
     run: &mut Run<S, I>,
     _partners: &Partners<I>,
-    _p: &Problem,
     given: Given,
     _budget: u64,
 ) -> Result<Outcome, Memory>
@@ -78,9 +77,9 @@ fn left_of<S: Solver, I: PartnerIndex>(run: &Run<S, I>) -> u64
 // What the budget left open, of which the least has this size.
 fn stopped<S: Solver, I: PartnerIndex>(
     alloc: Global,
+    _p: &Problem,
     run: &mut Run<S, I>,
     _partners: &Partners<I>,
-    _p: &Problem,
     given: Given,
     _budget: u64,
     wanted: u64,
@@ -107,9 +106,9 @@ fn stopped<S: Solver, I: PartnerIndex>(
 /// for nothing after.
 pub fn finish<S: Solver, I: PartnerIndex>(
     alloc: Global,
+    p: &Problem,
     run: &mut Run<S, I>,
     partners: &Partners<I>,
-    p: &Problem,
     given: Given,
     budget: u64,
 ) -> Result<Outcome, Memory>
@@ -123,10 +122,10 @@ pub fn finish<S: Solver, I: PartnerIndex>(
     requires named { length p.now.names ≡ length p.now.clauses }
     requires readable { All (λ n. IsTrue (is_readable_name n)) p.now.names }
     ensures outcome { IfOk result (IsOutcome p.now.clauses p.now.names budget) }
-    ensures appended { IfOk result (λ o. IsFalse (is_function_free p.now.clauses) → appended_count (journal_of o) ≤ budget) }
+    ensures journal { IfOk result (λ o. journal_of o ≡ run.old.journal) }
 {
     match decide(alloc, run)? {
-        None => saturated(alloc, run, partners, p, given, budget),
-        Some(wanted) => stopped(alloc, run, partners, p, given, budget, wanted),
+        None => saturated(alloc, p, run, partners, given, budget),
+        Some(wanted) => stopped(alloc, p, run, partners, given, budget, wanted),
     }
 }

@@ -206,8 +206,8 @@ fn given_in(alloc: Global, bank: &mut Bank, p: &Problem) -> Result<Given, Memory
 /// without variants of earlier entries. Their origins are the numbers of the clauses, counted from 1 over both lists.
 pub fn start<S: Solver, I: PartnerIndex>(
     alloc: Global,
-    run: &mut Run<S, I>,
     p: &Problem,
+    run: &mut Run<S, I>,
     _budget: u64,
 ) -> Result<Given, Memory>
     requires fresh { IsFresh S.atoms S.added I.pairs run.old }

@@ -2,8 +2,7 @@ use Rattle.std.proofs.Common.{◌∙◌}
 use Rattle.std.proofs.lemmas.Result.{IfOk-weaker}
 use Rattle.inst_calculus.specs.Axioms.{with_axioms}
 use Rattle.instgen_loop.specs.declared.outcome.Outcome.{Outcome}
-use Rattle.instgen_loop.specs.Outcomes.{journal_of}
-use Rattle.instgen_loop.proofs.Ended.{held_conclude, rest_read, solved_read, problem_read, journal_read, solved_within}
+use Rattle.instgen_loop.proofs.Ended.{held_conclude, rest_read, solved_read, problem_read, journal_read}
 use Rattle.instgen_loop.proofs.finish.finish.Goals as goal
 
 pub decide-requires-clause-held : goal.decide-requires-clause-held
@@ -27,14 +26,10 @@ stopped-requires-clause-running g c = solved_read c.args.run.now c.decide.new.ru
 pub stopped-requires-clause-problem : goal.stopped-requires-clause-problem
 stopped-requires-clause-problem g c = problem_read c.args.run.now c.decide.new.run c.in_ok-decide.ensures.reads c.args.given c.args.p.now.clauses c.args.p.now.names c.requires.problem
 
-pub returns-in-None-clause-appended : goal.returns-in-None-clause-appended
-returns-in-None-clause-appended g c =
-    IfOk-weaker c.saturated.result _ _
-    (λ (o : Outcome) e. solved_within g.S.Solver.atoms g.S.Solver.added c.args.run.now c.args.p.now.clauses c.args.budget c.requires.running (journal_of o) (e ∙ journal_read c.args.run.now c.decide.new.run c.in_ok-decide.ensures.reads))
-    c.saturated.ensures.journal
+pub returns-in-None-clause-journal : goal.returns-in-None-clause-journal
+returns-in-None-clause-journal g c =
+    IfOk-weaker c.saturated.result _ _ (λ (o : Outcome) e. e ∙ journal_read c.args.run.now c.decide.new.run c.in_ok-decide.ensures.reads) c.saturated.ensures.journal
 
-pub returns-in-Some-clause-appended : goal.returns-in-Some-clause-appended
-returns-in-Some-clause-appended g c =
-    IfOk-weaker c.stopped.result _ _
-    (λ (o : Outcome) e. solved_within g.S.Solver.atoms g.S.Solver.added c.args.run.now c.args.p.now.clauses c.args.budget c.requires.running (journal_of o) (e ∙ journal_read c.args.run.now c.decide.new.run c.in_ok-decide.ensures.reads))
-    c.stopped.ensures.journal
+pub returns-in-Some-clause-journal : goal.returns-in-Some-clause-journal
+returns-in-Some-clause-journal g c =
+    IfOk-weaker c.stopped.result _ _ (λ (o : Outcome) e. e ∙ journal_read c.args.run.now c.decide.new.run c.in_ok-decide.ensures.reads) c.stopped.ensures.journal

@@ -1,4 +1,4 @@
-use Rattle.std.proofs.Common.{◌≡◌, ◌≤◌, ◌∙◌, ℕ, sym, subst, length, arith}
+use Rattle.std.proofs.Common.{◌≤◌, ℕ, subst, length, arith}
 use Rattle.instgen_loop.proofs.Settled.{count_of, grown_orderly, started_orderly, started_selectable, started_under_way, started_atoms, middle_under_way, all_settled}
 use Rattle.instgen_loop.proofs.UnderWay.{all_are_true}
 use Rattle.instgen_loop.proofs.settle.select_true.Goals as goal

@@ -1,6 +1,5 @@
-use Rattle.std.proofs.Common.{◌≡◌, [], ℕ, List, sym, ap, subst}
+use Rattle.std.proofs.Common.{[], sym, ap, subst}
 use Rattle.instgen_loop.specs.declared.entries.Entries.{Entries}
-use Rattle.inst_logic.specs.declared.signed.Signed.{Signed}
 use Rattle.prop_logic.specs.Solving.{Refutes, Satisfies}
 use Rattle.instgen_loop.proofs.Grounded.{asked_orderly, asked_grounded, asked_some, truth_kept, some_kept, asked_with, with_kept, unsat_refutes, sat_satisfies}
 use Rattle.instgen_loop.proofs.settle.settle.Goals as goal

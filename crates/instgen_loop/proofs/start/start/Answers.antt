@@ -1,6 +1,6 @@
-use Rattle.std.proofs.Common.{◌≡◌, ◌∙◌, ◌++◌, [], List, ap, sym, refl, map, length, subst}
+use Rattle.std.proofs.Common.{◌∙◌, ◌++◌, [], List, sym, refl, map, subst}
 use Rattle.inst_logic.specs.Clauses.{TreeClause}
-use Rattle.inst_calculus.specs.Axioms.{equality_axioms, with_axioms}
+use Rattle.inst_calculus.specs.Axioms.{equality_axioms}
 use Rattle.inst_calculus.proofs.Distinct.{length_map}
 use Rattle.inst_calculus.proofs.Congruences.{axioms_canonical}
 use Rattle.term_bank.specs.Forest.{clause_at}

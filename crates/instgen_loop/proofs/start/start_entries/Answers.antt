@@ -1,6 +1,6 @@
-use Rattle.std.proofs.Common.{◌≡◌, ◌<◌, ◌+◌, ◌++◌, ◌∷◌, [], ◌∙◌, List, ℕ, All, length, map, take, get_or, arith, sym, subst}
+use Rattle.std.proofs.Common.{◌<◌, ◌++◌, ◌∙◌, List, ℕ, All, length, map, take, arith, sym, subst}
 use Rattle.inst_logic.specs.declared.signed.Signed.{Signed}
-use Rattle.inst_logic.specs.Clauses.{TreeClause, IsCanonical}
+use Rattle.inst_logic.specs.Clauses.{IsCanonical}
 use Rattle.term_bank.specs.Forest.{clause_at}
 use Rattle.term_bank.proofs.Growth.{extends_trans}
 use Rattle.saturation_cert.specs.Wholes.{IsWholeClause}

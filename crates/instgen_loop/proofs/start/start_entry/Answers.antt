@@ -1,8 +1,7 @@
-use Rattle.std.proofs.Common.{◌≡◌, ◌+◌, inl, inr, true, false, nat_eq, sym, subst, length, List, ℕ, Contains}
+use Rattle.std.proofs.Common.{◌≡◌, inl, inr, true, false, nat_eq, sym, subst, List, ℕ, Contains}
 use Rattle.std.proofs.lemmas.Bool.Decides.{Decides-eqb}
 use Rattle.inst_logic.specs.EqualLaws.{signed_eq_decides}
 use Rattle.inst_logic.specs.declared.signed.Signed.{Signed}
-use Rattle.inst_calculus.specs.Entries.{entry_clauses}
 use Rattle.term_bank.specs.Forest.{clause_at}
 use Rattle.saturation_cert.specs.declared.member.Origin.TheVariants.{Input}
 use Rattle.instgen_loop.specs.Clauses.{Item}
