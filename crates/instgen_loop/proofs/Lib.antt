@@ -26,3 +26,4 @@ pub mod Started
 pub mod Grounding
 pub mod Printed
 pub mod Refuting
+pub mod Decisions

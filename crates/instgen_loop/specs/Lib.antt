@@ -12,3 +12,4 @@ pub mod Choosing
 pub mod Settling
 pub mod Starting
 pub mod Refuting
+pub mod Deciding
