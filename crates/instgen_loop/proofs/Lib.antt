@@ -30,3 +30,4 @@ pub mod Refuting
 pub mod Ended
 pub mod Endings
 pub mod Stopped
+pub mod Decisions
