@@ -1,5 +1,5 @@
 -- A run whose abstractions are refuted gives a refutation.
-use Rattle.std.proofs.Common.{◌≡◌, ◌⊎◌, inl, inr, ℕ, ◌-◌, ◌<◌, List, [], ◌∷◌, refl, sym, ap, ap₂, ◌∙◌, subst as transport, map, take, length, get_or, arith, nat_eq, Bool, All, Contains, Some}
+use Rattle.std.proofs.Common.{◌≡◌, ◌⊎◌, inl, inr, ℕ, ◌-◌, ◌<◌, List, [], ◌∷◌, refl, sym, ap, ap₂, ◌∙◌, subst as transport, map, take, length, get_or, arith, nat_eq, Bool, true, All, Contains, Some}
 use Rattle.std.specs.Prelude.{slice_get, option_map, IsTrue, ◌≢◌}
 use Rattle.std.proofs.lemmas.Bool.Decides.{Decides-eqb}
 use Rattle.std.proofs.lemmas.List.{get_or-map, take-map}
@@ -11,24 +11,26 @@ use Rattle.inst_logic.specs.Signed.{IsTautology}
 use Rattle.inst_logic.specs.Tree.{Tree, var}
 use Rattle.inst_logic.specs.Equal.{literal_eq, signed_eq}
 use Rattle.inst_logic.specs.Lists.{distinct}
-use Rattle.inst_logic.specs.Clauses.{TreeClause}
+use Rattle.inst_logic.specs.Clauses.{TreeClause, IsCanonical}
 use Rattle.inst_logic.specs.Derivations.{at_number, IsShown}
 use Rattle.inst_logic.specs.Printing.{is_readable_name}
-use Rattle.inst_logic.specs.WellFormed.{IsAtom}
+use Rattle.inst_logic.specs.WellFormed.{IsAtom, atom_is_formed}
 use Rattle.inst_logic.specs.Substitution.{tree_vars}
 use Rattle.inst_logic.proofs.SameLemmas.{signed_eq_decides, literal_eq_decides}
 use Rattle.inst_logic.proofs.Numbering.{map_map}
-use Rattle.inst_logic.proofs.Membership.{get_or_in, map_agree}
+use Rattle.inst_logic.proofs.Membership.{get_or_in}
 use Rattle.inst_calculus.specs.Abstraction.{abstraction, abstract_literals, named_literal}
-use Rattle.inst_calculus.specs.Axioms.{clause_symbols, tree_symbols, with_axioms}
+use Rattle.inst_calculus.specs.Axioms.{clause_symbols, tree_symbols, occurrences, equality_axioms, with_axioms}
+use Rattle.inst_calculus.specs.Entries.{Entry, entry_clauses}
 use Rattle.inst_calculus.specs.Steps.{Cited, given, earlier, Step, cited_clause, IsShownFrom, EndsEmpty, renamed_literal, renamed_clause, renamed_step, without_repeats, HasAtomsBelow}
-use Rattle.inst_calculus.proofs.Membership.{◌∈◌, contains_in, in_map, from_map, all_in, in_all}
+use Rattle.inst_calculus.proofs.Membership.{◌∈◌, contains_in, in_contains, in_map, from_map, all_in, in_all, all_pass}
 use Rattle.inst_calculus.proofs.Distinct.{length_map, distinct_map, from_distinct, distinct_is_distinct}
 use Rattle.inst_calculus.proofs.NumberedAbstractions.{abstracted_formed, abstracted_ground}
 use Rattle.inst_calculus.proofs.KeptSymbols.{symbols_with_repeats}
 use Rattle.inst_calculus.proofs.Symbols.{symbol_of_literal}
 use Rattle.inst_calculus.proofs.StepLaws.{shown_when_renamed_below}
 use Rattle.inst_calculus.proofs.SameLiterals.{shown_without_repeats}
+use Rattle.inst_machine.proofs.Contents.{symbols_of_entries}
 use Rattle.inst_machine.proofs.Origins.{entries_are_given}
 use Rattle.prop_logic.specs.declared.literal.Hint.{Hint}
 use Rattle.prop_logic.specs.declared.literal.Hint.TheVariants as hint
@@ -40,28 +42,28 @@ use Rattle.cert_format.specs.Printable.{IsPrintableClause, IsPrintableStep, IsPr
 use Rattle.cert_format.specs.Validity.{IsValidRefutation}
 use Rattle.cert_format.proofs.Numbers.{slice_get_of_map, in_slice_get}
 use Rattle.cert_format.proofs.RightCertificates.{refuted_is_valid}
-use Rattle.clause_form.proofs.Ids.{same_literal}
-use Rattle.term_bank.specs.Forest.{Forest, AreDistinct, clause_at, literal_tree, tree_at}
+use Rattle.term_bank.specs.Forest.{Forest, AreDistinct, IsClauseOf, clause_at, literal_tree, tree_at}
 use Rattle.term_index.specs.Pairs.{Pair}
 use Rattle.ground_abs.specs.Abstracts.{atoms_in, AreAtomsIn}
 use Rattle.ground_abs.specs.Numbers.{named}
 use Rattle.saturation_cert.specs.declared.certificate.GroundStep.{GroundStep}
 use Rattle.saturation_cert.specs.declared.certificate.Refutation.{Refutation}
-use Rattle.saturation_cert.specs.Values.{hint_of, step_of, refutation_of}
+use Rattle.saturation_cert.specs.declared.member.Member.{Member}
+use Rattle.saturation_cert.specs.Values.{entry_of, hint_of, step_of, refutation_of}
 use Rattle.saturation_cert.specs.Wholes.{IsWholeClause, IsWholeRefutation}
 use Rattle.instgen_loop.specs.declared.event.Event.{Event}
 use Rattle.instgen_loop.specs.declared.start.Given.{Given}
 use Rattle.instgen_loop.specs.declared.state.Run.{Run}
-use Rattle.instgen_loop.specs.Clauses.{Item, clauses_in}
+use Rattle.instgen_loop.specs.Clauses.{Item, AreEntries, clauses_in}
 use Rattle.instgen_loop.specs.Grounds.{IsUsed}
 use Rattle.instgen_loop.specs.Loops.{items, IsSafe}
 use Rattle.instgen_loop.specs.Outcomes.{IsRefutedRun}
 use Rattle.instgen_loop.specs.Refuting.{ground_clause, ground_hint, ground_step, member_of, refutation_from}
-use Rattle.instgen_loop.specs.Running.{state_of, event_in, IsRunning, IsRunningFor}
+use Rattle.instgen_loop.specs.Running.{entries_of, state_of, event_in, IsRunning, IsRunningFor}
 use Rattle.instgen_loop.specs.Starting.{IsOfProblem}
-use Rattle.instgen_loop.proofs.Handed.{plain_base, base_same, base_whole, base_run, base_printable, entry_symbol_readable, entry_printable}
 use Rattle.instgen_loop.proofs.Inferred.{same_clauses}
-use Rattle.instgen_loop.proofs.Printed.{IsReadable, IsPlain, name_is_readable, plain_printable}
+use Rattle.instgen_loop.proofs.PrintedEntries as entries
+use Rattle.instgen_loop.proofs.Printed.{IsReadable, IsPlain, readable_by_symbols, name_is_readable, plain_printable, all_formed, all_symbols_readable, axiom_printable}
 
 -- Hints and steps as those of the calculus
 
@@ -71,6 +73,10 @@ cited_of (hint.Step n) = earlier n
 
 abbrev plain_step : NumberedStep → Step ℕ
 plain_step s = record { clause = s.clause; hints = map cited_of s.hints }
+
+map_agree : {A B : Type 0} (f g : A → B) (xs : List A) → ((x : A) → x ∈ xs → f x ≡ g x) → map f xs ≡ map g xs
+map_agree f g [] h = refl
+map_agree f g (x ∷ xs) h = ap₂ (λ y ys. y ∷ ys) (h x (inl refl)) (map_agree f g xs (λ y i. h y (inr i)))
 
 hint_same : (gs : List (List (Signed ℕ))) (before : List NumberedStep) (h : Hint) → cited gs before h ≡ cited_clause gs (map plain_step before) (cited_of h)
 hint_same gs before (hint.Added n) = refl
@@ -99,6 +105,12 @@ none_left f [] n e = n refl
 none_left f (x ∷ xs) n e = absurd cc
 
 -- Literals of ids in a bank where equal trees have equal ids
+
+same_literal : (f : Forest) → AreDistinct f.trees → (k l : Signed ℕ) → k.atom < length f.trees → l.atom < length f.trees → literal_tree f k ≡ literal_tree f l → k ≡ l
+same_literal f once k l a b e =
+    let s : k.positive ≡ l.positive = ap (λ (x : Signed Tree). x.positive) e in
+    let t : k.atom ≡ l.atom = once k.atom l.atom a b (ap (λ (x : Signed Tree). x.atom) e) in
+    ap₂ (λ p n. record { positive = p; atom = n }) s t
 
 repeats_dropped : (f : Forest) → AreDistinct f.trees → (ls : List (Signed ℕ)) → ((l : Signed ℕ) → l ∈ ls → l.atom < length f.trees) → clause_at f (distinct (signed_eq nat_eq) ls) ≡ distinct literal_eq (clause_at f ls)
 repeats_dropped f once ls h =
@@ -170,6 +182,14 @@ numbers_literals trees bot cs lits e = ap (map (distinct literal_eq)) e ∙ map_
 same_count : {A B C : Type 0} (g : A → C) (h : B → C) (xs : List A) (ys : List B) → map g xs ≡ map h ys → length xs ≡ length ys
 same_count g h xs ys e = sym (length_map g xs) ∙ ap length e ∙ length_map h ys
 
+pub whole_items : (f : Forest) (es : List Item) → AreEntries f es → All (λ (m : Member). IsWholeClause f m.clause) (map member_of es)
+whole_items f es h = in_all (λ (m : Member). IsWholeClause f m.clause) (map member_of es) (λ m i.
+    let (e, j, q) = from_map member_of m es i in
+    transport (λ (x : Member). IsWholeClause f x.clause) q (record {
+      ids = all_in (λ (x : Item). IsClauseOf f x.0) es h.ids e j;
+      atoms = all_in (λ (x : Item). All (λ l. IsAtom (tree_at f l.atom)) x.0) es h.atoms e j;
+    }))
+
 module _ {S I C : Type 0} (atoms : S → ℕ) (added : S → List (List (Signed ℕ))) (pairs : I → List Pair) (fits : Forest → I → Type 0) (r : Run S I C) (g : Given) (clauses : List TreeClause) (names : List (List ℕ))
     (budget : ℕ) (v : List Tree) (b : Bool) (steps : List NumberedStep) (once : AreDistinct r.entries.bank.trees) (safe : IsSafe atoms pairs fits r)
     (h : IsRunning atoms added r r.ground.abstraction.bot (with_axioms clauses) budget v b) (refutes : Refutes (atoms r.ground.solver) (added r.ground.solver) [] [] steps)
@@ -195,7 +215,7 @@ module _ {S I C : Type 0} (atoms : S → ℕ) (added : S → List (List (Signed 
   -- the refutation as a plain record of trees
   abbrev plain : FirstRefutation
   plain = record {
-    base = plain_base r clauses names;
+    base = record { inputs = clauses; names = names; axioms = equality_axioms clauses; members = entries_of r };
     bot = bot;
     grounds = map (abstraction bot) given_clauses;
     steps = map (tree_step names_of) steps;
@@ -221,8 +241,20 @@ module _ {S I C : Type 0} (atoms : S → ℕ) (added : S → List (List (Signed 
   steps_same : map (step_of f) (map (ground_step ids) steps) ≡ map (tree_step names_of) steps
   steps_same = map_map (step_of f) (ground_step ids) steps ∙ map_agree (λ s. step_of f (ground_step ids s)) (tree_step names_of) steps (λ s i. step_trees f ids h.linked.fits once s (step_below s i))
 
+  members_same : map (entry_of f) (map member_of (items r)) ≡ entries_of r
+  members_same = map_map (entry_of f) member_of (items r)
+
   same : refutation_of (refutation_from r g steps) ≡ plain
-  same = let base = base_same atoms added pairs fits r g clauses names budget v b safe h problem printable count readable in λ i. record { base = base i; bot = bot; grounds = grounds_same i; steps = steps_same i }
+  same =
+      let inputs = problem.inputs.same in
+      let axioms = problem.axioms.same in
+      let named = problem.named in
+      λ i. record {
+        base = record { inputs = inputs i; names = named i; axioms = axioms i; members = members_same i };
+        bot = bot;
+        grounds = grounds_same i;
+        steps = steps_same i;
+      }
 
   -- it is valid
 
@@ -264,10 +296,16 @@ module _ {S I C : Type 0} (atoms : S → ℕ) (added : S → List (List (Signed 
 
   -- it can be printed
 
+  entry_symbol_readable : (c : TreeClause) → c ∈ given_clauses → (s : Sym) → s ∈ clause_symbols c → IsReadable s
+  entry_symbol_readable c i s k = entries.entry_symbol_readable atoms added r bot clauses budget v b safe.entries h printable c i s k
+
+  entry_printable : (c : TreeClause) → c ∈ given_clauses → IsPrintableClause c
+  entry_printable c i = entries.entry_printable atoms added r bot clauses budget v b safe.entries h printable c i
+
   -- what the abstractions of entries have for literals
   abstracted_plain : (c : TreeClause) → c ∈ given_clauses → (l : Signed Tree) → l ∈ abstract_literals bot c → IsPlain l
   abstracted_plain c i l j = record {
-    formed = all_in (λ (l : Signed Tree). IsAtom l.atom) (abstract_literals bot c) (abstracted_formed bot c problem.constant (entry_printable atoms added pairs fits r g clauses names budget v b safe h problem printable count readable c i).formed) l j;
+    formed = all_in (λ (l : Signed Tree). IsAtom l.atom) (abstract_literals bot c) (abstracted_formed bot c problem.constant (entry_printable c i).formed) l j;
     without_variables = all_in (λ (l : Signed Tree). tree_vars l.atom ≡ []) (abstract_literals bot c) (abstracted_ground bot c) l j;
     symbols = λ s k. by s (contains_in s (bot ∷ clause_symbols c)
         (all_in (Contains (bot ∷ clause_symbols c)) (clause_symbols (abstract_literals bot c)) (symbols_with_repeats bot c) s (symbol_of_literal s l (abstract_literals bot c) j k)));
@@ -275,7 +313,7 @@ module _ {S I C : Type 0} (atoms : S → ℕ) (added : S → List (List (Signed 
     where
       by : (s : Sym) → (s ≡ bot) ⊎ (s ∈ clause_symbols c) → IsReadable s
       by s (inl e) = transport IsReadable (sym e) (name_is_readable bot problem.readable)
-      by s (inr k) = entry_symbol_readable atoms added pairs fits r g clauses names budget v b safe h problem printable count readable c i s k
+      by s (inr k) = entry_symbol_readable c i s k
 
   ground_printable : (c : TreeClause) → c ∈ given_clauses → IsPrintableClause (abstraction bot c)
   ground_printable c i = plain_printable (abstraction bot c) (distinct_is_distinct literal_eq literal_eq_decides (abstract_literals bot c))
@@ -303,7 +341,13 @@ module _ {S I C : Type 0} (atoms : S → ℕ) (added : S → List (List (Signed 
 
   can_be_printed : IsPrintableRefutation plain
   can_be_printed = record {
-    base = base_printable atoms added pairs fits r g clauses names budget v b safe h problem printable count readable;
+    base = record {
+      inputs = printable;
+      named = count;
+      names = readable;
+      axioms = in_all IsPrintableClause (equality_axioms clauses) (axiom_printable clauses printable);
+      members = entries.entries_printable atoms added r bot clauses budget v b safe.entries h printable;
+    };
     constant = problem.constant;
     bot_name = problem.readable;
     grounds = in_all IsPrintableClause (map (abstraction bot) given_clauses) (λ d i. let (c, j, e) = from_map (abstraction bot) d given_clauses i in transport IsPrintableClause e (ground_printable c j));
@@ -314,7 +358,7 @@ module _ {S I C : Type 0} (atoms : S → ℕ) (added : S → List (List (Signed 
 
   is_whole : IsWholeRefutation (refutation_from r g steps)
   is_whole = record {
-    base = base_whole atoms added pairs fits r g clauses names budget v b safe h problem printable count readable;
+    base = record { bank = safe.entries.formed; inputs = problem.inputs.whole; axioms = problem.axioms.whole; members = whole_items f (items r) safe.entries };
     grounds = in_all (IsWholeClause f) (map (ground_clause ids) lits) (λ d i.
         let (c, j, e) = from_map (ground_clause ids) d lits i in transport (IsWholeClause f) e (ground_whole f ids h.linked.fits c (all_in (AtomsBelow (length ids)) lits lits_below c j)));
     steps = in_all (λ (s : GroundStep). IsWholeClause f s.clause) (map (ground_step ids) steps) (λ t i.
@@ -329,7 +373,13 @@ module _ {S I C : Type 0} (atoms : S → ℕ) (added : S → List (List (Signed 
   pub refuted_run : IsRefutedRun clauses names (refutation_from r g steps) r.journal
   refuted_run = record {
     state = state_of r v b;
-    run = base_run atoms added pairs fits r g clauses names budget v b safe h problem printable count readable;
+    run = record {
+      inputs = problem.inputs.same;
+      named = problem.named;
+      axioms = problem.axioms.same;
+      replays = record { constant = problem.bot; replays = h.replays };
+      members = sym members_same;
+    };
     whole = is_whole;
     valid = transport IsValidRefutation (sym same) valid;
     printable = transport IsPrintableRefutation (sym same) can_be_printed;

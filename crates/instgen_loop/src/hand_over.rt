@@ -32,7 +32,7 @@ pub fn base_of<S: Solver, I: PartnerIndex>(
     given: Given,
 ) -> Result<Base, Memory>
     ensures base { IfOk result (λ b. b ≡ base_from run.old given) }
-    ensures rest { OnOk result (run.new ≡ record run.old { entries = run.new.entries }) }
+    ensures journal { OnOk result (run.new.journal ≡ run.old.journal) }
 {
     let clauses = replace(&mut run.entries.clauses, IndexMap::new(alloc));
     let members = members_of(alloc, clauses)?;

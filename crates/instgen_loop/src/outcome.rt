@@ -16,7 +16,7 @@ use crate::refuted::refuted;
 use crate::start::{new_run, start};
 use crate::state::Run;
 use ground_abs::bot_of;
-use inst_logic::{Memory, Problem, function_free};
+use inst_logic::{Memory, Problem, Sym, function_free};
 use prop_logic::Solver;
 use saturation_cert::{Refutation, Saturation};
 use std::alloc::Global;
@@ -79,6 +79,37 @@ fn allowed(p: &Problem, budget: u64) -> Option<u64>
     if function_free(p) { None } else { Some(budget) }
 }
 
+// Makes the run with its indexes.
+fn run_with<S: Solver, I: PartnerIndex>(
+    alloc: Global,
+    p: &Problem,
+    bot: Sym,
+    solver: S,
+    positive: I,
+    negative: I,
+    first: I,
+    budget: u64,
+) -> Result<Outcome, Memory>
+    requires bot { IsBot p.now.clauses bot }
+    requires constant { IsTrue (is_constant bot) }
+    requires bot_name { IsTrue (is_readable_name bot.name) }
+    requires atoms { S.atoms solver ≡ 0 }
+    requires added { S.added solver ≡ [] }
+    requires positive { I.pairs positive ≡ [] }
+    requires negative { I.pairs negative ≡ [] }
+    requires first { I.pairs first ≡ [] }
+    requires clauses { All IsPrintableClause p.now.clauses }
+    requires named { length p.now.names ≡ length p.now.clauses }
+    requires readable { All (λ n. IsTrue (is_readable_name n)) p.now.names }
+    requires budget { budget ≤ 1000000000000 }
+    ensures outcome { IfOk result (IsOutcome p.now.clauses p.now.names budget) }
+    ensures appended { IfOk result (λ o. IsFalse (is_function_free p.now.clauses) → appended_count (journal_of o) ≤ budget) }
+{
+    let mut run = new_run(alloc, solver, first, bot, allowed(p, budget));
+    let mut partners = Partners { positive, negative };
+    drive(alloc, p, &mut run, &mut partners, budget)
+}
+
 /// Runs the engine on the problem's clauses and their axioms of equality. The budget counts the symbols and variables of the
 /// entries that are appended; it does not count on problems without function symbols, where the entries are bounded anyway.
 pub fn run<S: Solver, I: PartnerIndex>(
@@ -104,7 +135,5 @@ pub fn run<S: Solver, I: PartnerIndex>(
     ensures appended { IfOk result (λ o. IsFalse (is_function_free p.now.clauses) → appended_count (journal_of o) ≤ budget) }
 {
     let bot = bot_of(alloc, p)?;
-    let mut run = new_run(alloc, solver, first, bot, allowed(p, budget));
-    let mut partners = Partners { positive, negative };
-    drive(alloc, p, &mut run, &mut partners, budget)
+    run_with(alloc, p, bot, solver, positive, negative, first, budget)
 }
