@@ -145,5 +145,5 @@ pub saturated_outcome : {S I C : Type 0} (atoms : S → ℕ) (added : S → List
     → IsSaturatedRun clauses names cert journal
 saturated_outcome atoms added pairs fits r p g clauses names budget rest (constant, v, h) problem printable count readable decided cert journal e q =
     let run : IsSaturatedRun clauses names (saturation_from r g) r.journal =
-        saturated_run atoms added pairs fits r p g clauses names budget v rest (own_constant atoms added r constant (with_axioms clauses) budget v h) problem printable count readable decided in
+    saturated_run atoms added pairs fits r p g clauses names budget v rest (own_constant atoms added r constant (with_axioms clauses) budget v h) problem printable count readable decided in
     transport (λ c. IsSaturatedRun clauses names c journal) (sym e) (transport (IsSaturatedRun clauses names (saturation_from r g)) (sym q) run)

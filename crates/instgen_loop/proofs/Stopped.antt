@@ -178,5 +178,5 @@ module _ {S I C : Type 0} (atoms : S → ℕ) (added : S → List (List (Signed 
       → IsStoppedRun clauses names budget left wanted cert journal
   stopped_outcome (constant, v, h) left l cert journal e q =
       let run : IsStoppedRun clauses names budget left wanted (saturation_from r g) r.journal =
-          stopped_run atoms added pairs fits r p g clauses names budget v rest (own_constant atoms added r constant (with_axioms clauses) budget v h) problem wanted open_ones left l in
+      stopped_run atoms added pairs fits r p g clauses names budget v rest (own_constant atoms added r constant (with_axioms clauses) budget v h) problem wanted open_ones left l in
       transport (λ c. IsStoppedRun clauses names budget left wanted c journal) (sym e) (transport (IsStoppedRun clauses names budget left wanted (saturation_from r g)) (sym q) run)

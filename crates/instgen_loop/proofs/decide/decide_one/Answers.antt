@@ -1,5 +1,4 @@
 use Rattle.std.proofs.Common.{rules, inl}
-
 use Rattle.term_bank.specs.Forest.{tree_at}
 use Rattle.unify_core.specs.Terms.{AreOfOneKind}
 use Rattle.unify_core.specs.declared.side.Side.TheVariants.{Left}
