@@ -1,1 +1,1 @@
-pub mod Problems
+pub mod Printable

@@ -15,6 +15,7 @@ use term_tree::Tree;
 use worked_index::Refusing;
 
 // What the run on the problem says of the row.
+#[tactic(auto, using(std::proofs::lemmas::Grind::common_steps, crate::proofs::Printable::printable_clauses, crate::proofs::Printable::readable_names))]
 fn told_by<S: Solver, I: PartnerIndex>(
     alloc: Global,
     p: &Problem,
