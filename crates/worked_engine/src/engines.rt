@@ -2,7 +2,7 @@
 ghost use Rattle.std.specs.Prelude.{◌≡◌, []};
 ghost use Rattle.tptp_load.specs.Problems.{IsGoodProblem};
 
-use crate::outcomes::{Row, Told, refused, tell};
+use crate::outcomes::{Row, Told, tell};
 use crate::problems::problem_of;
 use cdcl_core::Cdcl;
 use inst_logic::Problem;
@@ -32,11 +32,16 @@ fn told_by<S: Solver, I: PartnerIndex>(
     requires negative { I.pairs negative ≡ [] }
     requires first { I.pairs first ≡ [] }
 {
-    let budget = u64::from(row.budget);
-    match run(alloc, p, solver, positive, negative, first, budget) {
-        Ok(mut outcome) => tell(alloc, &mut outcome, row),
-        Err(_) => Ok(refused()),
-    }
+    let answer = run(
+        alloc,
+        p,
+        solver,
+        positive,
+        negative,
+        first,
+        u64::from(row.budget),
+    );
+    tell(alloc, answer, row)
 }
 
 // What serves the run.

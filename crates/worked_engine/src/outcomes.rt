@@ -1,7 +1,7 @@
 // What an outcome says: how the run ended, and whether its certificate has the clauses that are wanted.
 use crate::problems::problem_of;
 use inst_logic::{ClauseList, Memory};
-use instgen_loop::Outcome;
+use instgen_loop::{Journal, Outcome};
 use saturation_cert::{Base, MemberList, Refutation, Saturation};
 use std::alloc::Global;
 use std::test::Fail;
@@ -124,32 +124,49 @@ fn of_saturation(
     })
 }
 
-// What the outcome says of the row.
-pub fn tell(alloc: Global, outcome: &mut Outcome, row: &Row) -> Result<Told, Fail> {
-    match outcome {
-        Outcome::Refuted { cert, .. } => of_refutation(alloc, cert, row),
-        Outcome::Saturated { cert, .. } => of_saturation(alloc, cert, row, Ending::Saturated),
-        Outcome::OutOfBudget {
-            left,
-            wanted,
-            state,
-            ..
-        } => {
-            let ending = Ending::OutOfBudget {
-                left: *left,
-                wanted: *wanted,
-            };
-            of_saturation(alloc, state, row, ending)
-        }
-    }
+// The journal goes with the certificate, so that one function lets both go.
+fn tell_refutation(
+    alloc: Global,
+    mut cert: Refutation,
+    _journal: Journal,
+    row: &Row,
+) -> Result<Told, Fail> {
+    of_refutation(alloc, &mut cert, row)
 }
 
-// What want of memory says of a row.
-pub fn refused() -> Told {
-    Told {
-        ending: Ending::Memory,
-        members: true,
-        grounds: true,
-        places: true,
+fn tell_saturation(
+    alloc: Global,
+    mut cert: Saturation,
+    _journal: Journal,
+    row: &Row,
+    ending: Ending,
+) -> Result<Told, Fail> {
+    of_saturation(alloc, &mut cert, row, ending)
+}
+
+// What the answer of a run says of the row.
+pub fn tell(alloc: Global, answer: Result<Outcome, Memory>, row: &Row) -> Result<Told, Fail> {
+    match answer {
+        Ok(Outcome::Refuted { cert, journal }) => tell_refutation(alloc, cert, journal, row),
+        Ok(Outcome::Saturated { cert, journal }) => {
+            tell_saturation(alloc, cert, journal, row, Ending::Saturated)
+        }
+        Ok(
+            Outcome::OutOfBudget {
+                left,
+                wanted,
+                state,
+                journal,
+            },
+        ) => {
+            let ending = Ending::OutOfBudget { left, wanted };
+            tell_saturation(alloc, state, journal, row, ending)
+        }
+        Err(Memory) => Ok(Told {
+            ending: Ending::Memory,
+            members: true,
+            grounds: true,
+            places: true,
+        }),
     }
 }
