@@ -1,5 +1,5 @@
 -- The atoms at which two valuations differ.
-use Rattle.std.proofs.Common.{◌≡◌, ◌≢◌, ℕ, zero, suc, ◌<◌, ◌≤◌, List, [], ◌∷◌, refl, sym, ap, ◌∙◌, subst as transport, map, length, arith, Bool, true, false, All, AllPairs, Contains, Some, get_or}
+use Rattle.std.proofs.Common.{◌≡◌, ◌≢◌, ℕ, zero, suc, ◌<◌, ◌≤◌, List, [], ◌∷◌, refl, sym, ap, ◌∙◌, subst as transport, map, length, arith, Bool, false, All, AllPairs, Some, get_or}
 use Rattle.std.specs.Prelude.{slice_get}
 use Rattle.std.specs.List.Sorted.{IsStrictlyIncreasing}
 use Rattle.std.proofs.lemmas.List.Kept.{AllPairs-from_increasing}
@@ -59,7 +59,7 @@ module _ (f : Forest) (ids : List ℕ) (old new : List Bool) (numbers atoms : Li
       let q = at_place numbers atoms at j (omega arith) in
       let same : tree_at f (get_or atoms i 0) ≡ tree_at f (get_or atoms j 0) = sym (get_or_map atoms i d (omega arith)) ∙ e ∙ get_or_map atoms j d (omega arith) in
       let n : get_or numbers i 0 ≡ get_or numbers j 0 = fits.atoms.once (get_or numbers i 0) (get_or numbers j 0) (tree_at f (get_or atoms i 0)) (slice_get_map (tree_at f) ids (get_or numbers i 0) (get_or atoms i 0) p)
-          (slice_get_map (tree_at f) ids (get_or numbers j 0) (get_or atoms j 0) q ∙ ap Some (sym same)) in
+      (slice_get_map (tree_at f) ids (get_or numbers j 0) (get_or atoms j 0) q ∙ ap Some (sym same)) in
       let r : get_or numbers i 0 < get_or numbers j 0 = AllPairs-from_increasing numbers rising i j 0 l (omega arith) in
       omega arith
     where

@@ -1,5 +1,5 @@
 -- What a run knows of its solver, and what a question to it changes.
-use Rattle.std.proofs.Common.{◌≡◌, ℕ, zero, suc, ◌<◌, ◌≤◌, List, [], ◌∷◌, refl, sym, ap, ap₂, ◌∙◌, subst as transport, map, length, arith, Bool, true, false, All, Contains, Some}
+use Rattle.std.proofs.Common.{◌≡◌, ℕ, suc, ◌<◌, List, [], ◌∷◌, refl, sym, ap, ap₂, ◌∙◌, subst as transport, map, length, Bool, true, false, All, Contains, Some}
 use Rattle.std.specs.Prelude.{slice_get}
 use Rattle.inst_logic.specs.declared.symbol.Sym.{Sym}
 use Rattle.inst_logic.specs.declared.signed.Signed.{Signed}
@@ -11,7 +11,7 @@ use Rattle.inst_logic.specs.Truth.{IsTrueLiteral, IsTrueClause}
 use Rattle.inst_logic.proofs.ShownLaws.{at_number_contains}
 use Rattle.inst_calculus.specs.Abstraction.{grounding, named_literal, abstract_literals, AreAbstracted}
 use Rattle.inst_calculus.specs.Entries.{Entry, entry_clauses}
-use Rattle.inst_calculus.proofs.Membership.{all_in, in_all, contains_in}
+use Rattle.inst_calculus.proofs.Membership.{all_in, contains_in}
 use Rattle.inst_calculus.proofs.Distinct.{length_map}
 use Rattle.inst_machine.specs.Machine.{change_all}
 use Rattle.cert_format.proofs.Numbers.{slice_get_of_map}
@@ -22,7 +22,7 @@ use Rattle.prop_logic.specs.Literal.{AllAtomsBelow}
 use Rattle.prop_logic.specs.Solving.{IsAnswer, Refutes, Satisfies, IsSubList}
 use Rattle.prop_logic.specs.Valuation.{IsHeld}
 use Rattle.engine_laws.proofs.Bits.{literal_is_as_true}
-use Rattle.term_bank.specs.Forest.{Forest, tree_at, clause_at}
+use Rattle.term_bank.specs.Forest.{Forest, tree_at}
 use Rattle.term_index.specs.Pairs.{Pair}
 use Rattle.ground_abs.specs.Abstracts.{atoms_in}
 use Rattle.instgen_loop.specs.declared.state.Run.{Run}
@@ -61,13 +61,13 @@ true_by_bits atoms added r bot cs budget v b h i l =
     let (m, p, t) = h.places.placed i l in
     let same : AreAbstracted bot trees r.ground.literals (entry_clauses (entries_of r)) = transport (AreAbstracted bot trees r.ground.literals) (sym (same_clauses f (items r))) h.linked.same in
     let at_clause : slice_get (map (abstract_literals bot) (entry_clauses (entries_of r))) i ≡ Some (abstract_literals bot p.entry.clause) =
-        slice_get_map (abstract_literals bot) (entry_clauses (entries_of r)) i p.entry.clause (slice_get_map (λ (x : Entry). x.clause) (entries_of r) i p.entry p.entry_at) in
+    slice_get_map (abstract_literals bot) (entry_clauses (entries_of r)) i p.entry.clause (slice_get_map (λ (x : Entry). x.clause) (entries_of r) i p.entry p.entry_at) in
     let (c, at, q) = slice_get_of_map (map (named_literal trees)) r.ground.literals i (abstract_literals bot p.entry.clause) (ap (λ xs. slice_get xs i) same.same ∙ at_clause) in
     let named : at_number (map (named_literal trees) c) p.place ≡ Some (subst_literal (grounding bot) m.selected) =
-        ap (λ xs. at_number xs p.place) q ∙ at_number_map (subst_literal (grounding bot)) p.entry.clause p.place m.selected p.selected in
+    ap (λ xs. at_number xs p.place) q ∙ at_number_map (subst_literal (grounding bot)) p.entry.clause p.place m.selected p.selected in
     let (k, here, e) = from_map_number (named_literal trees) c p.place (subst_literal (grounding bot) m.selected) named in
     let below : k.atom < length trees = all_in (λ (x : Signed ℕ). x.atom < length trees) c
-        (all_in (λ c. All (λ (x : Signed ℕ). x.atom < length trees) c) r.ground.literals same.below c (contains_in c r.ground.literals (at_number_contains r.ground.literals (suc i) c at))) k (contains_in k c (at_number_contains c p.place k here)) in
+    (all_in (λ c. All (λ (x : Signed ℕ). x.atom < length trees) c) r.ground.literals same.below c (contains_in c r.ground.literals (at_number_contains r.ground.literals (suc i) c at))) k (contains_in k c (at_number_contains c p.place k here)) in
     record {
       clause = c;
       place = p.place;
@@ -99,7 +99,7 @@ module _ {S I C : Type 0} (atoms : S → ℕ) (added : S → List (List (Signed 
   asked_running bot cs budget v b h = record {
     events = h.events;
     replays = h.replays;
-    linked = record { constant = h.linked.constant; fits = h.linked.fits; count = same_atoms ∙ h.linked.count; given = same_added ∙ h.linked.given; same = h.linked.same };
+    linked = record { constant = h.linked.constant; fits = h.linked.fits; count = same_atoms ∙ h.linked.count; given = same_added ∙ h.linked.given; same = h.linked.same; used = h.linked.used };
     bits = h.bits;
     width = h.width;
     places = h.places;

@@ -34,7 +34,7 @@ use Rattle.engine_laws.specs.Places.{IsPlaced}
 use Rattle.inst_calculus.specs.Abstraction.{AreGroundAtoms, grounding}
 use Rattle.inst_calculus.proofs.Items.{same_item}
 use Rattle.term_index.specs.Pairs.{Pair}
-use Rattle.ground_abs.specs.Abstracts.{IsNote, AreNotesIn}
+use Rattle.ground_abs.specs.Abstracts.{AreNotesIn}
 use Rattle.instgen_loop.specs.declared.state.Run.{Run}
 use Rattle.instgen_loop.specs.Clauses.{Item, AreEntries, entries_in, clauses_in}
 use Rattle.instgen_loop.specs.Loops.{items, IsSafe, IsUnified, IsSideWorked, Goes, Appends}
@@ -87,9 +87,9 @@ made_canonical f g es side c d h made =
     transport IsCanonical (sym q) (canonical_of_canonical (instance (of_side h.unifier side) c))
 
 notes_stay : (f g : Forest) (bot : Sym) (notes : List (ℕ × ℕ)) → Extends f g → AreNotesIn f bot notes → AreNotesIn g bot notes
-notes_stay f g bot notes e h = in_all (IsNote g bot) notes (λ n i.
-    let (k, l) = all_in (IsNote f bot) notes h n i in
-    (omega (arith, e.trees.0), at_extends f g n.1 (subst (grounding bot) (tree_at g n.0)) e (transport (λ t. IsAt f n.1 (subst (grounding bot) t)) (sym (e.trees.1 n.0 k)) l)))
+notes_stay f g bot notes e h i r at =
+    let (k, l) = h i r at in
+    (omega (arith, e.trees.0), at_extends f g r (subst (grounding bot) (tree_at g i)) e (transport (λ t. IsAt f r (subst (grounding bot) t)) (sym (e.trees.1 i k)) l))
 
 pub safe_grown : {S I C : Type 0} (atoms : S → ℕ) (pairs : I → List Pair) (fits : Forest → I → Type 0) (r : Run S I C) (g : Forest) → IsSafe atoms pairs fits r → Extends r.entries.bank g → AreFormed g → fits g r.entries.first
     → IsSafe atoms pairs fits (record r { entries = record r.entries { bank = g } })

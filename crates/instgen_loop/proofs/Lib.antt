@@ -15,8 +15,14 @@ pub mod Tending
 pub mod UnderWay
 pub mod Withdrawn
 pub mod Flipped
+pub mod FirstEntries
+pub mod FreshRuns
 pub mod Solved
 pub mod Settled
 pub mod Grounded
 pub mod Saturated
 pub mod Kept
+pub mod Started
+pub mod Grounding
+pub mod Printed
+pub mod Refuting

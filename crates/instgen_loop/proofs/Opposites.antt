@@ -55,7 +55,7 @@ pub running_rebound : {S I C : Type 0} (atoms : S → ℕ) (added : S → List (
 running_rebound atoms added r b bot cs budget v h = record {
   events = h.events;
   replays = h.replays;
-  linked = record { constant = h.linked.constant; fits = h.linked.fits; count = h.linked.count; given = h.linked.given; same = h.linked.same };
+  linked = record { constant = h.linked.constant; fits = h.linked.fits; count = h.linked.count; given = h.linked.given; same = h.linked.same; used = h.linked.used };
   bits = h.bits;
   width = h.width;
   places = h.places;
@@ -71,7 +71,7 @@ pub running_requeued : {S I C : Type 0} (atoms : S → ℕ) (added : S → List 
 running_requeued atoms added r q bot cs budget v h = record {
   events = h.events;
   replays = h.replays;
-  linked = record { constant = h.linked.constant; fits = h.linked.fits; count = h.linked.count; given = h.linked.given; same = h.linked.same };
+  linked = record { constant = h.linked.constant; fits = h.linked.fits; count = h.linked.count; given = h.linked.given; same = h.linked.same; used = h.linked.used };
   bits = h.bits;
   width = h.width;
   places = h.places;

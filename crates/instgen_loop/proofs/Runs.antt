@@ -44,6 +44,7 @@ use Rattle.instgen_loop.specs.declared.event.Event.TheVariants.{Solved, Inferred
 use Rattle.instgen_loop.specs.declared.state.Run.{Run}
 use Rattle.instgen_loop.specs.declared.state.Held as code
 use Rattle.instgen_loop.specs.Clauses.{Item, AreEntries, entries_in, clauses_in}
+use Rattle.instgen_loop.specs.Grounds.{IsUsed}
 use Rattle.instgen_loop.specs.Loops.{items, held_in, held_of, Appends, KeepsLink, IsSelectedLiteral}
 use Rattle.instgen_loop.specs.Running.{event_in, IsEventOf, entries_of, state_of, IsRunning, KeepsRunning, Reads, Holds, from_side, MayInfer}
 use Rattle.term_bank.proofs.Growth.{map_extends}
@@ -94,6 +95,8 @@ running_read atoms added old new reads entries bot cs budget v h =
         given = h.linked.given;
         same = transport (λ ts. AreAbstracted bot ts old.ground.literals (clauses_in g (items old))) (sym atoms_same)
             (transport (λ cs. AreAbstracted bot (atoms_in f ids) old.ground.literals cs) (sym (clauses_kept f g reads.bank (items old) (λ x i. all_in (λ (x : Item). IsClauseOf f x.0) (items old) entries.ids x i))) h.linked.same);
+        used = transport (λ ts. All (IsUsed bot (clauses_in g (items old))) ts) (sym atoms_same)
+            (transport (λ cs. All (IsUsed bot cs) (atoms_in f ids)) (sym (clauses_kept f g reads.bank (items old) (λ x i. all_in (λ (x : Item). IsClauseOf f x.0) (items old) entries.ids x i))) h.linked.used);
       };
       bits = transport (λ ts. IsValuationOf ts old.ground.valuation v) (sym atoms_same) h.bits;
       width = h.width;
@@ -169,7 +172,7 @@ running_held atoms added old new side from partner holds m large some bot cs bud
     transport (λ r. IsRunning atoms added r bot cs budget v true) (sym holds.rest) (record {
       events = h.events;
       replays = h.replays;
-      linked = record { constant = h.linked.constant; fits = h.linked.fits; count = h.linked.count; given = h.linked.given; same = h.linked.same };
+      linked = record { constant = h.linked.constant; fits = h.linked.fits; count = h.linked.count; given = h.linked.given; same = h.linked.same; used = h.linked.used };
       bits = h.bits;
       width = h.width;
       places = h.places;

@@ -1,5 +1,5 @@
 -- A run at rest whose held conclusions are decided gives a valid saturation.
-use Rattle.std.proofs.Common.{◌≡◌, ◌⊎◌, inl, inr, ℕ, suc, ◌<◌, ◌≤◌, List, [], ◌∷◌, refl, sym, ap, ◌∙◌, subst as transport, map, length, arith, Bool, true, All, Contains}
+use Rattle.std.proofs.Common.{◌≡◌, ◌⊎◌, inl, inr, ℕ, suc, ◌<◌, List, [], sym, ◌∙◌, subst as transport, map, length, arith, true, All, Contains}
 use Rattle.inst_logic.specs.declared.symbol.Sym.{Sym}
 use Rattle.inst_logic.specs.declared.signed.Signed.{Signed}
 use Rattle.inst_logic.specs.Tree.{Tree}
@@ -7,9 +7,9 @@ use Rattle.inst_logic.specs.WellFormed.{AreFormedClauses}
 use Rattle.inst_calculus.specs.Axioms.{equality_axioms, with_axioms}
 use Rattle.inst_calculus.proofs.Membership.{contains_in}
 use Rattle.inst_calculus.proofs.Distinct.{length_map}
-use Rattle.cert_format.specs.Certificate.{Base, Saturation}
+use Rattle.cert_format.specs.Certificate.{Base}
 use Rattle.cert_format.specs.Validity.{IsValidSaturation}
-use Rattle.engine_laws.specs.Pairs.{IsDecided, AreQueuedOrIndexed}
+use Rattle.engine_laws.specs.Pairs.{IsDecided}
 use Rattle.engine_laws.proofs.SelectedEntries.{all_covered}
 use Rattle.engine_laws.proofs.ValidRuns.{valid_when_closed}
 use Rattle.term_bank.specs.Forest.{clause_at}

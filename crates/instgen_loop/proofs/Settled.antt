@@ -1,13 +1,10 @@
 -- Each entry has a true place after a solve.
-use Rattle.std.proofs.Common.{◌≡◌, ℕ, zero, suc, ◌-◌, ◌+◌, ◌<◌, ◌≤◌, List, [], ◌∷◌, ◌++◌, ◌⊎◌, inl, inr, refl, sym, ap, ◌∙◌, subst as transport, map, length, length-append, arith, All, Contains, Bool, true, false, Some}
-use Rattle.std.specs.Prelude.{slice_get}
+use Rattle.std.proofs.Common.{◌≡◌, ℕ, ◌+◌, ◌<◌, ◌≤◌, List, [], ◌∷◌, ◌++◌, inl, inr, refl, sym, ap, ◌∙◌, subst as transport, map, length, length-append, arith, All, Contains, Bool, true, false}
 use Rattle.inst_logic.specs.declared.signed.Signed.{Signed}
 use Rattle.inst_logic.specs.Derivations.{at_number}
 use Rattle.inst_logic.specs.Truth.{IsTrueClause}
 use Rattle.inst_calculus.proofs.Membership.{in_contains, in_all, all_in}
 use Rattle.inst_calculus.proofs.Distinct.{length_map}
-use Rattle.inst_calculus.proofs.Items.{at_number_within}
-use Rattle.prop_logic.specs.Literal.{AllAtomsBelow}
 use Rattle.prop_logic.specs.Valuation.{IsHeld, AreChanges}
 use Rattle.engine_laws.specs.Pairs.{IsWorked}
 use Rattle.engine_laws.proofs.Lists.{slice_get_there, at_number_front}
@@ -30,7 +27,7 @@ use Rattle.instgen_loop.specs.Settling.{AreSelectable, IsOrderly, IsGrounded, Re
 use Rattle.instgen_loop.specs.Solves.{IsTruePlace, Solves}
 use Rattle.instgen_loop.specs.Tended.{indexed_of}
 use Rattle.instgen_loop.proofs.Selected.{place_positive}
-use Rattle.instgen_loop.proofs.Tending.{indexed_pair, indexed_by}
+use Rattle.instgen_loop.proofs.Tending.{indexed_pair}
 use Rattle.instgen_loop.proofs.UnderWay.{users_made, under_way_at_first, all_are_users, all_are_true}
 use Rattle.instgen_loop.proofs.Withdrawn.{orderly_users, place_there, same_length}
 
@@ -135,8 +132,8 @@ module _ {S I C : Type 0} (atoms : S → ℕ) (pairs : I → List Pair) (fits : 
     hold = hold;
     below = in_all (λ (c : List (Signed ℕ)). All (λ l. l.atom < length s.users) c) r.ground.literals (λ c i.
         in_all (λ (l : Signed ℕ). l.atom < length s.users) c (λ l j.
-            let b = all_in (λ (l : Signed ℕ). l.atom < length r.ground.abstraction.ids) c (all_in (λ (c : List (Signed ℕ)). All (λ l. l.atom < length r.ground.abstraction.ids) c) r.ground.literals grounded.below c i) l j in
-            omega arith));
+        let b = all_in (λ (l : Signed ℕ). l.atom < length r.ground.abstraction.ids) c (all_in (λ (c : List (Signed ℕ)). All (λ l. l.atom < length r.ground.abstraction.ids) c) r.ground.literals grounded.below c i) l j in
+        omega arith));
     placed = more_users.numbers;
   }
 

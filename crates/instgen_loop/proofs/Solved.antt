@@ -1,5 +1,5 @@
 -- A solve keeps the invariant of a run, with the valuation that it leads to.
-use Rattle.std.proofs.Common.{◌≡◌, ℕ, zero, suc, ◌+◌, ◌<◌, ◌≤◌, List, [], ◌∷◌, ◌++◌, refl, sym, ap, ◌∙◌, subst as transport, map, length, arith, Bool, true, All, Contains, Some}
+use Rattle.std.proofs.Common.{◌≡◌, ℕ, zero, suc, ◌<◌, ◌≤◌, List, [], ◌∷◌, ◌++◌, sym, ap, ◌∙◌, subst as transport, map, length, Bool, true, All, Contains, Some}
 use Rattle.std.specs.Prelude.{slice_get}
 use Rattle.std.proofs.lemmas.List.Elements.{All-push}
 use Rattle.inst_logic.specs.declared.symbol.Sym.{Sym}
@@ -12,7 +12,7 @@ use Rattle.inst_logic.specs.Clauses.{TreeClause}
 use Rattle.inst_calculus.specs.Abstraction.{grounding}
 use Rattle.inst_calculus.specs.Entries.{Entry, entry_clauses}
 use Rattle.inst_calculus.specs.Models.{Member}
-use Rattle.inst_calculus.proofs.Membership.{◌∈◌, all_in, contains_in}
+use Rattle.inst_calculus.proofs.Membership.{all_in, contains_in}
 use Rattle.inst_calculus.proofs.Distinct.{map_append, length_map}
 use Rattle.inst_logic.proofs.ShownLaws.{at_number_contains}
 use Rattle.inst_machine.specs.Machine as machine
@@ -22,19 +22,18 @@ use Rattle.prop_logic.specs.Valuation.{IsHeld}
 use Rattle.engine_laws.specs.Places.{IsPlaced, ArePlacedTrue}
 use Rattle.inst_calculus.specs.Abstraction.{AreAbstracted, AreGroundAtoms, named_literal, abstract_literals}
 use Rattle.engine_laws.specs.Valuations.{IsValuationOf}
-use Rattle.inst_calculus.proofs.Items.{same_item}
 use Rattle.cert_format.proofs.Numbers.{slice_get_of_map}
 use Rattle.engine_laws.proofs.Bits.{literal_is_as_true}
 use Rattle.engine_laws.proofs.Solves.{valuation_is_a_step}
-use Rattle.term_bank.specs.Forest.{Forest, tree_at, clause_at}
+use Rattle.term_bank.specs.Forest.{tree_at, clause_at}
 use Rattle.ground_abs.specs.Abstracts.{atoms_in, AreAtomsIn}
 use Rattle.ground_abs.specs.Numbering.{Numbering}
 use Rattle.inst_machine.specs.Budget.{IsLeft}
 use Rattle.engine_laws.specs.Pairs.{IsHeldBack}
+use Rattle.instgen_loop.specs.Grounds.{IsUsed}
 use Rattle.instgen_loop.specs.Loops.{held_in}
 use Rattle.instgen_loop.specs.declared.entries.Entries.{Entries}
 use Rattle.saturation_cert.specs.Values.{origin_of}
-use Rattle.instgen_loop.specs.declared.event.Event.{Event}
 use Rattle.instgen_loop.specs.declared.event.Event.TheVariants.{Solved}
 use Rattle.instgen_loop.specs.declared.state.Run.{Run}
 use Rattle.instgen_loop.specs.Clauses.{Item, entries_in, clauses_in}
@@ -61,8 +60,7 @@ place_is_true bot atoms bits w literals es places i b different values same h =
     let named : at_number (map (subst_literal (grounding bot)) c) h.place ≡ Some (named_literal atoms l) = ap (λ xs. at_number xs h.place) q ∙ at_number_map (named_literal atoms) h.clause h.place l here in
     let (k, at_literal, r) = from_map_number (subst_literal (grounding bot)) c h.place (named_literal atoms l) named in
     let below : l.atom < length atoms = all_in (λ (x : Signed ℕ). x.atom < length atoms) h.clause (all_in (λ c. All (λ (x : Signed ℕ). x.atom < length atoms) c) literals same.below h.clause (contains_in h.clause literals (at_number_contains literals (suc i) h.clause h.clause_at)))
-        l (contains_in l h.clause (at_number_contains h.clause h.place l here)) in
-    (
+    l (contains_in l h.clause (at_number_contains h.clause h.place l here)) in (
       record { clause = c; selected = k },
       record { entry = e; place = h.place; entry_at = at_entry; place_at = h.place_at; clause = sym p; selected = ap (λ x. at_number x h.place) p ∙ at_literal },
       transport (IsTrueLiteral (Contains w)) (sym r) ((literal_is_as_true atoms bits w l different values below).0 holds),
@@ -77,7 +75,7 @@ running_solved atoms added old new flips solves holds bot cs budget v b h =
     let w = change_all v (map (tree_at f) flips) in
     let abstracted : AreAbstracted bot (atoms_in f ids) old.ground.literals (entry_clauses (entries_of old)) = transport (AreAbstracted bot (atoms_in f ids) old.ground.literals) (sym (same_clauses f (items old))) h.linked.same in
     let (replays, settled, bits) = valuation_is_a_step bot cs (map (event_in f) old.journal) (state_of old v b) (atoms_in f ids) old.ground.literals old.ground.valuation new.ground.valuation (map (tree_at f) flips)
-        h.replays h.linked.fits.atoms abstracted h.bits solves.changes (transport (All (IsTrueClause (IsHeld new.ground.valuation))) h.linked.given holds) in
+    h.replays h.linked.fits.atoms abstracted h.bits solves.changes (transport (All (IsTrueClause (IsHeld new.ground.valuation))) h.linked.given holds) in
     let journal : map (event_in f) new.journal ≡ map (event_in f) old.journal ++ machine.solved (map (tree_at f) flips) ∷ [] = ap (map (event_in f)) solves.event ∙ map_append (event_in f) old.journal (Solved flips ∷ []) in
     let events : All (IsEventOf f) new.journal = transport (All (IsEventOf f)) (sym solves.event) (All-push (IsEventOf f) old.journal (Solved flips) h.events solves.ids) in
     let count : length (entries_of old) ≡ length (items old) = length_map (λ (x : Item). record { clause = clause_at f x.0; origin = origin_of x.1 }) (items old) in
@@ -96,7 +94,9 @@ running_solved atoms added old new flips solves holds bot cs budget v b h =
         given = solves.added_same ∙ h.linked.given ∙ sym solves.literals;
         same = transport (λ (e : Entries _ _). AreAbstracted bot (atoms_in e.bank new.ground.abstraction.ids) new.ground.literals (clauses_in e.bank e.clauses.entries)) (sym solves.entries)
             (transport (λ (a : Numbering). AreAbstracted bot (atoms_in f a.ids) new.ground.literals (clauses_in f (items old))) (sym solves.numbering)
-                (transport (λ ls. AreAbstracted bot (atoms_in f ids) ls (clauses_in f (items old))) (sym solves.literals) h.linked.same));
+            (transport (λ ls. AreAbstracted bot (atoms_in f ids) ls (clauses_in f (items old))) (sym solves.literals) h.linked.same));
+        used = transport (λ (e : Entries _ _). All (IsUsed bot (clauses_in e.bank e.clauses.entries)) (atoms_in e.bank new.ground.abstraction.ids)) (sym solves.entries)
+            (transport (λ (a : Numbering). All (IsUsed bot (clauses_in f (items old))) (atoms_in f a.ids)) (sym solves.numbering) h.linked.used);
       };
       bits = transport (λ (e : Entries _ _). IsValuationOf (atoms_in e.bank new.ground.abstraction.ids) new.ground.valuation w) (sym solves.entries)
           (transport (λ (a : Numbering). IsValuationOf (atoms_in f a.ids) new.ground.valuation w) (sym solves.numbering) bits);

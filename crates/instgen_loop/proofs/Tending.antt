@@ -67,12 +67,12 @@ once_split (x ∷ xs) n ys h =
       λ i. elim (contains_in n (x ∷ (xs ++ ys)) i) [ inl e ↦ h.0 (in_contains x (xs ++ n ∷ ys) (in_right x xs (n ∷ ys) (inl (sym e)))) | inr k ↦ b (in_contains n (xs ++ ys) k) ],
     )
 
-above : (k n m : ℕ) → m ∈ after k n → k < m
+pub above : (k n m : ℕ) → m ∈ after k n → k < m
 above k zero m i = absurd i
 above k (suc n) m (inl e) = omega arith
 above k (suc n) m (inr i) = let h = above (suc k) n m i in omega arith
 
-there : (k n m : ℕ) → k < m → m ≤ k + n → m ∈ after k n
+pub there : (k n m : ℕ) → k < m → m ≤ k + n → m ∈ after k n
 there k zero m a b = absurd (omega arith)
 there k (suc n) m a b = elim (same_or_above (suc k) m (omega arith)) [ inl e ↦ inl e | inr l ↦ inr (there (suc k) n m l (omega arith)) ]
   where
@@ -82,7 +82,7 @@ there k (suc n) m a b = elim (same_or_above (suc k) m (omega arith)) [ inl e ↦
     same_or_above (suc j) zero h = absurd (omega arith)
     same_or_above (suc j) (suc m) h = elim (same_or_above j m (omega arith)) [ inl e ↦ inl (ap suc e) | inr l ↦ inr (omega arith) ]
 
-after_once : (k n : ℕ) → AreOnce (after k n)
+pub after_once : (k n : ℕ) → AreOnce (after k n)
 after_once k zero = tt
 after_once k (suc n) = (λ i. let h = above (suc k) n (suc k) (contains_in (suc k) (after (suc k) n) i) in omega arith, after_once (suc k) n)
 

@@ -10,12 +10,12 @@ use Rattle.inst_logic.specs.Derivations.{at_number}
 use Rattle.inst_logic.specs.Signed.{signed}
 use Rattle.inst_logic.specs.Truth.{IsTrueLiteral, IsTrueClause}
 use Rattle.inst_logic.proofs.ShownLaws.{slice_get_contains, slice_get_append, at_number_contains}
-use Rattle.inst_calculus.proofs.Membership.{◌∈◌, contains_in, in_contains, in_left, in_right, in_either, in_all, all_in}
-use Rattle.inst_calculus.proofs.Items.{same_item, slice_get_below, at_number_within}
+use Rattle.inst_calculus.proofs.Membership.{contains_in, in_contains, in_left, in_right, in_all, all_in}
+use Rattle.inst_calculus.proofs.Items.{same_item}
 use Rattle.prop_logic.specs.Literal.{AllAtomsBelow}
 use Rattle.prop_logic.specs.Valuation.{IsHeld, value_at, AreChanges}
 use Rattle.prop_logic.proofs.PackedLaws.{value_held}
-use Rattle.prop_logic.proofs.ListLaws.{slice_get_set, slice_get_set_other, slice_get_last, slice_get_push}
+use Rattle.prop_logic.proofs.ListLaws.{slice_get_set, slice_get_set_other, slice_get_last}
 use Rattle.instgen_select.specs.Choices.{IsTrueAt}
 use Rattle.instgen_loop.specs.Choosing.{IsChoice, IsNumberedPlace, IsChosenBut, IsUnderWay, AreNumbersPlaced, AreUsersKept}
 use Rattle.instgen_loop.specs.Selections.{Placing, IsUser, AreUsers}

@@ -1,15 +1,14 @@
 -- An entry leaves its index and waits again, and chooses again.
-use Rattle.std.proofs.Common.{◌≡◌, ◌⊎◌, ◌↔◌, inl, inr, ℕ, zero, suc, ◌-◌, ◌<◌, ◌≤◌, List, [], ◌∷◌, ◌++◌, refl, sym, ap, ◌∙◌, subst as transport, map, length, arith, All, Contains, Bool, true, false, Some, get_or}
+use Rattle.std.proofs.Common.{◌≡◌, ◌⊎◌, ◌↔◌, inl, inr, ℕ, zero, suc, ◌-◌, ◌<◌, ◌≤◌, List, [], ◌∷◌, ◌++◌, refl, sym, ap, ◌∙◌, subst as transport, map, length, arith, Contains, Bool, true, false, Some, get_or}
 use Rattle.std.specs.Prelude.{slice_get, option_map, OnOk, IfOk, Result, Ok, Err}
 use Rattle.std.proofs.lemmas.Option.{slice_get-map, same_Some}
 use Rattle.std.proofs.Math.ListN.{set}
 use Rattle.std.proofs.lemmas.List.{length-set}
-use Rattle.std.proofs.lemmas.List.Elements.{All-push, All-nil}
 use native.Mathlib.Decide.{ℕ_discrete}
 use Rattle.inst_logic.specs.declared.signed.Signed.{Signed}
 use Rattle.inst_logic.specs.Derivations.{at_number}
-use Rattle.inst_calculus.proofs.Membership.{◌∈◌, contains_in, in_contains, in_all, all_in, in_left, in_right, in_either, in_map, from_map}
-use Rattle.inst_calculus.proofs.Items.{same_item, slice_get_below}
+use Rattle.inst_calculus.proofs.Membership.{◌∈◌, contains_in, in_contains, in_all, all_in, in_left, in_right, in_either}
+use Rattle.inst_calculus.proofs.Items.{same_item}
 use Rattle.prop_logic.proofs.ListLaws.{slice_get_set, slice_get_set_other}
 use Rattle.engine_laws.specs.Pairs.{IsWorked, AreWorked}
 use Rattle.engine_laws.proofs.WorkedPairs.{pair_stays_worked}
@@ -21,7 +20,7 @@ use Rattle.instgen_select.specs.Queues.{Waiting_list, numbers}
 use Rattle.instgen_loop.specs.declared.state.Run.{Run}
 use Rattle.instgen_loop.specs.declared.queue.Partners.{Partners}
 use Rattle.instgen_loop.specs.Clauses.{Item}
-use Rattle.instgen_loop.specs.Loops.{items, held_of, IsSafe, ArePartners, IsStored, IsSigned, IsSelectedAtom, IsSelectedLiteral, IsLiteralPlace}
+use Rattle.instgen_loop.specs.Loops.{items, held_of, ArePartners, IsStored, IsSigned, IsSelectedAtom, IsSelectedLiteral, IsLiteralPlace}
 use Rattle.instgen_loop.specs.Running.{entries_of}
 use Rattle.instgen_loop.specs.Selections.{Placing}
 use Rattle.instgen_loop.specs.Choosing.{IsChoice, IsUnderWay, AreNumbersPlaced}
@@ -31,7 +30,7 @@ use Rattle.instgen_loop.proofs.Selected.{place_positive}
 use Rattle.instgen_loop.proofs.Tending.{indexed_pair, indexed_by}
 use Rattle.instgen_loop.proofs.UnderWay.{chosen, chosen_below, chosen_under_way, chosen_numbers, taken_under_way, taken_numbers}
 use Rattle.instgen_loop.specs.Settling.{AreSelectable, IsOrderly, Reselects, Requeues}
-use Rattle.instgen_loop.specs.Tended.{AreTended, AreOnce, indexed_of}
+use Rattle.instgen_loop.specs.Tended.{AreOnce, indexed_of}
 
 -- The pair of an entry
 

@@ -6,6 +6,9 @@ pub mod Loops
 pub mod Running
 pub mod Tended
 pub mod Solves
+pub mod FirstEntries
 pub mod Outcomes
 pub mod Choosing
 pub mod Settling
+pub mod Starting
+pub mod Refuting

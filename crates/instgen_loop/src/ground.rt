@@ -49,6 +49,7 @@ pub fn add_entry<S: Solver>(
     ensures fits { AreAtomsIn bank.new ground.new.abstraction.ids }
     ensures notes { AreNotesIn bank.new ground.new.abstraction.bot ground.new.abstraction.notes }
     ensures count { OnOk result (S.atoms ground.new.solver ≡ length ground.new.abstraction.ids) }
+    ensures bot { ground.new.abstraction.bot ≡ ground.old.abstraction.bot }
     ensures valuation { ground.new.valuation ≡ ground.old.valuation }
     ensures literals { OnOk result ((abstracted : List (Signed ℕ)) × (ground.new.literals ≡ ground.old.literals ++ abstracted ∷ [])) }
     ensures grows { OnOk result (Grows ground.old.abstraction.ids ground.new.abstraction.ids) }

@@ -1,12 +1,22 @@
 // What the engine answers.
-ghost use Rattle.std.specs.Prelude.{◌≡◌, ◌≤◌, [], length, All, IsTrue, IsFalse, IfOk};
+ghost use Rattle.std.specs.Prelude.{◌≡◌, ◌≤◌, [], length, true, false, Some, None, All, IsTrue, IsFalse, IfOk};
 ghost use Rattle.inst_logic.specs.Measure.{is_function_free};
 ghost use Rattle.inst_logic.specs.Printing.{is_readable_name};
 ghost use Rattle.cert_format.specs.Printable.{IsPrintableClause};
+ghost use Rattle.inst_logic.specs.WellFormed.{is_constant};
+ghost use Rattle.inst_calculus.specs.Abstraction.{IsBot};
+ghost use Rattle.instgen_loop.specs.Starting.{IsFresh, IsAllowed};
 ghost use Rattle.instgen_loop.specs.Outcomes.{IsOutcome, IsDecided, appended_count, journal_of};
 
+use crate::cycle::cycle;
 use crate::event::Journal;
-use inst_logic::{Memory, Problem};
+use crate::finish::finish;
+use crate::queue::Partners;
+use crate::refuted::refuted;
+use crate::start::{new_run, start};
+use crate::state::Run;
+use ground_abs::bot_of;
+use inst_logic::{Memory, Problem, Sym, function_free};
 use prop_logic::Solver;
 use saturation_cert::{Refutation, Saturation};
 use std::alloc::Global;
@@ -33,30 +43,97 @@ pub enum Outcome {
     },
 }
 
+// Starts a run, lets it work, and ends it.
+fn drive<S: Solver, I: PartnerIndex>(
+    alloc: Global,
+    p: &Problem,
+    run: &mut Run<S, I>,
+    partners: &mut Partners<I>,
+    budget: u64,
+) -> Result<Outcome, Memory>
+    requires fresh { IsFresh S.atoms S.added I.pairs run.old }
+    requires allowed { IsAllowed run.old p.now.clauses budget }
+    requires bot { IsBot p.now.clauses run.old.ground.abstraction.bot }
+    requires constant { IsTrue (is_constant run.old.ground.abstraction.bot) }
+    requires bot_name { IsTrue (is_readable_name run.old.ground.abstraction.bot.name) }
+    requires positive { I.pairs partners.old.positive ≡ [] }
+    requires negative { I.pairs partners.old.negative ≡ [] }
+    requires clauses { All IsPrintableClause p.now.clauses }
+    requires named { length p.now.names ≡ length p.now.clauses }
+    requires readable { All (λ n. IsTrue (is_readable_name n)) p.now.names }
+    ensures outcome { IfOk result (IsOutcome p.now.clauses p.now.names budget) }
+    ensures appended { IfOk result (λ o. IsFalse (is_function_free p.now.clauses) → appended_count (journal_of o) ≤ budget) }
+{
+    let given = start(alloc, p, run, budget)?;
+    match cycle(alloc, run, partners, p, budget)? {
+        Some(derivation) => refuted(alloc, p, run, given, derivation, budget),
+        None => finish(alloc, p, run, partners, given, budget),
+    }
+}
+
+// What is left of the budget at first.
+fn allowed(p: &Problem, budget: u64) -> Option<u64>
+    ensures free { is_function_free p.now.clauses ≡ true → result ≡ None }
+    ensures budgeted { is_function_free p.now.clauses ≡ false → result ≡ Some budget }
+{
+    if function_free(p) { None } else { Some(budget) }
+}
+
+// Makes the run with its indexes.
+fn run_with<S: Solver, I: PartnerIndex>(
+    alloc: Global,
+    p: &Problem,
+    bot: Sym,
+    solver: S,
+    positive: I,
+    negative: I,
+    first: I,
+    budget: u64,
+) -> Result<Outcome, Memory>
+    requires bot { IsBot p.now.clauses bot }
+    requires constant { IsTrue (is_constant bot) }
+    requires bot_name { IsTrue (is_readable_name bot.name) }
+    requires atoms { S.atoms solver ≡ 0 }
+    requires added { S.added solver ≡ [] }
+    requires positive { I.pairs positive ≡ [] }
+    requires negative { I.pairs negative ≡ [] }
+    requires first { I.pairs first ≡ [] }
+    requires clauses { All IsPrintableClause p.now.clauses }
+    requires named { length p.now.names ≡ length p.now.clauses }
+    requires readable { All (λ n. IsTrue (is_readable_name n)) p.now.names }
+    requires budget { budget ≤ 1000000000000 }
+    ensures outcome { IfOk result (IsOutcome p.now.clauses p.now.names budget) }
+    ensures appended { IfOk result (λ o. IsFalse (is_function_free p.now.clauses) → appended_count (journal_of o) ≤ budget) }
+{
+    let mut run = new_run(alloc, solver, first, bot, allowed(p, budget));
+    let mut partners = Partners { positive, negative };
+    drive(alloc, p, &mut run, &mut partners, budget)
+}
+
 /// Runs the engine on the problem's clauses and their axioms of equality. The budget counts the symbols and variables of the
 /// entries that are appended; it does not count on problems without function symbols, where the entries are bounded anyway.
-/// (A stand-in for the body.)
 pub fn run<S: Solver, I: PartnerIndex>(
-    _alloc: Global,
-    _p: &Problem,
-    _solver: S,
-    _positive: I,
-    _negative: I,
-    _first: I,
-    _budget: u64,
+    alloc: Global,
+    p: &Problem,
+    solver: S,
+    positive: I,
+    negative: I,
+    first: I,
+    budget: u64,
 ) -> Result<Outcome, Memory>
-    requires atoms { S.atoms _solver ≡ 0 }
-    requires added { S.added _solver ≡ [] }
-    requires positive { I.pairs _positive ≡ [] }
-    requires negative { I.pairs _negative ≡ [] }
-    requires first { I.pairs _first ≡ [] }
-    requires clauses { All IsPrintableClause _p.now.clauses }
-    requires named { length _p.now.names ≡ length _p.now.clauses }
-    requires readable { All (λ n. IsTrue (is_readable_name n)) _p.now.names }
-    requires budget { _budget ≤ 1000000000000 }
-    ensures outcome { IfOk result (IsOutcome _p.now.clauses _p.now.names _budget) }
-    ensures function_free { IfOk result (λ o. IsTrue (is_function_free _p.now.clauses) → IsDecided o) }
-    ensures appended { IfOk result (λ o. IsFalse (is_function_free _p.now.clauses) → appended_count (journal_of o) ≤ _budget) }
+    requires atoms { S.atoms solver ≡ 0 }
+    requires added { S.added solver ≡ [] }
+    requires positive { I.pairs positive ≡ [] }
+    requires negative { I.pairs negative ≡ [] }
+    requires first { I.pairs first ≡ [] }
+    requires clauses { All IsPrintableClause p.now.clauses }
+    requires named { length p.now.names ≡ length p.now.clauses }
+    requires readable { All (λ n. IsTrue (is_readable_name n)) p.now.names }
+    requires budget { budget ≤ 1000000000000 }
+    ensures outcome { IfOk result (IsOutcome p.now.clauses p.now.names budget) }
+    ensures function_free { IfOk result (λ o. IsTrue (is_function_free p.now.clauses) → IsDecided o) }
+    ensures appended { IfOk result (λ o. IsFalse (is_function_free p.now.clauses) → appended_count (journal_of o) ≤ budget) }
 {
-    Err(Memory)
+    let bot = bot_of(alloc, p)?;
+    run_with(alloc, p, bot, solver, positive, negative, first, budget)
 }

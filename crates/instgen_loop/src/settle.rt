@@ -85,7 +85,8 @@ fn select_true<S: Solver, I: PartnerIndex>(
     ensures orderly { OnOk result (IsOrderly S.atoms I.pairs I.fits run.new partners.new) }
     ensures settles { OnOk result (Settles run.old run.new v.now) }
 {
-    run.selection.make_users(alloc, run.ground.abstraction.len())?;
+    run.selection
+        .make_users(alloc, run.ground.abstraction.len())?;
     reselect_all(alloc, run, partners, v, changed)?;
     place_new(&mut run.selection, &run.ground.literals, v)?;
     Ok(())

@@ -6,6 +6,7 @@ ghost use Rattle.term_bank.specs.Forest.{clause_at};
 ghost use Rattle.saturation_cert.specs.Wholes.{IsWholeClause};
 ghost use Rattle.instgen_loop.specs.Clauses.{Item};
 ghost use Rattle.instgen_loop.specs.Loops.{IsSafe, Appends, KeepsLink};
+ghost use Rattle.instgen_loop.specs.FirstEntries.{MakesEntry};
 
 use crate::entries::{Entries, push_entry};
 use crate::event::{Event, Journal};
@@ -44,7 +45,29 @@ pub struct Run<S: Solver, I: PartnerIndex> {
     pub left: Option<u64>,
 }
 
-/// Appends a new clause with its origin: the one place at which entries are made.
+/// Makes a new clause with its origin an entry, which waits: the one place at which entries are made.
+pub fn make_entry<S: Solver, I: PartnerIndex>(
+    run: &mut Run<S, I>,
+    clause: IdClause,
+    origin: Origin,
+    size: u64,
+) -> Result<(), Memory>
+    requires safe { IsSafe S.atoms I.pairs I.fits run.old }
+    requires whole { IsWholeClause run.old.entries.bank clause }
+    requires canonical { IsCanonical (clause_at run.old.entries.bank clause) }
+    requires new { (e : Item) → Contains run.old.entries.clauses.entries e → ¬ (e.0 ≡ clause) }
+    ensures safe { OnOk result (IsSafe S.atoms I.pairs I.fits run.new) }
+    ensures makes { OnOk result (MakesEntry run.old run.new clause origin) }
+    ensures linked { OnOk result (KeepsLink S.atoms S.added run.old run.new) }
+{
+    let number = run.entries.clauses.len() + 1;
+    add_entry(&mut run.entries.bank, &mut run.ground, &clause)?;
+    run.queue.put(number, size)?;
+    push_entry(&mut run.entries, clause, origin)?;
+    Ok(())
+}
+
+/// Appends a new clause that was inferred.
 pub fn append<S: Solver, I: PartnerIndex>(
     run: &mut Run<S, I>,
     clause: IdClause,
@@ -59,10 +82,7 @@ pub fn append<S: Solver, I: PartnerIndex>(
     ensures appends { OnOk result (Appends run.old run.new clause origin) }
     ensures linked { OnOk result (KeepsLink S.atoms S.added run.old run.new) }
 {
-    let number = run.entries.clauses.len() + 1;
-    add_entry(&mut run.entries.bank, &mut run.ground, &clause)?;
-    run.queue.put(number, size)?;
-    run.journal.push(Event::Inferred(origin.clone()?))?;
-    push_entry(&mut run.entries, clause, origin)?;
+    make_entry(run, clause, origin.clone()?, size)?;
+    run.journal.push(Event::Inferred(origin))?;
     Ok(())
 }

@@ -2,8 +2,8 @@ use Rattle.std.proofs.Common.{◌≡◌, ◌+◌, ◌++◌, ◌∷◌, [], List,
 use Rattle.inst_logic.specs.declared.signed.Signed.{Signed}
 use Rattle.term_bank.specs.Forest.{clause_at}
 use Rattle.inst_calculus.specs.Abstraction.{abstract_literals, AreAbstracted}
-use Rattle.ground_abs.specs.Abstracts.{atoms_in}
-use Rattle.instgen_loop.proofs.Links.{one_more_linked}
+use Rattle.ground_abs.specs.Abstracts.{atoms_in, AreNumbered}
+use Rattle.instgen_loop.proofs.Links.{one_more_linked, one_more_used}
 use Rattle.instgen_loop.proofs.ground.add_entry.Goals as goal
 
 pub returns-clause-linked : goal.returns-clause-linked
@@ -28,6 +28,8 @@ returns-clause-linked g c = λ bot cs h.
       same = subst (λ x. AreAbstracted bot (atoms_in c.abstract_clause.new.bank later) x (cs ++ clause ∷ [])) (sym c.in_ok-push.ensures.ok)
           (one_more_linked c.args.bank.now c.abstract_clause.new.bank before later bot old.literals cs c.in_ok-lits.lits clause
           a.extends h.fits.within a.grows h.same a.below (a.literals ∙ ap (λ b. abstract_literals b clause) h.constant));
+      used = one_more_used c.args.bank.now c.abstract_clause.new.bank before later bot cs clause a.extends h.fits.within
+          (subst (λ b. AreNumbered c.abstract_clause.new.bank before later (abstract_literals b clause)) h.constant a.numbered) h.used;
     }
 
 pub returns-clause-count : goal.returns-clause-count

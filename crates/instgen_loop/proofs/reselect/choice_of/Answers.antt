@@ -1,4 +1,3 @@
-use Rattle.std.proofs.Common.{◌≡◌, ◌-◌, ◌<◌, suc, ℕ, List, All, Some}
 use Rattle.std.proofs.lemmas.List.Elements.{All-contains}
 use Rattle.inst_logic.specs.Truth.{IsTrueClause}
 use Rattle.inst_logic.proofs.ShownLaws.{at_number_contains}

@@ -1,7 +1,5 @@
-use Rattle.std.proofs.Common.{◌≡◌, ◌↔◌, ℕ, Bool, refl, subst, inl, inr, Contains, List}
-use Rattle.term_index.specs.Pairs.{Pair}
-use Rattle.instgen_loop.specs.Loops.{IsSigned, ArePartners}
-use Rattle.instgen_loop.specs.Tended.{indexed_of}
+use Rattle.std.proofs.Common.{refl, subst, inl, inr}
+use Rattle.instgen_loop.specs.Loops.{IsSigned}
 use Rattle.instgen_loop.proofs.Withdrawn.{what_is_left, was_there, is_there, on_ok_map, positive_there, negative_there, removed_positive, removed_negative, stays_positive, stays_negative}
 use Rattle.instgen_loop.proofs.Tending.{indexed_by}
 use Rattle.instgen_loop.proofs.reselect.remove.Goals as goal

@@ -1,4 +1,4 @@
-use Rattle.std.proofs.Common.{◌≡◌, ◌<◌, ◌≤◌, ◌∷◌, ◌+◌, ◌∙◌, ℕ, List, All, arith, sym, subst, length, drop, drop-cons, add-one, get_or}
+use Rattle.std.proofs.Common.{◌≡◌, ◌<◌, ◌≤◌, ◌∷◌, ◌+◌, ℕ, List, arith, sym, subst, length, drop, drop-cons, add-one, get_or}
 use Rattle.instgen_loop.specs.Choosing.{IsUnderWay}
 use Rattle.instgen_loop.proofs.Withdrawn.{reselects_more, under_way_on}
 use Rattle.instgen_loop.proofs.reselect.reselect_each.Goals as goal

@@ -1,4 +1,4 @@
-use Rattle.std.proofs.Common.{◌≡◌, ◌<◌, ◌≤◌, [], ap, sym, subst, ℕ, List, All, length}
+use Rattle.std.proofs.Common.{◌<◌, ◌≤◌, [], sym, subst, ℕ, List, All, length}
 use Rattle.instgen_loop.specs.Selections.{Placing}
 use Rattle.instgen_loop.specs.Choosing.{IsUnderWay}
 use Rattle.std.proofs.Math.ListN.{set}

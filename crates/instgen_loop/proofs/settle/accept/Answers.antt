@@ -1,4 +1,4 @@
-use Rattle.std.proofs.Common.{◌≡◌, ◌≤◌, ◌<◌, ◌∙◌, ℕ, List, All, sym, subst, length}
+use Rattle.std.proofs.Common.{◌≤◌, ◌<◌, All, sym, subst, length}
 use Rattle.inst_logic.specs.Truth.{IsTrueClause}
 use Rattle.prop_logic.specs.Valuation.{IsHeld, AreChanges}
 use Rattle.instgen_loop.proofs.Settled.{accepted_orderly, accepted_solves, accepted_users, accepted_whole}

@@ -1,4 +1,4 @@
-use Rattle.std.proofs.Common.{◌≡◌, ◌<◌, [], ℕ, List, Some, sym, subst, length}
+use Rattle.std.proofs.Common.{◌≡◌, ◌<◌, [], Some, sym, subst, length}
 use Rattle.std.specs.Prelude.{slice_get}
 use Rattle.std.proofs.lemmas.List.Elements.{All-contains}
 use Rattle.inst_logic.specs.Truth.{IsTrueClause}

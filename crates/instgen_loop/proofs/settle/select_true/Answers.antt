@@ -1,4 +1,4 @@
-use Rattle.std.proofs.Common.{◌≡◌, ◌≤◌, ◌∙◌, ℕ, sym, subst, length, arith}
+use Rattle.std.proofs.Common.{◌≤◌, ℕ, subst, length, arith}
 use Rattle.instgen_loop.proofs.Settled.{count_of, grown_orderly, started_orderly, started_selectable, started_under_way, started_atoms, middle_under_way, all_settled}
 use Rattle.instgen_loop.proofs.UnderWay.{all_are_true}
 use Rattle.instgen_loop.proofs.settle.select_true.Goals as goal
@@ -40,7 +40,7 @@ place_new-requires-clause-under_way g c =
     middle_under_way c.args.run.now c.reselect_all.new.run c.make_users.new.self c.reselect_all.new.run.selection c.args.v.now c.in_ok-reselect_all.ensures.reselects
     (c.in_ok-reselect_all.ensures.chosen
     (started_under_way g.S.Solver.atoms g.I.PartnerIndex.pairs g.I.PartnerIndex.fits g.S.Solver.added c.args.run.now c.args.partners.now c.args.v.now c.args.changed.now c.requires.orderly c.requires.users c.requires.grounded
-        c.make_users.new.self u.places (subst (λ (n : ℕ). n ≤ length c.make_users.new.self.users) c.len.ensures.len u.count) u.users c.requires.changes))
+    c.make_users.new.self u.places (subst (λ (n : ℕ). n ≤ length c.make_users.new.self.users) c.len.ensures.len u.count) u.users c.requires.changes))
 
 pub place_new-requires-clause-numbers : goal.place_new-requires-clause-numbers
 place_new-requires-clause-numbers g c = c.in_ok-reselect_all.ensures.selectable.placed

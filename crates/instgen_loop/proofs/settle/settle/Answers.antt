@@ -1,6 +1,5 @@
-use Rattle.std.proofs.Common.{◌≡◌, [], ℕ, List, sym, ap, subst}
+use Rattle.std.proofs.Common.{[], sym, ap, subst}
 use Rattle.instgen_loop.specs.declared.entries.Entries.{Entries}
-use Rattle.inst_logic.specs.declared.signed.Signed.{Signed}
 use Rattle.prop_logic.specs.Solving.{Refutes, Satisfies}
 use Rattle.instgen_loop.proofs.Grounded.{asked_orderly, asked_grounded, asked_some, truth_kept, some_kept, asked_with, with_kept, unsat_refutes, sat_satisfies}
 use Rattle.instgen_loop.proofs.settle.settle.Goals as goal
@@ -23,7 +22,7 @@ accept-requires-clause-satisfies g c =
 pub returns-in-Unsat-clause-partners : goal.returns-in-Unsat-clause-partners
 returns-in-Unsat-clause-partners g c =
     (asked_orderly g.S.Solver.atoms g.S.Solver.added c.args.run.now c.solve.new.self c.in_ok-derivation.ensures.atoms c.in_ok-derivation.ensures.added g.I.PartnerIndex.pairs g.I.PartnerIndex.fits c.args.partners.now
-        (record { safe = c.requires.safe; partners = c.requires.partners; tended = c.requires.tended })).partners
+    (record { safe = c.requires.safe; partners = c.requires.partners; tended = c.requires.tended })).partners
 
 pub returns-in-Unsat-clause-running : goal.returns-in-Unsat-clause-running
 returns-in-Unsat-clause-running g c =
@@ -38,24 +37,24 @@ returns-in-Unsat-clause-refuted g c =
 pub returns-clause-solved : goal.returns-clause-solved
 returns-clause-solved g c =
     let satisfies = subst (λ n. Satisfies n (g.S.Solver.added c.solve.new.self) [] c.in-Sat.v) (sym c.in_ok-derivation.ensures.atoms)
-        (subst (λ cs. Satisfies (g.S.Solver.atoms c.args.run.now.ground.solver) cs [] c.in-Sat.v) (sym c.in_ok-derivation.ensures.added)
-        (sat_satisfies (g.S.Solver.atoms c.args.run.now.ground.solver) (g.S.Solver.added c.args.run.now.ground.solver) c.in_ok-derivation.field-0 c.in-Sat.v c.in_ok-derivation.ensures.answer c.in-Sat.is)) in
+    (subst (λ cs. Satisfies (g.S.Solver.atoms c.args.run.now.ground.solver) cs [] c.in-Sat.v) (sym c.in_ok-derivation.ensures.added)
+    (sat_satisfies (g.S.Solver.atoms c.args.run.now.ground.solver) (g.S.Solver.added c.args.run.now.ground.solver) c.in_ok-derivation.field-0 c.in-Sat.v c.in_ok-derivation.ensures.answer c.in-Sat.is)) in
     let (flips, solves) = c.in_ok-accept-in-Sat.ensures.solves in
     truth_kept g.S.Solver.atoms g.S.Solver.added c.args.run.now c.solve.new.self c.in_ok-derivation.ensures.atoms c.in_ok-derivation.ensures.added c.accept.new.run c.in-Sat.v satisfies c.in_ok-accept-in-Sat.ensures.valuation flips solves
 
 pub returns-clause-running : goal.returns-clause-running
 returns-clause-running g c =
     let satisfies = subst (λ n. Satisfies n (g.S.Solver.added c.solve.new.self) [] c.in-Sat.v) (sym c.in_ok-derivation.ensures.atoms)
-        (subst (λ cs. Satisfies (g.S.Solver.atoms c.args.run.now.ground.solver) cs [] c.in-Sat.v) (sym c.in_ok-derivation.ensures.added)
-        (sat_satisfies (g.S.Solver.atoms c.args.run.now.ground.solver) (g.S.Solver.added c.args.run.now.ground.solver) c.in_ok-derivation.field-0 c.in-Sat.v c.in_ok-derivation.ensures.answer c.in-Sat.is)) in
+    (subst (λ cs. Satisfies (g.S.Solver.atoms c.args.run.now.ground.solver) cs [] c.in-Sat.v) (sym c.in_ok-derivation.ensures.added)
+    (sat_satisfies (g.S.Solver.atoms c.args.run.now.ground.solver) (g.S.Solver.added c.args.run.now.ground.solver) c.in_ok-derivation.field-0 c.in-Sat.v c.in_ok-derivation.ensures.answer c.in-Sat.is)) in
     let (flips, solves) = c.in_ok-accept-in-Sat.ensures.solves in
     some_kept g.S.Solver.atoms g.S.Solver.added c.args.run.now c.solve.new.self c.in_ok-derivation.ensures.atoms c.in_ok-derivation.ensures.added c.accept.new.run c.in-Sat.v satisfies c.in_ok-accept-in-Sat.ensures.valuation flips solves
 
 pub returns-clause-kept : goal.returns-clause-kept
 returns-clause-kept g c =
     let satisfies = subst (λ n. Satisfies n (g.S.Solver.added c.solve.new.self) [] c.in-Sat.v) (sym c.in_ok-derivation.ensures.atoms)
-        (subst (λ cs. Satisfies (g.S.Solver.atoms c.args.run.now.ground.solver) cs [] c.in-Sat.v) (sym c.in_ok-derivation.ensures.added)
-        (sat_satisfies (g.S.Solver.atoms c.args.run.now.ground.solver) (g.S.Solver.added c.args.run.now.ground.solver) c.in_ok-derivation.field-0 c.in-Sat.v c.in_ok-derivation.ensures.answer c.in-Sat.is)) in
+    (subst (λ cs. Satisfies (g.S.Solver.atoms c.args.run.now.ground.solver) cs [] c.in-Sat.v) (sym c.in_ok-derivation.ensures.added)
+    (sat_satisfies (g.S.Solver.atoms c.args.run.now.ground.solver) (g.S.Solver.added c.args.run.now.ground.solver) c.in_ok-derivation.field-0 c.in-Sat.v c.in_ok-derivation.ensures.answer c.in-Sat.is)) in
     let (flips, solves) = c.in_ok-accept-in-Sat.ensures.solves in
     with_kept g.S.Solver.atoms g.S.Solver.added c.args.run.now c.solve.new.self c.in_ok-derivation.ensures.atoms c.in_ok-derivation.ensures.added c.accept.new.run c.in-Sat.v satisfies c.in_ok-accept-in-Sat.ensures.valuation flips solves
 

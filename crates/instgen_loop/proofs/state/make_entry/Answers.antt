@@ -7,7 +7,7 @@ use Rattle.instgen_loop.specs.Clauses.{Item, AreEntries, clauses_in}
 use Rattle.instgen_loop.specs.Grounds.{IsLinked}
 use Rattle.instgen_loop.specs.Loops.{IsLiteralPlace}
 use Rattle.instgen_loop.proofs.Grown.{one_more_entry, clauses_pushed, place_kept, waiting_pushed}
-use Rattle.instgen_loop.proofs.state.append.Goals as goal
+use Rattle.instgen_loop.proofs.state.make_entry.Goals as goal
 
 pub returns-clause-safe : goal.returns-clause-safe
 returns-clause-safe g c =

@@ -1,0 +1,52 @@
+-- A run that begins, and what stays of what it was given.
+use Rattle.std.proofs.Common.{◌≡◌, inl, ℕ, suc, ◌<◌, List, [], ◌++◌, sym, ap₂, subst as transport, map, length, arith, Bool, true, false, All, Contains}
+use Rattle.std.specs.Prelude.{IfOk, Result, Ok, Err, IsTrue, IsFalse}
+use Rattle.inst_logic.specs.Clauses.{TreeClause}
+use Rattle.inst_logic.specs.Measure.{is_function_free}
+use Rattle.inst_logic.specs.WellFormed.{clause_is_formed, AreFormedClauses}
+use Rattle.inst_calculus.proofs.Membership.{contains_in, in_contains, all_in, in_all, all_pass}
+use Rattle.cert_format.specs.Printable.{IsPrintableClause}
+use Rattle.term_index.specs.Pairs.{Pair}
+use Rattle.instgen_select.specs.Queues.{numbers}
+use Rattle.instgen_loop.specs.declared.outcome.Outcome.{Outcome}
+use Rattle.instgen_loop.specs.declared.outcome.Outcome.TheVariants.{Refuted, Saturated, OutOfBudget}
+use Rattle.instgen_loop.specs.declared.queue.Partners.{Partners}
+use Rattle.instgen_loop.specs.declared.state.Run.{Run}
+use Rattle.instgen_loop.specs.Loops.{items, after}
+use Rattle.instgen_loop.specs.Outcomes.{IsOutcome, IsDecided}
+use Rattle.instgen_loop.specs.Tended.{AreTended, AreOnce, indexed_of}
+use Rattle.instgen_loop.proofs.Tending.{above, there, after_once}
+
+-- All entries wait, and none is indexed
+
+pub all_wait : {S I C : Type 0} (pairs : I → List Pair) (r : Run S I C) (p : Partners I C) → pairs p.positive ≡ [] → pairs p.negative ≡ [] → numbers r.queue.items ≡ after 0 (length (items r)) → AreTended pairs r p
+all_wait pairs r p positive negative waiting = record {
+  once = transport AreOnce (sym waiting) (after_once 0 (length (items r)));
+  positive = transport (All (λ n. 0 < n)) (sym waiting) (in_all (λ n. 0 < n) (after 0 (length (items r))) (λ n i. above 0 (length (items r)) n i));
+  apart = λ n i j. none n j;
+  queued = λ i l. inl (transport (λ ns. Contains ns (suc i)) (sym waiting) (in_contains (suc i) (after 0 (length (items r))) (there 0 (length (items r)) (suc i) (omega arith) (omega arith))));
+  worked = λ i j a b. absurd (none i a);
+}
+  where
+    none : (n : ℕ) → ¬ Contains (indexed_of pairs p) n
+    none n i = contains_in n [] (transport (λ (qs : List Pair). Contains (map (λ (q : Pair). q.1) qs) n) (ap₂ (λ (xs ys : List Pair). xs ++ ys) positive negative) i)
+
+-- Printable clauses are well formed
+
+pub printable_formed : (cs : List TreeClause) → All IsPrintableClause cs → AreFormedClauses cs
+printable_formed cs h = all_pass clause_is_formed cs (λ c i. (all_in IsPrintableClause cs h c i).formed)
+
+-- Function-free clauses are decided
+
+decided : (o : Outcome) (clauses : List TreeClause) (names : List (List ℕ)) (budget : ℕ) → IsOutcome clauses names budget o → IsTrue (is_function_free clauses) → IsDecided o
+decided (Refuted cert journal) clauses names budget h free = tt
+decided (Saturated cert journal) clauses names budget h free = tt
+decided (OutOfBudget left wanted cert journal) clauses names budget h free = let f = h.ends.functions in absurd (opposite (is_function_free clauses) free f)
+  where
+    opposite : (b : Bool) → IsTrue b → IsFalse b → ⊥
+    opposite true t f = cc
+    opposite false t f = cc
+
+pub always_decided : {E : Type 0} (r : Result Outcome E) (clauses : List TreeClause) (names : List (List ℕ)) (budget : ℕ) → IfOk r (IsOutcome clauses names budget) → IfOk r (λ o. IsTrue (is_function_free clauses) → IsDecided o)
+always_decided (Ok o) clauses names budget h = decided o clauses names budget h
+always_decided (Err e) clauses names budget h = tt

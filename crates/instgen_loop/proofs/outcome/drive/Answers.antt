@@ -1,0 +1,50 @@
+use Rattle.std.proofs.Common.{◌≡◌, ◌≤◌, sym, subst, List}
+use Rattle.std.specs.Prelude.{IsFalse}
+use Rattle.std.proofs.lemmas.Result.{IfOk-weaker}
+use Rattle.inst_logic.specs.Measure.{is_function_free}
+use Rattle.inst_calculus.specs.Axioms.{with_axioms}
+use Rattle.inst_calculus.proofs.EqualityAxioms.{with_axioms_formed}
+use Rattle.instgen_loop.specs.declared.event.Event.{Event}
+use Rattle.instgen_loop.specs.declared.outcome.Outcome.{Outcome}
+use Rattle.instgen_loop.specs.Outcomes.{appended_count, journal_of}
+use Rattle.instgen_loop.proofs.Started.{all_wait, printable_formed}
+use Rattle.instgen_loop.proofs.FreshRuns.{problem_later, same_constant, appended_within}
+use Rattle.instgen_loop.proofs.outcome.drive.Goals as goal
+
+pub cycle-requires-clause-tended : goal.cycle-requires-clause-tended
+cycle-requires-clause-tended g c = all_wait g.I.PartnerIndex.pairs c.start.new.run c.args.partners.now c.requires.positive c.requires.negative c.in_ok-given.ensures.waiting
+
+pub cycle-requires-clause-formed : goal.cycle-requires-clause-formed
+cycle-requires-clause-formed g c = with_axioms_formed c.args.p.now.clauses (printable_formed c.args.p.now.clauses c.requires.clauses)
+
+pub refuted-requires-clause-problem : goal.refuted-requires-clause-problem
+refuted-requires-clause-problem g c =
+    let d = c.in_ok-derivation.ensures in
+    let clauses = c.args.p.now.clauses in
+    let old = c.start.new.run in
+    let new = c.cycle.new.run in
+    problem_later old new c.in_ok-given.given clauses c.args.p.now.names d.bank
+    (same_constant g.S.Solver.atoms g.S.Solver.added new old.ground.abstraction.bot (with_axioms clauses) c.args.budget (d.kept old.ground.abstraction.bot c.in_ok-given.ensures.running)) c.in_ok-given.ensures.problem
+
+pub finish-requires-clause-problem : goal.finish-requires-clause-problem
+finish-requires-clause-problem g c =
+    let d = c.in_ok-derivation.ensures in
+    let clauses = c.args.p.now.clauses in
+    let old = c.start.new.run in
+    let new = c.cycle.new.run in
+    problem_later old new c.in_ok-given.given clauses c.args.p.now.names d.bank
+    (same_constant g.S.Solver.atoms g.S.Solver.added new old.ground.abstraction.bot (with_axioms clauses) c.args.budget (d.kept old.ground.abstraction.bot c.in_ok-given.ensures.running)) c.in_ok-given.ensures.problem
+
+pub returns-in-Some-clause-appended : goal.returns-in-Some-clause-appended
+returns-in-Some-clause-appended g c =
+    let run = c.cycle.new.run in
+    let clauses = c.args.p.now.clauses in
+    IfOk-weaker c.refuted.result (λ (o : Outcome). journal_of o ≡ run.journal) (λ o. IsFalse (is_function_free clauses) → appended_count (journal_of o) ≤ c.args.budget)
+    (λ o e f. subst (λ (js : List Event). appended_count js ≤ c.args.budget) (sym e) (appended_within g.S.Solver.atoms g.S.Solver.added run clauses c.args.budget c.in_ok-derivation.ensures.running f)) c.refuted.ensures.journal
+
+pub returns-in-None-clause-appended : goal.returns-in-None-clause-appended
+returns-in-None-clause-appended g c =
+    let run = c.cycle.new.run in
+    let clauses = c.args.p.now.clauses in
+    IfOk-weaker c.finish.result (λ (o : Outcome). journal_of o ≡ run.journal) (λ o. IsFalse (is_function_free clauses) → appended_count (journal_of o) ≤ c.args.budget)
+    (λ o e f. subst (λ (js : List Event). appended_count js ≤ c.args.budget) (sym e) (appended_within g.S.Solver.atoms g.S.Solver.added run clauses c.args.budget c.in_ok-derivation.ensures.running f)) c.finish.ensures.journal

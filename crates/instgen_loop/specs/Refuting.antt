@@ -1,0 +1,46 @@
+-- The refutation that a derivation over numbered atoms gives.
+use Rattle.std.specs.Prelude.{ℕ, List, map, nat_eq}
+use Rattle.inst_logic.specs.declared.signed.Signed.{Signed}
+use Rattle.inst_logic.specs.Equal.{signed_eq}
+use Rattle.inst_logic.specs.Lists.{distinct}
+use Rattle.prop_logic.specs.declared.literal.Hint.{Hint}
+use Rattle.prop_logic.specs.declared.literal.Hint.TheVariants.{Added, Step as Before}
+use Rattle.prop_logic.specs.declared.literal.Step.{Step}
+use Rattle.ground_abs.specs.Numbers.{named}
+use Rattle.saturation_cert.specs.declared.member.Member.{Member}
+use Rattle.saturation_cert.specs.declared.certificate.Base.{Base}
+use Rattle.saturation_cert.specs.declared.certificate.GroundHint.{GroundHint}
+use Rattle.saturation_cert.specs.declared.certificate.GroundHint.TheVariants.{Ground, Step as Earlier}
+use Rattle.saturation_cert.specs.declared.certificate.GroundStep.{GroundStep}
+use Rattle.saturation_cert.specs.declared.certificate.Refutation.{Refutation}
+use Rattle.instgen_loop.specs.declared.start.Given.{Given}
+use Rattle.instgen_loop.specs.declared.state.Run.{Run}
+use Rattle.instgen_loop.specs.Clauses.{Item}
+use Rattle.instgen_loop.specs.Loops.{items}
+
+-- the literals with the ids of their atoms, each at its first place only
+abbrev pub ground_clause : List ℕ → List (Signed ℕ) → List (Signed ℕ)
+ground_clause ids c = distinct (signed_eq nat_eq) (map (named ids) c)
+
+-- clause n of the solver is the ground clause of member n
+abbrev pub ground_hint : Hint → GroundHint
+ground_hint (Added n) = Ground n
+ground_hint (Before n) = Earlier n
+
+abbrev pub ground_step : List ℕ → Step → GroundStep
+ground_step ids s = record { clause = ground_clause ids s.clause; hints = map ground_hint s.hints }
+
+abbrev pub member_of : Item → Member
+member_of e = record { clause = e.0; origin = e.1 }
+
+-- what the run and its problem give to a certificate
+abbrev pub base_from : {S I C : Type 0} → Run S I C → Given → Base
+base_from r g = record { bank = r.entries.bank; inputs = g.inputs; names = g.names; axioms = g.axioms; members = map member_of (items r) }
+
+abbrev pub refutation_from : {S I C : Type 0} → Run S I C → Given → List Step → Refutation
+refutation_from r g steps = record {
+  base = base_from r g;
+  bot = r.ground.abstraction.bot;
+  grounds = map (ground_clause r.ground.abstraction.ids) r.ground.literals;
+  steps = map (ground_step r.ground.abstraction.ids) steps;
+}

@@ -1,0 +1,229 @@
+// The start of a run: the problem's clauses and their axioms of equality go into its bank, and become its first entries.
+ghost use Rattle.std.specs.Prelude.{◌≡◌, ◌≤◌, ◌+◌, ◌++◌, ◌∷◌, [], ℕ, List, All, length, map, false, IsTrue, IfOk, OnOk};
+ghost use Rattle.inst_logic.specs.declared.symbol.Sym.{Sym};
+ghost use Rattle.inst_logic.specs.Clauses.{TreeClause, IsCanonical};
+ghost use Rattle.inst_logic.specs.WellFormed.{AreFormedClauses, is_constant};
+ghost use Rattle.inst_logic.specs.Printing.{is_readable_name};
+ghost use Rattle.inst_calculus.specs.Abstraction.{IsBot};
+ghost use Rattle.inst_calculus.specs.Axioms.{equality_axioms, with_axioms};
+ghost use Rattle.term_bank.specs.Forest.{AreFormed, Extends, clause_at};
+ghost use Rattle.saturation_cert.specs.Wholes.{IsWholeClause};
+ghost use Rattle.cert_format.specs.Printable.{IsPrintableClause};
+ghost use Rattle.instgen_select.specs.Queues.{numbers};
+ghost use Rattle.instgen_loop.specs.Loops.{IsSafe, items, after};
+ghost use Rattle.instgen_loop.specs.Running.{IsRunningWith};
+ghost use Rattle.instgen_loop.specs.Starting.{IsFresh, IsAllowed, AreGiven, IsOfProblem};
+ghost use Rattle.instgen_loop.specs.FirstEntries.{Continues, IsStarted};
+
+use crate::entries::Entries;
+use crate::event::Journal;
+use crate::ground::Ground;
+use crate::selection::Selection;
+use crate::state::{Run, make_entry};
+use clause_form::{clause_size, tautology};
+use equality_axioms::axioms_of;
+use ground_abs::Abstraction;
+use indexmap::IndexMap;
+use inst_logic::{ClauseList, Memory, NameList, Problem, Sym};
+use instgen_select::Queue;
+use prop_logic::{LitLists, Solver, Valuation};
+use saturation_cert::Origin;
+use std::alloc::Global;
+use term_bank::{Bank, IdClause, IdClauseList};
+use term_index::PartnerIndex;
+use unify_core::Bindings;
+
+/// What certificates tell of the problem: its clauses and its axioms of equality, over the bank of a run, and the names of the
+/// clauses.
+#[derive(Drop)]
+pub struct Given {
+    pub inputs: IdClauseList,
+    pub names: NameList,
+    pub axioms: IdClauseList,
+}
+
+fn no_entries<I: PartnerIndex>(alloc: Global, first: I) -> Entries<I>
+    ensures bank { result.bank ≡ record { trees = []; symbols = []; spent = false } }
+    ensures first { result.first ≡ first }
+    ensures has_empty { result.has_empty ≡ false }
+    ensures clauses { result.clauses.entries ≡ [] }
+{
+    Entries {
+        bank: Bank::new(alloc),
+        clauses: IndexMap::new(alloc),
+        first,
+        has_empty: false,
+    }
+}
+
+/// A run without entries, over a solver without atoms and an index without pairs.
+pub fn new_run<S: Solver, I: PartnerIndex>(
+    alloc: Global,
+    solver: S,
+    first: I,
+    bot: Sym,
+    left: Option<u64>,
+) -> Run<S, I>
+    requires constant { IsTrue (is_constant bot) }
+    requires atoms { S.atoms solver ≡ 0 }
+    requires added { S.added solver ≡ [] }
+    requires first { I.pairs first ≡ [] }
+    ensures fresh { IsFresh S.atoms S.added I.pairs result }
+    ensures bot { result.ground.abstraction.bot ≡ bot }
+    ensures left { result.left ≡ left }
+{
+    Run {
+        entries: no_entries(alloc, first),
+        ground: Ground {
+            abstraction: Abstraction::new(alloc, bot),
+            solver,
+            literals: LitLists::new(alloc),
+            valuation: Valuation::new(alloc),
+        },
+        selection: Selection::new(alloc),
+        queue: Queue::new(alloc),
+        held: Vec::new(alloc),
+        journal: Journal::new(alloc),
+        bindings: Bindings::new(alloc),
+        left,
+    }
+}
+
+// The clauses with the id of each atom in its place.
+fn interned(alloc: Global, bank: &mut Bank, clauses: &ClauseList) -> Result<IdClauseList, Memory>
+    requires formed { AreFormed bank.old }
+    requires clauses { AreFormedClauses clauses.now }
+    ensures given { IfOk result (λ ids. AreGiven bank.new ids clauses.now) }
+    ensures extends { Extends bank.old bank.new }
+    ensures formed { AreFormed bank.new }
+{
+    let mut ids = IdClauseList::new(alloc);
+    for c in clauses.as_slice() {
+        ids.push(bank.clause(c)?)?;
+    }
+    Ok(ids)
+}
+
+fn copied_names(alloc: Global, names: &NameList) -> Result<NameList, Memory>
+    ensures { IfOk result (λ copy. copy ≡ names.now) }
+{
+    let mut copy = NameList::new(alloc);
+    for name in names.as_slice() {
+        copy.push(name.clone()?)?;
+    }
+    Ok(copy)
+}
+
+fn copied_clause(alloc: Global, c: &IdClause) -> Result<IdClause, Memory>
+    ensures { IfOk result (λ d. d ≡ c.now) }
+{
+    Ok(IdClause::from(Vec::from_slice(alloc, c.as_slice())?))
+}
+
+// The next number; want of memory past the last one.
+fn next_number(k: usize) -> Result<usize, Memory>
+    ensures { IfOk result (λ n. n ≡ k + 1) }
+{
+    match k.checked_add(1) {
+        Some(n) => Ok(n),
+        None => Err(Memory),
+    }
+}
+
+// Clause `k` becomes an entry, where it is no tautology and no variant of an entry.
+fn start_entry<S: Solver, I: PartnerIndex>(
+    alloc: Global,
+    run: &mut Run<S, I>,
+    clause: &IdClause,
+    k: usize,
+) -> Result<(), Memory>
+    requires safe { IsSafe S.atoms I.pairs I.fits run.old }
+    requires whole { IsWholeClause run.old.entries.bank clause.now }
+    requires canonical { IsCanonical (clause_at run.old.entries.bank clause.now) }
+    ensures safe { OnOk result (IsSafe S.atoms I.pairs I.fits run.new) }
+    ensures continues { OnOk result (Continues run.old run.new) }
+
+    ensures started { OnOk result ((cs : List TreeClause) → k ≡ length cs + 1 → IsStarted S.atoms S.added run.old cs → IsStarted S.atoms S.added run.new (cs ++ clause_at run.old.entries.bank clause.now ∷ [])) }
+{
+    // So a variant has an equal key.
+    run.entries.bank.distinct();
+    if tautology(clause) {
+        return Ok(());
+    }
+    if run.entries.clauses.contains_key(clause) {
+        return Ok(());
+    }
+    let size = clause_size(&run.entries.bank, clause);
+    make_entry(run, copied_clause(alloc, clause)?, Origin::Input(k), size)?;
+    Ok(())
+}
+
+// The clauses, of which `before` others were taken, become entries so.
+fn start_entries<S: Solver, I: PartnerIndex>(
+    alloc: Global,
+    run: &mut Run<S, I>,
+    clauses: &IdClauseList,
+    before: usize,
+) -> Result<(), Memory>
+    requires safe { IsSafe S.atoms I.pairs I.fits run.old }
+    requires whole { All (IsWholeClause run.old.entries.bank) clauses.now }
+    requires canonical { All IsCanonical (map (clause_at run.old.entries.bank) clauses.now) }
+    ensures safe { OnOk result (IsSafe S.atoms I.pairs I.fits run.new) }
+    ensures continues { OnOk result (Continues run.old run.new) }
+
+    ensures started { OnOk result ((cs : List TreeClause) → before ≡ length cs → IsStarted S.atoms S.added run.old cs → IsStarted S.atoms S.added run.new (cs ++ map (clause_at run.old.entries.bank) clauses.now)) }
+{
+    let mut k = before;
+    for c in clauses.as_slice() {
+        k = next_number(k)?;
+        start_entry(alloc, run, c, k)?;
+    }
+    Ok(())
+}
+
+// The problem's clauses and their axioms, in the bank.
+fn given_in(alloc: Global, bank: &mut Bank, p: &Problem) -> Result<Given, Memory>
+    requires formed { AreFormed bank.old }
+    requires clauses { AreFormedClauses p.now.clauses }
+    ensures inputs { IfOk result (λ g. AreGiven bank.new g.inputs p.now.clauses) }
+    ensures names { IfOk result (λ g. g.names ≡ p.now.names) }
+    ensures axioms { IfOk result (λ g. AreGiven bank.new g.axioms (equality_axioms p.now.clauses)) }
+    ensures extends { Extends bank.old bank.new }
+    ensures formed { AreFormed bank.new }
+{
+    let inputs = interned(alloc, bank, &p.clauses)?;
+    let axioms = axioms_of(alloc, p)?;
+    let axioms = interned(alloc, bank, &axioms)?;
+    let names = copied_names(alloc, &p.names)?;
+    Ok(Given {
+        inputs,
+        names,
+        axioms,
+    })
+}
+
+/// Gives a run its first entries, which all wait: the problem's clauses and then their axioms of equality, without tautologies and
+/// without variants of earlier entries. Their origins are the numbers of the clauses, counted from 1 over both lists.
+pub fn start<S: Solver, I: PartnerIndex>(
+    alloc: Global,
+    p: &Problem,
+    run: &mut Run<S, I>,
+    _budget: u64,
+) -> Result<Given, Memory>
+    requires fresh { IsFresh S.atoms S.added I.pairs run.old }
+    requires allowed { IsAllowed run.old p.now.clauses _budget }
+    requires bot { IsBot p.now.clauses run.old.ground.abstraction.bot }
+    requires constant { IsTrue (is_constant run.old.ground.abstraction.bot) }
+    requires readable { IsTrue (is_readable_name run.old.ground.abstraction.bot.name) }
+    requires clauses { All IsPrintableClause p.now.clauses }
+    ensures problem { IfOk result (λ g. IsOfProblem run.new g p.now.clauses p.now.names) }
+    ensures safe { OnOk result (IsSafe S.atoms I.pairs I.fits run.new) }
+    ensures waiting { OnOk result (numbers run.new.queue.items ≡ after 0 (length (items run.new))) }
+    ensures selection { OnOk result (run.new.selection ≡ record { places = []; users = [] }) }
+    ensures running { OnOk result (IsRunningWith S.atoms S.added run.new run.new.ground.abstraction.bot (with_axioms p.now.clauses) _budget) }
+{
+    let given = given_in(alloc, &mut run.entries.bank, p)?;
+    start_entries(alloc, run, &given.inputs, 0)?;
+    start_entries(alloc, run, &given.axioms, given.inputs.len())?;
+    Ok(given)
+}

@@ -1,0 +1,126 @@
+// Clauses and steps over numbered atoms as those of a certificate: the ids of the atoms stand in the place of their numbers, and
+// a repeated literal, which hints count once, is dropped.
+ghost use Rattle.std.specs.Prelude.{◌≡◌, ◌<◌, length, map, nat_eq, IfOk, OnOk};
+ghost use Rattle.inst_logic.specs.Equal.{signed_eq};
+ghost use Rattle.inst_logic.specs.Lists.{with_item};
+ghost use Rattle.prop_logic.specs.Literal.{AtomsBelow, AllAtomsBelow, StepsBelow};
+ghost use Rattle.ground_abs.specs.Numbers.{named};
+ghost use Rattle.instgen_loop.specs.Refuting.{ground_clause, ground_hint, ground_step};
+
+use ground_abs::Abstraction;
+use indexmap::IndexSet;
+use inst_logic::Memory;
+use prop_logic::{Derivation, Hint, HintList, Lit, LitList, LitLists, Step};
+use saturation_cert::{GroundHint, GroundHintList, GroundStep, GroundStepList};
+use std::alloc::Global;
+use term_bank::{IdClause, IdClauseList, IdLiteral};
+
+// One more literal, where it is not there.
+fn add_literal(
+    seen: &mut IndexSet<IdLiteral>,
+    clause: &mut IdClause,
+    literal: IdLiteral,
+) -> Result<(), Memory>
+    requires { clause.old ≡ seen.old.keys }
+    ensures same { OnOk result (clause.new ≡ seen.new.keys) }
+    ensures added { OnOk result (seen.new.keys ≡ with_item (signed_eq nat_eq) seen.old.keys literal) }
+{
+    let kept = literal;
+    if seen.insert(literal)? {
+        clause.push(kept)?;
+    }
+    Ok(())
+}
+
+// The literal with the id of its atom.
+fn named_literal(abstraction: &Abstraction, l: Lit) -> IdLiteral
+    requires below { l.atom < length abstraction.now.ids }
+    ensures { result ≡ named abstraction.now.ids l }
+{
+    match abstraction.atom_at(l.atom) {
+        Some(atom) => IdLiteral {
+            positive: l.positive,
+            atom,
+        },
+        None => unreachable!(),
+    }
+}
+
+// The literals with the ids of their atoms, each at its first place only.
+fn ground_clause(
+    alloc: Global,
+    abstraction: &Abstraction,
+    literals: &LitList,
+) -> Result<IdClause, Memory>
+    requires below { AtomsBelow (length abstraction.now.ids) literals.now }
+    ensures { IfOk result (λ c. c ≡ ground_clause abstraction.now.ids literals.now) }
+{
+    let mut seen: IndexSet<IdLiteral> = IndexSet::new(alloc);
+    let mut clause = IdClause::new(alloc);
+    for l in literals.as_slice() {
+        let literal = named_literal(abstraction, *l);
+        add_literal(&mut seen, &mut clause, literal)?;
+    }
+    Ok(clause)
+}
+
+/// The clauses so, in their order.
+pub fn ground_clauses(
+    alloc: Global,
+    abstraction: &Abstraction,
+    clauses: &LitLists,
+) -> Result<IdClauseList, Memory>
+    requires below { AllAtomsBelow (length abstraction.now.ids) clauses.now }
+    ensures { IfOk result (λ cs. cs ≡ map (ground_clause abstraction.now.ids) clauses.now) }
+{
+    let mut grounds = IdClauseList::new(alloc);
+    for c in clauses.as_slice() {
+        grounds.push(ground_clause(alloc, abstraction, c)?)?;
+    }
+    Ok(grounds)
+}
+
+fn ground_hint(hint: Hint) -> GroundHint
+    ensures { result ≡ ground_hint hint }
+{
+    match hint {
+        Hint::Added(n) => GroundHint::Ground(n),
+        Hint::Step(n) => GroundHint::Step(n),
+    }
+}
+
+fn ground_hints(alloc: Global, hints: &HintList) -> Result<GroundHintList, Memory>
+    ensures { IfOk result (λ hs. hs ≡ map ground_hint hints.now) }
+{
+    let mut list = GroundHintList::new(alloc);
+    for hint in hints.as_slice() {
+        list.push(ground_hint(*hint))?;
+    }
+    Ok(list)
+}
+
+// The step with its clause so, and the same hints.
+fn ground_step(alloc: Global, abstraction: &Abstraction, step: &Step) -> Result<GroundStep, Memory>
+    requires below { AtomsBelow (length abstraction.now.ids) step.now.clause }
+    ensures { IfOk result (λ s. s ≡ ground_step abstraction.now.ids step.now) }
+{
+    let clause = ground_clause(alloc, abstraction, &step.clause)?;
+    let hints = ground_hints(alloc, &step.hints)?;
+    Ok(GroundStep { clause, hints })
+}
+
+/// The steps so, in their order.
+pub fn ground_steps(
+    alloc: Global,
+    abstraction: &Abstraction,
+    steps: &Derivation,
+) -> Result<GroundStepList, Memory>
+    requires below { StepsBelow (length abstraction.now.ids) steps.now }
+    ensures { IfOk result (λ ss. ss ≡ map (ground_step abstraction.now.ids) steps.now) }
+{
+    let mut list = GroundStepList::new(alloc);
+    for step in steps.as_slice() {
+        list.push(ground_step(alloc, abstraction, step)?)?;
+    }
+    Ok(list)
+}
