@@ -307,12 +307,10 @@ first_kept t i e marks (l ∷ ls) at h = λ f d cf s cd m. h f d cf s (before_to
 pub first_of_push : (t : Trail) (before : List Entry) (marks : List Bool) (l x : Signed ℕ) (ls : List (Signed ℕ)) → AreBelowFirst t.entries before marks (l ∷ ls) → AreBelowFirst t.entries before marks ((l ∷ ls) ++ x ∷ [])
 first_of_push t before marks l x ls h = h
 
--- what its reason's clause marks is of level 0, as the entry is
-pub first_resolved : (t : Trail) (i : ℕ) (e : Entry) (marks : List Bool) (clause : List (Signed ℕ)) → IsTrail t → slice_get t.entries i ≡ Some e → ((clause ≡ [] → ⊥) → e.level ≡ 0) → IsLearned t.entries clause → AreBelowFirst t.entries (take i t.entries) marks clause
-first_resolved t i e marks [] v at zero_level h = tt
-first_resolved t i e marks (l ∷ ls) v at zero_level h = λ f d cf s cd m.
-    let none : (l ∷ ls ≡ [] → ⊥) = λ q. cc in
+-- what its reason's clause marks is no higher than the entry, which was marked
+pub first_resolved : (t : Trail) (i : ℕ) (e : Entry) (marks new : List Bool) (clause : List (Signed ℕ)) → IsTrail t → slice_get t.entries i ≡ Some e → IsMarked marks e.lit.atom → AreBelowFirst t.entries (take (i + 1) t.entries) marks clause → AreBelowFirst t.entries (take i t.entries) new clause
+first_resolved t i e marks new [] v at mark h = tt
+first_resolved t i e marks new (l ∷ ls) v at mark h = λ f d cf s cd m.
     let up = pair_before (λ a b. a.level ≤ b.level) t.entries i d e v.rising at cd in
-    let same = complement_same t h.0 f v h.1 cf (sym h.2 ∙ s) in
-    let high : 0 < f.level = subst (λ y. 0 < y.level) same h.3 in
-    omega (arith, up, zero_level none, high)
+    let low = h f e cf s (here_too t.entries i e at) mark in
+    omega (arith, up, low)

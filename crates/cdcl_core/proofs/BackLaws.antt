@@ -15,7 +15,7 @@ use Rattle.prop_logic.specs.declared.solver.Answer.{Answer}
 use Rattle.prop_logic.specs.Solving.{IsAnswer}
 use Rattle.cdcl_core.specs.declared.search.Search.{Search}
 use Rattle.cdcl_core.specs.Search.{IsKept, IsTrueUpTo, IsSearch, IsBackFrom, weight, Advances, Ends}
-use Rattle.cdcl_core.proofs.EntryLaws.{pair_at, before_or_here, of_false, to_false, level_found, reason_found}
+use Rattle.cdcl_core.proofs.EntryLaws.{item, pair_at, before_or_here, of_false, to_false, level_found, reason_found}
 use Rattle.cdcl_core.proofs.GoLaws.{marks_search, none_of}
 use Rattle.cdcl_core.proofs.Measure.{weight_below, weight_backjump}
 use Rattle.cdcl_core.proofs.RoomLaws.{room}
@@ -179,11 +179,6 @@ back_ends assumptions first old new a b c =
     }
 
 -- the walk over the decisions
-pub item : (es : List Entry) (k : ℕ) → k < length es → (e : Entry) × (slice_get es k ≡ Some e)
-item [] k h = absurd (omega (arith, h))
-item (e ∷ es) zero h = (e, refl)
-item (e ∷ es) (suc k) h = item es k (omega (arith, h))
-
 decided_or_given : (o : Option ℕ) (b : Bool) → is_some o ≡ b → b ≡ true → o ≡ None → ⊥
 decided_or_given None b e h n = true≢false (sym h ∙ sym e)
 decided_or_given (Some x) b e h n = none-some x (sym n)

@@ -27,6 +27,7 @@ use Rattle.cdcl_trail.specs.Propagation.{IsFalseIn, IsStable}
 use Rattle.cdcl_core.specs.Log.{IsFound}
 use Rattle.cdcl_core.specs.declared.search.Search.{Search}
 use Rattle.cdcl_core.specs.Analysis.{HasDecisionsAnd}
+use Rattle.cdcl_core.specs.Phases.{IsSaved}
 use Rattle.cdcl_core.specs.Search.{IsKept, IsTrueUpTo, IsInCore, IsCoreIn}
 use Rattle.cdcl_core.proofs.EntryLaws.{of_literals, to_literals, value_found, reason_found, consistent}
 
@@ -76,33 +77,28 @@ clause_cases t (x ∷ xs) h =
     ]
 
 -- the valuation has the values of the trail
-literal_true : (t : Trail) (valuation : List Bool) (l : Signed ℕ) → IsTrail t → ((k : ℕ) → k < t.atoms → slice_get valuation k ≡ Some (unwrap_or (value_of t.entries (record { positive = true; atom = k })) false)) → Contains (literals_of t.entries) l → IsTrueLiteral (IsHeld valuation) l
-literal_true t valuation l v values c =
+literal_true : (t : Trail) (valuation : List Bool) (l : Signed ℕ) → All (IsSaved valuation) t.entries → Contains (literals_of t.entries) l → IsTrueLiteral (IsHeld valuation) l
+literal_true t valuation l saved c =
     let f = of_literals t.entries l c in
-    let e = f.0 in
-    let k = l.atom in
-    let low : k < t.atoms = subst (λ x. x.atom < t.atoms) (sym f.2) (All-contains (λ x. x.lit.atom < t.atoms) t.entries e v.atoms_below f.1) in
-    let found = value_found t e (record { positive = true; atom = k }) v f.1 (ap (λ x. x.atom) (sym f.2)) in
-    let at : slice_get valuation k ≡ Some (cond e.lit.positive true false) = values k low ∙ ap (λ o. Some (unwrap_or o false)) found in
-    by_sign l.positive refl (at ∙ ap (λ x. Some (cond x.positive true false)) (sym f.2))
+    by_sign l.positive refl (subst (λ x. slice_get valuation x.atom ≡ Some x.positive) (sym f.2) (All-contains (IsSaved valuation) t.entries f.0 saved f.1))
   where
-    by_sign : (p : Bool) → l.positive ≡ p → slice_get valuation l.atom ≡ Some (cond l.positive true false) → IsTrueLiteral (IsHeld valuation) l
-    by_sign true s at = subst (λ b. signed b (IsHeld valuation l.atom)) (sym s) (at ∙ ap (λ b. Some (cond b true false)) s)
-    by_sign false s at = subst (λ b. signed b (IsHeld valuation l.atom)) (sym s) (λ h. false≢true (same_Some false true (sym (at ∙ ap (λ b. Some (cond b true false)) s) ∙ h)))
+    by_sign : (p : Bool) → l.positive ≡ p → slice_get valuation l.atom ≡ Some l.positive → IsTrueLiteral (IsHeld valuation) l
+    by_sign true s at = subst (λ b. signed b (IsHeld valuation l.atom)) (sym s) (at ∙ ap Some s)
+    by_sign false s at = subst (λ b. signed b (IsHeld valuation l.atom)) (sym s) (λ h. false≢true (same_Some false true (sym (at ∙ ap Some s) ∙ h)))
 
 pub satisfied : (assumptions : List (Signed ℕ)) (s : Search) (valuation : List Bool) → IsKept s → IsTrail s.trail.trail → IsStable s.clauses s.trail.trail.entries → ((k : ℕ) → k < s.trail.trail.atoms → level_of s.trail.trail.entries k ≡ None → ⊥)
-    → ((k : ℕ) → k < s.trail.trail.atoms → slice_get valuation k ≡ Some (unwrap_or (value_of s.trail.trail.entries (record { positive = true; atom = k })) false)) → All (IsTrueUpTo s.trail.trail.entries s.assumed) assumptions → MakesTrue valuation s.log.added assumptions
-satisfied assumptions s valuation k v stable full values all =
+    → All (IsSaved valuation) s.trail.trail.entries → All (IsTrueUpTo s.trail.trail.entries s.assumed) assumptions → MakesTrue valuation s.log.added assumptions
+satisfied assumptions s valuation k v stable full saved all =
     let t = s.trail.trail in
     record {
       clauses_true = All-from_contained (IsTrueClause (IsHeld valuation)) s.log.added (λ c inside.
           let n = All-contains (IsFound s.clauses s.log.names.items) s.log.added c k.log.held inside in
           let low = All-contains (AtomsBelow t.atoms) s.log.added c k.log.below inside in
           elim (clause_cases t c (All-weaker (λ l. l.atom < t.atoms) (λ l. Contains (literals_of t.entries) l ⊎ IsFalseIn t.entries l) (λ l h. true_or_false t l (full l.atom h)) c low)) [
-            | inl f ↦ (f.1.0, f.0, f.1.1, f.1.2, literal_true t valuation f.0 v values f.2)
+            | inl f ↦ (f.1.0, f.0, f.1.1, f.1.2, literal_true t valuation f.0 saved f.2)
             | inr none ↦ absurd (stable.no_conflict n.0 (c, n.2, none))
           ]);
-      assumptions_true = All-weaker (IsTrueUpTo t.entries s.assumed) (IsTrueLiteral (IsHeld valuation)) (λ l f. literal_true t valuation l v values (subst (Contains (literals_of t.entries)) f.2 (to_literals t.entries f.0 f.1))) assumptions all;
+      assumptions_true = All-weaker (IsTrueUpTo t.entries s.assumed) (IsTrueLiteral (IsHeld valuation)) (λ l f. literal_true t valuation l saved (subst (Contains (literals_of t.entries)) f.2 (to_literals t.entries f.0 f.1))) assumptions all;
     }
 
 -- the core, one assumption further

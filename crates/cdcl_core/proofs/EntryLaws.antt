@@ -9,9 +9,16 @@ use Rattle.std.proofs.lemmas.Bool.Decides.{nat_tests}
 use Rattle.inst_logic.specs.declared.signed.Signed.{Signed}
 use Rattle.inst_logic.specs.Signed.{complement}
 use Rattle.prop_logic.proofs.ListLaws.{All-from_contained, slice_get-Contains, slice_get_take}
+use Rattle.prop_logic.proofs.SearchLaws.{complement_twice}
 use Rattle.cdcl_trail.specs.declared.entry.Entry.{Entry}
 use Rattle.cdcl_trail.specs.Trail.{Trail, IsTrail, level_of, reason_of, value_of, literals_of}
 use Rattle.cdcl_trail.specs.Propagation.{IsFalseIn}
+
+-- an item at each place
+pub item : (es : List Entry) (k : ℕ) → k < length es → (e : Entry) × (slice_get es k ≡ Some e)
+item [] k h = absurd (omega (arith, h))
+item (e ∷ es) zero h = (e, refl)
+item (e ∷ es) (suc k) h = item es k (omega (arith, h))
 
 -- pairs of a list
 pub pairs_tail : {X : Type 0} (R : X → X → Type 0) (x : X) (xs : List X) → AllPairs R (x ∷ xs) → AllPairs R xs
@@ -80,13 +87,6 @@ pub to_literals : (entries : List Entry) (e : Entry) → Contains entries e → 
 to_literals [] e c = absurd (omega (arith, c.1))
 to_literals (x ∷ xs) e (zero, h, s) = (0, omega arith, ap (λ y. y.lit) s)
 to_literals (x ∷ xs) e (suc k, h, s) = let c = to_literals xs e (k, omega arith, s) in (suc c.0, omega (arith, c.1), c.2)
-
-not_not : (b : Bool) → not (not b) ≡ b
-not_not true = refl
-not_not false = refl
-
-pub complement_twice : (l : Signed ℕ) → complement (complement l) ≡ l
-complement_twice l = ap (λ p. record { positive = p; atom = l.atom }) (not_not l.positive)
 
 pub of_false : (entries : List Entry) (l : Signed ℕ) → IsFalseIn entries l → (e : Entry) × Contains entries e × (l ≡ complement e.lit)
 of_false entries l c = let f = of_literals entries (complement l) c in (f.0, f.1, sym (complement_twice l) ∙ ap complement f.2)

@@ -17,6 +17,7 @@ use Rattle.cdcl_core.specs.declared.search.Search.{Search}
 use Rattle.cdcl_core.specs.Log.{IsFound, IsLog}
 use Rattle.cdcl_core.specs.Search.{AreGiven, IsKept, IsTrueUpTo, IsSearch, IsBackFrom, IsSameButClauses}
 use Rattle.cdcl_core.proofs.EntryLaws.{reason_found}
+use Rattle.cdcl_core.proofs.PhaseLaws.{phases_same}
 
 still_there : (old new : List (Option (List (Signed ℕ)))) (n k : ℕ) (o : Option (List (Signed ℕ))) → RemovesClause old new n → (k ≡ n → ⊥) → clause_number old k ≡ o → clause_number new k ≡ o
 still_there old new n k o r other e = r.others k other ∙ e
@@ -60,7 +61,7 @@ forgot old new n r step free trail attached log marks phases k =
       given = subst (AreGiven new.clauses) (sym (ap (λ x. x.entries) trail)) (given_forgot old.clauses new.clauses n old.trail.trail.entries r free k.given);
       attached = attached old.clauses new.clauses r k.attached;
       marks = ap length marks ∙ k.marks ∙ sym atoms;
-      phases = ap (λ x. length x.items) phases ∙ k.phases ∙ sym atoms;
+      phases = phases_same old.trail.trail new.trail.trail old.phases new.phases trail phases k.phases;
     }
 
 pub found_clause : (r : Option (Bor (List (Signed ℕ)))) (clauses : List (Option (List (Signed ℕ)))) (n : ℕ) → is_some r ≡ true → option_copied r ≡ clause_number clauses n → (c : List (Signed ℕ)) × (clause_number clauses n ≡ Some c)

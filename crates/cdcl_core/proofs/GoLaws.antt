@@ -3,9 +3,10 @@ use Rattle.std.proofs.Common.{◌≡◌, ℕ, ◌<◌, ◌≤◌, Bool, true, fa
 use Rattle.std.specs.Prelude.{All, Contains, is_some, IfOk}
 use Rattle.std.proofs.lemmas.Bool.{true≢false}
 use Rattle.std.proofs.lemmas.List.{length-replicate, get_or-set_same}
-use Rattle.std.proofs.lemmas.List.Elements.{All-contains, All-weaker}
+use Rattle.std.proofs.lemmas.List.Elements.{All-contains, All-weaker, All-map}
 use Rattle.inst_logic.specs.declared.signed.Signed.{Signed}
 use Rattle.inst_logic.specs.Signed.{complement}
+use Rattle.inst_logic.specs.Derivations.{IsShown}
 use Rattle.prop_logic.specs.declared.literal.Hint.{Hint}
 use Rattle.prop_logic.specs.declared.literal.Step.{Step}
 use Rattle.prop_logic.specs.declared.solver.Answer.{Answer}
@@ -14,20 +15,20 @@ use Rattle.prop_logic.specs.Literal.{cited, AtomsBelow}
 use Rattle.prop_logic.specs.Solving.{IsAnswer, IsSubList, EndsWith}
 use Rattle.prop_logic.specs.Analysis.{ClosesAll}
 use Rattle.prop_logic.specs.Cut.{IsCutOf}
-use Rattle.prop_logic.proofs.SearchLaws.{ends_with_push, sub_contains}
+use Rattle.prop_logic.proofs.SearchLaws.{ends_with_push, good_push, sub_contains}
 use Rattle.cdcl_trail.specs.declared.entry.Entry.{Entry}
 use Rattle.cdcl_trail.specs.Trail.{Trail, IsTrail, IsDecision, reason_of, literals_of}
 use Rattle.cdcl_core.specs.declared.search.Search.{Search}
 use Rattle.cdcl_core.specs.Analysis.{ShowsGiven, IsMarked}
 use Rattle.cdcl_core.specs.Search.{IsKept, IsTrueUpTo, IsSearch, Ends, Continues, IsInCore, IsCoreIn}
 use Rattle.cdcl_core.proofs.EntryLaws.{of_literals, reason_found}
-use Rattle.cdcl_core.proofs.KeptLaws.{kept_same}
+use Rattle.cdcl_core.proofs.KeptLaws.{kept_same, closes_shown, closes_hinted}
 use Rattle.cdcl_core.proofs.EndLaws.{answer_refutes, core_free, core_has, clash_answer}
 
 -- other marks
 pub marks_search : (assumptions : List (Signed ℕ)) (s : Search) (m : List Bool) → length m ≡ length s.marks → IsSearch assumptions s → IsSearch assumptions (record s { marks = m })
 marks_search assumptions s m same k = record {
-  kept = kept_same s (record s { marks = m }) refl refl refl same refl k.kept;
+  kept = kept_same s (record s { marks = m }) refl refl refl same (λ p. p) k.kept;
   low = k.low;
   decisions = k.decisions;
   all_true = k.all_true;
@@ -39,16 +40,20 @@ marks_continue assumptions s new m None c = (c.0, record { same = record { atoms
 marks_continue assumptions s new m (Some a) c = record { kept = c.kept; same = record { atoms = c.same.atoms; added = c.same.added }; answered = c.answered }
 
 -- the end by steps
-pub refuted_ends : (assumptions core : List (Signed ℕ)) (old new : Search) (clause : List (Signed ℕ)) (hints : List Hint) (derivation : List Step) → clause ≡ map complement core → IsSubList core assumptions → IsKept new → new.log.added ≡ old.log.added → new.trail.trail ≡ old.trail.trail
-    → new.log.steps ≡ old.log.steps ++ (record { clause = clause; hints = hints }) ∷ [] → IsCutOf new.log.steps derivation → Ends assumptions old new (Unsat core derivation)
-refuted_ends assumptions core old new clause hints derivation is within k added trail steps cuts =
-    let atoms : new.trail.trail.atoms ≡ old.trail.trail.atoms = ap (λ t. t.atoms) trail in
-    let last : EndsWith new.log.steps (map complement core) = subst (λ c. EndsWith new.log.steps c) is (subst (λ ss. EndsWith ss clause) (sym steps) (ends_with_push old.log.steps (record { clause = clause; hints = hints }))) in
+pub refuted_ends : (assumptions core : List (Signed ℕ)) (s : Search) (last : Step) (derivation : List Step) → last.clause ≡ map complement core → IsSubList core assumptions → IsKept s → AtomsBelow s.trail.trail.atoms core → ClosesAll (map complement core) (map (cited s.log.added s.log.steps) last.hints)
+    → IsCutOf (s.log.steps ++ last ∷ []) derivation → Ends assumptions s s (Unsat core derivation)
+refuted_ends assumptions core s last derivation is within k low closes cuts =
+    let n = s.trail.trail.atoms in
+    let F = map complement core in
+    let ends : EndsWith (s.log.steps ++ last ∷ []) F = subst (EndsWith (s.log.steps ++ last ∷ [])) is (ends_with_push s.log.steps last) in
+    let good = good_push s.log.added n s.log.steps last k.log.good
+    (subst (λ c. IsShown c (map (cited s.log.added s.log.steps) last.hints)) (sym is) (closes_shown F (map (cited s.log.added s.log.steps) last.hints) closes))
+    (closes_hinted s.log.added s.log.steps F last.hints closes)
+    (subst (AtomsBelow n) (sym is) (All-map (λ l. l.atom < n) complement core low)) in
     record {
       kept = k;
-      same = record { atoms = atoms; added = added };
-      answered = subst (λ xs. IsAnswer old.trail.trail.atoms xs assumptions (Unsat core derivation)) added
-          (subst (λ n. IsAnswer n new.log.added assumptions (Unsat core derivation)) atoms (answer_refutes new.trail.trail.atoms new.log.added assumptions core new.log.steps derivation k.log.good within last cuts));
+      same = record { atoms = refl; added = refl };
+      answered = answer_refutes n s.log.added assumptions core (s.log.steps ++ last ∷ []) derivation good within ends cuts;
     }
 
 -- a false assumption
@@ -108,7 +113,7 @@ clash_ends assumptions core s m l derivation marks k low c here there e is =
     let first = All-contains (λ x. IsInCore s.trail.trail.entries m l x → Contains core x) assumptions l c.whole here (inl refl) in
     let second = All-contains (λ x. IsInCore s.trail.trail.entries m l x → Contains core x) assumptions (complement l) c.whole there (inr (e.0, e.1, e.2, e.3, marked)) in
     record {
-      kept = kept_same s (record s { marks = m }) refl refl refl one.0 refl k;
+      kept = kept_same s (record s { marks = m }) refl refl refl one.0 (λ p. p) k;
       same = record { atoms = refl; added = refl };
       answered = subst (λ d. IsAnswer s.trail.trail.atoms s.log.added assumptions (Unsat core d)) (sym is) (clash_answer s.trail.trail.atoms s.log.added assumptions core l c.within (core_atoms s.trail.trail.atoms assumptions core low c.within) first second);
     }

@@ -1,5 +1,5 @@
 -- What is kept from one question to the next.
-use Rattle.std.proofs.Common.{◌≡◌, ℕ, suc, zero, ◌+◌, ◌-◌, ◌^◌, ◌<◌, false, List, [], ◌∷◌, ◌++◌, length, map, take, Option, Some, None, refl, sym, ap, ◌∙◌, subst, arith}
+use Rattle.std.proofs.Common.{◌≡◌, ℕ, suc, zero, ◌+◌, ◌-◌, ◌^◌, ◌<◌, ◌≤◌, false, List, [], ◌∷◌, ◌++◌, length, map, take, Option, Some, None, refl, sym, ap, ◌∙◌, subst, arith}
 use Rattle.std.specs.Prelude.{All, Contains, slice_get}
 use Rattle.std.proofs.lemmas.List.{length_push}
 use Rattle.std.proofs.lemmas.List.Elements.{All-nil, All-contains, All-weaker}
@@ -22,9 +22,11 @@ use Rattle.cdcl_trail.specs.Trail.{Trail, IsTrail, IsDecision, literals_of, with
 use Rattle.cdcl_trail.specs.Propagation.{Propagates}
 use Rattle.cdcl_core.specs.declared.search.Search.{Search}
 use Rattle.cdcl_core.specs.Log.{PutsName, IsFound, IsLog}
+use Rattle.cdcl_core.specs.Phases.{IsSaved, ArePhases}
 use Rattle.cdcl_core.specs.Search.{AreGiven, IsKept, IsTrueUpTo, IsSearch, weight, Advances, Continues}
 use Rattle.cdcl_core.proofs.EntryLaws.{of_literals, to_literals}
 use Rattle.cdcl_core.proofs.LogLaws.{log_atom, log_added, log_step, log_learned}
+use Rattle.cdcl_core.proofs.PhaseLaws.{no_phases, phases_same, phases_kept, phases_back, phases_atom}
 use Rattle.cdcl_core.proofs.SearchLaws.{given_up_to, given_propagated, given_clauses, in_new, decision_old, weight_kept, of_up_to}
 
 no_clause : (n : ℕ) (c : List (Signed ℕ)) → clause_number [] n ≡ Some c → ⊥
@@ -35,8 +37,8 @@ none_at : (n : ℕ) → clause_number [] n ≡ None
 none_at zero = refl
 none_at (suc n) = refl
 
-pub new_kept : (s : Search) → s.log.added ≡ [] → s.log.steps ≡ [] → s.clauses ≡ [] → s.trail.trail.entries ≡ [] → s.trail.trail.atoms ≡ 0 → s.marks ≡ [] → s.phases.items ≡ [] → ((clauses : List (Option (List (Signed ℕ)))) → ((n : ℕ) → clause_number clauses n ≡ None) → AreAttached s.trail clauses) → IsKept s
-new_kept s added steps clauses entries atoms marks phases attached = record {
+pub new_kept : (s : Search) → s.log.added ≡ [] → s.log.steps ≡ [] → s.clauses ≡ [] → s.trail.trail.entries ≡ [] → s.trail.trail.atoms ≡ 0 → s.marks ≡ [] → s.phases.values ≡ [] → s.phases.saved ≡ 0 → ((clauses : List (Option (List (Signed ℕ)))) → ((n : ℕ) → clause_number clauses n ≡ None) → AreAttached s.trail clauses) → IsKept s
+new_kept s added steps clauses entries atoms marks values saved attached = record {
   attached = attached s.clauses (λ n. subst (λ x. clause_number x n ≡ None) (sym clauses) (none_at n));
   log = record {
     named = λ n c e. absurd (no_clause n c (ap (λ x. clause_number x n) (sym clauses) ∙ e));
@@ -46,7 +48,7 @@ new_kept s added steps clauses entries atoms marks phases attached = record {
   };
   given = λ k n e at reason. absurd (none-some e (ap (λ x. slice_get x k) (sym entries) ∙ at));
   marks = ap length marks ∙ sym atoms;
-  phases = ap length phases ∙ sym atoms;
+  phases = no_phases s.trail.trail s.phases values saved atoms;
 }
 
 attached_same : (old new : Search) → new.trail ≡ old.trail → new.clauses ≡ old.clauses → AreAttached old.trail old.clauses → AreAttached new.trail new.clauses
@@ -59,7 +61,7 @@ AttachesTo : WatchedTrail → WatchedTrail → ℕ → Type 0
 AttachesTo old new n = (before after : List (Option (List (Signed ℕ)))) (c : List (Signed ℕ)) → AddsClause before after c n → AreAttached old before → AreAttached new after
 
 -- the same state with other marks, phases and places to look at
-pub kept_same : (old new : Search) → new.log ≡ old.log → new.clauses ≡ old.clauses → new.trail ≡ old.trail → length new.marks ≡ length old.marks → length new.phases.items ≡ length old.phases.items → IsKept old → IsKept new
+pub kept_same : (old new : Search) → new.log ≡ old.log → new.clauses ≡ old.clauses → new.trail ≡ old.trail → length new.marks ≡ length old.marks → (ArePhases old.trail.trail old.phases → ArePhases new.trail.trail new.phases) → IsKept old → IsKept new
 kept_same old new log clauses watched marks phases k =
     let trail = ap (λ x. x.trail) watched in
     let atoms = ap (λ x. x.atoms) trail in
@@ -68,18 +70,18 @@ kept_same old new log clauses watched marks phases k =
       log = subst (λ n. IsLog n new.clauses new.log) (sym atoms) (subst (λ x. IsLog old.trail.trail.atoms x new.log) (sym clauses) (subst (IsLog old.trail.trail.atoms old.clauses) (sym log) k.log));
       given = subst (λ x. AreGiven x new.trail.trail.entries) (sym clauses) (subst (AreGiven old.clauses) (sym (ap (λ x. x.entries) trail)) k.given);
       marks = marks ∙ k.marks ∙ sym atoms;
-      phases = phases ∙ k.phases ∙ sym atoms;
+      phases = phases k.phases;
     }
 
-pub atom_kept : (old new : Search) → new.trail.trail ≡ with_atom old.trail.trail → ((clauses : List (Option (List (Signed ℕ)))) → AreAttached old.trail clauses → AreAttached new.trail clauses) → new.clauses ≡ old.clauses → new.log ≡ old.log → new.marks ≡ old.marks ++ false ∷ [] → new.phases.items ≡ old.phases.items ++ false ∷ [] → IsKept old → IsKept new
-atom_kept old new trail attached clauses log marks phases k =
+pub atom_kept : (old new : Search) → new.trail.trail ≡ with_atom old.trail.trail → ((clauses : List (Option (List (Signed ℕ)))) → AreAttached old.trail clauses → AreAttached new.trail clauses) → new.clauses ≡ old.clauses → new.log ≡ old.log → new.marks ≡ old.marks ++ false ∷ [] → new.phases.values ≡ old.phases.values ++ false ∷ [] → new.phases.saved ≡ old.phases.saved → IsKept old → IsKept new
+atom_kept old new trail attached clauses log marks values saved k =
     let atoms : new.trail.trail.atoms ≡ old.trail.trail.atoms + 1 = ap (λ x. x.atoms) trail in
     record {
       attached = subst (AreAttached new.trail) (sym clauses) (attached old.clauses k.attached);
       log = subst (λ n. IsLog n new.clauses new.log) (sym atoms) (subst (λ x. IsLog (old.trail.trail.atoms + 1) x new.log) (sym clauses) (subst (IsLog (old.trail.trail.atoms + 1) old.clauses) (sym log) (log_atom old.trail.trail.atoms old.clauses old.log k.log)));
       given = subst (λ x. AreGiven x new.trail.trail.entries) (sym clauses) (subst (AreGiven old.clauses) (sym (ap (λ x. x.entries) trail)) k.given);
       marks = omega (arith, ap length marks, length_push old.marks false, k.marks, atoms);
-      phases = omega (arith, ap length phases, length_push old.phases.items false, k.phases, atoms);
+      phases = phases_atom old.trail.trail new.trail.trail old.phases new.phases trail values saved k.phases;
     }
 
 pub added_kept : (old new : Search) (clause : List (Signed ℕ)) (key : ℕ) → AtomsBelow old.trail.trail.atoms clause → AddsClause old.clauses new.clauses clause key → new.log.added ≡ old.log.added ++ clause ∷ [] → new.log.steps ≡ old.log.steps → PutsName old.log.names.items new.log.names.items key (Added (length new.log.added))
@@ -91,25 +93,25 @@ added_kept old new clause key low a grown same p trail attached marks phases k =
       log = subst (λ n. IsLog n new.clauses new.log) (sym atoms) (log_added old.trail.trail.atoms old.clauses new.clauses clause key old.log new.log k.log low a grown same p);
       given = subst (AreGiven new.clauses) (sym (ap (λ x. x.entries) trail)) (given_clauses old.clauses new.clauses clause key old.trail.trail.entries a k.given);
       marks = ap length marks ∙ k.marks ∙ sym atoms;
-      phases = ap (λ x. length x.items) phases ∙ k.phases ∙ sym atoms;
+      phases = phases_same old.trail.trail new.trail.trail old.phases new.phases trail phases k.phases;
     }
 
-pub back_kept : (old new : Search) (level : ℕ) → IsTrail old.trail.trail → new.trail.trail ≡ back_at old.trail.trail level → ((clauses : List (Option (List (Signed ℕ)))) → AreAttached old.trail clauses → AreAttached new.trail clauses) → new.clauses ≡ old.clauses → new.log ≡ old.log → new.marks ≡ old.marks → length new.phases.items ≡ length old.phases.items → IsKept old → IsKept new
-back_kept old new level v trail attached clauses log marks phases k =
+pub back_kept : (old new : Search) (level : ℕ) → IsTrail old.trail.trail → new.trail.trail ≡ back_at old.trail.trail level → ((clauses : List (Option (List (Signed ℕ)))) → AreAttached old.trail clauses → AreAttached new.trail clauses) → new.clauses ≡ old.clauses → new.log ≡ old.log → new.marks ≡ old.marks → length new.phases.values ≡ old.trail.trail.atoms → All (IsSaved new.phases.values) old.trail.trail.entries → new.phases.saved ≤ length new.trail.trail.entries → IsKept old → IsKept new
+back_kept old new level v trail attached clauses log marks size whole within k =
     let atoms : new.trail.trail.atoms ≡ old.trail.trail.atoms = ap (λ x. x.atoms) trail in
     record {
       attached = subst (AreAttached new.trail) (sym clauses) (attached old.clauses k.attached);
       log = subst (λ n. IsLog n new.clauses new.log) (sym atoms) (subst (λ x. IsLog old.trail.trail.atoms x new.log) (sym clauses) (subst (IsLog old.trail.trail.atoms old.clauses) (sym log) k.log));
       given = subst (λ x. AreGiven x new.trail.trail.entries) (sym clauses) (subst (AreGiven old.clauses) (sym (ap (λ x. x.entries) trail)) (given_up_to old.clauses old.trail.trail level v k.given));
       marks = ap length marks ∙ k.marks ∙ sym atoms;
-      phases = phases ∙ k.phases ∙ sym atoms;
+      phases = phases_back old.trail.trail new.trail.trail new.phases level atoms (ap (λ x. x.entries) trail) size whole within;
     }
 
-closes_shown : (F : List (Signed ℕ)) (hints : List (Option (List (Signed ℕ)))) → ClosesAll F hints → IsShown F hints
+pub closes_shown : (F : List (Signed ℕ)) (hints : List (Option (List (Signed ℕ)))) → ClosesAll F hints → IsShown F hints
 closes_shown F [] c = absurd c
 closes_shown F (h ∷ hints) c = c
 
-closes_hinted : (added : List (List (Signed ℕ))) (steps : List Step) (F : List (Signed ℕ)) (hints : List Hint) → ClosesAll F (map (cited added steps) hints) → hints ≡ [] → ⊥
+pub closes_hinted : (added : List (List (Signed ℕ))) (steps : List Step) (F : List (Signed ℕ)) (hints : List Hint) → ClosesAll F (map (cited added steps) hints) → hints ≡ [] → ⊥
 closes_hinted added steps F [] c e = c
 closes_hinted added steps F (h ∷ hints) c e = cc
 
@@ -125,7 +127,7 @@ step_kept old new clause hints low closes added steps names watched clauses mark
           (log_step old.trail.trail.atoms old.clauses s old.log new.log k.log (closes_shown clause (map (cited old.log.added old.log.steps) hints) closes) (closes_hinted old.log.added old.log.steps clause hints closes) low added steps (ap (λ x. x.items) names)));
       given = subst (λ x. AreGiven x new.trail.trail.entries) (sym clauses) (subst (AreGiven old.clauses) (sym (ap (λ x. x.entries) trail)) k.given);
       marks = ap length marks ∙ k.marks ∙ sym atoms;
-      phases = ap (λ x. length x.items) phases ∙ k.phases ∙ sym atoms;
+      phases = phases_same old.trail.trail new.trail.trail old.phases new.phases trail phases k.phases;
     }
 
 pub use_kept : (old new : Search) (key : ℕ) (before : List Step) (s : Step) → old.log.steps ≡ before ++ s ∷ [] → AddsClause old.clauses new.clauses s.clause key → new.log.added ≡ old.log.added → new.log.steps ≡ old.log.steps → PutsName old.log.names.items new.log.names.items key (Earlier (length new.log.steps))
@@ -137,7 +139,7 @@ use_kept old new key before s ends a added steps p trail attached marks phases k
       log = subst (λ n. IsLog n new.clauses new.log) (sym atoms) (log_learned old.trail.trail.atoms old.clauses new.clauses key s before old.log new.log k.log ends a added steps p);
       given = subst (AreGiven new.clauses) (sym (ap (λ x. x.entries) trail)) (given_clauses old.clauses new.clauses s.clause key old.trail.trail.entries a k.given);
       marks = ap length marks ∙ k.marks ∙ sym atoms;
-      phases = ap (λ x. length x.items) phases ∙ k.phases ∙ sym atoms;
+      phases = phases_same old.trail.trail new.trail.trail old.phases new.phases trail phases k.phases;
     }
 
 -- propagation keeps the search
@@ -147,7 +149,7 @@ propagated_kept old t p attached k = record {
   log = subst (λ n. IsLog n old.clauses old.log) (sym p.atoms) k.log;
   given = given_propagated old.clauses old.trail.trail t.trail p k.given;
   marks = k.marks ∙ sym p.atoms;
-  phases = k.phases ∙ sym p.atoms;
+  phases = phases_kept old.trail.trail t.trail old.phases p.atoms p.kept k.phases;
 }
 
 literal_new : (old new : List Entry) (l : Signed ℕ) → take (length old) new ≡ old → Contains (literals_of old) l → Contains (literals_of new) l

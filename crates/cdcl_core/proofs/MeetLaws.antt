@@ -59,9 +59,9 @@ met_kept log t i e marks a b at m high low grown same counted x =
     }
 
 pub met_resolved : (log : Log) (t : Trail) (i n : ℕ) (e : Entry) (marks new : List Bool) (a b : Analysis) (o : Counts) → IsReady log t → slice_get t.entries i ≡ Some e → e.reason ≡ Some n
-    → ((a.clause.items ≡ [] → ⊥) → e.level ≡ 0) → AreCounted t i marks o → b.clause.items ≡ a.clause.items → ((h : Hint) → slice_get log.names.items n ≡ Some h → b.hints.items ≡ a.hints.items ++ h ∷ [])
+    → IsMarked marks e.lit.atom → AreCounted t i marks o → b.clause.items ≡ a.clause.items → ((h : Hint) → slice_get log.names.items n ≡ Some h → b.hints.items ≡ a.hints.items ++ h ∷ [])
     → ((c : List (Signed ℕ)) → IsNamed log n c → MarksToo t c marks new o b.counts) → IsMet log t (i + 1) marks a → IsMet log t i new b
-met_resolved log t i n e marks new a b o ready at reason zero_level counted same hints marked x =
+met_resolved log t i n e marks new a b o ready at reason mark counted same hints marked x =
     let why = ready.implied i n e at reason in
     let h = why.1.0 in
     let too = marked why.0 why.1 in
@@ -74,7 +74,7 @@ met_resolved log t i n e marks new a b o ready at reason zero_level counted same
           (subst (λ c. ClosesFrom log t.entries (take i t.entries) new (HasAll c) (h ∷ reverse a.hints.items)) (sym same) closes);
       counted = too.counted i counted;
       learned = subst (IsLearned t.entries) (sym same) x.learned;
-      first = subst (AreBelowFirst t.entries (take i t.entries) new) (sym same) (first_resolved t i e new a.clause.items ready.trail at zero_level x.learned);
+      first = subst (AreBelowFirst t.entries (take i t.entries) new) (sym same) (first_resolved t i e marks new a.clause.items ready.trail at mark x.first);
     }
 
 -- where exactly the decisions stay

@@ -18,7 +18,9 @@ use Rattle.cdcl_trail.specs.Propagation.{IsFalseIn, GivesUnit}
 use Rattle.cdcl_core.specs.declared.search.Search.{Search}
 use Rattle.cdcl_core.specs.Log.{IsLog}
 use Rattle.cdcl_core.specs.Analysis.{IsFalseBelow, IsLearned}
+use Rattle.cdcl_core.specs.Phases.{ArePhases}
 use Rattle.cdcl_core.specs.Search.{AreGiven, IsKept, IsTrueUpTo, IsSearch, weight, Advances}
+use Rattle.cdcl_core.proofs.PhaseLaws.{phases_push}
 use Rattle.cdcl_core.proofs.EntryLaws.{pair_at, of_literals, to_literals, of_false, to_false, same_entry, level_found}
 use Rattle.cdcl_core.proofs.Measure.{weight_push, weight_backjump, weight_below}
 use Rattle.cdcl_core.proofs.SearchLaws.{up_to_contains, of_up_to, given_up_to, given_push}
@@ -99,7 +101,7 @@ learned_unit t l ls level v h reached least =
 
 -- the search after a clause is learned
 pub learned_search : (assumptions : List (Signed ℕ)) (old new : Search) (clause : List (Signed ℕ)) (l : Signed ℕ) (level key : ℕ) → IsTrail old.trail.trail → IsUnitAt old.trail.trail clause l level
-    → new.trail.trail ≡ with_implied (back_at old.trail.trail level) l key → IsLog new.trail.trail.atoms new.clauses new.log → AreGiven new.clauses old.trail.trail.entries → clause_number new.clauses key ≡ Some clause → length new.marks ≡ new.trail.trail.atoms → length new.phases.items ≡ new.trail.trail.atoms → AreAttached new.trail new.clauses
+    → new.trail.trail ≡ with_implied (back_at old.trail.trail level) l key → IsLog new.trail.trail.atoms new.clauses new.log → AreGiven new.clauses old.trail.trail.entries → clause_number new.clauses key ≡ Some clause → length new.marks ≡ new.trail.trail.atoms → ArePhases new.trail.trail new.phases → AreAttached new.trail new.clauses
     → new.log.added ≡ old.log.added → new.assumed ≡ min old.assumed level → new.checked ≡ 0 → IsSearch assumptions old → IsSearch assumptions new × Advances old new
 learned_search assumptions old new clause l level key v u trail log given named marks phases attached added assumed checked s =
     let t = old.trail.trail in
@@ -150,7 +152,7 @@ decided_kept old new l trail attached clauses log marks phases k =
       log = subst (λ n. IsLog n new.clauses new.log) (sym atoms) (subst (λ x. IsLog old.trail.trail.atoms x new.log) (sym clauses) (subst (IsLog old.trail.trail.atoms old.clauses) (sym log) k.log));
       given = subst (λ x. AreGiven x new.trail.trail.entries) (sym clauses) (subst (AreGiven old.clauses) (sym entries) (given_push old.clauses old.trail.trail.entries d k.given (λ n e. absurd (none-some n e))));
       marks = ap length marks ∙ k.marks ∙ sym atoms;
-      phases = ap (λ x. length x.items) phases ∙ k.phases ∙ sym atoms;
+      phases = subst (ArePhases new.trail.trail) (sym phases) (phases_push old.trail.trail new.trail.trail old.phases d atoms entries k.phases);
     }
 
 pub decided_advances : (old new : Search) (l : Signed ℕ) → IsTrail old.trail.trail → new.trail.trail ≡ with_decision old.trail.trail l → new.log ≡ old.log → Advances old new

@@ -11,6 +11,7 @@ use Rattle.cdcl_trail.specs.Propagation.{GivesUnit}
 use Rattle.cdcl_core.specs.declared.search.Search.{Search}
 use Rattle.cdcl_core.specs.Log.{IsLog}
 use Rattle.cdcl_core.specs.Analysis.{IsMarked}
+use Rattle.cdcl_core.specs.Phases.{ArePhases}
 
 -- an entry with a reason was given by its clause
 abbrev pub AreGiven : List (Option (List (Signed ℕ))) → List Entry → Type 0
@@ -22,7 +23,7 @@ pub record IsKept (s : Search) : Type 0 where
   pub given : AreGiven s.clauses s.trail.trail.entries
   pub attached : AreAttached s.trail s.clauses
   pub marks : length s.marks ≡ s.trail.trail.atoms
-  pub phases : length s.phases.items ≡ s.trail.trail.atoms
+  pub phases : ArePhases s.trail.trail s.phases
 
 -- between questions
 pub record IsIdle (n : ℕ) (s : Search) : Type 0 where

@@ -2,7 +2,7 @@
 // Efficient conflict driven learning in a Boolean satisfiability solver, 2001): one walk down the trail, which ends where no
 // marked literal is left. Literals of level 0 are resolved away, so no learned clause has one. The hints come out from the
 // last to the first, and are turned round at the end.
-ghost use Rattle.std.specs.Prelude.{◌≡◌, ℕ, ◌+◌, ◌++◌, ◌∷◌, [], ◌<◌, ◌≤◌, List, Bool, Some, All, Contains, MatchBool, length, map, slice_get, IfOk, OnOk};
+ghost use Rattle.std.specs.Prelude.{◌≡◌, ℕ, ◌+◌, ◌++◌, ◌∷◌, [], ◌<◌, ◌≤◌, List, Bool, Some, All, Contains, IsTrue, MatchBool, length, map, slice_get, IfOk, OnOk};
 ghost use Rattle.inst_logic.specs.declared.signed.Signed.{Signed};
 ghost use Rattle.inst_logic.specs.Signed.{complement};
 ghost use Rattle.prop_logic.specs.declared.literal.Hint.{Hint};
@@ -78,18 +78,40 @@ fn mark_all(trail: &Trail, marks: &mut Marks, counts: &mut Counts, clause: &[Lit
     }
 }
 
-// Whether a literal with a reason stays. The first one that stays is the last of the present level that all paths to the
-// conflict go through; after it those stay that are above level 0.
-fn stays(trail: &Trail, analysis: &Analysis, level: usize) -> bool
-    ensures { MatchBool result ((0 < level) × (analysis.now.clause.items ≡ [] → (level ≡ trail.now.trail.level) × (analysis.now.counts.present ≤ 1))) ((analysis.now.clause.items ≡ [] → ⊥) → level ≡ 0) }
+// Whether all atoms of the clause are marked.
+fn are_marked(marks: &Marks, clause: &[Lit]) -> bool
+    requires { AtomsBelow (length marks.now) clause.now }
+{
+    for lit in clause {
+        if !marks.contains(lit.atom) {
+            return false;
+        }
+    }
+    true
+}
+
+// Whether a literal that the clause of this number gave stays. The first one that stays is the last of the present level that
+// all paths to the conflict go through. After it those stay that are above level 0 and whose clause has an atom that isn't
+// marked: the others follow from what is marked (Sörensson and Biere, Minimizing learned clauses, 2009).
+fn stays(
+    log: &Log,
+    trail: &Trail,
+    marks: &Marks,
+    analysis: &Analysis,
+    level: usize,
+    number: usize,
+) -> bool
+    requires ready { IsReady log.now trail.now.trail }
+    requires size { length marks.now ≡ trail.now.trail.atoms }
+    ensures { IsTrue result → (0 < level) × (analysis.now.clause.items ≡ [] → (level ≡ trail.now.trail.level) × (analysis.now.counts.present ≤ 1)) }
 {
     if level == 0 {
         return false;
     }
-    if !analysis.clause.is_empty() {
-        return true;
+    if analysis.clause.is_empty() {
+        return level == trail.level() && analysis.counts.present <= 1;
     }
-    level == trail.level() && analysis.counts.present <= 1
+    !are_marked(marks, log.cited(log.hint_of(number)))
 }
 
 // Counts a literal as met.
@@ -153,11 +175,14 @@ fn meet(
         return Ok(());
     }
     let level = trail.level_of(lit.atom).unwrap_or(0);
-    let remains = stays(trail, analysis, level);
-    count_met(trail, &mut analysis.counts, level);
     match trail.reason(lit.atom) {
-        None => keep(analysis, lit),
+        None => {
+            count_met(trail, &mut analysis.counts, level);
+            keep(analysis, lit)
+        }
         Some(number) => {
+            let remains = stays(log, trail, marks, analysis, level, number);
+            count_met(trail, &mut analysis.counts, level);
             if remains {
                 return keep(analysis, lit);
             }

@@ -92,7 +92,7 @@ impl Solver for Cdcl {
         }
     }
 
-    // The steps: a conflict is answered by one.
+    // The steps: each conflict is answered by one, but not the last of a question that is refuted.
     fn conflicts(&self) -> u64 {
         self.search.log.steps.len() as u64
     }

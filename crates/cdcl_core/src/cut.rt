@@ -1,6 +1,6 @@
 // Derivations without the steps that their last step does not need. The log keeps the steps of all questions, and an answer
 // needs few of them; so the time follows what is kept, and no mark is set for each step of the log.
-ghost use Rattle.std.specs.Prelude.{◌≡◌, ◌<◌, ◌-◌, ℕ, length, All, Contains, IfOk, OnOk};
+ghost use Rattle.std.specs.Prelude.{◌≡◌, ◌<◌, ◌≤◌, ◌-◌, ◌++◌, ◌∷◌, [], ℕ, length, Some, All, Contains, slice_get, IfOk, OnOk};
 ghost use Rattle.std.specs.List.{AllZip};
 ghost use Rattle.prop_logic.specs.Cut.{IsCutOf};
 ghost use Rattle.cdcl_core.specs.Cut.{CitesOnly, Rises, AreNeeded, IsRenamed, IsCopy};
@@ -48,16 +48,28 @@ fn last_place(alloc: Global, count: usize) -> Result<BTreeSet<usize>, Memory>
     Ok(waiting)
 }
 
-// The places of the steps that the last step needs. The highest one that waits is taken first, so that what it cites is
-// below all that were taken before.
-fn needed_places(alloc: Global, steps: &[Step]) -> Result<Vec<usize>, Memory>
-    ensures { IfOk result (λ places. AreNeeded steps.now places.items) }
+// The step at the place, where one more stands behind the others.
+fn step_at<'a>(steps: &'a [Step], last: &'a Step, place: usize) -> &'a Step
+    requires { place ≤ length steps.now }
+    ensures { slice_get (steps.now ++ last.now ∷ []) place ≡ Some result.now }
+{
+    match steps.get(place) {
+        Some(step) => step,
+        None => last,
+    }
+}
+
+// The places of the steps that the last one needs, and its own, which is behind the others. The highest one that waits is
+// taken first, so that what it cites is below all that were taken before.
+fn needed_places(alloc: Global, steps: &[Step], last: &Step) -> Result<Vec<usize>, Memory>
+    ensures { IfOk result (λ places. AreNeeded (steps.now ++ last.now ∷ []) places.items) }
 {
     let mut places = Vec::new(alloc);
-    let mut waiting = last_place(alloc, steps.len())?;
+    let mut waiting = last_place(alloc, steps.len() + 1)?;
     while let Some(place) = waiting.pop_last() {
         places.push(place)?;
-        need_all(&mut waiting, place, steps[place].hints.as_slice())?;
+        let step = step_at(steps, last, place);
+        need_all(&mut waiting, place, step.hints.as_slice())?;
     }
     places.reverse();
     Ok(places)
@@ -102,14 +114,15 @@ fn copy(alloc: Global, places: &[usize], step: &Step) -> Result<Step, Memory>
     Ok(Step { clause, hints })
 }
 
-// The steps that the last step needs, in their order.
-pub(crate) fn cut(alloc: Global, steps: &[Step]) -> Result<Derivation, Memory>
-    ensures { IfOk result (IsCutOf steps.now) }
+// The steps that the last one needs, in their order, and a copy of it behind them.
+pub(crate) fn cut(alloc: Global, steps: &[Step], last: &Step) -> Result<Derivation, Memory>
+    ensures { IfOk result (IsCutOf (steps.now ++ last.now ∷ [])) }
 {
-    let places = needed_places(alloc, steps)?;
+    let places = needed_places(alloc, steps, last)?;
     let mut kept = Derivation::new(alloc);
     for place in places.as_slice() {
-        kept.push(copy(alloc, &places, &steps[*place])?)?;
+        let step = step_at(steps, last, *place);
+        kept.push(copy(alloc, &places, step)?)?;
     }
     Ok(kept)
 }

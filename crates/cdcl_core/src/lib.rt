@@ -6,12 +6,12 @@
 mod analysis;
 mod cdcl;
 mod cut;
-mod explain;
 mod learned;
 mod log;
 mod marks;
 mod order;
 mod pace;
+mod phases;
 mod search;
 
 pub use cdcl::Cdcl;

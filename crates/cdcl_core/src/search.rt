@@ -23,11 +23,10 @@ use crate::learned::{Learned, count_levels};
 use crate::log::{Log, put_name};
 use crate::marks::Marks;
 use crate::pace::Pace;
+use crate::phases::Phases;
 use cdcl_trail::{Clauses, Trail};
 use inst_logic::Memory;
-use prop_logic::{
-    Answer, Derivation, Hint, HintList, Lit, LitList, Step, Valuation, complement, complements,
-};
+use prop_logic::{Answer, Derivation, Hint, HintList, Lit, LitList, Step, complement, complements};
 use std::alloc::Global;
 
 // The levels up to `assumed` were opened by assumptions, of which the first `checked` are true. The decisions take the
@@ -40,27 +39,10 @@ pub(crate) struct Search {
     pub(crate) trail: Trail,
     pub(crate) learned: Learned,
     pub(crate) marks: Marks,
-    pub(crate) phases: Vec<bool>,
+    pub(crate) phases: Phases,
     pub(crate) next: usize,
     pub(crate) assumed: usize,
     pub(crate) checked: usize,
-}
-
-// The values, where an atom without one is false.
-fn valuation_of(alloc: Global, trail: &Trail, atoms: usize) -> Result<Valuation, Memory>
-    requires { atoms ≡ trail.now.trail.atoms }
-    ensures size { IfOk result (λ valuation. length valuation ≡ atoms) }
-    ensures values { IfOk result (λ valuation. (k : ℕ) → k < atoms → slice_get valuation k ≡ Some (unwrap_or (value_of trail.now.trail.entries (record { positive = true; atom = k })) false)) }
-{
-    let mut valuation = Valuation::new(alloc);
-    for atom in 0..atoms {
-        let lit = Lit {
-            positive: true,
-            atom,
-        };
-        valuation.push(trail.value(lit).unwrap_or(false))?;
-    }
-    Ok(valuation)
 }
 
 // The first atom from `from` on that has no value.
@@ -251,17 +233,9 @@ fn core_of(
     Ok(core)
 }
 
-// Keeps the values of the literals that are above the level, and the first of their atoms to look at.
-fn save_phases(
-    trail: &Trail,
-    marks: &mut Marks,
-    phases: &mut [bool],
-    next: usize,
-    level: usize,
-) -> usize
-    requires { length phases.old ≡ trail.now.trail.atoms }
-    ensures trail { IsTrail trail.now.trail }
-    ensures marks { marks.new ≡ marks.old }
+// Puts the atoms above the level back into the order, and answers the first of them to look at.
+fn put_back(trail: &Trail, marks: &mut Marks, next: usize, level: usize) -> usize
+    ensures { marks.new ≡ marks.old }
 {
     let mut first = next;
     let mut place = trail.assigned().len();
@@ -271,7 +245,6 @@ fn save_phases(
         if trail.level_of(lit.atom).unwrap_or(0) <= level {
             return first;
         }
-        phases[lit.atom] = lit.positive;
         marks.put_back(lit.atom);
         first = first.min(lit.atom);
     }
@@ -291,7 +264,7 @@ impl Search {
             trail: Trail::new(alloc),
             learned: Learned::new(alloc),
             marks: Marks::new(alloc),
-            phases: Vec::new(alloc),
+            phases: Phases::new(alloc),
             next: 0,
             assumed: 0,
             checked: 0,
@@ -306,7 +279,7 @@ impl Search {
         ensures added { OnOk result (self.new.log.added ≡ self.old.log.added) }
     {
         self.marks.grow()?;
-        self.phases.push(false)?;
+        self.phases.grow()?;
         self.trail.grow()
     }
 
@@ -314,7 +287,7 @@ impl Search {
         requires { IsKept self.now }
         ensures { result ≡ self.now.trail.trail.atoms }
     {
-        self.phases.len()
+        self.phases.values.len()
     }
 
     // Adds a copy of the clause, and answers its number.
@@ -347,14 +320,10 @@ impl Search {
         ensures assumed { self.new.assumed ≡ min self.old.assumed level }
         ensures checked { self.new.checked ≡ 0 }
     {
-        self.next = save_phases(
-            &self.trail,
-            &mut self.marks,
-            &mut self.phases,
-            self.next,
-            level,
-        );
+        self.phases.save(&self.trail);
+        self.next = put_back(&self.trail, &mut self.marks, self.next, level);
         self.trail.back_to(level);
+        self.phases.cut(&self.trail);
         self.assumed = self.assumed.min(level);
         self.checked = 0;
     }
@@ -442,17 +411,18 @@ impl Search {
         Ok(())
     }
 
-    // The answer where the core can't be true, whose complements the hints show.
-    fn refuted(&mut self, core: LitList, hints: Vec<Hint>) -> Result<Answer, Memory>
-        requires kept { IsKept self.old }
-        requires atoms { AtomsBelow self.old.trail.trail.atoms core }
-        requires closes { ClosesAll (map complement core) (map (cited self.old.log.added self.old.log.steps) hints.items) }
-        ensures ends { IfOk result (λ answer. (assumptions : List (Signed ℕ)) → IsSubList core assumptions → Ends assumptions self.old self.new answer) }
-        ensures added { self.new.log.added ≡ self.old.log.added }
+    // The answer where the core can't be true, whose complements the hints show. Nothing of it stays in the log.
+    fn refuted(&self, core: LitList, hints: Vec<Hint>) -> Result<Answer, Memory>
+        requires kept { IsKept self.now }
+        requires atoms { AtomsBelow self.now.trail.trail.atoms core }
+        requires closes { ClosesAll (map complement core) (map (cited self.now.log.added self.now.log.steps) hints.items) }
+        ensures { IfOk result (λ answer. (assumptions : List (Signed ℕ)) → IsSubList core assumptions → Ends assumptions self.now self.now answer) }
     {
-        let clause = complements(self.alloc, core.as_slice())?;
-        self.push_step(clause, hints)?;
-        let derivation = cut(self.alloc, self.log.steps.as_slice())?;
+        let last = Step {
+            clause: complements(self.alloc, core.as_slice())?,
+            hints: HintList::from(hints),
+        };
+        let derivation = cut(self.alloc, self.log.steps.as_slice(), &last)?;
         Ok(Answer::Unsat { core, derivation })
     }
 
@@ -561,15 +531,19 @@ impl Search {
         ensures goes { IfOk result (λ found. (assumptions : List (Signed ℕ)) → IsSearch assumptions self.old → All (IsTrueUpTo self.old.trail.trail.entries self.old.assumed) assumptions → Continues assumptions self.old self.new found) }
         ensures added { self.new.log.added ≡ self.old.log.added }
     {
-        let atoms = self.phases.len();
+        let atoms = self.phases.values.len();
         match active_atom(&self.trail, &mut self.marks, self.next, atoms) {
             Some(atom) => {
-                let positive = self.phases[atom];
+                let positive = self.phases.values.value(atom);
                 self.trail.decide(Lit { positive, atom });
                 self.next = atom;
                 Ok(None)
             }
-            None => Ok(Some(Answer::Sat(valuation_of(self.alloc, &self.trail, atoms)?))),
+            None => {
+                self.phases.save(&self.trail);
+                let valuation = self.phases.values.copy(self.alloc)?;
+                Ok(Some(Answer::Sat(valuation)))
+            }
         }
     }
 

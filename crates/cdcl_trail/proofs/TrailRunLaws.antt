@@ -1,5 +1,5 @@
 -- How the visits of the trail go on.
-use Rattle.std.proofs.Common.{◌≡◌, ℕ, ◌+◌, ◌<◌, ◌≤◌, Bool, true, false, not, inl, inr, List, [], ◌∷◌, length, map, take, get_or, Option, Some, refl, sym, ap, ◌∙◌, subst, arith}
+use Rattle.std.proofs.Common.{◌≡◌, ℕ, ◌+◌, ◌<◌, ◌≤◌, Bool, true, false, inl, inr, List, [], ◌∷◌, length, map, take, get_or, Option, Some, refl, sym, ap, ◌∙◌, subst, arith}
 use Rattle.std.specs.Prelude.{All, Contains, slice_get, ◌==◌}
 use Rattle.std.proofs.lemmas.List.{take-map, length-map, take_more}
 use Rattle.std.proofs.lemmas.List.Sums.{sum_by-append}
@@ -9,6 +9,7 @@ use Rattle.std.proofs.lemmas.Bool.{eqb-true}
 use Rattle.inst_logic.specs.declared.signed.Signed.{Signed}
 use Rattle.inst_logic.specs.Signed.{complement}
 use Rattle.prop_logic.proofs.ListLaws.{take_of_take, slice_get_take, All-slice_get}
+use Rattle.prop_logic.proofs.SearchLaws.{complement_twice}
 use Rattle.cdcl_trail.specs.Running.{at_level, numbers_at, IsRunning, Runs, IsTrailRun}
 use Rattle.cdcl_trail.specs.Trail.{literals_of}
 use Rattle.cdcl_trail.specs.Values.{AreValues, entries_of}
@@ -23,13 +24,6 @@ use Rattle.cdcl_trail.proofs.PropagationLaws.{longer}
 use Rattle.cdcl_trail.proofs.TrailLaws.{contains_here, contains_there}
 use Rattle.cdcl_trail.proofs.VisitLaws.{runs_on, slot_below}
 use Rattle.cdcl_trail.proofs.WatchLaws.{due_first, due_second, one_if}
-
-pub twice : (l : Signed ℕ) → complement (complement l) ≡ l
-twice l = ap (λ p. (record { positive = p; atom = l.atom })) (flips l.positive)
-  where
-    flips : (b : Bool) → not (not b) ≡ b
-    flips true = refl
-    flips false = refl
 
 -- a clause that is counted stands in the list
 pub counted_in : (n : ℕ) (xs : List Watch) → 0 < times n xs → Contains (map (λ w. w.number) xs) n
@@ -72,7 +66,7 @@ settled_next clauses lists pairs es h l x watched here is settled seen n p g at 
     elim (Contains-push_cases (take h (literals_of es)) (get_or (literals_of es) h x) (complement g) more) [
       | inl old ↦ settled n p g at watches old
       | inr new ↦
-          let same : g ≡ l = sym (twice g) ∙ ap complement (sym new ∙ read) ∙ sym is in
+          let same : g ≡ l = sym (complement_twice g) ∙ ap complement (sym new ∙ read) ∙ sym is in
           seen n (watcher_in clauses lists pairs n p l watched at (subst (Watches p) same watches))
     ]
 

@@ -1,10 +1,10 @@
 -- One value more, one less, and the first entry of an atom.
-use Rattle.std.proofs.Common.{◌≡◌, ◌≢◌, ℕ, suc, zero, ◌+◌, ◌<◌, ◌≤◌, Bool, true, false, not, cond, inl, inr, List, [], ◌∷◌, ◌++◌, ◌-◌, length, map, set, Option, Some, None, get_or, refl, sym, ap, ◌∙◌, subst, arith, length-set}
+use Rattle.std.proofs.Common.{◌≡◌, ◌≢◌, ℕ, suc, zero, ◌+◌, ◌<◌, ◌≤◌, Bool, true, false, not, cond, inl, inr, List, [], ◌∷◌, ◌++◌, ◌-◌, length, map, take, set, Option, Some, None, get_or, refl, sym, ap, ◌∙◌, subst, arith, length-set}
 use Rattle.std.specs.Prelude.{All, AllPairs, Contains, slice_get, count_by, is_some, ◌==◌, nat_le}
-use Rattle.std.proofs.lemmas.List.{length_push, map-append, same_from_push, append-nil}
+use Rattle.std.proofs.lemmas.List.{length_push, map-append, same_from_push, append-nil, take_all}
 use Rattle.std.proofs.lemmas.List.Elements.{All-head, All-tail, All-push, All-weaker, All-contains, All-map, Contains-push, Contains-push_cases, Contains-append_left, filter-append}
 use Rattle.std.proofs.lemmas.List.Quantifiers.{all_pairs_push}
-use Rattle.std.proofs.lemmas.List.Sums.{sum_by-set, sum_by-append}
+use Rattle.std.proofs.lemmas.List.Sums.{sum_by-set, sum_by-append, count_by_more_no}
 use Rattle.std.proofs.lemmas.Option.{same_Some, slice_get_within, none-some, slice_get-get_or, get_or_from_slice_get}
 use Rattle.std.proofs.lemmas.Bool.{cases_eq, eqb-true, eqb-false, ne_eqb, le-leb}
 use Rattle.std.proofs.lemmas.Bool.Decides.{nat_tests}
@@ -53,6 +53,30 @@ few_entries es by_atom v = omega (arith, v.counted)
 
 not_unset : (by_atom : List (Option Entry)) (a b : ℕ) (e : Entry) → slice_get by_atom a ≡ Some None → slice_get by_atom b ≡ Some (Some e) → b ≡ a → ⊥
 not_unset by_atom a b e none at same = none-some e (same_Some None (Some e) (sym none ∙ ap (slice_get by_atom) (sym same) ∙ at))
+
+-- where each atom has a value there are as many entries
+no_unset : (xs : List (Option Entry)) → ((a : ℕ) → slice_get xs a ≡ Some None → ⊥) → unset_count xs ≡ 0
+no_unset xs full = subst (λ ys. unset_count ys ≡ 0) (take_all (length xs) xs (omega arith)) (first (length xs) (omega arith))
+  where
+    nothing : (ys : List (Option Entry)) → unset_count (take 0 ys) ≡ 0
+    nothing [] = refl
+    nothing (y ∷ ys) = refl
+
+    is_set : (i : ℕ) (o : Option Entry) → slice_get xs i ≡ Some o → not (is_some o) ≡ false
+    is_set i None at = absurd (full i at)
+    is_set i (Some e) at = refl
+
+    first : (i : ℕ) → i ≤ length xs → unset_count (take i xs) ≡ 0
+    first zero h = nothing xs
+    first (suc i) h =
+        let low : i < length xs = omega (arith, h) in
+        let more : i + 1 ≡ suc i = omega arith in
+        subst (λ n. unset_count (take n xs) ≡ 0) more (count_by_more_no (λ o. not (is_some o)) xs i None low (is_set i (get_or xs i None) (slice_get-get_or xs i None low)) ∙ first i (omega (arith, h)))
+
+pub all_set : (es : List Entry) (by_atom : List (Option Entry)) → AreByAtom es by_atom → ((a : ℕ) → a < length by_atom → IsUnset es a → ⊥) → length es ≡ length by_atom
+all_set es by_atom v full =
+    let none = no_unset by_atom (λ a at. full a (slice_get_within by_atom a None at) (All-weaker (λ e. slice_get by_atom e.lit.atom ≡ Some (Some e)) (λ e. e.lit.atom ≢ a) (λ e here same. not_unset by_atom a e.lit.atom e at here same) es v.at_atom)) in
+    omega (arith, v.counted, none)
 
 -- one entry more
 pub put_by_atom : (es : List Entry) (by_atom : List (Option Entry)) (e : Entry) → slice_get by_atom e.lit.atom ≡ Some None → AreByAtom es by_atom → AreByAtom (es ++ e ∷ []) (set by_atom e.lit.atom (Some e))

@@ -1,7 +1,7 @@
 // The trail of a solver, with the clauses that are attached to it. Whoever searches sees true literals, levels and reasons,
 // and no watch. The room of an atom's value is taken with the atom, so decisions, implied literals and ways back cannot fail;
 // only new atoms, attached clauses and new watches can want memory.
-ghost use Rattle.std.specs.Prelude.{◌≡◌, ◌<◌, ◌≤◌, ◌≢◌, ◌+◌, ◌++◌, ◌∷◌, ℕ, List, Option, Some, None, All, [], false, true, length, take, vec_capacity, map, slice_get, IfOk, OnOk, OnErr, IsErr, IfSome, IfNone, IsTrue};
+ghost use Rattle.std.specs.Prelude.{◌≡◌, ◌<◌, ◌↔◌, ◌≤◌, ◌≢◌, ◌+◌, ◌++◌, ◌∷◌, ℕ, List, Option, Some, None, All, [], false, true, length, take, vec_capacity, map, IfOk, OnOk, OnErr, IsErr, IfSome, IfNone, IsTrue};
 ghost use Rattle.std.specs.List.{slice_index_or};
 ghost use Rattle.inst_logic.specs.declared.signed.Signed.{Signed};
 ghost use Rattle.cdcl_trail.specs.Attached.{WatchedTrail, AreAttached};
@@ -206,13 +206,6 @@ impl Trail {
         }
     }
 
-    /// A place of `assigned` at which the atom's literal stands, counted from 0. `None` says nothing of the atom.
-    pub fn place_of(&self, atom: usize) -> Option<usize>
-        ensures { IfSome result (λ place. (l : Signed ℕ) × (slice_get (literals_of self.now.trail.entries) place ≡ Some l) × (l.atom ≡ atom)) }
-    {
-        self.values.place(atom)
-    }
-
     /// The true literals in the order in which they became so.
     pub fn assigned(&self) -> &[Lit]
         ensures literals { result.now ≡ literals_of self.now.trail.entries }
@@ -223,7 +216,7 @@ impl Trail {
 
     /// Whether each atom has a value, without a look at the atoms.
     pub fn is_whole(&self) -> bool
-        ensures { IsTrue result → (a : ℕ) → a < self.now.trail.atoms → ¬ IsUnset self.now.trail.entries a }
+        ensures { IsTrue result ↔ ((a : ℕ) → a < self.now.trail.atoms → ¬ IsUnset self.now.trail.entries a) }
     {
         self.values.literals.len() == self.values.entries.len()
     }

@@ -12,20 +12,11 @@ use inst_logic::Memory;
 use prop_logic::Lit;
 use std::alloc::Global;
 
-// The true literals in their order, with room for one of each atom, for each atom its entry, and the place at which its
-// literal came last.
+// The true literals in their order, with room for one of each atom, and for each atom its entry.
 #[derive(Drop)]
 pub(crate) struct Values {
     pub(crate) literals: Vec<Lit>,
     pub(crate) entries: Vec<Option<Entry>>,
-    pub(crate) places: Vec<usize>,
-}
-
-// Nothing rests on these places: who reads one looks whether the atom's literal is there.
-fn note_place(places: &mut [usize], atom: usize, place: usize) {
-    if atom < places.len() {
-        places[atom] = place;
-    }
 }
 
 impl Values {
@@ -37,7 +28,6 @@ impl Values {
         Values {
             literals: Vec::new(alloc),
             entries: Vec::new(alloc),
-            places: Vec::new(alloc),
         }
     }
 
@@ -52,7 +42,6 @@ impl Values {
     {
         let atom = self.entries.len();
         self.literals.reserve(atom + 1 - self.literals.len())?;
-        self.places.push(0)?;
         self.entries.push(None)?;
         Ok(atom)
     }
@@ -127,25 +116,8 @@ impl Values {
         ensures entries { entries_of self.new ≡ entries_of self.old ++ entry ∷ [] }
         ensures atoms { length self.new.entries.items ≡ length self.old.entries.items }
     {
-        note_place(&mut self.places, entry.lit.atom, self.literals.len());
         self.literals.push_reserved(entry.lit);
         self.entries[entry.lit.atom] = Some(entry);
-    }
-
-    // The place of the atom's literal.
-    pub(crate) fn place(&self, atom: usize) -> Option<usize>
-        ensures { IfSome result (λ place. (l : Signed ℕ) × (slice_get self.now.literals.items place ≡ Some l) × (l.atom ≡ atom)) }
-    {
-        let place = self.places.get(atom).copied().unwrap_or(0);
-        match self.literals.get(place) {
-            Some(l) => {
-                if l.atom == atom {
-                    return Some(place);
-                }
-                None
-            }
-            None => None,
-        }
     }
 
     // Whether the last value is of a level above this one.

@@ -4,4 +4,15 @@ pub mod Printable
 pub mod Lines
 pub mod Text
 pub mod Certifies
+pub mod Runs
+pub mod Names
+pub mod Digits
+pub mod Spelling
+pub mod Forms
+pub mod Fronts
+pub mod Machines
+pub mod LineMachine
+pub mod LineTexts
+pub mod FirstFormat
+pub mod ValueLines
 pub mod Examples

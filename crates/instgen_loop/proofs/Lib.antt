@@ -25,4 +25,9 @@ pub mod Kept
 pub mod Started
 pub mod Grounding
 pub mod Printed
+pub mod PrintedEntries
 pub mod Refuting
+pub mod Ended
+pub mod Endings
+pub mod Stopped
+pub mod Decisions

@@ -62,6 +62,7 @@ use Rattle.instgen_loop.specs.Refuting.{ground_clause, ground_hint, ground_step,
 use Rattle.instgen_loop.specs.Running.{entries_of, state_of, event_in, IsRunning, IsRunningFor}
 use Rattle.instgen_loop.specs.Starting.{IsOfProblem}
 use Rattle.instgen_loop.proofs.Inferred.{same_clauses}
+use Rattle.instgen_loop.proofs.PrintedEntries as entries
 use Rattle.instgen_loop.proofs.Printed.{IsReadable, IsPlain, readable_by_symbols, name_is_readable, plain_printable, all_formed, all_symbols_readable, axiom_printable}
 
 -- Hints and steps as those of the calculus
@@ -181,7 +182,7 @@ numbers_literals trees bot cs lits e = ap (map (distinct literal_eq)) e ∙ map_
 same_count : {A B C : Type 0} (g : A → C) (h : B → C) (xs : List A) (ys : List B) → map g xs ≡ map h ys → length xs ≡ length ys
 same_count g h xs ys e = sym (length_map g xs) ∙ ap length e ∙ length_map h ys
 
-whole_items : (f : Forest) (es : List Item) → AreEntries f es → All (λ (m : Member). IsWholeClause f m.clause) (map member_of es)
+pub whole_items : (f : Forest) (es : List Item) → AreEntries f es → All (λ (m : Member). IsWholeClause f m.clause) (map member_of es)
 whole_items f es h = in_all (λ (m : Member). IsWholeClause f m.clause) (map member_of es) (λ m i.
     let (e, j, q) = from_map member_of m es i in
     transport (λ (x : Member). IsWholeClause f x.clause) q (record {
@@ -296,21 +297,10 @@ module _ {S I C : Type 0} (atoms : S → ℕ) (added : S → List (List (Signed 
   -- it can be printed
 
   entry_symbol_readable : (c : TreeClause) → c ∈ given_clauses → (s : Sym) → s ∈ clause_symbols c → IsReadable s
-  entry_symbol_readable c i s k =
-      let listed : Contains (entry_clauses (entries_of r)) c = in_contains c (entry_clauses (entries_of r)) (transport (λ cs. c ∈ cs) (sym (same_clauses f (items r))) i) in
-      let all = symbols_of_entries bot (with_axioms clauses) (map (event_in f) r.journal) (state_of r v b) (all_formed clauses printable) h.replays c listed in
-      all_symbols_readable clauses printable s (contains_in s (occurrences (with_axioms clauses)) (all_in (Contains (occurrences (with_axioms clauses))) (clause_symbols c) all s k))
+  entry_symbol_readable c i s k = entries.entry_symbol_readable atoms added r bot clauses budget v b safe.entries h printable c i s k
 
   entry_printable : (c : TreeClause) → c ∈ given_clauses → IsPrintableClause c
-  entry_printable c i =
-      let (e, j, q) = from_map (λ (e : Item). clause_at f e.0) c (items r) i in
-      transport IsPrintableClause q (record {
-        formed = all_pass (λ (l : Signed Tree). atom_is_formed l.atom) (clause_at f e.0) (λ l m.
-            let (k, n, w) = from_map (literal_tree f) l e.0 m in
-            transport (λ (x : Signed Tree). atom_is_formed x.atom ≡ true) w (all_in (λ (x : Signed ℕ). IsAtom (tree_at f x.atom)) e.0 (all_in (λ (x : Item). All (λ l. IsAtom (tree_at f l.atom)) x.0) (items r) safe.entries.atoms e j) k n));
-        canonical = all_in (λ (x : Item). IsCanonical (clause_at f x.0)) (items r) safe.entries.canonical e j;
-        readable = readable_by_symbols (clause_at f e.0) (λ s k. entry_symbol_readable (clause_at f e.0) (in_map (λ (e : Item). clause_at f e.0) e (items r) j) s k);
-      })
+  entry_printable c i = entries.entry_printable atoms added r bot clauses budget v b safe.entries h printable c i
 
   -- what the abstractions of entries have for literals
   abstracted_plain : (c : TreeClause) → c ∈ given_clauses → (l : Signed Tree) → l ∈ abstract_literals bot c → IsPlain l
@@ -356,8 +346,7 @@ module _ {S I C : Type 0} (atoms : S → ℕ) (added : S → List (List (Signed 
       named = count;
       names = readable;
       axioms = in_all IsPrintableClause (equality_axioms clauses) (axiom_printable clauses printable);
-      members = in_all (λ (e : Entry). IsPrintableClause e.clause) (entries_of r) (λ e i.
-          entry_printable e.clause (transport (λ cs. e.clause ∈ cs) (same_clauses f (items r)) (in_map (λ (x : Entry). x.clause) e (entries_of r) i)));
+      members = entries.entries_printable atoms added r bot clauses budget v b safe.entries h printable;
     };
     constant = problem.constant;
     bot_name = problem.readable;

@@ -23,22 +23,24 @@ use Rattle.instgen_loop.specs.Loops.{items, held_of}
 use Rattle.instgen_loop.specs.Running.{event_in, entries_of, state_of, IsRunning, saturation_at}
 use Rattle.instgen_loop.specs.Tended.{AreTended, indexed_of}
 
+-- where nothing waits each entry is indexed
+pub all_indexed : {S I C : Type 0} (pairs : I → List Pair) (r : Run S I C) (p : Partners I C) → AreTended pairs r p → r.queue.items ≡ [] → (i : ℕ) → i < length (entries_of r) → Contains (indexed_of pairs p) (suc i)
+all_indexed pairs r p tended none i l =
+    only (tended.queued i (let e : length (entries_of r) ≡ length (items r) = length_map (λ (x : Item). record { clause = clause_at r.entries.bank x.0; origin = origin_of x.1 }) (items r) in omega arith))
+  where
+    only : Contains (numbers r.queue.items) (suc i) ⊎ Contains (indexed_of pairs p) (suc i) → Contains (indexed_of pairs p) (suc i)
+    only (inl a) = absurd (contains_in (suc i) [] (transport (λ (xs : List Waiting). Contains (numbers xs) (suc i)) none a))
+    only (inr b) = b
+
 pub saturated_is_valid : {S I C : Type 0} (atoms : S → ℕ) (added : S → List (List (Signed ℕ))) (pairs : I → List Pair) (r : Run S I C) (p : Partners I C) (base : Base) (bot : Sym) (budget : ℕ) (v : List Tree)
     → AreFormedClauses (with_axioms base.inputs) → base.axioms ≡ equality_axioms base.inputs → IsRunning atoms added r bot (with_axioms base.inputs) budget v true → AreTended pairs r p
     → r.queue.items ≡ [] → length r.selection.places ≡ length (items r) → All (IsDecided (entries_of r) r.selection.places []) (held_of r) → IsValidSaturation (saturation_at r base)
 saturated_is_valid atoms added pairs r p base bot budget v formed axioms h tended none whole decided =
     valid_when_closed bot (saturation_at r base) (map (event_in r.entries.bank) r.journal) v true formed h.replays axioms h.places long
-    (all_covered bot (state_of r v true) r.selection.places h.places long (indexed_of pairs p) (held_of r) tended.worked every decided)
+    (all_covered bot (state_of r v true) r.selection.places h.places long (indexed_of pairs p) (held_of r) tended.worked (all_indexed pairs r p tended none) decided)
   where
     count : length (entries_of r) ≡ length (items r)
     count = length_map (λ (x : Item). record { clause = clause_at r.entries.bank x.0; origin = origin_of x.1 }) (items r)
 
     long : length r.selection.places ≡ length (entries_of r)
     long = whole ∙ sym count
-
-    only : (i : ℕ) → Contains (numbers r.queue.items) i ⊎ Contains (indexed_of pairs p) i → Contains (indexed_of pairs p) i
-    only i (inl a) = absurd (contains_in i [] (transport (λ (xs : List Waiting). Contains (numbers xs) i) none a))
-    only i (inr b) = b
-
-    every : (i : ℕ) → i < length (entries_of r) → Contains (indexed_of pairs p) (suc i)
-    every i l = only (suc i) (tended.queued i (let e = count in omega arith))

@@ -12,3 +12,5 @@ pub mod Choosing
 pub mod Settling
 pub mod Starting
 pub mod Refuting
+pub mod Deciding
+pub mod Ending

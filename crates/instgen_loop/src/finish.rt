@@ -1,44 +1,131 @@
 // The end of a run at rest: a saturation, or the conclusions that the budget left open.
-ghost use Rattle.std.specs.Prelude.{◌≡◌, [], length, All, IsTrue, IfOk};
+ghost use Rattle.std.specs.Prelude.{◌≡◌, [], length, Some, None, All, IsTrue, IfOk, OnOk};
 ghost use Rattle.inst_logic.specs.Printing.{is_readable_name};
 ghost use Rattle.inst_calculus.specs.Axioms.{with_axioms};
 ghost use Rattle.cert_format.specs.Printable.{IsPrintableClause};
-ghost use Rattle.instgen_loop.specs.Loops.{IsSafe, ArePartners, items};
+ghost use Rattle.instgen_loop.specs.Loops.{IsSafe, items};
 ghost use Rattle.instgen_loop.specs.Outcomes.{IsOutcome, journal_of};
+ghost use Rattle.instgen_loop.specs.Deciding.{IsDecision, IsLeastOpen};
+ghost use Rattle.instgen_loop.specs.Ending.{IsAtRest, saturation_from};
 ghost use Rattle.instgen_loop.specs.Running.{IsSolvedFor};
 ghost use Rattle.instgen_loop.specs.Starting.{IsOfProblem};
 ghost use Rattle.instgen_loop.specs.Tended.{AreTended};
 
+use crate::decide::decide;
+use crate::event::Journal;
+use crate::hand_over::base_of;
 use crate::outcome::Outcome;
 use crate::queue::Partners;
 use crate::start::Given;
 use crate::state::Run;
 use inst_logic::{Memory, Problem};
 use prop_logic::Solver;
+use saturation_cert::Saturation;
 use std::alloc::Global;
+use std::mem::replace;
 use term_index::PartnerIndex;
 
-/// Looks at what was held back once more, and hands the bank, the entries and the journal over. (A stand-in for the body.)
-pub fn finish<S: Solver, I: PartnerIndex>(
-    _alloc: Global,
+// The run's entries with their places, which takes the run's bank.
+fn saturation_of<S: Solver, I: PartnerIndex>(
+    alloc: Global,
+    run: &mut Run<S, I>,
+    given: Given,
+) -> Result<Saturation, Memory>
+    ensures cert { IfOk result (λ s. s ≡ saturation_from run.old given) }
+    ensures journal { OnOk result (run.new.journal ≡ run.old.journal) }
+{
+    let places = run.selection.take_places(alloc);
+    let base = base_of(alloc, run, given)?;
+    Ok(Saturation { base, places })
+}
+
+// The saturation that a run gives of which nothing that was held back is open.
+fn saturated<S: Solver, I: PartnerIndex>(
+    alloc: Global,
     _p: &Problem,
-    _run: &mut Run<S, I>,
+    run: &mut Run<S, I>,
     _partners: &Partners<I>,
-    _given: Given,
+    given: Given,
     _budget: u64,
 ) -> Result<Outcome, Memory>
-    requires safe { IsSafe S.atoms I.pairs I.fits _run.old }
-    requires partners { ArePartners I.pairs I.fits _run.old _partners.now }
-    requires tended { AreTended I.pairs _run.old _partners.now }
-    requires rests { _run.old.queue.items ≡ [] }
-    requires whole { length _run.old.selection.places ≡ length (items _run.old) }
-    requires running { IsSolvedFor S.atoms S.added _run.old (with_axioms _p.now.clauses) _budget }
-    requires problem { IsOfProblem _run.old _given _p.now.clauses _p.now.names }
+    requires rest { IsAtRest S.atoms I.pairs I.fits run.old _partners.now }
+    requires running { IsSolvedFor S.atoms S.added run.old (with_axioms _p.now.clauses) _budget }
+    requires problem { IsOfProblem run.old given _p.now.clauses _p.now.names }
     requires clauses { All IsPrintableClause _p.now.clauses }
     requires named { length _p.now.names ≡ length _p.now.clauses }
     requires readable { All (λ n. IsTrue (is_readable_name n)) _p.now.names }
+    requires decided { IsDecision run.old None }
     ensures outcome { IfOk result (IsOutcome _p.now.clauses _p.now.names _budget) }
-    ensures journal { IfOk result (λ o. journal_of o ≡ _run.old.journal) }
+    ensures journal { IfOk result (λ o. journal_of o ≡ run.old.journal) }
 {
-    Err(Memory)
+    let cert = saturation_of(alloc, run, given)?;
+    let journal = replace(&mut run.journal, Journal::new(alloc));
+    Ok(Outcome::Saturated { cert, journal })
+}
+
+// What is left of a budget that is not enough.
+fn left_of<S: Solver, I: PartnerIndex>(run: &Run<S, I>) -> u64
+    requires { ¬ (run.now.left ≡ None) }
+    ensures { run.now.left ≡ Some result }
+{
+    match run.left {
+        Some(left) => left,
+        None => unreachable!(),
+    }
+}
+
+// What the budget left open, of which the least has this size.
+fn stopped<S: Solver, I: PartnerIndex>(
+    alloc: Global,
+    _p: &Problem,
+    run: &mut Run<S, I>,
+    _partners: &Partners<I>,
+    given: Given,
+    _budget: u64,
+    wanted: u64,
+) -> Result<Outcome, Memory>
+    requires rest { IsAtRest S.atoms I.pairs I.fits run.old _partners.now }
+    requires running { IsSolvedFor S.atoms S.added run.old (with_axioms _p.now.clauses) _budget }
+    requires problem { IsOfProblem run.old given _p.now.clauses _p.now.names }
+    requires open { IsLeastOpen run.old wanted }
+    ensures outcome { IfOk result (IsOutcome _p.now.clauses _p.now.names _budget) }
+    ensures journal { IfOk result (λ o. journal_of o ≡ run.old.journal) }
+{
+    let left = left_of(run);
+    let state = saturation_of(alloc, run, given)?;
+    let journal = replace(&mut run.journal, Journal::new(alloc));
+    Ok(Outcome::OutOfBudget {
+        left,
+        wanted,
+        state,
+        journal,
+    })
+}
+
+/// Looks at what was held back once more, and hands the bank, the entries with their places and the journal over. The run serves
+/// for nothing after.
+pub fn finish<S: Solver, I: PartnerIndex>(
+    alloc: Global,
+    p: &Problem,
+    run: &mut Run<S, I>,
+    partners: &Partners<I>,
+    given: Given,
+    budget: u64,
+) -> Result<Outcome, Memory>
+    requires safe { IsSafe S.atoms I.pairs I.fits run.old }
+    requires tended { AreTended I.pairs run.old partners.now }
+    requires rests { run.old.queue.items ≡ [] }
+    requires whole { length run.old.selection.places ≡ length (items run.old) }
+    requires running { IsSolvedFor S.atoms S.added run.old (with_axioms p.now.clauses) budget }
+    requires problem { IsOfProblem run.old given p.now.clauses p.now.names }
+    requires clauses { All IsPrintableClause p.now.clauses }
+    requires named { length p.now.names ≡ length p.now.clauses }
+    requires readable { All (λ n. IsTrue (is_readable_name n)) p.now.names }
+    ensures outcome { IfOk result (IsOutcome p.now.clauses p.now.names budget) }
+    ensures journal { IfOk result (λ o. journal_of o ≡ run.old.journal) }
+{
+    match decide(alloc, run)? {
+        None => saturated(alloc, p, run, partners, given, budget),
+        Some(wanted) => stopped(alloc, p, run, partners, given, budget, wanted),
+    }
 }

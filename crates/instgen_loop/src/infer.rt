@@ -72,8 +72,8 @@ fn taken(left: Option<u64>, size: u64) -> Option<u64>
     }
 }
 
-// The size of what entry `from` gives under the bindings, repeats dropped.
-fn conclusion_size<S: Solver, I: PartnerIndex>(
+/// The size of what entry `from` gives under the bindings, repeats dropped.
+pub fn conclusion_size<S: Solver, I: PartnerIndex>(
     run: &mut Run<S, I>,
     side: Side,
     from: usize,
@@ -94,8 +94,8 @@ fn conclusion_size<S: Solver, I: PartnerIndex>(
     }
 }
 
-// What entry `from` gives under the bindings, in canonical form.
-fn conclusion_of<S: Solver, I: PartnerIndex>(
+/// What entry `from` gives under the bindings, in canonical form.
+pub fn conclusion_of<S: Solver, I: PartnerIndex>(
     alloc: Global,
     run: &mut Run<S, I>,
     side: Side,

@@ -6,6 +6,7 @@
 
 pub mod bounds;
 pub mod cycle;
+pub mod decide;
 pub mod entries;
 pub mod event;
 pub mod finish;

@@ -6,7 +6,7 @@ ghost use Rattle.prop_logic.specs.Valuation.{IsHeld};
 ghost use Rattle.instgen_select.specs.Choices.{IsTrueAt};
 ghost use Rattle.instgen_loop.specs.Choosing.{IsChoice, AreUsersKept};
 
-use inst_logic::{Memory, NumberList};
+use inst_logic::{Memory, NumberList, PlaceList};
 use instgen_select::choose;
 use prop_logic::{LitList, Valuation};
 use std::alloc::Global;
@@ -133,5 +133,12 @@ impl Selection {
     {
         self.places.push(chosen.place)?;
         add_user(&mut self.users, chosen.atom, self.places.len())
+    }
+
+    /// The places, taken out.
+    pub fn take_places(&mut self, alloc: Global) -> PlaceList
+        ensures { result ≡ self.old.places }
+    {
+        PlaceList::from(replace(&mut self.places, Vec::new(alloc)))
     }
 }

@@ -4,6 +4,7 @@ use Rattle.std.specs.Prelude.{slice_get}
 use Rattle.std.specs.List.{list_any}
 use Rattle.std.proofs.lemmas.List.Folds.{list_any_none}
 use Rattle.std.proofs.lemmas.List.Elements.{All-append, All-nil, All-cons}
+use Rattle.std.proofs.lemmas.Bool.{and_parts, and_from}
 use Rattle.inst_logic.specs.declared.clause.Problem.{Problem}
 use Rattle.inst_logic.specs.declared.symbol.Sym.{Sym}
 use Rattle.inst_logic.specs.Tree.{Tree, var, app, Trees, none, more}
@@ -19,14 +20,6 @@ use Rattle.szs_prove.specs.Built.{tree_is_built, trees_are_built, clause_is_buil
 use Rattle.szs_prove.specs.Loading.{IsBuilt, IsFirstUnbuilt}
 use Rattle.szs_prove.proofs.Repeats.{any_false}
 use Rattle.szs_prove.proofs.MemberLists.{below_or_last}
-
-pub both_true : (a b : Bool) → (a && b) ≡ true → (a ≡ true) × (b ≡ true)
-both_true true b h = (refl, h)
-both_true false b h = absurd (cc)
-
-and_true : (a b : Bool) → a ≡ true → b ≡ true → (a && b) ≡ true
-and_true true b p q = q
-and_true false b p q = absurd (cc)
 
 not_true : (b : Bool) → not b ≡ true → b ≡ false
 not_true true h = absurd (cc)
@@ -95,57 +88,57 @@ no_equality cs h = in_all IsNoEquality (occurrences cs) each
 mutual
   tree_variables : (t : Tree) → tree_is_built t ≡ true → tree_vars t ≡ []
   tree_variables (var n) h = absurd (cc)
-  tree_variables (app s ts) h = trees_variables ts (both_true (not (is_equality_kind s.kind)) (trees_are_built ts) h).1
+  tree_variables (app s ts) h = trees_variables ts (and_parts (not (is_equality_kind s.kind)) (trees_are_built ts) h).1
 
   trees_variables : (ts : Trees) → trees_are_built ts ≡ true → trees_vars ts ≡ []
   trees_variables none h = refl
   trees_variables (more t ts) h =
-      let both = both_true (tree_is_built t) (trees_are_built ts) h in
+      let both = and_parts (tree_is_built t) (trees_are_built ts) h in
       ap₂ (λ a b. a ++ b) (tree_variables t both.0) (trees_variables ts both.1)
 
 mutual
   tree_equality : (t : Tree) → tree_is_built t ≡ true → All IsNoEquality (tree_symbols t)
   tree_equality (var n) h = All-nil IsNoEquality
   tree_equality (app s ts) h =
-      let both = both_true (not (is_equality_kind s.kind)) (trees_are_built ts) h in
+      let both = and_parts (not (is_equality_kind s.kind)) (trees_are_built ts) h in
       All-cons IsNoEquality s (trees_symbols ts) (not_true (is_equality_kind s.kind) both.0) (trees_equality ts both.1)
 
   trees_equality : (ts : Trees) → trees_are_built ts ≡ true → All IsNoEquality (trees_symbols ts)
   trees_equality none h = All-nil IsNoEquality
   trees_equality (more t ts) h =
-      let both = both_true (tree_is_built t) (trees_are_built ts) h in
+      let both = and_parts (tree_is_built t) (trees_are_built ts) h in
       All-append IsNoEquality (tree_symbols t) (trees_symbols ts) (tree_equality t both.0) (trees_equality ts both.1)
 
 mutual
   tree_built : (t : Tree) → tree_vars t ≡ [] → All IsNoEquality (tree_symbols t) → tree_is_built t ≡ true
   tree_built (var n) g e = absurd (cc)
   tree_built (app s ts) g e =
-      and_true (not (is_equality_kind s.kind)) (trees_are_built ts) (not_false (is_equality_kind s.kind) (first_of_all IsNoEquality s (trees_symbols ts) e))
+      and_from (not (is_equality_kind s.kind)) (trees_are_built ts) (not_false (is_equality_kind s.kind) (first_of_all IsNoEquality s (trees_symbols ts) e))
       (trees_built ts g (rest_of_all IsNoEquality s (trees_symbols ts) e))
 
   trees_built : (ts : Trees) → trees_vars ts ≡ [] → All IsNoEquality (trees_symbols ts) → trees_are_built ts ≡ true
   trees_built none g e = refl
   trees_built (more t ts) g e =
-      and_true (tree_is_built t) (trees_are_built ts)
+      and_from (tree_is_built t) (trees_are_built ts)
       (tree_built t (left_empty (tree_vars t) (trees_vars ts) g) (left_of_all IsNoEquality (tree_symbols t) (trees_symbols ts) e))
       (trees_built ts (right_empty (tree_vars t) (trees_vars ts) g) (right_of_all IsNoEquality (tree_symbols t) (trees_symbols ts) e))
 
 clause_variables : (c : TreeClause) → clause_is_built c ≡ true → clause_vars c ≡ []
 clause_variables [] h = refl
 clause_variables (l ∷ c) h =
-    let both = both_true (tree_is_built l.atom) (clause_is_built c) h in
+    let both = and_parts (tree_is_built l.atom) (clause_is_built c) h in
     ap₂ (λ a b. a ++ b) (tree_variables l.atom both.0) (clause_variables c both.1)
 
 clause_equality : (c : TreeClause) → clause_is_built c ≡ true → HasNoEquality c
 clause_equality [] h = All-nil IsNoEquality
 clause_equality (l ∷ c) h =
-    let both = both_true (tree_is_built l.atom) (clause_is_built c) h in
+    let both = and_parts (tree_is_built l.atom) (clause_is_built c) h in
     All-append IsNoEquality (tree_symbols l.atom) (clause_symbols c) (tree_equality l.atom both.0) (clause_equality c both.1)
 
 clause_built : (c : TreeClause) → clause_vars c ≡ [] → HasNoEquality c → clause_is_built c ≡ true
 clause_built [] g e = refl
 clause_built (l ∷ c) g e =
-    and_true (tree_is_built l.atom) (clause_is_built c)
+    and_from (tree_is_built l.atom) (clause_is_built c)
     (tree_built l.atom (left_empty (tree_vars l.atom) (clause_vars c) g) (left_of_all IsNoEquality (tree_symbols l.atom) (clause_symbols c) e))
     (clause_built c (right_empty (tree_vars l.atom) (clause_vars c) g) (right_of_all IsNoEquality (tree_symbols l.atom) (clause_symbols c) e))
 

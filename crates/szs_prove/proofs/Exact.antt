@@ -1,5 +1,5 @@
 -- From an answer with its cause, when each exit comes.
-use Rattle.std.proofs.Common.{◌≡◌, ℕ, List, Option, Some, None, All, IfSome, sym, subst, inl, inr, refl, ◌∙◌}
+use Rattle.std.proofs.Common.{◌≡◌, ℕ, List, Option, Some, None, All, IfSome, [], ◌∷◌, lit<, sym, subst, inl, inr, refl, ◌∙◌}
 use Rattle.std.specs.Io.KnownBytes.{Appends}
 use Rattle.inst_logic.specs.declared.clause.Problem.{Problem}
 use Rattle.inst_logic.proofs.ShownLaws.{at_number_contains}
@@ -10,19 +10,19 @@ use Rattle.tptp_load.specs.Problems.{Loads, Refuses, IsLoadCause}
 use Rattle.tptp_load.specs.declared.error.LoadError.{LoadError}
 use Rattle.tptp_load.specs.declared.error.LoadError.TheVariants as load
 use Rattle.szs_prove.specs.Answered.{Answered, Reading, Writing}
-use Rattle.szs_prove.specs.Answers.{Answer, verdict, refusal, IsAnswer, exit_for, text_for}
-use Rattle.szs_prove.specs.Exact.{AsksBuilt, AsksUnbuilt, AsksRefused, Causes, IsOrYields, IsExact, IsInterrupted, WantsMemory, WritesCertificate}
+use Rattle.szs_prove.specs.Answers.{Answer, verdict, refusal, no_words, IsAnswer, exit_for, text_for}
+use Rattle.szs_prove.specs.Exact.{AsksBuilt, AsksUnbuilt, AsksRefused, Causes, IsOneOrYields, IsExact, IsInterrupted, WantsMemory, WritesCertificate}
 use Rattle.szs_prove.specs.Loading.{IsBuilt, IsFirstUnbuilt}
 use Rattle.szs_prove.specs.Texts.{refusal_text, load_exit}
 use Rattle.szs_prove.specs.Told.{AnsweredBuilt, HasBuilt}
-use Rattle.szs_prove.specs.Words.{Asked, asked_of, shown_name}
+use Rattle.szs_prove.specs.Words.{Asked, asked_of, shown_name, file_of, root_of}
 use Rattle.szs_prove.specs.declared.exit.Exit.{Exit}
 use Rattle.szs_prove.specs.declared.exit.Exit.TheVariants as exit
 use Rattle.szs_prove.specs.declared.refusal.Refusal.TheVariants.{Usage, Load, NotBuilt, Memory}
 
 -- what is asked, with the reason why it is not loaded
 load_causes : (words : List (List ℕ)) (files : List NamedFile) (read : Reading) (write : Writing) (asked : Asked) (e : LoadError)
-    → asked_of words ≡ Some asked → IsLoadCause (Some files) read.before read.now asked.file asked.root e → Causes words files read write (load_exit e)
+    → asked_of words ≡ Some asked → IsLoadCause (Some files) read.before read.now (file_of asked) (root_of asked) e → Causes words files read write (load_exit e)
 load_causes words files read write asked (load.Text file fault) some h = inl (asked, some, load.Text file fault, h.1)
 load_causes words files read write asked (load.Absent wanted) some h = inl (asked, some, load.Absent wanted, h)
 load_causes words files read write asked (load.NotSelected file wanted) some h = inl (asked, some, load.NotSelected file wanted, h)
@@ -39,6 +39,7 @@ answer_causes words files read write (refusal Usage) h b = h
 answer_causes words files read write (refusal (Load e)) h b = load_causes words files read write h.0 e h.1 h.2
 answer_causes words files read write (refusal (NotBuilt k)) h b = inr (h.0, h.1, h.2.0, h.2.1.loads, k, h.2.2)
 answer_causes words files read write (refusal Memory) h b = tt
+answer_causes words files read write no_words h b = tt
 
 one_asked : (words : List (List ℕ)) (a b : Asked) → asked_of words ≡ Some a → asked_of words ≡ Some b → a ≡ b
 one_asked words a b p q = cc
@@ -61,12 +62,12 @@ module _ (one : GivesOne) (apart : IsApart) (words : List (List ℕ)) (files : L
   not_both : AsksBuilt words files → AsksRefused words files → ⊥
   not_both a b =
       let same = one_asked words a.0 b.0 a.1 b.1 in
-      apart files b.0.file b.0.root a.2 b.2 (subst (λ (x : Asked). Loads files x.file x.root a.2) same a.3) b.3
+      apart files (file_of b.0) (root_of b.0) a.2 b.2 (subst (λ (x : Asked). Loads files (file_of x) (root_of x) a.2) same a.3) b.3
 
   not_built : AsksBuilt words files → AsksUnbuilt words files → ⊥
   not_built a b =
       let same = one_asked words a.0 b.0 a.1 b.1 in
-      let problem : a.2 ≡ b.2 = one files b.0.file b.0.root a.2 b.2 (subst (λ (x : Asked). Loads files x.file x.root a.2) same a.3) b.3 in
+      let problem : a.2 ≡ b.2 = one files (file_of b.0) (root_of b.0) a.2 b.2 (subst (λ (x : Asked). Loads files (file_of x) (root_of x) a.2) same a.3) b.3 in
       not_unbuilt b.2 b.4 (subst (λ (p : Problem). All IsBuilt p.clauses) problem a.4) b.5
 
   no_two : Causes words files read write exit.Decided → Causes words files read write exit.Refused → ⊥
@@ -77,26 +78,26 @@ module _ (one : GivesOne) (apart : IsApart) (words : List (List ℕ)) (files : L
   no_refused n (inl r) = not_asked words r.0 n r.1
   no_refused n (inr u) = not_asked words u.0 n u.1
 
-  decided_or : (e : Exit) → Causes words files read write e → Causes words files read write exit.Decided → IsOrYields read write exit.Decided e
-  decided_or exit.Decided h w = inl refl
+  decided_or : (e : Exit) → Causes words files read write e → Causes words files read write exit.Decided → IsOneOrYields read write (exit.Decided ∷ []) e
+  decided_or exit.Decided h w = inl (0, lit< tt, refl)
   decided_or exit.Refused h w = absurd (no_two w h)
   decided_or exit.Usage h w = absurd (not_asked words w.0 h w.1)
   decided_or exit.ReadFault h w = inr (inl (refl, h))
   decided_or exit.WriteFault h w = inr (inr (inl (refl, h)))
   decided_or exit.Memory h w = inr (inr (inr refl))
 
-  refused_or : (e : Exit) → Causes words files read write e → Causes words files read write exit.Refused → IsOrYields read write exit.Refused e
+  refused_or : (e : Exit) → Causes words files read write e → Causes words files read write exit.Refused → IsOneOrYields read write (exit.Refused ∷ []) e
   refused_or exit.Decided h w = absurd (no_two h w)
-  refused_or exit.Refused h w = inl refl
+  refused_or exit.Refused h w = inl (0, lit< tt, refl)
   refused_or exit.Usage h w = absurd (no_refused h w)
   refused_or exit.ReadFault h w = inr (inl (refl, h))
   refused_or exit.WriteFault h w = inr (inr (inl (refl, h)))
   refused_or exit.Memory h w = inr (inr (inr refl))
 
-  usage_or : (e : Exit) → Causes words files read write e → Causes words files read write exit.Usage → IsOrYields read write exit.Usage e
+  usage_or : (e : Exit) → Causes words files read write e → Causes words files read write exit.Usage → IsOneOrYields read write (exit.Usage ∷ []) e
   usage_or exit.Decided h w = absurd (not_asked words h.0 w h.1)
   usage_or exit.Refused h w = absurd (no_refused w h)
-  usage_or exit.Usage h w = inl refl
+  usage_or exit.Usage h w = inl (0, lit< tt, refl)
   usage_or exit.ReadFault h w = inr (inl (refl, h))
   usage_or exit.WriteFault h w = inr (inr (inl (refl, h)))
   usage_or exit.Memory h w = inr (inr (inr refl))
@@ -125,7 +126,7 @@ exact one apart words read write e a = by read.files refl
 
 module _ (words : List (List ℕ)) (read : Reading) (write : Writing) (e : Exit) (a : Answered words read write e) where
   -- a fault has its cause, told files or not
-  load_fault : (asked : Asked) (why : LoadError) → IsLoadCause read.files read.before read.now asked.file asked.root why → load_exit why ≡ exit.ReadFault → Rose read.before read.now
+  load_fault : (asked : Asked) (why : LoadError) → IsLoadCause read.files read.before read.now (file_of asked) (root_of asked) why → load_exit why ≡ exit.ReadFault → Rose read.before read.now
   load_fault asked (load.Text file fault) h x = absurd (cc)
   load_fault asked (load.Absent wanted) h x = absurd (cc)
   load_fault asked (load.NotSelected file wanted) h x = absurd (cc)
@@ -146,6 +147,7 @@ module _ (words : List (List ℕ)) (read : Reading) (write : Writing) (e : Exit)
       by (refusal (Load why)) h x = load_fault h.0 why h.2 x
       by (refusal (NotBuilt k)) h x = absurd (cc)
       by (refusal Memory) h x = absurd (cc)
+      by no_words h x = absurd (cc)
 
   -- no answer's own exit is a fault of writing
   no_load_write_fault : (why : LoadError) → load_exit why ≡ exit.WriteFault → ⊥
@@ -163,6 +165,7 @@ module _ (words : List (List ℕ)) (read : Reading) (write : Writing) (e : Exit)
   no_write_fault (refusal (Load why)) x = no_load_write_fault why x
   no_write_fault (refusal (NotBuilt k)) x = cc
   no_write_fault (refusal Memory) x = cc
+  no_write_fault no_words x = cc
 
   pub write_fault : e ≡ exit.WriteFault → Rose write.before write.now
   write_fault is = elim a.written [
@@ -198,6 +201,7 @@ module _ (words : List (List ℕ)) (read : Reading) (write : Writing) (e : Exit)
       by (refusal (Load why)) h x t = absurd (not_decided why x)
       by (refusal (NotBuilt k)) h x t = absurd (cc)
       by (refusal Memory) h x t = absurd (cc)
+      by no_words h x t = absurd (cc)
 
   memory_text : (name : List ℕ) (why : LoadError) → load_exit why ≡ exit.Memory → refusal_text name (Load why) ≡ refusal_text name Memory
   memory_text name (load.Text file fault) x = absurd (cc)
@@ -210,14 +214,15 @@ module _ (words : List (List ℕ)) (read : Reading) (write : Writing) (e : Exit)
 
   pub memory : e ≡ exit.Memory → WantsMemory words read write.old write.new
   memory is = elim a.written [
-    | inl w ↦ inl (by a.answer (sym w.0 ∙ is) w.1)
-    | inr v ↦ elim v [ inl w ↦ inr (record { answer = a.answer; cause = a.cause; written = w.1 }) | inr w ↦ inr (record { answer = a.answer; cause = a.cause; written = w.1 }) ]
+    | inl w ↦ by a.answer a.cause (sym w.0 ∙ is) w.1
+    | inr v ↦ inr (elim v [ inl w ↦ record { answer = a.answer; cause = a.cause; written = w.1 } | inr w ↦ record { answer = a.answer; cause = a.cause; written = w.1 } ])
   ]
     where
-      by : (answer : Answer) → exit_for answer ≡ exit.Memory
-          → Appends write.old write.new (text_for (shown_name (asked_of words)) answer) → Appends write.old write.new (refusal_text (shown_name (asked_of words)) Memory)
-      by (verdict c) x t = absurd (cc)
-      by (refusal Usage) x t = absurd (cc)
-      by (refusal (Load why)) x t = subst (Appends write.old write.new) (memory_text (shown_name (asked_of words)) why x) t
-      by (refusal (NotBuilt k)) x t = absurd (cc)
-      by (refusal Memory) x t = t
+      by : (answer : Answer) → IsAnswer words read.files read.before read.now answer → exit_for answer ≡ exit.Memory
+          → Appends write.old write.new (text_for (shown_name (asked_of words)) answer) → WantsMemory words read write.old write.new
+      by (verdict c) h x t = absurd (cc)
+      by (refusal Usage) h x t = absurd (cc)
+      by (refusal (Load why)) h x t = inl (subst (Appends write.old write.new) (memory_text (shown_name (asked_of words)) why x) t)
+      by (refusal (NotBuilt k)) h x t = absurd (cc)
+      by (refusal Memory) h x t = inl t
+      by no_words h x t = inl (subst (λ (o : Option Asked). Appends write.old write.new (refusal_text (shown_name o) Memory)) (sym h) t)

@@ -1,5 +1,5 @@
--- Terms that are still to be walked.
-use Rattle.std.proofs.Common.{◌≡◌, ℕ, ◌+◌, ◌-◌, ◌<◌, ◌≤◌, List, [], ◌∷◌, ◌++◌, length, map, take, drop, get_or, subst, Bool, true, false, ◌&&◌, refl, ap, sym, ◌∙◌, arith, append_assoc, append-nil}
+-- Terms that are still to be walked, and the test of clauses without variables and without equality.
+use Rattle.std.proofs.Common.{◌≡◌, ℕ, ◌+◌, ◌-◌, ◌<◌, ◌≤◌, List, [], ◌∷◌, ◌++◌, length, map, take, drop, get_or, subst, Bool, true, false, ◌&&◌, refl, ap, sym, ◌∙◌, arith}
 use Rattle.std.specs.List.{list_all}
 use Rattle.std.proofs.lemmas.List.{drop_more, drop_all, take_all}
 use Rattle.std.proofs.lemmas.List.Folds.{list_all_at, list_all-map}
@@ -13,8 +13,9 @@ use Rattle.inst_logic.specs.Clauses.{TreeClause}
 use Rattle.inst_logic.specs.Tree.{Tree, Trees, app, of_list}
 use Rattle.inst_logic.specs.View.{tree}
 use Rattle.inst_logic.specs.Measure.{tree_size, trees_size}
-use Rattle.inst_calculus.specs.Axioms.{is_equality_kind, tree_symbols, trees_symbols}
-use Rattle.szs_prove.specs.Built.{tree_is_built, trees_are_built, clause_is_built, are_built, left_symbols, left_size}
+use Rattle.inst_calculus.specs.Axioms.{is_equality_kind}
+use Rattle.ground_abs.specs.Names.{left_size}
+use Rattle.szs_prove.specs.Built.{tree_is_built, trees_are_built, clause_is_built, are_built}
 
 and_again : (a b c : Bool) → (a && (b && c)) ≡ ((a && b) && c)
 and_again true b c = refl
@@ -29,11 +30,6 @@ pub built_push : (ts : List (Bor Term)) (t : Bor Term) → are_built (ts ++ t �
 built_push [] t = and_all (tree_is_built (tree t.now))
 built_push (s ∷ ts) t = ap (λ b. b && tree_is_built (tree s.now)) (built_push ts t) ∙ sym (and_again (tree_is_built (tree t.now)) (are_built ts) (tree_is_built (tree s.now)))
 
-pub symbols_push : (ts : List (Bor Term)) (t : Bor Term) → left_symbols (ts ++ t ∷ []) ≡ tree_symbols (tree t.now) ++ left_symbols ts
-symbols_push [] t = sym (append-nil (tree_symbols (tree t.now)))
-symbols_push (s ∷ ts) t =
-    ap (λ (ss : List Sym). ss ++ tree_symbols (tree s.now)) (symbols_push ts t) ∙ append_assoc (tree_symbols (tree t.now)) (left_symbols ts) (tree_symbols (tree s.now))
-
 pub size_push : (ts : List (Bor Term)) (t : Bor Term) → left_size (ts ++ t ∷ []) ≡ left_size ts + tree_size (tree t.now)
 size_push [] t = omega arith
 size_push (s ∷ ts) t = omega (arith, size_push ts t)
@@ -41,14 +37,13 @@ size_push (s ∷ ts) t = omega (arith, size_push ts t)
 -- these terms were put at the end, the first one last
 pub record IsPushed (before after : List (Bor Term)) (terms : List Term) : Type 0 where
   pub built : are_built after ≡ (trees_are_built (of_list (map tree terms)) && are_built before)
-  pub symbols : left_symbols after ≡ trees_symbols (of_list (map tree terms)) ++ left_symbols before
   pub size : left_size after ≡ left_size before + trees_size (of_list (map tree terms))
 
 pub none_pushed : (before : List (Bor Term)) (terms : List Term) → IsPushed before before (drop (length terms) terms)
 none_pushed before terms =
     let none : drop (length terms) terms ≡ [] = drop_all (length terms) terms (omega arith) in
     let same : left_size before ≡ left_size before + 0 = omega arith in
-    record { built = rw none refl; symbols = rw none refl; size = rw none same }
+    record { built = rw none refl; size = rw none same }
 
 pub one_more : (before after : List (Bor Term)) (terms : List Term) (i : ℕ) (t : Bor Term) → 0 < i → i ≤ length terms → t.now ≡ get_or terms (i - 1) t.now → IsPushed before after (drop i terms) → IsPushed before (after ++ t ∷ []) (drop (i - 1) terms)
 one_more before after terms i t lt le is h =
@@ -57,16 +52,11 @@ one_more before after terms i t lt le is h =
     let mid = of_list (map tree (drop i terms)) in
     let built : are_built (after ++ t ∷ []) ≡ ((tree_is_built (tree t.now) && trees_are_built mid) && are_built before) =
     built_push after t ∙ (ap (λ b. tree_is_built (tree t.now) && b) h.built ∙ and_again (tree_is_built (tree t.now)) (trees_are_built mid) (are_built before)) in
-    let symbols : left_symbols (after ++ t ∷ []) ≡ (tree_symbols (tree t.now) ++ trees_symbols mid) ++ left_symbols before =
-    symbols_push after t ∙ (ap (λ (ss : List Sym). tree_symbols (tree t.now) ++ ss) h.symbols ∙ sym (append_assoc (tree_symbols (tree t.now)) (trees_symbols mid) (left_symbols before))) in
-    record { built = rw at built; symbols = rw at symbols; size = rw at (omega (arith, size_push after t, h.size)) }
+    record { built = rw at built; size = rw at (omega (arith, size_push after t, h.size)) }
 
 -- the last term was taken
 pub built_taken : (ts rest : List (Bor Term)) (t : Bor Term) → ts ≡ rest ++ t ∷ [] → are_built ts ≡ (tree_is_built (tree t.now) && are_built rest)
 built_taken ts rest t e = ap are_built e ∙ built_push rest t
-
-pub symbols_taken : (ts rest : List (Bor Term)) (t : Bor Term) → ts ≡ rest ++ t ∷ [] → left_symbols ts ≡ tree_symbols (tree t.now) ++ left_symbols rest
-symbols_taken ts rest t e = ap left_symbols e ∙ symbols_push rest t
 
 pub size_taken : (ts rest : List (Bor Term)) (t : Bor Term) → ts ≡ rest ++ t ∷ [] → left_size ts ≡ left_size rest + tree_size (tree t.now)
 size_taken ts rest t e = ap left_size e ∙ size_push rest t

@@ -8,7 +8,6 @@ pub mod SatisfiableProblems
 pub mod SameClauses
 pub mod GroundClauses
 pub mod UnsatisfiableProblems
-pub mod SymbolNames
 pub mod Exact
 pub mod Pieces
 pub mod LeftTerms
@@ -18,3 +17,4 @@ pub mod PlainProblems
 pub mod Told
 pub mod Texts
 pub mod TermLiterals
+pub mod VerdictTexts

@@ -1,6 +1,6 @@
 -- The base of a certificate of ground clauses without equality: it is the problem's, its members are right, and it is printable.
 use Rattle.std.proofs.Common.{◌≡◌, ℕ, zero, suc, ◌<◌, ◌≤◌, ◌^◌, List, [], ◌∷◌, ◌++◌, inl, refl, sym, ap, ◌∙◌, subst, map, length, Some, None, Option, arith}
-use Rattle.std.specs.Prelude.{slice_get, All, option_map}
+use Rattle.std.specs.Prelude.{slice_get, option_map}
 use Rattle.std.proofs.lemmas.List.{append-nil, length-map}
 use Rattle.std.proofs.lemmas.Option.{slice_get-map}
 use Rattle.std.proofs.lemmas.List.Elements.{All-nil}
@@ -9,19 +9,21 @@ use Rattle.inst_logic.specs.declared.clause.Problem.{Problem}
 use Rattle.inst_logic.specs.Tree.{Tree, var}
 use Rattle.inst_logic.specs.Substitution.{Substitution, subst as put, subst_literal, tree_vars}
 use Rattle.inst_logic.specs.Clauses.{TreeClause, IsGround, IsCanonical, Subsumes}
-use Rattle.inst_logic.specs.WellFormed.{clause_is_formed, AreFormedClauses}
+use Rattle.inst_logic.specs.WellFormed.{clause_is_formed}
+use Rattle.inst_logic.specs.Readable.{clause_is_readable}
 use Rattle.inst_logic.specs.Derivations.{at_number}
 use Rattle.inst_logic.proofs.ShownLaws.{at_number_contains}
 use Rattle.inst_logic.proofs.Substitutions.{subst_var}
-use Rattle.inst_calculus.specs.Axioms.{with_axioms, clause_symbols}
-use Rattle.inst_calculus.specs.Entries.{Entry, input, entry_clauses}
+use Rattle.inst_calculus.specs.Axioms.{with_axioms}
+use Rattle.inst_calculus.specs.Entries.{Entry, input}
 use Rattle.inst_calculus.specs.Steps.{renamed_clause}
-use Rattle.inst_calculus.proofs.Membership.{◌∈◌, contains_in, all_in, in_all, from_map, equal_in, passes, all_pass}
+use Rattle.inst_calculus.proofs.Membership.{◌∈◌, contains_in, all_in, in_all, from_map, equal_in, passes}
 use Rattle.inst_calculus.proofs.Trees.{subst_agree}
 use Rattle.inst_calculus.proofs.Clauses.{literal_var, within_part, variable_of}
-use Rattle.cert_format.specs.Printable.{IsNumber, HasReadableName, IsPrintableClause, IsPrintableEntry, IsPrintableBase}
+use Rattle.cert_format.specs.Printable.{IsPrintableClause, IsPrintableBase, ClauseFits, EntryFits, BaseFits}
+use Rattle.cert_format.specs.Certifies.{IsOf}
+use Rattle.cert_format.proofs.Fitting.{ground_fits}
 use Rattle.cert_format.specs.Validity.{IsRightAxiom, IsRightMember, Gives}
-use Rattle.szs_prove.specs.Certificates.{IsOf}
 use Rattle.szs_prove.specs.Verdicts.{IsPlainProblem, clause_at, clause_or_empty, base_with}
 use Rattle.szs_prove.specs.Members.{AreMembers}
 use Rattle.szs_prove.specs.Places.{literals_at, literals_or_empty}
@@ -93,29 +95,33 @@ module _ (p : Problem) (plain : IsPlainProblem p) (few : length p.clauses < 2 ^ 
   printable_clause c i = record {
     formed = passes clause_is_formed p.clauses plain.formed c i;
     canonical = all_in IsCanonical p.clauses plain.canonical c i;
-    variables = subst (All IsNumber) (sym (all_in IsGround p.clauses plain.ground_clauses c i)) (All-nil IsNumber);
-    names = all_in (λ c. All (λ s. HasReadableName s.kind s.name) (clause_symbols c)) p.clauses plain.symbols c i;
+    readable = passes clause_is_readable p.clauses plain.readable c i;
   }
 
-  printable_member : (k : ℕ) → k ∈ numbers → IsPrintableEntry (member_of p k)
-  printable_member k i =
-      let h = all_in (λ k. (0 < k) × (k ≤ length p.clauses)) numbers members.within k i in
-      record { clause = printable_clause (clause_at p.clauses k) (member_in k i); origin = omega (arith, h.1) }
+  pub clause_small : (c : TreeClause) → c ∈ p.clauses → ClauseFits c
+  clause_small c i = ground_fits c (all_in IsGround p.clauses plain.ground_clauses c i)
 
-  pub printable_base : length numbers < 2 ^ 64 → IsPrintableBase (base_with p numbers)
-  printable_base short = record {
+  entry_small : (k : ℕ) → k ∈ numbers → EntryFits (member_of p k)
+  entry_small k i =
+      let h = all_in (λ k. (0 < k) × (k ≤ length p.clauses)) numbers members.within k i in
+      record { clause = clause_small (clause_at p.clauses k) (member_in k i); origin = omega (arith, h.1) }
+
+  pub printable_base : IsPrintableBase (base_with p numbers)
+  printable_base = record {
     inputs = in_all IsPrintableClause p.clauses printable_clause;
     named = plain.named;
     names = plain.names;
     axioms = All-nil IsPrintableClause;
-    members = in_all IsPrintableEntry (map (member_of p) numbers) (λ e i. let (k, j, same) = entry_in e i in subst IsPrintableEntry same (printable_member k j));
+    members = in_all (λ (e : Entry). IsPrintableClause e.clause) (map (member_of p) numbers) (λ e i.
+        let (k, j, same) = entry_in e i in subst (λ (e : Entry). IsPrintableClause e.clause) same (printable_clause (clause_at p.clauses k) (member_in k j)));
+  }
+
+  pub small_base : length numbers < 2 ^ 64 → BaseFits (base_with p numbers)
+  small_base short = record {
+    inputs = in_all ClauseFits p.clauses clause_small;
+    axioms = All-nil ClauseFits;
+    members = in_all EntryFits (map (member_of p) numbers) (λ e i. let (k, j, same) = entry_in e i in subst EntryFits same (entry_small k j));
     input_count = few;
     axiom_count = omega arith;
     member_count = subst (λ n. n < 2 ^ 64) (sym (length-map numbers (member_of p))) short;
   }
-
-  pub formed_members : AreFormedClauses (entry_clauses (map (member_of p) numbers))
-  formed_members = all_pass clause_is_formed (entry_clauses (map (member_of p) numbers)) (λ c i.
-      let (e, j, same) = from_map (λ (x : Entry). x.clause) c (map (member_of p) numbers) i in
-      let (k, h, one) = entry_in e j in
-      passes clause_is_formed p.clauses plain.formed c (equal_in (clause_at p.clauses k) c p.clauses (ap (λ (x : Entry). x.clause) one ∙ same) (member_in k h)))

@@ -22,20 +22,20 @@ use Rattle.prop_logic.specs.Valuation.{IsHeld}
 use Rattle.prop_logic.specs.Literal.{AtomsBelow, AllAtomsBelow}
 use Rattle.inst_logic.proofs.ShownLaws.{at_number_contains}
 use Rattle.cert_format.proofs.Numbers.{slice_get_of_map}
-use Rattle.cert_format.specs.Certificate.{Saturation}
-use Rattle.cert_format.specs.Printable.{IsNumber, IsPrintableSaturation}
-use Rattle.cert_format.specs.Validity.{IsRightPlace, IsRightInput, IsRightPair, IsSelected, IsValidSaturation}
+use Rattle.cert_format.specs.Certificate.{Saturation, saturation}
+use Rattle.cert_format.specs.Printable.{IsNumber, IsPrintableSaturation, SaturationFits}
+use Rattle.cert_format.specs.Validity.{IsRightPlace, IsRightInput, IsRightPair, SelectsAt, IsValidSaturation}
 use Rattle.cert_format.specs.declared.complaint.Complaint.TheVariants.{Axiom, Member as Derived, Bot, Ground, Step as Shown, NotEmpty, Place, Input, Pair}
 use Rattle.cert_format.proofs.Selected.{selected_is}
-use Rattle.cert_format.proofs.SelectedMembers.{valid_makes}
-use Rattle.szs_prove.specs.Certificates.{Certifies}
+use Rattle.cert_format.specs.Certifies.{Certifies}
+use Rattle.cert_format.proofs.RightCertificates.{certifies}
 use Rattle.szs_prove.specs.Verdicts.{IsPlainProblem, atom_at, clause_at, base_with, certificate_of}
 use Rattle.szs_prove.specs.declared.verdict.Verdict.TheVariants.{Satisfiable}
 use Rattle.szs_prove.specs.Numbering.{IsNumbering}
 use Rattle.szs_prove.specs.Members.{AreMembers}
 use Rattle.szs_prove.specs.Places.{literals_at, literals_or_empty, IsTruePlace, AreTruePlaces}
 use Rattle.szs_prove.proofs.AtomNames.{slice_get_within, slice_get_some, slice_get_in, number_occurs, numbers_apart, clauses_named, clauses_below}
-use Rattle.szs_prove.proofs.PlainBases.{member_of, clause_of_literals, ground_stays, ground_atom, subsumes_itself, axioms_nothing, base_is_of, right_axiom, right_member, printable_base, formed_members}
+use Rattle.szs_prove.proofs.PlainBases.{member_of, clause_of_literals, ground_stays, ground_atom, subsumes_itself, axioms_nothing, base_is_of, right_axiom, right_member, printable_base, small_base}
 
 places_length : (v : List Bool) (cs : List (List (Signed ℕ))) (ps : List ℕ) → AreTruePlaces v cs ps → length ps ≡ length cs
 places_length v [] [] h = refl
@@ -90,7 +90,7 @@ module _ (p : Problem) (plain : IsPlainProblem p) (few : length p.clauses < 2 ^ 
     below : numbered.atom < length (map literal atoms)
     holds : IsTrueLiteral (IsHeld v) numbered
 
-  selected_at_place : (j k : ℕ) → slice_get numbers j ≡ Some k → (m : Member) × IsSelected sat (suc j) m × IsTrueSelected m.selected
+  selected_at_place : (j k : ℕ) → slice_get numbers j ≡ Some k → (m : Member) × SelectsAt sat (suc j) m × IsTrueSelected m.selected
   selected_at_place j k e =
       let (q, at_q, one) = place_for v (literals_at lits) numbers places true_places j k e in
       let here : at_number (clause_at p.clauses k) q ≡ Some (renamed_literal (atom_at atoms) one.literal) =
@@ -118,7 +118,7 @@ module _ (p : Problem) (plain : IsPlainProblem p) (few : length p.clauses < 2 ^ 
       let (m, s, t) = selected_at_place j k e in
       (m, s)
 
-  true_selected : (n : ℕ) (m : Member) → IsSelected sat n m → IsTrueSelected m.selected
+  true_selected : (n : ℕ) (m : Member) → SelectsAt sat n m → IsTrueSelected m.selected
   true_selected zero m s = absurd (let e = s.entry_at in cc)
   true_selected (suc j) m s =
       let (k, at, same) = slice_get_of_map (member_of p) numbers j s.entry s.entry_at in
@@ -167,17 +167,15 @@ module _ (p : Problem) (plain : IsPlainProblem p) (few : length p.clauses < 2 ^ 
   valid (Input k) = right_input k
   valid (Pair left right) = right_pair left right
 
-  printable : length numbers < 2 ^ 64 → IsPrintableSaturation sat
-  printable short = record {
-    base = printable_base p plain few numbers members short;
+  printable : IsPrintableSaturation sat
+  printable = record {
+    base = printable_base p plain few numbers members;
     placed = places_length v (map (literals_at lits) numbers) places true_places ∙ length-map numbers (literals_at lits) ∙ sym (length-map numbers (member_of p));
-    places = places_small v (map (literals_at lits) numbers) places true_places;
   }
 
-  pub saturation_certifies : length numbers < 2 ^ 64 → Certifies p (certificate_of p (Satisfiable numbers places))
-  saturation_certifies short = record {
-    of_problem = base_is_of p plain few numbers members;
-    valid = valid;
-    printable = printable short;
-    shows = valid_makes sat valid (formed_members p plain few numbers members);
-  }
+  small : length numbers < 2 ^ 64 → SaturationFits sat
+  small short = record { base = small_base p plain few numbers members short; places = places_small v (map (literals_at lits) numbers) places true_places }
+
+  pub saturation_certifies : length numbers < 2 ^ 64 → Certifies p 1 (certificate_of p (Satisfiable numbers places))
+  saturation_certifies short =
+      certifies p plain.formed 1 (saturation sat) (base_is_of p plain few numbers members) tt valid (record { known = refl; parts = printable; numbers = small short })

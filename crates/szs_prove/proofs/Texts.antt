@@ -3,7 +3,7 @@ use Rattle.std.proofs.Common.{◌≡◌, ℕ, zero, suc, ◌≤◌, min, List, [
 use Rattle.std.proofs.lemmas.List.{append-nil}
 use Rattle.inst_logic.specs.Clauses.{TreeClause}
 use Rattle.inst_logic.specs.Printing.{joined, clause_text}
-use Rattle.cert_format.specs.Lines.{clause_line}
+use Rattle.cert_format.specs.Lines.{clause_line, text_line}
 use Rattle.cert_format.specs.Text.{paired_lines}
 
 -- the first piece, and what follows it
@@ -32,6 +32,11 @@ paired_map_end line f n zero (x ∷ xs) (y ∷ ys) h = absurd (omega arith)
 paired_map_end line f n (suc i) [] ys h = refl
 paired_map_end line f n (suc i) (x ∷ xs) [] h = no_pairs line n (map f (drop i xs))
 paired_map_end line f n (suc i) (x ∷ xs) (y ∷ ys) h = paired_map_end line f n i xs ys (omega arith)
+
+-- a lead and a number in a line
+pub number_written : (lead digits t0 t1 t2 t3 : List ℕ) → t1 ≡ t0 ++ lead → t2 ≡ t1 ++ digits → t3 ≡ t2 ++ 10 ∷ [] → t3 ≡ t0 ++ text_line (lead ++ digits)
+number_written lead digits t0 t1 t2 t3 e1 e2 e3 =
+    e3 ∙ ap (λ t. t ++ 10 ∷ []) (e2 ∙ ap (λ t. t ++ digits) e1 ∙ append_assoc t0 lead digits) ∙ append_assoc t0 (lead ++ digits) (10 ∷ [])
 
 -- a certificate that was written part by part, with no axioms
 pub saturation_written :

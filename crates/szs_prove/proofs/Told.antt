@@ -5,11 +5,11 @@ use Rattle.outside_io.specs.declared.library.NamedFile.{NamedFile}
 use Rattle.tptp_load.specs.Problems.{Loads, Told}
 use Rattle.szs_prove.specs.Answered.{HasVerdict, Reading, Writing}
 use Rattle.szs_prove.specs.Answers.{verdict, refusal}
-use Rattle.szs_prove.specs.Certificates.{certificate_text}
+use Rattle.cert_format.specs.Text.{certificate_text}
 use Rattle.szs_prove.specs.Loading.{IsBuilt, IsProblemOf, IsUnread}
 use Rattle.szs_prove.specs.Told.{AnsweredBuilt, LoadsBuilt}
 use Rattle.szs_prove.specs.Texts.{exit_of, refusal_text}
-use Rattle.szs_prove.specs.Words.{Asked, asked_of, shown_name}
+use Rattle.szs_prove.specs.Words.{Asked, asked_of, shown_name, file_of, root_of}
 use Rattle.szs_prove.specs.Written.{IsWritten}
 use Rattle.szs_prove.specs.declared.exit.Exit.{Exit}
 use Rattle.szs_prove.specs.declared.exit.Exit.TheVariants.{Decided}
@@ -38,14 +38,14 @@ verdict_told words read write exit asked text written some v b same w = record {
   answered = record {
     answer = verdict v.0;
     cause = (asked, sym some, v.1);
-    written = subst (λ o. Wrote write Decided (certificate_text (shown_name o) v.0) exit) some (subst (λ t. Wrote write Decided t exit) (same ∙ v.2) w);
+    written = subst (λ o. Wrote write Decided (certificate_text 1 (shown_name o) v.0) exit) some (subst (λ t. Wrote write Decided t exit) (same ∙ v.2) w);
   };
   built = (asked, sym some, b);
 }
 
 -- what was written speaks of the file
 pub refusal_told : (words : List (List ℕ)) (read : Reading) (write : Writing) (exit : Exit) (asked : Asked) (shown : List ℕ) (why : Refusal) → Some asked ≡ asked_of words
-    → IsUnread read.files read.before read.now asked why → shown ≡ asked.file → Wrote write (exit_of why) (refusal_text shown why) exit → AnsweredBuilt words read write exit
+    → IsUnread read.files read.before read.now asked why → shown ≡ file_of asked → Wrote write (exit_of why) (refusal_text shown why) exit → AnsweredBuilt words read write exit
 refusal_told words read write exit asked shown why some unread same w =
     by why unread (subst (λ o. Wrote write (exit_of why) (refusal_text (shown_name o) why) exit) some (subst (λ n. Wrote write (exit_of why) (refusal_text n why) exit) same w))
   where
@@ -58,6 +58,6 @@ refusal_told words read write exit asked shown why some unread same w =
 pub told_built : (files : Option (List NamedFile)) (asked : Asked) (p : Problem) → IsProblemOf files asked p → All IsBuilt p.clauses → LoadsBuilt files asked
 told_built files asked p h built = by files h.loads
   where
-    by : (fs : Option (List NamedFile)) → Told fs (λ told. Loads told asked.file asked.root p) → LoadsBuilt fs asked
+    by : (fs : Option (List NamedFile)) → Told fs (λ told. Loads told (file_of asked) (root_of asked) p) → LoadsBuilt fs asked
     by None l = tt
     by (Some told) l = (p, l, built)

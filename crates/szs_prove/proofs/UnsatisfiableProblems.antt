@@ -4,6 +4,8 @@ use Rattle.std.specs.Prelude.{slice_get, All, option_map, IsTrue, ◌≢◌}
 use Rattle.std.proofs.lemmas.List.{length-map, take-map}
 use Rattle.std.proofs.lemmas.Option.{slice_get-map}
 use Rattle.inst_logic.specs.declared.signed.Signed.{Signed}
+use Rattle.inst_logic.specs.declared.symbol.Sym.{Sym}
+use Rattle.inst_logic.specs.WellFormed.{is_constant}
 use Rattle.inst_logic.specs.declared.clause.Problem.{Problem}
 use Rattle.inst_logic.specs.declared.clause.Literal.{Literal}
 use Rattle.inst_logic.specs.LiteralView.{literal}
@@ -28,24 +30,25 @@ use Rattle.prop_logic.specs.declared.literal.Step.{Step as NumberedStep}
 use Rattle.prop_logic.specs.Literal.{cited as cited_numbers, IsShownDerivation, AtomsBelow, AllAtomsBelow, StepsBelow}
 use Rattle.prop_logic.specs.Solving.{EndsWith, IsSubList}
 use Rattle.proof_log.proofs.Steps.{none_inside}
-use Rattle.cert_format.specs.Certificate.{Refutation}
-use Rattle.cert_format.specs.Printable.{IsNumber, cited_number, IsPrintableClause, IsPrintableStep, IsPrintableRefutation}
+use Rattle.cert_format.specs.Certificate.{FirstRefutation, first_refutation}
+use Rattle.cert_format.specs.Printable.{IsNumber, cited_number, IsPrintableClause, IsPrintableStep, IsPrintableRefutation, ClauseFits, StepFits, RefutationFits}
+use Rattle.cert_format.specs.Certifies.{Certifies}
+use Rattle.cert_format.proofs.Fitting.{ground_fits}
 use Rattle.cert_format.specs.Validity.{IsRightGround, IsRightStep, IsValidRefutation}
 use Rattle.cert_format.specs.declared.complaint.Complaint.TheVariants.{Axiom, Member as Derived, Bot, Ground, Step as Shown, NotEmpty, Place, Input, Pair}
 use Rattle.cert_format.proofs.Numbers.{slice_get_of_map, in_slice_get}
-use Rattle.cert_format.proofs.GroundInstances.{grounds_are_instances, grounds_are_refuted}
-use Rattle.szs_prove.specs.Certificates.{Certifies}
-use Rattle.szs_prove.specs.Verdicts.{IsPlainProblem, atom_at, clause_at, base_with, cited, tree_step, constant, certificate_of}
+use Rattle.cert_format.proofs.RightCertificates.{certifies}
+use Rattle.szs_prove.specs.Verdicts.{IsPlainProblem, atom_at, clause_at, base_with, cited, tree_step, certificate_of}
 use Rattle.szs_prove.specs.declared.verdict.Verdict.TheVariants.{Unsatisfiable}
 use Rattle.szs_prove.specs.Numbering.{IsNumbering}
 use Rattle.szs_prove.specs.Members.{AreMembers}
 use Rattle.szs_prove.specs.Places.{literals_at}
 use Rattle.szs_prove.proofs.AtomNames.{slice_get_within, number_occurs, numbers_apart, clauses_named, clauses_below, canonical_distinct, Occurs}
 use Rattle.szs_prove.proofs.Repeats.{in_take}
-use Rattle.szs_prove.proofs.PlainBases.{member_of, clause_of_literals, base_is_of, right_axiom, right_member, printable_base, printable_clause, member_in}
+use Rattle.szs_prove.proofs.PlainBases.{member_of, clause_of_literals, base_is_of, right_axiom, right_member, printable_base, small_base, printable_clause, clause_small, member_in}
 use Rattle.szs_prove.proofs.SatisfiableProblems.{literals_below}
 use Rattle.szs_prove.proofs.SameClauses.{same_itself, same_distinct, NameSame, AllNameSame, shown_same, Names, shown_named}
-use Rattle.szs_prove.proofs.GroundClauses.{ground_instance, atoms_printable}
+use Rattle.szs_prove.proofs.GroundClauses.{ground_instance, atoms_ground, atoms_printable}
 
 -- two functions that agree on the items
 map_agree : {A B : Type 0} (f g : A → B) (xs : List A) → ((x : A) → x ∈ xs → f x ≡ g x) → map f xs ≡ map g xs
@@ -130,15 +133,15 @@ module _ (p : Problem) (plain : IsPlainProblem p) (few : length p.clauses < 2 ^ 
     (numbers : List ℕ) (members : AreMembers p.clauses (length p.clauses) numbers) (short : length numbers < 2 ^ 64)
     (steps : List NumberedStep) (shown : IsShownDerivation (map (literals_at lits) numbers) steps) (ends : EndsWith steps [])
     (hinted : All (λ (s : NumberedStep). s.hints ≢ []) steps) (below : StepsBelow (length (map literal atoms)) steps) (fits : length steps < 2 ^ 64)
-    (bot : List ℕ) (readable : IsTrue (is_readable_name bot)) where
+    (bot : Sym) (is_constant_symbol : IsTrue (is_constant bot)) (readable : IsTrue (is_readable_name bot.name)) where
   abbrev grounds : List TreeClause
   grounds = map (clause_at p.clauses) numbers
 
   abbrev gs : List (List (Signed ℕ))
   gs = map (literals_at lits) numbers
 
-  abbrev unsat : Refutation
-  unsat = record { base = base_with p numbers; bot = constant bot; grounds = grounds; steps = map (tree_step atoms) steps }
+  abbrev unsat : FirstRefutation
+  unsat = record { base = base_with p numbers; bot = bot; grounds = grounds; steps = map (tree_step atoms) steps }
 
   grounds_named : map (renamed_clause (f atoms)) gs ≡ grounds
   grounds_named =
@@ -168,12 +171,12 @@ module _ (p : Problem) (plain : IsPlainProblem p) (few : length p.clauses < 2 ^ 
       in_steps : (k : ℕ) (s : NumberedStep) → slice_get steps k ≡ Some s → s ∈ steps
       in_steps k s at = contains_in s steps (at_number_contains steps (suc k) s at)
 
-  right_step : (n : ℕ) (t : Step Tree) → at_number (map (tree_step atoms) steps) n ≡ Some t → IsRightStep unsat n t
+  right_step : (n : ℕ) (t : Step Tree) → at_number (map (tree_step atoms) steps) n ≡ Some t → IsRightStep grounds (map (tree_step atoms) steps) n t
   right_step zero t at = absurd cc
   right_step (suc k) t at =
       let (s, there, same) = slice_get_of_map (tree_step atoms) steps k t at in
       let less : k ≡ suc k - 1 = omega arith in
-      subst (IsRightStep unsat (suc k)) same (record {
+      subst (IsRightStep grounds (map (tree_step atoms) steps) (suc k)) same (record {
         hinted = none_left cited s.hints (all_in (λ (s : NumberedStep). s.hints ≢ []) steps hinted s (contains_in s steps (at_number_contains steps (suc k) s there)));
         shown = subst (λ m. IsShown (tree_step atoms s).clause (map (cited_clause grounds (take m (map (tree_step atoms) steps))) (map cited s.hints))) less (tree_step_shown k s there);
       })
@@ -187,14 +190,14 @@ module _ (p : Problem) (plain : IsPlainProblem p) (few : length p.clauses < 2 ^ 
         ap (λ c. distinct literal_eq (renamed_clause (f atoms) c)) none,
       )
 
-  right_grounds : grounds ≡ map (abstraction (constant bot)) (entry_clauses (map (member_of p) numbers))
+  right_grounds : grounds ≡ map (abstraction bot) (entry_clauses (map (member_of p) numbers))
   right_grounds =
-      map_agree (clause_at p.clauses) (λ k. abstraction (constant bot) (clause_at p.clauses k)) numbers
+      map_agree (clause_at p.clauses) (λ k. abstraction bot (clause_at p.clauses k)) numbers
       (λ k i.
       let there = member_in p plain few numbers members k i in
-      sym (ground_instance (grounding (constant bot)) (clause_at p.clauses k) (all_in IsGround p.clauses plain.ground_clauses (clause_at p.clauses k) there)
+      sym (ground_instance (grounding bot) (clause_at p.clauses k) (all_in IsGround p.clauses plain.ground_clauses (clause_at p.clauses k) there)
       (canonical_distinct (clause_at p.clauses k) (all_in IsCanonical p.clauses plain.canonical (clause_at p.clauses k) there))))
-      ∙ sym (ap (map (abstraction (constant bot))) (map_map (λ (e : Entry). e.clause) (member_of p) numbers) ∙ map_map (abstraction (constant bot)) (clause_at p.clauses) numbers)
+      ∙ sym (ap (map (abstraction bot)) (map_map (λ (e : Entry). e.clause) (member_of p) numbers) ∙ map_map (abstraction bot) (clause_at p.clauses) numbers)
 
   right_ground : (n : ℕ) → IsRightGround unsat n
   right_ground n = ap (λ cs. at_number cs n) right_grounds
@@ -202,7 +205,7 @@ module _ (p : Problem) (plain : IsPlainProblem p) (few : length p.clauses < 2 ^ 
   valid : IsValidRefutation unsat
   valid (Axiom n) = right_axiom p plain few numbers members n
   valid (Derived n) = right_member p plain few numbers members n
-  valid Bot = refl
+  valid Bot = is_constant_symbol
   valid (Ground n) = right_ground n
   valid (Shown n) = right_step n
   valid NotEmpty = ends_empty
@@ -217,14 +220,20 @@ module _ (p : Problem) (plain : IsPlainProblem p) (few : length p.clauses < 2 ^ 
       let low = all_in (λ (m : Signed ℕ). m.atom < length (map literal atoms)) s.clause (all_in (λ (s : NumberedStep). AtomsBelow (length (map literal atoms)) s.clause) steps below s i) n k in
       subst (λ (x : Signed Tree). Occurs p.clauses x.atom) same (number_occurs p.clauses atoms numbering.table_is n.atom low)
 
-  printable_step : (k : ℕ) (s : NumberedStep) → slice_get steps k ≡ Some s → IsPrintableStep (tree_step atoms s)
-  printable_step k s at =
+  printable_step : (s : NumberedStep) → s ∈ steps → IsPrintableStep (tree_step atoms s)
+  printable_step s i = record {
+    clause = atoms_printable p plain (tree_step atoms s).clause (distinct_is_distinct literal_eq literal_eq_decides (renamed_clause (f atoms) s.clause)) (step_atoms s i);
+    hinted = none_left cited s.hints (all_in (λ (s : NumberedStep). s.hints ≢ []) steps hinted s i);
+  }
+
+  small_step : (k : ℕ) (s : NumberedStep) → slice_get steps k ≡ Some s → StepFits (tree_step atoms s)
+  small_step k s at =
       let i : s ∈ steps = contains_in s steps (at_number_contains steps (suc k) s at) in
       let count : length gs ≡ length numbers = length-map numbers (literals_at lits) in
       let low : length gs < 2 ^ 64 = omega arith in
       record {
-        clause = atoms_printable p plain (tree_step atoms s).clause (distinct_is_distinct literal_eq literal_eq_decides (renamed_clause (f atoms) s.clause)) (step_atoms s i);
-        hinted = none_left cited s.hints (all_in (λ (s : NumberedStep). s.hints ≢ []) steps hinted s i);
+        clause = ground_fits (tree_step atoms s).clause
+            (atoms_ground p plain (tree_step atoms s).clause (distinct_is_distinct literal_eq literal_eq_decides (renamed_clause (f atoms) s.clause)) (step_atoms s i));
         hints = in_all (λ h. IsNumber (cited_number h)) (map cited s.hints) (λ g j.
             let (h, u, same) = from_map cited g s.hints j in
             subst (λ g. IsNumber (cited_number g)) same
@@ -233,28 +242,35 @@ module _ (p : Problem) (plain : IsPlainProblem p) (few : length p.clauses < 2 ^ 
       }
 
   printable : IsPrintableRefutation unsat
-  printable =
+  printable = record {
+    base = printable_base p plain few numbers members;
+    constant = is_constant_symbol;
+    bot_name = readable;
+    grounds = in_all IsPrintableClause grounds (λ c i.
+        let (k, j, same) = from_map (clause_at p.clauses) c numbers i in
+        subst IsPrintableClause same (printable_clause p plain few numbers members (clause_at p.clauses k) (member_in p plain few numbers members k j)));
+    steps = in_all IsPrintableStep (map (tree_step atoms) steps) (λ t i.
+        let (s, j, same) = from_map (tree_step atoms) t steps i in
+        subst IsPrintableStep same (printable_step s j));
+  }
+
+  small : RefutationFits unsat
+  small =
       let count : length grounds ≡ length numbers = length-map numbers (clause_at p.clauses) in
       let steps_count : length (map (tree_step atoms) steps) ≡ length steps = length-map steps (tree_step atoms) in
       record {
-        base = printable_base p plain few numbers members short;
-        constant = refl;
-        bot_name = readable;
-        grounds = in_all IsPrintableClause grounds (λ c i.
+        base = small_base p plain few numbers members short;
+        grounds = in_all ClauseFits grounds (λ c i.
             let (k, j, same) = from_map (clause_at p.clauses) c numbers i in
-            subst IsPrintableClause same (printable_clause p plain few numbers members (clause_at p.clauses k) (member_in p plain few numbers members k j)));
-        steps = in_all IsPrintableStep (map (tree_step atoms) steps) (λ t i.
+            subst ClauseFits same (clause_small p plain few numbers members (clause_at p.clauses k) (member_in p plain few numbers members k j)));
+        steps = in_all StepFits (map (tree_step atoms) steps) (λ t i.
             let (s, j, same) = from_map (tree_step atoms) t steps i in
             let (k, at) = in_slice_get s steps j in
-            subst IsPrintableStep same (printable_step k s at));
+            subst StepFits same (small_step k s at));
         ground_count = omega arith;
         step_count = omega arith;
       }
 
-  pub refutation_certifies : IsBot p.clauses (constant bot) → Certifies p (certificate_of p (Unsatisfiable numbers bot atoms steps))
-  refutation_certifies fresh = record {
-    of_problem = base_is_of p plain few numbers members;
-    valid = valid;
-    printable = printable;
-    shows = record { is_bot = fresh; instances = grounds_are_instances unsat valid; refuted = grounds_are_refuted unsat valid };
-  }
+  pub refutation_certifies : IsBot p.clauses bot → Certifies p 1 (certificate_of p (Unsatisfiable numbers bot atoms steps))
+  refutation_certifies fresh =
+      certifies p plain.formed 1 (first_refutation unsat) (base_is_of p plain few numbers members) fresh valid (record { known = refl; parts = printable; numbers = small })

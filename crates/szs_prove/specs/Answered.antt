@@ -2,8 +2,9 @@
 use Rattle.std.specs.Prelude.{ℕ, ◌≡◌, List, Option}
 use Rattle.outside_io.specs.declared.library.NamedFile.{NamedFile}
 use Rattle.szs_prove.specs.Answers.{Answer, IsAnswer, IsCertificateFor, exit_for, text_for}
-use Rattle.szs_prove.specs.Certificates.{Certificate, certificate_text}
-use Rattle.szs_prove.specs.Words.{Asked, asked_of, shown_name}
+use Rattle.cert_format.specs.Certificate.{Certificate}
+use Rattle.cert_format.specs.Text.{certificate_text}
+use Rattle.szs_prove.specs.Words.{Asked, asked_of, shown_name, file_of}
 use Rattle.szs_prove.specs.Written.{IsWritten}
 use Rattle.szs_prove.specs.declared.exit.Exit.{Exit}
 
@@ -34,4 +35,4 @@ pub record Answered (words : List (List ℕ)) (read : Reading) (write : Writing)
 
 -- the text is that of a certificate for what is asked of
 abbrev pub HasVerdict : Option (List NamedFile) → Asked → List ℕ → Type 0
-HasVerdict files asked text = (c : Certificate) × IsCertificateFor files asked c × (text ≡ certificate_text asked.file c)
+HasVerdict files asked text = (c : Certificate) × IsCertificateFor files asked c × (text ≡ certificate_text 1 (file_of asked) c)

@@ -1,14 +1,12 @@
 -- A test of clauses without variables and without equality, and lists of terms that are still to be walked.
-use Rattle.std.specs.Prelude.{ℕ, ◌+◌, List, [], ◌∷◌, ◌++◌, Bool, true, false, not, ◌&&◌}
+use Rattle.std.specs.Prelude.{List, [], ◌∷◌, Bool, true, false, not, ◌&&◌}
 use Rattle.std.specs.List.{list_all}
 use Rattle.std.specs.Borrow.{Bor}
-use Rattle.inst_logic.specs.declared.symbol.Sym.{Sym}
 use Rattle.inst_logic.specs.declared.term.Term.{Term}
 use Rattle.inst_logic.specs.Tree.{Tree, var, app, Trees, none, more}
 use Rattle.inst_logic.specs.View.{tree}
-use Rattle.inst_logic.specs.Measure.{tree_size}
 use Rattle.inst_logic.specs.Clauses.{TreeClause}
-use Rattle.inst_calculus.specs.Axioms.{is_equality_kind, tree_symbols}
+use Rattle.inst_calculus.specs.Axioms.{is_equality_kind}
 
 -- no variable and no symbol of kind Equality occurs
 abbrev mutual
@@ -27,11 +25,3 @@ clause_is_built c = list_all (λ l. tree_is_built l.atom) c
 abbrev pub are_built : List (Bor Term) → Bool
 are_built [] = true
 are_built (t ∷ ts) = are_built ts && tree_is_built (tree t.now)
-
-abbrev pub left_symbols : List (Bor Term) → List Sym
-left_symbols [] = []
-left_symbols (t ∷ ts) = left_symbols ts ++ tree_symbols (tree t.now)
-
-abbrev pub left_size : List (Bor Term) → ℕ
-left_size [] = 0
-left_size (t ∷ ts) = tree_size (tree t.now) + left_size ts

@@ -1,6 +1,5 @@
 pub mod Answered
 pub mod Answers
-pub mod Certificates
 pub mod Exact
 pub mod Loading
 pub mod Piece
@@ -9,9 +8,9 @@ pub mod Verdicts
 pub mod Numbering
 pub mod Members
 pub mod Places
-pub mod Bot
 pub mod Built
 pub mod Told
 pub mod Words
+pub mod Replayed
 pub mod Requests
 pub mod Written

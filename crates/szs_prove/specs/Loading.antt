@@ -6,14 +6,14 @@ use Rattle.inst_logic.specs.Derivations.{at_number}
 use Rattle.inst_calculus.specs.Axioms.{equality_axioms}
 use Rattle.outside_io.specs.declared.library.NamedFile.{NamedFile}
 use Rattle.tptp_load.specs.Problems.{IsGoodProblem, IsLoadCause, Loads, Told}
-use Rattle.szs_prove.specs.Words.{Asked}
+use Rattle.szs_prove.specs.Words.{Asked, file_of, root_of}
 use Rattle.szs_prove.specs.declared.refusal.Refusal.{Refusal}
 use Rattle.szs_prove.specs.declared.refusal.Refusal.TheVariants.{Usage, Load, NotBuilt, Memory}
 
 -- a good problem, and that of the file where the files are told
 pub record IsProblemOf (files : Option (List NamedFile)) (asked : Asked) (p : Problem) : Type 0 where
   pub good : IsGoodProblem p
-  pub loads : Told files (λ told. Loads told asked.file asked.root p)
+  pub loads : Told files (λ told. Loads told (file_of asked) (root_of asked) p)
 
 -- without variables and without equality
 pub record IsBuilt (c : TreeClause) : Type 0 where
@@ -30,6 +30,6 @@ pub record IsFirstUnbuilt (p : Problem) (k : ℕ) : Type 0 where
 -- why there is no verdict; the count of faults goes from before to now
 abbrev pub IsUnread : Option (List NamedFile) → ℕ → ℕ → Asked → Refusal → Type 0
 IsUnread files before now asked Usage = ⊥
-IsUnread files before now asked (Load e) = IsLoadCause files before now asked.file asked.root e
+IsUnread files before now asked (Load e) = IsLoadCause files before now (file_of asked) (root_of asked) e
 IsUnread files before now asked (NotBuilt k) = (p : Problem) × IsProblemOf files asked p × IsFirstUnbuilt p k
 IsUnread files before now asked Memory = ⊤

@@ -1,7 +1,6 @@
 -- The verdicts on a problem without variables and without equality, and the certificates that they stand for.
 use Rattle.std.specs.Prelude.{◌≡◌, ℕ, suc, List, [], length, map, IsTrue, All, Option, None, Some}
-use Rattle.inst_logic.specs.declared.symbol.Sym.{Sym}
-use Rattle.inst_logic.specs.declared.symbol.Kind.TheVariants.{Function}
+use Rattle.std.specs.List.{list_all}
 use Rattle.inst_logic.specs.declared.clause.Literal.{Literal}
 use Rattle.inst_logic.specs.declared.clause.Problem.{Problem}
 use Rattle.inst_logic.specs.Tree.{Tree, var}
@@ -12,15 +11,14 @@ use Rattle.inst_logic.specs.WellFormed.{AreFormedClauses}
 use Rattle.inst_logic.specs.Clauses.{TreeClause, IsGround, IsCanonical}
 use Rattle.inst_logic.specs.Derivations.{at_number}
 use Rattle.inst_logic.specs.Printing.{is_readable_name}
-use Rattle.inst_calculus.specs.Axioms.{equality_axioms, clause_symbols}
+use Rattle.inst_logic.specs.Readable.{clause_is_readable}
+use Rattle.inst_calculus.specs.Axioms.{equality_axioms}
 use Rattle.inst_calculus.specs.Entries.{input}
 use Rattle.inst_calculus.specs.Steps.{Cited, given, earlier, Step, renamed_clause}
-use Rattle.cert_format.specs.Certificate.{Base}
-use Rattle.cert_format.specs.Printable.{HasReadableName}
+use Rattle.cert_format.specs.Certificate.{Base, Certificate, first_refutation, saturation}
 use Rattle.prop_logic.specs.declared.literal.Hint.{Hint}
 use Rattle.prop_logic.specs.declared.literal.Hint.TheVariants as hint
 use Rattle.prop_logic.specs.declared.literal.Step.{Step as NumberedStep}
-use Rattle.szs_prove.specs.Certificates.{Certificate, refutation, saturation}
 use Rattle.szs_prove.specs.declared.verdict.Verdict.{Verdict}
 use Rattle.szs_prove.specs.declared.verdict.Verdict.TheVariants.{Satisfiable, Unsatisfiable}
 
@@ -32,7 +30,7 @@ pub record IsPlainProblem (p : Problem) : Type 0 where
   pub no_axioms : equality_axioms p.clauses ≡ []
   pub named : length p.names ≡ length p.clauses
   pub names : All (λ n. IsTrue (is_readable_name n)) p.names
-  pub symbols : All (λ c. All (λ s. HasReadableName s.kind s.name) (clause_symbols c)) p.clauses
+  pub readable : IsTrue (list_all clause_is_readable p.clauses)
 
 abbrev pub clause_or_empty : Option TreeClause → TreeClause
 clause_or_empty None = []
@@ -62,11 +60,8 @@ cited (hint.Step n) = earlier n
 abbrev pub tree_step : List Literal → NumberedStep → Step Tree
 tree_step atoms s = record { clause = distinct literal_eq (renamed_clause (atom_at atoms) s.clause); hints = map cited s.hints }
 
-abbrev pub constant : List ℕ → Sym
-constant name = record { kind = Function; name = name; arity = 0 }
-
 -- the certificate that a verdict on the problem stands for
 abbrev pub certificate_of : Problem → Verdict → Certificate
 certificate_of p (Satisfiable members places) = saturation (record { base = base_with p members; places = places })
 certificate_of p (Unsatisfiable members bot atoms derivation) =
-    refutation (record { base = base_with p members; bot = constant bot; grounds = map (clause_at p.clauses) members; steps = map (tree_step atoms) derivation })
+    first_refutation (record { base = base_with p members; bot = bot; grounds = map (clause_at p.clauses) members; steps = map (tree_step atoms) derivation })

@@ -3,10 +3,16 @@ use Rattle.std.specs.Prelude.{ℕ, ◌&&◌, List, [], ◌∷◌, Option, None, 
 use Rattle.std.specs.List.{list_all}
 use Rattle.std.specs.Str.{bytes_eq}
 
--- the file that is asked of, and the root under which includes are tried too
-pub record Asked : Type 0 where
-  pub file : List ℕ
-  pub root : Option (List ℕ)
+-- what is asked, by a constructor for each command: to prove the problem of a file, with or without a root under which includes
+-- are tried too
+pub data Asked : Type 0 where
+  prove : (file : List ℕ) → (root : Option (List ℕ)) → Asked
+
+abbrev pub file_of : Asked → List ℕ
+file_of (prove file root) = file
+
+abbrev pub root_of : Asked → Option (List ℕ)
+root_of (prove file root) = root
 
 -- neither below 32 nor 127
 abbrev pub is_name_byte : ℕ → Bool
@@ -21,7 +27,7 @@ abbrev pub is_file_word : List ℕ → Bool
 is_file_word word = nat_lt 0 (length word) && (nat_lt (length word) 4097 && (list_all is_name_byte word && not (begins_with_dash word)))
 
 abbrev pub asked_with : List ℕ → List ℕ → Option (List ℕ) → Option Asked
-asked_with command file root = if bytes_eq command (codes "prove") && is_file_word file then Some (record { file = file; root = root }) else None
+asked_with command file root = if bytes_eq command (codes "prove") && is_file_word file then Some (prove file root) else None
 
 -- what `prove` is asked
 abbrev pub asked_of : List (List ℕ) → Option Asked
@@ -32,4 +38,4 @@ asked_of _ = None
 -- the name that an answer speaks of
 abbrev pub shown_name : Option Asked → List ℕ
 shown_name None = codes "instgen"
-shown_name (Some asked) = asked.file
+shown_name (Some asked) = file_of asked

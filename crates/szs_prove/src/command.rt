@@ -3,7 +3,7 @@ ghost use Rattle.std.specs.Prelude.{◌≡◌, [], IfOk, IfErr, IfSome, map, str
 ghost use Rattle.outside_io.specs.Causes.{Rose};
 ghost use Rattle.szs_prove.specs.Loading.{IsUnread};
 ghost use Rattle.szs_prove.specs.Answered.{Answered, HasVerdict, reading, writing};
-ghost use Rattle.szs_prove.specs.Exact.{IsExact, IsInterrupted, WantsMemory, WritesCertificate};
+ghost use Rattle.szs_prove.specs.Exact.{IsExact, IsInterrupted, TookCertificate, WantsMemory, WritesCertificate};
 ghost use Rattle.szs_prove.specs.Written.{IsWritten};
 ghost use Rattle.cert_format.specs.Printable.{IsTextName};
 ghost use Rattle.szs_prove.specs.Requests.{asked};
@@ -81,6 +81,8 @@ pub fn run<L: Library, K: Sink>(alloc: Global, words: &[String], files: &mut L, 
     // Where the files are told, the exit has its cause, and each cause its exit, but for faults and memory.
     ensures exact { IfSome (L.files files.old) (λ all. IsExact (map string_bytes words.now) all (reading (L.files files.old) (L.faults files.old) (L.faults files.new)) (writing (K.taken out.old) (K.taken out.new) (K.faults out.old) (K.faults out.new)) result) }
     ensures decided { result ≡ Exit.Decided → WritesCertificate (map string_bytes words.now) (L.files files.old) (K.taken out.old) (K.taken out.new) }
+    // And where the text of a printable certificate was taken whole, the verdict was written.
+    ensures verdict { TookCertificate (K.taken out.old) (K.taken out.new) → result ≡ Exit.Decided }
     ensures read_fault { result ≡ Exit.ReadFault → Rose (L.faults files.old) (L.faults files.new) }
     ensures write_fault { result ≡ Exit.WriteFault → Rose (K.faults out.old) (K.faults out.new) }
     // Where writing failed, a prefix of the answer's text was taken.

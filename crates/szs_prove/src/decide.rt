@@ -4,18 +4,18 @@ ghost use Rattle.std.specs.Prelude.{◌≡◌, [], false, map, length, IfOk};
 ghost use Rattle.inst_logic.specs.LiteralView.{literal};
 ghost use Rattle.prop_logic.specs.Literal.{AllAtomsBelow, StepsBelow, IsShownDerivation};
 ghost use Rattle.prop_logic.specs.Solving.{MakesTrue, Refutes, EndsWith};
-ghost use Rattle.szs_prove.specs.Certificates.{Certifies};
+ghost use Rattle.cert_format.specs.Certifies.{Certifies};
 ghost use Rattle.szs_prove.specs.Verdicts.{IsPlainProblem, certificate_of};
 ghost use Rattle.szs_prove.specs.Places.{literals_at, AreNumbers};
 ghost use Rattle.szs_prove.specs.Members.{AreMembers};
 ghost use Rattle.szs_prove.specs.Numbering.{IsNumbering};
 
-use crate::bot::fresh_name;
 use crate::members::find_members;
 use crate::numbering::{Numbered, number_clauses};
 use crate::places::true_places;
 use crate::solving::{clause_numbered, load};
 use crate::verdict::Verdict;
+use ground_abs::bot_of;
 use inst_logic::{Memory, NumberList, Problem};
 use proof_log::Checker;
 use prop_logic::{Answer, Derivation, LitList, LitLists, Solver, Valuation};
@@ -33,7 +33,7 @@ fn satisfiable(
     requires numbering { IsNumbering problem.now.clauses (map literal numbered.now.atoms) numbered.now.clauses }
     requires members { AreMembers problem.now.clauses (length problem.now.clauses) members }
     requires clauses_true { MakesTrue valuation.now (map (literals_at numbered.now.clauses) members) [] }
-    ensures { IfOk result (λ verdict. Certifies problem.now (certificate_of problem.now verdict)) }
+    ensures { IfOk result (λ verdict. Certifies problem.now 1 (certificate_of problem.now verdict)) }
 {
     // Read for their ranges: the certificate's numbers have 64 bits.
     let _clauses = problem.clauses.len();
@@ -90,7 +90,7 @@ fn unsatisfiable(
     requires numbering { IsNumbering problem.now.clauses (map literal numbered.atoms) numbered.clauses }
     requires members { AreMembers problem.now.clauses (length problem.now.clauses) members }
     requires refuted { Refutes (length numbered.atoms) (map (literals_at numbered.clauses) members) [] [] derivation }
-    ensures { IfOk result (λ verdict. Certifies problem.now (certificate_of problem.now verdict)) }
+    ensures { IfOk result (λ verdict. Certifies problem.now 1 (certificate_of problem.now verdict)) }
 {
     // Read for their ranges: the certificate's numbers have 64 bits.
     let _clauses = problem.clauses.len();
@@ -98,7 +98,7 @@ fn unsatisfiable(
     let _steps = derivation.len();
     let given = clauses_numbered(alloc, &numbered.clauses, &members)?;
     check(alloc, numbered.atoms.len(), &given, &derivation)?;
-    let bot = fresh_name(alloc, &problem.clauses)?;
+    let bot = bot_of(alloc, problem)?;
     Ok(Verdict::Unsatisfiable {
         members,
         bot,
@@ -112,7 +112,7 @@ pub fn decide<S: Solver>(alloc: Global, problem: &Problem, mut solver: S) -> Res
     requires plain { IsPlainProblem problem.now }
     requires atoms { S.atoms solver ≡ 0 }
     requires added { S.added solver ≡ [] }
-    ensures { IfOk result (λ verdict. Certifies problem.now (certificate_of problem.now verdict)) }
+    ensures { IfOk result (λ verdict. Certifies problem.now 1 (certificate_of problem.now verdict)) }
 {
     let numbered = number_clauses(alloc, &problem.clauses)?;
     let members = find_members(alloc, &problem.clauses, &numbered)?;

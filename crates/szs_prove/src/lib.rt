@@ -2,7 +2,6 @@
 //! proved of it is proved over any library, sink and solver that keep the laws of their traits.
 #![tactic(auto)]
 
-mod bot;
 mod built;
 mod clauses;
 mod command;

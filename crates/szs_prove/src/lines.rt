@@ -43,9 +43,12 @@ pub fn push_end(text: &mut Vec<u8>, form: &[u8], name: &[u8]) -> Result<(), Memo
 
 // `% instgen certificate 1`
 pub fn push_format(text: &mut Vec<u8>) -> Result<(), Memory>
-    ensures { OnOk result (text.new.items ≡ text.old.items ++ format_line) }
+    ensures { OnOk result (text.new.items ≡ text.old.items ++ format_line 1) }
 {
-    push_bytes(text, b"% instgen certificate 1\n")
+    push_bytes(text, b"% instgen certificate ")?;
+    push_number(text, 1)?;
+    push_bytes(text, b"\n")?;
+    Ok(())
 }
 
 // `% ground constant C`

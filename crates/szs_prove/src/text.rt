@@ -1,21 +1,20 @@
 // The text of a verdict's certificate, made whole in memory before its first byte is written: where memory is refused there
 // is no verdict that breaks off.
 ghost use Rattle.std.specs.Prelude.{◌≡◌, ◌++◌, IfOk, OnOk, map};
-ghost use Rattle.cert_format.specs.Text.{head_lines, refutation_text, saturation_text};
+ghost use Rattle.cert_format.specs.Text.{certificate_text, head_lines, refutation_text, saturation_text};
 ghost use Rattle.cert_format.specs.Lines.{format_line};
-ghost use Rattle.szs_prove.specs.Certificates.{certificate_text};
-ghost use Rattle.szs_prove.specs.Verdicts.{base_with, certificate_of, clause_at, constant, tree_step};
+ghost use Rattle.szs_prove.specs.Verdicts.{base_with, certificate_of, clause_at, tree_step};
 
 use crate::lines::{push_constant, push_end, push_format, push_start, push_status};
 use crate::listing::{push_grounds, push_inputs, push_members, push_selected_members, push_steps};
 use crate::verdict::Verdict;
-use inst_logic::{Literal, Memory, Name, Problem};
+use inst_logic::{Literal, Memory, Problem, Sym};
 use prop_logic::Step;
 use std::alloc::Global;
 
 // The lines that every certificate begins with.
 fn push_head(text: &mut Vec<u8>, status: &[u8], form: &[u8], name: &[u8]) -> Result<(), Memory>
-    ensures { OnOk result (text.new.items ≡ text.old.items ++ (head_lines status.now form.now name.now ++ format_line)) }
+    ensures { OnOk result (text.new.items ≡ text.old.items ++ (head_lines status.now form.now name.now ++ format_line 1)) }
 {
     push_status(text, status, name)?;
     push_start(text, form, name)?;
@@ -30,7 +29,7 @@ fn saturation(
     members: &[usize],
     places: &[usize],
 ) -> Result<Vec<u8>, Memory>
-    ensures { IfOk result (λ text. text.items ≡ saturation_text name.now (record { base = base_with problem.now members.now; places = places.now })) }
+    ensures { IfOk result (λ text. text.items ≡ saturation_text 1 name.now (record { base = base_with problem.now members.now; places = places.now })) }
 {
     let mut text = Vec::new(alloc);
     push_head(&mut text, b"Satisfiable", b"Saturation", name)?;
@@ -50,20 +49,20 @@ fn refutation(
     name: &[u8],
     problem: &Problem,
     members: &[usize],
-    bot: &Name,
+    bot: &Sym,
     atoms: &[Literal],
     steps: &[Step],
 ) -> Result<Vec<u8>, Memory>
-    ensures { IfOk result (λ text. text.items ≡ refutation_text name.now (record {
+    ensures { IfOk result (λ text. text.items ≡ refutation_text 1 name.now (record {
       base = base_with problem.now members.now;
-      bot = constant bot.now;
+      bot = bot.now;
       grounds = map (clause_at problem.now.clauses) members.now;
       steps = map (tree_step atoms.now) steps.now;
     })) }
 {
     let mut text = Vec::new(alloc);
     push_head(&mut text, b"Unsatisfiable", b"CNFRefutation", name)?;
-    push_constant(&mut text, bot.bytes())?;
+    push_constant(&mut text, bot.name.bytes())?;
     push_inputs(
         &mut text,
         problem.clauses.as_slice(),
@@ -83,7 +82,7 @@ pub fn verdict_text(
     problem: &Problem,
     verdict: &Verdict,
 ) -> Result<Vec<u8>, Memory>
-    ensures { IfOk result (λ text. text.items ≡ certificate_text name.now (certificate_of problem.now verdict.now)) }
+    ensures { IfOk result (λ text. text.items ≡ certificate_text 1 name.now (certificate_of problem.now verdict.now)) }
 {
     match verdict {
         Verdict::Satisfiable { members, places } => {

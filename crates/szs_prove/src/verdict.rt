@@ -1,6 +1,6 @@
 // Verdicts on problems without variables and without equality. Clauses of the problem are named by their numbers, and none is
 // copied.
-use inst_logic::{ListOf, Literal, Name, NumberList, PlaceList};
+use inst_logic::{ListOf, Literal, NumberList, PlaceList, Sym};
 use prop_logic::Derivation;
 
 /// What was found of a problem, with what its certificate needs beside the problem.
@@ -11,11 +11,11 @@ pub enum Verdict {
         members: NumberList,
         places: PlaceList,
     },
-    /// The numbers of the clauses that are members, the name of the ground constant, the atoms as positive literals in the
+    /// The numbers of the clauses that are members, the ground constant, the atoms as positive literals in the
     /// order of their numbers, and a derivation of the empty clause over these numbers.
     Unsatisfiable {
         members: NumberList,
-        bot: Name,
+        bot: Sym,
         atoms: ListOf<Literal>,
         derivation: Derivation,
     },

@@ -1,189 +1,216 @@
-// Nodes among the children of the node from which an edge leads to them.
-ghost use Rattle.std.specs.Prelude.{◌≡◌, ◌<◌, ◌≤◌, ◌+◌, ◌++◌, ◌∷◌, ◌-◌, [], ℕ, length, OnOk, MatchOption, true, false};
+// The spans that are listed at the node where they begin. A walk that passes over a term goes on at their ends, and so does
+// not look at the nodes between.
+ghost use Rattle.std.specs.Prelude.{◌≡◌, ◌<◌, ◌≤◌, ◌+◌, ◌++◌, ◌∷◌, [], ℕ, length, OnOk, IfOk, MatchOption, Contains, true, false, ◌⊎◌};
 ghost use Rattle.std.specs.List.{swap_remove};
-ghost use Rattle.term_tree.specs.declared.label.Label.{Label};
-ghost use Rattle.term_tree.specs.Paths.{IsChild, IsArena, IsBare, IsLinked, content_at, child_at, edge_at, KeepsPairs};
+ghost use Rattle.term_tree.specs.declared.node.Span.{Span};
+ghost use Rattle.term_tree.specs.Nodes.{Content};
+ghost use Rattle.term_tree.specs.Paths.{IsArena, AreListed, IsBare, Exits, content_at, exit_at, place_at, span_at, KeepsPairs, Leads};
+ghost use Rattle.term_tree.specs.Lists.{Numbers, KeepsExits, KeepsOthers, ListsAll, AreWithin};
 
-use crate::node::{Edge, Node};
+use crate::node::{Edge, Node, Span};
 use indexmap::IndexSet;
 use inst_logic::Memory;
 
-// The child at this place among the node's children.
-fn child_in(nodes: &Vec<Node>, node: usize, place: usize) -> Option<usize>
+// The number at this place among the node's exits.
+fn exit_in(nodes: &Vec<Node>, node: usize, place: usize) -> Option<usize>
     requires { node < length nodes.now.items }
-    ensures { MatchOption result (length (content_at nodes.now.items node).children ≤ place) (λ c. (place < length (content_at nodes.now.items node).children) × (child_at nodes.now.items node place ≡ c)) }
+    ensures { MatchOption result (length (content_at nodes.now.items node).exits ≤ place) (λ r. (place < length (content_at nodes.now.items node).exits) × (exit_at nodes.now.items node place ≡ r)) }
 {
     let here = &nodes[node];
-    here.children.get(place).copied()
+    here.exits.get(place).copied()
 }
 
-// The number of the node's children.
+// How many exits the node has.
 fn count_of(nodes: &Vec<Node>, node: usize) -> usize
     requires { node < length nodes.now.items }
-    ensures { result ≡ length (content_at nodes.now.items node).children }
+    ensures { result ≡ length (content_at nodes.now.items node).exits }
 {
     let here = &nodes[node];
-    here.children.len()
+    here.exits.len()
 }
 
-// The node's place among its parent's children.
-fn place_in(nodes: &Vec<Node>, node: usize) -> usize
-    requires { node < length nodes.now.items }
-    ensures { result ≡ (content_at nodes.now.items node).place }
-{
-    let here = &nodes[node];
-    here.place
-}
-
-// Whether nothing ends at the node and it has no children.
+// Whether nothing ends at the node and it has no exits.
 fn is_bare(nodes: &Vec<Node>, node: usize) -> bool
     requires { node < length nodes.now.items }
     ensures { result ≡ true → IsBare (content_at nodes.now.items node) }
 {
     let here = &nodes[node];
-    here.children.is_empty() && here.pairs.is_empty()
+    here.exits.is_empty() && here.pairs.is_empty()
 }
 
-// Sets the node's place.
-fn set_place(nodes: &mut Vec<Node>, node: usize, place: usize)
+// Puts the number at the end of the node's exits.
+fn push_exit(nodes: &mut Vec<Node>, node: usize, number: usize) -> Result<(), Memory>
     requires { node < length nodes.old.items }
     ensures len { length nodes.new.items ≡ length nodes.old.items }
-    ensures place { (content_at nodes.new.items node).place ≡ place }
+    ensures exits { OnOk result ((content_at nodes.new.items node).exits ≡ (content_at nodes.old.items node).exits ++ number ∷ []) }
     ensures others { (n : ℕ) → ¬ (n ≡ node) → content_at nodes.new.items n ≡ content_at nodes.old.items n }
-    ensures children { (content_at nodes.new.items node).children ≡ (content_at nodes.old.items node).children }
     ensures pairs { (content_at nodes.new.items node).pairs ≡ (content_at nodes.old.items node).pairs }
 {
     let here = &mut nodes[node];
-    here.place = place;
-}
-
-// Puts the number at the end of the node's children.
-fn push_child(nodes: &mut Vec<Node>, from: usize, number: usize) -> Result<(), Memory>
-    requires { from < length nodes.old.items }
-    ensures len { length nodes.new.items ≡ length nodes.old.items }
-    ensures children { OnOk result ((content_at nodes.new.items from).children ≡ (content_at nodes.old.items from).children ++ number ∷ []) }
-    ensures others { (n : ℕ) → ¬ (n ≡ from) → content_at nodes.new.items n ≡ content_at nodes.old.items n }
-    ensures pairs { (content_at nodes.new.items from).pairs ≡ (content_at nodes.old.items from).pairs }
-    ensures place { (content_at nodes.new.items from).place ≡ (content_at nodes.old.items from).place }
-{
-    let node = &mut nodes[from];
-    node.children.push(number)?;
+    here.exits.push(number)?;
     Ok(())
 }
 
-// Takes the child at the place, which the last one takes.
-fn take_child(nodes: &mut Vec<Node>, from: usize, place: usize)
-    requires within { from < length nodes.old.items }
-    requires place { place < length (content_at nodes.old.items from).children }
+// Takes the exit at the place, which the last one takes.
+fn take_exit(nodes: &mut Vec<Node>, node: usize, place: usize)
+    requires within { node < length nodes.old.items }
+    requires place { place < length (content_at nodes.old.items node).exits }
     ensures len { length nodes.new.items ≡ length nodes.old.items }
-    ensures children { (d : ℕ) × ((content_at nodes.new.items from).children ≡ swap_remove (content_at nodes.old.items from).children place d) }
-    ensures others { (n : ℕ) → ¬ (n ≡ from) → content_at nodes.new.items n ≡ content_at nodes.old.items n }
-    ensures pairs { (content_at nodes.new.items from).pairs ≡ (content_at nodes.old.items from).pairs }
-    ensures place { (content_at nodes.new.items from).place ≡ (content_at nodes.old.items from).place }
+    ensures exits { (d : ℕ) × ((content_at nodes.new.items node).exits ≡ swap_remove (content_at nodes.old.items node).exits place d) }
+    ensures others { (n : ℕ) → ¬ (n ≡ node) → content_at nodes.new.items n ≡ content_at nodes.old.items n }
+    ensures pairs { (content_at nodes.new.items node).pairs ≡ (content_at nodes.old.items node).pairs }
 {
-    let node = &mut nodes[from];
-    node.children.swap_remove(place);
+    let here = &mut nodes[node];
+    here.exits.swap_remove(place);
 }
 
-// The node from which an edge leads to this one.
-fn parent(edges: &IndexSet<Edge>, node: usize) -> usize
-    requires above { 0 < node }
-    requires within { node ≤ length edges.now.keys }
-    ensures { result ≡ (edge_at edges.now.keys (node - 1)).from }
+// The number of the span. A new one goes last, and has some place.
+fn numbered(
+    spans: &mut IndexSet<Span>,
+    places: &mut Vec<usize>,
+    span: Span,
+) -> Result<usize, Memory>
+    requires { length places.old.items ≡ length spans.old.keys }
+    ensures number { IfOk result (Numbers spans.old.keys spans.new.keys span) }
+    ensures places { OnOk result (length places.new.items ≡ length spans.new.keys) }
+    ensures kept { OnOk result ((r : ℕ) → r < length spans.old.keys → place_at places.new.items r ≡ place_at places.old.items r) }
 {
-    match edges.get_index(node - 1) {
-        Some(edge) => edge.from,
-        None => unreachable!(),
+    let (number, new) = spans.insert_full(span)?;
+    if new {
+        places.push(0)?;
+        return Ok(number);
     }
+    Ok(number)
 }
 
-// Whether the child is among the node's children, at its place.
-fn is_linked(nodes: &Vec<Node>, from: usize, child: usize) -> bool
-    requires from { from < length nodes.now.items }
-    requires child { child < length nodes.now.items }
-    ensures yes { result ≡ true → ((content_at nodes.now.items child).place < length (content_at nodes.now.items from).children) × (child_at nodes.now.items from (content_at nodes.now.items child).place ≡ child) }
-    ensures no { result ≡ false → (content_at nodes.now.items child).place < length (content_at nodes.now.items from).children → ¬ (child_at nodes.now.items from (content_at nodes.now.items child).place ≡ child) }
+// Whether the span of this number is among the node's exits, at its place.
+fn is_linked(places: &Vec<usize>, nodes: &Vec<Node>, node: usize, number: usize) -> bool
+    requires node { node < length nodes.now.items }
+    requires number { number < length places.now.items }
+    ensures yes { result ≡ true → (place_at places.now.items number < length (content_at nodes.now.items node).exits) × (exit_at nodes.now.items node (place_at places.now.items number) ≡ number) }
+    ensures no { result ≡ false → place_at places.now.items number < length (content_at nodes.now.items node).exits → ¬ (exit_at nodes.now.items node (place_at places.now.items number) ≡ number) }
 {
-    match child_in(nodes, from, place_in(nodes, child)) {
+    match exit_in(nodes, node, places[number]) {
         None => false,
-        Some(c) => c == child,
+        Some(r) => r == number,
     }
 }
 
-// Puts the child among the node's children, where it is not among them.
-pub fn link(
-    edges: &IndexSet<Edge>,
+// Lists the span where it begins, if it is not listed there.
+fn link(
+    spans: &mut IndexSet<Span>,
+    places: &mut Vec<usize>,
     nodes: &mut Vec<Node>,
-    from: usize,
-    child: usize,
+    span: Span,
 ) -> Result<(), Memory>
-    requires arena { IsArena edges.now.keys nodes.old.items }
-    requires linked { IsLinked edges.now.keys nodes.old.items from }
-    requires from { from < length nodes.old.items }
-    requires within { child < length nodes.old.items }
-    requires child { (l : Label) × IsChild edges.now.keys from l child }
-    ensures arena { OnOk result (IsArena edges.now.keys nodes.new.items) }
-    ensures linked { OnOk result (IsLinked edges.now.keys nodes.new.items child) }
+    requires listed { AreListed spans.old.keys places.old.items nodes.old.items }
+    requires within { span.begin < length nodes.old.items }
+    ensures listed { OnOk result (AreListed spans.new.keys places.new.items nodes.new.items) }
+    ensures spans { OnOk result ((r : ℕ) → r < length spans.new.keys → ((r < length spans.old.keys) × (span_at spans.new.keys r ≡ span_at spans.old.keys r)) ⊎ (span_at spans.new.keys r ≡ span)) }
+    ensures there { OnOk result (Exits spans.new.keys nodes.new.items span.begin span.end) }
+    ensures kept { OnOk result (KeepsExits spans.old.keys nodes.old.items spans.new.keys nodes.new.items) }
+    ensures len { length nodes.new.items ≡ length nodes.old.items }
+    ensures pairs { KeepsPairs nodes.old.items nodes.new.items }
+{
+    let number = numbered(spans, places, span)?;
+    if is_linked(places, nodes, span.begin, number) {
+        return Ok(());
+    }
+    places[number] = count_of(nodes, span.begin);
+    push_exit(nodes, span.begin, number)?;
+    Ok(())
+}
+
+// Lists all the spans.
+pub fn link_all(
+    spans: &mut IndexSet<Span>,
+    places: &mut Vec<usize>,
+    nodes: &mut Vec<Node>,
+    added: &[Span],
+) -> Result<(), Memory>
+    requires listed { AreListed spans.old.keys places.old.items nodes.old.items }
+    requires within { AreWithin (length nodes.old.items) added.now }
+    ensures listed { OnOk result (AreListed spans.new.keys places.new.items nodes.new.items) }
+    ensures all { OnOk result (ListsAll spans.old.keys nodes.old.items added.now spans.new.keys nodes.new.items) }
+    ensures len { length nodes.new.items ≡ length nodes.old.items }
+    ensures pairs { KeepsPairs nodes.old.items nodes.new.items }
+{
+    for span in added {
+        link(spans, places, nodes, *span)?;
+    }
+    Ok(())
+}
+
+// Tells the exit at the place that it is there, if there is one.
+fn renumber(places: &mut Vec<usize>, nodes: &Vec<Node>, node: usize, place: usize)
+    requires node { node < length nodes.now.items }
+    requires within { place < length (content_at nodes.now.items node).exits → exit_at nodes.now.items node place < length places.old.items }
+    ensures len { length places.new.items ≡ length places.old.items }
+    ensures place { place < length (content_at nodes.now.items node).exits → place_at places.new.items (exit_at nodes.now.items node place) ≡ place }
+    ensures others { (r : ℕ) → (place < length (content_at nodes.now.items node).exits → ¬ (r ≡ exit_at nodes.now.items node place)) → place_at places.new.items r ≡ place_at places.old.items r }
+{
+    match exit_in(nodes, node, place) {
+        None => {}
+        Some(moved) => places[moved] = place,
+    }
+}
+
+// Takes the span of this number from the exits of the node where it begins, where it is among them.
+fn unlink(places: &mut Vec<usize>, nodes: &mut Vec<Node>, node: usize, number: usize)
+    requires number { number < length places.old.items }
+    requires node { node < length nodes.old.items }
+    requires exits { (i : ℕ) → i < length (content_at nodes.old.items node).exits → exit_at nodes.old.items node i < length places.old.items }
+    ensures { KeepsOthers places.old.items nodes.old.items node number places.new.items nodes.new.items }
+{
+    if !is_linked(places, nodes, node, number) {
+        return;
+    }
+    let place = places[number];
+    take_exit(nodes, node, place);
+    renumber(places, nodes, node, place);
+}
+
+// The same where its end is bare.
+fn unlink_bare(
+    edges: &IndexSet<Edge>,
+    spans: &IndexSet<Span>,
+    places: &mut Vec<usize>,
+    nodes: &mut Vec<Node>,
+    span: Span,
+)
+    requires arena { IsArena edges.now.keys spans.now.keys places.old.items nodes.old.items }
+    requires begin { span.begin < length nodes.old.items }
+    requires end { span.end < length nodes.old.items }
+    ensures arena { IsArena edges.now.keys spans.now.keys places.new.items nodes.new.items }
     ensures len { length nodes.new.items ≡ length nodes.old.items }
     ensures pairs { KeepsPairs nodes.old.items nodes.new.items }
 {
     // The contract names the edges, which the code does not need.
     let _count = edges.len();
-    if is_linked(nodes, from, child) {
-        return Ok(());
+    if !is_bare(nodes, span.end) {
+        return;
     }
-    let place = count_of(nodes, from);
-    push_child(nodes, from, child)?;
-    set_place(nodes, child, place);
-    Ok(())
-}
-
-// Tells the child at the place that it is there, if there is one.
-fn renumber(nodes: &mut Vec<Node>, from: usize, place: usize)
-    requires from { from < length nodes.old.items }
-    requires within { place < length (content_at nodes.old.items from).children → child_at nodes.old.items from place < length nodes.old.items }
-    ensures len { length nodes.new.items ≡ length nodes.old.items }
-    ensures children { (n : ℕ) → (content_at nodes.new.items n).children ≡ (content_at nodes.old.items n).children }
-    ensures pairs { KeepsPairs nodes.old.items nodes.new.items }
-    ensures place { place < length (content_at nodes.old.items from).children → (content_at nodes.new.items (child_at nodes.old.items from place)).place ≡ place }
-    ensures places { (n : ℕ) → (place < length (content_at nodes.old.items from).children → ¬ (n ≡ child_at nodes.old.items from place)) → (content_at nodes.new.items n).place ≡ (content_at nodes.old.items n).place }
-{
-    match child_in(nodes, from, place) {
+    match spans.get_index_of(&span) {
         None => {}
-        Some(moved) => set_place(nodes, moved, place),
+        Some(number) => unlink(places, nodes, span.begin, number),
     }
 }
 
-// Takes the bare node from among its parent's children, where it is among them, and gives the parent.
-fn unlink(edges: &IndexSet<Edge>, nodes: &mut Vec<Node>, node: usize) -> usize
-    requires arena { IsArena edges.now.keys nodes.old.items }
-    requires above { 0 < node }
-    requires within { node < length nodes.old.items }
-    requires bare { IsBare (content_at nodes.old.items node) }
-    ensures arena { IsArena edges.now.keys nodes.new.items }
-    ensures len { length nodes.new.items ≡ length nodes.old.items }
-    ensures pairs { KeepsPairs nodes.old.items nodes.new.items }
-    ensures smaller { result < node }
-{
-    let from = parent(edges, node);
-    if !is_linked(nodes, from, node) {
-        return from;
-    }
-    let place = place_in(nodes, node);
-    take_child(nodes, from, place);
-    renumber(nodes, from, place);
-    from
-}
-
-// Takes the node from among its parent's children where it is bare, then the parent from among its own, and so on.
-pub fn prune(edges: &IndexSet<Edge>, nodes: &mut Vec<Node>, leaf: usize)
-    requires arena { IsArena edges.now.keys nodes.old.items }
-    requires within { leaf < length nodes.old.items }
-    ensures arena { IsArena edges.now.keys nodes.new.items }
+// Takes the spans whose ends are bare from the exits where they begin, the last span first: where this leaves a node bare, the
+// spans to it come later.
+pub fn prune(
+    edges: &IndexSet<Edge>,
+    spans: &IndexSet<Span>,
+    places: &mut Vec<usize>,
+    nodes: &mut Vec<Node>,
+    removed: &[Span],
+)
+    requires arena { IsArena edges.now.keys spans.now.keys places.old.items nodes.old.items }
+    requires within { AreWithin (length nodes.old.items) removed.now }
+    ensures arena { IsArena edges.now.keys spans.now.keys places.new.items nodes.new.items }
     ensures pairs { KeepsPairs nodes.old.items nodes.new.items }
 {
-    let mut node = leaf;
-    while node > 0 && is_bare(nodes, node) {
-        node = unlink(edges, nodes, node);
+    for i in (0..removed.len()).rev() {
+        unlink_bare(edges, spans, places, nodes, removed[i]);
     }
 }

@@ -1,8 +1,7 @@
 //! Worked examples of the indexes: what a layer above does with one, an index that refuses, and rows that both kinds answer.
 #![tactic(auto)]
 
-#[cfg(test)]
-mod building;
+pub mod building;
 pub mod partners;
 pub mod refusing;
 #[cfg(test)]

@@ -1,5 +1,7 @@
 // An index whose walks may refuse to begin.
-ghost use Rattle.std.specs.Prelude.{◌≡◌, [], false};
+ghost use Rattle.std.specs.Prelude.{◌≡◌, ◌<◌, [], length, false, IsTrue, IsErr, IfOk};
+ghost use Rattle.term_index.specs.Views.{Stands};
+ghost use Rattle.term_index.specs.Pairs.{IsAsked};
 ghost use Rattle.term_index.specs.Rows.{empty_rows, grown_rows};
 
 use inst_logic::Memory;
@@ -7,7 +9,7 @@ use std::alloc::Global;
 use term_bank::{Bank, TermId};
 use term_index::{PartnerIndex, Rows, RowsCursor, View};
 
-/// The plain index, where `start` always answers want of memory if the flag is set. An engine that does not ask its index does
+/// The plain index, where `start` always answers want of memory while the flag is set. An engine that does not ask its index does
 /// not meet it.
 #[derive(Drop)]
 pub struct Refusing {
@@ -25,6 +27,14 @@ impl Refusing {
             rows: Rows::new(alloc),
             refuses,
         }
+    }
+
+    /// From now on walks are refused, or no longer.
+    pub fn set_refuses(&mut self, refuses: bool)
+        ensures rows { self.new.rows ≡ self.old.rows }
+        ensures flag { self.new.refuses ≡ refuses }
+    {
+        self.refuses = refuses;
     }
 }
 
@@ -55,7 +65,15 @@ impl PartnerIndex for Refusing {
         self.rows.remove(bank, atom, entry)
     }
 
-    fn start(&self, bank: &Bank, query: TermId, view: View) -> Result<RowsCursor, Memory> {
+    fn start(&self, bank: &Bank, query: TermId, view: View) -> Result<RowsCursor, Memory>
+        requires within { query < length bank.now.trees }
+        requires fits { ⟦<Rows as PartnerIndex>⟧.fits bank.now self.now.rows }
+        ensures walks { IfOk result (⟦<Rows as PartnerIndex>⟧.walks self.now.rows) }
+        ensures asked { IfOk result (λ c. IsAsked bank.now (⟦<Rows as PartnerIndex>⟧.pairs self.now.rows) (⟦<Rows as PartnerIndex>⟧.wide view) (Stands view) query (⟦<Rows as PartnerIndex>⟧.to_come self.now.rows c)) }
+        ensures whole { IfOk result (λ c. ⟦<Rows as PartnerIndex>⟧.broken c ≡ false) }
+        ensures stays_spent { IsTrue (⟦<Rows as PartnerIndex>⟧.spent self.now.rows) → IsErr result }
+        ensures refuses { IsTrue self.now.refuses → IsErr result }
+    {
         if self.refuses {
             return Err(Memory);
         }

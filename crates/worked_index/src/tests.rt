@@ -115,7 +115,7 @@ fn wide(
     bindings: &mut Bindings,
     index: &mut Tree,
 ) -> Result<bool, Memory>
-    requires { index.old ≡ record { edges = []; nodes = []; spent = false } }
+    requires { index.old ≡ record { edges = []; spans = []; places = []; nodes = []; found = []; spent = false } }
 {
     let terms = built(alloc, bank, &PARTS)?;
     let stored = terms_of(alloc, bank, terms.as_slice(), &[6, 7, 8, 9])?;
@@ -177,7 +177,7 @@ fn one_of_many(
     bindings: &mut Bindings,
     index: &mut Tree,
 ) -> Result<bool, Fail>
-    requires { index.old ≡ record { edges = []; nodes = []; spent = false } }
+    requires { index.old ≡ record { edges = []; spans = []; places = []; nodes = []; found = []; spent = false } }
 {
     let terms = constants(alloc, bank)?;
     let mut places = Vec::new(alloc);
@@ -244,7 +244,7 @@ fn shared(
     bindings: &mut Bindings,
     index: &mut Tree,
 ) -> Result<bool, Memory>
-    requires { index.old ≡ record { edges = []; nodes = []; spent = false } }
+    requires { index.old ≡ record { edges = []; spans = []; places = []; nodes = []; found = []; spent = false } }
 {
     let terms = shared_terms(alloc, bank)?;
     let stored = terms_of(alloc, bank, terms.as_slice(), &[4, 5, 7])?;
@@ -280,7 +280,7 @@ fn trial_in_bank(
     index: &mut Tree,
     trial: Trial,
 ) -> Result<bool, Fail>
-    requires { index.old ≡ record { edges = []; nodes = []; spent = false } }
+    requires { index.old ≡ record { edges = []; spans = []; places = []; nodes = []; found = []; spent = false } }
 {
     let mut bank = Bank::new(alloc);
     tried(alloc, &mut bank, bindings, index, trial)
@@ -293,7 +293,7 @@ fn tried(
     index: &mut Tree,
     trial: Trial,
 ) -> Result<bool, Fail>
-    requires { index.old ≡ record { edges = []; nodes = []; spent = false } }
+    requires { index.old ≡ record { edges = []; spans = []; places = []; nodes = []; found = []; spent = false } }
 {
     match trial {
         Trial::Wide => Ok(wide(alloc, bank, bindings, index)?),
@@ -303,7 +303,7 @@ fn tried(
 }
 
 fn trial_holds(alloc: Global, index: &mut Tree, trial: Trial) -> Result<bool, Fail>
-    requires { index.old ≡ record { edges = []; nodes = []; spent = false } }
+    requires { index.old ≡ record { edges = []; spans = []; places = []; nodes = []; found = []; spent = false } }
 {
     let mut bindings = Bindings::new(alloc);
     trial_in_bank(alloc, &mut bindings, index, trial)
@@ -325,7 +325,8 @@ fn begins<I: PartnerIndex>(index: &I, bank: &Bank, query: TermId) -> bool
 // Whether a walk over an index with this flag begins.
 fn refusing_begins(alloc: Global, bank: &mut Bank, refuses: bool) -> Result<bool, Memory> {
     let query = bank.var(0)?;
-    let index = Refusing::new(alloc, refuses);
+    let mut index = Refusing::new(alloc, !refuses);
+    index.set_refuses(refuses);
     Ok(begins(&index, bank, query))
 }
 

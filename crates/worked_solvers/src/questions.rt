@@ -347,3 +347,91 @@ fn pigeons_are_refuted_in_few_steps(rt: HostRuntime) -> Result<(), Fail> {
     }
     Ok(())
 }
+
+// The length of the core where three assumptions are all of a clause's complements, and a fourth is about another atom.
+fn core_of_three_by<S: Solver>(solver: &mut S) -> Result<Option<usize>, Memory>
+    requires { S.atoms solver.old ≡ 0 }
+{
+    make_atoms(solver, 4)?;
+    solver.add(&[lit(0, false), lit(1, false), lit(2, false)])?;
+    let answer = solver.solve(&[lit(3, true), lit(0, true), lit(1, true), lit(2, true)])?;
+    Ok(summary(&answer).map(|r| r.core))
+}
+
+fn core_of_three<S: Solver>(mut solver: S) -> Result<Option<usize>, Memory>
+    requires { S.atoms solver ≡ 0 }
+{
+    core_of_three_by(&mut solver)
+}
+
+#[test]
+fn a_core_has_three_of_four_assumptions(rt: HostRuntime) -> Result<(), Fail> {
+    assert_eq!(rt; core_of_three(Cdcl::new(rt.alloc()))?, Some(3));
+    assert_eq!(rt; core_of_three(Plain::new(rt.alloc()))?, Some(3));
+    Ok(())
+}
+
+// The values of two atoms before and after a clause that is false at first.
+type Pairs = (Option<(bool, bool)>, Option<(bool, bool)>);
+
+fn before_and_after_by<S: Solver>(solver: &mut S) -> Result<Pairs, Memory>
+    requires { S.atoms solver.old ≡ 0 }
+{
+    make_atoms(solver, 2)?;
+    solver.add(&[lit(0, true), lit(1, true)])?;
+    solver.add(&[lit(0, false), lit(1, false)])?;
+    let before = solver.solve(&[lit(0, true)])?;
+    solver.add(&[lit(0, false)])?;
+    let after = solver.solve(&[])?;
+    Ok((values(&before), values(&after)))
+}
+
+fn before_and_after<S: Solver>(mut solver: S) -> Result<Pairs, Memory>
+    requires { S.atoms solver ≡ 0 }
+{
+    before_and_after_by(&mut solver)
+}
+
+#[test]
+fn a_clause_comes_between_two_questions(rt: HostRuntime) -> Result<(), Fail> {
+    let want = (Some((true, false)), Some((false, true)));
+    assert_eq!(rt; before_and_after(Cdcl::new(rt.alloc()))?, want);
+    assert_eq!(rt; before_and_after(Plain::new(rt.alloc()))?, want);
+    Ok(())
+}
+
+fn ask_again<S: Solver>(solver: &mut S, count: usize) -> Result<(), Memory>
+    requires { 3 ≤ S.atoms solver.old }
+    ensures { OnOk result (S.atoms solver.new ≡ S.atoms solver.old) }
+{
+    for _ in 0..count {
+        solver.solve(&[lit(0, true)])?;
+        solver.solve(&[])?;
+    }
+    Ok(())
+}
+
+// The conflicts that have steps, after one refutation and after many.
+fn conflicts_by<S: Solver>(solver: &mut S) -> Result<(u64, u64), Memory>
+    requires { S.atoms solver.old ≡ 0 }
+{
+    make_atoms(solver, 3)?;
+    add_signs(solver, 0)?;
+    ask_again(solver, 2)?;
+    let first = solver.conflicts();
+    ask_again(solver, 100)?;
+    Ok((first, solver.conflicts()))
+}
+
+fn conflicts_of<S: Solver>(mut solver: S) -> Result<(u64, u64), Memory>
+    requires { S.atoms solver ≡ 0 }
+{
+    conflicts_by(&mut solver)
+}
+
+#[test]
+fn questions_that_are_refuted_again_leave_no_steps(rt: HostRuntime) -> Result<(), Fail> {
+    let found = conflicts_of(Cdcl::new(rt.alloc()))?;
+    assert_eq!(rt; found.0, found.1);
+    Ok(())
+}

@@ -247,18 +247,49 @@ fn propagation_is_exact_in_any_order_of_calls(rt: HostRuntime) -> Result<(), Fai
     Ok(())
 }
 
+// What is known of atom 1 when atom 0 of a clause of both is decided to be false.
+#[derive(Clone, Copy, Debug, PartialEq, Eq)]
+struct Known {
+    conflict: Option<usize>,
+    value: Option<bool>,
+    reason: Option<usize>,
+    level: Option<usize>,
+    second: Option<Lit>,
+}
+
+fn given_by(trail: &mut Trail, clauses: &mut Clauses) -> Result<Known, Memory>
+    requires attached { AreAttached trail.old clauses.old }
+    requires below { ClausesBelow trail.old.trail.atoms clauses.old }
+    requires atoms { trail.old.trail.atoms ≡ 2 }
+{
+    add(trail, clauses, &[lit(0, true), lit(1, true)])?;
+    decide(trail, clauses, lit(0, false));
+    let conflict = trail.propagate(clauses)?;
+    Ok(Known {
+        conflict,
+        value: trail.value(lit(1, true)),
+        reason: trail.reason(1),
+        level: trail.level_of(1),
+        second: trail.assigned().get(1).copied(),
+    })
+}
+
+fn given(alloc: Global) -> Result<Known, Memory> {
+    let mut clauses = Clauses::new(alloc);
+    let mut trail = make_trail(alloc, &clauses, 2)?;
+    given_by(&mut trail, &mut clauses)
+}
+
 #[test]
 fn a_decision_gives_the_other_literal(rt: HostRuntime) -> Result<(), Fail> {
-    let mut clauses = Clauses::new(rt.alloc());
-    let mut trail = make_trail(rt.alloc(), &clauses, 2)?;
-    add(&mut trail, &mut clauses, &[lit(0, true), lit(1, true)])?;
-    decide(&mut trail, &clauses, lit(0, false));
-    let conflict = trail.propagate(&clauses)?;
-    assert_eq!(rt; conflict, None);
-    assert_eq!(rt; trail.value(lit(1, true)), Some(true));
-    assert_eq!(rt; trail.reason(1), Some(1));
-    assert_eq!(rt; trail.level_of(1), Some(1));
-    assert!(rt; trail.assigned() == [lit(0, false), lit(1, true)].as_slice());
+    let want = Known {
+        conflict: None,
+        value: Some(true),
+        reason: Some(1),
+        level: Some(1),
+        second: Some(lit(1, true)),
+    };
+    assert_eq!(rt; given(rt.alloc())?, want);
     Ok(())
 }
 

@@ -1,6 +1,5 @@
-use Rattle.std.proofs.Common.{◌≡◌, ℕ, ◌<◌, ◌≤◌, ◌++◌, ◌∷◌, [], Some, List, false, sym, ap, ◌∙◌, subst}
+use Rattle.std.proofs.Common.{◌≡◌, ℕ, ◌<◌, ◌++◌, ◌∷◌, [], Some, List, false, sym, ap, ◌∙◌, subst}
 use Rattle.std.specs.Prelude.{slice_get}
-use Rattle.std.proofs.lemmas.Bool.{MatchBool-at_false, MatchBool-at_true}
 use Rattle.inst_logic.specs.declared.signed.Signed.{Signed}
 use Rattle.inst_logic.specs.Signed.{complement}
 use Rattle.prop_logic.specs.declared.literal.Hint.{Hint}
@@ -56,10 +55,10 @@ returns-then-remains-clause-met c =
     let mark = marked_read marks e c.literal_at-lit.result c.contains.result is c.contains.ensures c.if-not-contains.false in
     let n = c.unwrap_or-level.result in
     let level = level_read t e c.literal_at-lit.result c.level_of.result n v inside is c.level_of.ensures c.unwrap_or-level.ensures in
-    let counted = c.count_met.ensures i e marks f.1 mark level c.requires.met.counted in
-    let remains = MatchBool-at_true ((0 < n) × (a.clause.items ≡ [] → (n ≡ t.level) × (a.counts.present ≤ 1))) ((a.clause.items ≡ [] → ⊥) → n ≡ 0) c.if-remains.true c.stays-remains.ensures in
+    let counted = c.count_met-in-Some.ensures i e marks f.1 mark level c.requires.met.counted in
+    let remains = c.stays-remains.ensures c.if-remains.true in
     let b = c.keep-then-remains.new.analysis in
-    on_ok_three c.keep-then-remains.result (b.clause.items ≡ a.clause.items ++ complement c.literal_at-lit.result ∷ []) (b.hints ≡ a.hints) (b.counts ≡ c.count_met.new.counts) (IsMet c.args.log.now t i marks b)
+    on_ok_three c.keep-then-remains.result (b.clause.items ≡ a.clause.items ++ complement c.literal_at-lit.result ∷ []) (b.hints ≡ a.hints) (b.counts ≡ c.count_met-in-Some.new.counts) (IsMet c.args.log.now t i marks b)
     (λ grown same counts. met_kept c.args.log.now t i e marks a b f.1 mark (subst (λ k. 0 < k) (sym level) remains.0)
     (λ none. let r = remains.1 none in below_unique t i e marks a.counts v f.1 mark (level ∙ r.0) r.1 c.requires.met.counted)
     (grown ∙ ap (λ l. a.clause.items ++ complement l ∷ []) is) (ap (λ x. x.items) same) (subst (λ o. AreCounted t i marks o) (sym counts) counted) c.requires.met)
@@ -81,15 +80,14 @@ returns-else-remains-clause-met c =
     let n = c.unwrap_or-level.result in
     let k = c.in-Some.number in
     let level = level_read t e c.literal_at-lit.result c.level_of.result n v inside is c.level_of.ensures c.unwrap_or-level.ensures in
-    let counted = c.count_met.ensures i e marks f.1 mark level c.requires.met.counted in
+    let counted = c.count_met-in-Some.ensures i e marks f.1 mark level c.requires.met.counted in
     let reason = reason_read t e c.literal_at-lit.result c.reason.result v inside is c.reason.ensures ∙ c.in-Some.is in
-    let gone = MatchBool-at_false ((0 < n) × (a.clause.items ≡ [] → (n ≡ t.level) × (a.counts.present ≤ 1))) ((a.clause.items ≡ [] → ⊥) → n ≡ 0) c.if-remains.false c.stays-remains.ensures in
-    let o = c.count_met.new.counts in
+    let o = c.count_met-in-Some.new.counts in
     let b = c.resolve.new.analysis in
     on_ok_three c.resolve.result
     (b.clause ≡ a.clause)
     ((h : Hint) → slice_get log.names.items k ≡ Some h → b.hints.items ≡ a.hints.items ++ h ∷ [])
     ((d : List (Signed ℕ)) → IsNamed log k d → MarksToo t d marks c.resolve.new.marks o b.counts)
     (IsMet log t i c.resolve.new.marks b)
-    (λ same hints marked. met_resolved log t i k e marks c.resolve.new.marks a b o c.requires.ready f.1 reason (λ some. level ∙ gone some) counted (ap (λ x. x.items) same) hints marked c.requires.met)
+    (λ same hints marked. met_resolved log t i k e marks c.resolve.new.marks a b o c.requires.ready f.1 reason mark counted (ap (λ x. x.items) same) hints marked c.requires.met)
     c.resolve.ensures.clause c.resolve.ensures.hints c.resolve.ensures.marked

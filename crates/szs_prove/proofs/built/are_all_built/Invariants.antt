@@ -1,5 +1,6 @@
 use Rattle.std.proofs.Common.{◌≡◌}
-use Rattle.szs_prove.specs.Built.{are_built, left_size}
+use Rattle.ground_abs.specs.Names.{left_size}
+use Rattle.szs_prove.specs.Built.{are_built}
 use Rattle.szs_prove.proofs.built.are_all_built.Given as goal
 
 abbrev pub invariant-loop-t : goal.invariant-loop-t

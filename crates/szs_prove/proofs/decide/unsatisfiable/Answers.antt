@@ -25,4 +25,4 @@ returns c =
     let fits : length c.args.derivation < 2 ^ 64 = omega arith in
     refutation_certifies c.args.problem.now c.requires.plain few c.args.numbered.atoms c.args.numbered.clauses c.requires.numbering c.args.members c.requires.members short
     c.args.derivation c.requires.refuted.shown c.requires.refuted.last (c.requires.refuted.hinted empty_no_tautology)
-    (subst (λ n. StepsBelow n c.args.derivation) (sym (length-map c.args.numbered.atoms literal)) c.requires.refuted.atoms_below) fits c.in_ok-bot.bot c.in_ok-bot.ensures.readable c.in_ok-bot.ensures.fresh
+    (subst (λ n. StepsBelow n c.args.derivation) (sym (length-map c.args.numbered.atoms literal)) c.requires.refuted.atoms_below) fits c.in_ok-bot.bot c.in_ok-bot.ensures.constant c.in_ok-bot.ensures.readable c.in_ok-bot.ensures.bot

@@ -8,6 +8,7 @@ use Rattle.cdcl_core.specs.Log.{IsLog}
 use Rattle.cdcl_core.specs.Search.{AreGiven}
 use Rattle.cdcl_core.proofs.StepLaws.{learned_below, rest_below, rest_is, learned_unit_of, learned_search}
 use Rattle.cdcl_core.proofs.BackLaws.{advances_from}
+use Rattle.cdcl_core.proofs.PhaseLaws.{phases_push}
 use Rattle.cdcl_core.proofs.search.Search.learn.Goals as goal
 
 pub highest_level-level-requires : goal.highest_level-level-requires
@@ -68,6 +69,6 @@ returns-clause-learned c = λ first assumptions from s.
     shape
     (subst (λ n. IsLog n back.clauses back.log) (sym atoms) backed.kept.log) given
     (ap (λ x. clause_number x key) backed.clauses ∙ k.1 ∙ ap Some c.from.ensures)
-    (backed.kept.marks ∙ sym atoms) (backed.kept.phases ∙ sym atoms) (c.imply.ensures.attached back.clauses backed.kept.attached)
+    (backed.kept.marks ∙ sym atoms) (phases_push back.trail.trail new.trail.trail back.phases (record { lit = l; level = back.trail.trail.level; reason = Some key }) atoms (ap (λ x. x.entries) c.imply.ensures.trail) backed.kept.phases) (c.imply.ensures.attached back.clauses backed.kept.attached)
     (ap (λ x. x.added) backed.log ∙ used.added ∙ pushed.added) (backed.assumed ∙ ap (λ n. min n level) (used.assumed ∙ pushed.assumed)) backed.checked s in
     (went.0, advances_from first old new l level key from shape u.within went.1.same.added)

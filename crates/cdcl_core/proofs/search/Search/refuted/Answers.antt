@@ -1,20 +1,18 @@
-use Rattle.std.proofs.Common.{◌<◌, map, sym, ap, ◌∙◌, subst}
-use Rattle.std.proofs.lemmas.List.Elements.{All-map}
+use Rattle.std.proofs.Common.{◌++◌, [], ◌∷◌, map, sym, ap, ◌∙◌, subst}
 use Rattle.inst_logic.specs.Signed.{complement}
-use Rattle.prop_logic.specs.Literal.{AtomsBelow}
+use Rattle.prop_logic.specs.declared.literal.Step.{Step}
+use Rattle.prop_logic.specs.Literal.{cited}
+use Rattle.prop_logic.specs.Analysis.{ClosesAll}
 use Rattle.prop_logic.specs.Cut.{IsCutOf}
 use Rattle.cdcl_core.proofs.GoLaws.{refuted_ends}
 use Rattle.cdcl_core.proofs.search.Search.refuted.Goals as goal
 
-pub push_step-requires-clause-atoms : goal.push_step-requires-clause-atoms
-push_step-requires-clause-atoms c =
-    let n = c.args.self.now.trail.trail.atoms in
-    subst (AtomsBelow n) (sym (c.in_ok-clause.ensures ∙ ap (map complement) c.as_slice.ensures)) (All-map (λ l. l.atom < n) complement c.args.core c.requires.atoms)
-
-pub returns-clause-ends : goal.returns-clause-ends
-returns-clause-ends c = λ assumptions within.
-    let f = c.in_ok-push_step.ensures in
-    let new = c.push_step.new.self in
+pub returns : goal.returns
+returns c = λ assumptions within.
+    let s = c.args.self.now in
+    let core = c.args.core in
+    let last : Step = record { clause = c.in_ok-complements.field-0; hints = c.from.result } in
     let derivation = c.in_ok-derivation.derivation in
-    refuted_ends assumptions c.args.core c.args.self.now new c.in_ok-clause.clause c.args.hints.items derivation (c.in_ok-clause.ensures ∙ ap (map complement) c.as_slice.ensures) within f.kept f.added (ap (λ t. t.trail) f.trail) f.steps
-    (subst (λ ss. IsCutOf ss derivation) c.as_slice-2.ensures c.in_ok-derivation.ensures)
+    refuted_ends assumptions core s last derivation (c.in_ok-complements.ensures ∙ ap (map complement) c.as_slice.ensures) within c.requires.kept c.requires.atoms
+    (subst (λ hs. ClosesAll (map complement core) (map (cited s.log.added s.log.steps) hs)) (sym c.from.ensures) c.requires.closes)
+    (subst (λ ss. IsCutOf (ss ++ last ∷ []) derivation) c.as_slice-2.ensures c.in_ok-derivation.ensures)

@@ -1,5 +1,6 @@
 use Rattle.std.proofs.Common.{sym, subst, arith}
 use Rattle.prop_logic.specs.Solving.{IsSubList}
+use Rattle.cdcl_core.specs.declared.search.Search.{Search}
 use Rattle.cdcl_core.proofs.SearchLaws.{ready_of}
 use Rattle.cdcl_core.proofs.BackLaws.{back_marks, back_ends}
 use Rattle.cdcl_core.proofs.GoLaws.{marks_search, marks_ends}
@@ -11,8 +12,9 @@ analyze-requires-clause-ready c = ready_of c.back_to_conflict-count.new.self c.b
 pub returns-then-is_empty-clause-goes : goal.returns-then-is_empty-clause-goes
 returns-then-is_empty-clause-goes c = λ assumptions s.
     let mid = c.back_to_conflict-count.new.self in
-    back_ends assumptions c.args.self.now mid c.refuted.new.self c.in_ok-refuted.field-0 c.back_to_conflict-count.ensures.back
-    (marks_ends assumptions mid c.refuted.new.self c.analyze.new.marks c.in_ok-refuted.field-0 (c.in_ok-refuted.ensures.ends assumptions (subst (λ x. IsSubList x assumptions) (sym c.new-core.ensures) tt)))
+    let new : Search = record mid { marks = c.analyze.new.marks } in
+    back_ends assumptions c.args.self.now mid new c.in_ok-refuted.field-0 c.back_to_conflict-count.ensures.back
+    (marks_ends assumptions mid new c.analyze.new.marks c.in_ok-refuted.field-0 (c.in_ok-refuted.ensures assumptions (subst (λ x. IsSubList x assumptions) (sym c.new-core.ensures) tt)))
 
 pub returns-clause-goes : goal.returns-clause-goes
 returns-clause-goes c = λ assumptions s.

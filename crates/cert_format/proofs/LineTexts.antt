@@ -1,0 +1,239 @@
+-- The text of a value is that of its lines.
+use Rattle.std.proofs.Common.{◌≡◌, ℕ, suc, ◌+◌, Bool, true, false, cond, List, [], ◌∷◌, ◌++◌, length, map, refl, sym, ap, ap₂, ◌∙◌, arith, append_assoc}
+use Rattle.std.specs.Prelude.{nat_eq, codes, decimal}
+use Rattle.std.specs.List.{list_all}
+use Rattle.std.proofs.lemmas.List.{append-nil}
+use Rattle.inst_logic.specs.Tree.{Tree}
+use Rattle.inst_logic.specs.Clauses.{TreeClause}
+use Rattle.inst_logic.specs.Printing.{clause_text, name_text, joined}
+use Rattle.inst_calculus.specs.Entries.{Origin, input, inst, Entry}
+use Rattle.inst_calculus.specs.Steps.{Step, Cited, given, earlier}
+use Rattle.cert_format.specs.Certificate.{Certificate, first_refutation, saturation}
+use Rattle.cert_format.specs.Lines as format
+use Rattle.cert_format.specs.Text.{certificate_text, numbered_lines, paired_lines}
+use Rattle.cert_format.specs.LineMachine.{Note, named, equality, member, selected, ground_of, shown_by, rank, Item, Line, version, item, closing, count, nothing}
+use Rattle.cert_format.specs.LineTexts.{letter, role, line_text, hint, hints, more_hints, origin_text, note_text}
+use Rattle.cert_format.specs.FirstFormat.{step, is_done, text_of_lines}
+use Rattle.cert_format.specs.ValueLines.{input_items, axiom_items, member_items, selected_items, ground_items, step_items, items_of, item_lines, lines_of}
+use Rattle.cert_format.proofs.Spelling.{number_is}
+use Rattle.cert_format.proofs.LineMachine.{count_push}
+use Rattle.std.proofs.lemmas.Bool.{and_parts}
+use Rattle.cert_format.proofs.FirstFormat.{exact}
+use Rattle.cert_format.proofs.Machines.{texts_append}
+
+-- ---- each line
+
+origin_is : (o : Origin) (x : List ℕ) → origin_text o x ≡ format.origin_text o ++ x
+origin_is (input k) x = simp append_assoc
+origin_is (inst a p b q) x = simp append_assoc
+
+hint_is : (h : Cited) (x : List ℕ) → hint h x ≡ format.hint_text h ++ x
+hint_is (given k) x = refl
+hint_is (earlier k) x = refl
+
+hints_are : (hs : List Cited) (x : List ℕ) → hints hs x ≡ joined (codes ",") (map format.hint_text hs) ++ 93 ∷ 41 ∷ x
+hints_are [] x = refl
+hints_are (h ∷ []) x = hint_is h (93 ∷ 41 ∷ x)
+hints_are (h ∷ k ∷ hs) x =
+    hint_is h (44 ∷ hint k (more_hints hs x)) ∙ ap (λ (bs : List ℕ). format.hint_text h ++ 44 ∷ bs) (hints_are (k ∷ hs) x)
+    ∙ joins (format.hint_text h) (joined (codes ",") (map format.hint_text (k ∷ hs))) (93 ∷ 41 ∷ x)
+  where
+    joins : (a j r : List ℕ) → a ++ 44 ∷ (j ++ r) ≡ ((a ++ codes ",") ++ j) ++ r
+    joins a j r = sym (append_assoc (a ++ codes ",") j r ∙ append_assoc a (codes ",") (j ++ r))
+
+-- a clause's line, by the text of its note
+clause_line_is : (label n role clause note : List ℕ) → format.text_line ((((((((codes "cnf(" ++ label) ++ n) ++ codes ",") ++ role) ++ codes ",") ++ clause) ++ codes ",") ++ note ++ codes ").") ≡ codes "cnf(" ++ (label ++ (n ++ 44 ∷ (role ++ 44 ∷ (clause ++ 44 ∷ (note ++ 41 ∷ 46 ∷ 10 ∷ [])))))
+clause_line_is label n role clause note = simp append_assoc
+
+-- by the text of the note
+item_line_is : (n : ℕ) (c : TreeClause) (note : Note) (text : List ℕ) → note_text n note (41 ∷ 46 ∷ 10 ∷ []) ≡ text ++ 41 ∷ 46 ∷ 10 ∷ [] → line_text (item n c note) ≡ format.clause_line (letter note ∷ []) n (role (rank note)) c text
+item_line_is n c note text e =
+    ap (λ (bs : List ℕ). codes "cnf(" ++ (letter note ∷ (decimal n ++ 44 ∷ (role (rank note) ++ 44 ∷ (clause_text c ++ 44 ∷ bs))))) e
+    ∙ sym (clause_line_is (letter note ∷ []) (decimal n) (role (rank note)) (clause_text c) text)
+
+input_line_is : (n : ℕ) (c : TreeClause) (w : List ℕ) → line_text (item n c (named w)) ≡ format.input_line n c w
+input_line_is n c w = item_line_is n c (named w) _ (ap (λ (bs : List ℕ). codes "named(" ++ bs) (sym (append_assoc (name_text w) (codes ")") (41 ∷ 46 ∷ 10 ∷ []))))
+
+axiom_line_is : (n : ℕ) (c : TreeClause) → line_text (item n c equality) ≡ format.axiom_line n c
+axiom_line_is n c = item_line_is n c equality _ refl
+
+member_line_is : (n : ℕ) (e : Entry) → line_text (item n e.clause (member e.origin)) ≡ format.member_line n e
+member_line_is n e = item_line_is n e.clause (member e.origin) _ (origin_is e.origin (41 ∷ 46 ∷ 10 ∷ []))
+
+selected_line_is : (n : ℕ) (e : Entry) (p : ℕ) → line_text (item n e.clause (selected e.origin p)) ≡ format.selected_line n e p
+selected_line_is n e p = item_line_is n e.clause (selected e.origin p) _ (origin_is e.origin _ ∙ joins (format.origin_text e.origin) (decimal p) (41 ∷ 46 ∷ 10 ∷ []))
+  where
+    joins : (o d r : List ℕ) → o ++ (codes ",[selected(" ++ (d ++ 41 ∷ 93 ∷ r)) ≡ (((o ++ codes ",[selected(") ++ d) ++ codes ")]") ++ r
+    joins o d r = simp append_assoc
+
+ground_line_is : (n : ℕ) (c : TreeClause) → line_text (item n c ground_of) ≡ format.ground_line n c
+ground_line_is n c = item_line_is n c ground_of _ (ap (λ (bs : List ℕ). codes "ground(m" ++ bs) (sym (append_assoc (decimal n) (codes ")") (41 ∷ 46 ∷ 10 ∷ []))))
+
+step_line_is : (n : ℕ) (s : Step Tree) → line_text (item n s.clause (shown_by s.hints)) ≡ format.step_line n s
+step_line_is n s = item_line_is n s.clause (shown_by s.hints) _ (ap (λ (bs : List ℕ). codes "rup([" ++ bs) (hints_are s.hints (41 ∷ 46 ∷ 10 ∷ []) ∙ sym (append_assoc (joined (codes ",") (map format.hint_text s.hints)) (codes "])") (41 ∷ 46 ∷ 10 ∷ []))))
+
+status_is : (w name : List ℕ) → codes "% SZS status " ++ (w ++ (codes " for " ++ (name ++ 10 ∷ []))) ≡ format.status_line w name
+status_is w name = simp append_assoc
+
+start_is : (w name : List ℕ) → codes "% SZS output start " ++ (w ++ (codes " for " ++ (name ++ 10 ∷ []))) ≡ format.start_line w name
+start_is w name = simp append_assoc
+
+end_is : (w name : List ℕ) → codes "% SZS output end " ++ (w ++ (codes " for " ++ (name ++ 10 ∷ []))) ≡ format.end_line w name
+end_is w name = simp append_assoc
+
+-- ---- groups
+
+-- one item more of its group
+counts : (before : List Item) (i : Item) (n : ℕ) → n ≡ suc (count (rank i.note) before) → (k : ℕ) → nat_eq (rank i.note) k ≡ true → rank i.note ≡ k → n + 1 ≡ suc (count k (before ++ i ∷ []))
+counts before i n e k t r =
+    let c : count k (before ++ i ∷ []) ≡ suc (count k before) = count_push k before i ∙ ap (λ (b : Bool). cond b (suc (count k before)) (count k before)) t in
+    let f : n ≡ suc (count k before) = e ∙ ap (λ (j : ℕ). suc (count j before)) r in
+    omega arith
+
+abbrev spelled : List Line → List ℕ
+spelled = text_of_lines
+
+input_texts : (before : List Item) (cs : List TreeClause) (ws : List (List ℕ)) (n : ℕ) → n ≡ suc (count 0 before) → spelled (item_lines before (input_items cs ws)) ≡ paired_lines format.input_line n cs ws
+input_texts before [] ws n e = refl
+input_texts before (c ∷ cs) [] n e = refl
+input_texts before (c ∷ cs) (w ∷ ws) n e =
+    let i : Item = record { clause = c; note = named w } in
+    ap₂ (λ (x y : List ℕ). x ++ y) (ap (λ (k : ℕ). line_text (item k c (named w))) (sym e) ∙ input_line_is n c w) (input_texts (before ++ i ∷ []) cs ws (n + 1) (counts before i n e 0 refl refl))
+
+axiom_texts : (before : List Item) (cs : List TreeClause) (n : ℕ) → n ≡ suc (count 1 before) → spelled (item_lines before (axiom_items cs)) ≡ numbered_lines format.axiom_line n cs
+axiom_texts before [] n e = refl
+axiom_texts before (c ∷ cs) n e =
+    let i : Item = record { clause = c; note = equality } in
+    ap₂ (λ (x y : List ℕ). x ++ y) (ap (λ (k : ℕ). line_text (item k c equality)) (sym e) ∙ axiom_line_is n c) (axiom_texts (before ++ i ∷ []) cs (n + 1) (counts before i n e 1 refl refl))
+
+member_texts : (before : List Item) (es : List Entry) (n : ℕ) → n ≡ suc (count 2 before) → spelled (item_lines before (member_items es)) ≡ numbered_lines format.member_line n es
+member_texts before [] n e = refl
+member_texts before (m ∷ es) n e =
+    let i : Item = record { clause = m.clause; note = member m.origin } in
+    ap₂ (λ (x y : List ℕ). x ++ y) (ap (λ (k : ℕ). line_text (item k m.clause (member m.origin))) (sym e) ∙ member_line_is n m) (member_texts (before ++ i ∷ []) es (n + 1) (counts before i n e 2 refl refl))
+
+selected_texts : (before : List Item) (es : List Entry) (ps : List ℕ) (n : ℕ) → n ≡ suc (count 2 before) → spelled (item_lines before (selected_items es ps)) ≡ paired_lines format.selected_line n es ps
+selected_texts before [] ps n e = refl
+selected_texts before (m ∷ es) [] n e = refl
+selected_texts before (m ∷ es) (p ∷ ps) n e =
+    let i : Item = record { clause = m.clause; note = selected m.origin p } in
+    ap₂ (λ (x y : List ℕ). x ++ y) (ap (λ (k : ℕ). line_text (item k m.clause (selected m.origin p))) (sym e) ∙ selected_line_is n m p) (selected_texts (before ++ i ∷ []) es ps (n + 1) (counts before i n e 2 refl refl))
+
+ground_texts : (before : List Item) (cs : List TreeClause) (n : ℕ) → n ≡ suc (count 3 before) → spelled (item_lines before (ground_items cs)) ≡ numbered_lines format.ground_line n cs
+ground_texts before [] n e = refl
+ground_texts before (c ∷ cs) n e =
+    let i : Item = record { clause = c; note = ground_of } in
+    ap₂ (λ (x y : List ℕ). x ++ y) (ap (λ (k : ℕ). line_text (item k c ground_of)) (sym e) ∙ ground_line_is n c) (ground_texts (before ++ i ∷ []) cs (n + 1) (counts before i n e 3 refl refl))
+
+step_texts : (before : List Item) (ss : List (Step Tree)) (n : ℕ) → n ≡ suc (count 4 before) → spelled (item_lines before (step_items ss)) ≡ numbered_lines format.step_line n ss
+step_texts before [] n e = refl
+step_texts before (s ∷ ss) n e =
+    let i : Item = record { clause = s.clause; note = shown_by s.hints } in
+    ap₂ (λ (x y : List ℕ). x ++ y) (ap (λ (k : ℕ). line_text (item k s.clause (shown_by s.hints))) (sym e) ∙ step_line_is n s) (step_texts (before ++ i ∷ []) ss (n + 1) (counts before i n e 4 refl refl))
+
+-- ---- groups one behind the other
+
+pub lines_append : (before is js : List Item) → item_lines before (is ++ js) ≡ item_lines before is ++ item_lines (before ++ is) js
+lines_append before [] js = ap (λ (b : List Item). item_lines b js) (sym (append-nil before))
+lines_append before (i ∷ is) js =
+    ap (λ (ls : List Line). item (suc (count (rank i.note) before)) i.clause i.note ∷ ls)
+    (lines_append (before ++ i ∷ []) is js ∙ ap (λ (b : List Item). item_lines (before ++ i ∷ []) is ++ item_lines b js) (append_assoc before (i ∷ []) is))
+
+pub count_append : (k : ℕ) (is js : List Item) → count k (is ++ js) ≡ count k is + count k js
+count_append k [] js = omega arith
+count_append k (i ∷ is) js = by (nat_eq (rank i.note) k) (count_append k is js)
+  where
+    by : (t : Bool) → count k (is ++ js) ≡ count k is + count k js → cond t (suc (count k (is ++ js))) (count k (is ++ js)) ≡ cond t (suc (count k is)) (count k is) + count k js
+    by true h = omega arith
+    by false h = h
+
+pub input_ranks : (cs : List TreeClause) (ws : List (List ℕ)) → list_all (λ (i : Item). nat_eq (rank i.note) 0) (input_items cs ws) ≡ true
+input_ranks [] ws = refl
+input_ranks (c ∷ cs) [] = refl
+input_ranks (c ∷ cs) (w ∷ ws) = input_ranks cs ws
+
+pub axiom_ranks : (cs : List TreeClause) → list_all (λ (i : Item). nat_eq (rank i.note) 1) (axiom_items cs) ≡ true
+axiom_ranks [] = refl
+axiom_ranks (c ∷ cs) = axiom_ranks cs
+
+pub member_ranks : (es : List Entry) → list_all (λ (i : Item). nat_eq (rank i.note) 2) (member_items es) ≡ true
+member_ranks [] = refl
+member_ranks (e ∷ es) = member_ranks es
+
+pub selected_ranks : (es : List Entry) (ps : List ℕ) → list_all (λ (i : Item). nat_eq (rank i.note) 2) (selected_items es ps) ≡ true
+selected_ranks [] ps = refl
+selected_ranks (e ∷ es) [] = refl
+selected_ranks (e ∷ es) (p ∷ ps) = selected_ranks es ps
+
+pub ground_ranks : (cs : List TreeClause) → list_all (λ (i : Item). nat_eq (rank i.note) 3) (ground_items cs) ≡ true
+ground_ranks [] = refl
+ground_ranks (c ∷ cs) = ground_ranks cs
+
+pub step_ranks : (ss : List (Step Tree)) → list_all (λ (i : Item). nat_eq (rank i.note) 4) (step_items ss) ≡ true
+step_ranks [] = refl
+step_ranks (s ∷ ss) = step_ranks ss
+
+-- a group has none of another rank, and all of its own
+pub count_other : (r k : ℕ) (is : List Item) → list_all (λ (i : Item). nat_eq (rank i.note) r) is ≡ true → nat_eq r k ≡ false → count k is ≡ 0
+count_other r k [] h n = refl
+count_other r k (i ∷ is) h n =
+    let a = and_parts (nat_eq (rank i.note) r) _ h in
+    let e = number_is (rank i.note) r a.0 in
+    let f : nat_eq (rank i.note) k ≡ false = ap (λ (j : ℕ). nat_eq j k) e ∙ n in
+    ap (λ (b : Bool). cond b (suc (count k is)) (count k is)) f ∙ count_other r k is a.1 n
+
+pub count_own : (k : ℕ) (is : List Item) → list_all (λ (i : Item). nat_eq (rank i.note) k) is ≡ true → count k is ≡ length is
+count_own k [] h = refl
+count_own k (i ∷ is) h =
+    let a = and_parts (nat_eq (rank i.note) k) _ h in
+    let c = count_own k is a.1 in
+    ap (λ (b : Bool). cond b (suc (count k is)) (count k is)) a.0 ∙ omega arith
+
+-- ---- the whole text
+
+split : (before is js : List Item) → spelled (item_lines before (is ++ js)) ≡ spelled (item_lines before is) ++ spelled (item_lines (before ++ is) js)
+split before is js = ap spelled (lines_append before is js) ∙ texts_append line_text step is_done nothing exact (item_lines before is) (item_lines (before ++ is) js)
+
+base_counts : (cs : List TreeClause) (ws : List (List ℕ)) (as_ : List TreeClause) (k : ℕ) → nat_eq 0 k ≡ false → nat_eq 1 k ≡ false → 1 ≡ suc (count k (input_items cs ws ++ axiom_items as_))
+base_counts cs ws as_ k p q = omega (arith, count_append k (input_items cs ws) (axiom_items as_), count_other 0 k (input_items cs ws) (input_ranks cs ws) p, count_other 1 k (axiom_items as_) (axiom_ranks as_) q)
+
+of_refutation : (s o f k a b c d e z : List ℕ) → ((((((((s ++ o) ++ f) ++ k) ++ a) ++ b) ++ c) ++ d) ++ e) ++ z ≡ s ++ (o ++ (f ++ (k ++ ((a ++ (b ++ (c ++ (d ++ e)))) ++ (z ++ [])))))
+of_refutation s o f k a b c d e z = simp (append_assoc, append-nil)
+
+of_saturation : (s o f a b c z : List ℕ) → (((((s ++ o) ++ f) ++ a) ++ b) ++ c) ++ z ≡ s ++ (o ++ (f ++ ((a ++ (b ++ c)) ++ (z ++ []))))
+of_saturation s o f a b c z = simp (append_assoc, append-nil)
+
+version_is : line_text (version 1) ≡ format.format_line 1
+version_is = refl
+
+pub text_is : (name : List ℕ) (v : Certificate) → certificate_text 1 name v ≡ spelled (lines_of 1 name v)
+text_is name (first_refutation c) =
+    let A = input_items c.base.inputs c.base.names in
+    let B = axiom_items c.base.axioms in
+    let C = member_items c.base.members in
+    let D = ground_items c.grounds in
+    let E = step_items c.steps in
+    let cA : 1 ≡ suc (count 1 A) = omega (arith, count_other 0 1 A (input_ranks c.base.inputs c.base.names) refl) in
+    let cC : 1 ≡ suc (count 3 ((A ++ B) ++ C)) = omega (arith, count_append 3 (A ++ B) C, base_counts c.base.inputs c.base.names c.base.axioms 3 refl refl, count_other 2 3 C (member_ranks c.base.members) refl) in
+    let cD : 1 ≡ suc (count 4 (((A ++ B) ++ C) ++ D)) = omega (arith, count_append 4 ((A ++ B) ++ C) D, count_append 4 (A ++ B) C, base_counts c.base.inputs c.base.names c.base.axioms 4 refl refl, count_other 2 4 C (member_ranks c.base.members) refl, count_other 3 4 D (ground_ranks c.grounds) refl) in
+    let items : spelled (item_lines [] (items_of (first_refutation c))) ≡ paired_lines format.input_line 1 c.base.inputs c.base.names ++ (numbered_lines format.axiom_line 1 c.base.axioms ++ (numbered_lines format.member_line 1 c.base.members ++ (numbered_lines format.ground_line 1 c.grounds ++ numbered_lines format.step_line 1 c.steps)))
+    = split [] A (B ++ (C ++ (D ++ E))) ∙ ap₂ (λ (x y : List ℕ). x ++ y) (input_texts [] c.base.inputs c.base.names 1 refl)
+    (split A B (C ++ (D ++ E)) ∙ ap₂ (λ (x y : List ℕ). x ++ y) (axiom_texts A c.base.axioms 1 cA)
+    (split (A ++ B) C (D ++ E) ∙ ap₂ (λ (x y : List ℕ). x ++ y) (member_texts (A ++ B) c.base.members 1 (base_counts c.base.inputs c.base.names c.base.axioms 2 refl refl))
+    (split ((A ++ B) ++ C) D E ∙ ap₂ (λ (x y : List ℕ). x ++ y) (ground_texts ((A ++ B) ++ C) c.grounds 1 cC) (step_texts (((A ++ B) ++ C) ++ D) c.steps 1 cD)))) in
+    let tail : spelled (item_lines [] (items_of (first_refutation c)) ++ closing true name ∷ []) ≡ spelled (item_lines [] (items_of (first_refutation c))) ++ (line_text (closing true name) ++ [])
+    = texts_append line_text step is_done nothing exact (item_lines [] (items_of (first_refutation c))) (closing true name ∷ []) in
+    of_refutation (format.status_line (codes "Unsatisfiable") name) (format.start_line (codes "CNFRefutation") name) (format.format_line 1) (format.constant_line c.bot) _ _ _ _ _ (format.end_line (codes "CNFRefutation") name)
+    ∙ sym (ap₂ (λ (x y : List ℕ). x ++ y) (status_is (codes "Unsatisfiable") name) (ap₂ (λ (x y : List ℕ). x ++ y) (start_is (codes "CNFRefutation") name) (ap₂ (λ (w x : List ℕ). w ++ (format.constant_line c.bot ++ x)) version_is (tail ∙ ap₂ (λ (x y : List ℕ). x ++ (y ++ [])) items (end_is (codes "CNFRefutation") name)))))
+text_is name (saturation c) =
+    let A = input_items c.base.inputs c.base.names in
+    let B = axiom_items c.base.axioms in
+    let C = selected_items c.base.members c.places in
+    let cA : 1 ≡ suc (count 1 A) = omega (arith, count_other 0 1 A (input_ranks c.base.inputs c.base.names) refl) in
+    let items : spelled (item_lines [] (items_of (saturation c))) ≡ paired_lines format.input_line 1 c.base.inputs c.base.names ++ (numbered_lines format.axiom_line 1 c.base.axioms ++ paired_lines format.selected_line 1 c.base.members c.places)
+    = split [] A (B ++ C) ∙ ap₂ (λ (x y : List ℕ). x ++ y) (input_texts [] c.base.inputs c.base.names 1 refl)
+    (split A B C ∙ ap₂ (λ (x y : List ℕ). x ++ y) (axiom_texts A c.base.axioms 1 cA) (selected_texts (A ++ B) c.base.members c.places 1 (base_counts c.base.inputs c.base.names c.base.axioms 2 refl refl))) in
+    let tail : spelled (item_lines [] (items_of (saturation c)) ++ closing false name ∷ []) ≡ spelled (item_lines [] (items_of (saturation c))) ++ (line_text (closing false name) ++ [])
+    = texts_append line_text step is_done nothing exact (item_lines [] (items_of (saturation c))) (closing false name ∷ []) in
+    of_saturation (format.status_line (codes "Satisfiable") name) (format.start_line (codes "Saturation") name) (format.format_line 1) _ _ _ (format.end_line (codes "Saturation") name)
+    ∙ sym (ap₂ (λ (x y : List ℕ). x ++ y) (status_is (codes "Satisfiable") name) (ap₂ (λ (x y : List ℕ). x ++ y) (start_is (codes "Saturation") name) (ap₂ (λ (w x : List ℕ). w ++ x) version_is (tail ∙ ap₂ (λ (x y : List ℕ). x ++ (y ++ [])) items (end_is (codes "Saturation") name)))))

@@ -1,0 +1,506 @@
+-- What the machine takes is the text of a printable value.
+use Rattle.std.proofs.Common.{◌≡◌, ◌≢◌, ℕ, suc, ◌<◌, ◌≤◌, ◌^◌, Bool, true, false, cond, List, [], ◌∷◌, ◌++◌, length, map, Option, Some, refl, sym, ap, ap₂, ◌∙◌, subst, arith, append_assoc}
+use Rattle.std.specs.Prelude.{not, nat_eq, nat_le, nat_lt, All, IsTrue}
+use Rattle.std.specs.List.{list_all}
+use Rattle.std.proofs.lemmas.List.{append-nil, length-map}
+use Rattle.std.proofs.lemmas.List.Elements.{All-nil, All-cons}
+use Rattle.std.proofs.lemmas.Bool.Decides.{nat_tests}
+use Rattle.std.proofs.lemmas.Slice.Eq.{bytes_eq-Decides}
+use Rattle.inst_logic.specs.declared.symbol.Kind.TheVariants.{Function}
+use Rattle.inst_logic.specs.Tree.{Tree}
+use Rattle.inst_logic.specs.Clauses.{TreeClause}
+use Rattle.inst_logic.specs.Equal.{bool_eq}
+use Rattle.inst_logic.specs.EqualLaws.{bool_eq_decides}
+use Rattle.inst_logic.specs.Printing.{is_readable_name}
+use Rattle.inst_calculus.specs.Entries.{Origin, input, inst, Entry}
+use Rattle.inst_calculus.specs.Steps.{Step, Cited, given, earlier}
+use Rattle.cert_format.specs.Certificate.{FirstRefutation, Saturation, Certificate, first_refutation, saturation}
+use Rattle.cert_format.specs.Printable.{IsNumber, HasNumbers, cited_number, IsTextName}
+use Rattle.cert_format.proofs.Spelling.{number_is}
+use Rattle.cert_format.proofs.ClauseForms.{IsWritableClause}
+use Rattle.cert_format.proofs.Writables.{IsWritableEntry, IsWritableStep, IsWritable}
+use Rattle.cert_format.specs.LineMachine.{is_number, Note, named, equality, member, selected, ground_of, shown_by, rank, Item, Header, Line, status, opening, version, constant, item, closing, count, State, nothing, body, done, fits, last_rank, last_rank_from, guarded}
+use Rattle.cert_format.specs.Machines as machines
+use Rattle.cert_format.specs.Machines.{Ends}
+use Rattle.cert_format.specs.LineTexts.{line_text, is_name_byte, is_text_name, origin_is_printable, hint_is_printable, note_is_printable}
+use Rattle.cert_format.specs.FirstFormat.{clause_is_printable, may_follow, step, is_done}
+use Rattle.cert_format.specs.ValueLines.{input_items, axiom_items, member_items, selected_items, ground_items, step_items, items_of, item_lines, header_of, lines_of}
+use Rattle.cert_format.proofs.LineMachine.{count_push}
+use Rattle.std.proofs.lemmas.Bool.{and_parts, and_from}
+use Rattle.cert_format.proofs.LineNotes.{below}
+use Rattle.cert_format.proofs.Machines.{first_step}
+use Rattle.cert_format.proofs.FirstFormat.{test_yes, exact}
+use Rattle.cert_format.proofs.LineTexts.{count_append, count_own}
+use Rattle.cert_format.proofs.ValueRuns.{IsSorted, good, Few, all_append}
+use Rattle.cert_format.proofs.ValueLaws.{only}
+
+-- ---- what holds of the items of a body
+
+pub record IsBody (h : Header) (is : List Item) : Type 0 where
+  pub sorted : IsSorted 0 is
+  pub all_good : list_all (good h) is ≡ true
+  pub few : Few (2 ^ 64) is
+
+sorted_push : (j : ℕ) (is : List Item) (i : Item) → last_rank_from j is ≤ rank i.note → IsSorted j is → IsSorted j (is ++ i ∷ [])
+sorted_push j [] i h s = (h, tt)
+sorted_push j (k ∷ is) i h s = (s.0, sorted_push (rank k.note) is i h s.1)
+
+at_most : (m n : ℕ) → nat_le m n ≡ true → m ≤ n
+at_most m n h = grind (arith, nat_tests)
+
+body_push : (h : Header) (is : List Item) (n : ℕ) (c : TreeClause) (note : Note) → may_follow h is n c note ≡ true → IsBody h is → (n ≡ suc (count (rank note) is)) × IsBody h (is ++ record { clause = c; note = note } ∷ [])
+body_push h is n c note m b =
+    let i : Item = record { clause = c; note = note } in
+    let a = and_parts (fits h note) _ m in
+    let l = and_parts (nat_le (last_rank is) (rank note)) _ a.1 in
+    let d = and_parts (nat_eq n (suc (count (rank note) is))) _ l.1 in
+    let q = and_parts (is_number n) _ d.1 in
+    let at = number_is n (suc (count (rank note) is)) d.0 in
+    let small = below n q.0 in (
+      at,
+      record {
+        sorted = sorted_push 0 is i (at_most (last_rank is) (rank note) l.0) b.sorted;
+        all_good = all_append (good h) is (i ∷ []) b.all_good (and_from (good h i) true (and_from (fits h note) _ a.0 q.1) refl);
+        few = λ k. (let f = b.few k in subst (λ (j : ℕ). j < 2 ^ 64) (sym (count_push k is i)) (by k (nat_eq (rank note) k) refl at small f));
+      },
+    )
+  where
+    by : (k : ℕ) (t : Bool) → nat_eq (rank note) k ≡ t → n ≡ suc (count (rank note) is) → n < 2 ^ 64 → count k is < 2 ^ 64 → cond t (suc (count k is)) (count k is) < 2 ^ 64
+    by k true e at small f = let g = ap (λ (j : ℕ). suc (count j is)) (number_is (rank note) k e) in omega arith
+    by k false e at small f = f
+
+-- ---- the lines of a run that ends
+
+abbrev pub run : State → List Line → Option State
+run = machines.run line_text step is_done
+
+pub guard_both : (b : Bool) (t u : State) → guarded b t ≡ Some u → (b ≡ true) × (t ≡ u)
+guard_both true t u h = (refl, cc)
+guard_both false t u h = absurd cc
+
+pub next : (s : State) (l : Line) (ls : List Line) (t : State) → run s (l ∷ ls) ≡ Some t → (u : State) × (step s l ≡ Some u) × (run u ls ≡ Some t)
+next s l ls t h = first_step line_text step is_done nothing exact s l ls t h
+
+pub record IsFinished (h : Header) (before : List Item) (ls : List Line) : Type 0 where
+  pub items : List Item
+  pub are : ls ≡ item_lines before items ++ closing h.refutation h.name ∷ []
+  pub is_body : IsBody h (before ++ items)
+
+-- nothing follows the end
+alone : (h : Header) (is : List Item) (ls : List Line) (t : State) → run (done h is) ls ≡ Some t → ls ≡ []
+alone h is [] t e = refl
+alone h is (l ∷ ls) t e = absurd (let n = next (done h is) l ls t e in let k = n.1 in cc)
+
+pub finish : (h : Header) (before : List Item) (ls : List Line) (t : State) → run (body h before) ls ≡ Some t → is_done t ≡ true → IsBody h before → IsFinished h before ls
+finish h before [] t e d b = absurd (let k : body h before ≡ t = cc in let j : is_done (body h before) ≡ true = ap is_done k ∙ d in cc)
+finish h before (item n c note ∷ ls) t e d b =
+    let x = next (body h before) (item n c note) ls t e in
+    let i : Item = record { clause = c; note = note } in
+    let g = guard_both _ _ _ x.1 in
+    let p = body_push h before n c note g.0 b in
+    let f = finish h (before ++ i ∷ []) ls t (ap (λ (u : State). run u ls) g.1 ∙ x.2) d p.1 in
+    record {
+      items = i ∷ f.items;
+      are = ap₂ (λ (l : Line) (ms : List Line). l ∷ ms) (ap (λ (k : ℕ). item k c note) p.0) f.are;
+      is_body = subst (IsBody h) (append_assoc before (i ∷ []) f.items) f.is_body;
+    }
+finish h before (closing r name ∷ ls) t e d b =
+    let x = next (body h before) (closing r name) ls t e in
+    let g = guard_both _ _ _ x.1 in
+    let q = and_parts (is_text_name name) _ g.0 in
+    let a = and_parts (bool_eq h.refutation r) _ q.1 in
+    let form = (bool_eq_decides h.refutation r).0 a.0 in
+    let same = (bytes_eq-Decides h.name name).0 a.1 in
+    let left = alone h before ls t (ap (λ (u : State). run u ls) g.1 ∙ x.2) in
+    record { items = []; are = ap₂ (λ (l : Line) (ms : List Line). l ∷ ms) (sym (ap₂ closing form same)) left; is_body = subst (IsBody h) (sym (append-nil before)) b }
+finish h before (status r name ∷ ls) t e d b = absurd cc
+finish h before (opening r name ∷ ls) t e d b = absurd cc
+finish h before (version f ∷ ls) t e d b = absurd cc
+finish h before (constant c ∷ ls) t e d b = absurd cc
+
+-- ---- the groups of sorted items
+
+only_above : (j k : ℕ) (is : List Item) → IsSorted j is → k < j → only k is ≡ []
+only_above j k [] s h = refl
+only_above j k (i ∷ is) s h =
+    let a = s.0 in
+    let no : nat_eq (rank i.note) k ≡ false = (let b : k < rank i.note = omega arith in grind (arith, nat_tests)) in
+    ap (λ (t : Bool). cond t (i ∷ only k is) (only k is)) no ∙ only_above (rank i.note) k is s.1 (omega arith)
+
+pub record IsSplit (k : ℕ) (is : List Item) : Type 0 where
+  pub rest : List Item
+  pub parts : is ≡ only k is ++ rest
+  pub sorted : IsSorted (suc k) rest
+
+front : (k : ℕ) (is : List Item) → IsSorted k is → IsSplit k is
+front k [] s = record { rest = []; parts = refl; sorted = tt }
+front k (i ∷ is) s = by (nat_eq (rank i.note) k) refl (λ e. front k is (subst (λ (r : ℕ). IsSorted r is) (number_is (rank i.note) k e) s.1))
+  where
+    by : (t : Bool) → nat_eq (rank i.note) k ≡ t → (nat_eq (rank i.note) k ≡ true → IsSplit k is) → IsSplit k (i ∷ is)
+    by true e more =
+        let r = more e in
+        record { rest = r.rest; parts = ap (λ (xs : List Item). i ∷ xs) r.parts ∙ ap (λ (t : Bool). cond t (i ∷ only k is) (only k is) ++ r.rest) (sym e); sorted = r.sorted }
+    by false e more =
+        let a = s.0 in
+        let b : suc k ≤ rank i.note = grind (arith, nat_tests) in
+        record { rest = i ∷ is; parts = sym (ap (λ (xs : List Item). xs ++ i ∷ is) (only_above (suc k) k (i ∷ is) (b, s.1) (omega arith))); sorted = (b, s.1) }
+
+only_ranks : (k : ℕ) (is : List Item) → list_all (λ (i : Item). nat_eq (rank i.note) k) (only k is) ≡ true
+only_ranks k [] = refl
+only_ranks k (i ∷ is) = by (nat_eq (rank i.note) k) refl (only_ranks k is)
+  where
+    by : (t : Bool) → nat_eq (rank i.note) k ≡ t → list_all (λ (x : Item). nat_eq (rank x.note) k) (only k is) ≡ true → list_all (λ (x : Item). nat_eq (rank x.note) k) (cond t (i ∷ only k is) (only k is)) ≡ true
+    by true e h = and_from (nat_eq (rank i.note) k) _ e h
+    by false e h = h
+
+parts_good : (p : Item → Bool) (is js : List Item) → list_all p (is ++ js) ≡ true → (list_all p is ≡ true) × (list_all p js ≡ true)
+parts_good p [] js h = (refl, h)
+parts_good p (i ∷ is) js h = let a = and_parts (p i) (list_all p (is ++ js)) h in let b = parts_good p is js a.1 in (and_from (p i) (list_all p is) a.0 b.0, b.1)
+
+-- ---- groups as values
+
+abbrev IsGroup : ℕ → List Item → Type 0
+IsGroup k is = list_all (λ (i : Item). nat_eq (rank i.note) k) is ≡ true
+
+abbrev clauses_of : List Item → List TreeClause
+clauses_of is = map (λ (i : Item). i.clause) is
+
+abbrev name_of : Note → List ℕ
+name_of (named w) = w
+name_of _ = []
+
+abbrev names_of : List Item → List (List ℕ)
+names_of is = map (λ (i : Item). name_of i.note) is
+
+abbrev entry_origin : Note → Origin
+entry_origin (member o) = o
+entry_origin (selected o p) = o
+entry_origin _ = input 0
+
+abbrev place_at : Note → ℕ
+place_at (selected o p) = p
+place_at _ = 0
+
+abbrev entries_of : List Item → List Entry
+entries_of is = map (λ (i : Item). record { clause = i.clause; origin = entry_origin i.note }) is
+
+abbrev places_of : List Item → List ℕ
+places_of is = map (λ (i : Item). place_at i.note) is
+
+abbrev hints_of : Note → List Cited
+hints_of (shown_by hs) = hs
+hints_of _ = []
+
+abbrev steps_of : List Item → List (Step Tree)
+steps_of is = map (λ (i : Item). record { clause = i.clause; hints = hints_of i.note }) is
+
+inputs_back : (is : List Item) → IsGroup 0 is → input_items (clauses_of is) (names_of is) ≡ is
+inputs_back [] h = refl
+inputs_back (i ∷ is) h = let a = and_parts (nat_eq (rank i.note) 0) _ h in by i.clause i.note a.0 (inputs_back is a.1)
+  where
+    by : (c : TreeClause) (note : Note) → nat_eq (rank note) 0 ≡ true → input_items (clauses_of is) (names_of is) ≡ is → record { clause = c; note = named (name_of note) } ∷ input_items (clauses_of is) (names_of is) ≡ record { clause = c; note = note } ∷ is
+    by c (named w) e h = ap (λ (xs : List Item). record { clause = c; note = named w } ∷ xs) h
+    by c _ e h = absurd cc
+
+axioms_back : (is : List Item) → IsGroup 1 is → axiom_items (clauses_of is) ≡ is
+axioms_back [] h = refl
+axioms_back (i ∷ is) h = let a = and_parts (nat_eq (rank i.note) 1) _ h in by i.clause i.note a.0 (axioms_back is a.1)
+  where
+    by : (c : TreeClause) (note : Note) → nat_eq (rank note) 1 ≡ true → axiom_items (clauses_of is) ≡ is → record { clause = c; note = equality } ∷ axiom_items (clauses_of is) ≡ record { clause = c; note = note } ∷ is
+    by c equality e h = ap (λ (xs : List Item). record { clause = c; note = equality } ∷ xs) h
+    by c _ e h = absurd cc
+
+origin_back : (o : Origin) → origin_is_printable o ≡ true → HasNumbers o
+origin_back (input k) h = below k h
+origin_back (inst a p b q) h =
+    let h0 = and_parts (is_number a) _ h in let h1 = and_parts (is_number p) _ h0.1 in let h2 = and_parts (is_number b) (is_number q) h1.1 in
+    (below a h0.0, below p h1.0, below b h2.0, below q h2.1)
+
+module _ (name bot : List ℕ) where
+  abbrev pub of_refutation : Header
+  of_refutation = record { refutation = true; name = name; format = 1; bot = bot }
+
+  abbrev pub of_saturation : Header
+  of_saturation = record { refutation = false; name = name; format = 1; bot = bot }
+
+  members_back : (is : List Item) → IsGroup 2 is → list_all (good of_refutation) is ≡ true → member_items (entries_of is) ≡ is
+  members_back [] h g = refl
+  members_back (i ∷ is) h g = let a = and_parts (nat_eq (rank i.note) 2) _ h in let b = and_parts (good of_refutation i) _ g in by i.clause i.note a.0 (and_parts _ _ (and_parts _ _ b.0).1).1 (and_parts _ _ b.0).0 (members_back is a.1 b.1)
+    where
+      by : (c : TreeClause) (note : Note) → nat_eq (rank note) 2 ≡ true → note_is_printable note ≡ true → fits of_refutation note ≡ true → member_items (entries_of is) ≡ is → record { clause = c; note = member (entry_origin note) } ∷ member_items (entries_of is) ≡ record { clause = c; note = note } ∷ is
+      by c (member o) e p f h = ap (λ (xs : List Item). record { clause = c; note = member o } ∷ xs) h
+      by c (selected o k) e p f h = absurd cc
+      by c _ e p f h = absurd cc
+
+  selected_back : (is : List Item) → IsGroup 2 is → list_all (good of_saturation) is ≡ true → selected_items (entries_of is) (places_of is) ≡ is
+  selected_back [] h g = refl
+  selected_back (i ∷ is) h g = let a = and_parts (nat_eq (rank i.note) 2) _ h in let b = and_parts (good of_saturation i) _ g in by i.clause i.note a.0 (and_parts _ _ (and_parts _ _ b.0).1).1 (and_parts _ _ b.0).0 (selected_back is a.1 b.1)
+    where
+      by : (c : TreeClause) (note : Note) → nat_eq (rank note) 2 ≡ true → note_is_printable note ≡ true → fits of_saturation note ≡ true → selected_items (entries_of is) (places_of is) ≡ is → record { clause = c; note = selected (entry_origin note) (place_at note) } ∷ selected_items (entries_of is) (places_of is) ≡ record { clause = c; note = note } ∷ is
+      by c (selected o k) e p f h = ap (λ (xs : List Item). record { clause = c; note = selected o k } ∷ xs) h
+      by c (member o) e p f h = absurd cc
+      by c _ e p f h = absurd cc
+
+grounds_back : (is : List Item) (h : Header) → IsGroup 3 is → list_all (good h) is ≡ true → ground_items (clauses_of is) ≡ is
+grounds_back [] k h g = refl
+grounds_back (i ∷ is) k h g = let a = and_parts (nat_eq (rank i.note) 3) _ h in let b = and_parts (good k i) _ g in by i.clause i.note a.0 (and_parts _ _ (and_parts _ _ b.0).1).1 (grounds_back is k a.1 b.1)
+  where
+    by : (c : TreeClause) (note : Note) → nat_eq (rank note) 3 ≡ true → note_is_printable note ≡ true → ground_items (clauses_of is) ≡ is → record { clause = c; note = ground_of } ∷ ground_items (clauses_of is) ≡ record { clause = c; note = note } ∷ is
+    by c ground_of e p h = ap (λ (xs : List Item). record { clause = c; note = ground_of } ∷ xs) h
+    by c _ e p h = absurd cc
+
+steps_back : (is : List Item) → IsGroup 4 is → step_items (steps_of is) ≡ is
+steps_back [] h = refl
+steps_back (i ∷ is) h = let a = and_parts (nat_eq (rank i.note) 4) _ h in by i.clause i.note a.0 (steps_back is a.1)
+  where
+    by : (c : TreeClause) (note : Note) → nat_eq (rank note) 4 ≡ true → step_items (steps_of is) ≡ is → record { clause = c; note = shown_by (hints_of note) } ∷ step_items (steps_of is) ≡ record { clause = c; note = note } ∷ is
+    by c (shown_by hs) e h = ap (λ (xs : List Item). record { clause = c; note = shown_by hs } ∷ xs) h
+    by c _ e h = absurd cc
+
+-- ---- what is printable
+
+clauses_printable : (h : Header) (is : List Item) → list_all (good h) is ≡ true → All IsWritableClause (clauses_of is)
+clauses_printable h [] g = All-nil IsWritableClause
+clauses_printable h (i ∷ is) g = let b = and_parts (good h i) _ g in All-cons IsWritableClause i.clause (clauses_of is) (test_yes i.clause (and_parts (clause_is_printable i.clause) _ (and_parts (fits h i.note) _ b.0).1).0) (clauses_printable h is b.1)
+
+names_printable : (h : Header) (is : List Item) → IsGroup 0 is → list_all (good h) is ≡ true → All (λ n. IsTrue (is_readable_name n)) (names_of is)
+names_printable h [] k g = All-nil (λ (n : List ℕ). IsTrue (is_readable_name n))
+names_printable h (i ∷ is) k g =
+    let a = and_parts (nat_eq (rank i.note) 0) _ k in
+    let b = and_parts (good h i) _ g in
+    All-cons (λ (n : List ℕ). IsTrue (is_readable_name n)) (name_of i.note) (names_of is) (by i.note a.0 (and_parts (clause_is_printable i.clause) _ (and_parts (fits h i.note) _ b.0).1).1) (names_printable h is a.1 b.1)
+  where
+    by : (note : Note) → nat_eq (rank note) 0 ≡ true → note_is_printable note ≡ true → is_readable_name (name_of note) ≡ true
+    by (named w) e p = p
+    by _ e p = absurd cc
+
+entry_numbers : (note : Note) → nat_eq (rank note) 2 ≡ true → note_is_printable note ≡ true → HasNumbers (entry_origin note)
+entry_numbers (member o) e p = origin_back o p
+entry_numbers (selected o k) e p = origin_back o (and_parts (origin_is_printable o) (is_number k) p).0
+entry_numbers _ e p = absurd cc
+
+place_number : (note : Note) → note_is_printable note ≡ true → IsNumber (place_at note)
+place_number (selected o k) p = below k (and_parts (origin_is_printable o) (is_number k) p).1
+place_number (member o) p = omega arith
+place_number (named w) p = omega arith
+place_number equality p = omega arith
+place_number ground_of p = omega arith
+place_number (shown_by hs) p = omega arith
+
+entries_printable : (h : Header) (is : List Item) → IsGroup 2 is → list_all (good h) is ≡ true → All IsWritableEntry (entries_of is)
+entries_printable h [] k g = All-nil IsWritableEntry
+entries_printable h (i ∷ is) k g =
+    let a = and_parts (nat_eq (rank i.note) 2) _ k in
+    let b = and_parts (good h i) _ g in
+    let c = and_parts (clause_is_printable i.clause) _ (and_parts (fits h i.note) _ b.0).1 in
+    All-cons IsWritableEntry (record { clause = i.clause; origin = entry_origin i.note }) (entries_of is) (record { clause = test_yes i.clause c.0; origin = entry_numbers i.note a.0 c.1 }) (entries_printable h is a.1 b.1)
+
+places_printable : (h : Header) (is : List Item) → list_all (good h) is ≡ true → All IsNumber (places_of is)
+places_printable h [] g = All-nil IsNumber
+places_printable h (i ∷ is) g =
+    let b = and_parts (good h i) _ g in
+    All-cons IsNumber (place_at i.note) (places_of is) (place_number i.note (and_parts (clause_is_printable i.clause) _ (and_parts (fits h i.note) _ b.0).1).1) (places_printable h is b.1)
+
+hint_number : (h : Cited) → hint_is_printable h ≡ true → IsNumber (cited_number h)
+hint_number (given k) h = below k h
+hint_number (earlier k) h = below k h
+
+hint_numbers : (hs : List Cited) → list_all hint_is_printable hs ≡ true → All (λ h. IsNumber (cited_number h)) hs
+hint_numbers [] h = All-nil (λ (x : Cited). IsNumber (cited_number x))
+hint_numbers (k ∷ hs) h = let a = and_parts (hint_is_printable k) _ h in All-cons (λ (x : Cited). IsNumber (cited_number x)) k hs (hint_number k a.0) (hint_numbers hs a.1)
+
+step_hints : (note : Note) → nat_eq (rank note) 4 ≡ true → note_is_printable note ≡ true → (hints_of note ≢ []) × All (λ h. IsNumber (cited_number h)) (hints_of note)
+step_hints (shown_by []) e p = absurd cc
+step_hints (shown_by (h ∷ hs)) e p = (λ q. cc, hint_numbers (h ∷ hs) p)
+step_hints _ e p = absurd cc
+
+steps_printable : (h : Header) (is : List Item) → IsGroup 4 is → list_all (good h) is ≡ true → All IsWritableStep (steps_of is)
+steps_printable h [] k g = All-nil IsWritableStep
+steps_printable h (i ∷ is) k g =
+    let a = and_parts (nat_eq (rank i.note) 4) _ k in
+    let b = and_parts (good h i) _ g in
+    let c = and_parts (clause_is_printable i.clause) _ (and_parts (fits h i.note) _ b.0).1 in
+    let s = step_hints i.note a.0 c.1 in
+    All-cons IsWritableStep (record { clause = i.clause; hints = hints_of i.note }) (steps_of is) (record { clause = test_yes i.clause c.0; hinted = s.0; hints = s.1 }) (steps_printable h is a.1 b.1)
+
+-- ---- the value
+
+front_length : (m k : ℕ) (is js : List Item) → IsGroup k is → count k (is ++ js) < m → length is < m
+front_length m k is js g h = let a = count_append k is js in let b = count_own k is g in omega arith
+
+behind_length : (m k : ℕ) (is js : List Item) → count k (is ++ js) < m → count k js < m
+behind_length m k is js h = let a = count_append k is js in omega arith
+
+rank_of_refutation : (name bot : List ℕ) (note : Note) → fits (of_refutation name bot) note ≡ true → rank note ≤ 4
+rank_of_refutation name bot (named w) f = omega arith
+rank_of_refutation name bot equality f = omega arith
+rank_of_refutation name bot (member o) f = omega arith
+rank_of_refutation name bot (selected o p) f = omega arith
+rank_of_refutation name bot ground_of f = omega arith
+rank_of_refutation name bot (shown_by hs) f = omega arith
+
+rank_of_saturation : (name bot : List ℕ) (note : Note) → fits (of_saturation name bot) note ≡ true → rank note ≤ 2
+rank_of_saturation name bot (named w) f = omega arith
+rank_of_saturation name bot equality f = omega arith
+rank_of_saturation name bot (member o) f = omega arith
+rank_of_saturation name bot (selected o p) f = omega arith
+rank_of_saturation name bot ground_of f = absurd cc
+rank_of_saturation name bot (shown_by hs) f = absurd cc
+
+none_left : (h : Header) (k : ℕ) → ((note : Note) → fits h note ≡ true → rank note ≤ k) → (is : List Item) → IsSorted (suc k) is → list_all (good h) is ≡ true → is ≡ []
+none_left h k low [] s g = refl
+none_left h k low (i ∷ is) s g = absurd (let a = low i.note (and_parts (fits h i.note) _ (and_parts (good h i) _ g).0).0 in let b = s.0 in omega arith)
+
+pub record IsOfValue (h : Header) (is : List Item) : Type 0 where
+  pub value : Certificate
+  pub header : header_of h.format h.name value ≡ h
+  pub items : items_of value ≡ is
+  pub printable : IsWritable value
+
+saturation_value : (name : List ℕ) (is : List Item) → IsBody (of_saturation name []) is → IsOfValue (of_saturation name []) is
+saturation_value name is b =
+    let h = of_saturation name [] in
+    let p = front 0 is b.sorted in
+    let q = front 1 p.rest p.sorted in
+    let r = front 2 q.rest q.sorted in
+    let A = only 0 is in let B = only 1 p.rest in let C = only 2 q.rest in
+    let a = only_ranks 0 is in let bb = only_ranks 1 p.rest in let c = only_ranks 2 q.rest in
+    let gA = parts_good (good h) A p.rest (subst (λ (xs : List Item). list_all (good h) xs ≡ true) p.parts b.all_good) in
+    let gB = parts_good (good h) B q.rest (subst (λ (xs : List Item). list_all (good h) xs ≡ true) q.parts gA.1) in
+    let gC = parts_good (good h) C r.rest (subst (λ (xs : List Item). list_all (good h) xs ≡ true) r.parts gB.1) in
+    let left = none_left h 2 (rank_of_saturation name []) r.rest r.sorted gC.1 in
+    let m = 2 ^ 64 in
+    let f0 : (k : ℕ) → count k (A ++ p.rest) < m = (λ k. subst (λ (xs : List Item). count k xs < m) p.parts (b.few k)) in
+    let f1 : (k : ℕ) → count k (B ++ q.rest) < m = (λ k. subst (λ (xs : List Item). count k xs < m) q.parts (behind_length m k A p.rest (f0 k))) in
+    let f2 : (k : ℕ) → count k (C ++ r.rest) < m = (λ k. subst (λ (xs : List Item). count k xs < m) r.parts (behind_length m k B q.rest (f1 k))) in
+    let nA = front_length m 0 A p.rest a (f0 0) in let nB = front_length m 1 B q.rest bb (f1 1) in let nC = front_length m 2 C r.rest c (f2 2) in
+    let v : Saturation = record { base = record { inputs = clauses_of A; names = names_of A; axioms = clauses_of B; members = entries_of C }; places = places_of C } in
+    record {
+      value = saturation v;
+      header = refl;
+      items = ap₂ (λ (x y : List Item). x ++ y) (inputs_back A a) (ap₂ (λ (x y : List Item). x ++ y) (axioms_back B bb) (selected_back name [] C c gC.0 ∙ sym (append-nil C) ∙ ap (λ (x : List Item). C ++ x) (sym left) ∙ sym r.parts) ∙ sym q.parts) ∙ sym p.parts;
+      printable = record {
+        base = record {
+          inputs = clauses_printable h A gA.0;
+          named = length-map A (λ (i : Item). name_of i.note) ∙ sym (length-map A (λ (i : Item). i.clause));
+          names = names_printable h A a gA.0;
+          axioms = clauses_printable h B gB.0;
+          members = entries_printable h C c gC.0;
+          input_count = subst (λ (k : ℕ). k < m) (sym (length-map A (λ (i : Item). i.clause))) nA;
+          axiom_count = subst (λ (k : ℕ). k < m) (sym (length-map B (λ (i : Item). i.clause))) nB;
+          member_count = subst (λ (k : ℕ). k < m) (sym (length-map C (λ (i : Item). record { clause = i.clause; origin = entry_origin i.note }))) nC;
+        };
+        placed = length-map C (λ (i : Item). place_at i.note) ∙ sym (length-map C (λ (i : Item). record { clause = i.clause; origin = entry_origin i.note }));
+        places = places_printable h C gC.0;
+      };
+    }
+
+refutation_value : (name bot : List ℕ) (is : List Item) → is_readable_name bot ≡ true → IsBody (of_refutation name bot) is → IsOfValue (of_refutation name bot) is
+refutation_value name bot is readable b =
+    let h = of_refutation name bot in
+    let p = front 0 is b.sorted in
+    let q = front 1 p.rest p.sorted in
+    let r = front 2 q.rest q.sorted in
+    let s = front 3 r.rest r.sorted in
+    let t = front 4 s.rest s.sorted in
+    let A = only 0 is in let B = only 1 p.rest in let C = only 2 q.rest in let D = only 3 r.rest in let E = only 4 s.rest in
+    let a = only_ranks 0 is in let bb = only_ranks 1 p.rest in let c = only_ranks 2 q.rest in let d = only_ranks 3 r.rest in let e = only_ranks 4 s.rest in
+    let gA = parts_good (good h) A p.rest (subst (λ (xs : List Item). list_all (good h) xs ≡ true) p.parts b.all_good) in
+    let gB = parts_good (good h) B q.rest (subst (λ (xs : List Item). list_all (good h) xs ≡ true) q.parts gA.1) in
+    let gC = parts_good (good h) C r.rest (subst (λ (xs : List Item). list_all (good h) xs ≡ true) r.parts gB.1) in
+    let gD = parts_good (good h) D s.rest (subst (λ (xs : List Item). list_all (good h) xs ≡ true) s.parts gC.1) in
+    let gE = parts_good (good h) E t.rest (subst (λ (xs : List Item). list_all (good h) xs ≡ true) t.parts gD.1) in
+    let left = none_left h 4 (rank_of_refutation name bot) t.rest t.sorted gE.1 in
+    let m = 2 ^ 64 in
+    let f0 : (k : ℕ) → count k (A ++ p.rest) < m = (λ k. subst (λ (xs : List Item). count k xs < m) p.parts (b.few k)) in
+    let f1 : (k : ℕ) → count k (B ++ q.rest) < m = (λ k. subst (λ (xs : List Item). count k xs < m) q.parts (behind_length m k A p.rest (f0 k))) in
+    let f2 : (k : ℕ) → count k (C ++ r.rest) < m = (λ k. subst (λ (xs : List Item). count k xs < m) r.parts (behind_length m k B q.rest (f1 k))) in
+    let f3 : (k : ℕ) → count k (D ++ s.rest) < m = (λ k. subst (λ (xs : List Item). count k xs < m) s.parts (behind_length m k C r.rest (f2 k))) in
+    let f4 : (k : ℕ) → count k (E ++ t.rest) < m = (λ k. subst (λ (xs : List Item). count k xs < m) t.parts (behind_length m k D s.rest (f3 k))) in
+    let nA = front_length m 0 A p.rest a (f0 0) in let nB = front_length m 1 B q.rest bb (f1 1) in let nC = front_length m 2 C r.rest c (f2 2) in let nD = front_length m 3 D s.rest d (f3 3) in let nE = front_length m 4 E t.rest e (f4 4) in
+    let v : FirstRefutation = record {
+      base = record { inputs = clauses_of A; names = names_of A; axioms = clauses_of B; members = entries_of C };
+      bot = record { kind = Function; name = bot; arity = 0 };
+      grounds = clauses_of D;
+      steps = steps_of E;
+    } in
+    record {
+      value = first_refutation v;
+      header = refl;
+      items = ap₂ (λ (x y : List Item). x ++ y) (inputs_back A a) (ap₂ (λ (x y : List Item). x ++ y) (axioms_back B bb) (ap₂ (λ (x y : List Item). x ++ y) (members_back name bot C c gC.0) (ap₂ (λ (x y : List Item). x ++ y) (grounds_back D h d gD.0)
+          (steps_back E e ∙ sym (append-nil E) ∙ ap (λ (x : List Item). E ++ x) (sym left) ∙ sym t.parts) ∙ sym s.parts) ∙ sym r.parts) ∙ sym q.parts) ∙ sym p.parts;
+      printable = record {
+        base = record {
+          inputs = clauses_printable h A gA.0;
+          named = length-map A (λ (i : Item). name_of i.note) ∙ sym (length-map A (λ (i : Item). i.clause));
+          names = names_printable h A a gA.0;
+          axioms = clauses_printable h B gB.0;
+          members = entries_printable h C c gC.0;
+          input_count = subst (λ (k : ℕ). k < m) (sym (length-map A (λ (i : Item). i.clause))) nA;
+          axiom_count = subst (λ (k : ℕ). k < m) (sym (length-map B (λ (i : Item). i.clause))) nB;
+          member_count = subst (λ (k : ℕ). k < m) (sym (length-map C (λ (i : Item). record { clause = i.clause; origin = entry_origin i.note }))) nC;
+        };
+        constant = refl;
+        bot_name = readable;
+        grounds = clauses_printable h D gD.0;
+        steps = steps_printable h E e gE.0;
+        ground_count = subst (λ (k : ℕ). k < m) (sym (length-map D (λ (i : Item). i.clause))) nD;
+        step_count = subst (λ (k : ℕ). k < m) (sym (length-map E (λ (i : Item). record { clause = i.clause; hints = hints_of i.note }))) nE;
+      };
+    }
+
+-- ---- the tie
+
+is_less : (m n : ℕ) → nat_lt m n ≡ true → m < n
+is_less m n h = grind (arith, nat_tests)
+
+name_byte : (b : ℕ) → is_name_byte b ≡ true → (32 ≤ b) × (b ≢ 127)
+name_byte b h =
+    let a = and_parts (nat_le 32 b) (not (nat_eq b 127)) h in
+    (at_most 32 b a.0, λ e. (let k : not (nat_eq b 127) ≡ false = ap (λ (j : ℕ). not (nat_eq j 127)) e in cc))
+
+name_bytes : (n : List ℕ) → list_all is_name_byte n ≡ true → All (λ b. (32 ≤ b) × (b ≢ 127)) n
+name_bytes [] h = All-nil (λ (b : ℕ). (32 ≤ b) × (b ≢ 127))
+name_bytes (b ∷ n) h = let a = and_parts (is_name_byte b) _ h in All-cons (λ (x : ℕ). (32 ≤ x) × (x ≢ 127)) b n (name_byte b a.0) (name_bytes n a.1)
+
+text_name : (n : List ℕ) → is_text_name n ≡ true → IsTextName n
+text_name n h =
+    let a = and_parts (nat_lt 0 (length n)) _ h in
+    let b = and_parts (nat_le (length n) 4096) (list_all is_name_byte n) a.1 in
+    record { some = is_less 0 (length n) a.0; short = at_most (length n) 4096 b.0; bytes = name_bytes n b.1 }
+
+pub empty_body : (h : Header) → IsBody h []
+empty_body h = record { sorted = tt; all_good = refl; few = λ k. omega arith }
+
+-- the lines are those of a printable value
+pub record AreOfValue (ls : List Line) : Type 0 where
+  pub name : List ℕ
+  pub value : Certificate
+  pub name_is : IsTextName name
+  pub printable : IsWritable value
+  pub are : ls ≡ lines_of 1 name value
+
+lines_end : (h : Header) (v : Certificate) (is : List Item) → header_of h.format h.name v ≡ h → items_of v ≡ is → item_lines [] is ++ closing h.refutation h.name ∷ [] ≡ item_lines [] (items_of v) ++ closing h.refutation h.name ∷ []
+lines_end h v is e f = ap (λ (xs : List Item). item_lines [] xs ++ closing h.refutation h.name ∷ []) (sym f)
+
+pub saturated_lines : (name : List ℕ) (ls : List Line) → is_text_name name ≡ true → IsFinished (of_saturation name []) [] ls → AreOfValue (status false name ∷ opening false name ∷ version 1 ∷ ls)
+saturated_lines name ls n f = by (saturation_value name f.items f.is_body)
+  where
+    by : IsOfValue (of_saturation name []) f.items → AreOfValue (status false name ∷ opening false name ∷ version 1 ∷ ls)
+    by v = go v.value v.header v.items v.printable
+      where
+        go : (w : Certificate) → header_of 1 name w ≡ of_saturation name [] → items_of w ≡ f.items → IsWritable w → AreOfValue (status false name ∷ opening false name ∷ version 1 ∷ ls)
+        go (saturation c) e i p = record { name = name; value = saturation c; name_is = text_name name n; printable = p; are = ap (λ (ms : List Line). status false name ∷ opening false name ∷ version 1 ∷ ms) (f.are ∙ lines_end (of_saturation name []) (saturation c) f.items e i) }
+        go (first_refutation c) e i p = absurd (let k = ap (λ (h : Header). h.refutation) e in cc)
+
+pub refuted_lines : (name bot : List ℕ) (ls : List Line) → is_text_name name ≡ true → is_readable_name bot ≡ true → IsFinished (of_refutation name bot) [] ls → AreOfValue (status true name ∷ opening true name ∷ version 1 ∷ constant bot ∷ ls)
+refuted_lines name bot ls n r f = by (refutation_value name bot f.items r f.is_body)
+  where
+    by : IsOfValue (of_refutation name bot) f.items → AreOfValue (status true name ∷ opening true name ∷ version 1 ∷ constant bot ∷ ls)
+    by v = go v.value v.header v.items v.printable
+      where
+        go : (w : Certificate) → header_of 1 name w ≡ of_refutation name bot → items_of w ≡ f.items → IsWritable w → AreOfValue (status true name ∷ opening true name ∷ version 1 ∷ constant bot ∷ ls)
+        go (first_refutation c) e i p =
+            let bots = ap (λ (h : Header). h.bot) e in
+            record { name = name; value = first_refutation c; name_is = text_name name n; printable = p; are = ap₂ (λ (b : List ℕ) (ms : List Line). status true name ∷ opening true name ∷ version 1 ∷ constant b ∷ ms) (sym bots) (f.are ∙ ap (λ (xs : List Item). item_lines [] xs ++ closing true name ∷ []) (sym i)) }
+        go (saturation c) e i p = absurd (let k = ap (λ (h : Header). h.refutation) e in cc)

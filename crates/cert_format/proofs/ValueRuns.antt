@@ -1,0 +1,327 @@
+-- The lines of a printable value run to the end.
+use Rattle.std.proofs.Common.{◌≡◌, ◌≢◌, ℕ, suc, ◌+◌, ◌<◌, ◌≤◌, ◌^◌, Bool, true, false, cond, List, [], ◌∷◌, ◌++◌, length, Option, Some, refl, sym, ap, ◌∙◌, subst, arith, append_assoc}
+use Rattle.std.specs.Prelude.{◌&&◌, not, nat_eq, nat_le, nat_lt, All, IsTrue}
+use Rattle.std.specs.List.{list_all}
+use Rattle.std.specs.Option.{option_and_then}
+use Rattle.std.specs.Str.{bytes_eq}
+use Rattle.std.proofs.lemmas.List.{append-nil}
+use Rattle.std.proofs.lemmas.List.Elements.{All-head, All-tail}
+use Rattle.std.proofs.lemmas.Bool.Decides.{nat_tests}
+use Rattle.std.proofs.lemmas.Slice.Eq.{bytes_eq-Decides}
+use Rattle.inst_logic.specs.Tree.{Tree}
+use Rattle.inst_logic.specs.Clauses.{TreeClause}
+use Rattle.inst_logic.specs.Printing.{is_readable_name}
+use Rattle.inst_calculus.specs.Entries.{Origin, input, inst, Entry}
+use Rattle.inst_calculus.specs.Steps.{Step, Cited, given, earlier}
+use Rattle.cert_format.specs.Certificate.{FirstRefutation, Saturation, Certificate, first_refutation, saturation}
+use Rattle.cert_format.specs.Printable.{IsNumber, HasNumbers, cited_number, IsTextName}
+use Rattle.cert_format.proofs.ClauseForms.{IsWritableClause}
+use Rattle.cert_format.proofs.Writables.{IsWritableEntry, IsWritableStep, IsWritableRefutation, IsWritableSaturation, IsWritable}
+use Rattle.cert_format.specs.LineMachine.{is_number, named, equality, member, selected, ground_of, shown_by, rank, Item, Header, Line, opening, version, constant, closing, count, State, nothing, begun, opened, body, done, fits, last_rank, last_rank_from, guarded}
+use Rattle.inst_logic.specs.Equal.{bool_eq}
+use Rattle.inst_logic.specs.EqualLaws.{bool_eq_decides}
+use Rattle.cert_format.specs.Machines as machines
+use Rattle.cert_format.specs.Machines.{Ends}
+use Rattle.cert_format.specs.LineTexts.{line_text, is_name_byte, is_text_name, origin_is_printable, hint_is_printable, hints_are_printable, note_is_printable}
+use Rattle.cert_format.specs.FirstFormat.{clause_is_printable, may_follow, step, is_done, AreLines}
+use Rattle.cert_format.specs.ValueLines.{input_items, axiom_items, member_items, selected_items, ground_items, step_items, items_of, item_lines, header_of, lines_of}
+use Rattle.std.proofs.lemmas.Bool.{and_parts, and_from}
+use Rattle.cert_format.proofs.Spelling.{small_number, number_is}
+use Rattle.cert_format.proofs.FirstFormat.{test_is}
+use Rattle.cert_format.proofs.LineTexts.{count_append, count_other, count_own, input_ranks, axiom_ranks, member_ranks, selected_ranks, ground_ranks, step_ranks}
+
+last_push : (k : ℕ) (is : List Item) (i : Item) → last_rank_from k (is ++ i ∷ []) ≡ rank i.note
+last_push k [] i = refl
+last_push k (j ∷ is) i = last_push (rank j.note) is i
+
+-- ---- items in the order of the text
+
+abbrev pub IsSorted : ℕ → List Item → Type 0
+IsSorted k [] = Unit {0}
+IsSorted k (i ∷ is) = (k ≤ rank i.note) × IsSorted (rank i.note) is
+
+sorted_weaker : (j k : ℕ) (is : List Item) → j ≤ k → IsSorted k is → IsSorted j is
+sorted_weaker j k [] h s = tt
+sorted_weaker j k (i ∷ is) h s = let a = s.0 in (omega arith, s.1)
+
+sorted_group : (j k : ℕ) (is js : List Item) → list_all (λ (i : Item). nat_eq (rank i.note) k) is ≡ true → j ≤ k → IsSorted k js → IsSorted j (is ++ js)
+sorted_group j k [] js h l s = sorted_weaker j k js l s
+sorted_group j k (i ∷ is) js h l s =
+    let a = and_parts (nat_eq (rank i.note) k) _ h in
+    let e = number_is (rank i.note) k a.0 in
+    (omega arith, subst (λ (r : ℕ). IsSorted r (is ++ js)) (sym e) (sorted_group k k is js a.1 (omega arith) s))
+
+abbrev pub good : Header → Item → Bool
+good h i = fits h i.note && (clause_is_printable i.clause && note_is_printable i.note)
+
+less_equal : (m n : ℕ) → m ≤ n → nat_le m n ≡ true
+less_equal m n h = grind (arith, nat_tests)
+
+same_number : (n : ℕ) → nat_eq n n ≡ true
+same_number n = grind (arith, nat_tests)
+
+follows : (h : Header) (before : List Item) (i : Item) → last_rank before ≤ rank i.note → good h i ≡ true → suc (count (rank i.note) before) < 2 ^ 64 → may_follow h before (suc (count (rank i.note) before)) i.clause i.note ≡ true
+follows h before i l g few =
+    let n = suc (count (rank i.note) before) in
+    let a = and_parts (fits h i.note) _ g in
+    and_from (fits h i.note) _ a.0 (and_from (nat_le (last_rank before) (rank i.note)) _ (less_equal (last_rank before) (rank i.note) l) (and_from (nat_eq n n) _ (same_number n)
+    (and_from (is_number n) _ (small_number n few) a.1)))
+
+abbrev run : State → List Line → Option State
+run = machines.run line_text step is_done
+
+rank_count : (k : ℕ) (before is : List Item) (i : Item) → rank i.note ≡ k → count k (before ++ i ∷ is) < 2 ^ 64 → suc (count k before) < 2 ^ 64
+rank_count k before is i e h =
+    let a = count_append k before (i ∷ is) in
+    let b : count k (i ∷ is) ≡ suc (count k is) = ap (λ (t : Bool). cond t (suc (count k is)) (count k is)) (ap (λ (j : ℕ). nat_eq j k) e ∙ same_number k) in
+    omega arith
+
+run_items : (h : Header) (before is : List Item) (rest : List Line) → IsSorted (last_rank before) is → list_all (good h) is ≡ true → ((k : ℕ) → count k (before ++ is) < 2 ^ 64) → run (body h before) (item_lines before is ++ rest) ≡ run (body h (before ++ is)) rest
+run_items h before [] rest s g few = ap (λ (b : List Item). run (body h b) rest) (sym (append-nil before))
+run_items h before (i ∷ is) rest s g few =
+    let a = and_parts (good h i) _ g in
+    let m = follows h before i s.0 a.0 (rank_count (rank i.note) before is i refl (few (rank i.note))) in
+    let group = append_assoc before (i ∷ []) is in
+    ap (λ (t : Bool). option_and_then (λ (u : State). run u (item_lines (before ++ i ∷ []) is ++ rest)) (guarded t (body h (before ++ i ∷ [])))) m
+    ∙ run_items h (before ++ i ∷ []) is rest (subst (λ (r : ℕ). IsSorted r is) (sym (last_push 0 before i)) s.1) a.1 (λ k. subst (λ (b : List Item). count k b < 2 ^ 64) (sym group) (few k))
+    ∙ ap (λ (b : List Item). run (body h b) rest) group
+
+-- ---- printable values
+
+number_yes : (n : ℕ) → IsNumber n → is_number n ≡ true
+number_yes n h = small_number n h
+
+pub origin_yes : (o : Origin) → HasNumbers o → origin_is_printable o ≡ true
+origin_yes (input k) h = number_yes k h
+origin_yes (inst a p b q) h = and_from (is_number a) _ (number_yes a h.0) (and_from (is_number p) _ (number_yes p h.1) (and_from (is_number b) (is_number q) (number_yes b h.2) (number_yes q h.3)))
+
+hint_yes : (h : Cited) → IsNumber (cited_number h) → hint_is_printable h ≡ true
+hint_yes (given k) h = number_yes k h
+hint_yes (earlier k) h = number_yes k h
+
+all_hints : (hs : List Cited) → All (λ h. IsNumber (cited_number h)) hs → list_all hint_is_printable hs ≡ true
+all_hints [] a = refl
+all_hints (h ∷ hs) a = and_from (hint_is_printable h) _ (hint_yes h (All-head (λ (x : Cited). IsNumber (cited_number x)) h hs a)) (all_hints hs (All-tail (λ (x : Cited). IsNumber (cited_number x)) h hs a))
+
+hints_yes : (hs : List Cited) → hs ≢ [] → All (λ h. IsNumber (cited_number h)) hs → hints_are_printable hs ≡ true
+hints_yes [] n a = absurd (n refl)
+hints_yes (h ∷ hs) n a = all_hints (h ∷ hs) a
+
+byte_yes : (b : ℕ) → 32 ≤ b → b ≢ 127 → is_name_byte b ≡ true
+byte_yes b h k = and_from (nat_le 32 b) (not (nat_eq b 127)) (less_equal 32 b h) (by (nat_eq b 127) refl)
+  where
+    by : (t : Bool) → nat_eq b 127 ≡ t → not (nat_eq b 127) ≡ true
+    by true e = absurd (k (number_is b 127 e))
+    by false e = ap not e
+
+bytes_yes : (n : List ℕ) → All (λ b. (32 ≤ b) × (b ≢ 127)) n → list_all is_name_byte n ≡ true
+bytes_yes [] a = refl
+bytes_yes (b ∷ n) a =
+    let h = All-head (λ (x : ℕ). (32 ≤ x) × (x ≢ 127)) b n a in
+    and_from (is_name_byte b) _ (byte_yes b h.0 h.1) (bytes_yes n (All-tail (λ (x : ℕ). (32 ≤ x) × (x ≢ 127)) b n a))
+
+less_yes : (m n : ℕ) → m < n → nat_lt m n ≡ true
+less_yes m n h = grind (arith, nat_tests)
+
+pub name_yes : (n : List ℕ) → IsTextName n → is_text_name n ≡ true
+name_yes n h = and_from (nat_lt 0 (length n)) _ (less_yes 0 (length n) h.some) (and_from (nat_le (length n) 4096) _ (less_equal (length n) 4096 h.short) (bytes_yes n h.bytes))
+
+input_good : (h : Header) (cs : List TreeClause) (ws : List (List ℕ)) → All IsWritableClause cs → All (λ n. IsTrue (is_readable_name n)) ws → list_all (good h) (input_items cs ws) ≡ true
+input_good h [] ws a b = refl
+input_good h (c ∷ cs) [] a b = refl
+input_good h (c ∷ cs) (w ∷ ws) a b =
+    and_from (good h (record { clause = c; note = named w })) _
+    (and_from (clause_is_printable c) _ (test_is c (All-head IsWritableClause c cs a)) (All-head (λ (n : List ℕ). IsTrue (is_readable_name n)) w ws b))
+    (input_good h cs ws (All-tail IsWritableClause c cs a) (All-tail (λ (n : List ℕ). IsTrue (is_readable_name n)) w ws b))
+
+axiom_good : (h : Header) (cs : List TreeClause) → All IsWritableClause cs → list_all (good h) (axiom_items cs) ≡ true
+axiom_good h [] a = refl
+axiom_good h (c ∷ cs) a = and_from (good h (record { clause = c; note = equality })) _ (and_from (clause_is_printable c) true (test_is c (All-head IsWritableClause c cs a)) refl) (axiom_good h cs (All-tail IsWritableClause c cs a))
+
+module _ (name bot : List ℕ) where
+  abbrev of_refutation : Header
+  of_refutation = record { refutation = true; name = name; format = 1; bot = bot }
+
+  abbrev of_saturation : Header
+  of_saturation = record { refutation = false; name = name; format = 1; bot = bot }
+
+  member_good : (es : List Entry) → All IsWritableEntry es → list_all (good of_refutation) (member_items es) ≡ true
+  member_good [] a = refl
+  member_good (e ∷ es) a =
+      let p = All-head IsWritableEntry e es a in
+      and_from (good of_refutation (record { clause = e.clause; note = member e.origin })) _
+      (and_from (clause_is_printable e.clause) _ (test_is e.clause p.clause) (origin_yes e.origin p.origin))
+      (member_good es (All-tail IsWritableEntry e es a))
+
+  selected_good : (es : List Entry) (ps : List ℕ) → All IsWritableEntry es → All IsNumber ps → list_all (good of_saturation) (selected_items es ps) ≡ true
+  selected_good [] ps a b = refl
+  selected_good (e ∷ es) [] a b = refl
+  selected_good (e ∷ es) (k ∷ ps) a b =
+      let p = All-head IsWritableEntry e es a in
+      and_from (good of_saturation (record { clause = e.clause; note = selected e.origin k })) _
+      (and_from (clause_is_printable e.clause) _ (test_is e.clause p.clause) (and_from (origin_is_printable e.origin) (is_number k) (origin_yes e.origin p.origin) (number_yes k (All-head IsNumber k ps b))))
+      (selected_good es ps (All-tail IsWritableEntry e es a) (All-tail IsNumber k ps b))
+
+  ground_good : (cs : List TreeClause) → All IsWritableClause cs → list_all (good of_refutation) (ground_items cs) ≡ true
+  ground_good [] a = refl
+  ground_good (c ∷ cs) a = and_from (good of_refutation (record { clause = c; note = ground_of })) _ (and_from (clause_is_printable c) true (test_is c (All-head IsWritableClause c cs a)) refl) (ground_good cs (All-tail IsWritableClause c cs a))
+
+  step_good : (ss : List (Step Tree)) → All IsWritableStep ss → list_all (good of_refutation) (step_items ss) ≡ true
+  step_good [] a = refl
+  step_good (s ∷ ss) a =
+      let p = All-head IsWritableStep s ss a in
+      and_from (good of_refutation (record { clause = s.clause; note = shown_by s.hints })) _
+      (and_from (clause_is_printable s.clause) _ (test_is s.clause p.clause) (hints_yes s.hints p.hinted p.hints))
+      (step_good ss (All-tail IsWritableStep s ss a))
+
+pub all_append : (p : Item → Bool) (is js : List Item) → list_all p is ≡ true → list_all p js ≡ true → list_all p (is ++ js) ≡ true
+all_append p [] js h k = k
+all_append p (i ∷ is) js h k = let a = and_parts (p i) (list_all p is) h in and_from (p i) (list_all p (is ++ js)) a.0 (all_append p is js a.1 k)
+
+-- ---- how many
+
+input_length : (cs : List TreeClause) (ws : List (List ℕ)) → length (input_items cs ws) ≤ length cs
+input_length [] ws = omega arith
+input_length (c ∷ cs) [] = omega arith
+input_length (c ∷ cs) (w ∷ ws) = omega (arith, input_length cs ws)
+
+axiom_length : (cs : List TreeClause) → length (axiom_items cs) ≡ length cs
+axiom_length [] = refl
+axiom_length (c ∷ cs) = ap suc (axiom_length cs)
+
+member_length : (es : List Entry) → length (member_items es) ≡ length es
+member_length [] = refl
+member_length (e ∷ es) = ap suc (member_length es)
+
+selected_length : (es : List Entry) (ps : List ℕ) → length (selected_items es ps) ≤ length es
+selected_length [] ps = omega arith
+selected_length (e ∷ es) [] = omega arith
+selected_length (e ∷ es) (p ∷ ps) = omega (arith, selected_length es ps)
+
+ground_length : (cs : List TreeClause) → length (ground_items cs) ≡ length cs
+ground_length [] = refl
+ground_length (c ∷ cs) = ap suc (ground_length cs)
+
+step_length : (ss : List (Step Tree)) → length (step_items ss) ≡ length ss
+step_length [] = refl
+step_length (s ∷ ss) = ap suc (step_length ss)
+
+-- a group counts where its rank is asked for
+count_group : (r k : ℕ) (is : List Item) → list_all (λ (i : Item). nat_eq (rank i.note) r) is ≡ true → count k is ≡ cond (nat_eq r k) (length is) 0
+count_group r k is h = by (nat_eq r k) refl
+  where
+    by : (t : Bool) → nat_eq r k ≡ t → count k is ≡ cond t (length is) 0
+    by true e = count_own k is (subst (λ (j : ℕ). list_all (λ (i : Item). nat_eq (rank i.note) j) is ≡ true) (number_is r k e) h)
+    by false e = count_other r k is h e
+
+-- groups of different ranks: the count of a rank is at most the length of one of them
+abbrev pub Few : ℕ → List Item → Type 0
+Few m is = (k : ℕ) → count k is < m
+
+few_nil : (m : ℕ) → 0 < m → Few m []
+few_nil m h k = h
+
+few_group : (m r : ℕ) (is js : List Item) → list_all (λ (i : Item). nat_eq (rank i.note) r) is ≡ true → length is < m → count r js ≡ 0 → Few m js → Few m (is ++ js)
+few_group m r is js h less none_ few k = by (nat_eq r k) refl
+  where
+    by : (t : Bool) → nat_eq r k ≡ t → count k (is ++ js) < m
+    by true e =
+        let rk = number_is r k e in
+        let a : count r (is ++ js) ≡ count r is + count r js = count_append r is js in
+        let b = count_own r is h in
+        subst (λ (j : ℕ). count j (is ++ js) < m) rk (omega arith)
+    by false e = let a = count_append k is js in let b = count_other r k is h e in let c = few k in omega arith
+
+-- ---- the whole run
+
+same_bytes : (n : List ℕ) → bytes_eq n n ≡ true
+same_bytes n = (bytes_eq-Decides n n).1 refl
+
+sorted_nil : (k : ℕ) (is : List Item) → list_all (λ (i : Item). nat_eq (rank i.note) k) is ≡ true → IsSorted k is
+sorted_nil k is h = subst (IsSorted k) (append-nil is) (sorted_group k k is [] h (omega arith) tt)
+
+few_last : (m r : ℕ) (is : List Item) → list_all (λ (i : Item). nat_eq (rank i.note) r) is ≡ true → length is < m → Few m is
+few_last m r is h less k = let a = few_group m r is [] h less refl (λ j. omega arith) k in subst (λ (js : List Item). count k js < m) (append-nil is) a
+
+-- a run of the items of a body, and the last line
+body_run : (h : Header) (is : List Item) → is_text_name h.name ≡ true → IsSorted 0 is → list_all (good h) is ≡ true → Few (2 ^ 64) is → run (body h []) (item_lines [] is ++ closing h.refutation h.name ∷ []) ≡ Some (done h is)
+body_run h is n s g few =
+    run_items h [] is (closing h.refutation h.name ∷ []) s g few
+    ∙ ap (λ (t : Bool). option_and_then (λ (u : State). Some u) (guarded t (done h is)))
+    (and_from (is_text_name h.name) _ n (and_from (bool_eq h.refutation h.refutation) _ ((bool_eq_decides h.refutation h.refutation).1 refl) (same_bytes h.name)))
+
+refutation_run : (name : List ℕ) (c : FirstRefutation) → is_text_name name ≡ true → IsWritableRefutation c → run (body (header_of 1 name (first_refutation c)) []) (item_lines [] (items_of (first_refutation c)) ++ closing true name ∷ []) ≡ Some (done (header_of 1 name (first_refutation c)) (items_of (first_refutation c)))
+refutation_run name c n p =
+    let h = header_of 1 name (first_refutation c) in
+    let b = c.base in
+    let A = input_items b.inputs b.names in
+    let B = axiom_items b.axioms in
+    let C = member_items b.members in
+    let D = ground_items c.grounds in
+    let E = step_items c.steps in
+    let rA = input_ranks b.inputs b.names in
+    let rB = axiom_ranks b.axioms in
+    let rC = member_ranks b.members in
+    let rD = ground_ranks c.grounds in
+    let rE = step_ranks c.steps in
+    let sE = sorted_nil 4 E rE in
+    let sD = sorted_group 3 3 D E rD (omega arith) (sorted_weaker 3 4 E (omega arith) sE) in
+    let sC = sorted_group 2 2 C (D ++ E) rC (omega arith) (sorted_weaker 2 3 (D ++ E) (omega arith) sD) in
+    let sB = sorted_group 1 1 B (C ++ (D ++ E)) rB (omega arith) (sorted_weaker 1 2 (C ++ (D ++ E)) (omega arith) sC) in
+    let sA = sorted_group 0 0 A (B ++ (C ++ (D ++ E))) rA (omega arith) (sorted_weaker 0 1 (B ++ (C ++ (D ++ E))) (omega arith) sB) in
+    let gE = step_good name c.bot.name c.steps p.steps in
+    let gD = all_append (good h) D E (ground_good name c.bot.name c.grounds p.grounds) gE in
+    let gC = all_append (good h) C (D ++ E) (member_good name c.bot.name b.members p.base.members) gD in
+    let gB = all_append (good h) B (C ++ (D ++ E)) (axiom_good h b.axioms p.base.axioms) gC in
+    let gA = all_append (good h) A (B ++ (C ++ (D ++ E))) (input_good h b.inputs b.names p.base.inputs p.base.names) gB in
+    let m = 2 ^ 64 in
+    let nA = p.base.input_count in let nB = p.base.axiom_count in let nC = p.base.member_count in let nD = p.ground_count in let nE = p.step_count in
+    let fE = few_last m 4 E rE (subst (λ (k : ℕ). k < m) (sym (step_length c.steps)) nE) in
+    let fD = few_group m 3 D E rD (subst (λ (k : ℕ). k < m) (sym (ground_length c.grounds)) nD) (count_other 4 3 E rE refl) fE in
+    let fC = few_group m 2 C (D ++ E) rC (subst (λ (k : ℕ). k < m) (sym (member_length b.members)) nC) (omega (arith, count_append 2 D E, count_other 3 2 D rD refl, count_other 4 2 E rE refl)) fD in
+    let fB = few_group m 1 B (C ++ (D ++ E)) rB (subst (λ (k : ℕ). k < m) (sym (axiom_length b.axioms)) nB) (omega (arith, count_append 1 C (D ++ E), count_append 1 D E, count_other 2 1 C rC refl, count_other 3 1 D rD refl, count_other 4 1 E rE refl)) fC in
+    let lA : length A < m = (let l = input_length b.inputs b.names in omega arith) in
+    let fA = few_group m 0 A (B ++ (C ++ (D ++ E))) rA lA (omega (arith, count_append 0 B (C ++ (D ++ E)), count_append 0 C (D ++ E), count_append 0 D E, count_other 1 0 B rB refl, count_other 2 0 C rC refl, count_other 3 0 D rD refl, count_other 4 0 E rE refl)) fB in
+    body_run h (items_of (first_refutation c)) n sA gA fA
+
+saturation_run : (name : List ℕ) (c : Saturation) → is_text_name name ≡ true → IsWritableSaturation c → run (body (header_of 1 name (saturation c)) []) (item_lines [] (items_of (saturation c)) ++ closing false name ∷ []) ≡ Some (done (header_of 1 name (saturation c)) (items_of (saturation c)))
+saturation_run name c n p =
+    let h = header_of 1 name (saturation c) in
+    let b = c.base in
+    let A = input_items b.inputs b.names in
+    let B = axiom_items b.axioms in
+    let C = selected_items b.members c.places in
+    let rA = input_ranks b.inputs b.names in
+    let rB = axiom_ranks b.axioms in
+    let rC = selected_ranks b.members c.places in
+    let sC = sorted_nil 2 C rC in
+    let sB = sorted_group 1 1 B C rB (omega arith) (sorted_weaker 1 2 C (omega arith) sC) in
+    let sA = sorted_group 0 0 A (B ++ C) rA (omega arith) (sorted_weaker 0 1 (B ++ C) (omega arith) sB) in
+    let gC = selected_good name [] b.members c.places p.base.members p.places in
+    let gB = all_append (good h) B C (axiom_good h b.axioms p.base.axioms) gC in
+    let gA = all_append (good h) A (B ++ C) (input_good h b.inputs b.names p.base.inputs p.base.names) gB in
+    let m = 2 ^ 64 in
+    let nA = p.base.input_count in let nB = p.base.axiom_count in let nC = p.base.member_count in
+    let lC : length C < m = (let l = selected_length b.members c.places in omega arith) in
+    let lA : length A < m = (let l = input_length b.inputs b.names in omega arith) in
+    let fC = few_last m 2 C rC lC in
+    let fB = few_group m 1 B C rB (subst (λ (k : ℕ). k < m) (sym (axiom_length b.axioms)) nB) (count_other 2 1 C rC refl) fC in
+    let fA = few_group m 0 A (B ++ C) rA lA (omega (arith, count_append 0 B C, count_other 1 0 B rB refl, count_other 2 0 C rC refl)) fB in
+    body_run h (items_of (saturation c)) n sA gA fA
+
+-- the lines of a printable value are lines
+pub are_lines : (name : List ℕ) (v : Certificate) → IsTextName name → IsWritable v → AreLines (lines_of 1 name v)
+are_lines name v t p = record { last = done (header_of 1 name v) (items_of v); runs = by v p; ended = refl }
+  where
+    by : (w : Certificate) → IsWritable w → run nothing (lines_of 1 name w) ≡ Some (done (header_of 1 name w) (items_of w))
+    by (first_refutation c) q =
+        let n = name_yes name t in
+        ap (λ (b : Bool). option_and_then (λ (u : State). run u (opening true name ∷ version 1 ∷ constant c.bot.name ∷ (item_lines [] (items_of (first_refutation c)) ++ closing true name ∷ []))) (guarded b (begun true name))) n
+        ∙ ap (λ (b : Bool). option_and_then (λ (u : State). run u (version 1 ∷ constant c.bot.name ∷ (item_lines [] (items_of (first_refutation c)) ++ closing true name ∷ []))) (guarded b (opened true name))) (and_from (is_text_name name) _ n (same_bytes name))
+        ∙ ap (λ (b : Bool). option_and_then (λ (u : State). run u (item_lines [] (items_of (first_refutation c)) ++ closing true name ∷ [])) (guarded b (body (header_of 1 name (first_refutation c)) []))) q.bot_name
+        ∙ refutation_run name c n q
+    by (saturation c) q =
+        let n = name_yes name t in
+        ap (λ (b : Bool). option_and_then (λ (u : State). run u (opening false name ∷ version 1 ∷ (item_lines [] (items_of (saturation c)) ++ closing false name ∷ []))) (guarded b (begun false name))) n
+        ∙ ap (λ (b : Bool). option_and_then (λ (u : State). run u (version 1 ∷ (item_lines [] (items_of (saturation c)) ++ closing false name ∷ []))) (guarded b (opened false name))) (and_from (is_text_name name) _ n (same_bytes name))
+        ∙ saturation_run name c n q

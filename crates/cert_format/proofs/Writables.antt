@@ -1,0 +1,142 @@
+-- Certificates that are printable and whose numbers can be written, part by part.
+use Rattle.std.proofs.Common.{◌≡◌, ◌≢◌, ℕ, List, [], ◌∷◌, length}
+use Rattle.std.specs.Prelude.{All, IsTrue}
+use Rattle.std.proofs.lemmas.List.Elements.{All-nil, All-cons, All-head, All-tail, All-weaker}
+use Rattle.inst_logic.specs.Tree.{Tree}
+use Rattle.inst_logic.specs.Clauses.{TreeClause}
+use Rattle.inst_logic.specs.WellFormed.{is_constant}
+use Rattle.inst_logic.specs.Printing.{is_readable_name}
+use Rattle.inst_calculus.specs.Entries.{Entry}
+use Rattle.inst_calculus.specs.Steps.{Step}
+use Rattle.cert_format.specs.Certificate.{Base, FirstRefutation, Saturation, Certificate, first_refutation, saturation}
+use Rattle.cert_format.specs.Printable.{IsNumber, HasNumbers, cited_number, IsPrintableClause, IsPrintableBase, IsPrintableStep, ClauseFits, EntryFits, StepFits, BaseFits, HasPrintableParts, NumbersFit, IsPrintable}
+use Rattle.cert_format.proofs.ClauseForms.{IsWritableClause}
+
+pub record IsWritableEntry (e : Entry) : Type 0 where
+  pub clause : IsWritableClause e.clause
+  pub origin : HasNumbers e.origin
+
+pub record IsWritableBase (b : Base) : Type 0 where
+  pub inputs : All IsWritableClause b.inputs
+  pub named : length b.names ≡ length b.inputs
+  pub names : All (λ n. IsTrue (is_readable_name n)) b.names
+  pub axioms : All IsWritableClause b.axioms
+  pub members : All IsWritableEntry b.members
+  pub input_count : IsNumber (length b.inputs)
+  pub axiom_count : IsNumber (length b.axioms)
+  pub member_count : IsNumber (length b.members)
+
+pub record IsWritableStep (s : Step Tree) : Type 0 where
+  pub clause : IsWritableClause s.clause
+  pub hinted : s.hints ≢ []
+  pub hints : All (λ h. IsNumber (cited_number h)) s.hints
+
+pub record IsWritableRefutation (c : FirstRefutation) : Type 0 where
+  pub base : IsWritableBase c.base
+  pub constant : IsTrue (is_constant c.bot)
+  pub bot_name : IsTrue (is_readable_name c.bot.name)
+  pub grounds : All IsWritableClause c.grounds
+  pub steps : All IsWritableStep c.steps
+  pub ground_count : IsNumber (length c.grounds)
+  pub step_count : IsNumber (length c.steps)
+
+pub record IsWritableSaturation (c : Saturation) : Type 0 where
+  pub base : IsWritableBase c.base
+  pub placed : length c.places ≡ length c.base.members
+  pub places : All IsNumber c.places
+
+abbrev pub IsWritable : Certificate → Type 0
+IsWritable (first_refutation r) = IsWritableRefutation r
+IsWritable (saturation s) = IsWritableSaturation s
+
+-- ---- both facts of each item
+
+both : {A : Type 0} (P Q R : A → Type 0) → ((x : A) → P x → Q x → R x) → (xs : List A) → All P xs → All Q xs → All R xs
+both P Q R f [] h k = All-nil R
+both P Q R f (x ∷ xs) h k = All-cons R x xs (f x (All-head P x xs h) (All-head Q x xs k)) (both P Q R f xs (All-tail P x xs h) (All-tail Q x xs k))
+
+clause_both : (c : TreeClause) → IsPrintableClause c → ClauseFits c → IsWritableClause c
+clause_both c p n = record { printable = p; numbers = n }
+
+clauses_both : (cs : List TreeClause) → All IsPrintableClause cs → All ClauseFits cs → All IsWritableClause cs
+clauses_both cs = both IsPrintableClause ClauseFits IsWritableClause clause_both cs
+
+base_both : (b : Base) → IsPrintableBase b → BaseFits b → IsWritableBase b
+base_both b p n = record {
+  inputs = clauses_both b.inputs p.inputs n.inputs;
+  named = p.named;
+  names = p.names;
+  axioms = clauses_both b.axioms p.axioms n.axioms;
+  members = both (λ (e : Entry). IsPrintableClause e.clause) EntryFits IsWritableEntry (λ e q m. record { clause = clause_both e.clause q m.clause; origin = m.origin }) b.members p.members n.members;
+  input_count = n.input_count;
+  axiom_count = n.axiom_count;
+  member_count = n.member_count;
+}
+
+pub writable : (c : Certificate) → HasPrintableParts c → NumbersFit c → IsWritable c
+writable (first_refutation c) p n = record {
+  base = base_both c.base p.base n.base;
+  constant = p.constant;
+  bot_name = p.bot_name;
+  grounds = clauses_both c.grounds p.grounds n.grounds;
+  steps = both IsPrintableStep StepFits IsWritableStep (λ s q m. record { clause = clause_both s.clause q.clause m.clause; hinted = q.hinted; hints = m.hints }) c.steps p.steps n.steps;
+  ground_count = n.ground_count;
+  step_count = n.step_count;
+}
+writable (saturation c) p n = record { base = base_both c.base p.base n.base; placed = p.placed; places = n.places }
+
+-- ---- and each of the two
+
+clauses_printable : (cs : List TreeClause) → All IsWritableClause cs → All IsPrintableClause cs
+clauses_printable cs h = All-weaker IsWritableClause IsPrintableClause (λ c w. w.printable) cs h
+
+clauses_fit : (cs : List TreeClause) → All IsWritableClause cs → All ClauseFits cs
+clauses_fit cs h = All-weaker IsWritableClause ClauseFits (λ c w. w.numbers) cs h
+
+base_printable : (b : Base) → IsWritableBase b → IsPrintableBase b
+base_printable b w = record {
+  inputs = clauses_printable b.inputs w.inputs;
+  named = w.named;
+  names = w.names;
+  axioms = clauses_printable b.axioms w.axioms;
+  members = All-weaker IsWritableEntry (λ (e : Entry). IsPrintableClause e.clause) (λ e v. v.clause.printable) b.members w.members;
+}
+
+base_fits : (b : Base) → IsWritableBase b → BaseFits b
+base_fits b w = record {
+  inputs = clauses_fit b.inputs w.inputs;
+  axioms = clauses_fit b.axioms w.axioms;
+  members = All-weaker IsWritableEntry EntryFits (λ e v. record { clause = v.clause.numbers; origin = v.origin }) b.members w.members;
+  input_count = w.input_count;
+  axiom_count = w.axiom_count;
+  member_count = w.member_count;
+}
+
+pub printable : (c : Certificate) → IsWritable c → IsPrintable 1 c
+printable (first_refutation c) w = record {
+  known = λ i. 1;
+  parts = record {
+    base = base_printable c.base w.base;
+    constant = w.constant;
+    bot_name = w.bot_name;
+    grounds = clauses_printable c.grounds w.grounds;
+    steps = All-weaker IsWritableStep IsPrintableStep (λ s v. record { clause = v.clause.printable; hinted = v.hinted }) c.steps w.steps;
+  };
+  numbers = record {
+    base = base_fits c.base w.base;
+    grounds = clauses_fit c.grounds w.grounds;
+    steps = All-weaker IsWritableStep StepFits (λ s v. record { clause = v.clause.numbers; hints = v.hints }) c.steps w.steps;
+    ground_count = w.ground_count;
+    step_count = w.step_count;
+  };
+}
+printable (saturation c) w = record {
+  known = λ i. 1;
+  parts = record { base = base_printable c.base w.base; placed = w.placed };
+  numbers = record { base = base_fits c.base w.base; places = w.places };
+}
+
+-- there is one format
+pub only_format : (f : ℕ) (c : Certificate) → IsPrintable f c → f ≡ 1
+only_format f (first_refutation c) p = p.known
+only_format f (saturation c) p = p.known

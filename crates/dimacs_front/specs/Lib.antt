@@ -1,0 +1,10 @@
+pub mod Lines
+pub mod Tokens
+pub mod Numbers
+pub mod Form
+pub mod Header
+pub mod Texts
+pub mod Answers
+pub mod Files
+pub mod Dimacs
+pub mod Command

@@ -1,0 +1,108 @@
+// A tree that is filled and asked.
+ghost use Rattle.std.specs.Prelude.{◌≡◌, ◌<◌, [], length, false};
+ghost use Rattle.term_bank.specs.Forest.{AreIds};
+ghost use Rattle.term_tree.specs.State.{Fits};
+
+use crate::atoms::{Kind, Terms, no_terms, terms_of_kind};
+use inst_logic::Memory;
+use std::alloc::Global;
+use term_bank::{Bank, TermId};
+use term_index::{View, candidates};
+use term_tree::Tree;
+use worked_index::building::{store_all, terms_of};
+
+// How many entries the query is given.
+fn given(index: &Tree, bank: &Bank, query: TermId) -> Result<usize, Memory>
+    requires query { query < length bank.now.trees }
+    requires fits { Fits bank.now index.now }
+{
+    let mut count: usize = 0;
+    for item in candidates(index, bank, query, View::Unifiable)? {
+        item?;
+        count = count.wrapping_add(1);
+    }
+    Ok(count)
+}
+
+// How many entries all queries are given.
+fn given_all(index: &Tree, bank: &Bank, queries: &[TermId]) -> Result<usize, Memory>
+    requires queries { AreIds bank.now queries.now }
+    requires fits { Fits bank.now index.now }
+{
+    let mut count: usize = 0;
+    for i in 0..queries.len() {
+        count = count.wrapping_add(given(index, bank, queries[i])?);
+    }
+    Ok(count)
+}
+
+fn asked(index: &Tree, bank: &Bank, queries: &[TermId], rounds: usize) -> Result<usize, Memory>
+    requires queries { AreIds bank.now queries.now }
+    requires fits { Fits bank.now index.now }
+{
+    let mut count: usize = 0;
+    for _ in 0..rounds {
+        count = count.wrapping_add(given_all(index, bank, queries)?);
+    }
+    Ok(count)
+}
+
+// Stores atoms in the tree, and asks the queries.
+fn filled(
+    alloc: Global,
+    index: &mut Tree,
+    bank: &Bank,
+    terms: &Terms,
+    stored: usize,
+    rounds: usize,
+) -> Result<usize, Memory>
+    requires empty { index.old ≡ record { edges = []; spans = []; places = []; nodes = []; found = []; spent = false } }
+    requires ids { AreIds bank.now terms.now.all.items }
+{
+    let mut places = terms.atoms.clone()?;
+    places.truncate(stored);
+    let atoms = terms_of(alloc, bank, terms.all.as_slice(), places.as_slice())?;
+    let queries = terms_of(alloc, bank, terms.all.as_slice(), terms.queries.as_slice())?;
+    store_all(index, bank, atoms.as_slice())?;
+    asked(index, bank, queries.as_slice(), rounds)
+}
+
+fn filled_in_bank(
+    alloc: Global,
+    index: &mut Tree,
+    bank: &mut Bank,
+    kind: Kind,
+    constants: usize,
+    stored: usize,
+    rounds: usize,
+) -> Result<usize, Memory>
+    requires empty { index.old ≡ record { edges = []; spans = []; places = []; nodes = []; found = []; spent = false } }
+{
+    let mut terms = no_terms(alloc);
+    terms_of_kind(alloc, bank, &mut terms, kind, constants)?;
+    filled(alloc, index, bank, &terms, stored, rounds)
+}
+
+fn measured_in_bank(
+    alloc: Global,
+    bank: &mut Bank,
+    kind: Kind,
+    constants: usize,
+    stored: usize,
+    rounds: usize,
+) -> Result<usize, Memory> {
+    let mut index = Tree::new(alloc);
+    filled_in_bank(alloc, &mut index, bank, kind, constants, stored, rounds)
+}
+
+/// How many entries are given in all rounds.
+pub fn measured(
+    alloc: Global,
+    kind: Kind,
+    constants: usize,
+    stored: usize,
+    rounds: usize,
+) -> Result<usize, Memory> {
+    let mut bank = Bank::new(alloc);
+    measured_in_bank(alloc, &mut bank, kind, constants, stored, rounds)
+}

@@ -1,0 +1,35 @@
+use Rattle.std.proofs.Common.{◌∙◌}
+use Rattle.std.proofs.lemmas.Result.{IfOk-weaker}
+use Rattle.inst_calculus.specs.Axioms.{with_axioms}
+use Rattle.instgen_loop.specs.declared.outcome.Outcome.{Outcome}
+use Rattle.instgen_loop.proofs.Ended.{held_conclude, rest_read, solved_read, problem_read, journal_read}
+use Rattle.instgen_loop.proofs.finish.finish.Goals as goal
+
+pub decide-requires-clause-held : goal.decide-requires-clause-held
+decide-requires-clause-held g c = held_conclude g.S.Solver.atoms g.S.Solver.added c.args.run.now (with_axioms c.args.p.now.clauses) c.args.budget c.requires.running
+
+pub saturated-requires-clause-rest : goal.saturated-requires-clause-rest
+saturated-requires-clause-rest g c = rest_read c.args.run.now c.decide.new.run c.in_ok-decide.ensures.reads g.S.Solver.atoms g.I.PartnerIndex.pairs g.I.PartnerIndex.fits c.args.partners.now c.requires.safe c.in_ok-decide.ensures.safe c.requires.tended c.requires.rests c.requires.whole
+
+pub saturated-requires-clause-running : goal.saturated-requires-clause-running
+saturated-requires-clause-running g c = solved_read c.args.run.now c.decide.new.run c.in_ok-decide.ensures.reads g.S.Solver.atoms g.S.Solver.added g.I.PartnerIndex.pairs g.I.PartnerIndex.fits (with_axioms c.args.p.now.clauses) c.args.budget c.requires.safe c.requires.running
+
+pub saturated-requires-clause-problem : goal.saturated-requires-clause-problem
+saturated-requires-clause-problem g c = problem_read c.args.run.now c.decide.new.run c.in_ok-decide.ensures.reads c.args.given c.args.p.now.clauses c.args.p.now.names c.requires.problem
+
+pub stopped-requires-clause-rest : goal.stopped-requires-clause-rest
+stopped-requires-clause-rest g c = rest_read c.args.run.now c.decide.new.run c.in_ok-decide.ensures.reads g.S.Solver.atoms g.I.PartnerIndex.pairs g.I.PartnerIndex.fits c.args.partners.now c.requires.safe c.in_ok-decide.ensures.safe c.requires.tended c.requires.rests c.requires.whole
+
+pub stopped-requires-clause-running : goal.stopped-requires-clause-running
+stopped-requires-clause-running g c = solved_read c.args.run.now c.decide.new.run c.in_ok-decide.ensures.reads g.S.Solver.atoms g.S.Solver.added g.I.PartnerIndex.pairs g.I.PartnerIndex.fits (with_axioms c.args.p.now.clauses) c.args.budget c.requires.safe c.requires.running
+
+pub stopped-requires-clause-problem : goal.stopped-requires-clause-problem
+stopped-requires-clause-problem g c = problem_read c.args.run.now c.decide.new.run c.in_ok-decide.ensures.reads c.args.given c.args.p.now.clauses c.args.p.now.names c.requires.problem
+
+pub returns-in-None-clause-journal : goal.returns-in-None-clause-journal
+returns-in-None-clause-journal g c =
+    IfOk-weaker c.saturated.result _ _ (λ (o : Outcome) e. e ∙ journal_read c.args.run.now c.decide.new.run c.in_ok-decide.ensures.reads) c.saturated.ensures.journal
+
+pub returns-in-Some-clause-journal : goal.returns-in-Some-clause-journal
+returns-in-Some-clause-journal g c =
+    IfOk-weaker c.stopped.result _ _ (λ (o : Outcome) e. e ∙ journal_read c.args.run.now c.decide.new.run c.in_ok-decide.ensures.reads) c.stopped.ensures.journal

@@ -1,0 +1,15 @@
+use Rattle.std.proofs.Common.{◌∙◌}
+use Rattle.instgen_loop.proofs.Stopped.{has_left, stopped_outcome}
+use Rattle.instgen_loop.proofs.finish.stopped.Goals as goal
+
+pub left_of-left-requires : goal.left_of-left-requires
+left_of-left-requires g c =
+    has_left g.S.Solver.atoms g.S.Solver.added g.I.PartnerIndex.pairs g.I.PartnerIndex.fits c.args.run.now c.args._partners.now c.args.given c.args._p.now.clauses c.args._p.now.names c.args._budget c.args.wanted
+    c.requires.rest c.requires.problem c.requires.open c.requires.running
+
+pub returns-clause-outcome : goal.returns-clause-outcome
+returns-clause-outcome g c =
+    let S = g.S.Solver in
+    let I = g.I.PartnerIndex in
+    stopped_outcome S.atoms S.added I.pairs I.fits c.args.run.now c.args._partners.now c.args.given c.args._p.now.clauses c.args._p.now.names c.args._budget c.args.wanted c.requires.rest c.requires.problem c.requires.open
+    c.requires.running c.left_of-left.result c.left_of-left.ensures c.in_ok-state.state c.replace-journal.result c.in_ok-state.ensures.cert (c.replace-journal.ensures.value ∙ c.in_ok-state.ensures.journal)

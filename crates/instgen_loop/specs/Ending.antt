@@ -1,0 +1,22 @@
+-- Runs at rest, and the certificates that they give.
+use Rattle.std.specs.Prelude.{◌≡◌, ℕ, List, [], length}
+use Rattle.term_bank.specs.Forest.{Forest}
+use Rattle.term_index.specs.Pairs.{Pair}
+use Rattle.saturation_cert.specs.declared.certificate.Saturation.{Saturation}
+use Rattle.instgen_loop.specs.declared.start.Given.{Given}
+use Rattle.instgen_loop.specs.declared.state.Run.{Run}
+use Rattle.instgen_loop.specs.declared.queue.Partners.{Partners}
+use Rattle.instgen_loop.specs.Loops.{items, IsSafe}
+use Rattle.instgen_loop.specs.Refuting.{base_from}
+use Rattle.instgen_loop.specs.Tended.{AreTended}
+
+-- nothing waits, each entry has a place, and what is indexed is worked
+pub record IsAtRest {S I C : Type 0} (atoms : S → ℕ) (pairs : I → List Pair) (fits : Forest → I → Type 0) (r : Run S I C) (p : Partners I C) : Type 0 where
+  pub safe : IsSafe atoms pairs fits r
+  pub tended : AreTended pairs r p
+  pub rests : r.queue.items ≡ []
+  pub whole : length r.selection.places ≡ length (items r)
+
+-- the run's entries with their places
+abbrev pub saturation_from : {S I C : Type 0} → Run S I C → Given → Saturation
+saturation_from r g = record { base = base_from r g; places = r.selection.places }

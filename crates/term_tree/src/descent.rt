@@ -1,0 +1,105 @@
+// The way of an atom down the tree, label by label, and the spans of its terms.
+ghost use Rattle.std.specs.Prelude.{◌≡◌, ◌<◌, ◌+◌, ◌++◌, ◌∷◌, [], List, length, IfOk, OnOk, reverse};
+ghost use Rattle.term_bank.specs.Forest.{tree_at};
+ghost use Rattle.term_tree.specs.declared.label.Label.{Label};
+ghost use Rattle.term_tree.specs.declared.node.Edge.{Edge};
+ghost use Rattle.term_tree.specs.Labels.{label_of};
+ghost use Rattle.term_tree.specs.Numbered.{IsKnown};
+ghost use Rattle.term_tree.specs.Paths.{IsChild};
+ghost use Rattle.term_tree.specs.Left.{IsDescent, AreBelow, IsSorted, Closes, left_size, AreLeftNumbered};
+
+use crate::node::Span;
+use inst_logic::Memory;
+use std::alloc::Global;
+use term_bank::{Bank, TermId};
+
+/// A term that began at the node, and ends when so many terms are left.
+#[derive(Clone, Copy, Debug, PartialEq, Eq)]
+pub struct Open {
+    pub begin: usize,
+    pub height: usize,
+}
+
+/// The terms that are left, the last one first; those of which the symbol is passed and some argument is left, the outer ones
+/// first; and the spans of those that have ended, the inner ones first.
+#[derive(Drop)]
+pub struct Descent {
+    pub left: Vec<TermId>,
+    pub opened: Vec<Open>,
+    pub closed: Vec<Span>,
+}
+
+// An atom of which no symbol is passed.
+pub fn descent_of(alloc: Global, atom: TermId) -> Result<Descent, Memory>
+    ensures { IfOk result (λ d. (d.left.items ≡ atom ∷ []) × (d.opened.items ≡ []) × (d.closed.items ≡ [])) }
+{
+    let mut left = Vec::new(alloc);
+    left.push(atom)?;
+    Ok(Descent {
+        left,
+        opened: Vec::new(alloc),
+        closed: Vec::new(alloc),
+    })
+}
+
+// The ids, so that the first one comes off first.
+fn push_args(left: &mut Vec<TermId>, args: &[TermId]) -> Result<(), Memory>
+    ensures { OnOk result (left.new.items ≡ left.old.items ++ reverse args.now) }
+{
+    for i in (0..args.len()).rev() {
+        left.push(args[i])?;
+    }
+    Ok(())
+}
+
+// The terms that end where so many are left end at this node.
+fn close(
+    opened: &mut Vec<Open>,
+    closed: &mut Vec<Span>,
+    height: usize,
+    node: usize,
+) -> Result<(), Memory>
+    requires { IsSorted opened.old.items }
+    ensures closes { OnOk result (Closes opened.old.items opened.new.items closed.old.items closed.new.items node height) }
+    ensures below { OnOk result (AreBelow height opened.new.items) }
+{
+    while let Some(last) = opened.pop() {
+        if last.height < height {
+            opened.push(last)?;
+            return Ok(());
+        }
+        closed.push(Span {
+            begin: last.begin,
+            end: node,
+        })?;
+    }
+    Ok(())
+}
+
+// Passes the symbol of the term, which leads from the node to the next.
+pub fn pass(
+    descent: &mut Descent,
+    bank: &Bank,
+    id: TermId,
+    node: usize,
+    next: usize,
+) -> Result<(), Memory>
+    requires id { id < length bank.now.trees }
+    requires sorted { IsSorted descent.old.opened.items }
+    requires below { AreBelow (length descent.old.left.items + 1) descent.old.opened.items }
+    ensures descent { OnOk result ((es : List Edge) (all : List Label) → IsDescent bank.now es all node (descent.old.left.items ++ id ∷ []) descent.old.opened.items descent.old.closed.items
+        → IsChild es node (label_of bank.now (tree_at bank.now id)) next → IsDescent bank.now es all next descent.new.left.items descent.new.opened.items descent.new.closed.items) }
+    ensures below { OnOk result (AreBelow (length descent.new.left.items) descent.new.opened.items) }
+    ensures smaller { OnOk result (left_size bank.now descent.new.left.items < left_size bank.now (descent.old.left.items ++ id ∷ [])) }
+    ensures numbered { OnOk result (IsKnown bank.now (tree_at bank.now id) → AreLeftNumbered bank.now descent.new.left.items → AreLeftNumbered bank.now (descent.old.left.items ++ id ∷ [])) }
+{
+    let height = descent.left.len();
+    descent.opened.push(Open {
+        begin: node,
+        height,
+    })?;
+    push_args(&mut descent.left, bank.args(id))?;
+    let left = descent.left.len();
+    close(&mut descent.opened, &mut descent.closed, left, next)?;
+    Ok(())
+}
