@@ -1,0 +1,204 @@
+// Problems that each solver decides with each index, and runs that meet a refusing index.
+use crate::engines::{Engine, row_told};
+use crate::outcomes::{Ending, Row, Told};
+use std::alloc::Global;
+use std::process::Abort;
+use std::test::Fail;
+
+// The budget where none is asked for.
+const BUDGET: u32 = 10_000_000;
+
+const INSTANCE: &str = "cnf(one,axiom,p(X)). cnf(two,axiom,~p(c)).";
+
+const CHAIN: &str = "cnf(a,axiom,p(a)). cnf(b,axiom,~p(X)|p(f(X))). cnf(c,axiom,~p(f(f(a)))).";
+
+const NESTED: &str = "cnf(a,axiom,p(f(X))). cnf(b,axiom,~p(f(f(c)))).";
+
+const MANSION: &str = "
+cnf(lives_a,axiom,lives(agatha)). cnf(lives_b,axiom,lives(butler)). cnf(lives_c,axiom,lives(charles)).
+cnf(only_three,axiom,~lives(X)|X=agatha|X=butler|X=charles).
+cnf(killer_lives,hypothesis,lives(killer)). cnf(killer_killed,hypothesis,killed(killer,agatha)).
+cnf(killer_hates,axiom,~killed(X,Y)|hates(X,Y)). cnf(not_richer,axiom,~killed(X,Y)|~richer(X,Y)).
+cnf(charles_hates,axiom,~hates(agatha,X)|~hates(charles,X)).
+cnf(agatha_hates_agatha,axiom,hates(agatha,agatha)). cnf(agatha_hates_charles,axiom,hates(agatha,charles)).
+cnf(butler_hates_poor,axiom,~lives(X)|richer(X,agatha)|hates(butler,X)).
+cnf(butler_copies,axiom,~hates(agatha,X)|hates(butler,X)).
+cnf(none_hates_all,axiom,~hates(X,agatha)|~hates(X,butler)|~hates(X,charles)).
+cnf(not_suicide,negated_conjecture,~killed(agatha,agatha)).
+";
+
+// A problem that is refuted.
+fn refuted<'a>(
+    text: &'a str,
+    budget: u32,
+    count: Option<usize>,
+    members: &'a str,
+    grounds: &'a str,
+) -> Row<'a> {
+    Row {
+        text,
+        budget,
+        ending: Ending::Refuted,
+        count,
+        members,
+        grounds,
+        places: &[],
+    }
+}
+
+// A problem that is saturated.
+fn saturated<'a>(
+    text: &'a str,
+    count: Option<usize>,
+    members: &'a str,
+    places: &'a [usize],
+) -> Row<'a> {
+    Row {
+        text,
+        budget: BUDGET,
+        ending: Ending::Saturated,
+        count,
+        members,
+        grounds: "",
+        places,
+    }
+}
+
+// A problem whose least conclusion that did not fit has four symbols, where none was appended for a budget of three.
+fn stopped(text: &str, count: usize) -> Row {
+    Row {
+        text,
+        budget: 3,
+        ending: Ending::OutOfBudget { left: 3, wanted: 4 },
+        count: Some(count),
+        members: text,
+        grounds: "",
+        places: &[],
+    }
+}
+
+fn rows() -> [Row<'static>; 14] {
+    [
+        // No clause, and the empty one.
+        saturated("", Some(0), "", &[]),
+        refuted(
+            "cnf(a,axiom,$false).",
+            BUDGET,
+            Some(1),
+            "cnf(m1,plain,$false).",
+            "cnf(g1,plain,$false).",
+        ),
+        // An instance of one clause is appended, with or without a budget.
+        refuted(
+            INSTANCE,
+            BUDGET,
+            Some(3),
+            "cnf(m1,plain,p(X)). cnf(m2,plain,~p(c)). cnf(m3,plain,p(c)).",
+            "cnf(g1,plain,p(bot_0)). cnf(g2,plain,~p(c)). cnf(g3,plain,p(c)).",
+        ),
+        refuted(
+            INSTANCE,
+            0,
+            Some(3),
+            "cnf(m1,plain,p(X)). cnf(m2,plain,~p(c)). cnf(m3,plain,p(c)).",
+            "cnf(g1,plain,p(bot_0)). cnf(g2,plain,~p(c)). cnf(g3,plain,p(c)).",
+        ),
+        // The abstractions are refuted at once.
+        refuted(
+            "cnf(a,axiom,p(X,X)). cnf(b,axiom,~p(Y,Z)).",
+            BUDGET,
+            Some(2),
+            "cnf(m1,plain,p(X,X)). cnf(m2,plain,~p(X,Y)).",
+            "cnf(g1,plain,p(bot_0,bot_0)). cnf(g2,plain,~p(bot_0,bot_0)).",
+        ),
+        // The name of the constant is that of no symbol.
+        refuted(
+            "cnf(a,axiom,bot_0(X)). cnf(b,axiom,~bot_0(Y)).",
+            BUDGET,
+            Some(2),
+            "cnf(m1,plain,bot_0(X)). cnf(m2,plain,~bot_0(X)).",
+            "cnf(g1,plain,bot_0(bot_1)). cnf(g2,plain,~bot_0(bot_1)).",
+        ),
+        saturated("cnf(a,axiom,p(X)|q(X)). cnf(b,axiom,~p(a)).", None, "", &[]),
+        // Instances of instances.
+        refuted(
+            CHAIN,
+            BUDGET,
+            None,
+            "cnf(m,plain,~p(a)|p(f(a))). cnf(m,plain,~p(f(a))|p(f(f(a)))).",
+            "",
+        ),
+        // A conclusion that fits exactly, and that does not fit.
+        refuted(NESTED, 4, Some(3), "cnf(m3,plain,p(f(f(c)))).", ""),
+        stopped(NESTED, 2),
+        stopped(
+            "cnf(a,axiom,p(f(X))). cnf(b,axiom,~p(f(f(c)))). cnf(d,axiom,~p(f(g(c)))).",
+            3,
+        ),
+        // An axiom of equality, and its instance.
+        refuted(
+            "cnf(a,axiom,a=b). cnf(b,axiom,p(a)). cnf(c,axiom,~p(b)).",
+            BUDGET,
+            None,
+            "cnf(m,plain,X!=Y|~p(X)|p(Y)). cnf(m,plain,a!=b|~p(a)|p(b)).",
+            "cnf(g,plain,a!=b|~p(a)|p(b)).",
+        ),
+        // The selected literals are the only ones that can be true.
+        saturated(
+            "cnf(a,axiom,p(X)|~q(X)). cnf(b,axiom,q(Y)).",
+            Some(2),
+            "cnf(m1,plain,p(X)|~q(X)). cnf(m2,plain,q(X)).",
+            &[1, 1],
+        ),
+        refuted(MANSION, 0, None, "", ""),
+    ]
+}
+
+// What is told where the run is as it is wanted.
+fn as_wanted(ending: Ending) -> Told {
+    Told {
+        ending,
+        members: true,
+        grounds: true,
+        places: true,
+    }
+}
+
+// Runs each row.
+fn check_rows(rt: &impl Abort, alloc: Global, engine: Engine) -> Result<(), Fail> {
+    for row in &rows() {
+        let text = row.text;
+        assert_eq!(rt;
+            row_told(alloc, row, engine)?,
+            as_wanted(row.ending),
+            "of {text}"
+        );
+    }
+    Ok(())
+}
+
+#[test]
+fn plain_solver_and_lists(rt: HostRuntime) -> Result<(), Fail> {
+    check_rows(&rt, rt.alloc(), Engine::PlainRows)
+}
+
+#[test]
+fn learning_solver_and_trees(rt: HostRuntime) -> Result<(), Fail> {
+    check_rows(&rt, rt.alloc(), Engine::CdclTree)
+}
+
+// An engine that scans its entries in place of asking an index does not meet it.
+#[test]
+fn indexes_are_asked(rt: HostRuntime) -> Result<(), Fail> {
+    let row = refuted(CHAIN, BUDGET, None, "", "");
+    let expected = [
+        (false, false, Ending::Refuted),
+        (true, false, Ending::Memory),
+        (false, true, Ending::Memory),
+    ];
+    for (partners, first, ending) in expected {
+        let engine = Engine::Refusing { partners, first };
+        assert_eq!(rt; row_told(rt.alloc(), &row, engine)?, as_wanted(ending));
+    }
+    Ok(())
+}
