@@ -1,0 +1,8 @@
+use Rattle.std.proofs.Common.{◌++◌, codes, decimal}
+use Rattle.cert_text.proofs.Pieces.{more}
+use Rattle.cert_text.proofs.lines.push_place.Goals as goal
+
+pub returns : goal.returns
+returns c =
+    more _ _ _ (codes ",[selected(" ++ decimal c.args.place) (codes ")]") (more _ _ _ (codes ",[selected(") (decimal c.args.place) c.in_ok-bytes.ensures c.in_ok-number.ensures)
+    c.in_ok-bytes-2.ensures

@@ -1,0 +1,71 @@
+// The whole text of a certificate over bytes: what every certificate begins with, its base, and the lines of its form.
+ghost use Rattle.std.specs.Prelude.{◌≡◌, ◌++◌, OnOk};
+ghost use Rattle.cert_format.specs.Certificate.{first_refutation, saturation};
+ghost use Rattle.cert_format.specs.Lines.{format_line};
+ghost use Rattle.cert_format.specs.Text.{axiom_lines, certificate_text, head_lines, input_lines};
+ghost use Rattle.saturation_cert.specs.Values.{base_of, refutation_of, saturation_of};
+ghost use Rattle.saturation_cert.specs.Wholes.{IsWholeBase, IsWholeRefutation, IsWholeSaturation};
+
+use crate::lines::{push_constant, push_end, push_format, push_start, push_status};
+use crate::listing::{
+    push_axioms, push_grounds, push_inputs, push_members, push_selected_members, push_steps,
+};
+use crate::pen::Pen;
+use inst_logic::Memory;
+use saturation_cert::{Base, Refutation, Saturation};
+
+// The lines that every certificate begins with.
+fn push_head(pen: &mut Pen, status: &[u8], form: &[u8], name: &[u8]) -> Result<(), Memory>
+    ensures { OnOk result (pen.new ≡ pen.old ++ (head_lines status.now form.now name.now ++ format_line 1)) }
+{
+    push_status(pen, status, name)?;
+    push_start(pen, form, name)?;
+    push_format(pen)
+}
+
+// The input clauses and the axioms.
+fn push_base(pen: &mut Pen, base: &Base) -> Result<(), Memory>
+    requires { IsWholeBase base.now }
+    ensures { OnOk result (pen.new ≡ pen.old ++ (input_lines (base_of base.now) ++ axiom_lines (base_of base.now))) }
+{
+    push_inputs(
+        pen,
+        &base.bank,
+        base.inputs.as_slice(),
+        base.names.as_slice(),
+    )?;
+    push_axioms(pen, &base.bank, base.axioms.as_slice())?;
+    Ok(())
+}
+
+pub fn push_refutation(pen: &mut Pen, name: &[u8], cert: &Refutation) -> Result<(), Memory>
+    requires { IsWholeRefutation cert.now }
+    ensures { OnOk result (pen.new ≡ pen.old ++ certificate_text 1 name.now (first_refutation (refutation_of cert.now))) }
+{
+    let base = &cert.base;
+    push_head(pen, b"Unsatisfiable", b"CNFRefutation", name)?;
+    push_constant(pen, cert.bot.name.bytes())?;
+    push_base(pen, base)?;
+    push_members(pen, &base.bank, base.members.as_slice())?;
+    push_grounds(pen, &base.bank, cert.grounds.as_slice())?;
+    push_steps(pen, &base.bank, cert.steps.as_slice())?;
+    push_end(pen, b"CNFRefutation", name)?;
+    Ok(())
+}
+
+pub fn push_saturation(pen: &mut Pen, name: &[u8], cert: &Saturation) -> Result<(), Memory>
+    requires { IsWholeSaturation cert.now }
+    ensures { OnOk result (pen.new ≡ pen.old ++ certificate_text 1 name.now (saturation (saturation_of cert.now))) }
+{
+    let base = &cert.base;
+    push_head(pen, b"Satisfiable", b"Saturation", name)?;
+    push_base(pen, base)?;
+    push_selected_members(
+        pen,
+        &base.bank,
+        base.members.as_slice(),
+        cert.places.as_slice(),
+    )?;
+    push_end(pen, b"Saturation", name)?;
+    Ok(())
+}
