@@ -1,0 +1,10 @@
+pub mod Reading
+pub mod Formed
+pub mod Clauses
+pub mod Roots
+pub mod CanonicalIds
+pub mod PrintableClauses
+pub mod Marked
+pub mod Hints
+pub mod GroupNotes
+pub mod Items

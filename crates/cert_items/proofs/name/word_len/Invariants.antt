@@ -1,0 +1,10 @@
+use Rattle.std.proofs.Common.{◌≡◌, ◌+◌, ◌-◌, ◌≤◌, length, drop}
+use Rattle.inst_logic.specs.Printing.{is_word_byte}
+use Rattle.cert_format.specs.Runs.{run}
+use Rattle.cert_items.proofs.name.word_len.Given as goal
+
+abbrev pub invariant-loop-n : goal.invariant-loop-n
+invariant-loop-n l = record { in_range : l.n ≤ length l.bytes; total : l.n + run is_word_byte (drop l.n l.bytes) ≡ run is_word_byte l.bytes }
+
+abbrev pub decreases-loop-n : goal.decreases-loop-n
+decreases-loop-n l = length l.bytes - l.n

@@ -1,0 +1,89 @@
+-- Items at the front of a text.
+use Rattle.std.specs.Prelude.{◌≡◌, ◌≢◌, ℕ, List, ◌∷◌, ◌++◌, map, Bool, codes, decimal, IsTrue}
+use Rattle.inst_logic.specs.Clauses.{TreeClause}
+use Rattle.cert_format.specs.LineMachine.{is_number, Note, named, equality, member, selected, ground_of, shown_by, Header, fits, item}
+use Rattle.cert_format.specs.LineTexts.{line, note_text, note_is_printable}
+use Rattle.cert_format.specs.FirstFormat.{clause_is_printable}
+use Rattle.saturation_cert.specs.Values.{origin_of, hint_of}
+use Rattle.saturation_cert.specs.declared.certificate.GroundHint.{GroundHint}
+use Rattle.cert_items.specs.declared.group.Group.{Group}
+use Rattle.cert_items.specs.declared.group.Group.TheVariants as groups
+use Rattle.cert_items.specs.declared.note.Note as read
+use Rattle.cert_items.specs.declared.note.Note.TheVariants as notes
+
+-- ---- groups
+
+-- the group of the note
+abbrev pub group_of : Note → Group
+group_of (named w) = groups.Input
+group_of equality = groups.Axiom
+group_of (member o) = groups.Member
+group_of (selected o p) = groups.Member
+group_of ground_of = groups.Ground
+group_of (shown_by hs) = groups.Step
+
+-- the letter before the number
+abbrev pub letter_of : Group → ℕ
+letter_of groups.Input = 105
+letter_of groups.Axiom = 101
+letter_of groups.Member = 109
+letter_of groups.Ground = 103
+letter_of groups.Step = 114
+
+-- the role and its comma
+abbrev pub role_of : Group → List ℕ → List ℕ
+role_of groups.Input rest = codes "axiom," ++ rest
+role_of groups.Axiom rest = codes "axiom," ++ rest
+role_of groups.Member rest = codes "plain," ++ rest
+role_of groups.Ground rest = codes "plain," ++ rest
+role_of groups.Step rest = codes "plain," ++ rest
+
+-- the line of an item of the group with this number, up to its clause
+abbrev pub head_text : Group → ℕ → List ℕ → List ℕ
+head_text g n rest = codes "cnf(" ++ (letter_of g ∷ (decimal n ++ 44 ∷ role_of g rest))
+
+-- ---- notes
+
+-- the note that was read, with the hints that were read
+abbrev pub note_of : read.Note → List GroundHint → Note
+note_of (notes.Named w) hs = named w
+note_of notes.Equality hs = equality
+note_of (notes.Member o) hs = member (origin_of o)
+note_of (notes.Selected o p) hs = selected (origin_of o) p
+note_of notes.Ground hs = ground_of
+note_of notes.Shown hs = shown_by (map hint_of hs)
+
+-- the form, a refutation's or not, has the note
+abbrev pub HasForm : Bool → Note → Type 0
+HasForm refutation note = (h : Header) → h.refutation ≡ refutation → IsTrue (fits h note)
+
+-- a printable note of the form and the group
+pub record IsNote (refutation : Bool) (group : Group) (note : Note) : Type 0 where
+  pub printable : IsTrue (note_is_printable note)
+  pub form : HasForm refutation note
+  pub group_is : group_of note ≡ group
+
+-- the note of the item with this number is at the front of the text
+abbrev pub IsNoteAt : Bool → Group → ℕ → Note → List ℕ → List ℕ → Type 0
+IsNoteAt refutation group n note bytes rest = IsNote refutation group note × (bytes ≡ note_text n note rest)
+
+-- no note is at the front of the text
+abbrev pub NoNote : Bool → Group → ℕ → List ℕ → Type 0
+NoNote refutation group n bytes = (note : Note) (rest : List ℕ) → IsNote refutation group note → bytes ≢ note_text n note rest
+
+-- none with the end of its line behind it
+abbrev pub NoLastNote : Bool → Group → ℕ → List ℕ → Type 0
+NoLastNote refutation group n bytes = (note : Note) (rest : List ℕ) → IsNote refutation group note → bytes ≢ note_text n note (41 ∷ 46 ∷ 10 ∷ rest)
+
+-- ---- items
+
+-- an item with this number, clause and note has a line in a text of the form
+pub record IsItem (refutation : Bool) (n : ℕ) (c : TreeClause) (note : Note) : Type 0 where
+  pub number : IsTrue (is_number n)
+  pub clause : IsTrue (clause_is_printable c)
+  pub printable : IsTrue (note_is_printable note)
+  pub form : HasForm refutation note
+
+-- no item's line is at the front of the text
+abbrev pub NoItem : Bool → List ℕ → Type 0
+NoItem refutation bytes = (n : ℕ) (c : TreeClause) (note : Note) (rest : List ℕ) → IsItem refutation n c note → bytes ≢ line (item n c note) rest

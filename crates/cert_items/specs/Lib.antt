@@ -1,0 +1,5 @@
+pub mod Reading
+pub mod Roots
+pub mod ClauseTexts
+pub mod HintTexts
+pub mod Items

@@ -1,0 +1,97 @@
+// Clauses of a text, read into a bank.
+ghost use Rattle.std.specs.Prelude.{◌≡◌, ◌≢◌, ◌++◌, ◌<◌, ◌≤◌, ◌∷◌, ℕ, List, [], length, false, true, map, IsTrue, IfOk, OnOk, OnErr, IfSome, IfNone, None, Bool};
+ghost use Rattle.inst_logic.specs.declared.signed.Signed.{Signed};
+ghost use Rattle.term_bank.specs.Forest.{AreFormed, Extends};
+ghost use Rattle.cert_items.specs.Roots.{IsLiteralAt, NoForm, NoFormHead};
+ghost use Rattle.cert_items.specs.ClauseTexts.{ended_by, IsClauseText, NoClause};
+
+use crate::literals::literal;
+use crate::mark::{mark, word};
+use inst_logic::Memory;
+use std::alloc::Global;
+use term_bank::{Bank, IdClause, IdLiteral, TermId};
+
+// What is left of the text, and whether the clause has ended.
+#[derive(Clone, Copy)]
+pub struct Rest<'a> {
+    ended: bool,
+    rest: &'a [u8],
+}
+
+// Goes on behind a literal: to the next one, or past the comma.
+fn go_on(rest: &[u8]) -> Option<Rest<'_>>
+    ensures some { IfSome result (λ r. rest.now ≡ ended_by r.ended r.rest.now) }
+    ensures none { IfNone result ((e : Bool) (x : List ℕ) → rest.now ≢ ended_by e x) }
+{
+    match mark(rest, b',') {
+        Some(after) => Some(Rest {
+            ended: true,
+            rest: after,
+        }),
+        None => match word(rest, b" | ") {
+            Some(after) => Some(Rest {
+                ended: false,
+                rest: after,
+            }),
+            None => None,
+        },
+    }
+}
+
+// The literal at the front and the mark behind it.
+fn item<'a>(
+    alloc: Global,
+    bank: &mut Bank,
+    ids: &mut Vec<TermId>,
+    literals: &mut IdClause,
+    rest: &'a [u8],
+) -> Result<Option<Rest<'a>>, Memory>
+    ensures extends { Extends bank.old bank.new }
+    ensures formed { AreFormed bank.old → AreFormed bank.new }
+    ensures some { IfOk result (λ r. IfSome r (λ next. (l : Signed ℕ) × (literals.new ≡ literals.old ++ l ∷ []) × IsLiteralAt bank.new l rest.now (ended_by next.ended next.rest.now))) }
+    ensures shorter { IfOk result (λ r. IfSome r (λ next. length next.rest.now < length rest.now)) }
+    ensures none { IfOk result (λ r. IfNone r (NoFormHead rest.now)) }
+{
+    match literal(alloc, bank, ids, rest) {
+        Err(e) => Err(e),
+        Ok(None) => Ok(None),
+        Ok(Some((l, after))) => match go_on(after) {
+            None => Ok(None),
+            Some(next) => {
+                literals.push(l)?;
+                Ok(Some(next))
+            }
+        },
+    }
+}
+
+/// The clause at the front, its variables and literals as they stand, and what follows the comma behind it.
+pub fn clause<'a>(
+    alloc: Global,
+    bank: &mut Bank,
+    ids: &mut Vec<TermId>,
+    literals: &mut IdClause,
+    bytes: &'a [u8],
+) -> Result<Option<&'a [u8]>, Memory>
+    requires empty { literals.old ≡ [] }
+    ensures extends { Extends bank.old bank.new }
+    ensures formed { AreFormed bank.old → AreFormed bank.new }
+    ensures some { IfOk result (λ r. IfSome r (λ rest. IsClauseText bank.new literals.new bytes.now rest.now)) }
+    ensures none { IfOk result (λ r. IfNone r (NoClause bytes.now)) }
+{
+    if let Some(rest) = word(bytes, b"$false,") {
+        return Ok(Some(rest));
+    }
+    let mut ended = false;
+    let mut rest = bytes;
+    while !ended {
+        match item(alloc, bank, ids, literals, rest)? {
+            None => return Ok(None),
+            Some(next) => {
+                ended = next.ended;
+                rest = next.rest;
+            }
+        }
+    }
+    Ok(Some(rest))
+}

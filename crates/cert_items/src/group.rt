@@ -1,0 +1,77 @@
+// How an item's line begins: the letter of its group, its number, and its role.
+ghost use Rattle.std.specs.Prelude.{◌≡◌, ◌≢◌, ◌++◌, ◌<◌, ◌^◌, ◌∷◌, ℕ, List, IfSome, IfNone, decimal};
+ghost use Rattle.cert_items.specs.declared.group.Group.{Group};
+ghost use Rattle.cert_items.specs.Items.{head_text, letter_of, role_of};
+
+use crate::mark::word;
+use crate::number::marked;
+
+/// The groups of items, in their order in a text.
+#[derive(Clone, Copy, Debug, PartialEq, Eq)]
+pub enum Group {
+    Input,
+    Axiom,
+    Member,
+    Ground,
+    Step,
+}
+
+// The group of the letter at the front, and what follows it.
+fn letter(bytes: &[u8]) -> Option<(Group, &[u8])>
+    ensures some { IfSome result (λ r. bytes.now ≡ letter_of r.0 ∷ r.1.now) }
+    ensures none { IfNone result ((g : Group) (rest : List ℕ) → bytes.now ≢ letter_of g ∷ rest) }
+{
+    match bytes {
+        [] => None,
+        [first, rest @ ..] => match *first {
+            b'i' => Some((Group::Input, rest)),
+            b'e' => Some((Group::Axiom, rest)),
+            b'm' => Some((Group::Member, rest)),
+            b'g' => Some((Group::Ground, rest)),
+            b'r' => Some((Group::Step, rest)),
+            _ => None,
+        },
+    }
+}
+
+// What follows the role of the group and its comma.
+fn role(group: Group, bytes: &[u8]) -> Option<&[u8]>
+    ensures some { IfSome result (λ rest. bytes.now ≡ role_of group rest.now) }
+    ensures none { IfNone result ((rest : List ℕ) → bytes.now ≢ role_of group rest) }
+{
+    match group {
+        Group::Input | Group::Axiom => word(bytes, b"axiom,"),
+        Group::Member | Group::Ground | Group::Step => word(bytes, b"plain,"),
+    }
+}
+
+// The group and the number behind `cnf(`, and what follows the comma.
+fn numbered(bytes: &[u8]) -> Option<(Group, usize, &[u8])>
+    ensures some { IfSome result (λ r. (bytes.now ≡ letter_of r.0 ∷ (decimal r.1 ++ 44 ∷ r.2.now)) × (r.1 < 2 ^ 64)) }
+    ensures none { IfNone result ((g : Group) (n : ℕ) (rest : List ℕ) → n < 2 ^ 64 → bytes.now ≢ letter_of g ∷ (decimal n ++ 44 ∷ rest)) }
+{
+    match letter(bytes) {
+        None => None,
+        Some((group, digits)) => match marked(digits, b',') {
+            None => None,
+            Some((n, rest)) => Some((group, n, rest)),
+        },
+    }
+}
+
+/// The group and the number of the item at the front, and what follows the comma behind its role.
+pub fn head(bytes: &[u8]) -> Option<(Group, usize, &[u8])>
+    ensures some { IfSome result (λ r. (bytes.now ≡ head_text r.0 r.1 r.2.now) × (r.1 < 2 ^ 64)) }
+    ensures none { IfNone result ((g : Group) (n : ℕ) (rest : List ℕ) → n < 2 ^ 64 → bytes.now ≢ head_text g n rest) }
+{
+    match word(bytes, b"cnf(") {
+        None => None,
+        Some(after) => match numbered(after) {
+            None => None,
+            Some((group, n, behind)) => match role(group, behind) {
+                None => None,
+                Some(rest) => Some((group, n, rest)),
+            },
+        },
+    }
+}

@@ -1,0 +1,102 @@
+// The hints of a step.
+ghost use Rattle.std.specs.Prelude.{◌≡◌, ◌≢◌, ◌++◌, ◌∷◌, ◌<◌, ◌^◌, ℕ, List, [], Bool, length, map, IfOk, IfSome, IfNone, IsTrue, true};
+ghost use Rattle.std.specs.Char.{is_ascii_digit};
+ghost use Rattle.inst_calculus.specs.Steps.{Cited};
+ghost use Rattle.cert_format.specs.Runs.{Ends};
+ghost use Rattle.cert_format.specs.LineTexts.{hint, hints, hint_is_printable, hints_are_printable};
+ghost use Rattle.saturation_cert.specs.declared.certificate.GroundHint.{GroundHint};
+ghost use Rattle.saturation_cert.specs.Values.{hint_of};
+ghost use Rattle.cert_items.specs.HintTexts.{hint_end, HasHints, NoHints, NoHintHead};
+
+use crate::mark::{mark, word};
+use crate::number::number;
+use inst_logic::Memory;
+use saturation_cert::{GroundHint, GroundHintList};
+
+// What is left of the text, and whether the hints have ended.
+#[derive(Clone, Copy)]
+pub struct Behind<'a> {
+    ended: bool,
+    rest: &'a [u8],
+}
+
+// The hint at the front, and what follows its number.
+fn read_one(bytes: &[u8]) -> Option<(GroundHint, &[u8])>
+    ensures some { IfSome result (λ r. (bytes.now ≡ hint (hint_of r.0) r.1.now) × IsTrue (hint_is_printable (hint_of r.0)) × Ends is_ascii_digit r.1.now) }
+    ensures none { IfNone result ((h : Cited) (rest : List ℕ) → IsTrue (hint_is_printable h) → Ends is_ascii_digit rest → bytes.now ≢ hint h rest) }
+{
+    match mark(bytes, b'g') {
+        Some(after) => match number(after) {
+            None => None,
+            Some((k, rest)) => Some((GroundHint::Ground(k), rest)),
+        },
+        None => match mark(bytes, b'r') {
+            None => None,
+            Some(after) => match number(after) {
+                None => None,
+                Some((k, rest)) => Some((GroundHint::Step(k), rest)),
+            },
+        },
+    }
+}
+
+// Goes on behind a hint: to the next one, or past the marks that end the list.
+fn go_on(rest: &[u8]) -> Option<Behind<'_>>
+    ensures some { IfSome result (λ r. rest.now ≡ hint_end r.ended r.rest.now) }
+    ensures none { IfNone result ((e : Bool) (x : List ℕ) → rest.now ≢ hint_end e x) }
+{
+    match mark(rest, b',') {
+        Some(after) => Some(Behind {
+            ended: false,
+            rest: after,
+        }),
+        None => match word(rest, b"])") {
+            Some(after) => Some(Behind {
+                ended: true,
+                rest: after,
+            }),
+            None => None,
+        },
+    }
+}
+
+// The hint at the front and the marks behind it.
+fn item<'a>(list: &mut GroundHintList, rest: &'a [u8]) -> Result<Option<Behind<'a>>, Memory>
+    ensures some { IfOk result (λ r. IfSome r (λ next. (h : GroundHint) × (list.new ≡ list.old ++ h ∷ []) × (rest.now ≡ hint (hint_of h) (hint_end next.ended next.rest.now)) × IsTrue (hint_is_printable (hint_of h)))) }
+    ensures shorter { IfOk result (λ r. IfSome r (λ next. length next.rest.now < length rest.now)) }
+    ensures none { IfOk result (λ r. IfNone r (NoHintHead rest.now)) }
+{
+    match read_one(rest) {
+        None => Ok(None),
+        Some((h, after)) => match go_on(after) {
+            None => Ok(None),
+            Some(next) => {
+                list.push(h)?;
+                Ok(Some(next))
+            }
+        },
+    }
+}
+
+/// The hints at the front, and what follows the marks that end them.
+pub fn read_hints<'a>(
+    list: &mut GroundHintList,
+    bytes: &'a [u8],
+) -> Result<Option<&'a [u8]>, Memory>
+    requires empty { list.old ≡ [] }
+    ensures some { IfOk result (λ r. IfSome r (λ rest. HasHints list.new true bytes.now rest.now)) }
+    ensures none { IfOk result (λ r. IfNone r (NoHints bytes.now)) }
+{
+    let mut ended = false;
+    let mut rest = bytes;
+    while !ended {
+        match item(list, rest)? {
+            None => return Ok(None),
+            Some(next) => {
+                ended = next.ended;
+                rest = next.rest;
+            }
+        }
+    }
+    Ok(Some(rest))
+}

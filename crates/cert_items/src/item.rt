@@ -1,0 +1,65 @@
+// A whole line of an item.
+ghost use Rattle.std.specs.Prelude.{◌≡◌, ◌<◌, List, [], length, IfOk, IfSome, IfNone};
+ghost use Rattle.term_bank.specs.Forest.{AreFormed, clause_at, Extends};
+ghost use Rattle.cert_format.specs.LineMachine.{item};
+ghost use Rattle.cert_format.specs.LineTexts.{line};
+ghost use Rattle.saturation_cert.specs.Wholes.{IsWholeClause};
+ghost use Rattle.cert_items.specs.Items.{IsItem, NoItem, group_of, note_of};
+
+use crate::group::{Group, head};
+use crate::note::{Note, last_note};
+use crate::printable::printable_clause;
+use inst_logic::Memory;
+use saturation_cert::GroundHintList;
+use std::alloc::Global;
+use term_bank::{Bank, IdClause, TermId};
+
+/// An item but for its clause and its hints, and what follows its line.
+#[derive(Drop)]
+pub struct Item<'a> {
+    pub group: Group,
+    pub number: usize,
+    pub note: Note,
+    pub rest: &'a [u8],
+}
+
+/// The item whose line is at the front of the text, in a refutation's text or a saturation's. Its clause and its hints are put
+/// into lists that were empty, and `ids` is room to work in. Where there is no item, something may have been put there.
+pub fn read_item<'a>(
+    alloc: Global,
+    bank: &mut Bank,
+    ids: &mut Vec<TermId>,
+    literals: &mut IdClause,
+    hints: &mut GroundHintList,
+    refutation: bool,
+    bytes: &'a [u8],
+) -> Result<Option<Item<'a>>, Memory>
+    requires no_literals { literals.old ≡ [] }
+    requires no_hints { hints.old ≡ [] }
+    ensures some { IfOk result (λ r. IfSome r (λ i. IsItem refutation i.number (clause_at bank.new literals.new) (note_of i.note hints.new))) }
+    ensures text { IfOk result (λ r. IfSome r (λ i. bytes.now ≡ line (item i.number (clause_at bank.new literals.new) (note_of i.note hints.new)) i.rest.now)) }
+    ensures group { IfOk result (λ r. IfSome r (λ i. group_of (note_of i.note hints.new) ≡ i.group)) }
+    ensures whole { IfOk result (λ r. IfSome r (λ _. IsWholeClause bank.new literals.new)) }
+    ensures none { IfOk result (λ r. IfNone r (NoItem refutation bytes.now)) }
+    ensures extends { Extends bank.old bank.new }
+    ensures formed { AreFormed bank.old → AreFormed bank.new }
+{
+    match head(bytes) {
+        None => Ok(None),
+        Some((group, number, after)) => {
+            match printable_clause(alloc, bank, ids, literals, after)? {
+                None => Ok(None),
+                Some(behind) => match last_note(alloc, hints, refutation, group, number, behind) {
+                    Err(e) => Err(e),
+                    Ok(None) => Ok(None),
+                    Ok(Some((note, rest))) => Ok(Some(Item {
+                        group,
+                        number,
+                        note,
+                        rest,
+                    })),
+                },
+            }
+        }
+    }
+}

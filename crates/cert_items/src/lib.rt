@@ -1,0 +1,24 @@
+//! The items of a certificate's text: bytes to clauses over a bank, with what stands behind them. Each reader finds what is at the
+//! front of the text exactly where something printable is there in its one spelling, in one pass and without recursion.
+#![tactic(auto)]
+
+mod canonical;
+mod clause;
+pub mod group;
+mod hint_list;
+pub mod item;
+mod literals;
+pub mod mark;
+pub mod name;
+pub mod note;
+mod notes;
+pub mod number;
+mod origin;
+mod place;
+mod printable;
+pub mod symbol;
+mod terms;
+
+pub use group::Group;
+pub use item::{Item, read_item};
+pub use note::Note;

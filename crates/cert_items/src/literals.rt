@@ -1,0 +1,255 @@
+// Literals and clauses of a text, read into a bank.
+ghost use Rattle.std.specs.Prelude.{◌≡◌, ◌≢◌, ◌++◌, ◌<◌, ◌≤◌, ◌∷◌, ◌^◌, ℕ, List, [], length, false, true, map, IsTrue, IfOk, OnOk, OnErr, IfSome, IfNone, None, nat_eq};
+ghost use Rattle.inst_logic.specs.declared.symbol.Kind.{Kind};
+ghost use Rattle.inst_logic.specs.declared.symbol.Kind.TheVariants.{Predicate, Equality, Function};
+ghost use Rattle.term_bank.specs.Forest.{tree_at, AreFormed, AreIds, IsAt, Extends};
+ghost use Rattle.inst_logic.specs.Printing.{equality_sign, sign_text};
+ghost use Rattle.cert_format.specs.Names.{IsNameText};
+ghost use Rattle.cert_format.specs.Spelling.{is_printable, goes_on, IsClose, IsEqualitySign};
+ghost use Rattle.cert_items.specs.Reading.{ArePrintable, NoTerm};
+ghost use Rattle.cert_items.specs.Roots.{IsRootAt, IsRoot, IsTermAt, IsApplicationAt, IsLiteralAt, NoForm, equality_atom};
+
+use crate::mark::{mark, word};
+use crate::name::name;
+use crate::number::number;
+use crate::symbol::apply;
+use crate::terms::{goes_on, terms};
+use inst_logic::{Kind, Memory, Name, Sym};
+use std::alloc::Global;
+use term_bank::{Bank, IdLiteral, TermId};
+
+// A variable with its number, or an application, whose name is printed so.
+#[derive(Clone, Copy)]
+pub enum Root<'a> {
+    Variable(usize),
+    Application(&'a [u8]),
+}
+
+// A term but for the symbol at its root, whose arguments go into `ids`, and what follows it.
+fn head<'a>(
+    alloc: Global,
+    bank: &mut Bank,
+    ids: &mut Vec<TermId>,
+    bytes: &'a [u8],
+) -> Result<Option<(Root<'a>, &'a [u8])>, Memory>
+    ensures extends { Extends bank.old bank.new }
+    ensures formed { AreFormed bank.old → AreFormed bank.new }
+    ensures some { IfOk result (λ r. IfSome r (λ p. IsRootAt bank.new p.0 ids.new.items bytes.now p.1.now)) }
+    ensures none { IfOk result (λ r. IfNone r (NoTerm bytes.now)) }
+{
+    ids.clear();
+    match mark(bytes, b'X') {
+        Some(digits) => match number(digits) {
+            None => Ok(None),
+            Some((n, rest)) => {
+                if goes_on(rest) {
+                    return Ok(None);
+                }
+                Ok(Some((Root::Variable(n), rest)))
+            }
+        },
+        None => match name(bytes) {
+            None => Ok(None),
+            Some((name, after)) => match mark(after, b'(') {
+                None => Ok(Some((Root::Application(name), after))),
+                Some(inner) => match terms(alloc, bank, ids, inner, b')')? {
+                    None => Ok(None),
+                    Some(rest) => Ok(Some((Root::Application(name), rest))),
+                },
+            },
+        },
+    }
+}
+
+// The term of this root.
+fn whole(alloc: Global, bank: &mut Bank, root: &Root<'_>, ids: &[TermId]) -> Result<TermId, Memory>
+    requires { IsRoot bank.old root.now ids.now }
+    ensures extends { Extends bank.old bank.new }
+    ensures formed { AreFormed bank.old → AreFormed bank.new }
+    ensures at { (bytes rest : List ℕ) → IsRootAt bank.old root.now ids.now bytes rest → IfOk result (λ id. IsTermAt bank.new id bytes rest) }
+{
+    match root {
+        Root::Variable(n) => bank.var(*n),
+        Root::Application(name) => apply(alloc, bank, Kind::Function, name, ids),
+    }
+}
+
+// A term, and what follows it.
+fn term<'a>(
+    alloc: Global,
+    bank: &mut Bank,
+    ids: &mut Vec<TermId>,
+    bytes: &'a [u8],
+) -> Result<Option<(TermId, &'a [u8])>, Memory>
+    ensures extends { Extends bank.old bank.new }
+    ensures formed { AreFormed bank.old → AreFormed bank.new }
+    ensures some { IfOk result (λ r. IfSome r (λ p. IsTermAt bank.new p.0 bytes.now p.1.now)) }
+    ensures none { IfOk result (λ r. IfNone r (NoTerm bytes.now)) }
+{
+    match head(alloc, bank, ids, bytes)? {
+        None => Ok(None),
+        Some((root, rest)) => {
+            let id = whole(alloc, bank, &root, ids.as_slice())?;
+            Ok(Some((id, rest)))
+        }
+    }
+}
+
+// The sign of equality, positive or negative, and what follows it.
+fn equality_sign(bytes: &[u8]) -> Option<(bool, &[u8])>
+    ensures some { IfSome result (λ p. bytes.now ≡ equality_sign p.0 ++ p.1.now) }
+    ensures none { IfNone result (¬ IsEqualitySign bytes.now) }
+{
+    match word(bytes, b" = ") {
+        Some(rest) => Some((true, rest)),
+        None => match word(bytes, b" != ") {
+            Some(rest) => Some((false, rest)),
+            None => None,
+        },
+    }
+}
+
+// The literal of this predicate, whose text is at the front of `bytes` behind the sign.
+fn predicate(
+    alloc: Global,
+    bank: &mut Bank,
+    positive: bool,
+    name: &[u8],
+    ids: &[TermId],
+) -> Result<IdLiteral, Memory>
+    requires name { IsNameText name.now }
+    requires within { AreIds bank.old ids.now }
+    requires printable { ArePrintable (map (tree_at bank.old) ids.now) }
+    ensures extends { Extends bank.old bank.new }
+    ensures formed { AreFormed bank.old → AreFormed bank.new }
+    ensures at { (bytes rest : List ℕ) → IsApplicationAt bank.old name.now ids.now bytes rest → ¬ IsEqualitySign rest → IfOk result (λ l. IsLiteralAt bank.new l (sign_text positive ++ bytes) rest) }
+{
+    let atom = apply(alloc, bank, Kind::Predicate, name, ids)?;
+    Ok(IdLiteral { positive, atom })
+}
+
+// The equation of these terms.
+fn equation(
+    alloc: Global,
+    bank: &mut Bank,
+    positive: bool,
+    left: TermId,
+    right: TermId,
+) -> Result<IdLiteral, Memory>
+    requires left { left < length bank.old.trees }
+    requires right { right < length bank.old.trees }
+    requires terms { IsTrue (is_printable (tree_at bank.old left)) × IsTrue (is_printable (tree_at bank.old right)) }
+    ensures extends { Extends bank.old bank.new }
+    ensures formed { AreFormed bank.old → AreFormed bank.new }
+    ensures at { IfOk result (λ l. (l.positive ≡ positive) × IsAt bank.new l.atom (equality_atom (tree_at bank.old left) (tree_at bank.old right))) }
+{
+    let name = Name::of(alloc, b"=")?;
+    let sym = Sym {
+        kind: Kind::Equality,
+        name,
+        arity: 2,
+    };
+    let atom = bank.app(&sym, &[left, right])?;
+    Ok(IdLiteral { positive, atom })
+}
+
+// The equation of this left side and the term at the front of `after`.
+fn equal<'a>(
+    alloc: Global,
+    bank: &mut Bank,
+    ids: &mut Vec<TermId>,
+    positive: bool,
+    left: TermId,
+    bytes: &[u8],
+    after: &'a [u8],
+) -> Result<Option<(IdLiteral, &'a [u8])>, Memory>
+    requires { IsTermAt bank.old left bytes.now (equality_sign positive ++ after.now) }
+    ensures extends { Extends bank.old bank.new }
+    ensures formed { AreFormed bank.old → AreFormed bank.new }
+    ensures some { IfOk result (λ r. IfSome r (λ p. IsLiteralAt bank.new p.0 bytes.now p.1.now)) }
+    ensures none { ((rest : List ℕ) → bytes.now ≢ 126 ∷ rest) → IfOk result (λ r. IfNone r (NoForm bytes.now)) }
+{
+    match term(alloc, bank, ids, after) {
+        Err(e) => Err(e),
+        Ok(None) => Ok(None),
+        Ok(Some((right, rest))) => {
+            let l = equation(alloc, bank, positive, left, right)?;
+            Ok(Some((l, rest)))
+        }
+    }
+}
+
+// A literal without a `~`, by the root of its first term.
+fn unsigned<'a>(
+    alloc: Global,
+    bank: &mut Bank,
+    ids: &mut Vec<TermId>,
+    bytes: &'a [u8],
+) -> Result<Option<(IdLiteral, &'a [u8])>, Memory>
+    ensures extends { Extends bank.old bank.new }
+    ensures formed { AreFormed bank.old → AreFormed bank.new }
+    ensures some { IfOk result (λ r. IfSome r (λ p. IsLiteralAt bank.new p.0 bytes.now p.1.now)) }
+    ensures none { ((rest : List ℕ) → bytes.now ≢ 126 ∷ rest) → IfOk result (λ r. IfNone r (NoForm bytes.now)) }
+{
+    match head(alloc, bank, ids, bytes)? {
+        None => Ok(None),
+        Some((root, rest)) => match equality_sign(rest) {
+            Some((positive, after)) => {
+                let left = whole(alloc, bank, &root, ids.as_slice())?;
+                equal(alloc, bank, ids, positive, left, bytes, after)
+            }
+            None => match root {
+                Root::Variable(_) => Ok(None),
+                Root::Application(name) => {
+                    let l = predicate(alloc, bank, true, name, ids.as_slice())?;
+                    Ok(Some((l, rest)))
+                }
+            },
+        },
+    }
+}
+
+// The literal behind a `~`.
+fn negated<'a>(
+    alloc: Global,
+    bank: &mut Bank,
+    ids: &mut Vec<TermId>,
+    bytes: &'a [u8],
+) -> Result<Option<(IdLiteral, &'a [u8])>, Memory>
+    ensures extends { Extends bank.old bank.new }
+    ensures formed { AreFormed bank.old → AreFormed bank.new }
+    ensures some { IfOk result (λ r. IfSome r (λ p. IsLiteralAt bank.new p.0 (126 ∷ bytes.now) p.1.now)) }
+    ensures none { IfOk result (λ r. IfNone r (NoForm (126 ∷ bytes.now))) }
+{
+    match head(alloc, bank, ids, bytes)? {
+        None => Ok(None),
+        Some((root, rest)) => match root {
+            Root::Variable(_) => Ok(None),
+            Root::Application(name) => match equality_sign(rest) {
+                Some(_) => Ok(None),
+                None => {
+                    let l = predicate(alloc, bank, false, name, ids.as_slice())?;
+                    Ok(Some((l, rest)))
+                }
+            },
+        },
+    }
+}
+
+/// The literal at the front, and what follows it.
+pub fn literal<'a>(
+    alloc: Global,
+    bank: &mut Bank,
+    ids: &mut Vec<TermId>,
+    bytes: &'a [u8],
+) -> Result<Option<(IdLiteral, &'a [u8])>, Memory>
+    ensures extends { Extends bank.old bank.new }
+    ensures formed { AreFormed bank.old → AreFormed bank.new }
+    ensures some { IfOk result (λ r. IfSome r (λ p. IsLiteralAt bank.new p.0 bytes.now p.1.now)) }
+    ensures none { IfOk result (λ r. IfNone r (NoForm bytes.now)) }
+{
+    match mark(bytes, b'~') {
+        Some(after) => negated(alloc, bank, ids, after),
+        None => unsigned(alloc, bank, ids, bytes),
+    }
+}

@@ -1,0 +1,90 @@
+// Numbers in decimal, without leading zeros.
+ghost use Rattle.std.specs.Prelude.{◌≡◌, ◌≢◌, ◌++◌, ◌+◌, ◌-◌, ◌*◌, ◌∷◌, false, ◌<◌, ◌≤◌, ◌^◌, ℕ, List, length, IsTrue, IfSome, IfNone, decimal};
+ghost use Rattle.std.specs.List.{list_all};
+ghost use Rattle.std.specs.Char.{is_ascii_digit};
+ghost use Rattle.cert_format.specs.Runs.{run, Ends};
+ghost use Rattle.cert_format.specs.Digits.{value, is_plain};
+
+use crate::mark::mark;
+
+/// How many digits are at the front.
+pub fn digits_len(bytes: &[u8]) -> usize
+    ensures is { result ≡ run is_ascii_digit bytes.now }
+    ensures within { result ≤ length bytes.now }
+{
+    let mut n = 0;
+    while n < bytes.len() && bytes[n].is_ascii_digit() {
+        n += 1;
+    }
+    n
+}
+
+// The number with one more digit, and `None` where it is no `usize`.
+fn with_digit(n: usize, digit: u8) -> Option<usize>
+    requires { IsTrue (is_ascii_digit digit) }
+    ensures some { IfSome result (λ m. m ≡ n * 10 + (digit - 48)) }
+    ensures none { IfNone result (2 ^ 64 ≤ n * 10 + (digit - 48)) }
+{
+    match n.checked_mul(10) {
+        Some(tens) => tens.checked_add(usize::from(digit - 48)),
+        None => None,
+    }
+}
+
+// The value of the digits, and `None` where it is no `usize`.
+fn value(digits: &[u8]) -> Option<usize>
+    requires { IsTrue (list_all is_ascii_digit digits.now) }
+    ensures some { IfSome result (λ n. n ≡ value 0 digits.now) }
+    ensures none { IfNone result (2 ^ 64 ≤ value 0 digits.now) }
+{
+    let mut n: usize = 0;
+    for digit in digits {
+        match with_digit(n, *digit) {
+            Some(m) => n = m,
+            None => return None,
+        }
+    }
+    Some(n)
+}
+
+// Whether the digits have no leading zero.
+fn is_plain(digits: &[u8]) -> bool
+    ensures { result ≡ is_plain digits.now }
+{
+    match digits {
+        [] => false,
+        [first, rest @ ..] => *first != 48 || rest.is_empty(),
+    }
+}
+
+/// The number at the front, and what follows its digits.
+pub fn number(bytes: &[u8]) -> Option<(usize, &[u8])>
+    ensures some { IfSome result (λ r. (bytes.now ≡ decimal r.0 ++ r.1.now) × Ends is_ascii_digit r.1.now) }
+    ensures fits { IfSome result (λ r. r.0 < 2 ^ 64) }
+    ensures none { IfNone result ((n : ℕ) (rest : List ℕ) → n < 2 ^ 64 → Ends is_ascii_digit rest → bytes.now ≢ decimal n ++ rest) }
+{
+    let (digits, rest) = bytes.split_at(digits_len(bytes));
+    if !is_plain(digits) {
+        return None;
+    }
+    match value(digits) {
+        None => None,
+        Some(n) => Some((n, rest)),
+    }
+}
+
+/// The number at the front and the mark behind it, and what follows.
+pub fn marked(bytes: &[u8], byte: u8) -> Option<(usize, &[u8])>
+    requires { is_ascii_digit byte ≡ false }
+    ensures some { IfSome result (λ r. bytes.now ≡ decimal r.0 ++ byte ∷ r.1.now) }
+    ensures fits { IfSome result (λ r. r.0 < 2 ^ 64) }
+    ensures none { IfNone result ((n : ℕ) (rest : List ℕ) → n < 2 ^ 64 → bytes.now ≢ decimal n ++ byte ∷ rest) }
+{
+    match number(bytes) {
+        None => None,
+        Some((n, after)) => match mark(after, byte) {
+            None => None,
+            Some(rest) => Some((n, rest)),
+        },
+    }
+}

@@ -1,0 +1,42 @@
+// Printable clauses of a text.
+ghost use Rattle.std.specs.Prelude.{◌≡◌, ◌≢◌, ◌++◌, ◌∷◌, ℕ, List, [], IfOk, IfSome, IfNone, IsTrue};
+ghost use Rattle.inst_logic.specs.Clauses.{TreeClause};
+ghost use Rattle.inst_logic.specs.Printing.{clause_text};
+ghost use Rattle.term_bank.specs.Forest.{AreFormed, clause_at, Extends};
+ghost use Rattle.cert_format.specs.FirstFormat.{clause_is_printable};
+ghost use Rattle.saturation_cert.specs.Wholes.{IsWholeClause};
+
+use crate::canonical::is_canonical;
+use crate::clause::clause;
+use inst_logic::Memory;
+use std::alloc::Global;
+use term_bank::{Bank, IdClause, TermId};
+
+/// The printable clause at the front of the text, with a comma behind it, and what follows the comma. `ids` is room to work in.
+/// Where there is none, some of its literals may have been read.
+pub fn printable_clause<'a>(
+    alloc: Global,
+    bank: &mut Bank,
+    ids: &mut Vec<TermId>,
+    literals: &mut IdClause,
+    bytes: &'a [u8],
+) -> Result<Option<&'a [u8]>, Memory>
+    requires empty { literals.old ≡ [] }
+    ensures some { IfOk result (λ r. IfSome r (λ rest. bytes.now ≡ clause_text (clause_at bank.new literals.new) ++ 44 ∷ rest.now)) }
+    ensures printable { IfOk result (λ r. IfSome r (λ _. IsTrue (clause_is_printable (clause_at bank.new literals.new)))) }
+    ensures whole { IfOk result (λ r. IfSome r (λ _. IsWholeClause bank.new literals.new)) }
+    ensures none { IfOk result (λ r. IfNone r ((c : TreeClause) (rest : List ℕ) → IsTrue (clause_is_printable c) → bytes.now ≢ clause_text c ++ 44 ∷ rest)) }
+    ensures extends { Extends bank.old bank.new }
+    ensures formed { AreFormed bank.old → AreFormed bank.new }
+{
+    match clause(alloc, bank, ids, literals, bytes)? {
+        None => Ok(None),
+        Some(rest) => {
+            if is_canonical(alloc, bank, literals)? {
+                Ok(Some(rest))
+            } else {
+                Ok(None)
+            }
+        }
+    }
+}
