@@ -1,0 +1,5 @@
+mod Numerals
+mod SimpleCommands
+mod Parses
+mod FirstWords
+mod AskedOnce

@@ -1,0 +1,14 @@
+use Rattle.std.proofs.Common.{◌≡◌, rules, true, codes, string_bytes}
+use Rattle.std.specs.Str.{bytes_eq}
+use Rattle.command_words.proofs.FirstWords.{first_word}
+use Rattle.command_words.proofs.read.read_words.Goals as goal
+
+pub read_prove-requires : goal.read_prove-requires
+read_prove-requires c =
+    let same : bytes_eq (string_bytes c.in-Some.word.now) (codes "prove") ≡ true = search rules in
+    first_word string_bytes c.args.words.now c.in-Some.word.now (codes "prove") c.in-Some.ensures.value same
+
+pub read_sat-requires : goal.read_sat-requires
+read_sat-requires c =
+    let same : bytes_eq (string_bytes c.in-Some.word.now) (codes "sat") ≡ true = search rules in
+    first_word string_bytes c.args.words.now c.in-Some.word.now (codes "sat") c.in-Some.ensures.value same

@@ -1,0 +1,28 @@
+-- The commands, each as it is told to the parser of command lines, and what that parser makes of words. It passes over the
+-- first word, which is the command's own.
+use Rattle.std.specs.Prelude.{◌≡◌, List, [], Option, Some, true, codes}
+use Rattle.clap.specs.Words.{App, Rule, Text, fault_of, first_of, matches_of, new_app, new_rule, with_rule}
+
+-- a word that has to be there
+abbrev pub wanted : Text → Rule
+wanted id = record (new_rule id) { required = true }
+
+-- an option with a value, named as its value is
+abbrev pub optional : Text → Rule
+optional id = record (new_rule id) { long = Some id }
+
+-- `prove FILE`, with `--root DIR` and `--budget N` or without
+unfoldable pub prove_command : App
+prove_command = with_rule (with_rule (with_rule (new_app (codes "prove")) (wanted (codes "file"))) (optional (codes "root"))) (optional (codes "budget"))
+
+-- `sat FILE`
+unfoldable pub sat_command : App
+sat_command = with_rule (new_app (codes "sat")) (wanted (codes "file"))
+
+-- the parser finds no fault in the words
+unfoldable pub IsTaken : App → List Text → Type 0
+IsTaken command words = fault_of command words ≡ []
+
+-- what it then gives under a name
+unfoldable pub value_of : App → List Text → Text → Option Text
+value_of command words id = first_of id (matches_of command words)

@@ -1,0 +1,82 @@
+// What each value may be.
+ghost use Rattle.std.specs.Prelude.{◌≡◌, ◌≤◌, ◌↔◌, ℕ, List, Option, IsTrue, option_map, MatchOption};
+ghost use Rattle.std.specs.Char.{is_ascii_digit};
+ghost use Rattle.std.specs.List.{list_all};
+ghost use Rattle.cert_format.specs.Printable.{IsTextName};
+ghost use Rattle.command_words.specs.Asked.{SaysFile, SaysRoot, SaysBudget};
+ghost use Rattle.command_words.specs.Numbers.{IsNumber};
+
+// 1 to 4,096 bytes without control bytes.
+fn is_name(word: &str) -> bool
+    ensures { IsTrue result ↔ IsTextName word.now }
+{
+    let bytes = word.as_bytes();
+    if bytes.is_empty() || bytes.len() > 4096 {
+        return false;
+    }
+    bytes.iter().all(|&byte| byte >= 32 && byte != 127)
+}
+
+fn are_digits(word: &str) -> bool
+    ensures { result ≡ list_all is_ascii_digit word.now }
+{
+    word.as_bytes().iter().all(|byte| byte.is_ascii_digit())
+}
+
+// The number that the word is, in 1 to `most` digits.
+fn number_up_to(greatest: u64, most: usize, word: &str) -> Option<u64>
+    ensures { MatchOption result ((n : ℕ) → ¬ (IsNumber most word.now n × (n ≤ greatest)))
+        (λ n. IsNumber most word.now n × (n ≤ greatest)) }
+{
+    if word.is_empty() || word.len() > most || !are_digits(word) {
+        return None;
+    }
+    match word.parse::<u64>() {
+        Ok(number) => {
+            if number <= greatest {
+                Some(number)
+            } else {
+                None
+            }
+        }
+        Err(_) => None,
+    }
+}
+
+// The file that is named, which has to be.
+pub(crate) fn file_in<'a>(word: Option<&'a str>) -> Option<&'a str>
+    ensures { MatchOption result ((f : List ℕ) → ¬ SaysFile (option_map (λ w. w.now) word.entry) f)
+        (λ f. SaysFile (option_map (λ w. w.now) word.entry) f.now) }
+{
+    match word {
+        Some(name) => { if is_name(name) { Some(name) } else { None } }
+        None => None,
+    }
+}
+
+// The folder that is named, where one is; `None` where it can be none.
+pub(crate) fn root_in<'a>(word: Option<&'a str>) -> Option<Option<&'a str>>
+    ensures { MatchOption result ((r : Option (List ℕ)) → ¬ SaysRoot (option_map (λ w. w.now) word.entry) r)
+        (λ r. SaysRoot (option_map (λ w. w.now) word.entry) (option_map (λ w. w.now) r)) }
+{
+    match word {
+        Some(name) => {
+            if is_name(name) {
+                Some(Some(name))
+            } else {
+                None
+            }
+        }
+        None => Some(None),
+    }
+}
+
+pub(crate) fn budget_in(word: Option<&str>) -> Option<u64>
+    ensures { MatchOption result ((n : ℕ) → ¬ SaysBudget (option_map (λ w. w.now) word.entry) n)
+        (SaysBudget (option_map (λ w. w.now) word.entry)) }
+{
+    match word {
+        Some(text) => number_up_to(1_000_000_000_000, 13, text),
+        None => Some(10_000_000),
+    }
+}

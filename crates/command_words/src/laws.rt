@@ -1,0 +1,16 @@
+// What holds of what words ask.
+ghost use Rattle.std.specs.Prelude.{◌≡◌, ◌≤◌, ℕ, List, Option};
+ghost use Rattle.cert_format.specs.Printable.{IsTextName};
+ghost use Rattle.command_words.specs.Asked.{Asked, IsAsked, name_of, prove};
+
+/// Words ask at most one thing, and the name of its answers can stand in a text.
+pub fn asked_once()
+    ensures once { (words : List (List ℕ)) (a b : Asked) → IsAsked words a → IsAsked words b → a ≡ b }
+    ensures named { (words : List (List ℕ)) (a : Asked) → IsAsked words a → IsTextName (name_of a) }
+{}
+
+/// A budget that words ask for has a limit.
+pub fn asked_budget()
+    ensures { (words : List (List ℕ)) (file : List ℕ) (root : Option (List ℕ)) (budget : ℕ)
+        → IsAsked words (prove file root budget) → budget ≤ 1000000000000 }
+{}

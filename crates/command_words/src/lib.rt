@@ -1,0 +1,13 @@
+//! What the words of the command line ask. `clap` splits them, as one simple command for each command word, and takes every
+//! value as text; what a value may be is judged here.
+#![tactic(auto)]
+
+mod commands;
+mod judges;
+pub mod laws;
+mod matched;
+mod read;
+mod request;
+
+pub use read::read_words;
+pub use request::Request;
