@@ -3,3 +3,4 @@ mod SimpleCommands
 mod Parses
 mod FirstWords
 mod AskedOnce
+mod ExampleWords

@@ -3,6 +3,7 @@
 #![tactic(auto)]
 
 mod commands;
+pub mod examples;
 mod judges;
 pub mod laws;
 mod matched;

@@ -1,0 +1,106 @@
+-- Words that are written out: what the parser makes of them is computed.
+use Rattle.std.proofs.Common.{◌≡◌, ◌∙◌, ℕ, List, [], ◌∷◌, Some, None, rules, refl, sym, arith, codes}
+use Rattle.cert_format.specs.Printable.{IsTextName}
+use Rattle.clap.specs.Words.{Text, fault_of}
+use Rattle.clap.specs.declared.error.kind.ErrorKind.{ErrorKind}
+use Rattle.clap.specs.declared.error.kind.ErrorKind.TheVariants.{ArgumentConflict, DisplayHelp, MissingRequiredArgument, UnknownArgument}
+use Rattle.clap.proofs.OnLiterals.{clap_on_literals}
+use Rattle.command_words.specs.Asked.{IsAsked, IsUnread, SaysBudget, prove, sat}
+use Rattle.command_words.specs.Commands.{IsTaken, prove_command, sat_command, value_of}
+use Rattle.command_words.specs.Numbers.{IsNumber}
+
+-- ---- words that ask
+
+name_fp : IsTextName (codes "f.p")
+name_fp = search rules
+
+name_d : IsTextName (codes "d")
+name_d = search rules
+
+name_dash : IsTextName (codes "-f")
+name_dash = search rules
+
+name_x : IsTextName (codes "x")
+name_x = search rules
+
+four : IsNumber 13 (codes "4") 4
+four = record { some = omega arith; few = omega arith; digits = refl; value = refl }
+
+seven : IsNumber 13 (codes "007") 7
+seven = record { some = omega arith; few = omega arith; digits = refl; value = refl }
+
+pub file : IsAsked (codes "prove" ∷ codes "f.p" ∷ []) (prove (codes "f.p") None 10000000)
+unfolding prove_command IsTaken value_of clap_on_literals
+file = record { command = refl; taken = refl; says = ((refl, name_fp), (refl, tt), refl) }
+
+pub root : IsAsked (codes "prove" ∷ codes "--root" ∷ codes "d" ∷ codes "f.p" ∷ []) (prove (codes "f.p") (Some (codes "d")) 10000000)
+unfolding prove_command IsTaken value_of clap_on_literals
+root = record { command = refl; taken = refl; says = ((refl, name_fp), (refl, name_d), refl) }
+
+pub attached : IsAsked (codes "prove" ∷ codes "f.p" ∷ codes "--budget=4" ∷ []) (prove (codes "f.p") None 4)
+unfolding prove_command IsTaken value_of clap_on_literals
+attached = record { command = refl; taken = refl; says = ((refl, name_fp), (refl, tt), (four, omega arith)) }
+
+pub zeros : IsAsked (codes "prove" ∷ codes "f.p" ∷ codes "--budget" ∷ codes "007" ∷ []) (prove (codes "f.p") None 7)
+unfolding prove_command IsTaken value_of clap_on_literals
+zeros = record { command = refl; taken = refl; says = ((refl, name_fp), (refl, tt), (seven, omega arith)) }
+
+pub dash : IsAsked (codes "prove" ∷ codes "--" ∷ codes "-f" ∷ []) (prove (codes "-f") None 10000000)
+unfolding prove_command IsTaken value_of clap_on_literals
+dash = record { command = refl; taken = refl; says = ((refl, name_dash), (refl, tt), refl) }
+
+pub sat_file : IsAsked (codes "sat" ∷ codes "x" ∷ []) (sat (codes "x"))
+unfolding sat_command IsTaken value_of clap_on_literals
+sat_file = record { command = refl; taken = refl; says = (refl, name_x) }
+
+-- ---- words that ask nothing
+
+pub empty : IsUnread []
+empty (prove f r n) h = let e = h.command in absurd cc
+empty (sat f) h = let e = h.command in absurd cc
+
+pub help : IsUnread (codes "--help" ∷ [])
+help (prove f r n) h = let e = h.command in absurd cc
+help (sat f) h = let e = h.command in absurd cc
+
+-- the parser refuses the words behind `prove`
+refused_prove : (rest : List Text) (k : ErrorKind) → fault_of prove_command (codes "prove" ∷ rest) ≡ k ∷ [] → IsUnread (codes "prove" ∷ rest)
+unfolding IsTaken
+refused_prove rest k e (prove f r n) h = let none : k ∷ [] ≡ [] = sym e ∙ h.taken in absurd cc
+refused_prove rest k e (sat f) h = let other = h.command in absurd cc
+
+refused_sat : (rest : List Text) (k : ErrorKind) → fault_of sat_command (codes "sat" ∷ rest) ≡ k ∷ [] → IsUnread (codes "sat" ∷ rest)
+unfolding IsTaken
+refused_sat rest k e (prove f r n) h = let other = h.command in absurd cc
+refused_sat rest k e (sat f) h = let none : k ∷ [] ≡ [] = sym e ∙ h.taken in absurd cc
+
+pub no_file : IsUnread (codes "prove" ∷ [])
+unfolding prove_command clap_on_literals
+no_file = refused_prove [] MissingRequiredArgument refl
+
+pub two_files : IsUnread (codes "prove" ∷ codes "a" ∷ codes "b" ∷ [])
+unfolding prove_command clap_on_literals
+two_files = refused_prove (codes "a" ∷ codes "b" ∷ []) UnknownArgument refl
+
+pub prove_help : IsUnread (codes "prove" ∷ codes "--help" ∷ [])
+unfolding prove_command clap_on_literals
+prove_help = refused_prove (codes "--help" ∷ []) DisplayHelp refl
+
+pub two_roots : IsUnread (codes "prove" ∷ codes "f.p" ∷ codes "--root" ∷ codes "a" ∷ codes "--root" ∷ codes "b" ∷ [])
+unfolding prove_command clap_on_literals
+two_roots = refused_prove (codes "f.p" ∷ codes "--root" ∷ codes "a" ∷ codes "--root" ∷ codes "b" ∷ []) ArgumentConflict refl
+
+pub no_root : IsUnread (codes "sat" ∷ codes "x" ∷ codes "--root" ∷ codes "d" ∷ [])
+unfolding sat_command clap_on_literals
+no_root = refused_sat (codes "x" ∷ codes "--root" ∷ codes "d" ∷ []) UnknownArgument refl
+
+large_value : value_of prove_command (codes "prove" ∷ codes "f.p" ∷ codes "--budget" ∷ codes "1000000000001" ∷ []) (codes "budget") ≡ Some (codes "1000000000001")
+unfolding prove_command value_of clap_on_literals
+large_value = refl
+
+too_large : (n : ℕ) → SaysBudget (Some (codes "1000000000001")) n → ⊥
+too_large n (number, small) = let value : 1000000000001 ≡ n = number.value in absurd (omega arith)
+
+pub large_budget : IsUnread (codes "prove" ∷ codes "f.p" ∷ codes "--budget" ∷ codes "1000000000001" ∷ [])
+large_budget (prove f r n) h = too_large n (rw large_value at h.says.2)
+large_budget (sat f) h = let other = h.command in absurd cc

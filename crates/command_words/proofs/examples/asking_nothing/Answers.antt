@@ -1,0 +1,14 @@
+use Rattle.command_words.proofs.ExampleWords.{empty, help, no_file, two_files, prove_help, large_budget, two_roots, no_root}
+use Rattle.command_words.proofs.examples.asking_nothing.Goals as goal
+
+pub returns : goal.returns
+returns c = record {
+  empty = empty;
+  help = help;
+  no_file = no_file;
+  two_files = two_files;
+  prove_help = prove_help;
+  budget = large_budget;
+  two_roots = two_roots;
+  no_root = no_root;
+}
