@@ -1,7 +1,7 @@
 // What is asked.
 
 /// What the words ask. Names are as they were given; a budget counts symbols.
-#[derive(Clone, Copy, Debug)]
+#[derive(Debug, Drop, PartialEq, Eq)]
 pub enum Request<'a> {
     Prove {
         file: &'a str,
