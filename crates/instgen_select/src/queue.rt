@@ -76,13 +76,14 @@ impl Queue {
         stored
     }
 
-    fn take(&mut self) -> Option<Item>
+    // The oldest, or the least.
+    fn take(&mut self, oldest: bool) -> Option<Item>
         ensures none { IfNone result ((self.old.items ≡ []) × (self.new.items ≡ self.old.items)) }
-        ensures some { IfSome result (λ item. IsPicked self.old.even self.old.items self.new.items item.number) }
+        ensures some { IfSome result (λ item. IsPicked oldest self.old.items self.new.items item.number) }
         ensures even { self.new.even ≡ self.old.even }
         ensures spent { self.new.spent ≡ self.old.spent }
     {
-        if self.even {
+        if oldest {
             take_oldest(&mut self.slots, &mut self.front)
         } else {
             take_least(&mut self.slots, &mut self.heap)
@@ -97,12 +98,25 @@ impl Queue {
         ensures turn { OnSome result (self.new.even ≡ not self.old.even) }
         ensures spent { self.new.spent ≡ self.old.spent }
     {
-        match self.take() {
+        match self.take(self.even) {
             None => None,
             Some(item) => {
                 self.even = !self.even;
                 Some(item.number)
             }
+        }
+    }
+
+    /// Takes the least number by size and number out, and no turn. `None` where none is left.
+    pub fn pick_least(&mut self) -> Option<usize>
+        ensures none { IfNone result ((self.old.items ≡ []) × (self.new ≡ self.old)) }
+        ensures some { IfSome result (λ number. IsPicked false self.old.items self.new.items number) }
+        ensures turn { self.new.even ≡ self.old.even }
+        ensures spent { self.new.spent ≡ self.old.spent }
+    {
+        match self.take(false) {
+            None => None,
+            Some(item) => Some(item.number),
         }
     }
 }
