@@ -1,3 +1,4 @@
+pub mod Asked
 pub mod Banks
 pub mod Covers
 pub mod Firsts

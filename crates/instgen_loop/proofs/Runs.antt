@@ -360,7 +360,7 @@ pub running_inferred : {S I C : Type 0} (atoms : S → ℕ) (added : S → List 
     (m : MayInfer old side from partner) → AreEntries old.entries.bank (items old) → IsClauseOf old.entries.bank d
     → AppendsUncovered old new d (Inst from place partner other) len size → KeepsLink atoms added old new → clause_at old.entries.bank d ≡ canonical_form (concluded old side from partner m)
     → at_number (items old) from ≡ Some item → length item.0 ≡ len → at_number old.selection.places from ≡ Some place → at_number old.selection.places partner ≡ Some other
-    → size ≡ min (clause_size (canonical_form (concluded old side from partner m))) (2 ^ 64 - 1) → ((k : ℕ) → old.left ≡ Some k → size ≤ k) → KeepsRunning atoms added old new
+    → ((k : ℕ) → old.left ≡ Some k → size ≡ min (clause_size (canonical_form (concluded old side from partner m))) (2 ^ 64 - 1)) → ((k : ℕ) → old.left ≡ Some k → size ≤ k) → KeepsRunning atoms added old new
 running_inferred atoms added old new side from partner size place other len d item m entries ids (inl same) links made at long here there sized fits bot cs budget v h =
     transport (λ r. IsRunning atoms added r bot cs budget v true) (sym same) h
 running_inferred atoms added old new side from partner size place other len d item m entries ids (inr (appends, uncovered)) links made at long here there sized fits bot cs budget v h =
@@ -377,7 +377,7 @@ running_inferred atoms added old new side from partner size place other len d it
     (covered_when_renamed (clauses_in f (items old)) (clause_at f l.item.0) (concluded old side from partner m) (clause_at f d)
     (transport (λ cs. IsCovered cs (clause_at f l.item.0) (concluded old side from partner m)) (same_clauses f (items old)) covered)
     (sym (ap canonical_form made ∙ canonical_of_canonical (concluded old side from partner m)))))
-    (λ k e light. let le = fits k e in (omega arith, le)) bot cs budget v h
+    (λ k e light. let cut = sized k e in let le = fits k e in (omega arith, le)) bot cs budget v h
 
 -- a solve, and then work under its valuation
 pub solved_on : {S I C : Type 0} (atoms : S → ℕ) (added : S → List (List (Signed ℕ))) (old mid new : Run S I C) (cs : List TreeClause) (budget : ℕ) → KeepsTruth atoms added old mid → KeepsRunning atoms added mid new

@@ -34,6 +34,9 @@ taken even old new n h =
       after = ap (map first) h.after ∙ map_append first h.front h.back;
     }
 
+pub picked_by : (old new : List Waiting) (n : ℕ) → (even : Bool) × IsPicked even old new n → IsTaken old new n
+picked_by old new n (even, h) = taken even old new n h
+
 module _ (old new : List Waiting) (n : ℕ) (h : IsTaken old new n) where
   pub there : Contains (numbers old) n
   there = in_contains n (numbers old) (transport (λ xs. n ∈ xs) (sym h.before) (in_right n h.front (n ∷ h.back) (inl refl)))

@@ -33,3 +33,7 @@ pub record Solves {S I C : Type 0} (atoms : S → ℕ) (added : S → List (List
   pub left : new.left ≡ old.left
   pub within : length new.selection.places ≤ length (items old)
   pub placed : (i : ℕ) → i < length new.selection.places → IsTruePlace old.ground.literals new.selection.places new.ground.valuation i
+
+-- entry i, counted from 0, has a literal that is true by the bits
+abbrev pub IsTrueEntry : List (List (Signed ℕ)) → List Bool → ℕ → Type 0
+IsTrueEntry literals bits i = (clause : List (Signed ℕ)) × (slice_get literals i ≡ Some clause) × (p : ℕ) × IsTrueAt clause bits p

@@ -94,6 +94,28 @@ pub fn conclusion_size<S: Solver, I: PartnerIndex>(
     }
 }
 
+// The same where a budget applies, and no work where none does.
+fn budgeted_size<S: Solver, I: PartnerIndex>(
+    run: &mut Run<S, I>,
+    side: Side,
+    from: usize,
+) -> Result<u64, Memory>
+    requires safe { IsSafe S.atoms I.pairs I.fits run.old }
+    requires within { (0 < from) × (from ≤ length run.old.selection.places) }
+    requires unified { IsUnified run.old.entries.bank run.old.bindings.entries }
+    ensures safe { IsSafe S.atoms I.pairs I.fits run.new }
+    ensures goes { Goes run.old run.new }
+    ensures bindings { run.new.bindings.entries ≡ run.old.bindings.entries }
+    ensures left { run.new.left ≡ run.old.left }
+    ensures reads { Reads run.old run.new }
+    ensures size { IfOk result (λ n. (k : ℕ) → run.new.left ≡ Some k → (item : Item) × (at_number (items run.new) from ≡ Some item) × IsSizeUnder run.new.entries.bank run.new.bindings.entries side item.0 u64.MAX n) }
+{
+    match run.left {
+        None => Ok(0),
+        Some(_) => conclusion_size(run, side, from),
+    }
+}
+
 /// What entry `from` gives under the bindings, in canonical form.
 pub fn conclusion_of<S: Solver, I: PartnerIndex>(
     alloc: Global,
@@ -193,7 +215,7 @@ pub fn infer<S: Solver, I: PartnerIndex>(
     ensures running { OnOk result (MayInfer run.old side from partner → KeepsRunning S.atoms S.added run.old run.new) }
     ensures worked { OnOk result ((s : Sided) → IsResolvedBy run.old.entries.bank run.old.bindings.entries s → IsSideWorked run.new (of_side s side) from partner) }
 {
-    let size = conclusion_size(run, side, from)?;
+    let size = budgeted_size(run, side, from)?;
     if !fits(run.left, size) {
         hold(run, from, partner)?;
         return Ok(());

@@ -4,6 +4,7 @@
 //! or the budget is spent.
 #![tactic(auto)]
 
+pub mod ask;
 pub mod bounds;
 pub mod cycle;
 pub mod decide;
@@ -15,6 +16,7 @@ pub mod ground;
 pub mod hand_over;
 pub mod infer;
 pub mod laws;
+pub mod order;
 pub mod outcome;
 pub mod queue;
 pub mod refuted;

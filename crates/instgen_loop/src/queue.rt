@@ -8,6 +8,7 @@ ghost use Rattle.instgen_loop.specs.Running.{KeepsRunning};
 ghost use Rattle.instgen_loop.specs.Tended.{AreTended, indexed_of};
 
 use crate::infer::{clause_of, literal_at, place_of};
+use crate::order::pick_next;
 use crate::state::Run;
 use crate::work::{selected_atom, work_with};
 use inst_logic::Memory;
@@ -99,7 +100,7 @@ pub fn work_queue<S: Solver, I: PartnerIndex>(
     ensures none_waits { IfOk result (λ r. r ≡ false → (run.new.queue.items ≡ []) × (length (items run.new) ≡ length (items run.old))) }
 {
     loop {
-        match run.queue.pick() {
+        match pick_next(run.left, &mut run.queue) {
             None => return Ok(false),
             Some(n) => {
                 let before = run.entries.clauses.len();

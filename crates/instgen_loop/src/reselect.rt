@@ -10,6 +10,7 @@ ghost use Rattle.instgen_loop.specs.Choosing.{IsUnderWay, IsChoice};
 ghost use Rattle.instgen_loop.specs.Settling.{AreSelectable, IsOrderly, Reselects, Requeues};
 
 use crate::infer::clause_of;
+use crate::order::rank;
 use crate::queue::{Partners, is_positive};
 use crate::selection::{Chosen, chosen_literal};
 use crate::state::Run;
@@ -63,7 +64,7 @@ fn requeue<S: Solver, I: PartnerIndex>(
 {
     if removed {
         let size = clause_size(&run.entries.bank, clause_of(run, n));
-        run.queue.put(n, size)?;
+        run.queue.put(n, rank(run.left, n, size))?;
     }
     Ok(())
 }

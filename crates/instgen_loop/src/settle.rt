@@ -14,6 +14,7 @@ ghost use Rattle.instgen_loop.specs.Running.{IsRunningFor, IsRunningWith, KeepsT
 ghost use Rattle.instgen_loop.specs.Choosing.{IsUnderWay, AreNumbersPlaced};
 ghost use Rattle.instgen_loop.specs.Settling.{IsOrderly, IsGrounded, IsSomeRun, Settles};
 
+use crate::ask::ask;
 use crate::event::Event;
 use crate::flips::flips_between;
 use crate::queue::Partners;
@@ -25,8 +26,8 @@ use prop_logic::{Answer, Derivation, LitList, LitLists, Solver, Valuation};
 use std::alloc::Global;
 use term_index::PartnerIndex;
 
-// The numbered literals of the entry after the first `count`.
-fn clause_after(literals: &LitLists, count: usize) -> &LitList
+/// The numbered literals of the entry after the first `count`.
+pub fn clause_after(literals: &LitLists, count: usize) -> &LitList
     requires { count < length literals.now }
     ensures { slice_get literals.now count ≡ Some result.now }
 {
@@ -146,7 +147,14 @@ pub fn settle<S: Solver, I: PartnerIndex>(
     ensures kept { OnOk result ((bot : Sym) (cs : List TreeClause) (budget : ℕ) → IsRunningWith S.atoms S.added run.old bot cs budget → IsRunningWith S.atoms S.added run.new bot cs budget) }
     ensures refuted { IfOk result (λ r. IfSome r (λ d. Refutes (S.atoms run.new.ground.solver) (S.added run.new.ground.solver) [] [] d)) }
 {
-    match run.ground.solver.solve(&[])? {
+    let count = run.selection.len();
+    match ask(
+        alloc,
+        &mut run.ground.solver,
+        &run.ground.literals,
+        count,
+        &run.ground.valuation,
+    )? {
         Answer::Unsat { derivation, .. } => Ok(Some(derivation)),
         Answer::Sat(v) => {
             accept(alloc, run, partners, v)?;

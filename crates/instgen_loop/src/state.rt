@@ -11,6 +11,7 @@ ghost use Rattle.instgen_loop.specs.FirstEntries.{MakesEntry};
 use crate::entries::{Entries, push_entry};
 use crate::event::{Event, Journal};
 use crate::ground::{Ground, add_entry};
+use crate::order::rank;
 use crate::selection::Selection;
 use inst_logic::Memory;
 use instgen_select::Queue;
@@ -62,7 +63,7 @@ pub fn make_entry<S: Solver, I: PartnerIndex>(
 {
     let number = run.entries.clauses.len() + 1;
     add_entry(&mut run.entries.bank, &mut run.ground, &clause)?;
-    run.queue.put(number, size)?;
+    run.queue.put(number, rank(run.left, number, size))?;
     push_entry(&mut run.entries, clause, origin)?;
     Ok(())
 }

@@ -21,18 +21,18 @@ pub returns-then-not-fits-clause-worked : goal.returns-then-not-fits-clause-work
 returns-then-not-fits-clause-worked g c = λ s resolved. c.in_ok-hold.ensures.worked s c.args.side
 
 pub returns-then-not-fits-clause-goes : goal.returns-then-not-fits-clause-goes
-returns-then-not-fits-clause-goes g c = goes_on c.args.run.now c.conclusion_size.new.run c.hold.new.run c.in_ok-size.ensures.goes c.in_ok-hold.ensures.goes
+returns-then-not-fits-clause-goes g c = goes_on c.args.run.now c.budgeted_size.new.run c.hold.new.run c.in_ok-size.ensures.goes c.in_ok-hold.ensures.goes
 
 pub conclusion_of-requires-clause-unified : goal.conclusion_of-requires-clause-unified
 conclusion_of-requires-clause-unified g c =
     let run = c.args.run.now in
-    let r1 = c.conclusion_size.new.run in
+    let r1 = c.budgeted_size.new.run in
     subst (IsUnified r1.entries.bank) (sym c.in_ok-size.ensures.bindings) (unified_stays run.entries.bank r1.entries.bank run.bindings.entries c.in_ok-size.ensures.goes.bank c.requires.unified)
 
 pub append_uncovered-requires-clause-canonical : goal.append_uncovered-requires-clause-canonical
 append_uncovered-requires-clause-canonical g c =
     let run = c.args.run.now in
-    let r1 = c.conclusion_size.new.run in
+    let r1 = c.budgeted_size.new.run in
     let r2 = c.conclusion_of.new.run in
     let m = c.in_ok-conclusion.ensures.made in
     made_canonical r1.entries.bank r2.entries.bank r1.bindings.entries c.args.side (clause_at r1.entries.bank m.item.0) c.in_ok-conclusion.conclusion
@@ -51,13 +51,13 @@ append_uncovered-requires-clause-fits g c = subst (λ o. IfSome o (λ k. c.in_ok
 
 pub returns-clause-goes : goal.returns-clause-goes
 returns-clause-goes g c =
-    goes_on c.args.run.now c.conclusion_size.new.run c.append_uncovered.new.run c.in_ok-size.ensures.goes
-    (goes_on c.conclusion_size.new.run c.conclusion_of.new.run c.append_uncovered.new.run c.in_ok-conclusion.ensures.goes c.in_ok-append_uncovered.ensures.goes)
+    goes_on c.args.run.now c.budgeted_size.new.run c.append_uncovered.new.run c.in_ok-size.ensures.goes
+    (goes_on c.budgeted_size.new.run c.conclusion_of.new.run c.append_uncovered.new.run c.in_ok-conclusion.ensures.goes c.in_ok-append_uncovered.ensures.goes)
 
 pub returns-clause-worked : goal.returns-clause-worked
 returns-clause-worked g c = λ s resolved.
     let run = c.args.run.now in
-    let r1 = c.conclusion_size.new.run in
+    let r1 = c.budgeted_size.new.run in
     let r2 = c.conclusion_of.new.run in
     let new = c.append_uncovered.new.run in
     let m = c.in_ok-conclusion.ensures.made in
@@ -77,10 +77,10 @@ pub returns-then-not-fits-clause-running : goal.returns-then-not-fits-clause-run
 returns-then-not-fits-clause-running g c = λ may bot cs budget v h.
     let S = g.S.Solver in
     let run = c.args.run.now in
-    let r1 = c.conclusion_size.new.run in
-    let (item, at, sized) = c.in_ok-size.ensures.size in
+    let r1 = c.budgeted_size.new.run in
     let (m, same) = may_read run r1 c.args.side c.args.from c.args.partner c.in_ok-size.ensures.reads c.in_ok-size.ensures.bindings c.requires.unified.bindings c.requires.safe.entries may in
     let (k, left, large) = c.fits.ensures.no (search rules) in
+    let (item, at, sized) = c.in_ok-size.ensures.size k left in
     let cut = size_concluded r1 c.args.side c.args.from c.args.partner c.in_ok-size.size m item at sized in
     running_held S.atoms S.added r1 c.hold.new.run c.args.side c.args.from c.args.partner c.in_ok-hold.ensures.holds m
     (λ n e. let q : k ≡ n = same_item r1.left k n left e in omega (arith, cut))
@@ -91,20 +91,20 @@ pub returns-clause-running : goal.returns-clause-running
 returns-clause-running g c = λ may bot cs budget v h.
     let S = g.S.Solver in
     let run = c.args.run.now in
-    let r1 = c.conclusion_size.new.run in
+    let r1 = c.budgeted_size.new.run in
     let r2 = c.conclusion_of.new.run in
-    let (item, at, sized) = c.in_ok-size.ensures.size in
     let (entry, here, same) = c.clause_of.ensures in
     let (m, q) = may_read run r1 c.args.side c.args.from c.args.partner c.in_ok-size.ensures.reads c.in_ok-size.ensures.bindings c.requires.unified.bindings c.requires.safe.entries may in
     let later : IsUnified r1.entries.bank r1.bindings.entries =
     subst (IsUnified r1.entries.bank) (sym c.in_ok-size.ensures.bindings) (unified_stays run.entries.bank r1.entries.bank run.bindings.entries c.in_ok-size.ensures.goes.bank c.requires.unified) in
     let (n, p) = may_read r1 r2 c.args.side c.args.from c.args.partner c.in_ok-conclusion.ensures.reads c.in_ok-conclusion.ensures.bindings later.bindings c.in_ok-size.ensures.safe.entries m in
-    let cut = size_concluded r1 c.args.side c.args.from c.args.partner c.in_ok-size.size m item at sized in
     running_inferred S.atoms S.added r2 c.append_uncovered.new.run c.args.side c.args.from c.args.partner c.in_ok-size.size c.place_of.result c.place_of-2.result c.len-len.result c.in_ok-conclusion.conclusion entry n
     c.in_ok-conclusion.ensures.safe.entries c.in_ok-conclusion.ensures.whole.ids c.in_ok-append_uncovered.ensures.step c.in_ok-append_uncovered.ensures.linked
     (made_concluded r1 r2 c.args.side c.args.from c.args.partner c.in_ok-conclusion.conclusion m c.in_ok-conclusion.ensures.made ∙ ap canonical_form (sym p)) here
     (ap length same ∙ sym c.len-len.ensures) c.place_of.ensures c.place_of-2.ensures
-    (cut ∙ ap (λ (x : TreeClause). min (clause_size (canonical_form x)) (2 ^ 64 - 1)) (sym p))
+    (λ k e.
+    let (item, at, sized) = c.in_ok-size.ensures.size k (sym c.in_ok-conclusion.ensures.left ∙ e) in
+    size_concluded r1 c.args.side c.args.from c.args.partner c.in_ok-size.size m item at sized ∙ ap (λ (x : TreeClause). min (clause_size (canonical_form x)) (2 ^ 64 - 1)) (sym p))
     (λ k e. fits_some r1.left c.in_ok-size.size k (c.fits.ensures.yes (search rules)) (sym c.in_ok-conclusion.ensures.left ∙ e))
     bot cs budget v
     (running_read S.atoms S.added r1 r2 c.in_ok-conclusion.ensures.reads c.in_ok-size.ensures.safe.entries bot cs budget v

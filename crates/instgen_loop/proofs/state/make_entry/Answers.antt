@@ -30,7 +30,7 @@ returns-clause-safe g c =
           let n = c.len-number.result in
           let m : length later.clauses.entries ≡ length es + 1 = ap length pushed ∙ length-append es (item ∷ []) in
           let q : numbers c.put.new.self.items ≡ numbers old.queue.items ++ (length es + 1) ∷ [] =
-          ap (λ (w : Waiting_list). numbers w.items) c.in_ok-put.ensures.ok ∙ map_append (λ (x : Waiting). x.0) old.queue.items ((n + 1, c.args.size) ∷ [])
+          ap (λ (w : Waiting_list). numbers w.items) c.in_ok-put.ensures.ok ∙ map_append (λ (x : Waiting). x.0) old.queue.items ((n + 1, c.rank.result) ∷ [])
           ∙ ap (λ k. numbers old.queue.items ++ (k + 1) ∷ []) c.len-number.ensures.len in
           subst (All (λ k. k ≤ length later.clauses.entries)) (sym q) (subst (λ k. All (λ j. j ≤ k) (numbers old.queue.items ++ (length es + 1) ∷ [])) (sym m)
           (waiting_pushed (numbers old.queue.items) (length es) (length es + 1) refl c.requires.safe.waiting));

@@ -1,0 +1,56 @@
+// The question to the solver. It is not asked where the last valuation makes the entries true that came since: an entry with a
+// new atom mostly has a true literal there, since new atoms are false.
+ghost use Rattle.std.specs.Prelude.{◌≡◌, ◌<◌, ◌≤◌, ℕ, [], length, true, IfOk, OnOk};
+ghost use Rattle.prop_logic.specs.Solving.{IsAnswer};
+ghost use Rattle.instgen_select.specs.Choices.{IsTrueAt};
+ghost use Rattle.instgen_loop.specs.Solves.{IsTrueEntry};
+
+use crate::settle::clause_after;
+use inst_logic::Memory;
+use instgen_select::choose;
+use prop_logic::{Answer, LitList, LitLists, Solver, Valuation};
+use std::alloc::Global;
+
+// Whether a literal of the clause is true.
+fn is_true(clause: &LitList, v: &Valuation) -> bool
+    ensures { result ≡ true → (p : ℕ) × IsTrueAt clause.now v.now p }
+{
+    match choose(None, clause, v) {
+        Some(_) => true,
+        None => false,
+    }
+}
+
+// Whether all the clauses after the first `count` are true.
+fn are_true_after(literals: &LitLists, count: usize, v: &Valuation) -> bool
+    ensures { result ≡ true → (i : ℕ) → count ≤ i → i < length literals.now → IsTrueEntry literals.now v.now i }
+{
+    for k in count..literals.len() {
+        if !is_true(clause_after(literals, k), v) {
+            return false;
+        }
+    }
+    true
+}
+
+/// A valuation that makes the solver's clauses true, or their refutation. The first `count` clauses are true in the last
+/// valuation, which is the answer where it makes the others true as well.
+pub fn ask<S: Solver>(
+    alloc: Global,
+    solver: &mut S,
+    literals: &LitLists,
+    count: usize,
+    v: &Valuation,
+) -> Result<Answer, Memory>
+    requires given { S.added solver.old ≡ literals.now }
+    requires width { length v.now ≤ S.atoms solver.old }
+    requires first { (i : ℕ) → i < count → IsTrueEntry literals.now v.now i }
+    ensures atoms { S.atoms solver.new ≡ S.atoms solver.old }
+    ensures added { S.added solver.new ≡ S.added solver.old }
+    ensures answer { IfOk result (IsAnswer (S.atoms solver.old) (S.added solver.old) []) }
+{
+    if are_true_after(literals, count, v) {
+        return Ok(Answer::Sat(v.copy(alloc)?));
+    }
+    solver.solve(&[])
+}
