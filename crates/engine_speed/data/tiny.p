@@ -1,0 +1,3 @@
+cnf(a,plain,p(a)).
+cnf(b,plain,~ p(X) | q(X)).
+cnf(c,plain,~ q(a)).

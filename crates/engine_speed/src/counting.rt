@@ -1,0 +1,54 @@
+// What is told of a run.
+use instgen_loop::{Event, Journal, Outcome};
+use saturation_cert::Base;
+use std::fmt::{Display, Error, Formatter, Write};
+
+/// How a run ended, and how many members, steps, solves and appended entries it had.
+#[derive(Clone, Copy, Drop)]
+pub struct Counts {
+    status: &'static str,
+    members: usize,
+    steps: usize,
+    solves: usize,
+    appended: usize,
+}
+
+impl Display for Counts {
+    fn fmt<W: Write>(&self, f: &mut Formatter<W>) -> Result<(), Error> {
+        write!(
+            f,
+            "{} members={} steps={} solves={} appended={}",
+            self.status, self.members, self.steps, self.solves, self.appended
+        )
+    }
+}
+
+fn solves_in(journal: &Journal) -> usize {
+    journal
+        .as_slice()
+        .iter()
+        .filter(|event| matches!(**event, Event::Solved(_)))
+        .count()
+}
+
+fn counted(status: &'static str, base: &Base, steps: usize, journal: &Journal) -> Counts {
+    let solves = solves_in(journal);
+    Counts {
+        status,
+        members: base.members.len(),
+        steps,
+        solves,
+        appended: journal.len().wrapping_sub(solves),
+    }
+}
+
+/// The counts of a run that ended so.
+pub fn counts_of(outcome: &Outcome) -> Counts {
+    match outcome {
+        Outcome::Refuted { cert, journal } => {
+            counted("refuted", &cert.base, cert.steps.len(), journal)
+        }
+        Outcome::Saturated { cert, journal } => counted("saturated", &cert.base, 0, journal),
+        Outcome::OutOfBudget { state, journal, .. } => counted("open", &state.base, 0, journal),
+    }
+}

@@ -1,0 +1,39 @@
+// A run of the engine with the fast solver and the fast index.
+ghost use Rattle.std.specs.Prelude.{IfOk};
+ghost use Rattle.tptp_load.specs.Problems.{IsGoodProblem};
+
+use crate::counting::{Counts, counts_of};
+use cdcl_core::Cdcl;
+use inst_logic::{Memory, Problem};
+use instgen_loop::{Outcome, run};
+use outside_io::Library;
+use std::alloc::Global;
+use term_tree::Tree;
+use tptp_load::load;
+
+#[tactic(auto, using(std::proofs::lemmas::Grind::common_steps, worked_engine::proofs::Printable::printable_clauses, worked_engine::proofs::Printable::readable_names))]
+fn outcome(alloc: Global, p: &Problem, budget: u32) -> Result<Outcome, Memory>
+    requires { IsGoodProblem p.now }
+{
+    run(
+        alloc,
+        p,
+        Cdcl::new(alloc),
+        Tree::new(alloc),
+        Tree::new(alloc),
+        Tree::new(alloc),
+        u64::from(budget),
+    )
+}
+
+/// What a run on the file had. Nothing comes where there is no such problem or the memory does not do.
+pub fn measured<L: Library>(
+    alloc: Global,
+    files: &mut L,
+    name: &str,
+    budget: u32,
+) -> Option<Counts> {
+    let p = load(alloc, files, name, None).ok()?;
+    let outcome = outcome(alloc, &p, budget).ok()?;
+    Some(counts_of(&outcome))
+}
