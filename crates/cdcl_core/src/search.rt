@@ -1,6 +1,6 @@
 // The search: a loop over the trail. Each turn propagates, and then decides a literal or answers a conflict by a learned
-// clause, which gives a literal at a lower level. A restart takes back all levels but those of assumptions; only then are
-// learned clauses forgotten.
+// clause, which gives a literal at a lower level. A restart takes back all levels but those of assumptions. Learned clauses
+// are forgotten at restarts, and where a question begins, since many short questions may never come to a restart.
 ghost use Rattle.std.specs.Prelude.{◌≡◌, ◌≢◌, IsTrue, IsFalse, ℕ, ◌+◌, ◌-◌, ◌++◌, ◌∷◌, [], ◌<◌, ◌≤◌, ◌⊎◌, List, Bool, true, false, Some, None, All, Contains, MatchBool, length, map, min, take, slice_get, unwrap_or, IfOk, IfSome, IfNone, OnOk};
 ghost use Rattle.inst_logic.specs.declared.signed.Signed.{Signed};
 ghost use Rattle.inst_logic.specs.Signed.{complement};
@@ -29,8 +29,9 @@ use inst_logic::Memory;
 use prop_logic::{Answer, Derivation, Hint, HintList, Lit, LitList, Step, complement, complements};
 use std::alloc::Global;
 
-// The levels up to `assumed` were opened by assumptions, of which the first `checked` are true. The decisions take the
-// value that the atom had last, and look for an atom from `next` on.
+// The levels up to `assumed` were opened by assumptions, of which the first `checked` are true. The decisions take atoms by
+// their activity, each with the value that it had last. Where the order has no atom left, which it may for want of memory, one
+// is looked for from `next` on.
 #[derive(Drop)]
 pub(crate) struct Search {
     pub(crate) alloc: Global,
@@ -352,8 +353,9 @@ impl Search {
         ensures same { IsSameButClauses self.old self.new }
     {
         for _ in 0..self.learned.sort() {
-            let number = self.learned.pop();
-            self.forget(number);
+            let rank = self.learned.pop();
+            self.forget(rank.number);
+            self.learned.list_again(rank, &self.clauses);
         }
     }
 
@@ -386,10 +388,11 @@ impl Search {
         let hint = Hint::Step(self.log.steps.len());
         let clause = self.log.cited(hint);
         let levels = count_levels(self.alloc, &self.trail, clause)?;
+        let literals = clause.len();
         let key = self.clauses.add(clause)?;
         put_name(&mut self.log.names, key, hint)?;
         self.trail.attach(&self.clauses, key)?;
-        self.learned.push(key, levels)?;
+        self.learned.push(key, levels, literals)?;
         Ok(key)
     }
 
@@ -612,8 +615,8 @@ impl Search {
         }
     }
 
-    // Begins a question: keeps all levels where nothing is assumed, else those whose decisions are assumed again.
-    fn begin(&mut self, assumptions: &[Lit])
+    // Keeps all levels where nothing is assumed, else those whose decisions are assumed again.
+    fn keep_levels(&mut self, assumptions: &[Lit])
         requires kept { IsKept self.old }
         ensures search { IsSearch assumptions.now self.new }
         ensures same { IsSameProblem self.old self.new }
@@ -627,6 +630,17 @@ impl Search {
         let level = shared_level(&self.trail, assumptions, count);
         self.back_to(level);
         self.assumed = level;
+    }
+
+    // Begins a question on the levels that can be kept.
+    fn begin(&mut self, assumptions: &[Lit])
+        requires kept { IsKept self.old }
+        ensures search { IsSearch assumptions.now self.new }
+        ensures same { IsSameProblem self.old self.new }
+    {
+        let _ = self.trail.assigned();
+        self.reduce();
+        self.keep_levels(assumptions);
     }
 
     // Takes back the levels that no assumption opened.

@@ -1,11 +1,14 @@
-use Rattle.std.proofs.Common.{refl}
-use Rattle.cdcl_core.specs.declared.search.Search.{Search}
-use Rattle.cdcl_core.proofs.BackLaws.{begun_at}
-use Rattle.cdcl_core.proofs.KeptLaws.{kept_same}
+use Rattle.std.proofs.Common.{ap, ◌∙◌}
 use Rattle.cdcl_core.proofs.search.Search.begin.Goals as goal
 
-pub returns-clause-search : goal.returns-clause-search
-returns-clause-search c =
-    let back = c.back_to.new.self in
-    let new : Search = record back { assumed = c.shared_level-level.result } in
-    begun_at c.args.assumptions.now c.args.self.now new c.shared_level-level.result c.back_to.ensures.trail refl c.back_to.ensures.checked c.shared_level-level.ensures.decisions (kept_same back new refl refl refl refl (λ p. p) c.back_to.ensures.kept)
+pub returns : goal.returns
+returns c =
+    let r = c.reduce.ensures.same in
+    let k = c.keep_levels.ensures in
+    record {
+      search = k.search;
+      same = record {
+        atoms = k.same.atoms ∙ ap (λ t. t.atoms) r.trail;
+        added = k.same.added ∙ ap (λ l. l.added) r.log;
+      };
+    }

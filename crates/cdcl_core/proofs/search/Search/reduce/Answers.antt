@@ -7,7 +7,12 @@ loop-init c = same_learned c.args.self.now c.sort-end.new.self c.requires.kept
 
 pub loop-preserved : goal.loop-preserved
 loop-preserved c =
+    let old = c.args.self.now in
     let s = c.loop.self in
-    let learned = c.pop-number.new.self in
+    let learned = c.pop-rank.new.self in
     let mid : Search = record s { learned = learned } in
-    same_both c.args.self.now mid c.forget.new.self (same_both c.args.self.now s mid c.loop.invariant (same_learned s learned c.loop.invariant.kept)) c.forget.ensures.same
+    let less = c.forget.new.self in
+    let forgot = same_both old mid less (same_both old s mid c.loop.invariant (same_learned s learned c.loop.invariant.kept)) c.forget.ensures.same in
+    let again = c.list_again.new.self in
+    let last : Search = record less { learned = again } in
+    same_both old less last forgot (same_learned less again c.forget.ensures.same.kept)
