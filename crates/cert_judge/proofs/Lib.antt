@@ -1,0 +1,4 @@
+pub mod Differing
+pub mod OneJudgement
+pub mod Grown
+pub mod Light
