@@ -1,4 +1,4 @@
-// `instgen prove FILE`, with `--root DIR` behind it or not, decides the clauses of FILE, and writes a certificate of its answer.
+// `instgen prove FILE` decides the clauses of FILE, and writes a certificate of its answer; `instgen sat FILE` answers propositional clauses.
 #![tactic(auto)]
 
 mod words;

@@ -7,18 +7,23 @@ use Rattle.tptp_read.specs.declared.text.ReadError.{ReadError}
 use Rattle.tptp_read.specs.declared.text.ReadError.TheVariants as text
 use Rattle.tptp_load.specs.declared.error.LoadError.{LoadError}
 use Rattle.tptp_load.specs.declared.error.LoadError.TheVariants as load
+use Rattle.dimacs_front.specs.declared.command.SatExit.{SatExit}
+use Rattle.dimacs_front.specs.declared.command.SatExit.TheVariants as sat
 use Rattle.szs_prove.specs.declared.exit.Exit.{Exit}
-use Rattle.szs_prove.specs.declared.exit.Exit.TheVariants.{Decided, Refused, Usage, ReadFault, WriteFault, Memory}
+use Rattle.szs_prove.specs.declared.exit.Exit.TheVariants.{Decided, ResourceOut, Refused, Usage, ReadFault, WriteFault, Memory, Sat, Unsat}
 use Rattle.szs_prove.specs.declared.refusal.Refusal.{Refusal}
 use Rattle.szs_prove.specs.declared.refusal.Refusal.TheVariants as why
 
 abbrev pub code_of : Exit → ℕ
 code_of Decided = 0
+code_of ResourceOut = 1
 code_of Refused = 2
 code_of Usage = 3
 code_of ReadFault = 4
 code_of WriteFault = 5
 code_of Memory = 6
+code_of Sat = 10
+code_of Unsat = 20
 
 abbrev pub load_exit : LoadError → Exit
 load_exit load.ReadFault = ReadFault
@@ -28,7 +33,7 @@ load_exit _ = Refused
 abbrev pub exit_of : Refusal → Exit
 exit_of why.Usage = Usage
 exit_of (why.Load e) = load_exit e
-exit_of (why.NotBuilt k) = Refused
+exit_of (why.OutOfBudget budget left wanted) = ResourceOut
 exit_of why.Memory = Memory
 
 -- the status words of the SZS ontology
@@ -52,7 +57,7 @@ load_status load.Memory = codes "MemoryOut"
 abbrev pub status_of : Refusal → List ℕ
 status_of why.Usage = codes "UsageError"
 status_of (why.Load e) = load_status e
-status_of (why.NotBuilt k) = codes "Inappropriate"
+status_of (why.OutOfBudget budget left wanted) = codes "ResourceOut"
 status_of why.Memory = codes "MemoryOut"
 
 abbrev pub which_word : Which → List ℕ
@@ -79,8 +84,9 @@ named_pieces lead name = lead ∷ name ∷ (10 ∷ []) ∷ []
 abbrev pub selection_pieces : List ℕ → List ℕ → List (List ℕ)
 selection_pieces wanted file = codes "% not selected: " ∷ wanted ∷ codes " in " ∷ file ∷ (10 ∷ []) ∷ []
 
-abbrev pub clause_pieces : ℕ → List (List ℕ)
-clause_pieces k = codes "% not built: clause " ∷ decimal k ∷ (10 ∷ []) ∷ []
+-- the budget, what a run left of it, and the size of the least conclusion that did not fit
+abbrev pub budget_pieces : ℕ → ℕ → ℕ → List (List ℕ)
+budget_pieces budget left wanted = codes "% budget " ∷ decimal budget ∷ codes ", left " ∷ decimal left ∷ codes ", least conclusion " ∷ decimal wanted ∷ (10 ∷ []) ∷ []
 
 -- the pieces of the second line, where there is one
 abbrev pub load_pieces : LoadError → List (List ℕ)
@@ -95,7 +101,7 @@ load_pieces load.Memory = []
 abbrev pub reason_pieces : Refusal → List (List ℕ)
 reason_pieces why.Usage = (codes "% usage" ++ 10 ∷ []) ∷ []
 reason_pieces (why.Load e) = load_pieces e
-reason_pieces (why.NotBuilt k) = clause_pieces k
+reason_pieces (why.OutOfBudget budget left wanted) = budget_pieces budget left wanted
 reason_pieces why.Memory = []
 
 -- the status line, and then the reason
@@ -104,3 +110,12 @@ pieces_of name refusal = codes "% SZS status " ∷ status_of refusal ∷ codes "
 
 abbrev pub refusal_text : List ℕ → Refusal → List ℕ
 refusal_text name refusal = concat (pieces_of name refusal)
+
+-- the exit of the program for that of the command on the DIMACS form
+abbrev pub sat_exit : SatExit → Exit
+sat_exit sat.Satisfiable = Sat
+sat_exit sat.Unsatisfiable = Unsat
+sat_exit sat.Refused = Refused
+sat_exit sat.ReadFault = ReadFault
+sat_exit sat.WriteFault = WriteFault
+sat_exit sat.Memory = Memory

@@ -1,45 +1,23 @@
-// The top call. Everything below it is written over the trait of solvers; only here one is named.
-ghost use Rattle.std.specs.Prelude.{◌≡◌, [], IfOk, IfErr, IfSome, map, string_bytes};
+// The top call.
+ghost use Rattle.std.specs.Prelude.{◌≡◌, ◌≤◌, ℕ, List, IfNone, IfSome, map, option_map, string_bytes};
 ghost use Rattle.outside_io.specs.Causes.{Rose};
-ghost use Rattle.szs_prove.specs.Loading.{IsUnread};
-ghost use Rattle.szs_prove.specs.Answered.{Answered, HasVerdict, reading, writing};
-ghost use Rattle.szs_prove.specs.Exact.{IsExact, IsInterrupted, TookCertificate, WantsMemory, WritesCertificate};
-ghost use Rattle.szs_prove.specs.Written.{IsWritten};
 ghost use Rattle.cert_format.specs.Printable.{IsTextName};
-ghost use Rattle.szs_prove.specs.Requests.{asked};
-ghost use Rattle.szs_prove.specs.Told.{AnsweredBuilt, LoadsBuilt};
+ghost use Rattle.command_words.specs.Asked.{prove as proof, sat as values, IsAsked, IsUnread};
+ghost use Rattle.command_words.specs.Requests.{asked};
+ghost use Rattle.szs_prove.specs.Answered.{Answered, IsInterrupted, TookCertificate, WantsMemory, WritesCertificate, WritesNumbers, reading, writing};
+ghost use Rattle.szs_prove.specs.Situations.{IsExact};
+ghost use Rattle.szs_prove.specs.Written.{IsWritten};
 
-use crate::decide::decide;
-use crate::exit::Exit;
-use crate::load::load;
+use crate::exit::{Exit, exit_of_sat};
+use crate::prove::prove;
 use crate::refusal::{Refusal, exit_after, write_refusal};
-use crate::text::verdict_text;
-use crate::words::{Request, read_words};
-use cdcl_core::Cdcl;
+use command_words::laws::{asked_budget, asked_once};
+use command_words::{Request, read_words};
+use dimacs_front::sat_file;
+use inst_logic::Memory;
 use outside_io::{Library, Sink, write_all};
-use prop_logic::Solver;
 use std::alloc::Global;
 use tptp_load::laws::one_loading;
-
-// The text of the verdict on what is asked.
-fn verdict<L: Library, S: Solver>(
-    alloc: Global,
-    request: Request<'_>,
-    files: &mut L,
-    solver: S,
-) -> Result<Vec<u8>, Refusal>
-    requires atoms { S.atoms solver ≡ 0 }
-    requires added { S.added solver ≡ [] }
-    requires name { IsTextName request.file.now }
-    ensures files { L.files files.new ≡ L.files files.old }
-    ensures ok { IfOk result (λ text. HasVerdict (L.files files.old) (asked request.entry) text.items) }
-    ensures built { IfOk result (λ _. LoadsBuilt (L.files files.old) (asked request.entry)) }
-    ensures err { IfErr result (IsUnread (L.files files.old) (L.faults files.old) (L.faults files.new) (asked request.entry)) }
-{
-    let problem = load(alloc, request, files)?;
-    let verdict = decide(alloc, &problem, solver)?;
-    Ok(verdict_text(alloc, request.file.as_bytes(), &problem, &verdict)?)
-}
 
 // Writes the text whole, and then ends like that.
 fn write_text<K: Sink>(out: &mut K, text: &[u8], wanted: Exit) -> Exit
@@ -49,26 +27,87 @@ fn write_text<K: Sink>(out: &mut K, text: &[u8], wanted: Exit) -> Exit
     exit_after(written, wanted)
 }
 
-// Reads the words, and the file that they name, decides it with a solver that has no atoms and no clauses, and writes
-// the answer.
-fn answer<L: Library, K: Sink, S: Solver>(
+// Answers with a verdict on the problem of a file.
+fn prove_file<L: Library, K: Sink>(
+    alloc: Global,
+    file: &str,
+    root: Option<&str>,
+    budget: u64,
+    files: &mut L,
+    out: &mut K,
+) -> Exit
+    requires name { IsTextName file.now }
+    requires budget { budget ≤ 1000000000000 }
+    ensures files { L.files files.new ≡ L.files files.old }
+    ensures answered { (words : List (List ℕ)) → IsAsked words (proof file.now (option_map (λ r. r.now) root.entry) budget) → Answered words (reading (L.files files.old) (L.faults files.old) (L.faults files.new)) (writing (K.taken out.old) (K.taken out.new) (K.faults out.old) (K.faults out.new)) result }
+{
+    match prove(alloc, file, root, budget, files) {
+        Ok(text) => write_text(out, text.as_slice(), Exit::Decided),
+        Err(refusal) => write_refusal(out, file.as_bytes(), &refusal),
+    }
+}
+
+// Answers with truth values for the clauses of a file in the DIMACS form.
+fn sat<L: Library, K: Sink>(alloc: Global, file: &str, files: &mut L, out: &mut K) -> Exit
+    ensures files { L.files files.new ≡ L.files files.old }
+    ensures answered { (words : List (List ℕ)) → IsAsked words (values file.now) → Answered words (reading (L.files files.old) (L.faults files.old) (L.faults files.new)) (writing (K.taken out.old) (K.taken out.new) (K.faults out.old) (K.faults out.new)) result }
+{
+    let ended = sat_file(alloc, files, out, file);
+    exit_of_sat(ended)
+}
+
+// Answers what the words ask.
+fn answer<L: Library, K: Sink>(
+    alloc: Global,
+    request: Request<'_>,
+    _words: &[String],
+    files: &mut L,
+    out: &mut K,
+) -> Exit
+    requires { IsAsked (map string_bytes _words.now) (asked request) }
+    ensures files { L.files files.new ≡ L.files files.old }
+    ensures answered { Answered (map string_bytes _words.now) (reading (L.files files.old) (L.faults files.old) (L.faults files.new)) (writing (K.taken out.old) (K.taken out.new) (K.faults out.old) (K.faults out.new)) result }
+{
+    asked_once();
+    asked_budget();
+    match request {
+        Request::Prove { file, root, budget } => prove_file(alloc, file, root, budget, files, out),
+        Request::Sat { file } => sat(alloc, file, files, out),
+    }
+}
+
+// The same of words that may ask nothing.
+fn answer_if_asked<L: Library, K: Sink>(
+    alloc: Global,
+    request: Option<Request<'_>>,
+    words: &[String],
+    files: &mut L,
+    out: &mut K,
+) -> Exit
+    requires asked { IfSome request (λ q. IsAsked (map string_bytes words.now) (asked q)) }
+    requires unread { IfNone request (IsUnread (map string_bytes words.now)) }
+    ensures files { L.files files.new ≡ L.files files.old }
+    ensures answered { Answered (map string_bytes words.now) (reading (L.files files.old) (L.faults files.old) (L.faults files.new)) (writing (K.taken out.old) (K.taken out.new) (K.faults out.old) (K.faults out.new)) result }
+{
+    match request {
+        Some(request) => answer(alloc, request, words, files, out),
+        None => write_refusal(out, b"instgen", &Refusal::Usage),
+    }
+}
+
+// Reads the words and answers what they ask. Where memory is wanted before they are read, no file has a name yet.
+fn answer_words<L: Library, K: Sink>(
     alloc: Global,
     words: &[String],
     files: &mut L,
     out: &mut K,
-    solver: S,
 ) -> Exit
-    requires atoms { S.atoms solver ≡ 0 }
-    requires added { S.added solver ≡ [] }
     ensures files { L.files files.new ≡ L.files files.old }
-    ensures told { AnsweredBuilt (map string_bytes words.now) (reading (L.files files.old) (L.faults files.old) (L.faults files.new)) (writing (K.taken out.old) (K.taken out.new) (K.faults out.old) (K.faults out.new)) result }
+    ensures answered { Answered (map string_bytes words.now) (reading (L.files files.old) (L.faults files.old) (L.faults files.new)) (writing (K.taken out.old) (K.taken out.new) (K.faults out.old) (K.faults out.new)) result }
 {
-    let Some(request) = read_words(words) else {
-        return write_refusal(out, b"instgen", &Refusal::Usage);
-    };
-    match verdict(alloc, request, files, solver) {
-        Ok(text) => write_text(out, text.as_slice(), Exit::Decided),
-        Err(refusal) => write_refusal(out, request.file.as_bytes(), &refusal),
+    match read_words(alloc, words) {
+        Ok(request) => answer_if_asked(alloc, request, words, files, out),
+        Err(Memory) => write_refusal(out, b"instgen", &Refusal::Memory),
     }
 }
 
@@ -78,11 +117,15 @@ pub fn run<L: Library, K: Sink>(alloc: Global, words: &[String], files: &mut L, 
     ensures files { L.files files.new ≡ L.files files.old }
     // There is an answer with its cause, and the exit and what was taken are that answer's.
     ensures answered { Answered (map string_bytes words.now) (reading (L.files files.old) (L.faults files.old) (L.faults files.new)) (writing (K.taken out.old) (K.taken out.new) (K.faults out.old) (K.faults out.new)) result }
-    // Where the files are told, the exit has its cause, and each cause its exit, but for faults and memory.
+    // Where the files are told, the exit is one that is wanted in some situation that stands, and in each that stands it is one
+    // that is wanted there, but for faults and memory.
     ensures exact { IfSome (L.files files.old) (λ all. IsExact (map string_bytes words.now) all (reading (L.files files.old) (L.faults files.old) (L.faults files.new)) (writing (K.taken out.old) (K.taken out.new) (K.faults out.old) (K.faults out.new)) result) }
+    // A verdict is written as the text of a certificate, which shows what its status says, and comes from a run.
     ensures decided { result ≡ Exit.Decided → WritesCertificate (map string_bytes words.now) (L.files files.old) (K.taken out.old) (K.taken out.new) }
     // And where the text of a printable certificate was taken whole, the verdict was written.
     ensures verdict { TookCertificate (K.taken out.old) (K.taken out.new) → result ≡ Exit.Decided }
+    // A budget that ran out is told by the numbers of a run that ended for want of it.
+    ensures resource_out { result ≡ Exit.ResourceOut → WritesNumbers (map string_bytes words.now) (L.files files.old) (K.taken out.old) (K.taken out.new) }
     ensures read_fault { result ≡ Exit.ReadFault → Rose (L.faults files.old) (L.faults files.new) }
     ensures write_fault { result ≡ Exit.WriteFault → Rose (K.faults out.old) (K.faults out.new) }
     // Where writing failed, a prefix of the answer's text was taken.
@@ -91,5 +134,6 @@ pub fn run<L: Library, K: Sink>(alloc: Global, words: &[String], files: &mut L, 
     ensures memory { result ≡ Exit.Memory → WantsMemory (map string_bytes words.now) (reading (L.files files.old) (L.faults files.old) (L.faults files.new)) (K.taken out.old) (K.taken out.new) }
 {
     one_loading();
-    answer(alloc, words, files, out, Cdcl::new(alloc))
+    asked_once();
+    answer_words(alloc, words, files, out)
 }

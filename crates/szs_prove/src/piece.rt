@@ -13,6 +13,7 @@ use outside_io::{Sink, Trouble, write_all};
 pub enum Piece<'a> {
     Text(&'a [u8]),
     Number(usize),
+    Size(u64),
 }
 
 /// Writes a piece, and takes no memory.
@@ -27,6 +28,10 @@ pub fn write_piece<K: Sink>(out: &mut K, piece: Piece<'_>) -> Result<(), Trouble
         Piece::Number(number) => {
             let mut digits = Buffer::new();
             write_all(out, digits.format(number).as_bytes())
+        }
+        Piece::Size(size) => {
+            let mut digits = Buffer::new();
+            write_all(out, digits.format(size).as_bytes())
         }
     }
 }

@@ -5,7 +5,7 @@ ghost use Rattle.std.specs.Io.KnownBytes.{Appends};
 ghost use Rattle.outside_io.specs.Causes.{Rose};
 ghost use Rattle.outside_io.specs.Taken.{AppendsProperPrefix};
 ghost use Rattle.szs_prove.specs.Piece.{bytes_of};
-ghost use Rattle.szs_prove.specs.Texts.{at_statement, clause_pieces, exit_of, load_exit, load_pieces, load_status, named_pieces, pieces_of, reason_pieces, refusal_text, selection_pieces, status_of, text_pieces, text_status, which_word};
+ghost use Rattle.szs_prove.specs.Texts.{at_statement, budget_pieces, exit_of, load_exit, load_pieces, load_status, named_pieces, pieces_of, reason_pieces, refusal_text, selection_pieces, status_of, text_pieces, text_status, which_word};
 ghost use Rattle.szs_prove.specs.Written.{IsWritten};
 ghost use Rattle.szs_prove.specs.declared.refusal.Refusal.TheVariants as why;
 
@@ -22,8 +22,9 @@ pub enum Refusal {
     Usage,
     /// The file gives no problem. The error is never want of memory.
     Load(LoadError),
-    /// This clause, counted from 1, is the first one with a variable or equality.
-    NotBuilt { clause: usize },
+    /// No conclusion that is open fits into what is left of the budget; the size of the least of them is wanted. All three
+    /// count symbols and variables.
+    OutOfBudget { budget: u64, left: u64, wanted: u64 },
     Memory,
 }
 
@@ -234,14 +235,18 @@ fn load_piece(error: &LoadError, i: usize) -> Option<Piece<'_>>
     }
 }
 
-// The reason of a clause that is not built.
-fn clause_piece<'a>(clause: usize, i: usize) -> Option<Piece<'a>>
-    ensures { option_map bytes_of result ≡ slice_get (clause_pieces clause) i }
+// The numbers of a run that ended for want of budget.
+fn budget_piece<'a>(budget: u64, left: u64, wanted: u64, i: usize) -> Option<Piece<'a>>
+    ensures { option_map bytes_of result ≡ slice_get (budget_pieces budget left wanted) i }
 {
     match i {
-        0 => Some(Piece::Text(b"% not built: clause ")),
-        1 => Some(Piece::Number(clause)),
-        2 => Some(Piece::Text(b"\n")),
+        0 => Some(Piece::Text(b"% budget ")),
+        1 => Some(Piece::Size(budget)),
+        2 => Some(Piece::Text(b", left ")),
+        3 => Some(Piece::Size(left)),
+        4 => Some(Piece::Text(b", least conclusion ")),
+        5 => Some(Piece::Size(wanted)),
+        6 => Some(Piece::Text(b"\n")),
         _ => None,
     }
 }
@@ -254,7 +259,7 @@ impl Refusal {
         match self {
             Refusal::Usage => Exit::Usage,
             Refusal::Load(error) => exit_of_load(error),
-            Refusal::NotBuilt { .. } => Exit::Refused,
+            Refusal::OutOfBudget { .. } => Exit::ResourceOut,
             Refusal::Memory => Exit::Memory,
         }
     }
@@ -265,7 +270,7 @@ impl Refusal {
         match self {
             Refusal::Usage => b"UsageError",
             Refusal::Load(error) => status_of_load(error),
-            Refusal::NotBuilt { .. } => b"Inappropriate",
+            Refusal::OutOfBudget { .. } => b"ResourceOut",
             Refusal::Memory => b"MemoryOut",
         }
     }
@@ -277,7 +282,11 @@ impl Refusal {
         match self {
             Refusal::Usage => only_piece(b"% usage\n", i),
             Refusal::Load(error) => load_piece(error, i),
-            Refusal::NotBuilt { clause } => clause_piece(*clause, i),
+            Refusal::OutOfBudget {
+                budget,
+                left,
+                wanted,
+            } => budget_piece(*budget, *left, *wanted, i),
             Refusal::Memory => None,
         }
     }

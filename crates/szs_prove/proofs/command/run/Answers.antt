@@ -1,17 +1,18 @@
-use Rattle.szs_prove.proofs.Exact.{exact, decided, read_fault, write_fault, interrupted, memory}
+use Rattle.szs_prove.proofs.Endings.{decided, interrupted, memory, read_fault, resource_out, write_fault}
+use Rattle.szs_prove.proofs.Situated.{exact}
 use Rattle.szs_prove.proofs.VerdictTexts.{took_verdict}
 use Rattle.szs_prove.proofs.command.run.Goals as goal
 
 pub returns : goal.returns
 returns g c =
-    let b = c.answer.ensures.told in
-    let a = b.answered in
+    let a = c.answer_words.ensures.answered in
     record {
-      files = c.answer.ensures.files;
+      files = c.answer_words.ensures.files;
       answered = a;
-      exact = exact c.one_loading.ensures.problems c.one_loading.ensures.apart _ _ _ _ b;
+      exact = exact c.one_loading.ensures.problems c.one_loading.ensures.apart c.asked_once.ensures.once _ _ _ _ a;
       decided = decided _ _ _ _ a;
       verdict = took_verdict _ _ _ _ a;
+      resource_out = resource_out _ _ _ _ a;
       read_fault = read_fault _ _ _ _ a;
       write_fault = write_fault _ _ _ _ a;
       interrupted = interrupted _ _ _ _ a;

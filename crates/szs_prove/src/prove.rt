@@ -1,0 +1,120 @@
+// The verdict on the problem of a file: it is loaded, decided, and the text of its certificate is made whole before anything
+// is written, so that where memory is refused there is no verdict that breaks off.
+ghost use Rattle.std.specs.Prelude.{◌≡◌, ◌≤◌, ℕ, IfOk, IfErr, option_map};
+ghost use Rattle.cert_format.specs.Certificate.{first_refutation, saturation};
+ghost use Rattle.cert_format.specs.Printable.{IsTextName};
+ghost use Rattle.cert_format.specs.Text.{certificate_text};
+ghost use Rattle.saturation_cert.specs.Values.{refutation_of, saturation_of};
+ghost use Rattle.tptp_load.specs.Problems.{IsGoodProblem};
+ghost use Rattle.szs_decide.specs.Decisions.{IsDecision};
+ghost use Rattle.szs_prove.specs.Answered.{HasVerdict, reading};
+ghost use Rattle.szs_prove.specs.Answers.{IsProblemOf, IsRefusal};
+ghost use Rattle.szs_prove.specs.Proving.{HasCertificate, IsUndecided};
+
+use crate::refusal::Refusal;
+use cert_check::{CheckedRefutation, CheckedSaturation};
+use cert_text::{refutation_text, saturation_text};
+use inst_logic::{ByteList, Memory, Problem};
+use outside_io::Library;
+use std::alloc::Global;
+use szs_decide::laws::loaded_problems_are_printable;
+use szs_decide::{Decision, decide};
+use tptp_load::LoadError;
+
+// The problem of the file.
+fn load<L: Library>(
+    alloc: Global,
+    file: &str,
+    root: Option<&str>,
+    files: &mut L,
+) -> Result<Problem, Refusal>
+    ensures files { L.files files.new ≡ L.files files.old }
+    ensures ok { IfOk result (IsProblemOf (L.files files.old) file.now (option_map (λ r. r.now) root.entry)) }
+    ensures err { (budget : ℕ) → IfErr result (IsRefusal (reading (L.files files.old) (L.faults files.old) (L.faults files.new)) file.now (option_map (λ r. r.now) root.entry) budget) }
+{
+    match tptp_load::load(alloc, files, file, root) {
+        Ok(problem) => Ok(problem),
+        Err(LoadError::Memory) => Err(Refusal::Memory),
+        Err(error) => Err(Refusal::Load(error)),
+    }
+}
+
+// The certificate is let go where its text is made, so that one function owns it.
+fn refuted(alloc: Global, file: &str, cert: CheckedRefutation) -> Result<ByteList, Memory>
+    ensures { IfOk result (λ text. text ≡ certificate_text 1 file.now (first_refutation (refutation_of cert))) }
+{
+    refutation_text(alloc, file, &cert)
+}
+
+fn satisfied(alloc: Global, file: &str, cert: CheckedSaturation) -> Result<ByteList, Memory>
+    ensures { IfOk result (λ text. text ≡ certificate_text 1 file.now (saturation (saturation_of cert))) }
+{
+    saturation_text(alloc, file, &cert)
+}
+
+// The text of what was decided of the problem in this budget.
+fn text_of(
+    alloc: Global,
+    file: &str,
+    _problem: &Problem,
+    budget: u64,
+    decision: Decision,
+) -> Result<ByteList, Refusal>
+    requires { IsDecision _problem.now budget decision }
+    ensures ok { IfOk result (HasCertificate _problem.now file.now) }
+    ensures err { IfErr result (IsUndecided _problem.now budget) }
+{
+    match decision {
+        Decision::Unsatisfiable(cert) => {
+            let refutation = refuted(alloc, file, cert)?;
+            Ok(refutation)
+        }
+        Decision::Satisfiable(cert) => {
+            let saturation = satisfied(alloc, file, cert)?;
+            Ok(saturation)
+        }
+        Decision::OutOfBudget { left, wanted } => Err(Refusal::OutOfBudget {
+            budget,
+            left,
+            wanted,
+        }),
+    }
+}
+
+// The text of a certificate of the problem.
+fn certificate(
+    alloc: Global,
+    file: &str,
+    problem: &Problem,
+    budget: u64,
+) -> Result<ByteList, Refusal>
+    requires problem { IsGoodProblem problem.now }
+    requires budget { budget ≤ 1000000000000 }
+    ensures ok { IfOk result (HasCertificate problem.now file.now) }
+    ensures err { IfErr result (IsUndecided problem.now budget) }
+{
+    loaded_problems_are_printable();
+    let decision = decide(alloc, problem, budget)?;
+    text_of(alloc, file, problem, budget, decision)
+}
+
+/// The text of a certificate for the problem of the file, or why there is none. The root is where includes are tried too, the
+/// budget counts symbols.
+pub fn prove<L: Library>(
+    alloc: Global,
+    file: &str,
+    root: Option<&str>,
+    budget: u64,
+    files: &mut L,
+) -> Result<ByteList, Refusal>
+    requires name { IsTextName file.now }
+    requires budget { budget ≤ 1000000000000 }
+    ensures files { L.files files.new ≡ L.files files.old }
+    ensures ok { IfOk result (HasVerdict (L.files files.old) file.now (option_map (λ r. r.now) root.entry)) }
+    ensures err { IfErr result (IsRefusal (reading (L.files files.old) (L.faults files.old) (L.faults files.new)) file.now (option_map (λ r. r.now) root.entry) budget) }
+{
+    match load(alloc, file, root, files) {
+        Ok(problem) => certificate(alloc, file, &problem, budget),
+        Err(refusal) => Err(refusal),
+    }
+}
