@@ -3,6 +3,10 @@
 #![tactic(auto)]
 
 #[cfg(test)]
+mod certificates;
+#[cfg(test)]
+mod dimacs_rows;
+#[cfg(test)]
 mod faults;
 #[cfg(test)]
 mod long_rows;

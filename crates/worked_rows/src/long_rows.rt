@@ -43,13 +43,14 @@ fn push_variables(alloc: Global, text: &mut Vec<u8>, number: usize) -> Result<()
     Ok(())
 }
 
-// Ten literals with 1,000 variables each, and one with a further variable.
-fn with_variables(alloc: Global) -> Result<Vec<u8>, Fail> {
+// Ten literals with 1,000 variables each, and a last one.
+fn with_variables(alloc: Global, last: &[u8]) -> Result<Vec<u8>, Fail> {
     let mut text = Vec::from_slice(alloc, b"cnf(a,axiom,")?;
     for number in 0..10 {
         push_variables(alloc, &mut text, number)?;
     }
-    text.extend_from_slice(b"q(Y)).")?;
+    text.extend_from_slice(last)?;
+    text.extend_from_slice(b").")?;
     Ok(text)
 }
 
@@ -80,7 +81,13 @@ fn limits(rt: HostRuntime) -> Result<(), Fail> {
     is_refused(&rt, alloc, nested(alloc, 255)?.as_slice(), "nesting")?;
     is_satisfiable(&rt, alloc, wide(alloc, 1023)?.as_slice())?;
     is_refused(&rt, alloc, wide(alloc, 1024)?.as_slice(), "arity")?;
-    is_refused(&rt, alloc, with_variables(alloc)?.as_slice(), "variables")
+    is_satisfiable(&rt, alloc, with_variables(alloc, b"q(X0)")?.as_slice())?;
+    is_refused(
+        &rt,
+        alloc,
+        with_variables(alloc, b"q(Y)")?.as_slice(),
+        "variables",
+    )
 }
 
 // As many blanks as a file may have, and one more.

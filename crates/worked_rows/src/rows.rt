@@ -5,7 +5,7 @@ use std::process::Abort;
 use std::str;
 use std::test::Fail;
 
-const ROWS: [Row<'static>; 21] = [
+const ROWS: [Row<'static>; 22] = [
     // an empty file
     Row {
         files: &[("r.p", "")],
@@ -79,14 +79,20 @@ cnf(m2,plain,~p('A') | 'P',input(2),[selected(1)]).
 % absent: s.p
 ",
     },
-    // a second clause with a variable
+    // a variable
     Row {
         files: &[("r.p", "cnf(a,axiom,p). cnf(b,axiom,p(X)).")],
         words: &["prove", "r.p"],
-        status: 2,
+        status: 0,
         text: "\
-% SZS status Inappropriate for r.p
-% not built: clause 2
+% SZS status Satisfiable for r.p
+% SZS output start Saturation for r.p
+% instgen certificate 1
+cnf(i1,axiom,p,named(a)).
+cnf(i2,axiom,p(X0),named(b)).
+cnf(m1,plain,p,input(1),[selected(1)]).
+cnf(m2,plain,p(X0),input(2),[selected(1)]).
+% SZS output end Saturation for r.p
 ",
     },
     // the empty clause
@@ -106,27 +112,43 @@ cnf(r1,plain,$false,rup([g1])).
 % SZS output end CNFRefutation for empty.p
 ",
     },
-    // a clause with a variable
+    // no constant but the one for abstractions
     Row {
-        files: &[(
-            "two.p",
-            "cnf(one,axiom,'cat'|~ dog(X),file('x',one),[a:b,\"t\",3]). /* c */ cnf(2,axiom,(~ a = b)). % d\ncnf('three',hypothesis,~ (p)).",
-        )],
-        words: &["prove", "two.p"],
-        status: 2,
+        files: &[("r9.p", "cnf(a,axiom,p(X) | ~q(X)). cnf(b,axiom,q(Y)).")],
+        words: &["prove", "r9.p"],
+        status: 0,
         text: "\
-% SZS status Inappropriate for two.p
-% not built: clause 1
+% SZS status Satisfiable for r9.p
+% SZS output start Saturation for r9.p
+% instgen certificate 1
+cnf(i1,axiom,p(X0) | ~q(X0),named(a)).
+cnf(i2,axiom,q(X0),named(b)).
+cnf(m1,plain,p(X0) | ~q(X0),input(1),[selected(1)]).
+cnf(m2,plain,q(X0),input(2),[selected(1)]).
+% SZS output end Saturation for r9.p
 ",
     },
-    // a clause with equality
+    // a budget that the one conclusion does not fit
     Row {
-        files: &[("two.p", "cnf(one,axiom,p). cnf(2,axiom,(~ a = b)).")],
-        words: &["prove", "two.p"],
-        status: 2,
+        files: &[("r7.p", "cnf(a,axiom,p(f(X))). cnf(b,axiom,~p(f(f(c)))).")],
+        words: &["prove", "r7.p", "--budget", "3"],
+        status: 1,
         text: "\
-% SZS status Inappropriate for two.p
-% not built: clause 2
+% SZS status ResourceOut for r7.p
+% budget 3, left 3, least conclusion 4
+",
+    },
+    // the least of two conclusions
+    Row {
+        files: &[(
+            "r.p",
+            "cnf(a,axiom,p(f(X))). cnf(b,axiom,~p(f(f(c)))). cnf(d,axiom,~p(f(g(c)))).",
+        )],
+        words: &["prove", "--budget=3", "r.p"],
+        status: 1,
+        text: "\
+% SZS status ResourceOut for r.p
+% budget 3, left 3, least conclusion 4
 ",
     },
     // a selection reaches nested includes
@@ -287,7 +309,7 @@ cnf(m1,plain,q,input(1),[selected(1)]).
 ];
 
 // Words that are not read, though there is a file r.p.
-const UNREAD: [&[&str]; 11] = [
+const UNREAD: [&[&str]; 13] = [
     &[],
     &["prove"],
     &["prove", "r.p", "s.p"],
@@ -297,7 +319,9 @@ const UNREAD: [&[&str]; 11] = [
     &["check", "r.p"],
     &["prove", "r.p", "--root"],
     &["prove", "r.p", "--root", "-d"],
-    &["prove", "--root", "d", "r.p"],
+    &["prove", "r.p", "--budget", "x"],
+    &["prove", "--help"],
+    &["sat", "r.p", "--root", "d"],
     &["prove", "r.p", "--root", "d", "e"],
 ];
 

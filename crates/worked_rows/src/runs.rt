@@ -40,7 +40,7 @@ pub fn file_of(alloc: Global, name: &str, bytes: &[u8]) -> Result<FileList, Memo
     Ok(files)
 }
 
-fn files_of(alloc: Global, rows: &[File<'_>]) -> Result<FileList, Memory> {
+pub fn files_of(alloc: Global, rows: &[File<'_>]) -> Result<FileList, Memory> {
     let mut files = FileList::new(alloc);
     for file in rows {
         add_file(alloc, &mut files, file.0, file.1.as_bytes())?;
