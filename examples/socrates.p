@@ -1,4 +1,4 @@
-% All humans are mortal. The program refuses this today: clause 1 has a variable.
+% All humans are mortal, and Socrates is human: so he is mortal.
 cnf(mortal,axiom,( ~ human(X) | mortal(X) )).
 cnf(socrates,axiom,( human(socrates) )).
 cnf(not_mortal,negated_conjecture,( ~ mortal(socrates) )).
