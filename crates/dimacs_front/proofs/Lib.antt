@@ -1,7 +1,6 @@
 pub mod Passing
 pub mod WordLaws
 pub mod Models
-pub mod Pieces
 pub mod Spelling
 pub mod SpelledClauses
 pub mod DimacsLaws

@@ -15,6 +15,7 @@ use crate::sat::answer_file;
 use itoa::Buffer;
 use outside_io::{Library, Sink, Trouble, write_all};
 use std::alloc::Global;
+use whole_file::write_pieces;
 
 /// How the command ends.
 #[derive(Clone, Copy, Debug, PartialEq, Eq)]
@@ -44,19 +45,6 @@ fn exit_after(written: Result<(), Trouble>, wanted: SatExit) -> SatExit
         Err(Trouble::Failed) => SatExit::WriteFault,
         Err(Trouble::Memory) => SatExit::Memory,
     }
-}
-
-// Writes the pieces, one after the other.
-fn write_pieces<K: Sink>(out: &mut K, pieces: &[&[u8]]) -> Result<(), Trouble>
-    ensures ok { OnOk result (Appends (K.taken out.old) (K.taken out.new) (flat_map (λ p. p.now) pieces.now)) }
-    ensures err { OnErr result (AppendsProperPrefix (K.taken out.old) (K.taken out.new) (flat_map (λ p. p.now) pieces.now)) }
-    ensures later { K.faults out.old ≤ K.faults out.new }
-    ensures failed { result ≡ Err Trouble.Failed → Rose (K.faults out.old) (K.faults out.new) }
-{
-    for piece in pieces {
-        write_all(out, piece)?;
-    }
-    Ok(())
 }
 
 fn status(error: SatError) -> &'static [u8]
