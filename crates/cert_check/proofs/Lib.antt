@@ -19,5 +19,6 @@ pub mod ShownTrees
 pub mod MemberOrigins
 pub mod SymbolWalk
 pub mod HeadLaws
+pub mod FingerprintLaws
 pub mod LookupLaws
 pub mod ShorterLaws

@@ -14,10 +14,14 @@ use Rattle.saturation_cert.specs.declared.certificate.Base.{Base}
 use Rattle.saturation_cert.specs.declared.certificate.Saturation.{Saturation}
 use Rattle.saturation_cert.specs.Wholes.{IsWholeClause, IsWholeSaturation, KeepsSaturation}
 use Rattle.term_bank.specs.Forest.{Forest, Extends}
-use Rattle.cert_check.specs.Partners.{head_at}
+use Rattle.cert_format.specs.Certificate as format
+use Rattle.cert_check.specs.Fingerprints.{TellApart}
+use Rattle.cert_check.specs.Partners.{LeadThrough, head_at}
 use Rattle.cert_check.proofs.HeadLaws.{head_later}
+use Rattle.cert_check.proofs.PairScans.{placed_kept, valid_kept}
+use Rattle.cert_check.proofs.Saturations.{saturation_same}
 use Rattle.cert_check.specs.declared.lookup.Lookup.{Lookup}
-use Rattle.cert_check.specs.Lookups.{AreClausesOf, IsLookup, has_clause}
+use Rattle.cert_check.specs.Lookups.{AreClausesOf, IsLookup, IsReady, has_clause}
 
 pub clause_eq_decides : (c d : List (Signed ℕ)) → Decides (pointwise id_eq c d) (c ≡ d)
 clause_eq_decides c d = slice_eq-Decides id_eq_decides c d (pointwise id_eq c d) refl
@@ -69,3 +73,16 @@ lookup_later f g grown ms whole l h = record {
 pub lookup_kept : (old new : Saturation) → IsWholeSaturation old → KeepsSaturation old new → (l : Lookup) → IsLookup old.base.bank old.base.members l → IsLookup new.base.bank new.base.members l
 lookup_kept old new whole kept l h =
     subst (λ (ms : List Member). IsLookup new.base.bank ms l) (sym (ap (λ (b : Base). b.members) kept.base.rest)) (lookup_later old.base.bank new.base.bank kept.base.bank old.base.members whole.members l h)
+
+-- what the check of the pairs stands on stays while the bank grows
+pub ready_kept : (old new : Saturation) (l : Lookup) → IsReady old l → KeepsSaturation old new → IsWholeSaturation new → IsReady new l
+ready_kept old new l h kept whole =
+    let same = saturation_same old new h.whole kept in
+    record {
+      whole = whole;
+      base = valid_kept old new h.whole kept h.base;
+      placed = placed_kept old new h.whole kept h.placed;
+      lookup = lookup_kept old new h.whole kept l h.lookup;
+      partners = subst (λ (x : format.Saturation). LeadThrough x l.partners.heads.items l.partners.same.items l.partners.opposed.items) (sym same) h.partners;
+      fingerprints = subst (λ (x : format.Saturation). TellApart x l.fingerprints.items) (sym same) h.fingerprints;
+    }

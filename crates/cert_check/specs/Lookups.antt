@@ -6,9 +6,14 @@ use Rattle.std.specs.List.{list_any}
 use Rattle.inst_logic.specs.declared.signed.Signed.{Signed}
 use Rattle.clause_form.specs.Literals.{id_eq}
 use Rattle.term_bank.specs.Forest.{Forest}
+use Rattle.saturation_cert.specs.declared.certificate.Saturation.{Saturation}
 use Rattle.saturation_cert.specs.declared.member.Member.{Member}
+use Rattle.saturation_cert.specs.Values.{base_of, saturation_of}
+use Rattle.saturation_cert.specs.Wholes.{HasPlaces, IsWholeSaturation}
+use Rattle.cert_format.specs.Validity.{IsValidBase}
 use Rattle.cert_check.specs.Covers.{ShorterOf}
-use Rattle.cert_check.specs.Partners.{Head, AreGrouped, IsHeadAt, head_at}
+use Rattle.cert_check.specs.Fingerprints.{TellApart}
+use Rattle.cert_check.specs.Partners.{Head, AreGrouped, IsHeadAt, LeadThrough, head_at}
 use Rattle.cert_check.specs.declared.lookup.Lookup.{Lookup}
 
 -- one of the clauses
@@ -22,6 +27,15 @@ AreClausesOf ms ks = (c : List (Signed ℕ)) → (has_clause ks c ≡ true) ↔ 
 pub record IsLookup (f : Forest) (ms : List Member) (l : Lookup) : Type 0 where
   pub clauses : AreClausesOf ms l.clauses.keys
   pub groups : AreGrouped f ms l.partners.heads.items l.partners.same.items (get id_eq l.partners.first)
+
+-- what the check of the pairs stands on: the certificate has passed all that comes before, and the look-ups are its own
+pub record IsReady (c : Saturation) (l : Lookup) : Type 0 where
+  pub whole : IsWholeSaturation c
+  pub base : IsValidBase (base_of c.base)
+  pub placed : HasPlaces (saturation_of c)
+  pub lookup : IsLookup c.base.bank c.base.members l
+  pub partners : LeadThrough (saturation_of c) l.partners.heads.items l.partners.same.items l.partners.opposed.items
+  pub fingerprints : TellApart (saturation_of c) l.fingerprints.items
 
 -- no member whose head is that of the literal has fewer literals than n and subsumes the clause
 abbrev pub HasNoShorter : Forest → List Member → List Head → ℕ → List (Signed ℕ) → Signed ℕ → Type 0

@@ -1,16 +1,15 @@
-// The check that the members stand for the inputs and axioms. An input that is its own member, as is usual, is seen by one
-// look-up; for the others the member that names the input as its origin is tried before all.
-ghost use Rattle.std.specs.Prelude.{◌≡◌, ◌↔◌, ◌⊎◌, ◌+◌, length, true, All, Any, IfOk, IsTrue};
+// The check that the members stand for the inputs and axioms. One look-up sees an input that is a member, also where an earlier
+// input is the same; for the others the member that names the input as its origin is tried before all.
+ghost use Rattle.std.specs.Prelude.{◌≡◌, ◌↔◌, ◌⊎◌, ◌+◌, length, All, Any, IfOk, IsTrue};
 ghost use Rattle.inst_logic.specs.Signed.{IsTautology};
 ghost use Rattle.inst_logic.specs.Clauses.{Subsumes};
 ghost use Rattle.cert_format.specs.Validity.{IsRightInput};
 ghost use Rattle.term_bank.specs.Forest.{IsClauseOf, clause_at};
-ghost use Rattle.saturation_cert.specs.Values.{base_of, saturation_of};
-ghost use Rattle.saturation_cert.specs.Wholes.{IsWholeSaturation};
-ghost use Rattle.cert_format.specs.Validity.{IsValidBase};
+ghost use Rattle.saturation_cert.specs.Values.{saturation_of};
 ghost use Rattle.cert_check.specs.Firsts.{IsFirstWrongOf};
+ghost use Rattle.cert_check.specs.Lookups.{IsLookup, IsReady};
 
-use crate::difference::same_clause;
+use crate::lookup::Lookup;
 use crate::origin::numbered;
 use clause_form::{subsumes, tautology};
 use indexmap::IndexMap;
@@ -34,16 +33,6 @@ fn sources(alloc: Global, members: &[Member]) -> Result<IndexMap<usize, usize>, 
         }
     }
     Ok(places)
-}
-
-// Whether the clause is that of the member at this place. A clause that is canonical is its own member.
-fn is_member(members: &[Member], place: Option<usize>, c: &IdClause) -> bool
-    ensures { result ≡ true → Any (λ m. m.clause ≡ c.now) members.now }
-{
-    match place {
-        None => false,
-        Some(i) => i < members.len() && same_clause(&members[i].clause, c),
-    }
 }
 
 // Whether some member subsumes the clause.
@@ -85,14 +74,16 @@ fn is_met(
     alloc: Global,
     bank: &Bank,
     members: &[Member],
+    lookup: &Lookup,
     first: Option<usize>,
     c: &IdClause,
 ) -> Result<bool, Memory>
     requires members { All (λ m. IsClauseOf bank.now m.clause) members.now }
+    requires lookup { IsLookup bank.now members.now lookup.now }
     requires clause { IsClauseOf bank.now c.now }
     ensures { IfOk result (λ r. IsTrue r ↔ IsTautology (clause_at bank.now c.now) ⊎ Any (λ m. Subsumes (clause_at bank.now m.clause) (clause_at bank.now c.now)) members.now) }
 {
-    if is_member(members, first, c) {
+    if lookup.has(c) {
         return Ok(true);
     }
     bank.distinct();
@@ -106,31 +97,37 @@ fn is_met(
 fn is_right_input(
     alloc: Global,
     cert: &Saturation,
+    lookup: &Lookup,
     first: Option<usize>,
     k: usize,
 ) -> Result<bool, Memory>
-    requires whole { IsWholeSaturation cert.now }
-    requires base { IsValidBase (base_of cert.now.base) }
+    requires ready { IsReady cert.now lookup.now }
     ensures { IfOk result (λ r. IsTrue r ↔ IsRightInput (saturation_of cert.now) k) }
 {
     let base = &cert.base;
     match numbered(&base.inputs, &base.axioms, k) {
         None => Ok(true),
-        Some(c) => is_met(alloc, &base.bank, base.members.as_slice(), first, c),
+        Some(c) => {
+            let members = base.members.as_slice();
+            is_met(alloc, &base.bank, members, lookup, first, c)
+        }
     }
 }
 
 // The number of the first input or axiom that is no tautology and that no member subsumes.
-pub fn wrong_input(alloc: Global, cert: &Saturation) -> Result<Option<usize>, Memory>
-    requires whole { IsWholeSaturation cert.now }
-    requires base { IsValidBase (base_of cert.now.base) }
+pub fn wrong_input(
+    alloc: Global,
+    cert: &Saturation,
+    lookup: &Lookup,
+) -> Result<Option<usize>, Memory>
+    requires ready { IsReady cert.now lookup.now }
     ensures { IfOk result (IsFirstWrongOf (IsRightInput (saturation_of cert.now))) }
 {
     let places = sources(alloc, cert.base.members.as_slice())?;
     for i in 0..stated_count(&cert.base) {
         let number = i + 1;
         let first = places.get(&number).copied();
-        if !is_right_input(alloc, cert, first, number)? {
+        if !is_right_input(alloc, cert, lookup, first, number)? {
             return Ok(Some(number));
         }
     }

@@ -9,6 +9,7 @@ mod conclusion;
 mod cover;
 mod difference;
 pub mod error;
+mod fingerprint;
 mod grounds;
 mod inputs;
 mod lookup;

@@ -1,11 +1,12 @@
-// Look-ups of members, made once for the check of all pairs. The clauses are copies, since the certificate's bank grows
+// Look-ups of members, made once for the check of inputs and pairs. The clauses are copies, since the certificate's bank grows
 // while they are looked up.
 ghost use Rattle.std.specs.Prelude.{◌≡◌, IfOk};
-ghost use Rattle.saturation_cert.specs.Values.{saturation_of};
+ghost use Rattle.saturation_cert.specs.Values.{base_of, saturation_of};
 ghost use Rattle.saturation_cert.specs.Wholes.{HasPlaces, IsWholeSaturation};
-ghost use Rattle.cert_check.specs.Lookups.{AreClausesOf, IsLookup, has_clause};
-ghost use Rattle.cert_check.specs.Partners.{LeadThrough};
+ghost use Rattle.cert_format.specs.Validity.{IsValidBase};
+ghost use Rattle.cert_check.specs.Lookups.{AreClausesOf, IsReady, has_clause};
 
+use crate::fingerprint::{Fingerprint, find_fingerprints};
 use crate::partners::{Partners, find_partners};
 use indexmap::IndexSet;
 use inst_logic::Memory;
@@ -13,10 +14,12 @@ use saturation_cert::{Member, Saturation};
 use std::alloc::Global;
 use term_bank::IdClause;
 
-/// The members' clauses, and the chains through the members whose selected literals have one head.
+/// The members' clauses, the chains through the members whose selected literals have one head, and the fingerprints of the
+/// selected atoms.
 #[derive(Drop)]
 pub struct Lookup {
     pub(crate) partners: Partners,
+    pub(crate) fingerprints: Vec<Fingerprint>,
     clauses: IndexSet<IdClause>,
 }
 
@@ -37,16 +40,21 @@ fn clauses_of(alloc: Global, members: &[Member]) -> Result<IndexSet<IdClause>, M
     Ok(clauses)
 }
 
-// The look-ups of a certificate whose members have a literal at each place.
+// The look-ups of a certificate whose members are valid and have a literal at each place.
 pub fn find_lookup(alloc: Global, cert: &Saturation) -> Result<Lookup, Memory>
     requires whole { IsWholeSaturation cert.now }
+    requires base { IsValidBase (base_of cert.now.base) }
     requires placed { HasPlaces (saturation_of cert.now) }
-    ensures lookup { IfOk result (λ l. IsLookup cert.now.base.bank cert.now.base.members l) }
-    ensures partners { IfOk result (λ l. LeadThrough (saturation_of cert.now) l.partners.heads.items l.partners.same.items l.partners.opposed.items) }
+    ensures { IfOk result (IsReady cert.now) }
 {
     let partners = find_partners(alloc, cert)?;
+    let fingerprints = find_fingerprints(alloc, cert)?;
     let clauses = clauses_of(alloc, cert.base.members.as_slice())?;
-    Ok(Lookup { partners, clauses })
+    Ok(Lookup {
+        partners,
+        fingerprints,
+        clauses,
+    })
 }
 
 impl Lookup {

@@ -1,20 +1,19 @@
-// The check of the pairs of selected literals. Only pairs of one symbol and opposite signs are tried, along chains: no other
-// pair unifies. The chains keep the order of the numbers, since the complaint is about the first pair.
+// The check of the pairs of selected literals. Only pairs of one symbol and opposite signs are visited, along chains, and of
+// these only those are unified whose fingerprints allow it: no other pair unifies. The chains keep the order of the numbers,
+// since the complaint is about the first pair.
 ghost use Rattle.std.specs.Prelude.{◌↔◌, ◌<◌, suc, length, IfOk, IsTrue, OnOk};
 ghost use Rattle.cert_format.specs.Validity.{IsRightPair};
 ghost use Rattle.unify_core.specs.Chains.{AreBindings};
 ghost use Rattle.unify_core.specs.Terms.{AreTerms};
-ghost use Rattle.saturation_cert.specs.Values.{base_of, saturation_of};
-ghost use Rattle.saturation_cert.specs.Wholes.{HasPlaces, IsWholeSaturation, KeepsSaturation};
-ghost use Rattle.cert_format.specs.Validity.{IsValidBase};
+ghost use Rattle.saturation_cert.specs.Values.{saturation_of};
+ghost use Rattle.saturation_cert.specs.Wholes.{IsWholeSaturation, KeepsSaturation};
 ghost use Rattle.cert_check.specs.Closings.{IsPairClosed, IsProperSomewhere, IsSideClosed, IsSideCovered};
 ghost use Rattle.cert_check.specs.FirstPairs.{IsFirstWrongPairOf};
 ghost use Rattle.cert_check.specs.Firsts.{IsFirstWrongOf};
-ghost use Rattle.cert_check.specs.Lookups.{IsLookup};
-ghost use Rattle.cert_check.specs.Partners.{LeadThrough};
+ghost use Rattle.cert_check.specs.Lookups.{IsReady};
 
 use crate::cover::is_covered;
-use crate::lookup::{Lookup, find_lookup};
+use crate::lookup::Lookup;
 use inst_logic::Memory;
 use saturation_cert::{Saturation, selected};
 use std::alloc::Global;
@@ -41,10 +40,7 @@ fn is_side_covered(
     side: Side,
     i: usize,
 ) -> Result<bool, Memory>
-    requires whole { IsWholeSaturation cert.old }
-    requires base { IsValidBase (base_of cert.old.base) }
-    requires placed { HasPlaces (saturation_of cert.old) }
-    requires lookup { IsLookup cert.old.base.bank cert.old.base.members lookup.now }
+    requires ready { IsReady cert.old lookup.now }
     requires within { i < length cert.old.base.members }
     requires bindings { AreBindings cert.old.base.bank bindings.now.entries }
     requires terms { AreTerms cert.old.base.bank bindings.now.entries }
@@ -74,10 +70,7 @@ fn is_side_closed(
     side: Side,
     i: usize,
 ) -> Result<bool, Memory>
-    requires whole { IsWholeSaturation cert.old }
-    requires base { IsValidBase (base_of cert.old.base) }
-    requires placed { HasPlaces (saturation_of cert.old) }
-    requires lookup { IsLookup cert.old.base.bank cert.old.base.members lookup.now }
+    requires ready { IsReady cert.old lookup.now }
     requires within { i < length cert.old.base.members }
     requires bindings { AreBindings cert.old.base.bank bindings.now.entries }
     requires terms { AreTerms cert.old.base.bank bindings.now.entries }
@@ -100,10 +93,7 @@ fn is_closed(
     i: usize,
     j: usize,
 ) -> Result<bool, Memory>
-    requires whole { IsWholeSaturation cert.old }
-    requires base { IsValidBase (base_of cert.old.base) }
-    requires placed { HasPlaces (saturation_of cert.old) }
-    requires lookup { IsLookup cert.old.base.bank cert.old.base.members lookup.now }
+    requires ready { IsReady cert.old lookup.now }
     requires left { i < length cert.old.base.members }
     requires right { j < length cert.old.base.members }
     requires bindings { AreBindings cert.old.base.bank bindings.now.entries }
@@ -130,10 +120,7 @@ fn is_right_pair(
     i: usize,
     j: usize,
 ) -> Result<bool, Memory>
-    requires whole { IsWholeSaturation cert.old }
-    requires base { IsValidBase (base_of cert.old.base) }
-    requires placed { HasPlaces (saturation_of cert.old) }
-    requires lookup { IsLookup cert.old.base.bank cert.old.base.members lookup.now }
+    requires ready { IsReady cert.old lookup.now }
     requires left { i < j }
     requires right { j < length cert.old.base.members }
     ensures kept { KeepsSaturation cert.old cert.new }
@@ -151,6 +138,29 @@ fn is_right_pair(
     is_closed(alloc, cert, lookup, bindings, i, j)
 }
 
+// The same, and members are passed whose fingerprints tell that the selected literals do not unify.
+fn is_right_partner(
+    alloc: Global,
+    cert: &mut Saturation,
+    lookup: &Lookup,
+    bindings: &mut Bindings,
+    i: usize,
+    j: usize,
+) -> Result<bool, Memory>
+    requires ready { IsReady cert.old lookup.now }
+    requires left { i < j }
+    requires right { j < length cert.old.base.members }
+    ensures kept { KeepsSaturation cert.old cert.new }
+    ensures whole { OnOk result (IsWholeSaturation cert.new) }
+    ensures right { IfOk result (λ r. IsTrue r ↔ IsRightPair (saturation_of cert.old) (suc i) (suc j)) }
+{
+    let fingerprints = &lookup.fingerprints;
+    if fingerprints[i].differs(&fingerprints[j]) {
+        return Ok(true);
+    }
+    is_right_pair(alloc, cert, lookup, bindings, i, j)
+}
+
 // The number of the first later member that is no right partner of member `i`, counted from 0. Only those are tried whose
 // selected literals have the opposite sign and the same symbol.
 fn wrong_partner(
@@ -160,12 +170,8 @@ fn wrong_partner(
     bindings: &mut Bindings,
     i: usize,
 ) -> Result<Option<usize>, Memory>
-    requires whole { IsWholeSaturation cert.old }
-    requires base { IsValidBase (base_of cert.old.base) }
-    requires placed { HasPlaces (saturation_of cert.old) }
-    requires lookup { IsLookup cert.old.base.bank cert.old.base.members lookup.now }
+    requires ready { IsReady cert.old lookup.now }
     requires within { i < length cert.old.base.members }
-    requires partners { LeadThrough (saturation_of cert.old) lookup.now.partners.heads.items lookup.now.partners.same.items lookup.now.partners.opposed.items }
     ensures kept { KeepsSaturation cert.old cert.new }
     ensures whole { OnOk result (IsWholeSaturation cert.new) }
     ensures first { IfOk result (IsFirstWrongOf (IsRightPair (saturation_of cert.old) (suc i))) }
@@ -174,7 +180,7 @@ fn wrong_partner(
     let partners = &lookup.partners;
     let mut j = partners.opposed[i];
     while j < count {
-        if !is_right_pair(alloc, cert, lookup, bindings, i, j)? {
+        if !is_right_partner(alloc, cert, lookup, bindings, i, j)? {
             return Ok(Some(j + 1));
         }
         j = partners.same[j];
@@ -189,11 +195,7 @@ fn wrong_pair_by(
     lookup: &Lookup,
     bindings: &mut Bindings,
 ) -> Result<Option<(usize, usize)>, Memory>
-    requires whole { IsWholeSaturation cert.old }
-    requires base { IsValidBase (base_of cert.old.base) }
-    requires placed { HasPlaces (saturation_of cert.old) }
-    requires lookup { IsLookup cert.old.base.bank cert.old.base.members lookup.now }
-    requires partners { LeadThrough (saturation_of cert.old) lookup.now.partners.heads.items lookup.now.partners.same.items lookup.now.partners.opposed.items }
+    requires ready { IsReady cert.old lookup.now }
     ensures kept { KeepsSaturation cert.old cert.new }
     ensures whole { OnOk result (IsWholeSaturation cert.new) }
     ensures first { IfOk result (IsFirstWrongPairOf (IsRightPair (saturation_of cert.old))) }
@@ -208,15 +210,16 @@ fn wrong_pair_by(
 
 // The numbers of the first two members that are not closed for each other. The selected literals have opposite signs and unify,
 // and the unifier is proper on neither side or a proper side's instance is not covered.
-pub fn wrong_pair(alloc: Global, cert: &mut Saturation) -> Result<Option<(usize, usize)>, Memory>
-    requires whole { IsWholeSaturation cert.old }
-    requires base { IsValidBase (base_of cert.old.base) }
-    requires placed { HasPlaces (saturation_of cert.old) }
+pub fn wrong_pair(
+    alloc: Global,
+    cert: &mut Saturation,
+    lookup: &Lookup,
+) -> Result<Option<(usize, usize)>, Memory>
+    requires ready { IsReady cert.old lookup.now }
     ensures kept { KeepsSaturation cert.old cert.new }
     ensures whole { OnOk result (IsWholeSaturation cert.new) }
     ensures first { IfOk result (IsFirstWrongPairOf (IsRightPair (saturation_of cert.old))) }
 {
-    let lookup = find_lookup(alloc, cert)?;
     let mut bindings = Bindings::new(alloc);
-    wrong_pair_by(alloc, cert, &lookup, &mut bindings)
+    wrong_pair_by(alloc, cert, lookup, &mut bindings)
 }

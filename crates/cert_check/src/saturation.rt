@@ -6,15 +6,17 @@ ghost use Rattle.inst_calculus.specs.Axioms.{with_axioms};
 ghost use Rattle.inst_calculus.specs.Models.{Makes};
 ghost use Rattle.inst_calculus.specs.Saturation.{IsSaturated};
 ghost use Rattle.cert_format.specs.Certificate.{selected_members};
-ghost use Rattle.cert_format.specs.Validity.{IsValidSaturation, SaturationPasses};
+ghost use Rattle.cert_format.specs.Validity.{IsValidBase, IsValidSaturation, SaturationPasses};
 ghost use Rattle.term_bank.specs.Forest.{IsAt};
-ghost use Rattle.saturation_cert.specs.Values.{saturation_of};
-ghost use Rattle.saturation_cert.specs.Wholes.{IsWholeSaturation, KeepsSaturation};
+ghost use Rattle.saturation_cert.specs.Values.{base_of, saturation_of};
+ghost use Rattle.saturation_cert.specs.Wholes.{HasPlaces, IsWholeSaturation, KeepsSaturation};
 ghost use Rattle.cert_check.specs.Answers.{IsCheckCause};
+ghost use Rattle.cert_check.specs.Lookups.{IsReady};
 
 use crate::base::check_base;
 use crate::error::CheckError;
 use crate::inputs::wrong_input;
+use crate::lookup::{Lookup, find_lookup};
 use crate::pairs::wrong_pair;
 use crate::places::wrong_place;
 use cert_format::Complaint;
@@ -72,6 +74,37 @@ impl CheckedSaturation {
     }
 }
 
+// The first complaint about the inputs and then about the pairs, if there is one.
+fn check_with(alloc: Global, cert: &mut Saturation, lookup: &Lookup) -> Result<(), CheckError>
+    requires ready { IsReady cert.old lookup.now }
+    ensures kept { KeepsSaturation cert.old cert.new }
+    ensures whole { OnOk result (IsWholeSaturation cert.new) }
+    ensures valid { OnOk result (IsValidSaturation (saturation_of cert.old)) }
+    ensures complaint { IfErr result (IsCheckCause (SaturationPasses (saturation_of cert.old))) }
+{
+    if let Some(k) = wrong_input(alloc, cert, lookup)? {
+        return Err(CheckError::Complaint(Complaint::Input { k }));
+    }
+    if let Some((left, right)) = wrong_pair(alloc, cert, lookup)? {
+        return Err(CheckError::Complaint(Complaint::Pair { left, right }));
+    }
+    Ok(())
+}
+
+// The same, with look-ups that serve both.
+fn check_selection(alloc: Global, cert: &mut Saturation) -> Result<(), CheckError>
+    requires whole { IsWholeSaturation cert.old }
+    requires base { IsValidBase (base_of cert.old.base) }
+    requires placed { HasPlaces (saturation_of cert.old) }
+    ensures kept { KeepsSaturation cert.old cert.new }
+    ensures whole { OnOk result (IsWholeSaturation cert.new) }
+    ensures valid { OnOk result (IsValidSaturation (saturation_of cert.old)) }
+    ensures complaint { IfErr result (IsCheckCause (SaturationPasses (saturation_of cert.old))) }
+{
+    let lookup = find_lookup(alloc, cert)?;
+    check_with(alloc, cert, &lookup)
+}
+
 // The first complaint, if there is one.
 fn check(alloc: Global, cert: &mut Saturation) -> Result<(), CheckError>
     requires { IsWholeSaturation cert.old }
@@ -84,13 +117,7 @@ fn check(alloc: Global, cert: &mut Saturation) -> Result<(), CheckError>
     if let Some(n) = wrong_place(cert) {
         return Err(CheckError::Complaint(Complaint::Place { n }));
     }
-    if let Some(k) = wrong_input(alloc, cert)? {
-        return Err(CheckError::Complaint(Complaint::Input { k }));
-    }
-    if let Some((left, right)) = wrong_pair(alloc, cert)? {
-        return Err(CheckError::Complaint(Complaint::Pair { left, right }));
-    }
-    Ok(())
+    check_selection(alloc, cert)
 }
 
 /// Checks the certificate and owns it from then on. After a refusal it is dropped. Time: a unification for any two members

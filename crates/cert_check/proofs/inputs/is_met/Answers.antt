@@ -5,8 +5,10 @@ use Rattle.term_bank.specs.Forest.{clause_at}
 use Rattle.cert_check.proofs.InputScans.{member_subsumes, met_or}
 use Rattle.cert_check.proofs.inputs.is_met.Goals as goal
 
-pub returns-then-is_member : goal.returns-then-is_member
-returns-then-is_member c = ((λ t. inr (member_subsumes c.args.bank.now c.args.members.now c.args.c.now (c.is_member.ensures c.if-is_member.true))), (λ h. refl))
+pub returns-then-has : goal.returns-then-has
+returns-then-has c =
+    let any = (c.requires.lookup.clauses c.args.c.now).0 (sym c.has.ensures ∙ c.if-has.true) in
+    ((λ t. inr (member_subsumes c.args.bank.now c.args.members.now c.args.c.now any)), (λ h. refl))
 
 pub returns : goal.returns
 returns c =

@@ -3,8 +3,7 @@ use Rattle.std.proofs.lemmas.Result.{IfOk-weaker}
 use Rattle.unify_core.specs.declared.side.Side.TheVariants.{Right}
 use Rattle.unify_core.proofs.Stays.{bindings_stay}
 use Rattle.clause_form.proofs.Concluded.{terms_later}
-use Rattle.cert_check.proofs.LookupLaws.{lookup_kept}
-use Rattle.cert_check.proofs.PairScans.{valid_kept, placed_kept}
+use Rattle.cert_check.proofs.LookupLaws.{ready_kept}
 use Rattle.cert_check.proofs.Closings.{open_left, both_sides, side_before}
 use Rattle.cert_check.proofs.pairs.is_closed.Goals as goal
 
@@ -12,14 +11,8 @@ pub returns-then-not-branch-clause-closed : goal.returns-then-not-branch-clause-
 returns-then-not-branch-clause-closed c =
     open_left c.args.cert.now c.args.bindings.now.entries (suc c.args.i) (suc c.args.j) c.in_ok-is_side_closed.field-0 c.if-not-branch.true c.in_ok-is_side_closed.ensures.closed
 
-pub is_side_closed-requires-2-clause-base : goal.is_side_closed-requires-2-clause-base
-is_side_closed-requires-2-clause-base c = valid_kept c.args.cert.now c.is_side_closed.new.cert c.requires.whole c.is_side_closed.ensures.kept c.requires.base
-
-pub is_side_closed-requires-2-clause-placed : goal.is_side_closed-requires-2-clause-placed
-is_side_closed-requires-2-clause-placed c = placed_kept c.args.cert.now c.is_side_closed.new.cert c.requires.whole c.is_side_closed.ensures.kept c.requires.placed
-
-pub is_side_closed-requires-2-clause-lookup : goal.is_side_closed-requires-2-clause-lookup
-is_side_closed-requires-2-clause-lookup c = lookup_kept c.args.cert.now c.is_side_closed.new.cert c.requires.whole c.is_side_closed.ensures.kept c.args.lookup.now c.requires.lookup
+pub is_side_closed-requires-2-clause-ready : goal.is_side_closed-requires-2-clause-ready
+is_side_closed-requires-2-clause-ready c = ready_kept c.args.cert.now c.is_side_closed.new.cert c.args.lookup.now c.requires.ready c.is_side_closed.ensures.kept c.in_ok-is_side_closed.ensures.whole
 
 pub is_side_closed-requires-2-clause-bindings : goal.is_side_closed-requires-2-clause-bindings
 is_side_closed-requires-2-clause-bindings c = bindings_stay c.args.cert.now.base.bank c.is_side_closed.new.cert.base.bank c.args.bindings.now.entries c.is_side_closed.ensures.kept.base.bank c.requires.bindings
@@ -33,4 +26,4 @@ returns-clause-closed c =
     let es = c.args.bindings.now.entries in
     IfOk-weaker c.is_side_closed-2.result _ _ (λ r h.
     both_sides old es (suc c.args.i) (suc c.args.j) c.is_proper.result c.in_ok-is_side_closed.field-0 r c.if-not-is_proper.false c.if-not-branch.false c.is_proper.ensures c.in_ok-is_side_closed.ensures.closed
-    (side_before old c.is_side_closed.new.cert c.requires.whole c.is_side_closed.ensures.kept es c.requires.bindings Right (suc c.args.j) r h)) c.is_side_closed-2.ensures.closed
+    (side_before old c.is_side_closed.new.cert c.requires.ready.whole c.is_side_closed.ensures.kept es c.requires.bindings Right (suc c.args.j) r h)) c.is_side_closed-2.ensures.closed

@@ -13,7 +13,7 @@ is_closed-requires-clause-terms c =
     let m = c.selected-m.result.now in
     let (s, resolved, general) = c.in_ok-unify.ensures.yes c.if-not-branch.false in
     bound_terms old.base.bank c.unify.new.self.entries (tree_at old.base.bank l.atom) (tree_at old.base.bank m.atom)
-    (selected_atom old c.requires.whole (suc c.args.i) l c.selected-l.ensures) (selected_atom old c.requires.whole (suc c.args.j) m c.selected-m.ensures) s resolved general
+    (selected_atom old c.requires.ready.whole (suc c.args.i) l c.selected-l.ensures) (selected_atom old c.requires.ready.whole (suc c.args.j) m c.selected-m.ensures) s resolved general
 
 pub returns-clause-right : goal.returns-clause-right
 returns-clause-right c =

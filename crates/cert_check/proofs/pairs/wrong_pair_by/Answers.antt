@@ -1,43 +1,30 @@
-use Rattle.std.proofs.Common.{ℕ, suc, subst, sym, add-one, arith, below_more}
+use Rattle.std.proofs.Common.{ℕ, suc, subst, add-one, arith, below_more}
 use Rattle.std.proofs.lemmas.List.{length-map}
 use Rattle.cert_format.specs.Certificate as format
 use Rattle.cert_format.specs.Validity.{IsRightPair}
 use Rattle.saturation_cert.specs.Values.{saturation_of, entry_of}
 use Rattle.cert_check.specs.Firsts.{IsFirstWrong}
-use Rattle.cert_check.specs.Partners.{LeadThrough}
-use Rattle.cert_check.proofs.LookupLaws.{lookup_kept}
+use Rattle.cert_check.proofs.LookupLaws.{ready_kept}
 use Rattle.cert_check.proofs.Bases.{none_wrong, some_wrong}
 use Rattle.cert_check.proofs.Saturations.{saturation_same, keeps_saturation_trans}
-use Rattle.cert_check.proofs.PairScans.{keeps_itself, valid_kept, placed_kept, first_pair, all_pairs}
+use Rattle.cert_check.proofs.PairScans.{keeps_itself, first_pair, all_pairs}
 use Rattle.cert_check.proofs.pairs.wrong_pair_by.Goals as goal
 
 pub loop-i-init : goal.loop-i-init
-loop-i-init c = record { kept = keeps_itself c.args.cert.now; whole = c.requires.whole; before = λ k less. absurd (omega arith) }
+loop-i-init c = record { kept = keeps_itself c.args.cert.now; whole = c.requires.ready.whole; before = λ k less. absurd (omega arith) }
 
-pub wrong_partner-requires-clause-base : goal.wrong_partner-requires-clause-base
-wrong_partner-requires-clause-base c = valid_kept c.args.cert.now c.loop-i.cert c.requires.whole c.loop-i.invariant.kept c.requires.base
-
-pub wrong_partner-requires-clause-placed : goal.wrong_partner-requires-clause-placed
-wrong_partner-requires-clause-placed c = placed_kept c.args.cert.now c.loop-i.cert c.requires.whole c.loop-i.invariant.kept c.requires.placed
-
-pub wrong_partner-requires-clause-partners : goal.wrong_partner-requires-clause-partners
-wrong_partner-requires-clause-partners c =
-    let same = saturation_same c.args.cert.now c.loop-i.cert c.requires.whole c.loop-i.invariant.kept in
-    let p = c.args.lookup.now.partners in
-    subst (λ (x : format.Saturation). LeadThrough x p.heads.items p.same.items p.opposed.items) (sym same) c.requires.partners
-
-pub wrong_partner-requires-clause-lookup : goal.wrong_partner-requires-clause-lookup
-wrong_partner-requires-clause-lookup c = lookup_kept c.args.cert.now c.loop-i.cert c.requires.whole c.loop-i.invariant.kept c.args.lookup.now c.requires.lookup
+pub wrong_partner-requires-clause-ready : goal.wrong_partner-requires-clause-ready
+wrong_partner-requires-clause-ready c = ready_kept c.args.cert.now c.loop-i.cert c.args.lookup.now c.requires.ready c.loop-i.invariant.kept c.loop-i.invariant.whole
 
 pub returns-in-Some-clause-first : goal.returns-in-Some-clause-first
 returns-in-Some-clause-first c =
-    let same = saturation_same c.args.cert.now c.loop-i.cert c.requires.whole c.loop-i.invariant.kept in
+    let same = saturation_same c.args.cert.now c.loop-i.cert c.requires.ready.whole c.loop-i.invariant.kept in
     let wrong = subst (λ (x : format.Saturation). IsFirstWrong (IsRightPair x (suc c.loop-i.i)) c.in-Some.right) same (some_wrong _ c.in_ok-right.field-0 c.in-Some.right c.in_ok-right.ensures.first c.in-Some.is) in
     rw add-one (first_pair (saturation_of c.args.cert.now) c.loop-i.i c.loop-i.invariant.before c.in-Some.right wrong)
 
 pub loop-i-preserved : goal.loop-i-preserved
 loop-i-preserved c =
-    let same = saturation_same c.args.cert.now c.loop-i.cert c.requires.whole c.loop-i.invariant.kept in
+    let same = saturation_same c.args.cert.now c.loop-i.cert c.requires.ready.whole c.loop-i.invariant.kept in
     record {
       kept = keeps_saturation_trans c.args.cert.now c.loop-i.cert c.wrong_partner.new.cert c.loop-i.invariant.kept c.wrong_partner.ensures.kept;
       whole = c.in_ok-right.ensures.whole;
