@@ -1,12 +1,14 @@
-// Short reads, a failing call in mid-stream, and the real devices.
+// Short reads, a failing call in mid-stream, and the real devices. What the calls on a device answer is gathered by a function
+// that borrows it, and compared once.
 use inst_logic::{ByteList, Memory, Name};
 use outside_io::{
     CallList, Failed, FileList, FolderLibrary, Library, MemLibrary, MemSink, NamedFile, OutSink,
     Sink, SureLibrary, SureSink, Trouble, write_all,
 };
 use std::alloc::Global;
-use std::fs;
+use std::fs::Files;
 use std::test::Fail;
+use std::{fs, io};
 
 fn named(alloc: Global, name: &[u8], bytes: &[u8]) -> Result<NamedFile, Memory> {
     Ok(NamedFile {
@@ -28,102 +30,239 @@ fn the_call(alloc: Global, number: usize) -> Result<CallList, Memory> {
     Ok(calls)
 }
 
+// What three calls of `begin` and four of `read` answer, with the bytes of the first file.
+fn two_files_by(
+    library: &mut SureLibrary,
+) -> (
+    [Result<bool, Trouble>; 3],
+    [Result<usize, Failed>; 4],
+    [u8; 8],
+) {
+    let mut buf = [0; 8];
+    let before = library.read(&mut buf);
+    let begun = library.begin("a");
+    let whole = library.read(&mut buf);
+    let at_end = library.read(&mut buf);
+    let again = library.begin("a");
+    library.finish();
+    let finished = library.read(&mut buf);
+    let absent = library.begin("b");
+    (
+        [begun, again, absent],
+        [before, whole, at_end, finished],
+        buf,
+    )
+}
+
+fn two_files(
+    alloc: Global,
+) -> Result<
+    (
+        [Result<bool, Trouble>; 3],
+        [Result<usize, Failed>; 4],
+        [u8; 8],
+    ),
+    Memory,
+> {
+    let mut library = SureLibrary::new(alloc, two_of_one_name(alloc)?);
+    Ok(two_files_by(&mut library))
+}
+
+/// Nothing is read before a file is begun, at its end, and after `finish`.
 #[test]
 fn the_first_file_of_a_name_is_read(rt: HostRuntime) -> Result<(), Fail> {
-    let alloc = rt.alloc();
-    let mut library = SureLibrary::new(alloc, two_of_one_name(alloc)?);
-    let mut buf = [0; 8];
-    assert_eq!(rt; library.read(&mut buf)?, 0, "no file is begun");
-    assert!(rt; library.begin("a")?);
-    assert_eq!(rt; library.read(&mut buf)?, 5);
-    assert_eq!(rt; &buf[..5], b"first".as_slice());
-    assert_eq!(rt; library.read(&mut buf)?, 0, "at the end");
-    assert!(rt; library.begin("a")?);
-    library.finish();
-    assert_eq!(rt; library.read(&mut buf)?, 0, "finished");
-    assert!(rt; !library.begin("b")?);
+    assert_eq!(rt;
+        two_files(rt.alloc())?,
+        (
+            [Ok(true), Ok(true), Ok(false)],
+            [Ok(0), Ok(5), Ok(0), Ok(0)],
+            *b"first\0\0\0"
+        )
+    );
     Ok(())
+}
+
+// What `begin` and then five calls of `read` answer, with the bytes of the third of these.
+fn pieces_by(
+    library: &mut MemLibrary,
+) -> (Result<bool, Trouble>, [Result<usize, Failed>; 5], [u8; 8]) {
+    let mut buf = [0; 8];
+    let begun = library.begin("a");
+    let first = library.read(&mut buf);
+    let second = library.read(&mut buf);
+    let third = library.read(&mut buf);
+    let found = buf;
+    let fourth = library.read(&mut buf);
+    let fifth = library.read(&mut buf);
+    (begun, [first, second, third, fourth, fifth], found)
+}
+
+fn pieces(
+    alloc: Global,
+) -> Result<(Result<bool, Trouble>, [Result<usize, Failed>; 5], [u8; 8]), Memory> {
+    let mut library = MemLibrary::new(alloc, two_of_one_name(alloc)?, 2, the_call(alloc, 3)?);
+    Ok(pieces_by(&mut library))
 }
 
 #[test]
 fn the_third_call_fails_in_mid_stream(rt: HostRuntime) -> Result<(), Fail> {
-    let alloc = rt.alloc();
-    let mut library = MemLibrary::new(alloc, two_of_one_name(alloc)?, 2, the_call(alloc, 3)?);
-    let mut buf = [0; 8];
-    assert!(rt; library.begin("a")?);
-    assert_eq!(rt; library.read(&mut buf)?, 2);
-    assert_eq!(rt; library.read(&mut buf), Err(Failed));
-    assert_eq!(rt; library.read(&mut buf)?, 2);
-    assert_eq!(rt; &buf[..2], b"rs".as_slice());
-    assert_eq!(rt; library.read(&mut buf)?, 1);
-    assert_eq!(rt; library.read(&mut buf)?, 0);
+    assert_eq!(rt;
+        pieces(rt.alloc())?,
+        (
+            Ok(true),
+            [Ok(2), Err(Failed), Ok(2), Ok(1), Ok(0)],
+            *b"rs\0\0\0\0\0\0"
+        )
+    );
     Ok(())
+}
+
+// What three calls of `begin` answer, and a call of `read` after the second and the third.
+fn begun_by(library: &mut MemLibrary) -> ([Result<bool, Trouble>; 3], [Result<usize, Failed>; 2]) {
+    let mut buf = [0; 8];
+    let first = library.begin("a");
+    let second = library.begin("a");
+    let nothing = library.read(&mut buf);
+    let third = library.begin("a");
+    let whole = library.read(&mut buf);
+    ([first, second, third], [nothing, whole])
+}
+
+fn begun(
+    alloc: Global,
+) -> Result<([Result<bool, Trouble>; 3], [Result<usize, Failed>; 2]), Memory> {
+    let mut library = MemLibrary::new(alloc, two_of_one_name(alloc)?, 8, the_call(alloc, 2)?);
+    Ok(begun_by(&mut library))
 }
 
 #[test]
 fn a_begin_fails_and_the_next_does_not(rt: HostRuntime) -> Result<(), Fail> {
-    let alloc = rt.alloc();
-    let mut library = MemLibrary::new(alloc, two_of_one_name(alloc)?, 8, the_call(alloc, 2)?);
-    let mut buf = [0; 8];
-    assert!(rt; library.begin("a")?);
-    assert_eq!(rt; library.begin("a"), Err(Trouble::Failed));
-    assert_eq!(rt; library.read(&mut buf)?, 0, "no file is begun");
-    assert!(rt; library.begin("a")?);
-    assert_eq!(rt; library.read(&mut buf)?, 5);
+    assert_eq!(rt;
+        begun(rt.alloc())?,
+        ([Ok(true), Err(Trouble::Failed), Ok(true)], [Ok(0), Ok(5)])
+    );
     Ok(())
+}
+
+// Whether the two pieces are taken whole.
+fn takes_two_by(sink: &mut SureSink) -> Result<bool, Trouble> {
+    write_all(sink, b"hello ")?;
+    write_all(sink, b"there")?;
+    Ok(sink.bytes() == b"hello there".as_slice())
+}
+
+fn takes_two(alloc: Global) -> Result<bool, Trouble> {
+    let mut sink = SureSink::new(alloc);
+    takes_two_by(&mut sink)
+}
+
+// Whether a piece is taken whole that is longer than what one call takes.
+fn takes_long_by(sink: &mut MemSink) -> Result<bool, Trouble> {
+    write_all(sink, b"hello")?;
+    Ok(sink.bytes() == b"hello".as_slice())
+}
+
+fn takes_long(alloc: Global) -> Result<bool, Trouble> {
+    let mut sink = MemSink::new(alloc, 2, CallList::new(alloc));
+    takes_long_by(&mut sink)
 }
 
 #[test]
 fn a_piece_is_written_whole(rt: HostRuntime) -> Result<(), Fail> {
     let alloc = rt.alloc();
-    let mut sure = SureSink::new(alloc);
-    write_all(&mut sure, b"hello ")?;
-    write_all(&mut sure, b"there")?;
-    assert_eq!(rt; sure.bytes(), b"hello there".as_slice());
-    let mut short = MemSink::new(alloc, 2, CallList::new(alloc));
-    write_all(&mut short, b"hello")?;
-    assert_eq!(rt; short.bytes(), b"hello".as_slice());
+    assert_eq!(rt; [takes_two(alloc), takes_long(alloc)], [Ok(true); 2]);
     Ok(())
+}
+
+// What a piece and the rest of it are answered, each with whether these bytes were taken by then.
+fn fails_by(sink: &mut MemSink) -> ((Result<(), Trouble>, bool), (Result<usize, Trouble>, bool)) {
+    let failed = write_all(sink, b"hello");
+    let taken = sink.bytes() == b"he".as_slice();
+    let written = sink.write(b"llo");
+    let all = sink.bytes() == b"hell".as_slice();
+    ((failed, taken), (written, all))
+}
+
+fn fails(
+    alloc: Global,
+) -> Result<((Result<(), Trouble>, bool), (Result<usize, Trouble>, bool)), Memory> {
+    let mut sink = MemSink::new(alloc, 2, the_call(alloc, 2)?);
+    Ok(fails_by(&mut sink))
 }
 
 #[test]
 fn the_second_write_fails(rt: HostRuntime) -> Result<(), Fail> {
-    let alloc = rt.alloc();
-    let mut sink = MemSink::new(alloc, 2, the_call(alloc, 2)?);
-    assert_eq!(rt; write_all(&mut sink, b"hello"), Err(Trouble::Failed));
-    assert_eq!(rt; sink.bytes(), b"he".as_slice());
-    assert_eq!(rt; sink.write(b"llo")?, 2);
-    assert_eq!(rt; sink.bytes(), b"hell".as_slice());
+    assert_eq!(rt;
+        fails(rt.alloc())?,
+        ((Err(Trouble::Failed), true), (Ok(2), true))
+    );
     Ok(())
 }
 
+// What `begin` answers, three calls of `read` and one after `finish`, with the buffer of three bytes after them.
+type RealFile = (Result<bool, Trouble>, [Result<usize, Failed>; 4], [u8; 3]);
+
+fn read_real_file<L: Library>(library: &mut L) -> RealFile {
+    let mut buf = [0; 3];
+    let begun = library.begin("outside_io_test.txt");
+    let first = library.read(&mut buf);
+    let second = library.read(&mut buf);
+    let third = library.read(&mut buf);
+    library.finish();
+    let after = library.read(&mut buf);
+    (begun, [first, second, third, after], buf)
+}
+
+// The same of a file that is made and removed, with what `begin` answers when it is gone.
+fn real_file_by<R: Files>(
+    rt: &R,
+    folder: &mut FolderLibrary<'_, R>,
+) -> io::Result<(RealFile, Result<bool, Trouble>)> {
+    fs::write(rt, "outside_io_test.txt", "p(a).")?;
+    let found = read_real_file(folder);
+    fs::remove_file(rt, "outside_io_test.txt")?;
+    Ok((found, folder.begin("outside_io_test.txt")))
+}
+
+fn real_file<R: Files>(rt: &R, alloc: Global) -> io::Result<(RealFile, Result<bool, Trouble>)> {
+    let mut folder = FolderLibrary::new(rt, alloc);
+    real_file_by(rt, &mut folder)
+}
+
+/// The second read changes the front of the buffer alone.
 #[test]
 fn a_real_file_is_read(rt: HostRuntime) -> Result<(), Fail> {
-    fs::write(&rt, "outside_io_test.txt", "p(a).")?;
-    let mut folder = FolderLibrary::new(&rt, rt.alloc());
-    let mut buf = [0; 3];
-    let begun = folder.begin("outside_io_test.txt")?;
-    let first = folder.read(&mut buf)?;
-    let second = folder.read(&mut buf)?;
-    let third = folder.read(&mut buf)?;
-    folder.finish();
-    let after = folder.read(&mut buf)?;
-    fs::remove_file(&rt, "outside_io_test.txt")?;
-    assert!(rt; begun);
-    assert_eq!(rt; [first, second, third, after], [3, 2, 0, 0]);
-    assert_eq!(rt; buf, *b").a", "the second read changes the front alone");
-    assert!(rt; !folder.begin("outside_io_test.txt")?);
+    assert_eq!(rt;
+        real_file(&rt, rt.alloc())?,
+        ((Ok(true), [Ok(3), Ok(2), Ok(0), Ok(0)], *b").a"), Ok(false))
+    );
     Ok(())
+}
+
+// What `begin` and `read` answer of a folder, and of a name that no file can have.
+fn no_files_by<L: Library>(library: &mut L) -> [(Result<bool, Trouble>, Result<usize, Failed>); 2] {
+    let mut buf = [0; 3];
+    let folder = library.begin(".");
+    let failed = library.read(&mut buf);
+    let no_name = library.begin("name\0name");
+    let nothing = library.read(&mut buf);
+    [(folder, failed), (no_name, nothing)]
+}
+
+fn no_files<R: Files>(
+    rt: &R,
+    alloc: Global,
+) -> [(Result<bool, Trouble>, Result<usize, Failed>); 2] {
+    let mut folder = FolderLibrary::new(rt, alloc);
+    no_files_by(&mut folder)
 }
 
 #[test]
 fn what_is_no_file_fails(rt: HostRuntime) {
-    let mut folder = FolderLibrary::new(&rt, rt.alloc());
-    let mut buf = [0; 3];
-    assert_eq!(rt; folder.begin("."), Ok(true));
-    assert_eq!(rt; folder.read(&mut buf), Err(Failed));
-    assert_eq!(rt; folder.begin("name\0name"), Err(Trouble::Failed));
-    assert_eq!(rt; folder.read(&mut buf), Ok(0));
+    assert_eq!(rt;
+        no_files(&rt, rt.alloc()),
+        [(Ok(true), Err(Failed)), (Err(Trouble::Failed), Ok(0))]
+    );
 }
 
 #[test]
