@@ -5,8 +5,6 @@
 #[cfg(test)]
 mod derivations;
 #[cfg(test)]
-mod plain_rows;
-#[cfg(test)]
 mod questions;
 #[cfg(test)]
 mod trails;

@@ -1,7 +1,7 @@
-// Questions whose answers are known, asked through the trait: of the fast solver, and one of the plain solver too. One
-// derivation goes through the checker.
+// Questions whose answers are known, asked through the trait: of the fast solver, and some of the plain solver too. One
+// derivation goes through the checker. A function that owns a solver or an answer has one way out, so that it is soon proved.
 ghost use Rattle.std.specs.Prelude.{◌≡◌, ◌+◌, ◌*◌, ◌<◌, ◌≤◌, IfOk, OnOk};
-ghost use Rattle.prop_logic.specs.Literal.{AllAtomsBelow, StepsBelow};
+ghost use Rattle.prop_logic.specs.Literal.{AtomsBelow, AllAtomsBelow, StepsBelow};
 
 use cdcl_core::Cdcl;
 use inst_logic::Memory;
@@ -88,39 +88,51 @@ fn values(answer: &Answer) -> Option<(bool, bool)> {
     }
 }
 
-// What is answered of the clauses 0 | 1 and ~0: alone, under not 1, and under an assumption and its complement.
-#[derive(Drop)]
-struct Answers {
-    values: Option<(bool, bool)>,
-    refuted: Option<Refutation>,
-    clash: Option<usize>,
+// What refutes the clauses under the assumptions.
+fn refutation_of<S: Solver>(
+    solver: &mut S,
+    assumptions: &[Lit],
+) -> Result<Option<Refutation>, Memory>
+    requires { AtomsBelow (S.atoms solver.old) assumptions.now }
+    ensures { OnOk result (S.atoms solver.new ≡ S.atoms solver.old) }
+{
+    let answer = solver.solve(assumptions)?;
+    Ok(summary(&answer))
 }
 
-fn row_of<S: Solver>(solver: &mut S) -> Result<Answers, Memory>
+// The values of atoms 0 and 1 that make the clauses and the assumptions true.
+fn values_of<S: Solver>(solver: &mut S, assumptions: &[Lit]) -> Result<Option<(bool, bool)>, Memory>
+    requires { AtomsBelow (S.atoms solver.old) assumptions.now }
+    ensures { OnOk result (S.atoms solver.new ≡ S.atoms solver.old) }
+{
+    let answer = solver.solve(assumptions)?;
+    Ok(values(&answer))
+}
+
+// What is answered of the clauses 0 | 1 and ~0: alone, under not 1, and under an assumption and its complement.
+type Answers = (Option<(bool, bool)>, Option<Refutation>, Option<Refutation>);
+
+fn row_by<S: Solver>(solver: &mut S) -> Result<Answers, Memory>
     requires { S.atoms solver.old ≡ 0 }
 {
     make_atoms(solver, 2)?;
     solver.add(&[lit(0, true), lit(1, true)])?;
     solver.add(&[lit(0, false)])?;
-    let answer = solver.solve(&[])?;
-    let refuted = solver.solve(&[lit(1, false)])?;
-    let clash = solver.solve(&[lit(0, false), lit(1, true), lit(1, false)])?;
-    Ok(Answers {
-        values: values(&answer),
-        refuted: summary(&refuted),
-        clash: summary(&clash).map(|r| r.core),
-    })
+    let values = values_of(solver, &[])?;
+    let refuted = refutation_of(solver, &[lit(1, false)])?;
+    let clash = refutation_of(solver, &[lit(0, false), lit(1, true), lit(1, false)])?;
+    Ok((values, refuted, clash))
 }
 
 fn row<S: Solver>(mut solver: S) -> Result<Answers, Memory>
     requires { S.atoms solver ≡ 0 }
 {
-    row_of(&mut solver)
+    row_by(&mut solver)
 }
 
 #[test]
 fn the_row_is_answered(rt: HostRuntime) -> Result<(), Fail> {
-    let found = row(Cdcl::new(rt.alloc()))?;
+    let (values, refuted, clash) = row(Cdcl::new(rt.alloc()))?;
     let want = Refutation {
         core: 1,
         steps: 1,
@@ -128,26 +140,100 @@ fn the_row_is_answered(rt: HostRuntime) -> Result<(), Fail> {
         assumed: Some(lit(1, false)),
         shown: Some(lit(1, true)),
     };
-    assert_eq!(rt; found.values, Some((false, true)));
-    assert_eq!(rt; found.refuted, Some(want));
-    assert_eq!(rt; found.clash, Some(1));
+    assert_eq!(rt;
+        (values, refuted, clash.map(|r| r.core)),
+        (Some((false, true)), Some(want), Some(1))
+    );
     Ok(())
+}
+
+// The numbers of the clauses 0 | 1 and ~0, the values that make them true, what refutes them under not 1 and under 1 and its
+// complement, by the lengths of core and last clause, and the number of conflicts.
+type PlainRow = (
+    [usize; 2],
+    Option<(bool, bool)>,
+    [Option<(usize, usize)>; 2],
+    u64,
+);
+
+fn plain_row_by<S: Solver>(solver: &mut S) -> Result<PlainRow, Memory>
+    requires { S.atoms solver.old ≡ 0 }
+{
+    make_atoms(solver, 2)?;
+    let first = solver.add(&[lit(0, true), lit(1, true)])?;
+    let second = solver.add(&[lit(0, false)])?;
+    let values = values_of(solver, &[])?;
+    let refuted = refutation_of(solver, &[lit(1, false)])?;
+    let clash = refutation_of(solver, &[lit(1, true), lit(1, false)])?;
+    let lengths = [refuted, clash].map(|found| found.map(|r| (r.core, r.literals)));
+    Ok(([first, second], values, lengths, solver.conflicts()))
+}
+
+fn plain_row<S: Solver>(mut solver: S) -> Result<PlainRow, Memory>
+    requires { S.atoms solver ≡ 0 }
+{
+    plain_row_by(&mut solver)
+}
+
+#[test]
+fn the_plain_solver_answers_the_row(rt: HostRuntime) -> Result<(), Fail> {
+    assert_eq!(rt;
+        plain_row(Plain::new(rt.alloc()))?,
+        ([1, 2], Some((false, true)), [Some((1, 1)), Some((2, 2))], 0)
+    );
+    Ok(())
+}
+
+fn values_of_atoms_by<S: Solver>(
+    solver: &mut S,
+    count: usize,
+) -> Result<Option<(bool, bool)>, Memory>
+    requires { S.atoms solver.old ≡ 0 }
+{
+    make_atoms(solver, count)?;
+    values_of(solver, &[])
+}
+
+// The values of the first two of so many atoms of which nothing is said.
+fn values_of_atoms<S: Solver>(mut solver: S, count: usize) -> Result<Option<(bool, bool)>, Memory>
+    requires { S.atoms solver ≡ 0 }
+{
+    values_of_atoms_by(&mut solver, count)
+}
+
+#[test]
+fn a_million_atoms_have_values(rt: HostRuntime) -> Result<(), Fail> {
+    assert_eq!(rt;
+        values_of_atoms(Plain::new(rt.alloc()), 1_000_000)?,
+        Some((false, false))
+    );
+    Ok(())
+}
+
+fn core_of_signs_by<S: Solver>(solver: &mut S) -> Result<Option<usize>, Memory>
+    requires { S.atoms solver.old ≡ 0 }
+{
+    make_atoms(solver, 3)?;
+    add_signs(solver, 0)?;
+    Ok(refutation_of(solver, &[])?.map(|r| r.core))
 }
 
 // The length of the core where the eight clauses over three atoms are refuted.
 fn core_of_signs<S: Solver>(mut solver: S) -> Result<Option<usize>, Memory>
     requires { S.atoms solver ≡ 0 }
 {
-    make_atoms(&mut solver, 3)?;
-    add_signs(&mut solver, 0)?;
-    let answer = solver.solve(&[])?;
-    Ok(summary(&answer).map(|r| r.core))
+    core_of_signs_by(&mut solver)
 }
 
 #[test]
 fn both_solvers_refute_eight_clauses(rt: HostRuntime) -> Result<(), Fail> {
-    assert_eq!(rt; core_of_signs(Cdcl::new(rt.alloc()))?, Some(0));
-    assert_eq!(rt; core_of_signs(Plain::new(rt.alloc()))?, Some(0));
+    assert_eq!(rt;
+        [
+            core_of_signs(Cdcl::new(rt.alloc()))?,
+            core_of_signs(Plain::new(rt.alloc()))?
+        ],
+        [Some(0); 2]
+    );
     Ok(())
 }
 
@@ -157,8 +243,7 @@ fn refute_signs_by<S: Solver>(solver: &mut S) -> Result<Option<Refutation>, Memo
     make_atoms(solver, 83)?;
     add_pairs(solver, 40)?;
     add_signs(solver, 80)?;
-    let answer = solver.solve(&[])?;
-    Ok(summary(&answer))
+    refutation_of(solver, &[])
 }
 
 // What refutes the eight clauses over the last three atoms, after forty clauses over the others.
@@ -227,13 +312,37 @@ fn checked<S: Solver>(
     }
 }
 
+fn checked_of<S: Solver>(
+    alloc: Global,
+    solver: &mut S,
+    given: &LitLists,
+) -> Result<Option<(usize, bool)>, Memory>
+    requires given { AllAtomsBelow 3 given.now }
+    requires atoms { S.atoms solver.old ≡ 0 }
+{
+    make_atoms(solver, 3)?;
+    add_all(solver, given)?;
+    checked(alloc, solver, given)
+}
+
+// The same of the eight clauses of three atoms.
+fn checked_signs<S: Solver>(alloc: Global, solver: &mut S) -> Result<Option<(usize, bool)>, Memory>
+    requires { S.atoms solver.old ≡ 0 }
+{
+    let given = all_signs(alloc)?;
+    checked_of(alloc, solver, &given)
+}
+
+fn signs_checked<S: Solver>(alloc: Global, mut solver: S) -> Result<Option<(usize, bool)>, Memory>
+    requires { S.atoms solver ≡ 0 }
+{
+    checked_signs(alloc, &mut solver)
+}
+
 #[test]
 fn the_checker_accepts_what_refutes_eight_clauses(rt: HostRuntime) -> Result<(), Fail> {
-    let given = all_signs(rt.alloc())?;
-    let mut cdcl = Cdcl::new(rt.alloc());
-    make_atoms(&mut cdcl, 3)?;
-    add_all(&mut cdcl, &given)?;
-    assert_eq!(rt; checked(rt.alloc(), &mut cdcl, &given)?, Some((0, true)));
+    let found = signs_checked(rt.alloc(), Cdcl::new(rt.alloc()))?;
+    assert_eq!(rt; found, Some((0, true)));
     Ok(())
 }
 
@@ -252,15 +361,21 @@ fn add_chain<S: Solver>(solver: &mut S, count: usize) -> Result<(), Memory>
     Ok(())
 }
 
+fn steps_of_chain_by<S: Solver>(solver: &mut S, count: usize) -> Result<Option<usize>, Memory>
+    requires atoms { S.atoms solver.old ≡ 0 }
+    requires few { count < 1000000 }
+{
+    make_atoms(solver, count + 1)?;
+    add_chain(solver, count)?;
+    Ok(refutation_of(solver, &[])?.map(|r| r.steps))
+}
+
 // The number of steps that refute a chain.
 fn steps_of_chain<S: Solver>(mut solver: S, count: usize) -> Result<Option<usize>, Memory>
     requires atoms { S.atoms solver ≡ 0 }
     requires few { count < 1000000 }
 {
-    make_atoms(&mut solver, count + 1)?;
-    add_chain(&mut solver, count)?;
-    let answer = solver.solve(&[])?;
-    Ok(summary(&answer).map(|r| r.steps))
+    steps_of_chain_by(&mut solver, count)
 }
 
 // The clauses that say that the pigeon has a hole.
@@ -315,36 +430,79 @@ fn add_pairs_after<S: Solver>(
     Ok(())
 }
 
+// Each of one pigeon more than holes has a hole.
+fn add_pigeons<S: Solver>(solver: &mut S, holes: usize) -> Result<(), Memory>
+    requires atoms { S.atoms solver.old ≡ holes * 8 + 8 }
+    requires few { holes < 8 }
+    ensures { OnOk result (S.atoms solver.new ≡ S.atoms solver.old) }
+{
+    for pigeon in 0..holes + 1 {
+        add_pigeon(solver, pigeon, holes)?;
+    }
+    Ok(())
+}
+
+// No two of them have one hole.
+fn add_holes<S: Solver>(solver: &mut S, holes: usize) -> Result<(), Memory>
+    requires atoms { S.atoms solver.old ≡ holes * 8 + 8 }
+    requires few { holes < 8 }
+    ensures { OnOk result (S.atoms solver.new ≡ S.atoms solver.old) }
+{
+    for hole in 0..holes {
+        add_hole(solver, hole, holes + 1)?;
+    }
+    Ok(())
+}
+
+fn steps_of_pigeons_by<S: Solver>(solver: &mut S, holes: usize) -> Result<Option<usize>, Memory>
+    requires atoms { S.atoms solver.old ≡ 0 }
+    requires few { holes < 8 }
+{
+    make_atoms(solver, holes * 8 + 8)?;
+    add_pigeons(solver, holes)?;
+    add_holes(solver, holes)?;
+    Ok(refutation_of(solver, &[])?.map(|r| r.steps))
+}
+
 // The number of steps that refute that one pigeon more than holes has a hole of its own.
 fn steps_of_pigeons<S: Solver>(mut solver: S, holes: usize) -> Result<Option<usize>, Memory>
     requires atoms { S.atoms solver ≡ 0 }
     requires few { holes < 8 }
 {
-    make_atoms(&mut solver, holes * 8 + 8)?;
-    for pigeon in 0..holes + 1 {
-        add_pigeon(&mut solver, pigeon, holes)?;
-    }
-    for hole in 0..holes {
-        add_hole(&mut solver, hole, holes + 1)?;
-    }
-    let answer = solver.solve(&[])?;
-    Ok(summary(&answer).map(|r| r.steps))
+    steps_of_pigeons_by(&mut solver, holes)
 }
 
 #[test]
 fn a_chain_is_one_step(rt: HostRuntime) -> Result<(), Fail> {
-    for count in [1, 10, 10_000] {
-        assert_eq!(rt; steps_of_chain(Cdcl::new(rt.alloc()), count)?, Some(1));
-    }
+    assert_eq!(rt;
+        [
+            steps_of_chain(Cdcl::new(rt.alloc()), 1)?,
+            steps_of_chain(Cdcl::new(rt.alloc()), 10)?,
+            steps_of_chain(Cdcl::new(rt.alloc()), 10_000)?
+        ],
+        [Some(1); 3]
+    );
     Ok(())
+}
+
+// Whether so many steps, or fewer, refute the pigeons.
+fn refutes_pigeons_within(alloc: Global, holes: usize, most: usize) -> Result<bool, Memory>
+    requires { holes < 8 }
+{
+    let steps = steps_of_pigeons(Cdcl::new(alloc), holes)?;
+    Ok(steps.is_some_and(|found| found <= most))
 }
 
 #[test]
 fn pigeons_are_refuted_in_few_steps(rt: HostRuntime) -> Result<(), Fail> {
-    for row in [(2, 5), (4, 50), (6, 1500)] {
-        let steps = steps_of_pigeons(Cdcl::new(rt.alloc()), row.0)?;
-        assert!(rt; steps.is_some_and(|found| found <= row.1));
-    }
+    assert_eq!(rt;
+        [
+            refutes_pigeons_within(rt.alloc(), 2, 5)?,
+            refutes_pigeons_within(rt.alloc(), 4, 50)?,
+            refutes_pigeons_within(rt.alloc(), 6, 1500)?
+        ],
+        [true; 3]
+    );
     Ok(())
 }
 
@@ -354,8 +512,8 @@ fn core_of_three_by<S: Solver>(solver: &mut S) -> Result<Option<usize>, Memory>
 {
     make_atoms(solver, 4)?;
     solver.add(&[lit(0, false), lit(1, false), lit(2, false)])?;
-    let answer = solver.solve(&[lit(3, true), lit(0, true), lit(1, true), lit(2, true)])?;
-    Ok(summary(&answer).map(|r| r.core))
+    let assumptions = [lit(3, true), lit(0, true), lit(1, true), lit(2, true)];
+    Ok(refutation_of(solver, &assumptions)?.map(|r| r.core))
 }
 
 fn core_of_three<S: Solver>(mut solver: S) -> Result<Option<usize>, Memory>
@@ -366,8 +524,13 @@ fn core_of_three<S: Solver>(mut solver: S) -> Result<Option<usize>, Memory>
 
 #[test]
 fn a_core_has_three_of_four_assumptions(rt: HostRuntime) -> Result<(), Fail> {
-    assert_eq!(rt; core_of_three(Cdcl::new(rt.alloc()))?, Some(3));
-    assert_eq!(rt; core_of_three(Plain::new(rt.alloc()))?, Some(3));
+    assert_eq!(rt;
+        [
+            core_of_three(Cdcl::new(rt.alloc()))?,
+            core_of_three(Plain::new(rt.alloc()))?
+        ],
+        [Some(3); 2]
+    );
     Ok(())
 }
 
@@ -380,10 +543,10 @@ fn before_and_after_by<S: Solver>(solver: &mut S) -> Result<Pairs, Memory>
     make_atoms(solver, 2)?;
     solver.add(&[lit(0, true), lit(1, true)])?;
     solver.add(&[lit(0, false), lit(1, false)])?;
-    let before = solver.solve(&[lit(0, true)])?;
+    let before = values_of(solver, &[lit(0, true)])?;
     solver.add(&[lit(0, false)])?;
-    let after = solver.solve(&[])?;
-    Ok((values(&before), values(&after)))
+    let after = values_of(solver, &[])?;
+    Ok((before, after))
 }
 
 fn before_and_after<S: Solver>(mut solver: S) -> Result<Pairs, Memory>
@@ -395,8 +558,13 @@ fn before_and_after<S: Solver>(mut solver: S) -> Result<Pairs, Memory>
 #[test]
 fn a_clause_comes_between_two_questions(rt: HostRuntime) -> Result<(), Fail> {
     let want = (Some((true, false)), Some((false, true)));
-    assert_eq!(rt; before_and_after(Cdcl::new(rt.alloc()))?, want);
-    assert_eq!(rt; before_and_after(Plain::new(rt.alloc()))?, want);
+    assert_eq!(rt;
+        [
+            before_and_after(Cdcl::new(rt.alloc()))?,
+            before_and_after(Plain::new(rt.alloc()))?
+        ],
+        [want; 2]
+    );
     Ok(())
 }
 
@@ -405,8 +573,8 @@ fn ask_again<S: Solver>(solver: &mut S, count: usize) -> Result<(), Memory>
     ensures { OnOk result (S.atoms solver.new ≡ S.atoms solver.old) }
 {
     for _ in 0..count {
-        solver.solve(&[lit(0, true)])?;
-        solver.solve(&[])?;
+        values_of(solver, &[lit(0, true)])?;
+        values_of(solver, &[])?;
     }
     Ok(())
 }

@@ -40,16 +40,14 @@ fn grow_all(trail: &mut Trail, clauses: &Clauses, count: usize) -> Result<(), Me
     Ok(())
 }
 
-// A trail of so many atoms.
-fn make_trail(alloc: Global, clauses: &Clauses, count: usize) -> Result<Trail, Memory>
+// A trail without atoms for no clauses.
+fn make_trail(alloc: Global, clauses: &Clauses) -> Trail
     requires { clauses.now ≡ [] }
-    ensures attached { IfOk result (λ trail. AreAttached trail clauses.now) }
-    ensures atoms { IfOk result (λ trail. trail.trail.atoms ≡ count) }
-    ensures entries { IfOk result (λ trail. trail.trail.entries ≡ []) }
+    ensures attached { AreAttached result clauses.now }
+    ensures atoms { result.trail.atoms ≡ 0 }
+    ensures entries { result.trail.entries ≡ [] }
 {
-    let mut trail = Trail::new(alloc);
-    grow_all(&mut trail, clauses, count)?;
-    Ok(trail)
+    Trail::new(alloc)
 }
 
 fn add(trail: &mut Trail, clauses: &mut Clauses, clause: &[Lit]) -> Result<usize, Memory>
@@ -136,14 +134,34 @@ fn make(trail: &mut Trail, clauses: &mut Clauses, call: Call) -> Result<bool, Me
     }
 }
 
-// Makes the calls on a trail of four atoms, and answers the values of the atoms, if all went as they say.
-fn values_after(alloc: Global, calls: &[Call]) -> Result<Option<[Option<bool>; 4]>, Memory> {
-    let mut clauses = Clauses::new(alloc);
-    let mut trail = make_trail(alloc, &clauses, 4)?;
+// Makes the calls, and answers whether all went as they say.
+fn make_all(trail: &mut Trail, clauses: &mut Clauses, calls: &[Call]) -> Result<bool, Memory>
+    requires attached { AreAttached trail.old clauses.old }
+    requires below { ClausesBelow trail.old.trail.atoms clauses.old }
+    requires atoms { trail.old.trail.atoms ≡ 4 }
+    ensures { OnOk result (trail.new.trail.atoms ≡ 4) }
+{
     for call in calls {
-        if !make(&mut trail, &mut clauses, *call)? {
-            return Ok(None);
+        if !make(trail, clauses, *call)? {
+            return Ok(false);
         }
+    }
+    Ok(true)
+}
+
+// The values of four atoms after the calls, if all went as they say.
+fn values_after_by(
+    trail: &mut Trail,
+    clauses: &mut Clauses,
+    calls: &[Call],
+) -> Result<Option<[Option<bool>; 4]>, Memory>
+    requires attached { AreAttached trail.old clauses.old }
+    requires below { clauses.old ≡ [] }
+    requires atoms { trail.old.trail.atoms ≡ 0 }
+{
+    grow_all(trail, clauses, 4)?;
+    if !make_all(trail, clauses, calls)? {
+        return Ok(None);
     }
     Ok(Some([
         trail.value(lit(0, true)),
@@ -151,6 +169,17 @@ fn values_after(alloc: Global, calls: &[Call]) -> Result<Option<[Option<bool>; 4
         trail.value(lit(2, true)),
         trail.value(lit(3, true)),
     ]))
+}
+
+fn values_after(alloc: Global, calls: &[Call]) -> Result<Option<[Option<bool>; 4]>, Memory> {
+    let mut clauses = Clauses::new(alloc);
+    let mut trail = make_trail(alloc, &clauses);
+    values_after_by(&mut trail, &mut clauses, calls)
+}
+
+// Whether all calls go as they say, and the atoms have these values after them.
+fn gives(alloc: Global, calls: &[Call], values: [Option<bool>; 4]) -> Result<bool, Memory> {
+    Ok(values_after(alloc, calls)? == Some(values))
 }
 
 const ABOUT_0_1: Call = Call::Attach([(0, true), (1, true), (0, true)]);
@@ -163,9 +192,22 @@ const ALL_OF_012: Call = Call::Attach([(0, true), (1, true), (2, true)]);
 
 const NOT_3: Call = Call::Attach([(3, false), (3, false), (3, false)]);
 
+// The calls, and the values of the four atoms after them.
+type Row<'a> = (&'a [Call], [Option<bool>; 4]);
+
+// The place of the first row whose calls don't all go as they say, or leave other values.
+fn first_wrong(alloc: Global, rows: &[Row<'_>]) -> Result<Option<usize>, Memory> {
+    for i in 0..rows.len() {
+        if !gives(alloc, rows[i].0, rows[i].1)? {
+            return Ok(Some(i));
+        }
+    }
+    Ok(None)
+}
+
 #[test]
 fn propagation_is_exact_in_any_order_of_calls(rt: HostRuntime) -> Result<(), Fail> {
-    let rows: [(&[Call], [Option<bool>; 4]); 7] = [
+    let rows: [Row<'_>; 7] = [
         // Two decisions, and then one propagation.
         (
             &[
@@ -241,9 +283,7 @@ fn propagation_is_exact_in_any_order_of_calls(rt: HostRuntime) -> Result<(), Fai
             [None, None, None, Some(false)],
         ),
     ];
-    for row in rows {
-        assert_eq!(rt; values_after(rt.alloc(), row.0)?, Some(row.1));
-    }
+    assert_eq!(rt; first_wrong(rt.alloc(), &rows)?, None);
     Ok(())
 }
 
@@ -259,9 +299,10 @@ struct Known {
 
 fn given_by(trail: &mut Trail, clauses: &mut Clauses) -> Result<Known, Memory>
     requires attached { AreAttached trail.old clauses.old }
-    requires below { ClausesBelow trail.old.trail.atoms clauses.old }
-    requires atoms { trail.old.trail.atoms ≡ 2 }
+    requires below { clauses.old ≡ [] }
+    requires atoms { trail.old.trail.atoms ≡ 0 }
 {
+    grow_all(trail, clauses, 2)?;
     add(trail, clauses, &[lit(0, true), lit(1, true)])?;
     decide(trail, clauses, lit(0, false));
     let conflict = trail.propagate(clauses)?;
@@ -276,7 +317,7 @@ fn given_by(trail: &mut Trail, clauses: &mut Clauses) -> Result<Known, Memory>
 
 fn given(alloc: Global) -> Result<Known, Memory> {
     let mut clauses = Clauses::new(alloc);
-    let mut trail = make_trail(alloc, &clauses, 2)?;
+    let mut trail = make_trail(alloc, &clauses);
     given_by(&mut trail, &mut clauses)
 }
 
@@ -300,17 +341,27 @@ fn forget(clauses: &mut Clauses, n: usize) {
 }
 
 // The numbers of two clauses, and of one that is added when the first of them is forgotten.
-fn numbers(alloc: Global) -> Result<[usize; 3], Memory> {
-    let mut clauses = Clauses::new(alloc);
-    let mut trail = make_trail(alloc, &clauses, 3)?;
+fn numbers_by(trail: &mut Trail, clauses: &mut Clauses) -> Result<[usize; 3], Memory>
+    requires attached { AreAttached trail.old clauses.old }
+    requires below { clauses.old ≡ [] }
+    requires atoms { trail.old.trail.atoms ≡ 0 }
+    requires entries { trail.old.trail.entries ≡ [] }
+{
+    grow_all(trail, clauses, 3)?;
     let first = clauses.add(&[lit(0, true), lit(1, true)])?;
-    trail.attach(&clauses, first)?;
+    trail.attach(clauses, first)?;
     let second = clauses.add(&[lit(0, false), lit(1, true)])?;
-    trail.attach(&clauses, second)?;
-    trail.detach(&clauses, first);
-    forget(&mut clauses, first);
+    trail.attach(clauses, second)?;
+    trail.detach(clauses, first);
+    forget(clauses, first);
     let third = clauses.add(&[lit(2, true)])?;
     Ok([first, second, third])
+}
+
+fn numbers(alloc: Global) -> Result<[usize; 3], Memory> {
+    let mut clauses = Clauses::new(alloc);
+    let mut trail = make_trail(alloc, &clauses);
+    numbers_by(&mut trail, &mut clauses)
 }
 
 #[test]

@@ -1,7 +1,7 @@
 use Rattle.std.proofs.Common.{◌≡◌}
 use Rattle.cdcl_trail.specs.Attached.{AreAttached}
 use Rattle.cdcl_trail.specs.Clauses.{ClausesBelow}
-use Rattle.worked_solvers.proofs.trails.values_after.Given as goal
+use Rattle.worked_solvers.proofs.trails.make_all.Given as goal
 
 abbrev pub invariant-loop-call : goal.invariant-loop-call
 invariant-loop-call l = record {
