@@ -1,8 +1,6 @@
 // Texts of atoms that are read, and some that are refused.
-use inst_logic::Memory;
+use inst_logic::{Literal, Memory};
 use std::alloc::Global;
-use std::process::Abort;
-use std::str;
 use std::test::Fail;
 use tptp_read::{ReadError, read_atom};
 use tptp_write::{name_text, push_bytes, push_literal};
@@ -30,30 +28,50 @@ fn push_error(text: &mut Vec<u8>, error: &ReadError) -> Result<(), Memory> {
     }
 }
 
-// What is read of the text, or why nothing is.
-fn answer(alloc: Global, atom: &[u8]) -> Result<Vec<u8>, Memory> {
-    let mut text = Vec::new(alloc);
-    match read_atom(alloc, atom) {
-        Ok(atom) => {
-            push_bytes(&mut text, name_text(alloc, &atom.sym.name)?.as_slice())?;
-            push_bytes(&mut text, b" ")?;
-            push_literal(&mut text, &atom)?;
-        }
-        Err(error) => push_error(&mut text, &error)?,
-    }
-    Ok(text)
+// Puts at the end the name of the atom's predicate and the atom.
+fn push_atom(alloc: Global, text: &mut Vec<u8>, atom: &Literal) -> Result<(), Memory> {
+    let name = name_text(alloc, &atom.sym.name)?;
+    push_bytes(text, name.as_slice())?;
+    push_bytes(text, b" ")?;
+    push_literal(text, atom)
 }
 
-fn check_atom(rt: &impl Abort, alloc: Global, row: &(&str, &str)) -> Result<(), Fail> {
-    let text = answer(alloc, row.0.as_bytes())?;
-    assert_eq!(rt; str::from_utf8(text.as_slice())?, row.1);
-    Ok(())
+// Puts at the end what is read of the text, or why nothing is.
+fn push_answer(alloc: Global, text: &mut Vec<u8>, atom: &[u8]) -> Result<(), Memory> {
+    match read_atom(alloc, atom) {
+        Ok(atom) => push_atom(alloc, text, &atom),
+        Err(error) => push_error(text, &error),
+    }
+}
+
+fn is_answer_by(
+    alloc: Global,
+    text: &mut Vec<u8>,
+    atom: &[u8],
+    wanted: &[u8],
+) -> Result<bool, Memory> {
+    push_answer(alloc, text, atom)?;
+    Ok(text.as_slice() == wanted)
+}
+
+// Whether this is what is read of the text, or why nothing is.
+fn is_answer(alloc: Global, atom: &[u8], wanted: &[u8]) -> Result<bool, Memory> {
+    let mut text = Vec::new(alloc);
+    is_answer_by(alloc, &mut text, atom, wanted)
+}
+
+// The place of the first row that is not answered so.
+fn first_wrong(alloc: Global, rows: &[(&str, &str)]) -> Result<Option<usize>, Memory> {
+    for i in 0..rows.len() {
+        if !is_answer(alloc, rows[i].0.as_bytes(), rows[i].1.as_bytes())? {
+            return Ok(Some(i));
+        }
+    }
+    Ok(None)
 }
 
 #[test]
 fn texts_are_these_atoms(rt: HostRuntime) -> Result<(), Fail> {
-    for row in &ROWS {
-        check_atom(&rt, rt.alloc(), row)?;
-    }
+    assert_eq!(rt; first_wrong(rt.alloc(), &ROWS)?, None);
     Ok(())
 }

@@ -4,9 +4,8 @@ use inst_logic::{Memory, Problem};
 use outside_io::{FolderLibrary, Library, SureLibrary};
 use std::alloc::Global;
 use std::fs::Files;
-use std::process::Abort;
 use std::test::Fail;
-use std::{fs, io, str};
+use std::{fs, io};
 use tptp_load::{LoadError, load};
 use tptp_write::{push_bytes, push_clause};
 
@@ -81,19 +80,32 @@ fn push_error(text: &mut Vec<u8>, error: &LoadError) -> Result<(), Memory> {
     }
 }
 
-// The problem of the file, or why there is none.
-fn loaded<L: Library>(
+fn push_answer<L: Library>(
     alloc: Global,
     library: &mut L,
-    name: &str,
+    text: &mut Vec<u8>,
     root: Option<&str>,
-) -> Result<Vec<u8>, Memory> {
-    let mut text = Vec::new(alloc);
-    match load(alloc, library, name, root) {
-        Ok(problem) => push_problem(&mut text, &problem)?,
-        Err(error) => push_error(&mut text, &error)?,
+) -> Result<(), Memory> {
+    match load(alloc, library, "reading_rows/m.p", root) {
+        Ok(problem) => push_problem(text, &problem),
+        Err(error) => push_error(text, &error),
     }
-    Ok(text)
+}
+
+fn is_loaded_by<L: Library>(
+    alloc: Global,
+    library: &mut L,
+    text: &mut Vec<u8>,
+    row: &Row<'_>,
+) -> Result<bool, Memory> {
+    push_answer(alloc, library, text, row.root)?;
+    Ok(text.as_slice() == row.text.as_bytes())
+}
+
+// Whether the row's problem is loaded from the library, or none for the row's reason.
+fn is_loaded<L: Library>(alloc: Global, library: &mut L, row: &Row<'_>) -> Result<bool, Memory> {
+    let mut text = Vec::new(alloc);
+    is_loaded_by(alloc, library, &mut text, row)
 }
 
 fn write_files(rt: &impl Files, files: &[File<'_>]) -> io::Result<()> {
@@ -110,33 +122,56 @@ fn remove_files(rt: &impl Files, files: &[File<'_>]) -> io::Result<()> {
     Ok(())
 }
 
-fn from_memory(alloc: Global, row: &Row<'_>) -> Result<Vec<u8>, Memory> {
-    let mut library = SureLibrary::new(alloc, files_of(alloc, row.files)?);
-    loaded(alloc, &mut library, "reading_rows/m.p", row.root)
+fn from_memory(alloc: Global, row: &Row<'_>) -> Result<bool, Memory> {
+    let files = files_of(alloc, row.files)?;
+    let mut library = SureLibrary::new(alloc, files);
+    is_loaded(alloc, &mut library, row)
 }
 
-fn from_folder(rt: &impl Files, alloc: Global, row: &Row<'_>) -> Result<Vec<u8>, Fail> {
-    write_files(rt, row.files)?;
+fn from_library<R: Files>(rt: &R, alloc: Global, row: &Row<'_>) -> Result<bool, Memory> {
     let mut library = FolderLibrary::new(rt, alloc);
-    let text = loaded(alloc, &mut library, "reading_rows/m.p", row.root);
-    remove_files(rt, row.files)?;
-    Ok(text?)
+    is_loaded(alloc, &mut library, row)
 }
 
-fn check_text(rt: &impl Abort, text: Vec<u8>, wanted: &str) -> Result<(), Fail> {
-    assert_eq!(rt; str::from_utf8(text.as_slice())?, wanted);
-    Ok(())
+fn from_folder<R: Files>(rt: &R, alloc: Global, row: &Row<'_>) -> io::Result<bool> {
+    write_files(rt, row.files)?;
+    let is_right = from_library(rt, alloc, row) == Ok(true);
+    remove_files(rt, row.files)?;
+    Ok(is_right)
+}
+
+// The place of the first row that is not loaded from the folder.
+fn first_wrong<R: Files>(rt: &R, alloc: Global, rows: &[Row<'_>]) -> io::Result<Option<usize>> {
+    for i in 0..rows.len() {
+        if !from_folder(rt, alloc, &rows[i])? {
+            return Ok(Some(i));
+        }
+    }
+    Ok(None)
+}
+
+// The same of a folder that is made and removed.
+fn first_wrong_in_folder<R: Files>(rt: &R, alloc: Global) -> io::Result<Option<usize>> {
+    fs::create_dir_all(rt, "reading_rows/lib")?;
+    let wrong = first_wrong(rt, alloc, &ROWS)?;
+    fs::remove_dir(rt, "reading_rows/lib")?;
+    fs::remove_dir(rt, "reading_rows")?;
+    Ok(wrong)
+}
+
+// The place of the first row that is not loaded from memory.
+fn first_wrong_in_memory(alloc: Global, rows: &[Row<'_>]) -> Result<Option<usize>, Memory> {
+    for i in 0..rows.len() {
+        if !from_memory(alloc, &rows[i])? {
+            return Ok(Some(i));
+        }
+    }
+    Ok(None)
 }
 
 #[test]
 fn files_give_these_problems(rt: HostRuntime) -> Result<(), Fail> {
-    let alloc = rt.alloc();
-    fs::create_dir_all(&rt, "reading_rows/lib")?;
-    for row in &ROWS {
-        check_text(&rt, from_memory(alloc, row)?, row.text)?;
-        check_text(&rt, from_folder(&rt, alloc, row)?, row.text)?;
-    }
-    fs::remove_dir(&rt, "reading_rows/lib")?;
-    fs::remove_dir(&rt, "reading_rows")?;
+    assert_eq!(rt; first_wrong_in_memory(rt.alloc(), &ROWS)?, None);
+    assert_eq!(rt; first_wrong_in_folder(&rt, rt.alloc())?, None);
     Ok(())
 }

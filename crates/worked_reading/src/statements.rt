@@ -1,10 +1,8 @@
 // Texts that are read, and their statements as they are printed.
-use inst_logic::{Memory, NameList};
+use inst_logic::{Clause, Memory, Name, NameList};
 use std::alloc::Global;
-use std::process::Abort;
-use std::str;
 use std::test::Fail;
-use tptp_read::{Statement, StatementList, read_text};
+use tptp_read::{ReadError, Statement, StatementList, read_text};
 use tptp_write::{clause_text, push_bytes};
 
 // A text, and a line for each of its statements: the name, and the clause behind `always` where it holds always; or the file of
@@ -42,6 +40,32 @@ fn push_selection(text: &mut Vec<u8>, names: &NameList) -> Result<(), Memory> {
     Ok(())
 }
 
+fn push_named(
+    alloc: Global,
+    text: &mut Vec<u8>,
+    name: &Name,
+    always: bool,
+    clause: &Clause,
+) -> Result<(), Memory> {
+    push_bytes(text, name.bytes())?;
+    push_bytes(text, if always { b": always " } else { b": " })?;
+    let clause = clause_text(alloc, clause)?;
+    push_bytes(text, clause.as_slice())
+}
+
+fn push_include(
+    text: &mut Vec<u8>,
+    file: &Name,
+    selection: &Option<NameList>,
+) -> Result<(), Memory> {
+    push_bytes(text, b"include ")?;
+    push_bytes(text, file.bytes())?;
+    match selection {
+        None => Ok(()),
+        Some(names) => push_selection(text, names),
+    }
+}
+
 fn push_statement(alloc: Global, text: &mut Vec<u8>, statement: &Statement) -> Result<(), Memory> {
     match statement {
         Statement::Cnf {
@@ -49,41 +73,48 @@ fn push_statement(alloc: Global, text: &mut Vec<u8>, statement: &Statement) -> R
             always,
             clause,
             ..
-        } => {
-            push_bytes(text, name.bytes())?;
-            push_bytes(text, if *always { b": always " } else { b": " })?;
-            push_bytes(text, clause_text(alloc, clause)?.as_slice())?;
-        }
-        Statement::Include { file, selection } => {
-            push_bytes(text, b"include ")?;
-            push_bytes(text, file.bytes())?;
-            if let Some(names) = selection {
-                push_selection(text, names)?;
-            }
-        }
+        } => push_named(alloc, text, name, *always, clause)?,
+        Statement::Include { file, selection } => push_include(text, file, selection)?,
     }
     push_bytes(text, b"\n")
 }
 
-fn printed(alloc: Global, statements: &StatementList) -> Result<Vec<u8>, Memory> {
-    let mut text = Vec::new(alloc);
+fn push_statements(
+    alloc: Global,
+    text: &mut Vec<u8>,
+    statements: &StatementList,
+) -> Result<(), Memory> {
     for statement in statements.as_slice() {
-        push_statement(alloc, &mut text, statement)?;
+        push_statement(alloc, text, statement)?;
     }
-    Ok(text)
+    Ok(())
 }
 
-fn check_statements(rt: &impl Abort, alloc: Global, row: &(&str, &str)) -> Result<(), Fail> {
-    let statements = read_text(alloc, row.0.as_bytes())?;
-    let text = printed(alloc, &statements)?;
-    assert_eq!(rt; str::from_utf8(text.as_slice())?, row.1);
-    Ok(())
+// Whether the statements are printed so.
+fn are_printed(alloc: Global, statements: &StatementList, wanted: &[u8]) -> Result<bool, Memory> {
+    let mut text = Vec::new(alloc);
+    push_statements(alloc, &mut text, statements)?;
+    Ok(text.as_slice() == wanted)
+}
+
+// Whether these are the statements of the text.
+fn has_statements(alloc: Global, text: &[u8], wanted: &[u8]) -> Result<bool, ReadError> {
+    let statements = read_text(alloc, text)?;
+    Ok(are_printed(alloc, &statements, wanted)?)
+}
+
+// The place of the first row whose text has other statements.
+fn first_wrong(alloc: Global, rows: &[(&str, &str)]) -> Result<Option<usize>, ReadError> {
+    for i in 0..rows.len() {
+        if !has_statements(alloc, rows[i].0.as_bytes(), rows[i].1.as_bytes())? {
+            return Ok(Some(i));
+        }
+    }
+    Ok(None)
 }
 
 #[test]
 fn texts_have_these_statements(rt: HostRuntime) -> Result<(), Fail> {
-    for row in &ROWS {
-        check_statements(&rt, rt.alloc(), row)?;
-    }
+    assert_eq!(rt; first_wrong(rt.alloc(), &ROWS)?, None);
     Ok(())
 }
