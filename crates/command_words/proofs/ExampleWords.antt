@@ -5,8 +5,8 @@ use Rattle.clap.specs.Words.{Text, fault_of}
 use Rattle.clap.specs.declared.error.kind.ErrorKind.{ErrorKind}
 use Rattle.clap.specs.declared.error.kind.ErrorKind.TheVariants.{ArgumentConflict, DisplayHelp, MissingRequiredArgument, UnknownArgument}
 use Rattle.clap.proofs.OnLiterals.{clap_on_literals}
-use Rattle.command_words.specs.Asked.{IsAsked, IsUnread, SaysBudget, prove, sat}
-use Rattle.command_words.specs.Commands.{IsTaken, prove_command, sat_command, value_of}
+use Rattle.command_words.specs.Asked.{IsAsked, IsUnread, SaysBudget, SaysLength, prove, sat, check, ask, stress}
+use Rattle.command_words.specs.Commands.{IsTaken, ask_command, check_command, prove_command, sat_command, stress_command, value_of}
 use Rattle.command_words.specs.Numbers.{IsNumber}
 
 -- ---- words that ask
@@ -53,26 +53,76 @@ pub sat_file : IsAsked (codes "sat" ∷ codes "x" ∷ []) (sat (codes "x"))
 unfolding sat_command IsTaken value_of clap_on_literals
 sat_file = record { command = refl; taken = refl; says = (refl, name_x) }
 
+name_c : IsTextName (codes "c")
+name_c = search rules
+
+three_hundred : IsNumber 6 (codes "300") 300
+three_hundred = record { some = omega arith; few = omega arith; digits = refl; value = refl }
+
+pub alone : IsAsked (codes "check" ∷ codes "c" ∷ []) (check (codes "c") None None)
+unfolding check_command IsTaken value_of clap_on_literals
+alone = record { command = refl; taken = refl; says = ((refl, name_c), (refl, tt), (refl, tt)) }
+
+pub of_problem : IsAsked (codes "check" ∷ codes "--problem" ∷ codes "f.p" ∷ codes "c" ∷ codes "--root=d" ∷ []) (check (codes "c") (Some (codes "f.p")) (Some (codes "d")))
+unfolding check_command IsTaken value_of clap_on_literals
+of_problem = record { command = refl; taken = refl; says = ((refl, name_c), (refl, name_fp), (refl, name_d)) }
+
+pub chain : IsAsked (codes "stress" ∷ codes "300" ∷ []) (stress 300)
+unfolding stress_command IsTaken value_of clap_on_literals
+chain = record { command = refl; taken = refl; says = (three_hundred, omega arith, omega arith) }
+
 -- ---- words that ask nothing
 
 pub empty : IsUnread []
-empty (prove f r n) h = let e = h.command in absurd cc
-empty (sat f) h = let e = h.command in absurd cc
+empty a h = let e = h.command in absurd cc
 
 pub help : IsUnread (codes "--help" ∷ [])
 help (prove f r n) h = let e = h.command in absurd cc
 help (sat f) h = let e = h.command in absurd cc
+help (check c p r) h = let e = h.command in absurd cc
+help (ask c a) h = let e = h.command in absurd cc
+help (stress n) h = let e = h.command in absurd cc
 
--- the parser refuses the words behind `prove`
+-- the parser refuses the words behind the command
 refused_prove : (rest : List Text) (k : ErrorKind) → fault_of prove_command (codes "prove" ∷ rest) ≡ k ∷ [] → IsUnread (codes "prove" ∷ rest)
 unfolding IsTaken
 refused_prove rest k e (prove f r n) h = let none : k ∷ [] ≡ [] = sym e ∙ h.taken in absurd cc
 refused_prove rest k e (sat f) h = let other = h.command in absurd cc
+refused_prove rest k e (check c p r) h = let other = h.command in absurd cc
+refused_prove rest k e (ask c a) h = let other = h.command in absurd cc
+refused_prove rest k e (stress n) h = let other = h.command in absurd cc
 
 refused_sat : (rest : List Text) (k : ErrorKind) → fault_of sat_command (codes "sat" ∷ rest) ≡ k ∷ [] → IsUnread (codes "sat" ∷ rest)
 unfolding IsTaken
 refused_sat rest k e (prove f r n) h = let other = h.command in absurd cc
 refused_sat rest k e (sat f) h = let none : k ∷ [] ≡ [] = sym e ∙ h.taken in absurd cc
+refused_sat rest k e (check c p r) h = let other = h.command in absurd cc
+refused_sat rest k e (ask c a) h = let other = h.command in absurd cc
+refused_sat rest k e (stress n) h = let other = h.command in absurd cc
+
+refused_check : (rest : List Text) (k : ErrorKind) → fault_of check_command (codes "check" ∷ rest) ≡ k ∷ [] → IsUnread (codes "check" ∷ rest)
+unfolding IsTaken
+refused_check rest k e (prove f r n) h = let other = h.command in absurd cc
+refused_check rest k e (sat f) h = let other = h.command in absurd cc
+refused_check rest k e (check c p r) h = let none : k ∷ [] ≡ [] = sym e ∙ h.taken in absurd cc
+refused_check rest k e (ask c a) h = let other = h.command in absurd cc
+refused_check rest k e (stress n) h = let other = h.command in absurd cc
+
+refused_ask : (rest : List Text) (k : ErrorKind) → fault_of ask_command (codes "ask" ∷ rest) ≡ k ∷ [] → IsUnread (codes "ask" ∷ rest)
+unfolding IsTaken
+refused_ask rest k e (prove f r n) h = let other = h.command in absurd cc
+refused_ask rest k e (sat f) h = let other = h.command in absurd cc
+refused_ask rest k e (check c p r) h = let other = h.command in absurd cc
+refused_ask rest k e (ask c a) h = let none : k ∷ [] ≡ [] = sym e ∙ h.taken in absurd cc
+refused_ask rest k e (stress n) h = let other = h.command in absurd cc
+
+refused_stress : (rest : List Text) (k : ErrorKind) → fault_of stress_command (codes "stress" ∷ rest) ≡ k ∷ [] → IsUnread (codes "stress" ∷ rest)
+unfolding IsTaken
+refused_stress rest k e (prove f r n) h = let other = h.command in absurd cc
+refused_stress rest k e (sat f) h = let other = h.command in absurd cc
+refused_stress rest k e (check c p r) h = let other = h.command in absurd cc
+refused_stress rest k e (ask c a) h = let other = h.command in absurd cc
+refused_stress rest k e (stress n) h = let none : k ∷ [] ≡ [] = sym e ∙ h.taken in absurd cc
 
 pub no_file : IsUnread (codes "prove" ∷ [])
 unfolding prove_command clap_on_literals
@@ -104,3 +154,36 @@ too_large n (number, small) = let value : 1000000000001 ≡ n = number.value in 
 pub large_budget : IsUnread (codes "prove" ∷ codes "f.p" ∷ codes "--budget" ∷ codes "1000000000001" ∷ [])
 large_budget (prove f r n) h = too_large n (rw large_value at h.says.2)
 large_budget (sat f) h = let other = h.command in absurd cc
+large_budget (check c p r) h = let other = h.command in absurd cc
+large_budget (ask c a) h = let other = h.command in absurd cc
+large_budget (stress n) h = let other = h.command in absurd cc
+
+pub no_cert : IsUnread (codes "check" ∷ [])
+unfolding check_command clap_on_literals
+no_cert = refused_check [] MissingRequiredArgument refl
+
+pub two_certs : IsUnread (codes "check" ∷ codes "a" ∷ codes "b" ∷ [])
+unfolding check_command clap_on_literals
+two_certs = refused_check (codes "a" ∷ codes "b" ∷ []) UnknownArgument refl
+
+pub no_atom : IsUnread (codes "ask" ∷ codes "a" ∷ [])
+unfolding ask_command clap_on_literals
+no_atom = refused_ask (codes "a" ∷ []) MissingRequiredArgument refl
+
+pub no_length : IsUnread (codes "stress" ∷ [])
+unfolding stress_command clap_on_literals
+no_length = refused_stress [] MissingRequiredArgument refl
+
+one_value : value_of stress_command (codes "stress" ∷ codes "1" ∷ []) (codes "number") ≡ Some (codes "1")
+unfolding stress_command value_of clap_on_literals
+one_value = refl
+
+too_short : (n : ℕ) → SaysLength (Some (codes "1")) n → ⊥
+too_short n (number, large, small) = let value : 1 ≡ n = number.value in absurd (omega arith)
+
+pub short_chain : IsUnread (codes "stress" ∷ codes "1" ∷ [])
+short_chain (prove f r n) h = let other = h.command in absurd cc
+short_chain (sat f) h = let other = h.command in absurd cc
+short_chain (check c p r) h = let other = h.command in absurd cc
+short_chain (ask c a) h = let other = h.command in absurd cc
+short_chain (stress n) h = too_short n (rw one_value at h.says)

@@ -2,5 +2,6 @@ mod Numerals
 mod SimpleCommands
 mod Parses
 mod FirstWords
+mod AtomTexts
 mod AskedOnce
 mod ExampleWords

@@ -19,6 +19,18 @@ prove_command = with_rule (with_rule (with_rule (new_app (codes "prove")) (wante
 unfoldable pub sat_command : App
 sat_command = with_rule (new_app (codes "sat")) (wanted (codes "file"))
 
+-- `check CERT`, with `--problem FILE` and `--root DIR` or without
+unfoldable pub check_command : App
+check_command = with_rule (with_rule (with_rule (new_app (codes "check")) (wanted (codes "cert"))) (optional (codes "problem"))) (optional (codes "root"))
+
+-- `ask CERT ATOM`
+unfoldable pub ask_command : App
+ask_command = with_rule (with_rule (new_app (codes "ask")) (wanted (codes "cert"))) (wanted (codes "atom"))
+
+-- `stress N`
+unfoldable pub stress_command : App
+stress_command = with_rule (new_app (codes "stress")) (wanted (codes "number"))
+
 -- the parser finds no fault in the words
 unfoldable pub IsTaken : App → List Text → Type 0
 IsTaken command words = fault_of command words ≡ []

@@ -1,6 +1,6 @@
 // Worked examples of the definitions, as theorems: each function does nothing, and its clauses are closed facts.
 ghost use Rattle.std.specs.Prelude.{[], ◌∷◌, Some, None, codes};
-ghost use Rattle.command_words.specs.Asked.{IsAsked, IsUnread, prove, sat};
+ghost use Rattle.command_words.specs.Asked.{IsAsked, IsUnread, prove, sat, check, stress};
 
 /// Options stand on either side of the file, with `=` or as a word of their own; zeros may stand in front; behind `--` a file may
 /// begin with `-`.
@@ -11,10 +11,13 @@ pub fn asking()
     ensures zeros { IsAsked (codes "prove" ∷ codes "f.p" ∷ codes "--budget" ∷ codes "007" ∷ []) (prove (codes "f.p") None 7) }
     ensures dash { IsAsked (codes "prove" ∷ codes "--" ∷ codes "-f" ∷ []) (prove (codes "-f") None 10000000) }
     ensures sat { IsAsked (codes "sat" ∷ codes "x" ∷ []) (sat (codes "x")) }
+    ensures alone { IsAsked (codes "check" ∷ codes "c" ∷ []) (check (codes "c") None None) }
+    ensures of_problem { IsAsked (codes "check" ∷ codes "--problem" ∷ codes "f.p" ∷ codes "c" ∷ codes "--root=d" ∷ []) (check (codes "c") (Some (codes "f.p")) (Some (codes "d"))) }
+    ensures chain { IsAsked (codes "stress" ∷ codes "300" ∷ []) (stress 300) }
 {}
 
-/// No command, no file or two, an option of another command or one given twice, a budget past the limit, and what `clap` would
-/// answer by help.
+/// No command, no file or two, an option of another command or one given twice, a budget past the limit, a certificate without an
+/// atom, a chain without a length or of one constant, and what `clap` would answer by help.
 pub fn asking_nothing()
     ensures empty { IsUnread [] }
     ensures help { IsUnread (codes "--help" ∷ []) }
@@ -24,4 +27,9 @@ pub fn asking_nothing()
     ensures budget { IsUnread (codes "prove" ∷ codes "f.p" ∷ codes "--budget" ∷ codes "1000000000001" ∷ []) }
     ensures two_roots { IsUnread (codes "prove" ∷ codes "f.p" ∷ codes "--root" ∷ codes "a" ∷ codes "--root" ∷ codes "b" ∷ []) }
     ensures no_root { IsUnread (codes "sat" ∷ codes "x" ∷ codes "--root" ∷ codes "d" ∷ []) }
+    ensures no_cert { IsUnread (codes "check" ∷ []) }
+    ensures two_certs { IsUnread (codes "check" ∷ codes "a" ∷ codes "b" ∷ []) }
+    ensures no_atom { IsUnread (codes "ask" ∷ codes "a" ∷ []) }
+    ensures no_length { IsUnread (codes "stress" ∷ []) }
+    ensures short_chain { IsUnread (codes "stress" ∷ codes "1" ∷ []) }
 {}

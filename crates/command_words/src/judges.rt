@@ -1,10 +1,18 @@
 // What each value may be.
-ghost use Rattle.std.specs.Prelude.{◌≡◌, ◌≤◌, ◌↔◌, ℕ, List, Option, IsTrue, option_map, MatchOption};
+ghost use Rattle.std.specs.Prelude.{◌≡◌, ◌≤◌, ◌↔◌, ℕ, List, Option, IfOk, IsTrue, option_map, MatchOption};
 ghost use Rattle.std.specs.Char.{is_ascii_digit};
 ghost use Rattle.std.specs.List.{list_all};
+ghost use Rattle.inst_logic.specs.LiteralView.{literal};
+ghost use Rattle.inst_logic.specs.Tree.{Tree};
+ghost use Rattle.inst_logic.specs.declared.signed.Signed.{Signed};
 ghost use Rattle.cert_format.specs.Printable.{IsTextName};
-ghost use Rattle.command_words.specs.Asked.{SaysFile, SaysRoot, SaysBudget};
+ghost use Rattle.tptp_read.specs.Atoms.{ReadsAtom};
+ghost use Rattle.command_words.specs.Asked.{SaysAtom, SaysBudget, SaysFile, SaysLength, SaysOther};
 ghost use Rattle.command_words.specs.Numbers.{IsNumber};
+
+use inst_logic::{Literal, Memory};
+use std::alloc::Global;
+use tptp_read::{ReadError, read_atom};
 
 // 1 to 4,096 bytes without control bytes.
 fn is_name(word: &str) -> bool
@@ -54,10 +62,10 @@ pub(crate) fn file_in<'a>(word: Option<&'a str>) -> Option<&'a str>
     }
 }
 
-// The folder that is named, where one is; `None` where it can be none.
-pub(crate) fn root_in<'a>(word: Option<&'a str>) -> Option<Option<&'a str>>
-    ensures { MatchOption result ((r : Option (List ℕ)) → ¬ SaysRoot (option_map (λ w. w.now) word.entry) r)
-        (λ r. SaysRoot (option_map (λ w. w.now) word.entry) (option_map (λ w. w.now) r)) }
+// The file or folder that is named, where one is; `None` where it can be none.
+pub(crate) fn other_in<'a>(word: Option<&'a str>) -> Option<Option<&'a str>>
+    ensures { MatchOption result ((r : Option (List ℕ)) → ¬ SaysOther (option_map (λ w. w.now) word.entry) r)
+        (λ r. SaysOther (option_map (λ w. w.now) word.entry) (option_map (λ w. w.now) r)) }
 {
     match word {
         Some(name) => {
@@ -78,5 +86,49 @@ pub(crate) fn budget_in(word: Option<&str>) -> Option<u64>
     match word {
         Some(text) => number_up_to(1_000_000_000_000, 13, text),
         None => Some(10_000_000),
+    }
+}
+
+// The ground atom that the text is.
+fn atom_of(alloc: Global, text: &str) -> Result<Option<Literal>, Memory>
+    ensures { IfOk result (λ r. MatchOption r ((l : Signed Tree) → ¬ ReadsAtom text.now l) (λ l. ReadsAtom text.now (literal l))) }
+{
+    match read_atom(alloc, text.as_bytes()) {
+        Ok(atom) => Ok(Some(atom)),
+        Err(ReadError::Memory) => Err(Memory),
+        Err(_) => Ok(None),
+    }
+}
+
+// The ground atom whose text is given, which has to be.
+pub(crate) fn atom_in(alloc: Global, word: Option<&str>) -> Result<Option<Literal>, Memory>
+    ensures { IfOk result (λ r. MatchOption r ((l : Signed Tree) → ¬ SaysAtom (option_map (λ w. w.now) word.entry) l)
+        (λ l. SaysAtom (option_map (λ w. w.now) word.entry) (literal l))) }
+{
+    match word {
+        Some(text) => atom_of(alloc, text),
+        None => Ok(None),
+    }
+}
+
+// The length of a chain that the text is.
+fn length_of(text: &str) -> Option<u64>
+    ensures { MatchOption result ((n : ℕ) → ¬ (IsNumber 6 text.now n × (2 ≤ n) × (n ≤ 100000)))
+        (λ n. IsNumber 6 text.now n × (2 ≤ n) × (n ≤ 100000)) }
+{
+    match number_up_to(100_000, 6, text) {
+        Some(number) => { if number < 2 { None } else { Some(number) } }
+        None => None,
+    }
+}
+
+// The length of a chain that is given, which has to be.
+pub(crate) fn length_in(word: Option<&str>) -> Option<u64>
+    ensures { MatchOption result ((n : ℕ) → ¬ SaysLength (option_map (λ w. w.now) word.entry) n)
+        (SaysLength (option_map (λ w. w.now) word.entry)) }
+{
+    match word {
+        Some(text) => length_of(text),
+        None => None,
     }
 }

@@ -1,7 +1,7 @@
 // What holds of what words ask.
 ghost use Rattle.std.specs.Prelude.{◌≡◌, ◌≤◌, ℕ, List, Option};
 ghost use Rattle.cert_format.specs.Printable.{IsTextName};
-ghost use Rattle.command_words.specs.Asked.{Asked, IsAsked, name_of, prove};
+ghost use Rattle.command_words.specs.Asked.{Asked, IsAsked, name_of, prove, stress};
 
 /// Words ask at most one thing, and the name of its answers can stand in a text.
 pub fn asked_once()
@@ -13,4 +13,9 @@ pub fn asked_once()
 pub fn asked_budget()
     ensures { (words : List (List ℕ)) (file : List ℕ) (root : Option (List ℕ)) (budget : ℕ)
         → IsAsked words (prove file root budget) → budget ≤ 1000000000000 }
+{}
+
+/// A chain that words ask for has a least and a greatest length.
+pub fn asked_length()
+    ensures { (words : List (List ℕ)) (number : ℕ) → IsAsked words (stress number) → (2 ≤ number) × (number ≤ 100000) }
 {}

@@ -1,11 +1,11 @@
 // The words, command by command.
 ghost use Rattle.std.specs.Prelude.{◌≡◌, Some, IfOk, IfSome, IfNone, codes, map, slice_get, string_bytes};
 ghost use Rattle.clap.specs.Words.{first_value, found_of};
-ghost use Rattle.command_words.specs.Asked.{Asked, IsAsked, IsUnread, Says, word_of};
+ghost use Rattle.command_words.specs.Asked.{Asked, IsAsked, IsUnread, Says, SaysFile, word_of};
 ghost use Rattle.command_words.specs.Requests.{asked};
 
-use crate::commands::{make_prove, make_sat};
-use crate::judges::{budget_in, file_in, root_in};
+use crate::commands::{make_ask, make_check, make_prove, make_sat, make_stress};
+use crate::judges::{atom_in, budget_in, file_in, length_in, other_in};
 use crate::matched::matched;
 use crate::request::Request;
 use clap::ArgMatches;
@@ -17,7 +17,7 @@ fn prove_request<'a>(matches: &ArgMatches<'a>) -> Option<Request<'a>>
     ensures none { IfNone result ((a : Asked) → word_of a ≡ codes "prove" → ¬ Says (first_value (found_of matches.now)) a) }
 {
     let file = file_in(matches.get_str("file"))?;
-    let root = root_in(matches.get_str("root"))?;
+    let root = other_in(matches.get_str("root"))?;
     let budget = budget_in(matches.get_str("budget"))?;
     Some(Request::Prove { file, root, budget })
 }
@@ -28,6 +28,55 @@ fn sat_request<'a>(matches: &ArgMatches<'a>) -> Option<Request<'a>>
 {
     let file = file_in(matches.get_str("file"))?;
     Some(Request::Sat { file })
+}
+
+fn check_request<'a>(matches: &ArgMatches<'a>) -> Option<Request<'a>>
+    ensures says { IfSome result (λ q. Says (first_value (found_of matches.now)) (asked q) × (word_of (asked q) ≡ codes "check")) }
+    ensures none { IfNone result ((a : Asked) → word_of a ≡ codes "check" → ¬ Says (first_value (found_of matches.now)) a) }
+{
+    let cert = file_in(matches.get_str("cert"))?;
+    let problem = other_in(matches.get_str("problem"))?;
+    let root = other_in(matches.get_str("root"))?;
+    Some(Request::Check {
+        cert,
+        problem,
+        root,
+    })
+}
+
+// The same of a certificate that is named.
+fn ask_cert<'a>(
+    alloc: Global,
+    cert: &'a str,
+    matches: &ArgMatches<'a>,
+) -> Result<Option<Request<'a>>, Memory>
+    requires { SaysFile (first_value (found_of matches.now) (codes "cert")) cert.now }
+    ensures says { IfOk result (λ r. IfSome r (λ q. Says (first_value (found_of matches.now)) (asked q) × (word_of (asked q) ≡ codes "ask"))) }
+    ensures none { IfOk result (λ r. IfNone r ((a : Asked) → word_of a ≡ codes "ask" → ¬ Says (first_value (found_of matches.now)) a)) }
+{
+    match atom_in(alloc, matches.get_str("atom")) {
+        Ok(Some(atom)) => Ok(Some(Request::Ask { cert, atom })),
+        Ok(None) => Ok(None),
+        Err(Memory) => Err(Memory),
+    }
+}
+
+fn ask_request<'a>(alloc: Global, matches: &ArgMatches<'a>) -> Result<Option<Request<'a>>, Memory>
+    ensures says { IfOk result (λ r. IfSome r (λ q. Says (first_value (found_of matches.now)) (asked q) × (word_of (asked q) ≡ codes "ask"))) }
+    ensures none { IfOk result (λ r. IfNone r ((a : Asked) → word_of a ≡ codes "ask" → ¬ Says (first_value (found_of matches.now)) a)) }
+{
+    match file_in(matches.get_str("cert")) {
+        Some(cert) => ask_cert(alloc, cert, matches),
+        None => Ok(None),
+    }
+}
+
+fn stress_request<'a>(matches: &ArgMatches<'a>) -> Option<Request<'a>>
+    ensures says { IfSome result (λ q. Says (first_value (found_of matches.now)) (asked q) × (word_of (asked q) ≡ codes "stress")) }
+    ensures none { IfNone result ((a : Asked) → word_of a ≡ codes "stress" → ¬ Says (first_value (found_of matches.now)) a) }
+{
+    let number = length_in(matches.get_str("number"))?;
+    Some(Request::Stress { number })
 }
 
 fn read_prove<'a>(alloc: Global, words: &'a [String]) -> Result<Option<Request<'a>>, Memory>
@@ -54,6 +103,42 @@ fn read_sat<'a>(alloc: Global, words: &'a [String]) -> Result<Option<Request<'a>
     }
 }
 
+fn read_check<'a>(alloc: Global, words: &'a [String]) -> Result<Option<Request<'a>>, Memory>
+    requires { slice_get (map string_bytes words.now) 0 ≡ Some (codes "check") }
+    ensures asked { IfOk result (λ r. IfSome r (λ q. IsAsked (map string_bytes words.now) (asked q))) }
+    ensures unread { IfOk result (λ r. IfNone r (IsUnread (map string_bytes words.now))) }
+{
+    let command = make_check(alloc)?;
+    match matched(command, words)? {
+        Some(matches) => Ok(check_request(&matches)),
+        None => Ok(None),
+    }
+}
+
+fn read_ask<'a>(alloc: Global, words: &'a [String]) -> Result<Option<Request<'a>>, Memory>
+    requires { slice_get (map string_bytes words.now) 0 ≡ Some (codes "ask") }
+    ensures asked { IfOk result (λ r. IfSome r (λ q. IsAsked (map string_bytes words.now) (asked q))) }
+    ensures unread { IfOk result (λ r. IfNone r (IsUnread (map string_bytes words.now))) }
+{
+    let command = make_ask(alloc)?;
+    match matched(command, words)? {
+        Some(matches) => ask_request(alloc, &matches),
+        None => Ok(None),
+    }
+}
+
+fn read_stress<'a>(alloc: Global, words: &'a [String]) -> Result<Option<Request<'a>>, Memory>
+    requires { slice_get (map string_bytes words.now) 0 ≡ Some (codes "stress") }
+    ensures asked { IfOk result (λ r. IfSome r (λ q. IsAsked (map string_bytes words.now) (asked q))) }
+    ensures unread { IfOk result (λ r. IfNone r (IsUnread (map string_bytes words.now))) }
+{
+    let command = make_stress(alloc)?;
+    match matched(command, words)? {
+        Some(matches) => Ok(stress_request(&matches)),
+        None => Ok(None),
+    }
+}
+
 /// What the words ask, of which the first is the command word and not the program's name; `None` where they ask nothing.
 pub fn read_words(alloc: Global, words: &[String]) -> Result<Option<Request<'_>>, Memory>
     ensures asked { IfOk result (λ r. IfSome r (λ q. IsAsked (map string_bytes words.now) (asked q))) }
@@ -66,6 +151,15 @@ pub fn read_words(alloc: Global, words: &[String]) -> Result<Option<Request<'_>>
             }
             if word.as_str() == "sat" {
                 return read_sat(alloc, words);
+            }
+            if word.as_str() == "check" {
+                return read_check(alloc, words);
+            }
+            if word.as_str() == "ask" {
+                return read_ask(alloc, words);
+            }
+            if word.as_str() == "stress" {
+                return read_stress(alloc, words);
             }
             Ok(None)
         }

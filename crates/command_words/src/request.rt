@@ -1,7 +1,10 @@
 // What is asked.
 
-/// What the words ask. Names are as they were given; a budget counts symbols.
-#[derive(Debug, Drop, PartialEq, Eq)]
+use inst_logic::Literal;
+
+/// What the words ask. Names are as they were given; a budget counts symbols; an atom is a positive literal without variables; the
+/// number of a chain is that of its constants.
+#[derive(Drop)]
 pub enum Request<'a> {
     Prove {
         file: &'a str,
@@ -10,5 +13,17 @@ pub enum Request<'a> {
     },
     Sat {
         file: &'a str,
+    },
+    Check {
+        cert: &'a str,
+        problem: Option<&'a str>,
+        root: Option<&'a str>,
+    },
+    Ask {
+        cert: &'a str,
+        atom: Literal,
+    },
+    Stress {
+        number: u64,
     },
 }

@@ -1,4 +1,4 @@
-use Rattle.command_words.proofs.ExampleWords.{empty, help, no_file, two_files, prove_help, large_budget, two_roots, no_root}
+use Rattle.command_words.proofs.ExampleWords.{empty, help, no_file, two_files, prove_help, large_budget, two_roots, no_root, no_cert, two_certs, no_atom, no_length, short_chain}
 use Rattle.command_words.proofs.examples.asking_nothing.Goals as goal
 
 pub returns : goal.returns
@@ -11,4 +11,9 @@ returns c = record {
   budget = large_budget;
   two_roots = two_roots;
   no_root = no_root;
+  no_cert = no_cert;
+  two_certs = two_certs;
+  no_atom = no_atom;
+  no_length = no_length;
+  short_chain = short_chain;
 }

@@ -12,3 +12,18 @@ pub read_sat-requires : goal.read_sat-requires
 read_sat-requires c =
     let same : bytes_eq (string_bytes c.in-Some.word.now) (codes "sat") ≡ true = search rules in
     first_word string_bytes c.args.words.now c.in-Some.word.now (codes "sat") c.in-Some.ensures.value same
+
+pub read_check-requires : goal.read_check-requires
+read_check-requires c =
+    let same : bytes_eq (string_bytes c.in-Some.word.now) (codes "check") ≡ true = search rules in
+    first_word string_bytes c.args.words.now c.in-Some.word.now (codes "check") c.in-Some.ensures.value same
+
+pub read_ask-requires : goal.read_ask-requires
+read_ask-requires c =
+    let same : bytes_eq (string_bytes c.in-Some.word.now) (codes "ask") ≡ true = search rules in
+    first_word string_bytes c.args.words.now c.in-Some.word.now (codes "ask") c.in-Some.ensures.value same
+
+pub read_stress-requires : goal.read_stress-requires
+read_stress-requires c =
+    let same : bytes_eq (string_bytes c.in-Some.word.now) (codes "stress") ≡ true = search rules in
+    first_word string_bytes c.args.words.now c.in-Some.word.now (codes "stress") c.in-Some.ensures.value same
