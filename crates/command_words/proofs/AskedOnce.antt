@@ -1,11 +1,12 @@
 -- Words ask at most one thing.
-use Rattle.std.proofs.Common.{◌≡◌, ◌∙◌, ℕ, ◌≤◌, List, Option, Some, None, sym, ap, arith, rules, codes}
+use Rattle.std.proofs.Common.{◌≡◌, ◌∙◌, ℕ, ◌≤◌, List, Option, Some, None, false, sym, ap, arith, rules, codes, refl}
+use Rattle.std.proofs.Math.Dec.{eqb}
 use Rattle.inst_logic.specs.Tree.{Tree}
 use Rattle.inst_logic.specs.declared.signed.Signed.{Signed}
 use Rattle.cert_format.specs.Printable.{IsTextName}
-use Rattle.tptp_read.specs.Atoms.{ReadsAtom}
 use Rattle.command_words.specs.Asked.{Asked, IsAsked, SaysAtom, SaysBudget, SaysLength, name_of, prove, sat, check, ask, stress, word_of}
 use Rattle.command_words.proofs.AtomTexts.{same_reading}
+use Rattle.command_words.proofs.FirstWords.{differ, second}
 
 same_some : {X : Type 0} (o : Option X) (x y : X) → o ≡ Some x → o ≡ Some y → x ≡ y
 same_some o x y e f = cc
@@ -38,36 +39,36 @@ same_ask c d a b e f = cc
 same_words : (words : List (List ℕ)) (a b : Asked) → IsAsked words a → IsAsked words b → word_of a ≡ word_of b
 same_words words a b h k = same_some _ (word_of a) (word_of b) h.command k.command
 
-other_word : (words : List (List ℕ)) (a b : Asked) → IsAsked words a → IsAsked words b → (word_of a ≡ word_of b → ⊥) → a ≡ b
-other_word words a b h k other = absurd (other (same_words words a b h k))
+other_word : (words : List (List ℕ)) (a b : Asked) → IsAsked words a → IsAsked words b → eqb (second (word_of a)) (second (word_of b)) ≡ false → a ≡ b
+other_word words a b h k apart = absurd (differ (word_of a) (word_of b) apart (same_words words a b h k))
 
 pub once : (words : List (List ℕ)) (a b : Asked) → IsAsked words a → IsAsked words b → a ≡ b
 once words (prove f r m) (prove g s n) h k = same_prove f g r s m n
     (same_some _ f g h.says.0.0 k.says.0.0) (sym h.says.1.0 ∙ k.says.1.0) (same_budget _ m n h.says.2 k.says.2)
-once words (prove f r m) (sat g) h k = other_word words (prove f r m) (sat g) h k (λ e. cc)
-once words (prove f r m) (check d q s) h k = other_word words (prove f r m) (check d q s) h k (λ e. cc)
-once words (prove f r m) (ask d b) h k = other_word words (prove f r m) (ask d b) h k (λ e. cc)
-once words (prove f r m) (stress n) h k = other_word words (prove f r m) (stress n) h k (λ e. cc)
-once words (sat f) (prove g s n) h k = other_word words (sat f) (prove g s n) h k (λ e. cc)
+once words (prove f r m) (sat g) h k = other_word words (prove f r m) (sat g) h k refl
+once words (prove f r m) (check d q s) h k = other_word words (prove f r m) (check d q s) h k refl
+once words (prove f r m) (ask d b) h k = other_word words (prove f r m) (ask d b) h k refl
+once words (prove f r m) (stress n) h k = other_word words (prove f r m) (stress n) h k refl
+once words (sat f) (prove g s n) h k = other_word words (sat f) (prove g s n) h k refl
 once words (sat f) (sat g) h k = ap sat (same_some _ f g h.says.0 k.says.0)
-once words (sat f) (check d q s) h k = other_word words (sat f) (check d q s) h k (λ e. cc)
-once words (sat f) (ask d b) h k = other_word words (sat f) (ask d b) h k (λ e. cc)
-once words (sat f) (stress n) h k = other_word words (sat f) (stress n) h k (λ e. cc)
-once words (check c p r) (prove g s n) h k = other_word words (check c p r) (prove g s n) h k (λ e. cc)
-once words (check c p r) (sat g) h k = other_word words (check c p r) (sat g) h k (λ e. cc)
+once words (sat f) (check d q s) h k = other_word words (sat f) (check d q s) h k refl
+once words (sat f) (ask d b) h k = other_word words (sat f) (ask d b) h k refl
+once words (sat f) (stress n) h k = other_word words (sat f) (stress n) h k refl
+once words (check c p r) (prove g s n) h k = other_word words (check c p r) (prove g s n) h k refl
+once words (check c p r) (sat g) h k = other_word words (check c p r) (sat g) h k refl
 once words (check c p r) (check d q s) h k = same_check c d p q r s
     (same_some _ c d h.says.0.0 k.says.0.0) (sym h.says.1.0 ∙ k.says.1.0) (sym h.says.2.0 ∙ k.says.2.0)
-once words (check c p r) (ask d b) h k = other_word words (check c p r) (ask d b) h k (λ e. cc)
-once words (check c p r) (stress n) h k = other_word words (check c p r) (stress n) h k (λ e. cc)
-once words (ask c a) (prove g s n) h k = other_word words (ask c a) (prove g s n) h k (λ e. cc)
-once words (ask c a) (sat g) h k = other_word words (ask c a) (sat g) h k (λ e. cc)
-once words (ask c a) (check d q s) h k = other_word words (ask c a) (check d q s) h k (λ e. cc)
+once words (check c p r) (ask d b) h k = other_word words (check c p r) (ask d b) h k refl
+once words (check c p r) (stress n) h k = other_word words (check c p r) (stress n) h k refl
+once words (ask c a) (prove g s n) h k = other_word words (ask c a) (prove g s n) h k refl
+once words (ask c a) (sat g) h k = other_word words (ask c a) (sat g) h k refl
+once words (ask c a) (check d q s) h k = other_word words (ask c a) (check d q s) h k refl
 once words (ask c a) (ask d b) h k = same_ask c d a b (same_some _ c d h.says.0.0 k.says.0.0) (same_atom _ a b h.says.1 k.says.1)
-once words (ask c a) (stress n) h k = other_word words (ask c a) (stress n) h k (λ e. cc)
-once words (stress m) (prove g s n) h k = other_word words (stress m) (prove g s n) h k (λ e. cc)
-once words (stress m) (sat g) h k = other_word words (stress m) (sat g) h k (λ e. cc)
-once words (stress m) (check d q s) h k = other_word words (stress m) (check d q s) h k (λ e. cc)
-once words (stress m) (ask d b) h k = other_word words (stress m) (ask d b) h k (λ e. cc)
+once words (ask c a) (stress n) h k = other_word words (ask c a) (stress n) h k refl
+once words (stress m) (prove g s n) h k = other_word words (stress m) (prove g s n) h k refl
+once words (stress m) (sat g) h k = other_word words (stress m) (sat g) h k refl
+once words (stress m) (check d q s) h k = other_word words (stress m) (check d q s) h k refl
+once words (stress m) (ask d b) h k = other_word words (stress m) (ask d b) h k refl
 once words (stress m) (stress n) h k = ap stress (same_length _ m n h.says k.says)
 
 stress_name : IsTextName (codes "stress")
@@ -85,7 +86,7 @@ budget_limit words file root budget h = small_budget _ budget h.says.2
 
 range_of : (given : Option (List ℕ)) (n : ℕ) → SaysLength given n → (2 ≤ n) × (n ≤ 100000)
 range_of None n h = absurd h
-range_of (Some text) n h = h.1
+range_of (Some text) n h = (h.1, h.2)
 
 pub length_range : (words : List (List ℕ)) (n : ℕ) → IsAsked words (stress n) → (2 ≤ n) × (n ≤ 100000)
 length_range words n h = range_of _ n h.says

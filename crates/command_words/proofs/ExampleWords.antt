@@ -1,13 +1,15 @@
 -- Words that are written out: what the parser makes of them is computed.
-use Rattle.std.proofs.Common.{◌≡◌, ◌∙◌, ℕ, List, [], ◌∷◌, Some, None, rules, refl, sym, arith, codes}
+use Rattle.std.proofs.Common.{◌≡◌, ◌∙◌, ℕ, List, [], ◌∷◌, Some, None, false, rules, refl, sym, arith, codes}
+use Rattle.std.proofs.Math.Dec.{eqb}
 use Rattle.cert_format.specs.Printable.{IsTextName}
 use Rattle.clap.specs.Words.{Text, fault_of}
 use Rattle.clap.specs.declared.error.kind.ErrorKind.{ErrorKind}
 use Rattle.clap.specs.declared.error.kind.ErrorKind.TheVariants.{ArgumentConflict, DisplayHelp, MissingRequiredArgument, UnknownArgument}
 use Rattle.clap.proofs.OnLiterals.{clap_on_literals}
-use Rattle.command_words.specs.Asked.{IsAsked, IsUnread, SaysBudget, SaysLength, prove, sat, check, ask, stress}
+use Rattle.command_words.specs.Asked.{Asked, IsAsked, IsUnread, SaysBudget, SaysLength, prove, sat, check, ask, stress, word_of}
 use Rattle.command_words.specs.Commands.{IsTaken, ask_command, check_command, prove_command, sat_command, stress_command, value_of}
 use Rattle.command_words.specs.Numbers.{IsNumber}
+use Rattle.command_words.proofs.FirstWords.{differ, second}
 
 -- ---- words that ask
 
@@ -73,55 +75,59 @@ chain = record { command = refl; taken = refl; says = (three_hundred, omega arit
 
 -- ---- words that ask nothing
 
+-- the first word is another command's
+other_word : (word : List ℕ) (rest : List (List ℕ)) (a : Asked) → IsAsked (word ∷ rest) a → eqb (second word) (second (word_of a)) ≡ false → ⊥
+other_word word rest a h apart = differ word (word_of a) apart (let e : Some word ≡ Some (word_of a) = h.command in cc)
+
 pub empty : IsUnread []
 empty a h = let e = h.command in absurd cc
 
 pub help : IsUnread (codes "--help" ∷ [])
-help (prove f r n) h = let e = h.command in absurd cc
-help (sat f) h = let e = h.command in absurd cc
-help (check c p r) h = let e = h.command in absurd cc
-help (ask c a) h = let e = h.command in absurd cc
-help (stress n) h = let e = h.command in absurd cc
+help (prove f r n) h = other_word (codes "--help") [] (prove f r n) h refl
+help (sat f) h = other_word (codes "--help") [] (sat f) h refl
+help (check c p r) h = other_word (codes "--help") [] (check c p r) h refl
+help (ask c a) h = other_word (codes "--help") [] (ask c a) h refl
+help (stress n) h = other_word (codes "--help") [] (stress n) h refl
 
 -- the parser refuses the words behind the command
 refused_prove : (rest : List Text) (k : ErrorKind) → fault_of prove_command (codes "prove" ∷ rest) ≡ k ∷ [] → IsUnread (codes "prove" ∷ rest)
 unfolding IsTaken
 refused_prove rest k e (prove f r n) h = let none : k ∷ [] ≡ [] = sym e ∙ h.taken in absurd cc
-refused_prove rest k e (sat f) h = let other = h.command in absurd cc
-refused_prove rest k e (check c p r) h = let other = h.command in absurd cc
-refused_prove rest k e (ask c a) h = let other = h.command in absurd cc
-refused_prove rest k e (stress n) h = let other = h.command in absurd cc
+refused_prove rest k e (sat f) h = other_word (codes "prove") rest (sat f) h refl
+refused_prove rest k e (check c p r) h = other_word (codes "prove") rest (check c p r) h refl
+refused_prove rest k e (ask c a) h = other_word (codes "prove") rest (ask c a) h refl
+refused_prove rest k e (stress n) h = other_word (codes "prove") rest (stress n) h refl
 
 refused_sat : (rest : List Text) (k : ErrorKind) → fault_of sat_command (codes "sat" ∷ rest) ≡ k ∷ [] → IsUnread (codes "sat" ∷ rest)
 unfolding IsTaken
-refused_sat rest k e (prove f r n) h = let other = h.command in absurd cc
+refused_sat rest k e (prove f r n) h = other_word (codes "sat") rest (prove f r n) h refl
 refused_sat rest k e (sat f) h = let none : k ∷ [] ≡ [] = sym e ∙ h.taken in absurd cc
-refused_sat rest k e (check c p r) h = let other = h.command in absurd cc
-refused_sat rest k e (ask c a) h = let other = h.command in absurd cc
-refused_sat rest k e (stress n) h = let other = h.command in absurd cc
+refused_sat rest k e (check c p r) h = other_word (codes "sat") rest (check c p r) h refl
+refused_sat rest k e (ask c a) h = other_word (codes "sat") rest (ask c a) h refl
+refused_sat rest k e (stress n) h = other_word (codes "sat") rest (stress n) h refl
 
 refused_check : (rest : List Text) (k : ErrorKind) → fault_of check_command (codes "check" ∷ rest) ≡ k ∷ [] → IsUnread (codes "check" ∷ rest)
 unfolding IsTaken
-refused_check rest k e (prove f r n) h = let other = h.command in absurd cc
-refused_check rest k e (sat f) h = let other = h.command in absurd cc
+refused_check rest k e (prove f r n) h = other_word (codes "check") rest (prove f r n) h refl
+refused_check rest k e (sat f) h = other_word (codes "check") rest (sat f) h refl
 refused_check rest k e (check c p r) h = let none : k ∷ [] ≡ [] = sym e ∙ h.taken in absurd cc
-refused_check rest k e (ask c a) h = let other = h.command in absurd cc
-refused_check rest k e (stress n) h = let other = h.command in absurd cc
+refused_check rest k e (ask c a) h = other_word (codes "check") rest (ask c a) h refl
+refused_check rest k e (stress n) h = other_word (codes "check") rest (stress n) h refl
 
 refused_ask : (rest : List Text) (k : ErrorKind) → fault_of ask_command (codes "ask" ∷ rest) ≡ k ∷ [] → IsUnread (codes "ask" ∷ rest)
 unfolding IsTaken
-refused_ask rest k e (prove f r n) h = let other = h.command in absurd cc
-refused_ask rest k e (sat f) h = let other = h.command in absurd cc
-refused_ask rest k e (check c p r) h = let other = h.command in absurd cc
+refused_ask rest k e (prove f r n) h = other_word (codes "ask") rest (prove f r n) h refl
+refused_ask rest k e (sat f) h = other_word (codes "ask") rest (sat f) h refl
+refused_ask rest k e (check c p r) h = other_word (codes "ask") rest (check c p r) h refl
 refused_ask rest k e (ask c a) h = let none : k ∷ [] ≡ [] = sym e ∙ h.taken in absurd cc
-refused_ask rest k e (stress n) h = let other = h.command in absurd cc
+refused_ask rest k e (stress n) h = other_word (codes "ask") rest (stress n) h refl
 
 refused_stress : (rest : List Text) (k : ErrorKind) → fault_of stress_command (codes "stress" ∷ rest) ≡ k ∷ [] → IsUnread (codes "stress" ∷ rest)
 unfolding IsTaken
-refused_stress rest k e (prove f r n) h = let other = h.command in absurd cc
-refused_stress rest k e (sat f) h = let other = h.command in absurd cc
-refused_stress rest k e (check c p r) h = let other = h.command in absurd cc
-refused_stress rest k e (ask c a) h = let other = h.command in absurd cc
+refused_stress rest k e (prove f r n) h = other_word (codes "stress") rest (prove f r n) h refl
+refused_stress rest k e (sat f) h = other_word (codes "stress") rest (sat f) h refl
+refused_stress rest k e (check c p r) h = other_word (codes "stress") rest (check c p r) h refl
+refused_stress rest k e (ask c a) h = other_word (codes "stress") rest (ask c a) h refl
 refused_stress rest k e (stress n) h = let none : k ∷ [] ≡ [] = sym e ∙ h.taken in absurd cc
 
 pub no_file : IsUnread (codes "prove" ∷ [])
@@ -153,10 +159,10 @@ too_large n (number, small) = let value : 1000000000001 ≡ n = number.value in 
 
 pub large_budget : IsUnread (codes "prove" ∷ codes "f.p" ∷ codes "--budget" ∷ codes "1000000000001" ∷ [])
 large_budget (prove f r n) h = too_large n (rw large_value at h.says.2)
-large_budget (sat f) h = let other = h.command in absurd cc
-large_budget (check c p r) h = let other = h.command in absurd cc
-large_budget (ask c a) h = let other = h.command in absurd cc
-large_budget (stress n) h = let other = h.command in absurd cc
+large_budget (sat f) h = other_word (codes "prove") _ (sat f) h refl
+large_budget (check c p r) h = other_word (codes "prove") _ (check c p r) h refl
+large_budget (ask c a) h = other_word (codes "prove") _ (ask c a) h refl
+large_budget (stress n) h = other_word (codes "prove") _ (stress n) h refl
 
 pub no_cert : IsUnread (codes "check" ∷ [])
 unfolding check_command clap_on_literals
@@ -182,8 +188,8 @@ too_short : (n : ℕ) → SaysLength (Some (codes "1")) n → ⊥
 too_short n (number, large, small) = let value : 1 ≡ n = number.value in absurd (omega arith)
 
 pub short_chain : IsUnread (codes "stress" ∷ codes "1" ∷ [])
-short_chain (prove f r n) h = let other = h.command in absurd cc
-short_chain (sat f) h = let other = h.command in absurd cc
-short_chain (check c p r) h = let other = h.command in absurd cc
-short_chain (ask c a) h = let other = h.command in absurd cc
+short_chain (prove f r n) h = other_word (codes "stress") _ (prove f r n) h refl
+short_chain (sat f) h = other_word (codes "stress") _ (sat f) h refl
+short_chain (check c p r) h = other_word (codes "stress") _ (check c p r) h refl
+short_chain (ask c a) h = other_word (codes "stress") _ (ask c a) h refl
 short_chain (stress n) h = too_short n (rw one_value at h.says)

@@ -2,3 +2,4 @@ pub mod Commands
 pub mod Numbers
 pub mod Asked
 pub mod Requests
+pub mod Errors

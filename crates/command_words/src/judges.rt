@@ -8,6 +8,7 @@ ghost use Rattle.inst_logic.specs.declared.signed.Signed.{Signed};
 ghost use Rattle.cert_format.specs.Printable.{IsTextName};
 ghost use Rattle.tptp_read.specs.Atoms.{ReadsAtom};
 ghost use Rattle.command_words.specs.Asked.{SaysAtom, SaysBudget, SaysFile, SaysLength, SaysOther};
+ghost use Rattle.command_words.specs.Errors as wanting;
 ghost use Rattle.command_words.specs.Numbers.{IsNumber};
 
 use inst_logic::{Literal, Memory};
@@ -89,14 +90,32 @@ pub(crate) fn budget_in(word: Option<&str>) -> Option<u64>
     }
 }
 
+fn wants_memory(error: &ReadError) -> bool
+    ensures { result ≡ wanting.wants_memory error.now }
+{
+    match error {
+        ReadError::Memory => true,
+        ReadError::Syntax { .. }
+        | ReadError::Language { .. }
+        | ReadError::Feature { .. }
+        | ReadError::Role { .. }
+        | ReadError::Limit { .. } => false,
+    }
+}
+
 // The ground atom that the text is.
 fn atom_of(alloc: Global, text: &str) -> Result<Option<Literal>, Memory>
     ensures { IfOk result (λ r. MatchOption r ((l : Signed Tree) → ¬ ReadsAtom text.now l) (λ l. ReadsAtom text.now (literal l))) }
 {
     match read_atom(alloc, text.as_bytes()) {
         Ok(atom) => Ok(Some(atom)),
-        Err(ReadError::Memory) => Err(Memory),
-        Err(_) => Ok(None),
+        Err(error) => {
+            if wants_memory(&error) {
+                Err(Memory)
+            } else {
+                Ok(None)
+            }
+        }
     }
 }
 
