@@ -131,18 +131,24 @@ pub(crate) fn atom_in(alloc: Global, word: Option<&str>) -> Result<Option<Litera
 }
 
 // The length of a chain that the text is.
-fn length_of(text: &str) -> Option<u64>
+fn length_of(text: &str) -> Option<usize>
     ensures { MatchOption result ((n : ℕ) → ¬ (IsNumber 6 text.now n × (2 ≤ n) × (n ≤ 100000)))
         (λ n. IsNumber 6 text.now n × (2 ≤ n) × (n ≤ 100000)) }
 {
     match number_up_to(100_000, 6, text) {
-        Some(number) => { if number < 2 { None } else { Some(number) } }
+        Some(number) => {
+            if number < 2 {
+                None
+            } else {
+                Some(number as usize)
+            }
+        }
         None => None,
     }
 }
 
 // The length of a chain that is given, which has to be.
-pub(crate) fn length_in(word: Option<&str>) -> Option<u64>
+pub(crate) fn length_in(word: Option<&str>) -> Option<usize>
     ensures { MatchOption result ((n : ℕ) → ¬ SaysLength (option_map (λ w. w.now) word.entry) n)
         (SaysLength (option_map (λ w. w.now) word.entry)) }
 {

@@ -24,6 +24,6 @@ pub enum Request<'a> {
         atom: Literal,
     },
     Stress {
-        number: u64,
+        number: usize,
     },
 }

@@ -128,7 +128,7 @@ fn words_ask_for_an_atom(rt: HostRuntime) -> Result<(), Fail> {
 #[test]
 fn words_ask_for_a_chain(rt: HostRuntime) -> Result<(), Fail> {
     let alloc = rt.alloc();
-    let rows: [(&[&str], u64); 5] = [
+    let rows: [(&[&str], usize); 5] = [
         (&["stress", "300"], 300),
         (&["stress", "2"], 2),
         (&["stress", "0002"], 2),
