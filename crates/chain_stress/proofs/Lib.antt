@@ -1,0 +1,2 @@
+pub mod ChainClauses
+pub mod ChainModels

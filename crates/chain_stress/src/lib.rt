@@ -1,0 +1,5 @@
+//! A large problem made from a number.
+#![tactic(auto)]
+
+pub mod chain;
+pub mod laws;
