@@ -1,6 +1,5 @@
 -- No interpretation makes the clauses of a chain true.
-use Rattle.std.proofs.Common.{◌≡◌, ℕ, ◌+◌, ◌-◌, ◌<◌, ◌≤◌, zero, suc, List, [], ◌∷◌, ◌++◌, refl, sym, ap, ◌∙◌, subst, arith, inl, inr}
-use Rattle.std.specs.Prelude.{All, Any}
+use Rattle.std.proofs.Common.{◌≡◌, ℕ, ◌+◌, ◌-◌, ◌<◌, ◌≤◌, zero, suc, List, [], ◌∷◌, refl, subst, arith, inl, inr}
 use Rattle.inst_logic.specs.Tree.{Tree, var}
 use Rattle.inst_logic.specs.Substitution.{Substitution}
 use Rattle.inst_logic.specs.Clauses.{TreeClause, instance, IsGround}
@@ -8,7 +7,7 @@ use Rattle.inst_logic.specs.Truth.{IsTrueLiteral, IsTrueClause}
 use Rattle.inst_logic.specs.Examples.{yes, no}
 use Rattle.inst_logic.proofs.Membership.{◌∈◌, in_left, in_right, any_in, all_in}
 use Rattle.inst_calculus.specs.Axioms.{equality_axioms, with_axioms}
-use Rattle.inst_calculus.specs.Models.{Member, Makes, IsTrueBy}
+use Rattle.inst_calculus.specs.Models.{Makes, IsTrueBy}
 use Rattle.chain_stress.specs.Chains.{constant, edge, reached, edge_clause, edge_clauses, first_clause, rule_clause, last_clause, chain_clauses, HasNoModel}
 use Rattle.chain_stress.proofs.ChainClauses.{edge_in}
 
@@ -31,10 +30,10 @@ module _ (holds : Tree → Type 0) where
   concluded : (a b c : Tree) → IsTrueClause holds (no a ∷ no b ∷ yes c ∷ []) → holds a → holds b → holds c
   concluded a b c t p q = let (l, i, h) = any_in (IsTrueLiteral holds) (no a ∷ no b ∷ yes c ∷ []) t in
       elim i [
-      | inl e ↦ let n : ¬ holds a = subst (IsTrueLiteral holds) e h in absurd (n p)
-      | inr (inl e) ↦ let n : ¬ holds b = subst (IsTrueLiteral holds) e h in absurd (n q)
-      | inr (inr (inl e)) ↦ subst (IsTrueLiteral holds) e h
-      | inr (inr (inr b)) ↦ absurd b
+        | inl e ↦ let n : ¬ holds a = subst (IsTrueLiteral holds) e h in absurd (n p)
+        | inr (inl e) ↦ let n : ¬ holds b = subst (IsTrueLiteral holds) e h in absurd (n q)
+        | inr (inr (inl e)) ↦ subst (IsTrueLiteral holds) e h
+        | inr (inr (inr b)) ↦ absurd b
       ]
 
   -- the ground instances of the clause are true

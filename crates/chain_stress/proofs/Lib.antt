@@ -1,2 +1,3 @@
 pub mod ChainClauses
 pub mod ChainModels
+pub mod Decided

@@ -1,9 +1,9 @@
-// The problem of a chain, made from its number of constants. Each clause is canonical as it is built, and no name is longer
-// than its number wants.
+// The problem of a chain, made from its number of constants. Each clause is in canonical form as it is built.
 ghost use Rattle.std.specs.Prelude.{◌≡◌, ◌+◌, ◌<◌, ◌∷◌, [], ◌^◌, IsTrue, IfOk, All, length};
 ghost use Rattle.inst_logic.specs.LiteralView.{literal};
 ghost use Rattle.inst_logic.specs.View.{tree};
 ghost use Rattle.inst_logic.specs.Printing.{is_readable_name};
+ghost use Rattle.szs_decide.specs.Problems.{IsPrintableProblem};
 ghost use Rattle.chain_stress.specs.Chains.{constant, edge, reached, edge_clause, first_clause, rule_clause, last_clause, chain_clauses};
 
 use inst_logic::{
@@ -130,7 +130,6 @@ fn number_name(alloc: Global, n: usize) -> Result<Name, Memory>
 
 // The numbers from 1 on as names.
 fn number_names(alloc: Global, count: usize) -> Result<NameList, Memory>
-    requires { count + 1 < 2 ^ 64 }
     ensures count { IfOk result (λ names. length names ≡ count) }
     ensures readable { IfOk result (λ names. All (λ n. IsTrue (is_readable_name n)) names) }
 {
@@ -144,10 +143,9 @@ fn number_names(alloc: Global, count: usize) -> Result<NameList, Memory>
 /// The chain of `n` constants, with the number of each clause, from 1, as its name.
 pub fn chain_problem(alloc: Global, n: usize) -> Result<Problem, Memory>
     requires some { 0 < n }
-    requires fits { n + 3 < 2 ^ 64 }
+    requires fits { n + 2 < 2 ^ 64 }
     ensures clauses { IfOk result (λ p. p.clauses ≡ chain_clauses n) }
-    ensures named { IfOk result (λ p. length p.names ≡ length p.clauses) }
-    ensures readable { IfOk result (λ p. All (λ n. IsTrue (is_readable_name n)) p.names) }
+    ensures printable { IfOk result IsPrintableProblem }
 {
     let clauses = chain_clauses(alloc, n)?;
     let names = number_names(alloc, clauses.len())?;
