@@ -4,6 +4,7 @@
 
 pub mod chain;
 pub mod deciding;
+pub mod examples;
 pub mod laws;
 pub mod sizes;
 mod words;
