@@ -9,13 +9,14 @@ use Rattle.inst_logic.specs.declared.symbol.Sym.{Sym}
 use Rattle.inst_logic.specs.Tree.{Tree, var, app, Trees, none, more, to_list}
 use Rattle.inst_logic.specs.Substitution.{subst as apply, substs, Substitution}
 use Rattle.inst_logic.specs.Unifiers.{Sided, IsUnifier}
-use Rattle.term_bank.specs.Forest.{Forest, arguments_of, number_of, symbol_of, tree_at}
+use Rattle.inst_logic.proofs.Substitutions.{subst_var}
+use Rattle.term_bank.specs.Forest.{Extends, Forest, arguments_of, number_of, symbol_of, tree_at}
 use Rattle.saturation_cert.specs.declared.certificate.Saturation.{Saturation}
 use Rattle.saturation_cert.specs.Values.{entry_of, saturation_of}
 use Rattle.cert_check.specs.declared.fingerprint.Fingerprint.{Fingerprint}
 use Rattle.cert_check.specs.declared.fingerprint.Marks.{Marks}
 use Rattle.cert_check.specs.Fingerprints.{AreDifferent, Differ, DifferInMarks, HasFingerprint, HasMarks, IsFingerprintOf, IsMark, TellApart, argument_of, fingerprint_at, mark_of, top_of}
-use Rattle.cert_check.proofs.HeadLaws.{symbol_under}
+use Rattle.cert_check.proofs.HeadLaws.{number_stays, symbol_under}
 use Rattle.cert_check.proofs.PairScans.{no_unifier}
 
 -- an instance has the arguments' instances, and the symbols
@@ -59,8 +60,8 @@ marked f (Some g) m e h = (g, refl, e)
 module _ (f : Forest) (u : Sided) (o p : Option Tree) (meet : Meet u o p) where
   one_agrees : (m n : ℕ) → IsMark f o m → IsMark f p n → ¬ AreDifferent m n
   one_agrees m n a b d =
-      let (g, x, v) = marked f (top_of o) m a d.left in
-      let (h, y, w) = marked f (top_of p) n b d.right in
+      let (g, x, v) = marked f (top_of o) m a.is d.left in
+      let (h, y, w) = marked f (top_of p) n b.is d.right in
       d.differ (v ∙ ap (λ (z : Sym). mark_of (Some (number_of f.symbols z))) (tops_meet u o p meet g h x y) ∙ sym w)
 
 module _ (f : Forest) (u : Sided) (o p : Option Tree) (meet : Meet u o p) where
@@ -81,6 +82,34 @@ none_where_different f a b p q h k (inr (inl d)) u e =
     marks_agree f u (argument_of (Some a) 0) (argument_of (Some b) 0) (arguments_meet u (Some a) (Some b) (both_here u a b e) 0) p.first q.first h.first k.first d
 none_where_different f a b p q h k (inr (inr d)) u e =
     marks_agree f u (argument_of (Some a) 1) (argument_of (Some b) 1) (arguments_meet u (Some a) (Some b) (both_here u a b e) 1) p.second q.second h.second k.second d
+
+-- an instance has no other symbols at the places
+pub instance_agrees : (f : Forest) (s : Substitution) (a b : Tree) (p q : Fingerprint) → HasFingerprint f a p → HasFingerprint f b q → apply s a ≡ b → ¬ Differ p q
+instance_agrees f s a b p q h k same d = none_where_different f a b p q h k d (record { left = s; right = var }) (same ∙ sym (subst_var b))
+
+-- marks stay while the bank grows
+module _ (f g : Forest) (grown : Extends f g) where
+  mark_later : (o : Option Tree) (m : ℕ) → IsMark f o m → IsMark g o m
+  mark_later o m h = record { is = h.is ∙ by (top_of o) h.known; known = λ s at. subst (λ n. n < length g.symbols) (sym (number_stays f g grown s (h.known s at))) (let k = h.known s at in let l = grown.symbols.0 in omega arith) }
+    where
+      by : (q : Option Sym) → ((s : Sym) → q ≡ Some s → number_of f.symbols s < length f.symbols) → mark_of (option_map (number_of f.symbols) q) ≡ mark_of (option_map (number_of g.symbols) q)
+      by None known = refl
+      by (Some s) known = ap (λ n. mark_of (Some n)) (sym (number_stays f g grown s (known s refl)))
+
+  marks_later : (o : Option Tree) (m : Marks) → HasMarks f o m → HasMarks g o m
+  marks_later o m h = record {
+    first = mark_later (argument_of o 0) m.first h.first;
+    second = mark_later (argument_of o 1) m.second h.second;
+    third = mark_later (argument_of o 2) m.third h.third;
+    fourth = mark_later (argument_of o 3) m.fourth h.fourth;
+  }
+
+  pub fingerprint_later : (t : Tree) (p : Fingerprint) → HasFingerprint f t p → HasFingerprint g t p
+  fingerprint_later t p h = record {
+    own = marks_later (Some t) p.own h.own;
+    first = marks_later (argument_of (Some t) 0) p.first h.first;
+    second = marks_later (argument_of (Some t) 1) p.second h.second;
+  }
 
 pub all_told : (c : Saturation) (ps : List Fingerprint) → length ps ≡ length c.base.members → ((k : ℕ) → k < length ps → IsFingerprintOf c k (fingerprint_at ps k)) → TellApart (saturation_of c) ps
 all_told c ps count each = record {

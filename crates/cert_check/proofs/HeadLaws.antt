@@ -1,37 +1,29 @@
 -- Partners by the heads of selected literals, and chains through them.
-use Rattle.std.proofs.Common.{◌≡◌, inl, inr, ℕ, zero, suc, ◌<◌, ◌≤◌, List, [], ◌∷◌, ◌++◌, ◌+◌, length, get_or, set, refl, ap, sym, ◌∙◌, subst, arith, below_more, get_or-set_other, get_or-set_same, true, false, not, Bool, Option, None, Some, cond}
+use Rattle.std.proofs.Common.{◌≡◌, inl, inr, ℕ, suc, ◌<◌, ◌≤◌, List, [], ◌∷◌, ◌++◌, ◌+◌, length, get_or, set, refl, ap, sym, ◌∙◌, subst, arith, below_more, get_or-set_other, get_or-set_same, true, false, not, Bool, Option, None, Some, cond}
 use Rattle.std.specs.Prelude.{option_map, unwrap_or}
 use Rattle.std.proofs.lemmas.Bool.{cases_lt}
 use Rattle.std.proofs.lemmas.List.{length-set}
 use Rattle.std.proofs.Math.ListN.{get_or-append, get_or-eq_default}
 use Rattle.std.specs.List.{position_or_len}
-use Rattle.std.specs.Prelude.{slice_get}
 use Rattle.std.proofs.Math.Seq.{get_or-append_seam}
-use Rattle.std.proofs.lemmas.Option.{same_Some, slice_get-get_or, slice_get_within}
+use Rattle.std.proofs.lemmas.Option.{same_Some}
 use Rattle.inst_logic.specs.declared.symbol.Sym.{Sym}
 use Rattle.inst_logic.specs.Tree.{Tree, var, app}
 use Rattle.inst_logic.specs.Substitution.{subst as apply, Substitution}
 use Rattle.inst_logic.specs.Unifiers.{Sided, IsUnifier}
 use Rattle.inst_logic.specs.WellFormed.{IsAtom}
-use Rattle.inst_logic.specs.declared.signed.Signed.{Signed}
-use Rattle.inst_logic.specs.Derivations.{at_number}
 use Rattle.inst_logic.specs.Equal.{sym_eq}
-use Rattle.inst_calculus.specs.Entries.{Entry}
-use Rattle.term_bank.specs.Forest.{Forest, Extends, IsClauseOf, KeepsPlaces, clause_at, no_symbol, number_of, symbol_at, symbol_of, tree_at}
-use Rattle.cert_format.proofs.Numbers.{slice_get_of_map}
-use Rattle.saturation_cert.specs.declared.member.Member.{Member}
-use Rattle.saturation_cert.specs.Truths.{literal_at as tree_literal}
-use Rattle.clause_form.specs.Placements.{literal_at}
+use Rattle.term_bank.specs.Forest.{Forest, Extends, KeepsPlaces, no_symbol, number_of, symbol_at, symbol_of, tree_at}
 use Rattle.cert_format.specs.Certificate as format
 use Rattle.cert_format.specs.Validity.{IsRightPair}
 use Rattle.saturation_cert.specs.declared.certificate.Saturation.{Saturation}
-use Rattle.saturation_cert.specs.Values.{saturation_of, entry_of}
+use Rattle.saturation_cert.specs.Values.{saturation_of}
 use Rattle.clause_form.specs.Literals.{id_eq}
 use Rattle.indexmap.specs.IndexMap.{IndexMap, get}
 use Rattle.std.specs.Map.{lookup}
 use Rattle.clause_form.proofs.Assembly.{id_eq_decides}
 use Rattle.inst_logic.specs.Signed.{complement}
-use Rattle.cert_check.specs.Partners.{Head, head_at, IsHeadAt, IsHeadOf, HasHead, AreApart, IsNext, AreChained, LeadThrough}
+use Rattle.cert_check.specs.Partners.{Head, head_at, IsHeadOf, AreApart, IsNext, AreChained, LeadThrough}
 use Rattle.cert_check.proofs.PairScans.{same_sign, no_unifier, no_pair}
 
 -- an atom has a symbol
@@ -72,51 +64,8 @@ first_stays {A} d p (x ∷ xs) (y ∷ ys) k less =
     by true rest less = ap (λ n. 1 + n) (rest (omega arith))
     by false rest less = refl
 
-pub head_later : (f g : Forest) → Extends f g → (c : List (Signed ℕ)) → IsClauseOf f c → (h : Head) → HasHead f c h → HasHead g c h
-head_later f g grown c inside h has =
-    let l = literal_at c has.place in
-    let tree : tree_at g l.atom ≡ tree_at f l.atom = grown.trees.1 l.atom (inside has.place _ has.within) in
-    let (s, is, n) = number_there h.atom (number_of f.symbols) (symbol_of (tree_at f l.atom)) has.head.number in
-    let low : number_of f.symbols s < length f.symbols = subst (λ k. k < length f.symbols) n has.known in
-    let stays : number_of g.symbols s ≡ number_of f.symbols s = first_stays no_symbol (λ r. sym_eq s r) f.symbols g.symbols grown.symbols low in
-    record {
-      place = has.place;
-      within = has.within;
-      head = record {
-        sign = has.head.sign;
-        number = ap Some (n ∙ sym stays) ∙ sym (ap (λ (t : Tree). option_map (number_of g.symbols) (symbol_of t)) tree ∙ ap (option_map (number_of g.symbols)) is);
-      };
-      known = let k = has.known in let m = grown.symbols.0 in omega arith;
-    }
-
--- the head of a member is that of one of its literals
-pub member_head : (c : Saturation) (k : ℕ) (h : Head) → IsHeadOf c k h → (d : Member) → k < length c.base.members → HasHead c.base.bank (get_or c.base.members k d).clause h
-member_head c k h head d within =
-    let e = head.is.is in
-    let f = c.base.bank in
-    let (m, at, me) = slice_get_of_map (entry_of f) c.base.members k e.entry e.entry_at in
-    let same : m ≡ get_or c.base.members k d = same_Some m _ (sym at ∙ slice_get-get_or c.base.members k d within) in
-    subst (λ (x : Member). HasHead f x.clause h) same (by m e.place (ap (λ (x : Entry). at_number x.clause e.place) me ∙ e.selected))
-  where
-    there : (m : Member) (p : ℕ) → slice_get (clause_at c.base.bank m.clause) p ≡ Some head.is.member.selected → HasHead c.base.bank m.clause h
-    there m p at =
-        let f = c.base.bank in
-        let (l, here, tree) = slice_get_of_map (tree_literal f) m.clause p head.is.member.selected at in
-        let within = slice_get_within m.clause p l here in
-        let same : l ≡ literal_at m.clause p = same_Some l _ (sym here ∙ slice_get-get_or m.clause p _ within) in
-        let equal : tree_literal f head.literal ≡ tree_literal f l = sym head.is.literal ∙ sym tree in
-        let number : Some h.atom ≡ option_map (number_of f.symbols) (symbol_of (tree_at f l.atom)) =
-        head.head.number ∙ ap (λ (x : Signed Tree). option_map (number_of f.symbols) (symbol_of x.atom)) equal in
-        record {
-          place = p;
-          within = within;
-          head = subst (λ (x : Signed ℕ). IsHeadAt f x h) same (record { sign = head.head.sign ∙ ap (λ (x : Signed Tree). x.positive) equal; number = number });
-          known = head.known;
-        }
-
-    by : (m : Member) (place : ℕ) → at_number (clause_at c.base.bank m.clause) place ≡ Some head.is.member.selected → HasHead c.base.bank m.clause h
-    by m zero at = absurd (cc)
-    by m (suc p) at = there m p at
+pub number_stays : (f g : Forest) → Extends f g → (s : Sym) → number_of f.symbols s < length f.symbols → number_of g.symbols s ≡ number_of f.symbols s
+number_stays f g grown s low = first_stays no_symbol (λ r. sym_eq s r) f.symbols g.symbols grown.symbols low
 
 signs : (p q : Bool) → ¬ (p ≡ q) → q ≡ not p
 signs true true h = absurd (h refl)

@@ -25,8 +25,10 @@ abbrev pub mark_of : Option ℕ → ℕ
 mark_of None = 0
 mark_of (Some number) = min (number + 1) (2 ^ 32 - 1)
 
-abbrev pub IsMark : Forest → Option Tree → ℕ → Type 0
-IsMark f o m = m ≡ mark_of (option_map (number_of f.symbols) (top_of o))
+-- the symbol is one of the bank's, so that it keeps its number while the bank grows
+pub record IsMark (f : Forest) (o : Option Tree) (m : ℕ) : Type 0 where
+  pub is : m ≡ mark_of (option_map (number_of f.symbols) (top_of o))
+  pub known : (s : Sym) → top_of o ≡ Some s → number_of f.symbols s < length f.symbols
 
 -- the marks of the first four arguments
 pub record HasMarks (f : Forest) (o : Option Tree) (m : Marks) : Type 0 where

@@ -5,14 +5,18 @@ use Rattle.std.specs.Cmp.Lexicographic.{pointwise}
 use Rattle.std.specs.List.{list_any}
 use Rattle.inst_logic.specs.declared.signed.Signed.{Signed}
 use Rattle.clause_form.specs.Literals.{id_eq}
-use Rattle.term_bank.specs.Forest.{Forest}
+use Rattle.inst_logic.specs.Tree.{Tree}
+use Rattle.inst_logic.specs.Substitution.{Substitution, subst as apply}
+use Rattle.clause_form.specs.Placements.{literal_at}
+use Rattle.term_bank.specs.Forest.{Forest, tree_at}
 use Rattle.saturation_cert.specs.declared.certificate.Saturation.{Saturation}
 use Rattle.saturation_cert.specs.declared.member.Member.{Member}
 use Rattle.saturation_cert.specs.Values.{base_of, saturation_of}
 use Rattle.saturation_cert.specs.Wholes.{HasPlaces, IsWholeSaturation}
 use Rattle.cert_format.specs.Validity.{IsValidBase}
 use Rattle.cert_check.specs.Covers.{ShorterOf}
-use Rattle.cert_check.specs.Fingerprints.{TellApart}
+use Rattle.cert_check.specs.declared.fingerprint.Fingerprint.{Fingerprint}
+use Rattle.cert_check.specs.Fingerprints.{HasFingerprint, TellApart, fingerprint_at}
 use Rattle.cert_check.specs.Partners.{Head, AreGrouped, IsHeadAt, LeadThrough, head_at}
 use Rattle.cert_check.specs.declared.lookup.Lookup.{Lookup}
 
@@ -24,9 +28,19 @@ has_clause ks c = list_any (pointwise id_eq c) ks
 abbrev pub AreClausesOf : List Member → List (List (Signed ℕ)) → Type 0
 AreClausesOf ms ks = (c : List (Signed ℕ)) → (has_clause ks c ≡ true) ↔ Any (λ m. m.clause ≡ c) ms
 
+-- a literal of the clause has the head and the fingerprint
+pub record HasMarked (f : Forest) (c : List (Signed ℕ)) (h : Head) (p : Fingerprint) : Type 0 where
+  pub place : ℕ
+  pub within : place < length c
+  pub head : IsHeadAt f (literal_at c place) h
+  pub known : h.atom < length f.symbols
+  pub fingerprint : HasFingerprint f (tree_at f (literal_at c place).atom) p
+
 pub record IsLookup (f : Forest) (ms : List Member) (l : Lookup) : Type 0 where
   pub clauses : AreClausesOf ms l.clauses.keys
-  pub groups : AreGrouped f ms l.partners.heads.items l.partners.same.items (get id_eq l.partners.first)
+  pub count : length l.fingerprints.items ≡ length ms
+  pub marked : (k : ℕ) (m : Member) → k < length ms → HasMarked f (slice_index_or ms k m).clause (head_at l.partners.heads.items k) (fingerprint_at l.fingerprints.items k)
+  pub groups : AreGrouped ms l.partners.heads.items l.partners.same.items (get id_eq l.partners.first)
 
 -- what the check of the pairs stands on: the certificate has passed all that comes before, and the look-ups are its own
 pub record IsReady (c : Saturation) (l : Lookup) : Type 0 where
@@ -37,12 +51,20 @@ pub record IsReady (c : Saturation) (l : Lookup) : Type 0 where
   pub partners : LeadThrough (saturation_of c) l.partners.heads.items l.partners.same.items l.partners.opposed.items
   pub fingerprints : TellApart (saturation_of c) l.fingerprints.items
 
--- no member whose head is that of the literal has fewer literals than n and subsumes the clause
-abbrev pub HasNoShorter : Forest → List Member → List Head → ℕ → List (Signed ℕ) → Signed ℕ → Type 0
-HasNoShorter f ms hs n d l = (k : ℕ) (m : Member) → k < length ms → IsHeadAt f l (head_at hs k) → ¬ (ShorterOf f n d (slice_index_or ms k m))
+-- the fingerprint is that of an atom that has the literal's atom as an instance
+abbrev pub HasInstance : Forest → Fingerprint → Signed ℕ → Type 0
+HasInstance f p l = (s : Substitution) × (t : Tree) × HasFingerprint f t p × (apply s t ≡ tree_at f l.atom)
+
+-- where the literal may be the instance of its selected one, the member does not subsume the clause with fewer literals than n
+abbrev pub IsNoShorter : Forest → List Member → List Fingerprint → ℕ → List (Signed ℕ) → Signed ℕ → ℕ → Type 0
+IsNoShorter f ms ps n d l k = (m : Member) → HasInstance f (fingerprint_at ps k) l → ¬ (ShorterOf f n d (slice_index_or ms k m))
+
+-- no member whose head is that of the literal is so
+abbrev pub HasNoShorter : Forest → List Member → List Head → List Fingerprint → ℕ → List (Signed ℕ) → Signed ℕ → Type 0
+HasNoShorter f ms hs ps n d l = (k : ℕ) → k < length ms → IsHeadAt f l (head_at hs k) → IsNoShorter f ms ps n d l k
 
 -- a scan of the members of one head has come to place k
-pub record IsPastShorter (f : Forest) (ms : List Member) (hs : List Head) (n : ℕ) (d : List (Signed ℕ)) (h : Head) (k : ℕ) : Type 0 where
+pub record IsPastShorter (f : Forest) (ms : List Member) (hs : List Head) (ps : List Fingerprint) (n : ℕ) (d : List (Signed ℕ)) (l : Signed ℕ) (h : Head) (k : ℕ) : Type 0 where
   pub within : k ≤ length hs
   pub at : k < length hs → head_at hs k ≡ h
-  pub before : (j : ℕ) (m : Member) → j < k → head_at hs j ≡ h → ¬ (ShorterOf f n d (slice_index_or ms j m))
+  pub before : (j : ℕ) → j < k → head_at hs j ≡ h → IsNoShorter f ms ps n d l j

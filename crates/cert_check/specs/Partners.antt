@@ -2,7 +2,6 @@
 use Rattle.std.specs.Prelude.{◌≡◌, ℕ, suc, ◌<◌, ◌≤◌, List, length, false, Option, Some, option_map, slice_index_or, unwrap_or}
 use Rattle.inst_logic.specs.declared.signed.Signed.{Signed}
 use Rattle.inst_logic.specs.Signed.{complement}
-use Rattle.clause_form.specs.Placements.{literal_at}
 use Rattle.term_bank.specs.Forest.{Forest, number_of, symbol_of, tree_at}
 use Rattle.cert_format.specs.Certificate as format
 use Rattle.cert_format.specs.Validity.{IsRightPair}
@@ -29,13 +28,6 @@ pub record IsHeadOf (c : Saturation) (i : ℕ) (h : Head) : Type 0 where
   pub head : IsHeadAt c.base.bank literal h
   pub known : h.atom < length c.base.bank.symbols
 
--- the head of some literal of the clause
-pub record HasHead (f : Forest) (c : List (Signed ℕ)) (h : Head) : Type 0 where
-  pub place : ℕ
-  pub within : place < length c
-  pub head : IsHeadAt f (literal_at c place) h
-  pub known : h.atom < length f.symbols
-
 -- members whose heads are not complements are right partners
 abbrev pub AreApart : format.Saturation → List Head → Type 0
 AreApart c hs = (i j : ℕ) → i < j → j < length hs → ¬ (head_at hs j ≡ complement (head_at hs i)) → IsRightPair c (suc i) (suc j)
@@ -61,9 +53,8 @@ pub record LeadThrough (c : format.Saturation) (hs : List Head) (same opposed : 
   pub chained : AreChained hs same opposed 0
 
 -- the members of one head, from the first on
-pub record AreGrouped (f : Forest) (ms : List Member) (hs : List Head) (same : List ℕ) (first : Head → Option ℕ) : Type 0 where
+pub record AreGrouped (ms : List Member) (hs : List Head) (same : List ℕ) (first : Head → Option ℕ) : Type 0 where
   pub count : length hs ≡ length ms
-  pub heads : (k : ℕ) (m : Member) → k < length ms → HasHead f (slice_index_or ms k m).clause (head_at hs k)
   pub same_length : length same ≡ length hs
   pub to_same : (k : ℕ) → k < length hs → IsNext hs (head_at hs k) (suc k) (slice_index_or same k 0)
   pub to_first : (h : Head) → IsNext hs h 0 (unwrap_or (first h) (length hs))

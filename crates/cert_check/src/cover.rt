@@ -1,18 +1,22 @@
 // Covered instances. A variant is one look-up. Of the shorter members only those are tried whose selected literal has the
-// head of a literal of the instance, since it has to go onto one; trying all would cost their number at each pair.
-ghost use Rattle.std.specs.Prelude.{◌≡◌, ◌↔◌, ◌<◌, map, length, All, Any, IfOk, IsTrue, true, false};
+// head of a literal of the instance, and a fingerprint that allows it, since it has to go onto one; trying all would cost
+// their number at each pair.
+ghost use Rattle.std.specs.Prelude.{◌≡◌, ◌↔◌, ◌<◌, ℕ, map, length, All, Any, IfOk, IsTrue, true, false};
 ghost use Rattle.inst_logic.specs.Clauses.{IsCanonical, instance};
 ghost use Rattle.inst_logic.specs.Unifiers.{Sided};
+ghost use Rattle.inst_logic.specs.declared.signed.Signed.{Signed};
 ghost use Rattle.inst_calculus.specs.Saturation.{IsCovered};
-ghost use Rattle.term_bank.specs.Forest.{AreFormed, Extends, IsClauseOf, clause_at};
+ghost use Rattle.term_bank.specs.Forest.{AreFormed, Extends, IsClauseOf, clause_at, tree_at};
 ghost use Rattle.unify_core.specs.Chains.{AreBindings};
 ghost use Rattle.unify_core.specs.Sides.{IsResolvedBy, of_side};
 ghost use Rattle.unify_core.specs.Terms.{AreTerms};
 ghost use Rattle.saturation_cert.specs.Wholes.{IsWholeClause};
 ghost use Rattle.cert_check.specs.Covers.{IsCoveredIn, IsShorter, ShorterOf};
 ghost use Rattle.cert_check.specs.Grounds.{AreCanonicalMembers};
-ghost use Rattle.cert_check.specs.Lookups.{HasNoShorter, IsLookup};
+ghost use Rattle.cert_check.specs.Fingerprints.{HasFingerprint};
+ghost use Rattle.cert_check.specs.Lookups.{HasNoShorter, IsLookup, IsNoShorter};
 
+use crate::fingerprint::{Fingerprint, fingerprint_of};
 use crate::lookup::Lookup;
 use clause_form::{conclude, subsumes, tautology};
 use inst_logic::Memory;
@@ -39,6 +43,31 @@ fn is_shorter(
     subsumes(alloc, bank, member, c)
 }
 
+// The same for the member at the place, counted from 0, where the fingerprint of its selected literal allows that one with
+// this fingerprint is an instance.
+fn is_shorter_at(
+    alloc: Global,
+    bank: &Bank,
+    members: &[Member],
+    lookup: &Lookup,
+    len: usize,
+    c: &IdClause,
+    fingerprint: &Fingerprint,
+    k: usize,
+) -> Result<bool, Memory>
+    requires members { All (λ m. IsClauseOf bank.now m.clause) members.now }
+    requires lookup { IsLookup bank.now members.now lookup.now }
+    requires clause { IsClauseOf bank.now c.now }
+    requires within { k < length members.now }
+    ensures yes { IfOk result (λ r. r ≡ true → Any (ShorterOf bank.now len c.now) members.now) }
+    ensures no { IfOk result (λ r. r ≡ false → (l : Signed ℕ) → HasFingerprint bank.now (tree_at bank.now l.atom) fingerprint.now → IsNoShorter bank.now members.now lookup.now.fingerprints.items len c.now l k) }
+{
+    if lookup.fingerprints[k].differs(fingerprint) {
+        return Ok(false);
+    }
+    is_shorter(alloc, bank, &members[k].clause, len, c)
+}
+
 // Whether some member is so whose selected literal has the head of this one.
 fn leads_to_shorter(
     alloc: Global,
@@ -54,13 +83,14 @@ fn leads_to_shorter(
     requires clause { IsClauseOf bank.now c.now }
     requires literal { literal.now.atom < length bank.now.trees }
     ensures yes { IfOk result (λ r. r ≡ true → Any (ShorterOf bank.now len c.now) members.now) }
-    ensures no { IfOk result (λ r. r ≡ false → HasNoShorter bank.now members.now lookup.now.partners.heads.items len c.now literal.now) }
+    ensures no { IfOk result (λ r. r ≡ false → HasNoShorter bank.now members.now lookup.now.partners.heads.items lookup.now.fingerprints.items len c.now literal.now) }
 {
     let partners = &lookup.partners;
     let count = members.len();
+    let fingerprint = fingerprint_of(bank, literal.atom);
     let mut k = partners.first_place(bank, literal);
     while k < count {
-        if is_shorter(alloc, bank, &members[k].clause, len, c)? {
+        if is_shorter_at(alloc, bank, members, lookup, len, c, &fingerprint, k)? {
             return Ok(true);
         }
         k = partners.same[k];

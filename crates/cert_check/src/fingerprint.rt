@@ -90,7 +90,7 @@ fn marks_below(bank: &Bank, tree: TermId, place: usize) -> Marks
     }
 }
 
-fn fingerprint_of(bank: &Bank, atom: TermId) -> Fingerprint
+pub fn fingerprint_of(bank: &Bank, atom: TermId) -> Fingerprint
     requires { atom < length bank.now.trees }
     ensures { HasFingerprint bank.now (tree_at bank.now atom) result }
 {
@@ -115,7 +115,9 @@ fn selected_fingerprint(cert: &Saturation, i: usize) -> Fingerprint
 pub fn find_fingerprints(alloc: Global, cert: &Saturation) -> Result<Vec<Fingerprint>, Memory>
     requires whole { IsWholeSaturation cert.now }
     requires placed { HasPlaces (saturation_of cert.now) }
-    ensures { IfOk result (λ ps. TellApart (saturation_of cert.now) ps.items) }
+    ensures count { IfOk result (λ ps. length ps.items ≡ length cert.now.base.members) }
+    ensures each { IfOk result (λ ps. (k : ℕ) → k < length ps.items → IsFingerprintOf cert.now k (fingerprint_at ps.items k)) }
+    ensures apart { IfOk result (λ ps. TellApart (saturation_of cert.now) ps.items) }
 {
     let mut fingerprints = Vec::new(alloc);
     for i in 0..cert.base.members.len() {

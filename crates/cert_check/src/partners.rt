@@ -104,7 +104,8 @@ pub fn find_partners(alloc: Global, cert: &Saturation) -> Result<Partners, Memor
     requires whole { IsWholeSaturation cert.now }
     requires placed { HasPlaces (saturation_of cert.now) }
     ensures pairs { IfOk result (λ p. LeadThrough (saturation_of cert.now) p.heads.items p.same.items p.opposed.items) }
-    ensures groups { IfOk result (λ p. AreGrouped cert.now.base.bank cert.now.base.members p.heads.items p.same.items (get id_eq p.first)) }
+    ensures groups { IfOk result (λ p. AreGrouped cert.now.base.members p.heads.items p.same.items (get id_eq p.first)) }
+    ensures heads { IfOk result (λ p. (k : ℕ) → k < length cert.now.base.members → IsHeadOf cert.now k (head_at p.heads.items k)) }
 {
     let heads = heads(alloc, cert)?;
     chained(alloc, heads)

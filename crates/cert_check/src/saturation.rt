@@ -120,9 +120,9 @@ fn check(alloc: Global, cert: &mut Saturation) -> Result<(), CheckError>
     check_selection(alloc, cert)
 }
 
-/// Checks the certificate and owns it from then on. After a refusal it is dropped. Time: a unification for any two members
-/// whose selected literals have one symbol and opposite signs; and where they unify, look-ups of the instances, and tests of
-/// subsumption where these do not suffice.
+/// Checks the certificate and owns it from then on. After a refusal it is dropped. Time: a few comparisons for any two members
+/// whose selected literals have one symbol and opposite signs; a unification where the symbols at a few places allow it; and
+/// where they unify, look-ups of the instances, and tests of subsumption where these do not suffice.
 pub fn check_saturation(alloc: Global, cert: Saturation) -> Result<CheckedSaturation, CheckError>
     requires { IsWholeSaturation cert }
     ensures kept { IfOk result (KeepsSaturation cert) }

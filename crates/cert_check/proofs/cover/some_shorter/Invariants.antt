@@ -4,4 +4,4 @@ use Rattle.cert_check.specs.Lookups.{HasNoShorter}
 use Rattle.cert_check.proofs.cover.some_shorter.Given as goal
 
 abbrev pub invariant-loop-literal : goal.invariant-loop-literal
-invariant-loop-literal l = (i : ℕ) (x : Signed ℕ) → i < l.literal-index → HasNoShorter l.bank l.members l.lookup.partners.heads.items l.len l.c (get_or l.literals i x)
+invariant-loop-literal l = (i : ℕ) (x : Signed ℕ) → i < l.literal-index → HasNoShorter l.bank l.members l.lookup.partners.heads.items l.lookup.fingerprints.items l.len l.c (get_or l.literals i x)

@@ -11,7 +11,13 @@ loop-i-preserved c = record {
       (one_more_fingerprint c.args.cert.now c.loop-i.fingerprints.items c.loop-i.i c.selected_fingerprint-fingerprint.result c.loop-i.invariant.count c.loop-i.invariant.each c.selected_fingerprint-fingerprint.ensures k less);
 }
 
-pub returns : goal.returns
-returns c =
+pub returns-clause-count : goal.returns-clause-count
+returns-clause-count c = omega (arith, c.loop-i.invariant.count, c.loop-i-test.false)
+
+pub returns-clause-each : goal.returns-clause-each
+returns-clause-each c = subst (λ n. (k : ℕ) → k < n → IsFingerprintOf c.args.cert.now k (fingerprint_at c.loop-i.fingerprints.items k)) (sym c.loop-i.invariant.count) c.loop-i.invariant.each
+
+pub returns-clause-apart : goal.returns-clause-apart
+returns-clause-apart c =
     all_told c.args.cert.now c.loop-i.fingerprints.items (omega (arith, c.loop-i.invariant.count, c.loop-i-test.false))
     (subst (λ n. (k : ℕ) → k < n → IsFingerprintOf c.args.cert.now k (fingerprint_at c.loop-i.fingerprints.items k)) (sym c.loop-i.invariant.count) c.loop-i.invariant.each)

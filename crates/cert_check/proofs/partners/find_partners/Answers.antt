@@ -3,7 +3,7 @@ use Rattle.std.proofs.lemmas.List.{length-map}
 use Rattle.std.proofs.lemmas.Result.{IfOk-weaker}
 use Rattle.saturation_cert.specs.Values.{saturation_of, entry_of}
 use Rattle.cert_check.specs.Partners.{Head, AreApart, IsHeadOf, head_at}
-use Rattle.cert_check.proofs.HeadLaws.{all_apart, member_head}
+use Rattle.cert_check.proofs.HeadLaws.{all_apart}
 use Rattle.cert_check.proofs.partners.find_partners.Goals as goal
 
 pub returns-clause-pairs : goal.returns-clause-pairs
@@ -23,12 +23,19 @@ returns-clause-groups c =
     IfOk-weaker c.chained.result _ _
     (λ p h.
     let count : length p.heads.items ≡ length cert.base.members = subst (λ (hs : List Head). length hs ≡ length cert.base.members) (sym h.0) c.in_ok-heads.ensures.count in
-    let each = subst (λ (hs : List Head). (k : ℕ) → k < length hs → IsHeadOf cert k (head_at hs k)) (sym h.0) c.in_ok-heads.ensures.heads in
     record {
       count = count;
-      heads = λ k m within. member_head cert k (head_at p.heads.items k) (each k (omega (arith, count, within))) m within;
       same_length = h.1.same_length;
       to_same = λ k within. h.1.to_same k (omega arith) within;
       to_first = h.2;
     })
+    c.chained.ensures
+
+pub returns-clause-heads : goal.returns-clause-heads
+returns-clause-heads c =
+    let cert = c.args.cert.now in
+    IfOk-weaker c.chained.result _ _
+    (λ p h k within.
+    let count : length p.heads.items ≡ length cert.base.members = subst (λ (hs : List Head). length hs ≡ length cert.base.members) (sym h.0) c.in_ok-heads.ensures.count in
+    subst (λ (hs : List Head). (k : ℕ) → k < length hs → IsHeadOf cert k (head_at hs k)) (sym h.0) c.in_ok-heads.ensures.heads k (omega (arith, count, within)))
     c.chained.ensures

@@ -1,0 +1,35 @@
+use Rattle.std.proofs.Common.{◌≡◌, ◌<◌, ◌∙◌, length, get_or, sym, subst, true, false, arith}
+use Rattle.std.proofs.lemmas.List.{get_or_default}
+use Rattle.std.proofs.lemmas.Result.{IfOk-weaker}
+use Rattle.term_bank.specs.Forest.{tree_at}
+use Rattle.cert_check.specs.declared.fingerprint.Fingerprint.{Fingerprint}
+use Rattle.cert_check.specs.Covers.{ShorterOf}
+use Rattle.cert_check.specs.Fingerprints.{Differ, fingerprint_at}
+use Rattle.cert_check.proofs.FingerprintLaws.{instance_agrees}
+use Rattle.cert_check.proofs.cover.is_shorter_at.Goals as goal
+
+pub returns-then-differs-clause-no : goal.returns-then-differs-clause-no
+returns-then-differs-clause-no c e l has m inst short =
+    let f = c.args.bank.now in
+    let ps = c.args.lookup.now.fingerprints.items in
+    let k = c.args.k in
+    let here : k < length ps = omega (arith, c.requires.lookup.count, c.requires.within) in
+    let left : c.index.result.now ≡ fingerprint_at ps k = c.index.ensures ∙ get_or_default ps k c.index.result.now _ here in
+    let differ : Differ (fingerprint_at ps k) c.args.fingerprint.now = subst (λ (p : Fingerprint). Differ p c.args.fingerprint.now) left (c.differs.ensures c.if-differs.true) in
+    let (s, t, print, same) = inst in
+    instance_agrees f s t (tree_at f l.atom) (fingerprint_at ps k) c.args.fingerprint.now print has same differ
+
+pub returns-clause-yes : goal.returns-clause-yes
+returns-clause-yes c =
+    let ms = c.args.members.now in
+    let k = c.args.k in
+    let m = c.index-members-k.result in
+    IfOk-weaker c.is_shorter.result _ _ (λ r h t. (k, get_or ms k m, c.requires.within, get_or_default ms k (get_or ms k m) m c.requires.within, h.0 t)) c.is_shorter.ensures
+
+pub returns-clause-no : goal.returns-clause-no
+returns-clause-no c =
+    let ms = c.args.members.now in
+    let k = c.args.k in
+    IfOk-weaker c.is_shorter.result _ _ (λ r h e l has m inst short.
+    let same : get_or ms k m ≡ get_or ms k c.index-members-k.result = get_or_default ms k m c.index-members-k.result c.requires.within in
+    let t : false ≡ true = sym e ∙ h.1 (subst (ShorterOf c.args.bank.now c.args.len c.args.c.now) same short) in cc) c.is_shorter.ensures
