@@ -107,6 +107,33 @@ fn example_holds<I: PartnerIndex>(alloc: Global, index: &mut I) -> Result<bool, 
     example_in_bank(alloc, &mut bindings, index)
 }
 
+// Whether the index answers the rows with no filter, where the atoms at these places are stored.
+fn stored_rows_hold<I: PartnerIndex>(
+    alloc: Global,
+    bank: &mut Bank,
+    bindings: &mut Bindings,
+    index: &mut I,
+    terms: &[TermId],
+    places: &[usize],
+    rows: &[Row],
+) -> Result<bool, Memory>
+    requires empty { I.pairs index.old ≡ [] }
+    requires ids { AreIds bank.old terms.now }
+{
+    let stored = terms_of(alloc, bank, terms, places)?;
+    store_all(index, bank, stored.as_slice())?;
+    rows_hold(
+        alloc,
+        index,
+        bank,
+        bindings,
+        terms,
+        stored.as_slice(),
+        rows,
+        false,
+    )
+}
+
 // The tree holds the first four atoms: it gives exactly those that stand to the query when no two occurrences of a variable
 // are the same.
 fn wide(
@@ -117,9 +144,6 @@ fn wide(
 ) -> Result<bool, Memory>
     requires { index.old ≡ record { edges = []; spans = []; places = []; nodes = []; found = []; spent = false } }
 {
-    let terms = built(alloc, bank, &PARTS)?;
-    let stored = terms_of(alloc, bank, terms.as_slice(), &[6, 7, 8, 9])?;
-    store_all(index, bank, stored.as_slice())?;
     let rows = [
         row(6, View::Unifiable, [1, 2, 4, 0]),
         row(9, View::Unifiable, [1, 2, 3, 4]),
@@ -128,15 +152,15 @@ fn wide(
         row(6, View::Instances, [1, 0, 0, 0]),
         row(9, View::Instances, [1, 2, 3, 4]),
     ];
-    rows_hold(
+    let terms = built(alloc, bank, &PARTS)?;
+    stored_rows_hold(
         alloc,
-        index,
         bank,
         bindings,
+        index,
         terms.as_slice(),
-        stored.as_slice(),
+        &[6, 7, 8, 9],
         &rows,
-        false,
     )
 }
 
@@ -170,6 +194,15 @@ fn constants(alloc: Global, bank: &mut Bank) -> Result<Vec<TermId>, Fail>
     Ok(terms)
 }
 
+// The places of `p(k1)` to `p(k1000)`.
+fn even_places(alloc: Global) -> Result<Vec<usize>, Memory> {
+    let mut places = Vec::new(alloc);
+    for n in 1..1001 {
+        places.push(2 * n)?;
+    }
+    Ok(places)
+}
+
 // `p(k1)` to `p(k1000)` are stored: a query for `p(k7)` is answered by it alone, with no filter.
 fn one_of_many(
     alloc: Global,
@@ -179,27 +212,21 @@ fn one_of_many(
 ) -> Result<bool, Fail>
     requires { index.old ≡ record { edges = []; spans = []; places = []; nodes = []; found = []; spent = false } }
 {
-    let terms = constants(alloc, bank)?;
-    let mut places = Vec::new(alloc);
-    for n in 1..1001 {
-        places.push(2 * n)?;
-    }
-    let stored = terms_of(alloc, bank, terms.as_slice(), places.as_slice())?;
-    store_all(index, bank, stored.as_slice())?;
     let rows = [
         row(14, View::Unifiable, [7, 0, 0, 0]),
         row(14, View::Generalisations, [7, 0, 0, 0]),
         row(14, View::Instances, [7, 0, 0, 0]),
     ];
-    Ok(rows_hold(
+    let places = even_places(alloc)?;
+    let terms = constants(alloc, bank)?;
+    Ok(stored_rows_hold(
         alloc,
-        index,
         bank,
         bindings,
+        index,
         terms.as_slice(),
-        stored.as_slice(),
+        places.as_slice(),
         &rows,
-        false,
     )?)
 }
 
@@ -214,6 +241,17 @@ fn double(alloc: Global, bank: &mut Bank, terms: &mut Vec<TermId>) -> Result<(),
         add_part(alloc, bank, terms, Part::Function("g", &[last, last]))?;
     }
     Ok(())
+}
+
+// Adds `p` of the last term doubled so.
+fn add_doubled(alloc: Global, bank: &mut Bank, terms: &mut Vec<TermId>) -> Result<(), Memory>
+    requires { AreIds bank.old terms.old.items }
+    ensures extends { Extends bank.old bank.new }
+    ensures ids { OnOk result (AreIds bank.new terms.new.items) }
+{
+    double(alloc, bank, terms)?;
+    let last = terms.len();
+    add_part(alloc, bank, terms, Part::Predicate("p", &[last]))
 }
 
 // 4, 5 and 7 are `p(X0)`, `p(g(X0,X0))` and `p(g(b,X0))`, and 69 is `p` of a term with sixty-one nodes that has 2^60 leaves.
@@ -232,9 +270,7 @@ fn shared_terms(alloc: Global, bank: &mut Bank) -> Result<Vec<TermId>, Memory>
         Part::Function("a", &[]),
     ];
     let mut terms = built(alloc, bank, &parts)?;
-    double(alloc, bank, &mut terms)?;
-    let last = terms.len();
-    add_part(alloc, bank, &mut terms, Part::Predicate("p", &[last]))?;
+    add_doubled(alloc, bank, &mut terms)?;
     Ok(terms)
 }
 
@@ -246,23 +282,20 @@ fn shared(
 ) -> Result<bool, Memory>
     requires { index.old ≡ record { edges = []; spans = []; places = []; nodes = []; found = []; spent = false } }
 {
-    let terms = shared_terms(alloc, bank)?;
-    let stored = terms_of(alloc, bank, terms.as_slice(), &[4, 5, 7])?;
-    store_all(index, bank, stored.as_slice())?;
     let rows = [
         row(69, View::Unifiable, [1, 2, 0, 0]),
         row(69, View::Generalisations, [1, 2, 0, 0]),
         row(69, View::Instances, [0, 0, 0, 0]),
     ];
-    rows_hold(
+    let terms = shared_terms(alloc, bank)?;
+    stored_rows_hold(
         alloc,
-        index,
         bank,
         bindings,
+        index,
         terms.as_slice(),
-        stored.as_slice(),
+        &[4, 5, 7],
         &rows,
-        false,
     )
 }
 
@@ -335,33 +368,56 @@ fn begins_with(alloc: Global, refuses: bool) -> Result<bool, Memory> {
     refusing_begins(alloc, &mut bank, refuses)
 }
 
-#[test]
-fn list(rt: HostRuntime) -> Result<(), Fail> {
-    let mut index = Rows::new(rt.alloc());
-    assert!(rt; example_holds(rt.alloc(), &mut index)?);
-    Ok(())
+fn list_holds(alloc: Global) -> Result<bool, Memory> {
+    let mut index = Rows::new(alloc);
+    example_holds(alloc, &mut index)
 }
 
+fn tree_holds(alloc: Global) -> Result<bool, Memory> {
+    let mut index = Tree::new(alloc);
+    example_holds(alloc, &mut index)
+}
+
+fn refusing_holds(alloc: Global) -> Result<bool, Memory> {
+    let mut index = Refusing::new(alloc, false);
+    example_holds(alloc, &mut index)
+}
+
+/// The list, the tree, and the refusing index while it does not refuse.
 #[test]
-fn tree(rt: HostRuntime) -> Result<(), Fail> {
-    let mut index = Tree::new(rt.alloc());
-    assert!(rt; example_holds(rt.alloc(), &mut index)?);
+fn example_is_answered(rt: HostRuntime) -> Result<(), Fail> {
+    let alloc = rt.alloc();
+    assert_eq!(rt;
+        [
+            list_holds(alloc)?,
+            tree_holds(alloc)?,
+            refusing_holds(alloc)?
+        ],
+        [true; 3]
+    );
     Ok(())
 }
 
 #[test]
 fn tree_alone(rt: HostRuntime) -> Result<(), Fail> {
-    for trial in [Trial::Wide, Trial::OneOfMany, Trial::Shared] {
-        assert!(rt; trial_with_tree(rt.alloc(), trial)?);
-    }
+    let alloc = rt.alloc();
+    assert_eq!(rt;
+        [
+            trial_with_tree(alloc, Trial::Wide)?,
+            trial_with_tree(alloc, Trial::OneOfMany)?,
+            trial_with_tree(alloc, Trial::Shared)?
+        ],
+        [true; 3]
+    );
     Ok(())
 }
 
 #[test]
 fn refusing(rt: HostRuntime) -> Result<(), Fail> {
-    assert!(rt; begins_with(rt.alloc(), false)?);
-    assert!(rt; !begins_with(rt.alloc(), true)?);
-    let mut index = Refusing::new(rt.alloc(), false);
-    assert!(rt; example_holds(rt.alloc(), &mut index)?);
+    let alloc = rt.alloc();
+    assert_eq!(rt;
+        [begins_with(alloc, false)?, begins_with(alloc, true)?],
+        [true, false]
+    );
     Ok(())
 }
