@@ -6,22 +6,32 @@ ghost use Rattle.ground_abs.specs.Abstracts.{AreNotesIn};
 
 use crate::building::{clause_at, clauses_in, last_atom};
 use ground_abs::{Abstraction, bot_of};
-use inst_logic::{ClauseList, NameList, Problem, Sym, canonical};
+use inst_logic::{ClauseList, Memory, NameList, Problem, Sym, canonical};
 use prop_logic::Lit;
 use std::alloc::Global;
 use std::test::Fail;
 use term_bank::{Bank, IdClauseList, TermId};
-use tptp_read::{Statement, read_text};
+use tptp_read::{Statement, StatementList, read_text};
 
-// The clauses of the text.
-fn problem_of(alloc: Global, text: &str) -> Result<Problem, Fail> {
-    let statements = read_text(alloc, text.as_bytes())?;
-    let mut clauses = ClauseList::new(alloc);
+// Puts the clauses of the statements at the end, in canonical form.
+fn push_clauses(
+    alloc: Global,
+    clauses: &mut ClauseList,
+    statements: &StatementList,
+) -> Result<(), Memory> {
     for statement in statements.as_slice() {
         if let Statement::Cnf { clause, .. } = statement {
             clauses.push(canonical(alloc, clause)?)?;
         }
     }
+    Ok(())
+}
+
+// The clauses of the text.
+fn problem_of(alloc: Global, text: &str) -> Result<Problem, Fail> {
+    let statements = read_text(alloc, text.as_bytes())?;
+    let mut clauses = ClauseList::new(alloc);
+    push_clauses(alloc, &mut clauses, &statements)?;
     Ok(Problem {
         clauses,
         names: NameList::new(alloc),
@@ -57,7 +67,7 @@ fn constants(rt: HostRuntime) -> Result<(), Fail> {
 // The numbers of the first atom, the second, and the first again, with how many atoms there are then.
 type Numbers = (usize, usize, usize, usize);
 
-fn numbers_of(abstraction: &mut Abstraction, a: TermId, b: TermId) -> Result<Numbers, Fail> {
+fn numbers_of(abstraction: &mut Abstraction, a: TermId, b: TermId) -> Result<Numbers, Memory> {
     let first = abstraction.atom_of(a)?;
     let second = abstraction.atom_of(b)?;
     let again = abstraction.atom_of(a)?;
@@ -65,12 +75,21 @@ fn numbers_of(abstraction: &mut Abstraction, a: TermId, b: TermId) -> Result<Num
 }
 
 // Whether these are the numbers of the two atoms, and the atoms are those of the numbers.
+fn are_numbered_by(
+    abstraction: &mut Abstraction,
+    a: TermId,
+    b: TermId,
+    numbers: Numbers,
+) -> Result<bool, Memory> {
+    let told = numbers_of(abstraction, a, b)?;
+    let found = abstraction.atom_at(told.0) == Some(a) && abstraction.atom_at(told.1) == Some(b);
+    Ok(told == numbers && found && abstraction.atom_at(told.3).is_none())
+}
+
 fn are_numbered(alloc: Global, a: TermId, b: TermId, numbers: Numbers) -> Result<bool, Fail> {
     let bot = constant_of(alloc, "cnf(c,axiom,p).")?;
     let mut abstraction = Abstraction::new(alloc, bot);
-    let told = numbers_of(&mut abstraction, a, b)?;
-    let found = abstraction.atom_at(told.0) == Some(a) && abstraction.atom_at(told.1) == Some(b);
-    Ok(told == numbers && found && abstraction.atom_at(told.3).is_none())
+    Ok(are_numbered_by(&mut abstraction, a, b, numbers)?)
 }
 
 fn are_numbered_in(

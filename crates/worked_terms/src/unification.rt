@@ -98,19 +98,40 @@ fn unified_in(alloc: Global, text: &str) -> Result<Option<Answer>, Fail> {
     unified_by(alloc, &mut bank, text)
 }
 
+// Puts the arguments from the third on of the left atom at the end.
+fn push_left(alloc: Global, text: &mut String) -> Result<(), Fail> {
+    for n in 2..65 {
+        let more = format!(in alloc; ",X{n},X{n}")?;
+        text.push_str(&more)?;
+    }
+    Ok(())
+}
+
+// Puts the arguments from the third on of the right atom at the end.
+fn push_right(alloc: Global, text: &mut String) -> Result<(), Fail> {
+    for n in 1..64 {
+        let next = n + 1;
+        let more = format!(in alloc; ",f(Y{n},Y{n}),Y{next}")?;
+        text.push_str(&more)?;
+    }
+    Ok(())
+}
+
+// Puts all behind the first two arguments of the left atom at the end.
+fn push_doubling(alloc: Global, text: &mut String) -> Result<(), Fail> {
+    push_left(alloc, text)?;
+    text.push_str(")). cnf(b,axiom,~p(f(Y0,Y0),Y1")?;
+    push_right(alloc, text)?;
+    text.push_str(")).")?;
+    Ok(())
+}
+
 // Two atoms of 128 arguments whose unifier doubles a term at each of 64 steps: `p(X1,X1,X2,X2,..,X64,X64)` and
 // `~p(f(Y0,Y0),Y1,f(Y1,Y1),Y2,..,f(Y63,Y63),Y64)`.
 fn doubling(alloc: Global) -> Result<String, Fail> {
-    let mut left = String::from_str(alloc, "cnf(a,axiom,p(X1,X1")?;
-    let mut right = String::from_str(alloc, ")). cnf(b,axiom,~p(f(Y0,Y0),Y1")?;
-    for n in 1..64 {
-        let next = n + 1;
-        left.push_str(&format!(in alloc; ",X{next},X{next}")?)?;
-        right.push_str(&format!(in alloc; ",f(Y{n},Y{n}),Y{next}")?)?;
-    }
-    left.push_str(&right)?;
-    left.push_str(")).")?;
-    Ok(left)
+    let mut text = String::from_str(alloc, "cnf(a,axiom,p(X1,X1")?;
+    push_doubling(alloc, &mut text)?;
+    Ok(text)
 }
 
 // Whether the last atom of the second clause is an instance of that of the first.
