@@ -47,8 +47,8 @@ pub fn find_lookup(alloc: Global, cert: &Saturation) -> Result<Lookup, Memory>
     requires placed { HasPlaces (saturation_of cert.now) }
     ensures { IfOk result (IsReady cert.now) }
 {
-    let partners = find_partners(alloc, cert)?;
     let fingerprints = find_fingerprints(alloc, cert)?;
+    let partners = find_partners(alloc, cert)?;
     let clauses = clauses_of(alloc, cert.base.members.as_slice())?;
     Ok(Lookup {
         partners,
