@@ -1,0 +1,4 @@
+pub mod Reads
+pub mod Groups
+pub mod Bodies
+pub mod Starts

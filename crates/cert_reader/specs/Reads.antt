@@ -1,0 +1,66 @@
+-- What is read of a whole text, and why one is refused.
+use Rattle.std.specs.Prelude.{◌≡◌, ◌≢◌, ◌≤◌, ℕ, List, [], ◌∷◌, ◌++◌, length, codes, IsTrue}
+use Rattle.std.specs.List.{list_all}
+use Rattle.std.specs.Char.{is_ascii_digit}
+use Rattle.cert_format.specs.Certificate as format
+use Rattle.cert_format.specs.Fronts.{IsFront, IsBadLine}
+use Rattle.cert_format.specs.Printable.{IsPrintable, IsTextName}
+use Rattle.cert_format.specs.Text.{certificate_text}
+use Rattle.cert_format.specs.ValueLines.{IsCertificateText}
+use Rattle.saturation_cert.specs.Values.{refutation_of, saturation_of}
+use Rattle.saturation_cert.specs.Wholes.{IsWholeRefutation, IsWholeSaturation}
+use Rattle.cert_reader.specs.declared.certificate.Certificate.{Certificate}
+use Rattle.cert_reader.specs.declared.certificate.Certificate.TheVariants as forms
+use Rattle.cert_reader.specs.declared.error.CertError.{CertError}
+use Rattle.cert_reader.specs.declared.error.CertError.TheVariants as errors
+
+-- ---- what is read
+
+abbrev pub value_of : Certificate → format.Certificate
+value_of (forms.Refutation r) = format.first_refutation (refutation_of r)
+value_of (forms.Saturation s) = format.saturation (saturation_of s)
+
+-- the certificate is printable, and the text is its text under some name
+pub record IsReadFrom (text : List ℕ) (c : Certificate) : Type 0 where
+  pub name : List ℕ
+  pub name_is : IsTextName name
+  pub printable : IsPrintable 1 (value_of c)
+  pub is : text ≡ certificate_text 1 name (value_of c)
+
+-- the ids are those of its bank
+abbrev pub IsWholeCertificate : Certificate → Type 0
+IsWholeCertificate (forms.Refutation r) = IsWholeRefutation r
+IsWholeCertificate (forms.Saturation s) = IsWholeSaturation s
+
+-- ---- what is refused
+
+-- 1 to 18 digits, of which the first is not `0`, and which are not `1` alone
+pub record IsOtherFormat (word : List ℕ) : Type 0 where
+  pub digits : IsTrue (list_all is_ascii_digit word)
+  pub some : word ≢ []
+  pub few : length word ≤ 18
+  pub plain : (rest : List ℕ) → word ≢ 48 ∷ rest
+  pub other : word ≢ 49 ∷ []
+
+-- The first two lines are those of some certificate text, and the third is `% instgen certificate ` with the number of another
+-- format.
+pub record IsVersion (text word : List ℕ) : Type 0 where
+  pub begun : IsFront IsCertificateText 2 text
+  pub format : IsOtherFormat word
+  pub rest : List ℕ
+  pub third : text ≡ begun.front ++ (codes "% instgen certificate " ++ (word ++ 10 ∷ rest))
+
+abbrev pub HasVersion : List ℕ → Type 0
+HasVersion text = (word : List ℕ) × IsVersion text word
+
+-- the line is the first that stands there in no certificate text, and the text is none, and none of another format
+pub record IsSyntaxAt (text : List ℕ) (line : ℕ) : Type 0 where
+  pub first : IsBadLine IsCertificateText line text
+  pub no_text : ¬ IsCertificateText text
+  pub no_version : ¬ HasVersion text
+
+-- what an error says of the text; want of memory has no cause
+abbrev pub IsCause : List ℕ → CertError → Type 0
+IsCause text (errors.Syntax line) = IsSyntaxAt text line
+IsCause text (errors.Version word) = IsVersion text word
+IsCause text errors.Memory = ⊤

@@ -1,0 +1,27 @@
+-- How the text of a certificate begins.
+use Rattle.std.specs.Prelude.{◌≡◌, ◌≢◌, ℕ, List, ◌∷◌, ◌++◌, Bool, codes, IsTrue}
+use Rattle.std.specs.List.{list_all}
+use Rattle.std.specs.Char.{is_ascii_digit}
+use Rattle.cert_format.specs.LineMachine.{status, opening, version}
+use Rattle.cert_format.specs.LineTexts.{line, is_text_name}
+use Rattle.cert_reader.specs.Reads.{IsSyntaxAt, IsVersion}
+use Rattle.cert_reader.specs.declared.start.Start.{Start}
+use Rattle.cert_reader.specs.declared.start.Start.TheVariants.{Begun, Bad, Other}
+
+-- the first three lines, in a certificate's text of this form under this name
+pub record HasBegun (text : List ℕ) (refutation : Bool) (name rest : List ℕ) : Type 0 where
+  pub is : text ≡ line (status refutation name) (line (opening refutation name) (line (version 1) rest))
+  pub name_is : IsTrue (is_text_name name)
+
+-- the third line but for the digits
+abbrev pub format_line : List ℕ → List ℕ → List ℕ
+format_line word rest = codes "% instgen certificate " ++ (word ++ 10 ∷ rest)
+
+-- no line of a format is at the front
+abbrev pub NoFormat : List ℕ → Type 0
+NoFormat bytes = (word rest : List ℕ) → IsTrue (list_all is_ascii_digit word) → bytes ≢ format_line word rest
+
+abbrev pub IsStart : List ℕ → Start → Type 0
+IsStart text (Begun refutation name rest) = HasBegun text refutation name.now rest.now
+IsStart text (Bad line) = IsSyntaxAt text line
+IsStart text (Other word) = IsVersion text word.now

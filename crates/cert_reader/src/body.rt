@@ -1,0 +1,67 @@
+// The items of a text, up to its end.
+ghost use Rattle.std.specs.Prelude.{◌≡◌, ◌+◌, ◌<◌, ◌^◌, List, ℕ, length, IfOk, OnOk};
+ghost use Rattle.cert_format.specs.LineMachine.{Header};
+ghost use Rattle.cert_reader.specs.Bodies.{HasRead, EndsSo, ending_behind};
+ghost use Rattle.cert_reader.specs.Groups.{AreGroups, items_of};
+
+use crate::groups::Groups;
+use crate::lines::closing;
+use crate::next::next_item;
+use inst_logic::Memory;
+use std::alloc::Global;
+use term_bank::Bank;
+
+/// How a text ends.
+#[derive(Clone, Copy)]
+pub enum Ending {
+    /// With the last line of a certificate.
+    Complete,
+    /// This line is the first that stands there in the text of no certificate.
+    BadLine(usize),
+}
+
+// How a text ends behind its last line, which has this number.
+fn behind_last(lines: usize, rest: &[u8]) -> Ending
+    requires counted { lines + length rest.now < 2 ^ 63 }
+    ensures { result ≡ ending_behind lines rest.now }
+{
+    if rest.is_empty() {
+        Ending::Complete
+    } else {
+        Ending::BadLine(lines + 1)
+    }
+}
+
+/// Reads the items and the last line of a text under this name, of which so many lines have been read.
+pub fn read_items(
+    alloc: Global,
+    bank: &mut Bank,
+    groups: &mut Groups,
+    refutation: bool,
+    name: &[u8],
+    lines: usize,
+    bytes: &[u8],
+) -> Result<Ending, Memory>
+    requires groups { AreGroups refutation bank.old groups.old }
+    requires counted { lines + length bytes.now < 2 ^ 63 }
+    ensures groups { OnOk result (AreGroups refutation bank.new groups.new) }
+    ensures ends { (text : List ℕ) (h : Header) → h.refutation ≡ refutation → h.name ≡ name.now → HasRead text h (items_of refutation bank.old groups.old) lines bytes.now
+        → IfOk result (EndsSo text h (items_of refutation bank.new groups.new)) }
+{
+    let mut ids = Vec::new(alloc);
+    let mut lines = lines;
+    let mut rest = bytes;
+    loop {
+        match closing(refutation, name, rest) {
+            Some(behind) => return Ok(behind_last(lines + 1, behind)),
+            None => match next_item(alloc, bank, &mut ids, groups, refutation, rest) {
+                Err(e) => return Err(e),
+                Ok(None) => return Ok(Ending::BadLine(lines + 1)),
+                Ok(Some(after)) => {
+                    lines += 1;
+                    rest = after;
+                }
+            },
+        }
+    }
+}

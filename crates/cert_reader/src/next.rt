@@ -1,0 +1,59 @@
+// One item more.
+ghost use Rattle.std.specs.Prelude.{◌≡◌, ◌<◌, List, ℕ, length, OnOk, IfOk, IfSome, IfNone};
+ghost use Rattle.cert_reader.specs.Bodies.{IsNextItem, NoNextItem};
+ghost use Rattle.cert_reader.specs.Groups.{AreGroups, items_of};
+
+use crate::groups::Groups;
+use cert_items::{Item, read_item};
+use inst_logic::Memory;
+use saturation_cert::GroundHintList;
+use std::alloc::Global;
+use term_bank::{Bank, IdClause, TermId};
+
+/// Reads the item whose line is at the front of the text, where it may follow those that were read, and gives what follows its
+/// line. `ids` is room to work in.
+pub fn next_item<'a>(
+    alloc: Global,
+    bank: &mut Bank,
+    ids: &mut Vec<TermId>,
+    groups: &mut Groups,
+    refutation: bool,
+    bytes: &'a [u8],
+) -> Result<Option<&'a [u8]>, Memory>
+    requires groups { AreGroups refutation bank.old groups.old }
+    ensures groups { IfOk result (λ r. IfSome r (λ _. AreGroups refutation bank.new groups.new)) }
+    ensures some { IfOk result (λ r. IfSome r (λ rest. IsNextItem refutation (items_of refutation bank.old groups.old) (items_of refutation bank.new groups.new) bytes.now rest.now)) }
+    ensures none { IfOk result (λ r. IfNone r (NoNextItem refutation (items_of refutation bank.old groups.old) bytes.now)) }
+    ensures shorter { IfOk result (λ r. IfSome r (λ rest. length rest.now < length bytes.now)) }
+{
+    let mut literals = IdClause::new(alloc);
+    let mut hints = GroundHintList::new(alloc);
+    match read_item(
+        alloc,
+        bank,
+        ids,
+        &mut literals,
+        &mut hints,
+        refutation,
+        bytes,
+    ) {
+        Err(e) => Err(e),
+        Ok(None) => Ok(None),
+        Ok(
+            Some(
+                Item {
+                    group,
+                    number,
+                    note,
+                    rest,
+                },
+            ),
+        ) => {
+            if !groups.may_take(group, number) {
+                return Ok(None);
+            }
+            groups.push(note, literals, hints)?;
+            Ok(Some(rest))
+        }
+    }
+}

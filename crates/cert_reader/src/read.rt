@@ -1,0 +1,168 @@
+// Whole texts.
+ghost use Rattle.std.specs.Prelude.{◌≡◌, ◌+◌, ◌<◌, ◌^◌, List, ℕ, [], length, true, false, IfOk, IfErr, IsTrue};
+ghost use Rattle.std.specs.Result.{IsErrOf};
+ghost use Rattle.inst_logic.specs.Printing.{is_readable_name, name_text};
+ghost use Rattle.cert_format.specs.Names.{IsNameText};
+ghost use Rattle.inst_logic.specs.WellFormed.{is_constant};
+ghost use Rattle.cert_reader.specs.Bodies.{header, HasRead};
+ghost use Rattle.cert_reader.specs.Groups.{refutation_by, saturation_by};
+ghost use Rattle.cert_reader.specs.Reads.{IsCause, IsReadFrom, IsSyntaxAt, IsVersion, IsWholeCertificate};
+ghost use Rattle.cert_reader.specs.Starts.{HasBegun};
+ghost use Rattle.cert_reader.specs.declared.error.CertError.TheVariants.{Syntax, Version};
+
+use crate::body::{Ending, read_items};
+use crate::certificate::Certificate;
+use crate::error::CertError;
+use crate::groups::Groups;
+use crate::lines::constant;
+use crate::start::{Start, begin};
+use cert_items::symbol::name_of;
+use inst_logic::{Kind, Memory, Name, Sym};
+use saturation_cert::{Base, Refutation, Saturation};
+use std::alloc::Global;
+use term_bank::Bank;
+
+// The refutation of these items and this constant.
+fn refutation(bank: Bank, groups: Groups, bot: Sym) -> Refutation
+    ensures { result ≡ refutation_by bank groups bot }
+{
+    let Groups {
+        inputs,
+        names,
+        axioms,
+        members,
+        grounds,
+        steps,
+        ..
+    } = groups;
+    Refutation {
+        base: Base {
+            bank,
+            inputs,
+            names,
+            axioms,
+            members,
+        },
+        bot,
+        grounds,
+        steps,
+    }
+}
+
+// The saturation of these items.
+fn saturation(bank: Bank, groups: Groups) -> Saturation
+    ensures { result ≡ saturation_by bank groups }
+{
+    let Groups {
+        inputs,
+        names,
+        axioms,
+        members,
+        places,
+        ..
+    } = groups;
+    Saturation {
+        base: Base {
+            bank,
+            inputs,
+            names,
+            axioms,
+            members,
+        },
+        places,
+    }
+}
+
+// The refutation with this constant under this name, of whose text four lines have been read.
+fn read_refutation(
+    alloc: Global,
+    bot: Sym,
+    name: &[u8],
+    bytes: &[u8],
+) -> Result<Certificate, CertError>
+    requires constant { IsTrue (is_constant bot) }
+    requires readable { IsTrue (is_readable_name bot.name) }
+    requires counted { 4 + length bytes.now < 2 ^ 63 }
+    ensures read { (text : List ℕ) → HasRead text (header true name.now bot.name) [] 4 bytes.now → IfOk result (IsReadFrom text) }
+    ensures whole { IfOk result IsWholeCertificate }
+    ensures refused { (text : List ℕ) → HasRead text (header true name.now bot.name) [] 4 bytes.now → IfErr result (IsCause text) }
+{
+    let mut bank = Bank::new(alloc);
+    let mut groups = Groups::new(alloc);
+    match read_items(alloc, &mut bank, &mut groups, true, name, 4, bytes) {
+        Ok(Ending::Complete) => Ok(Certificate::Refutation(refutation(bank, groups, bot))),
+        Ok(Ending::BadLine(line)) => Err(CertError::Syntax { line }),
+        Err(Memory) => Err(CertError::Memory),
+    }
+}
+
+// The saturation under this name, of whose text three lines have been read.
+fn read_saturation(alloc: Global, name: &[u8], bytes: &[u8]) -> Result<Certificate, CertError>
+    requires counted { 3 + length bytes.now < 2 ^ 63 }
+    ensures read { (text : List ℕ) → HasRead text (header false name.now []) [] 3 bytes.now → IfOk result (IsReadFrom text) }
+    ensures whole { IfOk result IsWholeCertificate }
+    ensures refused { (text : List ℕ) → HasRead text (header false name.now []) [] 3 bytes.now → IfErr result (IsCause text) }
+{
+    let mut bank = Bank::new(alloc);
+    let mut groups = Groups::new(alloc);
+    match read_items(alloc, &mut bank, &mut groups, false, name, 3, bytes) {
+        Ok(Ending::Complete) => Ok(Certificate::Saturation(saturation(bank, groups))),
+        Ok(Ending::BadLine(line)) => Err(CertError::Syntax { line }),
+        Err(Memory) => Err(CertError::Memory),
+    }
+}
+
+// The constant whose name is printed so.
+fn constant_named(alloc: Global, text: &[u8]) -> Result<Sym, Memory>
+    requires { IsNameText text.now }
+    ensures name { IfOk result (λ s. text.now ≡ name_text s.name) }
+    ensures readable { IfOk result (λ s. IsTrue (is_readable_name s.name)) }
+    ensures constant { IfOk result (λ s. IsTrue (is_constant s)) }
+{
+    let name = name_of(alloc, text)?;
+    Ok(Sym {
+        kind: Kind::Function,
+        name,
+        arity: 0,
+    })
+}
+
+// The refutation under this name, of whose text three lines have been read.
+fn begun_refutation(alloc: Global, name: &[u8], bytes: &[u8]) -> Result<Certificate, CertError>
+    requires counted { 3 + length bytes.now < 2 ^ 63 }
+    ensures read { (text : List ℕ) → HasBegun text true name.now bytes.now → IfOk result (IsReadFrom text) }
+    ensures whole { IfOk result IsWholeCertificate }
+    ensures refused { (text : List ℕ) → HasBegun text true name.now bytes.now → IfErr result (IsCause text) }
+{
+    match constant(bytes) {
+        None => Err(CertError::Syntax { line: 4 }),
+        Some((text, rest)) => {
+            let bot = constant_named(alloc, text)?;
+            read_refutation(alloc, bot, name, rest)
+        }
+    }
+}
+
+/// The certificate whose text this is, over a bank of its own. The text is bytes, and need not be UTF-8. What a certificate says
+/// is not checked here: its clauses are canonical and its numbers fit, and no more.
+pub fn read_certificate(alloc: Global, text: &[u8]) -> Result<Certificate, CertError>
+    ensures read { IfOk result (IsReadFrom text.now) }
+    ensures whole { IfOk result IsWholeCertificate }
+    ensures syntax { (line : ℕ) → IsErrOf result (Syntax line) → IsSyntaxAt text.now line }
+    ensures version { (word : List ℕ) → IsErrOf result (Version word) → IsVersion text.now word }
+{
+    match begin(text) {
+        Start::Bad(line) => Err(CertError::Syntax { line }),
+        Start::Other(digits) => {
+            let word = Name::of(alloc, digits)?;
+            Err(CertError::Version { word })
+        }
+        Start::Begun(refutation, name, rest) => {
+            if refutation {
+                begun_refutation(alloc, name, rest)
+            } else {
+                read_saturation(alloc, name, rest)
+            }
+        }
+    }
+}
