@@ -1,0 +1,9 @@
+mod FirstLines
+mod Steps
+mod Beginnings
+mod Pushes
+mod NextItems
+mod Progress
+mod Values
+mod Causes
+mod NameLines

@@ -129,6 +129,17 @@ pub fn format(bytes: &[u8]) -> Option<(&[u8], &[u8])>
     }
 }
 
+/// Whether these digits are the number of the first format.
+pub fn is_first_format(digits: &[u8]) -> bool
+    ensures yes { IsTrue result → digits.now ≡ 49 ∷ [] }
+    ensures no { result ≡ false → digits.now ≢ 49 ∷ [] }
+{
+    match digits {
+        [] => false,
+        [first, rest @ ..] => *first == 49 && rest.is_empty(),
+    }
+}
+
 /// Whether these digits are the number of another format than the first.
 pub fn is_other_format(digits: &[u8]) -> bool
     requires digits { IsTrue (list_all is_ascii_digit digits.now) }

@@ -6,7 +6,7 @@ ghost use Rattle.cert_format.specs.Names.{IsNameText};
 ghost use Rattle.inst_logic.specs.WellFormed.{is_constant};
 ghost use Rattle.cert_reader.specs.Bodies.{header, HasRead};
 ghost use Rattle.cert_reader.specs.Groups.{refutation_by, saturation_by};
-ghost use Rattle.cert_reader.specs.Reads.{IsCause, IsReadFrom, IsSyntaxAt, IsVersion, IsWholeCertificate};
+ghost use Rattle.cert_reader.specs.Reads.{HasVersion, IsCause, IsReadFrom, IsSyntaxAt, IsVersion, IsWholeCertificate};
 ghost use Rattle.cert_reader.specs.Starts.{HasBegun};
 ghost use Rattle.cert_reader.specs.declared.error.CertError.TheVariants.{Syntax, Version};
 
@@ -85,7 +85,7 @@ fn read_refutation(
     requires counted { 4 + length bytes.now < 2 ^ 63 }
     ensures read { (text : List ℕ) → HasRead text (header true name.now bot.name) [] 4 bytes.now → IfOk result (IsReadFrom text) }
     ensures whole { IfOk result IsWholeCertificate }
-    ensures refused { (text : List ℕ) → HasRead text (header true name.now bot.name) [] 4 bytes.now → IfErr result (IsCause text) }
+    ensures refused { (text : List ℕ) → HasRead text (header true name.now bot.name) [] 4 bytes.now → ¬ HasVersion text → IfErr result (IsCause text) }
 {
     let mut bank = Bank::new(alloc);
     let mut groups = Groups::new(alloc);
@@ -101,7 +101,7 @@ fn read_saturation(alloc: Global, name: &[u8], bytes: &[u8]) -> Result<Certifica
     requires counted { 3 + length bytes.now < 2 ^ 63 }
     ensures read { (text : List ℕ) → HasRead text (header false name.now []) [] 3 bytes.now → IfOk result (IsReadFrom text) }
     ensures whole { IfOk result IsWholeCertificate }
-    ensures refused { (text : List ℕ) → HasRead text (header false name.now []) [] 3 bytes.now → IfErr result (IsCause text) }
+    ensures refused { (text : List ℕ) → HasRead text (header false name.now []) [] 3 bytes.now → ¬ HasVersion text → IfErr result (IsCause text) }
 {
     let mut bank = Bank::new(alloc);
     let mut groups = Groups::new(alloc);

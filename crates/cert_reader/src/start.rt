@@ -4,7 +4,7 @@ ghost use Rattle.cert_format.specs.LineMachine as lines;
 ghost use Rattle.cert_format.specs.LineTexts.{line, is_text_name};
 ghost use Rattle.cert_reader.specs.Starts.{IsStart};
 
-use crate::lines::{format, is_other_format, opening, status};
+use crate::lines::{format, is_first_format, is_other_format, opening, status};
 
 /// How a text begins.
 pub enum Start<'a> {
@@ -23,7 +23,7 @@ fn third<'a>(refutation: bool, name: &'a [u8], bytes: &'a [u8]) -> Start<'a>
     match format(bytes) {
         None => Start::Bad(3),
         Some((digits, rest)) => {
-            if digits == b"1".as_slice() {
+            if is_first_format(digits) {
                 Start::Begun(refutation, name, rest)
             } else if is_other_format(digits) {
                 Start::Other(digits)

@@ -1,0 +1,145 @@
+-- The item that was read may follow those before it, or none that may is at the front.
+use Rattle.std.proofs.Common.{◌≡◌, ◌≢◌, ℕ, suc, ◌≤◌, ◌<◌, Bool, true, false, List, [], ◌∷◌, ◌++◌, length, refl, sym, ap, ◌∙◌, subst, arith}
+use Rattle.std.specs.Prelude.{nat_eq, nat_le, not, ◌+◌}
+use Rattle.std.proofs.lemmas.Bool.{and_parts, and_from}
+use Rattle.std.proofs.lemmas.Bool.Decides.{nat_tests}
+use Rattle.std.proofs.lemmas.List.{length-append}
+use Rattle.inst_logic.specs.declared.signed.Signed.{Signed}
+use Rattle.inst_logic.specs.Clauses.{TreeClause}
+use Rattle.term_bank.specs.Forest.{Forest, AreFormed, Extends, clause_at}
+use Rattle.cert_format.specs.LineMachine.{Note, named, equality, member, selected, ground_of, shown_by, rank, Item, Header, Line, item, count, fits, is_number, last_rank}
+use Rattle.cert_format.specs.LineTexts.{line, note_is_printable}
+use Rattle.cert_format.specs.FirstFormat.{clause_is_printable, may_follow}
+use Rattle.cert_format.proofs.Exits as exits
+use Rattle.cert_format.proofs.Exits.{item_line_once}
+use Rattle.cert_format.proofs.FirstFormat.{next_of}
+use Rattle.cert_format.proofs.LineNotes.{line_more, in_form}
+use Rattle.cert_format.proofs.Spelling.{number_is}
+use Rattle.saturation_cert.specs.declared.certificate.GroundHint.{GroundHint}
+use Rattle.saturation_cert.specs.Wholes.{IsWholeClause}
+use Rattle.cert_items.specs.Items.{HasForm, IsItem, NoItem, group_of, note_of}
+use Rattle.cert_items.specs.declared.group.Group.{Group}
+use Rattle.cert_items.specs.declared.note.Note as read
+use Rattle.cert_reader.specs.declared.groups.Groups.{Groups}
+use Rattle.cert_reader.specs.Bodies.{header, IsNextItem, NoNextItem}
+use Rattle.cert_reader.specs.Groups.{rank_of, count_of, pushed, items_of, AreGroups}
+use Rattle.cert_reader.proofs.Pushes.{counts, pushed_items, pushed_groups, grown_items, grown_groups}
+
+rank_group : (note : Note) → rank note ≡ rank_of (group_of note)
+rank_group (named w) = refl
+rank_group equality = refl
+rank_group (member o) = refl
+rank_group (selected o p) = refl
+rank_group ground_of = refl
+rank_group (shown_by hs) = refl
+
+-- ---- forms
+
+form_in : (r : Bool) (note : Note) → HasForm r note → in_form r note ≡ true
+form_in r (named w) f = refl
+form_in r equality f = refl
+form_in r (member o) f = f (header r [] []) refl
+form_in r (selected o p) f = f (header r [] []) refl
+form_in r ground_of f = refl
+form_in r (shown_by hs) f = refl
+
+same_fits : (h k : Header) (note : Note) → h.refutation ≡ k.refutation → fits h note ≡ fits k note
+same_fits h k (named w) e = refl
+same_fits h k equality e = refl
+same_fits h k (member o) e = e
+same_fits h k (selected o p) e = ap (λ (b : Bool). not b) e
+same_fits h k ground_of e = e
+same_fits h k (shown_by hs) e = e
+
+exits_item : (r : Bool) (n : ℕ) (c : TreeClause) (note : Note) → IsItem r n c note → exits.IsItem r n c note
+exits_item r n c note i = record { number = i.number; clause = i.clause; note_is = i.printable; form = form_in r note i.form }
+
+following_item : (h : Header) (is : List Item) (n : ℕ) (c : TreeClause) (note : Note) → may_follow h is n c note ≡ true → IsItem h.refutation n c note
+following_item h is n c note m =
+    let p = next_of h is n c note m in
+    let f = and_parts (fits h note) _ m in
+    record { number = p.fits_number; clause = p.clause_is; printable = p.note_is; form = λ k e. same_fits k h note e ∙ f.0 }
+
+-- ---- no item that may follow
+
+pub no_item_next : (r : Bool) (is : List Item) (bytes : List ℕ) → NoItem r bytes → NoNextItem r is bytes
+no_item_next r is bytes bad h e n c note rest m at = bad n c note rest (subst (λ (b : Bool). IsItem b n c note) e (following_item h is n c note m)) at
+
+-- what a test of an item that may follow says
+record IsNextIn (is : List Item) (n : ℕ) (note : Note) : Type 0 where
+  pub low : last_rank is ≤ rank note
+  pub at : n ≡ suc (count (rank note) is)
+
+at_most : (m n : ℕ) → nat_le m n ≡ true → m ≤ n
+at_most m n h = grind (arith, nat_tests)
+
+less_equal : (m n : ℕ) → m ≤ n → nat_le m n ≡ true
+less_equal m n h = grind (arith, nat_tests)
+
+same_number : (m n : ℕ) → m ≡ n → nat_eq m n ≡ true
+same_number m n h = grind (arith, nat_tests)
+
+next_in : (h : Header) (is : List Item) (n : ℕ) (c : TreeClause) (note : Note) → may_follow h is n c note ≡ true → IsNextIn is n note
+next_in h is n c note m =
+    let a = and_parts (fits h note) _ m in
+    let b = and_parts (nat_le (last_rank is) (rank note)) _ a.1 in
+    record { low = at_most (last_rank is) (rank note) b.0; at = (next_of h is n c note m).at }
+
+abbrev number_in : Line → ℕ
+number_in (item n c note) = n
+number_in _ = 0
+
+abbrev note_in : Line → Note
+note_in (item n c note) = note
+note_in _ = equality
+
+-- the item that was read may not follow
+pub wrong_next : (r : Bool) (f : Forest) (g : Groups) (k : Group) (n : ℕ) (c : TreeClause) (note : Note) (bytes rest : List ℕ) → AreGroups r f g → IsItem r n c note → bytes ≡ line (item n c note) rest → group_of note ≡ k → ((rank_of g.last ≤ rank_of k) × (n ≡ suc (count_of k g)) → ⊥) → NoNextItem r (items_of r f g) bytes
+wrong_next r f g k n c note bytes rest p i at group_is bad h e m d other y follows is =
+    let j = subst (λ (b : Bool). IsItem b m d other) e (following_item h (items_of r f g) m d other follows) in
+    let o = item_line_once r n m c d note other rest y (exits_item r n c note i) (exits_item r m d other j) (sym at ∙ is) in
+    let same_n = ap number_in o.0 in
+    let same_note = ap note_in o.0 in
+    let q = next_in h (items_of r f g) m d other follows in
+    let rank_is : rank other ≡ rank_of k = ap rank (sym same_note) ∙ rank_group note ∙ ap rank_of group_is in
+    let low : rank_of g.last ≤ rank_of k = omega (arith, q.low, p.last, rank_is) in
+    let number : n ≡ suc (count_of k g) = same_n ∙ q.at ∙ ap (λ (z : ℕ). suc (count z (items_of r f g))) rank_is ∙ ap suc (counts r f g p k) in
+    bad (low, number)
+
+-- ---- one item that may follow
+
+follows : (r : Bool) (f : Forest) (g : Groups) (k : Group) (n : ℕ) (c : TreeClause) (note : Note) → AreGroups r f g → IsItem r n c note → group_of note ≡ k → rank_of g.last ≤ rank_of k → n ≡ suc (count_of k g) → (h : Header) → h.refutation ≡ r → may_follow h (items_of r f g) n c note ≡ true
+follows r f g k n c note p i group_is low at h e =
+    let is = items_of r f g in
+    let rank_is : rank note ≡ rank_of k = rank_group note ∙ ap rank_of group_is in
+    let last_low : last_rank is ≤ rank note = omega (arith, low, p.last, rank_is) in
+    let number : n ≡ suc (count (rank note) is) = at ∙ ap suc (sym (counts r f g p k)) ∙ ap (λ (z : ℕ). suc (count z is)) (sym rank_is) in
+    and_from (fits h note) _ (i.form h e) (and_from (nat_le (last_rank is) (rank note)) _ (less_equal (last_rank is) (rank note) last_low) (and_from (nat_eq n (suc (count (rank note) is))) _ (same_number n (suc (count (rank note) is)) number)
+    (and_from (is_number n) _ i.number (and_from (clause_is_printable c) (note_is_printable note) i.clause i.printable))))
+
+low_rank : (g : Groups) (k : Group) (note : Note) → group_of note ≡ k → rank_of g.last ≤ rank_of k → rank_of g.last ≤ rank note
+low_rank g k note group_is low = subst (λ (z : ℕ). rank_of g.last ≤ z) (sym (rank_group note ∙ ap rank_of group_is)) low
+
+module _ (r : Bool) (f h : Forest) (g : Groups) (k : Group) (n : ℕ) (note : read.Note) (c : List (Signed ℕ)) (hs : List GroundHint) (grown : Extends f h) (formed : AreFormed h) (p : AreGroups r f g)
+    (i : IsItem r n (clause_at h c) (note_of note hs)) (group_is : group_of (note_of note hs) ≡ k) (low : rank_of g.last ≤ rank_of k) (at : n ≡ suc (count_of k g)) where
+  pub next_groups : IsWholeClause h c → AreGroups r h (pushed note c hs g)
+  next_groups whole = pushed_groups r h g note c hs (grown_groups f h grown r g formed p) (low_rank g k (note_of note hs) group_is low) (i.form (header r [] []) refl) whole
+
+  pub next_item : (bytes rest : List ℕ) → bytes ≡ line (item n (clause_at h c) (note_of note hs)) rest → IsNextItem r (items_of r f g) (items_of r h (pushed note c hs g)) bytes rest
+  next_item bytes rest text =
+      let q = grown_groups f h grown r g formed p in
+      let same = grown_items f h grown r g p in
+      record {
+        number = n;
+        clause = clause_at h c;
+        note = note_of note hs;
+        follows = λ z e. subst (λ (is : List Item). may_follow z is n (clause_at h c) (note_of note hs) ≡ true) same (follows r h g k n (clause_at h c) (note_of note hs) q i group_is low at z e);
+        one_more = pushed_items r h g note c hs q (low_rank g k (note_of note hs) group_is low) (i.form (header r [] []) refl) ∙ ap (λ (is : List Item). is ++ record { clause = clause_at h c; note = note_of note hs } ∷ []) same;
+        text_is = text;
+      }
+
+-- a line is longer than what follows it
+pub line_longer : (n : ℕ) (c : TreeClause) (note : Note) (bytes rest : List ℕ) → bytes ≡ line (item n c note) rest → length rest < length bytes
+line_longer n c note bytes rest at =
+    let e : length bytes ≡ length (line (item n c note) []) + length rest = ap length (at ∙ sym (line_more (item n c note) [] rest)) ∙ length-append (line (item n c note) []) rest in
+    omega (arith, e)

@@ -1,0 +1,87 @@
+-- One more line of the body, and the ends.
+use Rattle.std.proofs.Common.{◌≡◌, ◌≢◌, ℕ, ◌+◌, suc, ◌<◌, ◌^◌, Bool, true, false, cond, List, [], ◌∷◌, ◌++◌, length, refl, sym, ap, ◌∙◌, subst, arith, append_assoc}
+use Rattle.std.specs.Prelude.{nat_eq}
+use Rattle.std.specs.List.{list_all}
+use Rattle.std.proofs.lemmas.Bool.{and_from}
+use Rattle.std.proofs.lemmas.Bool.{and_parts}
+use Rattle.std.proofs.lemmas.List.{append-nil, length_push}
+use Rattle.inst_logic.specs.Clauses.{TreeClause}
+use Rattle.cert_format.specs.LineMachine.{Note, rank, Item, Header, Line, status, opening, version, item, closing, State, nothing, body, done, count, fits, guarded, last_rank}
+use Rattle.cert_format.specs.LineTexts.{line, line_text, is_text_name}
+use Rattle.cert_format.specs.FirstFormat.{may_follow, step, is_done, text_of_lines, Leads}
+use Rattle.cert_format.specs.ValueLines.{item_lines}
+use Rattle.cert_format.proofs.FirstFormat.{exact, next_of}
+use Rattle.cert_format.proofs.LineMachine.{count_push}
+use Rattle.cert_format.proofs.LineNotes.{below}
+use Rattle.cert_format.proofs.LineTexts.{lines_append}
+use Rattle.cert_format.proofs.Machines.{behind_end}
+use Rattle.cert_format.proofs.Spelling.{number_is}
+use Rattle.cert_format.proofs.ValueRuns.{all_append, name_yes}
+use Rattle.cert_reader.specs.Bodies.{constant_lines, lines_up_to, is_good, HasRead, IsNextItem, NoNextItem, IsComplete, IsRefusedAt, EndsSo, ending_behind}
+use Rattle.cert_reader.specs.declared.body.Ending.{Ending}
+use Rattle.cert_reader.proofs.Steps.{no_next, one_more, closing_step, behind_all, refused, name_is}
+
+-- ---- one more item
+
+abbrev one : TreeClause → Note → List Item
+one c note = record { clause = c; note = note } ∷ []
+
+lines_more : (h : Header) (is : List Item) (n : ℕ) (c : TreeClause) (note : Note) → n ≡ suc (count (rank note) is) → lines_up_to h (is ++ one c note) ≡ lines_up_to h is ++ item n c note ∷ []
+lines_more h is n c note at =
+    ap (λ (ls : List Line). status h.refutation h.name ∷ opening h.refutation h.name ∷ version h.format ∷ ls)
+    (ap (λ (ls : List Line). constant_lines h.refutation h.bot ++ ls) (lines_append [] is (one c note) ∙ ap (λ (k : ℕ). item_lines [] is ++ item k c note ∷ []) (sym at))
+    ∙ sym (append_assoc (constant_lines h.refutation h.bot) (item_lines [] is) (item n c note ∷ [])))
+
+few_push : (is : List Item) (n : ℕ) (c : TreeClause) (note : Note) → n ≡ suc (count (rank note) is) → n < 2 ^ 64 → ((k : ℕ) → count k is < 2 ^ 64) → (k : ℕ) → count k (is ++ one c note) < 2 ^ 64
+few_push is n c note at small few k = subst (λ (j : ℕ). j < 2 ^ 64) (sym (count_push k is (record { clause = c; note = note }))) (by (nat_eq (rank note) k) refl)
+  where
+    by : (t : Bool) → nat_eq (rank note) k ≡ t → cond t (suc (count k is)) (count k is) < 2 ^ 64
+    by true e = let g = ap (λ (j : ℕ). suc (count j is)) (number_is (rank note) k e) in omega (arith, at, small, g)
+    by false e = few k
+
+read_more : (text : List ℕ) (h : Header) (is : List Item) (lines : ℕ) (x rest : List ℕ) (n : ℕ) (c : TreeClause) (note : Note) → HasRead text h is lines x → may_follow h is n c note ≡ true → x ≡ line (item n c note) rest → HasRead text h (is ++ one c note) (lines + 1) rest
+read_more text h is lines x rest n c note r m at =
+    let p = next_of h is n c note m in
+    let more = lines_more h is n c note p.at in
+    let fit = and_parts (fits h note) _ m in
+    record {
+      leads = subst (λ (ls : List Line). Leads ls (body h (is ++ one c note))) (sym more) (one_more (lines_up_to h is) (item n c note) (body h is) (body h (is ++ one c note)) r.leads (ap (λ (b : Bool). guarded b (body h (is ++ one c note))) m));
+      text_is = r.text_is ∙ ap (λ (xs : List ℕ). text_of_lines (lines_up_to h is) ++ xs) at ∙ sym (behind_all (lines_up_to h is) (item n c note) rest) ∙ ap (λ (ls : List Line). text_of_lines ls ++ rest) (sym more);
+      counted = ap length more ∙ length_push (lines_up_to h is) (item n c note) ∙ ap (λ (k : ℕ). k + 1) r.counted;
+      good = all_append (is_good h) is (one c note) r.good (and_from (is_good h (record { clause = c; note = note })) true (and_from (fits h note) _ fit.0 (and_from _ _ p.clause_is p.note_is)) refl);
+      few = few_push is n c note p.at (below n p.fits_number) r.few;
+    }
+
+pub progress : (text : List ℕ) (h : Header) (r : Bool) (is js : List Item) (lines : ℕ) (x rest : List ℕ) → h.refutation ≡ r → HasRead text h is lines x → IsNextItem r is js x rest → HasRead text h js (lines + 1) rest
+progress text h r is js lines x rest e p s =
+    subst (λ (ks : List Item). HasRead text h ks (lines + 1) rest) (sym s.one_more) (read_more text h is lines x rest s.number s.clause s.note p (s.follows h e) s.text_is)
+
+-- ---- the ends
+
+pub refused_next : (text : List ℕ) (h : Header) (is : List Item) (lines : ℕ) (x : List ℕ) → HasRead text h is lines x → NoNextItem h.refutation is x → ((y : List ℕ) → x ≢ line (closing h.refutation h.name) y) → IsRefusedAt text (lines + 1)
+refused_next text h is lines x p bad last =
+    let q = refused (lines_up_to h is) (body h is) text x p.leads p.text_is (no_next h is x bad last) (λ e. (let k = e.0 in cc)) in
+    let n : suc (length (lines_up_to h is)) ≡ lines + 1 = omega (arith, p.counted) in
+    subst (IsRefusedAt text) n q
+
+text_name : (text : List ℕ) (h : Header) (is : List Item) (lines : ℕ) (x : List ℕ) → HasRead text h is lines x → is_text_name h.name ≡ true
+text_name text h is lines x p = name_yes h.name (name_is h.refutation h.name _ (body h is) p.leads)
+
+closed_leads : (text : List ℕ) (h : Header) (is : List Item) (lines : ℕ) (x : List ℕ) → HasRead text h is lines x → Leads (lines_up_to h is ++ closing h.refutation h.name ∷ []) (done h is)
+closed_leads text h is lines x p = one_more (lines_up_to h is) (closing h.refutation h.name) (body h is) (done h is) p.leads (closing_step h is (text_name text h is lines x p))
+
+closed_text : (text : List ℕ) (h : Header) (is : List Item) (lines : ℕ) (x rest : List ℕ) → HasRead text h is lines x → x ≡ line (closing h.refutation h.name) rest → text ≡ text_of_lines (lines_up_to h is ++ closing h.refutation h.name ∷ []) ++ rest
+closed_text text h is lines x rest p at = p.text_is ∙ ap (λ (xs : List ℕ). text_of_lines (lines_up_to h is) ++ xs) at ∙ sym (behind_all (lines_up_to h is) (closing h.refutation h.name) rest)
+
+pub ended : (text : List ℕ) (h : Header) (is : List Item) (lines : ℕ) (x rest : List ℕ) → HasRead text h is lines x → x ≡ line (closing h.refutation h.name) rest → EndsSo text h is (ending_behind (lines + 1) rest)
+ended text h is lines x [] p at = record {
+  leads = closed_leads text h is lines x p;
+  text_is = closed_text text h is lines x [] p at ∙ append-nil _;
+  good = p.good;
+  few = p.few;
+}
+ended text h is lines x (b ∷ bs) p at =
+    let ls = lines_up_to h is ++ closing h.refutation h.name ∷ [] in
+    let q = refused ls (done h is) text (b ∷ bs) (closed_leads text h is lines x p) (closed_text text h is lines x (b ∷ bs) p at) (behind_end line_text step is_done nothing exact (done h is) (b ∷ bs) refl) (λ e. (let k = e.1 in cc)) in
+    let n : suc (length ls) ≡ suc (lines + 1) = omega (arith, p.counted, length_push (lines_up_to h is) (closing h.refutation h.name)) in
+    subst (IsRefusedAt text) n q

@@ -1,0 +1,15 @@
+use Rattle.std.proofs.Common.{◌≡◌, ◌+◌, ◌≤◌, List, ℕ, length}
+use Rattle.cert_format.specs.LineMachine.{Header}
+use Rattle.cert_reader.specs.Bodies.{HasRead}
+use Rattle.cert_reader.specs.Groups.{AreGroups, items_of}
+use Rattle.cert_reader.proofs.body.read_items.Given as goal
+
+abbrev pub invariant-loop-rest : goal.invariant-loop-rest
+invariant-loop-rest l = record {
+  groups : AreGroups l.refutation l.bank l.groups;
+  counted : l.lines + length l.rest ≤ l.fn.lines + length l.fn.bytes;
+  read : (text : List ℕ) (h : Header) → h.refutation ≡ l.refutation → HasRead text h (items_of l.refutation l.fn.bank l.fn.groups) l.fn.lines l.fn.bytes → HasRead text h (items_of l.refutation l.bank l.groups) l.lines l.rest;
+}
+
+abbrev pub decreases-loop-rest : goal.decreases-loop-rest
+decreases-loop-rest l = length l.rest

@@ -1,0 +1,10 @@
+use Rattle.std.proofs.Common.{◌≡◌, ◌+◌, ◌-◌, ◌≤◌, length, drop}
+use Rattle.cert_format.specs.LineTexts.{is_name_byte}
+use Rattle.cert_format.specs.Runs.{run}
+use Rattle.cert_reader.proofs.lines.name_len.Given as goal
+
+abbrev pub invariant-loop-n : goal.invariant-loop-n
+invariant-loop-n l = record { in_range : l.n ≤ length l.bytes; total : l.n + run is_name_byte (drop l.n l.bytes) ≡ run is_name_byte l.bytes }
+
+abbrev pub decreases-loop-n : goal.decreases-loop-n
+decreases-loop-n l = length l.bytes - l.n
