@@ -7,3 +7,4 @@ mod Progress
 mod Values
 mod Causes
 mod NameLines
+mod OneReading

@@ -1,10 +1,9 @@
 -- One more line of the body, and the ends.
-use Rattle.std.proofs.Common.{◌≡◌, ◌≢◌, ℕ, ◌+◌, suc, ◌<◌, ◌^◌, Bool, true, false, cond, List, [], ◌∷◌, ◌++◌, length, refl, sym, ap, ◌∙◌, subst, arith, append_assoc}
+use Rattle.std.proofs.Common.{◌≡◌, ◌≢◌, ℕ, ◌+◌, suc, ◌<◌, ◌^◌, Bool, true, false, cond, List, [], ◌∷◌, ◌++◌, length, refl, sym, ap, ap₂, ◌∙◌, subst, arith, append_assoc}
 use Rattle.std.specs.Prelude.{nat_eq}
 use Rattle.std.specs.List.{list_all}
-use Rattle.std.proofs.lemmas.Bool.{and_from}
-use Rattle.std.proofs.lemmas.Bool.{and_parts}
-use Rattle.std.proofs.lemmas.List.{append-nil, length_push}
+use Rattle.std.proofs.lemmas.Bool.{and_parts, and_from}
+use Rattle.std.proofs.lemmas.List.{append-nil, length-append, length_push}
 use Rattle.inst_logic.specs.Clauses.{TreeClause}
 use Rattle.cert_format.specs.LineMachine.{Note, rank, Item, Header, Line, status, opening, version, item, closing, State, nothing, body, done, count, fits, guarded, last_rank}
 use Rattle.cert_format.specs.LineTexts.{line, line_text, is_text_name}
@@ -12,7 +11,7 @@ use Rattle.cert_format.specs.FirstFormat.{may_follow, step, is_done, text_of_lin
 use Rattle.cert_format.specs.ValueLines.{item_lines}
 use Rattle.cert_format.proofs.FirstFormat.{exact, next_of}
 use Rattle.cert_format.proofs.LineMachine.{count_push}
-use Rattle.cert_format.proofs.LineNotes.{below}
+use Rattle.cert_format.proofs.LineNotes.{below, line_more}
 use Rattle.cert_format.proofs.LineTexts.{lines_append}
 use Rattle.cert_format.proofs.Machines.{behind_end}
 use Rattle.cert_format.proofs.Spelling.{number_is}
@@ -85,3 +84,18 @@ ended text h is lines x (b ∷ bs) p at =
     let q = refused ls (done h is) text (b ∷ bs) (closed_leads text h is lines x p) (closed_text text h is lines x (b ∷ bs) p at) (behind_end line_text step is_done nothing exact (done h is) (b ∷ bs) refl) (λ e. (let k = e.1 in cc)) in
     let n : suc (length ls) ≡ suc (lines + 1) = omega (arith, p.counted, length_push (lines_up_to h is) (closing h.refutation h.name)) in
     subst (IsRefusedAt text) n q
+
+-- ---- the same for a reader, which knows the form and the name
+
+pub ended_so : (text : List ℕ) (h : Header) (r : Bool) (n : List ℕ) (is : List Item) (lines : ℕ) (x rest : List ℕ) (e : Ending) → h.refutation ≡ r → h.name ≡ n → HasRead text h is lines x → x ≡ line (closing r n) rest → e ≡ ending_behind (lines + 1) rest → EndsSo text h is e
+ended_so text h r n is lines x rest e form same p at q =
+    subst (EndsSo text h is) (sym q) (ended text h is lines x rest p (at ∙ ap (λ (l : Line). line l rest) (sym (ap₂ closing form same))))
+
+pub refused_so : (text : List ℕ) (h : Header) (r : Bool) (n : List ℕ) (is : List Item) (lines : ℕ) (x : List ℕ) → h.refutation ≡ r → h.name ≡ n → HasRead text h is lines x → NoNextItem r is x → ((y : List ℕ) → x ≢ line (closing r n) y) → IsRefusedAt text (lines + 1)
+refused_so text h r n is lines x form same p bad last =
+    refused_next text h is lines x p (subst (λ (b : Bool). NoNextItem b is x) (sym form) bad) (λ y e. last y (e ∙ ap (λ (l : Line). line l y) (ap₂ closing form same)))
+
+pub closing_longer : (r : Bool) (n bytes rest : List ℕ) → bytes ≡ line (closing r n) rest → length rest < length bytes
+closing_longer r n bytes rest at =
+    let e : length bytes ≡ length (line (closing r n) []) + length rest = ap length (at ∙ sym (line_more (closing r n) [] rest)) ∙ length-append (line (closing r n) []) rest in
+    omega (arith, e)

@@ -7,6 +7,7 @@ mod body;
 pub mod certificate;
 pub mod error;
 mod groups;
+pub mod laws;
 mod lines;
 mod next;
 mod read;
@@ -14,4 +15,5 @@ mod start;
 
 pub use certificate::Certificate;
 pub use error::CertError;
+pub use laws::readings_are_one;
 pub use read::read_certificate;
