@@ -1,10 +1,13 @@
 -- What an error says, read off its cause; and what an ending says.
-use Rattle.std.proofs.Common.{◌≡◌, ℕ, List, [], Bool, true, false, subst, sym, ap}
-use Rattle.std.specs.Prelude.{Result, Ok, Err, IfOk, IfErr, tt}
+use Rattle.std.proofs.Common.{◌≡◌, ℕ, List, [], subst, sym}
+use Rattle.std.specs.Prelude.{Result, Ok, Err, IfErr}
 use Rattle.cert_reader.specs.declared.certificate.Certificate.{Certificate}
 use Rattle.cert_reader.specs.declared.error.CertError.{CertError}
 use Rattle.cert_reader.specs.declared.error.CertError.TheVariants as errors
-use Rattle.cert_reader.specs.Bodies.{IsRefusedAt}
+use Rattle.cert_format.specs.LineMachine.{Item, Header}
+use Rattle.cert_reader.specs.declared.body.Ending.{Ending}
+use Rattle.cert_reader.specs.declared.body.Ending.TheVariants.{Complete, BadLine}
+use Rattle.cert_reader.specs.Bodies.{HasRead, IsComplete, IsRefusedAt, EndsSo}
 use Rattle.cert_reader.specs.Reads.{IsCause, IsSyntaxAt, IsVersion, HasVersion}
 
 pub syntax_of : (r : Result Certificate CertError) (text : List ℕ) → IfErr r (IsCause text) → (line : ℕ) → r ≡ Err (errors.Syntax line) → IsSyntaxAt text line
@@ -15,3 +18,15 @@ version_of r text h word e = subst (λ (x : Result Certificate CertError). IfErr
 
 pub refused_syntax : (text : List ℕ) (n : ℕ) → IsRefusedAt text n → ¬ HasVersion text → IsSyntaxAt text n
 refused_syntax text n r v = record { first = r.first; no_text = r.no_text; no_version = v }
+
+-- ---- endings
+
+pub complete_is : (text : List ℕ) (h : Header) (is : List Item) (e : Ending) → e ≡ Complete → EndsSo text h is e → IsComplete text h is
+complete_is text h is e q k = subst (EndsSo text h is) q k
+
+pub bad_line_is : (text : List ℕ) (h : Header) (is : List Item) (e : Ending) (n : ℕ) → e ≡ BadLine n → EndsSo text h is e → IsRefusedAt text n
+bad_line_is text h is e n q k = subst (EndsSo text h is) q k
+
+-- before the first item
+pub from_nothing : (text : List ℕ) (h : Header) (is : List Item) (lines : ℕ) (rest : List ℕ) → is ≡ [] → HasRead text h [] lines rest → HasRead text h is lines rest
+from_nothing text h is lines rest e p = subst (λ (js : List Item). HasRead text h js lines rest) (sym e) p

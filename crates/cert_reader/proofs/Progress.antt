@@ -64,7 +64,7 @@ refused_next text h is lines x p bad last =
     subst (IsRefusedAt text) n q
 
 text_name : (text : List ℕ) (h : Header) (is : List Item) (lines : ℕ) (x : List ℕ) → HasRead text h is lines x → is_text_name h.name ≡ true
-text_name text h is lines x p = name_yes h.name (name_is h.refutation h.name _ (body h is) p.leads)
+text_name text h is lines x p = name_yes h.name (name_is h.refutation h.name (opening h.refutation h.name ∷ version h.format ∷ (constant_lines h.refutation h.bot ++ item_lines [] is)) (body h is) p.leads)
 
 closed_leads : (text : List ℕ) (h : Header) (is : List Item) (lines : ℕ) (x : List ℕ) → HasRead text h is lines x → Leads (lines_up_to h is ++ closing h.refutation h.name ∷ []) (done h is)
 closed_leads text h is lines x p = one_more (lines_up_to h is) (closing h.refutation h.name) (body h is) (done h is) p.leads (closing_step h is (text_name text h is lines x p))
@@ -75,7 +75,7 @@ closed_text text h is lines x rest p at = p.text_is ∙ ap (λ (xs : List ℕ). 
 pub ended : (text : List ℕ) (h : Header) (is : List Item) (lines : ℕ) (x rest : List ℕ) → HasRead text h is lines x → x ≡ line (closing h.refutation h.name) rest → EndsSo text h is (ending_behind (lines + 1) rest)
 ended text h is lines x [] p at = record {
   leads = closed_leads text h is lines x p;
-  text_is = closed_text text h is lines x [] p at ∙ append-nil _;
+  text_is = closed_text text h is lines x [] p at ∙ append-nil (text_of_lines (lines_up_to h is ++ closing h.refutation h.name ∷ []));
   good = p.good;
   few = p.few;
 }

@@ -5,6 +5,7 @@ use Rattle.std.specs.List.{list_all}
 use Rattle.std.proofs.lemmas.Bool.{and_parts, and_from}
 use Rattle.std.proofs.lemmas.List.{append-nil, length-map}
 use Rattle.std.proofs.lemmas.List.Elements.{All-nil, All-cons}
+use Rattle.inst_logic.specs.declared.signed.Signed.{Signed}
 use Rattle.inst_logic.specs.declared.symbol.Sym.{Sym}
 use Rattle.inst_logic.specs.Tree.{Tree}
 use Rattle.inst_logic.specs.Clauses.{TreeClause}
@@ -25,6 +26,7 @@ use Rattle.cert_format.proofs.FirstFormat.{test_yes}
 use Rattle.cert_format.proofs.LineNotes.{below}
 use Rattle.cert_format.proofs.LineTexts.{text_is}
 use Rattle.cert_format.proofs.Writables.{IsWritableEntry, IsWritableStep, IsWritable, printable}
+use Rattle.saturation_cert.specs.declared.certificate.GroundStep.{GroundStep}
 use Rattle.saturation_cert.specs.Values.{entry_of, step_of, refutation_of, saturation_of}
 use Rattle.cert_items.specs.declared.group.Group.TheVariants as kinds
 use Rattle.cert_reader.specs.declared.certificate.Certificate.TheVariants as forms
@@ -178,7 +180,7 @@ refutation_read text f g bot name constant_is readable p c =
     let h = header true name bot.name in
     record {
       name = name;
-      name_is = name_is true name _ (done h (items_of true f g)) c.leads;
+      name_is = name_is true name (opening true name ∷ version 1 ∷ constant bot.name ∷ (item_lines [] (items_of true f g) ++ closing true name ∷ [])) (done h (items_of true f g)) c.leads;
       printable = printable v (refuted f g bot h constant_is readable p c.good c.few);
       is = c.text_is ∙ sym (text_is name v);
     }
@@ -188,7 +190,9 @@ saturation_lines f g name p =
     let A = input_items (map (clause_at f) g.inputs) g.names in
     let B = axiom_items (map (clause_at f) g.axioms) in
     let C = selected_items (map (entry_of f) g.members) g.places in
-    let e : items_of false f g ≡ A ++ (B ++ C) = ap (λ (z : List Item). A ++ (B ++ (C ++ z))) (ap (λ (cs : List (List _)). ground_items (map (clause_at f) cs) ++ step_items (map (step_of f) g.steps)) p.form.1 ∙ ap (λ (ss : List _). step_items (map (step_of f) ss)) p.form.2) ∙ ap (λ (z : List Item). A ++ (B ++ z)) (append-nil C) in
+    let e : items_of false f g ≡ A ++ (B ++ C) =
+        ap (λ (z : List Item). A ++ (B ++ (C ++ z))) (ap (λ (cs : List (List (Signed ℕ))). ground_items (map (clause_at f) cs) ++ step_items (map (step_of f) g.steps)) p.form.1 ∙ ap (λ (ss : List GroundStep). step_items (map (step_of f) ss)) p.form.2)
+        ∙ ap (λ (z : List Item). A ++ (B ++ z)) (append-nil C) in
     ap (λ (is : List Item). status false name ∷ opening false name ∷ version 1 ∷ (item_lines [] is ++ closing false name ∷ [])) e
 
 pub saturation_read : (text : List ℕ) (f : Forest) (g : Groups) (name : List ℕ) → AreGroups false f g → IsComplete text (header false name []) (items_of false f g) → IsReadFrom text (forms.Saturation (saturation_by f g))
@@ -197,7 +201,7 @@ saturation_read text f g name p c =
     let h = header false name [] in
     record {
       name = name;
-      name_is = name_is false name _ (done h (items_of false f g)) c.leads;
+      name_is = name_is false name (opening false name ∷ version 1 ∷ (item_lines [] (items_of false f g) ++ closing false name ∷ [])) (done h (items_of false f g)) c.leads;
       printable = printable v (saturated f g h p c.good c.few);
       is = c.text_is ∙ ap text_of_lines (saturation_lines f g name p) ∙ sym (text_is name v);
     }

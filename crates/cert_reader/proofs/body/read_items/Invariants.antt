@@ -4,12 +4,12 @@ use Rattle.cert_reader.specs.Bodies.{HasRead}
 use Rattle.cert_reader.specs.Groups.{AreGroups, items_of}
 use Rattle.cert_reader.proofs.body.read_items.Given as goal
 
-abbrev pub invariant-loop-rest : goal.invariant-loop-rest
-invariant-loop-rest l = record {
+abbrev pub invariant-loop-behind : goal.invariant-loop-behind
+invariant-loop-behind l = record {
   groups : AreGroups l.refutation l.bank l.groups;
   counted : l.lines + length l.rest ≤ l.fn.lines + length l.fn.bytes;
   read : (text : List ℕ) (h : Header) → h.refutation ≡ l.refutation → HasRead text h (items_of l.refutation l.fn.bank l.fn.groups) l.fn.lines l.fn.bytes → HasRead text h (items_of l.refutation l.bank l.groups) l.lines l.rest;
 }
 
-abbrev pub decreases-loop-rest : goal.decreases-loop-rest
-decreases-loop-rest l = length l.rest
+abbrev pub decreases-loop-behind : goal.decreases-loop-behind
+decreases-loop-behind l = length l.rest
