@@ -1,5 +1,5 @@
 // The items of a text, up to its end.
-ghost use Rattle.std.specs.Prelude.{◌≡◌, ◌+◌, ◌<◌, ◌^◌, List, ℕ, length, IfOk, OnOk};
+ghost use Rattle.std.specs.Prelude.{◌≡◌, ◌+◌, ◌<◌, ◌^◌, List, ℕ, length, IfOk};
 ghost use Rattle.cert_format.specs.LineMachine.{Header};
 ghost use Rattle.cert_reader.specs.Bodies.{HasRead, EndsSo, ending_behind};
 ghost use Rattle.cert_reader.specs.Groups.{AreGroups, items_of};
@@ -44,7 +44,7 @@ pub fn read_items(
 ) -> Result<Ending, Memory>
     requires groups { AreGroups refutation bank.old groups.old }
     requires counted { lines + length bytes.now < 2 ^ 63 }
-    ensures groups { OnOk result (AreGroups refutation bank.new groups.new) }
+    ensures groups { IfOk result (λ e. e ≡ Ending.Complete → AreGroups refutation bank.new groups.new) }
     ensures ends { (text : List ℕ) (h : Header) → h.refutation ≡ refutation → h.name ≡ name.now → HasRead text h (items_of refutation bank.old groups.old) lines bytes.now
         → IfOk result (EndsSo text h (items_of refutation bank.new groups.new)) }
 {

@@ -33,3 +33,9 @@ loop-behind-preserved c =
       counted = omega (arith, l.invariant.counted, shorter);
       read = λ text h form p. progress text h c.args.refutation (items_of c.args.refutation l.bank l.groups) (items_of c.args.refutation c.next_item.new.bank c.next_item.new.groups) l.lines l.rest.now s.after.now form (l.invariant.read text h form p) next;
     }
+
+pub returns-in-Some-clause-groups : goal.returns-in-Some-clause-groups
+returns-in-Some-clause-groups c e = c.loop-behind.invariant.groups
+
+pub returns-in-Ok-None-clause-groups : goal.returns-in-Ok-None-clause-groups
+returns-in-Ok-None-clause-groups c e = absurd cc
