@@ -1,0 +1,5 @@
+pub mod Faults
+pub mod Certificates
+pub mod Checks
+pub mod Queries
+pub mod Texts
