@@ -1,5 +1,5 @@
 -- The certificate of a file, and why there is none.
-use Rattle.std.specs.Prelude.{ℕ, ◌≡◌, ◌<◌, List, Option, Some, None, length, ⊤}
+use Rattle.std.specs.Prelude.{ℕ, ◌≡◌, ◌<◌, List, Option, Some, None, IfSome, length, ⊤}
 use Rattle.outside_io.specs.Causes.{Rose}
 use Rattle.outside_io.specs.Files.{bytes_named}
 use Rattle.outside_io.specs.declared.library.NamedFile.{NamedFile}
@@ -7,7 +7,6 @@ use Rattle.whole_file.specs.Files.{IsHeld}
 use Rattle.cert_format.specs.Certificate.{Certificate}
 use Rattle.cert_format.specs.Printable.{IsPrintable, IsTextName}
 use Rattle.cert_format.specs.Text.{certificate_text}
-use Rattle.tptp_load.specs.Problems.{Told}
 use Rattle.cert_reader.specs.Reads.{IsSyntaxAt, IsVersion}
 use Rattle.check_front.specs.declared.fault.CertFault.{CertFault}
 use Rattle.check_front.specs.declared.fault.CertFault.TheVariants.{Absent, TooLong, ReadFault, Syntax, Version, NoSaturation, Memory}
@@ -47,8 +46,8 @@ IsLong name files = (bytes : List ℕ) × (bytes_named files name ≡ Some bytes
 
 -- why the file of this name is that of no certificate, whatever the library's calls answer
 abbrev pub IsBarred : Option (List NamedFile) → List ℕ → CertFault → Type 0
-IsBarred files name Absent = Told files (λ told. bytes_named told name ≡ None)
-IsBarred files name TooLong = Told files (IsLong name)
+IsBarred files name Absent = IfSome files (λ told. bytes_named told name ≡ None)
+IsBarred files name TooLong = IfSome files (IsLong name)
 IsBarred files name ReadFault = ⊥
 IsBarred files name (Syntax line) = (bytes : List ℕ) × IsHeld limit files name bytes × IsSyntaxAt bytes line
 IsBarred files name (Version word) = (bytes : List ℕ) × IsHeld limit files name bytes × IsVersion bytes word

@@ -1,0 +1,2 @@
+pub mod VariableFree
+pub mod Reading
