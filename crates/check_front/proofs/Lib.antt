@@ -1,2 +1,5 @@
 pub mod VariableFree
 pub mod Reading
+pub mod Certificates
+pub mod Checks
+pub mod Queries

@@ -6,7 +6,7 @@ use Rattle.inst_logic.specs.Tree.{Tree}
 use Rattle.cert_format.specs.Certificate.{FirstRefutation, Saturation, first_refutation, saturation}
 use Rattle.cert_judge.specs.Replies.{IsReply}
 use Rattle.cert_judge.specs.declared.reply.Reply.{Reply}
-use Rattle.check_front.specs.Certificates.{IsBarred, IsCertFault, IsCertificateOf}
+use Rattle.check_front.specs.Certificates.{IsBarred, IsCertificateOf}
 use Rattle.check_front.specs.declared.fault.CertFault.{CertFault}
 use Rattle.check_front.specs.declared.fault.CertFault.TheVariants.{Absent, TooLong, ReadFault, Syntax, Version, NoSaturation, Memory}
 

@@ -126,6 +126,25 @@ fn judge_for<L: Library>(
     Ok(found)
 }
 
+// The same of the certificate of the file of this name.
+fn judge_file<L: Library>(
+    alloc: Global,
+    files: &mut L,
+    name: &str,
+    problem: Option<&str>,
+    root: Option<&str>,
+) -> Result<(Form, Judgement), CheckFault>
+    ensures files { L.files files.new ≡ L.files files.old }
+    ensures later { L.faults files.old ≤ L.faults files.new }
+    ensures judged { IfOk result (IsJudged (L.files files.old) name.now (option_map (λ f. f.now) problem.entry) (option_map (λ r. r.now) root.entry)) }
+    ensures refused { IfErr result (IsCheckFault (L.files files.old) (L.faults files.old) (L.faults files.new) name.now (option_map (λ f. f.now) problem.entry) (option_map (λ r. r.now) root.entry)) }
+{
+    match read_file(alloc, files, name) {
+        Ok(certificate) => judge_for(alloc, files, certificate, problem, root),
+        Err(fault) => Err(CheckFault::from(fault)),
+    }
+}
+
 /// What the certificate of a file is found to be, with its form: valid, or the first reason why it is not. Where a problem is
 /// named, its file is loaded, with the root for its includes, and the certificate has to be one of it. The file of the
 /// certificate is read first.
@@ -144,8 +163,5 @@ pub fn check_file<L: Library>(
     ensures exact { IfSome (L.files files.old) (λ told. IsExactCheck told (L.faults files.old) (L.faults files.new) name.now (option_map (λ f. f.now) problem.entry) (option_map (λ r. r.now) root.entry) result) }
 {
     findings_are_one();
-    match read_file(alloc, files, name) {
-        Ok(certificate) => judge_for(alloc, files, certificate, problem, root),
-        Err(fault) => Err(CheckFault::from(fault)),
-    }
+    judge_file(alloc, files, name, problem, root)
 }

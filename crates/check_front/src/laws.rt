@@ -15,6 +15,7 @@ ghost use Rattle.check_front.specs.declared.fault.CertFault.{CertFault};
 
 use cert_format::texts_are_one;
 use cert_judge::{judgements_are_one, replies_are_one};
+use cert_reader::readings_are_one;
 use tptp_load::laws::one_loading;
 
 /// Files give one answer to a check, and one to a question.
@@ -25,6 +26,7 @@ pub fn findings_are_one()
         → IsFoundReply files name t a → IsFoundReply files name t b → a ≡ b }
 {
     texts_are_one();
+    readings_are_one();
     judgements_are_one();
     replies_are_one();
     one_loading();

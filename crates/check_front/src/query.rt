@@ -33,6 +33,28 @@ fn reply(alloc: Global, cert: Saturation, atom: &Literal) -> Result<Reply, CertF
     Ok(reply)
 }
 
+// The same of the saturation of the file of this name.
+fn reply_of_file<L: Library>(
+    alloc: Global,
+    files: &mut L,
+    name: &str,
+    atom: &Literal,
+) -> Result<Reply, CertFault>
+    requires atom { IsAtom (literal atom.now).atom }
+    requires variable_free { is_ground (literal atom.now).atom ≡ true }
+    ensures files { L.files files.new ≡ L.files files.old }
+    ensures later { L.faults files.old ≤ L.faults files.new }
+    ensures replied { IfOk result (IsReplied (L.files files.old) name.now (literal atom.now).atom) }
+    ensures refused { IfErr result (IsAskFault (L.files files.old) (L.faults files.old) (L.faults files.new) name.now) }
+{
+    short_texts_are_light();
+    match read_file(alloc, files, name) {
+        Ok(Certificate::Saturation(cert)) => reply(alloc, cert, atom),
+        Ok(Certificate::Refutation(_)) => Err(CertFault::NoSaturation),
+        Err(fault) => Err(fault),
+    }
+}
+
 /// What the saturation of a file says of the ground atom: true or false, or the first complaint where it is not valid. The
 /// literal's sign is not asked for.
 pub fn ask_file<L: Library>(
@@ -50,11 +72,6 @@ pub fn ask_file<L: Library>(
     // Where the files are told, it is the answer that they give, but for faults and want of memory.
     ensures exact { IfSome (L.files files.old) (λ told. IsExactReply told (L.faults files.old) (L.faults files.new) name.now (literal atom.now).atom result) }
 {
-    short_texts_are_light();
     findings_are_one();
-    match read_file(alloc, files, name) {
-        Ok(Certificate::Saturation(cert)) => reply(alloc, cert, atom),
-        Ok(Certificate::Refutation(_)) => Err(CertFault::NoSaturation),
-        Err(fault) => Err(fault),
-    }
+    reply_of_file(alloc, files, name, atom)
 }

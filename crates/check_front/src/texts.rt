@@ -42,12 +42,7 @@ fn write_reason<K: Sink>(
 
 // Writes the first line, and a second one with a word behind its lead.
 #[tactic(auto, unfolding(crate::specs::Texts::told_text))]
-fn write_word<K: Sink>(
-    out: &mut K,
-    name: &[u8],
-    lead: &[u8],
-    word: &[u8],
-) -> Result<(), Trouble>
+fn write_word<K: Sink>(out: &mut K, name: &[u8], lead: &[u8], word: &[u8]) -> Result<(), Trouble>
     ensures ok { OnOk result (Appends (K.taken out.old) (K.taken out.new) (told_text (codes "InputError") name.now (lead.now ∷ word.now ∷ codes "\n" ∷ []))) }
     ensures err { OnErr result (AppendsProperPrefix (K.taken out.old) (K.taken out.new) (told_text (codes "InputError") name.now (lead.now ∷ word.now ∷ codes "\n" ∷ []))) }
     ensures later { K.faults out.old ≤ K.faults out.new }
