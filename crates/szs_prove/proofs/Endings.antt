@@ -1,6 +1,6 @@
 -- What the exit tells of the answer, and of what was written.
-use Rattle.std.proofs.Common.{◌≡◌, ℕ, List, Option, inl, inr, refl, sym, subst, append-nil, codes}
-use Rattle.std.specs.Prelude.{⊤, Result, Ok, Err}
+use Rattle.std.proofs.Common.{◌≡◌, ◌∙◌, ℕ, List, Bool, true, false, nat_eq, Option, None, Some, inl, inr, refl, sym, subst, append-nil, codes}
+use Rattle.std.specs.Prelude.{⊤, ◌⊎◌, Result, Ok, Err}
 use Rattle.std.specs.Io.KnownBytes.{Appends}
 use Rattle.outside_io.specs.Causes.{Rose}
 use Rattle.cert_format.specs.Certificate.{Certificate}
@@ -8,7 +8,26 @@ use Rattle.cert_format.specs.Text.{certificate_text}
 use Rattle.tptp_load.specs.Problems.{IsLoadCause}
 use Rattle.tptp_load.specs.declared.error.LoadError.{LoadError}
 use Rattle.tptp_load.specs.declared.error.LoadError.TheVariants as load
-use Rattle.command_words.specs.Asked.{prove, IsAsked}
+use Rattle.inst_logic.specs.Tree.{Tree}
+use Rattle.inst_logic.specs.declared.memory.Memory.{Memory as OutOfMemory}
+use Rattle.inst_logic.specs.declared.signed.Signed.{Signed}
+use Rattle.cert_judge.specs.Words.{judgement_line, reply_line}
+use Rattle.cert_judge.specs.declared.judgement.Judgement.{Judgement}
+use Rattle.cert_judge.specs.declared.judgement.Judgement.TheVariants as judgement
+use Rattle.cert_judge.specs.declared.reply.Reply.{Reply}
+use Rattle.cert_judge.specs.declared.reply.Reply.TheVariants as reply
+use Rattle.cert_judge.specs.declared.words.Form.{Form}
+use Rattle.chain_stress.specs.Sizes.{IsRefutedIn}
+use Rattle.chain_stress.specs.Words.{size_lines}
+use Rattle.chain_stress.specs.declared.sizes.Size.{Size}
+use Rattle.check_front.specs.Checks.{IsCheckFault, IsJudged}
+use Rattle.check_front.specs.Queries.{IsAskFault, IsReplied}
+use Rattle.check_front.specs.Texts.{fault_text}
+use Rattle.check_front.specs.declared.check.CheckFault.{CheckFault}
+use Rattle.check_front.specs.declared.check.CheckFault.TheVariants as unjudged
+use Rattle.check_front.specs.declared.fault.CertFault.{CertFault}
+use Rattle.check_front.specs.declared.fault.CertFault.TheVariants as cert
+use Rattle.command_words.specs.Asked.{Asked, prove, sat, check, ask, stress, IsAsked}
 use Rattle.dimacs_front.specs.Command.{status_line}
 use Rattle.dimacs_front.specs.Command as dimacs
 use Rattle.dimacs_front.specs.Files.{IsOutcome, IsRefused}
@@ -18,9 +37,9 @@ use Rattle.dimacs_front.specs.declared.error.DimacsError.{DimacsError}
 use Rattle.dimacs_front.specs.declared.error.DimacsError.TheVariants as fault
 use Rattle.dimacs_front.specs.declared.file.SatError.{SatError}
 use Rattle.dimacs_front.specs.declared.file.SatError.TheVariants as bar
-use Rattle.szs_prove.specs.Answers.{Answer, Reading, verdict, refusal, values, usage, no_words, IsAnswer, IsOutOfBudget, IsRefusal, IsVerdict, exit_for, text_for}
-use Rattle.szs_prove.specs.Answered.{Answered, Writing, IsInterrupted, WantsMemory, WritesCertificate, WritesNumbers}
-use Rattle.szs_prove.specs.Texts.{refusal_text, load_exit, sat_exit}
+use Rattle.szs_prove.specs.Answers.{Answer, Reading, verdict, refusal, values, judged, replied, measured, usage, no_words, IsAnswer, IsFinding, IsMeasured, IsOutOfBudget, IsRefusal, IsReplyOf, IsVerdict, exit_for, text_for}
+use Rattle.szs_prove.specs.Answered.{Answered, AsksAtom, AsksChain, AsksCheck, AsksProof, Writing, IsInterrupted, WantsMemory, WritesCertificate, WritesComplaint, WritesJudgement, WritesNumbers, WritesReply, WritesSize}
+use Rattle.szs_prove.specs.Texts.{refusal_text, fault_exit, judgement_exit, load_exit, reply_exit, sat_exit, unjudged_exit, unjudged_text}
 use Rattle.szs_prove.specs.declared.exit.Exit.{Exit}
 use Rattle.szs_prove.specs.declared.exit.Exit.TheVariants as exit
 use Rattle.szs_prove.specs.declared.refusal.Refusal.{Refusal}
@@ -47,9 +66,68 @@ record SaysNumbers (words : List (List ℕ)) (read : Reading) (text : List ℕ) 
   stopped : IsOutOfBudget read.files file root budget left wanted
   is : text ≡ refusal_text file (OutOfBudget budget left wanted)
 
+-- the text is the line of what the certificate is found to be, with the exit that goes with it
+record SaysJudgement (words : List (List ℕ)) (read : Reading) (text : List ℕ) (e : Exit) : Type 0 where
+  cert : List ℕ
+  problem : Option (List ℕ)
+  root : Option (List ℕ)
+  asked : IsAsked words (check cert problem root)
+  form : Form
+  judgement : Judgement
+  found : IsJudged read.files cert problem root (form, judgement)
+  ends : e ≡ judgement_exit judgement
+  is : text ≡ judgement_line form judgement
+
+-- the text is the line of what the saturation says of the atom, with the exit that goes with it
+record SaysReply (words : List (List ℕ)) (read : Reading) (text : List ℕ) (e : Exit) : Type 0 where
+  cert : List ℕ
+  atom : Signed Tree
+  asked : IsAsked words (ask cert atom)
+  reply : Reply
+  said : IsReplied read.files cert atom.atom reply
+  ends : e ≡ reply_exit reply
+  is : text ≡ reply_line reply
+
+-- the text is that of the size of a refutation of the chain
+record SaysSize (words : List (List ℕ)) (text : List ℕ) : Type 0 where
+  number : ℕ
+  asked : IsAsked words (stress number)
+  size : Size
+  refuted : IsRefutedIn number size
+  is : text ≡ size_lines size
+
+-- what is complained of a certificate
+abbrev SaysComplaint : List (List ℕ) → Reading → List ℕ → Type 0
+SaysComplaint words read text = SaysJudgement words read text exit.CheckFailed ⊎ SaysReply words read text exit.CheckFailed
+
+-- what is decided
+abbrev SaysDecided : List (List ℕ) → Reading → List ℕ → Type 0
+SaysDecided words read text = SaysVerdict words read text ⊎ SaysJudgement words read text exit.Decided ⊎ SaysReply words read text exit.Decided ⊎ SaysSize words text
+
 -- the text says that memory is wanted
 abbrev SaysWant : List ℕ → Type 0
 SaysWant text = (name : List ℕ) × (text ≡ refusal_text name Memory)
+
+-- ---- words ask one thing
+
+abbrev pub AsksOne : Type 0
+AsksOne = (words : List (List ℕ)) (a b : Asked) → IsAsked words a → IsAsked words b → a ≡ b
+
+-- the number of a question's command
+abbrev kind : Asked → ℕ
+kind (prove file root budget) = 0
+kind (sat file) = 1
+kind (check cert problem root) = 2
+kind (ask cert atom) = 3
+kind (stress number) = 4
+
+apart_from_itself : (n : ℕ) → nat_eq n n ≡ false → ⊥
+apart_from_itself n h = grind (arith, nat_tests)
+
+other_kind : (a b : Asked) → nat_eq (kind a) (kind b) ≡ false → a ≡ b → ⊥
+other_kind a b apart is =
+    let same : nat_eq (kind a) (kind a) ≡ false = subst (λ (x : Asked). nat_eq (kind a) (kind x) ≡ false) (sym is) apart in
+    apart_from_itself (kind a) same
 
 memory_line : (name : List ℕ) → dimacs.refusal_text name bar.Memory ≡ refusal_text name Memory
 unfolding status_line
@@ -58,7 +136,7 @@ memory_line name = append-nil (status_line (codes "MemoryOut") name)
 module _ (words : List (List ℕ)) (read : Reading) where
   -- what an answer's own exit tells of its text
   abbrev Tells : List ℕ → Exit → Type 0
-  Tells text exit.Decided = SaysVerdict words read text
+  Tells text exit.Decided = SaysDecided words read text
   Tells text exit.ResourceOut = SaysNumbers words read text
   Tells text exit.Refused = ⊤
   Tells text exit.Usage = ⊤
@@ -67,20 +145,22 @@ module _ (words : List (List ℕ)) (read : Reading) where
   Tells text exit.Memory = SaysWant text
   Tells text exit.Sat = ⊤
   Tells text exit.Unsat = ⊤
+  Tells text exit.CheckFailed = SaysComplaint words read text
 
-  load_tells : (file : List ℕ) (root : Option (List ℕ)) (e : LoadError) → IsLoadCause read.files read.before read.now file root e → Tells (refusal_text file (Load e)) (load_exit e)
-  load_tells file root (load.Text at e) h = tt
-  load_tells file root (load.Absent name) h = tt
-  load_tells file root (load.NotSelected at name) h = tt
-  load_tells file root (load.IncludeDepth at) h = tt
-  load_tells file root load.TooLong h = tt
-  load_tells file root load.ReadFault h = h
-  load_tells file root load.Memory h = (file, refl)
+  -- under any name
+  load_tells : (name file : List ℕ) (root : Option (List ℕ)) (e : LoadError) → IsLoadCause read.files read.before read.now file root e → Tells (refusal_text name (Load e)) (load_exit e)
+  load_tells name file root (load.Text at e) h = tt
+  load_tells name file root (load.Absent wanted) h = tt
+  load_tells name file root (load.NotSelected at name) h = tt
+  load_tells name file root (load.IncludeDepth at) h = tt
+  load_tells name file root load.TooLong h = tt
+  load_tells name file root load.ReadFault h = h
+  load_tells name file root load.Memory h = (name, refl)
 
   refusal_tells : (file : List ℕ) (root : Option (List ℕ)) (budget : ℕ) → IsAsked words (prove file root budget) → (why : Refusal) → IsRefusal read file root budget why
       → Tells (refusal_text file why) (exit_for (refusal file why))
   refusal_tells file root budget asked Usage h = absurd h
-  refusal_tells file root budget asked (Load e) h = load_tells file root e h
+  refusal_tells file root budget asked (Load e) h = load_tells file file root e h
   refusal_tells file root budget asked (OutOfBudget all left least) h = record {
     file = file;
     root = root;
@@ -109,10 +189,65 @@ module _ (words : List (List ℕ)) (read : Reading) where
   values_tell file (Err bar.ReadFault) h = h
   values_tell file (Err bar.Memory) h = (file, memory_line file)
 
+  judgement_says : (c : List ℕ) (problem root : Option (List ℕ)) → IsAsked words (check c problem root) → (form : Form) (j : Judgement) → IsJudged read.files c problem root (form, j)
+      → SaysJudgement words read (judgement_line form j) (judgement_exit j)
+  judgement_says c problem root asked form j h = record { cert = c; problem = problem; root = root; asked = asked; form = form; judgement = j; found = h; ends = refl; is = refl }
+
+  judgement_tells : (c : List ℕ) (problem root : Option (List ℕ)) → IsAsked words (check c problem root) → (form : Form) (j : Judgement) → IsJudged read.files c problem root (form, j)
+      → Tells (judgement_line form j) (judgement_exit j)
+  judgement_tells c problem root asked form judgement.Valid h = inr (inl (judgement_says c problem root asked form judgement.Valid h))
+  judgement_tells c problem root asked form (judgement.Problem n) h = inl (judgement_says c problem root asked form (judgement.Problem n) h)
+  judgement_tells c problem root asked form (judgement.Invalid why) h = inl (judgement_says c problem root asked form (judgement.Invalid why) h)
+
+  reply_says : (c : List ℕ) (atom : Signed Tree) → IsAsked words (ask c atom) → (r : Reply) → IsReplied read.files c atom.atom r → SaysReply words read (reply_line r) (reply_exit r)
+  reply_says c atom asked r h = record { cert = c; atom = atom; asked = asked; reply = r; said = h; ends = refl; is = refl }
+
+  reply_tells : (c : List ℕ) (atom : Signed Tree) → IsAsked words (ask c atom) → (r : Reply) → IsReplied read.files c atom.atom r → Tells (reply_line r) (reply_exit r)
+  reply_tells c atom asked reply.True h = inr (inr (inl (reply_says c atom asked reply.True h)))
+  reply_tells c atom asked reply.False h = inr (inr (inl (reply_says c atom asked reply.False h)))
+  reply_tells c atom asked (reply.Invalid why) h = inr (reply_says c atom asked (reply.Invalid why) h)
+
+  unjudged_tells : (c : List ℕ) (problem root : Option (List ℕ)) (why : CheckFault) → IsCheckFault read.files read.before read.now c problem root why → Tells (unjudged_text c why) (unjudged_exit why)
+  unjudged_tells c problem root (unjudged.Cert cert.Absent) h = tt
+  unjudged_tells c problem root (unjudged.Cert cert.TooLong) h = tt
+  unjudged_tells c problem root (unjudged.Cert cert.ReadFault) h = h.1
+  unjudged_tells c problem root (unjudged.Cert (cert.Syntax line)) h = tt
+  unjudged_tells c problem root (unjudged.Cert (cert.Version word)) h = tt
+  unjudged_tells c problem root (unjudged.Cert cert.NoSaturation) h = tt
+  unjudged_tells c problem root (unjudged.Cert cert.Memory) h = absurd h.1
+  unjudged_tells c None root (unjudged.Problem e) h = absurd h.2
+  unjudged_tells c (Some file) root (unjudged.Problem e) h = load_tells c file root e h.2
+  unjudged_tells c problem root unjudged.Memory h = (c, refl)
+
+  query_tells : (c : List ℕ) (f : CertFault) → IsAskFault read.files read.before read.now c f → Tells (fault_text c f) (fault_exit f)
+  query_tells c cert.Absent h = tt
+  query_tells c cert.TooLong h = tt
+  query_tells c cert.ReadFault h = h
+  query_tells c (cert.Syntax line) h = tt
+  query_tells c (cert.Version word) h = tt
+  query_tells c cert.NoSaturation h = tt
+  query_tells c cert.Memory h = (c, refl)
+
+  judged_tell : (c : List ℕ) (problem root : Option (List ℕ)) → IsAsked words (check c problem root) → (o : Result (Form × Judgement) CheckFault) → IsFinding read c problem root o
+      → Tells (text_for (judged c o)) (exit_for (judged c o))
+  judged_tell c problem root asked (Ok found) h = judgement_tells c problem root asked found.0 found.1 h
+  judged_tell c problem root asked (Err why) h = unjudged_tells c problem root why h
+
+  replied_tell : (c : List ℕ) (atom : Signed Tree) → IsAsked words (ask c atom) → (o : Result Reply CertFault) → IsReplyOf read c atom.atom o → Tells (text_for (replied c o)) (exit_for (replied c o))
+  replied_tell c atom asked (Ok r) h = reply_tells c atom asked r h
+  replied_tell c atom asked (Err f) h = query_tells c f h
+
+  measured_tells : (n : ℕ) → IsAsked words (stress n) → (o : Result Size OutOfMemory) → IsMeasured n o → Tells (text_for (measured o)) (exit_for (measured o))
+  measured_tells n asked (Ok size) h = inr (inr (inr (record { number = n; asked = asked; size = size; refuted = h; is = refl })))
+  measured_tells n asked (Err want) h = (codes "stress", refl)
+
   tells : (a : Answer) → IsAnswer words read a → Tells (text_for a) (exit_for a)
-  tells (verdict file c) h = record { file = file; root = h.0; budget = h.1; asked = h.2; certificate = c; is_verdict = h.3; is = refl }
+  tells (verdict file c) h = inl (record { file = file; root = h.0; budget = h.1; asked = h.2; certificate = c; is_verdict = h.3; is = refl })
   tells (refusal file why) h = refusal_tells file h.0 h.1 h.2 why h.3
   tells (values file o) h = values_tell file o h.1
+  tells (judged c o) h = judged_tell c h.0 h.1 h.2 o h.3
+  tells (replied c o) h = replied_tell c h.0 h.1 o h.2
+  tells (measured o) h = measured_tells h.0 h.1 o h.2
   tells usage h = tt
   tells no_words h = (codes "instgen", refl)
 
@@ -142,22 +277,89 @@ module _ (words : List (List ℕ)) (read : Reading) (write : Writing) (e : Exit)
     | inr v ↦ elim v [ inl w ↦ record { answer = a.answer; cause = a.cause; written = w.1 } | inr w ↦ record { answer = a.answer; cause = a.cause; written = w.1 } ]
   ]
 
-  pub decided : e ≡ exit.Decided → WritesCertificate words read.files write.old write.new
-  decided is = elim a.written [
-    | inl w ↦ by (subst (Tells words read (text_for a.answer)) is (own w.0 w.1).0) w.1
-    | inr v ↦ elim v [ inl w ↦ absurd (let x = w.0 in cc) | inr w ↦ absurd (let x = w.0 in cc) ]
+  -- the exit is the answer's own
+  whole : (wanted : Exit) → e ≡ wanted → (wanted ≡ exit.WriteFault → ⊥) → (wanted ≡ exit.Memory → ⊥) → Tells words read (text_for a.answer) wanted × Appends write.old write.new (text_for a.answer)
+  whole wanted is apart other = elim a.written [
+    | inl w ↦ (subst (Tells words read (text_for a.answer)) is (own w.0 w.1).0, w.1)
+    | inr v ↦ elim v [ inl w ↦ absurd (apart (sym is ∙ w.0)) | inr w ↦ absurd (other (sym is ∙ w.0)) ]
   ]
+
+  says_decided : e ≡ exit.Decided → SaysDecided words read (text_for a.answer) × Appends write.old write.new (text_for a.answer)
+  says_decided is = whole exit.Decided is (λ x. cc) (λ x. cc)
+
+  writes_verdict : SaysVerdict words read (text_for a.answer) → Appends write.old write.new (text_for a.answer) → WritesCertificate words read.files write.old write.new
+  writes_verdict s w = record {
+    file = s.file;
+    root = s.root;
+    budget = s.budget;
+    asked = s.asked;
+    certificate = s.certificate;
+    is_verdict = s.is_verdict;
+    written = subst (Appends write.old write.new) s.is w;
+  }
+
+  writes_judgement : (x : Exit) → SaysJudgement words read (text_for a.answer) x → Appends write.old write.new (text_for a.answer) → WritesJudgement words read.files write.old write.new x
+  writes_judgement x s w = record {
+    cert = s.cert;
+    problem = s.problem;
+    root = s.root;
+    asked = s.asked;
+    form = s.form;
+    judgement = s.judgement;
+    found = s.found;
+    ends = s.ends;
+    written = subst (Appends write.old write.new) s.is w;
+  }
+
+  writes_reply : (x : Exit) → SaysReply words read (text_for a.answer) x → Appends write.old write.new (text_for a.answer) → WritesReply words read.files write.old write.new x
+  writes_reply x s w = record { cert = s.cert; atom = s.atom; asked = s.asked; reply = s.reply; said = s.said; ends = s.ends; written = subst (Appends write.old write.new) s.is w }
+
+  writes_size : SaysSize words (text_for a.answer) → Appends write.old write.new (text_for a.answer) → WritesSize words write.old write.new
+  writes_size s w = record { number = s.number; asked = s.asked; size = s.size; refuted = s.refuted; written = subst (Appends write.old write.new) s.is w }
+
+  pub check_failed : e ≡ exit.CheckFailed → WritesComplaint words read.files write.old write.new
+  check_failed is = by (whole exit.CheckFailed is (λ x. cc) (λ x. cc))
     where
-      by : SaysVerdict words read (text_for a.answer) → Appends write.old write.new (text_for a.answer) → WritesCertificate words read.files write.old write.new
-      by s w = record {
-        file = s.file;
-        root = s.root;
-        budget = s.budget;
-        asked = s.asked;
-        certificate = s.certificate;
-        is_verdict = s.is_verdict;
-        written = subst (Appends write.old write.new) s.is w;
-      }
+      by : SaysComplaint words read (text_for a.answer) × Appends write.old write.new (text_for a.answer) → WritesComplaint words read.files write.old write.new
+      by (inl s, w) = inl (writes_judgement exit.CheckFailed s w)
+      by (inr s, w) = inr (writes_reply exit.CheckFailed s w)
+
+  module _ (once : AsksOne) where
+    pub decided : AsksProof words → e ≡ exit.Decided → WritesCertificate words read.files write.old write.new
+    decided asks is = by (says_decided is)
+      where
+        by : SaysDecided words read (text_for a.answer) × Appends write.old write.new (text_for a.answer) → WritesCertificate words read.files write.old write.new
+        by (inl s, w) = writes_verdict s w
+        by (inr (inl s), w) = absurd (other_kind _ _ refl (once words _ _ asks.3 s.asked))
+        by (inr (inr (inl s)), w) = absurd (other_kind _ _ refl (once words _ _ asks.3 s.asked))
+        by (inr (inr (inr s)), w) = absurd (other_kind _ _ refl (once words _ _ asks.3 s.asked))
+
+    pub checked : AsksCheck words → e ≡ exit.Decided → WritesJudgement words read.files write.old write.new exit.Decided
+    checked asks is = by (says_decided is)
+      where
+        by : SaysDecided words read (text_for a.answer) × Appends write.old write.new (text_for a.answer) → WritesJudgement words read.files write.old write.new exit.Decided
+        by (inl s, w) = absurd (other_kind _ _ refl (once words _ _ s.asked asks.3))
+        by (inr (inl s), w) = writes_judgement exit.Decided s w
+        by (inr (inr (inl s)), w) = absurd (other_kind _ _ refl (once words _ _ asks.3 s.asked))
+        by (inr (inr (inr s)), w) = absurd (other_kind _ _ refl (once words _ _ asks.3 s.asked))
+
+    pub asked_atom : AsksAtom words → e ≡ exit.Decided → WritesReply words read.files write.old write.new exit.Decided
+    asked_atom asks is = by (says_decided is)
+      where
+        by : SaysDecided words read (text_for a.answer) × Appends write.old write.new (text_for a.answer) → WritesReply words read.files write.old write.new exit.Decided
+        by (inl s, w) = absurd (other_kind _ _ refl (once words _ _ s.asked asks.2))
+        by (inr (inl s), w) = absurd (other_kind _ _ refl (once words _ _ s.asked asks.2))
+        by (inr (inr (inl s)), w) = writes_reply exit.Decided s w
+        by (inr (inr (inr s)), w) = absurd (other_kind _ _ refl (once words _ _ asks.2 s.asked))
+
+    pub stressed : AsksChain words → e ≡ exit.Decided → WritesSize words write.old write.new
+    stressed asks is = by (says_decided is)
+      where
+        by : SaysDecided words read (text_for a.answer) × Appends write.old write.new (text_for a.answer) → WritesSize words write.old write.new
+        by (inl s, w) = absurd (other_kind _ _ refl (once words _ _ s.asked asks.1))
+        by (inr (inl s), w) = absurd (other_kind _ _ refl (once words _ _ s.asked asks.1))
+        by (inr (inr (inl s)), w) = absurd (other_kind _ _ refl (once words _ _ s.asked asks.1))
+        by (inr (inr (inr s)), w) = writes_size s w
 
   pub resource_out : e ≡ exit.ResourceOut → WritesNumbers words read.files write.old write.new
   resource_out is = elim a.written [

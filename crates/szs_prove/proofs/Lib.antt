@@ -1,4 +1,6 @@
+pub mod AskedAtoms
 pub mod Endings
+pub mod Judged
 pub mod Pieces
 pub mod Proved
 pub mod Situated

@@ -1,6 +1,6 @@
 -- What stands in the words and the files is one situation, and each answer is wanted in it, or yields.
-use Rattle.std.proofs.Common.{◌≡◌, ℕ, ◌<◌, ◌≤◌, List, Bool, true, false, Option, Some, None, IfSome, Contains, lit<, length, inl, inr, refl, sym, subst, ◌∙◌, arith}
-use Rattle.std.specs.Prelude.{◌⊎◌, Result, Ok, Err, IsTrue, IsFalse}
+use Rattle.std.proofs.Common.{◌≡◌, ℕ, ◌<◌, ◌≤◌, List, Bool, true, false, Option, Some, None, IfSome, Contains, lit<, length, inl, inr, refl, sym, ap, subst, ◌∙◌, arith}
+use Rattle.std.specs.Prelude.{◌⊎◌, ⊤, Result, Ok, Err, IsTrue, IsFalse}
 use Rattle.inst_logic.specs.Measure.{is_function_free}
 use Rattle.inst_logic.specs.declared.clause.Problem.{Problem}
 use Rattle.outside_io.specs.Files.{bytes_named}
@@ -8,7 +8,20 @@ use Rattle.outside_io.specs.declared.library.NamedFile.{NamedFile}
 use Rattle.tptp_load.specs.Problems.{Loads, Refuses, IsLoadCause}
 use Rattle.tptp_load.specs.declared.error.LoadError.{LoadError}
 use Rattle.tptp_load.specs.declared.error.LoadError.TheVariants as load
-use Rattle.command_words.specs.Asked.{Asked, prove, sat, IsAsked, IsUnread}
+use Rattle.inst_logic.specs.Tree.{Tree}
+use Rattle.inst_logic.specs.declared.memory.Memory.{Memory as OutOfMemory}
+use Rattle.inst_logic.specs.declared.signed.Signed.{Signed}
+use Rattle.cert_judge.specs.declared.judgement.Judgement.{Judgement}
+use Rattle.cert_judge.specs.declared.reply.Reply.{Reply}
+use Rattle.cert_judge.specs.declared.words.Form.{Form}
+use Rattle.chain_stress.specs.declared.sizes.Size.{Size}
+use Rattle.check_front.specs.Checks.{HasCertificate, IsCheckFault, IsFound, IsJudged, IsProblemFault}
+use Rattle.check_front.specs.Queries.{IsAskFault, IsFoundReply, IsReplied}
+use Rattle.check_front.specs.declared.check.CheckFault.{CheckFault}
+use Rattle.check_front.specs.declared.check.CheckFault.TheVariants as unjudged
+use Rattle.check_front.specs.declared.fault.CertFault.{CertFault}
+use Rattle.check_front.specs.declared.fault.CertFault.TheVariants as bad
+use Rattle.command_words.specs.Asked.{Asked, prove, sat, check, ask, stress, IsAsked, IsUnread}
 use Rattle.dimacs_front.specs.Answers.{IsModel}
 use Rattle.dimacs_front.specs.Command as dimacs
 use Rattle.dimacs_front.specs.Files.{IsHeld, IsOutcome, IsRefused, limit}
@@ -20,11 +33,12 @@ use Rattle.dimacs_front.specs.declared.error.DimacsError.{DimacsError}
 use Rattle.dimacs_front.specs.declared.error.DimacsError.TheVariants as fault
 use Rattle.dimacs_front.specs.declared.file.SatError.{SatError}
 use Rattle.dimacs_front.specs.declared.file.SatError.TheVariants as bar
-use Rattle.szs_prove.specs.Answers.{Answer, verdict, refusal, values, usage, IsAnswer, IsRefusal, Reading, exit_for}
+use Rattle.szs_prove.specs.Answers.{Answer, verdict, refusal, values, judged, replied, measured, usage, IsAnswer, IsFinding, IsRefusal, IsReplyOf, Reading, exit_for}
 use Rattle.szs_prove.specs.Answers as answer
 use Rattle.szs_prove.specs.Answered.{Answered, Writing}
-use Rattle.szs_prove.specs.Situations.{IsBarred, IsExact, Situation, Stands, Yields, function_free, functions, no_problem, satisfiable, unsatisfiable, no_clauses, no_words, wanted}
-use Rattle.szs_prove.specs.Texts.{sat_exit, load_exit}
+use Rattle.szs_prove.specs.Situations.{IsBarred, IsExact, Situation, Stands, Yields, function_free, functions, no_problem, satisfiable, unsatisfiable, no_clauses, certificate, saturation, chain, no_words, wanted}
+use Rattle.szs_prove.specs.Texts.{fault_exit, judgement_exit, load_exit, reply_exit, sat_exit, unjudged_exit}
+use Rattle.szs_prove.proofs.Endings.{AsksOne}
 use Rattle.szs_prove.specs.declared.exit.Exit.{Exit}
 use Rattle.szs_prove.specs.declared.exit.Exit.TheVariants as exit
 use Rattle.szs_prove.specs.declared.refusal.Refusal.{Refusal}
@@ -46,6 +60,9 @@ Finds files (prove file root budget) no_problem = (e : LoadError) × Refuses fil
 Finds files (prove file root budget) satisfiable = ⊥
 Finds files (prove file root budget) unsatisfiable = ⊥
 Finds files (prove file root budget) no_clauses = ⊥
+Finds files (prove file root budget) (certificate o) = ⊥
+Finds files (prove file root budget) (saturation o) = ⊥
+Finds files (prove file root budget) chain = ⊥
 Finds files (prove file root budget) no_words = ⊥
 Finds files (sat file) function_free = ⊥
 Finds files (sat file) functions = ⊥
@@ -53,7 +70,40 @@ Finds files (sat file) no_problem = ⊥
 Finds files (sat file) satisfiable = (cnf : Cnf) × Holds files file cnf × (bits : List Bool) × IsModel cnf.vars cnf.clauses bits
 Finds files (sat file) unsatisfiable = (cnf : Cnf) × Holds files file cnf × ((bits : List Bool) → ¬ IsModel cnf.vars cnf.clauses bits)
 Finds files (sat file) no_clauses = (e : SatError) × IsBarred files file e
+Finds files (sat file) (certificate o) = ⊥
+Finds files (sat file) (saturation o) = ⊥
+Finds files (sat file) chain = ⊥
 Finds files (sat file) no_words = ⊥
+Finds files (check cert problem root) function_free = ⊥
+Finds files (check cert problem root) functions = ⊥
+Finds files (check cert problem root) no_problem = ⊥
+Finds files (check cert problem root) satisfiable = ⊥
+Finds files (check cert problem root) unsatisfiable = ⊥
+Finds files (check cert problem root) no_clauses = ⊥
+Finds files (check cert problem root) (certificate o) = IsFound files cert problem root o
+Finds files (check cert problem root) (saturation o) = ⊥
+Finds files (check cert problem root) chain = ⊥
+Finds files (check cert problem root) no_words = ⊥
+Finds files (ask cert atom) function_free = ⊥
+Finds files (ask cert atom) functions = ⊥
+Finds files (ask cert atom) no_problem = ⊥
+Finds files (ask cert atom) satisfiable = ⊥
+Finds files (ask cert atom) unsatisfiable = ⊥
+Finds files (ask cert atom) no_clauses = ⊥
+Finds files (ask cert atom) (certificate o) = ⊥
+Finds files (ask cert atom) (saturation o) = IsFoundReply files cert atom.atom o
+Finds files (ask cert atom) chain = ⊥
+Finds files (ask cert atom) no_words = ⊥
+Finds files (stress number) function_free = ⊥
+Finds files (stress number) functions = ⊥
+Finds files (stress number) no_problem = ⊥
+Finds files (stress number) satisfiable = ⊥
+Finds files (stress number) unsatisfiable = ⊥
+Finds files (stress number) no_clauses = ⊥
+Finds files (stress number) (certificate o) = ⊥
+Finds files (stress number) (saturation o) = ⊥
+Finds files (stress number) chain = ⊤
+Finds files (stress number) no_words = ⊥
 
 -- the words ask something, which finds this
 record Asks (words : List (List ℕ)) (files : List NamedFile) (s : Situation) : Type 0 where
@@ -68,6 +118,9 @@ asks words files no_problem h = inl (record { question = prove h.file h.root h.b
 asks words files satisfiable h = inl (record { question = sat h.1.file; asked = h.1.asked; finds = (h.0, record { bytes = h.1.bytes; held = h.1.held; reads = h.1.reads }, h.2, h.3) })
 asks words files unsatisfiable h = inl (record { question = sat h.1.file; asked = h.1.asked; finds = (h.0, record { bytes = h.1.bytes; held = h.1.held; reads = h.1.reads }, h.2) })
 asks words files no_clauses h = inl (record { question = sat h.0; asked = h.1; finds = (h.2, h.3) })
+asks words files (certificate o) h = inl (record { question = check h.0 h.1 h.2; asked = h.3; finds = h.4 })
+asks words files (saturation o) h = inl (record { question = ask h.0 h.1; asked = h.2; finds = h.3 })
+asks words files chain h = inl (record { question = stress h.0; asked = h.1; finds = tt })
 asks words files no_words h = inr (h, refl)
 
 -- ---- a file in the DIMACS form
@@ -121,15 +174,17 @@ GivesOne = (files : List NamedFile) (name : List ℕ) (root : Option (List ℕ))
 abbrev pub IsApart : Type 0
 IsApart = (files : List NamedFile) (name : List ℕ) (root : Option (List ℕ)) (p : Problem) (e : LoadError) → Loads files name root p → Refuses files name root e → ⊥
 
--- that words ask one thing
-abbrev pub AsksOne : Type 0
-AsksOne = (words : List (List ℕ)) (a b : Asked) → IsAsked words a → IsAsked words b → a ≡ b
+-- that files give one answer to a check, and one to a question
+abbrev pub FindsOne : Type 0
+FindsOne =
+    ((files : List NamedFile) (name : List ℕ) (problem root : Option (List ℕ)) (a b : Result (Form × Judgement) CheckFault) → IsFound files name problem root a → IsFound files name problem root b → a ≡ b)
+    × ((files : List NamedFile) (name : List ℕ) (t : Tree) (a b : Result Reply CertFault) → IsFoundReply files name t a → IsFoundReply files name t b → a ≡ b)
 
 opposite : (b : Bool) → IsTrue b → IsFalse b → ⊥
 opposite true t f = cc
 opposite false t f = cc
 
-module _ (one : GivesOne) (apart : IsApart) (files : List NamedFile) where
+module _ (one : GivesOne) (apart : IsApart) (found_once : FindsOne) (files : List NamedFile) where
   free_or_not : (file : List ℕ) (root : Option (List ℕ)) (p q : Problem) → Loads files file root p → Loads files file root q
       → IsTrue (is_function_free p.clauses) → IsFalse (is_function_free q.clauses) → ⊥
   free_or_not file root p q a b t f =
@@ -152,10 +207,16 @@ module _ (one : GivesOne) (apart : IsApart) (files : List NamedFile) where
   one_found (prove file root budget) s satisfiable h k = absurd k
   one_found (prove file root budget) s unsatisfiable h k = absurd k
   one_found (prove file root budget) s no_clauses h k = absurd k
+  one_found (prove file root budget) s (certificate o) h k = absurd k
+  one_found (prove file root budget) s (saturation o) h k = absurd k
+  one_found (prove file root budget) s chain h k = absurd k
   one_found (prove file root budget) s no_words h k = absurd k
   one_found (prove file root budget) satisfiable t h k = absurd h
   one_found (prove file root budget) unsatisfiable t h k = absurd h
   one_found (prove file root budget) no_clauses t h k = absurd h
+  one_found (prove file root budget) (certificate o) t h k = absurd h
+  one_found (prove file root budget) (saturation o) t h k = absurd h
+  one_found (prove file root budget) chain t h k = absurd h
   one_found (prove file root budget) no_words t h k = absurd h
   one_found (sat file) satisfiable satisfiable h k = refl
   one_found (sat file) satisfiable unsatisfiable h k = absurd (model_or_not file h.0 k.0 h.1 k.1 h.2 h.3 k.2)
@@ -169,11 +230,74 @@ module _ (one : GivesOne) (apart : IsApart) (files : List NamedFile) where
   one_found (sat file) s function_free h k = absurd k
   one_found (sat file) s functions h k = absurd k
   one_found (sat file) s no_problem h k = absurd k
+  one_found (sat file) s (certificate o) h k = absurd k
+  one_found (sat file) s (saturation o) h k = absurd k
+  one_found (sat file) s chain h k = absurd k
   one_found (sat file) s no_words h k = absurd k
   one_found (sat file) function_free t h k = absurd h
   one_found (sat file) functions t h k = absurd h
   one_found (sat file) no_problem t h k = absurd h
+  one_found (sat file) (certificate o) t h k = absurd h
+  one_found (sat file) (saturation o) t h k = absurd h
+  one_found (sat file) chain t h k = absurd h
   one_found (sat file) no_words t h k = absurd h
+  one_found (check cert problem root) (certificate o) (certificate p) h k = ap certificate (found_once.0 files cert problem root o p h k)
+  one_found (check cert problem root) s function_free h k = absurd k
+  one_found (check cert problem root) s functions h k = absurd k
+  one_found (check cert problem root) s no_problem h k = absurd k
+  one_found (check cert problem root) s satisfiable h k = absurd k
+  one_found (check cert problem root) s unsatisfiable h k = absurd k
+  one_found (check cert problem root) s no_clauses h k = absurd k
+  one_found (check cert problem root) s (saturation o) h k = absurd k
+  one_found (check cert problem root) s chain h k = absurd k
+  one_found (check cert problem root) s no_words h k = absurd k
+  one_found (check cert problem root) function_free t h k = absurd h
+  one_found (check cert problem root) functions t h k = absurd h
+  one_found (check cert problem root) no_problem t h k = absurd h
+  one_found (check cert problem root) satisfiable t h k = absurd h
+  one_found (check cert problem root) unsatisfiable t h k = absurd h
+  one_found (check cert problem root) no_clauses t h k = absurd h
+  one_found (check cert problem root) (saturation o) t h k = absurd h
+  one_found (check cert problem root) chain t h k = absurd h
+  one_found (check cert problem root) no_words t h k = absurd h
+  one_found (ask cert atom) (saturation o) (saturation p) h k = ap saturation (found_once.1 files cert atom.atom o p h k)
+  one_found (ask cert atom) s function_free h k = absurd k
+  one_found (ask cert atom) s functions h k = absurd k
+  one_found (ask cert atom) s no_problem h k = absurd k
+  one_found (ask cert atom) s satisfiable h k = absurd k
+  one_found (ask cert atom) s unsatisfiable h k = absurd k
+  one_found (ask cert atom) s no_clauses h k = absurd k
+  one_found (ask cert atom) s (certificate o) h k = absurd k
+  one_found (ask cert atom) s chain h k = absurd k
+  one_found (ask cert atom) s no_words h k = absurd k
+  one_found (ask cert atom) function_free t h k = absurd h
+  one_found (ask cert atom) functions t h k = absurd h
+  one_found (ask cert atom) no_problem t h k = absurd h
+  one_found (ask cert atom) satisfiable t h k = absurd h
+  one_found (ask cert atom) unsatisfiable t h k = absurd h
+  one_found (ask cert atom) no_clauses t h k = absurd h
+  one_found (ask cert atom) (certificate o) t h k = absurd h
+  one_found (ask cert atom) chain t h k = absurd h
+  one_found (ask cert atom) no_words t h k = absurd h
+  one_found (stress number) chain chain h k = refl
+  one_found (stress number) s function_free h k = absurd k
+  one_found (stress number) s functions h k = absurd k
+  one_found (stress number) s no_problem h k = absurd k
+  one_found (stress number) s satisfiable h k = absurd k
+  one_found (stress number) s unsatisfiable h k = absurd k
+  one_found (stress number) s no_clauses h k = absurd k
+  one_found (stress number) s (certificate o) h k = absurd k
+  one_found (stress number) s (saturation o) h k = absurd k
+  one_found (stress number) s no_words h k = absurd k
+  one_found (stress number) function_free t h k = absurd h
+  one_found (stress number) functions t h k = absurd h
+  one_found (stress number) no_problem t h k = absurd h
+  one_found (stress number) satisfiable t h k = absurd h
+  one_found (stress number) unsatisfiable t h k = absurd h
+  one_found (stress number) no_clauses t h k = absurd h
+  one_found (stress number) (certificate o) t h k = absurd h
+  one_found (stress number) (saturation o) t h k = absurd h
+  one_found (stress number) no_words t h k = absurd h
 
   -- what stands is one situation
   pub one_stands : AsksOne → (words : List (List ℕ)) (s t : Situation) → Stands words files s → Stands words files t → s ≡ t
@@ -240,6 +364,60 @@ module _ (words : List (List ℕ)) (files : List NamedFile) (read : Reading) (wr
   values_due file asked (Err bar.ReadFault) h = inr (inl (refl, h))
   values_due file asked (Err bar.Memory) h = inr (inr (inr refl))
 
+  certificate_due : (cert : List ℕ) (problem root : Option (List ℕ)) → IsAsked words (check cert problem root) → (o : Result (Form × Judgement) CheckFault) → IsFound files cert problem root o
+      → (e : Exit) → Contains (wanted (certificate o)) e → IsDue e
+  certificate_due cert problem root asked o h e c = due (certificate o) e (cert, problem, root, asked, h) c
+
+  problem_due : (cert : List ℕ) (problem root : Option (List ℕ)) → IsAsked words (check cert problem root) → HasCertificate (Some files) cert → (e : LoadError)
+      → IsProblemFault (Some files) read.before read.now problem root e → IsDue (load_exit e)
+  problem_due cert None root asked c e h = absurd h
+  problem_due cert (Some file) root asked c (load.Text at e) h = certificate_due cert (Some file) root asked (Err (unjudged.Problem (load.Text at e))) (c, h.1) exit.Refused (0, lit< tt, refl)
+  problem_due cert (Some file) root asked c (load.Absent name) h = certificate_due cert (Some file) root asked (Err (unjudged.Problem (load.Absent name))) (c, h) exit.Refused (0, lit< tt, refl)
+  problem_due cert (Some file) root asked c (load.NotSelected at name) h = certificate_due cert (Some file) root asked (Err (unjudged.Problem (load.NotSelected at name))) (c, h) exit.Refused (0, lit< tt, refl)
+  problem_due cert (Some file) root asked c (load.IncludeDepth at) h = certificate_due cert (Some file) root asked (Err (unjudged.Problem (load.IncludeDepth at))) (c, h) exit.Refused (0, lit< tt, refl)
+  problem_due cert (Some file) root asked c load.TooLong h = certificate_due cert (Some file) root asked (Err (unjudged.Problem load.TooLong)) (c, h) exit.Refused (0, lit< tt, refl)
+  problem_due cert (Some file) root asked c load.ReadFault h = inr (inl (refl, h))
+  problem_due cert (Some file) root asked c load.Memory h = inr (inr (inr refl))
+
+  unjudged_due : (cert : List ℕ) (problem root : Option (List ℕ)) → IsAsked words (check cert problem root) → (why : CheckFault)
+      → IsCheckFault (Some files) read.before read.now cert problem root why → IsDue (unjudged_exit why)
+  unjudged_due cert problem root asked (unjudged.Cert bad.Absent) h = certificate_due cert problem root asked (Err (unjudged.Cert bad.Absent)) h.1 exit.Refused (0, lit< tt, refl)
+  unjudged_due cert problem root asked (unjudged.Cert bad.TooLong) h = certificate_due cert problem root asked (Err (unjudged.Cert bad.TooLong)) (h.1, h.2, h.3) exit.Refused (0, lit< tt, refl)
+  unjudged_due cert problem root asked (unjudged.Cert bad.ReadFault) h = inr (inl (refl, h.1))
+  unjudged_due cert problem root asked (unjudged.Cert (bad.Syntax line)) h = certificate_due cert problem root asked (Err (unjudged.Cert (bad.Syntax line))) (h.1, h.2, h.3) exit.Refused (0, lit< tt, refl)
+  unjudged_due cert problem root asked (unjudged.Cert (bad.Version word)) h = certificate_due cert problem root asked (Err (unjudged.Cert (bad.Version word))) (h.1, h.2, h.3) exit.Refused (0, lit< tt, refl)
+  unjudged_due cert problem root asked (unjudged.Cert bad.NoSaturation) h = absurd h.1
+  unjudged_due cert problem root asked (unjudged.Cert bad.Memory) h = absurd h.1
+  unjudged_due cert problem root asked (unjudged.Problem e) h = problem_due cert problem root asked h.0 e h.2
+  unjudged_due cert problem root asked unjudged.Memory h = inr (inr (inr refl))
+
+  judged_due : (cert : List ℕ) (problem root : Option (List ℕ)) → IsAsked words (check cert problem root) → (o : Result (Form × Judgement) CheckFault) → IsFinding read cert problem root o
+      → IsDue (exit_for (judged cert o))
+  judged_due cert problem root asked (Ok found) h =
+      certificate_due cert problem root asked (Ok found) (subst (λ (fs : Option (List NamedFile)). IsJudged fs cert problem root found) told h) (judgement_exit found.1) (0, lit< tt, refl)
+  judged_due cert problem root asked (Err why) h = unjudged_due cert problem root asked why (subst (λ (fs : Option (List NamedFile)). IsCheckFault fs read.before read.now cert problem root why) told h)
+
+  saturation_due : (cert : List ℕ) (atom : Signed Tree) → IsAsked words (ask cert atom) → (o : Result Reply CertFault) → IsFoundReply files cert atom.atom o → (e : Exit) → Contains (wanted (saturation o)) e → IsDue e
+  saturation_due cert atom asked o h e c = due (saturation o) e (cert, atom, asked, h) c
+
+  query_due : (cert : List ℕ) (atom : Signed Tree) → IsAsked words (ask cert atom) → (f : CertFault) → IsAskFault (Some files) read.before read.now cert f → IsDue (fault_exit f)
+  query_due cert atom asked bad.Absent h = saturation_due cert atom asked (Err bad.Absent) h exit.Refused (0, lit< tt, refl)
+  query_due cert atom asked bad.TooLong h = saturation_due cert atom asked (Err bad.TooLong) h exit.Refused (0, lit< tt, refl)
+  query_due cert atom asked bad.ReadFault h = inr (inl (refl, h))
+  query_due cert atom asked (bad.Syntax line) h = saturation_due cert atom asked (Err (bad.Syntax line)) h exit.Refused (0, lit< tt, refl)
+  query_due cert atom asked (bad.Version word) h = saturation_due cert atom asked (Err (bad.Version word)) h exit.Refused (0, lit< tt, refl)
+  query_due cert atom asked bad.NoSaturation h = saturation_due cert atom asked (Err bad.NoSaturation) h exit.Refused (0, lit< tt, refl)
+  query_due cert atom asked bad.Memory h = inr (inr (inr refl))
+
+  replied_due : (cert : List ℕ) (atom : Signed Tree) → IsAsked words (ask cert atom) → (o : Result Reply CertFault) → IsReplyOf read cert atom.atom o → IsDue (exit_for (replied cert o))
+  replied_due cert atom asked (Ok r) h =
+      saturation_due cert atom asked (Ok r) (subst (λ (fs : Option (List NamedFile)). IsReplied fs cert atom.atom r) told h) (reply_exit r) (0, lit< tt, refl)
+  replied_due cert atom asked (Err f) h = query_due cert atom asked f (subst (λ (fs : Option (List NamedFile)). IsAskFault fs read.before read.now cert f) told h)
+
+  measured_due : (number : ℕ) → IsAsked words (stress number) → (o : Result Size OutOfMemory) → IsDue (exit_for (measured o))
+  measured_due number asked (Ok size) = due chain exit.Decided (number, asked) (0, lit< tt, refl)
+  measured_due number asked (Err want) = inr (inr (inr refl))
+
   refusal_due : (file : List ℕ) (root : Option (List ℕ)) (budget : ℕ) → IsAsked words (prove file root budget) → (why : Refusal) → IsRefusal read file root budget why
       → IsDue (exit_for (refusal file why))
   refusal_due file root budget asked Usage h = absurd h
@@ -256,6 +434,9 @@ module _ (words : List (List ℕ)) (files : List NamedFile) (read : Reading) (wr
       verdict_due file h.0 h.1 h.2 v.problem v.is_problem.loads
   answer_due (refusal file why) h = refusal_due file h.0 h.1 h.2 why h.3
   answer_due (values file o) h = values_due file h.0 o (subst (λ (fs : Option (List NamedFile)). IsOutcome fs read.before read.now file o) told h.1)
+  answer_due (judged cert o) h = judged_due cert h.0 h.1 h.2 o h.3
+  answer_due (replied cert o) h = replied_due cert h.0 h.1 o h.2
+  answer_due (measured o) h = measured_due h.0 h.1 o
   answer_due usage h = due no_words exit.Usage h (0, lit< tt, refl)
   answer_due answer.no_words h = inr (inr (inr refl))
 
@@ -268,17 +449,17 @@ module _ (words : List (List ℕ)) (files : List NamedFile) (read : Reading) (wr
     ]
   ]
 
-  is_exact : GivesOne → IsApart → AsksOne → (e : Exit) → Answered words read write e → IsExact words files read write e
-  is_exact one apart asks_one e a = record { cause = exit_due e a; each = λ s h. by s h (exit_due e a) }
+  is_exact : GivesOne → IsApart → FindsOne → AsksOne → (e : Exit) → Answered words read write e → IsExact words files read write e
+  is_exact one apart found_once asks_one e a = record { cause = exit_due e a; each = λ s h. by s h (exit_due e a) }
     where
       by : (s : Situation) → Stands words files s → IsDue e → Contains (wanted s) e ⊎ Yields read write e
-      by s h (inl d) = inl (subst (λ (t : Situation). Contains (wanted t) e) (one_stands one apart files asks_one words d.0 s d.1 h) d.2)
+      by s h (inl d) = inl (subst (λ (t : Situation). Contains (wanted t) e) (one_stands one apart found_once files asks_one words d.0 s d.1 h) d.2)
       by s h (inr y) = inr y
 
-pub exact : GivesOne → IsApart → AsksOne → (words : List (List ℕ)) (read : Reading) (write : Writing) (e : Exit) → Answered words read write e
+pub exact : GivesOne → IsApart → FindsOne → AsksOne → (words : List (List ℕ)) (read : Reading) (write : Writing) (e : Exit) → Answered words read write e
     → IfSome read.files (λ files. IsExact words files read write e)
-exact one apart asks_one words read write e a = by read.files refl
+exact one apart found_once asks_one words read write e a = by read.files refl
   where
     by : (o : Option (List NamedFile)) → read.files ≡ o → IfSome o (λ files. IsExact words files read write e)
     by None told = tt
-    by (Some files) told = is_exact words files read write told one apart asks_one e a
+    by (Some files) told = is_exact words files read write told one apart found_once asks_one e a

@@ -1,7 +1,9 @@
 -- Where the text of a certificate was taken whole, the answer is a verdict.
-use Rattle.std.proofs.Common.{◌≡◌, ℕ, List, [], ◌∷◌, ◌++◌, Bool, true, false, nat_eq, Option, Some, None, inl, inr, sym, ap, refl, ◌∙◌, append-nil}
+use Rattle.std.proofs.Common.{◌≡◌, ◌≢◌, ◌≤◌, ℕ, List, [], ◌∷◌, ◌++◌, All, Bool, true, false, cond, nat_eq, Option, Some, None, inl, inr, sym, ap, refl, ◌∙◌, append-nil, append_assoc, arith}
 use Rattle.std.specs.Prelude.{◌&&◌, ◌||◌, Result, Ok, Err}
 use Rattle.std.specs.Io.KnownBytes.{Appends}
+use Rattle.std.proofs.lemmas.Bool.Decides.{nat_tests}
+use Rattle.std.proofs.lemmas.List.Elements.{All-head, All-tail}
 use Rattle.tptp_read.specs.declared.text.ReadError.{ReadError}
 use Rattle.tptp_read.specs.declared.text.ReadError.TheVariants as text
 use Rattle.tptp_load.specs.declared.error.LoadError.{LoadError}
@@ -11,6 +13,25 @@ use Rattle.cert_format.specs.Text.{certificate_text}
 use Rattle.cert_format.specs.ValueLines.{IsCertificateText}
 use Rattle.cert_format.proofs.LineNotes.{behind_front}
 use Rattle.cert_format.proofs.Taken.{no_more}
+use Rattle.cert_format.specs.LineMachine.{closing, opening, status, version}
+use Rattle.cert_format.specs.FirstFormat.{text_of_lines}
+use Rattle.cert_format.specs.LineTexts.{line_text}
+use Rattle.cert_format.specs.Printable.{HasFormat, IsTextName}
+use Rattle.cert_format.specs.ValueLines.{constant_lines, is_refutation, item_lines, items_of}
+use Rattle.cert_format.proofs.LineTexts.{text_is}
+use Rattle.cert_judge.specs.Words.{judgement_line, reply_line}
+use Rattle.cert_judge.specs.declared.judgement.Judgement.{Judgement}
+use Rattle.cert_judge.specs.declared.judgement.Judgement.TheVariants as judgement
+use Rattle.cert_judge.specs.declared.reply.Reply.{Reply}
+use Rattle.cert_judge.specs.declared.reply.Reply.TheVariants as reply
+use Rattle.cert_judge.specs.declared.words.Form.{Form}
+use Rattle.chain_stress.specs.Words.{size_lines}
+use Rattle.chain_stress.specs.declared.sizes.Size.{Size}
+use Rattle.check_front.specs.Texts.{fault_text}
+use Rattle.check_front.specs.declared.check.CheckFault.{CheckFault}
+use Rattle.check_front.specs.declared.check.CheckFault.TheVariants as unjudged
+use Rattle.check_front.specs.declared.fault.CertFault.{CertFault}
+use Rattle.check_front.specs.declared.fault.CertFault.TheVariants as cert
 use Rattle.dimacs_front.specs.Command.{status_line}
 use Rattle.dimacs_front.specs.Command as dimacs
 use Rattle.dimacs_front.specs.Files.{IsOutcome}
@@ -22,8 +43,8 @@ use Rattle.dimacs_front.specs.declared.file.SatError.{SatError}
 use Rattle.dimacs_front.specs.declared.file.SatError.TheVariants as bar
 use Rattle.outside_io.specs.Taken.{AppendsProperPrefix}
 use Rattle.szs_prove.specs.Answered.{Answered, Writing, TookCertificate}
-use Rattle.szs_prove.specs.Answers.{Answer, Reading, verdict, refusal, values, usage, no_words, IsAnswer, exit_for, text_for}
-use Rattle.szs_prove.specs.Texts.{refusal_text}
+use Rattle.szs_prove.specs.Answers.{Answer, Reading, verdict, refusal, values, judged, replied, measured, usage, no_words, IsAnswer, exit_for, text_for}
+use Rattle.szs_prove.specs.Texts.{refusal_text, unjudged_text}
 use Rattle.szs_prove.specs.declared.exit.Exit.{Exit}
 use Rattle.szs_prove.specs.declared.exit.Exit.TheVariants as exit
 use Rattle.szs_prove.specs.declared.refusal.Refusal.{Refusal}
@@ -82,11 +103,101 @@ valued read name (Ok (Satisfiable t)) h = ap begins_verdict h.4.is
 valued read name (Ok (Unsatisfiable t)) h = ap begins_verdict h.4.is
 valued read name (Err e) h = barred name e
 
+faulty : (name : List ℕ) (f : CertFault) → begins_verdict (fault_text name f) ≡ false
+faulty name cert.Absent = refl
+faulty name cert.TooLong = refl
+faulty name cert.ReadFault = refl
+faulty name (cert.Syntax line) = refl
+faulty name (cert.Version word) = refl
+faulty name cert.NoSaturation = refl
+faulty name cert.Memory = refl
+
+unjudged_is_none : (name : List ℕ) (why : CheckFault) → begins_verdict (unjudged_text name why) ≡ false
+unjudged_is_none name (unjudged.Cert f) = faulty name f
+unjudged_is_none name (unjudged.Problem e) = refused_load name e
+unjudged_is_none name unjudged.Memory = refl
+
 -- no text that does not begin as a verdict has that of a certificate in front
 no_other : (other text more : List ℕ) → begins_verdict other ≡ false → IsCertificateText text → other ≡ text ++ more → ⊥
 no_other other text more is h e =
     let yes : begins_verdict (text ++ more) ≡ true = ap (λ t. begins_verdict (t ++ more)) h.is ∙ verdict_begins h.format h.name h.value more in
     let no : begins_verdict (text ++ more) ≡ false = sym (ap begins_verdict e) ∙ is in
+    cc
+
+-- ---- lines that begin no comment
+
+abbrev begins_comment : List ℕ → Bool
+begins_comment (b ∷ more) = nat_eq b 37
+begins_comment [] = false
+
+certificate_begins : (format : ℕ) (name : List ℕ) (c : Certificate) (more : List ℕ) → begins_comment (certificate_text format name c ++ more) ≡ true
+certificate_begins format name (first_refutation c) more = refl
+certificate_begins format name (saturation c) more = refl
+
+no_line : (other text more : List ℕ) → begins_comment other ≡ false → IsCertificateText text → other ≡ text ++ more → ⊥
+no_line other text more is h e =
+    let yes : begins_comment (text ++ more) ≡ true = ap (λ t. begins_comment (t ++ more)) h.is ∙ certificate_begins h.format h.name h.value more in
+    let no : begins_comment (text ++ more) ≡ false = sym (ap begins_comment e) ∙ is in
+    cc
+
+judgement_begins : (f : Form) (j : Judgement) → begins_comment (judgement_line f j) ≡ false
+judgement_begins f judgement.Valid = refl
+judgement_begins f (judgement.Problem n) = refl
+judgement_begins f (judgement.Invalid why) = refl
+
+reply_begins : (r : Reply) → begins_comment (reply_line r) ≡ false
+reply_begins reply.True = refl
+reply_begins reply.False = refl
+reply_begins (reply.Invalid why) = refl
+
+-- ---- the lines of a chain, which have another second line
+
+-- what stands behind the first line
+abbrev behind_line : List ℕ → List ℕ
+behind_line [] = []
+behind_line (b ∷ bs) = cond (nat_eq b 10) bs (behind_line bs)
+
+abbrev third_is_s : List ℕ → Bool
+third_is_s (a ∷ b ∷ c ∷ more) = nat_eq c 83
+third_is_s _ = false
+
+-- whether the second line begins with `% S`
+abbrev has_start : List ℕ → Bool
+has_start text = third_is_s (behind_line text)
+
+no_feed : (b : ℕ) → (32 ≤ b) × (b ≢ 127) → nat_eq b 10 ≡ false
+no_feed b h = let large = h.0 in grind (arith, nat_tests)
+
+behind_name : (name rest : List ℕ) → All (λ b. (32 ≤ b) × (b ≢ 127)) name → behind_line ((name ++ 10 ∷ []) ++ rest) ≡ rest
+behind_name [] rest h = refl
+behind_name (b ∷ bs) rest h =
+    ap (λ (t : Bool). cond t ((bs ++ 10 ∷ []) ++ rest) (behind_line ((bs ++ 10 ∷ []) ++ rest))) (no_feed b (All-head _ b bs h))
+    ∙ behind_name bs rest (All-tail _ b bs h)
+
+-- what stands behind the first line of a certificate
+behind_status : (r : Bool) (name rest : List ℕ) → IsTextName name → behind_line (line_text (status r name) ++ rest) ≡ rest
+behind_status true name rest h = behind_name name rest h.bytes
+behind_status false name rest h = behind_name name rest h.bytes
+
+front_start : (r : Bool) (name rest more : List ℕ) → IsTextName name → has_start ((line_text (status r name) ++ (line_text (opening r name) ++ rest)) ++ more) ≡ true
+front_start r name rest more h =
+    ap has_start (append_assoc (line_text (status r name)) (line_text (opening r name) ++ rest) more)
+    ∙ ap third_is_s (behind_status r name ((line_text (opening r name) ++ rest) ++ more) h)
+
+second_line : (name : List ℕ) (c : Certificate) (more : List ℕ) → IsTextName name → has_start (certificate_text 1 name c ++ more) ≡ true
+second_line name c more h =
+    ap (λ t. has_start (t ++ more)) (text_is name c)
+    ∙ front_start (is_refutation c) name (text_of_lines (version 1 ∷ (constant_lines c ++ (item_lines [] (items_of c) ++ closing (is_refutation c) name ∷ [])))) more h
+
+format_is : (format : ℕ) (c : Certificate) → HasFormat format c → format ≡ 1
+format_is format (first_refutation c) h = h
+format_is format (saturation c) h = h
+
+no_chain : (size : Size) (text more : List ℕ) → IsCertificateText text → size_lines size ≡ text ++ more → ⊥
+no_chain size text more h e =
+    let is : text ≡ certificate_text 1 h.name h.value = h.is ∙ ap (λ f. certificate_text f h.name h.value) (format_is h.format h.value h.printable.known) in
+    let yes : has_start (text ++ more) ≡ true = ap (λ t. has_start (t ++ more)) is ∙ second_line h.name h.value more h.name_is in
+    let no : has_start (text ++ more) ≡ false = sym (ap has_start e) in
     cc
 
 -- what is appended to what is told is one text
@@ -103,6 +214,12 @@ module _ (words : List (List ℕ)) (read : Reading) (write : Writing) (e : Exit)
       (refl, no_more t.text more t.is_text is)
   decides (refusal file why) h more same = absurd (no_other (refusal_text file why) t.text more (refused file why) t.is_text same)
   decides (values file o) h more same = absurd (no_other (dimacs.outcome_text file o) t.text more (valued read file o h.1) t.is_text same)
+  decides (judged c (Ok found)) h more same = absurd (no_line (judgement_line found.0 found.1) t.text more (judgement_begins found.0 found.1) t.is_text same)
+  decides (judged c (Err why)) h more same = absurd (no_other (unjudged_text c why) t.text more (unjudged_is_none c why) t.is_text same)
+  decides (replied c (Ok r)) h more same = absurd (no_line (reply_line r) t.text more (reply_begins r) t.is_text same)
+  decides (replied c (Err f)) h more same = absurd (no_other (fault_text c f) t.text more (faulty c f) t.is_text same)
+  decides (measured (Ok size)) h more same = absurd (no_chain size t.text more t.is_text same)
+  decides (measured (Err want)) h more same = absurd (no_other (text_for (measured (Err want))) t.text more refl t.is_text same)
   decides usage h more same = absurd (no_other (text_for usage) t.text more refl t.is_text same)
   decides no_words h more same = absurd (no_other (text_for no_words) t.text more refl t.is_text same)
 

@@ -1,16 +1,28 @@
 -- What a run of the program did.
 use Rattle.std.specs.Prelude.{ℕ, ◌≡◌, ◌⊎◌, List, Option, Some}
 use Rattle.std.specs.Io.KnownBytes.{Appends}
+use Rattle.inst_logic.specs.Tree.{Tree}
+use Rattle.inst_logic.specs.declared.signed.Signed.{Signed}
 use Rattle.outside_io.specs.Taken.{AppendsProperPrefix}
 use Rattle.outside_io.specs.declared.library.NamedFile.{NamedFile}
 use Rattle.cert_format.specs.Certificate.{Certificate}
 use Rattle.cert_format.specs.Text.{certificate_text}
 use Rattle.cert_format.specs.ValueLines.{IsCertificateText}
-use Rattle.command_words.specs.Asked.{prove, IsAsked}
+use Rattle.cert_judge.specs.Words.{judgement_line, reply_line}
+use Rattle.cert_judge.specs.declared.judgement.Judgement.{Judgement}
+use Rattle.cert_judge.specs.declared.reply.Reply.{Reply}
+use Rattle.cert_judge.specs.declared.words.Form.{Form}
+use Rattle.chain_stress.specs.Sizes.{IsRefutedIn}
+use Rattle.chain_stress.specs.Words.{size_lines}
+use Rattle.chain_stress.specs.declared.sizes.Size.{Size}
+use Rattle.check_front.specs.Checks.{IsJudged}
+use Rattle.check_front.specs.Queries.{IsReplied}
+use Rattle.command_words.specs.Asked.{prove, check, ask, stress, IsAsked}
 use Rattle.szs_prove.specs.Answers.{Answer, Reading, IsAnswer, IsVerdict, IsOutOfBudget, exit_for, text_for}
-use Rattle.szs_prove.specs.Texts.{refusal_text}
+use Rattle.szs_prove.specs.Texts.{judgement_exit, refusal_text, reply_exit}
 use Rattle.szs_prove.specs.Written.{IsWritten}
 use Rattle.szs_prove.specs.declared.exit.Exit.{Exit}
+use Rattle.szs_prove.specs.declared.exit.Exit.TheVariants.{CheckFailed}
 use Rattle.szs_prove.specs.declared.refusal.Refusal.TheVariants.{OutOfBudget, Memory as Wanting}
 
 -- what the sink has before the call and after it, and its count of faults
@@ -36,6 +48,22 @@ pub record Answered (words : List (List ℕ)) (read : Reading) (write : Writing)
   pub cause : IsAnswer words read answer
   pub written : IsWritten write.old write.new write.before write.now (text_for answer) (exit_for answer) exit
 
+-- ---- what the words ask
+
+abbrev pub AsksProof : List (List ℕ) → Type 0
+AsksProof words = (file : List ℕ) × (root : Option (List ℕ)) × (budget : ℕ) × IsAsked words (prove file root budget)
+
+abbrev pub AsksCheck : List (List ℕ) → Type 0
+AsksCheck words = (cert : List ℕ) × (problem : Option (List ℕ)) × (root : Option (List ℕ)) × IsAsked words (check cert problem root)
+
+abbrev pub AsksAtom : List (List ℕ) → Type 0
+AsksAtom words = (cert : List ℕ) × (atom : Signed Tree) × IsAsked words (ask cert atom)
+
+abbrev pub AsksChain : List (List ℕ) → Type 0
+AsksChain words = (number : ℕ) × IsAsked words (stress number)
+
+-- ---- what was written
+
 -- The text of a certificate for the problem of the file that the words name was written, whole.
 pub record WritesCertificate (words : List (List ℕ)) (files : Option (List NamedFile)) (old new : Option (List ℕ)) : Type 0 where
   pub file : List ℕ
@@ -56,6 +84,40 @@ pub record WritesNumbers (words : List (List ℕ)) (files : Option (List NamedFi
   pub asked : IsAsked words (prove file root budget)
   pub stopped : IsOutOfBudget files file root budget left wanted
   pub written : Appends old new (refusal_text file (OutOfBudget budget left wanted))
+
+-- The line of what the certificate is found to be was written, whole, and the program ends as it should with that.
+pub record WritesJudgement (words : List (List ℕ)) (files : Option (List NamedFile)) (old new : Option (List ℕ)) (exit : Exit) : Type 0 where
+  pub cert : List ℕ
+  pub problem : Option (List ℕ)
+  pub root : Option (List ℕ)
+  pub asked : IsAsked words (check cert problem root)
+  pub form : Form
+  pub judgement : Judgement
+  pub found : IsJudged files cert problem root (form, judgement)
+  pub ends : exit ≡ judgement_exit judgement
+  pub written : Appends old new (judgement_line form judgement)
+
+-- The line of what the saturation says of the atom was written, whole, and the program ends as it should with that.
+pub record WritesReply (words : List (List ℕ)) (files : Option (List NamedFile)) (old new : Option (List ℕ)) (exit : Exit) : Type 0 where
+  pub cert : List ℕ
+  pub atom : Signed Tree
+  pub asked : IsAsked words (ask cert atom)
+  pub reply : Reply
+  pub said : IsReplied files cert atom.atom reply
+  pub ends : exit ≡ reply_exit reply
+  pub written : Appends old new (reply_line reply)
+
+-- The lines that say how large a refutation of the chain is were written, whole.
+pub record WritesSize (words : List (List ℕ)) (old new : Option (List ℕ)) : Type 0 where
+  pub number : ℕ
+  pub asked : IsAsked words (stress number)
+  pub size : Size
+  pub refuted : IsRefutedIn number size
+  pub written : Appends old new (size_lines size)
+
+-- what is complained of a certificate, whether it is checked or asked
+abbrev pub WritesComplaint : List (List ℕ) → Option (List NamedFile) → Option (List ℕ) → Option (List ℕ) → Type 0
+WritesComplaint words files old new = WritesJudgement words files old new CheckFailed ⊎ WritesReply words files old new CheckFailed
 
 -- The sink tells what it took, and that is the text of a printable certificate, whole.
 pub record TookCertificate (old new : Option (List ℕ)) : Type 0 where

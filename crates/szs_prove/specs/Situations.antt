@@ -1,12 +1,21 @@
 -- When each exit comes, where the files are told.
-use Rattle.std.specs.Prelude.{ℕ, ◌≡◌, ◌⊎◌, ◌<◌, List, [], ◌∷◌, length, Bool, Option, None, Some, Ok, Contains, IsTrue, IsFalse}
+use Rattle.std.specs.Prelude.{ℕ, ◌≡◌, ◌⊎◌, ◌<◌, List, [], ◌∷◌, length, Bool, Option, None, Some, Result, Ok, Err, Contains, IsTrue, IsFalse}
 use Rattle.outside_io.specs.Causes.{Rose}
 use Rattle.outside_io.specs.declared.library.NamedFile.{NamedFile}
 use Rattle.inst_logic.specs.Measure.{is_function_free}
 use Rattle.inst_logic.specs.declared.clause.Problem.{Problem}
 use Rattle.tptp_load.specs.Problems.{Loads, Refuses}
 use Rattle.tptp_load.specs.declared.error.LoadError.{LoadError}
-use Rattle.command_words.specs.Asked.{prove, sat, IsAsked, IsUnread}
+use Rattle.inst_logic.specs.Tree.{Tree}
+use Rattle.inst_logic.specs.declared.signed.Signed.{Signed}
+use Rattle.cert_judge.specs.declared.judgement.Judgement.{Judgement}
+use Rattle.cert_judge.specs.declared.reply.Reply.{Reply}
+use Rattle.cert_judge.specs.declared.words.Form.{Form}
+use Rattle.check_front.specs.Checks.{IsFound}
+use Rattle.check_front.specs.Queries.{IsFoundReply}
+use Rattle.check_front.specs.declared.check.CheckFault.{CheckFault}
+use Rattle.check_front.specs.declared.fault.CertFault.{CertFault}
+use Rattle.command_words.specs.Asked.{prove, sat, check, ask, stress, IsAsked, IsUnread}
 use Rattle.dimacs_front.specs.Answers.{IsModel}
 use Rattle.outside_io.specs.Files.{bytes_named}
 use Rattle.dimacs_front.specs.Files.{IsHeld, IsRefused, limit}
@@ -16,6 +25,7 @@ use Rattle.dimacs_front.specs.declared.file.SatError.{SatError}
 use Rattle.dimacs_front.specs.declared.file.SatError.TheVariants.{Absent, TooLong, Text, ReadFault as FileFault, Memory as FileMemory}
 use Rattle.szs_prove.specs.Answers.{Reading}
 use Rattle.szs_prove.specs.Answered.{Writing}
+use Rattle.szs_prove.specs.Texts.{judgement_exit, reply_exit}
 use Rattle.szs_prove.specs.declared.exit.Exit.{Exit}
 use Rattle.szs_prove.specs.declared.exit.Exit.TheVariants.{Decided, ResourceOut, Refused, Usage, ReadFault, WriteFault, Memory, Sat, Unsat}
 
@@ -63,6 +73,11 @@ pub data Situation : Type 0 where
   satisfiable : Situation
   unsatisfiable : Situation
   no_clauses : Situation
+  -- a certificate, which is found to be this, or why there is none that can be judged
+  certificate : Result (Form × Judgement) CheckFault → Situation
+  -- a saturation, which says this of an atom, or why there is none that can be asked
+  saturation : Result Reply CertFault → Situation
+  chain : Situation
   no_words : Situation
 
 abbrev pub Stands : List (List ℕ) → List NamedFile → Situation → Type 0
@@ -72,6 +87,9 @@ Stands words files no_problem = AsksRefused words files
 Stands words files satisfiable = (cnf : Cnf) × AsksClauses words files cnf × (values : List Bool) × IsModel cnf.vars cnf.clauses values
 Stands words files unsatisfiable = (cnf : Cnf) × AsksClauses words files cnf × ((values : List Bool) → ¬ IsModel cnf.vars cnf.clauses values)
 Stands words files no_clauses = (file : List ℕ) × IsAsked words (sat file) × (e : SatError) × IsBarred files file e
+Stands words files (certificate found) = (cert : List ℕ) × (problem : Option (List ℕ)) × (root : Option (List ℕ)) × IsAsked words (check cert problem root) × IsFound files cert problem root found
+Stands words files (saturation reply) = (cert : List ℕ) × (atom : Signed Tree) × IsAsked words (ask cert atom) × IsFoundReply files cert atom.atom reply
+Stands words files chain = (number : ℕ) × IsAsked words (stress number)
 Stands words files no_words = IsUnread words
 
 -- the exits that are wanted there
@@ -82,6 +100,11 @@ wanted no_problem = Refused ∷ []
 wanted satisfiable = Sat ∷ []
 wanted unsatisfiable = Unsat ∷ []
 wanted no_clauses = Refused ∷ []
+wanted (certificate (Ok found)) = judgement_exit found.1 ∷ []
+wanted (certificate (Err why)) = Refused ∷ []
+wanted (saturation (Ok reply)) = reply_exit reply ∷ []
+wanted (saturation (Err why)) = Refused ∷ []
+wanted chain = Decided ∷ []
 wanted no_words = Usage ∷ []
 
 -- the exit is that of a fault that has its cause, or of want of memory

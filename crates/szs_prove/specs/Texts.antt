@@ -7,10 +7,19 @@ use Rattle.tptp_read.specs.declared.text.ReadError.{ReadError}
 use Rattle.tptp_read.specs.declared.text.ReadError.TheVariants as text
 use Rattle.tptp_load.specs.declared.error.LoadError.{LoadError}
 use Rattle.tptp_load.specs.declared.error.LoadError.TheVariants as load
+use Rattle.cert_judge.specs.declared.judgement.Judgement.{Judgement}
+use Rattle.cert_judge.specs.declared.judgement.Judgement.TheVariants as judgement
+use Rattle.cert_judge.specs.declared.reply.Reply.{Reply}
+use Rattle.cert_judge.specs.declared.reply.Reply.TheVariants as reply
+use Rattle.check_front.specs.Texts.{fault_text}
+use Rattle.check_front.specs.declared.check.CheckFault.{CheckFault}
+use Rattle.check_front.specs.declared.check.CheckFault.TheVariants as unjudged
+use Rattle.check_front.specs.declared.fault.CertFault.{CertFault}
+use Rattle.check_front.specs.declared.fault.CertFault.TheVariants as fault
 use Rattle.dimacs_front.specs.declared.command.SatExit.{SatExit}
 use Rattle.dimacs_front.specs.declared.command.SatExit.TheVariants as sat
 use Rattle.szs_prove.specs.declared.exit.Exit.{Exit}
-use Rattle.szs_prove.specs.declared.exit.Exit.TheVariants.{Decided, ResourceOut, Refused, Usage, ReadFault, WriteFault, Memory, Sat, Unsat}
+use Rattle.szs_prove.specs.declared.exit.Exit.TheVariants.{Decided, ResourceOut, Refused, Usage, ReadFault, WriteFault, Memory, Sat, Unsat, CheckFailed}
 use Rattle.szs_prove.specs.declared.refusal.Refusal.{Refusal}
 use Rattle.szs_prove.specs.declared.refusal.Refusal.TheVariants as why
 
@@ -24,6 +33,7 @@ code_of WriteFault = 5
 code_of Memory = 6
 code_of Sat = 10
 code_of Unsat = 20
+code_of CheckFailed = 7
 
 abbrev pub load_exit : LoadError → Exit
 load_exit load.ReadFault = ReadFault
@@ -119,3 +129,29 @@ sat_exit sat.Refused = Refused
 sat_exit sat.ReadFault = ReadFault
 sat_exit sat.WriteFault = WriteFault
 sat_exit sat.Memory = Memory
+
+-- ---- certificates that are judged
+
+abbrev pub judgement_exit : Judgement → Exit
+judgement_exit judgement.Valid = Decided
+judgement_exit _ = CheckFailed
+
+abbrev pub reply_exit : Reply → Exit
+reply_exit (reply.Invalid complaint) = CheckFailed
+reply_exit _ = Decided
+
+abbrev pub fault_exit : CertFault → Exit
+fault_exit fault.ReadFault = ReadFault
+fault_exit fault.Memory = Memory
+fault_exit _ = Refused
+
+-- why a certificate is not judged, under its own name also where the problem is refused
+abbrev pub unjudged_text : List ℕ → CheckFault → List ℕ
+unjudged_text cert (unjudged.Cert f) = fault_text cert f
+unjudged_text cert (unjudged.Problem e) = refusal_text cert (why.Load e)
+unjudged_text cert unjudged.Memory = refusal_text cert why.Memory
+
+abbrev pub unjudged_exit : CheckFault → Exit
+unjudged_exit (unjudged.Cert f) = fault_exit f
+unjudged_exit (unjudged.Problem e) = load_exit e
+unjudged_exit unjudged.Memory = Memory

@@ -4,14 +4,17 @@ ghost use Rattle.outside_io.specs.Causes.{Rose};
 ghost use Rattle.cert_format.specs.Printable.{IsTextName};
 ghost use Rattle.command_words.specs.Asked.{prove as proof, sat as values, IsAsked, IsUnread};
 ghost use Rattle.command_words.specs.Requests.{asked};
-ghost use Rattle.szs_prove.specs.Answered.{Answered, IsInterrupted, TookCertificate, WantsMemory, WritesCertificate, WritesNumbers, reading, writing};
+ghost use Rattle.szs_prove.specs.Answered.{Answered, AsksAtom, AsksChain, AsksCheck, AsksProof, IsInterrupted, TookCertificate, WantsMemory, WritesCertificate, WritesComplaint, WritesJudgement, WritesNumbers, WritesReply, WritesSize, reading, writing};
 ghost use Rattle.szs_prove.specs.Situations.{IsExact};
 ghost use Rattle.szs_prove.specs.Written.{IsWritten};
 
+use crate::chain::stress;
+use crate::check::{ask, check};
 use crate::exit::{Exit, exit_of_sat};
 use crate::prove::prove;
 use crate::refusal::{Refusal, exit_after, write_refusal};
-use command_words::laws::{asked_budget, asked_once};
+use check_front::{atoms_are_variable_free, findings_are_one};
+use command_words::laws::{asked_budget, asked_length, asked_once};
 use command_words::{Request, read_words};
 use dimacs_front::sat_file;
 use inst_logic::Memory;
@@ -70,9 +73,18 @@ fn answer<L: Library, K: Sink>(
 {
     asked_once();
     asked_budget();
+    asked_length();
+    atoms_are_variable_free();
     match request {
         Request::Prove { file, root, budget } => prove_file(alloc, file, root, budget, files, out),
         Request::Sat { file } => sat(alloc, file, files, out),
+        Request::Check {
+            cert,
+            problem,
+            root,
+        } => check(alloc, cert, problem, root, files, out),
+        Request::Ask { cert, atom } => ask(alloc, cert, &atom, files, out),
+        Request::Stress { number } => stress(alloc, number, out),
     }
 }
 
@@ -111,7 +123,7 @@ fn answer_words<L: Library, K: Sink>(
     }
 }
 
-/// Reads the words, and the file that they name, decides it, and writes the answer.
+/// Reads the words, and the files that they name, does what the words ask, and writes the answer.
 pub fn run<L: Library, K: Sink>(alloc: Global, words: &[String], files: &mut L, out: &mut K) -> Exit
     // The library's files stay.
     ensures files { L.files files.new ≡ L.files files.old }
@@ -121,11 +133,19 @@ pub fn run<L: Library, K: Sink>(alloc: Global, words: &[String], files: &mut L, 
     // that is wanted there, but for faults and memory.
     ensures exact { IfSome (L.files files.old) (λ all. IsExact (map string_bytes words.now) all (reading (L.files files.old) (L.faults files.old) (L.faults files.new)) (writing (K.taken out.old) (K.taken out.new) (K.faults out.old) (K.faults out.new)) result) }
     // A verdict is written as the text of a certificate, which shows what its status says, and comes from a run.
-    ensures decided { result ≡ Exit.Decided → WritesCertificate (map string_bytes words.now) (L.files files.old) (K.taken out.old) (K.taken out.new) }
+    ensures decided { AsksProof (map string_bytes words.now) → result ≡ Exit.Decided → WritesCertificate (map string_bytes words.now) (L.files files.old) (K.taken out.old) (K.taken out.new) }
     // And where the text of a printable certificate was taken whole, the verdict was written.
     ensures verdict { TookCertificate (K.taken out.old) (K.taken out.new) → result ≡ Exit.Decided }
     // A budget that ran out is told by the numbers of a run that ended for want of it.
     ensures resource_out { result ≡ Exit.ResourceOut → WritesNumbers (map string_bytes words.now) (L.files files.old) (K.taken out.old) (K.taken out.new) }
+    // A certificate that is checked is told to be valid where it is, and to be one of the problem where one is named.
+    ensures checked { AsksCheck (map string_bytes words.now) → result ≡ Exit.Decided → WritesJudgement (map string_bytes words.now) (L.files files.old) (K.taken out.old) (K.taken out.new) Exit.Decided }
+    // An atom is told to be true or false by a saturation that is valid.
+    ensures asked { AsksAtom (map string_bytes words.now) → result ≡ Exit.Decided → WritesReply (map string_bytes words.now) (L.files files.old) (K.taken out.old) (K.taken out.new) Exit.Decided }
+    // What is complained of a certificate is the first that applies.
+    ensures check_failed { result ≡ Exit.CheckFailed → WritesComplaint (map string_bytes words.now) (L.files files.old) (K.taken out.old) (K.taken out.new) }
+    // Of a chain the size of a valid refutation is told.
+    ensures stressed { AsksChain (map string_bytes words.now) → result ≡ Exit.Decided → WritesSize (map string_bytes words.now) (K.taken out.old) (K.taken out.new) }
     ensures read_fault { result ≡ Exit.ReadFault → Rose (L.faults files.old) (L.faults files.new) }
     ensures write_fault { result ≡ Exit.WriteFault → Rose (K.faults out.old) (K.faults out.new) }
     // Where writing failed, a prefix of the answer's text was taken.
@@ -135,5 +155,6 @@ pub fn run<L: Library, K: Sink>(alloc: Global, words: &[String], files: &mut L, 
 {
     one_loading();
     asked_once();
+    findings_are_one();
     answer_words(alloc, words, files, out)
 }

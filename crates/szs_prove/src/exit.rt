@@ -1,17 +1,19 @@
-// How the program ends. Only here an end has a number: 7 is kept for a certificate that is not valid.
+// How the program ends. Only here an end has a number.
 ghost use Rattle.std.specs.Prelude.{◌≡◌};
-ghost use Rattle.szs_prove.specs.Texts.{code_of, sat_exit};
+ghost use Rattle.szs_prove.specs.Texts.{code_of, fault_exit, judgement_exit, reply_exit, sat_exit};
 
+use cert_judge::{Judgement, Reply};
+use check_front::CertFault;
 use dimacs_front::SatExit;
 
 /// How the program ends.
 #[derive(Clone, Copy, Debug, PartialEq, Eq)]
 pub enum Exit {
-    /// The text of a verdict was written whole.
+    /// The text of a verdict was written whole, or that of what a command but `prove` and `sat` answers.
     Decided,
     /// The budget ran out, and the numbers that say so were written whole.
     ResourceOut,
-    /// The file gives no problem, or no clauses.
+    /// The file gives no problem, no clauses, or no certificate that is asked for.
     Refused,
     /// The words are not read.
     Usage,
@@ -25,11 +27,14 @@ pub enum Exit {
     Sat,
     /// A derivation that there are none was written whole.
     Unsat,
+    /// A complaint about a certificate was written whole: it is not valid, or not one of the problem.
+    CheckFailed,
 }
 
 impl Exit {
     /// The status of the process, as the byte that the system takes: Decided 0, ResourceOut 1, Refused 2, Usage 3, ReadFault 4,
-    /// WriteFault 5, Memory 6, Sat 10, Unsat 20. Only with 0, 10 and 20 a verdict was written whole.
+    /// WriteFault 5, Memory 6, CheckFailed 7, Sat 10, Unsat 20. With 0, 7, 10 and 20 what was asked
+    /// for was written whole.
     pub fn code(self) -> u8
         ensures { result ≡ code_of self }
     {
@@ -43,6 +48,7 @@ impl Exit {
             Exit::Memory => 6,
             Exit::Sat => 10,
             Exit::Unsat => 20,
+            Exit::CheckFailed => 7,
         }
     }
 }
@@ -58,5 +64,40 @@ pub fn exit_of_sat(exit: SatExit) -> Exit
         SatExit::ReadFault => Exit::ReadFault,
         SatExit::WriteFault => Exit::WriteFault,
         SatExit::Memory => Exit::Memory,
+    }
+}
+
+/// The exit for what a certificate is found to be, once its line is written.
+pub fn exit_of_judgement(judgement: Judgement) -> Exit
+    ensures { result ≡ judgement_exit judgement }
+{
+    match judgement {
+        Judgement::Valid => Exit::Decided,
+        Judgement::Problem { .. } | Judgement::Invalid(_) => Exit::CheckFailed,
+    }
+}
+
+/// The exit for what a saturation says of an atom, once its line is written.
+pub fn exit_of_reply(reply: Reply) -> Exit
+    ensures { result ≡ reply_exit reply }
+{
+    match reply {
+        Reply::True | Reply::False => Exit::Decided,
+        Reply::Invalid(_) => Exit::CheckFailed,
+    }
+}
+
+/// The exit for a file that gives no certificate that is asked for, once its lines are written.
+pub fn exit_of_fault(fault: &CertFault) -> Exit
+    ensures { result ≡ fault_exit fault.now }
+{
+    match fault {
+        CertFault::ReadFault => Exit::ReadFault,
+        CertFault::Memory => Exit::Memory,
+        CertFault::Absent
+        | CertFault::TooLong
+        | CertFault::Syntax { .. }
+        | CertFault::Version { .. }
+        | CertFault::NoSaturation => Exit::Refused,
     }
 }

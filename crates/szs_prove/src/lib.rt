@@ -1,7 +1,9 @@
-//! The top call of the program: reads the words, and the file that they name, decides it, and writes the answer. What is
+//! The top call of the program: reads the words, and the files that they name, decides or checks them, and writes the answer. What is
 //! proved of it is proved over any library and sink that keep the laws of their traits.
 #![tactic(auto)]
 
+mod chain;
+mod check;
 mod command;
 mod exit;
 mod piece;

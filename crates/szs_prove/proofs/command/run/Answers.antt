@@ -1,4 +1,4 @@
-use Rattle.szs_prove.proofs.Endings.{decided, interrupted, memory, read_fault, resource_out, write_fault}
+use Rattle.szs_prove.proofs.Endings.{asked_atom, check_failed, checked, decided, interrupted, memory, read_fault, resource_out, stressed, write_fault}
 use Rattle.szs_prove.proofs.Situated.{exact}
 use Rattle.szs_prove.proofs.VerdictTexts.{took_verdict}
 use Rattle.szs_prove.proofs.command.run.Goals as goal
@@ -9,8 +9,12 @@ returns g c =
     record {
       files = c.answer_words.ensures.files;
       answered = a;
-      exact = exact c.one_loading.ensures.problems c.one_loading.ensures.apart c.asked_once.ensures.once _ _ _ _ a;
-      decided = decided _ _ _ _ a;
+      exact = exact c.one_loading.ensures.problems c.one_loading.ensures.apart (c.findings_are_one.ensures.checks, c.findings_are_one.ensures.replies) c.asked_once.ensures.once _ _ _ _ a;
+      decided = decided _ _ _ _ a c.asked_once.ensures.once;
+      checked = checked _ _ _ _ a c.asked_once.ensures.once;
+      asked = asked_atom _ _ _ _ a c.asked_once.ensures.once;
+      check_failed = check_failed _ _ _ _ a;
+      stressed = stressed _ _ _ _ a c.asked_once.ensures.once;
       verdict = took_verdict _ _ _ _ a;
       resource_out = resource_out _ _ _ _ a;
       read_fault = read_fault _ _ _ _ a;
