@@ -1,7 +1,8 @@
 -- What the exit tells of the answer, and of what was written.
-use Rattle.std.proofs.Common.{◌≡◌, ◌∙◌, ℕ, List, Bool, true, false, nat_eq, Option, None, Some, inl, inr, refl, sym, subst, append-nil, codes}
+use Rattle.std.proofs.Common.{◌≡◌, ◌∙◌, ℕ, List, Bool, true, false, nat_eq, Option, None, Some, inl, inr, refl, sym, subst, append-nil, codes, arith}
 use Rattle.std.specs.Prelude.{⊤, ◌⊎◌, Result, Ok, Err}
 use Rattle.std.specs.Io.KnownBytes.{Appends}
+use Rattle.std.proofs.lemmas.Bool.Decides.{nat_tests}
 use Rattle.outside_io.specs.Causes.{Rose}
 use Rattle.cert_format.specs.Certificate.{Certificate}
 use Rattle.cert_format.specs.Text.{certificate_text}
@@ -22,12 +23,12 @@ use Rattle.chain_stress.specs.Words.{size_lines}
 use Rattle.chain_stress.specs.declared.sizes.Size.{Size}
 use Rattle.check_front.specs.Checks.{IsCheckFault, IsJudged}
 use Rattle.check_front.specs.Queries.{IsAskFault, IsReplied}
-use Rattle.check_front.specs.Texts.{fault_text}
+use Rattle.check_front.specs.Texts.{fault_text, told_text}
 use Rattle.check_front.specs.declared.check.CheckFault.{CheckFault}
 use Rattle.check_front.specs.declared.check.CheckFault.TheVariants as unjudged
 use Rattle.check_front.specs.declared.fault.CertFault.{CertFault}
 use Rattle.check_front.specs.declared.fault.CertFault.TheVariants as cert
-use Rattle.command_words.specs.Asked.{Asked, prove, sat, check, ask, stress, IsAsked}
+use Rattle.command_words.specs.Asked.{Asked, prove, sat, check, ask, stress, IsAsked, name_of}
 use Rattle.dimacs_front.specs.Command.{status_line}
 use Rattle.dimacs_front.specs.Command as dimacs
 use Rattle.dimacs_front.specs.Files.{IsOutcome, IsRefused}
@@ -38,7 +39,7 @@ use Rattle.dimacs_front.specs.declared.error.DimacsError.TheVariants as fault
 use Rattle.dimacs_front.specs.declared.file.SatError.{SatError}
 use Rattle.dimacs_front.specs.declared.file.SatError.TheVariants as bar
 use Rattle.szs_prove.specs.Answers.{Answer, Reading, verdict, refusal, values, judged, replied, measured, usage, no_words, IsAnswer, IsFinding, IsMeasured, IsOutOfBudget, IsRefusal, IsReplyOf, IsVerdict, exit_for, text_for}
-use Rattle.szs_prove.specs.Answered.{Answered, AsksAtom, AsksChain, AsksCheck, AsksProof, Writing, IsInterrupted, WantsMemory, WritesCertificate, WritesComplaint, WritesJudgement, WritesNumbers, WritesReply, WritesSize}
+use Rattle.szs_prove.specs.Answered.{Answered, AsksAtom, AsksChain, AsksCheck, AsksProof, Writing, IsInterrupted, WantsMemory, WritesCertificate, WritesComplaint, WritesJudgement, WritesNumbers, WritesReply, WritesSize, IsNamed}
 use Rattle.szs_prove.specs.Texts.{refusal_text, fault_exit, judgement_exit, load_exit, reply_exit, sat_exit, unjudged_exit, unjudged_text}
 use Rattle.szs_prove.specs.declared.exit.Exit.{Exit}
 use Rattle.szs_prove.specs.declared.exit.Exit.TheVariants as exit
@@ -105,8 +106,13 @@ abbrev SaysDecided : List (List ℕ) → Reading → List ℕ → Type 0
 SaysDecided words read text = SaysVerdict words read text ⊎ SaysJudgement words read text exit.Decided ⊎ SaysReply words read text exit.Decided ⊎ SaysSize words text
 
 -- the text says that memory is wanted
-abbrev SaysWant : List ℕ → Type 0
-SaysWant text = (name : List ℕ) × (text ≡ refusal_text name Memory)
+record SaysWant (words : List (List ℕ)) (text : List ℕ) : Type 0 where
+  name : List ℕ
+  named : IsNamed words name
+  is : text ≡ refusal_text name Memory
+
+named_by : (words : List (List ℕ)) (a : Asked) → IsAsked words a → IsNamed words (name_of a)
+named_by words a asked = inr (a, asked, refl)
 
 -- ---- words ask one thing
 
@@ -142,25 +148,25 @@ module _ (words : List (List ℕ)) (read : Reading) where
   Tells text exit.Usage = ⊤
   Tells text exit.ReadFault = Rose read.before read.now
   Tells text exit.WriteFault = ⊥
-  Tells text exit.Memory = SaysWant text
+  Tells text exit.Memory = SaysWant words text
   Tells text exit.Sat = ⊤
   Tells text exit.Unsat = ⊤
   Tells text exit.CheckFailed = SaysComplaint words read text
 
   -- under any name
-  load_tells : (name file : List ℕ) (root : Option (List ℕ)) (e : LoadError) → IsLoadCause read.files read.before read.now file root e → Tells (refusal_text name (Load e)) (load_exit e)
-  load_tells name file root (load.Text at e) h = tt
-  load_tells name file root (load.Absent wanted) h = tt
-  load_tells name file root (load.NotSelected at name) h = tt
-  load_tells name file root (load.IncludeDepth at) h = tt
-  load_tells name file root load.TooLong h = tt
-  load_tells name file root load.ReadFault h = h
-  load_tells name file root load.Memory h = (name, refl)
+  load_tells : (name file : List ℕ) (root : Option (List ℕ)) → IsNamed words name → (e : LoadError) → IsLoadCause read.files read.before read.now file root e → Tells (refusal_text name (Load e)) (load_exit e)
+  load_tells name file root named (load.Text at e) h = tt
+  load_tells name file root named (load.Absent wanted) h = tt
+  load_tells name file root named (load.NotSelected at wanted) h = tt
+  load_tells name file root named (load.IncludeDepth at) h = tt
+  load_tells name file root named load.TooLong h = tt
+  load_tells name file root named load.ReadFault h = h
+  load_tells name file root named load.Memory h = record { name = name; named = named; is = refl }
 
   refusal_tells : (file : List ℕ) (root : Option (List ℕ)) (budget : ℕ) → IsAsked words (prove file root budget) → (why : Refusal) → IsRefusal read file root budget why
       → Tells (refusal_text file why) (exit_for (refusal file why))
   refusal_tells file root budget asked Usage h = absurd h
-  refusal_tells file root budget asked (Load e) h = load_tells file file root e h
+  refusal_tells file root budget asked (Load e) h = load_tells file file root (named_by words (prove file root budget) asked) e h
   refusal_tells file root budget asked (OutOfBudget all left least) h = record {
     file = file;
     root = root;
@@ -171,7 +177,7 @@ module _ (words : List (List ℕ)) (read : Reading) where
     stopped = h.1;
     is = subst (λ (n : ℕ). refusal_text file (OutOfBudget all left least) ≡ refusal_text file (OutOfBudget n left least)) h.0 refl;
   }
-  refusal_tells file root budget asked Memory h = (file, refl)
+  refusal_tells file root budget asked Memory h = record { name = file; named = named_by words (prove file root budget) asked; is = refl }
 
   text_tells : (file : List ℕ) (e : DimacsError) → IsRefused read.files file e → Tells (dimacs.refusal_text file (bar.Text e)) (sat_exit (dimacs.refusal_exit (bar.Text e)))
   text_tells file (fault.Syntax line) h = tt
@@ -180,14 +186,14 @@ module _ (words : List (List ℕ)) (read : Reading) where
   text_tells file fault.Limit h = tt
   text_tells file fault.Memory h = absurd h
 
-  values_tell : (file : List ℕ) (o : Result SatAnswer SatError) → IsOutcome read.files read.before read.now file o → Tells (dimacs.outcome_text file o) (sat_exit (dimacs.exit_of o))
-  values_tell file (Ok (Satisfiable text)) h = tt
-  values_tell file (Ok (Unsatisfiable text)) h = tt
-  values_tell file (Err bar.Absent) h = tt
-  values_tell file (Err bar.TooLong) h = tt
-  values_tell file (Err (bar.Text e)) h = text_tells file e h
-  values_tell file (Err bar.ReadFault) h = h
-  values_tell file (Err bar.Memory) h = (file, memory_line file)
+  values_tell : (file : List ℕ) → IsAsked words (sat file) → (o : Result SatAnswer SatError) → IsOutcome read.files read.before read.now file o → Tells (dimacs.outcome_text file o) (sat_exit (dimacs.exit_of o))
+  values_tell file asked (Ok (Satisfiable text)) h = tt
+  values_tell file asked (Ok (Unsatisfiable text)) h = tt
+  values_tell file asked (Err bar.Absent) h = tt
+  values_tell file asked (Err bar.TooLong) h = tt
+  values_tell file asked (Err (bar.Text e)) h = text_tells file e h
+  values_tell file asked (Err bar.ReadFault) h = h
+  values_tell file asked (Err bar.Memory) h = record { name = file; named = named_by words (sat file) asked; is = memory_line file }
 
   judgement_says : (c : List ℕ) (problem root : Option (List ℕ)) → IsAsked words (check c problem root) → (form : Form) (j : Judgement) → IsJudged read.files c problem root (form, j)
       → SaysJudgement words read (judgement_line form j) (judgement_exit j)
@@ -207,49 +213,50 @@ module _ (words : List (List ℕ)) (read : Reading) where
   reply_tells c atom asked reply.False h = inr (inr (inl (reply_says c atom asked reply.False h)))
   reply_tells c atom asked (reply.Invalid why) h = inr (reply_says c atom asked (reply.Invalid why) h)
 
-  unjudged_tells : (c : List ℕ) (problem root : Option (List ℕ)) (why : CheckFault) → IsCheckFault read.files read.before read.now c problem root why → Tells (unjudged_text c why) (unjudged_exit why)
-  unjudged_tells c problem root (unjudged.Cert cert.Absent) h = tt
-  unjudged_tells c problem root (unjudged.Cert cert.TooLong) h = tt
-  unjudged_tells c problem root (unjudged.Cert cert.ReadFault) h = h.1
-  unjudged_tells c problem root (unjudged.Cert (cert.Syntax line)) h = tt
-  unjudged_tells c problem root (unjudged.Cert (cert.Version word)) h = tt
-  unjudged_tells c problem root (unjudged.Cert cert.NoSaturation) h = tt
-  unjudged_tells c problem root (unjudged.Cert cert.Memory) h = absurd h.1
-  unjudged_tells c None root (unjudged.Problem e) h = absurd h.2
-  unjudged_tells c (Some file) root (unjudged.Problem e) h = load_tells c file root e h.2
-  unjudged_tells c problem root unjudged.Memory h = (c, refl)
+  unjudged_tells : (c : List ℕ) (problem root : Option (List ℕ)) → IsNamed words c → (why : CheckFault) → IsCheckFault read.files read.before read.now c problem root why → Tells (unjudged_text c why) (unjudged_exit why)
+  unjudged_tells c problem root named (unjudged.Cert cert.Absent) h = tt
+  unjudged_tells c problem root named (unjudged.Cert cert.TooLong) h = tt
+  unjudged_tells c problem root named (unjudged.Cert cert.ReadFault) h = h.1
+  unjudged_tells c problem root named (unjudged.Cert (cert.Syntax line)) h = tt
+  unjudged_tells c problem root named (unjudged.Cert (cert.Version word)) h = tt
+  unjudged_tells c problem root named (unjudged.Cert cert.NoSaturation) h = tt
+  unjudged_tells c problem root named (unjudged.Cert cert.Memory) h = absurd (h.0 refl)
+  unjudged_tells c None root named (unjudged.Problem e) h = absurd h.2
+  unjudged_tells c (Some file) root named (unjudged.Problem e) h = load_tells c file root named e h.2
+  unjudged_tells c problem root named unjudged.Memory h = record { name = c; named = named; is = refl }
 
-  query_tells : (c : List ℕ) (f : CertFault) → IsAskFault read.files read.before read.now c f → Tells (fault_text c f) (fault_exit f)
-  query_tells c cert.Absent h = tt
-  query_tells c cert.TooLong h = tt
-  query_tells c cert.ReadFault h = h
-  query_tells c (cert.Syntax line) h = tt
-  query_tells c (cert.Version word) h = tt
-  query_tells c cert.NoSaturation h = tt
-  query_tells c cert.Memory h = (c, refl)
+  query_tells : (c : List ℕ) → IsNamed words c → (f : CertFault) → IsAskFault read.files read.before read.now c f → Tells (fault_text c f) (fault_exit f)
+  unfolding told_text
+  query_tells c named cert.Absent h = tt
+  query_tells c named cert.TooLong h = tt
+  query_tells c named cert.ReadFault h = h
+  query_tells c named (cert.Syntax line) h = tt
+  query_tells c named (cert.Version word) h = tt
+  query_tells c named cert.NoSaturation h = tt
+  query_tells c named cert.Memory h = record { name = c; named = named; is = refl }
 
   judged_tell : (c : List ℕ) (problem root : Option (List ℕ)) → IsAsked words (check c problem root) → (o : Result (Form × Judgement) CheckFault) → IsFinding read c problem root o
       → Tells (text_for (judged c o)) (exit_for (judged c o))
   judged_tell c problem root asked (Ok found) h = judgement_tells c problem root asked found.0 found.1 h
-  judged_tell c problem root asked (Err why) h = unjudged_tells c problem root why h
+  judged_tell c problem root asked (Err why) h = unjudged_tells c problem root (named_by words (check c problem root) asked) why h
 
   replied_tell : (c : List ℕ) (atom : Signed Tree) → IsAsked words (ask c atom) → (o : Result Reply CertFault) → IsReplyOf read c atom.atom o → Tells (text_for (replied c o)) (exit_for (replied c o))
   replied_tell c atom asked (Ok r) h = reply_tells c atom asked r h
-  replied_tell c atom asked (Err f) h = query_tells c f h
+  replied_tell c atom asked (Err f) h = query_tells c (named_by words (ask c atom) asked) f h
 
   measured_tells : (n : ℕ) → IsAsked words (stress n) → (o : Result Size OutOfMemory) → IsMeasured n o → Tells (text_for (measured o)) (exit_for (measured o))
   measured_tells n asked (Ok size) h = inr (inr (inr (record { number = n; asked = asked; size = size; refuted = h; is = refl })))
-  measured_tells n asked (Err want) h = (codes "stress", refl)
+  measured_tells n asked (Err want) h = record { name = codes "stress"; named = named_by words (stress n) asked; is = refl }
 
   tells : (a : Answer) → IsAnswer words read a → Tells (text_for a) (exit_for a)
   tells (verdict file c) h = inl (record { file = file; root = h.0; budget = h.1; asked = h.2; certificate = c; is_verdict = h.3; is = refl })
   tells (refusal file why) h = refusal_tells file h.0 h.1 h.2 why h.3
-  tells (values file o) h = values_tell file o h.1
+  tells (values file o) h = values_tell file h.0 o h.1
   tells (judged c o) h = judged_tell c h.0 h.1 h.2 o h.3
   tells (replied c o) h = replied_tell c h.0 h.1 o h.2
   tells (measured o) h = measured_tells h.0 h.1 o h.2
   tells usage h = tt
-  tells no_words h = (codes "instgen", refl)
+  tells no_words h = record { name = codes "instgen"; named = inl refl; is = refl }
 
 module _ (words : List (List ℕ)) (read : Reading) (write : Writing) (e : Exit) (a : Answered words read write e) where
   -- the exit is the answer's own, and its text was written whole; or neither is so
@@ -385,5 +392,5 @@ module _ (words : List (List ℕ)) (read : Reading) (write : Writing) (e : Exit)
     | inr v ↦ inr (elim v [ inl w ↦ record { answer = a.answer; cause = a.cause; written = w.1 } | inr w ↦ record { answer = a.answer; cause = a.cause; written = w.1 } ])
   ]
     where
-      by : SaysWant (text_for a.answer) → Appends write.old write.new (text_for a.answer) → WantsMemory words read write.old write.new
-      by s w = inl (s.0, subst (Appends write.old write.new) s.1 w)
+      by : SaysWant words (text_for a.answer) → Appends write.old write.new (text_for a.answer) → WantsMemory words read write.old write.new
+      by s w = inl (record { name = s.name; named = s.named; written = subst (Appends write.old write.new) s.is w })

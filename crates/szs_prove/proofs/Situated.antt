@@ -382,12 +382,12 @@ module _ (words : List (List ℕ)) (files : List NamedFile) (read : Reading) (wr
   unjudged_due : (cert : List ℕ) (problem root : Option (List ℕ)) → IsAsked words (check cert problem root) → (why : CheckFault)
       → IsCheckFault (Some files) read.before read.now cert problem root why → IsDue (unjudged_exit why)
   unjudged_due cert problem root asked (unjudged.Cert bad.Absent) h = certificate_due cert problem root asked (Err (unjudged.Cert bad.Absent)) h.1 exit.Refused (0, lit< tt, refl)
-  unjudged_due cert problem root asked (unjudged.Cert bad.TooLong) h = certificate_due cert problem root asked (Err (unjudged.Cert bad.TooLong)) (h.1, h.2, h.3) exit.Refused (0, lit< tt, refl)
+  unjudged_due cert problem root asked (unjudged.Cert bad.TooLong) h = certificate_due cert problem root asked (Err (unjudged.Cert bad.TooLong)) h.1 exit.Refused (0, lit< tt, refl)
   unjudged_due cert problem root asked (unjudged.Cert bad.ReadFault) h = inr (inl (refl, h.1))
-  unjudged_due cert problem root asked (unjudged.Cert (bad.Syntax line)) h = certificate_due cert problem root asked (Err (unjudged.Cert (bad.Syntax line))) (h.1, h.2, h.3) exit.Refused (0, lit< tt, refl)
-  unjudged_due cert problem root asked (unjudged.Cert (bad.Version word)) h = certificate_due cert problem root asked (Err (unjudged.Cert (bad.Version word))) (h.1, h.2, h.3) exit.Refused (0, lit< tt, refl)
+  unjudged_due cert problem root asked (unjudged.Cert (bad.Syntax line)) h = certificate_due cert problem root asked (Err (unjudged.Cert (bad.Syntax line))) h.1 exit.Refused (0, lit< tt, refl)
+  unjudged_due cert problem root asked (unjudged.Cert (bad.Version word)) h = certificate_due cert problem root asked (Err (unjudged.Cert (bad.Version word))) h.1 exit.Refused (0, lit< tt, refl)
   unjudged_due cert problem root asked (unjudged.Cert bad.NoSaturation) h = absurd h.1
-  unjudged_due cert problem root asked (unjudged.Cert bad.Memory) h = absurd h.1
+  unjudged_due cert problem root asked (unjudged.Cert bad.Memory) h = absurd (h.0 refl)
   unjudged_due cert problem root asked (unjudged.Problem e) h = problem_due cert problem root asked h.0 e h.2
   unjudged_due cert problem root asked unjudged.Memory h = inr (inr (inr refl))
 

@@ -27,7 +27,7 @@ use Rattle.cert_judge.specs.declared.reply.Reply.TheVariants as reply
 use Rattle.cert_judge.specs.declared.words.Form.{Form}
 use Rattle.chain_stress.specs.Words.{size_lines}
 use Rattle.chain_stress.specs.declared.sizes.Size.{Size}
-use Rattle.check_front.specs.Texts.{fault_text}
+use Rattle.check_front.specs.Texts.{fault_text, told_text}
 use Rattle.check_front.specs.declared.check.CheckFault.{CheckFault}
 use Rattle.check_front.specs.declared.check.CheckFault.TheVariants as unjudged
 use Rattle.check_front.specs.declared.fault.CertFault.{CertFault}
@@ -104,6 +104,7 @@ valued read name (Ok (Unsatisfiable t)) h = ap begins_verdict h.4.is
 valued read name (Err e) h = barred name e
 
 faulty : (name : List ℕ) (f : CertFault) → begins_verdict (fault_text name f) ≡ false
+unfolding told_text
 faulty name cert.Absent = refl
 faulty name cert.TooLong = refl
 faulty name cert.ReadFault = refl
@@ -165,14 +166,17 @@ third_is_s _ = false
 abbrev has_start : List ℕ → Bool
 has_start text = third_is_s (behind_line text)
 
-no_feed : (b : ℕ) → (32 ≤ b) × (b ≢ 127) → nat_eq b 10 ≡ false
+abbrev IsPlain : ℕ → Type 0
+IsPlain b = (32 ≤ b) × (b ≢ 127)
+
+no_feed : (b : ℕ) → IsPlain b → nat_eq b 10 ≡ false
 no_feed b h = let large = h.0 in grind (arith, nat_tests)
 
-behind_name : (name rest : List ℕ) → All (λ b. (32 ≤ b) × (b ≢ 127)) name → behind_line ((name ++ 10 ∷ []) ++ rest) ≡ rest
+behind_name : (name rest : List ℕ) → All IsPlain name → behind_line ((name ++ 10 ∷ []) ++ rest) ≡ rest
 behind_name [] rest h = refl
 behind_name (b ∷ bs) rest h =
-    ap (λ (t : Bool). cond t ((bs ++ 10 ∷ []) ++ rest) (behind_line ((bs ++ 10 ∷ []) ++ rest))) (no_feed b (All-head _ b bs h))
-    ∙ behind_name bs rest (All-tail _ b bs h)
+    ap (λ (t : Bool). cond t ((bs ++ 10 ∷ []) ++ rest) (behind_line ((bs ++ 10 ∷ []) ++ rest))) (no_feed b (All-head IsPlain b bs h))
+    ∙ behind_name bs rest (All-tail IsPlain b bs h)
 
 -- what stands behind the first line of a certificate
 behind_status : (r : Bool) (name rest : List ℕ) → IsTextName name → behind_line (line_text (status r name) ++ rest) ≡ rest

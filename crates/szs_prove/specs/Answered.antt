@@ -1,5 +1,5 @@
 -- What a run of the program did.
-use Rattle.std.specs.Prelude.{ℕ, ◌≡◌, ◌⊎◌, List, Option, Some}
+use Rattle.std.specs.Prelude.{ℕ, ◌≡◌, ◌⊎◌, List, Option, Some, codes}
 use Rattle.std.specs.Io.KnownBytes.{Appends}
 use Rattle.inst_logic.specs.Tree.{Tree}
 use Rattle.inst_logic.specs.declared.signed.Signed.{Signed}
@@ -17,7 +17,7 @@ use Rattle.chain_stress.specs.Words.{size_lines}
 use Rattle.chain_stress.specs.declared.sizes.Size.{Size}
 use Rattle.check_front.specs.Checks.{IsJudged}
 use Rattle.check_front.specs.Queries.{IsReplied}
-use Rattle.command_words.specs.Asked.{prove, check, ask, stress, IsAsked}
+use Rattle.command_words.specs.Asked.{Asked, prove, check, ask, stress, IsAsked, name_of}
 use Rattle.szs_prove.specs.Answers.{Answer, Reading, IsAnswer, IsVerdict, IsOutOfBudget, exit_for, text_for}
 use Rattle.szs_prove.specs.Texts.{judgement_exit, refusal_text, reply_exit}
 use Rattle.szs_prove.specs.Written.{IsWritten}
@@ -133,10 +133,16 @@ pub record IsInterrupted (words : List (List ℕ)) (read : Reading) (old new : O
   pub cause : IsAnswer words read answer
   pub written : AppendsProperPrefix old new (text_for answer)
 
--- that memory is wanted was written, under the name of some file, or of the program
-abbrev pub WritesWant : Option (List ℕ) → Option (List ℕ) → Type 0
-WritesWant old new = (name : List ℕ) × Appends old new (refusal_text name Wanting)
+-- the name of an answer to the words: that of what they ask, or the program's
+abbrev pub IsNamed : List (List ℕ) → List ℕ → Type 0
+IsNamed words name = (name ≡ codes "instgen") ⊎ ((a : Asked) × IsAsked words a × (name ≡ name_of a))
+
+-- that memory is wanted was written, under such a name
+pub record WritesWant (words : List (List ℕ)) (old new : Option (List ℕ)) : Type 0 where
+  pub name : List ℕ
+  pub named : IsNamed words name
+  pub written : Appends old new (refusal_text name Wanting)
 
 -- that memory is wanted was written, or an answer was not written whole
 abbrev pub WantsMemory : List (List ℕ) → Reading → Option (List ℕ) → Option (List ℕ) → Type 0
-WantsMemory words read old new = WritesWant old new ⊎ IsInterrupted words read old new
+WantsMemory words read old new = WritesWant words old new ⊎ IsInterrupted words read old new
