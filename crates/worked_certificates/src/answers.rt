@@ -16,7 +16,7 @@ pub enum Answer {
 }
 
 /// What the text is read as.
-pub fn answer(alloc: Global, text: &[u8]) -> Result<Answer, Fail> {
+pub fn read_as(alloc: Global, text: &[u8]) -> Result<Answer, Fail> {
     match read_certificate(alloc, text) {
         Ok(Certificate::Refutation(_)) => Ok(Answer::Refutation),
         Ok(Certificate::Saturation(_)) => Ok(Answer::Saturation),
@@ -35,7 +35,7 @@ pub fn odd_prefix(alloc: Global, text: &[u8]) -> Result<Option<usize>, Fail> {
     for n in 0..text.len() {
         let part = &text[..n];
         let line = whole_lines(part).saturating_add(1);
-        if answer(alloc, part)? != Answer::Syntax(line) {
+        if read_as(alloc, part)? != Answer::Syntax(line) {
             return Ok(Some(n));
         }
     }

@@ -1,16 +1,16 @@
 // Texts and what they are read as.
-use crate::answers::{Answer, answer, odd_prefix};
+use crate::answers::{Answer, odd_prefix, read_as};
 use crate::texts::{CLOSED, OPENED, REFUTATION, SATURATION};
 use std::test::Fail;
 
 #[test]
 fn whole_texts(rt: HostRuntime) -> Result<(), Fail> {
     assert_eq!(rt;
-        answer(rt.alloc(), REFUTATION.as_bytes())?,
+        read_as(rt.alloc(), REFUTATION.as_bytes())?,
         Answer::Refutation
     );
     assert_eq!(rt;
-        answer(rt.alloc(), SATURATION.as_bytes())?,
+        read_as(rt.alloc(), SATURATION.as_bytes())?,
         Answer::Saturation
     );
     Ok(())
@@ -105,7 +105,7 @@ const MIDDLES: [(&str, Answer); 25] = [
 fn middles(rt: HostRuntime) -> Result<(), Fail> {
     for row in MIDDLES {
         let text = format!(in rt.alloc(); "{OPENED}{}{CLOSED}", row.0)?;
-        assert_eq!(rt; answer(rt.alloc(), text.as_bytes())?, row.1);
+        assert_eq!(rt; read_as(rt.alloc(), text.as_bytes())?, row.1);
     }
     Ok(())
 }
@@ -137,7 +137,7 @@ const OTHERS: [(&str, Answer); 8] = [
 #[test]
 fn others(rt: HostRuntime) -> Result<(), Fail> {
     for row in OTHERS {
-        assert_eq!(rt; answer(rt.alloc(), row.0.as_bytes())?, row.1);
+        assert_eq!(rt; read_as(rt.alloc(), row.0.as_bytes())?, row.1);
     }
     Ok(())
 }
