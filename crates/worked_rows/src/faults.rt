@@ -62,3 +62,75 @@ fn a_write_that_fails(rt: HostRuntime) -> Result<(), Fail> {
     assert_eq!(rt; out.bytes(), b"% SZS status Uns".as_slice());
     Ok(())
 }
+
+// A certificate without members, which is valid.
+const CERTIFICATE: &[u8] = b"% SZS status Satisfiable for r.p
+% SZS output start Saturation for r.p
+% instgen certificate 1
+% SZS output end Saturation for r.p
+";
+
+// The answer to words about the certificate where this call of the library fails, which gives at most 64 bytes at once.
+fn answer_of_cert_read(
+    alloc: Global,
+    words: &[&str],
+    number: usize,
+) -> Result<(Exit, SureSink), Memory> {
+    let words = words_of(alloc, words)?;
+    let files = file_of(alloc, "c", CERTIFICATE)?;
+    let mut library = MemLibrary::new(alloc, files, 64, call(alloc, number)?);
+    let mut out = SureSink::new(alloc);
+    let exit = run(alloc, words.as_slice(), &mut library, &mut out);
+    Ok((exit, out))
+}
+
+fn check_cert_read(
+    rt: &impl Abort,
+    alloc: Global,
+    words: &[&str],
+    number: usize,
+) -> Result<(), Fail> {
+    let (exit, out) = answer_of_cert_read(alloc, words, number)?;
+    assert_eq!(rt; exit.code(), 4);
+    assert_eq!(rt;
+        str::from_utf8(out.bytes())?,
+        "% SZS status OSError for c\n% read fault\n"
+    );
+    Ok(())
+}
+
+// The certificate is begun, and three reads find its bytes and its end; then the problem is begun.
+#[test]
+fn a_read_that_fails_in_a_check(rt: HostRuntime) -> Result<(), Fail> {
+    for number in 1..5 {
+        check_cert_read(&rt, rt.alloc(), &["check", "c"], number)?;
+        check_cert_read(&rt, rt.alloc(), &["ask", "c", "p"], number)?;
+    }
+    check_cert_read(&rt, rt.alloc(), &["check", "c", "--problem", "c"], 5)
+}
+
+// The answer to words about the certificate where the second call of the output fails, which takes at most 4 bytes at once.
+fn answer_of_cert_write(alloc: Global, words: &[&str]) -> Result<(Exit, MemSink), Memory> {
+    let words = words_of(alloc, words)?;
+    let files = file_of(alloc, "c", CERTIFICATE)?;
+    let mut library = MemLibrary::new(alloc, files, 64, CallList::new(alloc));
+    let mut out = MemSink::new(alloc, 4, call(alloc, 2)?);
+    let exit = run(alloc, words.as_slice(), &mut library, &mut out);
+    Ok((exit, out))
+}
+
+#[test]
+fn a_write_that_fails_in_a_check(rt: HostRuntime) -> Result<(), Fail> {
+    let rows: [(&[&str], &[u8]); 4] = [
+        (&["check", "c"], b"vali"),
+        (&["ask", "c", "p"], b"fals"),
+        (&["check", "d"], b"% SZ"),
+        (&["stress", "2"], b"% SZ"),
+    ];
+    for (words, taken) in rows {
+        let (exit, out) = answer_of_cert_write(rt.alloc(), words)?;
+        assert_eq!(rt; exit.code(), 5);
+        assert_eq!(rt; out.bytes(), taken);
+    }
+    Ok(())
+}

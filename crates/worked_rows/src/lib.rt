@@ -5,6 +5,10 @@
 #[cfg(test)]
 mod certificates;
 #[cfg(test)]
+mod chains;
+#[cfg(test)]
+mod checks;
+#[cfg(test)]
 mod dimacs_rows;
 #[cfg(test)]
 mod faults;

@@ -309,14 +309,18 @@ cnf(m1,plain,q,input(1),[selected(1)]).
 ];
 
 // Words that are not read, though there is a file r.p.
-const UNREAD: [&[&str]; 13] = [
+const UNREAD: [&[&str]; 17] = [
     &[],
     &["prove"],
     &["prove", "r.p", "s.p"],
     &["prove", ""],
     &["prove", "-r.p"],
     &["prove", "r\n.p"],
-    &["check", "r.p"],
+    &["prove", "a", "b"],
+    &["verify", "r.p"],
+    &["stress", "1"],
+    &["stress", "100001"],
+    &["stress", "r.p"],
     &["prove", "r.p", "--root"],
     &["prove", "r.p", "--root", "-d"],
     &["prove", "r.p", "--budget", "x"],

@@ -26,6 +26,15 @@ pub fn words_of(alloc: Global, texts: &[&str]) -> Result<Vec<String>, Memory> {
     Ok(words)
 }
 
+// The pieces, one behind the other.
+pub fn text_of(alloc: Global, pieces: &[&str]) -> Result<String, Memory> {
+    let mut text = String::new(alloc);
+    for piece in pieces {
+        text.push_str(piece)?;
+    }
+    Ok(text)
+}
+
 fn add_file(alloc: Global, files: &mut FileList, name: &str, bytes: &[u8]) -> Result<(), Memory> {
     files.push(NamedFile {
         name: Name::of(alloc, name.as_bytes())?,
