@@ -1,12 +1,12 @@
 -- The first lines of a text.
-use Rattle.std.proofs.Common.{◌≡◌, ◌≢◌, ℕ, ◌^◌, ◌<◌, Bool, true, false, List, [], ◌∷◌, ◌++◌, Some, refl, sym, ap, ◌∙◌, subst, arith}
+use Rattle.std.proofs.Common.{◌≡◌, ◌≢◌, ℕ, Bool, true, false, List, [], ◌∷◌, ◌++◌, refl, sym, ap, ◌∙◌, subst, arith}
 use Rattle.std.specs.Prelude.{codes, decimal}
 use Rattle.std.specs.List.{list_all}
 use Rattle.std.specs.Char.{is_ascii_digit}
 use Rattle.std.proofs.lemmas.Fmt.{decimal_digit}
 use Rattle.inst_logic.specs.Printing.{is_readable_name, name_text}
 use Rattle.cert_format.specs.Fronts.{first_lines}
-use Rattle.cert_format.specs.LineMachine.{Line, status, opening, version, constant, State, nothing, begun, opened, awaits}
+use Rattle.cert_format.specs.LineMachine.{status, opening, version, constant, nothing, begun, opened, awaits}
 use Rattle.cert_format.specs.LineTexts.{line, is_text_name}
 use Rattle.cert_format.specs.FirstFormat.{text_of_lines}
 use Rattle.cert_format.specs.ValueLines.{IsCertificateText}

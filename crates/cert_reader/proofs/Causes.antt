@@ -1,6 +1,6 @@
 -- What an error says, read off its cause; and what an ending says.
 use Rattle.std.proofs.Common.{◌≡◌, ℕ, List, [], subst, sym}
-use Rattle.std.specs.Prelude.{Result, Ok, Err, IfErr}
+use Rattle.std.specs.Prelude.{Result, Err, IfErr}
 use Rattle.cert_reader.specs.declared.certificate.Certificate.{Certificate}
 use Rattle.cert_reader.specs.declared.error.CertError.{CertError}
 use Rattle.cert_reader.specs.declared.error.CertError.TheVariants as errors

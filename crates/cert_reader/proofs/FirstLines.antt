@@ -83,16 +83,18 @@ fewer (suc n) (b ∷ bs) w h = by (b == 10) refl (λ u e. fewer n bs u e) (λ u 
     by : (t : Bool) → (b == 10) ≡ t → ((u : List ℕ) → first_lines (suc n) bs ≡ Some u → Fewer n bs u) → ((u : List ℕ) → first_lines (suc (suc n)) bs ≡ Some u → Fewer (suc n) bs u) → Fewer (suc n) (b ∷ bs) w
     by true e f g =
         let m = mapped b (first_lines (suc n) bs) w (ap (λ (t : Bool). option_map (λ (ws : List ℕ). b ∷ ws) (first_lines (cond t (suc n) (suc (suc n))) bs)) (sym e) ∙ h) in
-        let i = f m.0 m.1 in
-        (b ∷ i.0,
-            ap (λ (t : Bool). option_map (λ (ws : List ℕ). b ∷ ws) (first_lines (cond t n (suc n)) bs)) e ∙ ap (option_map (λ (ws : List ℕ). b ∷ ws)) i.1,
-            ap (first_lines (suc n)) (sym m.2) ∙ ap (λ (t : Bool). option_map (λ (ws : List ℕ). b ∷ ws) (first_lines (cond t n (suc n)) m.0)) e ∙ ap (option_map (λ (ws : List ℕ). b ∷ ws)) i.2)
+        let i = f m.0 m.1 in (
+          b ∷ i.0,
+          ap (λ (t : Bool). option_map (λ (ws : List ℕ). b ∷ ws) (first_lines (cond t n (suc n)) bs)) e ∙ ap (option_map (λ (ws : List ℕ). b ∷ ws)) i.1,
+          ap (first_lines (suc n)) (sym m.2) ∙ ap (λ (t : Bool). option_map (λ (ws : List ℕ). b ∷ ws) (first_lines (cond t n (suc n)) m.0)) e ∙ ap (option_map (λ (ws : List ℕ). b ∷ ws)) i.2,
+        )
     by false e f g =
         let m = mapped b (first_lines (suc (suc n)) bs) w (ap (λ (t : Bool). option_map (λ (ws : List ℕ). b ∷ ws) (first_lines (cond t (suc n) (suc (suc n))) bs)) (sym e) ∙ h) in
-        let i = g m.0 m.1 in
-        (b ∷ i.0,
-            ap (λ (t : Bool). option_map (λ (ws : List ℕ). b ∷ ws) (first_lines (cond t n (suc n)) bs)) e ∙ ap (option_map (λ (ws : List ℕ). b ∷ ws)) i.1,
-            ap (first_lines (suc n)) (sym m.2) ∙ ap (λ (t : Bool). option_map (λ (ws : List ℕ). b ∷ ws) (first_lines (cond t n (suc n)) m.0)) e ∙ ap (option_map (λ (ws : List ℕ). b ∷ ws)) i.2)
+        let i = g m.0 m.1 in (
+          b ∷ i.0,
+          ap (λ (t : Bool). option_map (λ (ws : List ℕ). b ∷ ws) (first_lines (cond t n (suc n)) bs)) e ∙ ap (option_map (λ (ws : List ℕ). b ∷ ws)) i.1,
+          ap (first_lines (suc n)) (sym m.2) ∙ ap (λ (t : Bool). option_map (λ (ws : List ℕ). b ∷ ws) (first_lines (cond t n (suc n)) m.0)) e ∙ ap (option_map (λ (ws : List ℕ). b ∷ ws)) i.2,
+        )
 
 pub fewer_front : (IsText : List ℕ → Type 0) (text : List ℕ) → IsFront IsText 2 text → IsFront IsText 1 text
 fewer_front IsText text f =

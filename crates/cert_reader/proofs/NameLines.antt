@@ -1,13 +1,12 @@
 -- Names up to the end of a line, and small steps of readers.
-use Rattle.std.proofs.Common.{◌≡◌, ◌≢◌, ℕ, ◌<◌, ◌≤◌, zero, suc, Bool, true, false, List, [], ◌∷◌, ◌++◌, length, take, drop, Option, Some, None, IfNone, refl, sym, ap, ◌∙◌, arith}
-use Rattle.std.specs.Prelude.{nat_lt, nat_le, ◌&&◌, ◌==◌}
+use Rattle.std.proofs.Common.{◌≡◌, ℕ, ◌<◌, ◌≤◌, zero, suc, Bool, true, false, List, ◌∷◌, ◌++◌, length, take, drop, Option, Some, None, IfNone, refl, sym, ap, ◌∙◌, arith}
+use Rattle.std.specs.Prelude.{nat_lt, nat_le, ◌==◌}
 use Rattle.std.specs.List.{list_all}
 use Rattle.std.proofs.lemmas.Bool.{and_parts, and_from}
 use Rattle.std.proofs.lemmas.Bool.Decides.{nat_tests}
 use Rattle.std.proofs.lemmas.List.{take-append-drop}
 use Rattle.cert_format.specs.LineTexts.{is_name_byte, is_text_name}
 use Rattle.cert_format.specs.Runs.{run, Ends}
-use Rattle.cert_format.proofs.LineNotes.{behind_front}
 use Rattle.cert_format.proofs.Runs.{run_all, run_ends, one_split}
 use Rattle.cert_format.proofs.Spelling.{number_is}
 

@@ -1,5 +1,5 @@
 -- The item that was read may follow those before it, or none that may is at the front.
-use Rattle.std.proofs.Common.{◌≡◌, ◌≢◌, ℕ, suc, ◌≤◌, ◌<◌, Bool, true, false, List, [], ◌∷◌, ◌++◌, length, refl, sym, ap, ◌∙◌, subst, arith}
+use Rattle.std.proofs.Common.{◌≡◌, ℕ, suc, ◌≤◌, ◌<◌, Bool, true, List, [], ◌∷◌, ◌++◌, length, refl, sym, ap, ◌∙◌, subst, arith}
 use Rattle.std.specs.Prelude.{nat_eq, nat_le, not, ◌+◌}
 use Rattle.std.proofs.lemmas.Bool.{and_parts, and_from}
 use Rattle.std.proofs.lemmas.Bool.Decides.{nat_tests}
@@ -14,7 +14,6 @@ use Rattle.cert_format.proofs.Exits as exits
 use Rattle.cert_format.proofs.Exits.{item_line_once}
 use Rattle.cert_format.proofs.FirstFormat.{next_of}
 use Rattle.cert_format.proofs.LineNotes.{line_more, in_form}
-use Rattle.cert_format.proofs.Spelling.{number_is}
 use Rattle.saturation_cert.specs.declared.certificate.GroundHint.{GroundHint}
 use Rattle.saturation_cert.specs.Wholes.{IsWholeClause}
 use Rattle.cert_items.specs.Items.{HasForm, IsItem, NoItem, group_of, note_of}

@@ -1,11 +1,10 @@
 -- One more line of the body, and the ends.
 use Rattle.std.proofs.Common.{◌≡◌, ◌≢◌, ℕ, ◌+◌, suc, ◌<◌, ◌^◌, Bool, true, false, cond, List, [], ◌∷◌, ◌++◌, length, refl, sym, ap, ap₂, ◌∙◌, subst, arith, append_assoc}
 use Rattle.std.specs.Prelude.{nat_eq}
-use Rattle.std.specs.List.{list_all}
 use Rattle.std.proofs.lemmas.Bool.{and_parts, and_from}
 use Rattle.std.proofs.lemmas.List.{append-nil, length-append, length_push}
 use Rattle.inst_logic.specs.Clauses.{TreeClause}
-use Rattle.cert_format.specs.LineMachine.{Note, rank, Item, Header, Line, status, opening, version, item, closing, State, nothing, body, done, count, fits, guarded, last_rank}
+use Rattle.cert_format.specs.LineMachine.{Note, rank, Item, Header, Line, status, opening, version, item, closing, nothing, body, done, count, fits, guarded}
 use Rattle.cert_format.specs.LineTexts.{line, line_text, is_text_name}
 use Rattle.cert_format.specs.FirstFormat.{may_follow, step, is_done, text_of_lines, Leads}
 use Rattle.cert_format.specs.ValueLines.{item_lines}
@@ -16,7 +15,7 @@ use Rattle.cert_format.proofs.LineTexts.{lines_append}
 use Rattle.cert_format.proofs.Machines.{behind_end}
 use Rattle.cert_format.proofs.Spelling.{number_is}
 use Rattle.cert_format.proofs.ValueRuns.{all_append, name_yes}
-use Rattle.cert_reader.specs.Bodies.{constant_lines, lines_up_to, is_good, HasRead, IsNextItem, NoNextItem, IsComplete, IsRefusedAt, EndsSo, ending_behind}
+use Rattle.cert_reader.specs.Bodies.{constant_lines, lines_up_to, is_good, HasRead, IsNextItem, NoNextItem, IsRefusedAt, EndsSo, ending_behind}
 use Rattle.cert_reader.specs.declared.body.Ending.{Ending}
 use Rattle.cert_reader.proofs.Steps.{no_next, one_more, closing_step, behind_all, refused, name_is}
 

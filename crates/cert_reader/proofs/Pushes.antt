@@ -9,9 +9,9 @@ use Rattle.std.proofs.lemmas.List.Elements.{All-nil, All-head, All-tail, All-wea
 use Rattle.inst_logic.specs.declared.signed.Signed.{Signed}
 use Rattle.inst_logic.specs.Tree.{Tree}
 use Rattle.inst_logic.specs.Clauses.{TreeClause}
-use Rattle.inst_calculus.specs.Entries.{Origin, Entry}
-use Rattle.inst_calculus.specs.Steps.{Cited, Step}
-use Rattle.term_bank.specs.Forest.{Forest, AreFormed, Extends, IsClauseOf, clause_at}
+use Rattle.inst_calculus.specs.Entries.{Entry}
+use Rattle.inst_calculus.specs.Steps.{Step}
+use Rattle.term_bank.specs.Forest.{Forest, AreFormed, Extends, clause_at}
 use Rattle.term_bank.proofs.Clauses.{clause_of_extends, atoms_extend, clause_extends}
 use Rattle.cert_format.specs.LineMachine.{named, equality, member, selected, ground_of, shown_by, rank, Item, fits, count, last_rank, last_rank_from}
 use Rattle.cert_format.specs.ValueLines.{input_items, axiom_items, member_items, selected_items, ground_items, step_items}
@@ -323,37 +323,72 @@ axioms_form false g cs k h = h
 
 pub pushed_groups : (r : Bool) (f : Forest) (g : Groups) (note : Note) (c : List (Signed ℕ)) (hs : List GroundHint) → AreGroups r f g → rank_of g.last ≤ rank (note_of note hs) → Fits r note hs → IsWholeClause f c → AreGroups r f (pushed note c hs g)
 pushed_groups r f g (notes.Named w) c hs p l fit whole = record {
-  bank = p.bank; inputs = All-push (IsWholeClause f) g.inputs c p.inputs whole; named = one_longer g.names g.inputs w c p.named;
-  axioms = p.axioms; members = p.members; grounds = p.grounds; steps = p.steps; form = inputs_form r g (g.inputs ++ c ∷ []) (g.names ++ w ∷ []) kinds.Input p.form;
+  bank = p.bank;
+  inputs = All-push (IsWholeClause f) g.inputs c p.inputs whole;
+  named = one_longer g.names g.inputs w c p.named;
+  axioms = p.axioms;
+  members = p.members;
+  grounds = p.grounds;
+  steps = p.steps;
+  form = inputs_form r g (g.inputs ++ c ∷ []) (g.names ++ w ∷ []) kinds.Input p.form;
   last = last_of r f g (notes.Named w) c hs (pushed_items r f g (notes.Named w) c hs p l fit);
 }
 pushed_groups r f g notes.Equality c hs p l fit whole = record {
-  bank = p.bank; inputs = p.inputs; named = p.named;
-  axioms = All-push (IsWholeClause f) g.axioms c p.axioms whole; members = p.members; grounds = p.grounds; steps = p.steps; form = axioms_form r g (g.axioms ++ c ∷ []) kinds.Axiom p.form;
+  bank = p.bank;
+  inputs = p.inputs;
+  named = p.named;
+  axioms = All-push (IsWholeClause f) g.axioms c p.axioms whole;
+  members = p.members;
+  grounds = p.grounds;
+  steps = p.steps;
+  form = axioms_form r g (g.axioms ++ c ∷ []) kinds.Axiom p.form;
   last = last_of r f g notes.Equality c hs (pushed_items r f g notes.Equality c hs p l fit);
 }
 pushed_groups true f g (notes.Member o) c hs p l fit whole = record {
-  bank = p.bank; inputs = p.inputs; named = p.named;
-  axioms = p.axioms; members = All-push (λ (m : Member). IsWholeClause f m.clause) g.members (record { clause = c; origin = o }) p.members whole; grounds = p.grounds; steps = p.steps; form = tt;
+  bank = p.bank;
+  inputs = p.inputs;
+  named = p.named;
+  axioms = p.axioms;
+  members = All-push (λ (m : Member). IsWholeClause f m.clause) g.members (record { clause = c; origin = o }) p.members whole;
+  grounds = p.grounds;
+  steps = p.steps;
+  form = tt;
   last = last_of true f g (notes.Member o) c hs (pushed_items true f g (notes.Member o) c hs p l fit);
 }
 pushed_groups false f g (notes.Member o) c hs p l fit whole = absurd cc
 pushed_groups true f g (notes.Selected o k) c hs p l fit whole = absurd cc
 pushed_groups false f g (notes.Selected o k) c hs p l fit whole = record {
-  bank = p.bank; inputs = p.inputs; named = p.named;
-  axioms = p.axioms; members = All-push (λ (m : Member). IsWholeClause f m.clause) g.members (record { clause = c; origin = o }) p.members whole; grounds = p.grounds; steps = p.steps;
+  bank = p.bank;
+  inputs = p.inputs;
+  named = p.named;
+  axioms = p.axioms;
+  members = All-push (λ (m : Member). IsWholeClause f m.clause) g.members (record { clause = c; origin = o }) p.members whole;
+  grounds = p.grounds;
+  steps = p.steps;
   form = (one_longer g.places g.members k (record { clause = c; origin = o }) p.form.0, p.form.1, p.form.2);
   last = last_of false f g (notes.Selected o k) c hs (pushed_items false f g (notes.Selected o k) c hs p l fit);
 }
 pushed_groups true f g notes.Ground c hs p l fit whole = record {
-  bank = p.bank; inputs = p.inputs; named = p.named;
-  axioms = p.axioms; members = p.members; grounds = All-push (IsWholeClause f) g.grounds c p.grounds whole; steps = p.steps; form = tt;
+  bank = p.bank;
+  inputs = p.inputs;
+  named = p.named;
+  axioms = p.axioms;
+  members = p.members;
+  grounds = All-push (IsWholeClause f) g.grounds c p.grounds whole;
+  steps = p.steps;
+  form = tt;
   last = last_of true f g notes.Ground c hs (pushed_items true f g notes.Ground c hs p l fit);
 }
 pushed_groups false f g notes.Ground c hs p l fit whole = absurd cc
 pushed_groups true f g notes.Shown c hs p l fit whole = record {
-  bank = p.bank; inputs = p.inputs; named = p.named;
-  axioms = p.axioms; members = p.members; grounds = p.grounds; steps = All-push (λ (s : GroundStep). IsWholeClause f s.clause) g.steps (record { clause = c; hints = hs }) p.steps whole; form = tt;
+  bank = p.bank;
+  inputs = p.inputs;
+  named = p.named;
+  axioms = p.axioms;
+  members = p.members;
+  grounds = p.grounds;
+  steps = All-push (λ (s : GroundStep). IsWholeClause f s.clause) g.steps (record { clause = c; hints = hs }) p.steps whole;
+  form = tt;
   last = last_of true f g notes.Shown c hs (pushed_items true f g notes.Shown c hs p l fit);
 }
 pushed_groups false f g notes.Shown c hs p l fit whole = absurd cc

@@ -15,11 +15,10 @@ use Rattle.inst_calculus.specs.Entries.{Origin, input, inst, Entry}
 use Rattle.inst_calculus.specs.Steps.{Cited, given, earlier, Step}
 use Rattle.term_bank.specs.Forest.{Forest, clause_at}
 use Rattle.cert_format.specs.Certificate as format
-use Rattle.cert_format.specs.Printable.{IsNumber, HasNumbers, cited_number, IsPrintable, IsTextName}
-use Rattle.cert_format.specs.Text.{certificate_text}
-use Rattle.cert_format.specs.LineMachine.{is_number, Note, named, equality, member, selected, ground_of, shown_by, Item, Header, Line, status, opening, version, constant, closing, count, fits, done}
+use Rattle.cert_format.specs.Printable.{IsNumber, HasNumbers, cited_number}
+use Rattle.cert_format.specs.LineMachine.{is_number, Note, named, equality, member, selected, ground_of, shown_by, Item, Header, status, opening, version, constant, closing, count, fits, done}
 use Rattle.cert_format.specs.LineTexts.{origin_is_printable, hint_is_printable, note_is_printable}
-use Rattle.cert_format.specs.FirstFormat.{clause_is_printable, text_of_lines, Leads}
+use Rattle.cert_format.specs.FirstFormat.{clause_is_printable, text_of_lines}
 use Rattle.cert_format.specs.ValueLines.{input_items, axiom_items, member_items, selected_items, ground_items, step_items, item_lines, lines_of}
 use Rattle.cert_format.proofs.ClauseForms.{IsWritableClause}
 use Rattle.cert_format.proofs.FirstFormat.{test_yes}
@@ -32,7 +31,7 @@ use Rattle.cert_items.specs.declared.group.Group.TheVariants as kinds
 use Rattle.cert_reader.specs.declared.certificate.Certificate.TheVariants as forms
 use Rattle.cert_reader.specs.declared.groups.Groups.{Groups}
 use Rattle.cert_reader.specs.Bodies.{header, is_good, lines_up_to, IsComplete}
-use Rattle.cert_reader.specs.Groups.{members_by, items_of, AreGroups, refutation_by, saturation_by}
+use Rattle.cert_reader.specs.Groups.{items_of, AreGroups, refutation_by, saturation_by}
 use Rattle.cert_reader.specs.Reads.{IsReadFrom, IsWholeCertificate}
 use Rattle.cert_reader.proofs.Pushes.{counts}
 use Rattle.cert_reader.proofs.Steps.{name_is}
@@ -191,8 +190,8 @@ saturation_lines f g name p =
     let B = axiom_items (map (clause_at f) g.axioms) in
     let C = selected_items (map (entry_of f) g.members) g.places in
     let e : items_of false f g ≡ A ++ (B ++ C) =
-        ap (λ (z : List Item). A ++ (B ++ (C ++ z))) (ap (λ (cs : List (List (Signed ℕ))). ground_items (map (clause_at f) cs) ++ step_items (map (step_of f) g.steps)) p.form.1 ∙ ap (λ (ss : List GroundStep). step_items (map (step_of f) ss)) p.form.2)
-        ∙ ap (λ (z : List Item). A ++ (B ++ z)) (append-nil C) in
+    ap (λ (z : List Item). A ++ (B ++ (C ++ z))) (ap (λ (cs : List (List (Signed ℕ))). ground_items (map (clause_at f) cs) ++ step_items (map (step_of f) g.steps)) p.form.1 ∙ ap (λ (ss : List GroundStep). step_items (map (step_of f) ss)) p.form.2)
+    ∙ ap (λ (z : List Item). A ++ (B ++ z)) (append-nil C) in
     ap (λ (is : List Item). status false name ∷ opening false name ∷ version 1 ∷ (item_lines [] is ++ closing false name ∷ [])) e
 
 pub saturation_read : (text : List ℕ) (f : Forest) (g : Groups) (name : List ℕ) → AreGroups false f g → IsComplete text (header false name []) (items_of false f g) → IsReadFrom text (forms.Saturation (saturation_by f g))

@@ -1,4 +1,5 @@
-// What a text is read as, as one value that can be compared.
+// What a text is read as, as one value that can be compared. The certificate stays in one function with one way out, since a proof
+// pays at each way out for the bank that it owns.
 use cert_reader::{CertError, Certificate, read_certificate};
 use inst_logic::Memory;
 use std::alloc::Global;
@@ -15,15 +16,28 @@ pub enum Answer {
     Version(usize),
 }
 
+// What was read, or `None` for want of memory.
+fn answer_of(result: &Result<Certificate, CertError>) -> Option<Answer> {
+    match result {
+        Ok(Certificate::Refutation(_)) => Some(Answer::Refutation),
+        Ok(Certificate::Saturation(_)) => Some(Answer::Saturation),
+        Err(CertError::Syntax { line }) => Some(Answer::Syntax(*line)),
+        Err(CertError::Version { word }) => Some(Answer::Version(word.bytes().len())),
+        Err(CertError::Memory) => None,
+    }
+}
+
+fn or_memory(found: Option<Answer>) -> Result<Answer, Fail> {
+    match found {
+        Some(it) => Ok(it),
+        None => Err(Fail::from(Memory)),
+    }
+}
+
 /// What the text is read as.
 pub fn read_as(alloc: Global, text: &[u8]) -> Result<Answer, Fail> {
-    match read_certificate(alloc, text) {
-        Ok(Certificate::Refutation(_)) => Ok(Answer::Refutation),
-        Ok(Certificate::Saturation(_)) => Ok(Answer::Saturation),
-        Err(CertError::Syntax { line }) => Ok(Answer::Syntax(line)),
-        Err(CertError::Version { word }) => Ok(Answer::Version(word.bytes().len())),
-        Err(CertError::Memory) => Err(Fail::from(Memory)),
-    }
+    let result = read_certificate(alloc, text);
+    or_memory(answer_of(&result))
 }
 
 fn whole_lines(text: &[u8]) -> usize {

@@ -1,4 +1,4 @@
-use Rattle.std.proofs.Common.{◌≡◌, ◌≢◌, ◌<◌, Bor, List, ℕ, length, arith}
+use Rattle.std.proofs.Common.{◌<◌, Bor, List, ℕ, length, arith}
 use Rattle.cert_reader.specs.Bodies.{IsNextItem, NoNextItem}
 use Rattle.cert_reader.specs.Groups.{AreGroups, items_of}
 use Rattle.cert_items.proofs.Reading.{is_none, is_some}

@@ -1,4 +1,4 @@
-use Rattle.std.proofs.Common.{◌≡◌, ◌∷◌, ◌++◌, ◌∙◌, List, ℕ, refl, sym}
+use Rattle.std.proofs.Common.{◌∷◌, ◌++◌, ◌∙◌, refl, sym}
 use Rattle.std.specs.Prelude.{codes}
 use Rattle.std.specs.Char.{is_ascii_digit}
 use Rattle.cert_format.proofs.Digits.{split_of}

@@ -1,4 +1,4 @@
-use Rattle.std.proofs.Common.{◌≡◌, ◌∙◌, sym}
+use Rattle.std.proofs.Common.{◌∙◌, sym}
 use Rattle.cert_format.proofs.LineNotes.{behind_front}
 use Rattle.cert_reader.proofs.NameLines.{none_then}
 use Rattle.cert_reader.proofs.lines.named.Goals as goal

@@ -1,4 +1,4 @@
-use Rattle.std.proofs.Common.{◌≡◌, ◌≢◌, Bool, List, ℕ, IfNone, sym, subst}
+use Rattle.std.proofs.Common.{◌≢◌, Bool, List, ℕ, IfNone, sym, subst}
 use Rattle.cert_format.specs.LineMachine as lines
 use Rattle.cert_format.specs.LineTexts.{line}
 use Rattle.cert_reader.proofs.lines.opening.Goals as goal

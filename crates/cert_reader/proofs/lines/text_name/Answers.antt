@@ -1,4 +1,4 @@
-use Rattle.std.proofs.Common.{◌≡◌, ◌∷◌, ◌++◌, ◌∙◌, List, ℕ, length, sym, ap, arith}
+use Rattle.std.proofs.Common.{◌++◌, ◌∙◌, List, ℕ, length, sym, ap, arith}
 use Rattle.cert_reader.proofs.NameLines.{name_split, name_once, wrong_length, right_name, empty_length}
 use Rattle.cert_reader.proofs.lines.text_name.Goals as goal
 use Rattle.cert_reader.proofs.lines.text_name.Goals.{then-is_empty-via-then-is_empty, then-is_empty-via-else-is_empty+then-name-gt4096}
@@ -9,8 +9,8 @@ returns-then-is_empty-clause-none c n rest h e =
     let s = name_split c.args.bytes.now name c.split_at.result.1.now c.name_len.result c.name_len.ensures.is c.split_at.ensures.front c.split_at.ensures.back in
     let k = wrong_length c.args.bytes.now name c.split_at.result.1.now n rest s h e in
     elim c.then-is_empty.branch [
-      then-is_empty-via-then-is_empty w ↦ (let z = empty_length (length name) c.is_empty.result c.is_empty.ensures w.if-is_empty.true in omega (arith, k.0, z))
-    | then-is_empty-via-else-is_empty+then-name-gt4096 w ↦ omega (arith, k.1, w.if-name-gt4096.true)
+      | then-is_empty-via-then-is_empty w ↦ (let z = empty_length (length name) c.is_empty.result c.is_empty.ensures w.if-is_empty.true in omega (arith, k.0, z))
+      | then-is_empty-via-else-is_empty+then-name-gt4096 w ↦ omega (arith, k.1, w.if-name-gt4096.true)
     ]
 
 pub returns-in-None-clause-none : goal.returns-in-None-clause-none

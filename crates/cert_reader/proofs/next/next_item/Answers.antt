@@ -5,7 +5,6 @@ use Rattle.cert_format.specs.LineTexts.{line}
 use Rattle.saturation_cert.specs.Wholes.{IsWholeClause}
 use Rattle.cert_items.specs.Items.{IsItem, NoItem, group_of, note_of}
 use Rattle.cert_items.proofs.Reading.{is_none, is_some}
-use Rattle.cert_reader.specs.declared.groups.Groups.{Groups}
 use Rattle.cert_reader.specs.Bodies.{IsNextItem, NoNextItem}
 use Rattle.cert_reader.specs.Groups.{AreGroups, items_of}
 use Rattle.cert_reader.proofs.NextItems.{no_item_next, wrong_next, next_groups, next_item, line_longer}

@@ -1,4 +1,4 @@
-use Rattle.std.proofs.Common.{◌≡◌, List, ℕ, true}
+use Rattle.std.proofs.Common.{true}
 use Rattle.cert_reader.proofs.Beginnings.{bad_constant, refutation_begun, no_other_format}
 use Rattle.cert_reader.proofs.read.begun_refutation.Goals as goal
 

@@ -1,4 +1,4 @@
-use Rattle.std.proofs.Common.{◌≡◌, Bool, true, false, subst}
+use Rattle.std.proofs.Common.{Bool, false, subst}
 use Rattle.cert_reader.specs.Starts.{HasBegun}
 use Rattle.cert_reader.proofs.Beginnings.{saturation_begun, no_other_format}
 use Rattle.cert_reader.proofs.Causes.{syntax_of, version_of}

@@ -1,4 +1,4 @@
-use Rattle.std.proofs.Common.{◌≡◌, List, ℕ, [], false, refl, sym, subst}
+use Rattle.std.proofs.Common.{[], false, refl, sym, subst}
 use Rattle.saturation_cert.specs.declared.certificate.Saturation.{Saturation}
 use Rattle.cert_reader.specs.declared.certificate.Certificate.TheVariants as forms
 use Rattle.cert_reader.specs.Bodies.{header}

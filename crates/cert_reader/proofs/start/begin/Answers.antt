@@ -1,4 +1,4 @@
-use Rattle.std.proofs.Common.{◌≡◌, ◌∙◌, List, ℕ, ap}
+use Rattle.std.proofs.Common.{◌∙◌, ap}
 use Rattle.cert_format.specs.LineMachine.{status}
 use Rattle.cert_format.specs.LineTexts.{line}
 use Rattle.cert_reader.proofs.Beginnings.{bad_first, bad_second}

@@ -1,4 +1,4 @@
-use Rattle.std.proofs.Common.{◌≡◌, ◌∙◌, List, ℕ, ap}
+use Rattle.std.proofs.Common.{◌∙◌, List, ℕ, ap}
 use Rattle.cert_reader.specs.Starts.{format_line}
 use Rattle.cert_reader.proofs.Beginnings.{no_format, wrong_format, other_format, first_begun}
 use Rattle.cert_reader.proofs.start.third.Goals as goal
