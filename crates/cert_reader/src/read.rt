@@ -144,7 +144,7 @@ fn begun_refutation(alloc: Global, name: &[u8], bytes: &[u8]) -> Result<Certific
 }
 
 /// The certificate whose text this is, over a bank of its own. The text is bytes, and need not be UTF-8. What a certificate says
-/// is not checked here: its clauses are canonical and its numbers fit, and no more.
+/// is not checked here: it can be printed, and no more is known of it.
 pub fn read_certificate(alloc: Global, text: &[u8]) -> Result<Certificate, CertError>
     ensures read { IfOk result (IsReadFrom text.now) }
     ensures whole { IfOk result IsWholeCertificate }

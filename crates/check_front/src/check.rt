@@ -21,7 +21,7 @@ use tptp_load::{LoadError, load};
 /// Why a certificate is not judged.
 #[derive(Debug, Drop, Error)]
 pub enum CheckFault {
-    /// The file gives no certificate. The fault is never want of memory.
+    /// The file gives no certificate. The fault is never want of memory, and never that it is no saturation.
     #[error("the file gives no certificate")]
     Cert(CertFault),
     /// The file of the problem gives none. The error is never want of memory.
