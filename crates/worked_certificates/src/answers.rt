@@ -17,8 +17,8 @@ pub enum Answer {
 }
 
 // What was read, or `None` for want of memory.
-fn answer_of(result: &Result<Certificate, CertError>) -> Option<Answer> {
-    match result {
+fn answer_of(outcome: &Result<Certificate, CertError>) -> Option<Answer> {
+    match outcome {
         Ok(Certificate::Refutation(_)) => Some(Answer::Refutation),
         Ok(Certificate::Saturation(_)) => Some(Answer::Saturation),
         Err(CertError::Syntax { line }) => Some(Answer::Syntax(*line)),
@@ -36,8 +36,8 @@ fn or_memory(found: Option<Answer>) -> Result<Answer, Fail> {
 
 /// What the text is read as.
 pub fn read_as(alloc: Global, text: &[u8]) -> Result<Answer, Fail> {
-    let result = read_certificate(alloc, text);
-    or_memory(answer_of(&result))
+    let outcome = read_certificate(alloc, text);
+    or_memory(answer_of(&outcome))
 }
 
 fn whole_lines(text: &[u8]) -> usize {
