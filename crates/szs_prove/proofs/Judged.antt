@@ -1,5 +1,5 @@
 -- What is told of certificates that are judged, of atoms and of chains.
-use Rattle.std.proofs.Common.{◌≡◌, ℕ, List, Option, subst, codes}
+use Rattle.std.proofs.Common.{◌≡◌, ℕ, List, Option, subst, sym, codes}
 use Rattle.std.specs.Prelude.{Result, Ok, Err}
 use Rattle.inst_logic.specs.Tree.{Tree}
 use Rattle.inst_logic.specs.declared.memory.Memory.{Memory as OutOfMemory}
@@ -15,19 +15,32 @@ use Rattle.check_front.specs.Checks.{IsCheckFault, IsJudged}
 use Rattle.check_front.specs.Queries.{IsAskFault, IsReplied}
 use Rattle.check_front.specs.Texts.{fault_text}
 use Rattle.check_front.specs.declared.check.CheckFault.{CheckFault}
+use Rattle.check_front.specs.declared.check.CheckFault.TheVariants as unjudged
 use Rattle.check_front.specs.declared.fault.CertFault.{CertFault}
+use Rattle.tptp_load.specs.declared.error.LoadError.{LoadError}
 use Rattle.command_words.specs.Asked.{check, ask, stress, IsAsked}
 use Rattle.szs_prove.specs.Answered.{Answered, Writing}
 use Rattle.szs_prove.specs.Answers.{Reading, judged, replied, measured}
-use Rattle.szs_prove.specs.Texts.{exit_of, fault_exit, judgement_exit, refusal_text, reply_exit, unjudged_exit, unjudged_text}
+use Rattle.szs_prove.specs.Texts.{exit_of, fault_exit, judgement_exit, load_exit, refusal_text, reply_exit, unjudged_exit, unjudged_text}
 use Rattle.szs_prove.specs.Written.{IsWritten}
 use Rattle.szs_prove.specs.declared.exit.Exit.{Exit}
 use Rattle.szs_prove.specs.declared.exit.Exit.TheVariants.{Decided}
-use Rattle.szs_prove.specs.declared.refusal.Refusal.TheVariants.{Memory}
+use Rattle.szs_prove.specs.declared.refusal.Refusal.TheVariants.{Load, Memory}
 
 -- the text was written, and the program ends with `exit` where it should end with `wanted`
 abbrev Wrote : Writing → List ℕ → Exit → Exit → Type 0
 Wrote write text wanted exit = IsWritten write.old write.new write.before write.now text wanted exit
+
+-- under another name that is the same
+pub refusal_told_as : (write : Writing) (exit : Exit) (cert shown : List ℕ) (why : CheckFault) (e : LoadError) → why ≡ unjudged.Problem e → shown ≡ cert
+    → Wrote write (refusal_text shown (Load e)) (load_exit e) exit → Wrote write (unjudged_text cert why) (unjudged_exit why) exit
+refusal_told_as write exit cert shown why e is same w =
+    subst (λ (y : CheckFault). Wrote write (unjudged_text cert y) (unjudged_exit y) exit) (sym is) (subst (λ (n : List ℕ). Wrote write (refusal_text n (Load e)) (load_exit e) exit) same w)
+
+pub want_told_as : (write : Writing) (exit : Exit) (cert shown : List ℕ) (why : CheckFault) → why ≡ unjudged.Memory → shown ≡ cert
+    → Wrote write (refusal_text shown Memory) (exit_of Memory) exit → Wrote write (unjudged_text cert why) (unjudged_exit why) exit
+want_told_as write exit cert shown why is same w =
+    subst (λ (y : CheckFault). Wrote write (unjudged_text cert y) (unjudged_exit y) exit) (sym is) (subst (λ (n : List ℕ). Wrote write (refusal_text n Memory) (exit_of Memory) exit) same w)
 
 module _ (words : List (List ℕ)) (read : Reading) (write : Writing) (exit : Exit) where
   pub judged_told : (cert : List ℕ) (problem root : Option (List ℕ)) (found : Form × Judgement) → IsJudged read.files cert problem root found

@@ -25,7 +25,7 @@ fn tell_size<K: Sink>(out: &mut K, size: &Size) -> Exit
 /// Answers how large the refutation of the chain of so many constants is.
 pub fn stress<K: Sink>(alloc: Global, number: usize, out: &mut K) -> Exit
     requires { (2 ≤ number) × (number ≤ 100000) }
-    ensures answered { (words : List (List ℕ)) (read : Reading) → IsAsked words (stressing number) → Answered words read (writing (K.taken out.old) (K.taken out.new) (K.faults out.old) (K.faults out.new)) result }
+    ensures { (words : List (List ℕ)) (read : Reading) → IsAsked words (stressing number) → Answered words read (writing (K.taken out.old) (K.taken out.new) (K.faults out.old) (K.faults out.new)) result }
 {
     match chain_stress::stress(alloc, number) {
         Ok(size) => tell_size(out, &size),

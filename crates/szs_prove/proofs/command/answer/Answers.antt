@@ -53,4 +53,4 @@ stress-requires g c =
 pub returns-in-Stress-clause-answered : goal.returns-in-Stress-clause-answered
 returns-in-Stress-clause-answered g c =
     let h = subst (λ (q : Request). IsAsked (map string_bytes c.args._words.now) (asked q)) c.in-Stress.is c.requires in
-    c.stress.ensures.answered _ _ h
+    c.stress.ensures _ _ h
