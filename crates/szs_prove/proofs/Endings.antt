@@ -1,5 +1,5 @@
 -- What the exit tells of the answer, and of what was written.
-use Rattle.std.proofs.Common.{◌≡◌, ◌∙◌, ℕ, List, Bool, true, false, nat_eq, Option, None, Some, inl, inr, refl, sym, subst, append-nil, codes, arith}
+use Rattle.std.proofs.Common.{◌≡◌, ◌∙◌, ℕ, List, false, nat_eq, Option, None, Some, inl, inr, refl, sym, subst, append-nil, codes, arith}
 use Rattle.std.specs.Prelude.{⊤, ◌⊎◌, Result, Ok, Err}
 use Rattle.std.specs.Io.KnownBytes.{Appends}
 use Rattle.std.proofs.lemmas.Bool.Decides.{nat_tests}

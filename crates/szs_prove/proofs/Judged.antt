@@ -1,6 +1,6 @@
 -- What is told of certificates that are judged, of atoms and of chains.
 use Rattle.std.proofs.Common.{◌≡◌, ℕ, List, Option, subst, sym, codes}
-use Rattle.std.specs.Prelude.{Result, Ok, Err}
+use Rattle.std.specs.Prelude.{Ok, Err}
 use Rattle.inst_logic.specs.Tree.{Tree}
 use Rattle.inst_logic.specs.declared.memory.Memory.{Memory as OutOfMemory}
 use Rattle.inst_logic.specs.declared.signed.Signed.{Signed}
