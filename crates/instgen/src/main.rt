@@ -1,4 +1,6 @@
-// `instgen prove FILE` decides the clauses of FILE, and writes a certificate of its answer; `instgen sat FILE` answers propositional clauses.
+// `instgen prove FILE` decides the clauses of FILE, and writes a certificate of its answer; `instgen sat FILE` answers propositional
+// clauses; `instgen check CERT` judges a certificate, `instgen ask CERT ATOM` asks it for an atom, and `instgen stress N` refutes a
+// chain.
 #![tactic(auto)]
 
 mod words;

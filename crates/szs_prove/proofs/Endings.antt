@@ -28,7 +28,7 @@ use Rattle.check_front.specs.declared.check.CheckFault.{CheckFault}
 use Rattle.check_front.specs.declared.check.CheckFault.TheVariants as unjudged
 use Rattle.check_front.specs.declared.fault.CertFault.{CertFault}
 use Rattle.check_front.specs.declared.fault.CertFault.TheVariants as cert
-use Rattle.command_words.specs.Asked.{Asked, prove, sat, check, ask, stress, IsAsked, name_of}
+use Rattle.command_words.specs.Asked.{Asked, prove, sat, check, ask, stress, IsAsked, IsUnread, name_of}
 use Rattle.dimacs_front.specs.Command.{status_line}
 use Rattle.dimacs_front.specs.Command as dimacs
 use Rattle.dimacs_front.specs.Files.{IsOutcome, IsRefused}
@@ -39,7 +39,7 @@ use Rattle.dimacs_front.specs.declared.error.DimacsError.TheVariants as fault
 use Rattle.dimacs_front.specs.declared.file.SatError.{SatError}
 use Rattle.dimacs_front.specs.declared.file.SatError.TheVariants as bar
 use Rattle.szs_prove.specs.Answers.{Answer, Reading, verdict, refusal, values, judged, replied, measured, usage, no_words, IsAnswer, IsFinding, IsMeasured, IsOutOfBudget, IsRefusal, IsReplyOf, IsVerdict, exit_for, text_for}
-use Rattle.szs_prove.specs.Answered.{Answered, AsksAtom, AsksChain, AsksCheck, AsksProof, Writing, IsInterrupted, WantsMemory, WritesCertificate, WritesComplaint, WritesJudgement, WritesNumbers, WritesReply, WritesSize, IsNamed}
+use Rattle.szs_prove.specs.Answered.{Answered, AsksAtom, AsksChain, AsksCheck, AsksProof, EndsChain, Writing, IsInterrupted, WantsMemory, WritesCertificate, WritesComplaint, WritesJudgement, WritesNumbers, WritesReply, WritesSize, IsNamed}
 use Rattle.szs_prove.specs.Texts.{refusal_text, fault_exit, judgement_exit, load_exit, reply_exit, sat_exit, unjudged_exit, unjudged_text}
 use Rattle.szs_prove.specs.declared.exit.Exit.{Exit}
 use Rattle.szs_prove.specs.declared.exit.Exit.TheVariants as exit
@@ -145,7 +145,7 @@ module _ (words : List (List ℕ)) (read : Reading) where
   Tells text exit.Decided = SaysDecided words read text
   Tells text exit.ResourceOut = SaysNumbers words read text
   Tells text exit.Refused = ⊤
-  Tells text exit.Usage = ⊤
+  Tells text exit.Usage = IsUnread words
   Tells text exit.ReadFault = Rose read.before read.now
   Tells text exit.WriteFault = ⊥
   Tells text exit.Memory = SaysWant words text
@@ -255,7 +255,7 @@ module _ (words : List (List ℕ)) (read : Reading) where
   tells (judged c o) h = judged_tell c h.0 h.1 h.2 o h.3
   tells (replied c o) h = replied_tell c h.0 h.1 o h.2
   tells (measured o) h = measured_tells h.0 h.1 o h.2
-  tells usage h = tt
+  tells usage h = h
   tells no_words h = record { name = codes "instgen"; named = inl refl; is = refl }
 
 module _ (words : List (List ℕ)) (read : Reading) (write : Writing) (e : Exit) (a : Answered words read write e) where
@@ -293,6 +293,9 @@ module _ (words : List (List ℕ)) (read : Reading) (write : Writing) (e : Exit)
 
   says_decided : e ≡ exit.Decided → SaysDecided words read (text_for a.answer) × Appends write.old write.new (text_for a.answer)
   says_decided is = whole exit.Decided is (λ x. cc) (λ x. cc)
+
+  pub usage_unread : e ≡ exit.Usage → IsUnread words
+  usage_unread is = (whole exit.Usage is (λ x. cc) (λ x. cc)).0
 
   writes_verdict : SaysVerdict words read (text_for a.answer) → Appends write.old write.new (text_for a.answer) → WritesCertificate words read.files write.old write.new
   writes_verdict s w = record {
@@ -332,6 +335,23 @@ module _ (words : List (List ℕ)) (read : Reading) (write : Writing) (e : Exit)
       by (inr s, w) = inr (writes_reply exit.CheckFailed s w)
 
   module _ (once : AsksOne) where
+    ends_chain : (answer : Answer) → IsAnswer words read answer → AsksChain words → (exit_for answer ≡ exit.Decided) ⊎ (exit_for answer ≡ exit.Memory)
+    ends_chain (verdict file c) h asks = inl refl
+    ends_chain (refusal file why) h asks = absurd (other_kind _ _ refl (once words _ _ h.2 asks.1))
+    ends_chain (values file o) h asks = absurd (other_kind _ _ refl (once words _ _ h.0 asks.1))
+    ends_chain (judged c o) h asks = absurd (other_kind _ _ refl (once words _ _ h.2 asks.1))
+    ends_chain (replied c o) h asks = absurd (other_kind _ _ refl (once words _ _ h.1 asks.1))
+    ends_chain (measured (Ok size)) h asks = inl refl
+    ends_chain (measured (Err want)) h asks = inr refl
+    ends_chain usage h asks = absurd (h (stress asks.0) asks.1)
+    ends_chain no_words h asks = inr refl
+
+    pub chain : AsksChain words → EndsChain e
+    chain asks = elim a.written [
+      | inl w ↦ elim (ends_chain a.answer a.cause asks) [ inl d ↦ inl (w.0 ∙ d) | inr m ↦ inr (inr (w.0 ∙ m)) ]
+      | inr v ↦ elim v [ inl w ↦ inr (inl w.0) | inr w ↦ inr (inr w.0) ]
+    ]
+
     pub decided : AsksProof words → e ≡ exit.Decided → WritesCertificate words read.files write.old write.new
     decided asks is = by (says_decided is)
       where

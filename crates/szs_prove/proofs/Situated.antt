@@ -36,7 +36,7 @@ use Rattle.dimacs_front.specs.declared.file.SatError.TheVariants as bar
 use Rattle.szs_prove.specs.Answers.{Answer, verdict, refusal, values, judged, replied, measured, usage, IsAnswer, IsFinding, IsRefusal, IsReplyOf, Reading, exit_for}
 use Rattle.szs_prove.specs.Answers as answer
 use Rattle.szs_prove.specs.Answered.{Answered, Writing}
-use Rattle.szs_prove.specs.Situations.{IsBarred, IsExact, Situation, Stands, Yields, function_free, functions, no_problem, satisfiable, unsatisfiable, no_clauses, certificate, saturation, chain, no_words, wanted}
+use Rattle.szs_prove.specs.Situations.{IsBarred, IsExact, Situation, Stands, Yields, function_free, functions, no_problem, satisfiable, unsatisfiable, no_clauses, certificate, saturation, chain, unread, wanted}
 use Rattle.szs_prove.specs.Texts.{fault_exit, judgement_exit, load_exit, reply_exit, sat_exit, unjudged_exit}
 use Rattle.szs_prove.proofs.Endings.{AsksOne}
 use Rattle.szs_prove.specs.declared.exit.Exit.{Exit}
@@ -63,7 +63,7 @@ Finds files (prove file root budget) no_clauses = ⊥
 Finds files (prove file root budget) (certificate o) = ⊥
 Finds files (prove file root budget) (saturation o) = ⊥
 Finds files (prove file root budget) chain = ⊥
-Finds files (prove file root budget) no_words = ⊥
+Finds files (prove file root budget) unread = ⊥
 Finds files (sat file) function_free = ⊥
 Finds files (sat file) functions = ⊥
 Finds files (sat file) no_problem = ⊥
@@ -73,7 +73,7 @@ Finds files (sat file) no_clauses = (e : SatError) × IsBarred files file e
 Finds files (sat file) (certificate o) = ⊥
 Finds files (sat file) (saturation o) = ⊥
 Finds files (sat file) chain = ⊥
-Finds files (sat file) no_words = ⊥
+Finds files (sat file) unread = ⊥
 Finds files (check cert problem root) function_free = ⊥
 Finds files (check cert problem root) functions = ⊥
 Finds files (check cert problem root) no_problem = ⊥
@@ -83,7 +83,7 @@ Finds files (check cert problem root) no_clauses = ⊥
 Finds files (check cert problem root) (certificate o) = IsFound files cert problem root o
 Finds files (check cert problem root) (saturation o) = ⊥
 Finds files (check cert problem root) chain = ⊥
-Finds files (check cert problem root) no_words = ⊥
+Finds files (check cert problem root) unread = ⊥
 Finds files (ask cert atom) function_free = ⊥
 Finds files (ask cert atom) functions = ⊥
 Finds files (ask cert atom) no_problem = ⊥
@@ -93,7 +93,7 @@ Finds files (ask cert atom) no_clauses = ⊥
 Finds files (ask cert atom) (certificate o) = ⊥
 Finds files (ask cert atom) (saturation o) = IsFoundReply files cert atom.atom o
 Finds files (ask cert atom) chain = ⊥
-Finds files (ask cert atom) no_words = ⊥
+Finds files (ask cert atom) unread = ⊥
 Finds files (stress number) function_free = ⊥
 Finds files (stress number) functions = ⊥
 Finds files (stress number) no_problem = ⊥
@@ -103,7 +103,7 @@ Finds files (stress number) no_clauses = ⊥
 Finds files (stress number) (certificate o) = ⊥
 Finds files (stress number) (saturation o) = ⊥
 Finds files (stress number) chain = ⊤
-Finds files (stress number) no_words = ⊥
+Finds files (stress number) unread = ⊥
 
 -- the words ask something, which finds this
 record Asks (words : List (List ℕ)) (files : List NamedFile) (s : Situation) : Type 0 where
@@ -111,7 +111,7 @@ record Asks (words : List (List ℕ)) (files : List NamedFile) (s : Situation) :
   asked : IsAsked words question
   finds : Finds files question s
 
-asks : (words : List (List ℕ)) (files : List NamedFile) (s : Situation) → Stands words files s → Asks words files s ⊎ (IsUnread words × (s ≡ no_words))
+asks : (words : List (List ℕ)) (files : List NamedFile) (s : Situation) → Stands words files s → Asks words files s ⊎ (IsUnread words × (s ≡ unread))
 asks words files function_free h = inl (record { question = prove h.1.file h.1.root h.1.budget; asked = h.1.asked; finds = (h.0, h.1.loads, h.2) })
 asks words files functions h = inl (record { question = prove h.1.file h.1.root h.1.budget; asked = h.1.asked; finds = (h.0, h.1.loads, h.2) })
 asks words files no_problem h = inl (record { question = prove h.file h.root h.budget; asked = h.asked; finds = (h.error, h.refuses) })
@@ -121,7 +121,7 @@ asks words files no_clauses h = inl (record { question = sat h.0; asked = h.1; f
 asks words files (certificate o) h = inl (record { question = check h.0 h.1 h.2; asked = h.3; finds = h.4 })
 asks words files (saturation o) h = inl (record { question = ask h.0 h.1; asked = h.2; finds = h.3 })
 asks words files chain h = inl (record { question = stress h.0; asked = h.1; finds = tt })
-asks words files no_words h = inr (h, refl)
+asks words files unread h = inr (h, refl)
 
 -- ---- a file in the DIMACS form
 
@@ -210,14 +210,14 @@ module _ (one : GivesOne) (apart : IsApart) (found_once : FindsOne) (files : Lis
   one_found (prove file root budget) s (certificate o) h k = absurd k
   one_found (prove file root budget) s (saturation o) h k = absurd k
   one_found (prove file root budget) s chain h k = absurd k
-  one_found (prove file root budget) s no_words h k = absurd k
+  one_found (prove file root budget) s unread h k = absurd k
   one_found (prove file root budget) satisfiable t h k = absurd h
   one_found (prove file root budget) unsatisfiable t h k = absurd h
   one_found (prove file root budget) no_clauses t h k = absurd h
   one_found (prove file root budget) (certificate o) t h k = absurd h
   one_found (prove file root budget) (saturation o) t h k = absurd h
   one_found (prove file root budget) chain t h k = absurd h
-  one_found (prove file root budget) no_words t h k = absurd h
+  one_found (prove file root budget) unread t h k = absurd h
   one_found (sat file) satisfiable satisfiable h k = refl
   one_found (sat file) satisfiable unsatisfiable h k = absurd (model_or_not file h.0 k.0 h.1 k.1 h.2 h.3 k.2)
   one_found (sat file) satisfiable no_clauses h k = absurd (not_barred files file h.0 k.0 h.1 k.1)
@@ -233,14 +233,14 @@ module _ (one : GivesOne) (apart : IsApart) (found_once : FindsOne) (files : Lis
   one_found (sat file) s (certificate o) h k = absurd k
   one_found (sat file) s (saturation o) h k = absurd k
   one_found (sat file) s chain h k = absurd k
-  one_found (sat file) s no_words h k = absurd k
+  one_found (sat file) s unread h k = absurd k
   one_found (sat file) function_free t h k = absurd h
   one_found (sat file) functions t h k = absurd h
   one_found (sat file) no_problem t h k = absurd h
   one_found (sat file) (certificate o) t h k = absurd h
   one_found (sat file) (saturation o) t h k = absurd h
   one_found (sat file) chain t h k = absurd h
-  one_found (sat file) no_words t h k = absurd h
+  one_found (sat file) unread t h k = absurd h
   one_found (check cert problem root) (certificate o) (certificate p) h k = ap certificate (found_once.0 files cert problem root o p h k)
   one_found (check cert problem root) s function_free h k = absurd k
   one_found (check cert problem root) s functions h k = absurd k
@@ -250,7 +250,7 @@ module _ (one : GivesOne) (apart : IsApart) (found_once : FindsOne) (files : Lis
   one_found (check cert problem root) s no_clauses h k = absurd k
   one_found (check cert problem root) s (saturation o) h k = absurd k
   one_found (check cert problem root) s chain h k = absurd k
-  one_found (check cert problem root) s no_words h k = absurd k
+  one_found (check cert problem root) s unread h k = absurd k
   one_found (check cert problem root) function_free t h k = absurd h
   one_found (check cert problem root) functions t h k = absurd h
   one_found (check cert problem root) no_problem t h k = absurd h
@@ -259,7 +259,7 @@ module _ (one : GivesOne) (apart : IsApart) (found_once : FindsOne) (files : Lis
   one_found (check cert problem root) no_clauses t h k = absurd h
   one_found (check cert problem root) (saturation o) t h k = absurd h
   one_found (check cert problem root) chain t h k = absurd h
-  one_found (check cert problem root) no_words t h k = absurd h
+  one_found (check cert problem root) unread t h k = absurd h
   one_found (ask cert atom) (saturation o) (saturation p) h k = ap saturation (found_once.1 files cert atom.atom o p h k)
   one_found (ask cert atom) s function_free h k = absurd k
   one_found (ask cert atom) s functions h k = absurd k
@@ -269,7 +269,7 @@ module _ (one : GivesOne) (apart : IsApart) (found_once : FindsOne) (files : Lis
   one_found (ask cert atom) s no_clauses h k = absurd k
   one_found (ask cert atom) s (certificate o) h k = absurd k
   one_found (ask cert atom) s chain h k = absurd k
-  one_found (ask cert atom) s no_words h k = absurd k
+  one_found (ask cert atom) s unread h k = absurd k
   one_found (ask cert atom) function_free t h k = absurd h
   one_found (ask cert atom) functions t h k = absurd h
   one_found (ask cert atom) no_problem t h k = absurd h
@@ -278,7 +278,7 @@ module _ (one : GivesOne) (apart : IsApart) (found_once : FindsOne) (files : Lis
   one_found (ask cert atom) no_clauses t h k = absurd h
   one_found (ask cert atom) (certificate o) t h k = absurd h
   one_found (ask cert atom) chain t h k = absurd h
-  one_found (ask cert atom) no_words t h k = absurd h
+  one_found (ask cert atom) unread t h k = absurd h
   one_found (stress number) chain chain h k = refl
   one_found (stress number) s function_free h k = absurd k
   one_found (stress number) s functions h k = absurd k
@@ -288,7 +288,7 @@ module _ (one : GivesOne) (apart : IsApart) (found_once : FindsOne) (files : Lis
   one_found (stress number) s no_clauses h k = absurd k
   one_found (stress number) s (certificate o) h k = absurd k
   one_found (stress number) s (saturation o) h k = absurd k
-  one_found (stress number) s no_words h k = absurd k
+  one_found (stress number) s unread h k = absurd k
   one_found (stress number) function_free t h k = absurd h
   one_found (stress number) functions t h k = absurd h
   one_found (stress number) no_problem t h k = absurd h
@@ -297,7 +297,7 @@ module _ (one : GivesOne) (apart : IsApart) (found_once : FindsOne) (files : Lis
   one_found (stress number) no_clauses t h k = absurd h
   one_found (stress number) (certificate o) t h k = absurd h
   one_found (stress number) (saturation o) t h k = absurd h
-  one_found (stress number) no_words t h k = absurd h
+  one_found (stress number) unread t h k = absurd h
 
   -- what stands is one situation
   pub one_stands : AsksOne → (words : List (List ℕ)) (s t : Situation) → Stands words files s → Stands words files t → s ≡ t
@@ -437,7 +437,7 @@ module _ (words : List (List ℕ)) (files : List NamedFile) (read : Reading) (wr
   answer_due (judged cert o) h = judged_due cert h.0 h.1 h.2 o h.3
   answer_due (replied cert o) h = replied_due cert h.0 h.1 o h.2
   answer_due (measured o) h = measured_due h.0 h.1 o
-  answer_due usage h = due no_words exit.Usage h (0, lit< tt, refl)
+  answer_due usage h = due unread exit.Usage h (0, lit< tt, refl)
   answer_due answer.no_words h = inr (inr (inr refl))
 
   exit_due : (e : Exit) → Answered words read write e → IsDue e

@@ -22,7 +22,7 @@ use Rattle.szs_prove.specs.Answers.{Answer, Reading, IsAnswer, IsVerdict, IsOutO
 use Rattle.szs_prove.specs.Texts.{judgement_exit, refusal_text, reply_exit}
 use Rattle.szs_prove.specs.Written.{IsWritten}
 use Rattle.szs_prove.specs.declared.exit.Exit.{Exit}
-use Rattle.szs_prove.specs.declared.exit.Exit.TheVariants.{CheckFailed}
+use Rattle.szs_prove.specs.declared.exit.Exit.TheVariants.{Decided, WriteFault, Memory, CheckFailed}
 use Rattle.szs_prove.specs.declared.refusal.Refusal.TheVariants.{OutOfBudget, Memory as Wanting}
 
 -- what the sink has before the call and after it, and its count of faults
@@ -114,6 +114,10 @@ pub record WritesSize (words : List (List ℕ)) (old new : Option (List ℕ)) : 
   pub size : Size
   pub refuted : IsRefutedIn number size
   pub written : Appends old new (size_lines size)
+
+-- how the program ends where the words ask for a chain
+abbrev pub EndsChain : Exit → Type 0
+EndsChain exit = (exit ≡ Decided) ⊎ (exit ≡ WriteFault) ⊎ (exit ≡ Memory)
 
 -- what is complained of a certificate, whether it is checked or asked
 abbrev pub WritesComplaint : List (List ℕ) → Option (List NamedFile) → Option (List ℕ) → Option (List ℕ) → Type 0

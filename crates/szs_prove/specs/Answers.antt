@@ -34,7 +34,7 @@ use Rattle.szs_prove.specs.declared.exit.Exit.TheVariants.{Decided, Usage, Memor
 use Rattle.szs_prove.specs.declared.refusal.Refusal.{Refusal}
 use Rattle.szs_prove.specs.declared.refusal.Refusal.TheVariants.{Load, OutOfBudget, Usage as UnreadWords, Memory as Wanting}
 
--- Each answer but the last two speaks of a file.
+-- Each answer but the last three speaks of a file.
 pub data Answer : Type 0 where
   -- a certificate of the problem of the file
   verdict : (file : List ℕ) → Certificate → Answer

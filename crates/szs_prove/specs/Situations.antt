@@ -66,7 +66,7 @@ IsBarred files file FileMemory = ⊥
 pub data Situation : Type 0 where
   -- a problem whose terms are variables and constants
   function_free : Situation
-  -- a problem with a function symbol
+  -- a problem with a function symbol with arguments
   functions : Situation
   no_problem : Situation
   -- clauses in the DIMACS form that some truth values make true
@@ -78,7 +78,7 @@ pub data Situation : Type 0 where
   -- a saturation, which says this of an atom, or why there is none that can be asked
   saturation : Result Reply CertFault → Situation
   chain : Situation
-  no_words : Situation
+  unread : Situation
 
 abbrev pub Stands : List (List ℕ) → List NamedFile → Situation → Type 0
 Stands words files function_free = (p : Problem) × AsksProblem words files p × IsTrue (is_function_free p.clauses)
@@ -90,7 +90,7 @@ Stands words files no_clauses = (file : List ℕ) × IsAsked words (sat file) ×
 Stands words files (certificate found) = (cert : List ℕ) × (problem : Option (List ℕ)) × (root : Option (List ℕ)) × IsAsked words (check cert problem root) × IsFound files cert problem root found
 Stands words files (saturation reply) = (cert : List ℕ) × (atom : Signed Tree) × IsAsked words (ask cert atom) × IsFoundReply files cert atom.atom reply
 Stands words files chain = (number : ℕ) × IsAsked words (stress number)
-Stands words files no_words = IsUnread words
+Stands words files unread = IsUnread words
 
 -- the exits that are wanted there
 abbrev pub wanted : Situation → List Exit
@@ -105,7 +105,7 @@ wanted (certificate (Err why)) = Refused ∷ []
 wanted (saturation (Ok reply)) = reply_exit reply ∷ []
 wanted (saturation (Err why)) = Refused ∷ []
 wanted chain = Decided ∷ []
-wanted no_words = Usage ∷ []
+wanted unread = Usage ∷ []
 
 -- the exit is that of a fault that has its cause, or of want of memory
 abbrev pub Yields : Reading → Writing → Exit → Type 0

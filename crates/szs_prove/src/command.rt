@@ -4,7 +4,7 @@ ghost use Rattle.outside_io.specs.Causes.{Rose};
 ghost use Rattle.cert_format.specs.Printable.{IsTextName};
 ghost use Rattle.command_words.specs.Asked.{prove as proof, sat as values, IsAsked, IsUnread};
 ghost use Rattle.command_words.specs.Requests.{asked};
-ghost use Rattle.szs_prove.specs.Answered.{Answered, AsksAtom, AsksChain, AsksCheck, AsksProof, IsInterrupted, TookCertificate, WantsMemory, WritesCertificate, WritesComplaint, WritesJudgement, WritesNumbers, WritesReply, WritesSize, reading, writing};
+ghost use Rattle.szs_prove.specs.Answered.{Answered, AsksAtom, AsksChain, AsksCheck, AsksProof, EndsChain, IsInterrupted, TookCertificate, WantsMemory, WritesCertificate, WritesComplaint, WritesJudgement, WritesNumbers, WritesReply, WritesSize, reading, writing};
 ghost use Rattle.szs_prove.specs.Situations.{IsExact};
 ghost use Rattle.szs_prove.specs.Written.{IsWritten};
 
@@ -138,7 +138,7 @@ pub fn run<L: Library, K: Sink>(alloc: Global, words: &[String], files: &mut L, 
     ensures verdict { TookCertificate (K.taken out.old) (K.taken out.new) → result ≡ Exit.Decided }
     // A budget that ran out is told by the numbers of a run that ended for want of it.
     ensures resource_out { result ≡ Exit.ResourceOut → WritesNumbers (map string_bytes words.now) (L.files files.old) (K.taken out.old) (K.taken out.new) }
-    // A certificate that is checked is told to be valid where it is, and to be one of the problem where one is named.
+    // A certificate that is checked is told to be valid only where it is, and one of the problem where one is named.
     ensures checked { AsksCheck (map string_bytes words.now) → result ≡ Exit.Decided → WritesJudgement (map string_bytes words.now) (L.files files.old) (K.taken out.old) (K.taken out.new) Exit.Decided }
     // An atom is told to be true or false by a saturation that is valid.
     ensures asked { AsksAtom (map string_bytes words.now) → result ≡ Exit.Decided → WritesReply (map string_bytes words.now) (L.files files.old) (K.taken out.old) (K.taken out.new) Exit.Decided }
@@ -146,6 +146,9 @@ pub fn run<L: Library, K: Sink>(alloc: Global, words: &[String], files: &mut L, 
     ensures check_failed { result ≡ Exit.CheckFailed → WritesComplaint (map string_bytes words.now) (L.files files.old) (K.taken out.old) (K.taken out.new) }
     // Of a chain the size of a valid refutation is told.
     ensures stressed { AsksChain (map string_bytes words.now) → result ≡ Exit.Decided → WritesSize (map string_bytes words.now) (K.taken out.old) (K.taken out.new) }
+    // A chain ends so whatever the library tells.
+    ensures chain { AsksChain (map string_bytes words.now) → EndsChain result }
+    ensures usage { result ≡ Exit.Usage → IsUnread (map string_bytes words.now) }
     ensures read_fault { result ≡ Exit.ReadFault → Rose (L.faults files.old) (L.faults files.new) }
     ensures write_fault { result ≡ Exit.WriteFault → Rose (K.faults out.old) (K.faults out.new) }
     // Where writing failed, a prefix of the answer's text was taken.

@@ -9,7 +9,7 @@ use dimacs_front::SatExit;
 /// How the program ends.
 #[derive(Clone, Copy, Debug, PartialEq, Eq)]
 pub enum Exit {
-    /// The text of a verdict was written whole, or that of what a command but `prove` and `sat` answers.
+    /// The text of a verdict was written whole, or `valid`, `true`, `false`, or the numbers of a chain.
     Decided,
     /// The budget ran out, and the numbers that say so were written whole.
     ResourceOut,
