@@ -152,9 +152,12 @@ def main():
     parser = argparse.ArgumentParser(description=__doc__)
     parser.add_argument("kinds", nargs="*", help="random, large, pigeonhole, parity, planning, chain, wide; all if none")
     parser.add_argument("--limit", type=float, default=60, help="seconds for each run")
+    parser.add_argument("--sat", action="store_true", help="run the command sat on the clauses in the DIMACS form")
+    parser.add_argument("--program", default=os.path.join(TOP, "instgen"), help="the program to run")
     parser.add_argument("--keep", help="a folder for the files, which are else removed")
     given = parser.parse_args()
-    program = os.path.join(TOP, "instgen")
+    program = given.program
+    command, ending = ("sat", ".cnf") if given.sat else ("prove", ".p")
     other = shutil.which("minisat")
     folder = given.keep or tempfile.mkdtemp(prefix="bench")
     os.makedirs(folder, exist_ok=True)
@@ -165,7 +168,7 @@ def main():
         stem = os.path.join(folder, name.replace(" ", "-").replace(",", "").replace(".", "-"))
         write_tptp(stem + ".p", clauses)
         write_dimacs(stem + ".cnf", atoms, clauses)
-        ours, text = timed([program, "prove", stem + ".p"], given.limit)
+        ours, text = timed([program, command, stem + ending], given.limit)
         theirs, said = timed([other, "-verb=0", stem + ".cnf"], given.limit) if other else (None, b"")
         ratio = f"{ours / theirs:.1f}" if ours and theirs else "-"
         found = verdict(text)
