@@ -1,5 +1,5 @@
 // Certificates that are checked and asked, as files of lines: what is said of them, and why nothing is.
-use crate::runs::{File, answer_of, files_of, text_of};
+use crate::runs::{File, add_file, answer_of, files_of, text_of};
 use std::alloc::Global;
 use std::process::Abort;
 use std::str;
@@ -384,9 +384,9 @@ const ROWS: [Row<'static>; 40] = [
 
 fn check_row(rt: &impl Abort, alloc: Global, row: &Row<'_>) -> Result<(), Fail> {
     let cert = text_of(alloc, row.cert)?;
-    let mut files = Vec::from_slice(alloc, &PROBLEMS)?;
-    files.push(("c", cert.as_str()))?;
-    let (exit, out) = answer_of(alloc, files_of(alloc, files.as_slice())?, row.words)?;
+    let mut files = files_of(alloc, &PROBLEMS)?;
+    add_file(alloc, &mut files, "c", cert.as_str().as_bytes())?;
+    let (exit, out) = answer_of(alloc, files, row.words)?;
     let text = str::from_utf8(out.bytes())?;
     assert!(rt; text == row.text, "{:?} {text}", row.words);
     assert!(rt; exit.code() == row.status, "{:?} {exit:?}", row.words);

@@ -35,7 +35,12 @@ pub fn text_of(alloc: Global, pieces: &[&str]) -> Result<String, Memory> {
     Ok(text)
 }
 
-fn add_file(alloc: Global, files: &mut FileList, name: &str, bytes: &[u8]) -> Result<(), Memory> {
+pub fn add_file(
+    alloc: Global,
+    files: &mut FileList,
+    name: &str,
+    bytes: &[u8],
+) -> Result<(), Memory> {
     files.push(NamedFile {
         name: Name::of(alloc, name.as_bytes())?,
         bytes: ByteList::from(bytes.to_vec(alloc)?),
