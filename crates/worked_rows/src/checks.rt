@@ -56,7 +56,7 @@ cnf(g2,plain,~p(c),ground(m2)).
 cnf(g3,plain,p(c),ground(m3)).
 ";
 
-const R1: &str = "cnf(r1,plain,$false,rup([g2,g3])).\n";
+const STEP: &str = "cnf(r1,plain,$false,rup([g2,g3])).\n";
 
 const END: &str = "% SZS output end CNFRefutation for r3.p\n";
 
@@ -82,7 +82,7 @@ const ROWS: [Row<'static>; 40] = [
         text: "valid Saturation\n",
     },
     Row {
-        cert: &[START, FORMAT, MEMBERS, G1, GROUNDS, R1, END],
+        cert: &[START, FORMAT, MEMBERS, G1, GROUNDS, STEP, END],
         words: &["check", "c"],
         status: 0,
         text: "valid CNFRefutation\n",
@@ -133,7 +133,7 @@ const ROWS: [Row<'static>; 40] = [
         text: "invalid: problem 2\n",
     },
     Row {
-        cert: &[START, FORMAT, MEMBERS, G1, GROUNDS, R1, END],
+        cert: &[START, FORMAT, MEMBERS, G1, GROUNDS, STEP, END],
         words: &["check", "--problem", "tie.p", "c"],
         status: 7,
         text: "invalid: problem 1\n",
@@ -256,7 +256,7 @@ const ROWS: [Row<'static>; 40] = [
             MEMBERS,
             "cnf(g1,plain,p(a),ground(m1)).\n",
             GROUNDS,
-            R1,
+            STEP,
             END,
         ],
         words: &["check", "c"],
@@ -277,7 +277,7 @@ const ROWS: [Row<'static>; 40] = [
             MEMBERS,
             G1,
             GROUNDS,
-            R1,
+            STEP,
             END,
         ],
         words: &["check", "c"],
@@ -291,7 +291,7 @@ const ROWS: [Row<'static>; 40] = [
             MEMBERS,
             G1,
             GROUNDS,
-            R1,
+            STEP,
             END,
         ],
         words: &["ask", "c", "p(c)"],
@@ -299,13 +299,13 @@ const ROWS: [Row<'static>; 40] = [
         text: "% SZS status InputError for c\n% version: 9\n",
     },
     Row {
-        cert: &[START, FORMAT, MEMBERS, G1, GROUNDS, R1],
+        cert: &[START, FORMAT, MEMBERS, G1, GROUNDS, STEP],
         words: &["check", "c"],
         status: 2,
         text: "% SZS status SyntaxError for c\n% syntax: line 14 of c\n",
     },
     Row {
-        cert: &[START, FORMAT, MEMBERS, G1, GROUNDS, R1],
+        cert: &[START, FORMAT, MEMBERS, G1, GROUNDS, STEP],
         words: &["ask", "c", "p(c)"],
         status: 2,
         text: "% SZS status SyntaxError for c\n% syntax: line 14 of c\n",
@@ -344,7 +344,7 @@ const ROWS: [Row<'static>; 40] = [
     },
     // a refutation says nothing of an atom, valid or not
     Row {
-        cert: &[START, FORMAT, MEMBERS, G1, GROUNDS, R1, END],
+        cert: &[START, FORMAT, MEMBERS, G1, GROUNDS, STEP, END],
         words: &["ask", "c", "p(c)"],
         status: 2,
         text: "% SZS status InputError for c\n% no saturation: c\n",
