@@ -3,3 +3,4 @@ pub mod Matched
 pub mod Scans
 pub mod Fitting
 pub mod EachItem
+pub mod Grown
