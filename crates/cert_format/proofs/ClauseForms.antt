@@ -18,7 +18,8 @@ use Rattle.cert_format.specs.Printable.{IsPrintableClause, ClauseFits}
 use Rattle.cert_format.specs.Spelling.{term, arguments, following, is_printable, are_printable}
 use Rattle.cert_format.specs.Forms.{as_function, Form, plain, equal, form_text, form_is_printable, form_atom, more_forms, forms_text, ArePrintableForms}
 use Rattle.std.proofs.lemmas.Bool.{and_parts, and_from}
-use Rattle.cert_format.proofs.Spelling.{number_is}
+use Rattle.inst_logic.proofs.Numbers.{number_is}
+use Rattle.inst_logic.proofs.Formed.{function_name}
 
 -- ---- texts
 
@@ -59,11 +60,6 @@ clause_text_is [] rest = refl
 clause_text_is (f ∷ fs) rest = forms_are f fs rest
 
 -- ---- printable clauses are of forms
-
-function_name : (k : Kind) (n : List ℕ) → is_function_kind k ≡ true → kind_is_readable k n ≡ true → is_readable_name n ≡ true
-function_name Predicate n e h = absurd cc
-function_name Equality n e h = absurd cc
-function_name Function n e h = h
 
 mutual
   tree_printable : (t : Tree) → tree_is_formed t ≡ true → tree_is_readable t ≡ true → tree_fits t ≡ true → is_printable t ≡ true

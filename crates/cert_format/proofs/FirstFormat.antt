@@ -22,7 +22,7 @@ use Rattle.cert_format.specs.Machines.{no_line_feed, IsLine, IsExact}
 use Rattle.cert_format.specs.LineTexts.{status_word, letter, role, note_text, line, line_text, is_text_name, note_is_printable}
 use Rattle.cert_format.specs.FirstFormat.{clause_eq, symbol_is_printable, atom_is_printable, clause_is_printable, is_read, may_follow, step, is_done, AreLines, text_of_lines}
 use Rattle.std.proofs.lemmas.Bool.{and_parts, and_from}
-use Rattle.cert_format.proofs.Spelling.{number_is}
+use Rattle.inst_logic.proofs.Numbers.{number_is}
 use Rattle.cert_format.proofs.Runs.{one_split}
 use Rattle.cert_format.proofs.Names.{names_once}
 use Rattle.cert_format.proofs.Clauses.{one_clause}

@@ -13,6 +13,7 @@ pub mod Names
 pub mod Spelling
 pub mod Clauses
 pub mod ClauseForms
+pub mod FirstLines
 pub mod Machines
 pub mod LineMachine
 pub mod LineNotes
@@ -20,6 +21,7 @@ pub mod WholeLines
 pub mod FirstFormat
 pub mod LineTexts
 pub mod Writables
+pub mod GroupItems
 pub mod ValueRuns
 pub mod ValueLaws
 pub mod LineValues

@@ -15,7 +15,7 @@ use Rattle.cert_format.specs.LineMachine.{Note, named, equality, member, selecte
 use Rattle.cert_format.specs.LineTexts.{letter, role, line_text, hint, hints, more_hints, origin_text, note_text}
 use Rattle.cert_format.specs.FirstFormat.{step, is_done, text_of_lines}
 use Rattle.cert_format.specs.ValueLines.{input_items, axiom_items, member_items, selected_items, ground_items, step_items, items_of, item_lines, lines_of}
-use Rattle.cert_format.proofs.Spelling.{number_is}
+use Rattle.inst_logic.proofs.Numbers.{number_is}
 use Rattle.cert_format.proofs.LineMachine.{count_push}
 use Rattle.std.proofs.lemmas.Bool.{and_parts}
 use Rattle.cert_format.proofs.FirstFormat.{exact}

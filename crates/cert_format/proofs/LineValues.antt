@@ -12,17 +12,17 @@ use Rattle.inst_logic.specs.Clauses.{TreeClause}
 use Rattle.inst_logic.specs.Equal.{bool_eq}
 use Rattle.inst_logic.specs.EqualLaws.{bool_eq_decides}
 use Rattle.inst_logic.specs.Printing.{is_readable_name}
-use Rattle.inst_calculus.specs.Entries.{Origin, input, inst, Entry}
-use Rattle.inst_calculus.specs.Steps.{Step, Cited, given, earlier}
+use Rattle.inst_calculus.specs.Entries.{Origin, input, Entry}
+use Rattle.inst_calculus.specs.Steps.{Step, Cited}
 use Rattle.cert_format.specs.Certificate.{FirstRefutation, Saturation, Certificate, first_refutation, saturation}
 use Rattle.cert_format.specs.Printable.{IsNumber, HasNumbers, cited_number, IsTextName}
-use Rattle.cert_format.proofs.Spelling.{number_is}
+use Rattle.inst_logic.proofs.Numbers.{number_is, is_less, at_most}
 use Rattle.cert_format.proofs.ClauseForms.{IsWritableClause}
 use Rattle.cert_format.proofs.Writables.{IsWritableEntry, IsWritableStep, IsWritable}
 use Rattle.cert_format.specs.LineMachine.{is_number, Note, named, equality, member, selected, ground_of, shown_by, rank, Item, Header, Line, status, opening, version, constant, item, closing, count, State, nothing, body, done, fits, last_rank, last_rank_from, guarded}
 use Rattle.cert_format.specs.Machines as machines
 use Rattle.cert_format.specs.Machines.{Ends}
-use Rattle.cert_format.specs.LineTexts.{line_text, is_name_byte, is_text_name, origin_is_printable, hint_is_printable, note_is_printable}
+use Rattle.cert_format.specs.LineTexts.{line_text, is_name_byte, is_text_name, origin_is_printable, note_is_printable}
 use Rattle.cert_format.specs.FirstFormat.{clause_is_printable, may_follow, step, is_done}
 use Rattle.cert_format.specs.ValueLines.{input_items, axiom_items, member_items, selected_items, ground_items, step_items, items_of, item_lines, header_of, lines_of}
 use Rattle.cert_format.proofs.LineMachine.{count_push}
@@ -31,7 +31,8 @@ use Rattle.cert_format.proofs.LineNotes.{below}
 use Rattle.cert_format.proofs.Machines.{first_step}
 use Rattle.cert_format.proofs.FirstFormat.{test_yes, exact}
 use Rattle.cert_format.proofs.LineTexts.{count_append, count_own}
-use Rattle.cert_format.proofs.ValueRuns.{IsSorted, good, Few, all_append}
+use Rattle.cert_format.proofs.ValueRuns.{IsSorted, good, Few}
+use Rattle.cert_format.proofs.GroupItems.{all_append, parts_good, origin_good, hint_numbers}
 use Rattle.cert_format.proofs.ValueLaws.{only}
 
 -- ---- what holds of the items of a body
@@ -44,9 +45,6 @@ pub record IsBody (h : Header) (is : List Item) : Type 0 where
 sorted_push : (j : ℕ) (is : List Item) (i : Item) → last_rank_from j is ≤ rank i.note → IsSorted j is → IsSorted j (is ++ i ∷ [])
 sorted_push j [] i h s = (h, tt)
 sorted_push j (k ∷ is) i h s = (s.0, sorted_push (rank k.note) is i h s.1)
-
-at_most : (m n : ℕ) → nat_le m n ≡ true → m ≤ n
-at_most m n h = grind (arith, nat_tests)
 
 body_push : (h : Header) (is : List Item) (n : ℕ) (c : TreeClause) (note : Note) → may_follow h is n c note ≡ true → IsBody h is → (n ≡ suc (count (rank note) is)) × IsBody h (is ++ record { clause = c; note = note } ∷ [])
 body_push h is n c note m b =
@@ -153,10 +151,6 @@ only_ranks k (i ∷ is) = by (nat_eq (rank i.note) k) refl (only_ranks k is)
     by true e h = and_from (nat_eq (rank i.note) k) _ e h
     by false e h = h
 
-parts_good : (p : Item → Bool) (is js : List Item) → list_all p (is ++ js) ≡ true → (list_all p is ≡ true) × (list_all p js ≡ true)
-parts_good p [] js h = (refl, h)
-parts_good p (i ∷ is) js h = let a = and_parts (p i) (list_all p (is ++ js)) h in let b = parts_good p is js a.1 in (and_from (p i) (list_all p is) a.0 b.0, b.1)
-
 -- ---- groups as values
 
 abbrev IsGroup : ℕ → List Item → Type 0
@@ -209,12 +203,6 @@ axioms_back (i ∷ is) h = let a = and_parts (nat_eq (rank i.note) 1) _ h in by 
     by : (c : TreeClause) (note : Note) → nat_eq (rank note) 1 ≡ true → axiom_items (clauses_of is) ≡ is → record { clause = c; note = equality } ∷ axiom_items (clauses_of is) ≡ record { clause = c; note = note } ∷ is
     by c equality e h = ap (λ (xs : List Item). record { clause = c; note = equality } ∷ xs) h
     by c _ e h = absurd cc
-
-origin_back : (o : Origin) → origin_is_printable o ≡ true → HasNumbers o
-origin_back (input k) h = below k h
-origin_back (inst a p b q) h =
-    let h0 = and_parts (is_number a) _ h in let h1 = and_parts (is_number p) _ h0.1 in let h2 = and_parts (is_number b) (is_number q) h1.1 in
-    (below a h0.0, below p h1.0, below b h2.0, below q h2.1)
 
 module _ (name bot : List ℕ) where
   abbrev pub of_refutation : Header
@@ -275,8 +263,8 @@ names_printable h (i ∷ is) k g =
     by _ e p = absurd cc
 
 entry_numbers : (note : Note) → nat_eq (rank note) 2 ≡ true → note_is_printable note ≡ true → HasNumbers (entry_origin note)
-entry_numbers (member o) e p = origin_back o p
-entry_numbers (selected o k) e p = origin_back o (and_parts (origin_is_printable o) (is_number k) p).0
+entry_numbers (member o) e p = origin_good o p
+entry_numbers (selected o k) e p = origin_good o (and_parts (origin_is_printable o) (is_number k) p).0
 entry_numbers _ e p = absurd cc
 
 place_number : (note : Note) → note_is_printable note ≡ true → IsNumber (place_at note)
@@ -300,14 +288,6 @@ places_printable h [] g = All-nil IsNumber
 places_printable h (i ∷ is) g =
     let b = and_parts (good h i) _ g in
     All-cons IsNumber (place_at i.note) (places_of is) (place_number i.note (and_parts (clause_is_printable i.clause) _ (and_parts (fits h i.note) _ b.0).1).1) (places_printable h is b.1)
-
-hint_number : (h : Cited) → hint_is_printable h ≡ true → IsNumber (cited_number h)
-hint_number (given k) h = below k h
-hint_number (earlier k) h = below k h
-
-hint_numbers : (hs : List Cited) → list_all hint_is_printable hs ≡ true → All (λ h. IsNumber (cited_number h)) hs
-hint_numbers [] h = All-nil (λ (x : Cited). IsNumber (cited_number x))
-hint_numbers (k ∷ hs) h = let a = and_parts (hint_is_printable k) _ h in All-cons (λ (x : Cited). IsNumber (cited_number x)) k hs (hint_number k a.0) (hint_numbers hs a.1)
 
 step_hints : (note : Note) → nat_eq (rank note) 4 ≡ true → note_is_printable note ≡ true → (hints_of note ≢ []) × All (λ h. IsNumber (cited_number h)) (hints_of note)
 step_hints (shown_by []) e p = absurd cc
@@ -450,9 +430,6 @@ refutation_value name bot is readable b =
     }
 
 -- ---- the tie
-
-is_less : (m n : ℕ) → nat_lt m n ≡ true → m < n
-is_less m n h = grind (arith, nat_tests)
 
 name_byte : (b : ℕ) → is_name_byte b ≡ true → (32 ≤ b) × (b ≢ 127)
 name_byte b h =

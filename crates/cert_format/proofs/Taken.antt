@@ -12,7 +12,7 @@ use Rattle.cert_format.specs.LineTexts.{line_text, is_text_name, note_is_printab
 use Rattle.cert_format.specs.FirstFormat.{clause_is_printable, is_read, step, is_done, AreLines, IsText, text_of_lines}
 use Rattle.cert_format.specs.ValueLines.{BeginCertificate, lines_of, IsCertificateText}
 use Rattle.cert_format.specs.Text.{certificate_text}
-use Rattle.cert_format.proofs.Spelling.{number_is}
+use Rattle.inst_logic.proofs.Numbers.{number_is}
 use Rattle.cert_format.proofs.Writables.{writable, printable, only_format}
 use Rattle.std.proofs.lemmas.Bool.{and_parts}
 use Rattle.cert_format.proofs.Machines as machines

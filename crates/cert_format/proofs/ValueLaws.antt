@@ -11,7 +11,8 @@ use Rattle.inst_calculus.specs.Entries.{Entry}
 use Rattle.inst_calculus.specs.Steps.{Step}
 use Rattle.cert_format.specs.Certificate.{FirstRefutation, Saturation, Certificate, first_refutation, saturation}
 use Rattle.cert_format.specs.Printable.{IsTextName}
-use Rattle.cert_format.proofs.Spelling.{number_is, function_of}
+use Rattle.inst_logic.proofs.Numbers.{number_is}
+use Rattle.inst_logic.proofs.Formed.{function_of}
 use Rattle.cert_format.proofs.Writables.{IsWritableRefutation, IsWritableSaturation, IsWritable, writable, only_format}
 use Rattle.cert_format.specs.LineMachine.{Note, rank, Item, Line, status, constant, item, closing}
 use Rattle.cert_format.specs.Printable.{IsPrintable}

@@ -17,7 +17,7 @@ use Rattle.cert_format.specs.Certificate.{FirstRefutation, Saturation, Certifica
 use Rattle.cert_format.specs.Printable.{IsNumber, HasNumbers, cited_number, IsTextName}
 use Rattle.cert_format.proofs.ClauseForms.{IsWritableClause}
 use Rattle.cert_format.proofs.Writables.{IsWritableEntry, IsWritableStep, IsWritableRefutation, IsWritableSaturation, IsWritable}
-use Rattle.cert_format.specs.LineMachine.{is_number, named, equality, member, selected, ground_of, shown_by, rank, Item, Header, Line, opening, version, constant, closing, count, State, nothing, begun, opened, body, done, fits, last_rank, last_rank_from, guarded}
+use Rattle.cert_format.specs.LineMachine.{is_number, named, equality, member, selected, ground_of, shown_by, rank, Item, Header, Line, opening, version, constant, closing, count, State, nothing, begun, opened, body, done, fits, last_rank, guarded}
 use Rattle.inst_logic.specs.Equal.{bool_eq}
 use Rattle.inst_logic.specs.EqualLaws.{bool_eq_decides}
 use Rattle.cert_format.specs.Machines as machines
@@ -26,13 +26,11 @@ use Rattle.cert_format.specs.LineTexts.{line_text, is_name_byte, is_text_name, o
 use Rattle.cert_format.specs.FirstFormat.{clause_is_printable, may_follow, step, is_done, AreLines}
 use Rattle.cert_format.specs.ValueLines.{input_items, axiom_items, member_items, selected_items, ground_items, step_items, items_of, item_lines, header_of, lines_of}
 use Rattle.std.proofs.lemmas.Bool.{and_parts, and_from}
-use Rattle.cert_format.proofs.Spelling.{small_number, number_is}
+use Rattle.cert_format.proofs.Spelling.{small_number}
 use Rattle.cert_format.proofs.FirstFormat.{test_is}
+use Rattle.cert_format.proofs.GroupItems.{last_push, all_append, axioms_length, members_length, grounds_length, steps_length}
+use Rattle.inst_logic.proofs.Numbers.{number_is, less_equal, less_yes}
 use Rattle.cert_format.proofs.LineTexts.{count_append, count_other, count_own, input_ranks, axiom_ranks, member_ranks, selected_ranks, ground_ranks, step_ranks}
-
-last_push : (k : ℕ) (is : List Item) (i : Item) → last_rank_from k (is ++ i ∷ []) ≡ rank i.note
-last_push k [] i = refl
-last_push k (j ∷ is) i = last_push (rank j.note) is i
 
 -- ---- items in the order of the text
 
@@ -53,9 +51,6 @@ sorted_group j k (i ∷ is) js h l s =
 
 abbrev pub good : Header → Item → Bool
 good h i = fits h i.note && (clause_is_printable i.clause && note_is_printable i.note)
-
-less_equal : (m n : ℕ) → m ≤ n → nat_le m n ≡ true
-less_equal m n h = grind (arith, nat_tests)
 
 same_number : (n : ℕ) → nat_eq n n ≡ true
 same_number n = grind (arith, nat_tests)
@@ -120,9 +115,6 @@ bytes_yes (b ∷ n) a =
     let h = All-head (λ (x : ℕ). (32 ≤ x) × (x ≢ 127)) b n a in
     and_from (is_name_byte b) _ (byte_yes b h.0 h.1) (bytes_yes n (All-tail (λ (x : ℕ). (32 ≤ x) × (x ≢ 127)) b n a))
 
-less_yes : (m n : ℕ) → m < n → nat_lt m n ≡ true
-less_yes m n h = grind (arith, nat_tests)
-
 pub name_yes : (n : List ℕ) → IsTextName n → is_text_name n ≡ true
 name_yes n h = and_from (nat_lt 0 (length n)) _ (less_yes 0 (length n) h.some) (and_from (nat_le (length n) 4096) _ (less_equal (length n) 4096 h.short) (bytes_yes n h.bytes))
 
@@ -174,10 +166,6 @@ module _ (name bot : List ℕ) where
       (and_from (clause_is_printable s.clause) _ (test_is s.clause p.clause) (hints_yes s.hints p.hinted p.hints))
       (step_good ss (All-tail IsWritableStep s ss a))
 
-pub all_append : (p : Item → Bool) (is js : List Item) → list_all p is ≡ true → list_all p js ≡ true → list_all p (is ++ js) ≡ true
-all_append p [] js h k = k
-all_append p (i ∷ is) js h k = let a = and_parts (p i) (list_all p is) h in and_from (p i) (list_all p (is ++ js)) a.0 (all_append p is js a.1 k)
-
 -- ---- how many
 
 input_length : (cs : List TreeClause) (ws : List (List ℕ)) → length (input_items cs ws) ≤ length cs
@@ -185,26 +173,10 @@ input_length [] ws = omega arith
 input_length (c ∷ cs) [] = omega arith
 input_length (c ∷ cs) (w ∷ ws) = omega (arith, input_length cs ws)
 
-axiom_length : (cs : List TreeClause) → length (axiom_items cs) ≡ length cs
-axiom_length [] = refl
-axiom_length (c ∷ cs) = ap suc (axiom_length cs)
-
-member_length : (es : List Entry) → length (member_items es) ≡ length es
-member_length [] = refl
-member_length (e ∷ es) = ap suc (member_length es)
-
 selected_length : (es : List Entry) (ps : List ℕ) → length (selected_items es ps) ≤ length es
 selected_length [] ps = omega arith
 selected_length (e ∷ es) [] = omega arith
 selected_length (e ∷ es) (p ∷ ps) = omega (arith, selected_length es ps)
-
-ground_length : (cs : List TreeClause) → length (ground_items cs) ≡ length cs
-ground_length [] = refl
-ground_length (c ∷ cs) = ap suc (ground_length cs)
-
-step_length : (ss : List (Step Tree)) → length (step_items ss) ≡ length ss
-step_length [] = refl
-step_length (s ∷ ss) = ap suc (step_length ss)
 
 -- a group counts where its rank is asked for
 count_group : (r k : ℕ) (is : List Item) → list_all (λ (i : Item). nat_eq (rank i.note) r) is ≡ true → count k is ≡ cond (nat_eq r k) (length is) 0
@@ -276,10 +248,10 @@ refutation_run name c n p =
     let gA = all_append (good h) A (B ++ (C ++ (D ++ E))) (input_good h b.inputs b.names p.base.inputs p.base.names) gB in
     let m = 2 ^ 64 in
     let nA = p.base.input_count in let nB = p.base.axiom_count in let nC = p.base.member_count in let nD = p.ground_count in let nE = p.step_count in
-    let fE = few_last m 4 E rE (subst (λ (k : ℕ). k < m) (sym (step_length c.steps)) nE) in
-    let fD = few_group m 3 D E rD (subst (λ (k : ℕ). k < m) (sym (ground_length c.grounds)) nD) (count_other 4 3 E rE refl) fE in
-    let fC = few_group m 2 C (D ++ E) rC (subst (λ (k : ℕ). k < m) (sym (member_length b.members)) nC) (omega (arith, count_append 2 D E, count_other 3 2 D rD refl, count_other 4 2 E rE refl)) fD in
-    let fB = few_group m 1 B (C ++ (D ++ E)) rB (subst (λ (k : ℕ). k < m) (sym (axiom_length b.axioms)) nB) (omega (arith, count_append 1 C (D ++ E), count_append 1 D E, count_other 2 1 C rC refl, count_other 3 1 D rD refl, count_other 4 1 E rE refl)) fC in
+    let fE = few_last m 4 E rE (subst (λ (k : ℕ). k < m) (sym (steps_length c.steps)) nE) in
+    let fD = few_group m 3 D E rD (subst (λ (k : ℕ). k < m) (sym (grounds_length c.grounds)) nD) (count_other 4 3 E rE refl) fE in
+    let fC = few_group m 2 C (D ++ E) rC (subst (λ (k : ℕ). k < m) (sym (members_length b.members)) nC) (omega (arith, count_append 2 D E, count_other 3 2 D rD refl, count_other 4 2 E rE refl)) fD in
+    let fB = few_group m 1 B (C ++ (D ++ E)) rB (subst (λ (k : ℕ). k < m) (sym (axioms_length b.axioms)) nB) (omega (arith, count_append 1 C (D ++ E), count_append 1 D E, count_other 2 1 C rC refl, count_other 3 1 D rD refl, count_other 4 1 E rE refl)) fC in
     let lA : length A < m = (let l = input_length b.inputs b.names in omega arith) in
     let fA = few_group m 0 A (B ++ (C ++ (D ++ E))) rA lA (omega (arith, count_append 0 B (C ++ (D ++ E)), count_append 0 C (D ++ E), count_append 0 D E, count_other 1 0 B rB refl, count_other 2 0 C rC refl, count_other 3 0 D rD refl, count_other 4 0 E rE refl)) fB in
     body_run h (items_of (first_refutation c)) n sA gA fA
@@ -305,7 +277,7 @@ saturation_run name c n p =
     let lC : length C < m = (let l = selected_length b.members c.places in omega arith) in
     let lA : length A < m = (let l = input_length b.inputs b.names in omega arith) in
     let fC = few_last m 2 C rC lC in
-    let fB = few_group m 1 B C rB (subst (λ (k : ℕ). k < m) (sym (axiom_length b.axioms)) nB) (count_other 2 1 C rC refl) fC in
+    let fB = few_group m 1 B C rB (subst (λ (k : ℕ). k < m) (sym (axioms_length b.axioms)) nB) (count_other 2 1 C rC refl) fC in
     let fA = few_group m 0 A (B ++ C) rA lA (omega (arith, count_append 0 B C, count_other 1 0 B rB refl, count_other 2 0 C rC refl)) fB in
     body_run h (items_of (saturation c)) n sA gA fA
 

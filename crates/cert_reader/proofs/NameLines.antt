@@ -8,7 +8,7 @@ use Rattle.std.proofs.lemmas.List.{take-append-drop}
 use Rattle.cert_format.specs.LineTexts.{is_name_byte, is_text_name}
 use Rattle.cert_format.specs.Runs.{run, Ends}
 use Rattle.cert_format.proofs.Runs.{run_all, run_ends, one_split}
-use Rattle.cert_format.proofs.Spelling.{number_is}
+use Rattle.inst_logic.proofs.Numbers.{number_is}
 
 pub none_then : {A P Q : Type 0} (r : Option A) → (P → Q) → IfNone r P → IfNone r Q
 none_then None f h = f h

@@ -13,8 +13,9 @@ use Rattle.cert_format.proofs.LineMachine.{count_push}
 use Rattle.cert_format.proofs.LineNotes.{below, line_more}
 use Rattle.cert_format.proofs.LineTexts.{lines_append}
 use Rattle.cert_format.proofs.Machines.{behind_end}
-use Rattle.cert_format.proofs.Spelling.{number_is}
-use Rattle.cert_format.proofs.ValueRuns.{all_append, name_yes}
+use Rattle.inst_logic.proofs.Numbers.{number_is}
+use Rattle.cert_format.proofs.GroupItems.{all_append}
+use Rattle.cert_format.proofs.ValueRuns.{name_yes}
 use Rattle.cert_reader.specs.Bodies.{constant_lines, lines_up_to, is_good, HasRead, IsNextItem, NoNextItem, IsRefusedAt, EndsSo, ending_behind}
 use Rattle.cert_reader.specs.declared.body.Ending.{Ending}
 use Rattle.cert_reader.proofs.Steps.{no_next, one_more, closing_step, behind_all, refused, name_is}

@@ -16,8 +16,8 @@ use Rattle.term_bank.proofs.Clauses.{clause_of_extends, atoms_extend, clause_ext
 use Rattle.cert_format.specs.LineMachine.{named, equality, member, selected, ground_of, shown_by, rank, Item, fits, count, last_rank, last_rank_from}
 use Rattle.cert_format.specs.ValueLines.{input_items, axiom_items, member_items, selected_items, ground_items, step_items}
 use Rattle.cert_format.proofs.LineTexts.{count_append, count_own, count_other, input_ranks, axiom_ranks, member_ranks, selected_ranks, ground_ranks, step_ranks}
-use Rattle.cert_format.proofs.Spelling.{number_is}
-use Rattle.cert_format.proofs.ValueRuns.{all_append}
+use Rattle.inst_logic.proofs.Numbers.{number_is}
+use Rattle.cert_format.proofs.GroupItems.{all_append}
 use Rattle.saturation_cert.specs.declared.certificate.GroundHint.{GroundHint}
 use Rattle.saturation_cert.specs.declared.certificate.GroundStep.{GroundStep}
 use Rattle.saturation_cert.specs.declared.member.Member.{Member}

@@ -15,7 +15,7 @@ use Rattle.cert_format.specs.FirstFormat.{step, is_done, text_of_lines, Leads}
 use Rattle.cert_format.proofs.FirstFormat.{exact, guard_is}
 use Rattle.cert_format.proofs.LineNotes.{line_more}
 use Rattle.cert_format.proofs.Machines.{run_more, texts_append}
-use Rattle.cert_format.proofs.Spelling.{number_is}
+use Rattle.inst_logic.proofs.Numbers.{number_is}
 use Rattle.cert_format.proofs.Exits.{NoLine}
 use Rattle.cert_format.proofs.Taken.{bad_line, not_taken, begins}
 use Rattle.cert_reader.specs.Bodies.{header, IsRefusedAt, NoNextItem}

@@ -63,6 +63,7 @@ pub trait Solver: Drop {
         ensures err { OnErr result (IsTrue (spent self.new)) }
         ensures stays_spent { IsTrue (spent self.old) → IsErr result };
 
-    /// How many conflicts the searches met so far. Nothing is promised of it.
+    /// How much the searches learned so far, by steps that answer conflicts; 0 from a solver that keeps no count. Nothing is promised
+    /// of it.
     fn conflicts(&self) -> u64;
 }
