@@ -9,7 +9,6 @@ use Rattle.inst_calculus.specs.Models.{Member}
 use Rattle.inst_calculus.proofs.Membership.{all_in, in_all}
 use Rattle.term_bank.specs.Forest.{tree_at}
 use Rattle.cert_format.specs.Certificate.{selected_members}
-use Rattle.cert_format.specs.Validity.{SelectsAt}
 use Rattle.cert_format.proofs.SelectedMembers.{selected_number, selected_is_member, selected_once}
 use Rattle.saturation_cert.specs.declared.certificate.Saturation.{Saturation}
 use Rattle.saturation_cert.specs.Truths.{IsSelectedLiteral, IsLight}

@@ -1,10 +1,10 @@
 -- One more selected literal in the index of its sign.
-use Rattle.std.proofs.Common.{◌≡◌, ◌⊎◌, inl, inr, ℕ, zero, suc, ◌+◌, ◌<◌, ◌≤◌, List, [], length, Bool, refl, sym, ap, ◌∙◌, subst, arith, Contains}
+use Rattle.std.proofs.Common.{◌≡◌, ◌⊎◌, inl, inr, ℕ, ◌+◌, ◌<◌, ◌≤◌, List, [], length, Bool, sym, ap, ◌∙◌, subst, arith, Contains}
 use Rattle.std.proofs.lemmas.Bool.{cases_lt}
 use Rattle.inst_logic.specs.declared.signed.Signed.{Signed}
 use Rattle.inst_logic.specs.Tree.{Tree}
 use Rattle.inst_calculus.specs.Models.{Member}
-use Rattle.term_bank.specs.Forest.{AreDistinct, tree_at}
+use Rattle.term_bank.specs.Forest.{AreDistinct}
 use Rattle.term_index.specs.Pairs.{Pair, Adds}
 use Rattle.cert_format.proofs.SelectedMembers.{selected_once}
 use Rattle.saturation_cert.specs.declared.certificate.Saturation.{Saturation}

@@ -1,5 +1,5 @@
 use Rattle.std.proofs.Common.{◌+◌, arith, true, false}
-use Rattle.saturation_cert.proofs.Stores.{all_below, none_below}
+use Rattle.saturation_cert.proofs.Stores.{all_below}
 use Rattle.saturation_cert.proofs.selection.store_selected.Goals as goal
 
 pub returns-clause-positive : goal.returns-clause-positive
