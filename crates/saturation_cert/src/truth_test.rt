@@ -127,9 +127,9 @@ fn compared<I: PartnerIndex>(
     requires negative { AreSelected cert.now false (I.pairs negative.now) }
     ensures { IfOk result (λ r. IsTrue r ↔ IsTrueBy (selected_members (saturation_of cert.now)) (tree_at cert.now.base.bank atom)) }
 {
-    let above = heaviest_in(bindings, cert, positive, atom)?;
-    let below = heaviest_in(bindings, cert, negative, atom)?;
-    Ok(exceeds(above, below))
+    let heaviest_positive = heaviest_in(bindings, cert, positive, atom)?;
+    let heaviest_negative = heaviest_in(bindings, cert, negative, atom)?;
+    Ok(exceeds(heaviest_positive, heaviest_negative))
 }
 
 /// The truth test where indexes of the selected literals are at hand, as `store_selected` fills them: so each of many atoms takes
@@ -177,7 +177,7 @@ fn truth_by<I: PartnerIndex>(
 
 /// Whether the ground atom is true by the members: some selected positive literal has it as an instance, and each selected
 /// negative literal whose atom has it as an instance has fewer function symbols than that one. It fills two trees with the
-/// selected literals, and asks them. The only error is want of memory.
+/// selected literals, in time in their symbols, and asks them. The only error is want of memory.
 pub fn truth(alloc: Global, cert: &Saturation, atom: TermId) -> Result<bool, Memory>
     requires whole { IsWholeSaturation cert.now }
     requires placed { HasPlaces (saturation_of cert.now) }
