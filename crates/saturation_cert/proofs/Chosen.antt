@@ -1,5 +1,5 @@
 -- The literal at the place of a member.
-use Rattle.std.proofs.Common.{◌≡◌, ℕ, zero, suc, ◌<◌, ◌≤◌, ◌-◌, List, length, get_or, Some, sym, ap, ◌∙◌, subst, arith}
+use Rattle.std.proofs.Common.{◌≡◌, ℕ, zero, suc, ◌<◌, ◌≤◌, ◌-◌, List, length, map, get_or, Some, sym, ap, ◌∙◌, subst, arith}
 use Rattle.std.specs.Prelude.{slice_get}
 use Rattle.std.proofs.lemmas.List.{length-map}
 use Rattle.std.proofs.lemmas.Option.{slice_get_within, slice_get-get_or, get_or_from_slice_get}
@@ -10,6 +10,7 @@ use Rattle.inst_calculus.specs.Models.{Member as Selected}
 use Rattle.term_bank.specs.Forest.{clause_at}
 use Rattle.cert_format.specs.Validity.{SelectsAt}
 use Rattle.cert_format.proofs.Numbers.{slice_get_of_map, same_item}
+use Rattle.cert_format.proofs.SelectedMembers.{selected_once}
 use Rattle.saturation_cert.specs.declared.member.Member.{Member}
 use Rattle.saturation_cert.specs.declared.certificate.Saturation.{Saturation}
 use Rattle.saturation_cert.specs.Truths.{literal_at, IsSelectedLiteral}
@@ -88,3 +89,18 @@ module _ (c : Saturation) (whole : IsWholeSaturation c) (i : ℕ) where
         let r : get_or ps i 0 - 1 ≡ k.place = omega arith in
         let t : get_or ls (get_or ps i 0 - 1) l ≡ k.literal = ap (λ (ms : List (Signed ℕ)). get_or ms (get_or ps i 0 - 1) l) same_clause ∙ ap (λ n. get_or x.clause n l) r ∙ get_or_from_slice_get x.clause k.place k.literal l k.literal_here in
         subst (λ (y : Signed ℕ). IsSelectedLiteral c (suc i) y) (sym (l_is ∙ t)) k.stands
+
+-- the literal of ids that a member selects
+pub literal_of_member : (c : Saturation) → IsWholeSaturation c → (i : ℕ) (m : Selected) → SelectsAt (saturation_of c) (suc i) m → (l : Signed ℕ) × IsSelectedLiteral c (suc i) l × (m.selected ≡ literal_at c.base.bank l)
+literal_of_member c whole i m s =
+    let (x, at, same) = slice_get_of_map (entry_of c.base.bank) c.base.members i s.entry s.entry_at in
+    let k = chosen_by c whole i x at m s in
+    let e : m ≡ k.stands.member = selected_once (saturation_of c).base.members (saturation_of c).places (suc i) m k.stands.member s k.stands.is in
+    (k.literal, k.stands, ap (λ (y : Selected). y.selected) e ∙ k.stands.literal)
+
+-- a selected literal's number is that of a member
+pub number_within : (c : Saturation) (n : ℕ) (l : Signed ℕ) → IsSelectedLiteral c n l → (0 < n) × (n ≤ length c.base.members)
+number_within c zero l s = absurd (cc (s.is.entry_at))
+number_within c (suc k) l s =
+    let w : k < length (map (entry_of c.base.bank) c.base.members) = slice_get_within (map (entry_of c.base.bank) c.base.members) k s.is.entry s.is.entry_at in
+    (omega arith, omega (arith, length-map c.base.members (entry_of c.base.bank)))

@@ -1,41 +1,24 @@
-// The truth test: one scan over the members keeps the heaviest matching literal of each sign. Comparing each positive one
-// with each negative one, as the definition reads, would take the product of their numbers.
-ghost use Rattle.std.specs.Prelude.{◌≡◌, ◌↔◌, ◌<◌, ◌^◌, ◌-◌, suc, max, length, true, false, [], IfOk, IsTrue, MatchOption};
+// The truth test over indexes of the selected literals: a walk over each gives those that may have the atom as an instance, and
+// the heaviest of each sign that has it decides. Comparing each positive one with each negative one, as the definition reads,
+// would take the product of their numbers.
+ghost use Rattle.std.specs.Prelude.{◌≡◌, ◌↔◌, ◌<◌, ◌≤◌, ◌^◌, ◌-◌, ℕ, Bool, max, length, true, false, [], IfOk, IsTrue};
+ghost use Rattle.inst_logic.specs.declared.signed.Signed.{Signed};
 ghost use Rattle.inst_logic.specs.Measure.{tree_weight};
-ghost use Rattle.inst_logic.specs.Substitution.{Matches};
 ghost use Rattle.inst_calculus.specs.Models.{IsTrueBy};
 ghost use Rattle.cert_format.specs.Certificate.{selected_members};
 ghost use Rattle.term_bank.specs.Forest.{tree_at};
-ghost use Rattle.saturation_cert.specs.Truths.{AreHeaviest, IsLight, IsSelectedLiteral, level};
+ghost use Rattle.saturation_cert.specs.Truths.{AreSelected, IsFound, IsHeaviest, IsSelectedLiteral, level};
 ghost use Rattle.saturation_cert.specs.Values.{saturation_of};
 ghost use Rattle.saturation_cert.specs.Wholes.{AreLight, HasPlaces, IsGroundAtom, IsWholeSaturation};
 
 use crate::certificate::Saturation;
+use crate::selection::{selected_of, store_selected};
 use inst_logic::Memory;
 use std::alloc::Global;
-use term_bank::{Bank, IdLiteral, TermId};
+use term_bank::{Bank, TermId};
+use term_index::{PartnerIndex, View};
+use term_tree::Tree;
 use unify_core::Bindings;
-
-/// The weights of the heaviest selected literals of each sign that have an atom as an instance. A weight is the number of
-/// occurrences of function symbols in the literal's atom, constants among them. `None` where no literal of that sign has the
-/// atom as an instance, which is less than every weight.
-#[derive(Clone, Copy)]
-pub struct Heaviest {
-    positive: Option<u64>,
-    negative: Option<u64>,
-}
-
-/// The selected literal of member `i`, counted from 0. Its place counts from 1.
-pub fn selected(cert: &Saturation, i: usize) -> &IdLiteral
-    requires whole { IsWholeSaturation cert.now }
-    requires placed { HasPlaces (saturation_of cert.now) }
-    requires within { i < length cert.now.base.members }
-    ensures { IsSelectedLiteral cert.now (suc i) result.now }
-{
-    let member = &cert.base.members.as_slice()[i];
-    let place = cert.places.as_slice()[i];
-    &member.clause.as_slice()[place - 1]
-}
 
 // The weight of the pattern, if it has the atom as an instance.
 fn weight_over(
@@ -47,7 +30,7 @@ fn weight_over(
     requires pattern { pattern < length bank.now.trees }
     requires atom { atom < length bank.now.trees }
     requires light { tree_weight (tree_at bank.now pattern) < 2 ^ 64 - 1 }
-    ensures { IfOk result (λ r. MatchOption r (¬ (Matches (tree_at bank.now pattern) (tree_at bank.now atom))) (λ w. (w ≡ tree_weight (tree_at bank.now pattern)) × Matches (tree_at bank.now pattern) (tree_at bank.now atom))) }
+    ensures { IfOk result (IsFound (tree_at bank.now pattern) (tree_at bank.now atom)) }
 {
     bindings.clear();
     if bindings.match_onto(bank, pattern, atom)? {
@@ -78,86 +61,123 @@ fn exceeds(a: Option<u64>, b: Option<u64>) -> bool
     }
 }
 
-// The heaviest literals of the members before this one, and of this one.
-fn with_member(
+// The weight of the selected literal of member `n`, counted from 1, if its atom has this one as an instance.
+fn weight_at(
     bindings: &mut Bindings,
     cert: &Saturation,
     atom: TermId,
-    i: usize,
-    best: Heaviest,
-) -> Result<Heaviest, Memory>
+    n: usize,
+) -> Result<Option<u64>, Memory>
     requires whole { IsWholeSaturation cert.now }
     requires placed { HasPlaces (saturation_of cert.now) }
     requires light { AreLight (selected_members (saturation_of cert.now)) }
     requires atom { atom < length cert.now.base.bank.trees }
-    requires within { i < length cert.now.base.members }
-    requires best { AreHeaviest cert.now (tree_at cert.now.base.bank atom) i best }
-    ensures { IfOk result (AreHeaviest cert.now (tree_at cert.now.base.bank atom) (suc i)) }
+    requires member { (0 < n) × (n ≤ length cert.now.base.members) }
+    ensures { IfOk result (λ w. (l : Signed ℕ) → IsSelectedLiteral cert.now n l → IsFound (tree_at cert.now.base.bank l.atom) (tree_at cert.now.base.bank atom) w) }
 {
-    let l = *selected(cert, i);
+    let l = *selected_of(cert, n);
     let weight = weight_over(bindings, &cert.base.bank, l.atom, atom)?;
-    if l.positive {
-        let positive = heavier(best.positive, weight);
-        Ok(Heaviest {
-            positive,
-            negative: best.negative,
-        })
-    } else {
-        let negative = heavier(best.negative, weight);
-        Ok(Heaviest {
-            positive: best.positive,
-            negative,
-        })
-    }
+    Ok(weight)
 }
 
-// Whether the selected literal of member `i`, counted from 0, is so light that the bank tells its weight.
-fn is_light_at(cert: &Saturation, i: usize) -> bool
+// The weight of the heaviest literal of the index that has the atom as an instance, and `None` where none has it. The index may
+// give others too, so each is matched.
+fn heaviest_in<I: PartnerIndex>(
+    bindings: &mut Bindings,
+    cert: &Saturation,
+    index: &I,
+    atom: TermId,
+) -> Result<Option<u64>, Memory>
     requires whole { IsWholeSaturation cert.now }
     requires placed { HasPlaces (saturation_of cert.now) }
-    requires within { i < length cert.now.base.members }
-    ensures yes { result ≡ true → IsLight cert.now i }
-    ensures no { result ≡ false → ¬ (AreLight (selected_members (saturation_of cert.now))) }
+    requires light { AreLight (selected_members (saturation_of cert.now)) }
+    requires atom { atom < length cert.now.base.bank.trees }
+    requires fits { I.fits cert.now.base.bank index.now }
+    requires selected { (sign : Bool) × AreSelected cert.now sign (I.pairs index.now) }
+    ensures { IfOk result (λ w. IsHeaviest cert.now.base.bank (I.pairs index.now) (tree_at cert.now.base.bank atom) (level w)) }
 {
-    let l = *selected(cert, i);
-    cert.base.bank.weight(l.atom) < u64::MAX
-}
-
-/// Whether all selected literals are so light that the bank tells their weights, as the truth test needs.
-pub fn is_light(cert: &Saturation) -> bool
-    requires whole { IsWholeSaturation cert.now }
-    requires placed { HasPlaces (saturation_of cert.now) }
-    ensures { IsTrue result ↔ AreLight (selected_members (saturation_of cert.now)) }
-{
-    for i in 0..cert.base.members.len() {
-        if !is_light_at(cert, i) {
-            return false;
+    let mut heaviest = None;
+    let mut cursor = index.start(&cert.base.bank, atom, View::Generalisations)?;
+    loop {
+        match index.next(&mut cursor)? {
+            None => return Ok(heaviest),
+            Some(n) => {
+                let weight = weight_at(bindings, cert, atom, n)?;
+                heaviest = heavier(heaviest, weight);
+            }
         }
     }
-    true
 }
 
-// The same, with room to work in.
-fn is_true(bindings: &mut Bindings, cert: &Saturation, atom: TermId) -> Result<bool, Memory>
+// The truth test over two indexes, with room to work in.
+fn compared<I: PartnerIndex>(
+    bindings: &mut Bindings,
+    cert: &Saturation,
+    positive: &I,
+    negative: &I,
+    atom: TermId,
+) -> Result<bool, Memory>
+    requires whole { IsWholeSaturation cert.now }
+    requires placed { HasPlaces (saturation_of cert.now) }
+    requires light { AreLight (selected_members (saturation_of cert.now)) }
+    requires atom { atom < length cert.now.base.bank.trees }
+    requires positive_fits { I.fits cert.now.base.bank positive.now }
+    requires negative_fits { I.fits cert.now.base.bank negative.now }
+    requires positive { AreSelected cert.now true (I.pairs positive.now) }
+    requires negative { AreSelected cert.now false (I.pairs negative.now) }
+    ensures { IfOk result (λ r. IsTrue r ↔ IsTrueBy (selected_members (saturation_of cert.now)) (tree_at cert.now.base.bank atom)) }
+{
+    let heaviest_positive = heaviest_in(bindings, cert, positive, atom)?;
+    let heaviest_negative = heaviest_in(bindings, cert, negative, atom)?;
+    Ok(exceeds(heaviest_positive, heaviest_negative))
+}
+
+/// The truth test where indexes of the selected literals are at hand, as `store_selected` fills them: so each of many atoms takes
+/// time in what the indexes give, and not in all members. The only error is want of memory, also of a spent index.
+pub fn truth_in<I: PartnerIndex>(
+    alloc: Global,
+    cert: &Saturation,
+    positive: &I,
+    negative: &I,
+    atom: TermId,
+) -> Result<bool, Memory>
     requires whole { IsWholeSaturation cert.now }
     requires placed { HasPlaces (saturation_of cert.now) }
     requires light { AreLight (selected_members (saturation_of cert.now)) }
     requires atom { IsGroundAtom cert.now.base.bank atom }
+    requires positive_fits { I.fits cert.now.base.bank positive.now }
+    requires negative_fits { I.fits cert.now.base.bank negative.now }
+    requires positive { AreSelected cert.now true (I.pairs positive.now) }
+    requires negative { AreSelected cert.now false (I.pairs negative.now) }
     ensures { IfOk result (λ r. IsTrue r ↔ IsTrueBy (selected_members (saturation_of cert.now)) (tree_at cert.now.base.bank atom)) }
 {
-    let mut best = Heaviest {
-        positive: None,
-        negative: None,
-    };
-    for i in 0..cert.base.members.len() {
-        best = with_member(bindings, cert, atom, i, best)?;
-    }
-    Ok(exceeds(best.positive, best.negative))
+    let mut bindings = Bindings::new(alloc);
+    compared(&mut bindings, cert, positive, negative, atom)
+}
+
+// The truth test with two indexes to fill.
+fn truth_by<I: PartnerIndex>(
+    alloc: Global,
+    cert: &Saturation,
+    positive: &mut I,
+    negative: &mut I,
+    atom: TermId,
+) -> Result<bool, Memory>
+    requires whole { IsWholeSaturation cert.now }
+    requires placed { HasPlaces (saturation_of cert.now) }
+    requires light { AreLight (selected_members (saturation_of cert.now)) }
+    requires atom { IsGroundAtom cert.now.base.bank atom }
+    requires positive { I.pairs positive.old ≡ [] }
+    requires negative { I.pairs negative.old ≡ [] }
+    ensures { IfOk result (λ r. IsTrue r ↔ IsTrueBy (selected_members (saturation_of cert.now)) (tree_at cert.now.base.bank atom)) }
+{
+    store_selected(cert, positive, negative)?;
+    truth_in(alloc, cert, positive, negative, atom)
 }
 
 /// Whether the ground atom is true by the members: some selected positive literal has it as an instance, and each selected
-/// negative literal whose atom has it as an instance has fewer function symbols than that one. It scans all members, and
-/// matches each selected literal once. The only error is want of memory.
+/// negative literal whose atom has it as an instance has fewer function symbols than that one. It fills two trees with the
+/// selected literals, in time in their symbols, and asks them. The only error is want of memory.
 pub fn truth(alloc: Global, cert: &Saturation, atom: TermId) -> Result<bool, Memory>
     requires whole { IsWholeSaturation cert.now }
     requires placed { HasPlaces (saturation_of cert.now) }
@@ -165,6 +185,7 @@ pub fn truth(alloc: Global, cert: &Saturation, atom: TermId) -> Result<bool, Mem
     requires atom { IsGroundAtom cert.now.base.bank atom }
     ensures { IfOk result (λ r. IsTrue r ↔ IsTrueBy (selected_members (saturation_of cert.now)) (tree_at cert.now.base.bank atom)) }
 {
-    let mut bindings = Bindings::new(alloc);
-    is_true(&mut bindings, cert, atom)
+    let mut positive = Tree::new(alloc);
+    let mut negative = Tree::new(alloc);
+    truth_by(alloc, cert, &mut positive, &mut negative, atom)
 }
