@@ -13,7 +13,7 @@ use std::alloc::Global;
 const SHORT: usize = 2;
 
 // At least so many clauses are kept, and one for each three added clauses.
-const FIRST: usize = 100;
+const FIRST: usize = 300;
 
 const ADDED: usize = 3;
 
