@@ -5,3 +5,4 @@ pub mod Stores
 pub mod Walks
 pub mod Fitting
 pub mod EachItem
+pub mod Grown
