@@ -19,20 +19,7 @@ use Rattle.saturation_cert.specs.Values.{base_of, entry_of}
 use Rattle.saturation_cert.specs.Wholes.{IsWholeClause, IsWholeBase, KeepsBase}
 use Rattle.cert_format.specs.Validity.{BasePasses, IsValidBase}
 use Rattle.cert_check.specs.Firsts.{IsFirstWrong, IsFirstWrongOf}
-
--- the clauses of a bank stay as it grows
-pub clauses_same : (f g : Forest) → Extends f g → (cs : List (List (Signed ℕ))) → All (IsWholeClause f) cs → map (clause_at g) cs ≡ map (clause_at f) cs
-clauses_same f g grown [] h = refl
-clauses_same f g grown (c ∷ cs) h = let here : IsWholeClause f c = All-head (IsWholeClause f) c cs h in ap₂ (λ x xs. x ∷ xs) (clause_extends f g grown c here.ids) (clauses_same f g grown cs (All-tail (IsWholeClause f) c cs h))
-
-pub members_same : (f g : Forest) → Extends f g → (ms : List Member) → All (λ m. IsWholeClause f m.clause) ms → map (entry_of g) ms ≡ map (entry_of f) ms
-members_same f g grown [] h = refl
-members_same f g grown (m ∷ ms) h = ap₂ (λ x xs. x ∷ xs) one (members_same f g grown ms (All-tail (λ x. IsWholeClause f x.clause) m ms h))
-  where
-    one : entry_of g m ≡ entry_of f m
-    one =
-        let here : IsWholeClause f m.clause = All-head (λ x. IsWholeClause f x.clause) m ms h in
-        λ i. record { clause = clause_extends f g grown m.clause here.ids i; origin = (entry_of f m).origin }
+use Rattle.saturation_cert.proofs.Grown.{clauses_same, members_same}
 
 -- the record of trees stays as the bank grows
 pub base_same : (old new : Base) → IsWholeBase old → KeepsBase old new → base_of new ≡ base_of old

@@ -24,7 +24,8 @@ use Rattle.cert_check.specs.declared.error.CheckError.TheVariants as errors
 use Rattle.cert_check.specs.Firsts.{IsFirstWrong}
 use Rattle.cert_check.specs.FirstPairs.{IsFirstWrongPair, IsFirstWrongPairOf}
 use Rattle.cert_check.proofs.Bases.{base_same, at_most, smaller, first_of_saturation}
-use Rattle.cert_check.proofs.Refutations.{clause_grown, clauses_grown, keeps_trans}
+use Rattle.saturation_cert.proofs.Grown.{clauses_grown, members_grown}
+use Rattle.cert_check.proofs.Refutations.{keeps_trans}
 
 pub saturation_same : (old new : Saturation) → IsWholeSaturation old → KeepsSaturation old new → saturation_of new ≡ saturation_of old
 saturation_same old new whole kept =
@@ -46,7 +47,7 @@ base_grown b g grown formed whole = record {
   bank = formed;
   inputs = clauses_grown b.bank g grown b.inputs whole.inputs;
   axioms = clauses_grown b.bank g grown b.axioms whole.axioms;
-  members = in_all (λ (m : Member). IsWholeClause g m.clause) b.members (λ m i. clause_grown b.bank g grown m.clause (all_in (λ (n : Member). IsWholeClause b.bank n.clause) b.members whole.members m i));
+  members = members_grown b.bank g grown b.members whole.members;
 }
 
 pub keeps_grown : (b : Base) (g : Forest) → Extends b.bank g → KeepsBase b (record b { bank = g })
