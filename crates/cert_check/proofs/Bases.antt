@@ -1,22 +1,16 @@
 -- What the check of the axioms and members gives for both kinds of certificates.
-use Rattle.std.proofs.Common.{◌≡◌, ℕ, ◌<◌, ◌≤◌, List, [], ◌∷◌, refl, ap, ap₂, sym, ◌∙◌, map, subst, Option, None, Some, arith, ◌⊎◌, inl, inr}
-use Rattle.std.specs.Prelude.{All}
-use Rattle.std.proofs.lemmas.List.Elements.{All-head, All-tail}
-use Rattle.inst_logic.specs.declared.signed.Signed.{Signed}
+use Rattle.std.proofs.Common.{◌≡◌, ℕ, ◌<◌, ◌≤◌, refl, ap, sym, ◌∙◌, subst, Option, None, Some, arith, ◌⊎◌, inl, inr}
 use Rattle.inst_logic.specs.Clauses.{TreeClause, canonical_form, instance, IsCanonical}
 use Rattle.inst_logic.specs.Derivations.{at_number}
 use Rattle.inst_calculus.specs.Entries.{Origin, input, inst, Entry}
 use Rattle.inst_calculus.proofs.CanonicalForms.{canonical_of_canonical}
-use Rattle.term_bank.specs.Forest.{Forest, Extends, clause_at}
-use Rattle.term_bank.proofs.Clauses.{clause_extends}
 use Rattle.cert_format.specs.Certificate as format
 use Rattle.cert_format.specs.Validity.{Gives, IsRightAxiom, IsRightMember, RefutationPasses, SaturationPasses, IsFirstComplaint, Precedes, rank}
 use Rattle.cert_format.specs.declared.complaint.Complaint.{Complaint}
 use Rattle.cert_format.specs.declared.complaint.Complaint.TheVariants.{Axiom, Member as Derived, Bot, Ground, Step as Shown, NotEmpty, Place, Input, Pair}
-use Rattle.saturation_cert.specs.declared.member.Member.{Member}
 use Rattle.saturation_cert.specs.declared.certificate.Base.{Base}
-use Rattle.saturation_cert.specs.Values.{base_of, entry_of}
-use Rattle.saturation_cert.specs.Wholes.{IsWholeClause, IsWholeBase, KeepsBase}
+use Rattle.saturation_cert.specs.Values.{base_of}
+use Rattle.saturation_cert.specs.Wholes.{IsWholeBase, KeepsBase}
 use Rattle.cert_format.specs.Validity.{BasePasses, IsValidBase}
 use Rattle.cert_check.specs.Firsts.{IsFirstWrong, IsFirstWrongOf}
 use Rattle.saturation_cert.proofs.Grown.{clauses_same, members_same}

@@ -1,5 +1,5 @@
 -- The bindings that unify two atoms are to terms.
-use Rattle.std.proofs.Common.{◌≡◌, ℕ, ◌+◌, List, refl, ap, sym, ◌∙◌, subst, true}
+use Rattle.std.proofs.Common.{◌≡◌, ℕ, List, refl, ap, sym, ◌∙◌, subst, true}
 use Rattle.std.specs.Prelude.{◌&&◌, nat_eq}
 use Rattle.inst_logic.specs.Tree.{Tree, var, app, Trees, none, more}
 use Rattle.inst_logic.specs.Substitution.{subst as apply, substs, Substitution}

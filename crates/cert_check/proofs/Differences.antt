@@ -1,13 +1,12 @@
 -- The first place where two lists differ, as ids and as trees.
-use Rattle.std.proofs.Common.{◌≡◌, ℕ, zero, suc, ◌+◌, ◌<◌, ◌≤◌, List, [], ◌∷◌, refl, ap, ap₂, sym, ◌∙◌, map, subst, arith, ◌⊎◌, inl, inr, length, Option, None, Some}
+use Rattle.std.proofs.Common.{◌≡◌, ℕ, zero, suc, ◌+◌, ◌<◌, ◌≤◌, List, refl, ap, sym, ◌∙◌, map, subst, arith, ◌⊎◌, inl, inr, length, Option, None, Some}
 use Rattle.std.specs.Prelude.{All, slice_get, option_map}
 use Rattle.std.proofs.lemmas.Option.{slice_get-map}
 use Rattle.inst_logic.specs.declared.signed.Signed.{Signed}
 use Rattle.inst_logic.specs.Derivations.{at_number}
-use Rattle.inst_logic.specs.Tree.{Tree}
-use Rattle.inst_calculus.proofs.Membership.{◌∈◌, all_in, contains_in}
+use Rattle.inst_calculus.proofs.Membership.{all_in, contains_in}
 use Rattle.inst_logic.proofs.ShownLaws.{at_number_contains}
-use Rattle.term_bank.specs.Forest.{Forest, AreDistinct, IsClauseOf, clause_at, tree_at}
+use Rattle.term_bank.specs.Forest.{Forest, AreDistinct, IsClauseOf, clause_at}
 use Rattle.cert_check.specs.Firsts.{IsFirstWrong, IsFirstWrongOf}
 pub use Rattle.clause_form.proofs.Ids.{same_ids}
 use Rattle.std.proofs.lemmas.Option.{slice_get_past}

@@ -1,22 +1,19 @@
 -- The stages of the check of a refutation.
-use Rattle.std.proofs.Common.{◌≡◌, ℕ, ◌<◌, Bool, false, List, [], ◌∷◌, refl, ap, ap₂, sym, ◌∙◌, map, subst, arith, inl, inr, length}
+use Rattle.std.proofs.Common.{◌≡◌, ℕ, Bool, false, List, [], ◌∷◌, refl, ap, sym, ◌∙◌, map, arith, length}
 use Rattle.std.specs.Prelude.{All, IsTrue, ◌↔◌, ◌-◌, Some, option_map, slice_get}
 use Rattle.std.proofs.lemmas.List.{length-map}
 use Rattle.std.proofs.lemmas.Option.{slice_get-map}
-use Rattle.inst_logic.specs.Tree.{Tree}
 use Rattle.inst_logic.specs.declared.signed.Signed.{Signed}
-use Rattle.inst_logic.specs.WellFormed.{IsAtom, is_constant}
-use Rattle.inst_calculus.specs.Steps.{Step, EndsEmpty}
-use Rattle.inst_calculus.proofs.Membership.{◌∈◌, all_in, in_all}
-use Rattle.term_bank.specs.Forest.{Forest, AreFormed, Extends, IsClauseOf, clause_at, tree_at}
-use Rattle.term_bank.proofs.Clauses.{clause_extends}
+use Rattle.inst_logic.specs.WellFormed.{is_constant}
+use Rattle.inst_calculus.specs.Steps.{EndsEmpty}
+use Rattle.inst_calculus.proofs.Membership.{all_in, in_all}
+use Rattle.term_bank.specs.Forest.{Forest, AreFormed, Extends, IsClauseOf, clause_at}
 use Rattle.term_bank.proofs.Growth.{extends_trans}
 use Rattle.cert_format.specs.Certificate as format
 use Rattle.cert_format.specs.Validity.{IsRightAxiom, IsRightMember, IsRightGround, RefutationPasses, IsFirstComplaint, IsValidRefutation, Precedes}
 use Rattle.cert_format.specs.declared.complaint.Complaint.{Complaint}
 use Rattle.cert_format.specs.declared.complaint.Complaint.TheVariants.{Axiom, Member as Derived, Bot, Ground, Step as Shown, NotEmpty, Place, Input, Pair}
 use Rattle.saturation_cert.specs.declared.certificate.Base.{Base}
-use Rattle.saturation_cert.specs.declared.member.Member.{Member}
 use Rattle.saturation_cert.specs.declared.certificate.GroundStep.{GroundStep}
 use Rattle.saturation_cert.specs.declared.certificate.Refutation.{Refutation}
 use Rattle.saturation_cert.specs.Values.{refutation_of, step_of}

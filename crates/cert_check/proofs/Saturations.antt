@@ -6,7 +6,7 @@ use Rattle.inst_logic.specs.Tree.{Tree}
 use Rattle.inst_logic.specs.WellFormed.{atom_is_formed, clause_is_formed, AreFormedClauses, IsAtom}
 use Rattle.inst_calculus.specs.Entries.{Entry, entry_clauses}
 use Rattle.saturation_cert.specs.Truths.{literal_at}
-use Rattle.inst_calculus.proofs.Membership.{all_in, in_all, from_map, all_pass}
+use Rattle.inst_calculus.proofs.Membership.{all_in, from_map, all_pass}
 use Rattle.term_bank.specs.Forest.{Forest, AreFormed, Extends, clause_at, tree_at}
 use Rattle.cert_format.specs.Certificate as format
 use Rattle.cert_format.specs.Validity.{IsRightPlace, IsRightInput, IsRightPair, SaturationPasses, IsFirstComplaint, IsValidSaturation, Precedes}

@@ -1,5 +1,5 @@
 -- A step over ids is right exactly where its trees are.
-use Rattle.std.proofs.Common.{◌≡◌, ◌≢◌, ℕ, zero, suc, ◌-◌, ◌<◌, List, [], ◌∷◌, refl, ap, ap₂, sym, ◌∙◌, map, take, subst, arith, inl, inr, length, Option, None, Some}
+use Rattle.std.proofs.Common.{◌≡◌, ◌≢◌, ℕ, zero, suc, ◌-◌, ◌<◌, List, [], ◌∷◌, refl, ap, ap₂, sym, ◌∙◌, map, take, subst, arith, length, Option, None, Some}
 use Rattle.std.specs.Prelude.{All, slice_get, option_map, ◌↔◌}
 use Rattle.std.proofs.lemmas.Option.{slice_get-map}
 use Rattle.inst_logic.specs.Tree.{Tree}

@@ -2,7 +2,6 @@
 use Rattle.std.proofs.Common.{◌≡◌, ℕ, ◌+◌, ◌*◌, ◌<◌, ◌≤◌, Bool, true, false, cond, List, [], ◌∷◌, ◌++◌, refl, ap, ap₂, sym, ◌∙◌, map, fold, length, arith, subst, None, Some, inl, inr, ◌⊎◌}
 use Rattle.std.specs.Prelude.{All, Contains, nat_eq, ◌||◌}
 use Rattle.std.specs.List.{list_any}
-use Rattle.std.proofs.lemmas.Bool.Decides.{Decides-eqb}
 use Rattle.std.proofs.lemmas.List.Sums.{fold-append}
 use Rattle.indexmap.proofs.CallerLemmas.{Contains-list_any, Contains-insert_key}
 use Rattle.indexmap.specs.IndexSet.{insert_key}
@@ -12,7 +11,7 @@ use Rattle.inst_logic.specs.Equal.{sym_eq}
 use Rattle.inst_logic.specs.EqualLaws.{sym_eq_decides}
 use Rattle.inst_logic.specs.Lists.{with_item}
 use Rattle.inst_logic.specs.Measure.{tree_size, trees_size}
-use Rattle.inst_logic.specs.Tree.{Tree, var, app, Trees, none, more, of_list, to_list}
+use Rattle.inst_logic.specs.Tree.{Tree, var, app, of_list}
 use Rattle.inst_calculus.specs.Axioms.{tree_symbols, trees_symbols, clause_symbols, occurrences, symbols_of}
 use Rattle.inst_logic.proofs.Distinct.{distinct_append}
 use Rattle.inst_calculus.proofs.Membership.{◌∈◌, all_in, in_all, contains_in, in_contains, in_left, in_either}
