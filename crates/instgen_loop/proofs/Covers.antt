@@ -1,5 +1,5 @@
 -- What the index of first literals finds.
-use Rattle.std.proofs.Common.{◌≡◌, ◌↔◌, ℕ, zero, suc, ◌<◌, ◌-◌, List, [], ◌∷◌, ◌⊎◌, inl, inr, refl, sym, ap, ◌∙◌, subst as transport, length, arith, All, Contains, Bool, true, false, Some, IsTrue, nat_eq, Decides, ◌||◌}
+use Rattle.std.proofs.Common.{◌≡◌, ◌↔◌, ℕ, zero, suc, ◌<◌, ◌≤◌, ◌-◌, List, [], ◌∷◌, ◌⊎◌, inl, inr, refl, sym, ap, ◌∙◌, subst as transport, length, arith, All, Contains, Bool, true, false, Some, IsTrue, nat_eq, Decides, ◌||◌}
 use Rattle.std.specs.Prelude.{slice_get}
 use Rattle.std.specs.Option.{is_some}
 use Rattle.std.specs.Map.{lookup, keys_of}
@@ -80,17 +80,17 @@ first_matches f m rest d (s, part) =
 abbrev pub IsPast : Forest → List Pair → List Item → List (Signed ℕ) → ℕ → Signed ℕ → Type 0
 IsPast f pairs es d len l = (p : Pair) → Contains pairs p → Matches (tree_at f p.0) (tree_at f l.atom) → ¬ IsShorterPart f es d len p.1
 
-pub none_is_shorter : (f : Forest) (pairs : List Pair) (has_empty : Bool) (es : List Item) (d : List (Signed ℕ)) (len : ℕ) → AreFirsts pairs has_empty es → has_empty ≡ false
-    → All (IsPast f pairs es d len) d → ¬ HasShorterPart f es d len
-none_is_shorter f pairs has_empty es d len firsts no_empty passed (zero, s) = cc (s.item_at)
-none_is_shorter f pairs has_empty es d len firsts no_empty passed (suc i, s) = go s.item.0 refl
+pub none_is_shorter : (f : Forest) (pairs : List Pair) (has_empty : Bool) (longest : ℕ) (es : List Item) (d : List (Signed ℕ)) (len : ℕ) → AreFirsts pairs has_empty longest es → len ≤ longest
+    → has_empty ≡ false → All (IsPast f pairs es d len) d → ¬ HasShorterPart f es d len
+none_is_shorter f pairs has_empty longest es d len firsts within no_empty passed (zero, s) = cc (s.item_at)
+none_is_shorter f pairs has_empty longest es d len firsts within no_empty passed (suc i, s) = go s.item.0 refl
   where
     go : (c : List (Signed ℕ)) → s.item.0 ≡ c → ⊥
     go [] e = let t = firsts.flagged i s.item s.item_at e in cc
     go (m ∷ rest) e =
         let (l, j, h) = first_matches f m rest d (transport (λ x. Subsumes (clause_at f x) (clause_at f d)) e s.within) in
         all_in (IsPast f pairs es d len) d passed l j
-        (m.atom, suc i) (firsts.first i s.item m s.item_at (ap (λ x. slice_get x 0) e)) h s
+        (m.atom, suc i) (firsts.first i s.item m s.item_at (ap (λ x. slice_get x 0) e) (let k = s.shorter in omega arith)) h s
 
 -- Covered
 
@@ -101,8 +101,8 @@ module _ (f : Forest) (es : List Item) (d : List (Signed ℕ)) (c : TreeClause) 
   item_in : (e : Item) → Contains es e → Contains (clauses_in f es) (clause_at f e.0)
   item_in e h = in_contains (clause_at f e.0) (clauses_in f es) (in_map (λ (x : Item). clause_at f x.0) e es (contains_in e es h))
 
-  pub covered_by_empty : (pairs : List Pair) → AreFirsts pairs true es → 0 < length c → Covered
-  covered_by_empty pairs firsts l =
+  pub covered_by_empty : (pairs : List Pair) (longest : ℕ) → AreFirsts pairs true longest es → 0 < length c → Covered
+  covered_by_empty pairs longest firsts l =
       let (i, e, at, none) = firsts.empty refl in
       let q : clause_at f e.0 ≡ [] = ap (clause_at f) none in
       shorter (clause_at f e.0) (item_in e (slice_get_contains es i e at)) (let m : length (clause_at f e.0) ≡ 0 = ap length q in omega arith)

@@ -1,5 +1,5 @@
 -- Decisions of what was held back, and how they stay where a run reads.
-use Rattle.std.proofs.Common.{◌≡◌, ◌≢◌, ◌⊎◌, ℕ, zero, suc, ◌+◌, ◌-◌, ◌^◌, ◌≤◌, ◌<◌, List, [], ◌∷◌, ◌++◌, refl, sym, ap, ◌∙◌, subst as transport, map, take, length, min, arith, All, Contains, Option, Some, None, inl, inr}
+use Rattle.std.proofs.Common.{◌≡◌, ◌⊎◌, ℕ, zero, suc, ◌-◌, ◌^◌, ◌≤◌, ◌<◌, List, [], ◌∷◌, ◌++◌, refl, sym, ap, ◌∙◌, subst as transport, take, length, min, arith, All, Contains, Option, Some, None, inl, inr}
 use Rattle.std.specs.Prelude.{slice_get}
 use Rattle.std.proofs.lemmas.List.Elements.{All-push}
 use Rattle.inst_logic.specs.declared.signed.Signed.{Signed}
@@ -21,15 +21,13 @@ use Rattle.engine_laws.specs.Pairs.{Held, IsStillSelected, IsCoveredNow, IsDecid
 use Rattle.term_bank.specs.Forest.{Forest, IsClauseOf, clause_at, tree_at}
 use Rattle.term_bank.proofs.Growth.{extends_trans}
 use Rattle.saturation_cert.specs.Values.{origin_of}
-use Rattle.unify_core.specs.Bindings.{Bound_list}
 use Rattle.unify_core.specs.Sides.{IsResolvedBy}
 use Rattle.unify_core.specs.declared.side.Side.TheVariants.{Left}
 use Rattle.instgen_loop.specs.declared.state.Run.{Run}
-use Rattle.instgen_loop.specs.declared.state.Held as code
 use Rattle.instgen_loop.specs.Clauses.{Item, AreEntries, entries_in, clauses_in}
-use Rattle.instgen_loop.specs.Loops.{items, held_in, held_of, IsSelectedAtom, IsLiteralPlace}
-use Rattle.instgen_loop.specs.Running.{entries_of, Reads, MayInfer, AreOpposite}
-use Rattle.instgen_loop.specs.Deciding.{IsOpenHeld, IsLeastOpen, IsDecision, IsOneDecision, IsCoveredOrSize, IsLesser, IsSomeConclusion}
+use Rattle.instgen_loop.specs.Loops.{items, held_of, IsSelectedAtom, IsLiteralPlace}
+use Rattle.instgen_loop.specs.Running.{entries_of, Reads, MayInfer}
+use Rattle.instgen_loop.specs.Deciding.{IsOpenHeld, IsDecision, IsOneDecision, IsCoveredOrSize, IsLesser, IsSomeConclusion}
 use Rattle.instgen_loop.proofs.Grown.{entries_stay}
 use Rattle.instgen_loop.proofs.Selected.{place_positive}
 use Rattle.instgen_loop.proofs.Works.{at_number_map}

@@ -1,17 +1,13 @@
 -- A run at rest that decided what was held back.
-use Rattle.std.proofs.Common.{◌≡◌, ℕ, ◌≤◌, List, [], refl, sym, ap, ◌∙◌, subst as transport, length, All, Option, None, Some, true}
-use Rattle.std.specs.Prelude.{IsFalse}
+use Rattle.std.proofs.Common.{◌≡◌, ℕ, List, [], refl, sym, ap, ◌∙◌, subst as transport, length, All, Option, None, Some}
 use Rattle.std.proofs.lemmas.List.Elements.{All-nil}
 use Rattle.inst_logic.specs.declared.signed.Signed.{Signed}
 use Rattle.inst_logic.specs.Clauses.{TreeClause}
-use Rattle.inst_logic.specs.Measure.{is_function_free}
-use Rattle.inst_calculus.specs.Axioms.{with_axioms}
 use Rattle.inst_calculus.specs.Entries.{Entry}
 use Rattle.inst_calculus.proofs.Membership.{all_in, in_all}
 use Rattle.engine_laws.specs.Pairs.{AreWorked, IsHeldBack}
 use Rattle.term_bank.specs.Forest.{Forest, IsClauseOf}
 use Rattle.term_index.specs.Pairs.{Pair}
-use Rattle.instgen_loop.specs.declared.event.Event.{Event}
 use Rattle.instgen_loop.specs.declared.start.Given.{Given}
 use Rattle.instgen_loop.specs.declared.state.Run.{Run}
 use Rattle.instgen_loop.specs.declared.state.Held as code
@@ -20,11 +16,10 @@ use Rattle.instgen_loop.specs.Clauses.{Item, entries_in}
 use Rattle.instgen_loop.specs.Deciding.{IsSomeConclusion}
 use Rattle.instgen_loop.specs.Ending.{IsAtRest}
 use Rattle.instgen_loop.specs.Loops.{items, held_in, held_of, IsSafe}
-use Rattle.instgen_loop.specs.Outcomes.{appended_count}
-use Rattle.instgen_loop.specs.Running.{entries_of, IsRunning, IsSolvedFor, Reads}
+use Rattle.instgen_loop.specs.Running.{entries_of, IsSolvedFor, Reads}
 use Rattle.instgen_loop.specs.Starting.{IsOfProblem}
 use Rattle.instgen_loop.specs.Tended.{AreTended, indexed_of}
-use Rattle.instgen_loop.proofs.FreshRuns.{problem_later, appended_within}
+use Rattle.instgen_loop.proofs.FreshRuns.{problem_later}
 use Rattle.instgen_loop.proofs.Grown.{entries_stay}
 use Rattle.instgen_loop.proofs.Runs.{running_read}
 

@@ -1,12 +1,11 @@
 -- What a run at rest hands over: a saturation, or what the budget left open.
-use Rattle.std.proofs.Common.{◌≡◌, ℕ, zero, suc, ◌<◌, List, [], ◌∷◌, refl, sym, ap, ◌∙◌, subst as transport, map, length, arith, All, Contains, true, Some}
+use Rattle.std.proofs.Common.{◌≡◌, ℕ, List, [], refl, sym, ap, ◌∙◌, subst as transport, map, length, arith, All, Contains, true}
 use Rattle.std.specs.Prelude.{IsTrue, slice_get}
 use Rattle.inst_logic.specs.declared.symbol.Sym.{Sym}
 use Rattle.inst_logic.specs.declared.signed.Signed.{Signed}
 use Rattle.inst_logic.specs.Tree.{Tree}
 use Rattle.inst_logic.specs.Equal.{literal_eq}
 use Rattle.inst_logic.specs.Clauses.{TreeClause}
-use Rattle.inst_logic.specs.Derivations.{at_number}
 use Rattle.inst_logic.specs.Printing.{is_readable_name}
 use Rattle.inst_logic.specs.Substitution.{subst_literal}
 use Rattle.inst_logic.specs.Truth.{IsTrueLiteral, IsTrueClause}
@@ -16,20 +15,19 @@ use Rattle.inst_logic.proofs.ShownLaws.{at_number_contains}
 use Rattle.inst_calculus.specs.Abstraction.{abstraction, abstract_literals, grounding}
 use Rattle.inst_calculus.specs.Axioms.{equality_axioms, with_axioms}
 use Rattle.inst_calculus.specs.Entries.{Entry}
-use Rattle.inst_calculus.specs.Models.{Member}
 use Rattle.inst_calculus.proofs.Distinct.{in_distinct, length_map}
 use Rattle.inst_calculus.proofs.Items.{same_item, slice_get_below}
-use Rattle.inst_calculus.proofs.Membership.{◌∈◌, contains_in, in_contains, in_map, in_all, in_any}
+use Rattle.inst_calculus.proofs.Membership.{◌∈◌, contains_in, in_map, in_all, in_any}
 use Rattle.inst_machine.specs.Machine.{State, IsTrueIn, IsSettled}
 use Rattle.inst_machine.specs.Replay.{IsSelection}
 use Rattle.cert_format.specs.Certificate as format
 use Rattle.cert_format.specs.Printable.{IsPrintableClause, IsPrintableSaturation}
 use Rattle.cert_format.specs.Validity.{IsValidSaturation}
 use Rattle.cert_format.proofs.Numbers.{in_slice_get}
-use Rattle.engine_laws.specs.Places.{IsPlaced, ArePlacedTrue}
+use Rattle.engine_laws.specs.Places.{ArePlacedTrue}
 use Rattle.engine_laws.specs.Pairs.{IsDecided}
 use Rattle.engine_laws.proofs.SelectedEntries.{selection}
-use Rattle.term_bank.specs.Forest.{Forest, clause_at}
+use Rattle.term_bank.specs.Forest.{Forest}
 use Rattle.term_index.specs.Pairs.{Pair}
 use Rattle.saturation_cert.specs.declared.certificate.Saturation.{Saturation}
 use Rattle.saturation_cert.specs.Values.{entry_of, saturation_of}
@@ -41,7 +39,7 @@ use Rattle.instgen_loop.specs.Ending.{IsAtRest, saturation_from}
 use Rattle.instgen_loop.specs.Loops.{items, held_of}
 use Rattle.instgen_loop.specs.Outcomes.{IsSelectedRun, IsSaturatedRun}
 use Rattle.instgen_loop.specs.Refuting.{member_of}
-use Rattle.instgen_loop.specs.Running.{entries_of, state_of, event_in, IsRunning, IsSolvedFor, saturation_at}
+use Rattle.instgen_loop.specs.Running.{entries_of, state_of, IsRunning, IsSolvedFor, saturation_at}
 use Rattle.instgen_loop.specs.Starting.{IsOfProblem}
 use Rattle.instgen_loop.proofs.PrintedEntries.{entries_printable}
 use Rattle.instgen_loop.proofs.Printed.{all_formed, axiom_printable}

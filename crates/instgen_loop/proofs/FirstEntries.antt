@@ -1,5 +1,5 @@
 -- The first entries, one after the other, and what holds when all were made.
-use Rattle.std.proofs.Common.{◌≡◌, ◌⊎◌, inl, inr, ℕ, zero, suc, ◌+◌, ◌<◌, List, [], ◌∷◌, ◌++◌, refl, sym, ap, ap₂, ◌∙◌, subst as transport, map, take, get_or, length, length-append, append_assoc, arith, All, Contains, Bool, true, false}
+use Rattle.std.proofs.Common.{◌≡◌, ◌⊎◌, inl, inr, ℕ, zero, suc, ◌+◌, ◌<◌, ◌≤◌, List, [], ◌∷◌, ◌++◌, refl, sym, ap, ap₂, ◌∙◌, subst as transport, map, take, get_or, length, length-append, append_assoc, arith, All, Contains, Bool, true, false}
 use Rattle.std.proofs.lemmas.List.{take_more, length-take-le}
 use Rattle.std.proofs.lemmas.List.Folds.{list_all_at, list_all-append}
 use Rattle.std.proofs.lemmas.List.Elements.{All-push}
@@ -152,10 +152,17 @@ taken_count f cs xs before i k b within e =
 pub whole_item : (f : Forest) (xs : List (List (Signed ℕ))) (i : ℕ) (d : List (Signed ℕ)) → All (IsWholeClause f) xs → i < length xs → d ≡ get_or xs i d → IsWholeClause f d
 whole_item f xs i d h within is = transport (IsWholeClause f) (sym is) (h i d within)
 
+pub bounded_item : (xs : List (List (Signed ℕ))) (i : ℕ) (d : List (Signed ℕ)) (n : ℕ) → All (λ c. length c ≤ n) xs → i < length xs → d ≡ get_or xs i d → length d ≤ n
+bounded_item xs i d n h within is = transport (λ (c : List (Signed ℕ)). length c ≤ n) (sym is) (h i d within)
+
 pub canonical_item : (f : Forest) (xs : List (List (Signed ℕ))) (i : ℕ) (d : List (Signed ℕ)) → All IsCanonical (map (clause_at f) xs) → i < length xs → d ≡ get_or xs i d → IsCanonical (clause_at f d)
 canonical_item f xs i d h within is =
     transport (λ (x : List (Signed ℕ)). IsCanonical (clause_at f x)) (sym is)
     (all_in IsCanonical (map (clause_at f) xs) h (clause_at f (get_or xs i d)) (in_map (clause_at f) (get_or xs i d) xs (item_in xs i d within)))
+
+-- what bounds the lengths may be greater
+pub bounds_grow : (cs : List (List (Signed ℕ))) (m n : ℕ) → m ≤ n → All (λ c. length c ≤ m) cs → All (λ c. length c ≤ n) cs
+bounds_grow cs m n l h = in_all (λ (c : List (Signed ℕ)). length c ≤ n) cs (λ c i. let k : length c ≤ m = all_in (λ (d : List (Signed ℕ)). length d ≤ m) cs h c i in omega arith)
 
 -- the axioms of well-formed clauses are so
 pub axioms_formed : (cs : List TreeClause) → AreFormedClauses cs → AreFormedClauses (equality_axioms cs)

@@ -33,7 +33,7 @@ use Rattle.instgen_loop.specs.Grounds.{IsUsed}
 use Rattle.instgen_loop.specs.Loops.{items, after, held_in, IsSafe}
 use Rattle.instgen_loop.specs.Running.{IsRunning, IsRunningFor, IsRunningWith, IsEventOf, event_in, entries_of, state_of}
 use Rattle.instgen_loop.specs.Selections.{Placing}
-use Rattle.instgen_loop.specs.FirstEntries.{Continues, IsStarted}
+use Rattle.instgen_loop.specs.FirstEntries.{IsStarted}
 use Rattle.instgen_loop.specs.Starting.{IsFresh, IsAllowed, IsOfProblem}
 use Rattle.instgen_loop.specs.declared.start.Given.{Given}
 use Rattle.instgen_loop.proofs.FirstEntries.{given_grown}
@@ -41,9 +41,9 @@ use Rattle.instgen_loop.specs.Outcomes.{appended_count}
 use Rattle.instgen_loop.proofs.Bounded.{appended_bounded}
 
 module _ {S I C : Type 0} (atoms : S → ℕ) (added : S → List (List (Signed ℕ))) (pairs : I → List Pair) where
-  -- the bank does not matter
-  pub fresh_interned : (r : Run S I C) (g : Forest) → AreFormed g → IsFresh atoms added pairs r → IsFresh atoms added pairs (record r { entries = record r.entries { bank = g } })
-  fresh_interned r g formed h = record {
+  -- the bank and the bound of lengths do not matter
+  pub fresh_interned : (r : Run S I C) (g : Forest) (n : ℕ) → AreFormed g → IsFresh atoms added pairs r → IsFresh atoms added pairs (record r { entries = record r.entries { bank = g; longest = n } })
+  fresh_interned r g n formed h = record {
     bank = formed;
     entries = h.entries;
     first = h.first;
@@ -78,8 +78,9 @@ module _ {S I C : Type 0} (atoms : S → ℕ) (added : S → List (List (Signed 
       atoms = All-nil (λ (e : Item). All (λ l. IsAtom (tree_at r.entries.bank l.atom)) e.0);
       canonical = All-nil (λ (e : Item). IsCanonical (clause_at r.entries.bank e.0));
     });
-    firsts = transport (AreFirsts (pairs r.entries.first) r.entries.has_empty) (sym h.entries) (record {
-      first = λ i e l p q. let m = slice_get_below [] i e p in absurd (omega arith);
+    firsts = transport (AreFirsts (pairs r.entries.first) r.entries.has_empty r.entries.longest) (sym h.entries) (record {
+      bounded = λ i e p. let m = slice_get_below [] i e p in absurd (omega arith);
+      first = λ i e l p q k. let m = slice_get_below [] i e p in absurd (omega arith);
       flagged = λ i e p q. let m = slice_get_below [] i e p in absurd (omega arith);
       below = λ p i. absurd (contains_in p [] (transport (λ ps. Contains ps p) h.first i));
       empty = λ t. let e : false ≡ true = sym h.has_empty ∙ t in absurd cc;
@@ -166,9 +167,9 @@ started_runs atoms added r clauses budget h allowed = record {
     first = known r clauses budget allowed (is_function_free clauses) refl
 
 pub starts_with : {S I C : Type 0} (atoms : S → ℕ) (added : S → List (List (Signed ℕ))) (old r : Run S I C) (clauses : List TreeClause) (budget : ℕ) → IsStarted atoms added r (with_axioms clauses)
-    → IsAllowed old clauses budget → Continues old r → IsRunningWith atoms added r r.ground.abstraction.bot (with_axioms clauses) budget
-starts_with atoms added old r clauses budget h allowed k =
-    ([], false, started_runs atoms added r clauses budget h (record { free = λ e. k.left ∙ allowed.free e; budgeted = λ e. k.left ∙ allowed.budgeted e; light = allowed.light }))
+    → IsAllowed old clauses budget → r.left ≡ old.left → IsRunningWith atoms added r r.ground.abstraction.bot (with_axioms clauses) budget
+starts_with atoms added old r clauses budget h allowed same =
+    ([], false, started_runs atoms added r clauses budget h (record { free = λ e. same ∙ allowed.free e; budgeted = λ e. same ∙ allowed.budgeted e; light = allowed.light }))
 
 -- What stays of the problem
 

@@ -1,11 +1,11 @@
 -- Conclusions as entries.
-use Rattle.std.proofs.Common.{◌≡◌, ℕ, List, [], ◌∷◌, ◌++◌, inl, inr, refl, sym, ap, ◌∙◌, subst as transport, length, length-append, append-nil, ◌+◌, arith, All, Contains, Option, Some}
+use Rattle.std.proofs.Common.{◌≡◌, ℕ, zero, suc, ◌≤◌, List, [], ◌∷◌, ◌++◌, inl, inr, refl, sym, ap, ◌∙◌, subst as transport, length, length-append, append-nil, ◌+◌, arith, All, Contains, Bool, Option, Some}
 use Rattle.inst_logic.specs.declared.signed.Signed.{Signed}
 use Rattle.inst_logic.specs.Tree.{Tree}
 use Rattle.inst_logic.specs.Derivations.{at_number}
 use Rattle.inst_logic.specs.declared.symbol.Sym.{Sym}
 use Rattle.inst_logic.specs.Substitution.{Substitution, subst}
-use Rattle.inst_logic.specs.Clauses.{TreeClause, instance, canonical_form, IsCanonical}
+use Rattle.inst_logic.specs.Clauses.{TreeClause, instance, canonical_form, order_of, numbered, IsCanonical}
 use Rattle.inst_logic.specs.WellFormed.{IsAtom, IsTerm, atom_is_formed, IsFormedClause}
 use Rattle.inst_logic.specs.Unifiers.{Sided}
 use Rattle.inst_logic.proofs.SameLemmas.{and_both}
@@ -16,6 +16,7 @@ use Rattle.inst_calculus.specs.Entries.{Entry, entry_clauses}
 use Rattle.inst_calculus.specs.Models.{Member}
 use Rattle.inst_calculus.specs.Saturation.{IsCovered, variant}
 use Rattle.inst_calculus.proofs.Membership.{◌∈◌, contains_in, in_contains, in_all, all_in, in_map, in_right, passes}
+use Rattle.inst_calculus.proofs.Clauses.{length_instance}
 use Rattle.inst_calculus.proofs.Instances.{instance_is_formed}
 use Rattle.inst_calculus.proofs.Unify.{most_general_formed}
 use Rattle.inst_calculus.proofs.CanonicalForms.{canonical_of_canonical}
@@ -36,7 +37,7 @@ use Rattle.inst_calculus.proofs.Items.{same_item}
 use Rattle.term_index.specs.Pairs.{Pair}
 use Rattle.ground_abs.specs.Abstracts.{AreNotesIn}
 use Rattle.instgen_loop.specs.declared.state.Run.{Run}
-use Rattle.instgen_loop.specs.Clauses.{Item, AreEntries, entries_in, clauses_in}
+use Rattle.instgen_loop.specs.Clauses.{Item, AreEntries, AreFirsts, entries_in, clauses_in}
 use Rattle.instgen_loop.specs.Loops.{items, IsSafe, IsUnified, IsSideWorked, Goes, Appends}
 use Rattle.term_bank.proofs.Growth.{at_extends, ids_extend, map_extends}
 use Rattle.term_bank.proofs.Clauses.{clause_extends}
@@ -85,6 +86,26 @@ pub made_canonical : (f g : Forest) (es : List Binding) (side : Side) (c : TreeC
 made_canonical f g es side c d h made =
     let q = made h.unifier h.resolved in
     transport IsCanonical (sym q) (canonical_of_canonical (instance (of_side h.unifier side) c))
+
+pub length_at : (f : Forest) (c : List (Signed ℕ)) → length (clause_at f c) ≡ length c
+length_at f c = length_map (λ (l : Signed ℕ). record { positive = l.positive; atom = tree_at f l.atom }) c
+
+-- a conclusion has no more literals than its premise
+pub made_shorter : (f g : Forest) (es : List Binding) (side : Side) (c d : List (Signed ℕ)) → IsUnified f es
+    → ((s : Sided) → IsResolvedBy f es s → clause_at g d ≡ canonical_form (instance (of_side s side) (clause_at f c))) → length d ≤ length c
+made_shorter f g es side c d h made =
+    let x = instance (of_side h.unifier side) (clause_at f c) in
+    let q : length (clause_at g d) ≡ length (canonical_form x) = ap length (made h.unifier h.resolved) in
+    omega (arith, q, length_instance (numbered (order_of x)) x, length_instance (of_side h.unifier side) (clause_at f c), length_at g d, length_at f c)
+
+-- no entry has more literals than the longest
+pub premise_bounded : {pairs : List Pair} {has_empty : Bool} {longest : ℕ} {es : List Item} → AreFirsts pairs has_empty longest es → (n : ℕ) (e : Item) → at_number es n ≡ Some e → length e.0 ≤ longest
+premise_bounded h zero e at = absurd cc
+premise_bounded h (suc i) e at = h.bounded i e at
+
+-- entries keep their numbers
+pub item_later : {S I C : Type 0} (old new : Run S I C) (n : ℕ) (e : Item) → Goes old new → at_number (items old) n ≡ Some e → at_number (items new) n ≡ Some e
+item_later old new n e goes at = let (more, q) = goes.entries in ap (λ xs. at_number xs n) q ∙ at_number_append (items old) more n e at
 
 notes_stay : (f g : Forest) (bot : Sym) (notes : List (ℕ × ℕ)) → Extends f g → AreNotesIn f bot notes → AreNotesIn g bot notes
 notes_stay f g bot notes e h i r at =
@@ -150,6 +171,3 @@ clause_of_placed old new from e goes entries at m l =
     let k = at_number_map (λ (x : Item). record { clause = clause_at f x.0; origin = origin_of x.1 }) (items new) from e later in
     l.clause ∙ ap (λ (x : Entry). x.clause) (same_item (at_number (entries_in f (items new)) from) l.entry (record { clause = clause_at f e.0; origin = origin_of e.1 }) l.entry_at k)
     ∙ clause_extends old.entries.bank f goes.bank e.0 (all_in (λ (x : Item). IsClauseOf old.entries.bank x.0) (items old) entries.ids e (contains_in e (items old) (at_number_contains (items old) from e at)))
-
-pub length_at : (f : Forest) (c : List (Signed ℕ)) → length (clause_at f c) ≡ length c
-length_at f c = length_map (λ (l : Signed ℕ). record { positive = l.positive; atom = tree_at f l.atom }) c

@@ -1,5 +1,5 @@
 -- A run whose abstractions are refuted gives a refutation.
-use Rattle.std.proofs.Common.{◌≡◌, ◌⊎◌, inl, inr, ℕ, ◌-◌, ◌<◌, List, [], ◌∷◌, refl, sym, ap, ap₂, ◌∙◌, subst as transport, map, take, length, get_or, arith, nat_eq, Bool, true, All, Contains, Some}
+use Rattle.std.proofs.Common.{◌≡◌, ◌⊎◌, inl, inr, ℕ, ◌-◌, ◌<◌, List, [], ◌∷◌, refl, sym, ap, ap₂, ◌∙◌, subst as transport, map, take, length, get_or, arith, nat_eq, Bool, All, Contains, Some}
 use Rattle.std.specs.Prelude.{slice_get, option_map, IsTrue, ◌≢◌}
 use Rattle.std.proofs.lemmas.Bool.Decides.{Decides-eqb}
 use Rattle.std.proofs.lemmas.List.{get_or-map, take-map}
@@ -11,26 +11,24 @@ use Rattle.inst_logic.specs.Signed.{IsTautology}
 use Rattle.inst_logic.specs.Tree.{Tree, var}
 use Rattle.inst_logic.specs.Equal.{literal_eq, signed_eq}
 use Rattle.inst_logic.specs.Lists.{distinct}
-use Rattle.inst_logic.specs.Clauses.{TreeClause, IsCanonical}
+use Rattle.inst_logic.specs.Clauses.{TreeClause}
 use Rattle.inst_logic.specs.Derivations.{at_number, IsShown}
 use Rattle.inst_logic.specs.Printing.{is_readable_name}
-use Rattle.inst_logic.specs.WellFormed.{IsAtom, atom_is_formed}
+use Rattle.inst_logic.specs.WellFormed.{IsAtom}
 use Rattle.inst_logic.specs.Substitution.{tree_vars}
 use Rattle.inst_logic.proofs.SameLemmas.{signed_eq_decides, literal_eq_decides}
 use Rattle.inst_logic.proofs.Numbering.{map_map}
 use Rattle.inst_logic.proofs.Membership.{get_or_in}
 use Rattle.inst_calculus.specs.Abstraction.{abstraction, abstract_literals, named_literal}
-use Rattle.inst_calculus.specs.Axioms.{clause_symbols, tree_symbols, occurrences, equality_axioms, with_axioms}
-use Rattle.inst_calculus.specs.Entries.{Entry, entry_clauses}
+use Rattle.inst_calculus.specs.Axioms.{clause_symbols, tree_symbols, equality_axioms, with_axioms}
 use Rattle.inst_calculus.specs.Steps.{Cited, given, earlier, Step, cited_clause, IsShownFrom, EndsEmpty, renamed_literal, renamed_clause, renamed_step, without_repeats, HasAtomsBelow}
-use Rattle.inst_calculus.proofs.Membership.{◌∈◌, contains_in, in_contains, in_map, from_map, all_in, in_all, all_pass}
+use Rattle.inst_calculus.proofs.Membership.{◌∈◌, contains_in, in_map, from_map, all_in, in_all}
 use Rattle.inst_calculus.proofs.Distinct.{length_map, distinct_map, from_distinct, distinct_is_distinct}
 use Rattle.inst_calculus.proofs.NumberedAbstractions.{abstracted_formed, abstracted_ground}
 use Rattle.inst_calculus.proofs.KeptSymbols.{symbols_with_repeats}
 use Rattle.inst_calculus.proofs.Symbols.{symbol_of_literal}
 use Rattle.inst_calculus.proofs.StepLaws.{shown_when_renamed_below}
 use Rattle.inst_calculus.proofs.SameLiterals.{shown_without_repeats}
-use Rattle.inst_machine.proofs.Contents.{symbols_of_entries}
 use Rattle.inst_machine.proofs.Origins.{entries_are_given}
 use Rattle.prop_logic.specs.declared.literal.Hint.{Hint}
 use Rattle.prop_logic.specs.declared.literal.Hint.TheVariants as hint
@@ -63,7 +61,7 @@ use Rattle.instgen_loop.specs.Running.{entries_of, state_of, event_in, IsRunning
 use Rattle.instgen_loop.specs.Starting.{IsOfProblem}
 use Rattle.instgen_loop.proofs.Inferred.{same_clauses}
 use Rattle.instgen_loop.proofs.PrintedEntries as entries
-use Rattle.instgen_loop.proofs.Printed.{IsReadable, IsPlain, readable_by_symbols, name_is_readable, plain_printable, all_formed, all_symbols_readable, axiom_printable}
+use Rattle.instgen_loop.proofs.Printed.{IsReadable, IsPlain, name_is_readable, plain_printable, axiom_printable}
 
 -- Hints and steps as those of the calculus
 

@@ -1,6 +1,6 @@
 -- A run that ends for want of budget.
-use Rattle.std.proofs.Common.{◌≡◌, ◌⊎◌, inl, inr, ℕ, suc, ◌-◌, ◌^◌, ◌<◌, ◌≤◌, min, List, [], ◌∷◌, refl, sym, ap, ◌∙◌, subst as transport, map, length, arith, All, Contains, Bool, true, false, Some, None}
-use Rattle.std.specs.Prelude.{IsFalse, IsTrue}
+use Rattle.std.proofs.Common.{◌≡◌, ◌⊎◌, inl, inr, ℕ, ◌-◌, ◌^◌, ◌<◌, ◌≤◌, min, List, [], ◌∷◌, refl, sym, ap, ◌∙◌, subst as transport, map, length, arith, All, Contains, Bool, true, false, Some, None}
+use Rattle.std.specs.Prelude.{IsFalse}
 use Rattle.std.proofs.lemmas.Bool.{cases_lt}
 use Rattle.inst_logic.specs.declared.symbol.Sym.{Sym}
 use Rattle.inst_logic.specs.declared.signed.Signed.{Signed}
@@ -9,7 +9,6 @@ use Rattle.inst_logic.specs.Clauses.{TreeClause}
 use Rattle.inst_logic.specs.Measure.{clause_size, is_function_free}
 use Rattle.inst_calculus.specs.Axioms.{with_axioms}
 use Rattle.inst_calculus.specs.Conclusions.{IsConclusion}
-use Rattle.inst_calculus.specs.Entries.{Entry}
 use Rattle.inst_calculus.proofs.EqualityAxioms.{with_axioms_function_free}
 use Rattle.inst_calculus.proofs.Membership.{◌∈◌, contains_in, in_contains, in_all, all_in}
 use Rattle.inst_calculus.proofs.OneConclusion.{one_conclusion}
@@ -23,7 +22,6 @@ use Rattle.engine_laws.proofs.SelectedEntries.{open_is_among, still_is_open}
 use Rattle.term_bank.specs.Forest.{Forest}
 use Rattle.term_index.specs.Pairs.{Pair}
 use Rattle.saturation_cert.specs.declared.certificate.Saturation.{Saturation}
-use Rattle.saturation_cert.specs.Values.{saturation_of}
 use Rattle.instgen_loop.specs.declared.event.Event.{Event}
 use Rattle.instgen_loop.specs.declared.start.Given.{Given}
 use Rattle.instgen_loop.specs.declared.state.Run.{Run}
@@ -31,12 +29,12 @@ use Rattle.instgen_loop.specs.declared.state.Held as code
 use Rattle.instgen_loop.specs.declared.queue.Partners.{Partners}
 use Rattle.instgen_loop.specs.Deciding.{IsOpenHeld, IsLeastOpen}
 use Rattle.instgen_loop.specs.Ending.{IsAtRest, saturation_from}
-use Rattle.instgen_loop.specs.Loops.{items, held_in, held_of}
+use Rattle.instgen_loop.specs.Loops.{held_in, held_of}
 use Rattle.instgen_loop.specs.Outcomes.{IsStoppedRun}
-use Rattle.instgen_loop.specs.Running.{entries_of, state_of, event_in, IsRunning, IsSolvedFor, saturation_at}
+use Rattle.instgen_loop.specs.Running.{entries_of, state_of, event_in, IsRunning, IsSolvedFor}
 use Rattle.instgen_loop.specs.Starting.{IsOfProblem}
 use Rattle.instgen_loop.specs.Tended.{indexed_of}
-use Rattle.instgen_loop.proofs.Endings.{base, same, long, selected_run, own_constant}
+use Rattle.instgen_loop.proofs.Endings.{same, long, selected_run, own_constant}
 use Rattle.instgen_loop.proofs.Saturated.{all_indexed}
 
 -- The smallest of what is open

@@ -27,12 +27,14 @@ pub record MakesEntry {S I C : Type 0} (old new : Run S I C) (clause : List (Sig
   pub journal : new.journal ≡ old.journal
   pub left : new.left ≡ old.left
   pub bindings : new.bindings ≡ old.bindings
+  pub longest : new.entries.longest ≡ old.entries.longest
 
--- the bank may have grown, and the constant and what is left are the same
+-- the bank may have grown, and the constant, what is left and the bound of lengths are the same
 pub record Continues {S I C : Type 0} (old new : Run S I C) : Type 0 where
   pub bank : Extends old.entries.bank new.entries.bank
   pub bot : new.ground.abstraction.bot ≡ old.ground.abstraction.bot
   pub left : new.left ≡ old.left
+  pub longest : new.entries.longest ≡ old.entries.longest
 
 -- the entries are the first ones of the clauses, all of them wait, and nothing else happened yet
 pub record IsStarted {S I C : Type 0} (atoms : S → ℕ) (added : S → List (List (Signed ℕ))) (r : Run S I C) (cs : List TreeClause) : Type 0 where

@@ -1,5 +1,5 @@
 // The entries, and what finds those that may cover a conclusion.
-ghost use Rattle.std.specs.Prelude.{◌≡◌, ◌⊎◌, ◌<◌, ◌+◌, ◌++◌, ◌∷◌, [], ◌↔◌, ℕ, length, IsTrue, IfOk, OnOk, true, false, Contains};
+ghost use Rattle.std.specs.Prelude.{◌≡◌, ◌⊎◌, ◌<◌, ◌≤◌, ◌+◌, ◌++◌, ◌∷◌, [], ◌↔◌, ℕ, length, IsTrue, IfOk, OnOk, true, false, Contains};
 ghost use Rattle.inst_logic.specs.Substitution.{Matches};
 ghost use Rattle.inst_logic.specs.Clauses.{TreeClause, IsCanonical};
 ghost use Rattle.inst_calculus.specs.Saturation.{IsCovered};
@@ -17,17 +17,20 @@ use term_bank::{Bank, IdClause, TermId};
 use term_index::{PartnerIndex, View};
 
 /// The clauses of the entries with their origins, by their numbers, over one bank. An index has the first literal's atom of
-/// each, so that those with an instance within a conclusion are among the generalisations of its atoms. The empty clause is in no
-/// index and covers everything.
+/// each that has fewer literals than the longest, so that shorter ones with an instance within a conclusion are among the
+/// generalisations of its atoms. The longest are shorter than no conclusion's premise, and mostly they are the most. The empty
+/// clause is in no index and covers everything.
 #[derive(Drop)]
 pub struct Entries<I: PartnerIndex> {
     pub bank: Bank,
     pub clauses: IndexMap<IdClause, Origin>,
     pub first: I,
     pub has_empty: bool,
+    /// No entry has more literals.
+    pub longest: usize,
 }
 
-// Stores the first literal's atom of the clause under the number, where it has one.
+// Stores the first literal's atom of the clause under the number, where it has one and may be shorter than a premise.
 fn add_first<I: PartnerIndex>(
     entries: &mut Entries<I>,
     clause: &IdClause,
@@ -35,19 +38,27 @@ fn add_first<I: PartnerIndex>(
 ) -> Result<(), Memory>
     requires clause { IsClauseOf entries.old.bank clause.now }
     requires fits { I.fits entries.old.bank entries.old.first }
-    requires firsts { AreFirsts (I.pairs entries.old.first) entries.old.has_empty entries.old.clauses.entries }
+    requires firsts { AreFirsts (I.pairs entries.old.first) entries.old.has_empty entries.old.longest entries.old.clauses.entries }
     requires number { number ≡ length entries.old.clauses.entries + 1 }
-    ensures firsts { OnOk result ((origin : Origin) → AreFirsts (I.pairs entries.new.first) entries.new.has_empty (entries.old.clauses.entries ++ (clause.now, origin) ∷ [])) }
+    requires bounded { length clause.now ≤ entries.old.longest }
+    ensures firsts { OnOk result ((origin : Origin) → AreFirsts (I.pairs entries.new.first) entries.new.has_empty entries.new.longest (entries.old.clauses.entries ++ (clause.now, origin) ∷ [])) }
     ensures fits { OnOk result (I.fits entries.new.bank entries.new.first) }
     ensures bank { entries.new.bank ≡ entries.old.bank }
     ensures clauses { entries.new.clauses.entries ≡ entries.old.clauses.entries }
+    ensures longest { entries.new.longest ≡ entries.old.longest }
 {
     match clause.get(0) {
         None => {
             entries.has_empty = true;
             Ok(())
         }
-        Some(l) => entries.first.insert(&entries.bank, l.atom, number),
+        Some(l) => {
+            if clause.len() < entries.longest {
+                entries.first.insert(&entries.bank, l.atom, number)
+            } else {
+                Ok(())
+            }
+        }
     }
 }
 
@@ -59,9 +70,11 @@ pub fn push_entry<I: PartnerIndex>(
 ) -> Result<(), Memory>
     requires clause { IsClauseOf entries.old.bank clause }
     requires fits { I.fits entries.old.bank entries.old.first }
-    requires firsts { AreFirsts (I.pairs entries.old.first) entries.old.has_empty entries.old.clauses.entries }
+    requires firsts { AreFirsts (I.pairs entries.old.first) entries.old.has_empty entries.old.longest entries.old.clauses.entries }
+    requires bounded { length clause ≤ entries.old.longest }
     requires new { (e : Item) → Contains entries.old.clauses.entries e → ¬ (e.0 ≡ clause) }
-    ensures firsts { OnOk result (AreFirsts (I.pairs entries.new.first) entries.new.has_empty entries.new.clauses.entries) }
+    ensures firsts { OnOk result (AreFirsts (I.pairs entries.new.first) entries.new.has_empty entries.new.longest entries.new.clauses.entries) }
+    ensures longest { OnOk result (entries.new.longest ≡ entries.old.longest) }
     ensures fits { OnOk result (I.fits entries.new.bank entries.new.first) }
     ensures bank { OnOk result (entries.new.bank ≡ entries.old.bank) }
     ensures pushed { OnOk result (entries.new.clauses.entries ≡ entries.old.clauses.entries ++ (clause, origin) ∷ []) }
@@ -138,8 +151,9 @@ fn has_shorter<I: PartnerIndex>(
     len: usize,
 ) -> Result<bool, Memory>
     requires entries { AreEntries entries.now.bank entries.now.clauses.entries }
-    requires firsts { AreFirsts (I.pairs entries.now.first) entries.now.has_empty entries.now.clauses.entries }
+    requires firsts { AreFirsts (I.pairs entries.now.first) entries.now.has_empty entries.now.longest entries.now.clauses.entries }
     requires clause { IsClauseOf entries.now.bank d.now }
+    requires bounded { len ≤ entries.now.longest }
     requires fits { I.fits entries.now.bank entries.now.first }
     ensures yes { IfOk result (λ r. r ≡ true → HasShorterPart entries.now.bank entries.now.clauses.entries d.now len) }
     ensures no { IfOk result (λ r. r ≡ false → entries.now.has_empty ≡ false → ¬ HasShorterPart entries.now.bank entries.now.clauses.entries d.now len) }
@@ -160,8 +174,9 @@ pub fn is_covered<I: PartnerIndex>(
     len: usize,
 ) -> Result<bool, Memory>
     requires entries { AreEntries entries.now.bank entries.now.clauses.entries }
-    requires firsts { AreFirsts (I.pairs entries.now.first) entries.now.has_empty entries.now.clauses.entries }
+    requires firsts { AreFirsts (I.pairs entries.now.first) entries.now.has_empty entries.now.longest entries.now.clauses.entries }
     requires clause { IsClauseOf entries.now.bank d.now }
+    requires bounded { len ≤ entries.now.longest }
     requires canonical { IsCanonical (clause_at entries.now.bank d.now) }
     requires literal { 0 < len }
     requires fits { I.fits entries.now.bank entries.now.first }

@@ -14,7 +14,7 @@ ghost use Rattle.instgen_loop.specs.Running.{Reads, Holds, AppendsUncovered, May
 
 use crate::entries::is_covered;
 use crate::state::{Held, Run, append};
-use clause_form::conclude;
+use clause_form::conclude_clause;
 use inst_logic::Memory;
 use prop_logic::Solver;
 use saturation_cert::Origin;
@@ -136,8 +136,8 @@ pub fn conclusion_of<S: Solver, I: PartnerIndex>(
 {
     match run.entries.clauses.get_index(from - 1) {
         Some((clause, _)) => {
-            let made = conclude(alloc, &mut run.entries.bank, &run.bindings, side, clause)?;
-            Ok(made.clause)
+            let made = conclude_clause(alloc, &mut run.entries.bank, &run.bindings, side, clause)?;
+            Ok(made)
         }
         None => unreachable!(),
     }
@@ -181,6 +181,8 @@ fn append_uncovered<S: Solver, I: PartnerIndex>(
     requires whole { IsWholeClause run.old.entries.bank conclusion }
     requires canonical { IsCanonical (clause_at run.old.entries.bank conclusion) }
     requires literal { 0 < len }
+    requires bounded { length conclusion ≤ run.old.entries.longest }
+    requires premise { len ≤ run.old.entries.longest }
     requires fits { IfSome run.old.left (λ k. size ≤ k) }
     ensures safe { OnOk result (IsSafe S.atoms I.pairs I.fits run.new) }
     ensures goes { OnOk result (Goes run.old run.new) }

@@ -53,6 +53,7 @@ fn no_entries<I: PartnerIndex>(alloc: Global, first: I) -> Entries<I>
         clauses: IndexMap::new(alloc),
         first,
         has_empty: false,
+        longest: 0,
     }
 }
 
@@ -140,6 +141,7 @@ fn start_entry<S: Solver, I: PartnerIndex>(
     requires safe { IsSafe S.atoms I.pairs I.fits run.old }
     requires whole { IsWholeClause run.old.entries.bank clause.now }
     requires canonical { IsCanonical (clause_at run.old.entries.bank clause.now) }
+    requires bounded { length clause.now ≤ run.old.entries.longest }
     ensures safe { OnOk result (IsSafe S.atoms I.pairs I.fits run.new) }
     ensures continues { OnOk result (Continues run.old run.new) }
 
@@ -168,6 +170,7 @@ fn start_entries<S: Solver, I: PartnerIndex>(
     requires safe { IsSafe S.atoms I.pairs I.fits run.old }
     requires whole { All (IsWholeClause run.old.entries.bank) clauses.now }
     requires canonical { All IsCanonical (map (clause_at run.old.entries.bank) clauses.now) }
+    requires bounded { All (λ c. length c ≤ run.old.entries.longest) clauses.now }
     ensures safe { OnOk result (IsSafe S.atoms I.pairs I.fits run.new) }
     ensures continues { OnOk result (Continues run.old run.new) }
 
@@ -179,6 +182,14 @@ fn start_entries<S: Solver, I: PartnerIndex>(
         start_entry(alloc, run, c, k)?;
     }
     Ok(())
+}
+
+// The greater number.
+fn greater(m: usize, n: usize) -> usize
+    ensures first { m ≤ result }
+    ensures second { n ≤ result }
+{
+    if m < n { n } else { m }
 }
 
 // The problem's clauses and their axioms, in the bank.
@@ -202,6 +213,18 @@ fn given_in(alloc: Global, bank: &mut Bank, p: &Problem) -> Result<Given, Memory
     })
 }
 
+// The greatest number of literals that one of the clauses has, or `least` where that is more.
+fn longest(clauses: &IdClauseList, least: usize) -> usize
+    ensures least { least ≤ result }
+    ensures each { All (λ c. length c ≤ result) clauses.now }
+{
+    let mut longest = least;
+    for c in clauses.as_slice() {
+        longest = greater(longest, c.len());
+    }
+    longest
+}
+
 /// Gives a run its first entries, which all wait: the problem's clauses and then their axioms of equality, without tautologies and
 /// without variants of earlier entries. Their origins are the numbers of the clauses, counted from 1 over both lists.
 pub fn start<S: Solver, I: PartnerIndex>(
@@ -223,6 +246,8 @@ pub fn start<S: Solver, I: PartnerIndex>(
     ensures running { OnOk result (IsRunningWith S.atoms S.added run.new run.new.ground.abstraction.bot (with_axioms p.now.clauses) _budget) }
 {
     let given = given_in(alloc, &mut run.entries.bank, p)?;
+    let least = longest(&given.inputs, 0);
+    run.entries.longest = longest(&given.axioms, least);
     start_entries(alloc, run, &given.inputs, 0)?;
     start_entries(alloc, run, &given.axioms, given.inputs.len())?;
     Ok(given)

@@ -1,5 +1,5 @@
 // The state of the loop.
-ghost use Rattle.std.specs.Prelude.{◌≡◌, ◌++◌, ◌∷◌, [], List, Contains, OnOk};
+ghost use Rattle.std.specs.Prelude.{◌≡◌, ◌≤◌, ◌++◌, ◌∷◌, [], List, length, Contains, OnOk};
 ghost use Rattle.inst_logic.specs.declared.symbol.Sym.{Sym};
 ghost use Rattle.inst_logic.specs.Clauses.{TreeClause, IsCanonical};
 ghost use Rattle.term_bank.specs.Forest.{clause_at};
@@ -57,6 +57,7 @@ pub fn make_entry<S: Solver, I: PartnerIndex>(
     requires whole { IsWholeClause run.old.entries.bank clause }
     requires canonical { IsCanonical (clause_at run.old.entries.bank clause) }
     requires new { (e : Item) → Contains run.old.entries.clauses.entries e → ¬ (e.0 ≡ clause) }
+    requires bounded { length clause ≤ run.old.entries.longest }
     ensures safe { OnOk result (IsSafe S.atoms I.pairs I.fits run.new) }
     ensures makes { OnOk result (MakesEntry run.old run.new clause origin) }
     ensures linked { OnOk result (KeepsLink S.atoms S.added run.old run.new) }
@@ -79,6 +80,7 @@ pub fn append<S: Solver, I: PartnerIndex>(
     requires whole { IsWholeClause run.old.entries.bank clause }
     requires canonical { IsCanonical (clause_at run.old.entries.bank clause) }
     requires new { (e : Item) → Contains run.old.entries.clauses.entries e → ¬ (e.0 ≡ clause) }
+    requires bounded { length clause ≤ run.old.entries.longest }
     ensures safe { OnOk result (IsSafe S.atoms I.pairs I.fits run.new) }
     ensures appends { OnOk result (Appends run.old run.new clause origin) }
     ensures linked { OnOk result (KeepsLink S.atoms S.added run.old run.new) }

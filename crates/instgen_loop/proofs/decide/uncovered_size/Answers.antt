@@ -7,7 +7,7 @@ use Rattle.term_bank.specs.Forest.{clause_at}
 use Rattle.unify_core.specs.declared.side.Side.TheVariants.{Left}
 use Rattle.instgen_loop.specs.Clauses.{Item}
 use Rattle.instgen_loop.specs.Loops.{items, IsUnified}
-use Rattle.instgen_loop.proofs.Inferred.{unified_stays, made_canonical, length_at}
+use Rattle.instgen_loop.proofs.Inferred.{unified_stays, made_canonical, premise_bounded, length_at}
 use Rattle.instgen_loop.proofs.Runs.{may_read, size_concluded, made_concluded}
 use Rattle.instgen_loop.proofs.Decisions.{cover_of_made, has_literal, items_read, places_read, reads_more}
 use Rattle.instgen_loop.proofs.decide.uncovered_size.Goals as goal
@@ -36,6 +36,12 @@ is_covered-requires-clause-literal g c =
     let q : length r2.selection.places ≡ length run.selection.places = ap length (places_read run r2 (reads_more run r1 r2 c.in_ok-size.ensures.reads c.in_ok-conclusion.ensures.reads)) in
     let h = has_literal (items r2) r2.selection.places c.in_ok-conclusion.ensures.safe.placed c.args.from item (omega (arith, c.requires.from.1)) at in
     omega (arith, h, ap length same, c.len-len.ensures)
+
+pub is_covered-requires-clause-bounded : goal.is_covered-requires-clause-bounded
+is_covered-requires-clause-bounded g c =
+    let (item, at, same) = c.clause_of.ensures in
+    let within = premise_bounded c.in_ok-conclusion.ensures.safe.firsts c.args.from item at in
+    omega (arith, within, ap length same, c.len-len.ensures)
 
 pub returns-then-branch-clause-size : goal.returns-then-branch-clause-size
 returns-then-branch-clause-size g c = λ partner m.

@@ -11,7 +11,7 @@ use Rattle.instgen_loop.specs.Clauses.{Item}
 use Rattle.instgen_loop.specs.Loops.{items, IsUnified}
 use Rattle.instgen_loop.proofs.Selected.{literal_of, place_positive}
 use Rattle.instgen_loop.proofs.Works.{goes_on}
-use Rattle.instgen_loop.proofs.Inferred.{unified_stays, made_canonical, side_by_cover, clause_of_placed, length_at}
+use Rattle.instgen_loop.proofs.Inferred.{unified_stays, made_canonical, made_shorter, premise_bounded, item_later, side_by_cover, clause_of_placed, length_at}
 use Rattle.inst_logic.specs.Measure.{clause_size}
 use Rattle.inst_logic.specs.Clauses.{TreeClause}
 use Rattle.instgen_loop.proofs.Runs.{may_read, running_read, running_held, running_inferred, size_concluded, made_concluded}
@@ -45,6 +45,24 @@ append_uncovered-requires-clause-literal g c =
     let (l, here) = literal_of (items r2) r2.selection.places c.in_ok-conclusion.ensures.safe.placed c.args.from c.place_of.result item c.place_of.ensures at in
     let p = place_positive item.0 c.place_of.result l here in
     omega (arith, p.0, p.1, ap length same, c.len-len.ensures)
+
+pub append_uncovered-requires-clause-bounded : goal.append_uncovered-requires-clause-bounded
+append_uncovered-requires-clause-bounded g c =
+    let run = c.args.run.now in
+    let r1 = c.budgeted_size.new.run in
+    let r2 = c.conclusion_of.new.run in
+    let m = c.in_ok-conclusion.ensures.made in
+    let later : IsUnified r1.entries.bank r1.bindings.entries =
+    subst (IsUnified r1.entries.bank) (sym c.in_ok-size.ensures.bindings) (unified_stays run.entries.bank r1.entries.bank run.bindings.entries c.in_ok-size.ensures.goes.bank c.requires.unified) in
+    let shorter = made_shorter r1.entries.bank r2.entries.bank r1.bindings.entries c.args.side m.item.0 c.in_ok-conclusion.conclusion later m.made in
+    let within = premise_bounded c.in_ok-conclusion.ensures.safe.firsts c.args.from m.item (item_later r1 r2 c.args.from m.item c.in_ok-conclusion.ensures.goes m.item_at) in
+    omega (arith, shorter, within)
+
+pub append_uncovered-requires-clause-premise : goal.append_uncovered-requires-clause-premise
+append_uncovered-requires-clause-premise g c =
+    let (item, at, same) = c.clause_of.ensures in
+    let within = premise_bounded c.in_ok-conclusion.ensures.safe.firsts c.args.from item at in
+    omega (arith, within, ap length same, c.len-len.ensures)
 
 pub append_uncovered-requires-clause-fits : goal.append_uncovered-requires-clause-fits
 append_uncovered-requires-clause-fits g c = subst (λ o. IfSome o (λ k. c.in_ok-size.size ≤ k)) (sym c.in_ok-conclusion.ensures.left) (c.fits.ensures.yes (search rules))

@@ -1,4 +1,5 @@
-use Rattle.std.proofs.Common.{◌∙◌, ◌++◌, [], List, sym, refl, map, subst}
+use Rattle.std.proofs.Common.{◌∙◌, ◌≤◌, ◌++◌, [], ℕ, List, All, length, sym, refl, map, subst}
+use Rattle.inst_logic.specs.declared.signed.Signed.{Signed}
 use Rattle.inst_logic.specs.Clauses.{TreeClause}
 use Rattle.inst_calculus.specs.Axioms.{equality_axioms}
 use Rattle.inst_calculus.proofs.Distinct.{length_map}
@@ -6,7 +7,7 @@ use Rattle.inst_calculus.proofs.Congruences.{axioms_canonical}
 use Rattle.term_bank.specs.Forest.{clause_at}
 use Rattle.term_bank.proofs.Growth.{extends_trans}
 use Rattle.instgen_loop.specs.FirstEntries.{IsStarted}
-use Rattle.instgen_loop.proofs.FirstEntries.{given_grown, given_canonical, printable_canonical}
+use Rattle.instgen_loop.proofs.FirstEntries.{bounds_grow, given_grown, given_canonical, printable_canonical}
 use Rattle.instgen_loop.proofs.FreshRuns.{fresh_interned, fresh_safe, fresh_started, starts_with, problem_later}
 use Rattle.instgen_loop.proofs.Started.{printable_formed}
 use Rattle.instgen_loop.proofs.start.start.Goals as goal
@@ -20,12 +21,20 @@ start_entries-requires-clause-safe g c =
     let added = g.S.Solver.added in
     let index = g.I.PartnerIndex in
     let run = c.args.run.now in
-    fresh_safe atoms added index.pairs index.fits g.met.I.PartnerIndex.empty_fits (record run { entries = record run.entries { bank = c.given_in.new.bank } })
-    (fresh_interned atoms added index.pairs run c.given_in.new.bank c.given_in.ensures.formed c.requires.fresh)
+    let n = c.longest-run.result in
+    fresh_safe atoms added index.pairs index.fits g.met.I.PartnerIndex.empty_fits (record run { entries = record run.entries { bank = c.given_in.new.bank; longest = n } })
+    (fresh_interned atoms added index.pairs run c.given_in.new.bank n c.given_in.ensures.formed c.requires.fresh)
 
 pub start_entries-requires-clause-canonical : goal.start_entries-requires-clause-canonical
 start_entries-requires-clause-canonical g c =
     given_canonical c.given_in.new.bank c.in_ok-given.given.inputs c.args.p.now.clauses c.in_ok-given.ensures.inputs (printable_canonical c.args.p.now.clauses c.requires.clauses)
+
+pub start_entries-requires-clause-bounded : goal.start_entries-requires-clause-bounded
+start_entries-requires-clause-bounded g c = bounds_grow c.in_ok-given.given.inputs c.longest-least.result c.longest-run.result c.longest-run.ensures.least c.longest-least.ensures.each
+
+pub start_entries-requires-2-clause-bounded : goal.start_entries-requires-2-clause-bounded
+start_entries-requires-2-clause-bounded g c =
+    subst (λ n. All (λ (d : List (Signed ℕ)). length d ≤ n) c.in_ok-given.given.axioms) (sym c.in_ok-start_entries.ensures.continues.longest) c.longest-run.ensures.each
 
 pub start_entries-requires-2-clause-whole : goal.start_entries-requires-2-clause-whole
 start_entries-requires-2-clause-whole g c =
@@ -45,10 +54,11 @@ returns-clause-waiting g c =
     let pairs = g.I.PartnerIndex.pairs in
     let run = c.args.run.now in
     let mid = c.given_in.new.bank in
+    let n = c.longest-run.result in
     let f = c.start_entries.new.run.entries.bank in
     let clauses = c.args.p.now.clauses in
     let given = c.in_ok-given.given in
-    let empty = fresh_started atoms added pairs (record run { entries = record run.entries { bank = mid } }) (fresh_interned atoms added pairs run mid c.given_in.ensures.formed c.requires.fresh) in
+    let empty = fresh_started atoms added pairs (record run { entries = record run.entries { bank = mid; longest = n } }) (fresh_interned atoms added pairs run mid n c.given_in.ensures.formed c.requires.fresh) in
     let first = c.in_ok-start_entries.ensures.started [] refl empty in
     let all = c.in_ok-start_entries-2.ensures.started (map (clause_at mid) given.inputs) (c.len.ensures ∙ sym (length_map (clause_at mid) given.inputs)) first in
     let later = given_grown mid f c.in_ok-start_entries.ensures.continues.bank given.axioms (equality_axioms clauses) c.in_ok-given.ensures.axioms in
@@ -63,10 +73,11 @@ returns-clause-selection g c =
     let pairs = g.I.PartnerIndex.pairs in
     let run = c.args.run.now in
     let mid = c.given_in.new.bank in
+    let n = c.longest-run.result in
     let f = c.start_entries.new.run.entries.bank in
     let clauses = c.args.p.now.clauses in
     let given = c.in_ok-given.given in
-    let empty = fresh_started atoms added pairs (record run { entries = record run.entries { bank = mid } }) (fresh_interned atoms added pairs run mid c.given_in.ensures.formed c.requires.fresh) in
+    let empty = fresh_started atoms added pairs (record run { entries = record run.entries { bank = mid; longest = n } }) (fresh_interned atoms added pairs run mid n c.given_in.ensures.formed c.requires.fresh) in
     let first = c.in_ok-start_entries.ensures.started [] refl empty in
     let all = c.in_ok-start_entries-2.ensures.started (map (clause_at mid) given.inputs) (c.len.ensures ∙ sym (length_map (clause_at mid) given.inputs)) first in
     let later = given_grown mid f c.in_ok-start_entries.ensures.continues.bank given.axioms (equality_axioms clauses) c.in_ok-given.ensures.axioms in
@@ -81,10 +92,11 @@ returns-clause-running g c =
     let pairs = g.I.PartnerIndex.pairs in
     let run = c.args.run.now in
     let mid = c.given_in.new.bank in
+    let n = c.longest-run.result in
     let f = c.start_entries.new.run.entries.bank in
     let clauses = c.args.p.now.clauses in
     let given = c.in_ok-given.given in
-    let empty = fresh_started atoms added pairs (record run { entries = record run.entries { bank = mid } }) (fresh_interned atoms added pairs run mid c.given_in.ensures.formed c.requires.fresh) in
+    let empty = fresh_started atoms added pairs (record run { entries = record run.entries { bank = mid; longest = n } }) (fresh_interned atoms added pairs run mid n c.given_in.ensures.formed c.requires.fresh) in
     let first = c.in_ok-start_entries.ensures.started [] refl empty in
     let all = c.in_ok-start_entries-2.ensures.started (map (clause_at mid) given.inputs) (c.len.ensures ∙ sym (length_map (clause_at mid) given.inputs)) first in
     let later = given_grown mid f c.in_ok-start_entries.ensures.continues.bank given.axioms (equality_axioms clauses) c.in_ok-given.ensures.axioms in
@@ -92,8 +104,7 @@ returns-clause-running g c =
     (subst (λ (cs : List TreeClause). IsStarted atoms added c.start_entries-2.new.run (map (clause_at mid) given.inputs ++ cs)) later.same all) in
     let a = c.in_ok-start_entries.ensures.continues in
     let b = c.in_ok-start_entries-2.ensures.continues in
-    starts_with atoms added run c.start_entries-2.new.run clauses c.args._budget started c.requires.allowed
-    (record { bank = extends_trans run.entries.bank mid c.start_entries-2.new.run.entries.bank c.given_in.ensures.extends (extends_trans mid f c.start_entries-2.new.run.entries.bank a.bank b.bank); bot = b.bot ∙ a.bot; left = b.left ∙ a.left })
+    starts_with atoms added run c.start_entries-2.new.run clauses c.args._budget started c.requires.allowed (b.left ∙ a.left)
 
 pub returns-clause-problem : goal.returns-clause-problem
 returns-clause-problem g c =
@@ -102,6 +113,7 @@ returns-clause-problem g c =
     let e = c.in_ok-given.ensures in
     let run = c.args.run.now in
     let mid = c.given_in.new.bank in
+    let n = c.longest-run.result in
     let last = c.start_entries-2.new.run in
-    problem_later (record run { entries = record run.entries { bank = mid } }) last c.in_ok-given.given c.args.p.now.clauses c.args.p.now.names (extends_trans mid c.start_entries.new.run.entries.bank last.entries.bank a.bank b.bank) (b.bot ∙ a.bot)
+    problem_later (record run { entries = record run.entries { bank = mid; longest = n } }) last c.in_ok-given.given c.args.p.now.clauses c.args.p.now.names (extends_trans mid c.start_entries.new.run.entries.bank last.entries.bank a.bank b.bank) (b.bot ∙ a.bot)
     (record { inputs = e.inputs; named = e.names; axioms = e.axioms; bot = c.requires.bot; constant = c.requires.constant; readable = c.requires.readable })
