@@ -9,10 +9,10 @@ use inst_logic::Memory;
 use prop_logic::Hint;
 use std::alloc::Global;
 
-// Clauses of so few literals are kept.
+// Clauses of so few literals are not listed, and so kept.
 const SHORT: usize = 2;
 
-// At least so many clauses are kept, and one for each three added clauses.
+// None is forgotten before there are so many, and one for each three added clauses; then it is a half of them.
 const FIRST: usize = 300;
 
 const ADDED: usize = 3;
@@ -25,7 +25,6 @@ const CONFLICTS: u64 = 100;
 pub(crate) struct Rank {
     unused: u64,
     step: usize,
-    literals: usize,
     pub(crate) number: usize,
 }
 
@@ -33,7 +32,6 @@ pub(crate) struct Rank {
 const NO_RANK: Rank = Rank {
     unused: 0,
     step: 0,
-    literals: 0,
     number: 0,
 };
 
@@ -62,7 +60,7 @@ impl Learned {
         }
     }
 
-    // Lists the clause of a step that was learned by these hints.
+    // Counts the conflict that a step of these hints answered, and lists the step's clause if it may be forgotten.
     pub(crate) fn push(
         &mut self,
         step: usize,
@@ -70,14 +68,16 @@ impl Learned {
         literals: usize,
         hints: &[Hint],
     ) -> Result<(), Memory> {
+        self.uses.see(step, hints);
+        self.count();
+        if literals <= SHORT {
+            return Ok(());
+        }
         self.ranks.push(Rank {
             unused: 0,
             step,
-            literals,
             number,
         })?;
-        self.uses.see(step, hints);
-        self.count();
         Ok(())
     }
 
@@ -101,22 +101,15 @@ impl Learned {
         }
     }
 
-    // Gives each clause its rank by what was seen of it, and answers how many are short.
-    fn rank_all(&mut self) -> usize {
-        let mut short = 0_usize;
+    // Gives each clause its rank by what was seen of it.
+    fn rank_all(&mut self) {
         for place in 0..self.ranks.len() {
             if place < self.ranks.len() {
                 let rank = self.ranks[place];
-                let unused = if rank.literals <= SHORT {
-                    short = short.saturating_add(1);
-                    0
-                } else {
-                    u64::MAX - self.uses.count(rank.step)
-                };
+                let unused = u64::MAX - self.uses.count(rank.step);
                 self.ranks[place] = Rank { unused, ..rank };
             }
         }
-        short
     }
 
     // How many of the clauses are to be forgotten, where so many were added and so many literals have values. They are the last
@@ -128,11 +121,11 @@ impl Learned {
             return 0;
         }
         self.take_passed();
-        let short = self.rank_all();
+        self.rank_all();
         if self.ranks.sort().is_err() {
             return 0;
         }
-        (self.ranks.len() / 2).min(self.ranks.len().saturating_sub(short))
+        self.ranks.len() / 2
     }
 
     // Takes the last clause out.

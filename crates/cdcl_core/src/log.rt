@@ -1,7 +1,7 @@
 // The added clauses and the steps, and by which of these a clause is known to the trail. The trail's number of a forgotten
 // clause may be given again, while its step stays here, since other steps may cite it: so the two kinds of numbers are kept
 // apart.
-ghost use Rattle.std.specs.Prelude.{◌≡◌, ◌+◌, ◌∷◌, [], ◌++◌, ◌<◌, ◌≤◌, ℕ, List, Some, length, slice_get, OnOk, IfOk};
+ghost use Rattle.std.specs.Prelude.{◌≡◌, [], ◌<◌, ℕ, List, Some, length, slice_get, OnOk};
 ghost use Rattle.inst_logic.specs.declared.signed.Signed.{Signed};
 ghost use Rattle.prop_logic.specs.Literal.{cited, AtomsBelow, AllAtomsBelow, StepsBelow};
 ghost use Rattle.prop_logic.specs.declared.literal.Hint.{Hint};

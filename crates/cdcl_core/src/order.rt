@@ -1,7 +1,7 @@
 // The order in which atoms are decided: those that were in recent conflicts first (Moskewicz and others, Chaff, 2001; Eén
 // and Sörensson, 2003). Nothing is proved of the order: who asks tests what it gives, and looks elsewhere where it has
 // nothing more.
-ghost use Rattle.std.specs.Prelude.{◌≡◌, ◌<◌, ◌/◌, ℕ, length, None, IfSome};
+ghost use Rattle.std.specs.Prelude.{◌≡◌, ◌<◌, ◌/◌, length, None, IfSome};
 ghost use Rattle.cdcl_trail.specs.Trail.{level_of};
 
 use cdcl_trail::Trail;

@@ -1,7 +1,7 @@
 // The search: a loop over the trail. Each turn propagates, and then decides a literal or answers a conflict by a learned
 // clause, which gives a literal at a lower level. A restart takes back all levels but those of assumptions. Learned clauses
 // are forgotten before any turn at which there are too many, since restarts may be far apart.
-ghost use Rattle.std.specs.Prelude.{◌≡◌, ◌≢◌, IsTrue, IsFalse, ℕ, ◌+◌, ◌-◌, ◌++◌, ◌∷◌, [], ◌<◌, ◌≤◌, ◌⊎◌, List, Bool, true, false, Some, None, All, Contains, MatchBool, length, map, min, take, slice_get, unwrap_or, IfOk, IfSome, IfNone, OnOk};
+ghost use Rattle.std.specs.Prelude.{◌≡◌, ◌≢◌, IsTrue, IsFalse, ℕ, ◌+◌, ◌-◌, ◌++◌, ◌∷◌, [], ◌<◌, ◌≤◌, ◌⊎◌, List, true, false, Some, None, All, Contains, MatchBool, length, map, min, take, slice_get, unwrap_or, IfOk, IfSome, IfNone, OnOk};
 ghost use Rattle.inst_logic.specs.declared.signed.Signed.{Signed};
 ghost use Rattle.inst_logic.specs.Signed.{complement};
 ghost use Rattle.prop_logic.specs.declared.literal.Hint.TheVariants.{Added};
@@ -11,7 +11,7 @@ ghost use Rattle.prop_logic.specs.Solving.{IsAnswer, IsSubList};
 ghost use Rattle.prop_logic.specs.Analysis.{ClosesAll};
 ghost use Rattle.cdcl_trail.specs.declared.entry.Entry.{Entry};
 ghost use Rattle.cdcl_trail.specs.Clauses.{clause_number};
-ghost use Rattle.cdcl_trail.specs.Trail.{IsTrail, IsDecision, value_of, level_of, reason_of, literals_of, back_at};
+ghost use Rattle.cdcl_trail.specs.Trail.{IsTrail, IsDecision, level_of, reason_of, literals_of, back_at};
 ghost use Rattle.cdcl_trail.specs.Propagation.{IsConflict, IsStable};
 ghost use Rattle.cdcl_core.specs.Analysis.{IsAnalysis};
 ghost use Rattle.cdcl_core.specs.declared.search.Search.{Search};
@@ -625,6 +625,7 @@ impl Search {
         ensures goes { IfOk result (Continues assumptions.now self.old self.new) }
         ensures added { self.new.log.added ≡ self.old.log.added }
     {
+        // Its contract says that the trail is right.
         let _ = self.trail.assigned();
         self.reduce();
         self.advance(assumptions)

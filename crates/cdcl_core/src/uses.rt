@@ -47,6 +47,16 @@ impl Uses {
         }
     }
 
+    // Makes room for the count of the step, if there is any.
+    fn reach(&mut self, step: usize) {
+        let missing = step.saturating_add(1).saturating_sub(self.counts.len());
+        for _ in 0..missing {
+            if self.counts.push(0).is_err() {
+                return;
+            }
+        }
+    }
+
     // A conflict met these hints, and the step was learned from it.
     pub(crate) fn see(&mut self, step: usize, hints: &[Hint]) {
         for hint in hints {
@@ -54,12 +64,7 @@ impl Uses {
                 self.raise(*met);
             }
         }
-        let missing = step.saturating_add(1).saturating_sub(self.counts.len());
-        for _ in 0..missing {
-            if self.counts.push(0).is_err() {
-                return;
-            }
-        }
+        self.reach(step);
         self.raise(step);
         self.weight = self.weight.saturating_add((self.weight / 1000).max(1));
     }

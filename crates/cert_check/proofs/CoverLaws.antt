@@ -11,7 +11,7 @@ use Rattle.inst_calculus.proofs.Membership.{◌∈◌, any_in, in_any, all_in, i
 use Rattle.inst_logic.specs.Signed.{IsTautology}
 use Rattle.clause_form.specs.Conclusions.{AreCanonicalIn}
 use Rattle.clause_form.proofs.Ids.{variants_equal}
-use Rattle.term_bank.specs.Forest.{Forest, AreDistinct, Extends, IsClauseOf, clause_at}
+use Rattle.term_bank.specs.Forest.{literal_tree, Forest, AreDistinct, Extends, IsClauseOf, clause_at}
 use Rattle.term_bank.proofs.Clauses.{clause_extends}
 use Rattle.unify_core.specs.Chains.{AreBindings}
 use Rattle.unify_core.specs.Sides.{Binding, of_side}
@@ -19,7 +19,6 @@ use Rattle.unify_core.specs.declared.side.Side.{Side}
 use Rattle.clause_form.specs.Conclusions.{IsConclusionOf}
 use Rattle.clause_form.proofs.Concluded.{solution_of}
 use Rattle.saturation_cert.specs.declared.member.Member.{Member}
-use Rattle.saturation_cert.specs.Truths.{literal_at}
 use Rattle.saturation_cert.specs.Wholes.{IsWholeClause}
 use Rattle.cert_check.specs.Covers.{Covers, CoversOf, ShorterOf, IsCoveredIn}
 use Rattle.cert_check.specs.Grounds.{AreCanonicalMembers}
@@ -41,7 +40,7 @@ module _ (f g : Forest) (grown : Extends f g) (ms : List Member) (whole : All (�
 
   module _ (c d : List (Signed ℕ)) (e : TreeClause) (form : clause_at g d ≡ canonical_form e) where
     same_length : length (clause_at f c) ≡ length c
-    same_length = length-map c (literal_at f)
+    same_length = length-map c (literal_tree f)
 
     to_members : IsCovered (map (clause_of f) ms) (clause_at f c) (clause_at g d) → IsCoveredIn g ms (length c) d
     to_members (tautology t) = inl t

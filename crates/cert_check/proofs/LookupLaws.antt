@@ -22,8 +22,7 @@ use Rattle.inst_calculus.specs.Models.{Member as Selected}
 use Rattle.cert_format.proofs.Numbers.{slice_get_of_map}
 use Rattle.cert_format.proofs.SelectedMembers.{selected_once}
 use Rattle.clause_form.specs.Placements.{literal_at}
-use Rattle.saturation_cert.specs.Truths.{literal_at as tree_literal}
-use Rattle.term_bank.specs.Forest.{Forest, Extends, IsClauseOf, clause_at, number_of, symbol_of, tree_at}
+use Rattle.term_bank.specs.Forest.{literal_tree, Forest, Extends, IsClauseOf, clause_at, number_of, symbol_of, tree_at}
 use Rattle.cert_format.specs.Certificate as format
 use Rattle.cert_check.specs.declared.fingerprint.Fingerprint.{Fingerprint}
 use Rattle.cert_check.specs.Fingerprints.{HasFingerprint, IsFingerprintOf, TellApart, fingerprint_at}
@@ -72,17 +71,17 @@ are_clauses ms ks found there q = (
 
 -- a marked literal of the selected one's tree stands in the member's clause
 module _ (c : Saturation) (k : ℕ) (h : Head) (p : Fingerprint) (head : IsHeadOf c k h) (print : IsFingerprintOf c k p) where
-  one_literal : tree_literal c.base.bank print.literal ≡ tree_literal c.base.bank head.literal
+  one_literal : literal_tree c.base.bank print.literal ≡ literal_tree c.base.bank head.literal
   one_literal =
       sym print.is.literal ∙ ap (λ (m : Selected). m.selected) (selected_once (saturation_of c).base.members (saturation_of c).places (suc k) print.is.member head.is.member print.is.is head.is.is) ∙ head.is.literal
 
   marked_there : (m : Member) (q : ℕ) → slice_get (clause_at c.base.bank m.clause) q ≡ Some head.is.member.selected → HasMarked c.base.bank m.clause h p
   marked_there m q at =
       let f = c.base.bank in
-      let (l, here, tree) = slice_get_of_map (tree_literal f) m.clause q head.is.member.selected at in
+      let (l, here, tree) = slice_get_of_map (literal_tree f) m.clause q head.is.member.selected at in
       let within = slice_get_within m.clause q l here in
       let same : l ≡ literal_at m.clause q = same_Some l _ (sym here ∙ slice_get-get_or m.clause q _ within) in
-      let equal : tree_literal f head.literal ≡ tree_literal f l = sym head.is.literal ∙ sym tree in
+      let equal : literal_tree f head.literal ≡ literal_tree f l = sym head.is.literal ∙ sym tree in
       let number : Some h.atom ≡ option_map (number_of f.symbols) (symbol_of (tree_at f l.atom)) =
       head.head.number ∙ ap (λ (x : Signed Tree). option_map (number_of f.symbols) (symbol_of x.atom)) equal in
       record {

@@ -7,13 +7,12 @@ use Rattle.inst_logic.specs.declared.signed.Signed.{Signed}
 use Rattle.inst_logic.specs.Derivations.{at_number}
 use Rattle.inst_logic.specs.Tree.{Tree}
 use Rattle.inst_calculus.specs.Entries.{Entry}
-use Rattle.term_bank.specs.Forest.{Forest, clause_at}
+use Rattle.term_bank.specs.Forest.{literal_tree, Forest, clause_at}
 use Rattle.cert_format.specs.Validity.{IsRightPlace}
 use Rattle.cert_format.proofs.Selected.{is_placed}
 use Rattle.cert_format.proofs.Numbers.{same_item}
 use Rattle.saturation_cert.specs.declared.member.Member.{Member}
 use Rattle.saturation_cert.specs.declared.certificate.Saturation.{Saturation}
-use Rattle.saturation_cert.specs.Truths.{literal_at}
 use Rattle.saturation_cert.specs.Values.{saturation_of, entry_of}
 use Rattle.cert_check.specs.Firsts.{IsFirstWrong}
 
@@ -21,13 +20,13 @@ module _ (c : Saturation) (i : ℕ) where
   entry_here : (x : Member) → slice_get c.base.members i ≡ Some x → slice_get (map (entry_of c.base.bank) c.base.members) i ≡ Some (entry_of c.base.bank x)
   entry_here x at = slice_get-map (entry_of c.base.bank) c.base.members i ∙ ap (option_map (entry_of c.base.bank)) at
 
-  literal_here : (f : Forest) (ls : List (Signed ℕ)) (q : ℕ) → q < length ls → at_number (clause_at f ls) (suc q) ≡ Some (literal_at f (get_or ls q (record { positive = true; atom = 0 })))
-  literal_here f ls q h = slice_get-map (literal_at f) ls q ∙ ap (option_map (literal_at f)) (slice_get-get_or ls q (record { positive = true; atom = 0 }) h)
+  literal_here : (f : Forest) (ls : List (Signed ℕ)) (q : ℕ) → q < length ls → at_number (clause_at f ls) (suc q) ≡ Some (literal_tree f (get_or ls q (record { positive = true; atom = 0 })))
+  literal_here f ls q h = slice_get-map (literal_tree f) ls q ∙ ap (option_map (literal_tree f)) (slice_get-get_or ls q (record { positive = true; atom = 0 }) h)
 
   pub placed_right : (x : Member) (p : ℕ) → slice_get c.base.members i ≡ Some x → slice_get c.places i ≡ Some p → 0 < p → p ≤ length x.clause → IsRightPlace (saturation_of c) (suc i)
   placed_right x zero at place above within = absurd (omega arith)
   placed_right x (suc q) at place above within =
-      λ a b. is_placed (saturation_of c) (suc i) (entry_of c.base.bank x) (suc q) (literal_at c.base.bank (get_or x.clause q (record { positive = true; atom = 0 })))
+      λ a b. is_placed (saturation_of c) (suc i) (entry_of c.base.bank x) (suc q) (literal_tree c.base.bank (get_or x.clause q (record { positive = true; atom = 0 })))
       (entry_here x at) place (literal_here c.base.bank x.clause q (omega arith))
 
   pub not_placed : i < max (length c.base.members) (length c.places) → (x : Member) (p : ℕ) → slice_get c.base.members i ≡ Some x → slice_get c.places i ≡ Some p
@@ -44,7 +43,7 @@ module _ (c : Saturation) (i : ℕ) where
       inside zero l e other = absurd cc
       inside (suc k) l e other =
           let w : k < length (clause_at c.base.bank x.clause) = slice_get_within (clause_at c.base.bank x.clause) k l e in
-          let v : length (clause_at c.base.bank x.clause) ≡ length x.clause = length-map x.clause (literal_at c.base.bank) in
+          let v : length (clause_at c.base.bank x.clause) ≡ length x.clause = length-map x.clause (literal_tree c.base.bank) in
           other (omega arith, omega arith)
 
   pub no_member : i < max (length c.base.members) (length c.places) → slice_get c.base.members i ≡ None → ¬ IsRightPlace (saturation_of c) (suc i)

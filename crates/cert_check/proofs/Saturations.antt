@@ -5,9 +5,8 @@ use Rattle.inst_logic.specs.declared.signed.Signed.{Signed}
 use Rattle.inst_logic.specs.Tree.{Tree}
 use Rattle.inst_logic.specs.WellFormed.{atom_is_formed, clause_is_formed, AreFormedClauses, IsAtom}
 use Rattle.inst_calculus.specs.Entries.{Entry, entry_clauses}
-use Rattle.saturation_cert.specs.Truths.{literal_at}
 use Rattle.inst_calculus.proofs.Membership.{all_in, from_map, all_pass}
-use Rattle.term_bank.specs.Forest.{Forest, AreFormed, Extends, clause_at, tree_at}
+use Rattle.term_bank.specs.Forest.{literal_tree, Forest, AreFormed, Extends, clause_at, tree_at}
 use Rattle.cert_format.specs.Certificate as format
 use Rattle.cert_format.specs.Validity.{IsRightPlace, IsRightInput, IsRightPair, SaturationPasses, IsFirstComplaint, IsValidSaturation, Precedes}
 use Rattle.cert_format.specs.declared.complaint.Complaint.{Complaint}
@@ -118,7 +117,7 @@ none_pair P (Some p) h other = absurd (other p refl)
 -- whole clauses are formed
 clause_formed : (f : Forest) (c : List (Signed ℕ)) → IsWholeClause f c → clause_is_formed (clause_at f c) ≡ true
 clause_formed f c h = all_pass (λ (k : Signed Tree). atom_is_formed k.atom) (clause_at f c) (λ x i.
-    let (l, j, same) = from_map (literal_at f) x c i in
+    let (l, j, same) = from_map (literal_tree f) x c i in
     ap (λ (k : Signed Tree). atom_is_formed k.atom) (sym same) ∙ all_in (λ (k : Signed ℕ). IsAtom (tree_at f k.atom)) c h.atoms l j)
 
 pub members_formed : (s : Saturation) → IsWholeSaturation s → AreFormedClauses (entry_clauses (saturation_of s).base.members)

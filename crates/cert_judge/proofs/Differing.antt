@@ -18,6 +18,7 @@ use Rattle.cert_check.specs.Firsts.{IsFirstWrong, IsFirstWrongOf}
 use Rattle.cert_check.proofs.Differences.{same_ids, first_difference, no_difference}
 use Rattle.cert_check.proofs.Interning.{ids_grown, formed_at}
 use Rattle.cert_judge.specs.Judgements.{IsDifference}
+use Rattle.inst_logic.proofs.Items.{lists_equal}
 
 abbrev pub Ids : Type 0
 Ids = List (Signed ℕ)
@@ -90,19 +91,6 @@ module _ (f : Forest) (cs : List Ids) (ds : List TreeClause) where
 
   pub none_differs : (n : ℕ) → length cs ≤ n → length ds ≤ n → ((k : ℕ) → k < n → SameAt k) → (m : ℕ) → at_number (map (clause_at f) cs) m ≡ at_number ds m
   none_differs n a b before = no_difference (map (clause_at f) cs) ds n (let l = length-map cs (clause_at f) in omega arith) b (λ k l. mapped k (before k l))
-
-lists_equal : {A : Type 0} (xs ys : List A) → ((n : ℕ) → at_number xs n ≡ at_number ys n) → xs ≡ ys
-lists_equal [] [] h = refl
-lists_equal [] (y ∷ ys) h = let e = h 1 in absurd (cc)
-lists_equal (x ∷ xs) [] h = let e = h 1 in absurd (cc)
-lists_equal {A} (x ∷ xs) (y ∷ ys) h = ap₂ (λ z zs. z ∷ zs) (some_same x y (h 1)) (lists_equal xs ys rest)
-  where
-    some_same : (a b : A) → Some a ≡ Some b → a ≡ b
-    some_same a b e = cc
-
-    rest : (n : ℕ) → at_number xs n ≡ at_number ys n
-    rest zero = refl
-    rest (suc n) = h (suc (suc n))
 
 -- the first difference of the lists is that of the certificate and the problem
 pub difference_of : (p : Problem) (b : format.Base) (r : Option ℕ) → IsFirstWrongOf (λ n. at_number b.inputs n ≡ at_number p.clauses n) r → IsDifference (Some p) b r

@@ -10,15 +10,10 @@ ghost use Rattle.saturation_cert.specs.Wholes.{IsWholeBase, KeepsBase};
 ghost use Rattle.cert_check.specs.Firsts.{IsFirstWrongOf};
 ghost use Rattle.cert_judge.specs.Judgements.{IsDifference};
 
+use cert_check::same_clause;
 use inst_logic::{Clause, ClauseList, Memory, Problem};
 use saturation_cert::Base;
 use term_bank::{Bank, IdClause, IdClauseList};
-
-fn same_clause(c: &IdClause, d: &IdClause) -> bool
-    ensures { IsTrue result ↔ (c.now ≡ d.now) }
-{
-    c == d
-}
 
 // Whether the clause of ids stands for the clause.
 fn stands_for(bank: &mut Bank, ids: &IdClause, clause: &Clause) -> Result<bool, Memory>

@@ -13,6 +13,7 @@ use Rattle.inst_logic.proofs.Membership.{◌∈◌, in_left, in_either, in_last,
 use Rattle.cert_format.specs.Printable.{IsPrintableClause}
 use Rattle.cert_format.proofs.Digits.{decimal_digits}
 use Rattle.chain_stress.specs.Chains.{edge_clause, edge_clauses, first_clause, rule_clause, last_clause, chain_clauses}
+use Rattle.inst_logic.proofs.Printed.{decimal_readable}
 
 -- ---- edges
 
@@ -70,18 +71,6 @@ pub chain_function_free : (n : ℕ) → IsTrue (is_function_free (chain_clauses 
 chain_function_free n = rw (none_passes clause_applies (chain_clauses n) (each_of_chain (λ c. clause_applies c ≡ false) n (λ i p l. refl) refl refl refl)) refl
 
 -- ---- names
-
-digits_readable : (ds : List ℕ) → list_all is_ascii_digit ds ≡ true → list_all (is_between 32 126) ds ≡ true
-digits_readable [] h = refl
-digits_readable (d ∷ ds) h =
-    and_both (is_between 32 126 d) (list_all (is_between 32 126) ds) (digit d (and_left (is_ascii_digit d) (list_all is_ascii_digit ds) h))
-    (digits_readable ds (and_right (is_ascii_digit d) (list_all is_ascii_digit ds) h))
-  where
-    digit : (d : ℕ) → is_ascii_digit d ≡ true → is_between 32 126 d ≡ true
-    digit d h = grind (arith, nat_tests)
-
-decimal_readable : (n : ℕ) → n < 2 ^ 64 → list_all (is_between 32 126) (decimal n) ≡ true
-decimal_readable n h = digits_readable (decimal n) (decimal_digits n h)
 
 -- the decimal text of a number can be the name of a statement
 pub number_is_name : (n : ℕ) → n < 2 ^ 64 → IsTrue (is_readable_name (decimal n))

@@ -9,8 +9,8 @@ use Rattle.cert_format.specs.Fronts.{IsBadLine}
 use Rattle.cert_format.specs.Printable.{IsPrintable, IsTextName}
 use Rattle.cert_format.specs.Text.{certificate_text}
 use Rattle.cert_format.specs.ValueLines.{IsCertificateText}
-use Rattle.cert_reader.specs.Reads.{IsVersion}
-use Rattle.check_front.specs.Certificates.{IsBarred, IsCertificateOf, IsLong, IsTextOf, limit}
+use Rattle.cert_reader.specs.Reads.{IsTextOf, IsVersion}
+use Rattle.check_front.specs.Certificates.{IsBarred, IsCertificateOf, IsLong, limit}
 use Rattle.check_front.specs.declared.fault.CertFault.{CertFault}
 use Rattle.check_front.specs.declared.fault.CertFault.TheVariants.{Absent, TooLong, ReadFault, Syntax, Version, NoSaturation, Memory}
 

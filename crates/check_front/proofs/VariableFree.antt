@@ -14,13 +14,10 @@ use Rattle.tptp_read.specs.Atoms.{has_variable, is_plain_atom, ReadsAtom}
 use Rattle.tptp_read.specs.Grammar.{Written, single, applied, Writtens, none, more, Simple, atom, equation, unequal, negated, simple_text, term, terms}
 use Rattle.tptp_read.specs.Lexemes.{is_variable_kind, mark}
 use Rattle.tptp_read.specs.Meaning.{from_simple, is_constant_atom, literal_of, name_of, predicate_of, tree_of, trees_of}
-
-neither : (a b : Bool) → (a || b) ≡ false → (a ≡ false) × (b ≡ false)
-neither true b h = absurd cc
-neither false b h = (refl, h)
+use Rattle.std.proofs.lemmas.Bool.{or_parts}
 
 one_fewer : (t : Tok) (ts : List Tok) → has_variable (t ∷ ts) ≡ false → (is_variable_kind t.kind ≡ false) × (has_variable ts ≡ false)
-one_fewer t ts h = neither (is_variable_kind t.kind) (has_variable ts) h
+one_fewer t ts h = or_parts (is_variable_kind t.kind) (has_variable ts) h
 
 chosen_free : (b : Bool) (t u : Tree) → b ≡ false → is_ground u ≡ true → is_ground (cond b t u) ≡ true
 chosen_free true t u e h = absurd cc

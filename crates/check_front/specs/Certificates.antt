@@ -5,22 +5,13 @@ use Rattle.outside_io.specs.Files.{bytes_named}
 use Rattle.outside_io.specs.declared.library.NamedFile.{NamedFile}
 use Rattle.whole_file.specs.Files.{IsHeld}
 use Rattle.cert_format.specs.Certificate.{Certificate}
-use Rattle.cert_format.specs.Printable.{IsPrintable, IsTextName}
-use Rattle.cert_format.specs.Text.{certificate_text}
-use Rattle.cert_reader.specs.Reads.{IsSyntaxAt, IsVersion}
+use Rattle.cert_reader.specs.Reads.{IsSyntaxAt, IsTextOf, IsVersion}
 use Rattle.check_front.specs.declared.fault.CertFault.{CertFault}
 use Rattle.check_front.specs.declared.fault.CertFault.TheVariants.{Absent, TooLong, ReadFault, Syntax, Version, NoSaturation, Memory}
 
 -- the most bytes of a certificate's file
 abbrev pub limit : ℕ
 limit = 268435456
-
--- the certificate is printable, and the text is its text under some name
-pub record IsTextOf (text : List ℕ) (c : Certificate) : Type 0 where
-  pub name : List ℕ
-  pub name_is : IsTextName name
-  pub printable : IsPrintable 1 c
-  pub is : text ≡ certificate_text 1 name c
 
 -- The file of this name is not too long and is the text of the certificate.
 pub record IsCertificateOf (files : Option (List NamedFile)) (name : List ℕ) (c : Certificate) : Type 0 where

@@ -1,7 +1,7 @@
 // The certificate of a file. Its bytes are dropped once it is read.
 ghost use Rattle.std.specs.Prelude.{◌≡◌, ◌≤◌, IfOk, IfErr};
-ghost use Rattle.cert_reader.specs.Reads.{IsWholeCertificate, value_of};
-ghost use Rattle.check_front.specs.Certificates.{IsCertFault, IsCertificateOf, IsTextOf, IsTextFault, limit};
+ghost use Rattle.cert_reader.specs.Reads.{IsTextOf, IsWholeCertificate, value_of};
+ghost use Rattle.check_front.specs.Certificates.{IsCertFault, IsCertificateOf, IsTextFault, limit};
 
 use crate::fault::{CertFault, of_file, of_text};
 use cert_reader::{Certificate, read_certificate};

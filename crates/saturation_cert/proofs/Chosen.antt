@@ -7,13 +7,13 @@ use Rattle.inst_logic.specs.declared.signed.Signed.{Signed}
 use Rattle.inst_logic.specs.Derivations.{at_number}
 use Rattle.inst_calculus.specs.Entries.{Entry}
 use Rattle.inst_calculus.specs.Models.{Member as Selected}
-use Rattle.term_bank.specs.Forest.{clause_at}
+use Rattle.term_bank.specs.Forest.{literal_tree, clause_at}
 use Rattle.cert_format.specs.Validity.{SelectsAt}
 use Rattle.cert_format.proofs.Numbers.{slice_get_of_map, same_item}
 use Rattle.cert_format.proofs.SelectedMembers.{selected_once}
 use Rattle.saturation_cert.specs.declared.member.Member.{Member}
 use Rattle.saturation_cert.specs.declared.certificate.Saturation.{Saturation}
-use Rattle.saturation_cert.specs.Truths.{literal_at, IsSelectedLiteral}
+use Rattle.saturation_cert.specs.Truths.{, IsSelectedLiteral}
 use Rattle.saturation_cert.specs.Values.{saturation_of, entry_of}
 use Rattle.saturation_cert.specs.Wholes.{IsWholeClause, IsWholeSaturation, HasPlaces}
 
@@ -27,7 +27,7 @@ record IsChosen (c : Saturation) (i : ℕ) (x : Member) : Type 0 where
 
 module _ (c : Saturation) (whole : IsWholeSaturation c) (i : ℕ) where
   literal_of : (x : Member) → slice_get c.base.members i ≡ Some x → (m : Selected) → SelectsAt (saturation_of c) (suc i) m
-      → (place : ℕ) → slice_get c.places i ≡ Some (suc place) → (literal : Signed ℕ) → slice_get x.clause place ≡ Some literal → literal_at c.base.bank literal ≡ m.selected
+      → (place : ℕ) → slice_get c.places i ≡ Some (suc place) → (literal : Signed ℕ) → slice_get x.clause place ≡ Some literal → literal_tree c.base.bank literal ≡ m.selected
       → IsChosen c i x
   literal_of x at m s place place_at literal here same =
       let b : place < length x.clause = slice_get_within x.clause place literal here in
@@ -58,7 +58,7 @@ module _ (c : Saturation) (whole : IsWholeSaturation c) (i : ℕ) where
       by_place : (p : ℕ) → slice_get c.places i ≡ Some p → at_number (clause_at c.base.bank x.clause) p ≡ Some m.selected → IsChosen c i x
       by_place zero p_at e = absurd cc
       by_place (suc p) p_at e =
-          let (l, l_at, same) = slice_get_of_map (literal_at c.base.bank) x.clause p m.selected e in
+          let (l, l_at, same) = slice_get_of_map (literal_tree c.base.bank) x.clause p m.selected e in
           literal_of x at m s p p_at l l_at same
 
   module _ (placed : HasPlaces (saturation_of c)) (h : i < length c.base.members) where
@@ -91,7 +91,7 @@ module _ (c : Saturation) (whole : IsWholeSaturation c) (i : ℕ) where
         subst (λ (y : Signed ℕ). IsSelectedLiteral c (suc i) y) (sym (l_is ∙ t)) k.stands
 
 -- the literal of ids that a member selects
-pub literal_of_member : (c : Saturation) → IsWholeSaturation c → (i : ℕ) (m : Selected) → SelectsAt (saturation_of c) (suc i) m → (l : Signed ℕ) × IsSelectedLiteral c (suc i) l × (m.selected ≡ literal_at c.base.bank l)
+pub literal_of_member : (c : Saturation) → IsWholeSaturation c → (i : ℕ) (m : Selected) → SelectsAt (saturation_of c) (suc i) m → (l : Signed ℕ) × IsSelectedLiteral c (suc i) l × (m.selected ≡ literal_tree c.base.bank l)
 literal_of_member c whole i m s =
     let (x, at, same) = slice_get_of_map (entry_of c.base.bank) c.base.members i s.entry s.entry_at in
     let k = chosen_by c whole i x at m s in

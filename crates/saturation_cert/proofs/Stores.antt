@@ -4,11 +4,11 @@ use Rattle.std.proofs.lemmas.Bool.{cases_lt}
 use Rattle.inst_logic.specs.declared.signed.Signed.{Signed}
 use Rattle.inst_logic.specs.Tree.{Tree}
 use Rattle.inst_calculus.specs.Models.{Member}
-use Rattle.term_bank.specs.Forest.{AreDistinct}
+use Rattle.term_bank.specs.Forest.{literal_tree, AreDistinct}
 use Rattle.term_index.specs.Pairs.{Pair, Adds}
 use Rattle.cert_format.proofs.SelectedMembers.{selected_once}
 use Rattle.saturation_cert.specs.declared.certificate.Saturation.{Saturation}
-use Rattle.saturation_cert.specs.Truths.{AreSelected, AreSelectedBelow, IsSelectedLiteral, literal_at}
+use Rattle.saturation_cert.specs.Truths.{AreSelected, AreSelectedBelow, IsSelectedLiteral}
 use Rattle.saturation_cert.specs.Values.{saturation_of}
 use Rattle.saturation_cert.proofs.Chosen.{number_within}
 
@@ -28,7 +28,7 @@ pub not_yet : (c : Saturation) (sign : Bool) (n id : ℕ) (ps : List Pair) → A
 not_yet c sign n id ps h i = let w : n < n = ((h (id, n)).0 i).0 in absurd (omega arith)
 
 module _ (c : Saturation) (n : ℕ) (l : Signed ℕ) (s : IsSelectedLiteral c n l) where
-  pub same_tree : (k : Signed ℕ) → IsSelectedLiteral c n k → literal_at c.base.bank k ≡ literal_at c.base.bank l
+  pub same_tree : (k : Signed ℕ) → IsSelectedLiteral c n k → literal_tree c.base.bank k ≡ literal_tree c.base.bank l
   same_tree k t = sym t.literal ∙ ap (λ (m : Member). m.selected) (selected_once (saturation_of c).base.members (saturation_of c).places n t.member s.member t.is s.is) ∙ s.literal
 
   -- the literal is of the other sign

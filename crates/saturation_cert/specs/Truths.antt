@@ -5,21 +5,18 @@ use Rattle.inst_logic.specs.Measure.{tree_weight}
 use Rattle.inst_logic.specs.Substitution.{Matches}
 use Rattle.inst_logic.specs.Tree.{Tree}
 use Rattle.inst_calculus.specs.Models.{Member}
-use Rattle.term_bank.specs.Forest.{Forest, tree_at}
+use Rattle.term_bank.specs.Forest.{Forest, literal_tree, tree_at}
 use Rattle.term_index.specs.Pairs.{Pair}
 use Rattle.cert_format.specs.Validity.{SelectsAt}
 use Rattle.saturation_cert.specs.declared.certificate.Saturation.{Saturation}
 use Rattle.saturation_cert.specs.Values.{saturation_of}
-
-abbrev pub literal_at : Forest → Signed ℕ → Signed Tree
-literal_at f l = record { positive = l.positive; atom = tree_at f l.atom }
 
 -- the literal of ids is the selected one of member n
 pub record IsSelectedLiteral (c : Saturation) (n : ℕ) (l : Signed ℕ) : Type 0 where
   pub member : Member
   pub is : SelectsAt (saturation_of c) n member
   pub within : l.atom < length c.base.bank.trees
-  pub literal : member.selected ≡ literal_at c.base.bank l
+  pub literal : member.selected ≡ literal_tree c.base.bank l
 
 -- the selected literal of member i + 1 is lighter than 2 ^ 64 - 1
 abbrev pub IsLight : Saturation → ℕ → Type 0

@@ -87,7 +87,8 @@ fn store_at<I: PartnerIndex>(
     }
 }
 
-/// Stores the atom of each selected literal in the index of its sign, with the number of its member, which counts from 1.
+/// Stores the atom of each selected literal in the index of its sign, with the number of its member, which counts from 1. After want of
+/// memory the two hold some of them.
 pub fn store_selected<I: PartnerIndex>(
     cert: &Saturation,
     positive: &mut I,

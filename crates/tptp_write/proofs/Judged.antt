@@ -26,7 +26,8 @@ use Rattle.tptp_write.specs.Again.{tree_is_narrow, trees_are_narrow, CanBeRead}
 use Rattle.tptp_write.proofs.Written.{variable_text, written, headed, writtens, sides_of, simple_by, simple_tree, simple_of, items_of, form_of, good_tree, good_trees, good_sides, good_by, good_atom, good_literal}
 use Rattle.tptp_write.proofs.Tokens.{both_true, and_both}
 use Rattle.tptp_write.proofs.Named.{renamed, small, is_small, order_texts, place_is}
-use Rattle.tptp_write.proofs.Meant.{name_is, no_variable, no_dollar, atom_fits, equation_fits, from_atom, from_equation, supported, all_two, none_first, two_names, counted, or_both, function_is, tree_supported, headed_supported, tree_names, headed_names, tree_narrow, headed_narrow, all_good}
+use Rattle.tptp_write.proofs.Meant.{name_is, no_variable, no_dollar, atom_fits, equation_fits, from_atom, from_equation, supported, all_two, none_first, two_names, counted, or_both, tree_supported, headed_supported, tree_names, headed_names, tree_narrow, headed_narrow, all_good}
+use Rattle.inst_logic.proofs.Formed.{function_of}
 
 cond_no : {A : Type 0} (b : Bool) (x y : A) → b ≡ false → cond b x y ≡ y
 cond_no true x y e = absurd cc
@@ -51,7 +52,7 @@ module _ (vs : List (List ℕ)) (s : Substitution) (place : (n : ℕ) → small 
         let fits = both_true (is_function_kind y.kind) (nat_eq (count_of ts) y.arity && trees_are_formed ts) f in
         let parts = both_true (nat_eq (count_of ts) y.arity) (trees_are_formed ts) fits.1 in
         let n = both_true (is_readable_name y.name) (good_trees ts) g in
-        headed_same y.kind y.name y.arity ts (function_is y.kind fits.0) (eqb-true (count_of ts) y.arity parts.0) parts.1 n.1
+        headed_same y.kind y.name y.arity ts (function_of y.kind fits.0) (eqb-true (count_of ts) y.arity parts.0) parts.1 n.1
 
     headed_same : (k : Kind) (name : List ℕ) (arity : ℕ) (ts : Trees) → k ≡ Function → count_of ts ≡ arity → trees_are_formed ts ≡ true → good_trees ts ≡ true → tree_of vs (headed name ts) ≡ app (record { kind = k; name = name; arity = arity }) (substs s ts)
     headed_same k name arity tree.none e c f g =

@@ -24,6 +24,7 @@ use Rattle.tptp_write.specs.Again.{tree_is_narrow, trees_are_narrow}
 use Rattle.tptp_write.proofs.Written.{variable_text, name_kind, name_tok, written, headed, writtens, atom_of, equation_of, good_tree, good_trees, good_sides, good_by, good_atom, good_literal}
 use Rattle.tptp_write.proofs.Tokens.{both_true, and_both, content}
 use Rattle.tptp_write.proofs.Named.{small_tree, small_trees, small_literal}
+use Rattle.inst_logic.proofs.Formed.{function_of, function_name}
 
 -- ---- kinds of name tokens
 
@@ -190,16 +191,6 @@ mutual
       or_both (is_wide (written t)) (are_wide (writtens ts)) (tree_narrow t g.0 n.0) (trees_narrow ts g.1 n.1)
 
 -- ---- good trees
-
-pub function_is : (k : Kind) → is_function_kind k ≡ true → k ≡ Function
-function_is Predicate e = absurd cc
-function_is Equality e = absurd cc
-function_is Function e = refl
-
-function_name : (k : Kind) (n : List ℕ) → is_function_kind k ≡ true → kind_is_readable k n ≡ true → is_readable_name n ≡ true
-function_name Predicate n e h = absurd cc
-function_name Equality n e h = absurd cc
-function_name Function n e h = h
 
 mutual
   tree_good : (t : Tree) → tree_is_formed t ≡ true → tree_is_readable t ≡ true → small_tree t ≡ true → good_tree t ≡ true

@@ -23,10 +23,7 @@ use Rattle.tptp_read.specs.Grammar.{unequal_mark}
 use Rattle.tptp_read.specs.Meaning.{unquoted}
 use Rattle.tptp_write.proofs.Written.{variable_text, variable_tok, name_kind, name_tok, false_tok}
 pub use Rattle.inst_logic.proofs.Booleans.{both_true, and_both}
-
-or_parts : (a b : Bool) → (a || b) ≡ false → (a ≡ false) × (b ≡ false)
-or_parts true b h = absurd cc
-or_parts false b h = (refl, h)
+use Rattle.std.proofs.lemmas.Bool.{or_parts}
 
 -- no byte of a word follows
 abbrev pub Clear : List ℕ → Type 0

@@ -10,20 +10,13 @@ use Rattle.inst_calculus.proofs.Membership.{in_all}
 use Rattle.term_bank.specs.Forest.{Forest, IsFormed, tree_at}
 use Rattle.saturation_cert.specs.Wholes.{IsWholeClause}
 use Rattle.worked_clauses.specs.Shared.{IsAtomOf}
-
-pub if_ok : {A E : Type 0} (P Q : A → Type 0) (r : Result A E) → IfOk r P → ((x : A) → P x → Q x) → IfOk r Q
-if_ok P Q (Ok x) p f = f x p
-if_ok P Q (Err e) p f = p
-
-either_right : (a b : Bool) → b ≡ true → (a || b) ≡ true
-either_right true b h = refl
-either_right false b h = h
+use Rattle.inst_logic.proofs.Booleans.{or_right}
 
 pub term_formed : (t : Tree) → IsTerm t → IsFormed t
 term_formed t h = rw h refl
 
 pub atom_formed : (t : Tree) → IsAtom t → IsFormed t
-atom_formed t h = either_right (tree_is_formed t) (atom_is_formed t) h
+atom_formed t h = or_right (tree_is_formed t) (atom_is_formed t) h
 
 pub constant_is_term : (s : Sym) → s.kind ≡ Function → s.arity ≡ 0 → IsTerm (app s none)
 constant_is_term s k a = rw (k, a) refl

@@ -9,19 +9,7 @@ use Rattle.term_bank.specs.Forest.{Forest, Extends, IsClauseAt, clause_at, tree_
 use Rattle.saturation_cert.specs.Wholes.{IsWholeClause}
 use Rattle.saturation_cert.specs.declared.certificate.GroundStep.{GroundStep}
 use Rattle.saturation_cert.specs.declared.member.Member.{Member}
-
--- a whole clause stays whole as the bank grows
-pub clause_grown : (f g : Forest) → Extends f g → (c : List (Signed ℕ)) → IsWholeClause f c → IsWholeClause g c
-clause_grown f g grown c h = record {
-  ids = in_all (λ (l : Signed ℕ). l.atom < length g.trees) c (λ l i. let k = within l i in omega (arith, k, grown.trees.0));
-  atoms = in_all (λ (l : Signed ℕ). IsAtom (tree_at g l.atom)) c (λ l i. subst IsAtom (sym (grown.trees.1 l.atom (within l i))) (all_in (λ (m : Signed ℕ). IsAtom (tree_at f m.atom)) c h.atoms l i));
-}
-  where
-    within : (l : Signed ℕ) → l ∈ c → l.atom < length f.trees
-    within l i = all_in (λ (m : Signed ℕ). m.atom < length f.trees) c h.ids l i
-
-pub clauses_grown : (f g : Forest) → Extends f g → (cs : List (List (Signed ℕ))) → All (IsWholeClause f) cs → All (IsWholeClause g) cs
-clauses_grown f g grown cs h = in_all (IsWholeClause g) cs (λ c i. clause_grown f g grown c (all_in (IsWholeClause f) cs h c i))
+use Rattle.saturation_cert.proofs.Grown.{clause_grown}
 
 -- the ids of a well-formed clause are whole
 pub whole_at : (f : Forest) (c : List (Signed ℕ)) (trees : List (Signed Tree)) → IsClauseAt f c trees → IsFormedClause trees → IsWholeClause f c
@@ -49,6 +37,3 @@ one_step_more f g grown ss s whole here = in_all (λ (x : GroundStep). IsWholeCl
   where
     each : (d : GroundStep) → d ∈ (ss ++ s ∷ []) → IsWholeClause g d.clause
     each d i = elim (in_either d ss (s ∷ []) i) [ inl k ↦ clause_grown f g grown d.clause (all_in (λ (x : GroundStep). IsWholeClause f x.clause) ss whole d k) | inr (inl e) ↦ subst (λ (x : GroundStep). IsWholeClause g x.clause) (sym e) here | inr (inr b) ↦ absurd b ]
-
-pub members_grown : (f g : Forest) → Extends f g → (ms : List Member) → All (λ m. IsWholeClause f m.clause) ms → All (λ (m : Member). IsWholeClause g m.clause) ms
-members_grown f g grown ms h = in_all (λ (m : Member). IsWholeClause g m.clause) ms (λ m i. clause_grown f g grown m.clause (all_in (λ (n : Member). IsWholeClause f n.clause) ms h m i))

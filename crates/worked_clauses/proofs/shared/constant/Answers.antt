@@ -1,7 +1,8 @@
 use Rattle.std.proofs.Common.{sym, subst}
 use Rattle.inst_logic.specs.Tree.{app, none}
 use Rattle.inst_logic.specs.WellFormed.{IsTerm}
-use Rattle.worked_clauses.proofs.Formed.{if_ok, term_formed, constant_is_term}
+use Rattle.inst_logic.proofs.Outcomes.{if_ok}
+use Rattle.worked_clauses.proofs.Formed.{term_formed, constant_is_term}
 use Rattle.worked_clauses.proofs.shared.constant.Goals as goal
 
 pub returns : goal.returns

@@ -2,7 +2,8 @@ use Rattle.std.proofs.Common.{sym, subst}
 use Rattle.inst_logic.specs.Tree.{app, none, more}
 use Rattle.inst_logic.specs.WellFormed.{IsAtom}
 use Rattle.term_bank.specs.Forest.{tree_at}
-use Rattle.worked_clauses.proofs.Formed.{if_ok, atom_formed, once_is_atom}
+use Rattle.inst_logic.proofs.Outcomes.{if_ok}
+use Rattle.worked_clauses.proofs.Formed.{atom_formed, once_is_atom}
 use Rattle.worked_clauses.proofs.shared.shared_atom.Goals as goal
 
 pub returns : goal.returns

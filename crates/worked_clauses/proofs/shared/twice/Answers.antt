@@ -2,7 +2,8 @@ use Rattle.std.proofs.Common.{sym, subst}
 use Rattle.inst_logic.specs.Tree.{app, none, more}
 use Rattle.inst_logic.specs.WellFormed.{IsTerm}
 use Rattle.term_bank.specs.Forest.{tree_at}
-use Rattle.worked_clauses.proofs.Formed.{if_ok, term_formed, twice_is_term}
+use Rattle.inst_logic.proofs.Outcomes.{if_ok}
+use Rattle.worked_clauses.proofs.Formed.{term_formed, twice_is_term}
 use Rattle.worked_clauses.proofs.shared.twice.Goals as goal
 
 pub returns : goal.returns
