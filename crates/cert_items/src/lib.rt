@@ -18,7 +18,9 @@ mod place;
 mod printable;
 pub mod symbol;
 mod terms;
+pub mod text_bank;
 
 pub use group::Group;
 pub use item::{Item, read_item};
 pub use note::Note;
+pub use text_bank::TextBank;
