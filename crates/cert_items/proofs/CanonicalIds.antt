@@ -1,5 +1,5 @@
 -- The test of canonical form by ids.
-use Rattle.std.proofs.Common.{◌≡◌, ℕ, ◌<◌, List, [], ◌∷◌, length, map, refl, sym, ap, ap₂, subst, ◌∙◌}
+use Rattle.std.proofs.Common.{◌≡◌, ℕ, ◌<◌, List, [], ◌∷◌, length, map, refl, sym, ap, ap₂, ◌∙◌, true}
 use Rattle.std.proofs.lemmas.List.Elements.{All-head, All-tail}
 use Rattle.inst_logic.specs.declared.signed.Signed.{Signed}
 use Rattle.inst_logic.specs.Tree.{Tree, var}
@@ -15,7 +15,9 @@ use Rattle.term_bank.specs.Forest.{Forest, clause_at, literal_tree, IsClauseAt, 
 use Rattle.clause_form.specs.Literals.{id_eq}
 use Rattle.clause_form.proofs.Assembly.{id_eq_decides}
 use Rattle.clause_form.proofs.Ids.{same_literal}
+use Rattle.cert_items.specs.Orders.{in_order}
 use Rattle.cert_items.proofs.Clauses.{grown_clause}
+use Rattle.cert_items.proofs.Orders.{own_numbers}
 
 first_of_two : (l m : Signed Tree) (ls ms : TreeClause) → l ∷ ls ≡ m ∷ ms → (l ≡ m) × (ls ≡ ms)
 first_of_two l m ls ms h = (cc, cc)
@@ -47,13 +49,11 @@ literals_var : (c : TreeClause) → map (subst_literal var) c ≡ c
 literals_var [] = refl
 literals_var (l ∷ c) = ap₂ (λ (k : Signed Tree) (d : TreeClause). k ∷ d) (literal_var l) (literals_var c)
 
--- without variables the canonical form is the clause without repeats
-plain_form : (f : Forest) (c : List (Signed ℕ)) → AreDistinct f.trees → IsClauseOf f c → clause_vars (clause_at f c) ≡ [] → canonical_form (clause_at f c) ≡ clause_at f (distinct id_eq c)
-plain_form f c once of none =
+-- a clause that has its variables in order and stands for no literal twice
+pub seen_canonical : (f : Forest) (c : List (Signed ℕ)) → AreDistinct f.trees → IsClauseOf f c → in_order 0 (clause_vars (clause_at f c)) ≡ true → distinct id_eq c ≡ c → IsCanonical (clause_at f c)
+seen_canonical f c once of order same =
     let t = clause_at f c in
     let inside = λ (k : Signed ℕ) (i : k ∈ c). all_in (λ (l : Signed ℕ). l.atom < length f.trees) c of k i in
-    ap (distinct literal_eq) (literals_agree (numbered (order_of t)) var t (λ v i. absurd (subst (λ (vs : List ℕ). v ∈ vs) none i)) ∙ literals_var t)
+    ap (distinct literal_eq) (literals_agree (numbered (order_of t)) var t (own_numbers t order) ∙ literals_var t)
     ∙ distinct_map id_eq id_eq_decides literal_eq literal_eq_decides (literal_tree f) c (λ k i l j h. same_literal f once k l (inside k i) (inside l j) h)
-
-pub plain_yes : (f : Forest) (c : List (Signed ℕ)) → AreDistinct f.trees → IsClauseOf f c → clause_vars (clause_at f c) ≡ [] → distinct id_eq c ≡ c → IsCanonical (clause_at f c)
-plain_yes f c once of none same = plain_form f c once of none ∙ ap (clause_at f) same
+    ∙ ap (clause_at f) same

@@ -1,5 +1,5 @@
 -- What is remembered of names stays true as the bank grows, and is found by a name's text.
-use Rattle.std.proofs.Common.{◌≡◌, ℕ, zero, suc, List, [], ◌∷◌, ◌++◌, length, map, refl, sym, ap, ◌∙◌, subst, transport, Bool, true, false, cond, Option, None, Some, IfSome, nat_eq}
+use Rattle.std.proofs.Common.{◌≡◌, ℕ, zero, suc, List, [], ◌∷◌, ◌++◌, length, map, refl, sym, ap, ◌∙◌, subst, Bool, true, false, cond, Option, None, Some, IfSome, nat_eq}
 use Rattle.std.specs.Prelude.{All}
 use Rattle.std.specs.Global.{Vec}
 use Rattle.std.specs.Map.{lookup}
@@ -7,7 +7,7 @@ use Rattle.std.specs.Cmp.Lexicographic.{pointwise}
 use Rattle.std.proofs.lemmas.Bool.Decides.{Decides-eqb}
 use Rattle.std.proofs.lemmas.Slice.Eq.{slice_eq-Decides}
 use Rattle.std.proofs.lemmas.List.{length-map}
-use Rattle.std.proofs.lemmas.List.Elements.{All-head, All-tail, All-weaker}
+use Rattle.std.proofs.lemmas.List.Elements.{All-head, All-tail, All-push, All-weaker}
 use Rattle.inst_logic.specs.declared.symbol.Kind.{Kind}
 use Rattle.inst_logic.specs.Tree.{Tree, app, of_list}
 use Rattle.term_bank.specs.Forest.{Forest, Extends, IsAt, AreFormed, IsFormed, tree_at, with_arguments}
@@ -52,3 +52,8 @@ first_known f id kind text args k h is = subst (IsKnown f text) (sym is) (record
   count = refl;
   at = h.at;
 })
+
+-- one more name
+pub one_more_known : (f : Forest) (es fs : List (Vec ℕ × Known)) (text : List ℕ) (key : Vec ℕ) (k : Known) → fs ≡ es ++ (key, k) ∷ [] → key.items ≡ text → IsKnown f text k → AreKnown f es → AreKnown f fs
+one_more_known f es fs text key k more same h all =
+    subst (AreKnown f) (sym more) (All-push (λ (x : Vec ℕ × Known). IsKnown f x.0.items x.1) es (key, k) all (subst (λ (t : List ℕ). IsKnown f t k) (sym same) h))

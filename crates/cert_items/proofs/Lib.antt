@@ -3,6 +3,7 @@ pub mod Formed
 pub mod Clauses
 pub mod Roots
 pub mod Repeats
+pub mod Orders
 pub mod CanonicalIds
 pub mod Known
 pub mod PrintableClauses

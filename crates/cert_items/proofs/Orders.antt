@@ -4,6 +4,7 @@ use Rattle.std.specs.Prelude.{fold, All, if◌then◌else◌, ◌||◌, sum_by}
 use Rattle.std.specs.List.{list_any}
 use Rattle.std.proofs.lemmas.Bool.Decides.{Decides-eqb, Decides-ltb}
 use Rattle.std.proofs.lemmas.List.{length-append, get_or_append_left, get_or_push}
+use Rattle.std.proofs.lemmas.List.Elements.{All-map}
 use Rattle.std.proofs.lemmas.List.Folds.{list_any-append}
 use Rattle.inst_logic.specs.declared.signed.Signed.{Signed}
 use Rattle.inst_logic.specs.declared.symbol.Sym.{Sym}
@@ -15,13 +16,13 @@ use Rattle.inst_logic.specs.Clauses.{TreeClause, numbered, order_of}
 use Rattle.inst_logic.proofs.Distinct.{distinct_append}
 use Rattle.inst_calculus.proofs.Membership.{◌∈◌, all_in, in_left, in_right}
 use Rattle.inst_calculus.proofs.Distinct.{in_distinct, items_present, item_at_place, place, place_below}
-use Rattle.term_bank.specs.Forest.{Forest, tree_at, clause_at}
+use Rattle.term_bank.specs.Forest.{Forest, tree_at, clause_at, AreIds, IsClauseOf}
 use Rattle.term_bank.specs.Greatest.{IsGreatest}
 use Rattle.cert_items.specs.Orders.{in_order, ids_vars, ids_size}
 
 -- ---- the numbers below n
 
-below : ℕ → List ℕ
+abbrev below : ℕ → List ℕ
 below zero = []
 below (suc n) = below n ++ n ∷ []
 
@@ -31,24 +32,24 @@ length_below (suc n) = let l = length-append (below n) (n ∷ []) in let k = len
 
 item_below : (n k : ℕ) → k < n → get_or (below n) k 0 ≡ k
 item_below zero k h = absurd (omega arith)
-item_below (suc n) k h = by (nat_eq k n) refl
+item_below (suc n) k h = by (nat_eq k n) refl (item_below n k)
   where
-    by : (b : Bool) → nat_eq k n ≡ b → get_or (below n ++ n ∷ []) k 0 ≡ k
-    by true e = let same : k ≡ n = (Decides-eqb k n).0 e in get_or_push (below n) n 0 k (length_below n ∙ sym same) ∙ sym same
-    by false e =
+    by : (b : Bool) → nat_eq k n ≡ b → (k < n → get_or (below n) k 0 ≡ k) → get_or (below n ++ n ∷ []) k 0 ≡ k
+    by true e rest = let same : k ≡ n = (Decides-eqb k n).0 e in get_or_push (below n) n 0 k (length_below n ∙ sym same) ∙ sym same
+    by false e rest =
         let apart : ¬ (k ≡ n) = λ s. (let t = (Decides-eqb k n).1 s in cc) in
         let less : k < n = omega (arith, apart) in
-        get_or_append_left (below n) (n ∷ []) 0 k (let l = length_below n in omega arith) ∙ item_below n k less
+        get_or_append_left (below n) (n ∷ []) 0 k (let l = length_below n in omega arith) ∙ rest less
 
 in_below : (n v : ℕ) → v < n → v ∈ below n
 in_below zero v h = absurd (omega arith)
-in_below (suc n) v h = by (nat_eq v n) refl
+in_below (suc n) v h = by (nat_eq v n) refl (in_below n v)
   where
-    by : (b : Bool) → nat_eq v n ≡ b → v ∈ (below n ++ n ∷ [])
-    by true e = in_right v (below n) (n ∷ []) (inl ((Decides-eqb v n).0 e))
-    by false e =
+    by : (b : Bool) → nat_eq v n ≡ b → (v < n → v ∈ below n) → v ∈ (below n ++ n ∷ [])
+    by true e rest = in_right v (below n) (n ∷ []) (inl ((Decides-eqb v n).0 e))
+    by false e rest =
         let apart : ¬ (v ≡ n) = λ s. (let t = (Decides-eqb v n).1 s in cc) in
-        in_left v (below n) (n ∷ []) (in_below n v (omega (arith, apart)))
+        in_left v (below n) (n ∷ []) (rest (omega (arith, apart)))
 
 none_below : (n m : ℕ) → n ≤ m → list_any (λ x. nat_eq x m) (below n) ≡ false
 none_below zero m h = refl
@@ -68,23 +69,24 @@ one_above n = ap (λ (b : Bool). if b then below n else below n ++ n ∷ []) (no
 -- numbers that are in order behind those below n leave the numbers below some m
 counted : (vs : List ℕ) (n : ℕ) → in_order n vs ≡ true → (m : ℕ) × (fold (with_item nat_eq) (below n) vs ≡ below m)
 counted [] n h = (n, refl)
-counted (v ∷ vs) n h = by (ltb v n) refl (nat_eq v n) refl h
+counted (v ∷ vs) n h = by (ltb v n) refl (nat_eq v n) refl (counted vs n) (counted vs (suc n)) h
   where
-    by : (b : Bool) → ltb v n ≡ b → (e : Bool) → nat_eq v n ≡ e → (if b then in_order n vs else if e then in_order (suc n) vs else false) ≡ true
+    by : (b : Bool) → ltb v n ≡ b → (e : Bool) → nat_eq v n ≡ e
+        → (in_order n vs ≡ true → (m : ℕ) × (fold (with_item nat_eq) (below n) vs ≡ below m)) → (in_order (suc n) vs ≡ true → (m : ℕ) × (fold (with_item nat_eq) (below (suc n)) vs ≡ below m)) → (if b then in_order n vs else if e then in_order (suc n) vs else false) ≡ true
         → (m : ℕ) × (fold (with_item nat_eq) (with_item nat_eq (below n) v) vs ≡ below m)
-    by true p e q k =
-        let rest = counted vs n k in
+    by true p e q same more k =
+        let rest = same k in
         let seen : with_item nat_eq (below n) v ≡ below n = items_present nat_eq Decides-eqb (below n) (v ∷ []) (λ y i. subst (λ (z : ℕ). z ∈ below n) (sym (only y i)) (in_below n v ((Decides-ltb v n).0 p))) in
         (rest.0, ap (λ (d : List ℕ). fold (with_item nat_eq) d vs) seen ∙ rest.1)
       where
         only : (y : ℕ) → y ∈ (v ∷ []) → y ≡ v
         only y (inl e) = e
         only y (inr i) = absurd i
-    by false p true q k =
-        let rest = counted vs (suc n) k in
-        let same : v ≡ n = (Decides-eqb v n).0 q in
-        (rest.0, ap (λ (d : List ℕ). fold (with_item nat_eq) d vs) (ap (with_item nat_eq (below n)) same ∙ one_above n) ∙ rest.1)
-    by false p false q k = absurd (cc)
+    by false p true q same more k =
+        let rest = more k in
+        let is : v ≡ n = (Decides-eqb v n).0 q in
+        (rest.0, ap (λ (d : List ℕ). fold (with_item nat_eq) d vs) (ap (with_item nat_eq (below n)) is ∙ one_above n) ∙ rest.1)
+    by false p false q same more k = absurd (cc)
 
 -- then each variable has its own number
 pub own_numbers : (c : TreeClause) → in_order 0 (clause_vars c) ≡ true → (v : ℕ) → v ∈ clause_vars c → numbered (order_of c) v ≡ var v
@@ -143,7 +145,7 @@ pub opened : (f : Forest) (n id : ℕ) (args rest : List ℕ) (s : Sym) → tree
 opened f n id args rest s is h = ap (λ (t : Tree). in_order n (tree_vars t ++ ids_vars f rest)) is ∙ ap (in_order n) (sym (joined_vars f args rest)) ∙ h
 
 joined_size : (f : Forest) (ids rest : List ℕ) → ids_size f (ids ++ rest) ≡ trees_size (of_list (map (tree_at f) ids)) + ids_size f rest
-joined_size f [] rest = refl
+joined_size f [] rest = omega arith
 joined_size f (id ∷ ids) rest = let k = joined_size f ids rest in omega arith
 
 pub opened_size : (f : Forest) (id : ℕ) (args rest : List ℕ) (s : Sym) → tree_at f id ≡ app s (of_list (map (tree_at f) args)) → ids_size f (args ++ rest) + 1 ≤ ids_size f (id ∷ rest)
@@ -161,3 +163,6 @@ passed_size f id rest = let k = some_size (tree_at f id) in omega (arith, k)
 pub clause_ids : (f : Forest) (c : List (Signed ℕ)) → ids_vars f (map (λ l. l.atom) c) ≡ clause_vars (clause_at f c)
 clause_ids f [] = refl
 clause_ids f (l ∷ c) = ap (λ vs. tree_vars (tree_at f l.atom) ++ vs) (clause_ids f c)
+
+pub atoms_within : (f : Forest) (c : List (Signed ℕ)) → IsClauseOf f c → AreIds f (map (λ l. l.atom) c)
+atoms_within f c h = All-map (λ (i : ℕ). i < length f.trees) (λ l. l.atom) c h

@@ -4,3 +4,4 @@ pub mod ClauseTexts
 pub mod HintTexts
 pub mod Items
 pub mod Known
+pub mod Orders

@@ -1,5 +1,5 @@
 -- Variables in the order of their first occurrences.
-use Rattle.std.specs.Prelude.{ℕ, suc, List, [], ◌∷◌, ◌++◌, Bool, true, false, nat_eq, ltb, sum_by, if◌then◌else◌}
+use Rattle.std.specs.Prelude.{ℕ, suc, List, [], ◌∷◌, ◌++◌, Bool, true, false, nat_eq, ltb, ◌+◌, if◌then◌else◌}
 use Rattle.inst_logic.specs.Measure.{tree_size}
 use Rattle.inst_logic.specs.Substitution.{tree_vars}
 use Rattle.term_bank.specs.Forest.{Forest, tree_at}
@@ -14,5 +14,7 @@ abbrev pub ids_vars : Forest → List ℕ → List ℕ
 ids_vars f [] = []
 ids_vars f (id ∷ ids) = tree_vars (tree_at f id) ++ ids_vars f ids
 
+-- how much of the walk is left at most
 abbrev pub ids_size : Forest → List ℕ → ℕ
-ids_size f ids = sum_by (λ id. tree_size (tree_at f id)) ids
+ids_size f [] = 0
+ids_size f (id ∷ ids) = tree_size (tree_at f id) + ids_size f ids

@@ -1,12 +1,14 @@
-// Clauses that are in canonical form. Most clauses of a certificate are, and most are short and have no variables: then nothing is
-// built to see it.
-ghost use Rattle.std.specs.Prelude.{◌≡◌, ◌↔◌, [], IsTrue, IfOk};
+// Clauses that are in canonical form. The clauses of a certificate are, and most are short: then it is seen without building them
+// anew.
+ghost use Rattle.std.specs.Prelude.{◌≡◌, ◌↔◌, true, IsTrue, IfOk};
 ghost use Rattle.inst_logic.specs.Clauses.{IsCanonical};
 ghost use Rattle.inst_logic.specs.Lists.{distinct};
 ghost use Rattle.inst_logic.specs.Substitution.{clause_vars};
 ghost use Rattle.term_bank.specs.Forest.{AreFormed, IsClauseOf, clause_at, Extends};
 ghost use Rattle.clause_form.specs.Literals.{id_eq};
+ghost use Rattle.cert_items.specs.Orders.{in_order};
 
+use crate::order::is_ordered;
 use clause_form::{canonical, greatest_variable, variant};
 use inst_logic::Memory;
 use std::alloc::Global;
@@ -27,12 +29,27 @@ fn are_distinct(literals: &[IdLiteral]) -> bool
     true
 }
 
-// Whether the clause is short and has no variables.
-fn is_plain(bank: &Bank, c: &IdClause) -> bool
+// Whether the variables are 0, 1, 2 by first occurrence, as they are where there are none.
+fn is_numbered(alloc: Global, bank: &Bank, c: &IdClause) -> Result<bool, Memory>
     requires { IsClauseOf bank.now c.now }
-    ensures { IsTrue result → clause_vars (clause_at bank.now c.now) ≡ [] }
+    ensures { IfOk result (λ r. IsTrue r → in_order 0 (clause_vars (clause_at bank.now c.now)) ≡ true) }
 {
-    c.len() <= FEW && greatest_variable(bank, c).is_none()
+    if greatest_variable(bank, c).is_none() {
+        return Ok(true);
+    }
+    is_ordered(alloc, bank, c)
+}
+
+// Whether the clause is short and seen to be in canonical form.
+fn is_seen(alloc: Global, bank: &Bank, c: &IdClause) -> Result<bool, Memory>
+    requires { IsClauseOf bank.now c.now }
+    ensures { IfOk result (λ r. IsTrue r → IsCanonical (clause_at bank.now c.now)) }
+{
+    bank.distinct();
+    if c.len() > FEW || !are_distinct(c.as_slice()) {
+        return Ok(false);
+    }
+    is_numbered(alloc, bank, c)
 }
 
 // Whether the clause is the canonical form that is built of it.
@@ -55,8 +72,7 @@ pub fn is_canonical(alloc: Global, bank: &mut Bank, c: &IdClause) -> Result<bool
     ensures formed { AreFormed bank.old → AreFormed bank.new }
     ensures is { IfOk result (λ r. IsTrue r ↔ IsCanonical (clause_at bank.old c.now)) }
 {
-    if is_plain(bank, c) && are_distinct(c.as_slice()) {
-        bank.distinct();
+    if is_seen(alloc, bank, c)? {
         return Ok(true);
     }
     is_built(alloc, bank, c)

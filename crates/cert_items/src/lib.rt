@@ -13,6 +13,7 @@ pub mod name;
 pub mod note;
 mod notes;
 pub mod number;
+mod order;
 mod origin;
 mod place;
 mod printable;
