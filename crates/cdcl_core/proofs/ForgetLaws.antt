@@ -1,11 +1,13 @@
 -- A learned clause is forgotten.
-use Rattle.std.proofs.Common.{◌≡◌, ◌≢◌, ℕ, inl, inr, List, length, take, true, Bor, Option, Some, None, refl, sym, ap, ◌∙◌, subst, arith}
+use Rattle.std.proofs.Common.{◌≡◌, ◌≢◌, ℕ, ◌+◌, ◌<◌, ◌^◌, inl, inr, List, length, take, true, Bor, Option, Some, None, refl, sym, ap, ◌∙◌, subst, arith}
 use Rattle.std.specs.Prelude.{All, Contains, slice_get, is_some, option_copied}
 use Rattle.std.proofs.lemmas.List.Elements.{All-contains, All-weaker}
 use Rattle.std.proofs.lemmas.Option.{none-some, same_Some}
 use Rattle.std.proofs.lemmas.Bool.{cases_eq, false≢true}
 use Rattle.inst_logic.specs.declared.signed.Signed.{Signed}
 use Rattle.prop_logic.specs.declared.literal.Hint.TheVariants.{Added}
+use Rattle.prop_logic.specs.declared.solver.Answer.{Answer}
+use Rattle.prop_logic.specs.Solving.{IsAnswer}
 use Rattle.prop_logic.proofs.ListLaws.{All-from_contained, slice_get-Contains, Contains-slice_get}
 use Rattle.cdcl_trail.specs.declared.entry.Entry.{Entry}
 use Rattle.cdcl_trail.specs.Attached.{AreAttached}
@@ -15,7 +17,7 @@ use Rattle.cdcl_core.specs.declared.learned.Learned.{Learned}
 use Rattle.cdcl_core.specs.declared.log.Log.{Log}
 use Rattle.cdcl_core.specs.declared.search.Search.{Search}
 use Rattle.cdcl_core.specs.Log.{IsFound, IsLog}
-use Rattle.cdcl_core.specs.Search.{AreGiven, IsKept, IsTrueUpTo, IsSearch, IsBackFrom, IsSameButClauses}
+use Rattle.cdcl_core.specs.Search.{AreGiven, IsKept, IsTrueUpTo, IsSearch, IsSameButClauses, Continues, weight}
 use Rattle.cdcl_core.proofs.EntryLaws.{reason_found}
 use Rattle.cdcl_core.proofs.PhaseLaws.{phases_same}
 
@@ -91,7 +93,7 @@ same_both first old new a b = record {
   checked = b.checked ∙ a.checked;
 }
 
-same_search : (assumptions : List (Signed ℕ)) (old new : Search) → IsSameButClauses old new → IsSearch assumptions old → IsSearch assumptions new
+pub same_search : (assumptions : List (Signed ℕ)) (old new : Search) → IsSameButClauses old new → IsSearch assumptions old → IsSearch assumptions new
 same_search assumptions old new b s =
     let entries : new.trail.trail.entries ≡ old.trail.trail.entries = ap (λ t. t.entries) b.trail in
     let level : new.trail.trail.level ≡ old.trail.trail.level = ap (λ t. t.level) b.trail in
@@ -103,12 +105,18 @@ same_search assumptions old new b s =
       checked = subst (λ es. All (Contains (literals_of es)) (take new.checked assumptions)) (sym entries) (subst (λ n. All (Contains (literals_of old.trail.trail.entries)) (take n assumptions)) (sym b.checked) s.checked);
     }
 
-pub back_forgot : (first old new : Search) → IsBackFrom first old → IsSameButClauses old new → IsBackFrom first new
-back_forgot first old new b s = record {
-  trail = b.trail;
-  level = b.level;
-  within = b.within;
-  back = s.trail ∙ b.back;
-  added = ap (λ x. x.added) s.log ∙ b.added;
-  search = λ assumptions x. same_search assumptions old new s (b.search assumptions x);
+-- first some are forgotten, and then a step of the search
+pub continues_less : (assumptions : List (Signed ℕ)) (first old new : Search) (found : Option Answer) → IsSameButClauses first old → Continues assumptions old new found → Continues assumptions first new found
+continues_less assumptions first old new None b c = (
+  c.0,
+  record {
+    same = record { atoms = c.1.same.atoms ∙ ap (λ t. t.atoms) b.trail; added = c.1.same.added ∙ ap (λ l. l.added) b.log };
+    within = subst (λ t. weight t.atoms t.entries < (t.atoms + 1) ^ (t.atoms + 1)) b.trail c.1.within;
+    risen = subst (λ t. weight t.atoms t.entries < weight t.atoms new.trail.trail.entries) b.trail c.1.risen;
+  },
+)
+continues_less assumptions first old new (Some answer) b c = record {
+  kept = c.kept;
+  same = record { atoms = c.same.atoms ∙ ap (λ t. t.atoms) b.trail; added = c.same.added ∙ ap (λ l. l.added) b.log };
+  answered = subst (λ n. IsAnswer n first.log.added assumptions answer) (ap (λ t. t.atoms) b.trail) (subst (λ added. IsAnswer old.trail.trail.atoms added assumptions answer) (ap (λ l. l.added) b.log) c.answered);
 }

@@ -1,57 +1,53 @@
-// The learned clauses that propagation looks at, and which of them are forgotten: those whose literals had the most levels
-// when they were learned (Audemard and Simon, Predicting learnt clauses quality in modern SAT solvers, 2009), and of these the
-// longest. The number that may be kept grows by a fixed amount each time that some are forgotten: one that grows by a part of
-// itself comes to keep nearly all of them in a long search.
-ghost use Rattle.prop_logic.specs.Literal.{AtomsBelow};
+// The learned clauses that propagation looks at, and which of them are forgotten: those that conflicts met least of late (Eén
+// and Sörensson, An extensible SAT-solver, 2003). How many may be kept goes with the number of the added clauses, and rises by
+// a tenth after a hundred conflicts, after half as many more, and so on: where it rises each time that some are forgotten,
+// nearly all of them are kept in a long search, and propagation pays for each.
 
-use cdcl_trail::{Clauses, Trail};
+use crate::uses::Uses;
+use cdcl_trail::Clauses;
 use inst_logic::Memory;
-use prop_logic::Lit;
+use prop_logic::Hint;
 use std::alloc::Global;
 
-// Clauses of so few levels are kept.
-const FEW: usize = 2;
+// Clauses of so few literals are kept.
+const SHORT: usize = 2;
 
-// At first so many clauses are kept.
-const FIRST: usize = 500;
+// At least so many clauses are kept, and one for each three added clauses.
+const FIRST: usize = 300;
 
-// So many more are kept each time that some are forgotten.
-const MORE: usize = 50;
+const ADDED: usize = 3;
 
+// At first the limit rises after so many conflicts.
+const CONFLICTS: u64 = 100;
+
+// A learned clause, by the number of its step and the trail's number of it. Those that are to be kept come first.
 #[derive(Clone, Copy, Debug, PartialEq, Eq, PartialOrd, Ord)]
 pub(crate) struct Rank {
-    levels: usize,
+    unused: u64,
+    step: usize,
     literals: usize,
     pub(crate) number: usize,
 }
 
 // No clause has number 0.
 const NO_RANK: Rank = Rank {
-    levels: 0,
+    unused: 0,
+    step: 0,
     literals: 0,
     number: 0,
 };
 
 // The ranks of the clauses, and how many there may be before some are forgotten. Those in `passed` were to be forgotten, but
-// were reasons; they come back to the others when these are sorted next.
+// were reasons; they come back to the others when these are sorted next. After `due` conflicts more the limit rises, and then
+// after `span` of them.
 #[derive(Drop)]
 pub(crate) struct Learned {
     ranks: Vec<Rank>,
     passed: Vec<Rank>,
+    uses: Uses,
     limit: usize,
-}
-
-// How many different levels the literals have.
-pub(crate) fn count_levels(alloc: Global, trail: &Trail, clause: &[Lit]) -> Result<usize, Memory>
-    requires { AtomsBelow trail.now.trail.atoms clause.now }
-{
-    let mut levels = Vec::new(alloc);
-    for lit in clause {
-        levels.push(trail.level_of(lit.atom).unwrap_or(0))?;
-    }
-    levels.sort()?;
-    levels.dedup();
-    Ok(levels.len())
+    due: u64,
+    span: u64,
 }
 
 impl Learned {
@@ -59,22 +55,40 @@ impl Learned {
         Learned {
             ranks: Vec::new(alloc),
             passed: Vec::new(alloc),
+            uses: Uses::new(alloc),
             limit: FIRST,
+            due: CONFLICTS,
+            span: CONFLICTS,
         }
     }
 
+    // Lists the clause of a step that was learned by these hints.
     pub(crate) fn push(
         &mut self,
+        step: usize,
         number: usize,
-        levels: usize,
         literals: usize,
+        hints: &[Hint],
     ) -> Result<(), Memory> {
         self.ranks.push(Rank {
-            levels,
+            unused: 0,
+            step,
             literals,
             number,
         })?;
+        self.uses.see(step, hints);
+        self.count();
         Ok(())
+    }
+
+    // Counts a conflict.
+    fn count(&mut self) {
+        self.due = self.due.saturating_sub(1);
+        if self.due == 0 {
+            self.span = self.span.saturating_add(self.span / 2);
+            self.due = self.span;
+            self.limit = self.limit.saturating_add(self.limit / 10);
+        }
     }
 
     // Puts those that were passed back to the others. One that finds no room is not listed any more, and so never forgotten.
@@ -87,15 +101,38 @@ impl Learned {
         }
     }
 
-    // How many of the clauses are to be forgotten. They are the last ones then.
-    pub(crate) fn sort(&mut self) -> usize {
-        self.take_passed();
-        if self.ranks.len() < self.limit || self.ranks.sort().is_err() {
+    // Gives each clause its rank by what was seen of it, and answers how many are short.
+    fn rank_all(&mut self) -> usize {
+        let mut short = 0_usize;
+        for place in 0..self.ranks.len() {
+            if place < self.ranks.len() {
+                let rank = self.ranks[place];
+                let unused = if rank.literals <= SHORT {
+                    short = short.saturating_add(1);
+                    0
+                } else {
+                    u64::MAX - self.uses.count(rank.step)
+                };
+                self.ranks[place] = Rank { unused, ..rank };
+            }
+        }
+        short
+    }
+
+    // How many of the clauses are to be forgotten, where so many were added and so many literals have values. They are the last
+    // ones then.
+    pub(crate) fn sort(&mut self, added: usize, assigned: usize) -> usize {
+        self.limit = self.limit.max(added / ADDED);
+        let listed = self.ranks.len().saturating_add(self.passed.len());
+        if listed < self.limit.saturating_add(assigned) {
             return 0;
         }
-        self.limit = self.limit.saturating_add(MORE);
-        let few = self.ranks.iter().filter(|rank| rank.levels <= FEW).count();
-        (self.ranks.len() / 2).min(self.ranks.len().saturating_sub(few))
+        self.take_passed();
+        let short = self.rank_all();
+        if self.ranks.sort().is_err() {
+            return 0;
+        }
+        (self.ranks.len() / 2).min(self.ranks.len().saturating_sub(short))
     }
 
     // Takes the last clause out.

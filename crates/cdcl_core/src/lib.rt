@@ -13,5 +13,6 @@ mod order;
 mod pace;
 mod phases;
 mod search;
+mod uses;
 
 pub use cdcl::Cdcl;

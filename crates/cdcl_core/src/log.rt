@@ -77,4 +77,12 @@ impl Log {
         }
         &[]
     }
+
+    // The hints of the step of this number.
+    pub(crate) fn hints_of(&self, step: usize) -> &[Hint] {
+        if 0 < step && step <= self.steps.len() {
+            return self.steps.as_slice()[step - 1].hints.as_slice();
+        }
+        &[]
+    }
 }

@@ -185,6 +185,6 @@ impl Order {
 
     // A conflict is over: what is raised from now on counts more.
     pub(crate) fn decay(&mut self) {
-        self.step = self.step.saturating_add(self.step / 16);
+        self.step = self.step.saturating_add(self.step / 19);
     }
 }

@@ -1,6 +1,6 @@
 // The search: a loop over the trail. Each turn propagates, and then decides a literal or answers a conflict by a learned
 // clause, which gives a literal at a lower level. A restart takes back all levels but those of assumptions. Learned clauses
-// are forgotten at restarts, and where a question begins, since many short questions may never come to a restart.
+// are forgotten before any turn at which there are too many, since restarts may be far apart.
 ghost use Rattle.std.specs.Prelude.{◌≡◌, ◌≢◌, IsTrue, IsFalse, ℕ, ◌+◌, ◌-◌, ◌++◌, ◌∷◌, [], ◌<◌, ◌≤◌, ◌⊎◌, List, Bool, true, false, Some, None, All, Contains, MatchBool, length, map, min, take, slice_get, unwrap_or, IfOk, IfSome, IfNone, OnOk};
 ghost use Rattle.inst_logic.specs.declared.signed.Signed.{Signed};
 ghost use Rattle.inst_logic.specs.Signed.{complement};
@@ -19,7 +19,7 @@ ghost use Rattle.cdcl_core.specs.Search.{IsKept, IsTrueUpTo, IsSearch, IsCoreIn,
 
 use crate::analysis::{Analysis, analyze, analyze_given, literal_at};
 use crate::cut::cut;
-use crate::learned::{Learned, count_levels};
+use crate::learned::Learned;
 use crate::log::{Log, put_name};
 use crate::marks::Marks;
 use crate::pace::Pace;
@@ -346,13 +346,15 @@ impl Search {
         self.clauses.forget(number);
     }
 
-    // Forgets learned clauses of many levels, where there are too many.
+    // Forgets learned clauses that conflicts meet least, where there are too many.
     fn reduce(&mut self)
         requires kept { IsKept self.old }
         requires trail { IsTrail self.old.trail.trail }
         ensures same { IsSameButClauses self.old self.new }
     {
-        for _ in 0..self.learned.sort() {
+        let added = self.log.added.len();
+        let assigned = self.trail.assigned().len();
+        for _ in 0..self.learned.sort(added, assigned) {
             let rank = self.learned.pop();
             self.forget(rank.number);
             self.learned.list_again(rank, &self.clauses);
@@ -385,14 +387,15 @@ impl Search {
         ensures added { self.new.log.added ≡ self.old.log.added }
         ensures assumed { self.new.assumed ≡ self.old.assumed }
     {
-        let hint = Hint::Step(self.log.steps.len());
+        let step = self.log.steps.len();
+        let hint = Hint::Step(step);
         let clause = self.log.cited(hint);
-        let levels = count_levels(self.alloc, &self.trail, clause)?;
         let literals = clause.len();
         let key = self.clauses.add(clause)?;
         put_name(&mut self.log.names, key, hint)?;
         self.trail.attach(&self.clauses, key)?;
-        self.learned.push(key, levels, literals)?;
+        let hints = self.log.hints_of(step);
+        self.learned.push(step, key, literals, hints)?;
         Ok(key)
     }
 
@@ -615,6 +618,18 @@ impl Search {
         }
     }
 
+    // The same, where some learned clauses are forgotten first if there are too many.
+    fn turn(&mut self, assumptions: &[Lit]) -> Result<Option<Answer>, Memory>
+        requires search { IsSearch assumptions.now self.old }
+        requires atoms { AtomsBelow self.old.trail.trail.atoms assumptions.now }
+        ensures goes { IfOk result (Continues assumptions.now self.old self.new) }
+        ensures added { self.new.log.added ≡ self.old.log.added }
+    {
+        let _ = self.trail.assigned();
+        self.reduce();
+        self.advance(assumptions)
+    }
+
     // Keeps all levels where nothing is assumed, else those whose decisions are assumed again.
     fn keep_levels(&mut self, assumptions: &[Lit])
         requires kept { IsKept self.old }
@@ -632,17 +647,6 @@ impl Search {
         self.assumed = level;
     }
 
-    // Begins a question on the levels that can be kept.
-    fn begin(&mut self, assumptions: &[Lit])
-        requires kept { IsKept self.old }
-        ensures search { IsSearch assumptions.now self.new }
-        ensures same { IsSameProblem self.old self.new }
-    {
-        let _ = self.trail.assigned();
-        self.reduce();
-        self.keep_levels(assumptions);
-    }
-
     // Takes back the levels that no assumption opened.
     fn restart(&mut self)
         requires kept { IsKept self.old }
@@ -650,8 +654,6 @@ impl Search {
     {
         let level = self.assumed.min(self.trail.level());
         self.back_to(level);
-        let _ = self.trail.assigned();
-        self.reduce();
     }
 
     // Whether the clauses and the assumptions can be true together.
@@ -663,7 +665,7 @@ impl Search {
         ensures added { self.new.log.added ≡ self.old.log.added }
         ensures answer { IfOk result (IsAnswer self.old.trail.trail.atoms self.old.log.added assumptions.now) }
     {
-        self.begin(assumptions);
+        self.keep_levels(assumptions);
         let mut pace = Pace::new();
         loop {
             if pace.is_due() {
@@ -672,7 +674,7 @@ impl Search {
                 continue;
             }
             let level = self.trail.level();
-            if let Some(answer) = self.advance(assumptions)? {
+            if let Some(answer) = self.turn(assumptions)? {
                 return Ok(answer);
             }
             pace.see(level, self.trail.level());

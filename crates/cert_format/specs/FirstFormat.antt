@@ -16,6 +16,7 @@ use Rattle.cert_format.specs.LineMachine as machine
 use Rattle.cert_format.specs.Machines as runs
 use Rattle.cert_format.specs.Machines.{Ends, IsTaken, IsExact}
 use Rattle.cert_format.specs.LineTexts.{line_text, is_text_name, note_is_printable}
+use Rattle.inst_logic.specs.Codes as byte
 
 abbrev pub clause_eq : TreeClause → TreeClause → Bool
 clause_eq [] [] = true
@@ -26,7 +27,7 @@ clause_eq (l ∷ ls) (m ∷ ms) = literal_eq l m && clause_eq ls ms
 -- the atom's symbol, with its arguments, can be printed
 abbrev pub symbol_is_printable : Kind → List ℕ → ℕ → ℕ → Bool
 symbol_is_printable Predicate name arity count = is_readable_name name && nat_eq count arity
-symbol_is_printable Equality name arity count = bytes_eq name (61 ∷ []) && (nat_eq arity 2 && nat_eq count 2)
+symbol_is_printable Equality name arity count = bytes_eq name (byte.equals_sign ∷ []) && (nat_eq arity 2 && nat_eq count 2)
 symbol_is_printable Function name arity count = false
 
 abbrev pub atom_is_printable : Tree → Bool

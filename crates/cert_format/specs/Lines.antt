@@ -6,9 +6,10 @@ use Rattle.inst_logic.specs.Clauses.{TreeClause}
 use Rattle.inst_logic.specs.Printing.{name_text, clause_text, joined}
 use Rattle.inst_calculus.specs.Entries.{Origin, input, inst, Entry}
 use Rattle.inst_calculus.specs.Steps.{Cited, given, earlier, Step}
+use Rattle.inst_logic.specs.Codes as byte
 
 abbrev pub text_line : List ℕ → List ℕ
-text_line text = text ++ 10 ∷ []
+text_line text = text ++ byte.line_feed ∷ []
 
 -- `% SZS status S for NAME`
 abbrev pub status_line : List ℕ → List ℕ → List ℕ

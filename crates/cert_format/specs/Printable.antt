@@ -8,6 +8,7 @@ use Rattle.inst_logic.specs.Readable.{clause_is_readable, clause_fits}
 use Rattle.inst_calculus.specs.Entries.{Origin, input, inst, Entry}
 use Rattle.inst_calculus.specs.Steps.{Cited, given, earlier, Step}
 use Rattle.cert_format.specs.Certificate.{Base, FirstRefutation, Saturation, Certificate, first_refutation, saturation}
+use Rattle.inst_logic.specs.Codes as byte
 
 -- ---- clauses and names
 
@@ -115,4 +116,4 @@ pub record IsPrintable (format : ℕ) (c : Certificate) : Type 0 where
 pub record IsTextName (name : List ℕ) : Type 0 where
   pub some : 0 < length name
   pub short : length name ≤ 4096
-  pub bytes : All (λ b. (32 ≤ b) × (b ≢ 127)) name
+  pub bytes : All (λ b. (byte.space ≤ b) × (b ≢ byte.delete)) name

@@ -1,6 +1,6 @@
 -- What can be printed is well formed.
-use Rattle.std.proofs.Common.{◌≡◌, ℕ, Bool, true, false, List, ◌∷◌, [], ◌++◌, length, map, refl, sym, ◌∙◌, subst}
-use Rattle.std.specs.Prelude.{◌&&◌, ◌||◌, nat_eq}
+use Rattle.std.proofs.Common.{◌≡◌, ℕ, true, List, ◌∷◌, [], ◌++◌, length, map, refl, sym, ◌∙◌, subst}
+use Rattle.std.specs.Prelude.{◌&&◌, nat_eq}
 use Rattle.std.proofs.lemmas.List.{length-map}
 use Rattle.inst_logic.specs.declared.symbol.Kind.TheVariants.{Predicate, Equality, Function}
 use Rattle.inst_logic.specs.Tree.{Tree, var, app, Trees, none, more, of_list}
@@ -11,7 +11,9 @@ use Rattle.cert_format.specs.Spelling.{is_printable, are_printable}
 use Rattle.cert_items.specs.Reading.{ArePrintable, parts_done}
 use Rattle.cert_items.specs.declared.terms.Open.{Open}
 use Rattle.std.proofs.lemmas.Bool.{and_parts, and_from}
-use Rattle.cert_items.proofs.Reading.{count_list, printable_list, equal_numbers, IsClosing, printable_front}
+use Rattle.cert_items.proofs.Reading.{count_list, printable_list, IsClosing, printable_front}
+use Rattle.inst_logic.proofs.Booleans.{or_left, or_right}
+use Rattle.inst_logic.proofs.Numbers.{equal_numbers}
 
 mutual
   tree_formed : (t : Tree) → is_printable t ≡ true → tree_is_formed t ≡ true
@@ -26,9 +28,6 @@ mutual
   trees_formed none h = refl
   trees_formed (more t ts) h = let a = and_parts (is_printable t) (are_printable ts) h in and_from (tree_is_formed t) (trees_are_formed ts) (tree_formed t a.0) (trees_formed ts a.1)
 
-or_left : (a b : Bool) → a ≡ true → (a || b) ≡ true
-or_left a b h = rw h refl
-
 pub applied_formed : (f : Forest) (ids : List ℕ) (n : List ℕ) → ArePrintable (map (tree_at f) ids) → IsFormed (app (record { kind = Function; name = n; arity = length ids }) (of_list (map (tree_at f) ids)))
 applied_formed f ids n h =
     let ts = map (tree_at f) ids in
@@ -37,10 +36,6 @@ applied_formed f ids n h =
 
 pub closing_formed : (f : Forest) (bytes : List ℕ) (os : List Open) (o : Open) (ids args : List ℕ) (rest : List ℕ) (k : IsClosing f bytes os o ids rest) → map (tree_at f) args ≡ k.done ++ k.last ∷ [] → (n : List ℕ) → IsFormed (app (record { kind = Function; name = n; arity = length args }) (of_list (map (tree_at f) args)))
 closing_formed f bytes os o ids args rest k e n = applied_formed f args n (subst ArePrintable (sym e) (printable_front (parts_done k.outer ++ k.front) (k.done ++ k.last ∷ []) k.printable).1)
-
-or_right : (a b : Bool) → b ≡ true → (a || b) ≡ true
-or_right true b h = refl
-or_right false b h = h
 
 pub predicate_formed : (f : Forest) (ids : List ℕ) (n : List ℕ) → ArePrintable (map (tree_at f) ids) → IsFormed (app (record { kind = Predicate; name = n; arity = length ids }) (of_list (map (tree_at f) ids)))
 predicate_formed f ids n h =

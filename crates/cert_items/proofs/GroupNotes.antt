@@ -13,7 +13,7 @@ use Rattle.cert_format.proofs.Marked.{marked_once}
 use Rattle.cert_format.proofs.Spelling.{small_number}
 use Rattle.cert_items.specs.declared.group.Group.{Group}
 use Rattle.cert_items.specs.declared.group.Group.TheVariants as groups
-use Rattle.cert_items.specs.Items.{group_of, HasForm, IsNote, IsNoteAt, NoNote, NoLastNote}
+use Rattle.cert_items.specs.Items.{group_of, rank_of, HasForm, IsNote, IsNoteAt, NoNote, NoLastNote}
 use Rattle.cert_items.specs.HintTexts.{NoHints}
 
 -- ---- forms
@@ -112,24 +112,17 @@ no_step_hints r n bytes after is bad _ rest i e = let q = i.group_is in cc
 
 -- ---- the end of a line
 
-abbrev rank_of : Group → ℕ
-rank_of groups.Input = 0
-rank_of groups.Axiom = 1
-rank_of groups.Member = 2
-rank_of groups.Ground = 3
-rank_of groups.Step = 4
-
-rank_is : (note : Note) → rank note ≡ rank_of (group_of note)
-rank_is (named w) = refl
-rank_is equality = refl
-rank_is (member o) = refl
-rank_is (selected o p) = refl
-rank_is ground_of = refl
-rank_is (shown_by hs) = refl
+pub rank_group : (note : Note) → rank note ≡ rank_of (group_of note)
+rank_group (named w) = refl
+rank_group equality = refl
+rank_group (member o) = refl
+rank_group (selected o p) = refl
+rank_group ground_of = refl
+rank_group (shown_by hs) = refl
 
 pub one_note : (r : Bool) (g : Group) (n : ℕ) (a b : Note) (x y : List ℕ) → IsNote r g a → IsNote r g b → note_text n a x ≡ note_text n b y → (a ≡ b) × (x ≡ y)
 one_note r g n a b x y i j e =
-    let same = rank_is a ∙ ap rank_of (i.group_is ∙ sym j.group_is) ∙ sym (rank_is b) in
+    let same = rank_group a ∙ ap rank_of (i.group_is ∙ sym j.group_is) ∙ sym (rank_group b) in
     note_once r n a b x y same (form_in r a i.form) (form_in r b j.form) i.printable j.printable e
 
 pub no_last_note : (r : Bool) (g : Group) (n : ℕ) (bytes : List ℕ) → NoNote r g n bytes → NoLastNote r g n bytes

@@ -23,17 +23,16 @@ use Rattle.std.proofs.lemmas.Bool.{and_parts, and_from}
 use Rattle.cert_format.proofs.Spelling.{parts, one_term, following_follows, following_ends, follows_any, arguments_end, no_variable, parenthesis}
 use Rattle.cert_format.proofs.Names.{names_once}
 use Rattle.std.proofs.lemmas.Bool.Decides.{nat_tests}
+use Rattle.inst_logic.proofs.Numbers.{equal_numbers}
+use Rattle.term_bank.proofs.Growth.{ids_extend}
 
 -- ---- one more term
 
 all_pushed : (ts : List Tree) (t : Tree) → ArePrintable ts → is_printable t ≡ true → ArePrintable (ts ++ t ∷ [])
 all_pushed ts t h p = list_all-append is_printable ts (t ∷ []) ∙ and_from (list_all is_printable ts) (is_printable t && true) h (and_from (is_printable t) true p refl)
 
-within_grown : (f g : Forest) (ids : List ℕ) → Extends f g → AreIds f ids → AreIds g ids
-within_grown f g ids e h k d less = let n = h k d less in let l = e.trees.0 in omega arith
-
 pub within_pushed : (f g : Forest) (ids : List ℕ) (id : ℕ) → Extends f g → AreIds f ids → id < length g.trees → AreIds g (ids ++ id ∷ [])
-within_pushed f g ids id e h n = All-push (λ i. i < length g.trees) ids id (within_grown f g ids e h) n
+within_pushed f g ids id e h n = All-push (λ i. i < length g.trees) ids id (ids_extend f g ids e h) n
 
 -- the term that was due is done
 pub done_term : (f g : Forest) (bytes : List ℕ) (opens : List Open) (ids : List ℕ) (id : ℕ) (t : Tree) (text rest : List ℕ) → IsDue f bytes opens ids text → text ≡ term t rest → Follows t rest → is_printable t ≡ true
@@ -293,9 +292,6 @@ pub printable_list : (ts : List Tree) → are_printable (of_list ts) ≡ list_al
 printable_list [] = refl
 printable_list (t ∷ ts) = ap (λ (b : Bool). is_printable t && b) (printable_list ts)
 
-pub equal_numbers : (m n : ℕ) → m ≡ n → nat_eq m n ≡ true
-equal_numbers m n e = grind (arith, nat_tests)
-
 pub applied_printable : (name : List ℕ) (ts : List Tree) → is_readable_name name ≡ true → ArePrintable ts → is_printable (app (record { kind = Function; name = name; arity = length ts }) (of_list ts)) ≡ true
 applied_printable name ts r h =
     and_from (is_readable_name name) (nat_eq (count_of (of_list ts)) (length ts) && are_printable (of_list ts)) r
@@ -452,10 +448,6 @@ not_at c rest h x e = let k : begins (nat_eq c) (c ∷ x) ≡ false = subst (λ 
 pub is_at : (c : ℕ) (rest : List ℕ) → begins (nat_eq c) rest ≡ true → ((x : List ℕ) → rest ≢ c ∷ x) → ⊥
 is_at c [] h no_ = cc
 is_at c (b ∷ bs) h no_ = no_ bs (let e : c ≡ b = grind (arith, nat_tests) in ap (λ (x : ℕ). x ∷ bs) (sym e))
-
-pub no_items : {A : Type 0} (xs : List A) → length xs ≡ 0 → xs ≡ []
-no_items [] h = refl
-no_items (x ∷ xs) h = absurd (omega arith)
 
 pub is_none : {A : Type 0} (r : Option A) (P : Type 0) → r ≡ None → IfNone r P → P
 is_none {A} r P e h = subst (λ (x : Option A). IfNone x P) e h

@@ -19,10 +19,7 @@ use Rattle.std.proofs.lemmas.Bool.{and_parts, and_from}
 use Rattle.cert_format.proofs.Names.{names_once}
 use Rattle.cert_format.proofs.Spelling.{parts, no_variable, one_term, arguments_end, small_number}
 use Rattle.cert_items.proofs.Reading.{applied_printable, printable_list, count_list}
-
-of_to : (ts : Trees) → of_list (to_list ts) ≡ ts
-of_to none = refl
-of_to (more t ts) = ap (more t) (of_to ts)
+use Rattle.inst_logic.proofs.Applications.{same_trees}
 
 -- an application whose arguments cannot be read
 pub no_arguments : (bytes name inner : List ℕ) → IsNameText name → bytes ≡ name ++ 40 ∷ inner → NoTerms inner 41 → NoTerm bytes
@@ -36,7 +33,7 @@ no_arguments bytes name inner named is bad (app s us) rest p f e =
     by none q g h = let z : begins goes_on rest ≡ true = ap (begins goes_on) (sym h) in cc
     by (more v vs) q g h =
         let both = and_parts (is_printable v) (are_printable vs) q in
-        bad v (to_list vs) rest (and_from (is_printable v) (list_all is_printable (to_list vs)) both.0 (sym (printable_list (to_list vs)) ∙ ap are_printable (of_to vs) ∙ both.1)) (let t : inner ≡ term v (following 41 vs rest) = cc in t ∙ ap (λ (ts : Trees). term v (following 41 ts rest)) (sym (of_to vs)))
+        bad v (to_list vs) rest (and_from (is_printable v) (list_all is_printable (to_list vs)) both.0 (sym (printable_list (to_list vs)) ∙ ap are_printable (same_trees vs) ∙ both.1)) (let t : inner ≡ term v (following 41 vs rest) = cc in t ∙ ap (λ (ts : Trees). term v (following 41 ts rest)) (sym (same_trees vs)))
 
 pub variable_term : (g : Forest) (id n : ℕ) (bytes rest : List ℕ) → IsVariableAt n bytes rest → IsAt g id (var n) → IsTermAt g id bytes rest
 variable_term g id n bytes rest v at = record {

@@ -22,6 +22,14 @@ group_of (selected o p) = groups.Member
 group_of ground_of = groups.Ground
 group_of (shown_by hs) = groups.Step
 
+-- the place of the group in a text
+abbrev pub rank_of : Group → ℕ
+rank_of groups.Input = 0
+rank_of groups.Axiom = 1
+rank_of groups.Member = 2
+rank_of groups.Ground = 3
+rank_of groups.Step = 4
+
 -- the letter before the number
 abbrev pub letter_of : Group → ℕ
 letter_of groups.Input = 105

@@ -1,8 +1,8 @@
 // Clauses of a text, read into a bank.
-ghost use Rattle.std.specs.Prelude.{◌≡◌, ◌≢◌, ◌++◌, ◌<◌, ◌≤◌, ◌∷◌, ℕ, List, [], length, false, true, map, IsTrue, IfOk, OnOk, OnErr, IfSome, IfNone, None, Bool};
+ghost use Rattle.std.specs.Prelude.{◌≡◌, ◌≢◌, ◌++◌, ◌<◌, ◌∷◌, ℕ, List, [], length, false, true, IfOk, IfSome, IfNone, None, Bool};
 ghost use Rattle.inst_logic.specs.declared.signed.Signed.{Signed};
 ghost use Rattle.term_bank.specs.Forest.{AreFormed, Extends};
-ghost use Rattle.cert_items.specs.Roots.{IsLiteralAt, NoForm, NoFormHead};
+ghost use Rattle.cert_items.specs.Roots.{IsLiteralAt, NoFormHead};
 ghost use Rattle.cert_items.specs.ClauseTexts.{ended_by, IsClauseText, NoClause};
 
 use crate::literals::literal;

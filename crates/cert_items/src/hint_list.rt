@@ -1,9 +1,9 @@
 // The hints of a step.
-ghost use Rattle.std.specs.Prelude.{◌≡◌, ◌≢◌, ◌++◌, ◌∷◌, ◌<◌, ◌^◌, ℕ, List, [], Bool, length, map, IfOk, IfSome, IfNone, IsTrue, true};
+ghost use Rattle.std.specs.Prelude.{◌≡◌, ◌≢◌, ◌++◌, ◌∷◌, ◌<◌, ℕ, List, [], Bool, length, IfOk, IfSome, IfNone, IsTrue, true};
 ghost use Rattle.std.specs.Char.{is_ascii_digit};
 ghost use Rattle.inst_calculus.specs.Steps.{Cited};
 ghost use Rattle.cert_format.specs.Runs.{Ends};
-ghost use Rattle.cert_format.specs.LineTexts.{hint, hints, hint_is_printable, hints_are_printable};
+ghost use Rattle.cert_format.specs.LineTexts.{hint, hint_is_printable};
 ghost use Rattle.saturation_cert.specs.declared.certificate.GroundHint.{GroundHint};
 ghost use Rattle.saturation_cert.specs.Values.{hint_of};
 ghost use Rattle.cert_items.specs.HintTexts.{hint_end, HasHints, NoHints, NoHintHead};

@@ -1,5 +1,5 @@
 // A whole line of an item.
-ghost use Rattle.std.specs.Prelude.{◌≡◌, ◌<◌, List, [], length, IfOk, IfSome, IfNone};
+ghost use Rattle.std.specs.Prelude.{◌≡◌, ◌<◌, [], IfOk, IfSome, IfNone};
 ghost use Rattle.term_bank.specs.Forest.{AreFormed, clause_at, Extends};
 ghost use Rattle.cert_format.specs.LineMachine.{item};
 ghost use Rattle.cert_format.specs.LineTexts.{line};

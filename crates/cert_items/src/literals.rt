@@ -1,11 +1,11 @@
 // Literals and clauses of a text, read into a bank.
-ghost use Rattle.std.specs.Prelude.{◌≡◌, ◌≢◌, ◌++◌, ◌<◌, ◌≤◌, ◌∷◌, ◌^◌, ℕ, List, [], length, false, true, map, IsTrue, IfOk, OnOk, OnErr, IfSome, IfNone, None, nat_eq};
+ghost use Rattle.std.specs.Prelude.{◌≡◌, ◌≢◌, ◌++◌, ◌<◌, ◌∷◌, ℕ, List, length, false, true, map, IsTrue, IfOk, IfSome, IfNone, None};
 ghost use Rattle.inst_logic.specs.declared.symbol.Kind.{Kind};
 ghost use Rattle.inst_logic.specs.declared.symbol.Kind.TheVariants.{Predicate, Equality, Function};
 ghost use Rattle.term_bank.specs.Forest.{tree_at, AreFormed, AreIds, IsAt, Extends};
 ghost use Rattle.inst_logic.specs.Printing.{equality_sign, sign_text};
 ghost use Rattle.cert_format.specs.Names.{IsNameText};
-ghost use Rattle.cert_format.specs.Spelling.{is_printable, goes_on, IsClose, IsEqualitySign};
+ghost use Rattle.cert_format.specs.Spelling.{is_printable, goes_on, IsEqualitySign};
 ghost use Rattle.cert_items.specs.Reading.{ArePrintable, NoTerm};
 ghost use Rattle.cert_items.specs.Roots.{IsRootAt, IsRoot, IsTermAt, IsApplicationAt, IsLiteralAt, NoForm, equality_atom};
 

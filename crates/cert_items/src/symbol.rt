@@ -1,8 +1,8 @@
 // Names and symbols of printed names.
-ghost use Rattle.std.specs.Prelude.{◌≡◌, ◌≢◌, ◌++◌, ◌<◌, ◌≤◌, ◌∷◌, ℕ, List, [], length, false, true, map, IsTrue, IfOk, OnOk, OnErr};
+ghost use Rattle.std.specs.Prelude.{◌≡◌, ◌<◌, ℕ, List, length, false, true, map, IsTrue, IfOk};
 ghost use Rattle.inst_logic.specs.Printing.{is_readable_name, name_text};
 ghost use Rattle.inst_logic.specs.Tree.{app, of_list};
-ghost use Rattle.term_bank.specs.Forest.{tree_at, IsAt, AreIds, Extends, AreFormed, IsFormed};
+ghost use Rattle.term_bank.specs.Forest.{tree_at, AreIds, Extends, AreFormed, IsFormed};
 ghost use Rattle.cert_format.specs.Names.{IsNameText, unquoted};
 ghost use Rattle.cert_items.specs.Reading.{IsApplied};
 

@@ -1,9 +1,8 @@
 // Terms of a text, read into a bank: a list of open applications stands for what is left of them, so no depth of term
 // exhausts a stack.
-ghost use Rattle.std.specs.Prelude.{◌≡◌, ◌≢◌, ◌++◌, ◌<◌, ◌≤◌, ◌∷◌, ℕ, List, [], length, false, true, map, IsTrue, IfOk, OnOk, OnErr, IfSome, IfNone, None, nat_eq};
+ghost use Rattle.std.specs.Prelude.{◌≡◌, ◌≢◌, ◌++◌, ◌<◌, ◌≤◌, ◌∷◌, ℕ, List, [], length, false, true, IfOk, IfSome, IfNone, None, nat_eq};
 ghost use Rattle.inst_logic.specs.Printing.{is_word_byte};
-ghost use Rattle.inst_logic.specs.Tree.{Tree, Trees, of_list};
-ghost use Rattle.term_bank.specs.Forest.{AreFormed, tree_at, AreIds, Extends};
+ghost use Rattle.term_bank.specs.Forest.{AreFormed, Extends};
 ghost use Rattle.cert_format.specs.Names.{IsNameText};
 ghost use Rattle.cert_format.specs.Runs.{begins, Ends};
 ghost use Rattle.cert_format.specs.Spelling.{goes_on, IsClose};

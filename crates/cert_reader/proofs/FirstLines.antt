@@ -1,39 +1,15 @@
 -- The first two lines of a text.
-use Rattle.std.proofs.Common.{◌≡◌, ℕ, zero, suc, Bool, true, false, cond, List, [], ◌∷◌, ◌++◌, Option, Some, None, refl, sym, ap, ◌∙◌, append_assoc}
-use Rattle.std.specs.Prelude.{not, ◌==◌}
-use Rattle.std.specs.List.{list_all}
+use Rattle.std.proofs.Common.{◌≡◌, ℕ, zero, suc, Bool, true, false, cond, List, [], ◌∷◌, ◌++◌, Option, Some, None, refl, sym, ap, ◌∙◌}
+use Rattle.std.specs.Prelude.{◌==◌}
 use Rattle.std.specs.Option.{option_map}
-use Rattle.std.proofs.lemmas.Bool.{and_parts}
 use Rattle.cert_format.specs.Fronts.{first_lines, IsFront}
 use Rattle.cert_format.specs.LineMachine.{Line, status, opening}
 use Rattle.cert_format.specs.LineTexts.{line, line_text, is_text_name}
-use Rattle.cert_format.specs.Machines.{no_line_feed, IsLine}
 use Rattle.cert_format.proofs.LineNotes.{behind_front, line_more}
 use Rattle.cert_format.proofs.WholeLines.{status_is_line, opening_is_line}
 use Rattle.cert_reader.specs.Reads.{IsVersion}
 use Rattle.cert_reader.specs.Starts.{format_line}
-
--- ---- a line and what follows it
-
-map_map : (w v : List ℕ) (r : Option (List ℕ)) → option_map (λ (ws : List ℕ). w ++ ws) (option_map (λ (ws : List ℕ). v ++ ws) r) ≡ option_map (λ (ws : List ℕ). (w ++ v) ++ ws) r
-map_map w v None = refl
-map_map w v (Some x) = ap Some (sym (append_assoc w v x))
-
-first_by : (b : ℕ) (t : Bool) → (b == 10) ≡ t → not t ≡ true → (n : ℕ) (bs rest : List ℕ) → first_lines (suc n) (bs ++ 10 ∷ rest) ≡ option_map (λ (ws : List ℕ). (bs ++ 10 ∷ []) ++ ws) (first_lines n rest)
-    → option_map (λ (ws : List ℕ). b ∷ ws) (first_lines (cond t n (suc n)) (bs ++ 10 ∷ rest)) ≡ option_map (λ (ws : List ℕ). (b ∷ bs ++ 10 ∷ []) ++ ws) (first_lines n rest)
-first_by b true e f n bs rest h = absurd cc
-first_by b false e f n bs rest h = ap (option_map (λ (ws : List ℕ). b ∷ ws)) h ∙ map_map (b ∷ []) (bs ++ 10 ∷ []) (first_lines n rest)
-
-first_body : (n : ℕ) (bs rest : List ℕ) → list_all no_line_feed bs ≡ true → first_lines (suc n) (bs ++ 10 ∷ rest) ≡ option_map (λ (ws : List ℕ). (bs ++ 10 ∷ []) ++ ws) (first_lines n rest)
-first_body n [] rest h = refl
-first_body n (b ∷ bs) rest h =
-    let both = and_parts (no_line_feed b) (list_all no_line_feed bs) h in
-    first_by b (b == 10) refl both.0 n bs rest (first_body n bs rest both.1)
-
-first_line : (n : ℕ) (text rest : List ℕ) → IsLine text → first_lines (suc n) (text ++ rest) ≡ option_map (λ (ws : List ℕ). text ++ ws) (first_lines n rest)
-first_line n text rest l =
-    ap (λ (xs : List ℕ). first_lines (suc n) (xs ++ rest)) l.is ∙ ap (first_lines (suc n)) (append_assoc l.body (10 ∷ []) rest) ∙ first_body n l.body rest l.within
-    ∙ ap (λ (xs : List ℕ). option_map (λ (ws : List ℕ). xs ++ ws) (first_lines n rest)) (sym l.is)
+use Rattle.cert_format.proofs.FirstLines.{first_line}
 
 -- ---- the two lines before the format's
 

@@ -3,12 +3,11 @@ use Rattle.std.proofs.Common.{◌≡◌, ℕ, ◌<◌, ◌≤◌, zero, suc, Boo
 use Rattle.std.specs.Prelude.{nat_lt, nat_le, ◌==◌}
 use Rattle.std.specs.List.{list_all}
 use Rattle.std.proofs.lemmas.Bool.{and_parts, and_from}
-use Rattle.std.proofs.lemmas.Bool.Decides.{nat_tests}
 use Rattle.std.proofs.lemmas.List.{take-append-drop}
 use Rattle.cert_format.specs.LineTexts.{is_name_byte, is_text_name}
 use Rattle.cert_format.specs.Runs.{run, Ends}
 use Rattle.cert_format.proofs.Runs.{run_all, run_ends, one_split}
-use Rattle.inst_logic.proofs.Numbers.{number_is}
+use Rattle.inst_logic.proofs.Numbers.{number_is, is_less, at_most, less_yes, less_equal}
 
 pub none_then : {A P Q : Type 0} (r : Option A) → (P → Q) → IfNone r P → IfNone r Q
 none_then None f h = f h
@@ -36,18 +35,6 @@ record FitsName (n : List ℕ) : Type 0 where
   pub short : length n ≤ 4096
   pub clean : list_all is_name_byte n ≡ true
 
-is_less : (m n : ℕ) → nat_lt m n ≡ true → m < n
-is_less m n h = grind (arith, nat_tests)
-
-at_most : (m n : ℕ) → nat_le m n ≡ true → m ≤ n
-at_most m n h = grind (arith, nat_tests)
-
-less_yes : (m n : ℕ) → m < n → nat_lt m n ≡ true
-less_yes m n h = grind (arith, nat_tests)
-
-most_yes : (m n : ℕ) → m ≤ n → nat_le m n ≡ true
-most_yes m n h = grind (arith, nat_tests)
-
 fits_name : (n : List ℕ) → is_text_name n ≡ true → FitsName n
 fits_name n h =
     let a = and_parts (nat_lt 0 (length n)) _ h in
@@ -73,4 +60,4 @@ wrong_length bytes name after n rest s h e =
 
 pub right_name : (bytes name after : List ℕ) (b : Bool) → IsNameSplit bytes name after → b ≡ (length name == 0) → b ≡ false → length name ≤ 4096 → is_text_name name ≡ true
 right_name bytes name after b s e f short =
-    and_from (nat_lt 0 (length name)) _ (less_yes 0 (length name) (some_length (length name) b e f)) (and_from (nat_le (length name) 4096) (list_all is_name_byte name) (most_yes (length name) 4096 short) s.clean)
+    and_from (nat_lt 0 (length name)) _ (less_yes 0 (length name) (some_length (length name) b e f)) (and_from (nat_le (length name) 4096) (list_all is_name_byte name) (less_equal (length name) 4096 short) s.clean)

@@ -2,7 +2,6 @@
 use Rattle.std.proofs.Common.{◌≡◌, ℕ, suc, ◌≤◌, ◌<◌, Bool, true, List, [], ◌∷◌, ◌++◌, length, refl, sym, ap, ◌∙◌, subst, arith}
 use Rattle.std.specs.Prelude.{nat_eq, nat_le, not, ◌+◌}
 use Rattle.std.proofs.lemmas.Bool.{and_parts, and_from}
-use Rattle.std.proofs.lemmas.Bool.Decides.{nat_tests}
 use Rattle.std.proofs.lemmas.List.{length-append}
 use Rattle.inst_logic.specs.declared.signed.Signed.{Signed}
 use Rattle.inst_logic.specs.Clauses.{TreeClause}
@@ -13,34 +12,20 @@ use Rattle.cert_format.specs.FirstFormat.{clause_is_printable, may_follow}
 use Rattle.cert_format.proofs.Exits as exits
 use Rattle.cert_format.proofs.Exits.{item_line_once}
 use Rattle.cert_format.proofs.FirstFormat.{next_of}
-use Rattle.cert_format.proofs.LineNotes.{line_more, in_form}
+use Rattle.cert_format.proofs.LineNotes.{line_more}
 use Rattle.saturation_cert.specs.declared.certificate.GroundHint.{GroundHint}
 use Rattle.saturation_cert.specs.Wholes.{IsWholeClause}
-use Rattle.cert_items.specs.Items.{HasForm, IsItem, NoItem, group_of, note_of}
+use Rattle.cert_items.specs.Items.{IsItem, NoItem, group_of, note_of, rank_of}
 use Rattle.cert_items.specs.declared.group.Group.{Group}
 use Rattle.cert_items.specs.declared.note.Note as read
 use Rattle.cert_reader.specs.declared.groups.Groups.{Groups}
 use Rattle.cert_reader.specs.Bodies.{header, IsNextItem, NoNextItem}
-use Rattle.cert_reader.specs.Groups.{rank_of, count_of, pushed, items_of, AreGroups}
+use Rattle.cert_reader.specs.Groups.{count_of, pushed, items_of, AreGroups}
 use Rattle.cert_reader.proofs.Pushes.{counts, pushed_items, pushed_groups, grown_items, grown_groups}
-
-rank_group : (note : Note) → rank note ≡ rank_of (group_of note)
-rank_group (named w) = refl
-rank_group equality = refl
-rank_group (member o) = refl
-rank_group (selected o p) = refl
-rank_group ground_of = refl
-rank_group (shown_by hs) = refl
+use Rattle.inst_logic.proofs.Numbers.{at_most, less_equal, equal_numbers}
+use Rattle.cert_items.proofs.GroupNotes.{form_in, rank_group}
 
 -- ---- forms
-
-form_in : (r : Bool) (note : Note) → HasForm r note → in_form r note ≡ true
-form_in r (named w) f = refl
-form_in r equality f = refl
-form_in r (member o) f = f (header r [] []) refl
-form_in r (selected o p) f = f (header r [] []) refl
-form_in r ground_of f = refl
-form_in r (shown_by hs) f = refl
 
 same_fits : (h k : Header) (note : Note) → h.refutation ≡ k.refutation → fits h note ≡ fits k note
 same_fits h k (named w) e = refl
@@ -68,15 +53,6 @@ no_item_next r is bytes bad h e n c note rest m at = bad n c note rest (subst (�
 record IsNextIn (is : List Item) (n : ℕ) (note : Note) : Type 0 where
   pub low : last_rank is ≤ rank note
   pub at : n ≡ suc (count (rank note) is)
-
-at_most : (m n : ℕ) → nat_le m n ≡ true → m ≤ n
-at_most m n h = grind (arith, nat_tests)
-
-less_equal : (m n : ℕ) → m ≤ n → nat_le m n ≡ true
-less_equal m n h = grind (arith, nat_tests)
-
-same_number : (m n : ℕ) → m ≡ n → nat_eq m n ≡ true
-same_number m n h = grind (arith, nat_tests)
 
 next_in : (h : Header) (is : List Item) (n : ℕ) (c : TreeClause) (note : Note) → may_follow h is n c note ≡ true → IsNextIn is n note
 next_in h is n c note m =
@@ -113,7 +89,7 @@ follows r f g k n c note p i group_is low at h e =
     let rank_is : rank note ≡ rank_of k = rank_group note ∙ ap rank_of group_is in
     let last_low : last_rank is ≤ rank note = omega (arith, low, p.last, rank_is) in
     let number : n ≡ suc (count (rank note) is) = at ∙ ap suc (sym (counts r f g p k)) ∙ ap (λ (z : ℕ). suc (count z is)) (sym rank_is) in
-    and_from (fits h note) _ (i.form h e) (and_from (nat_le (last_rank is) (rank note)) _ (less_equal (last_rank is) (rank note) last_low) (and_from (nat_eq n (suc (count (rank note) is))) _ (same_number n (suc (count (rank note) is)) number)
+    and_from (fits h note) _ (i.form h e) (and_from (nat_le (last_rank is) (rank note)) _ (less_equal (last_rank is) (rank note) last_low) (and_from (nat_eq n (suc (count (rank note) is))) _ (equal_numbers n (suc (count (rank note) is)) number)
     (and_from (is_number n) _ i.number (and_from (clause_is_printable c) (note_is_printable note) i.clause i.printable))))
 
 low_rank : (g : Groups) (k : Group) (note : Note) → group_of note ≡ k → rank_of g.last ≤ rank_of k → rank_of g.last ≤ rank note

@@ -19,6 +19,7 @@ use Rattle.cert_format.proofs.Writables.{only_format}
 use Rattle.cert_reader.specs.Reads.{IsVersion}
 use Rattle.cert_reader.specs.Starts.{format_line}
 use Rattle.cert_reader.proofs.FirstLines.{two_front, version_third}
+use Rattle.cert_format.proofs.LineTexts.{text_is}
 
 -- digits in front of a line feed
 one_word : (v w r s : List ℕ) → list_all is_ascii_digit v ≡ true → list_all is_ascii_digit w ≡ true → format_line v r ≡ format_line w s → v ≡ w
@@ -50,6 +51,11 @@ one_is = decimal_digit 1 (omega arith)
 -- that the text of a certificate is that of its lines
 abbrev pub HasLines : Type 0
 HasLines = (f : ℕ) (n : List ℕ) (c : Certificate) → IsPrintable f c → certificate_text f n c ≡ text_of_lines (lines_of f n c)
+
+pub has_lines : HasLines
+has_lines f n c p =
+    let one = only_format f c p in
+    ap (λ k. certificate_text k n c) one ∙ text_is n c ∙ ap (λ k. text_of_lines (lines_of k n c)) (sym one)
 
 pub no_certificate : HasLines → (text w : List ℕ) → IsVersion text w → IsCertificateText text → ⊥
 no_certificate lines text w v c =

@@ -1,36 +1,35 @@
 -- One item more in the lists of the groups, and in the order of a text.
-use Rattle.std.proofs.Common.{◌≡◌, ℕ, ◌+◌, suc, ◌<◌, ◌≤◌, Bool, true, false, List, [], ◌∷◌, ◌++◌, length, map, refl, sym, ap, ap₂, ◌∙◌, subst, arith, append_assoc}
-use Rattle.std.specs.Prelude.{nat_eq, nat_lt, All}
+use Rattle.std.proofs.Common.{◌≡◌, ℕ, ◌+◌, suc, ◌<◌, ◌≤◌, Bool, true, false, List, [], ◌∷◌, ◌++◌, length, map, refl, sym, ap, ◌∙◌, subst, arith, append_assoc}
+use Rattle.std.specs.Prelude.{nat_eq, nat_lt}
 use Rattle.std.specs.List.{list_all}
 use Rattle.std.proofs.lemmas.Bool.{and_parts, and_from}
-use Rattle.std.proofs.lemmas.Bool.Decides.{nat_tests}
 use Rattle.std.proofs.lemmas.List.{append-nil, length-map, map_push, length_push}
-use Rattle.std.proofs.lemmas.List.Elements.{All-nil, All-head, All-tail, All-weaker, All-push}
+use Rattle.std.proofs.lemmas.List.Elements.{All-nil, All-push}
 use Rattle.inst_logic.specs.declared.signed.Signed.{Signed}
 use Rattle.inst_logic.specs.Tree.{Tree}
 use Rattle.inst_logic.specs.Clauses.{TreeClause}
 use Rattle.inst_calculus.specs.Entries.{Entry}
 use Rattle.inst_calculus.specs.Steps.{Step}
 use Rattle.term_bank.specs.Forest.{Forest, AreFormed, Extends, clause_at}
-use Rattle.term_bank.proofs.Clauses.{clause_of_extends, atoms_extend, clause_extends}
 use Rattle.cert_format.specs.LineMachine.{named, equality, member, selected, ground_of, shown_by, rank, Item, fits, count, last_rank, last_rank_from}
 use Rattle.cert_format.specs.ValueLines.{input_items, axiom_items, member_items, selected_items, ground_items, step_items}
 use Rattle.cert_format.proofs.LineTexts.{count_append, count_own, count_other, input_ranks, axiom_ranks, member_ranks, selected_ranks, ground_ranks, step_ranks}
-use Rattle.inst_logic.proofs.Numbers.{number_is}
-use Rattle.cert_format.proofs.GroupItems.{all_append}
+use Rattle.inst_logic.proofs.Numbers.{number_is, is_less}
+use Rattle.cert_format.proofs.GroupItems.{last_push, all_append, axioms_length, members_length, grounds_length, steps_length}
 use Rattle.saturation_cert.specs.declared.certificate.GroundHint.{GroundHint}
 use Rattle.saturation_cert.specs.declared.certificate.GroundStep.{GroundStep}
 use Rattle.saturation_cert.specs.declared.member.Member.{Member}
 use Rattle.saturation_cert.specs.Values.{origin_of, hint_of, entry_of, step_of}
 use Rattle.saturation_cert.specs.Wholes.{IsWholeClause}
-use Rattle.cert_items.specs.Items.{note_of}
+use Rattle.cert_items.specs.Items.{note_of, rank_of}
 use Rattle.cert_items.specs.declared.group.Group.{Group}
 use Rattle.cert_items.specs.declared.group.Group.TheVariants as kinds
 use Rattle.cert_items.specs.declared.note.Note.{Note}
 use Rattle.cert_items.specs.declared.note.Note.TheVariants as notes
 use Rattle.cert_reader.specs.declared.groups.Groups.{Groups}
 use Rattle.cert_reader.specs.Bodies.{header}
-use Rattle.cert_reader.specs.Groups.{rank_of, count_of, pushed, members_by, items_of, HasForm, AreGroups}
+use Rattle.cert_reader.specs.Groups.{count_of, pushed, members_by, items_of, HasForm, AreGroups}
+use Rattle.saturation_cert.proofs.Grown.{clauses_grown, members_grown, steps_grown, clauses_same, members_same, steps_same}
 
 -- ---- the last rank
 
@@ -43,13 +42,6 @@ Above k is = list_all (λ (i : Item). nat_lt k (rank i.note)) is ≡ true
 last_append : (k : ℕ) (is js : List Item) → last_rank_from k (is ++ js) ≡ last_rank_from (last_rank_from k is) js
 last_append k [] js = refl
 last_append k (i ∷ is) js = last_append (rank i.note) is js
-
-pub last_push : (k : ℕ) (is : List Item) (i : Item) → last_rank_from k (is ++ i ∷ []) ≡ rank i.note
-last_push k [] i = refl
-last_push k (j ∷ is) i = last_push (rank j.note) is i
-
-is_less : (m n : ℕ) → nat_lt m n ≡ true → m < n
-is_less m n h = grind (arith, nat_tests)
 
 last_above : (k m : ℕ) (is : List Item) → Above k is → k < m → k < last_rank_from m is
 last_above k m [] a h = h
@@ -181,26 +173,10 @@ inputs_length [] ws h = refl
 inputs_length (c ∷ cs) [] h = absurd (omega arith)
 inputs_length (c ∷ cs) (w ∷ ws) h = ap suc (inputs_length cs ws (omega arith))
 
-axioms_length : (cs : List TreeClause) → length (axiom_items cs) ≡ length cs
-axioms_length [] = refl
-axioms_length (c ∷ cs) = ap suc (axioms_length cs)
-
-members_length : (es : List Entry) → length (member_items es) ≡ length es
-members_length [] = refl
-members_length (x ∷ es) = ap suc (members_length es)
-
 selected_length : (es : List Entry) (ps : List ℕ) → length ps ≡ length es → length (selected_items es ps) ≡ length es
 selected_length [] ps h = refl
 selected_length (x ∷ es) [] h = absurd (omega arith)
 selected_length (x ∷ es) (p ∷ ps) h = ap suc (selected_length es ps (omega arith))
-
-grounds_length : (cs : List TreeClause) → length (ground_items cs) ≡ length cs
-grounds_length [] = refl
-grounds_length (c ∷ cs) = ap suc (grounds_length cs)
-
-steps_length : (ss : List (Step Tree)) → length (step_items ss) ≡ length ss
-steps_length [] = refl
-steps_length (s ∷ ss) = ap suc (steps_length ss)
 
 member_group : (r : Bool) (es : List Entry) (ps : List ℕ) → IsGroup 2 (members_by r es ps)
 member_group true es ps = member_ranks es
@@ -396,48 +372,24 @@ pushed_groups false f g notes.Shown c hs p l fit whole = absurd cc
 -- ---- a bank that has grown
 
 module _ (f h : Forest) (grown : Extends f h) where
-  whole_extends : (c : List (Signed ℕ)) → IsWholeClause f c → IsWholeClause h c
-  whole_extends c w = record { ids = clause_of_extends f h grown c w.ids; atoms = atoms_extend f h grown c w.ids w.atoms }
-
-  clauses_whole : (cs : List (List (Signed ℕ))) → All (IsWholeClause f) cs → All (IsWholeClause h) cs
-  clauses_whole cs w = All-weaker (IsWholeClause f) (IsWholeClause h) whole_extends cs w
-
-  clauses_same : (cs : List (List (Signed ℕ))) → All (IsWholeClause f) cs → map (clause_at h) cs ≡ map (clause_at f) cs
-  clauses_same [] w = refl
-  clauses_same (c ∷ cs) w = ap₂ (λ (x : TreeClause) (xs : List TreeClause). x ∷ xs) (clause_extends f h grown c (All-head (IsWholeClause f) c cs w).ids) (clauses_same cs (All-tail (IsWholeClause f) c cs w))
-
-  members_same : (ms : List Member) → All (λ m. IsWholeClause f m.clause) ms → map (entry_of h) ms ≡ map (entry_of f) ms
-  members_same [] w = refl
-  members_same (m ∷ ms) w = ap₂ (λ (x : Entry) (xs : List Entry). x ∷ xs) one (members_same ms (All-tail (λ x. IsWholeClause f x.clause) m ms w))
-    where
-      one : entry_of h m ≡ entry_of f m
-      one = let e = clause_extends f h grown m.clause (All-head (λ x. IsWholeClause f x.clause) m ms w).ids in λ i. record { clause = e i; origin = origin_of m.origin }
-
-  steps_same : (ss : List GroundStep) → All (λ s. IsWholeClause f s.clause) ss → map (step_of h) ss ≡ map (step_of f) ss
-  steps_same [] w = refl
-  steps_same (s ∷ ss) w = ap₂ (λ (x : Step Tree) (xs : List (Step Tree)). x ∷ xs) one (steps_same ss (All-tail (λ x. IsWholeClause f x.clause) s ss w))
-    where
-      one : step_of h s ≡ step_of f s
-      one = let e = clause_extends f h grown s.clause (All-head (λ x. IsWholeClause f x.clause) s ss w).ids in λ i. record { clause = e i; hints = map hint_of s.hints }
-
   pub grown_items : (r : Bool) (g : Groups) → AreGroups r f g → items_of r h g ≡ items_of r f g
   grown_items r g p =
-      let i = clauses_same g.inputs p.inputs in
-      let a = clauses_same g.axioms p.axioms in
-      let m = members_same g.members p.members in
-      let k = clauses_same g.grounds p.grounds in
-      let s = steps_same g.steps p.steps in
+      let i = clauses_same f h grown g.inputs p.inputs in
+      let a = clauses_same f h grown g.axioms p.axioms in
+      let m = members_same f h grown g.members p.members in
+      let k = clauses_same f h grown g.grounds p.grounds in
+      let s = steps_same f h grown g.steps p.steps in
       λ j. input_items (i j) g.names ++ (axiom_items (a j) ++ (members_by r (m j) g.places ++ (ground_items (k j) ++ step_items (s j))))
 
   pub grown_groups : (r : Bool) (g : Groups) → AreFormed h → AreGroups r f g → AreGroups r h g
   grown_groups r g formed p = record {
     bank = formed;
-    inputs = clauses_whole g.inputs p.inputs;
+    inputs = clauses_grown f h grown g.inputs p.inputs;
     named = p.named;
-    axioms = clauses_whole g.axioms p.axioms;
-    members = All-weaker (λ (m : Member). IsWholeClause f m.clause) (λ (m : Member). IsWholeClause h m.clause) (λ m w. whole_extends m.clause w) g.members p.members;
-    grounds = clauses_whole g.grounds p.grounds;
-    steps = All-weaker (λ (s : GroundStep). IsWholeClause f s.clause) (λ (s : GroundStep). IsWholeClause h s.clause) (λ s w. whole_extends s.clause w) g.steps p.steps;
+    axioms = clauses_grown f h grown g.axioms p.axioms;
+    members = members_grown f h grown g.members p.members;
+    grounds = clauses_grown f h grown g.grounds p.grounds;
+    steps = steps_grown f h grown g.steps p.steps;
     form = p.form;
     last = ap last_rank (grown_items r g p) ∙ p.last;
   }

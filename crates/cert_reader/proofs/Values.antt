@@ -1,8 +1,8 @@
 -- The items that were read are those of a printable certificate, and the text is its text.
-use Rattle.std.proofs.Common.{◌≡◌, ◌≢◌, ℕ, ◌^◌, ◌<◌, Bool, true, false, List, [], ◌∷◌, ◌++◌, length, map, refl, sym, ap, ◌∙◌, subst, arith}
+use Rattle.std.proofs.Common.{◌≡◌, ◌≢◌, ℕ, ◌^◌, ◌<◌, true, false, List, [], ◌∷◌, ◌++◌, length, map, sym, ap, ◌∙◌, subst, arith}
 use Rattle.std.specs.Prelude.{All, IsTrue}
 use Rattle.std.specs.List.{list_all}
-use Rattle.std.proofs.lemmas.Bool.{and_parts, and_from}
+use Rattle.std.proofs.lemmas.Bool.{and_parts}
 use Rattle.std.proofs.lemmas.List.{append-nil, length-map}
 use Rattle.std.proofs.lemmas.List.Elements.{All-nil, All-cons}
 use Rattle.inst_logic.specs.declared.signed.Signed.{Signed}
@@ -11,13 +11,13 @@ use Rattle.inst_logic.specs.Tree.{Tree}
 use Rattle.inst_logic.specs.Clauses.{TreeClause}
 use Rattle.inst_logic.specs.Printing.{is_readable_name}
 use Rattle.inst_logic.specs.WellFormed.{is_constant}
-use Rattle.inst_calculus.specs.Entries.{Origin, input, inst, Entry}
-use Rattle.inst_calculus.specs.Steps.{Cited, given, earlier, Step}
+use Rattle.inst_calculus.specs.Entries.{Entry}
+use Rattle.inst_calculus.specs.Steps.{Cited, Step}
 use Rattle.term_bank.specs.Forest.{Forest, clause_at}
 use Rattle.cert_format.specs.Certificate as format
-use Rattle.cert_format.specs.Printable.{IsNumber, HasNumbers, cited_number}
+use Rattle.cert_format.specs.Printable.{IsNumber, cited_number}
 use Rattle.cert_format.specs.LineMachine.{is_number, Note, named, equality, member, selected, ground_of, shown_by, Item, Header, status, opening, version, constant, closing, count, fits, done}
-use Rattle.cert_format.specs.LineTexts.{origin_is_printable, hint_is_printable, note_is_printable}
+use Rattle.cert_format.specs.LineTexts.{origin_is_printable, note_is_printable}
 use Rattle.cert_format.specs.FirstFormat.{clause_is_printable, text_of_lines}
 use Rattle.cert_format.specs.ValueLines.{input_items, axiom_items, member_items, selected_items, ground_items, step_items, item_lines, lines_of}
 use Rattle.cert_format.proofs.ClauseForms.{IsWritableClause}
@@ -32,15 +32,12 @@ use Rattle.cert_reader.specs.declared.certificate.Certificate.TheVariants as for
 use Rattle.cert_reader.specs.declared.groups.Groups.{Groups}
 use Rattle.cert_reader.specs.Bodies.{header, is_good, lines_up_to, IsComplete}
 use Rattle.cert_reader.specs.Groups.{items_of, AreGroups, refutation_by, saturation_by}
-use Rattle.cert_reader.specs.Reads.{IsReadFrom, IsWholeCertificate}
+use Rattle.cert_reader.specs.Reads.{IsTextOf, IsWholeCertificate, value_of}
 use Rattle.cert_reader.proofs.Pushes.{counts}
 use Rattle.cert_reader.proofs.Steps.{name_is}
+use Rattle.cert_format.proofs.GroupItems.{parts_good, origin_good, hint_numbers}
 
 -- ---- what good items say of each group
-
-parts_good : (p : Item → Bool) (is js : List Item) → list_all p (is ++ js) ≡ true → (list_all p is ≡ true) × (list_all p js ≡ true)
-parts_good p [] js h = (refl, h)
-parts_good p (i ∷ is) js h = let a = and_parts (p i) (list_all p (is ++ js)) h in let b = parts_good p is js a.1 in (and_from (p i) (list_all p is) a.0 b.0, b.1)
 
 clause_good : (h : Header) (c : TreeClause) (note : Note) → is_good h (record { clause = c; note = note }) ≡ true → IsWritableClause c
 clause_good h c note g = test_yes c (and_parts (clause_is_printable c) (note_is_printable note) (and_parts (fits h note) _ g).1).0
@@ -65,12 +62,6 @@ grounds_good : (h : Header) (cs : List TreeClause) → list_all (is_good h) (gro
 grounds_good h [] g = All-nil IsWritableClause
 grounds_good h (c ∷ cs) g = let a = and_parts (is_good h (record { clause = c; note = ground_of })) _ g in All-cons IsWritableClause c cs (clause_good h c ground_of a.0) (grounds_good h cs a.1)
 
-origin_good : (o : Origin) → origin_is_printable o ≡ true → HasNumbers o
-origin_good (input k) h = below k h
-origin_good (inst a p b q) h =
-    let h0 = and_parts (is_number a) _ h in let h1 = and_parts (is_number p) _ h0.1 in let h2 = and_parts (is_number b) (is_number q) h1.1 in
-    (below a h0.0, below p h1.0, below b h2.0, below q h2.1)
-
 members_good : (h : Header) (es : List Entry) → list_all (is_good h) (member_items es) ≡ true → All IsWritableEntry es
 members_good h [] g = All-nil IsWritableEntry
 members_good h (x ∷ es) g =
@@ -86,14 +77,6 @@ selected_good h (x ∷ es) (p ∷ ps) e g =
     let n = and_parts (origin_is_printable x.origin) (is_number p) (note_good h x.clause (selected x.origin p) a.0) in
     let r = selected_good h es ps (omega arith) a.1 in
     (All-cons IsWritableEntry x es (record { clause = clause_good h x.clause (selected x.origin p) a.0; origin = origin_good x.origin n.0 }) r.0, All-cons IsNumber p ps (below p n.1) r.1)
-
-hint_number : (k : Cited) → hint_is_printable k ≡ true → IsNumber (cited_number k)
-hint_number (given k) h = below k h
-hint_number (earlier k) h = below k h
-
-hint_numbers : (hs : List Cited) → list_all hint_is_printable hs ≡ true → All (λ h. IsNumber (cited_number h)) hs
-hint_numbers [] h = All-nil (λ (x : Cited). IsNumber (cited_number x))
-hint_numbers (k ∷ hs) h = let a = and_parts (hint_is_printable k) _ h in All-cons (λ (x : Cited). IsNumber (cited_number x)) k hs (hint_number k a.0) (hint_numbers hs a.1)
 
 hints_good : (hs : List Cited) → note_is_printable (shown_by hs) ≡ true → (hs ≢ []) × All (λ h. IsNumber (cited_number h)) hs
 hints_good [] p = absurd cc
@@ -173,7 +156,7 @@ saturated f g h p good few =
 
 -- ---- the text is the certificate's
 
-pub refutation_read : (text : List ℕ) (f : Forest) (g : Groups) (bot : Sym) (name : List ℕ) → is_constant bot ≡ true → is_readable_name bot.name ≡ true → AreGroups true f g → IsComplete text (header true name bot.name) (items_of true f g) → IsReadFrom text (forms.Refutation (refutation_by f g bot))
+pub refutation_read : (text : List ℕ) (f : Forest) (g : Groups) (bot : Sym) (name : List ℕ) → is_constant bot ≡ true → is_readable_name bot.name ≡ true → AreGroups true f g → IsComplete text (header true name bot.name) (items_of true f g) → IsTextOf text (value_of (forms.Refutation (refutation_by f g bot)))
 refutation_read text f g bot name constant_is readable p c =
     let v = format.first_refutation (refutation_of (refutation_by f g bot)) in
     let h = header true name bot.name in
@@ -194,7 +177,7 @@ saturation_lines f g name p =
     ∙ ap (λ (z : List Item). A ++ (B ++ z)) (append-nil C) in
     ap (λ (is : List Item). status false name ∷ opening false name ∷ version 1 ∷ (item_lines [] is ++ closing false name ∷ [])) e
 
-pub saturation_read : (text : List ℕ) (f : Forest) (g : Groups) (name : List ℕ) → AreGroups false f g → IsComplete text (header false name []) (items_of false f g) → IsReadFrom text (forms.Saturation (saturation_by f g))
+pub saturation_read : (text : List ℕ) (f : Forest) (g : Groups) (name : List ℕ) → AreGroups false f g → IsComplete text (header false name []) (items_of false f g) → IsTextOf text (value_of (forms.Saturation (saturation_by f g)))
 saturation_read text f g name p c =
     let v = format.saturation (saturation_of (saturation_by f g)) in
     let h = header false name [] in

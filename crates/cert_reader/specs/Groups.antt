@@ -12,19 +12,12 @@ use Rattle.saturation_cert.specs.declared.certificate.Refutation.{Refutation}
 use Rattle.saturation_cert.specs.declared.certificate.Saturation.{Saturation}
 use Rattle.saturation_cert.specs.Values.{entry_of, step_of}
 use Rattle.saturation_cert.specs.Wholes.{IsWholeClause}
+use Rattle.cert_items.specs.Items.{rank_of}
 use Rattle.cert_items.specs.declared.group.Group.{Group}
 use Rattle.cert_items.specs.declared.group.Group.TheVariants as kinds
 use Rattle.cert_items.specs.declared.note.Note.{Note}
 use Rattle.cert_items.specs.declared.note.Note.TheVariants as notes
 use Rattle.cert_reader.specs.declared.groups.Groups.{Groups}
-
--- the place of the group in a text
-abbrev pub rank_of : Group → ℕ
-rank_of kinds.Input = 0
-rank_of kinds.Axiom = 1
-rank_of kinds.Member = 2
-rank_of kinds.Ground = 3
-rank_of kinds.Step = 4
 
 -- how many items of the group
 abbrev pub count_of : Group → Groups → ℕ

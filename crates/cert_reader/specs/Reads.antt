@@ -21,11 +21,11 @@ value_of (forms.Refutation r) = format.first_refutation (refutation_of r)
 value_of (forms.Saturation s) = format.saturation (saturation_of s)
 
 -- the certificate is printable, and the text is its text under some name
-pub record IsReadFrom (text : List ℕ) (c : Certificate) : Type 0 where
+pub record IsTextOf (text : List ℕ) (c : format.Certificate) : Type 0 where
   pub name : List ℕ
   pub name_is : IsTextName name
-  pub printable : IsPrintable 1 (value_of c)
-  pub is : text ≡ certificate_text 1 name (value_of c)
+  pub printable : IsPrintable 1 c
+  pub is : text ≡ certificate_text 1 name c
 
 -- the ids are those of its bank
 abbrev pub IsWholeCertificate : Certificate → Type 0

@@ -1,7 +1,8 @@
 // The lists into which items are read, and which of them may come next.
 ghost use Rattle.std.specs.Prelude.{◌≡◌, ◌↔◌, ◌≤◌, [], suc, IsTrue, OnOk};
 ghost use Rattle.cert_items.specs.declared.group.Group.TheVariants.{Input as FirstGroup};
-ghost use Rattle.cert_reader.specs.Groups.{rank_of, count_of, pushed};
+ghost use Rattle.cert_items.specs.Items.{rank_of};
+ghost use Rattle.cert_reader.specs.Groups.{count_of, pushed};
 
 use cert_items::{Group, Note};
 use inst_logic::{Memory, NameList, PlaceList};

@@ -3,10 +3,11 @@ ghost use Rattle.std.specs.Prelude.{◌≡◌, ◌+◌, ◌<◌, ◌^◌, List, 
 ghost use Rattle.std.specs.Result.{IsErrOf};
 ghost use Rattle.inst_logic.specs.Printing.{is_readable_name, name_text};
 ghost use Rattle.cert_format.specs.Names.{IsNameText};
+ghost use Rattle.cert_format.specs.ValueLines.{IsCertificateText};
 ghost use Rattle.inst_logic.specs.WellFormed.{is_constant};
 ghost use Rattle.cert_reader.specs.Bodies.{header, HasRead};
 ghost use Rattle.cert_reader.specs.Groups.{refutation_by, saturation_by};
-ghost use Rattle.cert_reader.specs.Reads.{HasVersion, IsCause, IsReadFrom, IsSyntaxAt, IsVersion, IsWholeCertificate};
+ghost use Rattle.cert_reader.specs.Reads.{HasVersion, IsCause, IsSyntaxAt, IsTextOf, IsVersion, IsWholeCertificate, value_of};
 ghost use Rattle.cert_reader.specs.Starts.{HasBegun};
 ghost use Rattle.cert_reader.specs.declared.error.CertError.TheVariants.{Syntax, Version};
 
@@ -84,7 +85,7 @@ fn read_refutation(
     requires constant { IsTrue (is_constant bot) }
     requires readable { IsTrue (is_readable_name bot.name) }
     requires counted { 4 + length bytes.now < 2 ^ 63 }
-    ensures read { (text : List ℕ) → HasRead text (header true name.now bot.name) [] 4 bytes.now → IfOk result (IsReadFrom text) }
+    ensures read { (text : List ℕ) → HasRead text (header true name.now bot.name) [] 4 bytes.now → IfOk result (λ c. IsTextOf text (value_of c)) }
     ensures whole { IfOk result IsWholeCertificate }
     ensures refused { (text : List ℕ) → HasRead text (header true name.now bot.name) [] 4 bytes.now → ¬ HasVersion text → IfErr result (IsCause text) }
 {
@@ -100,7 +101,7 @@ fn read_refutation(
 // The saturation under this name, of whose text three lines have been read.
 fn read_saturation(alloc: Global, name: &[u8], bytes: &[u8]) -> Result<Certificate, CertError>
     requires counted { 3 + length bytes.now < 2 ^ 63 }
-    ensures read { (text : List ℕ) → HasRead text (header false name.now []) [] 3 bytes.now → IfOk result (IsReadFrom text) }
+    ensures read { (text : List ℕ) → HasRead text (header false name.now []) [] 3 bytes.now → IfOk result (λ c. IsTextOf text (value_of c)) }
     ensures whole { IfOk result IsWholeCertificate }
     ensures refused { (text : List ℕ) → HasRead text (header false name.now []) [] 3 bytes.now → ¬ HasVersion text → IfErr result (IsCause text) }
 {
@@ -131,7 +132,7 @@ fn constant_named(alloc: Global, text: &[u8]) -> Result<Sym, Memory>
 // The refutation under this name, of whose text three lines have been read.
 fn begun_refutation(alloc: Global, name: &[u8], bytes: &[u8]) -> Result<Certificate, CertError>
     requires counted { 3 + length bytes.now < 2 ^ 63 }
-    ensures read { (text : List ℕ) → HasBegun text true name.now bytes.now → IfOk result (IsReadFrom text) }
+    ensures read { (text : List ℕ) → HasBegun text true name.now bytes.now → IfOk result (λ c. IsTextOf text (value_of c)) }
     ensures whole { IfOk result IsWholeCertificate }
     ensures refused { (text : List ℕ) → HasBegun text true name.now bytes.now → IfErr result (IsCause text) }
 {
@@ -145,12 +146,13 @@ fn begun_refutation(alloc: Global, name: &[u8], bytes: &[u8]) -> Result<Certific
 }
 
 /// The certificate whose text this is, over a bank of its own. The text is bytes, and need not be UTF-8. What a certificate says
-/// is not checked here: it can be printed, and no more is known of it.
+/// is not checked here: it can be printed, and no more is known of it. The text of a certificate is refused for want of memory alone.
 pub fn read_certificate(alloc: Global, text: &[u8]) -> Result<Certificate, CertError>
-    ensures read { IfOk result (IsReadFrom text.now) }
+    ensures read { IfOk result (λ c. IsTextOf text.now (value_of c)) }
     ensures whole { IfOk result IsWholeCertificate }
     ensures syntax { (line : ℕ) → IsErrOf result (Syntax line) → IsSyntaxAt text.now line }
     ensures version { (word : List ℕ) → IsErrOf result (Version word) → IsVersion text.now word }
+    ensures taken { IsCertificateText text.now → IfErr result (λ why. why ≡ CertError.Memory) }
 {
     match begin(text) {
         Start::Bad(line) => Err(CertError::Syntax { line }),

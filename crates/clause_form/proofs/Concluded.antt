@@ -46,9 +46,26 @@ met_all f s side c nodes vars e canonical h =
     ∙ all_met (vs ++ ids_vars f put vars)
     ∙ distinct_present vs (ids_vars f put vars) (variables_add_none f put (clause_at f c) vars canonical h)
 
+-- atoms alone bring all of them
+pub atoms_met : (f : Forest) (s : Sided) (side : Side) (c : List (Signed ℕ)) (nodes : List ℕ) → nodes ≡ map (λ l. l.atom) c
+    → with_vars [] (vars_on (led_reading f s (final_order f (of_side s side) c)) side nodes) ≡ final_order f (of_side s side) c
+unfolding final_order
+atoms_met f s side c nodes e =
+    let put = of_side s side in
+    let vs = clause_vars (literals_under put (clause_at f c)) in
+    ap (with_vars []) (vars_led f s (order_of (literals_under put (clause_at f c))) side nodes ∙ ap (ids_vars f put) e ∙ atom_vars f put c) ∙ all_met vs
+
 -- what the substitution and then the numbering make
 pub made : Forest → Substitution → List (Signed ℕ) → Substitution
 made f s c = followed_by s (numbered (final_order f s c))
+
+pub atoms_become : (f g : Forest) (s : Sided) (side : Side) (c : List (Signed ℕ)) (nodes xs : List ℕ) → nodes ≡ map (λ l. l.atom) c
+    → map (tree_at g) xs ≡ trees_on (led_reading f s (final_order f (of_side s side) c)) side nodes → map (tree_at g) xs ≡ map (λ l. subst (made f (of_side s side) c) (tree_at f l.atom)) c
+unfolding made
+atoms_become f g s side c nodes xs e built =
+    let final = final_order f (of_side s side) c in
+    let put = followed_by (of_side s side) (numbered final) in
+    built ∙ trees_led f s final side nodes ∙ ap (map (λ a. subst put (tree_at f a))) e ∙ atom_trees f put c
 
 -- atoms first, and then the terms of the variables
 pub two_parts : (f g : Forest) (s : Sided) (side : Side) (c : List (Signed ℕ)) (nodes vars xs : List ℕ) (k : ℕ) → nodes ≡ map (λ l. l.atom) c ++ vars → map (tree_at g) xs ≡ trees_on (led_reading f s (final_order f (of_side s side) c)) side nodes → k ≡ length c

@@ -1,10 +1,12 @@
 // Instances of clauses in canonical form. One walk builds and renumbers; building first and renumbering then would intern
 // each term twice, and the first ones for nothing.
 ghost use Rattle.std.specs.Prelude.{◌≡◌, false, ◌≤◌, IfOk, OnOk, length};
-ghost use Rattle.inst_logic.specs.Clauses.{IsCanonical, instance, order_of};
+ghost use Rattle.inst_logic.specs.Clauses.{IsCanonical, canonical_form, instance, order_of};
+ghost use Rattle.inst_logic.specs.Unifiers.{Sided};
 ghost use Rattle.inst_logic.specs.WellFormed.{IsFormedClause};
 ghost use Rattle.term_bank.specs.Forest.{AreFormed, AreIds, Extends, IsClauseAt, IsClauseOf, clause_at};
 ghost use Rattle.unify_core.specs.Chains.{AreBindings};
+ghost use Rattle.unify_core.specs.Sides.{IsResolvedBy, of_side};
 ghost use Rattle.unify_core.specs.Terms.{AreTerms};
 ghost use Rattle.clause_form.specs.Conclusions.{IsConclusionOf, AreVariables, by_terms, AreTermIds, up_to};
 
@@ -101,6 +103,29 @@ pub fn conclude(
     let greatest = greatest_variable(bank, c);
     let variables = variables_up_to(alloc, bank, greatest)?;
     conclude_with(alloc, bank, b, side, c, &variables)
+}
+
+/// The clause of that conclusion alone: the terms of the clause are walked, and those that its variables become are not walked
+/// once more. The bank keeps its trees and may have grown, also where memory was wanted.
+pub fn conclude_clause(
+    alloc: Global,
+    bank: &mut Bank,
+    b: &Bindings,
+    side: Side,
+    c: &IdClause,
+) -> Result<IdClause, Memory>
+    requires clause { IsClauseOf bank.old c.now }
+    requires bindings { AreBindings bank.old b.now.entries }
+    ensures made { IfOk result (λ d. (s : Sided) → IsResolvedBy bank.old b.now.entries s → IsClauseAt bank.new d (canonical_form (instance (of_side s side) (clause_at bank.old c.now)))) }
+    ensures extends { Extends bank.old bank.new }
+    ensures unspent { OnOk result (bank.old.spent ≡ false → bank.new.spent ≡ false) }
+    ensures formed { AreFormed bank.old → AreTerms bank.old b.now.entries → AreFormed bank.new }
+{
+    let atoms = atoms_of(alloc, c.as_slice())?;
+    let leaves = Leaves::Led(b);
+    let built = build_all(alloc, bank, &leaves, side, &atoms)?;
+    bank.distinct();
+    clause_of(alloc, c.as_slice(), &built)
 }
 
 /// The clause with term `i` of the list for its variable `i`, repeated literals dropped. The bank keeps its trees and may have

@@ -11,6 +11,6 @@ pub mod subsumption;
 mod walk;
 
 pub use compare::{clause_size, greatest_variable, tautology, variant};
-pub use conclusion::{Conclusion, conclude, under};
+pub use conclusion::{Conclusion, conclude, conclude_clause, under};
 pub use renumber::canonical;
 pub use subsumption::subsumes;

@@ -13,7 +13,7 @@ use Rattle.inst_calculus.specs.Abstraction.{abstract_literals, abstraction}
 use Rattle.inst_calculus.proofs.Membership.{all_in, in_all}
 use Rattle.inst_calculus.proofs.Distinct.{distinct_map, from_distinct}
 use Rattle.term_bank.specs.Forest.{Forest, AreDistinct, IsClauseAt, clause_at}
-use Rattle.ground_abs.proofs.Literals.{literal_at}
+use Rattle.term_bank.specs.Forest.{literal_tree}
 
 pub one_literal : (ls ks ns : List (Signed ℕ)) (i : ℕ) (l : Signed ℕ) → i < length ls → l ≡ get_or ls i l → ks ≡ distinct (signed_eq nat_eq) (take i ls) → ns ≡ with_item (signed_eq nat_eq) ks l
     → ns ≡ distinct (signed_eq nat_eq) (take (i + 1) ls)
@@ -22,7 +22,7 @@ one_literal ls ks ns i l within is before added =
     added ∙ ap (λ (zs : List (Signed ℕ)). with_item (signed_eq nat_eq) zs l) before ∙ sym (distinct_more (signed_eq nat_eq) (signed_eq_decides nat_eq Decides-eqb) (take i ls) l)
     ∙ ap (distinct (signed_eq nat_eq)) (sym more)
 
-same_literal : (f : Forest) → AreDistinct f.trees → (k l : Signed ℕ) → k.atom < length f.trees → l.atom < length f.trees → literal_at f k ≡ literal_at f l → k ≡ l
+same_literal : (f : Forest) → AreDistinct f.trees → (k l : Signed ℕ) → k.atom < length f.trees → l.atom < length f.trees → literal_tree f k ≡ literal_tree f l → k ≡ l
 same_literal f once k l a b e =
     let s : k.positive ≡ l.positive = ap (λ (x : Signed Tree). x.positive) e in
     let t : k.atom ≡ l.atom = once k.atom l.atom a b (ap (λ (x : Signed Tree). x.atom) e) in
@@ -35,5 +35,5 @@ repeats_dropped f g bot c ls d once at e =
     let Inside : Signed ℕ → Type 0 = λ k. k.atom < length g.trees in
     rw e (
       in_all Inside (distinct (signed_eq nat_eq) ls) (λ k i. all_in Inside ls at.0 k (from_distinct (signed_eq nat_eq) id_eq_decides k ls i)),
-      sym (distinct_map (signed_eq nat_eq) id_eq_decides literal_eq literal_eq_decides (literal_at g) ls (λ k i l j h. same_literal g once k l (all_in Inside ls at.0 k i) (all_in Inside ls at.0 l j) h)) ∙ ap (distinct literal_eq) at.1,
+      sym (distinct_map (signed_eq nat_eq) id_eq_decides literal_eq literal_eq_decides (literal_tree g) ls (λ k i l j h. same_literal g once k l (all_in Inside ls at.0 k i) (all_in Inside ls at.0 l j) h)) ∙ ap (distinct literal_eq) at.1,
     )

@@ -1,14 +1,14 @@
--- What the scan of the truth test has found of the members that it has passed.
-use Rattle.std.specs.Prelude.{◌≡◌, ◌⊎◌, ◌^◌, ◌-◌, ℕ, zero, suc, ◌<◌, length, Bool, true, false, Option, Some, None}
+-- The selected literals of a saturation, indexes of them, and what the truth test finds in such an index.
+use Rattle.std.specs.Prelude.{◌≡◌, ◌⊎◌, ◌↔◌, ◌^◌, ◌-◌, ℕ, zero, suc, ◌<◌, length, Bool, Option, Some, None, List, Contains, MatchOption}
 use Rattle.inst_logic.specs.declared.signed.Signed.{Signed}
 use Rattle.inst_logic.specs.Measure.{tree_weight}
 use Rattle.inst_logic.specs.Substitution.{Matches}
 use Rattle.inst_logic.specs.Tree.{Tree}
 use Rattle.inst_calculus.specs.Models.{Member}
 use Rattle.term_bank.specs.Forest.{Forest, tree_at}
+use Rattle.term_index.specs.Pairs.{Pair}
 use Rattle.cert_format.specs.Validity.{SelectsAt}
 use Rattle.saturation_cert.specs.declared.certificate.Saturation.{Saturation}
-use Rattle.saturation_cert.specs.declared.truth_test.Heaviest.{Heaviest}
 use Rattle.saturation_cert.specs.Values.{saturation_of}
 
 abbrev pub literal_at : Forest → Signed ℕ → Signed Tree
@@ -25,30 +25,31 @@ pub record IsSelectedLiteral (c : Saturation) (n : ℕ) (l : Signed ℕ) : Type 
 abbrev pub IsLight : Saturation → ℕ → Type 0
 IsLight c i = (m : Member) → SelectsAt (saturation_of c) (suc i) m → tree_weight m.selected.atom < 2 ^ 64 - 1
 
+-- the pairs are the atoms of the selected literals of this sign, each with the number of its member
+abbrev pub AreSelected : Saturation → Bool → List Pair → Type 0
+AreSelected c sign ps = (p : Pair) → Contains ps p ↔ IsSelectedLiteral c p.1 (record { positive = sign; atom = p.0 })
+
+-- the same of the members whose number is below n
+abbrev pub AreSelectedBelow : Saturation → Bool → ℕ → List Pair → Type 0
+AreSelectedBelow c sign n ps = (p : Pair) → Contains ps p ↔ ((p.1 < n) × IsSelectedLiteral c p.1 (record { positive = sign; atom = p.0 }))
+
+-- the weight of the pattern, if it has the atom as an instance
+abbrev pub IsFound : Tree → Tree → Option ℕ → Type 0
+IsFound pattern a w = MatchOption w (¬ (Matches pattern a)) (λ n. (n ≡ tree_weight pattern) × Matches pattern a)
+
 -- one more than the weight, or 0 where there is none
 abbrev pub level : Option ℕ → ℕ
 level None = zero
 level (Some w) = suc w
 
--- the selected literal has the sign and has the atom as an instance
-pub record Speaks (a : Tree) (positive : Bool) (m : Member) : Type 0 where
-  pub sign : m.selected.positive ≡ positive
-  pub matches : Matches m.selected.atom a
+-- a stored atom has this one as an instance, and is of this level
+pub record IsReached (f : Forest) (ps : List Pair) (a : Tree) (h : ℕ) : Type 0 where
+  pub pair : Pair
+  pub stored : Contains ps pair
+  pub matches : Matches (tree_at f pair.0) a
+  pub height : suc (tree_weight (tree_at f pair.0)) ≡ h
 
--- member number k + 1 has this level
-pub record IsReached (c : Saturation) (a : Tree) (sign : Bool) (n h : ℕ) : Type 0 where
-  pub before : ℕ
-  pub within : before < n
-  pub member : Member
-  pub is : SelectsAt (saturation_of c) (suc before) member
-  pub speaks : Speaks a sign member
-  pub height : suc (tree_weight member.selected.atom) ≡ h
-
--- no such literal of the first n members is heavier, and one is as heavy where there is one
-pub record IsHeaviest (c : Saturation) (a : Tree) (sign : Bool) (n h : ℕ) : Type 0 where
-  pub above : (k : ℕ) → k < n → (m : Member) → SelectsAt (saturation_of c) (suc k) m → Speaks a sign m → tree_weight m.selected.atom < h
-  pub reached : (h ≡ 0) ⊎ IsReached c a sign n h
-
-pub record AreHeaviest (c : Saturation) (a : Tree) (n : ℕ) (best : Heaviest) : Type 0 where
-  pub positive : IsHeaviest c a true n (level best.positive)
-  pub negative : IsHeaviest c a false n (level best.negative)
+-- no stored atom that has this one as an instance is heavier, and one is as heavy where there is one
+pub record IsHeaviest (f : Forest) (ps : List Pair) (a : Tree) (h : ℕ) : Type 0 where
+  pub above : (p : Pair) → Contains ps p → Matches (tree_at f p.0) a → tree_weight (tree_at f p.0) < h
+  pub reached : (h ≡ 0) ⊎ IsReached f ps a h

@@ -6,6 +6,7 @@
 pub mod certificate;
 pub mod member;
 pub mod numbers;
+pub mod selection;
 pub mod truth_test;
 
 pub use certificate::{
@@ -13,4 +14,5 @@ pub use certificate::{
 };
 pub use member::{Member, MemberList, Origin};
 pub use numbers::{refutation_numbers, saturation_numbers};
-pub use truth_test::{is_light, selected, truth};
+pub use selection::{is_light, selected, store_selected};
+pub use truth_test::{truth, truth_in};

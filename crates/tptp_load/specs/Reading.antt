@@ -7,22 +7,6 @@ use Rattle.tptp_load.specs.Loading.{limit}
 use Rattle.tptp_load.specs.declared.error.LoadError.{LoadError}
 use Rattle.tptp_load.specs.declared.error.LoadError.TheVariants.{Text, Absent, NotSelected, IncludeDepth, TooLong, ReadFault, Memory}
 
--- where the rest is told, these are all its bytes, and not too many with those that were read before
-abbrev pub IsWhole : Option (List ℕ) → ℕ → List ℕ → Type 0
-IsWhole None used bytes = used + length bytes ≤ limit
-IsWhole (Some rest) used bytes = (used + length bytes ≤ limit) × (rest ≡ bytes)
-
--- why the rest of a file was not read whole; the count of faults goes from before to now
-abbrev pub IsCutOff : Option (List ℕ) → ℕ → ℕ → ℕ → LoadError → Type 0
-IsCutOff rest used before now (Text file fault) = ⊥
-IsCutOff rest used before now (Absent wanted) = ⊥
-IsCutOff rest used before now (NotSelected file wanted) = ⊥
-IsCutOff rest used before now (IncludeDepth file) = ⊥
-IsCutOff None used before now TooLong = ⊤
-IsCutOff (Some rest) used before now TooLong = limit < used + length rest
-IsCutOff rest used before now ReadFault = Rose before now
-IsCutOff rest used before now Memory = ⊤
-
 -- where the files are told, the file of this name has these bytes, or there is none; they are not too many
 abbrev pub IsHeld : Option (List NamedFile) → List ℕ → ℕ → Option (List ℕ) → Type 0
 IsHeld None name used None = ⊤

@@ -17,12 +17,13 @@ use Rattle.tptp_read.specs.Meaning.{Fault, feature, role_fault, limit, name_of, 
 use Rattle.tptp_read.specs.Parse.{◌>>=◌, Reads, many_at}
 use Rattle.tptp_read.specs.ParseClause.{items_of, item_at}
 use Rattle.tptp_read.specs.Gathered.{gathered}
+use Rattle.inst_logic.specs.Codes as byte
 
 -- a first part, and the parts behind it
 unfoldable pub disjunction_at : ℕ → Reads (Item × List Item)
 disjunction_at d ts = do
   i ← item_at d d ts
-  is ← many_at 124 (item_at d d) (length i.1) i.1
+  is ← many_at byte.bar (item_at d d) (length i.1) i.1
   Some ((i.0, is.0), is.1)
 
 abbrev pub wrotes : Item × List Item → List Wrote

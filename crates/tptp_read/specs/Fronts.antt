@@ -6,6 +6,7 @@ use Rattle.tptp_read.specs.declared.front.Front.TheVariants.{Done, Language, Unf
 use Rattle.tptp_read.specs.Lexemes.{is_mark_token, is_lower_kind}
 use Rattle.tptp_read.specs.Rules.{is_language, IsOtherLanguage, IsNoOtherLanguage, IsFront, HasNoFront}
 use Rattle.tptp_read.specs.LexemeView.{toks}
+use Rattle.inst_logic.specs.Codes as byte
 
 abbrev pub FrontOf : List ℕ → Front → Type 0
 FrontOf text Done = IsDone text
@@ -14,7 +15,7 @@ FrontOf text Unfinished = ¬ IsDone text × IsNoOtherLanguage text × HasNoFront
 FrontOf text (Whole ts end) = ¬ IsDone text × IsNoOtherLanguage text × IsFront text (toks ts.items) (drop end text) × (end ≤ length text)
 
 abbrev pub are_other : Tok → Tok → Bool
-are_other t u = is_mark_token 40 u && (is_lower_kind t.kind && is_language t.text)
+are_other t u = is_mark_token byte.opening_parenthesis u && (is_lower_kind t.kind && is_language t.text)
 
 -- the word, where the tokens are two and those of another language
 abbrev pub other_word : List Tok → Option (List ℕ)

@@ -8,6 +8,7 @@ use Rattle.inst_logic.specs.declared.symbol.Kind.TheVariants.{Predicate, Equalit
 use Rattle.tptp_read.specs.declared.clause.Literals.{Literals}
 use Rattle.tptp_read.specs.Meaning.{Wrote, literal_of, is_always, first_feature, used_tokens}
 use Rattle.tptp_read.specs.Shapes.{Shape}
+use Rattle.inst_logic.specs.Codes as byte
 
 pub record Gathered : Type 0 where
   pub clause : List (Signed Tree)
@@ -34,7 +35,7 @@ atom_literals sign (var n) = []
 atom_literals sign (app s ts) = record { positive = sign; atom = app (record { kind = Predicate; name = s.name; arity = s.arity }) ts } ∷ []
 
 abbrev pub equation_literal : Bool → Tree → Tree → Signed Tree
-equation_literal sign t u = record { positive = sign; atom = app (record { kind = Equality; name = 61 ∷ []; arity = 2 }) (tree.more t (tree.more u tree.none)) }
+equation_literal sign t u = record { positive = sign; atom = app (record { kind = Equality; name = byte.equals_sign ∷ []; arity = 2 }) (tree.more t (tree.more u tree.none)) }
 
 abbrev pub side_literals : Bool → Tree → Option Tree → List (Signed Tree)
 side_literals sign t None = atom_literals sign t

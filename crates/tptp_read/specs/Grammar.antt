@@ -5,6 +5,7 @@ use Rattle.std.specs.List.{list_all}
 use Rattle.tptp_tokens.specs.declared.kind.TokenKind.TheVariants.{Punctuation}
 use Rattle.tptp_tokens.specs.Stream.{Tok}
 use Rattle.tptp_read.specs.Lexemes.{mark, lower, is_head, is_plain, is_lower_kind, is_quoted_kind, is_name_kind}
+use Rattle.inst_logic.specs.Codes as byte
 
 -- a term: a token, or a word with one or more terms
 mutual
@@ -68,64 +69,64 @@ pub data Form : Type 0 where
 abbrev mutual
   pub term : Written → List Tok → List Tok
   term (single t) rest = t ∷ rest
-  term (applied f t ts) rest = f ∷ mark 40 ∷ term t (terms ts (mark 41 ∷ rest))
+  term (applied f t ts) rest = f ∷ mark byte.opening_parenthesis ∷ term t (terms ts (mark byte.closing_parenthesis ∷ rest))
 
   pub terms : Writtens → List Tok → List Tok
   terms none rest = rest
-  terms (more t ts) rest = mark 44 ∷ term t (terms ts rest)
+  terms (more t ts) rest = mark byte.comma ∷ term t (terms ts rest)
 
 abbrev pub negated_text : Negated → List Tok → List Tok
 negated_text (no_atom t) rest = term t rest
-negated_text (no_equation t u) rest = term t (mark 61 ∷ term u rest)
-negated_text (in_parens n) rest = mark 40 ∷ negated_text n (mark 41 ∷ rest)
+negated_text (no_equation t u) rest = term t (mark byte.equals_sign ∷ term u rest)
+negated_text (in_parens n) rest = mark byte.opening_parenthesis ∷ negated_text n (mark byte.closing_parenthesis ∷ rest)
 
 abbrev pub unequal_mark : Tok
-unequal_mark = record { kind = Punctuation; text = 33 ∷ 61 ∷ [] }
+unequal_mark = record { kind = Punctuation; text = byte.exclamation_mark ∷ byte.equals_sign ∷ [] }
 
 abbrev pub simple_text : Simple → List Tok → List Tok
 simple_text (atom t) rest = term t rest
-simple_text (equation t u) rest = term t (mark 61 ∷ term u rest)
+simple_text (equation t u) rest = term t (mark byte.equals_sign ∷ term u rest)
 simple_text (unequal t u) rest = term t (unequal_mark ∷ term u rest)
-simple_text (negated n) rest = mark 126 ∷ negated_text n rest
+simple_text (negated n) rest = mark byte.tilde ∷ negated_text n rest
 
 abbrev mutual
   pub item : Item → List Tok → List Tok
   item (simple s) rest = simple_text s rest
-  item (nested i is) rest = mark 40 ∷ item i (items is (mark 41 ∷ rest))
+  item (nested i is) rest = mark byte.opening_parenthesis ∷ item i (items is (mark byte.closing_parenthesis ∷ rest))
 
   pub items : Items → List Tok → List Tok
   items last rest = rest
-  items (or i is) rest = mark 124 ∷ item i (items is rest)
+  items (or i is) rest = mark byte.bar ∷ item i (items is rest)
 
 abbrev mutual
   pub general : General → List Tok → List Tok
   general (thing t) rest = thing_text t rest
-  general (pair t g) rest = thing_text t (mark 58 ∷ general g rest)
-  general empty rest = mark 91 ∷ mark 93 ∷ rest
-  general (filled g gs) rest = mark 91 ∷ general g (generals gs (mark 93 ∷ rest))
+  general (pair t g) rest = thing_text t (mark byte.colon ∷ general g rest)
+  general empty rest = mark byte.opening_bracket ∷ mark byte.closing_bracket ∷ rest
+  general (filled g gs) rest = mark byte.opening_bracket ∷ general g (generals gs (mark byte.closing_bracket ∷ rest))
 
   pub thing_text : Thing → List Tok → List Tok
   thing_text (token t) rest = t ∷ rest
-  thing_text (call f g gs) rest = f ∷ mark 40 ∷ general g (generals gs (mark 41 ∷ rest))
+  thing_text (call f g gs) rest = f ∷ mark byte.opening_parenthesis ∷ general g (generals gs (mark byte.closing_parenthesis ∷ rest))
 
   pub generals : Generals → List Tok → List Tok
   generals ended rest = rest
-  generals (also g gs) rest = mark 44 ∷ general g (generals gs rest)
+  generals (also g gs) rest = mark byte.comma ∷ general g (generals gs rest)
 
 abbrev pub note : Note → List Tok → List Tok
 note unnoted rest = rest
-note (source g) rest = mark 44 ∷ general g rest
-note (with_empty g) rest = mark 44 ∷ general g (mark 44 ∷ mark 91 ∷ mark 93 ∷ rest)
-note (with_list g h gs) rest = mark 44 ∷ general g (mark 44 ∷ mark 91 ∷ general h (generals gs (mark 93 ∷ rest)))
+note (source g) rest = mark byte.comma ∷ general g rest
+note (with_empty g) rest = mark byte.comma ∷ general g (mark byte.comma ∷ mark byte.opening_bracket ∷ mark byte.closing_bracket ∷ rest)
+note (with_list g h gs) rest = mark byte.comma ∷ general g (mark byte.comma ∷ mark byte.opening_bracket ∷ general h (generals gs (mark byte.closing_bracket ∷ rest)))
 
 abbrev pub names : List Tok → List Tok → List Tok
 names [] rest = rest
-names (t ∷ ts) rest = mark 44 ∷ t ∷ names ts rest
+names (t ∷ ts) rest = mark byte.comma ∷ t ∷ names ts rest
 
 abbrev pub form : Form → List Tok
-form (cnf name role i is n) = lower (codes "cnf") ∷ mark 40 ∷ name ∷ mark 44 ∷ role ∷ mark 44 ∷ item i (items is (note n (mark 41 ∷ mark 46 ∷ [])))
-form (whole file) = lower (codes "include") ∷ mark 40 ∷ file ∷ mark 41 ∷ mark 46 ∷ []
-form (selected file n ns) = lower (codes "include") ∷ mark 40 ∷ file ∷ mark 44 ∷ mark 91 ∷ n ∷ names ns (mark 93 ∷ mark 41 ∷ mark 46 ∷ [])
+form (cnf name role i is n) = lower (codes "cnf") ∷ mark byte.opening_parenthesis ∷ name ∷ mark byte.comma ∷ role ∷ mark byte.comma ∷ item i (items is (note n (mark byte.closing_parenthesis ∷ mark byte.full_stop ∷ [])))
+form (whole file) = lower (codes "include") ∷ mark byte.opening_parenthesis ∷ file ∷ mark byte.closing_parenthesis ∷ mark byte.full_stop ∷ []
+form (selected file n ns) = lower (codes "include") ∷ mark byte.opening_parenthesis ∷ file ∷ mark byte.comma ∷ mark byte.opening_bracket ∷ n ∷ names ns (mark byte.closing_bracket ∷ mark byte.closing_parenthesis ∷ mark byte.full_stop ∷ [])
 
 -- ---- which kinds of token may stand where
 

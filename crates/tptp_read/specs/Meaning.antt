@@ -17,6 +17,7 @@ use Rattle.tptp_read.specs.declared.statement.Statement.TheVariants.{Cnf, Includ
 use Rattle.tptp_tokens.specs.Stream.{Tok}
 use Rattle.tptp_read.specs.Lexemes.{is_feature, is_quoted_kind, is_variable_kind, is_dollar_kind}
 use Rattle.tptp_read.specs.Grammar.{Written, single, applied, Writtens, none, more, Negated, no_atom, no_equation, in_parens, Simple, atom, equation, unequal, negated, Item, simple, nested, Items, last, or, Form, cnf, whole, selected}
+use Rattle.inst_logic.specs.Codes as byte
 
 -- why a statement is refused
 pub data Fault : Type 0 where
@@ -30,7 +31,7 @@ pub data Fault : Type 0 where
 abbrev pub unquoted : Bool → List ℕ → List ℕ
 unquoted escaped [] = []
 unquoted true (b ∷ bs) = b ∷ unquoted false bs
-unquoted false (b ∷ bs) = if b == 39 then [] else (if b == 92 then unquoted true bs else b ∷ unquoted false bs)
+unquoted false (b ∷ bs) = if b == byte.quote then [] else (if b == byte.backslash then unquoted true bs else b ∷ unquoted false bs)
 
 abbrev pub name_of : Tok → List ℕ
 name_of t = if is_quoted_kind t.kind then unquoted false (drop 1 t.text) else t.text
@@ -127,7 +128,7 @@ predicate_of vs (applied f t ts) = app (record { kind = Predicate; name = name_o
 
 abbrev pub literal_of : List (List ℕ) → Wrote → List (Signed Tree)
 literal_of vs (predicate sign t) = if is_constant_atom t then [] else record { positive = sign; atom = predicate_of vs t } ∷ []
-literal_of vs (equal sign t u) = record { positive = sign; atom = app (record { kind = Equality; name = 61 ∷ []; arity = 2 }) (tree.more (tree_of vs t) (tree.more (tree_of vs u) tree.none)) } ∷ []
+literal_of vs (equal sign t u) = record { positive = sign; atom = app (record { kind = Equality; name = byte.equals_sign ∷ []; arity = 2 }) (tree.more (tree_of vs t) (tree.more (tree_of vs u) tree.none)) } ∷ []
 
 -- a literal that is true as it stands
 abbrev pub is_always : Wrote → Bool

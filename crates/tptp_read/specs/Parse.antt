@@ -3,6 +3,7 @@ use Rattle.std.specs.Prelude.{ℕ, zero, suc, List, [], ◌∷◌, length, Bool,
 use Rattle.tptp_tokens.specs.Stream.{Tok}
 use Rattle.tptp_read.specs.Lexemes.{is_mark_token, is_head, is_plain}
 use Rattle.tptp_read.specs.Grammar.{Written, single, applied, Writtens, none, more}
+use Rattle.inst_logic.specs.Codes as byte
 
 infixl 10 ◌>>=◌
 abbrev pub ◌>>=◌ : {A B : Type 0} → Option A → (A → Option B) → Option B
@@ -39,13 +40,13 @@ writtens (t ∷ ts) = more t (writtens ts)
 unfoldable pub applied_at : Reads Written → Tok → Reads Written
 applied_at p f ts = do
   t ← p ts
-  us ← many_at 44 p (length t.1) t.1
-  if begins_with 41 us.1 then Some (applied f t.0 (writtens us.0), behind us.1) else None
+  us ← many_at byte.comma p (length t.1) t.1
+  if begins_with byte.closing_parenthesis us.1 then Some (applied f t.0 (writtens us.0), behind us.1) else None
 
 -- a term, with a way to read its arguments
 unfoldable pub term_with : Reads Written → Reads Written
 term_with p [] = None
-term_with p (t ∷ ts) = if is_head t.kind && begins_with 40 ts then applied_at p t (behind ts) else (if is_plain t.kind then Some (single t, ts) else None)
+term_with p (t ∷ ts) = if is_head t.kind && begins_with byte.opening_parenthesis ts then applied_at p t (behind ts) else (if is_plain t.kind then Some (single t, ts) else None)
 
 -- a term in which at most so many parentheses are open at once
 unfoldable pub term_at : ℕ → Reads Written

@@ -8,6 +8,7 @@ use Rattle.tptp_read.specs.declared.statement.Statement.{Statement}
 use Rattle.tptp_read.specs.Lexemes.{Begins, mark, lower, is_mark_token}
 use Rattle.tptp_read.specs.Grammar.{Form, IsForm}
 use Rattle.tptp_read.specs.Meaning.{Fault, syntax_fault, language, limit, judged}
+use Rattle.inst_logic.specs.Codes as byte
 
 abbrev pub is_language : List ℕ → Bool
 is_language w = list_any (bytes_eq w) (codes "fof" ∷ codes "tff" ∷ codes "tcf" ∷ codes "thf" ∷ codes "tpi" ∷ [])
@@ -18,7 +19,7 @@ pub record IsOtherLanguage (text w : List ℕ) : Type 0 where
   pub behind : List ℕ
   pub rest : List ℕ
   pub word : IsNext text (lower w) behind
-  pub parenthesis : IsNext behind (mark 40) rest
+  pub parenthesis : IsNext behind (mark byte.opening_parenthesis) rest
 
 abbrev pub IsNoOtherLanguage : List ℕ → Type 0
 IsNoOtherLanguage text = (w : List ℕ) → ¬ IsOtherLanguage text w
@@ -26,8 +27,8 @@ IsNoOtherLanguage text = (w : List ℕ) → ¬ IsOtherLanguage text w
 -- a full stop is the last token and no other
 abbrev pub stops_last : List Tok → Bool
 stops_last [] = false
-stops_last (t ∷ []) = is_mark_token 46 t
-stops_last (t ∷ u ∷ ts) = not (is_mark_token 46 t) && stops_last (u ∷ ts)
+stops_last (t ∷ []) = is_mark_token byte.full_stop t
+stops_last (t ∷ u ∷ ts) = not (is_mark_token byte.full_stop t) && stops_last (u ∷ ts)
 
 -- the tokens up to and including the first full stop, and what follows
 pub record IsFront (text : List ℕ) (ts : List Tok) (rest : List ℕ) : Type 0 where
@@ -39,10 +40,10 @@ abbrev pub HasNoFront : List ℕ → Type 0
 HasNoFront text = (ts : List Tok) (rest : List ℕ) → ¬ IsFront text ts rest
 
 abbrev pub opens : Tok → Bool
-opens t = is_mark_token 40 t || is_mark_token 91 t
+opens t = is_mark_token byte.opening_parenthesis t || is_mark_token byte.opening_bracket t
 
 abbrev pub closes : Tok → Bool
-closes t = is_mark_token 41 t || is_mark_token 93 t
+closes t = is_mark_token byte.closing_parenthesis t || is_mark_token byte.closing_bracket t
 
 -- the most brackets that are open at a token, where so many were opened and closed before: at a token, those opened up to it
 -- less those closed before it

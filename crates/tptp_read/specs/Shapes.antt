@@ -9,6 +9,7 @@ use Rattle.tptp_read.specs.Grammar.{Written, is_atom, Negated, no_atom, no_equat
 use Rattle.tptp_read.specs.Meaning.{Wrote, predicate, equal, is_truth, tree_of}
 use Rattle.tptp_read.specs.Parse.{◌>>=◌, Reads, begins_with, behind, term_at}
 use Rattle.tptp_read.specs.ParseClause.{is_unequal}
+use Rattle.inst_logic.specs.Codes as byte
 
 -- what is read, by a view
 abbrev pub seen : {A V : Type 0} → (A → V) → Option (A × List Tok) → Option (V × List Tok)
@@ -39,7 +40,7 @@ IsOfTerm f ts x = (d : ℕ) (z : Written × List Tok) → term_at d ts ≡ Some 
 unfoldable pub negated_plain : ℕ → Reads Negated
 negated_plain d ts = do
   t ← term_at d ts
-  if begins_with 61 t.1 then (do
+  if begins_with byte.equals_sign t.1 then (do
     u ← term_at d (behind t.1)
     Some (no_equation t.0 u.0, u.1))
       else (if is_atom t.0 then Some (no_atom t.0, t.1) else None)
@@ -48,7 +49,7 @@ negated_plain d ts = do
 unfoldable pub simple_plain : ℕ → Reads Simple
 simple_plain d ts = do
   t ← term_at d ts
-  if begins_with 61 t.1 then (do
+  if begins_with byte.equals_sign t.1 then (do
     u ← term_at d (behind t.1)
     Some (equation t.0 u.0, u.1))
       else (if is_unequal t.1 then (do

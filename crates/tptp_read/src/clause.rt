@@ -9,6 +9,7 @@ ghost use Rattle.tptp_read.specs.ParseClause.{simple_at, item_at, items_of};
 ghost use Rattle.tptp_read.specs.LexemeView.{toks, texts, Gives};
 ghost use Rattle.tptp_read.specs.Shapes.{seen, shape};
 ghost use Rattle.tptp_read.specs.Gathered.{gathered, gather, atom_literals, equation_literal, side_literals, is_so, put};
+ghost use Rattle.inst_logic.specs.Codes as byte;
 
 use crate::lexeme::Lexeme;
 use crate::literals::{Atomic, literal};
@@ -191,7 +192,7 @@ pub(crate) fn items<'a>(
     at: usize,
     into: &mut Literals<'a>,
 ) -> Result<usize, Stop>
-    ensures is { Gives (λ x. (gathered into.new, toks (drop x tokens.now))) result (seen (λ is. fold (gather (texts vars.now.keys)) (gathered into.old) (from_items (items_of is))) (many_at 124 (item_at nesting depth) (length (toks (drop at tokens.now))) (toks (drop at tokens.now)))) }
+    ensures is { Gives (λ x. (gathered into.new, toks (drop x tokens.now))) result (seen (λ is. fold (gather (texts vars.now.keys)) (gathered into.old) (from_items (items_of is))) (many_at byte.bar (item_at nesting depth) (length (toks (drop at tokens.now))) (toks (drop at tokens.now)))) }
     ensures within { at ≤ length tokens.now → IfOk result (λ x. (at ≤ x) × (x ≤ length tokens.now)) }
 {
     let mut next = at;

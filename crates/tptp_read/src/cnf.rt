@@ -9,6 +9,7 @@ ghost use Rattle.tptp_read.specs.LexemeView.{toks};
 ghost use Rattle.tptp_read.specs.Selected.{starts};
 ghost use Rattle.tptp_read.specs.Text.{IsFormedStatement};
 ghost use Rattle.tptp_read.specs.Verdicts.{judged_form, Tells};
+ghost use Rattle.inst_logic.specs.Codes as byte;
 
 use crate::body::body_at;
 use crate::front::is_lower;
@@ -34,7 +35,7 @@ fn lower_at(tokens: &[Lexeme], at: usize) -> bool
 
 // Whether a name and a role stand behind the word `cnf`.
 fn has_head(tokens: &[Lexeme]) -> bool
-    ensures is { result ≡ (begins_with 40 (toks (drop 1 tokens.now)) && (starts is_name (toks (drop 2 tokens.now)) && (begins_with 44 (toks (drop 3 tokens.now)) && (starts is_lower (toks (drop 4 tokens.now)) && begins_with 44 (toks (drop 5 tokens.now)))))) }
+    ensures is { result ≡ (begins_with byte.opening_parenthesis (toks (drop 1 tokens.now)) && (starts is_name (toks (drop 2 tokens.now)) && (begins_with byte.comma (toks (drop 3 tokens.now)) && (starts is_lower (toks (drop 4 tokens.now)) && begins_with byte.comma (toks (drop 5 tokens.now)))))) }
     ensures within { IsTrue result → 5 < length tokens.now }
 {
     stands_at(tokens, 1, b'(')

@@ -8,6 +8,7 @@ ghost use Rattle.tptp_read.specs.ParseForm.{one_of, include_at, is_quoted, is_ta
 ghost use Rattle.tptp_read.specs.Grammar.{is_name};
 ghost use Rattle.tptp_read.specs.LexemeView.{tok, toks, Gives};
 ghost use Rattle.tptp_read.specs.Selected.{in_names, starts};
+ghost use Rattle.inst_logic.specs.Codes as byte;
 
 use crate::lexeme::Lexeme;
 use crate::notes::ends_at;
@@ -45,7 +46,7 @@ fn quoted_at(tokens: &[Lexeme], at: usize) -> bool
 
 // Whether the name of a file stands behind the word `include`.
 fn has_file(tokens: &[Lexeme]) -> bool
-    ensures is { result ≡ (begins_with 40 (toks (drop 1 tokens.now)) && starts is_quoted (toks (drop 2 tokens.now))) }
+    ensures is { result ≡ (begins_with byte.opening_parenthesis (toks (drop 1 tokens.now)) && starts is_quoted (toks (drop 2 tokens.now))) }
     ensures within { IsTrue result → 2 < length tokens.now }
 {
     stands_at(tokens, 1, b'(') && quoted_at(tokens, 2)
@@ -53,7 +54,7 @@ fn has_file(tokens: &[Lexeme]) -> bool
 
 // Whether names are selected behind the name of the file.
 fn has_names(tokens: &[Lexeme]) -> bool
-    ensures is { result ≡ (begins_with 44 (toks (drop 3 tokens.now)) && (begins_with 91 (toks (drop 4 tokens.now)) && starts is_name (toks (drop 5 tokens.now)))) }
+    ensures is { result ≡ (begins_with byte.comma (toks (drop 3 tokens.now)) && (begins_with byte.opening_bracket (toks (drop 4 tokens.now)) && starts is_name (toks (drop 5 tokens.now)))) }
     ensures within { IsTrue result → 5 < length tokens.now }
 {
     stands_at(tokens, 3, b',') && stands_at(tokens, 4, b'[') && name_at(tokens, 5)
@@ -61,7 +62,7 @@ fn has_names(tokens: &[Lexeme]) -> bool
 
 // Whether the selection and the statement end at this place.
 fn closes_at(tokens: &[Lexeme], at: usize) -> bool
-    ensures { result ≡ (begins_with 93 (toks (drop at tokens.now)) && is_tail (toks (drop (at + 1) tokens.now))) }
+    ensures { result ≡ (begins_with byte.closing_bracket (toks (drop at tokens.now)) && is_tail (toks (drop (at + 1) tokens.now))) }
 {
     stands_at(tokens, at, b']') && ends_at(tokens, at + 1)
 }
@@ -73,7 +74,7 @@ fn selection(
     tokens: &[Lexeme],
     at: usize,
 ) -> Result<(NameList, usize), Stop>
-    ensures is { Gives (λ x. (x.0, toks (drop x.1 tokens.now))) result (in_names (name_of (tok first.now) ∷ []) (many_at 44 (one_of is_name) (length (toks (drop at tokens.now))) (toks (drop at tokens.now)))) }
+    ensures is { Gives (λ x. (x.0, toks (drop x.1 tokens.now))) result (in_names (name_of (tok first.now) ∷ []) (many_at byte.comma (one_of is_name) (length (toks (drop at tokens.now))) (toks (drop at tokens.now)))) }
     ensures within { at ≤ length tokens.now → IfOk result (λ x. (at ≤ x.1) × (x.1 ≤ length tokens.now)) }
 {
     let mut names = NameList::new(alloc);

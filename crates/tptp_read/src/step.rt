@@ -9,7 +9,7 @@ ghost use Rattle.tptp_read.specs.Verdicts.{verdict, Tells, StepOf};
 ghost use Rattle.tptp_read.specs.Words.{is_word};
 
 use crate::cnf::cnf;
-use crate::front::{Front, front_of, is_lower, nesting_of};
+use crate::front::{Front, MOST_NESTING, front_of, is_lower, nesting_of};
 use crate::include::include;
 use crate::lexeme::Lexeme;
 use crate::refusal::Refusal;
@@ -54,7 +54,7 @@ pub(crate) fn step<'a>(
         Front::Language(word) => Err(Refusal::Language(word)),
         Front::Unfinished => Err(Refusal::Syntax),
         Front::Whole { tokens, end } => {
-            if nesting_of(tokens.as_slice()) > 256 {
+            if nesting_of(tokens.as_slice()) > MOST_NESTING {
                 return Err(Refusal::Limit(Which::Nesting));
             }
             let statement = statement_of(alloc, tokens.as_slice())?;

@@ -6,6 +6,7 @@ ghost use Rattle.tptp_read.specs.Meaning.{tree_of};
 ghost use Rattle.tptp_read.specs.Grammar.{single};
 ghost use Rattle.tptp_read.specs.Parse.{many_at, applied_at, term_at};
 ghost use Rattle.tptp_read.specs.LexemeView.{tok, toks, texts, in_trees, in_lists, Gives};
+ghost use Rattle.inst_logic.specs.Codes as byte;
 
 use crate::lexeme::Lexeme;
 use crate::numbers::place_of;
@@ -103,7 +104,7 @@ fn arguments(
     tokens: &[Lexeme],
     at: usize,
 ) -> Result<(TermList, usize), Stop>
-    ensures is { Gives (λ x. (x.0, toks (drop x.1 tokens.now))) result (in_lists (texts vars.now.keys) (tree first ∷ []) (many_at 44 (term_at depth) (length (toks (drop at tokens.now))) (toks (drop at tokens.now)))) }
+    ensures is { Gives (λ x. (x.0, toks (drop x.1 tokens.now))) result (in_lists (texts vars.now.keys) (tree first ∷ []) (many_at byte.comma (term_at depth) (length (toks (drop at tokens.now))) (toks (drop at tokens.now)))) }
     ensures within { at ≤ length tokens.now → IfOk result (λ x. (at ≤ x.1) × (x.1 ≤ length tokens.now)) }
 {
     let mut args = TermList::new(alloc);

@@ -6,7 +6,7 @@ ghost use Rattle.tptp_read.specs.Atoms.{ReadsAtom, IsAtomCause};
 
 use crate::all::all_tokens;
 use crate::atom::atom_of;
-use crate::front::nesting_within;
+use crate::front::{MOST_NESTING, nesting_within};
 use crate::statement::Which;
 use crate::text::ReadError;
 use inst_logic::Literal;
@@ -20,7 +20,7 @@ pub(crate) fn atom_in(alloc: Global, text: &[u8]) -> Result<Literal, ReadError>
     let Some(tokens) = all_tokens(alloc, text)? else {
         return Err(ReadError::Syntax { statement: 1 });
     };
-    if nesting_within(tokens.as_slice()) > 256 {
+    if nesting_within(tokens.as_slice()) > MOST_NESTING {
         return Err(ReadError::Limit {
             statement: 1,
             which: Which::Nesting,

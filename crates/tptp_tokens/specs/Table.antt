@@ -5,6 +5,7 @@ use Rattle.std.specs.Char.{is_ascii_digit, is_ascii_lowercase, is_ascii_uppercas
 use Rattle.tptp_tokens.specs.declared.kind.TokenKind.{TokenKind}
 use Rattle.tptp_tokens.specs.declared.kind.TokenKind.TheVariants.{LowerWord, Variable, DollarWord, QuotedWord, DistinctObject, Integer, Rational, Real, Punctuation}
 use Rattle.tptp_tokens.specs.Bytes.{is_word_byte, is_sign, is_mark, is_printed}
+use Rattle.inst_logic.specs.Codes as byte
 
 abbrev pub IsLowerWord : List ℕ → Type 0
 IsLowerWord [] = ⊥
@@ -17,8 +18,8 @@ IsUpperWord (b ∷ bs) = IsTrue (is_ascii_uppercase b && list_all is_word_byte b
 -- items, each a printed byte other than the mark and `\`, or `\` and the mark or `\`
 abbrev pub are_items : ℕ → Bool → List ℕ → Bool
 are_items mark escaped [] = not escaped
-are_items mark true (b ∷ bs) = (b == mark || b == 92) && are_items mark false bs
-are_items mark false (b ∷ bs) = is_printed b && (not (b == mark) && are_items mark (b == 92) bs)
+are_items mark true (b ∷ bs) = (b == mark || b == byte.backslash) && are_items mark false bs
+are_items mark false (b ∷ bs) = is_printed b && (not (b == mark) && are_items mark (b == byte.backslash) bs)
 
 abbrev pub IsBetween : ℕ → List ℕ → List ℕ → Type 0
 IsBetween mark items text = (text ≡ mark ∷ items ++ mark ∷ []) × IsTrue (are_items mark false items)
@@ -35,7 +36,7 @@ abbrev pub IsInteger : List ℕ → Type 0
 IsInteger text = (sign : List ℕ) × (digits : List ℕ) × (text ≡ sign ++ digits) × IsOptionalSign sign × AreDigits digits
 
 abbrev pub IsFraction : List ℕ → Type 0
-IsFraction text = (ds : List ℕ) × (text ≡ 46 ∷ ds) × AreDigits ds
+IsFraction text = (ds : List ℕ) × (text ≡ byte.full_stop ∷ ds) × AreDigits ds
 
 abbrev pub IsExponent : List ℕ → Type 0
 IsExponent text = (e : ℕ) × (n : List ℕ) × (text ≡ e ∷ n) × IsTrue (e == 69 || e == 101) × IsInteger n
@@ -43,17 +44,17 @@ IsExponent text = (e : ℕ) × (n : List ℕ) × (text ≡ e ∷ n) × IsTrue (e
 pub data IsToken : TokenKind → List ℕ → Type 0 where
   a_lower : (text : List ℕ) → IsLowerWord text → IsToken LowerWord text
   a_variable : (text : List ℕ) → IsUpperWord text → IsToken Variable text
-  a_dollar : (text : List ℕ) → IsLowerWord text → IsToken DollarWord (36 ∷ text)
-  a_double : (text : List ℕ) → IsLowerWord text → IsToken DollarWord (36 ∷ 36 ∷ text)
-  a_quoted : (items text : List ℕ) → IsBetween 39 items text → 0 < length items → IsToken QuotedWord text
-  a_distinct : (items text : List ℕ) → IsBetween 34 items text → IsToken DistinctObject text
+  a_dollar : (text : List ℕ) → IsLowerWord text → IsToken DollarWord (byte.dollar ∷ text)
+  a_double : (text : List ℕ) → IsLowerWord text → IsToken DollarWord (byte.dollar ∷ byte.dollar ∷ text)
+  a_quoted : (items text : List ℕ) → IsBetween byte.quote items text → 0 < length items → IsToken QuotedWord text
+  a_distinct : (items text : List ℕ) → IsBetween byte.double_quote items text → IsToken DistinctObject text
   an_integer : (text : List ℕ) → IsInteger text → IsToken Integer text
-  a_rational : (n d : List ℕ) → IsInteger n → AreDigits d → IsToken Rational (n ++ 47 ∷ d)
+  a_rational : (n d : List ℕ) → IsInteger n → AreDigits d → IsToken Rational (n ++ byte.slash ∷ d)
   a_fraction : (n f : List ℕ) → IsInteger n → IsFraction f → IsToken Real (n ++ f)
   an_exponent : (n x : List ℕ) → IsInteger n → IsExponent x → IsToken Real (n ++ x)
   a_real : (n f x : List ℕ) → IsInteger n → IsFraction f → IsExponent x → IsToken Real (n ++ f ++ x)
   a_mark : (b : ℕ) → IsTrue (is_mark b) → IsToken Punctuation (b ∷ [])
-  unequal : IsToken Punctuation (33 ∷ 61 ∷ [])
+  unequal : IsToken Punctuation (byte.exclamation_mark ∷ byte.equals_sign ∷ [])
 
 -- the longest token at the front, of this kind and this length
 pub record IsLongest (bytes : List ℕ) (k : TokenKind) (n : ℕ) : Type 0 where

@@ -18,13 +18,13 @@ pub(crate) fn is_sign(b: u8) -> bool
 pub(crate) fn is_blank(b: u8) -> bool
     ensures { result ≡ is_blank b }
 {
-    (9 <= b && b <= 13) || b == 32
+    (b'\t' <= b && b <= b'\r') || b == b' '
 }
 
 pub(crate) fn is_printed(b: u8) -> bool
     ensures { result ≡ is_printed b }
 {
-    32 <= b && b <= 126
+    b' ' <= b && b <= b'~'
 }
 
 pub(crate) fn is_mark(b: u8) -> bool
@@ -72,7 +72,7 @@ pub(crate) fn line_len(bytes: &[u8]) -> usize
     ensures within { result ≤ length bytes.now }
 {
     let mut n = 0;
-    while n < bytes.len() && bytes[n] != 10 {
+    while n < bytes.len() && bytes[n] != b'\n' {
         n += 1;
     }
     n

@@ -4,6 +4,7 @@ ghost use Rattle.std.specs.Prelude.{◌≡◌, ◌+◌, ◌≤◌, ◌<◌, ◌=
 ghost use Rattle.std.specs.Char.{is_ascii_lowercase};
 ghost use Rattle.tptp_tokens.specs.Bytes.{is_sign};
 ghost use Rattle.tptp_tokens.specs.Scan.{begins, optional, digits_after, exponent, number_at, dollar_at, quoted_at, distinct_at, token_at};
+ghost use Rattle.inst_logic.specs.Codes as byte;
 
 use crate::kind::TokenKind;
 use crate::runs::{closing, digits_len, is_mark, is_sign, word_len};
@@ -75,7 +76,7 @@ fn number_at(bytes: &[u8]) -> Option<(TokenKind, usize)>
 
 // 1 where a second dollar sign is at the front, else 0.
 fn dollar_len(bytes: &[u8]) -> usize
-    ensures is { result ≡ optional (λ b. b == 36) bytes.now }
+    ensures is { result ≡ optional (λ b. b == byte.dollar) bytes.now }
     ensures within { result ≤ length bytes.now }
 {
     match bytes {
@@ -126,7 +127,7 @@ fn distinct_at(bytes: &[u8]) -> Option<(TokenKind, usize)>
 }
 
 fn begins_equals(bytes: &[u8]) -> bool
-    ensures { result ≡ begins (λ c. c == 61) bytes.now }
+    ensures { result ≡ begins (λ c. c == byte.equals_sign) bytes.now }
 {
     match bytes {
         [b'=', ..] => true,

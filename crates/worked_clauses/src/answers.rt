@@ -1,14 +1,18 @@
 // What the checker and the truth test answer for the certificates of texts. A function owns at most one bank, makes it last and
 // has few ways out from then on, since a proof pays at each of them for what is owned.
-ghost use Rattle.saturation_cert.specs.Wholes.{IsWholeRefutation, IsWholeSaturation};
+ghost use Rattle.std.specs.Prelude.{◌≡◌, []};
+ghost use Rattle.cert_format.specs.Certificate.{selected_members};
+ghost use Rattle.saturation_cert.specs.Values.{saturation_of};
+ghost use Rattle.saturation_cert.specs.Wholes.{AreLight, HasPlaces, IsGroundAtom, IsWholeRefutation, IsWholeSaturation};
 
 use crate::building::{Worked, base_lists, refutation_lists};
 use cert_check::{CheckError, CheckedSaturation, Complaint, check_refutation, check_saturation};
 use inst_logic::{Kind, Memory, Name, NameList, PlaceList, Sym};
-use saturation_cert::{Base, Refutation, Saturation, is_light, truth};
+use saturation_cert::{Base, Refutation, Saturation, is_light, store_selected, truth, truth_in};
 use std::alloc::Global;
 use std::test::Fail;
-use term_bank::Bank;
+use term_bank::{Bank, TermId};
+use term_index::{PartnerIndex, Rows};
 use tptp_read::read_atom;
 
 fn complaint_in(e: CheckError) -> Result<Option<Complaint>, Fail> {
@@ -96,12 +100,43 @@ pub fn refutation_complaint(
     }
 }
 
-// Whether the ground atom of this text is true by the saturation. None where a weight passes what the bank tells.
-fn truth_of(
+// The truth test over indexes to fill.
+fn truth_by<I: PartnerIndex>(
+    alloc: Global,
+    cert: &Saturation,
+    positive: &mut I,
+    negative: &mut I,
+    atom: TermId,
+) -> Result<bool, Memory>
+    requires whole { IsWholeSaturation cert.now }
+    requires placed { HasPlaces (saturation_of cert.now) }
+    requires light { AreLight (selected_members (saturation_of cert.now)) }
+    requires atom { IsGroundAtom cert.now.base.bank atom }
+    requires positive { I.pairs positive.old ≡ [] }
+    requires negative { I.pairs negative.old ≡ [] }
+{
+    store_selected(cert, positive, negative)?;
+    truth_in(alloc, cert, positive, negative, atom)
+}
+
+fn truth_by_rows(alloc: Global, cert: &Saturation, atom: TermId) -> Result<bool, Memory>
+    requires whole { IsWholeSaturation cert.now }
+    requires placed { HasPlaces (saturation_of cert.now) }
+    requires light { AreLight (selected_members (saturation_of cert.now)) }
+    requires atom { IsGroundAtom cert.now.base.bank atom }
+{
+    let mut positive = Rows::new(alloc);
+    let mut negative = Rows::new(alloc);
+    truth_by(alloc, cert, &mut positive, &mut negative, atom)
+}
+
+// Whether the ground atom of this text is true by the saturation: by the trees that the truth test fills, and by lists in their
+// place. None where a weight passes what the bank tells.
+fn truths_of(
     alloc: Global,
     checked: &mut CheckedSaturation,
     text: &str,
-) -> Result<Option<bool>, Fail> {
+) -> Result<Option<[bool; 2]>, Fail> {
     let l = read_atom(alloc, text.as_bytes())?;
     let atom = checked.atom(&l)?;
     let cert = checked.cert();
@@ -111,28 +146,31 @@ fn truth_of(
     if !is_light(cert) {
         return Ok(None);
     }
-    Ok(Some(truth(alloc, cert, atom)?))
+    let by_trees = truth(alloc, cert, atom)?;
+    let by_rows = truth_by_rows(alloc, cert, atom)?;
+    Ok(Some([by_trees, by_rows]))
 }
 
-fn truth_by(alloc: Global, cert: Saturation, text: &str) -> Result<Option<bool>, Fail>
+fn truths_by(alloc: Global, cert: Saturation, text: &str) -> Result<Option<[bool; 2]>, Fail>
     requires { IsWholeSaturation cert }
 {
     match check_saturation(alloc, cert) {
         Ok(checked) => {
             let mut checked = checked;
-            truth_of(alloc, &mut checked, text)
+            truths_of(alloc, &mut checked, text)
         }
         Err(_) => Ok(None),
     }
 }
 
-// Whether the ground atom of the last text is true by the saturation of these texts with a place for each member.
-pub fn truth_in(
+// Whether the ground atom of the last text is true by the saturation of these texts with a place for each member: by trees, and by
+// lists.
+pub fn truths(
     alloc: Global,
     worked: &Worked,
     places: &[usize],
     text: &str,
-) -> Result<Option<bool>, Fail> {
+) -> Result<Option<[bool; 2]>, Fail> {
     let places = PlaceList::from(places.to_vec(alloc)?);
     let names = NameList::new(alloc);
     let mut bank = Bank::new(alloc);
@@ -145,7 +183,7 @@ pub fn truth_in(
                 axioms: lists.axioms,
                 members: lists.members,
             };
-            truth_by(alloc, Saturation { base, places }, text)
+            truths_by(alloc, Saturation { base, places }, text)
         }
         Err(e) => Err(e),
     }

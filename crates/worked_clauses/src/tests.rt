@@ -1,5 +1,5 @@
 // A saturation whose selected literals tie at an atom, a refutation of two clauses, and changes of them.
-use crate::answers::{refutation_complaint, saturation_complaint, truth_in};
+use crate::answers::{refutation_complaint, saturation_complaint, truths};
 use crate::building::Worked;
 use cert_check::Complaint;
 use saturation_cert::{GroundHint, Origin};
@@ -51,8 +51,8 @@ fn truth_where_weights_tie(rt: HostRuntime) -> Result<(), Fail> {
     let worked = saturation(MEMBERS);
     for row in expected {
         assert_eq!(rt;
-            truth_in(rt.alloc(), &worked, &[1, 1, 2, 2], row.0)?,
-            Some(row.1)
+            truths(rt.alloc(), &worked, &[1, 1, 2, 2], row.0)?,
+            Some([row.1, row.1])
         );
     }
     Ok(())

@@ -1,17 +1,13 @@
-use Rattle.std.proofs.Common.{◌≡◌, ◌<◌, ◌≤◌, ◌^◌, ℕ, List, length, true, false, sym, ap, ◌∙◌, subst, arith, add-one, Result, Ok, Err, inl, inr}
-use Rattle.std.specs.Prelude.{IfOk, IsTrue}
+use Rattle.std.proofs.Common.{◌≡◌, ◌<◌, ◌≤◌, ◌^◌, ℕ, List, length, true, false, sym, ap, ◌∙◌, subst, arith, add-one, inl, inr}
+use Rattle.std.specs.Prelude.{IsTrue}
 use denote.Bor.{Bor}
 use Rattle.inst_logic.specs.Printing.{is_readable_name}
+use Rattle.inst_logic.proofs.Outcomes.{if_ok}
 use Rattle.inst_calculus.specs.Abstraction.{IsBot, is_taken, bot_name}
 use Rattle.ground_abs.specs.Names.{constant}
 use Rattle.ground_abs.proofs.SymbolNames.{below_or_last}
 use Rattle.ground_abs.proofs.SymbolNames.{found_taken, absent_free, some_free, bot_readable}
 use Rattle.ground_abs.proofs.bot.fresh_name.Goals as goal
-
--- what holds of a result that is `Ok`, one after another
-if_ok : {A E : Type 0} (P Q : A → Type 0) (r : Result A E) → IfOk r P → ((x : A) → P x → Q x) → IfOk r Q
-if_ok P Q (Ok x) h f = f x h
-if_ok P Q (Err e) h f = h
 
 pub returns-then-not-contains-clause-fresh : goal.returns-then-not-contains-clause-fresh
 returns-then-not-contains-clause-fresh c =

@@ -2,7 +2,7 @@ use Rattle.std.proofs.Common.{ap, ◌∙◌}
 use Rattle.cdcl_core.proofs.search.Search.answer.Goals as goal
 
 pub loop-pace-init : goal.loop-pace-init
-loop-pace-init c = record { search = c.begin.ensures.search; same = c.begin.ensures.same }
+loop-pace-init c = record { search = c.keep_levels.ensures.search; same = c.keep_levels.ensures.same }
 
 pub loop-pace-preserved-then-is_due : goal.loop-pace-preserved-then-is_due
 loop-pace-preserved-then-is_due c =

@@ -1,12 +1,8 @@
 use Rattle.std.proofs.Common.{arith}
 use Rattle.cdcl_core.proofs.BackLaws.{back_from}
-use Rattle.cdcl_core.proofs.ForgetLaws.{back_forgot}
 use Rattle.cdcl_core.proofs.search.Search.restart.Goals as goal
 
 pub returns : goal.returns
 returns c =
     let b = c.back_to.ensures in
-    record {
-      back = back_forgot c.args.self.now c.back_to.new.self c.reduce.new.self
-          (back_from c.args.self.now c.back_to.new.self c.min-level.result b.right (omega (arith, c.min-level.ensures, c.level.ensures)) b.trail b.kept b.assumed b.checked b.log) c.reduce.ensures.same;
-    }
+    record { back = back_from c.args.self.now c.back_to.new.self c.min-level.result b.right (omega (arith, c.min-level.ensures, c.level.ensures)) b.trail b.kept b.assumed b.checked b.log }
