@@ -1,38 +1,19 @@
 -- What the check of the axioms and members gives for both kinds of certificates.
-use Rattle.std.proofs.Common.{◌≡◌, ℕ, ◌<◌, ◌≤◌, List, [], ◌∷◌, refl, ap, ap₂, sym, ◌∙◌, map, subst, Option, None, Some, arith, ◌⊎◌, inl, inr}
-use Rattle.std.specs.Prelude.{All}
-use Rattle.std.proofs.lemmas.List.Elements.{All-head, All-tail}
-use Rattle.inst_logic.specs.declared.signed.Signed.{Signed}
+use Rattle.std.proofs.Common.{◌≡◌, ℕ, ◌<◌, ◌≤◌, refl, ap, sym, ◌∙◌, subst, Option, None, Some, arith, ◌⊎◌, inl, inr}
 use Rattle.inst_logic.specs.Clauses.{TreeClause, canonical_form, instance, IsCanonical}
 use Rattle.inst_logic.specs.Derivations.{at_number}
 use Rattle.inst_calculus.specs.Entries.{Origin, input, inst, Entry}
 use Rattle.inst_calculus.proofs.CanonicalForms.{canonical_of_canonical}
-use Rattle.term_bank.specs.Forest.{Forest, Extends, clause_at}
-use Rattle.term_bank.proofs.Clauses.{clause_extends}
 use Rattle.cert_format.specs.Certificate as format
 use Rattle.cert_format.specs.Validity.{Gives, IsRightAxiom, IsRightMember, RefutationPasses, SaturationPasses, IsFirstComplaint, Precedes, rank}
 use Rattle.cert_format.specs.declared.complaint.Complaint.{Complaint}
 use Rattle.cert_format.specs.declared.complaint.Complaint.TheVariants.{Axiom, Member as Derived, Bot, Ground, Step as Shown, NotEmpty, Place, Input, Pair}
-use Rattle.saturation_cert.specs.declared.member.Member.{Member}
 use Rattle.saturation_cert.specs.declared.certificate.Base.{Base}
-use Rattle.saturation_cert.specs.Values.{base_of, entry_of}
-use Rattle.saturation_cert.specs.Wholes.{IsWholeClause, IsWholeBase, KeepsBase}
+use Rattle.saturation_cert.specs.Values.{base_of}
+use Rattle.saturation_cert.specs.Wholes.{IsWholeBase, KeepsBase}
 use Rattle.cert_format.specs.Validity.{BasePasses, IsValidBase}
 use Rattle.cert_check.specs.Firsts.{IsFirstWrong, IsFirstWrongOf}
-
--- the clauses of a bank stay as it grows
-pub clauses_same : (f g : Forest) → Extends f g → (cs : List (List (Signed ℕ))) → All (IsWholeClause f) cs → map (clause_at g) cs ≡ map (clause_at f) cs
-clauses_same f g grown [] h = refl
-clauses_same f g grown (c ∷ cs) h = let here : IsWholeClause f c = All-head (IsWholeClause f) c cs h in ap₂ (λ x xs. x ∷ xs) (clause_extends f g grown c here.ids) (clauses_same f g grown cs (All-tail (IsWholeClause f) c cs h))
-
-pub members_same : (f g : Forest) → Extends f g → (ms : List Member) → All (λ m. IsWholeClause f m.clause) ms → map (entry_of g) ms ≡ map (entry_of f) ms
-members_same f g grown [] h = refl
-members_same f g grown (m ∷ ms) h = ap₂ (λ x xs. x ∷ xs) one (members_same f g grown ms (All-tail (λ x. IsWholeClause f x.clause) m ms h))
-  where
-    one : entry_of g m ≡ entry_of f m
-    one =
-        let here : IsWholeClause f m.clause = All-head (λ x. IsWholeClause f x.clause) m ms h in
-        λ i. record { clause = clause_extends f g grown m.clause here.ids i; origin = (entry_of f m).origin }
+use Rattle.saturation_cert.proofs.Grown.{clauses_same, members_same}
 
 -- the record of trees stays as the bank grows
 pub base_same : (old new : Base) → IsWholeBase old → KeepsBase old new → base_of new ≡ base_of old

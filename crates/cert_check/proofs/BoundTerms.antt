@@ -1,5 +1,5 @@
 -- The bindings that unify two atoms are to terms.
-use Rattle.std.proofs.Common.{◌≡◌, ℕ, ◌+◌, List, refl, ap, sym, ◌∙◌, subst, true}
+use Rattle.std.proofs.Common.{◌≡◌, ℕ, List, refl, ap, sym, ◌∙◌, subst, true}
 use Rattle.std.specs.Prelude.{◌&&◌, nat_eq}
 use Rattle.inst_logic.specs.Tree.{Tree, var, app, Trees, none, more}
 use Rattle.inst_logic.specs.Substitution.{subst as apply, substs, Substitution}
@@ -12,10 +12,7 @@ use Rattle.unify_core.specs.Sides.{Binding, of_side, IsResolvedBy}
 use Rattle.unify_core.specs.Terms.{AreTerms}
 use Rattle.unify_core.specs.declared.side.Side.{Side}
 use Rattle.unify_core.specs.declared.side.Side.TheVariants.{Left, Right}
-
-count_under : (s : Substitution) (ts : Trees) → count_of (substs s ts) ≡ count_of ts
-count_under s none = refl
-count_under s (more t ts) = ap (λ n. n + 1) (count_under s ts)
+use Rattle.inst_logic.proofs.Formed.{count_of_substs}
 
 -- a tree with an instance that is a term is a term
 module _ (s : Substitution) where
@@ -27,7 +24,7 @@ module _ (s : Substitution) where
         let n = nat_eq (count_of (substs s ts)) f.arity in
         let r : (n && trees_are_formed (substs s ts)) ≡ true = and_right k _ h in
         and_both k _ (and_left k _ h)
-        (and_both (nat_eq (count_of ts) f.arity) _ (ap (λ m. nat_eq m f.arity) (sym (count_under s ts)) ∙ and_left n _ r) (terms_by_instance ts (and_right n _ r)))
+        (and_both (nat_eq (count_of ts) f.arity) _ (ap (λ m. nat_eq m f.arity) (sym (count_of_substs s ts)) ∙ and_left n _ r) (terms_by_instance ts (and_right n _ r)))
 
     terms_by_instance : (ts : Trees) → trees_are_formed (substs s ts) ≡ true → trees_are_formed ts ≡ true
     terms_by_instance none h = refl

@@ -20,16 +20,12 @@ use Rattle.unify_core.specs.Sides.{Binding}
 use Rattle.unify_core.specs.Terms.{AreTerms}
 use Rattle.cert_check.proofs.BoundTerms.{bound_terms}
 use Rattle.cert_check.specs.Conclusions.{Concludes, IsAtomOf, IsCanonicalMember, IsProperlyUnified, MembersConclude, literal_of, placed_in}
+use Rattle.std.proofs.lemmas.Option.{same_Some}
+use Rattle.term_bank.specs.Forest.{literal_tree}
 
 -- the bindings that unify two atoms are to terms
 pub unified_terms : (f : Forest) (es : List Binding) (a b : Tree) → IsAtom a → IsAtom b → IsProperlyUnified f es a b → AreTerms f es
 unified_terms f es a b h k u = bound_terms f es a b h k u.unifier u.resolved u.most_general
-
-some_same : {A : Type 0} (x y : A) → Some x ≡ Some y → x ≡ y
-some_same x y e = cc
-
-abbrev literal_tree : Forest → Signed ℕ → Signed Tree
-literal_tree f l = record { positive = l.positive; atom = tree_at f l.atom }
 
 module _ (f : Forest) where
   entry_number : (ms : List Member) (n : ℕ) → at_number (map (entry_of f) ms) n ≡ option_map (entry_of f) (at_number ms n)
@@ -42,7 +38,7 @@ module _ (f : Forest) where
 
   some_of_map : {A B : Type 0} (g : A → B) (o : Option A) (y : B) → option_map g o ≡ Some y → (x : A) × (o ≡ Some x) × (g x ≡ y)
   some_of_map g None y e = absurd (cc)
-  some_of_map g (Some x) y e = (x, refl, some_same (g x) y e)
+  some_of_map g (Some x) y e = (x, refl, same_Some (g x) y e)
 
   entry_there : (ms : List Member) (n : ℕ) (m : Member) → at_number ms n ≡ Some m → at_number (map (entry_of f) ms) n ≡ Some (entry_of f m)
   entry_there ms n m e = entry_number ms n ∙ ap (option_map (entry_of f)) e
@@ -101,8 +97,8 @@ module _ (f : Forest) where
   concluded g ms from place partner other m k l at kat lat None h = λ c r.
       let (k2, u, v) = literal_named ms from place r.entry r.literal r.entry_at r.literal_at in
       let (l2, x, y) = literal_named ms partner other r.partner_entry r.other_literal r.partner_at r.other_at in
-      let ke : literal_tree f k ≡ r.literal = ap (literal_tree f) (some_same k k2 (sym kat ∙ u)) ∙ v in
-      let le : literal_tree f l ≡ r.other_literal = ap (literal_tree f) (some_same l l2 (sym lat ∙ x)) ∙ y in
+      let ke : literal_tree f k ≡ r.literal = ap (literal_tree f) (same_Some k k2 (sym kat ∙ u)) ∙ v in
+      let le : literal_tree f l ≡ r.other_literal = ap (literal_tree f) (same_Some l l2 (sym lat ∙ x)) ∙ y in
       let ks = ap (λ (z : Signed Tree). z.positive) ke in
       let ls = ap (λ (z : Signed Tree). z.positive) le in
       let general : IsMostGeneral r.unifier (tree_at f k.atom) (tree_at f l.atom) =
@@ -111,7 +107,7 @@ module _ (f : Forest) where
   concluded g ms from place partner other m k l at kat lat (Some d) h =
       let (m2, p, q) = member_of_literal (at_number ms from) place k kat in
       let (n, s, t) = member_of_literal (at_number ms partner) other l lat in
-      let same : m2 ≡ m = some_same m2 m (sym p ∙ at) in (
+      let same : m2 ≡ m = same_Some m2 m (sym p ∙ at) in (
         h.ids,
         record {
           entry = entry_of f m;

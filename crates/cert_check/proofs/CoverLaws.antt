@@ -23,7 +23,7 @@ use Rattle.saturation_cert.specs.Truths.{literal_at}
 use Rattle.saturation_cert.specs.Wholes.{IsWholeClause}
 use Rattle.cert_check.specs.Covers.{Covers, CoversOf, ShorterOf, IsCoveredIn}
 use Rattle.cert_check.specs.Grounds.{AreCanonicalMembers}
-use Rattle.cert_check.proofs.Refutations.{clause_grown}
+use Rattle.saturation_cert.proofs.Grown.{members_grown}
 
 abbrev pub clause_of : Forest → Member → TreeClause
 clause_of f m = clause_at f m.clause
@@ -33,7 +33,7 @@ module _ (f g : Forest) (grown : Extends f g) (ms : List Member) (whole : All (�
   member_same m i = clause_extends f g grown m.clause (all_in (λ (n : Member). IsWholeClause f n.clause) ms whole m i).ids
 
   pub members_later : All (λ m. IsWholeClause g m.clause) ms
-  members_later = in_all (λ (m : Member). IsWholeClause g m.clause) ms (λ m i. clause_grown f g grown m.clause (all_in (λ (n : Member). IsWholeClause f n.clause) ms whole m i))
+  members_later = members_grown f g grown ms whole
 
   pub canonical_later : AreCanonicalMembers f ms → AreCanonicalMembers g ms
   canonical_later h = in_all (λ (m : Member). IsCanonical (clause_at g m.clause)) ms

@@ -1,28 +1,24 @@
 -- The first place where two lists differ, as ids and as trees.
-use Rattle.std.proofs.Common.{◌≡◌, ℕ, zero, suc, ◌+◌, ◌<◌, ◌≤◌, List, [], ◌∷◌, refl, ap, ap₂, sym, ◌∙◌, map, subst, arith, ◌⊎◌, inl, inr, length, Option, None, Some}
+use Rattle.std.proofs.Common.{◌≡◌, ℕ, zero, suc, ◌+◌, ◌<◌, ◌≤◌, List, refl, ap, sym, ◌∙◌, map, subst, arith, ◌⊎◌, inl, inr, length, Option, None, Some}
 use Rattle.std.specs.Prelude.{All, slice_get, option_map}
 use Rattle.std.proofs.lemmas.Option.{slice_get-map}
 use Rattle.inst_logic.specs.declared.signed.Signed.{Signed}
 use Rattle.inst_logic.specs.Derivations.{at_number}
-use Rattle.inst_logic.specs.Tree.{Tree}
-use Rattle.inst_calculus.proofs.Membership.{◌∈◌, all_in, contains_in}
+use Rattle.inst_calculus.proofs.Membership.{all_in, contains_in}
 use Rattle.inst_logic.proofs.ShownLaws.{at_number_contains}
-use Rattle.term_bank.specs.Forest.{Forest, AreDistinct, IsClauseOf, clause_at, tree_at}
+use Rattle.term_bank.specs.Forest.{Forest, AreDistinct, IsClauseOf, clause_at}
 use Rattle.cert_check.specs.Firsts.{IsFirstWrong, IsFirstWrongOf}
+pub use Rattle.clause_form.proofs.Ids.{same_ids}
+use Rattle.std.proofs.lemmas.Option.{slice_get_past}
 
 pub first_same : (P Q : ℕ → Type 0) → ((n : ℕ) → P n → Q n) → ((n : ℕ) → Q n → P n) → (r : Option ℕ) → IsFirstWrongOf P r → IsFirstWrongOf Q r
 first_same P Q to from None h = λ n. to n (h n)
 first_same P Q to from (Some n) h = record { applies = λ q. h.applies (from n q); before = λ m b. to m (h.before m b) }
 
 module _ {A : Type 0} (xs ys : List A) where
-  past : (zs : List A) (k : ℕ) → length zs ≤ k → slice_get zs k ≡ None
-  past [] k h = refl
-  past (z ∷ zs) zero h = absurd (omega arith)
-  past (z ∷ zs) (suc k) h = past zs k (omega arith)
-
   pub no_difference : (n : ℕ) → length xs ≤ n → length ys ≤ n → ((k : ℕ) → k < n → slice_get xs k ≡ slice_get ys k) → (m : ℕ) → at_number xs m ≡ at_number ys m
   no_difference n a b h zero = refl
-  no_difference n a b h (suc k) = elim (lt_or_le k n) [ inl l ↦ h k l | inr g ↦ past xs k (omega arith) ∙ sym (past ys k (omega arith)) ]
+  no_difference n a b h (suc k) = elim (lt_or_le k n) [ inl l ↦ h k l | inr g ↦ slice_get_past xs k (omega arith) ∙ sym (slice_get_past ys k (omega arith)) ]
     where
       lt_or_le : (i j : ℕ) → (i < j) ⊎ (j ≤ i)
       lt_or_le i zero = inr (omega arith)
@@ -39,29 +35,7 @@ module _ {A : Type 0} (xs ys : List A) where
       at : IsFirstWrong (λ n. at_number xs n ≡ at_number ys n) (suc i)
       at = record { applies = differ; before = before }
 
-abbrev literal_at : Forest → Signed ℕ → Signed Tree
-literal_at f l = record { positive = l.positive; atom = tree_at f l.atom }
-
--- equal clauses of trees are equal clauses of ids
 module _ (f : Forest) (once : AreDistinct f.trees) where
-  same_literal : (k l : Signed ℕ) → k.atom < length f.trees → l.atom < length f.trees → literal_at f k ≡ literal_at f l → k ≡ l
-  same_literal k l a b e =
-      let s : k.positive ≡ l.positive = ap (λ (x : Signed Tree). x.positive) e in
-      let t : k.atom ≡ l.atom = once k.atom l.atom a b (ap (λ (x : Signed Tree). x.atom) e) in
-      λ i. record { positive = s i; atom = t i }
-
-  same_listed : (c d : List (Signed ℕ)) → ((l : Signed ℕ) → l ∈ c → l.atom < length f.trees) → ((l : Signed ℕ) → l ∈ d → l.atom < length f.trees) → clause_at f c ≡ clause_at f d → c ≡ d
-  same_listed [] [] a b e = refl
-  same_listed [] (l ∷ d) a b e = absurd (cc)
-  same_listed (k ∷ c) [] a b e = absurd (cc)
-  same_listed (k ∷ c) (l ∷ d) a b e =
-      let x : literal_at f k ≡ literal_at f l = cc in
-      let y : clause_at f c ≡ clause_at f d = cc in
-      ap₂ (λ z zs. z ∷ zs) (same_literal k l (a k (inl refl)) (b l (inl refl)) x) (same_listed c d (λ m i. a m (inr i)) (λ m i. b m (inr i)) y)
-
-  pub same_ids : (c d : List (Signed ℕ)) → IsClauseOf f c → IsClauseOf f d → clause_at f c ≡ clause_at f d → c ≡ d
-  same_ids c d a b e = same_listed c d (all_in (λ (l : Signed ℕ). l.atom < length f.trees) c a) (all_in (λ (l : Signed ℕ). l.atom < length f.trees) d b) e
-
   number_map : (cs : List (List (Signed ℕ))) (n : ℕ) → at_number (map (clause_at f) cs) n ≡ option_map (clause_at f) (at_number cs n)
   number_map cs zero = refl
   number_map cs (suc k) = slice_get-map (clause_at f) cs k
@@ -71,7 +45,7 @@ module _ (f : Forest) (once : AreDistinct f.trees) where
   same_option None None a b e = refl
   same_option None (Some d) a b e = absurd (cc)
   same_option (Some c) None a b e = absurd (cc)
-  same_option (Some c) (Some d) a b e = let k : clause_at f c ≡ clause_at f d = cc in ap (λ z. Some z) (same_ids c d (a c refl) (b d refl) k)
+  same_option (Some c) (Some d) a b e = let k : clause_at f c ≡ clause_at f d = cc in ap (λ z. Some z) (same_ids f once c d (a c refl) (b d refl) k)
 
   -- the first place where the clauses of ids differ is that where the clauses of trees do
   pub first_of_trees : (cs ds : List (List (Signed ℕ))) → All (IsClauseOf f) cs → All (IsClauseOf f) ds → (r : Option ℕ)

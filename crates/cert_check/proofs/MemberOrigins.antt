@@ -15,7 +15,7 @@ use Rattle.saturation_cert.specs.declared.certificate.Base.{Base}
 use Rattle.saturation_cert.specs.Values.{base_of, entry_of, origin_of}
 use Rattle.cert_check.specs.Conclusions.{IsCanonicalMember, MembersGive}
 use Rattle.cert_check.proofs.Bases.{member_canonical}
-use Rattle.cert_check.proofs.Differences.{same_ids}
+use Rattle.clause_form.proofs.Ids.{same_ids}
 use Rattle.cert_check.proofs.Interning.{ids_grown}
 use Rattle.cert_check.proofs.Rightness.{right_by}
 

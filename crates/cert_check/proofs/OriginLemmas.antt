@@ -10,8 +10,9 @@ use Rattle.inst_calculus.proofs.Membership.{all_in, contains_in, in_either}
 use Rattle.term_bank.specs.Forest.{Forest, AreDistinct, Extends, IsClauseOf, clause_at}
 use Rattle.term_bank.proofs.Clauses.{clause_extends}
 use Rattle.cert_check.specs.Inputs.{GivesInput}
-use Rattle.cert_check.proofs.Differences.{same_ids}
+use Rattle.clause_form.proofs.Ids.{same_ids}
 use Rattle.cert_check.proofs.Interning.{ids_grown}
+use Rattle.std.proofs.lemmas.Option.{same_Some}
 
 get_left : {A : Type 0} (xs ys : List A) (k : ℕ) → k < length xs → slice_get (xs ++ ys) k ≡ slice_get xs k
 get_left [] ys k h = absurd (omega arith)
@@ -42,12 +43,9 @@ same_form f g grown once from clause d in_clause in_d at = (
   (λ e. same_ids g once d clause in_d (ids_grown f g grown clause in_clause) (at ∙ sym e ∙ sym (clause_extends f g grown clause in_clause))),
 )
 
-number_map : (f : Forest) (cs : List (List (Signed ℕ))) (n : ℕ) → at_number (map (clause_at f) cs) n ≡ option_map (clause_at f) (at_number cs n)
+pub number_map : (f : Forest) (cs : List (List (Signed ℕ))) (n : ℕ) → at_number (map (clause_at f) cs) n ≡ option_map (clause_at f) (at_number cs n)
 number_map f cs zero = refl
 number_map f cs (suc k) = slice_get-map (clause_at f) cs k
-
-some_same : (x y : TreeClause) → Some x ≡ Some y → x ≡ y
-some_same x y e = cc
 
 pub none_gives : (f : Forest) (cs : List (List (Signed ℕ))) (k : ℕ) (c : TreeClause) → at_number cs k ≡ None → ¬ GivesInput (map (clause_at f) cs) k c
 none_gives f cs k c none (d, at, e) = let h : option_map (clause_at f) (at_number cs k) ≡ Some d = sym (number_map f cs k) ∙ at in let z = sym h ∙ ap (option_map (clause_at f)) none in absurd (cc)
@@ -56,7 +54,7 @@ pub some_gives : (f : Forest) (cs : List (List (Signed ℕ))) (k : ℕ) (from : 
     → (c ≡ canonical_form (clause_at f from)) ↔ GivesInput (map (clause_at f) cs) k c
 some_gives f cs k from c some =
     let there : at_number (map (clause_at f) cs) k ≡ Some (clause_at f from) = number_map f cs k ∙ ap (option_map (clause_at f)) some in
-    ((λ e. (clause_at f from, there, e)), (λ (d, at, e). e ∙ ap canonical_form (some_same d (clause_at f from) (sym at ∙ there))))
+    ((λ e. (clause_at f from, there, e)), (λ (d, at, e). e ∙ ap canonical_form (same_Some d (clause_at f from) (sym at ∙ there))))
 
 pub named_ids : (f : Forest) (xs ys : List (List (Signed ℕ))) (k : ℕ) (from : List (Signed ℕ)) → All (IsClauseOf f) xs → All (IsClauseOf f) ys → at_number (xs ++ ys) k ≡ Some from → IsClauseOf f from
 named_ids f xs ys k from in_xs in_ys at =

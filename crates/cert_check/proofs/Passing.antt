@@ -1,5 +1,5 @@
 -- The members, one after another.
-use Rattle.std.proofs.Common.{◌≡◌, ℕ, zero, suc, ◌+◌, ◌<◌, ◌≤◌, List, [], ◌∷◌, refl, ap, map, subst, arith, ◌⊎◌, inl, inr, length, None}
+use Rattle.std.proofs.Common.{◌≡◌, ℕ, zero, suc, ◌+◌, ◌<◌, ◌≤◌, ap, map, subst, arith, ◌⊎◌, inl, inr, length, None}
 use Rattle.std.specs.Prelude.{slice_get}
 use Rattle.std.proofs.lemmas.List.{length-map}
 use Rattle.cert_format.specs.Certificate as format
@@ -8,6 +8,7 @@ use Rattle.saturation_cert.specs.declared.certificate.Base.{Base}
 use Rattle.saturation_cert.specs.Values.{base_of, entry_of}
 use Rattle.saturation_cert.specs.Wholes.{KeepsBase}
 use Rattle.cert_check.specs.Firsts.{IsFirstWrong}
+use Rattle.std.proofs.lemmas.Option.{slice_get_past}
 
 pub member_zero : (b : format.Base) → IsRightMember b 0
 member_zero b e at = absurd (cc)
@@ -17,11 +18,6 @@ lt_or_le i zero = inr (omega arith)
 lt_or_le zero (suc j) = inl (omega arith)
 lt_or_le (suc i) (suc j) = elim (lt_or_le i j) [ inl l ↦ inl (omega arith) | inr g ↦ inr (omega arith) ]
 
-past : {A : Type 0} (xs : List A) (k : ℕ) → length xs ≤ k → slice_get xs k ≡ None
-past [] k h = refl
-past (z ∷ zs) zero h = absurd (omega arith)
-past (z ∷ zs) (suc k) h = past zs k (omega arith)
-
 -- no member is wrong past the last one
 pub all_right : (b : Base) (n : ℕ) → length b.members ≤ n → ((m : ℕ) → m < n + 1 → IsRightMember (base_of b) m) → (m : ℕ) → IsRightMember (base_of b) m
 all_right b n h f m = elim (lt_or_le m (n + 1)) [ inl l ↦ f m l | inr g ↦ beyond m g ]
@@ -29,7 +25,7 @@ all_right b n h f m = elim (lt_or_le m (n + 1)) [ inl l ↦ f m l | inr g ↦ be
     beyond : (k : ℕ) → n + 1 ≤ k → IsRightMember (base_of b) k
     beyond zero g e at = absurd (omega arith)
     beyond (suc k) g e at =
-        let none : slice_get (map (entry_of b.bank) b.members) k ≡ None = past (map (entry_of b.bank) b.members) k (let l = length-map b.members (entry_of b.bank) in omega arith) in
+        let none : slice_get (map (entry_of b.bank) b.members) k ≡ None = slice_get_past (map (entry_of b.bank) b.members) k (let l = length-map b.members (entry_of b.bank) in omega arith) in
         absurd (cc)
 
 -- one more right member

@@ -1,22 +1,19 @@
 -- The stages of the check of a refutation.
-use Rattle.std.proofs.Common.{◌≡◌, ℕ, ◌<◌, Bool, false, List, [], ◌∷◌, refl, ap, ap₂, sym, ◌∙◌, map, subst, arith, inl, inr, length}
+use Rattle.std.proofs.Common.{◌≡◌, ℕ, Bool, false, List, [], ◌∷◌, refl, ap, sym, ◌∙◌, map, arith, length}
 use Rattle.std.specs.Prelude.{All, IsTrue, ◌↔◌, ◌-◌, Some, option_map, slice_get}
 use Rattle.std.proofs.lemmas.List.{length-map}
 use Rattle.std.proofs.lemmas.Option.{slice_get-map}
-use Rattle.inst_logic.specs.Tree.{Tree}
 use Rattle.inst_logic.specs.declared.signed.Signed.{Signed}
-use Rattle.inst_logic.specs.WellFormed.{IsAtom, is_constant}
-use Rattle.inst_calculus.specs.Steps.{Step, EndsEmpty}
-use Rattle.inst_calculus.proofs.Membership.{◌∈◌, all_in, in_all}
-use Rattle.term_bank.specs.Forest.{Forest, AreFormed, Extends, IsClauseOf, clause_at, tree_at}
-use Rattle.term_bank.proofs.Clauses.{clause_extends}
+use Rattle.inst_logic.specs.WellFormed.{is_constant}
+use Rattle.inst_calculus.specs.Steps.{EndsEmpty}
+use Rattle.inst_calculus.proofs.Membership.{all_in, in_all}
+use Rattle.term_bank.specs.Forest.{Forest, AreFormed, Extends, IsClauseOf, clause_at}
 use Rattle.term_bank.proofs.Growth.{extends_trans}
 use Rattle.cert_format.specs.Certificate as format
 use Rattle.cert_format.specs.Validity.{IsRightAxiom, IsRightMember, IsRightGround, RefutationPasses, IsFirstComplaint, IsValidRefutation, Precedes}
 use Rattle.cert_format.specs.declared.complaint.Complaint.{Complaint}
 use Rattle.cert_format.specs.declared.complaint.Complaint.TheVariants.{Axiom, Member as Derived, Bot, Ground, Step as Shown, NotEmpty, Place, Input, Pair}
 use Rattle.saturation_cert.specs.declared.certificate.Base.{Base}
-use Rattle.saturation_cert.specs.declared.member.Member.{Member}
 use Rattle.saturation_cert.specs.declared.certificate.GroundStep.{GroundStep}
 use Rattle.saturation_cert.specs.declared.certificate.Refutation.{Refutation}
 use Rattle.saturation_cert.specs.Values.{refutation_of, step_of}
@@ -24,32 +21,9 @@ use Rattle.saturation_cert.specs.Wholes.{IsWholeClause, IsWholeBase, IsWholeRefu
 use Rattle.cert_format.specs.Validity.{IsValidBase}
 use Rattle.cert_check.specs.Firsts.{IsFirstWrong}
 use Rattle.cert_check.specs.Stages.{IsRightStepNumber}
-use Rattle.cert_check.proofs.Bases.{base_same, clauses_same, at_most, smaller}
-
--- a whole clause stays whole as the bank grows
-pub clause_grown : (f g : Forest) → Extends f g → (c : List (Signed ℕ)) → IsWholeClause f c → IsWholeClause g c
-clause_grown f g grown c h = record {
-  ids = in_all (λ (l : Signed ℕ). l.atom < length g.trees) c (λ l i. let k = within l i in omega (arith, k, grown.trees.0));
-  atoms = in_all (λ (l : Signed ℕ). IsAtom (tree_at g l.atom)) c (λ l i. subst IsAtom (sym (grown.trees.1 l.atom (within l i))) (all_in (λ (m : Signed ℕ). IsAtom (tree_at f m.atom)) c h.atoms l i));
-}
-  where
-    within : (l : Signed ℕ) → l ∈ c → l.atom < length f.trees
-    within l i = all_in (λ (m : Signed ℕ). m.atom < length f.trees) c h.ids l i
-
-pub clauses_grown : (f g : Forest) → Extends f g → (cs : List (List (Signed ℕ))) → All (IsWholeClause f) cs → All (IsWholeClause g) cs
-clauses_grown f g grown cs h = in_all (IsWholeClause g) cs (λ c i. clause_grown f g grown c (all_in (IsWholeClause f) cs h c i))
-
-pub steps_grown : (f g : Forest) → Extends f g → (ss : List GroundStep) → All (λ s. IsWholeClause f s.clause) ss → All (λ s. IsWholeClause g s.clause) ss
-steps_grown f g grown ss h = in_all (λ (s : GroundStep). IsWholeClause g s.clause) ss (λ s i. clause_grown f g grown s.clause (all_in (λ (t : GroundStep). IsWholeClause f t.clause) ss h s i))
-
-steps_same : (f g : Forest) → Extends f g → (ss : List GroundStep) → ((s : GroundStep) → s ∈ ss → IsWholeClause f s.clause) → map (step_of g) ss ≡ map (step_of f) ss
-steps_same f g grown [] h = refl
-steps_same f g grown (s ∷ ss) h = ap₂ (λ x xs. x ∷ xs) one (steps_same f g grown ss (λ t i. h t (inr i)))
-  where
-    one : step_of g s ≡ step_of f s
-    one =
-        let here : IsWholeClause f s.clause = h s (inl refl) in
-        λ i. record { clause = clause_extends f g grown s.clause here.ids i; hints = (step_of f s).hints }
+use Rattle.cert_check.proofs.Bases.{base_same, at_most, smaller}
+use Rattle.saturation_cert.proofs.Grown.{clause_grown, clauses_grown, members_grown, steps_grown, clauses_same, steps_same}
+use Rattle.std.proofs.lemmas.Option.{same_Some}
 
 -- the record of trees stays as the bank grows
 pub refutation_same : (old new : Refutation) → IsWholeRefutation old → KeepsRefutation old new → refutation_of new ≡ refutation_of old
@@ -59,7 +33,7 @@ refutation_same old new whole kept =
       base = base_same old.base new.base whole.base kept.base i;
       bot = old.bot;
       grounds = clauses_same old.base.bank new.base.bank kept.base.bank old.grounds whole.grounds i;
-      steps = steps_same old.base.bank new.base.bank kept.base.bank old.steps (λ s j. all_in (λ (t : GroundStep). IsWholeClause old.base.bank t.clause) old.steps whole.steps s j) i;
+      steps = steps_same old.base.bank new.base.bank kept.base.bank old.steps whole.steps i;
     })
 
 pub whole_with : (r : Refutation) (b : Base) → IsWholeRefutation r → KeepsBase r.base b → IsWholeBase b → IsWholeRefutation (record r { base = b })
@@ -74,7 +48,7 @@ whole_base b g h grown formed = record {
   bank = formed;
   inputs = clauses_grown b.bank g grown b.inputs h.inputs;
   axioms = clauses_grown b.bank g grown b.axioms h.axioms;
-  members = in_all (λ (m : Member). IsWholeClause g m.clause) b.members (λ m i. clause_grown b.bank g grown m.clause (all_in (λ (n : Member). IsWholeClause b.bank n.clause) b.members h.members m i));
+  members = members_grown b.bank g grown b.members h.members;
 }
 
 pub whole_ids : (f g : Forest) → Extends f g → (cs : List (List (Signed ℕ))) → All (IsWholeClause f) cs → All (IsClauseOf g) cs
@@ -161,11 +135,8 @@ no_literals f (l ∷ c) e = absurd (cc)
 pub ends_at : (f : Forest) (ss : List GroundStep) (s : GroundStep) → slice_get ss (length ss - 1) ≡ Some s → (s.clause ≡ []) ↔ EndsEmpty (map (step_of f) ss)
 ends_at f ss s at = (
   (λ e. (step_of f s, there, ap (clause_at f) e)),
-  (λ (t, k, e). let same : step_of f s ≡ t = some_same (step_of f s) t (sym there ∙ k) in no_literals f s.clause (ap (λ x. x.clause) same ∙ e)),
+  (λ (t, k, e). let same : step_of f s ≡ t = same_Some (step_of f s) t (sym there ∙ k) in no_literals f s.clause (ap (λ x. x.clause) same ∙ e)),
 )
   where
     there : slice_get (map (step_of f) ss) (length (map (step_of f) ss) - 1) ≡ Some (step_of f s)
     there = ap (λ n. slice_get (map (step_of f) ss) (n - 1)) (length-map ss (step_of f)) ∙ slice_get-map (step_of f) ss (length ss - 1) ∙ ap (option_map (step_of f)) at
-
-    some_same : (x y : Step Tree) → Some x ≡ Some y → x ≡ y
-    some_same x y e = cc

@@ -7,6 +7,7 @@ use Rattle.prop_logic.specs.Literal.{IsShownStep}
 use Rattle.prop_logic.specs.declared.literal.Step.{Step}
 use Rattle.proof_log.specs.Shown.{IsShownNumber}
 use Rattle.cert_check.specs.Numbered.{IsRightNumber}
+use Rattle.std.proofs.lemmas.Option.{slice_get_past}
 
 get_is : (xs : List Step) (i : ℕ) (d : Step) → i < length xs → slice_get xs i ≡ Some (get_or xs i d)
 get_is [] i d h = absurd (omega arith)
@@ -37,11 +38,6 @@ lt_or_le i zero = inr (omega arith)
 lt_or_le zero (suc j) = inl (omega arith)
 lt_or_le (suc i) (suc j) = elim (lt_or_le i j) [ inl l ↦ inl (omega arith) | inr g ↦ inr (omega arith) ]
 
-past : {A : Type 0} (xs : List A) (k : ℕ) → length xs ≤ k → slice_get xs k ≡ None
-past [] k h = refl
-past (z ∷ zs) zero h = absurd (omega arith)
-past (z ∷ zs) (suc k) h = past zs k (omega arith)
-
 pub one_more_number : (P : ℕ → Type 0) (i : ℕ) → ((m : ℕ) → m < i + 1 → P m) → P (i + 1) → (m : ℕ) → m < i + 1 + 1 → P m
 one_more_number P i f here m l = elim (lt_or_le m (i + 1)) [ inl k ↦ f m k | inr g ↦ (let e : i + 1 ≡ m = omega arith in subst P e here) ]
 
@@ -51,4 +47,4 @@ all_numbers given steps n h f m = elim (lt_or_le m (n + 1)) [ inl l ↦ f m l | 
   where
     beyond : (k : ℕ) → n + 1 ≤ k → IsRightNumber given steps k
     beyond zero g s at = absurd (omega arith)
-    beyond (suc k) g s at = let none : slice_get steps k ≡ None = past steps k (omega arith) in absurd (cc)
+    beyond (suc k) g s at = let none : slice_get steps k ≡ None = slice_get_past steps k (omega arith) in absurd (cc)

@@ -1,5 +1,5 @@
 -- What a member's origin gives, and whether it is right.
-use Rattle.std.proofs.Common.{◌≡◌, ℕ, zero, suc, ◌+◌, ◌<◌, List, [], ◌∷◌, ◌++◌, refl, ap, ap₂, sym, ◌∙◌, map, subst, arith, length, get_or, Some}
+use Rattle.std.proofs.Common.{◌≡◌, ℕ, zero, suc, ◌+◌, ◌<◌, List, [], ◌∷◌, ◌++◌, refl, ap, sym, ◌∙◌, map, subst, arith, length, get_or, Some}
 use Rattle.std.specs.Prelude.{slice_get, option_map, ◌↔◌}
 use Rattle.std.proofs.lemmas.List.{map-append}
 use Rattle.std.proofs.lemmas.Option.{slice_get-map}
@@ -20,19 +20,7 @@ use Rattle.saturation_cert.specs.declared.member.Origin.TheVariants.{Input}
 use Rattle.saturation_cert.specs.declared.certificate.Base.{Base}
 use Rattle.saturation_cert.specs.Values.{base_of, entry_of, origin_of}
 use Rattle.cert_check.specs.Inputs.{GivesInput}
-
-lists_equal : {A : Type 0} (xs ys : List A) → ((n : ℕ) → at_number xs n ≡ at_number ys n) → xs ≡ ys
-lists_equal [] [] h = refl
-lists_equal [] (y ∷ ys) h = let e = h 1 in absurd (cc)
-lists_equal (x ∷ xs) [] h = let e = h 1 in absurd (cc)
-lists_equal {A} (x ∷ xs) (y ∷ ys) h = ap₂ (λ z zs. z ∷ zs) (some_same x y (h 1)) (lists_equal xs ys rest)
-  where
-    some_same : (a b : A) → Some a ≡ Some b → a ≡ b
-    some_same a b e = cc
-
-    rest : (n : ℕ) → at_number xs n ≡ at_number ys n
-    rest zero = refl
-    rest (suc n) = h (suc (suc n))
+use Rattle.inst_logic.proofs.Items.{lists_equal}
 
 -- the inputs and axioms as ids stand for the inputs and their axioms
 pub all_inputs : (b : Base) → ((n : ℕ) → IsRightAxiom (base_of b) n) → map (clause_at b.bank) (b.inputs ++ b.axioms) ≡ with_axioms (map (clause_at b.bank) b.inputs)

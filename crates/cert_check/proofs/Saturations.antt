@@ -6,7 +6,7 @@ use Rattle.inst_logic.specs.Tree.{Tree}
 use Rattle.inst_logic.specs.WellFormed.{atom_is_formed, clause_is_formed, AreFormedClauses, IsAtom}
 use Rattle.inst_calculus.specs.Entries.{Entry, entry_clauses}
 use Rattle.saturation_cert.specs.Truths.{literal_at}
-use Rattle.inst_calculus.proofs.Membership.{all_in, in_all, from_map, all_pass}
+use Rattle.inst_calculus.proofs.Membership.{all_in, from_map, all_pass}
 use Rattle.term_bank.specs.Forest.{Forest, AreFormed, Extends, clause_at, tree_at}
 use Rattle.cert_format.specs.Certificate as format
 use Rattle.cert_format.specs.Validity.{IsRightPlace, IsRightInput, IsRightPair, SaturationPasses, IsFirstComplaint, IsValidSaturation, Precedes}
@@ -24,7 +24,8 @@ use Rattle.cert_check.specs.declared.error.CheckError.TheVariants as errors
 use Rattle.cert_check.specs.Firsts.{IsFirstWrong}
 use Rattle.cert_check.specs.FirstPairs.{IsFirstWrongPair, IsFirstWrongPairOf}
 use Rattle.cert_check.proofs.Bases.{base_same, at_most, smaller, first_of_saturation}
-use Rattle.cert_check.proofs.Refutations.{clause_grown, clauses_grown, keeps_trans}
+use Rattle.saturation_cert.proofs.Grown.{clauses_grown, members_grown}
+use Rattle.cert_check.proofs.Refutations.{keeps_trans}
 
 pub saturation_same : (old new : Saturation) → IsWholeSaturation old → KeepsSaturation old new → saturation_of new ≡ saturation_of old
 saturation_same old new whole kept =
@@ -46,7 +47,7 @@ base_grown b g grown formed whole = record {
   bank = formed;
   inputs = clauses_grown b.bank g grown b.inputs whole.inputs;
   axioms = clauses_grown b.bank g grown b.axioms whole.axioms;
-  members = in_all (λ (m : Member). IsWholeClause g m.clause) b.members (λ m i. clause_grown b.bank g grown m.clause (all_in (λ (n : Member). IsWholeClause b.bank n.clause) b.members whole.members m i));
+  members = members_grown b.bank g grown b.members whole.members;
 }
 
 pub keeps_grown : (b : Base) (g : Forest) → Extends b.bank g → KeepsBase b (record b { bank = g })

@@ -1,5 +1,5 @@
 -- A step over ids is right exactly where its trees are.
-use Rattle.std.proofs.Common.{◌≡◌, ◌≢◌, ℕ, zero, suc, ◌-◌, ◌<◌, List, [], ◌∷◌, refl, ap, ap₂, sym, ◌∙◌, map, take, subst, arith, inl, inr, length, Option, None, Some}
+use Rattle.std.proofs.Common.{◌≡◌, ◌≢◌, ℕ, zero, suc, ◌-◌, ◌<◌, List, [], ◌∷◌, refl, ap, ap₂, sym, ◌∙◌, map, take, subst, arith, length, Option, None, Some}
 use Rattle.std.specs.Prelude.{All, slice_get, option_map, ◌↔◌}
 use Rattle.std.proofs.lemmas.Option.{slice_get-map}
 use Rattle.inst_logic.specs.Tree.{Tree}
@@ -20,10 +20,9 @@ use Rattle.saturation_cert.specs.Wholes.{IsWholeClause, IsWholeRefutation}
 use Rattle.cert_format.specs.Validity.{IsRightStep}
 use Rattle.cert_check.specs.Numbered.{IsRightNumber, numbered_hint, numbered_step}
 use Rattle.cert_check.specs.Stages.{IsRightStepNumber}
-
-number_map : (f : Forest) (cs : List (List (Signed ℕ))) (n : ℕ) → at_number (map (clause_at f) cs) n ≡ option_map (clause_at f) (at_number cs n)
-number_map f cs zero = refl
-number_map f cs (suc k) = slice_get-map (clause_at f) cs k
+use Rattle.std.proofs.lemmas.Option.{same_Some}
+use Rattle.inst_logic.proofs.Membership.{in_take}
+use Rattle.cert_check.proofs.OriginLemmas.{number_map}
 
 -- the clauses of the first k steps
 earlier_clauses : (f : Forest) (ss : List GroundStep) (k : ℕ) → map (λ (s : TreeStep Tree). s.clause) (take k (map (step_of f) ss)) ≡ map (clause_at f) (map (λ (s : Step). s.clause) (take k (map numbered_step ss)))
@@ -53,13 +52,6 @@ steps_below f ss h = in_all (λ (s : Step). AtomsBelow (length f.trees) s.clause
     let k : IsWholeClause f g.clause = all_in (λ (x : GroundStep). IsWholeClause f x.clause) ss h g j in
     subst (λ (x : Step). AtomsBelow (length f.trees) x.clause) same k.ids)
 
-in_take : {A : Type 0} (x : A) (n : ℕ) (xs : List A) → x ∈ take n xs → x ∈ xs
-in_take x zero [] i = i
-in_take x (suc n) [] i = i
-in_take x zero (y ∷ ys) i = absurd i
-in_take x (suc n) (y ∷ ys) (inl e) = inl e
-in_take x (suc n) (y ∷ ys) (inr i) = inr (in_take x n ys i)
-
 -- what hints name has atoms below n
 cited_below : (n : ℕ) (gs : List (List (Signed ℕ))) (before : List Step) → AllAtomsBelow n gs → ((s : Step) → s ∈ before → AtomsBelow n s.clause) → (h : GroundHint) (c : List (Signed ℕ)) → cited gs before (numbered_hint h) ≡ Some c → AtomsBelow n c
 cited_below n gs before a b (Ground k) c e = all_in (AtomsBelow n) gs a c (contains_in c gs (at_number_contains gs k c e))
@@ -73,9 +65,6 @@ all_cited_below n gs before a b hs = in_all (λ o. (c : List (Signed ℕ)) → o
     let (g, j, same) = from_map (cited gs before) o (map numbered_hint hs) i in
     let (h, k, is) = from_map numbered_hint g hs j in
     cited_below n gs before a b h c (ap (cited gs before) is ∙ same ∙ e))
-
-some_same : {A : Type 0} (x y : A) → Some x ≡ Some y → x ≡ y
-some_same x y e = cc
 
 none_left : {A B : Type 0} (f : A → B) (xs : List A) → xs ≢ [] → map f xs ≢ []
 none_left f [] n e = n refl
@@ -117,13 +106,13 @@ module _ (r : Refutation) (whole : IsWholeRefutation r) (once : AreDistinct r.ba
       let both = shown_same (suc k - 1) s i in (
         (λ h t e.
             let right = h (numbered_step s) low in
-            subst (IsRightStep (refutation_of r).grounds (refutation_of r).steps (suc k)) (some_same (step_of f s) t (sym high ∙ e)) (record {
+            subst (IsRightStep (refutation_of r).grounds (refutation_of r).steps (suc k)) (same_Some (step_of f s) t (sym high ∙ e)) (record {
               hinted = none_left hint_of s.hints (λ z. right.0 (ap (map numbered_hint) z));
               shown = both.0 right.1;
             })),
         (λ h t e.
             let right : IsRightStep (refutation_of r).grounds (refutation_of r).steps (suc k) (step_of f s) = h (step_of f s) high in
-            subst (λ (x : Step). (x.hints ≢ []) × IsShownStep r.grounds (take (suc k - 1) numbered) x) (some_same (numbered_step s) t (sym low ∙ e))
+            subst (λ (x : Step). (x.hints ≢ []) × IsShownStep r.grounds (take (suc k - 1) numbered) x) (same_Some (numbered_step s) t (sym low ∙ e))
             (none_left numbered_hint s.hints (λ z. right.hinted (ap (map hint_of) z)), both.1 right.shown)),
       )
 

@@ -2,7 +2,6 @@
 use Rattle.std.proofs.Common.{◌≡◌, ℕ, ◌+◌, ◌*◌, ◌<◌, ◌≤◌, Bool, true, false, cond, List, [], ◌∷◌, ◌++◌, refl, ap, ap₂, sym, ◌∙◌, map, fold, length, arith, subst, None, Some, inl, inr, ◌⊎◌}
 use Rattle.std.specs.Prelude.{All, Contains, nat_eq, ◌||◌}
 use Rattle.std.specs.List.{list_any}
-use Rattle.std.proofs.lemmas.Bool.Decides.{Decides-eqb}
 use Rattle.std.proofs.lemmas.List.Sums.{fold-append}
 use Rattle.indexmap.proofs.CallerLemmas.{Contains-list_any, Contains-insert_key}
 use Rattle.indexmap.specs.IndexSet.{insert_key}
@@ -12,7 +11,7 @@ use Rattle.inst_logic.specs.Equal.{sym_eq}
 use Rattle.inst_logic.specs.EqualLaws.{sym_eq_decides}
 use Rattle.inst_logic.specs.Lists.{with_item}
 use Rattle.inst_logic.specs.Measure.{tree_size, trees_size}
-use Rattle.inst_logic.specs.Tree.{Tree, var, app, Trees, none, more, of_list, to_list}
+use Rattle.inst_logic.specs.Tree.{Tree, var, app, of_list}
 use Rattle.inst_calculus.specs.Axioms.{tree_symbols, trees_symbols, clause_symbols, occurrences, symbols_of}
 use Rattle.inst_logic.proofs.Distinct.{distinct_append}
 use Rattle.inst_calculus.proofs.Membership.{◌∈◌, all_in, in_all, contains_in, in_contains, in_left, in_either}
@@ -21,6 +20,9 @@ use Rattle.term_bank.specs.Forest.{Forest, clause_at, tree_at, symbol_of, argume
 use Rattle.cert_check.specs.declared.walk.Step.{Step}
 use Rattle.cert_check.specs.declared.walk.Step.TheVariants.{Visit, Close}
 use Rattle.cert_check.specs.SymbolSteps.{with_symbols, AreFound, AreClosed, Leads, steps_size}
+use Rattle.inst_logic.proofs.Numbers.{number_is}
+use Rattle.inst_logic.proofs.Applications.{same_trees}
+use Rattle.inst_logic.proofs.Booleans.{or_right}
 
 abbrev collected : List Sym → List Sym → List Sym
 collected = fold (with_item sym_eq)
@@ -32,11 +34,7 @@ sym_eq_itself s = (sym_eq_decides s s).1 refl
 any_of : (xs : List Sym) (s : Sym) → s ∈ xs → list_any (λ x. sym_eq x s) xs ≡ true
 any_of [] s h = absurd h
 any_of (x ∷ xs) s (inl e) = ap (λ b. b || list_any (λ y. sym_eq y s) xs) (ap (λ y. sym_eq y s) (sym e) ∙ sym_eq_itself s)
-any_of (x ∷ xs) s (inr h) = or_right (sym_eq x s) (any_of xs s h)
-  where
-    or_right : (b : Bool) {c : Bool} → c ≡ true → (b || c) ≡ true
-    or_right true e = refl
-    or_right false e = e
+any_of (x ∷ xs) s (inr h) = or_right (sym_eq x s) (list_any (λ y. sym_eq y s) xs) (any_of xs s h)
 
 item_there : (xs : List Sym) (s : Sym) → s ∈ xs → with_item sym_eq xs s ≡ xs
 item_there xs s h = ap (λ b. cond b xs (xs ++ s ∷ [])) (any_of xs s h)
@@ -78,11 +76,8 @@ nothing_new : (xs : List Sym) (t : Tree) → AreFound xs t → with_symbols xs t
 nothing_new xs t h = all_there xs (tree_symbols t) (λ s i. contains_in s xs (all_in (Contains xs) (tree_symbols t) h s i))
 
 -- a node that is closed
-number_same : (m n : ℕ) → nat_eq m n ≡ true → m ≡ n
-number_same m n = (Decides-eqb m n).0
-
 closed_is_found : (f : Forest) (found : List Sym) (ids : List ℕ) (id : ℕ) → AreClosed f found ids → list_any (nat_eq id) ids ≡ true → AreFound found (tree_at f id)
-closed_is_found f found ids id h there = all_in (λ i. AreFound found (tree_at f i)) ids h id (contains_in id ids (Contains-list_any nat_eq number_same ids id there))
+closed_is_found f found ids id h there = all_in (λ i. AreFound found (tree_at f i)) ids h id (contains_in id ids (Contains-list_any nat_eq number_is ids id there))
 
 pub visit_closed : (f : Forest) (found : List Sym) (ids : List ℕ) (id : ℕ) (rest : List Step) (end : List Sym)
     → AreClosed f found ids → list_any (nat_eq id) ids ≡ true → Leads f (Visit id ∷ rest) found end → Leads f rest found end
@@ -118,10 +113,6 @@ visits_lead f (i ∷ ids) rest found end within h = (
 visits_size : (f : Forest) (ids : List ℕ) (rest : List Step) → steps_size f (map Visit ids ++ rest) ≡ 2 * trees_size (of_list (map (tree_at f) ids)) + steps_size f rest
 visits_size f [] rest = omega arith
 visits_size f (i ∷ ids) rest = omega (arith, visits_size f ids rest)
-
-same_trees : (ts : Trees) → of_list (to_list ts) ≡ ts
-same_trees none = refl
-same_trees (more t ts) = ap (more t) (same_trees ts)
 
 -- an application by its symbol and arguments
 application_symbols : (t : Tree) (s : Sym) (ts : List Tree) → symbol_of t ≡ Some s → ts ≡ arguments_of t → s ∷ trees_symbols (of_list ts) ≡ tree_symbols t

@@ -23,6 +23,7 @@ mod steps;
 mod walk;
 
 pub use cert_format::Complaint;
+pub use difference::same_clause;
 pub use error::CheckError;
 pub use refutation::{CheckedRefutation, check_refutation};
 pub use saturation::{CheckedSaturation, check_saturation};

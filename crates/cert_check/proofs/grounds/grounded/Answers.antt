@@ -6,7 +6,7 @@ use Rattle.saturation_cert.specs.declared.member.Member.{Member}
 use Rattle.saturation_cert.specs.Wholes.{IsWholeClause}
 use Rattle.term_bank.specs.Forest.{IsClauseOf, clause_at}
 use Rattle.term_bank.proofs.Growth.{extends_trans}
-use Rattle.cert_check.proofs.Refutations.{clause_grown}
+use Rattle.saturation_cert.proofs.Grown.{clause_grown}
 use Rattle.cert_check.proofs.Interning.{one_more_at, one_more_in}
 use Rattle.cert_check.proofs.GroundMembers.{at_grown, member_whole, canonical_grown, abstractions, count_same, abstraction_at, abstraction_grown}
 use Rattle.cert_check.proofs.grounds.grounded.Goals as goal

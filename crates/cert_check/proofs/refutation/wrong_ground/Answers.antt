@@ -4,7 +4,7 @@ use Rattle.inst_logic.specs.Derivations.{at_number}
 use Rattle.term_bank.specs.Forest.{clause_at}
 use Rattle.cert_format.specs.declared.complaint.Complaint.TheVariants.{Member as Derived}
 use Rattle.cert_check.specs.Firsts.{IsFirstWrongOf}
-use Rattle.cert_check.proofs.Bases.{clauses_same}
+use Rattle.saturation_cert.proofs.Grown.{clauses_same}
 use Rattle.cert_check.proofs.Refutations.{whole_base, whole_ids, whole_with}
 use Rattle.cert_check.proofs.GroundMembers.{canonical_members, abstractions}
 use Rattle.cert_check.proofs.refutation.wrong_ground.Goals as goal
