@@ -1,11 +1,23 @@
 -- The test of canonical form by ids.
-use Rattle.std.proofs.Common.{◌≡◌, ℕ, ◌<◌, List, [], ◌∷◌, length, refl, sym, ap, ◌∙◌}
+use Rattle.std.proofs.Common.{◌≡◌, ℕ, ◌<◌, List, [], ◌∷◌, length, map, refl, sym, ap, ap₂, ◌∙◌, true}
 use Rattle.std.proofs.lemmas.List.Elements.{All-head, All-tail}
 use Rattle.inst_logic.specs.declared.signed.Signed.{Signed}
-use Rattle.inst_logic.specs.Tree.{Tree}
-use Rattle.inst_logic.specs.Clauses.{TreeClause, IsCanonical, canonical_form}
-use Rattle.term_bank.specs.Forest.{Forest, clause_at, IsClauseAt, IsClauseOf, Extends, AreDistinct}
+use Rattle.inst_logic.specs.Tree.{Tree, var}
+use Rattle.inst_logic.specs.Lists.{distinct}
+use Rattle.inst_logic.specs.Equal.{literal_eq}
+use Rattle.inst_logic.specs.Substitution.{subst_literal, clause_vars}
+use Rattle.inst_logic.specs.Clauses.{TreeClause, IsCanonical, canonical_form, numbered, order_of}
+use Rattle.inst_logic.proofs.SameLemmas.{literal_eq_decides}
+use Rattle.inst_calculus.proofs.Clauses.{literal_var, literals_agree}
+use Rattle.inst_calculus.proofs.Membership.{◌∈◌, all_in}
+use Rattle.inst_calculus.proofs.Distinct.{distinct_map}
+use Rattle.term_bank.specs.Forest.{Forest, clause_at, literal_tree, IsClauseAt, IsClauseOf, Extends, AreDistinct}
+use Rattle.clause_form.specs.Literals.{id_eq}
+use Rattle.clause_form.proofs.Assembly.{id_eq_decides}
+use Rattle.clause_form.proofs.Ids.{same_literal}
+use Rattle.cert_items.specs.Orders.{in_order}
 use Rattle.cert_items.proofs.Clauses.{grown_clause}
+use Rattle.cert_items.proofs.Orders.{own_numbers}
 
 first_of_two : (l m : Signed Tree) (ls ms : TreeClause) → l ∷ ls ≡ m ∷ ms → (l ≡ m) × (ls ≡ ms)
 first_of_two l m ls ms h = (cc, cc)
@@ -32,3 +44,16 @@ pub canonical_no : (f g : Forest) (c d : List (Signed ℕ)) → Extends f g → 
 canonical_no f g c d grows distinct_ of at is =
     let k = grown_clause f g c (clause_at f c) grows (of, refl) in
     same_ids g d c distinct_ at.0 k.0 (at.1 ∙ is ∙ sym k.1)
+
+literals_var : (c : TreeClause) → map (subst_literal var) c ≡ c
+literals_var [] = refl
+literals_var (l ∷ c) = ap₂ (λ (k : Signed Tree) (d : TreeClause). k ∷ d) (literal_var l) (literals_var c)
+
+-- a clause that has its variables in order and stands for no literal twice
+pub seen_canonical : (f : Forest) (c : List (Signed ℕ)) → AreDistinct f.trees → IsClauseOf f c → in_order 0 (clause_vars (clause_at f c)) ≡ true → distinct id_eq c ≡ c → IsCanonical (clause_at f c)
+seen_canonical f c once of order same =
+    let t = clause_at f c in
+    let inside = λ (k : Signed ℕ) (i : k ∈ c). all_in (λ (l : Signed ℕ). l.atom < length f.trees) c of k i in
+    ap (distinct literal_eq) (literals_agree (numbered (order_of t)) var t (own_numbers t order) ∙ literals_var t)
+    ∙ distinct_map id_eq id_eq_decides literal_eq literal_eq_decides (literal_tree f) c (λ k i l j h. same_literal f once k l (inside k i) (inside l j) h)
+    ∙ ap (clause_at f) same

@@ -2,7 +2,10 @@ pub mod Reading
 pub mod Formed
 pub mod Clauses
 pub mod Roots
+pub mod Repeats
+pub mod Orders
 pub mod CanonicalIds
+pub mod Known
 pub mod PrintableClauses
 pub mod Marked
 pub mod Hints

@@ -3,3 +3,5 @@ pub mod Roots
 pub mod ClauseTexts
 pub mod HintTexts
 pub mod Items
+pub mod Known
+pub mod Orders

@@ -7,9 +7,10 @@ ghost use Rattle.cert_items.specs.ClauseTexts.{ended_by, IsClauseText, NoClause}
 
 use crate::literals::literal;
 use crate::mark::{mark, word};
+use crate::text_bank::TextBank;
 use inst_logic::Memory;
 use std::alloc::Global;
-use term_bank::{Bank, IdClause, IdLiteral, TermId};
+use term_bank::{IdClause, IdLiteral, TermId};
 
 // What is left of the text, and whether the clause has ended.
 #[derive(Clone, Copy)]
@@ -41,7 +42,7 @@ fn go_on(rest: &[u8]) -> Option<Rest<'_>>
 // The literal at the front and the mark behind it.
 fn item<'a>(
     alloc: Global,
-    bank: &mut Bank,
+    bank: &mut TextBank,
     ids: &mut Vec<TermId>,
     literals: &mut IdClause,
     rest: &'a [u8],
@@ -68,7 +69,7 @@ fn item<'a>(
 /// The clause at the front, its variables and literals as they stand, and what follows the comma behind it.
 pub fn clause<'a>(
     alloc: Global,
-    bank: &mut Bank,
+    bank: &mut TextBank,
     ids: &mut Vec<TermId>,
     literals: &mut IdClause,
     bytes: &'a [u8],

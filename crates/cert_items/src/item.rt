@@ -9,10 +9,11 @@ ghost use Rattle.cert_items.specs.Items.{IsItem, NoItem, group_of, note_of};
 use crate::group::{Group, head};
 use crate::note::{Note, last_note};
 use crate::printable::printable_clause;
+use crate::text_bank::TextBank;
 use inst_logic::Memory;
 use saturation_cert::GroundHintList;
 use std::alloc::Global;
-use term_bank::{Bank, IdClause, TermId};
+use term_bank::{IdClause, TermId};
 
 /// An item but for its clause and its hints, and what follows its line.
 #[derive(Drop)]
@@ -27,7 +28,7 @@ pub struct Item<'a> {
 /// into lists that were empty, and `ids` is room to work in. Where there is no item, something may have been put there.
 pub fn read_item<'a>(
     alloc: Global,
-    bank: &mut Bank,
+    bank: &mut TextBank,
     ids: &mut Vec<TermId>,
     literals: &mut IdClause,
     hints: &mut GroundHintList,

@@ -13,12 +13,15 @@ pub mod name;
 pub mod note;
 mod notes;
 pub mod number;
+mod order;
 mod origin;
 mod place;
 mod printable;
 pub mod symbol;
 mod terms;
+pub mod text_bank;
 
 pub use group::Group;
 pub use item::{Item, read_item};
 pub use note::Note;
+pub use text_bank::TextBank;

@@ -12,11 +12,11 @@ ghost use Rattle.cert_items.specs.Roots.{IsRootAt, IsRoot, IsTermAt, IsApplicati
 use crate::mark::{mark, word};
 use crate::name::name;
 use crate::number::number;
-use crate::symbol::apply;
 use crate::terms::{goes_on, terms};
+use crate::text_bank::{TextBank, apply};
 use inst_logic::{Kind, Memory, Name, Sym};
 use std::alloc::Global;
-use term_bank::{Bank, IdLiteral, TermId};
+use term_bank::{IdLiteral, TermId};
 
 // A variable with its number, or an application, whose name is printed so.
 #[derive(Clone, Copy)]
@@ -28,7 +28,7 @@ pub enum Root<'a> {
 // A term but for the symbol at its root, whose arguments go into `ids`, and what follows it.
 fn head<'a>(
     alloc: Global,
-    bank: &mut Bank,
+    bank: &mut TextBank,
     ids: &mut Vec<TermId>,
     bytes: &'a [u8],
 ) -> Result<Option<(Root<'a>, &'a [u8])>, Memory>
@@ -62,7 +62,12 @@ fn head<'a>(
 }
 
 // The term of this root.
-fn whole(alloc: Global, bank: &mut Bank, root: &Root<'_>, ids: &[TermId]) -> Result<TermId, Memory>
+fn whole(
+    alloc: Global,
+    bank: &mut TextBank,
+    root: &Root<'_>,
+    ids: &[TermId],
+) -> Result<TermId, Memory>
     requires { IsRoot bank.old root.now ids.now }
     ensures extends { Extends bank.old bank.new }
     ensures formed { AreFormed bank.old → AreFormed bank.new }
@@ -77,7 +82,7 @@ fn whole(alloc: Global, bank: &mut Bank, root: &Root<'_>, ids: &[TermId]) -> Res
 // A term, and what follows it.
 fn term<'a>(
     alloc: Global,
-    bank: &mut Bank,
+    bank: &mut TextBank,
     ids: &mut Vec<TermId>,
     bytes: &'a [u8],
 ) -> Result<Option<(TermId, &'a [u8])>, Memory>
@@ -112,7 +117,7 @@ fn equality_sign(bytes: &[u8]) -> Option<(bool, &[u8])>
 // The literal of this predicate, whose text is at the front of `bytes` behind the sign.
 fn predicate(
     alloc: Global,
-    bank: &mut Bank,
+    bank: &mut TextBank,
     positive: bool,
     name: &[u8],
     ids: &[TermId],
@@ -131,7 +136,7 @@ fn predicate(
 // The equation of these terms.
 fn equation(
     alloc: Global,
-    bank: &mut Bank,
+    bank: &mut TextBank,
     positive: bool,
     left: TermId,
     right: TermId,
@@ -156,7 +161,7 @@ fn equation(
 // The equation of this left side and the term at the front of `after`.
 fn equal<'a>(
     alloc: Global,
-    bank: &mut Bank,
+    bank: &mut TextBank,
     ids: &mut Vec<TermId>,
     positive: bool,
     left: TermId,
@@ -182,7 +187,7 @@ fn equal<'a>(
 // A literal without a `~`, by the root of its first term.
 fn unsigned<'a>(
     alloc: Global,
-    bank: &mut Bank,
+    bank: &mut TextBank,
     ids: &mut Vec<TermId>,
     bytes: &'a [u8],
 ) -> Result<Option<(IdLiteral, &'a [u8])>, Memory>
@@ -212,7 +217,7 @@ fn unsigned<'a>(
 // The literal behind a `~`.
 fn negated<'a>(
     alloc: Global,
-    bank: &mut Bank,
+    bank: &mut TextBank,
     ids: &mut Vec<TermId>,
     bytes: &'a [u8],
 ) -> Result<Option<(IdLiteral, &'a [u8])>, Memory>
@@ -239,7 +244,7 @@ fn negated<'a>(
 /// The literal at the front, and what follows it.
 pub fn literal<'a>(
     alloc: Global,
-    bank: &mut Bank,
+    bank: &mut TextBank,
     ids: &mut Vec<TermId>,
     bytes: &'a [u8],
 ) -> Result<Option<(IdLiteral, &'a [u8])>, Memory>

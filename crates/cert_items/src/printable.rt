@@ -6,17 +6,17 @@ ghost use Rattle.term_bank.specs.Forest.{AreFormed, clause_at, Extends};
 ghost use Rattle.cert_format.specs.FirstFormat.{clause_is_printable};
 ghost use Rattle.saturation_cert.specs.Wholes.{IsWholeClause};
 
-use crate::canonical::is_canonical;
 use crate::clause::clause;
+use crate::text_bank::{TextBank, is_canonical};
 use inst_logic::Memory;
 use std::alloc::Global;
-use term_bank::{Bank, IdClause, TermId};
+use term_bank::{IdClause, TermId};
 
 /// The printable clause at the front of the text, with a comma behind it, and what follows the comma. `ids` is room to work in.
 /// Where there is none, some of its literals may have been read.
 pub fn printable_clause<'a>(
     alloc: Global,
-    bank: &mut Bank,
+    bank: &mut TextBank,
     ids: &mut Vec<TermId>,
     literals: &mut IdClause,
     bytes: &'a [u8],

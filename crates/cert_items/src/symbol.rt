@@ -50,7 +50,7 @@ pub fn name_of(alloc: Global, text: &[u8]) -> Result<Name, Memory>
 }
 
 // The id of the application of the symbol of this kind whose name is printed so.
-pub fn apply(
+pub fn apply_named(
     alloc: Global,
     bank: &mut Bank,
     kind: Kind,

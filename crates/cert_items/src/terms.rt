@@ -11,10 +11,10 @@ ghost use Rattle.cert_items.specs.Reading.{IsDue, IsRead, IsState, NoTerm, NoTer
 use crate::mark::mark;
 use crate::name::{is_word_byte, name};
 use crate::number::number;
-use crate::symbol::apply;
+use crate::text_bank::{TextBank, apply};
 use inst_logic::{Kind, Memory};
 use std::alloc::Global;
-use term_bank::{Bank, TermId};
+use term_bank::TermId;
 
 // An application whose arguments are being read: its name as it is printed, and how many ids stand before them.
 #[derive(Clone, Copy)]
@@ -41,7 +41,7 @@ pub fn goes_on(bytes: &[u8]) -> bool
 
 // Reads the variable of this number's digits.
 fn begin_variable<'a>(
-    bank: &mut Bank,
+    bank: &mut TextBank,
     opens: &[Open<'a>],
     ids: &mut Vec<TermId>,
     digits: &'a [u8],
@@ -68,7 +68,7 @@ fn begin_variable<'a>(
 // Opens the application of this name, or makes the constant.
 fn begin_application<'a>(
     alloc: Global,
-    bank: &mut Bank,
+    bank: &mut TextBank,
     opens: &mut Vec<Open<'a>>,
     ids: &mut Vec<TermId>,
     name: &'a [u8],
@@ -102,7 +102,7 @@ fn begin_application<'a>(
 // Reads the head of a term that is due.
 fn begin<'a>(
     alloc: Global,
-    bank: &mut Bank,
+    bank: &mut TextBank,
     opens: &mut Vec<Open<'a>>,
     ids: &mut Vec<TermId>,
     rest: &'a [u8],
@@ -125,7 +125,7 @@ fn begin<'a>(
 // Makes the innermost application, whose arguments have ended.
 fn close<'a>(
     alloc: Global,
-    bank: &mut Bank,
+    bank: &mut TextBank,
     opens: &mut Vec<Open<'a>>,
     ids: &mut Vec<TermId>,
     text: &[u8],
@@ -162,7 +162,7 @@ fn begins(bytes: &[u8], byte: u8) -> bool
 // Goes on behind a term: by a comma, or by the end of the innermost arguments.
 fn go_on<'a>(
     alloc: Global,
-    bank: &mut Bank,
+    bank: &mut TextBank,
     opens: &mut Vec<Open<'a>>,
     ids: &mut Vec<TermId>,
     text: &[u8],
@@ -190,7 +190,7 @@ fn go_on<'a>(
 // One step of reading, where the terms have not ended.
 fn step<'a>(
     alloc: Global,
-    bank: &mut Bank,
+    bank: &mut TextBank,
     opens: &mut Vec<Open<'a>>,
     ids: &mut Vec<TermId>,
     text: &[u8],
@@ -216,7 +216,7 @@ fn step<'a>(
 /// Reads terms that are joined by commas, up to the closing mark, and what follows it.
 pub fn terms<'a>(
     alloc: Global,
-    bank: &mut Bank,
+    bank: &mut TextBank,
     ids: &mut Vec<TermId>,
     text: &'a [u8],
     close: u8,

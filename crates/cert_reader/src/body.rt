@@ -7,9 +7,9 @@ ghost use Rattle.cert_reader.specs.Groups.{AreGroups, items_of};
 use crate::groups::Groups;
 use crate::lines::closing;
 use crate::next::next_item;
+use cert_items::TextBank;
 use inst_logic::Memory;
 use std::alloc::Global;
-use term_bank::Bank;
 
 /// How a text ends.
 #[derive(Clone, Copy)]
@@ -35,7 +35,7 @@ fn behind_last(lines: usize, rest: &[u8]) -> Ending
 /// Reads the items and the last line of a text under this name, of which so many lines have been read.
 pub fn read_items(
     alloc: Global,
-    bank: &mut Bank,
+    bank: &mut TextBank,
     groups: &mut Groups,
     refutation: bool,
     name: &[u8],

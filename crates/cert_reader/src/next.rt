@@ -4,17 +4,17 @@ ghost use Rattle.cert_reader.specs.Bodies.{IsNextItem, NoNextItem};
 ghost use Rattle.cert_reader.specs.Groups.{AreGroups, items_of};
 
 use crate::groups::Groups;
-use cert_items::{Item, read_item};
+use cert_items::{Item, TextBank, read_item};
 use inst_logic::Memory;
 use saturation_cert::GroundHintList;
 use std::alloc::Global;
-use term_bank::{Bank, IdClause, TermId};
+use term_bank::{IdClause, TermId};
 
 /// Reads the item whose line is at the front of the text, where it may follow those that were read, and gives what follows its
 /// line. `ids` is room to work in.
 pub fn next_item<'a>(
     alloc: Global,
-    bank: &mut Bank,
+    bank: &mut TextBank,
     ids: &mut Vec<TermId>,
     groups: &mut Groups,
     refutation: bool,

@@ -17,6 +17,7 @@ use crate::error::CertError;
 use crate::groups::Groups;
 use crate::lines::constant;
 use crate::start::{Start, begin};
+use cert_items::TextBank;
 use cert_items::symbol::name_of;
 use inst_logic::{Kind, Memory, Name, Sym};
 use saturation_cert::{Base, Refutation, Saturation};
@@ -88,10 +89,14 @@ fn read_refutation(
     ensures whole { IfOk result IsWholeCertificate }
     ensures refused { (text : List ℕ) → HasRead text (header true name.now bot.name) [] 4 bytes.now → ¬ HasVersion text → IfErr result (IsCause text) }
 {
-    let mut bank = Bank::new(alloc);
+    let mut bank = TextBank::new(alloc);
     let mut groups = Groups::new(alloc);
     match read_items(alloc, &mut bank, &mut groups, true, name, 4, bytes) {
-        Ok(Ending::Complete) => Ok(Certificate::Refutation(refutation(bank, groups, bot))),
+        Ok(Ending::Complete) => Ok(Certificate::Refutation(refutation(
+            bank.into_bank(),
+            groups,
+            bot,
+        ))),
         Ok(Ending::BadLine(line)) => Err(CertError::Syntax { line }),
         Err(Memory) => Err(CertError::Memory),
     }
@@ -104,10 +109,10 @@ fn read_saturation(alloc: Global, name: &[u8], bytes: &[u8]) -> Result<Certifica
     ensures whole { IfOk result IsWholeCertificate }
     ensures refused { (text : List ℕ) → HasRead text (header false name.now []) [] 3 bytes.now → ¬ HasVersion text → IfErr result (IsCause text) }
 {
-    let mut bank = Bank::new(alloc);
+    let mut bank = TextBank::new(alloc);
     let mut groups = Groups::new(alloc);
     match read_items(alloc, &mut bank, &mut groups, false, name, 3, bytes) {
-        Ok(Ending::Complete) => Ok(Certificate::Saturation(saturation(bank, groups))),
+        Ok(Ending::Complete) => Ok(Certificate::Saturation(saturation(bank.into_bank(), groups))),
         Ok(Ending::BadLine(line)) => Err(CertError::Syntax { line }),
         Err(Memory) => Err(CertError::Memory),
     }

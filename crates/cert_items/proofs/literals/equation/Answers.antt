@@ -10,3 +10,9 @@ returns-clause-formed c old =
     c.app.ensures.formed old
     (subst (λ (n : List ℕ). IsFormed (app (record { kind = Equality; name = n; arity = 2 }) (of_list (map (tree_at c.args.bank.now) (c.args.left ∷ c.args.right ∷ []))))) (sym c.in_ok-name.ensures)
     (equation_formed c.args.bank.now c.args.left c.args.right c.requires.terms.0 c.requires.terms.1))
+
+pub returns-in_err-atom-clause-formed : goal.returns-in_err-atom-clause-formed
+returns-in_err-atom-clause-formed c old =
+    c.app.ensures.formed old
+    (subst (λ (n : List ℕ). IsFormed (app (record { kind = Equality; name = n; arity = 2 }) (of_list (map (tree_at c.args.bank.now) (c.args.left ∷ c.args.right ∷ []))))) (sym c.in_ok-name.ensures)
+    (equation_formed c.args.bank.now c.args.left c.args.right c.requires.terms.0 c.requires.terms.1))

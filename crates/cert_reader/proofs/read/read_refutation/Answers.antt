@@ -1,8 +1,9 @@
-use Rattle.std.proofs.Common.{true, refl, sym, subst}
+use Rattle.std.proofs.Common.{true, refl, sym, ap, ◌∙◌, subst}
+use Rattle.term_bank.specs.Forest.{Forest}
 use Rattle.saturation_cert.specs.declared.certificate.Refutation.{Refutation}
 use Rattle.cert_reader.specs.declared.certificate.Certificate.TheVariants as forms
 use Rattle.cert_reader.specs.Bodies.{header}
-use Rattle.cert_reader.specs.Groups.{items_of}
+use Rattle.cert_reader.specs.Groups.{items_of, refutation_by}
 use Rattle.cert_reader.specs.Reads.{IsTextOf, IsWholeCertificate, value_of}
 use Rattle.cert_reader.proofs.Causes.{refused_syntax, complete_is, bad_line_is, from_nothing}
 use Rattle.cert_reader.proofs.Pushes.{empty_items}
@@ -15,12 +16,12 @@ returns-in-Ok-Complete-clause-read c text p =
     let is = items_of true c.read_items.new.bank c.read_items.new.groups in
     let first = from_nothing text h (items_of true c.new-bank.result c.new-groups.result) 4 c.args.bytes.now (empty_items true c.new-bank.result c.new-groups.result c.new-groups.ensures) p in
     let e = complete_is text h is c.in-Ok-Complete.field-0 c.in-Ok-Complete.field-0-is (c.in-Ok-Complete.ensures.ends text h refl refl first) in
-    subst (λ (r : Refutation). IsTextOf text (value_of (forms.Refutation r))) (sym c.refutation.ensures)
+    subst (λ (r : Refutation). IsTextOf text (value_of (forms.Refutation r))) (sym (c.refutation.ensures ∙ ap (λ (f : Forest). refutation_by f c.read_items.new.groups c.args.bot) c.into_bank.ensures))
     (refutation_read text c.read_items.new.bank c.read_items.new.groups c.args.bot c.args.name.now c.requires.constant c.requires.readable (c.in-Ok-Complete.ensures.groups c.in-Ok-Complete.field-0-is) e)
 
 pub returns-in-Ok-Complete-clause-whole : goal.returns-in-Ok-Complete-clause-whole
 returns-in-Ok-Complete-clause-whole c =
-    subst (λ (r : Refutation). IsWholeCertificate (forms.Refutation r)) (sym c.refutation.ensures) (refutation_whole c.read_items.new.bank c.read_items.new.groups c.args.bot (c.in-Ok-Complete.ensures.groups c.in-Ok-Complete.field-0-is))
+    subst (λ (r : Refutation). IsWholeCertificate (forms.Refutation r)) (sym (c.refutation.ensures ∙ ap (λ (f : Forest). refutation_by f c.read_items.new.groups c.args.bot) c.into_bank.ensures)) (refutation_whole c.read_items.new.bank c.read_items.new.groups c.args.bot (c.in-Ok-Complete.ensures.groups c.in-Ok-Complete.field-0-is))
 
 pub returns-in-Ok-BadLine-clause-refused : goal.returns-in-Ok-BadLine-clause-refused
 returns-in-Ok-BadLine-clause-refused c text p v =

@@ -1,5 +1,5 @@
 use Rattle.cert_items.proofs.CanonicalIds.{canonical_yes, canonical_no}
-use Rattle.cert_items.proofs.canonical.is_canonical.Goals as goal
+use Rattle.cert_items.proofs.canonical.is_built.Goals as goal
 
 pub returns-clause-is : goal.returns-clause-is
 returns-clause-is c = (

@@ -1,0 +1,214 @@
+// A bank with what is remembered of the names that were read into it: for each name as it is printed an application of a symbol
+// of that name. Nearly every name of a text has been read before, and then neither a name nor a symbol is made of it, and a
+// constant is found by one look-up.
+ghost use Rattle.std.specs.Prelude.{◌≡◌, ℕ, List, [], ◌<◌, length, false, map, None, IsTrue, ◌↔◌, IfOk};
+ghost use Rattle.inst_logic.specs.Clauses.{IsCanonical};
+ghost use Rattle.inst_logic.specs.Tree.{var, app, of_list};
+ghost use Rattle.term_bank.specs.Forest.{tree_at, IsAt, AreIds, Extends, AreFormed, IsFormed, IsClauseOf, clause_at};
+ghost use Rattle.cert_format.specs.Names.{IsNameText};
+ghost use Rattle.cert_items.specs.Known.{IsKnown, AreKnown, remembered};
+ghost use Rattle.cert_items.specs.Reading.{IsApplied};
+
+use crate::canonical::is_canonical as is_canonical_in;
+use crate::symbol::apply_named;
+use indexmap::IndexMap;
+use inst_logic::{Kind, Memory, Sym};
+use std::alloc::Global;
+use std::marker::Model;
+use term_bank::{Bank, IdClause, TermId};
+
+// An application of the symbol of a name that was read, and the symbol's kind and arity.
+#[derive(Clone, Copy)]
+pub struct Known {
+    kind: Kind,
+    arity: usize,
+    id: TermId,
+}
+
+/// A bank that terms of a text are read into. Contracts see the bank.
+#[derive(Drop)]
+pub struct TextBank {
+    bank: Bank,
+    known: IndexMap<Vec<u8>, Known>,
+}
+
+impl Model for TextBank {
+    ghost use Rattle.term_bank.specs.Forest.{Forest, forest_code};
+    ghost use Rattle.cert_items.specs.Known.{AreKnown};
+
+    ghost Value = { Forest };
+
+    ghost coded = { forest_code };
+
+    ghost view = { λ t. t.bank };
+
+    ghost invariant = { λ t. AreKnown t.bank t.known.entries };
+}
+
+// What is remembered of the name that is printed so.
+fn known_of(known: &IndexMap<Vec<u8>, Known>, text: &[u8]) -> Option<Known>
+    ensures { result ≡ remembered text.now known.now.entries }
+{
+    known.get(text).copied()
+}
+
+// Remembers the application for a name that is not remembered.
+fn note(
+    alloc: Global,
+    known: &mut IndexMap<Vec<u8>, Known>,
+    bank: &Bank,
+    text: &[u8],
+    value: Known,
+) -> Result<(), Memory>
+    requires new { remembered text.now known.old.entries ≡ None }
+    requires value { IsKnown bank.now text.now value }
+    requires known { AreKnown bank.now known.old.entries }
+    ensures { AreKnown bank.now known.new.entries }
+{
+    let key = Vec::from_slice(alloc, text)?;
+    known.insert(key, value)?;
+    Ok(())
+}
+
+// The application of the symbol of this kind whose name is printed so, and is not remembered.
+fn apply_first(
+    alloc: Global,
+    bank: &mut Bank,
+    known: &mut IndexMap<Vec<u8>, Known>,
+    kind: Kind,
+    text: &[u8],
+    args: &[TermId],
+) -> Result<TermId, Memory>
+    requires name { IsNameText text.now }
+    requires ids { AreIds bank.old args.now }
+    requires new { remembered text.now known.old.entries ≡ None }
+    requires known { AreKnown bank.old known.old.entries }
+    ensures known { AreKnown bank.new known.new.entries }
+    ensures at { IfOk result (λ id. IsApplied bank.new id kind text.now (map (tree_at bank.old) args.now)) }
+    ensures extends { Extends bank.old bank.new }
+    ensures formed { AreFormed bank.old → ((n : List ℕ) → IsFormed (app (record { kind = kind; name = n; arity = length args.now }) (of_list (map (tree_at bank.old) args.now)))) → AreFormed bank.new }
+{
+    let id = apply_named(alloc, bank, kind, text, args)?;
+    let value = Known {
+        kind,
+        arity: args.len(),
+        id,
+    };
+    note(alloc, known, bank, text, value)?;
+    Ok(id)
+}
+
+// The remembered symbol, whose name is printed so, applied to as many arguments as it takes.
+fn apply_again(
+    bank: &mut Bank,
+    text: &[u8],
+    known: &Known,
+    args: &[TermId],
+) -> Result<TermId, Memory>
+    requires known { IsKnown bank.old text.now known.now }
+    requires count { length args.now ≡ known.now.arity }
+    requires ids { AreIds bank.old args.now }
+    ensures at { IfOk result (λ id. IsApplied bank.new id known.now.kind text.now (map (tree_at bank.old) args.now)) }
+    ensures extends { Extends bank.old bank.new }
+    ensures formed { AreFormed bank.old → ((n : List ℕ) → IsFormed (app (record { kind = known.now.kind; name = n; arity = length args.now }) (of_list (map (tree_at bank.old) args.now)))) → AreFormed bank.new }
+{
+    if args.is_empty() {
+        return Ok(known.id);
+    }
+    bank.app_like(known.id, args)
+}
+
+// The application of the symbol of this kind whose name is printed so.
+fn applied(
+    alloc: Global,
+    bank: &mut Bank,
+    known: &mut IndexMap<Vec<u8>, Known>,
+    kind: Kind,
+    text: &[u8],
+    args: &[TermId],
+) -> Result<TermId, Memory>
+    requires name { IsNameText text.now }
+    requires ids { AreIds bank.old args.now }
+    requires known { AreKnown bank.old known.old.entries }
+    ensures known { AreKnown bank.new known.new.entries }
+    ensures at { IfOk result (λ id. IsApplied bank.new id kind text.now (map (tree_at bank.old) args.now)) }
+    ensures extends { Extends bank.old bank.new }
+    ensures formed { AreFormed bank.old → ((n : List ℕ) → IsFormed (app (record { kind = kind; name = n; arity = length args.now }) (of_list (map (tree_at bank.old) args.now)))) → AreFormed bank.new }
+{
+    match known_of(known, text) {
+        None => apply_first(alloc, bank, known, kind, text, args),
+        Some(found) => {
+            if found.kind == kind && found.arity == args.len() {
+                apply_again(bank, text, &found, args)
+            } else {
+                apply_named(alloc, bank, kind, text, args)
+            }
+        }
+    }
+}
+
+impl TextBank {
+    /// An empty bank, which takes no memory.
+    pub fn new(alloc: Global) -> TextBank
+        ensures { result ≡ record { trees = []; symbols = []; spent = false } }
+    {
+        TextBank {
+            bank: Bank::new(alloc),
+            known: IndexMap::new(alloc),
+        }
+    }
+
+    /// The bank, without what is remembered of names.
+    pub fn into_bank(self) -> Bank
+        ensures { result ≡ self }
+    {
+        let TextBank { bank, .. } = self;
+        bank
+    }
+
+    // The id of the variable of this number.
+    pub(crate) fn var(&mut self, v: usize) -> Result<TermId, Memory>
+        ensures at { IfOk result (λ id. IsAt self.new id (var v)) }
+        ensures extends { Extends self.old self.new }
+        ensures formed { AreFormed self.old → AreFormed self.new }
+    {
+        self.bank.var(v)
+    }
+
+    // The id of the symbol applied to the terms of these ids.
+    pub(crate) fn app(&mut self, sym: &Sym, args: &[TermId]) -> Result<TermId, Memory>
+        requires { AreIds self.old args.now }
+        ensures at { IfOk result (λ id. IsAt self.new id (app sym.now (of_list (map (tree_at self.old) args.now)))) }
+        ensures extends { Extends self.old self.new }
+        ensures formed { AreFormed self.old → IsFormed (app sym.now (of_list (map (tree_at self.old) args.now))) → AreFormed self.new }
+    {
+        self.bank.app(sym, args)
+    }
+}
+
+// The id of the application of the symbol of this kind whose name is printed so.
+pub fn apply(
+    alloc: Global,
+    bank: &mut TextBank,
+    kind: Kind,
+    text: &[u8],
+    args: &[TermId],
+) -> Result<TermId, Memory>
+    requires name { IsNameText text.now }
+    requires ids { AreIds bank.old args.now }
+    ensures at { IfOk result (λ id. IsApplied bank.new id kind text.now (map (tree_at bank.old) args.now)) }
+    ensures extends { Extends bank.old bank.new }
+    ensures formed { AreFormed bank.old → ((n : List ℕ) → IsFormed (app (record { kind = kind; name = n; arity = length args.now }) (of_list (map (tree_at bank.old) args.now)))) → AreFormed bank.new }
+{
+    applied(alloc, &mut bank.bank, &mut bank.known, kind, text, args)
+}
+
+// Whether the clause has its variables 0, 1, 2 by first occurrence, and no repeats.
+pub fn is_canonical(alloc: Global, bank: &mut TextBank, c: &IdClause) -> Result<bool, Memory>
+    requires { IsClauseOf bank.old c.now }
+    ensures extends { Extends bank.old bank.new }
+    ensures formed { AreFormed bank.old → AreFormed bank.new }
+    ensures is { IfOk result (λ r. IsTrue r ↔ IsCanonical (clause_at bank.old c.now)) }
+{
+    is_canonical_in(alloc, &mut bank.bank, c)
+}
