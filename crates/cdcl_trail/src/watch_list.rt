@@ -47,6 +47,10 @@ impl WatchList {
     pub(crate) fn push(&mut self, watch: Watch) -> Result<(), Memory>
         ensures { OnOk result (self.new ≡ self.old ++ watch ∷ []) }
     {
+        // (most literals are watched by one clause or by none, and a list that grows by itself begins with room for four)
+        if self.items.is_empty() {
+            self.items.reserve_exact(1)?;
+        }
         self.items.push(watch)?;
         Ok(())
     }
