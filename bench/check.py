@@ -1,0 +1,165 @@
+#!/usr/bin/env python3
+"""Measures the checker: on certificates that the program printed itself, what `check` takes of what `prove` took, and on
+certificates made here, what pairs, covers and hints cost. `check.py --help` lists the kinds. All times are processor
+seconds of one run."""
+
+import argparse
+import itertools
+import os
+import resource
+import shutil
+import subprocess
+import sys
+import tempfile
+
+from epr import KINDS, mean, tptp
+from run import TOP, problems as ground_problems, write_tptp
+
+# The certificates made here. A clause is its text; all that stand in one certificate are inputs and members at once, and the
+# first literal of each is selected.
+
+
+def saturation(clauses):
+    """The text of a saturation whose members are the given clauses."""
+    yield "% SZS status Satisfiable for made\n% SZS output start Saturation for made\n% instgen certificate 1\n"
+    yield from (f"cnf(i{n},axiom,{clause},named(n)).\n" for n, clause in enumerate(clauses, 1))
+    yield from (f"cnf(m{n},plain,{clause},input({n}),[selected(1)]).\n" for n, clause in enumerate(clauses, 1))
+    yield "% SZS output end Saturation for made\n"
+
+
+def pairs(count):
+    """Atoms of one predicate in both signs, none of which unify."""
+    half = count // 2
+    return saturation([f"p(a{n},X0)" for n in range(half)] + [f"~p(b{n},X0)" for n in range(half)])
+
+
+def covers(count, heads):
+    """One hundred thousand pairs, each covered by a unit; the units have so many predicates."""
+    facts, lefts = 20, 5000
+    clauses = [f"p(d{n})" for n in range(facts)]
+    clauses += [f"~p(X0) | r{n % heads}(c{n})" for n in range(lefts)] + [f"r{n % heads}(c{n})" for n in range(lefts)]
+    return saturation(clauses + [f"s(c{n})" for n in range(count - len(clauses))])
+
+
+def hints(count, width):
+    """A chain of so many clauses, walked ten times by steps of so many hints."""
+    clauses = ["p0"] + [f"~p{n} | p{n + 1}" for n in range(count - 2)] + [f"~p{count - 2}"]
+    yield "% SZS status Unsatisfiable for made\n% SZS output start CNFRefutation for made\n% instgen certificate 1\n"
+    yield "% ground constant bot_0\n"
+    yield from (f"cnf(i{n},axiom,{clause},named(n)).\n" for n, clause in enumerate(clauses, 1))
+    yield from (f"cnf(m{n},plain,{clause},input({n})).\n" for n, clause in enumerate(clauses, 1))
+    yield from (f"cnf(g{n},plain,{clause},ground(m{n})).\n" for n, clause in enumerate(clauses, 1))
+    number = 0
+    for _ in range(10):
+        last = "g1"
+        for begin in range(0, count - 2, width):
+            end = min(begin + width, count - 2)
+            number += 1
+            used = ",".join([last] + [f"g{n + 2}" for n in range(begin, end)])
+            yield f"cnf(r{number},plain,p{end},rup([{used}])).\n"
+            last = f"r{number}"
+    yield f"cnf(r{number + 1},plain,$false,rup([{last},g{count}])).\n% SZS output end CNFRefutation for made\n"
+
+
+MADE = {
+    "pairs": [("20,000 members, no pair unifies", lambda: pairs(20000))],
+    "covers": [("20,000 members, 100,000 covered pairs", lambda: covers(20000, 100)),
+               ("the same, all units of one predicate", lambda: covers(20000, 1))],
+    "hints": [("100,000 members, 1,000,000 hints", lambda: hints(100000, 20))],
+}
+
+
+def spent():
+    """The processor seconds of all commands that have ended."""
+    used = resource.getrusage(resource.RUSAGE_CHILDREN)
+    return used.ru_utime + used.ru_stime
+
+
+def measured(words, limit, out=os.devnull):
+    """The processor seconds of a command whose output goes to a file, or None where it takes longer than the limit."""
+    with open(out, "wb") as to:
+        begun = spent()
+        try:
+            subprocess.run(words, stdout=to, stderr=subprocess.DEVNULL, timeout=limit, check=False)
+        except subprocess.TimeoutExpired:
+            return None
+    return spent() - begun
+
+
+def line(name, *cells):
+    print(f"{name:42}" + "".join(f" {cell:>10}" for cell in cells), flush=True)
+
+
+def own_problems(kind):
+    """Names of problems and what writes each: those without function symbols, or the ground ones."""
+    if kind == "ground":
+        for name, make in ground_problems([]):
+            yield name, lambda path, make=make: write_tptp(path, make()[1])
+        return
+
+    def write(path, make, size, refuted):
+        with open(path, "w", encoding="ascii") as out:
+            out.writelines(tptp(make(size, refuted)))
+
+    for name, (make, sizes) in KINDS.items():
+        for size, refuted in itertools.product(sizes, (True, False)):
+            yield f"{name} {size} {'unsat' if refuted else 'sat'}", lambda path, them=(make, size, refuted): write(path, *them)
+
+
+def own(program, folder, limit, kind):
+    """The program's own certificates."""
+    line(kind, "bytes", "prove", "check", "check MB/s", "of prove")
+    whole = []
+    problem, text, said = (os.path.join(folder, f"own.{it}") for it in ("p", "txt", "out"))
+    for name, write in own_problems(kind):
+        write(problem)
+        found = measured([program, "prove", problem], limit, text)
+        if found is None:
+            line(name, "", "over")
+            continue
+        judged = measured([program, "check", text], limit, said)
+        with open(said, "rb") as it:
+            mark = "" if it.read().startswith(b"valid") else " !"
+        much = os.path.getsize(text)
+        whole.append((found, judged))
+        line(name + mark, much, f"{found:.3f}", f"{judged:.3f}", f"{much / max(judged, 0.001) / 1e6:.0f}", f"{judged / max(found, 0.001):.2f}")
+    line("mean (geometric) where prove takes 0.05 s", "", "", "", "", mean([judged / found for found, judged in whole if found >= 0.05]))
+    line("all together", "", f"{sum(it for it, _ in whole):.2f}", f"{sum(it for _, it in whole):.2f}", "",
+         f"{sum(it for _, it in whole) / max(sum(it for it, _ in whole), 0.001):.2f}")
+
+
+def main():
+    parser = argparse.ArgumentParser(description=__doc__)
+    parser.add_argument("kinds", nargs="*", help="epr, ground, pairs, covers, hints, stress; all if none")
+    parser.add_argument("--limit", type=float, default=20, help="seconds for each run")
+    parser.add_argument("--keep", help="a folder for the files, which are else removed")
+    parser.add_argument("--program", default=os.path.join(TOP, "instgen"), help="the program to run")
+    given = parser.parse_args()
+    kinds = given.kinds or ["epr", "ground", *MADE, "stress"]
+    folder = given.keep or tempfile.mkdtemp(prefix="bench")
+    os.makedirs(folder, exist_ok=True)
+    subprocess.run([given.program], stdout=subprocess.DEVNULL, stderr=sys.stderr, check=False)  # builds it where needed
+    for kind in ("epr", "ground"):
+        if kind in kinds:
+            own(given.program, folder, given.limit, kind)
+    if set(kinds) & set(MADE):
+        line("made here", "bytes", "check", "", "check MB/s")
+    for name, make in itertools.chain.from_iterable(MADE.get(kind, []) for kind in kinds):
+        path = os.path.join(folder, "made.txt")
+        with open(path, "w", encoding="ascii") as out:
+            out.writelines(make())
+        taken = measured([given.program, "check", path], None, path + ".out")
+        with open(path + ".out", "rb") as said:
+            text = said.read().split(b"\n", 1)[0].decode()
+        much = os.path.getsize(path)
+        line(name + ("" if text.startswith("valid") else f" ({text})"), much, f"{taken:.2f}", "", f"{much / taken / 1e6:.0f}")
+    if "stress" in kinds:
+        line("stress", "seconds")
+        for size in (1000, 10000, 100000):
+            line(f"{size} links", f"{measured([given.program, 'stress', str(size)], None):.2f}")
+    if not given.keep:
+        shutil.rmtree(folder)
+
+
+if __name__ == "__main__":
+    main()
