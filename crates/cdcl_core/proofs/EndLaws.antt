@@ -186,7 +186,7 @@ test_self l = ap (λ b. b && eqb l.atom l.atom) (sign_self l.positive) ∙ eq-eq
     sign_self true = refl
     sign_self false = refl
 
-literals_differ : (l r : Signed ℕ) → false ≡ (beq l.positive r.positive && eqb l.atom r.atom) → l ≡ r → ⊥
+pub literals_differ : (l r : Signed ℕ) → false ≡ (beq l.positive r.positive && eqb l.atom r.atom) → l ≡ r → ⊥
 literals_differ l r e q = false≢true (e ∙ ap (λ x. beq l.positive x.positive && eqb l.atom x.atom) (sym q) ∙ test_self l)
 
 pub not_in_core_unmarked : (es : List Entry) (marks : List Bool) (r l : Signed ℕ) (b : Bool) → false ≡ (beq l.positive r.positive && eqb l.atom r.atom) → b ≡ get_or marks l.atom false → b ≡ false → IsInCore es marks r l → ⊥

@@ -18,7 +18,7 @@ use Rattle.cdcl_core.specs.declared.log.Log.{Log}
 use Rattle.cdcl_core.specs.declared.analysis.Counts.{Counts}
 use Rattle.cdcl_core.specs.declared.analysis.Analysis.{Analysis}
 use Rattle.cdcl_core.specs.Log.{IsNamed}
-use Rattle.cdcl_core.specs.Analysis.{IsMarked, is_at, is_off, marked_count, AreCounted, MarksToo, IsReady, NamesFalse, Covers, ClosesFrom, IsLearned, AreBelowFirst, HasAll, IsMet, IsBegun, IsAnalysis, HasDecisionsAnd, IsMetDecided, ShowsGiven}
+use Rattle.cdcl_core.specs.Analysis.{IsMarked, is_at, is_off, marked_count, AreCounted, IsReady, Resolves, NamesFalse, Covers, ClosesFrom, IsLearned, AreBelowFirst, HasAll, IsMet, IsBegun, IsAnalysis, HasDecisionsAnd, IsMetDecided, ShowsGiven}
 use Rattle.cdcl_core.proofs.EntryLaws.{same_entry, pair_at, level_found, reason_found}
 use Rattle.cdcl_core.proofs.AnalysisLaws.{counted_unmarked, none_marked, closes_unmarked, closes_kept, closes_resolved, closes_first, learned_free, learned_first, learned_more, first_kept, first_resolved}
 
@@ -58,21 +58,18 @@ met_kept log t i e marks a b at m high low grown same counted x =
       first = subst (AreBelowFirst t.entries (take i t.entries) marks) (sym grown) k.1;
     }
 
-pub met_resolved : (log : Log) (t : Trail) (i n : ℕ) (e : Entry) (marks new : List Bool) (a b : Analysis) (o : Counts) → IsReady log t → slice_get t.entries i ≡ Some e → e.reason ≡ Some n
-    → IsMarked marks e.lit.atom → AreCounted t i marks o → b.clause.items ≡ a.clause.items → ((h : Hint) → slice_get log.names.items n ≡ Some h → b.hints.items ≡ a.hints.items ++ h ∷ [])
-    → ((c : List (Signed ℕ)) → IsNamed log n c → MarksToo t c marks new o b.counts) → IsMet log t (i + 1) marks a → IsMet log t i new b
-met_resolved log t i n e marks new a b o ready at reason mark counted same hints marked x =
-    let why = ready.implied i n e at reason in
-    let h = why.1.0 in
-    let too = marked why.0 why.1 in
-    let all_entries = take_whole t.entries in
-    let closes = closes_resolved log t t.entries i e h why.0 marks new (HasAll a.clause.items) (HasAll a.clause.items) (reverse a.hints.items) ready.trail (λ d c. c) (Contains-slice_get t.entries i e at) at why.1.2 why.2 too.marked too.kept
+pub met_resolved : (log : Log) (t : Trail) (i : ℕ) (e : Entry) (marks new : List Bool) (a was b : Analysis) → IsReady log t → slice_get t.entries i ≡ Some e → IsMarked marks e.lit.atom → AreCounted t i marks was.counts
+    → was.clause.items ≡ a.clause.items → was.hints.items ≡ a.hints.items → Resolves log t i e.lit marks new was b → IsMet log t (i + 1) marks a → IsMet log t i new b
+met_resolved log t i e marks new a was b ready at mark counted clause hints r x =
+    let h = r.hint in
+    let same = r.same ∙ clause in
+    let closes = closes_resolved log t t.entries i e h r.clause marks new (HasAll a.clause.items) (HasAll a.clause.items) (reverse a.hints.items) ready.trail (λ d c. c) (Contains-slice_get t.entries i e at) at r.named r.unit r.marked.marked r.marked.kept
     (λ F all. All-weaker (Contains F) (Contains (F ++ complement e.lit ∷ [])) (λ l c. Contains-append_left F (complement e.lit ∷ []) l c) a.clause.items all) x.closes in
-    let back : reverse b.hints.items ≡ h ∷ reverse a.hints.items = ap reverse (hints h why.1.1) ∙ reverse-append a.hints.items (h ∷ []) in
+    let back : reverse b.hints.items ≡ h ∷ reverse a.hints.items = ap reverse (r.hints ∙ ap (λ hs. hs ++ h ∷ []) hints) ∙ reverse-append a.hints.items (h ∷ []) in
     record {
       closes = subst (λ hs. ClosesFrom log t.entries (take i t.entries) new (HasAll b.clause.items) hs) (sym back)
           (subst (λ c. ClosesFrom log t.entries (take i t.entries) new (HasAll c) (h ∷ reverse a.hints.items)) (sym same) closes);
-      counted = too.counted i counted;
+      counted = r.marked.counted i counted;
       learned = subst (IsLearned t.entries) (sym same) x.learned;
       first = subst (AreBelowFirst t.entries (take i t.entries) new) (sym same) (first_resolved t i e marks new a.clause.items ready.trail at mark x.first);
     }
@@ -98,20 +95,17 @@ met_decided_kept log t start i l e marks a b low at m chosen same counted x =
       counted = counted;
     }
 
-pub met_decided_resolved : (log : Log) (t : Trail) (start i n : ℕ) (l : Signed ℕ) (e : Entry) (marks new : List Bool) (a b : Analysis) (o : Counts) → IsReady log t → i < start → slice_get t.entries i ≡ Some e → e.reason ≡ Some n
-    → AreCounted t i marks o → ((h : Hint) → slice_get log.names.items n ≡ Some h → b.hints.items ≡ a.hints.items ++ h ∷ [])
-    → ((c : List (Signed ℕ)) → IsNamed log n c → MarksToo t c marks new o b.counts) → IsMetDecided log t start (i + 1) l marks a → IsMetDecided log t start i l new b
-met_decided_resolved log t start i n l e marks new a b o ready low at reason counted hints marked x =
+pub met_decided_resolved : (log : Log) (t : Trail) (start i : ℕ) (l : Signed ℕ) (e : Entry) (marks new : List Bool) (a was b : Analysis) → IsReady log t → i < start → slice_get t.entries i ≡ Some e → AreCounted t i marks was.counts
+    → was.hints.items ≡ a.hints.items → Resolves log t i e.lit marks new was b → IsMetDecided log t start (i + 1) l marks a → IsMetDecided log t start i l new b
+met_decided_resolved log t start i l e marks new a was b ready low at counted hints r x =
     let whole = take start t.entries in
-    let why = ready.implied i n e at reason in
-    let h = why.1.0 in
-    let too = marked why.0 why.1 in
-    let closes = closes_resolved log t whole i e h why.0 marks new (HasDecisionsAnd l whole marks) (HasDecisionsAnd l whole new) (reverse a.hints.items) ready.trail (λ d c. Contains-take t.entries start d c) (in_first t.entries start i e at low) at why.1.2 why.2 too.marked too.kept
-    (λ F s. (Contains-append_left F (complement e.lit ∷ []) l s.0, λ d c chosen m. Contains-append_left F (complement e.lit ∷ []) (complement d.lit) (s.1 d c chosen (too.kept d.lit.atom m)))) x.closes in
-    let back : reverse b.hints.items ≡ h ∷ reverse a.hints.items = ap reverse (hints h why.1.1) ∙ reverse-append a.hints.items (h ∷ []) in
+    let h = r.hint in
+    let closes = closes_resolved log t whole i e h r.clause marks new (HasDecisionsAnd l whole marks) (HasDecisionsAnd l whole new) (reverse a.hints.items) ready.trail (λ d c. Contains-take t.entries start d c) (in_first t.entries start i e at low) at r.named r.unit r.marked.marked r.marked.kept
+    (λ F s. (Contains-append_left F (complement e.lit ∷ []) l s.0, λ d c chosen m. Contains-append_left F (complement e.lit ∷ []) (complement d.lit) (s.1 d c chosen (r.marked.kept d.lit.atom m)))) x.closes in
+    let back : reverse b.hints.items ≡ h ∷ reverse a.hints.items = ap reverse (r.hints ∙ ap (λ hs. hs ++ h ∷ []) hints) ∙ reverse-append a.hints.items (h ∷ []) in
     record {
       closes = subst (λ hs. ClosesFrom log whole (take i t.entries) new (HasDecisionsAnd l whole new) hs) (sym back) closes;
-      counted = too.counted i counted;
+      counted = r.marked.counted i counted;
     }
 
 -- the beginning

@@ -1,5 +1,5 @@
 -- What the analysis of a conflict knows at each place of the trail, and what it leaves.
-use Rattle.std.specs.Prelude.{◌≡◌, ◌≢◌, ℕ, ◌+◌, ◌-◌, ◌^◌, ◌<◌, ◌≤◌, ◌==◌, ◌&&◌, Bool, true, false, not, List, [], ◌∷◌, length, map, take, reverse, Some, All, Contains, slice_get, if◌then◌else◌}
+use Rattle.std.specs.Prelude.{◌≡◌, ◌≢◌, ℕ, ◌+◌, ◌-◌, ◌^◌, ◌<◌, ◌≤◌, ◌==◌, ◌&&◌, Bool, true, false, not, List, [], ◌∷◌, ◌++◌, length, map, take, reverse, Some, All, Contains, slice_get, if◌then◌else◌}
 use Rattle.std.specs.List.{slice_index_or}
 use Rattle.inst_logic.specs.declared.signed.Signed.{Signed}
 use Rattle.inst_logic.specs.Signed.{complement}
@@ -100,6 +100,16 @@ pub record IsBegun (log : Log) (t : Trail) (n : ℕ) (c : List (Signed ℕ)) (ma
   pub hints : (h : Hint) → slice_get log.names.items n ≡ Some h → a.hints.items ≡ h ∷ []
   pub marked : All (λ l. IsMarked marks l.atom) c
   pub counted : (i : ℕ) → AreCounted t i marks a.counts
+
+-- what gave the literal at the place is in its stead
+pub record Resolves (log : Log) (t : Trail) (i : ℕ) (l : Signed ℕ) (old new : List Bool) (a b : Analysis) : Type 0 where
+  pub hint : Hint
+  pub clause : List (Signed ℕ)
+  pub named : cited log.added log.steps hint ≡ Some clause
+  pub unit : GivesUnit (take i t.entries) clause l
+  pub same : b.clause.items ≡ a.clause.items
+  pub hints : b.hints.items ≡ a.hints.items ++ hint ∷ []
+  pub marked : MarksToo t clause old new a.counts b.counts
 
 -- what is left when it has met all
 pub record IsAnalysis (log : Log) (entries : List Entry) (a : Analysis) : Type 0 where

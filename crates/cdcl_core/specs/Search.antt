@@ -6,8 +6,9 @@ use Rattle.prop_logic.specs.Solving.{IsAnswer, IsSubList}
 use Rattle.cdcl_trail.specs.declared.entry.Entry.{Entry}
 use Rattle.cdcl_trail.specs.Attached.{AreAttached}
 use Rattle.cdcl_trail.specs.Clauses.{clause_number}
-use Rattle.cdcl_trail.specs.Trail.{IsTrail, IsDecision, literals_of, back_at}
+use Rattle.cdcl_trail.specs.Trail.{Trail, IsTrail, IsDecision, literals_of, back_at}
 use Rattle.cdcl_trail.specs.Propagation.{GivesUnit}
+use Rattle.cdcl_core.specs.declared.log.Log.{Log}
 use Rattle.cdcl_core.specs.declared.search.Search.{Search}
 use Rattle.cdcl_core.specs.Log.{IsLog}
 use Rattle.cdcl_core.specs.Analysis.{IsMarked}
@@ -16,6 +17,15 @@ use Rattle.cdcl_core.specs.Phases.{ArePhases}
 -- an entry with a reason was given by its clause
 abbrev pub AreGiven : List (Option (List (Signed ℕ))) → List Entry → Type 0
 AreGiven clauses entries = (k n : ℕ) (e : Entry) → slice_get entries k ≡ Some e → e.reason ≡ Some n → (c : List (Signed ℕ)) × (clause_number clauses n ≡ Some c) × GivesUnit (take k entries) c e.lit
+
+-- the log is right for clauses that gave the trail's values
+abbrev pub IsLogOf : Log → Trail → Type 0
+IsLogOf log t = (clauses : List (Option (List (Signed ℕ)))) × IsLog t.atoms clauses log × AreGiven clauses t.entries
+
+-- the log has steps more
+pub record IsLogMore (atoms : ℕ) (old new : Log) : Type 0 where
+  pub added : new.added ≡ old.added
+  pub log : (clauses : List (Option (List (Signed ℕ)))) → IsLog atoms clauses old → IsLog atoms clauses new
 
 -- what is kept from one question to the next
 pub record IsKept (s : Search) : Type 0 where

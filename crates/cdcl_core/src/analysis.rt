@@ -6,11 +6,11 @@ ghost use Rattle.std.specs.Prelude.{◌≡◌, ℕ, ◌+◌, ◌++◌, ◌∷◌
 ghost use Rattle.inst_logic.specs.declared.signed.Signed.{Signed};
 ghost use Rattle.inst_logic.specs.Signed.{complement};
 ghost use Rattle.prop_logic.specs.declared.literal.Hint.{Hint};
-ghost use Rattle.prop_logic.specs.Literal.{AtomsBelow};
+ghost use Rattle.prop_logic.specs.Literal.{cited, AtomsBelow};
 ghost use Rattle.cdcl_trail.specs.declared.entry.Entry.{Entry};
 ghost use Rattle.cdcl_trail.specs.Trail.{IsTrail};
 ghost use Rattle.cdcl_core.specs.Log.{IsNamed};
-ghost use Rattle.cdcl_core.specs.Analysis.{IsMarked, AreCounted, MarksToo, IsReady, IsBegun, NamesFalse, IsMet, IsMetDecided, IsAnalysis, ShowsGiven};
+ghost use Rattle.cdcl_core.specs.Analysis.{IsMarked, AreCounted, MarksToo, IsReady, IsBegun, Resolves, NamesFalse, IsMet, IsMetDecided, IsAnalysis, ShowsGiven};
 
 use crate::log::Log;
 use crate::marks::Marks;
@@ -26,11 +26,13 @@ pub(crate) struct Counts {
     pub(crate) below: usize,
 }
 
-// The complements of the literals that stay, and the hints in the reverse of the order in which they are resolved.
+// The complements of the literals that stay, the hints in the reverse of the order in which they are resolved, and the places
+// of the facts of level 0 among those that were resolved by clauses of more literals.
 #[derive(Drop)]
 pub(crate) struct Analysis {
     pub(crate) clause: Vec<Lit>,
     pub(crate) hints: Vec<Hint>,
+    pub(crate) facts: Vec<usize>,
     pub(crate) counts: Counts,
 }
 
@@ -125,25 +127,64 @@ fn count_met(trail: &Trail, counts: &mut Counts, level: usize)
     }
 }
 
-// Puts a reason's clause in the place of the literal.
-fn resolve(
+// Takes the clause that the hint cites into the analysis.
+fn take(
     log: &Log,
     trail: &Trail,
     marks: &mut Marks,
     analysis: &mut Analysis,
-    number: usize,
+    hint: Hint,
 ) -> Result<(), Memory>
     requires ready { IsReady log.now trail.now.trail }
     requires size { length marks.old ≡ trail.now.trail.atoms }
     ensures size { OnOk result (length marks.new ≡ length marks.old) }
     ensures clause { OnOk result (analysis.new.clause ≡ analysis.old.clause) }
-    ensures hints { OnOk result ((h : Hint) → slice_get log.now.names.items number ≡ Some h → analysis.new.hints.items ≡ analysis.old.hints.items ++ h ∷ []) }
-    ensures marked { OnOk result ((c : List (Signed ℕ)) → IsNamed log.now number c → MarksToo trail.now.trail c marks.old marks.new analysis.old.counts analysis.new.counts) }
+    ensures hints { OnOk result (analysis.new.hints.items ≡ analysis.old.hints.items ++ hint ∷ []) }
+    ensures marked { OnOk result ((c : List (Signed ℕ)) → cited log.now.added log.now.steps hint ≡ Some c → MarksToo trail.now.trail c marks.old marks.new analysis.old.counts analysis.new.counts) }
 {
-    let hint = log.hint_of(number);
     analysis.hints.push(hint)?;
     mark_all(trail, marks, &mut analysis.counts, log.cited(hint));
     Ok(())
+}
+
+// Lists the place of a fact of level 0 whose clause has other literals.
+fn list_fact(
+    log: &Log,
+    trail: &Trail,
+    analysis: &mut Analysis,
+    place: usize,
+    hint: Hint,
+) -> Result<(), Memory>
+    requires { place < length trail.now.trail.entries }
+    ensures clause { OnOk result (analysis.new.clause ≡ analysis.old.clause) }
+    ensures hints { OnOk result (analysis.new.hints ≡ analysis.old.hints) }
+    ensures counts { OnOk result (analysis.new.counts ≡ analysis.old.counts) }
+{
+    let lit = literal_at(trail, place);
+    if trail.level_of(lit.atom) == Some(0) && 1 < log.cited(hint).len() {
+        analysis.facts.push(place)?;
+    }
+    Ok(())
+}
+
+// Puts what gave the literal at the place in its stead.
+fn resolve(
+    log: &Log,
+    trail: &Trail,
+    marks: &mut Marks,
+    analysis: &mut Analysis,
+    place: usize,
+    number: usize,
+) -> Result<(), Memory>
+    requires ready { IsReady log.now trail.now.trail }
+    requires size { length marks.old ≡ trail.now.trail.atoms }
+    requires place { place < length trail.now.trail.entries }
+    ensures size { OnOk result (length marks.new ≡ length marks.old) }
+    ensures resolved { OnOk result ((e : Entry) → slice_get trail.now.trail.entries place ≡ Some e → e.reason ≡ Some number → Resolves log.now trail.now.trail place e.lit marks.old marks.new analysis.old analysis.new) }
+{
+    let hint = log.given_by(literal_at(trail, place), number);
+    list_fact(log, trail, analysis, place, hint)?;
+    take(log, trail, marks, analysis, hint)
 }
 
 fn keep(analysis: &mut Analysis, lit: Lit) -> Result<(), Memory>
@@ -186,7 +227,7 @@ fn meet(
             if remains {
                 return keep(analysis, lit);
             }
-            resolve(log, trail, marks, analysis, number)
+            resolve(log, trail, marks, analysis, place, number)
         }
     }
 }
@@ -213,7 +254,7 @@ fn meet_decided(
     count_met(trail, &mut analysis.counts, level);
     match trail.reason(lit.atom) {
         None => Ok(()),
-        Some(number) => resolve(log, trail, marks, analysis, number),
+        Some(number) => resolve(log, trail, marks, analysis, place, number),
     }
 }
 
@@ -232,6 +273,7 @@ fn no_analysis(alloc: Global) -> Analysis
     Analysis {
         clause: Vec::new(alloc),
         hints: Vec::new(alloc),
+        facts: Vec::new(alloc),
         counts: Counts {
             present: 0,
             below: 0,
@@ -254,7 +296,7 @@ fn begin(
 {
     let mut analysis = no_analysis(alloc);
     marks.clear();
-    resolve(log, trail, marks, &mut analysis, number)?;
+    take(log, trail, marks, &mut analysis, log.hint_of(number))?;
     Ok(analysis)
 }
 

@@ -92,8 +92,8 @@ impl Solver for Cdcl {
         }
     }
 
-    // The steps: each conflict is answered by one, but not the last of a question that is refuted.
+    // Each conflict is answered by a learned clause, but not the last of a question that is refuted.
     fn conflicts(&self) -> u64 {
-        self.search.log.steps.len() as u64
+        self.search.learned.conflicts
     }
 }

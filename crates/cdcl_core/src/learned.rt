@@ -36,14 +36,15 @@ const NO_RANK: Rank = Rank {
 };
 
 // The ranks of the clauses, and how many there may be before some are forgotten. Those in `passed` were to be forgotten, but
-// were reasons; they come back to the others when these are sorted next. After `due` conflicts more the limit rises, and then
-// after `span` of them.
+// were reasons; they come back to the others when these are sorted next. `conflicts` were counted; after `due` more the limit
+// rises, and then after `span` of them.
 #[derive(Drop)]
 pub(crate) struct Learned {
     ranks: Vec<Rank>,
     passed: Vec<Rank>,
     uses: Uses,
     limit: usize,
+    pub(crate) conflicts: u64,
     due: u64,
     span: u64,
 }
@@ -55,6 +56,7 @@ impl Learned {
             passed: Vec::new(alloc),
             uses: Uses::new(alloc),
             limit: FIRST,
+            conflicts: 0,
             due: CONFLICTS,
             span: CONFLICTS,
         }
@@ -83,6 +85,7 @@ impl Learned {
 
     // Counts a conflict.
     fn count(&mut self) {
+        self.conflicts = self.conflicts.saturating_add(1);
         self.due = self.due.saturating_sub(1);
         if self.due == 0 {
             self.span = self.span.saturating_add(self.span / 2);

@@ -13,6 +13,7 @@ mod order;
 mod pace;
 mod phases;
 mod search;
+mod units;
 mod uses;
 
 pub use cdcl::Cdcl;

@@ -1,22 +1,26 @@
 // The added clauses and the steps, and by which of these a clause is known to the trail. The trail's number of a forgotten
 // clause may be given again, while its step stays here, since other steps may cite it: so the two kinds of numbers are kept
 // apart.
-ghost use Rattle.std.specs.Prelude.{◌≡◌, [], ◌<◌, ℕ, List, Some, length, slice_get, OnOk};
+ghost use Rattle.std.specs.Prelude.{◌≡◌, [], ◌∷◌, ◌<◌, ℕ, List, Some, IsTrue, length, slice_get, OnOk};
 ghost use Rattle.inst_logic.specs.declared.signed.Signed.{Signed};
 ghost use Rattle.prop_logic.specs.Literal.{cited, AtomsBelow, AllAtomsBelow, StepsBelow};
 ghost use Rattle.prop_logic.specs.declared.literal.Hint.{Hint};
-ghost use Rattle.cdcl_core.specs.Log.{PutsName};
+ghost use Rattle.cdcl_trail.specs.declared.entry.Entry.{Entry};
+ghost use Rattle.cdcl_trail.specs.Propagation.{GivesUnit};
+ghost use Rattle.cdcl_core.specs.Log.{PutsName, IsNamed};
 
 use inst_logic::Memory;
 use prop_logic::{Derivation, Hint, Lit, LitLists};
 use std::alloc::Global;
 
-// `names` has for the number of each clause what cites it here.
+// `names` has for the number of each clause what cites it here, and `units` for some atoms the step that has their literal
+// alone. No proof rests on `units`: what it has is looked at before it is used.
 #[derive(Drop)]
 pub(crate) struct Log {
     pub(crate) added: LitLists,
     pub(crate) steps: Derivation,
     pub(crate) names: Vec<Hint>,
+    pub(crate) units: Vec<Hint>,
 }
 
 // Makes the list longer than `number`.
@@ -48,6 +52,7 @@ impl Log {
             added: LitLists::new(alloc),
             steps: Derivation::new(alloc),
             names: Vec::new(alloc),
+            units: Vec::new(alloc),
         }
     }
 
@@ -62,6 +67,7 @@ impl Log {
     pub(crate) fn cited(&self, hint: Hint) -> &[Lit]
         ensures below { (n : ℕ) → AllAtomsBelow n self.now.added → StepsBelow n self.now.steps → AtomsBelow n result.now }
         ensures clause { (c : List (Signed ℕ)) → cited self.now.added self.now.steps hint ≡ Some c → result.now ≡ c }
+        ensures some { 0 < length result.now → cited self.now.added self.now.steps hint ≡ Some result.now }
     {
         match hint {
             Hint::Added(n) => {
@@ -76,6 +82,25 @@ impl Log {
             }
         }
         &[]
+    }
+
+    // Whether the hint cites the literal alone.
+    pub(crate) fn is_unit(&self, hint: Hint, lit: Lit) -> bool
+        ensures { IsTrue result → cited self.now.added self.now.steps hint ≡ Some (lit ∷ []) }
+    {
+        let clause = self.cited(hint);
+        clause.len() == 1 && clause[0] == lit
+    }
+
+    // What cites the literal alone, if that is known, and else the clause of this number, which gave it.
+    pub(crate) fn given_by(&self, lit: Lit, number: usize) -> Hint
+        ensures { (before : List Entry) (c : List (Signed ℕ)) → IsNamed self.now number c → GivesUnit before c lit → (d : List (Signed ℕ)) × (cited self.now.added self.now.steps result ≡ Some d) × GivesUnit before d lit }
+    {
+        let unit = self.units.get(lit.atom).copied().unwrap_or(Hint::Added(0));
+        if self.is_unit(unit, lit) {
+            return unit;
+        }
+        self.hint_of(number)
     }
 
     // The hints of the step of this number.

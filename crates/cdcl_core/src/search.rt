@@ -24,6 +24,7 @@ use crate::log::{Log, put_name};
 use crate::marks::Marks;
 use crate::pace::Pace;
 use crate::phases::Phases;
+use crate::units::unite_all;
 use cdcl_trail::{Clauses, Trail};
 use inst_logic::Memory;
 use prop_logic::{Answer, Derivation, Hint, HintList, Lit, LitList, Step, complement, complements};
@@ -399,7 +400,8 @@ impl Search {
         Ok(key)
     }
 
-    // Keeps the clause, whose first literal is above the levels of the others, and makes that literal true by it.
+    // Keeps the clause, whose first literal is above the levels of the others, and makes that literal true by it. The facts that
+    // the analysis met become steps.
     fn learn(&mut self, analysis: Analysis) -> Result<(), Memory>
         requires kept { IsKept self.old }
         requires trail { IsTrail self.old.trail.trail }
@@ -412,6 +414,7 @@ impl Search {
         let level = highest_level(&self.trail, &analysis.clause[1..]);
         self.push_step(LitList::from(analysis.clause), analysis.hints)?;
         let key = self.use_last_step()?;
+        unite_all(self.alloc, &mut self.log, &self.trail, &analysis.facts)?;
         self.back_to(level);
         self.trail.imply(lit, key);
         Ok(())

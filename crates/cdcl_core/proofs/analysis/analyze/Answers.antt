@@ -19,4 +19,4 @@ returns-clause-analysis c =
       | then-loop-place-test+else-any_left w ↦ inr w.if-any_left.ensures
       | else-loop-place-test w ↦ inl (λ h. omega (arith, h, w.loop-place-test.false))
     ] in
-    analysis_done c.args.log.now c.args.trail.now.trail c.loop-place.place c.loop-place.marks a (record { clause = a.clause; hints = c.reverse.new.self; counts = a.counts }) c.requires.ready.trail done refl c.reverse.ensures.items c.loop-place.invariant.met
+    analysis_done c.args.log.now c.args.trail.now.trail c.loop-place.place c.loop-place.marks a (record a { hints = c.reverse.new.self }) c.requires.ready.trail done refl c.reverse.ensures.items c.loop-place.invariant.met

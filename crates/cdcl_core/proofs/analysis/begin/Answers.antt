@@ -1,4 +1,5 @@
 use Rattle.std.proofs.Common.{◌++◌, ◌∷◌, [], length, sym, ap, ◌∙◌, subst}
+use Rattle.prop_logic.specs.Literal.{cited}
 use Rattle.cdcl_core.specs.Analysis.{AreCounted}
 use Rattle.cdcl_core.proofs.MeetLaws.{counted_none}
 use Rattle.cdcl_core.proofs.analysis.begin.Goals as goal
@@ -6,12 +7,13 @@ use Rattle.cdcl_core.proofs.analysis.begin.Goals as goal
 pub returns-clause-begun : goal.returns-clause-begun
 returns-clause-begun c = λ d named.
     let t = c.args.trail.now.trail in
-    let f = c.in_ok-resolve.ensures in
-    let too = f.marked d named in
+    let f = c.in_ok-take.ensures in
+    let is = c.hint_of.ensures named.0 named.1 in
+    let too = f.marked d (ap (cited c.args.log.now.added c.args.log.now.steps) is ∙ named.2) in
     let o = c.no_analysis-analysis.result.counts in
     record {
       clause = ap (λ v. v.items) f.clause ∙ c.no_analysis-analysis.ensures.clause;
-      hints = λ h e. f.hints h e ∙ ap (λ xs. xs ++ h ∷ []) c.no_analysis-analysis.ensures.hints;
+      hints = λ h e. f.hints ∙ ap (λ xs. xs ++ c.hint_of.result ∷ []) c.no_analysis-analysis.ensures.hints ∙ ap (λ x. x ∷ []) (c.hint_of.ensures h e);
       marked = too.marked;
       counted = λ i. too.counted i (subst (λ m. AreCounted t i m o) (sym c.clear.ensures) (counted_none t i (length c.args.marks.now) o));
     }

@@ -1,14 +1,13 @@
-use Rattle.std.proofs.Common.{◌≡◌, ℕ, ◌<◌, ◌++◌, ◌∷◌, [], Some, List, false, sym, ap, ◌∙◌, subst}
+use Rattle.std.proofs.Common.{◌≡◌, ◌<◌, ◌++◌, ◌∷◌, [], Some, false, refl, sym, ap, ◌∙◌, subst}
 use Rattle.std.specs.Prelude.{slice_get}
-use Rattle.inst_logic.specs.declared.signed.Signed.{Signed}
 use Rattle.inst_logic.specs.Signed.{complement}
-use Rattle.prop_logic.specs.declared.literal.Hint.{Hint}
 use Rattle.prop_logic.proofs.ListLaws.{Contains-slice_get, All-slice_get}
+use Rattle.cdcl_trail.specs.declared.entry.Entry.{Entry}
 use Rattle.cdcl_trail.specs.Trail.{IsDecision}
-use Rattle.cdcl_core.specs.Log.{IsNamed}
-use Rattle.cdcl_core.specs.Analysis.{AreCounted, MarksToo, IsMet}
+use Rattle.cdcl_core.specs.declared.analysis.Analysis.{Analysis}
+use Rattle.cdcl_core.specs.Analysis.{AreCounted, Resolves, IsMet}
 use Rattle.cdcl_core.proofs.AnalysisLaws.{below_decided, below_unique}
-use Rattle.cdcl_core.proofs.MeetLaws.{entry_at, level_read, reason_read, marked_read, unmarked_read, on_ok_three, met_unmarked, met_kept, met_resolved}
+use Rattle.cdcl_core.proofs.MeetLaws.{entry_at, level_read, reason_read, marked_read, unmarked_read, on_ok, on_ok_three, met_unmarked, met_kept, met_resolved}
 use Rattle.cdcl_core.proofs.analysis.meet.Goals as goal
 
 pub returns-then-not-contains-clause-met : goal.returns-then-not-contains-clause-met
@@ -82,12 +81,8 @@ returns-else-remains-clause-met c =
     let level = level_read t e c.literal_at-lit.result c.level_of.result n v inside is c.level_of.ensures c.unwrap_or-level.ensures in
     let counted = c.count_met-in-Some.ensures i e marks f.1 mark level c.requires.met.counted in
     let reason = reason_read t e c.literal_at-lit.result c.reason.result v inside is c.reason.ensures ∙ c.in-Some.is in
-    let o = c.count_met-in-Some.new.counts in
+    let was : Analysis = record a { counts = c.count_met-in-Some.new.counts } in
+    let new = c.resolve.new.marks in
     let b = c.resolve.new.analysis in
-    on_ok_three c.resolve.result
-    (b.clause ≡ a.clause)
-    ((h : Hint) → slice_get log.names.items k ≡ Some h → b.hints.items ≡ a.hints.items ++ h ∷ [])
-    ((d : List (Signed ℕ)) → IsNamed log k d → MarksToo t d marks c.resolve.new.marks o b.counts)
-    (IsMet log t i c.resolve.new.marks b)
-    (λ same hints marked. met_resolved log t i k e marks c.resolve.new.marks a b o c.requires.ready f.1 reason mark counted (ap (λ x. x.items) same) hints marked c.requires.met)
-    c.resolve.ensures.clause c.resolve.ensures.hints c.resolve.ensures.marked
+    on_ok c.resolve.result ((d : Entry) → slice_get t.entries i ≡ Some d → d.reason ≡ Some k → Resolves log t i d.lit marks new was b) (IsMet log t i new b)
+    (λ resolved. met_resolved log t i e marks new a was b c.requires.ready f.1 mark counted refl refl (resolved e f.1 reason) c.requires.met) c.resolve.ensures.resolved

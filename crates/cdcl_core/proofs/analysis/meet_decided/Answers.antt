@@ -1,12 +1,11 @@
-use Rattle.std.proofs.Common.{◌≡◌, ℕ, ◌+◌, ◌<◌, ◌++◌, ◌∷◌, [], Some, List, false, refl, ◌∙◌}
+use Rattle.std.proofs.Common.{◌≡◌, ℕ, ◌+◌, ◌<◌, Some, false, refl, ◌∙◌}
 use Rattle.std.specs.Prelude.{slice_get}
 use Rattle.inst_logic.specs.declared.signed.Signed.{Signed}
-use Rattle.prop_logic.specs.declared.literal.Hint.{Hint}
 use Rattle.prop_logic.proofs.ListLaws.{Contains-slice_get}
+use Rattle.cdcl_trail.specs.declared.entry.Entry.{Entry}
 use Rattle.cdcl_core.specs.declared.analysis.Analysis.{Analysis}
-use Rattle.cdcl_core.specs.Log.{IsNamed}
-use Rattle.cdcl_core.specs.Analysis.{MarksToo, IsMetDecided}
-use Rattle.cdcl_core.proofs.MeetLaws.{entry_at, level_read, reason_read, marked_read, unmarked_read, on_ok_two, met_decided_unmarked, met_decided_kept, met_decided_resolved}
+use Rattle.cdcl_core.specs.Analysis.{Resolves, IsMetDecided}
+use Rattle.cdcl_core.proofs.MeetLaws.{entry_at, level_read, reason_read, marked_read, unmarked_read, on_ok, met_decided_unmarked, met_decided_kept, met_decided_resolved}
 use Rattle.cdcl_core.proofs.analysis.meet_decided.Goals as goal
 
 pub returns-then-not-contains-clause-met : goal.returns-then-not-contains-clause-met
@@ -26,7 +25,7 @@ returns-in-None-clause-met c = λ start l low m.
     let e = f.0 in
     let inside = Contains-slice_get t.entries c.args.place e f.1 in
     let is = c.literal_at-lit.ensures.literal e f.1 in
-    let b : Analysis = record { clause = a.clause; hints = a.hints; counts = c.count_met.new.counts } in
+    let b : Analysis = record a { counts = c.count_met.new.counts } in
     let mark = marked_read c.args.marks.now e c.literal_at-lit.result c.contains.result is c.contains.ensures c.if-not-contains.false in
     let level = level_read t e c.literal_at-lit.result c.level_of.result c.unwrap_or-level.result v inside is c.level_of.ensures c.unwrap_or-level.ensures in
     let counted = c.count_met.ensures c.args.place e c.args.marks.now f.1 mark level m.counted in
@@ -41,7 +40,8 @@ returns-in-Some-clause-met c =
     let a = c.args.analysis.now in
     let b = c.resolve.new.analysis in
     let n = c.in-Some.number in
-    let o = c.count_met.new.counts in
+    let was : Analysis = record a { counts = c.count_met.new.counts } in
+    let new = c.resolve.new.marks in
     let f = entry_at t.entries c.args.place (record { positive = false; atom = 0 }) c.requires.place in
     let e = f.0 in
     let inside = Contains-slice_get t.entries c.args.place e f.1 in
@@ -49,11 +49,8 @@ returns-in-Some-clause-met c =
     let mark = marked_read c.args.marks.now e c.literal_at-lit.result c.contains.result is c.contains.ensures c.if-not-contains.false in
     let level = level_read t e c.literal_at-lit.result c.level_of.result c.unwrap_or-level.result v inside is c.level_of.ensures c.unwrap_or-level.ensures in
     let reason = reason_read t e c.literal_at-lit.result c.reason.result v inside is c.reason.ensures ∙ c.in-Some.is in
-    on_ok_two c.resolve.result
-    ((h : Hint) → slice_get log.names.items n ≡ Some h → b.hints.items ≡ a.hints.items ++ h ∷ [])
-    ((d : List (Signed ℕ)) → IsNamed log n d → MarksToo t d c.args.marks.now c.resolve.new.marks o b.counts)
-    ((start : ℕ) (l : Signed ℕ) → c.args.place < start → IsMetDecided log t start (c.args.place + 1) l c.args.marks.now a → IsMetDecided log t start c.args.place l c.resolve.new.marks b)
-    (λ hints marked start l low m.
-    met_decided_resolved log t start c.args.place n l e c.args.marks.now c.resolve.new.marks a b o c.requires.ready low f.1 reason
-    (c.count_met.ensures c.args.place e c.args.marks.now f.1 mark level m.counted) hints marked m)
-    c.resolve.ensures.hints c.resolve.ensures.marked
+    on_ok c.resolve.result ((d : Entry) → slice_get t.entries c.args.place ≡ Some d → d.reason ≡ Some n → Resolves log t c.args.place d.lit c.args.marks.now new was b)
+    ((start : ℕ) (l : Signed ℕ) → c.args.place < start → IsMetDecided log t start (c.args.place + 1) l c.args.marks.now a → IsMetDecided log t start c.args.place l new b)
+    (λ resolved start l low m.
+    met_decided_resolved log t start c.args.place l e c.args.marks.now new a was b c.requires.ready low f.1 (c.count_met.ensures c.args.place e c.args.marks.now f.1 mark level m.counted) refl (resolved e f.1 reason) m)
+    c.resolve.ensures.resolved

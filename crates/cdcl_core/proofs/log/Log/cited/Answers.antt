@@ -1,4 +1,4 @@
-use Rattle.std.proofs.Common.{◌-◌, get_or, arith, inl, inr, sym, ap, ◌∙◌}
+use Rattle.std.proofs.Common.{◌-◌, Some, get_or, arith, inl, inr, sym, ap, ◌∙◌}
 use Rattle.std.proofs.lemmas.Option.{same_Some}
 use Rattle.prop_logic.proofs.AnalysisLaws.{cited_step, cited_no_step}
 use Rattle.cdcl_core.proofs.LogLaws.{cited_no_added}
@@ -27,3 +27,11 @@ returns-clause-clause c = λ d e.
         | else-n-gt0-2-via-else-n-gt0-2 v ↦ cited_no_step added steps c.args.hint w.in-Step.n d w.in-Step.is (inl v.if-n-gt0-2.false) e
       ]
     ])
+
+pub returns-then-n-len-2-clause-some : goal.returns-then-n-len-2-clause-some
+returns-then-n-len-2-clause-some c = λ some.
+    let steps = c.args.self.now.steps in
+    let s = c.index-as_slice-n-then-n-len-2.result in
+    let at = c.index-as_slice-n-then-n-len-2.is ∙ ap (λ xs. get_or xs (c.in-Step.n - 1) s) c.as_slice-then-n-len-2.ensures in
+    let named = cited_step c.args.self.now.added steps c.args.hint c.in-Step.n s c.in-Step.is c.if-n-gt0-2.true (omega (arith, c.len-then-n-gt0-2.ensures)) at in
+    named ∙ ap Some (sym (c.as_slice-then-n-len-2-2.ensures ∙ ap (λ x. x.clause) (sym c.index-as_slice-n-then-n-len-2.is)))

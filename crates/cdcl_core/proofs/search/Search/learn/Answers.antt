@@ -8,6 +8,7 @@ use Rattle.cdcl_core.specs.Log.{IsLog}
 use Rattle.cdcl_core.specs.Search.{AreGiven}
 use Rattle.cdcl_core.proofs.StepLaws.{learned_below, rest_below, rest_is, learned_unit_of, learned_search}
 use Rattle.cdcl_core.proofs.BackLaws.{advances_from}
+use Rattle.cdcl_core.proofs.UnitLaws.{more_kept}
 use Rattle.cdcl_core.proofs.PhaseLaws.{phases_push}
 use Rattle.cdcl_core.proofs.search.Search.learn.Goals as goal
 
@@ -22,6 +23,20 @@ pub push_step-requires-clause-atoms : goal.push_step-requires-clause-atoms
 push_step-requires-clause-atoms c =
     let t = c.args.self.now.trail.trail in
     subst (AtomsBelow t.atoms) (sym c.from.ensures) (learned_below t c.args.analysis.clause.items c.requires.trail c.requires.analysis.learned)
+
+pub unite_all-requires : goal.unite_all-requires
+unite_all-requires c =
+    let s = c.use_last_step.new.self in
+    let last : Step = record { clause = c.from.result; hints = c.args.analysis.hints.items } in
+    let k = c.in_ok-key.ensures.kept c.args.self.now.log.steps last c.in_ok-push_step.ensures.steps in
+    (s.clauses, k.0.log, k.0.given)
+
+pub back_to-requires-clause-kept : goal.back_to-requires-clause-kept
+back_to-requires-clause-kept c =
+    let s = c.use_last_step.new.self in
+    let last : Step = record { clause = c.from.result; hints = c.args.analysis.hints.items } in
+    let k = c.in_ok-key.ensures.kept c.args.self.now.log.steps last c.in_ok-push_step.ensures.steps in
+    more_kept s c.unite_all.new.log c.in_ok-unite_all.ensures.more k.0
 
 pub back_to-requires-clause-level : goal.back_to-requires-clause-level
 back_to-requires-clause-level c =
@@ -70,5 +85,5 @@ returns-clause-learned c = λ first assumptions from s.
     (subst (λ n. IsLog n back.clauses back.log) (sym atoms) backed.kept.log) given
     (ap (λ x. clause_number x key) backed.clauses ∙ k.1 ∙ ap Some c.from.ensures)
     (backed.kept.marks ∙ sym atoms) (phases_push back.trail.trail new.trail.trail back.phases (record { lit = l; level = back.trail.trail.level; reason = Some key }) atoms (ap (λ x. x.entries) c.imply.ensures.trail) backed.kept.phases) (c.imply.ensures.attached back.clauses backed.kept.attached)
-    (ap (λ x. x.added) backed.log ∙ used.added ∙ pushed.added) (backed.assumed ∙ ap (λ n. min n level) (used.assumed ∙ pushed.assumed)) backed.checked s in
+    (ap (λ x. x.added) backed.log ∙ c.in_ok-unite_all.ensures.added ∙ used.added ∙ pushed.added) (backed.assumed ∙ ap (λ n. min n level) (used.assumed ∙ pushed.assumed)) backed.checked s in
     (went.0, advances_from first old new l level key from shape u.within went.1.same.added)
