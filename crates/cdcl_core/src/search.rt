@@ -24,6 +24,7 @@ use crate::log::{Log, put_name};
 use crate::marks::Marks;
 use crate::pace::Pace;
 use crate::phases::Phases;
+use crate::reasons::mark_reasons;
 use cdcl_trail::{Clauses, Trail};
 use inst_logic::Memory;
 use prop_logic::{Answer, Derivation, Hint, HintList, Lit, LitList, Step, complement, complements};
@@ -473,6 +474,7 @@ impl Search {
             let core = LitList::new(self.alloc);
             return Ok(Some(self.refuted(core, analysis.hints)?));
         }
+        mark_reasons(&self.log, &self.trail, &mut self.marks, &analysis.clause);
         self.learn(analysis)?;
         Ok(None)
     }
