@@ -28,9 +28,9 @@ pub const NUMBERS: &str = "\
 #cnf(c,axiom,p(a)). cnf(d,axiom,~p(a)).@ 0 0 0 1\
 ";
 
-// The literals of the first clause's abstraction, by the numbers of their atoms, where the clause becomes the second one. Variables
-// become one constant, and repeats are dropped from the clause, not from the literals. A literal and its complement stay two, over
-// one atom.
+// The literals of the first clause's abstraction, by the numbers of their atoms, where the clause becomes the second one.
+// Variables become one constant, and repeats are dropped from the clause, not from the literals. A literal and its complement stay
+// two, over one atom.
 pub const ABSTRACTIONS: &str = "\
 #cnf(c,axiom,p(X)|~q(f(X,a))|p(Y)|p(a)). cnf(w,axiom,p(bot_0)|~q(f(bot_0,a))|p(a)).@ 0 ~1 0 2\
 #cnf(c,axiom,p(f(X,Y))|~p(f(Y,Y))|q|~q). cnf(w,axiom,p(f(bot_0,bot_0))|~p(f(bot_0,bot_0))|q|~q).@ 0 ~0 1 ~1\
@@ -95,7 +95,7 @@ fn push_numbered(
     abstraction: &mut Abstraction,
     a: TermId,
     b: TermId,
-) -> Result<(), Memory> {
+) -> Result<(), Fail> {
     let told = numbers_of(abstraction, a, b)?;
     let found = abstraction.atom_at(told.0) == Some(a) && abstraction.atom_at(told.1) == Some(b);
     if found && abstraction.atom_at(told.3).is_none() {
@@ -110,7 +110,7 @@ fn push_numbered(
 fn push_atoms(alloc: Global, answer: &mut Vec<u8>, a: TermId, b: TermId) -> Result<(), Fail> {
     let bot = constant_of(alloc, "cnf(c,axiom,p).")?;
     let mut abstraction = Abstraction::new(alloc, bot);
-    Ok(push_numbered(answer, &mut abstraction, a, b)?)
+    push_numbered(answer, &mut abstraction, a, b)
 }
 
 /// Puts the numbers of the last atoms of the first two clauses at the end of the answer.
@@ -141,7 +141,7 @@ fn push_abstracted(
     bank: &mut Bank,
     abstraction: &mut Abstraction,
     clauses: &IdClauseList,
-) -> Result<(), Memory>
+) -> Result<(), Fail>
     requires clauses { All (IsClauseOf bank.old) clauses.now }
     requires notes { AreNotesIn bank.old abstraction.old.bot abstraction.old.notes }
 {
@@ -167,5 +167,5 @@ pub fn push_abstraction(
 {
     let bot = constant_of(alloc, "cnf(c,axiom,p).")?;
     let mut abstraction = Abstraction::new(alloc, bot);
-    Ok(push_abstracted(answer, bank, &mut abstraction, clauses)?)
+    push_abstracted(answer, bank, &mut abstraction, clauses)
 }

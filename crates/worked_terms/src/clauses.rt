@@ -17,8 +17,8 @@ pub const CLAUSES: &str = "\
 #cnf(c,axiom,p(a)|q).@ground 3\
 ";
 
-// Whether the first clause subsumes the second one. Literals may share a candidate, a variable has one term, and the first candidate
-// may be a dead end.
+// Whether the first clause subsumes the second one. Literals may share a candidate, a variable has one term, and the first
+// candidate may be a dead end.
 pub const SUBSUMPTION: &str = "\
 #cnf(f,axiom,p(X)|p(Y)). cnf(c,axiom,p(a)|q).@yes\
 #cnf(f,axiom,p(X)|q(X)). cnf(c,axiom,p(a)|q(b)).@no\

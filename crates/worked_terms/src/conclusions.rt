@@ -15,8 +15,8 @@ use term_bank::{Bank, IdClause, IdClauseList, TermId, TermIdList};
 use tptp_write::{push_bytes, push_number};
 use unify_core::{Bindings, Side};
 
-// The size of the canonical form of the first clause's instance by the arguments of the last atom of the second, where it is the third
-// clause. Repeats merge; the second instance is p(Y)|q(X), and Y becomes the first variable.
+// The size of the canonical form of the first clause's instance by the arguments of the last atom of the second, where it is the
+// third clause. Repeats merge; the second instance is p(Y)|q(X), and Y becomes the first variable.
 pub const INSTANCES: &str = "\
 #cnf(c,axiom,p(X)|p(Y)). cnf(t,axiom,t(a,a)). cnf(w,axiom,p(a)).@2\
 #cnf(c,axiom,p(X)|q(Y)|p(Z)). cnf(t,axiom,s(X)|t(Y,X,Y)). cnf(w,axiom,p(X)|q(Y)).@4\

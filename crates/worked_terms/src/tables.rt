@@ -50,7 +50,7 @@ fn push_found(
     match question {
         Question::Clause => Ok(clauses::push_facts(answer, bank, clauses)?),
         Question::Subsumption => Ok(push_reply(answer, clauses::subsumed(alloc, bank, clauses)?)?),
-        Question::Unifier => unification::push_unifier(alloc, answer, bank, clauses),
+        Question::Unifier => Ok(unification::push_unifier(alloc, answer, bank, clauses)?),
         Question::Match => Ok(push_reply(answer, unification::matched(alloc, bank, clauses)?)?),
         Question::Binding => Ok(push_reply(answer, unification::bound(alloc, bank, clauses)?)?),
         Question::Instance => conclusions::push_instance(alloc, answer, bank, clauses),
@@ -60,7 +60,7 @@ fn push_found(
         )?),
         Question::Numbers => abstractions::push_numbers(alloc, answer, bank, clauses),
         Question::Abstraction => abstractions::push_abstraction(alloc, answer, bank, clauses),
-        Question::Constant | Question::Term | Question::Sharing => Ok(()),
+        _ => Ok(()),
     }
 }
 
@@ -75,6 +75,21 @@ fn push_in(
     push_found(alloc, question, answer, bank, &clauses)
 }
 
+fn push_by(
+    alloc: Global,
+    question: Question,
+    answer: &mut Vec<u8>,
+    bank: &mut Bank,
+    text: &str,
+) -> Result<(), Fail> {
+    match question {
+        Question::Constant => abstractions::push_constant(alloc, answer, text),
+        Question::Term => terms::push_term(alloc, answer, bank, text),
+        Question::Sharing => terms::push_sharing(alloc, answer, bank, text),
+        _ => push_in(alloc, question, answer, bank, text),
+    }
+}
+
 // Puts what is answered of the text at the end.
 fn push_answer(
     alloc: Global,
@@ -82,15 +97,8 @@ fn push_answer(
     answer: &mut Vec<u8>,
     text: &str,
 ) -> Result<(), Fail> {
-    if let Question::Constant = question {
-        return abstractions::push_constant(alloc, answer, text);
-    }
     let mut bank = Bank::new(alloc);
-    match question {
-        Question::Term => terms::push_term(alloc, answer, &mut bank, text),
-        Question::Sharing => terms::push_sharing(alloc, answer, &mut bank, text),
-        _ => push_in(alloc, question, answer, &mut bank, text),
-    }
+    push_by(alloc, question, answer, &mut bank, text)
 }
 
 fn is_answered_by(

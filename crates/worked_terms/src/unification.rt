@@ -11,8 +11,8 @@ use term_bank::{Bank, IdClause, IdClauseList, TermId};
 use tptp_write::{push_bytes, push_number};
 use unify_core::{Bindings, Bound, Side};
 
-// How the last atoms of the two clauses unify: not at all, or with a unifier that is proper for the left and for the right, or not,
-// and under which the clauses have these sizes.
+// How the last atoms of the two clauses unify: not at all, or with a unifier that is proper for the left and for the right, or
+// not, and under which the clauses have these sizes.
 pub const UNIFIERS: &str = "\
 #cnf(a,axiom,p(X,f(X))). cnf(b,axiom,p(X,X)).@no unifier\
 #cnf(a,axiom,p(X,a)). cnf(b,axiom,p(b,X)).@proper yes yes, sizes 3 3\
@@ -55,6 +55,23 @@ fn push_size(answer: &mut Vec<u8>, size: u64) -> Result<(), Memory> {
     push_number(answer, size as usize)
 }
 
+fn push_sizes(
+    answer: &mut Vec<u8>,
+    bank: &Bank,
+    bindings: &mut Bindings,
+    c: &IdClause,
+    d: &IdClause,
+) -> Result<(), Memory>
+    requires left { IsClauseOf bank.now c.now }
+    requires right { IsClauseOf bank.now d.now }
+    requires bindings { AreBindings bank.now bindings.old.entries }
+{
+    let left = bindings.size_under(bank, Side::Left, c)?;
+    let right = bindings.size_under(bank, Side::Right, d)?;
+    push_size(answer, left)?;
+    push_size(answer, right)
+}
+
 // Puts how the bindings are proper and what sizes the two clauses have under them at the end.
 fn push_facts(
     answer: &mut Vec<u8>,
@@ -71,8 +88,7 @@ fn push_facts(
     push_proper(answer, bindings.proper(bank, Side::Left))?;
     push_proper(answer, bindings.proper(bank, Side::Right))?;
     push_bytes(answer, b", sizes")?;
-    push_size(answer, bindings.size_under(bank, Side::Left, c)?)?;
-    push_size(answer, bindings.size_under(bank, Side::Right, d)?)
+    push_sizes(answer, bank, bindings, c, d)
 }
 
 fn push_bound(
@@ -111,11 +127,11 @@ pub fn push_unifier(
     answer: &mut Vec<u8>,
     bank: &Bank,
     clauses: &IdClauseList,
-) -> Result<(), Fail>
+) -> Result<(), Memory>
     requires { All (IsClauseOf bank.now) clauses.now }
 {
     let mut bindings = Bindings::new(alloc);
-    Ok(push_unifier_by(answer, bank, &mut bindings, clauses)?)
+    push_unifier_by(answer, bank, &mut bindings, clauses)
 }
 
 // Puts the arguments from the third on of the left atom at the end.
