@@ -12,6 +12,8 @@ mod clauses;
 #[cfg(test)]
 mod conclusions;
 #[cfg(test)]
+mod tables;
+#[cfg(test)]
 mod terms;
 #[cfg(test)]
 mod unification;
