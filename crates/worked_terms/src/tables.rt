@@ -4,7 +4,7 @@ ghost use Rattle.std.specs.Prelude.{All};
 ghost use Rattle.term_bank.specs.Forest.{IsClauseOf};
 
 use crate::building::clauses_in;
-use crate::{abstractions, clauses, conclusions, terms, unification};
+use crate::{abstractions, clauses, conclusions, indexes, terms, unification};
 use inst_logic::Memory;
 use std::alloc::Global;
 use std::test::Fail;
@@ -174,5 +174,7 @@ fn texts_have_these_answers(rt: HostRuntime) -> Result<(), Fail> {
         ),
         ([None; 12], true, true)
     );
+    assert_eq!(rt; indexes::are_answered(alloc)?, [true; 6]);
+    assert_eq!(rt; indexes::begin(alloc)?, [true, false]);
     Ok(())
 }

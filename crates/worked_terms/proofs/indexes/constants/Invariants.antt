@@ -1,5 +1,5 @@
 use Rattle.term_bank.specs.Forest.{AreIds, Extends}
-use Rattle.worked_index.proofs.tests.constants.Given as goal
+use Rattle.worked_terms.proofs.indexes.constants.Given as goal
 
 abbrev pub invariant-loop-n : goal.invariant-loop-n
 invariant-loop-n l = record {

@@ -2,10 +2,6 @@
 ghost use Rattle.std.specs.Prelude.{◌≡◌, ◌<◌, [], length, false, IfOk, OnOk};
 ghost use Rattle.term_bank.specs.Forest.{AreIds, Extends};
 
-use crate::building::{
-    Part, Row, add_part, applied, built, removed, rows_hold, store_all, terms_of,
-};
-use crate::refusing::Refusing;
 use inst_logic::{Kind, Memory};
 use std::alloc::Global;
 use std::test::Fail;
@@ -13,6 +9,10 @@ use term_bank::{Bank, TermId};
 use term_index::{PartnerIndex, Rows, View, candidates};
 use term_tree::Tree;
 use unify_core::Bindings;
+use worked_index::Refusing;
+use worked_index::building::{
+    Part, Row, add_part, applied, built, removed, rows_hold, store_all, terms_of,
+};
 
 // 6 to 9 are p(X0,a), p(b,X0), p(f(X0),b) and p(X0,X0), and 10 to 12 are p(b,a), p(X0,X1) and p(a,b).
 const PARTS: [Part<'static>; 12] = [
@@ -383,41 +383,20 @@ fn refusing_holds(alloc: Global) -> Result<bool, Memory> {
     example_holds(alloc, &mut index)
 }
 
-/// The list, the tree, and the refusing index while it does not refuse.
-#[test]
-fn example_is_answered(rt: HostRuntime) -> Result<(), Fail> {
-    let alloc = rt.alloc();
-    assert_eq!(rt;
-        [
-            list_holds(alloc)?,
-            tree_holds(alloc)?,
-            refusing_holds(alloc)?
-        ],
-        [true; 3]
-    );
-    Ok(())
+/// Whether the list, the tree, and the refusing index while it does not refuse, answer the example, and the tree alone the three
+/// trials.
+pub fn are_answered(alloc: Global) -> Result<[bool; 6], Fail> {
+    Ok([
+        list_holds(alloc)?,
+        tree_holds(alloc)?,
+        refusing_holds(alloc)?,
+        trial_with_tree(alloc, Trial::Wide)?,
+        trial_with_tree(alloc, Trial::OneOfMany)?,
+        trial_with_tree(alloc, Trial::Shared)?,
+    ])
 }
 
-#[test]
-fn tree_alone(rt: HostRuntime) -> Result<(), Fail> {
-    let alloc = rt.alloc();
-    assert_eq!(rt;
-        [
-            trial_with_tree(alloc, Trial::Wide)?,
-            trial_with_tree(alloc, Trial::OneOfMany)?,
-            trial_with_tree(alloc, Trial::Shared)?
-        ],
-        [true; 3]
-    );
-    Ok(())
-}
-
-#[test]
-fn refusing(rt: HostRuntime) -> Result<(), Fail> {
-    let alloc = rt.alloc();
-    assert_eq!(rt;
-        [begins_with(alloc, false)?, begins_with(alloc, true)?],
-        [true, false]
-    );
-    Ok(())
+/// Whether a walk over an index begins that does not refuse, and over one that does.
+pub fn begin(alloc: Global) -> Result<[bool; 2], Memory> {
+    Ok([begins_with(alloc, false)?, begins_with(alloc, true)?])
 }

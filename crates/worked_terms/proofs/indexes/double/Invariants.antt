@@ -1,5 +1,5 @@
 use Rattle.term_bank.specs.Forest.{AreIds, Extends}
-use Rattle.worked_index.proofs.tests.double.Given as goal
+use Rattle.worked_terms.proofs.indexes.double.Given as goal
 
 abbrev pub invariant-loop : goal.invariant-loop
 invariant-loop l = record {
