@@ -80,12 +80,13 @@ fn mark_all(trail: &Trail, marks: &mut Marks, counts: &mut Counts, clause: &[Lit
     }
 }
 
-// Whether all atoms of the clause are marked.
-fn are_marked(marks: &Marks, clause: &[Lit]) -> bool
-    requires { AtomsBelow (length marks.now) clause.now }
+// Whether all atoms of the clause are marked or of level 0.
+fn are_marked(trail: &Trail, marks: &Marks, clause: &[Lit]) -> bool
+    requires size { length marks.now ≡ trail.now.trail.atoms }
+    requires atoms { AtomsBelow (length marks.now) clause.now }
 {
     for lit in clause {
-        if !marks.contains(lit.atom) {
+        if !marks.contains(lit.atom) && trail.level_of(lit.atom) != Some(0) {
             return false;
         }
     }
@@ -93,8 +94,8 @@ fn are_marked(marks: &Marks, clause: &[Lit]) -> bool
 }
 
 // Whether a literal that the clause of this number gave stays. The first one that stays is the last of the present level that
-// all paths to the conflict go through. After it those stay that are above level 0 and whose clause has an atom that isn't
-// marked: the others follow from what is marked (Sörensson and Biere, Minimizing learned clauses, 2009).
+// all paths to the conflict go through. After it those stay that are above level 0 and whose clause has an atom above level 0
+// that isn't marked: the others follow from what is marked (Sörensson and Biere, Minimizing learned clauses, 2009).
 fn stays(
     log: &Log,
     trail: &Trail,
@@ -113,7 +114,7 @@ fn stays(
     if analysis.clause.is_empty() {
         return level == trail.level() && analysis.counts.present <= 1;
     }
-    !are_marked(marks, log.cited(log.hint_of(number)))
+    !are_marked(trail, marks, log.cited(log.hint_of(number)))
 }
 
 // Counts a literal as met.

@@ -12,6 +12,7 @@ mod marks;
 mod order;
 mod pace;
 mod phases;
+mod reasons;
 mod search;
 mod units;
 mod uses;

@@ -10,6 +10,9 @@ use std::alloc::Global;
 
 const HIGHEST: u64 = 1 << 60;
 
+// From one conflict to the next, what a raise counts grows by one part of so many.
+const DECAY: u64 = 30;
+
 // A heap of atoms by activity, with the place of each atom in it.
 #[derive(Drop)]
 pub(crate) struct Order {
@@ -185,6 +188,6 @@ impl Order {
 
     // A conflict is over: what is raised from now on counts more.
     pub(crate) fn decay(&mut self) {
-        self.step = self.step.saturating_add(self.step / 19);
+        self.step = self.step.saturating_add(self.step / DECAY);
     }
 }

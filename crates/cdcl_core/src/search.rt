@@ -24,6 +24,7 @@ use crate::log::{Log, put_name};
 use crate::marks::Marks;
 use crate::pace::Pace;
 use crate::phases::Phases;
+use crate::reasons::mark_reasons;
 use crate::units::unite_all;
 use cdcl_trail::{Clauses, Trail};
 use inst_logic::Memory;
@@ -476,6 +477,7 @@ impl Search {
             let core = LitList::new(self.alloc);
             return Ok(Some(self.refuted(core, analysis.hints)?));
         }
+        mark_reasons(&self.log, &self.trail, &mut self.marks, &analysis.clause);
         self.learn(analysis)?;
         Ok(None)
     }

@@ -5,7 +5,7 @@ use Rattle.inst_logic.specs.Derivations.{at_number}
 use Rattle.inst_calculus.specs.Entries.{Origin, input, inst, Entry}
 use Rattle.inst_calculus.proofs.CanonicalForms.{canonical_of_canonical}
 use Rattle.cert_format.specs.Certificate as format
-use Rattle.cert_format.specs.Validity.{Gives, IsRightAxiom, IsRightMember, RefutationPasses, SaturationPasses, IsFirstComplaint, Precedes, rank}
+use Rattle.cert_format.specs.Validity.{Gives, IsRightAxiom, IsRightMember, SaturationPasses, IsFirstComplaint, Precedes, rank}
 use Rattle.cert_format.specs.declared.complaint.Complaint.{Complaint}
 use Rattle.cert_format.specs.declared.complaint.Complaint.TheVariants.{Axiom, Member as Derived, Bot, Ground, Step as Shown, NotEmpty, Place, Input, Pair}
 use Rattle.saturation_cert.specs.declared.certificate.Base.{Base}
@@ -54,20 +54,6 @@ none_wrong P (Some n) h other = absurd (other n refl)
 pub some_wrong : (P : ℕ → Type 0) (r : Option ℕ) (n : ℕ) → IsFirstWrongOf P r → r ≡ Some n → IsFirstWrong P n
 some_wrong P r n h is = subst (IsFirstWrongOf P) is h
 
-pub axiom_first : (b : format.Base) (n : ℕ) → IsFirstWrong (IsRightAxiom b) n → IsFirstComplaint (BasePasses b) (Axiom n)
-axiom_first b n h = record { applies = h.applies; first = earlier }
-  where
-    earlier : (other : Complaint) → Precedes other (Axiom n) → BasePasses b other
-    earlier (Axiom m) p = h.before m (smaller 0 m n p)
-    earlier (Derived m) p = let q = at_most (Derived m) (Axiom n) p in absurd (omega arith)
-    earlier Bot p = tt
-    earlier (Ground m) p = tt
-    earlier (Shown m) p = tt
-    earlier NotEmpty p = tt
-    earlier (Place m) p = tt
-    earlier (Input m) p = tt
-    earlier (Pair l m) p = tt
-
 pub member_first : (b : format.Base) → ((n : ℕ) → IsRightAxiom b n) → (n : ℕ) → IsFirstWrong (IsRightMember b) n → IsFirstComplaint (BasePasses b) (Derived n)
 member_first b axioms n h = record { applies = h.applies; first = earlier }
   where
@@ -92,32 +78,6 @@ valid_base b axioms members NotEmpty = tt
 valid_base b axioms members (Place n) = tt
 valid_base b axioms members (Input k) = tt
 valid_base b axioms members (Pair l m) = tt
-
--- the first complaint about the axioms and members is the first one about a refutation
-pub first_of_refutation : (c : format.FirstRefutation) (complaint : Complaint) → IsFirstComplaint (BasePasses c.base) complaint → IsFirstComplaint (RefutationPasses c) complaint
-first_of_refutation c complaint h = by complaint h
-  where
-    earlier : (k : Complaint) → rank k < 2 → ((other : Complaint) → Precedes other k → BasePasses c.base other) → (other : Complaint) → Precedes other k → RefutationPasses c other
-    earlier k low f (Axiom m) p = f (Axiom m) p
-    earlier k low f (Derived m) p = f (Derived m) p
-    earlier k low f Bot p = let q = at_most Bot k p in absurd (omega arith)
-    earlier k low f (Ground m) p = let q = at_most (Ground m) k p in absurd (omega arith)
-    earlier k low f (Shown m) p = let q = at_most (Shown m) k p in absurd (omega arith)
-    earlier k low f NotEmpty p = let q = at_most NotEmpty k p in absurd (omega arith)
-    earlier k low f (Place m) p = tt
-    earlier k low f (Input m) p = tt
-    earlier k low f (Pair l m) p = tt
-
-    by : (k : Complaint) → IsFirstComplaint (BasePasses c.base) k → IsFirstComplaint (RefutationPasses c) k
-    by (Axiom n) g = record { applies = g.applies; first = earlier (Axiom n) (omega arith) g.first }
-    by (Derived n) g = record { applies = g.applies; first = earlier (Derived n) (omega arith) g.first }
-    by Bot g = absurd (g.applies tt)
-    by (Ground n) g = absurd (g.applies tt)
-    by (Shown n) g = absurd (g.applies tt)
-    by NotEmpty g = absurd (g.applies tt)
-    by (Place n) g = absurd (g.applies tt)
-    by (Input k) g = absurd (g.applies tt)
-    by (Pair l m) g = absurd (g.applies tt)
 
 -- and about a saturation
 pub first_of_saturation : (c : format.Saturation) (complaint : Complaint) → IsFirstComplaint (BasePasses c.base) complaint → IsFirstComplaint (SaturationPasses c) complaint

@@ -134,12 +134,6 @@ module _ (c : Saturation) (es : List Binding) where
   pub side_proper : (x : Side) (n : ℕ) → ProperOn c.base.bank es x → (r : Bool) → IsSideCovered c es x n r → IsSideClosed c es x n r
   side_proper x n proper r h s resolved m sel a b g = ((λ t p. (h s resolved m sel).0 t), (λ k. (h s resolved m sel).1 (k (proper a b s resolved g))))
 
-  pub nowhere_proper : (i j : ℕ) (r : Bool) → r ≡ false → IsProperSomewhere c.base.bank es r → IsPairClosed c es i j false
-  nowhere_proper i j r e h s resolved m n p q g = (
-    (λ t. absurd (let k : false ≡ true = t in cc)),
-    (λ k. absurd (let t : r ≡ true = (h s resolved m.selected.atom n.selected.atom g).1 k.proper in let u : false ≡ true = sym e ∙ t in cc)),
-  )
-
   pub open_left : (i j : ℕ) (r : Bool) → r ≡ false → IsSideClosed c es Left i r → IsPairClosed c es i j false
   open_left i j r e h s resolved m n p q g = (
     (λ t. absurd (let k : false ≡ true = t in cc)),

@@ -9,8 +9,8 @@ use Rattle.inst_logic.specs.declared.symbol.Sym.{Sym}
 use Rattle.inst_logic.specs.Tree.{Tree, app, none}
 use Rattle.inst_logic.specs.Equal.{literal_eq}
 use Rattle.inst_logic.specs.Lists.{distinct}
-use Rattle.inst_logic.specs.Substitution.{clause_vars}
-use Rattle.inst_logic.specs.Clauses.{TreeClause, IsCanonical, instance, order_of}
+use Rattle.inst_logic.specs.Substitution.{Substitution, clause_vars}
+use Rattle.inst_logic.specs.Clauses.{TreeClause, IsCanonical, instance, numbered, order_of}
 use Rattle.inst_logic.proofs.ShownLaws.{All-from_slice_get}
 use Rattle.inst_calculus.specs.Abstraction.{abstraction}
 use Rattle.inst_calculus.specs.Entries.{Entry, entry_clauses}
@@ -34,6 +34,11 @@ pub same_instance : (f : Forest) (terms : List ℕ) (term : ℕ) (c : TreeClause
 same_instance f terms term c canonical enough same =
     ap (distinct literal_eq) (literals_agree (by_terms f terms) (λ _. tree_at f term) c
     (λ v i. ap (tree_at f) (same v 0 (let l = canonical_variable_below c v (subst (λ (d : TreeClause). v ∈ clause_vars d) (sym canonical) i) in omega (arith, l, enough)))))
+
+-- a canonical clause without variables is its one instance
+pub ground_instance : (s : Substitution) (c : TreeClause) → IsCanonical c → clause_vars c ≡ [] → instance s c ≡ c
+ground_instance s c canonical empty =
+    ap (distinct literal_eq) (literals_agree s (numbered (order_of c)) c (λ v i. absurd (subst (λ (vs : List ℕ). v ∈ vs) empty i))) ∙ canonical
 
 pub at_grown : (f g : Forest) → Extends f g → (id : ℕ) (t : Tree) → IsAt f id t → IsAt g id t
 at_grown f g grown id t h = (omega (arith, h.0, grown.trees.0), grown.trees.1 id h.0 ∙ h.1)

@@ -52,7 +52,7 @@ pub number_known : (f : Forest) (t : Tree) (n : ℕ) → IsAtom t → Some (symb
 number_known f t n h e = elim (cases_lt n (length f.symbols)) [ inl less ↦ less | inr past ↦ absurd (no_function t h (sym e ∙ ap Some (get_or-eq_default f.symbols no_symbol past))) ]
 
 -- a first place stays as the list grows
-first_stays : {A : Type 0} (d : A) (p : A → Bool) (xs ys : List A) → KeepsPlaces d xs ys → position_or_len p xs < length xs → position_or_len p ys ≡ position_or_len p xs
+pub first_stays : {A : Type 0} (d : A) (p : A → Bool) (xs ys : List A) → KeepsPlaces d xs ys → position_or_len p xs < length xs → position_or_len p ys ≡ position_or_len p xs
 first_stays d p [] ys k less = absurd (omega arith)
 first_stays d p (x ∷ xs) [] k less = absurd (let l = k.0 in omega arith)
 first_stays {A} d p (x ∷ xs) (y ∷ ys) k less =

@@ -19,6 +19,7 @@ pub mod ShownTrees
 pub mod MemberOrigins
 pub mod SymbolWalk
 pub mod HeadLaws
+pub mod NarrowLaws
 pub mod FingerprintLaws
 pub mod LookupLaws
 pub mod ShorterLaws

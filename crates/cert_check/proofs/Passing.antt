@@ -10,9 +10,6 @@ use Rattle.saturation_cert.specs.Wholes.{KeepsBase}
 use Rattle.cert_check.specs.Firsts.{IsFirstWrong}
 use Rattle.std.proofs.lemmas.Option.{slice_get_past}
 
-pub member_zero : (b : format.Base) → IsRightMember b 0
-member_zero b e at = absurd (cc)
-
 lt_or_le : (i j : ℕ) → (i < j) ⊎ (j ≤ i)
 lt_or_le i zero = inr (omega arith)
 lt_or_le zero (suc j) = inl (omega arith)

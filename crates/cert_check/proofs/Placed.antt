@@ -46,12 +46,6 @@ module _ (c : Saturation) (i : ℕ) where
           let v : length (clause_at c.base.bank x.clause) ≡ length x.clause = length-map x.clause (literal_tree c.base.bank) in
           other (omega arith, omega arith)
 
-  pub no_member : i < max (length c.base.members) (length c.places) → slice_get c.base.members i ≡ None → ¬ IsRightPlace (saturation_of c) (suc i)
-  no_member within none right =
-      let (m, s) = right (omega arith) (omega (arith, length-map c.base.members (entry_of c.base.bank))) in
-      let e : None ≡ Some s.entry = sym (slice_get-map (entry_of c.base.bank) c.base.members i ∙ ap (option_map (entry_of c.base.bank)) none) ∙ s.entry_at in
-      cc
-
   pub no_place : i < max (length c.base.members) (length c.places) → slice_get c.places i ≡ None → ¬ IsRightPlace (saturation_of c) (suc i)
   no_place within none right =
       let (m, s) = right (omega arith) (omega (arith, length-map c.base.members (entry_of c.base.bank))) in

@@ -60,12 +60,6 @@ keeps_trans a b c p q = record {
   rest = q.rest ∙ ap (λ (x : Base). record x { bank = c.bank }) p.rest;
 }
 
-pub keeps_all_trans : (a b c : Refutation) → KeepsRefutation a b → KeepsRefutation b c → KeepsRefutation a c
-keeps_all_trans a b c p q = record {
-  base = keeps_trans a.base b.base c.base p.base q.base;
-  rest = q.rest ∙ ap (λ (x : Refutation). record x { base = c.base }) p.rest;
-}
-
 -- the checks that come before a complaint, by their kinds
 module _ (c : format.FirstRefutation) where
   first_by : (k : Complaint) → ¬ RefutationPasses c k → ((n : ℕ) → Precedes (Axiom n) k → IsRightAxiom c.base n) → ((n : ℕ) → Precedes (Derived n) k → IsRightMember c.base n)

@@ -16,13 +16,10 @@ use Rattle.saturation_cert.specs.declared.certificate.Base.{Base}
 use Rattle.saturation_cert.specs.declared.certificate.Saturation.{Saturation}
 use Rattle.saturation_cert.specs.Values.{saturation_of, entry_of}
 use Rattle.saturation_cert.specs.Wholes.{IsWholeClause, IsWholeBase, IsWholeSaturation, KeepsBase, KeepsSaturation}
-use Rattle.cert_check.specs.Answers.{IsCheckCause}
-use Rattle.cert_format.specs.Validity.{BasePasses, IsValidBase}
-use Rattle.cert_check.specs.declared.error.CheckError.{CheckError}
-use Rattle.cert_check.specs.declared.error.CheckError.TheVariants as errors
+use Rattle.cert_format.specs.Validity.{IsValidBase}
 use Rattle.cert_check.specs.Firsts.{IsFirstWrong}
 use Rattle.cert_check.specs.FirstPairs.{IsFirstWrongPair, IsFirstWrongPairOf}
-use Rattle.cert_check.proofs.Bases.{base_same, at_most, smaller, first_of_saturation}
+use Rattle.cert_check.proofs.Bases.{base_same, at_most, smaller}
 use Rattle.saturation_cert.proofs.Grown.{clauses_grown, members_grown}
 use Rattle.cert_check.proofs.Refutations.{keeps_trans}
 
@@ -102,10 +99,6 @@ module _ (c : format.Saturation) (base : IsValidBase c.base) where
 pub bank_same : (s : Saturation) (g : Forest) → IsWholeSaturation s → Extends s.base.bank g → saturation_of (record s { base = record s.base { bank = g } }) ≡ saturation_of s
 bank_same s g whole grown =
     saturation_same s (record s { base = record s.base { bank = g } }) whole (keeps_saturation s (record s.base { bank = g }) (keeps_grown s.base g grown))
-
-pub cause_of_base : (c : format.Saturation) (e : CheckError) → IsCheckCause (BasePasses c.base) e → IsCheckCause (SaturationPasses c) e
-cause_of_base c (errors.Complaint complaint) h = first_of_saturation c complaint h
-cause_of_base c errors.Memory h = h
 
 pub some_pair : (P : ℕ → ℕ → Type 0) (r : Option (ℕ × ℕ)) (l m : ℕ) → IsFirstWrongPairOf P r → r ≡ Some (l, m) → IsFirstWrongPair P l m
 some_pair P r l m h is = subst (IsFirstWrongPairOf P) is h

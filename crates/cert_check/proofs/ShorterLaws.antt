@@ -1,5 +1,5 @@
 -- The search for a member that subsumes a clause, by the heads of selected literals.
-use Rattle.std.proofs.Common.{◌≡◌, inl, inr, ℕ, suc, ◌<◌, ◌≤◌, ◌∙◌, List, length, get_or, refl, ap, sym, subst, arith, Option, Some}
+use Rattle.std.proofs.Common.{◌≡◌, inl, inr, ℕ, suc, ◌<◌, ◌∙◌, List, length, get_or, ap, sym, subst, arith, Option, Some}
 use Rattle.std.specs.Prelude.{Any, option_map}
 use Rattle.std.proofs.lemmas.Bool.{cases_lt}
 use Rattle.inst_logic.specs.declared.signed.Signed.{Signed}
@@ -25,10 +25,6 @@ head_goes f s l m h head goes =
     }
 
 module _ (f : Forest) (ms : List Member) (hs : List Head) (ps : List Fingerprint) (same : List ℕ) (first : Head → Option ℕ) (groups : AreGrouped ms hs same first) (n : ℕ) (d : List (Signed ℕ)) where
-  -- the scan of one head
-  pub past_begin : (l : Signed ℕ) (h : Head) (k : ℕ) → IsNext hs h 0 k → IsPastShorter f ms hs ps n d l h k
-  past_begin l h k next = record { within = next.within; at = next.at; before = λ j less at. absurd (next.before j (omega arith) less at) }
-
   pub past_more : (l : Signed ℕ) (h : Head) (k : ℕ) → k < length hs → IsPastShorter f ms hs ps n d l h k → IsNoShorter f ms ps n d l k → IsPastShorter f ms hs ps n d l h (get_or same k 0)
   past_more l h k within past none =
       let next : IsNext hs h (suc k) (get_or same k 0) = subst (λ x. IsNext hs x (suc k) (get_or same k 0)) (past.at within) (groups.to_same k within) in
@@ -43,9 +39,6 @@ module _ (f : Forest) (ms : List Member) (hs : List Head) (ps : List Fingerprint
           ]
         ];
       }
-
-  pub past_all : (l : Signed ℕ) (k : ℕ) → length ms ≤ k → ((h : Head) → IsHeadAt f l h → IsPastShorter f ms hs ps n d l h k) → HasNoShorter f ms hs ps n d l
-  past_all l k past each i within head = (each (head_at hs i) head).before i (omega arith) refl
 
   -- one that subsumes the clause has the head of one of its literals
   pub none_shorter : ((k : ℕ) (m : Member) → k < length ms → HasMarked f (get_or ms k m).clause (head_at hs k) (fingerprint_at ps k)) → ((i : ℕ) (x : Signed ℕ) → i < length d → HasNoShorter f ms hs ps n d (get_or d i x)) → ¬ (Any (ShorterOf f n d) ms)

@@ -1,5 +1,5 @@
 -- What the walk for symbols over a bank collects.
-use Rattle.std.proofs.Common.{◌≡◌, ℕ, ◌+◌, ◌*◌, ◌<◌, ◌≤◌, Bool, true, false, cond, List, [], ◌∷◌, ◌++◌, refl, ap, ap₂, sym, ◌∙◌, map, fold, length, arith, subst, None, Some, inl, inr, ◌⊎◌}
+use Rattle.std.proofs.Common.{◌≡◌, ℕ, ◌+◌, ◌*◌, ◌<◌, ◌≤◌, Bool, true, false, cond, List, [], ◌∷◌, ◌++◌, refl, ap, ap₂, sym, ◌∙◌, map, fold, length, arith, subst, Some, inl, inr, ◌⊎◌}
 use Rattle.std.specs.Prelude.{All, Contains, nat_eq, ◌||◌}
 use Rattle.std.specs.List.{list_any}
 use Rattle.std.proofs.lemmas.List.Sums.{fold-append}
@@ -146,13 +146,6 @@ some_size (app g us) = omega arith
 -- a node that is not opened
 pub passed_size : (f : Forest) (id : ℕ) (rest : List Step) → steps_size f rest + 1 ≤ steps_size f (Visit id ∷ rest)
 passed_size f id rest = let k = some_size (tree_at f id) in omega (arith, k)
-
-variable_symbols : (t : Tree) → symbol_of t ≡ None → tree_symbols t ≡ []
-variable_symbols (var v) e = refl
-variable_symbols (app g us) e = absurd (cc)
-
-pub visit_variable : (f : Forest) (id : ℕ) (rest : List Step) (found end : List Sym) → symbol_of (tree_at f id) ≡ None → Leads f (Visit id ∷ rest) found end → Leads f rest found end
-visit_variable f id rest found end e h = subst (λ (xs : List Sym). Leads f rest (collected found xs) end) (variable_symbols (tree_at f id) e) h.1
 
 -- clauses
 pub collect_ids : (f : Forest) (seen : List Sym) (c : List (Signed ℕ)) → fold (λ a l. with_symbols a (tree_at f l.atom)) seen c ≡ fold (with_item sym_eq) seen (clause_symbols (clause_at f c))

@@ -10,7 +10,7 @@ ghost use Rattle.saturation_cert.specs.Wholes.{IsWholeClause};
 ghost use Rattle.cert_check.specs.Conclusions.{Concludes, HasNoProper, IsAtomOf, IsCanonicalMember, IsProperlyUnified, MembersConclude, MembersGive, literal_of};
 
 use crate::difference::same_clause;
-use clause_form::conclude;
+use clause_form::conclude_clause;
 use inst_logic::Memory;
 use saturation_cert::Member;
 use std::alloc::Global;
@@ -87,8 +87,8 @@ fn conclude_at(
     if !unify_properly(bank, bindings, l.atom, m.atom)? {
         return Ok(None);
     }
-    let conclusion = conclude(alloc, bank, bindings, Side::Left, clause)?;
-    Ok(Some(conclusion.clause))
+    let conclusion = conclude_clause(alloc, bank, bindings, Side::Left, clause)?;
+    Ok(Some(conclusion))
 }
 
 // What the first member gives with the second, if they conclude something.

@@ -18,7 +18,7 @@ ghost use Rattle.cert_check.specs.Lookups.{HasNoShorter, IsLookup, IsNoShorter};
 
 use crate::fingerprint::{Fingerprint, fingerprint_of};
 use crate::lookup::Lookup;
-use clause_form::{conclude, subsumes, tautology};
+use clause_form::{conclude_clause, subsumes, tautology};
 use inst_logic::Memory;
 use saturation_cert::Member;
 use std::alloc::Global;
@@ -168,6 +168,6 @@ pub fn is_covered(
     ensures formed { AreFormed bank.old → AreTerms bank.old bindings.now.entries → AreFormed bank.new }
     ensures covered { IfOk result (λ r. (s : Sided) → IsResolvedBy bank.old bindings.now.entries s → IsTrue r ↔ IsCovered (map (λ m. clause_at bank.old m.clause) members.now) (clause_at bank.old c.now) (instance (of_side s side) (clause_at bank.old c.now))) }
 {
-    let conclusion = conclude(alloc, bank, bindings, side, c)?;
-    has_cover(alloc, bank, members, lookup, c.len(), &conclusion.clause)
+    let conclusion = conclude_clause(alloc, bank, bindings, side, c)?;
+    has_cover(alloc, bank, members, lookup, c.len(), &conclusion)
 }

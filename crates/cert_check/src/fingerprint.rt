@@ -145,6 +145,13 @@ impl Marks {
 }
 
 impl Fingerprint {
+    /// The mark of the first argument.
+    pub fn first_mark(&self) -> u32
+        ensures { result ≡ self.now.own.first }
+    {
+        self.own.first
+    }
+
     /// Whether the fingerprints have different symbols at one place.
     pub fn differs(&self, other: &Fingerprint) -> bool
         ensures { result ≡ true → Differ self.now other.now }

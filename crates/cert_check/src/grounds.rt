@@ -9,6 +9,7 @@ ghost use Rattle.saturation_cert.specs.Wholes.{IsWholeClause};
 ghost use Rattle.term_bank.specs.Forest.{AreFormed, Extends, IsClauseAt, IsClauseOf, clause_at, tree_at};
 ghost use Rattle.cert_check.specs.Grounds.{AreCanonicalMembers};
 
+use crate::lookup::copied;
 use clause_form::{greatest_variable, under};
 use inst_logic::{Memory, Sym};
 use saturation_cert::MemberList;
@@ -32,8 +33,8 @@ fn repeated(alloc: Global, bank: &Bank, term: TermId, c: &IdClause) -> Result<Te
     Ok(ids)
 }
 
-// The clause with the term in the place of every variable.
-fn under_term(
+// The clause with the term in the place of every variable, built anew.
+fn built_under(
     alloc: Global,
     bank: &mut Bank,
     term: TermId,
@@ -49,6 +50,27 @@ fn under_term(
 {
     let terms = repeated(alloc, bank, term, c)?;
     under(alloc, bank, c, &terms)
+}
+
+// The same; a clause without variables stays as it is, and most members of a refutation are such.
+fn under_term(
+    alloc: Global,
+    bank: &mut Bank,
+    term: TermId,
+    c: &IdClause,
+) -> Result<IdClause, Memory>
+    requires within { term < length bank.old.trees }
+    requires is_term { IsTerm (tree_at bank.old term) }
+    requires clause { IsClauseOf bank.old c.now }
+    requires canonical { IsCanonical (clause_at bank.old c.now) }
+    ensures instance { IfOk result (λ d. IsClauseAt bank.new d (instance (λ _. tree_at bank.old term) (clause_at bank.old c.now))) }
+    ensures extends { Extends bank.old bank.new }
+    ensures formed { AreFormed bank.old → AreFormed bank.new }
+{
+    match greatest_variable(bank, c) {
+        None => copied(alloc, c),
+        Some(_) => built_under(alloc, bank, term, c),
+    }
 }
 
 // Each member's clause with the constant in the place of every variable.

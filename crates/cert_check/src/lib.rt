@@ -13,6 +13,7 @@ mod fingerprint;
 mod grounds;
 mod inputs;
 mod lookup;
+mod narrow;
 mod origin;
 mod pairs;
 mod partners;

@@ -7,6 +7,7 @@ ghost use Rattle.cert_format.specs.Validity.{IsValidBase};
 ghost use Rattle.cert_check.specs.Lookups.{AreClausesOf, IsReady, has_clause};
 
 use crate::fingerprint::{Fingerprint, find_fingerprints};
+use crate::narrow::{Chains, find_chains};
 use crate::partners::{Partners, find_partners};
 use indexmap::IndexSet;
 use inst_logic::Memory;
@@ -14,16 +15,17 @@ use saturation_cert::{Member, Saturation};
 use std::alloc::Global;
 use term_bank::IdClause;
 
-/// The members' clauses, the chains through the members whose selected literals have one head, and the fingerprints of the
-/// selected atoms.
+/// The members' clauses, the chains through the members whose selected literals have one head and through those of one class, and
+/// the fingerprints of the selected atoms.
 #[derive(Drop)]
 pub struct Lookup {
     pub(crate) partners: Partners,
+    pub(crate) chains: Chains,
     pub(crate) fingerprints: Vec<Fingerprint>,
     clauses: IndexSet<IdClause>,
 }
 
-fn copied(alloc: Global, c: &IdClause) -> Result<IdClause, Memory>
+pub fn copied(alloc: Global, c: &IdClause) -> Result<IdClause, Memory>
     ensures { IfOk result (λ d. d ≡ c.now) }
 {
     Ok(IdClause::from(Vec::from_slice(alloc, c.as_slice())?))
@@ -49,9 +51,11 @@ pub fn find_lookup(alloc: Global, cert: &Saturation) -> Result<Lookup, Memory>
 {
     let fingerprints = find_fingerprints(alloc, cert)?;
     let partners = find_partners(alloc, cert)?;
+    let chains = find_chains(alloc, &partners, &fingerprints)?;
     let clauses = clauses_of(alloc, cert.base.members.as_slice())?;
     Ok(Lookup {
         partners,
+        chains,
         fingerprints,
         clauses,
     })

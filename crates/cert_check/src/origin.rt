@@ -1,13 +1,13 @@
-// What an origin among the inputs and axioms gives: the canonical form of that clause, made anew and compared by ids. Inputs
-// need not be in canonical form.
-ghost use Rattle.std.specs.Prelude.{◌≡◌, ◌↔◌, ◌++◌, All, IfOk, IsTrue, map, option_copied};
+// What an origin among the inputs and axioms gives: the canonical form of that clause, made anew where the clause is not seen to
+// have it, and compared by ids. Inputs need not be in canonical form.
+ghost use Rattle.std.specs.Prelude.{◌≡◌, ◌↔◌, ◌++◌, ◌≤◌, All, IfOk, IsTrue, length, map, option_copied};
 ghost use Rattle.inst_logic.specs.Clauses.{canonical_form};
 ghost use Rattle.inst_logic.specs.Derivations.{at_number};
 ghost use Rattle.term_bank.specs.Forest.{AreFormed, Extends, IsClauseOf, clause_at};
 ghost use Rattle.cert_check.specs.Inputs.{GivesInput};
 
 use crate::difference::same_clause;
-use clause_form::canonical;
+use clause_form::{canonical, greatest_variable};
 use inst_logic::Memory;
 use std::alloc::Global;
 use term_bank::{Bank, IdClause, IdClauseList};
@@ -29,8 +29,36 @@ pub fn numbered<'a>(
     axioms.get(k - 1 - inputs.len())
 }
 
-// Whether the clause is the canonical form of the other one.
-fn is_canonical_form(
+fn is_short(c: &IdClause) -> bool
+    ensures { IsTrue result → length c.now ≤ 1 }
+{
+    c.len() <= 1
+}
+
+// Whether the clause is a literal without variables, or empty. Many inputs are, and each is its own canonical form.
+fn is_plain(bank: &Bank, c: &IdClause) -> bool
+    requires { IsClauseOf bank.now c.now }
+    ensures { IsTrue result → canonical_form (clause_at bank.now c.now) ≡ clause_at bank.now c.now }
+{
+    match greatest_variable(bank, c) {
+        None => is_short(c),
+        Some(_) => false,
+    }
+}
+
+// Whether the clause is the canonical form of the other one, which is its own.
+fn is_own_form(bank: &Bank, from: &IdClause, clause: &IdClause) -> bool
+    requires from { IsClauseOf bank.now from.now }
+    requires clause { IsClauseOf bank.now clause.now }
+    requires form { canonical_form (clause_at bank.now from.now) ≡ clause_at bank.now from.now }
+    ensures { IsTrue result ↔ (clause_at bank.now clause.now ≡ canonical_form (clause_at bank.now from.now)) }
+{
+    bank.distinct();
+    same_clause(from, clause)
+}
+
+// Whether the clause is the canonical form of the other one, which is built.
+fn is_built_form(
     alloc: Global,
     bank: &mut Bank,
     from: &IdClause,
@@ -45,6 +73,25 @@ fn is_canonical_form(
     let d = canonical(alloc, bank, from)?;
     bank.distinct();
     Ok(same_clause(&d, clause))
+}
+
+// Whether the clause is the canonical form of the other one.
+fn is_canonical_form(
+    alloc: Global,
+    bank: &mut Bank,
+    from: &IdClause,
+    clause: &IdClause,
+) -> Result<bool, Memory>
+    requires from { IsClauseOf bank.old from.now }
+    requires clause { IsClauseOf bank.old clause.now }
+    ensures extends { Extends bank.old bank.new }
+    ensures formed { AreFormed bank.old → AreFormed bank.new }
+    ensures same { IfOk result (λ r. IsTrue r ↔ (clause_at bank.old clause.now ≡ canonical_form (clause_at bank.old from.now))) }
+{
+    if is_plain(bank, from) {
+        return Ok(is_own_form(bank, from, clause));
+    }
+    is_built_form(alloc, bank, from, clause)
 }
 
 // Whether the clause is the canonical form of clause `k` of the inputs and then the axioms.

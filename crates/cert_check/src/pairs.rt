@@ -1,6 +1,6 @@
-// The check of the pairs of selected literals. Only pairs of one symbol and opposite signs are visited, along chains, and of
-// these only those are unified whose fingerprints allow it: no other pair unifies. The chains keep the order of the numbers,
-// since the complaint is about the first pair.
+// The check of the pairs of selected literals. Only pairs of one class and opposite signs are visited, along chains, and of these
+// only those are unified whose fingerprints allow it: no other pair unifies. The chains keep the order of the numbers, since the
+// complaint is about the first pair.
 ghost use Rattle.std.specs.Prelude.{◌↔◌, ◌<◌, suc, length, IfOk, IsTrue, OnOk};
 ghost use Rattle.cert_format.specs.Validity.{IsRightPair};
 ghost use Rattle.unify_core.specs.Chains.{AreBindings};
@@ -162,7 +162,7 @@ fn is_right_partner(
 }
 
 // The number of the first later member that is no right partner of member `i`, counted from 0. Only those are tried whose
-// selected literals have the opposite sign and the same symbol.
+// selected literals have the opposite sign and the same class.
 fn wrong_partner(
     alloc: Global,
     cert: &mut Saturation,
@@ -177,7 +177,7 @@ fn wrong_partner(
     ensures first { IfOk result (IsFirstWrongOf (IsRightPair (saturation_of cert.old) (suc i))) }
 {
     let count = cert.base.members.len();
-    let partners = &lookup.partners;
+    let partners = &lookup.chains;
     let mut j = partners.opposed[i];
     while j < count {
         if !is_right_partner(alloc, cert, lookup, bindings, i, j)? {

@@ -1,5 +1,6 @@
 // Chains of members by the heads of their selected literals: each place leads on to the next one of the same head, and to the
-// next one of the opposite head. So a scan for partners, or for members that subsume, visits only those that may be.
+// next one of the opposite head. So a scan for members that subsume visits only those that may; that for partners goes along
+// narrower chains, which are made in the same way.
 ghost use Rattle.std.specs.Prelude.{◌≡◌, ◌<◌, ℕ, length, IfOk, IfSome, Some, option_map, unwrap_or};
 ghost use Rattle.indexmap.specs.IndexMap.{get};
 ghost use Rattle.clause_form.specs.Literals.{id_eq};
@@ -16,13 +17,13 @@ use std::alloc::Global;
 use term_bank::{Bank, IdLiteral};
 
 // A sign and the number of a symbol.
-type HeadId = Signed<usize>;
+pub type HeadId = Signed<usize>;
 
 // For each member, counted from 0, the head of its selected literal, and the place of the next member with that head and of
 // the next one with the opposite head. Where there is none it is the number of members. And for each head its first member.
 #[derive(Drop)]
 pub struct Partners {
-    heads: Vec<HeadId>,
+    pub(crate) heads: Vec<HeadId>,
     first: IndexMap<HeadId, usize>,
     pub(crate) same: Vec<usize>,
     pub(crate) opposed: Vec<usize>,
@@ -76,7 +77,8 @@ fn place_of(first: &IndexMap<HeadId, usize>, head: HeadId, count: usize) -> usiz
     first.get(&head).copied().unwrap_or(count)
 }
 
-fn chained(alloc: Global, heads: Vec<HeadId>) -> Result<Partners, Memory>
+// The chains through these heads.
+pub fn chained(alloc: Global, heads: Vec<HeadId>) -> Result<Partners, Memory>
     ensures { IfOk result (λ p. (p.heads.items ≡ heads.items) × AreChained p.heads.items p.same.items p.opposed.items 0 × ((h : Head) → IsNext p.heads.items h 0 (unwrap_or (get id_eq p.first h) (length p.heads.items)))) }
 {
     let count = heads.len();

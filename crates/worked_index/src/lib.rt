@@ -1,9 +1,7 @@
-//! Worked examples of the indexes: an index that refuses, and rows that both kinds answer.
+//! What worked examples of the indexes are built of: an index that refuses, and rows that both kinds are to answer.
 #![tactic(auto)]
 
 pub mod building;
 pub mod refusing;
-#[cfg(test)]
-mod tests;
 
 pub use refusing::Refusing;

@@ -2,7 +2,6 @@
 use equality_axioms::{SymList, axioms_from, axioms_of};
 use inst_logic::{ClauseList, Kind, Memory, Name, NameList, Problem, Sym, canonical};
 use std::alloc::Global;
-use std::test::Fail;
 use tptp_read::{ReadError, Statement, StatementList, read_text};
 use tptp_write::{push_bytes, push_clause};
 
@@ -85,24 +84,16 @@ fn problem_has_axioms(alloc: Global, clauses: ClauseList) -> Result<bool, Memory
     are_axioms(alloc, &axioms)
 }
 
-fn clauses_have_axioms(alloc: Global) -> Result<bool, ReadError> {
+/// Whether the clauses have these axioms.
+pub fn clauses_have_axioms(alloc: Global) -> Result<bool, ReadError> {
     let statements = read_text(alloc, CLAUSES)?;
     let clauses = clauses_of(alloc, &statements)?;
     Ok(problem_has_axioms(alloc, clauses)?)
 }
 
-fn symbols_have_axioms(alloc: Global) -> Result<bool, Memory> {
+/// Whether their symbols have them.
+pub fn symbols_have_axioms(alloc: Global) -> Result<bool, Memory> {
     let symbols = symbols(alloc)?;
     let axioms = axioms_from(alloc, &symbols)?;
     are_axioms(alloc, &axioms)
-}
-
-#[test]
-fn five_axioms(rt: HostRuntime) -> Result<(), Fail> {
-    let alloc = rt.alloc();
-    assert_eq!(rt;
-        [clauses_have_axioms(alloc)?, symbols_have_axioms(alloc)?],
-        [true; 2]
-    );
-    Ok(())
 }

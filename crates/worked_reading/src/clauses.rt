@@ -6,7 +6,6 @@ use inst_logic::{
     TermList, canonical, function_free, size, weight,
 };
 use std::alloc::Global;
-use std::test::Fail;
 
 fn applied(alloc: Global, name: &[u8], arg: Term) -> Result<Term, Memory> {
     let mut args = TermList::new(alloc);
@@ -62,12 +61,6 @@ fn renumbered(alloc: Global) -> Result<(bool, u64), Memory> {
     Ok((is_canonical_of(alloc, &c, &wanted)?, size(&c)))
 }
 
-#[test]
-fn a_clause_is_renumbered(rt: HostRuntime) -> Result<(), Fail> {
-    assert_eq!(rt; renumbered(rt.alloc())?, (true, 6));
-    Ok(())
-}
-
 // The clause of one literal.
 fn unit(alloc: Global, l: Literal) -> Result<Clause, Memory> {
     let mut c = Clause::new(alloc);
@@ -99,12 +92,6 @@ fn weighed(alloc: Global) -> Result<(Option<u64>, bool), Memory> {
     let c = of_function(alloc, 0)?;
     let first = c.get(0).map(weight);
     Ok((first, is_function_free(alloc, c)?))
-}
-
-#[test]
-fn functions_weigh(rt: HostRuntime) -> Result<(), Fail> {
-    assert_eq!(rt; weighed(rt.alloc())?, (Some(1), false));
-    Ok(())
 }
 
 fn is_term_copied(t: &Term) -> Result<bool, Memory> {
@@ -142,12 +129,6 @@ fn copies(alloc: Global) -> Result<(bool, [bool; 3]), Memory> {
     Ok((term, is_atom_copied(alloc, t)?))
 }
 
-#[test]
-fn copies_are_equal(rt: HostRuntime) -> Result<(), Fail> {
-    assert_eq!(rt; copies(rt.alloc())?, (true, [true; 3]));
-    Ok(())
-}
-
 // The literal p with no arguments, as they are made of a vector.
 fn without_args(alloc: Global) -> Result<Literal, Memory> {
     let mut l = atom(alloc, b"p", Term::Var(0))?;
@@ -178,16 +159,6 @@ fn made(alloc: Global) -> Result<(bool, [usize; 2]), Memory> {
     Ok((is_empty, lengths(unit(alloc, l)?)))
 }
 
-#[test]
-fn lists_are_made_of_vectors(rt: HostRuntime) -> Result<(), Fail> {
-    let alloc = rt.alloc();
-    assert_eq!(rt;
-        (made(alloc)?, first_place(alloc)?),
-        ((true, [1, 1]), Some(3))
-    );
-    Ok(())
-}
-
 fn insert_twice(alloc: Global, seen: &mut IndexSet<Clause>) -> Result<usize, Memory> {
     for _ in 0..2 {
         seen.insert(of_function(alloc, 1)?)?;
@@ -201,8 +172,14 @@ fn members(alloc: Global) -> Result<usize, Memory> {
     insert_twice(alloc, &mut seen)
 }
 
-#[test]
-fn equal_clauses_hash_alike(rt: HostRuntime) -> Result<(), Fail> {
-    assert_eq!(rt; members(rt.alloc())?, 1);
-    Ok(())
+/// Whether each of these is what it is to be. Equal clauses hash alike.
+pub fn are_answered(alloc: Global) -> Result<[bool; 6], Memory> {
+    Ok([
+        renumbered(alloc)? == (true, 6),
+        weighed(alloc)? == (Some(1), false),
+        copies(alloc)? == (true, [true; 3]),
+        made(alloc)? == (true, [1, 1]),
+        first_place(alloc)? == Some(3),
+        members(alloc)? == 1,
+    ])
 }

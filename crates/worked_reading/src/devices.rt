@@ -7,7 +7,7 @@ use outside_io::{
 };
 use std::alloc::Global;
 use std::fs::Files;
-use std::test::Fail;
+use std::io::Print;
 use std::{fs, io};
 
 fn named(alloc: Global, name: &[u8], bytes: &[u8]) -> Result<NamedFile, Memory> {
@@ -68,20 +68,6 @@ fn two_files(
     Ok(two_files_by(&mut library))
 }
 
-/// Nothing is read before a file is begun, at its end, and after `finish`.
-#[test]
-fn the_first_file_of_a_name_is_read(rt: HostRuntime) -> Result<(), Fail> {
-    assert_eq!(rt;
-        two_files(rt.alloc())?,
-        (
-            [Ok(true), Ok(true), Ok(false)],
-            [Ok(0), Ok(5), Ok(0), Ok(0)],
-            *b"first\0\0\0"
-        )
-    );
-    Ok(())
-}
-
 // What `begin` and then five calls of `read` answer, with the bytes of the third of these.
 fn pieces_by(
     library: &mut MemLibrary,
@@ -104,19 +90,6 @@ fn pieces(
     Ok(pieces_by(&mut library))
 }
 
-#[test]
-fn the_third_call_fails_in_mid_stream(rt: HostRuntime) -> Result<(), Fail> {
-    assert_eq!(rt;
-        pieces(rt.alloc())?,
-        (
-            Ok(true),
-            [Ok(2), Err(Failed), Ok(2), Ok(1), Ok(0)],
-            *b"rs\0\0\0\0\0\0"
-        )
-    );
-    Ok(())
-}
-
 // What three calls of `begin` answer, and a call of `read` after the second and the third.
 fn begun_by(library: &mut MemLibrary) -> ([Result<bool, Trouble>; 3], [Result<usize, Failed>; 2]) {
     let mut buf = [0; 8];
@@ -133,15 +106,6 @@ fn begun(
 ) -> Result<([Result<bool, Trouble>; 3], [Result<usize, Failed>; 2]), Memory> {
     let mut library = MemLibrary::new(alloc, two_of_one_name(alloc)?, 8, the_call(alloc, 2)?);
     Ok(begun_by(&mut library))
-}
-
-#[test]
-fn a_begin_fails_and_the_next_does_not(rt: HostRuntime) -> Result<(), Fail> {
-    assert_eq!(rt;
-        begun(rt.alloc())?,
-        ([Ok(true), Err(Trouble::Failed), Ok(true)], [Ok(0), Ok(5)])
-    );
-    Ok(())
 }
 
 // Whether the two pieces are taken whole.
@@ -167,13 +131,6 @@ fn takes_long(alloc: Global) -> Result<bool, Trouble> {
     takes_long_by(&mut sink)
 }
 
-#[test]
-fn a_piece_is_written_whole(rt: HostRuntime) -> Result<(), Fail> {
-    let alloc = rt.alloc();
-    assert_eq!(rt; [takes_two(alloc), takes_long(alloc)], [Ok(true); 2]);
-    Ok(())
-}
-
 // What a piece and the rest of it are answered, each with whether these bytes were taken by then.
 fn fails_by(sink: &mut MemSink) -> ((Result<(), Trouble>, bool), (Result<usize, Trouble>, bool)) {
     let failed = write_all(sink, b"hello");
@@ -188,15 +145,6 @@ fn fails(
 ) -> Result<((Result<(), Trouble>, bool), (Result<usize, Trouble>, bool)), Memory> {
     let mut sink = MemSink::new(alloc, 2, the_call(alloc, 2)?);
     Ok(fails_by(&mut sink))
-}
-
-#[test]
-fn the_second_write_fails(rt: HostRuntime) -> Result<(), Fail> {
-    assert_eq!(rt;
-        fails(rt.alloc())?,
-        ((Err(Trouble::Failed), true), (Ok(2), true))
-    );
-    Ok(())
 }
 
 // What `begin` answers, three calls of `read` and one after `finish`, with the buffer of three bytes after them.
@@ -229,16 +177,6 @@ fn real_file<R: Files>(rt: &R, alloc: Global) -> io::Result<(RealFile, Result<bo
     real_file_by(rt, &mut folder)
 }
 
-/// The second read changes the front of the buffer alone.
-#[test]
-fn a_real_file_is_read(rt: HostRuntime) -> Result<(), Fail> {
-    assert_eq!(rt;
-        real_file(&rt, rt.alloc())?,
-        ((Ok(true), [Ok(3), Ok(2), Ok(0), Ok(0)], *b").a"), Ok(false))
-    );
-    Ok(())
-}
-
 // What `begin` and `read` answer of a folder, and of a name that no file can have.
 fn no_files_by<L: Library>(library: &mut L) -> [(Result<bool, Trouble>, Result<usize, Failed>); 2] {
     let mut buf = [0; 3];
@@ -257,17 +195,36 @@ fn no_files<R: Files>(
     no_files_by(&mut folder)
 }
 
-#[test]
-fn what_is_no_file_fails(rt: HostRuntime) {
-    assert_eq!(rt;
-        no_files(&rt, rt.alloc()),
-        [(Ok(true), Err(Failed)), (Err(Trouble::Failed), Ok(0))]
-    );
+/// Whether the devices in memory answer so: the first file of a name is read, and nothing before a file is begun, at its end, and
+/// after `finish`; a call fails in mid-stream, and a `begin`, and the next one does not; a piece is written whole; and a write
+/// fails.
+pub fn are_memories_right(alloc: Global) -> Result<[bool; 6], Memory> {
+    Ok([
+        two_files(alloc)?
+            == (
+                [Ok(true), Ok(true), Ok(false)],
+                [Ok(0), Ok(5), Ok(0), Ok(0)],
+                *b"first\0\0\0",
+            ),
+        pieces(alloc)?
+            == (
+                Ok(true),
+                [Ok(2), Err(Failed), Ok(2), Ok(1), Ok(0)],
+                *b"rs\0\0\0\0\0\0",
+            ),
+        begun(alloc)? == ([Ok(true), Err(Trouble::Failed), Ok(true)], [Ok(0), Ok(5)]),
+        takes_two(alloc) == Ok(true),
+        takes_long(alloc) == Ok(true),
+        fails(alloc)? == ((Err(Trouble::Failed), true), (Ok(2), true)),
+    ])
 }
 
-#[test]
-fn standard_output_takes_a_piece(rt: HostRuntime) -> Result<(), Fail> {
-    let mut out = OutSink::new(&rt);
-    write_all(&mut out, b"% written\n")?;
-    Ok(())
+/// Whether the real ones do: a file is read, whose second read changes the front of the buffer alone; what is no file fails; and
+/// standard output takes a piece.
+pub fn are_real_ones_right<R: Files + Print>(rt: &R, alloc: Global) -> io::Result<[bool; 3]> {
+    let mut out = OutSink::new(rt);
+    let is_read = real_file(rt, alloc)?
+        == ((Ok(true), [Ok(3), Ok(2), Ok(0), Ok(0)], *b").a"), Ok(false));
+    let fails = no_files(rt, alloc) == [(Ok(true), Err(Failed)), (Err(Trouble::Failed), Ok(0))];
+    Ok([is_read, fails, write_all(&mut out, b"% written\n").is_ok()])
 }

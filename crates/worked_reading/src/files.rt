@@ -3,21 +3,32 @@ use inst_logic::{ByteList, Memory, Name};
 use outside_io::{FileList, NamedFile};
 use std::alloc::Global;
 
-// A file by its name and its text.
-pub type File<'a> = (&'a str, &'a str);
-
-fn add_file(alloc: Global, files: &mut FileList, file: &File<'_>) -> Result<(), Memory> {
+fn add_file(alloc: Global, files: &mut FileList, name: &str, bytes: &[u8]) -> Result<(), Memory> {
     files.push(NamedFile {
-        name: Name::of(alloc, file.0.as_bytes())?,
-        bytes: ByteList::from(file.1.as_bytes().to_vec(alloc)?),
+        name: Name::of(alloc, name.as_bytes())?,
+        bytes: ByteList::from(bytes.to_vec(alloc)?),
     })
 }
 
-// These files.
-pub fn files_of(alloc: Global, rows: &[File<'_>]) -> Result<FileList, Memory> {
+/// One file of this name, with these bytes.
+pub fn file_of(alloc: Global, name: &str, bytes: &[u8]) -> Result<FileList, Memory> {
     let mut files = FileList::new(alloc);
-    for file in rows {
-        add_file(alloc, &mut files, file)?;
+    add_file(alloc, &mut files, name, bytes)?;
+    Ok(files)
+}
+
+fn push_files(alloc: Global, files: &mut FileList, text: &str) -> Result<(), Memory> {
+    for file in text.split('^') {
+        if let Some((name, bytes)) = file.split_once("=") {
+            add_file(alloc, files, name, bytes.as_bytes())?;
+        }
     }
+    Ok(())
+}
+
+/// The files of the text, with `^` between them, each its name, `=` and its bytes.
+pub fn files_of(alloc: Global, text: &str) -> Result<FileList, Memory> {
+    let mut files = FileList::new(alloc);
+    push_files(alloc, &mut files, text)?;
     Ok(files)
 }

@@ -9,8 +9,6 @@ mod chains;
 #[cfg(test)]
 mod checks;
 #[cfg(test)]
-mod dimacs_rows;
-#[cfg(test)]
 mod faults;
 #[cfg(test)]
 mod long_rows;
@@ -22,3 +20,5 @@ mod refutations;
 mod rows;
 #[cfg(test)]
 mod runs;
+#[cfg(test)]
+mod tables;

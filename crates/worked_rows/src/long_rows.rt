@@ -1,111 +1,128 @@
 // Texts at the limits of a statement, and one past them.
 use crate::runs::{answer_of, file_of};
+use inst_logic::Memory;
 use std::alloc::Global;
-use std::process::Abort;
-use std::str;
 use std::test::Fail;
+use tptp_write::{push_bytes, push_number};
 
 // The most bytes over all files.
 const LIMIT: usize = 16_777_216;
 
-// `p(f(..f(c)..))` with so many f.
-fn nested(alloc: Global, depth: usize) -> Result<Vec<u8>, Fail> {
-    let mut text = Vec::from_slice(alloc, b"cnf(a,axiom,p(")?;
-    for _ in 0..depth {
-        text.extend_from_slice(b"f(")?;
-    }
-    text.push(b'c')?;
-    for _ in 0..depth {
-        text.push(b')')?;
-    }
-    text.extend_from_slice(b")).")?;
-    Ok(text)
+// How long texts are made.
+#[derive(Clone, Copy)]
+enum Shape {
+    // `p(f(..f(c)..))` with so many f.
+    Nested,
+    // `p(c,c,..)` with so many constants behind the first one.
+    Wide,
+    // Ten literals with 1,000 variables each, and a last one with a variable: of these, or another.
+    Variables,
+    // Blanks.
+    Blank,
 }
 
-// `p(c,c,..)` with so many constants behind the first one.
-fn wide(alloc: Global, more: usize) -> Result<Vec<u8>, Fail> {
-    let mut text = Vec::from_slice(alloc, b"cnf(a,axiom,p(c")?;
-    for _ in 0..more {
-        text.extend_from_slice(b",c")?;
+fn push_times(text: &mut Vec<u8>, bytes: &[u8], count: usize) -> Result<(), Memory> {
+    for _ in 0..count {
+        push_bytes(text, bytes)?;
     }
-    text.extend_from_slice(b")).")?;
-    Ok(text)
+    Ok(())
+}
+
+fn push_nested(text: &mut Vec<u8>, depth: usize) -> Result<(), Memory> {
+    push_bytes(text, b"cnf(a,axiom,p(")?;
+    push_times(text, b"f(", depth)?;
+    push_bytes(text, b"c")?;
+    push_times(text, b")", depth)?;
+    push_bytes(text, b")).")
+}
+
+fn push_wide(text: &mut Vec<u8>, more: usize) -> Result<(), Memory> {
+    push_bytes(text, b"cnf(a,axiom,p(c")?;
+    push_times(text, b",c", more)?;
+    push_bytes(text, b")).")
+}
+
+// A variable of this number, and of this place.
+fn push_variable(text: &mut Vec<u8>, number: usize, place: usize) -> Result<(), Memory> {
+    push_bytes(text, b",X")?;
+    push_number(text, number)?;
+    push_bytes(text, b"_")?;
+    push_number(text, place)
 }
 
 // A literal with 1,000 variables of this number, and a bar.
-fn push_variables(alloc: Global, text: &mut Vec<u8>, number: usize) -> Result<(), Fail> {
-    text.extend_from_slice(b"p(X")?;
-    text.extend_from_slice(format!(in alloc; "{number}")?.as_bytes())?;
-    for n in 1..1000 {
-        text.extend_from_slice(format!(in alloc; ",X{number}_{n}")?.as_bytes())?;
+fn push_literal(text: &mut Vec<u8>, number: usize) -> Result<(), Memory> {
+    push_bytes(text, b"p(X")?;
+    push_number(text, number)?;
+    for place in 1..1000 {
+        push_variable(text, number, place)?;
     }
-    text.extend_from_slice(b")|")?;
-    Ok(())
+    push_bytes(text, b")|")
 }
 
-// Ten literals with 1,000 variables each, and a last one.
-fn with_variables(alloc: Global, last: &[u8]) -> Result<Vec<u8>, Fail> {
-    let mut text = Vec::from_slice(alloc, b"cnf(a,axiom,")?;
+fn push_variables(text: &mut Vec<u8>, last: &[u8]) -> Result<(), Memory> {
+    push_bytes(text, b"cnf(a,axiom,")?;
     for number in 0..10 {
-        push_variables(alloc, &mut text, number)?;
+        push_literal(text, number)?;
     }
-    text.extend_from_slice(last)?;
-    text.extend_from_slice(b").")?;
-    Ok(text)
+    push_bytes(text, last)?;
+    push_bytes(text, b").")
 }
 
-// The text is that of a satisfiable problem.
-fn is_satisfiable(rt: &impl Abort, alloc: Global, text: &[u8]) -> Result<(), Fail> {
-    let (exit, out) = answer_of(alloc, file_of(alloc, "n.p", text)?, &["prove", "n.p"])?;
-    assert_eq!(rt; exit.code(), 0);
-    let written = str::from_utf8(out.bytes())?;
-    assert!(rt; written.starts_with("% SZS status Satisfiable for n.p\n"));
-    Ok(())
+fn push_text(text: &mut Vec<u8>, shape: Shape, count: usize) -> Result<(), Memory> {
+    match shape {
+        Shape::Nested => push_nested(text, count),
+        Shape::Wide => push_wide(text, count),
+        Shape::Variables => push_variables(text, if count > 0 { b"q(Y)" } else { b"q(X0)" }),
+        Shape::Blank => push_times(text, b" ", count),
+    }
 }
 
-// The text is refused, since its first statement passes the limit of this name.
-fn is_refused(rt: &impl Abort, alloc: Global, text: &[u8], limit: &str) -> Result<(), Fail> {
-    let (exit, out) = answer_of(alloc, file_of(alloc, "n.p", text)?, &["prove", "n.p"])?;
-    assert_eq!(rt; exit.code(), 2);
-    let expected = format!(in alloc;
-        "% SZS status InputError for n.p\n% limit {limit}: statement 1 of n.p\n"
-    )?;
-    assert_eq!(rt; str::from_utf8(out.bytes())?, expected.as_str());
-    Ok(())
+fn begins_by(
+    alloc: Global,
+    text: &mut Vec<u8>,
+    shape: Shape,
+    count: usize,
+    start: &str,
+) -> Result<bool, Memory> {
+    push_text(text, shape, count)?;
+    let files = file_of(alloc, "n.p", text.as_slice())?;
+    let answer = answer_of(alloc, "|prove|n.p", files)?;
+    Ok(answer.starts_with(start.as_bytes()))
+}
+
+// Whether the answer to the text begins so.
+fn begins(alloc: Global, shape: Shape, count: usize, start: &str) -> Result<bool, Memory> {
+    let mut text = Vec::new(alloc);
+    begins_by(alloc, &mut text, shape, count, start)
+}
+
+const SATISFIABLE: &str = "0 % SZS status Satisfiable for n.p\n";
+
+const NESTING: &str = "2 % SZS status InputError for n.p\n% limit nesting: statement 1 of n.p\n";
+
+const ARITY: &str = "2 % SZS status InputError for n.p\n% limit arity: statement 1 of n.p\n";
+
+const VARIABLES: &str =
+    "2 % SZS status InputError for n.p\n% limit variables: statement 1 of n.p\n";
+
+const BYTES: &str = "2 % SZS status InputError for n.p\n% limit bytes\n";
+
+fn limits_are_kept(alloc: Global) -> Result<[bool; 8], Memory> {
+    Ok([
+        begins(alloc, Shape::Nested, 254, SATISFIABLE)?,
+        begins(alloc, Shape::Nested, 255, NESTING)?,
+        begins(alloc, Shape::Wide, 1023, SATISFIABLE)?,
+        begins(alloc, Shape::Wide, 1024, ARITY)?,
+        begins(alloc, Shape::Variables, 0, SATISFIABLE)?,
+        begins(alloc, Shape::Variables, 1, VARIABLES)?,
+        begins(alloc, Shape::Blank, LIMIT, SATISFIABLE)?,
+        begins(alloc, Shape::Blank, LIMIT + 1, BYTES)?,
+    ])
 }
 
 #[test]
 fn limits(rt: HostRuntime) -> Result<(), Fail> {
-    let alloc = rt.alloc();
-    is_satisfiable(&rt, alloc, nested(alloc, 254)?.as_slice())?;
-    is_refused(&rt, alloc, nested(alloc, 255)?.as_slice(), "nesting")?;
-    is_satisfiable(&rt, alloc, wide(alloc, 1023)?.as_slice())?;
-    is_refused(&rt, alloc, wide(alloc, 1024)?.as_slice(), "arity")?;
-    is_satisfiable(&rt, alloc, with_variables(alloc, b"q(X0)")?.as_slice())?;
-    is_refused(
-        &rt,
-        alloc,
-        with_variables(alloc, b"q(Y)")?.as_slice(),
-        "variables",
-    )
-}
-
-// As many blanks as a file may have, and one more.
-#[test]
-fn blanks(rt: HostRuntime) -> Result<(), Fail> {
-    let alloc = rt.alloc();
-    let mut blanks = vec![in alloc; b' '; LIMIT]?;
-    is_satisfiable(&rt, alloc, blanks.as_slice())?;
-    blanks.push(b' ')?;
-    let (exit, out) = answer_of(
-        alloc,
-        file_of(alloc, "n.p", blanks.as_slice())?,
-        &["prove", "n.p"],
-    )?;
-    assert_eq!(rt; exit.code(), 2);
-    assert_eq!(rt;
-        str::from_utf8(out.bytes())?,
-        "% SZS status InputError for n.p\n% limit bytes\n"
-    );
+    assert_eq!(rt; limits_are_kept(rt.alloc())?, [true; 8]);
     Ok(())
 }

@@ -1,18 +1,12 @@
 // Refutations, of which the steps may be any valid ones.
-use crate::runs::{answer_of, file_of};
+use crate::runs::{answer_of, file_of, four_parts};
+use inst_logic::Memory;
 use std::alloc::Global;
-use std::process::Abort;
 use std::str;
-use std::test::Fail;
 
-// Clauses, the answer up to its steps, and a word that no step may have.
-type Row<'a> = (&'a [u8], &'a str, &'a str);
-
-const ROWS: [Row<'static>; 3] = [
-    (
-        b"cnf(a,axiom,p(c)|q). cnf(b,axiom,~p(c)). cnf(d,axiom,~q).",
-        "\
-% SZS status Unsatisfiable for r.p
+// What the row is about, clauses, the status with the answer up to its steps, and a word that no step may have.
+pub const ROWS: &str = "\
+#@cnf(a,axiom,p(c)|q). cnf(b,axiom,~p(c)). cnf(d,axiom,~q).@0 % SZS status Unsatisfiable for r.p
 % SZS output start CNFRefutation for r.p
 % instgen certificate 1
 % ground constant bot_0
@@ -25,13 +19,8 @@ cnf(m3,plain,~q,input(3)).
 cnf(g1,plain,p(c) | q,ground(m1)).
 cnf(g2,plain,~p(c),ground(m2)).
 cnf(g3,plain,~q,ground(m3)).
-",
-        "bot_0",
-    ),
-    (
-        b"cnf(one,axiom,p('A')). cnf('it\\'s',axiom,~ 'p'('A')). cnf(own,axiom,bot_0).",
-        "\
-% SZS status Unsatisfiable for r.p
+@bot_0\
+#@cnf(one,axiom,p('A')). cnf('it\\'s',axiom,~ 'p'('A')). cnf(own,axiom,bot_0).@0 % SZS status Unsatisfiable for r.p
 % SZS output start CNFRefutation for r.p
 % instgen certificate 1
 % ground constant bot_1
@@ -44,14 +33,8 @@ cnf(m3,plain,bot_0,input(3)).
 cnf(g1,plain,p('A'),ground(m1)).
 cnf(g2,plain,~p('A'),ground(m2)).
 cnf(g3,plain,bot_0,ground(m3)).
-",
-        "bot_1",
-    ),
-    // a derivation has what its last step needs
-    (
-        b"cnf(a,axiom,spare|more). cnf(b,axiom,spare|~more). cnf(c,axiom,p|q). cnf(d,axiom,p|~q). cnf(e,axiom,~p|q). cnf(f,axiom,~p|~q).",
-        "\
-% SZS status Unsatisfiable for r.p
+@bot_1\
+#a derivation has what its last step needs@cnf(a,axiom,spare|more). cnf(b,axiom,spare|~more). cnf(c,axiom,p|q). cnf(d,axiom,p|~q). cnf(e,axiom,~p|q). cnf(f,axiom,~p|~q).@0 % SZS status Unsatisfiable for r.p
 % SZS output start CNFRefutation for r.p
 % instgen certificate 1
 % ground constant bot_0
@@ -73,38 +56,42 @@ cnf(g3,plain,p | q,ground(m3)).
 cnf(g4,plain,p | ~q,ground(m4)).
 cnf(g5,plain,~p | q,ground(m5)).
 cnf(g6,plain,~p | ~q,ground(m6)).
-",
-        "spare",
-    ),
-];
+@spare\
+";
 
 const END: &str = "])).\n% SZS output end CNFRefutation for r.p\n";
 
-// The last step is that of the empty clause, and the word is in none.
-fn check_steps(rt: &impl Abort, steps: &str, word: &str) {
-    assert!(rt; steps.starts_with("cnf(r1,plain,"));
-    assert!(rt; steps.ends_with(END));
-    assert!(rt; !steps.contains(word));
+// Whether the last step is that of the empty clause, and the word is in none.
+fn are_steps(steps: &str, word: &str) -> bool {
+    if steps.contains(word) || !steps.starts_with("cnf(r1,plain,") || !steps.ends_with(END) {
+        return false;
+    }
     match steps.rsplit_once("cnf(r") {
-        Some((_, last)) => assert!(rt; last.contains(",plain,$false,rup([")),
-        None => assert!(rt; false, "no step"),
+        Some((_, last)) => last.contains(",plain,$false,rup(["),
+        None => false,
     }
 }
 
-fn check_refutation(rt: &impl Abort, alloc: Global, row: &Row<'_>) -> Result<(), Fail> {
-    let (exit, out) = answer_of(alloc, file_of(alloc, "r.p", row.0)?, &["prove", "r.p"])?;
-    assert_eq!(rt; exit.code(), 0);
-    match str::from_utf8(out.bytes())?.strip_prefix(row.1) {
-        Some(steps) => check_steps(rt, steps, row.2),
-        None => assert!(rt; false, "another beginning"),
+fn is_told(answer: &[u8], start: &str, word: &str) -> bool {
+    match str::from_utf8(answer) {
+        Ok(text) => match text.strip_prefix(start) {
+            Some(steps) => are_steps(steps, word),
+            None => false,
+        },
+        Err(_) => false,
     }
-    Ok(())
 }
 
-#[test]
-fn refutations(rt: HostRuntime) -> Result<(), Fail> {
-    for row in &ROWS {
-        check_refutation(&rt, rt.alloc(), row)?;
+fn is_refuted(alloc: Global, clauses: &str, start: &str, word: &str) -> Result<bool, Memory> {
+    let files = file_of(alloc, "r.p", clauses.as_bytes())?;
+    let answer = answer_of(alloc, "|prove|r.p", files)?;
+    Ok(is_told(answer.as_slice(), start, word))
+}
+
+/// Whether the clauses of the row are refuted so.
+pub fn is_right(alloc: Global, row: &str) -> Result<bool, Memory> {
+    match four_parts(row) {
+        Some((_, clauses, start, word)) => { is_refuted(alloc, clauses, start, word) }
+        None => Ok(false),
     }
-    Ok(())
 }

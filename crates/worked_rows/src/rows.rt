@@ -1,30 +1,16 @@
 // One row each: the answer to some words where the files are told.
-use crate::runs::{Row, answer_of, check_row, file_of};
+use crate::runs::{file_of, files_of, four_parts, is_answer};
+use inst_logic::Memory;
 use std::alloc::Global;
-use std::process::Abort;
-use std::str;
-use std::test::Fail;
 
-const ROWS: [Row<'static>; 22] = [
-    // an empty file
-    Row {
-        files: &[("r.p", "")],
-        words: &["prove", "r.p"],
-        status: 0,
-        text: "\
-% SZS status Satisfiable for r.p
+// What the row is about, the words, the status with what is written, and the files.
+pub const ROWS: &str = "\
+#an empty file@|prove|r.p@0 % SZS status Satisfiable for r.p
 % SZS output start Saturation for r.p
 % instgen certificate 1
 % SZS output end Saturation for r.p
-",
-    },
-    // satisfiable clauses
-    Row {
-        files: &[("r.p", "cnf(a,axiom,p | q). cnf(b,axiom,~p).")],
-        words: &["prove", "r.p"],
-        status: 0,
-        text: "\
-% SZS status Satisfiable for r.p
+@r.p@\
+#satisfiable clauses@|prove|r.p@0 % SZS status Satisfiable for r.p
 % SZS output start Saturation for r.p
 % instgen certificate 1
 cnf(i1,axiom,p | q,named(a)).
@@ -32,15 +18,8 @@ cnf(i2,axiom,~p,named(b)).
 cnf(m1,plain,p | q,input(1),[selected(2)]).
 cnf(m2,plain,~p,input(2),[selected(1)]).
 % SZS output end Saturation for r.p
-",
-    },
-    // tautologies and repeats are no members
-    Row {
-        files: &[("r.p", "cnf(a,axiom,p). cnf(b,axiom,p). cnf(c,axiom,q|~q).")],
-        words: &["prove", "r.p"],
-        status: 0,
-        text: "\
-% SZS status Satisfiable for r.p
+@r.p@cnf(a,axiom,p | q). cnf(b,axiom,~p).\
+#tautologies and repeats are no members@|prove|r.p@0 % SZS status Satisfiable for r.p
 % SZS output start Saturation for r.p
 % instgen certificate 1
 cnf(i1,axiom,p,named(a)).
@@ -48,18 +27,8 @@ cnf(i2,axiom,p,named(b)).
 cnf(i3,axiom,q | ~q,named(c)).
 cnf(m1,plain,p,input(1),[selected(1)]).
 % SZS output end Saturation for r.p
-",
-    },
-    // names in quotes
-    Row {
-        files: &[(
-            "t.p",
-            "cnf(one,axiom,p('A')|~q('b')). cnf('it\\'s',axiom,~p('A')|'P').",
-        )],
-        words: &["prove", "t.p"],
-        status: 0,
-        text: "\
-% SZS status Satisfiable for t.p
+@r.p@cnf(a,axiom,p). cnf(b,axiom,p). cnf(c,axiom,q|~q).\
+#names in quotes@|prove|t.p@0 % SZS status Satisfiable for t.p
 % SZS output start Saturation for t.p
 % instgen certificate 1
 cnf(i1,axiom,p('A') | ~q(b),named(one)).
@@ -67,25 +36,11 @@ cnf(i2,axiom,~p('A') | 'P',named('it\\'s')).
 cnf(m1,plain,p('A') | ~q(b),input(1),[selected(2)]).
 cnf(m2,plain,~p('A') | 'P',input(2),[selected(1)]).
 % SZS output end Saturation for t.p
-",
-    },
-    // a file that is absent
-    Row {
-        files: &[("r.p", "")],
-        words: &["prove", "s.p"],
-        status: 2,
-        text: "\
-% SZS status InputError for s.p
+@t.p@cnf(one,axiom,p('A')|~q('b')). cnf('it\\'s',axiom,~p('A')|'P').\
+#a file that is absent@|prove|s.p@2 % SZS status InputError for s.p
 % absent: s.p
-",
-    },
-    // a variable
-    Row {
-        files: &[("r.p", "cnf(a,axiom,p). cnf(b,axiom,p(X)).")],
-        words: &["prove", "r.p"],
-        status: 0,
-        text: "\
-% SZS status Satisfiable for r.p
+@r.p@\
+#a variable@|prove|r.p@0 % SZS status Satisfiable for r.p
 % SZS output start Saturation for r.p
 % instgen certificate 1
 cnf(i1,axiom,p,named(a)).
@@ -93,15 +48,8 @@ cnf(i2,axiom,p(X0),named(b)).
 cnf(m1,plain,p,input(1),[selected(1)]).
 cnf(m2,plain,p(X0),input(2),[selected(1)]).
 % SZS output end Saturation for r.p
-",
-    },
-    // the empty clause
-    Row {
-        files: &[("empty.p", "cnf(a,axiom,$false).")],
-        words: &["prove", "empty.p"],
-        status: 0,
-        text: "\
-% SZS status Unsatisfiable for empty.p
+@r.p@cnf(a,axiom,p). cnf(b,axiom,p(X)).\
+#the empty clause@|prove|empty.p@0 % SZS status Unsatisfiable for empty.p
 % SZS output start CNFRefutation for empty.p
 % instgen certificate 1
 % ground constant bot_0
@@ -110,15 +58,8 @@ cnf(m1,plain,$false,input(1)).
 cnf(g1,plain,$false,ground(m1)).
 cnf(r1,plain,$false,rup([g1])).
 % SZS output end CNFRefutation for empty.p
-",
-    },
-    // no constant but the one for abstractions
-    Row {
-        files: &[("r9.p", "cnf(a,axiom,p(X) | ~q(X)). cnf(b,axiom,q(Y)).")],
-        words: &["prove", "r9.p"],
-        status: 0,
-        text: "\
-% SZS status Satisfiable for r9.p
+@empty.p@cnf(a,axiom,$false).\
+#no constant but the one for abstractions@|prove|r9.p@0 % SZS status Satisfiable for r9.p
 % SZS output start Saturation for r9.p
 % instgen certificate 1
 cnf(i1,axiom,p(X0) | ~q(X0),named(a)).
@@ -126,231 +67,113 @@ cnf(i2,axiom,q(X0),named(b)).
 cnf(m1,plain,p(X0) | ~q(X0),input(1),[selected(1)]).
 cnf(m2,plain,q(X0),input(2),[selected(1)]).
 % SZS output end Saturation for r9.p
-",
-    },
-    // a budget that the one conclusion does not fit
-    Row {
-        files: &[("r7.p", "cnf(a,axiom,p(f(X))). cnf(b,axiom,~p(f(f(c)))).")],
-        words: &["prove", "r7.p", "--budget", "3"],
-        status: 1,
-        text: "\
-% SZS status ResourceOut for r7.p
+@r9.p@cnf(a,axiom,p(X) | ~q(X)). cnf(b,axiom,q(Y)).\
+#a budget that the one conclusion does not fit@|prove|r7.p|--budget|3@1 % SZS status ResourceOut for r7.p
 % budget 3, left 3, least conclusion 4
-",
-    },
-    // the least of two conclusions
-    Row {
-        files: &[(
-            "r.p",
-            "cnf(a,axiom,p(f(X))). cnf(b,axiom,~p(f(f(c)))). cnf(d,axiom,~p(f(g(c)))).",
-        )],
-        words: &["prove", "--budget=3", "r.p"],
-        status: 1,
-        text: "\
-% SZS status ResourceOut for r.p
+@r7.p@cnf(a,axiom,p(f(X))). cnf(b,axiom,~p(f(f(c)))).\
+#the least of two conclusions@|prove|--budget=3|r.p@1 % SZS status ResourceOut for r.p
 % budget 3, left 3, least conclusion 4
-",
-    },
-    // a selection reaches nested includes
-    Row {
-        files: &[
-            ("m.p", "include('a.p',[b])."),
-            ("a.p", "include('b.p'). cnf(x,axiom,q)."),
-            ("b.p", "cnf(b,axiom,p). cnf(c,axiom,r)."),
-        ],
-        words: &["prove", "m.p"],
-        status: 0,
-        text: "\
-% SZS status Satisfiable for m.p
+@r.p@cnf(a,axiom,p(f(X))). cnf(b,axiom,~p(f(f(c)))). cnf(d,axiom,~p(f(g(c)))).\
+#a selection reaches nested includes@|prove|m.p@0 % SZS status Satisfiable for m.p
 % SZS output start Saturation for m.p
 % instgen certificate 1
 cnf(i1,axiom,p,named(b)).
 cnf(m1,plain,p,input(1),[selected(1)]).
 % SZS output end Saturation for m.p
-",
-    },
-    // a selected statement that is absent
-    Row {
-        files: &[
-            (
-                "m.p",
-                "include('ax.p',[b,zz]). cnf(g,negated_conjecture,~p(c)).",
-            ),
-            ("ax.p", "cnf(a,axiom,q(c)). cnf(b,axiom,p(X))."),
-        ],
-        words: &["prove", "m.p"],
-        status: 2,
-        text: "\
-% SZS status InputError for m.p
+@m.p@include('a.p',[b]).@a.p@include('b.p'). cnf(x,axiom,q).@b.p@cnf(b,axiom,p). cnf(c,axiom,r).\
+#a selected statement that is absent@|prove|m.p@2 % SZS status InputError for m.p
 % not selected: zz in ax.p
-",
-    },
-    // an include that is absent
-    Row {
-        files: &[("m.p", "include('no.p').")],
-        words: &["prove", "m.p"],
-        status: 2,
-        text: "\
-% SZS status InputError for m.p
+@m.p@include('ax.p',[b,zz]). cnf(g,negated_conjecture,~p(c)).@ax.p@cnf(a,axiom,q(c)). cnf(b,axiom,p(X)).\
+#an include that is absent@|prove|m.p@2 % SZS status InputError for m.p
 % absent: no.p
-",
-    },
-    // a file that includes itself
-    Row {
-        files: &[("loop.p", "include('loop.p').")],
-        words: &["prove", "loop.p"],
-        status: 2,
-        text: "\
-% SZS status InputError for loop.p
+@m.p@include('no.p').\
+#a file that includes itself@|prove|loop.p@2 % SZS status InputError for loop.p
 % limit include depth: loop.p
-",
-    },
-    // an include under the root
-    Row {
-        files: &[
-            ("d/m.p", "include('A/x.ax')."),
-            ("t/A/x.ax", "cnf(a,axiom,p)."),
-        ],
-        words: &["prove", "d/m.p", "--root", "t"],
-        status: 0,
-        text: "\
-% SZS status Satisfiable for d/m.p
+@loop.p@include('loop.p').\
+#an include under the root@|prove|d/m.p|--root|t@0 % SZS status Satisfiable for d/m.p
 % SZS output start Saturation for d/m.p
 % instgen certificate 1
 cnf(i1,axiom,p,named(a)).
 cnf(m1,plain,p,input(1),[selected(1)]).
 % SZS output end Saturation for d/m.p
-",
-    },
-    // an include beside its file comes first
-    Row {
-        files: &[
-            ("d/m.p", "include('A/x.ax')."),
-            ("t/A/x.ax", "cnf(a,axiom,p)."),
-            ("d/A/x.ax", "cnf(b,axiom,q)."),
-        ],
-        words: &["prove", "d/m.p", "--root", "t"],
-        status: 0,
-        text: "\
-% SZS status Satisfiable for d/m.p
+@d/m.p@include('A/x.ax').@t/A/x.ax@cnf(a,axiom,p).\
+#an include beside its file comes first@|prove|d/m.p|--root|t@0 % SZS status Satisfiable for d/m.p
 % SZS output start Saturation for d/m.p
 % instgen certificate 1
 cnf(i1,axiom,q,named(b)).
 cnf(m1,plain,q,input(1),[selected(1)]).
 % SZS output end Saturation for d/m.p
-",
-    },
-    // another language
-    Row {
-        files: &[("r.p", "cnf(a,axiom,p). cnf(b,axiom,q). fof(x,axiom,p).")],
-        words: &["prove", "r.p"],
-        status: 2,
-        text: "\
-% SZS status Inappropriate for r.p
+@d/m.p@include('A/x.ax').@t/A/x.ax@cnf(a,axiom,p).@d/A/x.ax@cnf(b,axiom,q).\
+#another language@|prove|r.p@2 % SZS status Inappropriate for r.p
 % language fof: statement 3 of r.p
-",
-    },
-    // a distinct object
-    Row {
-        files: &[("r.p", "cnf(a,axiom,p(\"obj\")).")],
-        words: &["prove", "r.p"],
-        status: 2,
-        text: "\
-% SZS status Inappropriate for r.p
+@r.p@cnf(a,axiom,p). cnf(b,axiom,q). fof(x,axiom,p).\
+#a distinct object@|prove|r.p@2 % SZS status Inappropriate for r.p
 % feature \"obj\": statement 1 of r.p
-",
-    },
-    // a number
-    Row {
-        files: &[("r.p", "cnf(a,axiom,p(7)).")],
-        words: &["prove", "r.p"],
-        status: 2,
-        text: "\
-% SZS status Inappropriate for r.p
+@r.p@cnf(a,axiom,p(\"obj\")).\
+#a number@|prove|r.p@2 % SZS status Inappropriate for r.p
 % feature 7: statement 1 of r.p
-",
-    },
-    // another role
-    Row {
-        files: &[("r.p", "cnf(a,conjecture,p).")],
-        words: &["prove", "r.p"],
-        status: 2,
-        text: "\
-% SZS status Inappropriate for r.p
+@r.p@cnf(a,axiom,p(7)).\
+#another role@|prove|r.p@2 % SZS status Inappropriate for r.p
 % role conjecture: statement 1 of r.p
-",
-    },
-    // a statement without an end
-    Row {
-        files: &[(
-            "cut.p",
-            "cnf(a,axiom,p). cnf(b,axiom,q). cnf(c,axiom,r). cnf(d,axiom,p(",
-        )],
-        words: &["prove", "cut.p"],
-        status: 2,
-        text: "\
-% SZS status SyntaxError for cut.p
+@r.p@cnf(a,conjecture,p).\
+#a statement without an end@|prove|cut.p@2 % SZS status SyntaxError for cut.p
 % syntax: statement 4 of cut.p
-",
-    },
-    // another language in an include
-    Row {
-        files: &[
-            ("m.p", "include('ax.p')."),
-            ("ax.p", "cnf(a,axiom,p). fof(b,axiom,p)."),
-        ],
-        words: &["prove", "m.p"],
-        status: 2,
-        text: "\
-% SZS status Inappropriate for m.p
+@cut.p@cnf(a,axiom,p). cnf(b,axiom,q). cnf(c,axiom,r). cnf(d,axiom,p(\
+#another language in an include@|prove|m.p@2 % SZS status Inappropriate for m.p
 % language fof: statement 2 of ax.p
-",
-    },
-];
+@m.p@include('ax.p').@ax.p@cnf(a,axiom,p). fof(b,axiom,p).\
+";
+
+// The same of files in the DIMACS form.
+pub const DIMACS: &str = "\
+#@|sat|d.cnf@10 s SATISFIABLE\nv -1 2 0\n@d.cnf@p cnf 2 2\n1 2 0\n-1 0\n\
+#@|sat|d.cnf@20 s UNSATISFIABLE\nr 3 0 1 2 0\n@d.cnf@p cnf 1 2\n1 0\n-1 0\n\
+#@|sat|d.cnf@2 % SZS status InputError for d.cnf\n% literal: line 2 of d.cnf\n@d.cnf@p cnf 1 1\n2 0\n\
+#@|sat|d.cnf@2 % SZS status InputError for d.cnf\n% clauses 1\n@d.cnf@p cnf 1 2\n1 0\n\
+#@|sat|--|-e.cnf@2 % SZS status InputError for -e.cnf\n% absent: -e.cnf\n@d.cnf@\
+";
 
 // Words that are not read, though there is a file r.p.
-const UNREAD: [&[&str]; 17] = [
-    &[],
-    &["prove"],
-    &["prove", "r.p", "s.p"],
-    &["prove", ""],
-    &["prove", "-r.p"],
-    &["prove", "r\n.p"],
-    &["prove", "a", "b"],
-    &["verify", "r.p"],
-    &["stress", "1"],
-    &["stress", "100001"],
-    &["stress", "r.p"],
-    &["prove", "r.p", "--root"],
-    &["prove", "r.p", "--root", "-d"],
-    &["prove", "r.p", "--budget", "x"],
-    &["prove", "--help"],
-    &["sat", "r.p", "--root", "d"],
-    &["prove", "r.p", "--root", "d", "e"],
-];
+pub const UNREAD: &str = "\
+#\
+#|prove\
+#|prove|r.p|s.p\
+#|prove|\
+#|prove|-r.p\
+#|prove|r\n.p\
+#|prove|a|b\
+#|verify|r.p\
+#|stress|1\
+#|stress|100001\
+#|stress|r.p\
+#|prove|r.p|--root\
+#|prove|r.p|--root|-d\
+#|prove|r.p|--budget|x\
+#|prove|--help\
+#|sat|r.p|--root|d\
+#|prove|r.p|--root|d|e\
+";
 
-#[test]
-fn files_have_these_answers(rt: HostRuntime) -> Result<(), Fail> {
-    for row in &ROWS {
-        check_row(&rt, rt.alloc(), row)?;
-    }
-    Ok(())
+fn is_answered(alloc: Global, words: &str, wanted: &str, files: &str) -> Result<bool, Memory> {
+    let files = files_of(alloc, files)?;
+    is_answer(alloc, words, files, wanted)
 }
 
-fn check_unread(rt: &impl Abort, alloc: Global, words: &[&str]) -> Result<(), Fail> {
-    let (exit, out) = answer_of(alloc, file_of(alloc, "r.p", b"")?, words)?;
-    assert_eq!(rt; exit.code(), 3);
-    assert_eq!(rt;
-        str::from_utf8(out.bytes())?,
-        "% SZS status UsageError for instgen\n% usage\n"
-    );
-    Ok(())
+/// Whether the words of the row have its answer, where there are its files.
+pub fn is_right(alloc: Global, row: &str) -> Result<bool, Memory> {
+    match four_parts(row) {
+        Some((_, words, wanted, files)) => { is_answered(alloc, words, wanted, files) }
+        None => Ok(false),
+    }
 }
 
-#[test]
-fn unread_words(rt: HostRuntime) -> Result<(), Fail> {
-    for words in UNREAD {
-        check_unread(&rt, rt.alloc(), words)?;
-    }
-    Ok(())
+/// Whether the words are not read.
+pub fn is_unread(alloc: Global, words: &str) -> Result<bool, Memory> {
+    let files = file_of(alloc, "r.p", b"")?;
+    is_answer(
+        alloc,
+        words,
+        files,
+        "3 % SZS status UsageError for instgen\n% usage\n",
+    )
 }

@@ -7,6 +7,8 @@ mod derivations;
 #[cfg(test)]
 mod questions;
 #[cfg(test)]
+mod tests;
+#[cfg(test)]
 mod trails;
 #[cfg(test)]
 mod valuations;

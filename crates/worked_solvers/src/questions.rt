@@ -8,7 +8,6 @@ use inst_logic::Memory;
 use proof_log::Checker;
 use prop_logic::{Answer, Derivation, Lit, LitList, LitLists, Plain, Solver};
 use std::alloc::Global;
-use std::test::Fail;
 
 fn lit(atom: usize, positive: bool) -> Lit
     ensures { result ≡ (record { positive = positive; atom = atom }) }
@@ -130,9 +129,8 @@ fn row<S: Solver>(mut solver: S) -> Result<Answers, Memory>
     row_by(&mut solver)
 }
 
-#[test]
-fn the_row_is_answered(rt: HostRuntime) -> Result<(), Fail> {
-    let (values, refuted, clash) = row(Cdcl::new(rt.alloc()))?;
+pub fn the_row_is_answered(alloc: Global) -> Result<bool, Memory> {
+    let (values, refuted, clash) = row(Cdcl::new(alloc))?;
     let want = Refutation {
         core: 1,
         steps: 1,
@@ -140,11 +138,7 @@ fn the_row_is_answered(rt: HostRuntime) -> Result<(), Fail> {
         assumed: Some(lit(1, false)),
         shown: Some(lit(1, true)),
     };
-    assert_eq!(rt;
-        (values, refuted, clash.map(|r| r.core)),
-        (Some((false, true)), Some(want), Some(1))
-    );
-    Ok(())
+    Ok((values, refuted, clash.map(|r| r.core)) == (Some((false, true)), Some(want), Some(1)))
 }
 
 // The numbers of the clauses 0 | 1 and ~0, the values that make them true, what refutes them under not 1 and under 1 and its
@@ -175,13 +169,11 @@ fn plain_row<S: Solver>(mut solver: S) -> Result<PlainRow, Memory>
     plain_row_by(&mut solver)
 }
 
-#[test]
-fn the_plain_solver_answers_the_row(rt: HostRuntime) -> Result<(), Fail> {
-    assert_eq!(rt;
-        plain_row(Plain::new(rt.alloc()))?,
-        ([1, 2], Some((false, true)), [Some((1, 1)), Some((2, 2))], 0)
-    );
-    Ok(())
+pub fn the_plain_solver_answers_the_row(alloc: Global) -> Result<bool, Memory> {
+    Ok(
+        plain_row(Plain::new(alloc))?
+            == ([1, 2], Some((false, true)), [Some((1, 1)), Some((2, 2))], 0),
+    )
 }
 
 fn values_of_atoms_by<S: Solver>(
@@ -201,13 +193,8 @@ fn values_of_atoms<S: Solver>(mut solver: S, count: usize) -> Result<Option<(boo
     values_of_atoms_by(&mut solver, count)
 }
 
-#[test]
-fn a_million_atoms_have_values(rt: HostRuntime) -> Result<(), Fail> {
-    assert_eq!(rt;
-        values_of_atoms(Plain::new(rt.alloc()), 1_000_000)?,
-        Some((false, false))
-    );
-    Ok(())
+pub fn a_million_atoms_have_values(alloc: Global) -> Result<bool, Memory> {
+    Ok(values_of_atoms(Plain::new(alloc), 1_000_000)? == Some((false, false)))
 }
 
 fn core_of_signs_by<S: Solver>(solver: &mut S) -> Result<Option<usize>, Memory>
@@ -225,16 +212,13 @@ fn core_of_signs<S: Solver>(mut solver: S) -> Result<Option<usize>, Memory>
     core_of_signs_by(&mut solver)
 }
 
-#[test]
-fn both_solvers_refute_eight_clauses(rt: HostRuntime) -> Result<(), Fail> {
-    assert_eq!(rt;
+pub fn both_solvers_refute_eight_clauses(alloc: Global) -> Result<bool, Memory> {
+    Ok(
         [
-            core_of_signs(Cdcl::new(rt.alloc()))?,
-            core_of_signs(Plain::new(rt.alloc()))?
-        ],
-        [Some(0); 2]
-    );
-    Ok(())
+            core_of_signs(Cdcl::new(alloc))?,
+            core_of_signs(Plain::new(alloc))?,
+        ] == [Some(0); 2],
+    )
 }
 
 fn refute_signs_by<S: Solver>(solver: &mut S) -> Result<Option<Refutation>, Memory>
@@ -253,11 +237,9 @@ fn refute_signs<S: Solver>(mut solver: S) -> Result<Option<Refutation>, Memory>
     refute_signs_by(&mut solver)
 }
 
-#[test]
-fn clauses_of_forty_pairs_are_left_out(rt: HostRuntime) -> Result<(), Fail> {
-    let found = refute_signs(Cdcl::new(rt.alloc()))?;
-    assert_eq!(rt; found.map(|r| (r.core, r.steps <= 64)), Some((0, true)));
-    Ok(())
+pub fn clauses_of_forty_pairs_are_left_out(alloc: Global) -> Result<bool, Memory> {
+    let found = refute_signs(Cdcl::new(alloc))?;
+    Ok(found.map(|r| (r.core, r.steps <= 64)) == Some((0, true)))
 }
 
 // The eight clauses of atoms 0, 1 and 2 with all signs.
@@ -339,11 +321,9 @@ fn signs_checked<S: Solver>(alloc: Global, mut solver: S) -> Result<Option<(usiz
     checked_signs(alloc, &mut solver)
 }
 
-#[test]
-fn the_checker_accepts_what_refutes_eight_clauses(rt: HostRuntime) -> Result<(), Fail> {
-    let found = signs_checked(rt.alloc(), Cdcl::new(rt.alloc()))?;
-    assert_eq!(rt; found, Some((0, true)));
-    Ok(())
+pub fn the_checker_accepts_what_refutes_eight_clauses(alloc: Global) -> Result<bool, Memory> {
+    let found = signs_checked(alloc, Cdcl::new(alloc))?;
+    Ok(found == Some((0, true)))
 }
 
 // The clauses that say that atom i gives atom i + 1, for the first `count` atoms, after the first atom and before the
@@ -472,17 +452,14 @@ fn steps_of_pigeons<S: Solver>(mut solver: S, holes: usize) -> Result<Option<usi
     steps_of_pigeons_by(&mut solver, holes)
 }
 
-#[test]
-fn a_chain_is_one_step(rt: HostRuntime) -> Result<(), Fail> {
-    assert_eq!(rt;
+pub fn a_chain_is_one_step(alloc: Global) -> Result<bool, Memory> {
+    Ok(
         [
-            steps_of_chain(Cdcl::new(rt.alloc()), 1)?,
-            steps_of_chain(Cdcl::new(rt.alloc()), 10)?,
-            steps_of_chain(Cdcl::new(rt.alloc()), 10_000)?
-        ],
-        [Some(1); 3]
-    );
-    Ok(())
+            steps_of_chain(Cdcl::new(alloc), 1)?,
+            steps_of_chain(Cdcl::new(alloc), 10)?,
+            steps_of_chain(Cdcl::new(alloc), 10_000)?,
+        ] == [Some(1); 3],
+    )
 }
 
 // Whether so many steps, or fewer, refute the pigeons.
@@ -493,17 +470,14 @@ fn refutes_pigeons_within(alloc: Global, holes: usize, most: usize) -> Result<bo
     Ok(steps.is_some_and(|found| found <= most))
 }
 
-#[test]
-fn pigeons_are_refuted_in_few_steps(rt: HostRuntime) -> Result<(), Fail> {
-    assert_eq!(rt;
+pub fn pigeons_are_refuted_in_few_steps(alloc: Global) -> Result<bool, Memory> {
+    Ok(
         [
-            refutes_pigeons_within(rt.alloc(), 2, 5)?,
-            refutes_pigeons_within(rt.alloc(), 4, 50)?,
-            refutes_pigeons_within(rt.alloc(), 6, 1500)?
-        ],
-        [true; 3]
-    );
-    Ok(())
+            refutes_pigeons_within(alloc, 2, 5)?,
+            refutes_pigeons_within(alloc, 4, 50)?,
+            refutes_pigeons_within(alloc, 6, 1500)?,
+        ] == [true; 3],
+    )
 }
 
 // The length of the core where three assumptions are all of a clause's complements, and a fourth is about another atom.
@@ -522,16 +496,13 @@ fn core_of_three<S: Solver>(mut solver: S) -> Result<Option<usize>, Memory>
     core_of_three_by(&mut solver)
 }
 
-#[test]
-fn a_core_has_three_of_four_assumptions(rt: HostRuntime) -> Result<(), Fail> {
-    assert_eq!(rt;
+pub fn a_core_has_three_of_four_assumptions(alloc: Global) -> Result<bool, Memory> {
+    Ok(
         [
-            core_of_three(Cdcl::new(rt.alloc()))?,
-            core_of_three(Plain::new(rt.alloc()))?
-        ],
-        [Some(3); 2]
-    );
-    Ok(())
+            core_of_three(Cdcl::new(alloc))?,
+            core_of_three(Plain::new(alloc))?,
+        ] == [Some(3); 2],
+    )
 }
 
 // The values of two atoms before and after a clause that is false at first.
@@ -555,17 +526,14 @@ fn before_and_after<S: Solver>(mut solver: S) -> Result<Pairs, Memory>
     before_and_after_by(&mut solver)
 }
 
-#[test]
-fn a_clause_comes_between_two_questions(rt: HostRuntime) -> Result<(), Fail> {
+pub fn a_clause_comes_between_two_questions(alloc: Global) -> Result<bool, Memory> {
     let want = (Some((true, false)), Some((false, true)));
-    assert_eq!(rt;
+    Ok(
         [
-            before_and_after(Cdcl::new(rt.alloc()))?,
-            before_and_after(Plain::new(rt.alloc()))?
-        ],
-        [want; 2]
-    );
-    Ok(())
+            before_and_after(Cdcl::new(alloc))?,
+            before_and_after(Plain::new(alloc))?,
+        ] == [want; 2],
+    )
 }
 
 fn ask_again<S: Solver>(solver: &mut S, count: usize) -> Result<(), Memory>
@@ -597,9 +565,7 @@ fn conflicts_of<S: Solver>(mut solver: S) -> Result<(u64, u64), Memory>
     conflicts_by(&mut solver)
 }
 
-#[test]
-fn questions_that_are_refuted_again_leave_no_steps(rt: HostRuntime) -> Result<(), Fail> {
-    let found = conflicts_of(Cdcl::new(rt.alloc()))?;
-    assert_eq!(rt; found.0, found.1);
-    Ok(())
+pub fn questions_that_are_refuted_again_leave_no_steps(alloc: Global) -> Result<bool, Memory> {
+    let found = conflicts_of(Cdcl::new(alloc))?;
+    Ok(found.0 == found.1)
 }

@@ -8,7 +8,6 @@ use cdcl_trail::{Clauses, Trail};
 use inst_logic::Memory;
 use prop_logic::Lit;
 use std::alloc::Global;
-use std::test::Fail;
 
 fn lit(atom: usize, positive: bool) -> Lit
     ensures { result ≡ (record { positive = positive; atom = atom }) }
@@ -205,8 +204,7 @@ fn first_wrong(alloc: Global, rows: &[Row<'_>]) -> Result<Option<usize>, Memory>
     Ok(None)
 }
 
-#[test]
-fn propagation_is_exact_in_any_order_of_calls(rt: HostRuntime) -> Result<(), Fail> {
+pub fn propagation_is_exact_in_any_order_of_calls(alloc: Global) -> Result<bool, Memory> {
     let rows: [Row<'_>; 7] = [
         // Two decisions, and then one propagation.
         (
@@ -283,8 +281,7 @@ fn propagation_is_exact_in_any_order_of_calls(rt: HostRuntime) -> Result<(), Fai
             [None, None, None, Some(false)],
         ),
     ];
-    assert_eq!(rt; first_wrong(rt.alloc(), &rows)?, None);
-    Ok(())
+    Ok(first_wrong(alloc, &rows)? == None)
 }
 
 // What is known of atom 1 when atom 0 of a clause of both is decided to be false.
@@ -321,8 +318,7 @@ fn given(alloc: Global) -> Result<Known, Memory> {
     given_by(&mut trail, &mut clauses)
 }
 
-#[test]
-fn a_decision_gives_the_other_literal(rt: HostRuntime) -> Result<(), Fail> {
+pub fn a_decision_gives_the_other_literal(alloc: Global) -> Result<bool, Memory> {
     let want = Known {
         conflict: None,
         value: Some(true),
@@ -330,8 +326,7 @@ fn a_decision_gives_the_other_literal(rt: HostRuntime) -> Result<(), Fail> {
         level: Some(1),
         second: Some(lit(1, true)),
     };
-    assert_eq!(rt; given(rt.alloc())?, want);
-    Ok(())
+    Ok(given(alloc)? == want)
 }
 
 fn forget(clauses: &mut Clauses, n: usize) {
@@ -364,8 +359,6 @@ fn numbers(alloc: Global) -> Result<[usize; 3], Memory> {
     numbers_by(&mut trail, &mut clauses)
 }
 
-#[test]
-fn a_forgotten_number_is_given_again(rt: HostRuntime) -> Result<(), Fail> {
-    assert_eq!(rt; numbers(rt.alloc())?, [1, 2, 1]);
-    Ok(())
+pub fn a_forgotten_number_is_given_again(alloc: Global) -> Result<bool, Memory> {
+    Ok(numbers(alloc)? == [1, 2, 1])
 }

@@ -4,7 +4,6 @@ ghost use Rattle.std.specs.Prelude.{◌≡◌, IfOk, length};
 use inst_logic::Memory;
 use prop_logic::{Valuation, changes};
 use std::alloc::Global;
-use std::test::Fail;
 
 // Every third atom is true.
 fn thirds(alloc: Global, count: usize) -> Result<Valuation, Memory>
@@ -49,18 +48,16 @@ fn read(alloc: Global) -> Result<Read, Memory> {
     Ok(read_by(&mut valuation))
 }
 
-#[test]
-fn values_are_read(rt: HostRuntime) -> Result<(), Fail> {
-    assert_eq!(rt;
-        read(rt.alloc())?,
-        (
-            (false, 130),
-            [true, true, false, false, true, false],
-            [Some(true), Some(false), None],
-            [true, false]
-        )
-    );
-    Ok(())
+pub fn values_are_read(alloc: Global) -> Result<bool, Memory> {
+    Ok(
+        read(alloc)?
+            == (
+                (false, 130),
+                [true, true, false, false, true, false],
+                [Some(true), Some(false), None],
+                [true, false],
+            ),
+    )
 }
 
 // Whether these are the atoms whose values differ.
@@ -102,8 +99,6 @@ fn changes_of(alloc: Global) -> Result<[bool; 3], Memory> {
     changes_by(alloc, &old, &mut new)
 }
 
-#[test]
-fn changes_are_listed(rt: HostRuntime) -> Result<(), Fail> {
-    assert_eq!(rt; changes_of(rt.alloc())?, [true; 3]);
-    Ok(())
+pub fn changes_are_listed(alloc: Global) -> Result<bool, Memory> {
+    Ok(changes_of(alloc)? == [true; 3])
 }

@@ -4,7 +4,7 @@ ghost use Rattle.inst_logic.specs.Clauses.{IsCanonical};
 ghost use Rattle.term_bank.specs.Forest.{AreIds, Extends, IsClauseOf, clause_at};
 ghost use Rattle.clause_form.specs.Conclusions.{up_to};
 
-use crate::building::{arguments, clause_at, clauses_in, last_atom};
+use crate::building::{arguments, clause_at, last_atom};
 use clause_form::{
     Conclusion, canonical, clause_size, conclude, greatest_variable, under, variant,
 };
@@ -12,7 +12,20 @@ use inst_logic::Memory;
 use std::alloc::Global;
 use std::test::Fail;
 use term_bank::{Bank, IdClause, IdClauseList, TermId, TermIdList};
+use tptp_write::{push_bytes, push_number};
 use unify_core::{Bindings, Side};
+
+// The size of the canonical form of the first clause's instance by the arguments of the last atom of the second, where it is the
+// third clause. Repeats merge; the second instance is p(Y)|q(X), and Y becomes the first variable.
+pub const INSTANCES: &str = "\
+#cnf(c,axiom,p(X)|p(Y)). cnf(t,axiom,t(a,a)). cnf(w,axiom,p(a)).@2\
+#cnf(c,axiom,p(X)|q(Y)|p(Z)). cnf(t,axiom,s(X)|t(Y,X,Y)). cnf(w,axiom,p(X)|q(Y)).@4\
+";
+
+// Whether the first clause becomes the fourth one where the atoms of the second and the third unify, by the terms of the fifth.
+pub const CONCLUSIONS: &str = "\
+#cnf(c,axiom,p(X)|p(Y)). cnf(l,axiom,p(X)). cnf(r,axiom,p(a)). cnf(w,axiom,p(a)|p(X)). cnf(t,axiom,t(a,X)).@yes\
+";
 
 // The canonical form of the clause.
 fn form_of(alloc: Global, bank: &mut Bank, c: &IdClause) -> Result<IdClause, Memory>
@@ -77,39 +90,24 @@ fn instance_form(
     }
 }
 
-fn instance_form_by(
-    alloc: Global,
-    bank: &mut Bank,
-    text: &str,
-) -> Result<Option<(bool, u64)>, Fail> {
-    let clauses = clauses_in(alloc, bank, text)?;
-    let answer = instance_form(alloc, bank, &clauses)?;
-    Ok(answer)
-}
-
-fn instance_form_in(alloc: Global, text: &str) -> Result<Option<(bool, u64)>, Fail> {
-    let mut bank = Bank::new(alloc);
-    instance_form_by(alloc, &mut bank, text)
-}
-
-#[test]
-fn instances(rt: HostRuntime) -> Result<(), Fail> {
-    let rows = [
-        // Repeats merge.
-        (
-            "cnf(c,axiom,p(X)|p(Y)). cnf(t,axiom,t(a,a)). cnf(w,axiom,p(a)).",
-            2,
-        ),
-        // The instance is p(Y)|q(X), and Y becomes the first variable.
-        (
-            "cnf(c,axiom,p(X)|q(Y)|p(Z)). cnf(t,axiom,s(X)|t(Y,X,Y)). cnf(w,axiom,p(X)|q(Y)).",
-            4,
-        ),
-    ];
-    for row in rows {
-        assert_eq!(rt; instance_form_in(rt.alloc(), row.0)?, Some((true, row.1)));
+fn push_form(answer: &mut Vec<u8>, form: Option<(bool, u64)>) -> Result<(), Memory> {
+    match form {
+        Some((true, size)) => push_number(answer, size as usize),
+        _ => push_bytes(answer, b"another"),
     }
-    Ok(())
+}
+
+/// Puts the size of that form at the end of the answer.
+pub fn push_instance(
+    alloc: Global,
+    answer: &mut Vec<u8>,
+    bank: &mut Bank,
+    clauses: &IdClauseList,
+) -> Result<(), Fail>
+    requires { All (IsClauseOf bank.old) clauses.now }
+{
+    let form = instance_form(alloc, bank, clauses)?;
+    Ok(push_form(answer, form)?)
 }
 
 // What the clause becomes on the left of two atoms, if they unify.
@@ -161,8 +159,12 @@ fn is_conclusion(bank: &Bank, found: &Conclusion, clauses: &IdClauseList) -> Opt
     Some(variant(&found.clause, wanted) && found.terms.as_slice() == bank.args(t))
 }
 
-// What the first clause becomes where the atoms of the second and the third unify.
-fn concludes(alloc: Global, bank: &mut Bank, clauses: &IdClauseList) -> Result<Option<bool>, Fail>
+/// Whether the first clause becomes the fourth one so.
+pub fn concludes(
+    alloc: Global,
+    bank: &mut Bank,
+    clauses: &IdClauseList,
+) -> Result<Option<bool>, Fail>
     requires { All (IsClauseOf bank.old) clauses.now }
 {
     let (Some(c), Some(left), Some(right)) = (
@@ -177,23 +179,4 @@ fn concludes(alloc: Global, bank: &mut Bank, clauses: &IdClauseList) -> Result<O
         Some(found) => Ok(is_conclusion(bank, &found, clauses)),
         None => Ok(None),
     }
-}
-
-fn concludes_by(alloc: Global, bank: &mut Bank, text: &str) -> Result<Option<bool>, Fail> {
-    let clauses = clauses_in(alloc, bank, text)?;
-    let answer = concludes(alloc, bank, &clauses)?;
-    Ok(answer)
-}
-
-fn concludes_in(alloc: Global, text: &str) -> Result<Option<bool>, Fail> {
-    let mut bank = Bank::new(alloc);
-    concludes_by(alloc, &mut bank, text)
-}
-
-#[test]
-fn conclusions_name_their_terms(rt: HostRuntime) -> Result<(), Fail> {
-    let text =
-        "cnf(c,axiom,p(X)|p(Y)). cnf(l,axiom,p(X)). cnf(r,axiom,p(a)). cnf(w,axiom,p(a)|p(X)). cnf(t,axiom,t(a,X)).";
-    assert_eq!(rt; concludes_in(rt.alloc(), text)?, Some(true));
-    Ok(())
 }

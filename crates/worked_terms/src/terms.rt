@@ -1,22 +1,27 @@
 // Interned terms: equal trees have equal ids, and the reading calls answer by the tree.
 ghost use Rattle.std.specs.Prelude.{◌<◌, length};
 
+use crate::tables::push_reply;
 use inst_logic::{Kind, Memory, Name, Sym, Term};
 use std::alloc::Global;
 use std::test::Fail;
 use term_bank::{Bank, Root, Shape, TermId};
 use tptp_read::{Statement, StatementList, read_text};
+use tptp_write::{push_bytes, push_number};
 
-// What a bank says of a term, and how many trees it has then.
-#[derive(Clone, Copy, Debug, PartialEq, Eq)]
-struct Facts {
-    shape: Shape,
-    arguments: usize,
-    size: u64,
-    weight: u64,
-    greatest: Option<usize>,
-    trees: usize,
-}
+// What the bank says of the first term, which is interned twice: its shape, the number of its arguments, its size, its weight, its
+// greatest variable, and how many trees the bank has then.
+pub const TERMS: &str = "\
+#cnf(c,axiom,p(f(g(X),X))).@applied, 2 4 2, X0, 3\
+#cnf(c,axiom,p(X)).@X0, 0 1 0, X0, 1\
+#cnf(c,axiom,p(a)).@applied, 0 1 1, ground, 1\
+";
+
+// Whether the literals share the atom that the first one has alone.
+pub const SHARING: &str = "\
+#cnf(c,axiom,p(f(g(X),X))|~p(f(g(X),X))).@yes\
+#cnf(c,axiom,p(f(g(X),X))|~p(f(g(Y),X))).@no\
+";
 
 // Whether the one reading of a node says what the others do.
 fn is_root_same(bank: &Bank, id: TermId) -> bool
@@ -28,28 +33,49 @@ fn is_root_same(bank: &Bank, id: TermId) -> bool
     }
 }
 
-// The numbers are checked against the calls that say the same in other words.
-fn told(bank: &Bank, id: TermId) -> Option<Facts>
+// Whether the calls that say the same in other words agree.
+fn is_told_alike(bank: &Bank, id: TermId) -> bool
     requires { id < length bank.now.trees }
 {
-    let greatest = bank.greatest_variable(id);
-    if bank.ground(id) != greatest.is_none() {
-        return None;
+    bank.ground(id) == bank.greatest_variable(id).is_none()
+        && bank.sym(id).is_some() == bank.symbol_number(id).is_some()
+        && is_root_same(bank, id)
+}
+
+fn push_variable(answer: &mut Vec<u8>, variable: usize) -> Result<(), Memory> {
+    push_bytes(answer, b"X")?;
+    push_number(answer, variable)
+}
+
+fn push_shape(answer: &mut Vec<u8>, shape: Shape) -> Result<(), Memory> {
+    match shape {
+        Shape::Var(variable) => push_variable(answer, variable),
+        Shape::App => push_bytes(answer, b"applied"),
     }
-    if bank.sym(id).is_some() != bank.symbol_number(id).is_some() {
-        return None;
+}
+
+fn push_greatest(answer: &mut Vec<u8>, greatest: Option<usize>) -> Result<(), Memory> {
+    match greatest {
+        Some(variable) => push_variable(answer, variable),
+        None => push_bytes(answer, b"ground"),
     }
-    if !is_root_same(bank, id) {
-        return None;
-    }
-    Some(Facts {
-        shape: bank.shape(id),
-        arguments: bank.args(id).len(),
-        size: bank.size(id),
-        weight: bank.weight(id),
-        greatest,
-        trees: bank.len(),
-    })
+}
+
+fn push_labelled(answer: &mut Vec<u8>, label: &[u8], n: usize) -> Result<(), Memory> {
+    push_bytes(answer, label)?;
+    push_number(answer, n)
+}
+
+fn push_facts(answer: &mut Vec<u8>, bank: &Bank, id: TermId) -> Result<(), Memory>
+    requires { id < length bank.now.trees }
+{
+    push_shape(answer, bank.shape(id))?;
+    push_labelled(answer, b", ", bank.args(id).len())?;
+    push_labelled(answer, b" ", bank.size(id) as usize)?;
+    push_labelled(answer, b" ", bank.weight(id) as usize)?;
+    push_bytes(answer, b", ")?;
+    push_greatest(answer, bank.greatest_variable(id))?;
+    push_labelled(answer, b", ", bank.len())
 }
 
 // The first argument of the first literal of the first statement.
@@ -63,66 +89,31 @@ fn first_term(statements: &StatementList) -> Option<&Term> {
     }
 }
 
-// What is said of the first term of the text, which is interned twice.
-fn told_twice(bank: &mut Bank, statements: &StatementList) -> Result<Option<Facts>, Fail> {
+fn push_twice(
+    answer: &mut Vec<u8>,
+    bank: &mut Bank,
+    statements: &StatementList,
+) -> Result<(), Fail> {
     let Some(t) = first_term(statements) else {
-        return Ok(None);
+        return Ok(());
     };
     let first = bank.intern(t)?;
     let second = bank.intern(t)?;
-    if first != second {
-        return Ok(None);
-    }
-    Ok(told(bank, second))
-}
-
-fn told_of(alloc: Global, text: &str) -> Result<Option<Facts>, Fail> {
-    let statements = read_text(alloc, text.as_bytes())?;
-    let mut bank = Bank::new(alloc);
-    told_twice(&mut bank, &statements)
-}
-
-#[test]
-fn equal_terms_have_equal_ids(rt: HostRuntime) -> Result<(), Fail> {
-    let rows = [
-        (
-            "cnf(c,axiom,p(f(g(X),X))).",
-            Facts {
-                shape: Shape::App,
-                arguments: 2,
-                size: 4,
-                weight: 2,
-                greatest: Some(0),
-                trees: 3,
-            },
-        ),
-        (
-            "cnf(c,axiom,p(X)).",
-            Facts {
-                shape: Shape::Var(0),
-                arguments: 0,
-                size: 1,
-                weight: 0,
-                greatest: Some(0),
-                trees: 1,
-            },
-        ),
-        (
-            "cnf(c,axiom,p(a)).",
-            Facts {
-                shape: Shape::App,
-                arguments: 0,
-                size: 1,
-                weight: 1,
-                greatest: None,
-                trees: 1,
-            },
-        ),
-    ];
-    for row in rows {
-        assert_eq!(rt; told_of(rt.alloc(), row.0)?, Some(row.1));
+    if first == second && is_told_alike(bank, second) {
+        push_facts(answer, bank, second)?;
     }
     Ok(())
+}
+
+/// Puts what is said of the first term of the text at the end of the answer.
+pub fn push_term(
+    alloc: Global,
+    answer: &mut Vec<u8>,
+    bank: &mut Bank,
+    text: &str,
+) -> Result<(), Fail> {
+    let statements = read_text(alloc, text.as_bytes())?;
+    push_twice(answer, bank, &statements)
 }
 
 // Whether the atoms of the literals of the clause are the one that its first literal has alone.
@@ -138,22 +129,16 @@ fn shares(bank: &mut Bank, statements: &StatementList) -> Result<Option<bool>, F
     Ok(Some(ids.as_slice().iter().all(|m| m.atom == atom)))
 }
 
-fn shares_in(alloc: Global, text: &str) -> Result<Option<bool>, Fail> {
+/// Puts whether the literals of the text's clause share their atom at the end of the answer.
+pub fn push_sharing(
+    alloc: Global,
+    answer: &mut Vec<u8>,
+    bank: &mut Bank,
+    text: &str,
+) -> Result<(), Fail> {
     let statements = read_text(alloc, text.as_bytes())?;
-    let mut bank = Bank::new(alloc);
-    shares(&mut bank, &statements)
-}
-
-#[test]
-fn literals_share_their_atom(rt: HostRuntime) -> Result<(), Fail> {
-    let rows = [
-        ("cnf(c,axiom,p(f(g(X),X))|~p(f(g(X),X))).", true),
-        ("cnf(c,axiom,p(f(g(X),X))|~p(f(g(Y),X))).", false),
-    ];
-    for row in rows {
-        assert_eq!(rt; shares_in(rt.alloc(), row.0)?, Some(row.1));
-    }
-    Ok(())
+    let reply = shares(bank, &statements)?;
+    Ok(push_reply(answer, reply)?)
 }
 
 // Whether f(X7,X7) by its symbol is f(X7,X7) by the symbol that stands at its root.
@@ -169,13 +154,12 @@ fn applied_alike(alloc: Global, f: &Sym) -> Result<bool, Memory> {
     applies_alike(&mut bank, f)
 }
 
-#[test]
-fn symbols_are_applied(rt: HostRuntime) -> Result<(), Fail> {
+/// Whether a symbol of two arguments is applied alike by itself and by a term.
+pub fn is_applied_alike(alloc: Global) -> Result<bool, Memory> {
     let f = Sym {
         kind: Kind::Function,
-        name: Name::of(rt.alloc(), b"f")?,
+        name: Name::of(alloc, b"f")?,
         arity: 2,
     };
-    assert!(rt; applied_alike(rt.alloc(), &f)?);
-    Ok(())
+    applied_alike(alloc, &f)
 }

@@ -1,11 +1,16 @@
-use Rattle.std.proofs.Common.{subst}
-use Rattle.std.specs.Prelude.{IfOk}
-use Rattle.inst_logic.specs.Clauses.{TreeClause}
-use Rattle.term_bank.specs.Forest.{IsClauseAt, clause_at}
-use Rattle.cert_check.proofs.GroundMembers.{same_instance}
+use Rattle.std.proofs.Common.{ℕ, List, sym, subst}
+use Rattle.std.proofs.lemmas.Result.{IfOk-weaker}
+use Rattle.inst_logic.specs.declared.signed.Signed.{Signed}
+use Rattle.inst_logic.specs.Clauses.{instance}
+use Rattle.term_bank.specs.Forest.{IsClauseAt, clause_at, tree_at}
+use Rattle.cert_check.proofs.GroundMembers.{ground_instance}
 use Rattle.cert_check.proofs.grounds.under_term.Goals as goal
 
-pub returns-clause-instance : goal.returns-clause-instance
-returns-clause-instance c =
-    let same = same_instance c.args.bank.now c.in_ok-terms.terms c.args.term (clause_at c.args.bank.now c.args.c.now) c.requires.canonical c.in_ok-terms.ensures.enough c.in_ok-terms.ensures.same in
-    subst (λ (x : TreeClause). IfOk c.under.result (λ d. IsClauseAt c.under.new.bank d x)) same c.under.ensures.instance
+pub returns-in-None-clause-instance : goal.returns-in-None-clause-instance
+returns-in-None-clause-instance c =
+    let f = c.args.bank.now in
+    let s = λ (v : ℕ). tree_at f c.args.term in
+    IfOk-weaker c.copied.result _ _
+    (λ d same. subst (λ (x : List (Signed ℕ)). IsClauseAt f x (instance s (clause_at f c.args.c.now))) (sym same)
+    (c.requires.clause, sym (ground_instance s (clause_at f c.args.c.now) c.requires.canonical c.in-None.ensures)))
+    c.copied.ensures

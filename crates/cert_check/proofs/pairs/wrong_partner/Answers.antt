@@ -13,21 +13,21 @@ use Rattle.cert_check.proofs.pairs.wrong_partner.Goals as goal
 
 pub loop-j-init : goal.loop-j-init
 loop-j-init c =
-    let p = c.args.lookup.now.partners in
+    let p = c.args.lookup.now.chains in
     let old = saturation_of c.args.cert.now in
-    let count : length p.heads.items ≡ length c.args.cert.now.base.members = c.requires.ready.partners.count ∙ length-map c.args.cert.now.base.members (entry_of c.args.cert.now.base.bank) in
+    let count : length p.heads.items ≡ length c.args.cert.now.base.members = c.requires.ready.chains.count ∙ length-map c.args.cert.now.base.members (entry_of c.args.cert.now.base.bank) in
     let inside : c.args.i < length p.heads.items = omega (arith, count, c.requires.within) in
-    let there : c.args.i < length p.opposed.items = omega (arith, inside, c.requires.ready.partners.chained.opposed_length) in
+    let there : c.args.i < length p.opposed.items = omega (arith, inside, c.requires.ready.chains.chained.opposed_length) in
     let same : c.index-j.result.now ≡ get_or p.opposed.items c.args.i 0 = c.index-j.ensures ∙ get_or_default p.opposed.items c.args.i c.index-j.result.now 0 there in
     let next : IsNext p.heads.items (complement (head_at p.heads.items c.args.i)) (suc c.args.i) c.index-j.result.now =
-    subst (IsNext p.heads.items (complement (head_at p.heads.items c.args.i)) (suc c.args.i)) (sym same) (first_partner_at old p.heads.items p.same.items p.opposed.items c.requires.ready.partners c.args.i inside) in
+    subst (IsNext p.heads.items (complement (head_at p.heads.items c.args.i)) (suc c.args.i)) (sym same) (first_partner_at old p.heads.items p.same.items p.opposed.items c.requires.ready.chains c.args.i inside) in
     record {
       kept = keeps_itself c.args.cert.now;
       whole = c.requires.ready.whole;
       later = let q = next.from_there in omega arith;
       within = next.within;
       at = next.at;
-      before = subst (λ n. (k : ℕ) → k < n → IsRightPair old (suc c.args.i) (suc k)) (sym same) (partners_begin old p.heads.items p.same.items p.opposed.items c.requires.ready.partners c.args.i inside);
+      before = subst (λ n. (k : ℕ) → k < n → IsRightPair old (suc c.args.i) (suc k)) (sym same) (partners_begin old p.heads.items p.same.items p.opposed.items c.requires.ready.chains c.args.i inside);
     }
 
 pub is_right_partner-requires-clause-ready : goal.is_right_partner-requires-clause-ready
@@ -41,19 +41,19 @@ returns-then-not-branch-clause-first c =
 
 pub loop-j-preserved : goal.loop-j-preserved
 loop-j-preserved c =
-    let p = c.args.lookup.now.partners in
+    let p = c.args.lookup.now.chains in
     let old = saturation_of c.args.cert.now in
     let here = saturation_same c.args.cert.now c.loop-j.cert c.requires.ready.whole c.loop-j.invariant.kept in
-    let count : length p.heads.items ≡ length c.args.cert.now.base.members = c.requires.ready.partners.count ∙ length-map c.args.cert.now.base.members (entry_of c.args.cert.now.base.bank) in
+    let count : length p.heads.items ≡ length c.args.cert.now.base.members = c.requires.ready.chains.count ∙ length-map c.args.cert.now.base.members (entry_of c.args.cert.now.base.bank) in
     let inside : c.args.i < length p.heads.items = omega (arith, count, c.requires.within) in
     let j = c.loop-j.j in
     let to = c.index-j-in-loop-j.result.now in
     let stays : j < length p.heads.items = omega (arith, count, c.len-count.ensures, c.loop-j-test.true) in
-    let there : j < length p.same.items = omega (arith, stays, c.requires.ready.partners.chained.same_length) in
+    let there : j < length p.same.items = omega (arith, stays, c.requires.ready.chains.chained.same_length) in
     let same : to ≡ get_or p.same.items j 0 = c.index-j-in-loop-j.ensures ∙ get_or_default p.same.items j to 0 there in
     let at = c.loop-j.invariant.at stays in
     let next : IsNext p.heads.items (complement (head_at p.heads.items c.args.i)) (suc j) to =
-    subst (IsNext p.heads.items (complement (head_at p.heads.items c.args.i)) (suc j)) (sym same) (next_partner old p.heads.items p.same.items p.opposed.items c.requires.ready.partners c.args.i inside j c.loop-j.invariant.later stays at) in
+    subst (IsNext p.heads.items (complement (head_at p.heads.items c.args.i)) (suc j)) (sym same) (next_partner old p.heads.items p.same.items p.opposed.items c.requires.ready.chains c.args.i inside j c.loop-j.invariant.later stays at) in
     record {
       kept = keeps_saturation_trans c.args.cert.now c.loop-j.cert c.is_right_partner.new.cert c.loop-j.invariant.kept c.is_right_partner.ensures.kept;
       whole = c.in_ok-is_right_partner.ensures.whole;
@@ -61,7 +61,7 @@ loop-j-preserved c =
       within = next.within;
       at = next.at;
       before = subst (λ n. (k : ℕ) → k < n → IsRightPair old (suc c.args.i) (suc k)) (sym same)
-          (partners_go_on old p.heads.items p.same.items p.opposed.items c.requires.ready.partners c.args.i inside j c.loop-j.invariant.later stays at c.loop-j.invariant.before
+          (partners_go_on old p.heads.items p.same.items p.opposed.items c.requires.ready.chains c.args.i inside j c.loop-j.invariant.later stays at c.loop-j.invariant.before
           (subst (λ (x : format.Saturation). IsRightPair x (suc c.args.i) (suc j)) here (c.in_ok-is_right_partner.ensures.right.0 c.if-not-branch.false)));
     }
 

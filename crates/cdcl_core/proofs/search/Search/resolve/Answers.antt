@@ -1,13 +1,23 @@
-use Rattle.std.proofs.Common.{sym, subst, arith}
+use Rattle.std.proofs.Common.{sym, subst, ◌∙◌, arith}
+use Rattle.prop_logic.specs.Literal.{AtomsBelow}
 use Rattle.prop_logic.specs.Solving.{IsSubList}
 use Rattle.cdcl_core.specs.declared.search.Search.{Search}
 use Rattle.cdcl_core.proofs.SearchLaws.{ready_of}
+use Rattle.cdcl_core.proofs.StepLaws.{learned_below}
 use Rattle.cdcl_core.proofs.BackLaws.{back_marks, back_ends}
 use Rattle.cdcl_core.proofs.GoLaws.{marks_search, marks_ends}
 use Rattle.cdcl_core.proofs.search.Search.resolve.Goals as goal
 
 pub analyze-requires-clause-ready : goal.analyze-requires-clause-ready
 analyze-requires-clause-ready c = ready_of c.back_to_conflict-count.new.self c.back_to_conflict-count.ensures.kept c.back_to_conflict-count.ensures.trail (omega (arith, c.back_to_conflict-count.ensures.count))
+
+pub mark_reasons-requires-clause-ready : goal.mark_reasons-requires-clause-ready
+mark_reasons-requires-clause-ready c = ready_of c.back_to_conflict-count.new.self c.back_to_conflict-count.ensures.kept c.back_to_conflict-count.ensures.trail (omega (arith, c.back_to_conflict-count.ensures.count))
+
+pub mark_reasons-requires-clause-atoms : goal.mark_reasons-requires-clause-atoms
+mark_reasons-requires-clause-atoms c =
+    let t = c.back_to_conflict-count.new.self.trail.trail in
+    subst (AtomsBelow t.atoms) (sym c.deref.ensures.value) (learned_below t c.in_ok-analysis.analysis.clause.items c.back_to_conflict-count.ensures.trail c.in_ok-analysis.ensures.analysis.learned)
 
 pub returns-then-is_empty-clause-goes : goal.returns-then-is_empty-clause-goes
 returns-then-is_empty-clause-goes c = λ assumptions s.
@@ -21,6 +31,6 @@ returns-clause-goes c = λ assumptions s.
     let old = c.args.self.now in
     let mid = c.back_to_conflict-count.new.self in
     let back = c.back_to_conflict-count.ensures.back in
-    let m = c.analyze.new.marks in
-    let same = c.in_ok-analysis.ensures.size in
+    let m = c.mark_reasons.new.marks in
+    let same = c.mark_reasons.ensures ∙ c.in_ok-analysis.ensures.size in
     c.in_ok-learn.ensures.learned old assumptions (back_marks old mid m same back) (marks_search assumptions mid m same (back.search assumptions s))

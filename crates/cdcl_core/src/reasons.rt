@@ -1,0 +1,37 @@
+// Atoms of the reasons of a learned clause's literals rise too, and not only those that the conflict was resolved from (Liang and
+// others, Learning rate based branching heuristic for SAT solvers, 2016): they would be met next if the walk went on, and are
+// likely to be in the next conflicts.
+ghost use Rattle.std.specs.Prelude.{◌≡◌, length};
+ghost use Rattle.prop_logic.specs.Literal.{AtomsBelow};
+ghost use Rattle.cdcl_core.specs.Analysis.{IsReady};
+
+use crate::log::Log;
+use crate::marks::Marks;
+use cdcl_trail::Trail;
+use prop_logic::Lit;
+
+// Marks the atoms of the clause that aren't, which raises them.
+fn mark_others(marks: &mut Marks, clause: &[Lit])
+    requires { AtomsBelow (length marks.old) clause.now }
+    ensures { length marks.new ≡ length marks.old }
+{
+    for lit in clause {
+        if !marks.contains(lit.atom) {
+            marks.insert(lit.atom);
+        }
+    }
+}
+
+// Marks the atoms of the clauses that gave the atoms of this clause their values.
+pub(crate) fn mark_reasons(log: &Log, trail: &Trail, marks: &mut Marks, clause: &[Lit])
+    requires ready { IsReady log.now trail.now.trail }
+    requires size { length marks.old ≡ trail.now.trail.atoms }
+    requires atoms { AtomsBelow trail.now.trail.atoms clause.now }
+    ensures { length marks.new ≡ length marks.old }
+{
+    for lit in clause {
+        if let Some(number) = trail.reason(lit.atom) {
+            mark_others(marks, log.cited(log.hint_of(number)));
+        }
+    }
+}

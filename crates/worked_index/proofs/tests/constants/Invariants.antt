@@ -1,8 +1,0 @@
-use Rattle.term_bank.specs.Forest.{AreIds, Extends}
-use Rattle.worked_index.proofs.tests.constants.Given as goal
-
-abbrev pub invariant-loop-n : goal.invariant-loop-n
-invariant-loop-n l = record {
-  extends : Extends l.fn.bank l.bank;
-  ids : AreIds l.bank l.terms.items;
-}

@@ -1,0 +1,178 @@
+// Texts of certificates, and what they are read as.
+use cert_reader::{CertError, Certificate, read_certificate};
+use inst_logic::Memory;
+use std::alloc::Global;
+use tptp_write::{push_bytes, push_number};
+
+// A refutation of `p(X)` and `~p(c)`, and a saturation whose selected literals tie at an atom. Each proper prefix of them is
+// refused at the line behind its whole ones.
+pub const WHOLES: &str = "\
+#% SZS status Unsatisfiable for r3.p
+% SZS output start CNFRefutation for r3.p
+% instgen certificate 1
+% ground constant bot_0
+cnf(i1,axiom,p(X0),named(one)).
+cnf(i2,axiom,~p(c),named(two)).
+cnf(m1,plain,p(X0),input(1)).
+cnf(m2,plain,~p(c),input(2)).
+cnf(m3,plain,p(c),inst(m1,1,m2,1)).
+cnf(g1,plain,p(bot_0),ground(m1)).
+cnf(g2,plain,~p(c),ground(m2)).
+cnf(g3,plain,p(c),ground(m3)).
+cnf(r1,plain,$false,rup([g2,g3])).
+% SZS output end CNFRefutation for r3.p
+@refutation\
+#% SZS status Satisfiable for tie.p
+% SZS output start Saturation for tie.p
+% instgen certificate 1
+cnf(i1,axiom,p(X0,a) | q(X0),named(one)).
+cnf(i2,axiom,~p(b,X0) | s(X0),named(two)).
+cnf(m1,plain,p(X0,a) | q(X0),input(1),[selected(1)]).
+cnf(m2,plain,~p(b,X0) | s(X0),input(2),[selected(1)]).
+cnf(m3,plain,p(b,a) | q(b),inst(m1,1,m2,1),[selected(2)]).
+cnf(m4,plain,~p(b,a) | s(a),inst(m2,1,m1,1),[selected(2)]).
+% SZS output end Saturation for tie.p
+@saturation\
+";
+
+// What stands between the first two lines of a saturation and its last one.
+pub const MIDDLES: &str = "\
+#% instgen certificate 1\n@saturation\
+#% instgen certificate 9\n@version 9\
+#% instgen certificate 10\n@version 10\
+#% instgen certificate 123456789012345678\n@version 123456789012345678\
+#% instgen certificate 1234567890123456789\n@syntax 3\
+#% instgen certificate 01\n@syntax 3\
+#% instgen certificate 0\n@syntax 3\
+#% instgen certificate \n@syntax 3\
+#% instgen certificate 2 \n@syntax 3\
+#@syntax 3\
+#% instgen certificate 1\n\n@syntax 4\
+#% instgen certificate 1\n% ground constant c\n@syntax 4\
+#% instgen certificate 1\ncnf(i1,axiom,p,named(a)).\n@saturation\
+#% instgen certificate 1\ncnf(i2,axiom,p,named(a)).\n@syntax 4\
+#% instgen certificate 1\ncnf(i0,axiom,p,named(a)).\n@syntax 4\
+#% instgen certificate 1\ncnf(i01,axiom,p,named(a)).\n@syntax 4\
+#% instgen certificate 1\ncnf(i1,axiom,p,named(a)).\r\n@syntax 4\
+#% instgen certificate 1\ncnf(i1,axiom,p(X1),named(a)).\n@syntax 4\
+#% instgen certificate 1\ncnf(i1,axiom,p,named('a')).\n@syntax 4\
+#% instgen certificate 1\ncnf(e1,axiom,X0 = X0,equality).\n@saturation\
+#% instgen certificate 1\ncnf(e1,axiom,X0 = X0,equality).\ncnf(i1,axiom,p,named(a)).\n@syntax 5\
+#% instgen certificate 1\ncnf(i1,axiom,p,named(a)).\ncnf(i1,axiom,p,named(a)).\n@syntax 5\
+#% instgen certificate 1\ncnf(m1,plain,p,input(7)).\n@syntax 4\
+#% instgen certificate 1\ncnf(m1,plain,p,input(18446744073709551615),[selected(0)]).\n@saturation\
+#% instgen certificate 1\ncnf(m1,plain,p,input(18446744073709551616),[selected(0)]).\n@syntax 4\
+";
+
+// Whole texts that are none of a certificate, or of another format.
+pub const OTHERS: &str = "\
+#@syntax 1\
+#\n@syntax 1\
+#% SZS status Satisfiable for \n@syntax 1\
+#% SZS status Unknown for a\n@syntax 1\
+#% SZS status Satisfiable for a\n% SZS output start Saturation for b\n% instgen certificate 2\n@syntax 2\
+#% SZS status Satisfiable for a\n% SZS output start CNFRefutation for a\n% instgen certificate 2\n@syntax 2\
+#% SZS status Satisfiable for a\n% SZS output start Saturation for a\n% instgen certificate 1\n% SZS output end Saturation for b\n@syntax 4\
+#% SZS status Satisfiable for a\n% SZS output start Saturation for a\n% instgen certificate 1\n% SZS output end Saturation for a\n\n@syntax 5\
+";
+
+fn push_outcome(
+    answer: &mut Vec<u8>,
+    outcome: &Result<Certificate, CertError>,
+) -> Result<(), Memory> {
+    match outcome {
+        Ok(Certificate::Refutation(_)) => push_bytes(answer, b"refutation"),
+        Ok(Certificate::Saturation(_)) => push_bytes(answer, b"saturation"),
+        Err(CertError::Syntax { line }) => {
+            push_bytes(answer, b"syntax ")?;
+            push_number(answer, *line)
+        }
+        Err(CertError::Version { word }) => {
+            push_bytes(answer, b"version ")?;
+            push_bytes(answer, word.bytes())
+        }
+        Err(CertError::Memory) => Err(Memory),
+    }
+}
+
+/// Puts what the text is read as at the end of the answer.
+pub fn push_reading(alloc: Global, answer: &mut Vec<u8>, text: &[u8]) -> Result<(), Memory> {
+    let outcome = read_certificate(alloc, text);
+    push_outcome(answer, &outcome)
+}
+
+fn push_whole(whole: &mut Vec<u8>, middle: &[u8]) -> Result<(), Memory> {
+    push_bytes(
+        whole,
+        b"% SZS status Satisfiable for a b\n% SZS output start Saturation for a b\n",
+    )?;
+    push_bytes(whole, middle)?;
+    push_bytes(whole, b"% SZS output end Saturation for a b\n")
+}
+
+fn push_middle_by(
+    alloc: Global,
+    whole: &mut Vec<u8>,
+    answer: &mut Vec<u8>,
+    middle: &[u8],
+) -> Result<(), Memory> {
+    push_whole(whole, middle)?;
+    push_reading(alloc, answer, whole.as_slice())
+}
+
+/// The same of the saturation under the name `a b` with these lines in its middle.
+pub fn push_middle(alloc: Global, answer: &mut Vec<u8>, middle: &[u8]) -> Result<(), Memory> {
+    let mut whole = Vec::new(alloc);
+    push_middle_by(alloc, &mut whole, answer, middle)
+}
+
+fn whole_lines(text: &[u8]) -> usize {
+    text.iter().filter(|b| **b == b'\n').count()
+}
+
+// Puts what a text is to be read as that is refused at the line behind its whole ones at the end.
+fn push_refusal(wanted: &mut Vec<u8>, text: &[u8]) -> Result<(), Memory> {
+    push_bytes(wanted, b"syntax ")?;
+    push_number(wanted, whole_lines(text).saturating_add(1))
+}
+
+fn is_refused_by(
+    alloc: Global,
+    answer: &mut Vec<u8>,
+    wanted: &mut Vec<u8>,
+    text: &[u8],
+) -> Result<bool, Memory> {
+    push_reading(alloc, answer, text)?;
+    push_refusal(wanted, text)?;
+    Ok(answer.as_slice() == wanted.as_slice())
+}
+
+// Whether the text is refused there.
+fn is_refused_behind(alloc: Global, text: &[u8]) -> Result<bool, Memory> {
+    let mut answer = Vec::new(alloc);
+    let mut wanted = Vec::new(alloc);
+    is_refused_by(alloc, &mut answer, &mut wanted, text)
+}
+
+// The length of the first prefix, the whole text apart, that isn't refused so.
+fn odd_prefix(alloc: Global, text: &[u8]) -> Result<Option<usize>, Memory> {
+    for n in 0..text.len() {
+        if !is_refused_behind(alloc, &text[..n])? {
+            return Ok(Some(n));
+        }
+    }
+    Ok(None)
+}
+
+/// Puts what the text is read as at the end of the answer, and the length of a proper prefix that isn't refused so, if there is
+/// one.
+pub fn push_prefixes(alloc: Global, answer: &mut Vec<u8>, text: &[u8]) -> Result<(), Memory> {
+    push_reading(alloc, answer, text)?;
+    match odd_prefix(alloc, text)? {
+        None => Ok(()),
+        Some(n) => {
+            push_bytes(answer, b" odd prefix ")?;
+            push_number(answer, n)
+        }
+    }
+}
