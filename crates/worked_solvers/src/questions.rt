@@ -326,19 +326,27 @@ pub fn the_checker_accepts_what_refutes_eight_clauses(alloc: Global) -> Result<b
     Ok(found == Some((0, true)))
 }
 
-// The clauses that say that atom i gives atom i + 1, for the first `count` atoms, after the first atom and before the
-// complement of the last.
+// The clauses that say that atom i gives atom i + 1, for the first `count` atoms, and the first atom.
+fn add_facts<S: Solver>(solver: &mut S, count: usize) -> Result<(), Memory>
+    requires atoms { count + 1 ≤ S.atoms solver.old }
+    requires few { count < 1000000 }
+    ensures { OnOk result (S.atoms solver.new ≡ S.atoms solver.old) }
+{
+    for i in 0..count {
+        solver.add(&[lit(i, false), lit(i + 1, true)])?;
+    }
+    solver.add(&[lit(0, true)])?;
+    Ok(())
+}
+
+// The same after the complement of the last atom.
 fn add_chain<S: Solver>(solver: &mut S, count: usize) -> Result<(), Memory>
     requires atoms { count + 1 ≤ S.atoms solver.old }
     requires few { count < 1000000 }
     ensures { OnOk result (S.atoms solver.new ≡ S.atoms solver.old) }
 {
     solver.add(&[lit(count, false)])?;
-    for i in 0..count {
-        solver.add(&[lit(i, false), lit(i + 1, true)])?;
-    }
-    solver.add(&[lit(0, true)])?;
-    Ok(())
+    add_facts(solver, count)
 }
 
 fn steps_of_chain_by<S: Solver>(solver: &mut S, count: usize) -> Result<Option<usize>, Memory>
@@ -450,6 +458,64 @@ fn steps_of_pigeons<S: Solver>(mut solver: S, holes: usize) -> Result<Option<usi
     requires few { holes < 8 }
 {
     steps_of_pigeons_by(&mut solver, holes)
+}
+
+// The clauses of the five atoms after the fact, with all signs, each with the fact's complement.
+fn add_signs_after<S: Solver>(solver: &mut S, fact: usize) -> Result<(), Memory>
+    requires atoms { fact + 5 < S.atoms solver.old }
+    requires few { fact < 1000 }
+    ensures { OnOk result (S.atoms solver.new ≡ S.atoms solver.old) }
+{
+    for bits in 0..32u8 {
+        solver.add(&[
+            lit(fact, false),
+            lit(fact + 1, bits & 1 != 0),
+            lit(fact + 2, bits & 2 != 0),
+            lit(fact + 3, bits & 4 != 0),
+            lit(fact + 4, bits & 8 != 0),
+            lit(fact + 5, bits & 16 != 0),
+        ])?;
+    }
+    Ok(())
+}
+
+fn hints_of(answer: &Answer) -> Option<usize> {
+    match answer {
+        Answer::Sat(_) => None,
+        Answer::Unsat { derivation, .. } => {
+            let mut count: usize = 0;
+            for step in derivation.as_slice() {
+                count = count.saturating_add(step.hints.len());
+            }
+            Some(count)
+        }
+    }
+}
+
+fn hints_after_facts_by<S: Solver>(solver: &mut S, count: usize) -> Result<Option<usize>, Memory>
+    requires atoms { S.atoms solver.old ≡ 0 }
+    requires few { count < 1000 }
+{
+    make_atoms(solver, count + 6)?;
+    add_facts(solver, count)?;
+    add_signs_after(solver, count)?;
+    let answer = solver.solve(&[])?;
+    Ok(hints_of(&answer))
+}
+
+// The number of hints that refute clauses of which each has the complement of the last of so many facts.
+fn hints_after_facts<S: Solver>(mut solver: S, count: usize) -> Result<Option<usize>, Memory>
+    requires atoms { S.atoms solver ≡ 0 }
+    requires few { count < 1000 }
+{
+    hints_after_facts_by(&mut solver, count)
+}
+
+// Many steps rest on the last fact. A fact more costs two hints of its own step, and one of the first of those steps.
+pub fn a_fact_is_cited_alone(alloc: Global) -> Result<bool, Memory> {
+    let few = hints_after_facts(Cdcl::new(alloc), 10)?.unwrap_or(0);
+    let many = hints_after_facts(Cdcl::new(alloc), 110)?.unwrap_or(1000);
+    Ok(many.saturating_sub(few) <= 300)
 }
 
 pub fn a_chain_is_one_step(alloc: Global) -> Result<bool, Memory> {

@@ -11,7 +11,7 @@ fn of_derivations(alloc: Global) -> Result<[bool; 2], Memory> {
     ])
 }
 
-fn of_questions(alloc: Global) -> Result<[bool; 11], Memory> {
+fn of_questions(alloc: Global) -> Result<[bool; 12], Memory> {
     Ok([
         questions::the_row_is_answered(alloc)?,
         questions::the_plain_solver_answers_the_row(alloc)?,
@@ -20,6 +20,7 @@ fn of_questions(alloc: Global) -> Result<[bool; 11], Memory> {
         questions::clauses_of_forty_pairs_are_left_out(alloc)?,
         questions::the_checker_accepts_what_refutes_eight_clauses(alloc)?,
         questions::a_chain_is_one_step(alloc)?,
+        questions::a_fact_is_cited_alone(alloc)?,
         questions::pigeons_are_refuted_in_few_steps(alloc)?,
         questions::a_core_has_three_of_four_assumptions(alloc)?,
         questions::a_clause_comes_between_two_questions(alloc)?,
@@ -46,7 +47,7 @@ fn of_valuations(alloc: Global) -> Result<[bool; 2], Memory> {
 fn answers_are_as_wanted(rt: HostRuntime) -> Result<(), Fail> {
     let alloc = rt.alloc();
     assert_eq!(rt; of_derivations(alloc)?, [true; 2]);
-    assert_eq!(rt; of_questions(alloc)?, [true; 11]);
+    assert_eq!(rt; of_questions(alloc)?, [true; 12]);
     assert_eq!(rt; of_trails(alloc)?, [true; 3]);
     assert_eq!(rt; of_valuations(alloc)?, [true; 2]);
     Ok(())
