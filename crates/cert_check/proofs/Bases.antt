@@ -5,7 +5,7 @@ use Rattle.inst_logic.specs.Derivations.{at_number}
 use Rattle.inst_calculus.specs.Entries.{Origin, input, inst, Entry}
 use Rattle.inst_calculus.proofs.CanonicalForms.{canonical_of_canonical}
 use Rattle.cert_format.specs.Certificate as format
-use Rattle.cert_format.specs.Validity.{Gives, IsRightAxiom, IsRightMember, SaturationPasses, IsFirstComplaint, Precedes, rank}
+use Rattle.cert_format.specs.Validity.{Gives, IsRightAxiom, IsRightMember, IsFirstComplaint, Precedes, rank}
 use Rattle.cert_format.specs.declared.complaint.Complaint.{Complaint}
 use Rattle.cert_format.specs.declared.complaint.Complaint.TheVariants.{Axiom, Member as Derived, Bot, Ground, Step as Shown, NotEmpty, Place, Input, Pair}
 use Rattle.saturation_cert.specs.declared.certificate.Base.{Base}
@@ -78,29 +78,3 @@ valid_base b axioms members NotEmpty = tt
 valid_base b axioms members (Place n) = tt
 valid_base b axioms members (Input k) = tt
 valid_base b axioms members (Pair l m) = tt
-
--- and about a saturation
-pub first_of_saturation : (c : format.Saturation) (complaint : Complaint) → IsFirstComplaint (BasePasses c.base) complaint → IsFirstComplaint (SaturationPasses c) complaint
-first_of_saturation c complaint h = by complaint h
-  where
-    earlier : (k : Complaint) → rank k < 2 → ((other : Complaint) → Precedes other k → BasePasses c.base other) → (other : Complaint) → Precedes other k → SaturationPasses c other
-    earlier k low f (Axiom m) p = f (Axiom m) p
-    earlier k low f (Derived m) p = f (Derived m) p
-    earlier k low f Bot p = tt
-    earlier k low f (Ground m) p = tt
-    earlier k low f (Shown m) p = tt
-    earlier k low f NotEmpty p = tt
-    earlier k low f (Place m) p = let q = at_most (Place m) k p in absurd (omega arith)
-    earlier k low f (Input m) p = let q = at_most (Input m) k p in absurd (omega arith)
-    earlier k low f (Pair l m) p = let q = at_most (Pair l m) k p in absurd (omega arith)
-
-    by : (k : Complaint) → IsFirstComplaint (BasePasses c.base) k → IsFirstComplaint (SaturationPasses c) k
-    by (Axiom n) g = record { applies = g.applies; first = earlier (Axiom n) (omega arith) g.first }
-    by (Derived n) g = record { applies = g.applies; first = earlier (Derived n) (omega arith) g.first }
-    by Bot g = absurd (g.applies tt)
-    by (Ground n) g = absurd (g.applies tt)
-    by (Shown n) g = absurd (g.applies tt)
-    by NotEmpty g = absurd (g.applies tt)
-    by (Place n) g = absurd (g.applies tt)
-    by (Input k) g = absurd (g.applies tt)
-    by (Pair l m) g = absurd (g.applies tt)

@@ -4,7 +4,7 @@ use Rattle.std.specs.Prelude.{All, IfOk, Result, Ok, Err, option_map}
 use Rattle.std.proofs.lemmas.Option.{slice_get-map}
 use Rattle.inst_logic.specs.declared.signed.Signed.{Signed}
 use Rattle.inst_logic.specs.Tree.{Tree}
-use Rattle.inst_logic.specs.Clauses.{TreeClause, IsCanonical}
+use Rattle.inst_logic.specs.Clauses.{TreeClause}
 use Rattle.inst_logic.specs.Derivations.{at_number}
 use Rattle.inst_logic.specs.Unifiers.{IsMostGeneral, IsProper}
 use Rattle.inst_logic.specs.WellFormed.{IsAtom}
@@ -19,7 +19,7 @@ use Rattle.term_bank.specs.Forest.{Forest, clause_at, tree_at}
 use Rattle.unify_core.specs.Sides.{Binding}
 use Rattle.unify_core.specs.Terms.{AreTerms}
 use Rattle.cert_check.proofs.BoundTerms.{bound_terms}
-use Rattle.cert_check.specs.Conclusions.{Concludes, IsAtomOf, IsCanonicalMember, IsProperlyUnified, MembersConclude, literal_of, placed_in}
+use Rattle.cert_check.specs.Conclusions.{Concludes, IsAtomOf, IsProperlyUnified, MembersConclude, literal_of, placed_in}
 use Rattle.std.proofs.lemmas.Option.{same_Some}
 use Rattle.term_bank.specs.Forest.{literal_tree}
 
@@ -72,9 +72,6 @@ module _ (f : Forest) where
         within = all_in (λ (x : Signed ℕ). x.atom < length f.trees) m.clause w.ids l i;
         atom = all_in (λ (x : Signed ℕ). IsAtom (tree_at f x.atom)) m.clause w.atoms l i;
       }
-
-  pub canonical_there : (ms : List Member) (n : ℕ) (m : Member) → IsCanonicalMember (map (entry_of f) ms) n → at_number ms n ≡ Some m → IsCanonical (clause_at f m.clause)
-  canonical_there ms n m h e = h (entry_of f m) (entry_there ms n m e)
 
   -- without the literal there is no conclusion
   pub no_entry : (ms : List Member) (from place partner other : ℕ) → at_number ms from ≡ None → (c : TreeClause) → ¬ IsConclusion (map (entry_of f) ms) from place partner other c

@@ -21,5 +21,6 @@ pub mod SymbolWalk
 pub mod HeadLaws
 pub mod NarrowLaws
 pub mod FingerprintLaws
+pub mod LengthLaws
 pub mod LookupLaws
 pub mod ShorterLaws

@@ -126,7 +126,8 @@ pub lookup_later : (f g : Forest) → Extends f g → (ms : List Member) → All
 lookup_later f g grown ms whole l h = record {
   clauses = h.clauses;
   count = h.count;
-  marked = λ k m within. marked_later f g grown (get_or ms k m).clause (whole k m within).ids (head_at l.partners.heads.items k) (fingerprint_at l.fingerprints.items k) (h.marked k m within);
+  heads = h.heads;
+  marked = λ k m within. marked_later f g grown (get_or ms k m).clause (whole k m within).ids (head_at h.heads k) (fingerprint_at l.fingerprints.items k) (h.marked k m within);
   groups = h.groups;
 }
 

@@ -1,5 +1,5 @@
 -- What an origin from two members gives.
-use Rattle.std.proofs.Common.{◌≡◌, ℕ, ◌+◌, ◌<◌, ◌≤◌, List, ap, sym, ◌∙◌, map, subst, arith, length, get_or}
+use Rattle.std.proofs.Common.{◌≡◌, ℕ, ◌+◌, ◌<◌, List, ap, sym, ◌∙◌, map, subst, length, get_or}
 use Rattle.std.specs.Prelude.{◌↔◌, Bool, false, IfOk, IsTrue, Result, Ok, Err}
 use Rattle.inst_logic.specs.declared.signed.Signed.{Signed}
 use Rattle.inst_logic.specs.Clauses.{TreeClause}
@@ -13,8 +13,7 @@ use Rattle.saturation_cert.specs.declared.member.Origin.{Origin}
 use Rattle.saturation_cert.specs.declared.member.Origin.TheVariants.{Inst}
 use Rattle.saturation_cert.specs.declared.certificate.Base.{Base}
 use Rattle.saturation_cert.specs.Values.{base_of, entry_of, origin_of}
-use Rattle.cert_check.specs.Conclusions.{IsCanonicalMember, MembersGive}
-use Rattle.cert_check.proofs.Bases.{member_canonical}
+use Rattle.cert_check.specs.Conclusions.{MembersGive}
 use Rattle.clause_form.proofs.Ids.{same_ids}
 use Rattle.cert_check.proofs.Interning.{ids_grown}
 use Rattle.cert_check.proofs.Rightness.{right_by}
@@ -42,10 +41,6 @@ right_inst b i m from place partner other within is origin =
       (λ g. by.0 (subst P (sym origin) g)),
       (λ r. subst P origin (by.1 r)),
     )
-
--- a member before is canonical
-pub canonical_before : (b : Base) (i from : ℕ) → from ≤ i → ((m : ℕ) → m < i + 1 → IsRightMember (base_of b) m) → IsCanonicalMember (map (entry_of b.bank) b.members) from
-canonical_before b i from h earlier e at = member_canonical (base_of b) from (earlier from (omega arith)) e at
 
 pub and_conclusion : {E : Type 0} (es : List Entry) (n from place partner other : ℕ) (c : TreeClause) → from < n → partner < n → (r : Result Bool E) → IfOk r (λ b. IsTrue b ↔ IsConclusion es from place partner other c)
     → IfOk r (λ b. IsTrue b ↔ MembersGive es n from place partner other c)

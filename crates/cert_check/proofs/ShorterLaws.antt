@@ -1,18 +1,22 @@
--- The search for a member that subsumes a clause, by the heads of selected literals.
-use Rattle.std.proofs.Common.{◌≡◌, inl, inr, ℕ, suc, ◌<◌, ◌∙◌, List, length, get_or, ap, sym, subst, arith, Option, Some}
+-- The search for a shorter member that subsumes a clause, by the heads of selected literals.
+use Rattle.std.proofs.Common.{◌≡◌, inl, inr, ℕ, suc, ◌<◌, ◌≤◌, ◌∙◌, List, length, get_or, ap, sym, subst, arith, Some}
 use Rattle.std.specs.Prelude.{Any, option_map}
 use Rattle.std.proofs.lemmas.Bool.{cases_lt}
+use Rattle.std.proofs.lemmas.List.{get_or-map, get_or_default, length-map}
 use Rattle.inst_logic.specs.declared.signed.Signed.{Signed}
 use Rattle.inst_logic.specs.Substitution.{Substitution}
 use Rattle.clause_form.specs.Placements.{Goes, literal_at}
 use Rattle.clause_form.proofs.Placing.{placed_subsumes}
-use Rattle.term_bank.specs.Forest.{Forest, number_of, symbol_of, tree_at}
+use Rattle.term_bank.specs.Forest.{Forest, literal_tree, number_of, symbol_of, tree_at}
 use Rattle.saturation_cert.specs.declared.member.Member.{Member}
 use Rattle.cert_check.specs.Covers.{ShorterOf}
 use Rattle.cert_check.specs.declared.fingerprint.Fingerprint.{Fingerprint}
 use Rattle.cert_check.specs.Fingerprints.{fingerprint_at}
 use Rattle.cert_check.specs.Lookups.{HasMarked, HasNoShorter, IsNoShorter, IsPastShorter}
-use Rattle.cert_check.specs.Partners.{Head, head_at, AreGrouped, IsHeadAt, IsNext}
+use Rattle.cert_check.specs.declared.lengths.Lengths.{Lengths}
+use Rattle.cert_check.specs.declared.lengths.Ranked.{Ranked}
+use Rattle.cert_check.specs.Lengths.{AreGrouped, IsBelow, heads_by, no_rank, rank_at}
+use Rattle.cert_check.specs.Partners.{Head, head_at, IsHeadAt, IsNext}
 use Rattle.cert_check.proofs.HeadLaws.{symbol_under, number_there}
 
 -- an instance of a literal has its head
@@ -24,22 +28,57 @@ head_goes f s l m h head goes =
       number = ap Some n ∙ sym (ap (option_map (number_of f.symbols)) (sym (ap symbol_of goes.1) ∙ symbol_under s (tree_at f l.atom) x is));
     }
 
-module _ (f : Forest) (ms : List Member) (hs : List Head) (ps : List Fingerprint) (same : List ℕ) (first : Head → Option ℕ) (groups : AreGrouped ms hs same first) (n : ℕ) (d : List (Signed ℕ)) where
-  pub past_more : (l : Signed ℕ) (h : Head) (k : ℕ) → k < length hs → IsPastShorter f ms hs ps n d l h k → IsNoShorter f ms ps n d l k → IsPastShorter f ms hs ps n d l h (get_or same k 0)
-  past_more l h k within past none =
-      let next : IsNext hs h (suc k) (get_or same k 0) = subst (λ x. IsNext hs x (suc k) (get_or same k 0)) (past.at within) (groups.to_same k within) in
+-- a walk along the members of one head, from the shortest on
+module _ (f : Forest) (ms : List Member) (hs : List Head) (ps : List Fingerprint) (ls : Lengths) (groups : AreGrouped ms hs ls) (n : ℕ) (d : List (Signed ℕ)) (l : Signed ℕ) where
+  count : length (heads_by hs ls.ranked.items) ≡ length ls.ranked.items
+  count = length-map ls.ranked.items (λ (r : Ranked). head_at hs r.place)
+
+  pub past_none : (h : Head) (j : ℕ) → IsNext (heads_by hs ls.ranked.items) h 0 j → IsPastShorter f ms hs ls.ranked.items ps n d l h j
+  past_none h j next = record {
+    at = λ within. next.at (let e = count in omega arith);
+    before = λ i less at. absurd (next.before i (omega arith) less at);
+  }
+
+  pub past_more : (h : Head) (j : ℕ) → j < length ls.ranked.items → IsPastShorter f ms hs ls.ranked.items ps n d l h j → IsNoShorter f ms ps n d l (rank_at ls.ranked.items j).place
+      → IsPastShorter f ms hs ls.ranked.items ps n d l h (get_or ls.same.items j 0)
+  past_more h j within past none =
+      let next : IsNext (heads_by hs ls.ranked.items) h (suc j) (get_or ls.same.items j 0) =
+      subst (λ x. IsNext (heads_by hs ls.ranked.items) x (suc j) (get_or ls.same.items j 0)) (past.at within) (groups.to_same j within) in
       record {
-        within = next.within;
-        at = next.at;
-        before = λ j less at. elim (cases_lt j k) [
-          | inl early ↦ past.before j early at
-          | inr not_early ↦ elim (cases_lt k j) [
-            | inl late ↦ absurd (next.before j (omega arith) less at)
-            | inr not_late ↦ let e : k ≡ j = omega arith in subst (IsNoShorter f ms ps n d l) e none
+        at = λ inside. next.at (let e = count in omega arith);
+        before = λ i less at. elim (cases_lt i j) [
+          | inl early ↦ past.before i early at
+          | inr not_early ↦ elim (cases_lt j i) [
+            | inl late ↦ absurd (next.before i (omega arith) less at)
+            | inr not_late ↦ let e : j ≡ i = omega arith in subst (λ k. IsNoShorter f ms ps n d l (rank_at ls.ranked.items k).place) e none
           ]
         ];
       }
 
+  -- from a member on that has n literals or more there is none that is shorter
+  none_after : (j : ℕ) → ¬ (IsBelow ls.ranked.items n j) → (i : ℕ) → j ≤ i → i < length ls.ranked.items → IsNoShorter f ms ps n d l (rank_at ls.ranked.items i).place
+  none_after j stop i late inside m inst short =
+      let enough : n ≤ (rank_at ls.ranked.items j).len = elim (cases_lt (rank_at ls.ranked.items j).len n) [
+        | inl below ↦ absurd (stop (record { within = omega arith; below = below }))
+        | inr above ↦ above
+      ] in
+      let more : (rank_at ls.ranked.items j).len ≤ (rank_at ls.ranked.items i).len = groups.ranked.ordered j i no_rank late inside in
+      let same = (groups.ranked.each i no_rank inside).len m in
+      let trees = length-map (get_or ms (rank_at ls.ranked.items i).place m).clause (literal_tree f) in
+      let less = short.0 in
+      omega (arith, enough, more, same, trees, less)
+
+  pub none_left : (j : ℕ) → ((h : Head) → IsHeadAt f l h → IsPastShorter f ms hs ls.ranked.items ps n d l h j) → ¬ (IsBelow ls.ranked.items n j) → HasNoShorter f ms hs ps n d l
+  none_left j past stop k within head =
+      let (i, r, inside, is, place) = groups.ranked.all k within in
+      let here : (rank_at ls.ranked.items i).place ≡ k = ap (λ (q : Ranked). q.place) (get_or_default ls.ranked.items i no_rank r inside ∙ is) ∙ place in
+      let at : head_at (heads_by hs ls.ranked.items) i ≡ head_at hs k = get_or-map (λ (q : Ranked). head_at hs q.place) ls.ranked.items i no_rank _ inside ∙ ap (head_at hs) here in
+      subst (IsNoShorter f ms ps n d l) here (elim (cases_lt i j) [
+        | inl early ↦ (past (head_at hs k) head).before i early at
+        | inr late ↦ none_after j stop i late inside
+      ])
+
+module _ (f : Forest) (ms : List Member) (hs : List Head) (ps : List Fingerprint) (n : ℕ) (d : List (Signed ℕ)) where
   -- one that subsumes the clause has the head of one of its literals
   pub none_shorter : ((k : ℕ) (m : Member) → k < length ms → HasMarked f (get_or ms k m).clause (head_at hs k) (fingerprint_at ps k)) → ((i : ℕ) (x : Signed ℕ) → i < length d → HasNoShorter f ms hs ps n d (get_or d i x)) → ¬ (Any (ShorterOf f n d) ms)
   none_shorter marked none any =

@@ -4,7 +4,7 @@ use Rattle.inst_logic.specs.declared.signed.Signed.{Signed}
 use Rattle.inst_logic.specs.Tree.{Tree}
 use Rattle.inst_logic.specs.Derivations.{at_number}
 use Rattle.inst_logic.specs.Unifiers.{Sided, IsMostGeneral, IsProper}
-use Rattle.inst_logic.specs.Clauses.{TreeClause, instance, canonical_form, IsCanonical}
+use Rattle.inst_logic.specs.Clauses.{TreeClause, instance, canonical_form}
 use Rattle.inst_logic.specs.WellFormed.{IsAtom}
 use Rattle.inst_calculus.specs.Entries.{Entry}
 use Rattle.cert_format.specs.Validity.{IsConclusion}
@@ -26,10 +26,6 @@ literal_of ms number place = placed_in (at_number ms number) place
 pub record IsAtomOf (f : Forest) (l : Signed ℕ) : Type 0 where
   pub within : l.atom < length f.trees
   pub atom : IsAtom (tree_at f l.atom)
-
--- where there is a member of the number, it is canonical
-abbrev pub IsCanonicalMember : List Entry → ℕ → Type 0
-IsCanonicalMember es n = (e : Entry) → at_number es n ≡ Some e → IsCanonical e.clause
 
 -- the bindings are a most general unifier that is proper for the first tree
 pub record IsProperlyUnified (f : Forest) (es : List Binding) (a b : Tree) : Type 0 where

@@ -1,6 +1,5 @@
 -- What look-ups of members know.
-use Rattle.std.specs.Prelude.{◌≡◌, ◌↔◌, ℕ, ◌<◌, ◌≤◌, Bool, List, Any, length, slice_index_or, true}
-use Rattle.indexmap.specs.IndexMap.{get}
+use Rattle.std.specs.Prelude.{◌≡◌, ◌↔◌, ℕ, ◌<◌, Bool, List, Any, length, slice_index_or, true}
 use Rattle.std.specs.Cmp.Lexicographic.{pointwise}
 use Rattle.std.specs.List.{list_any}
 use Rattle.inst_logic.specs.declared.signed.Signed.{Signed}
@@ -17,7 +16,9 @@ use Rattle.cert_format.specs.Validity.{IsValidBase}
 use Rattle.cert_check.specs.Covers.{ShorterOf}
 use Rattle.cert_check.specs.declared.fingerprint.Fingerprint.{Fingerprint}
 use Rattle.cert_check.specs.Fingerprints.{HasFingerprint, TellApart, fingerprint_at}
-use Rattle.cert_check.specs.Partners.{Head, AreGrouped, IsHeadAt, LeadThrough, head_at}
+use Rattle.cert_check.specs.Lengths.{AreGrouped, heads_by, rank_at}
+use Rattle.cert_check.specs.Partners.{Head, IsHeadAt, LeadThrough, head_at}
+use Rattle.cert_check.specs.declared.lengths.Ranked.{Ranked}
 use Rattle.cert_check.specs.declared.lookup.Lookup.{Lookup}
 
 -- one of the clauses
@@ -39,8 +40,9 @@ pub record HasMarked (f : Forest) (c : List (Signed ℕ)) (h : Head) (p : Finger
 pub record IsLookup (f : Forest) (ms : List Member) (l : Lookup) : Type 0 where
   pub clauses : AreClausesOf ms l.clauses.keys
   pub count : length l.fingerprints.items ≡ length ms
-  pub marked : (k : ℕ) (m : Member) → k < length ms → HasMarked f (slice_index_or ms k m).clause (head_at l.partners.heads.items k) (fingerprint_at l.fingerprints.items k)
-  pub groups : AreGrouped ms l.partners.heads.items l.partners.same.items (get id_eq l.partners.first)
+  pub heads : List Head
+  pub marked : (k : ℕ) (m : Member) → k < length ms → HasMarked f (slice_index_or ms k m).clause (head_at heads k) (fingerprint_at l.fingerprints.items k)
+  pub groups : AreGrouped ms heads l.lengths
 
 -- what the check of the pairs stands on: the certificate has passed all that comes before, and the look-ups are its own
 pub record IsReady (c : Saturation) (l : Lookup) : Type 0 where
@@ -63,8 +65,7 @@ IsNoShorter f ms ps n d l k = (m : Member) → HasInstance f (fingerprint_at ps 
 abbrev pub HasNoShorter : Forest → List Member → List Head → List Fingerprint → ℕ → List (Signed ℕ) → Signed ℕ → Type 0
 HasNoShorter f ms hs ps n d l = (k : ℕ) → k < length ms → IsHeadAt f l (head_at hs k) → IsNoShorter f ms ps n d l k
 
--- a scan of the members of one head has come to place k
-pub record IsPastShorter (f : Forest) (ms : List Member) (hs : List Head) (ps : List Fingerprint) (n : ℕ) (d : List (Signed ℕ)) (l : Signed ℕ) (h : Head) (k : ℕ) : Type 0 where
-  pub within : k ≤ length hs
-  pub at : k < length hs → head_at hs k ≡ h
-  pub before : (j : ℕ) → j < k → head_at hs j ≡ h → IsNoShorter f ms ps n d l j
+-- a scan of the members of one head, from the shortest on, has come to place j of the order
+pub record IsPastShorter (f : Forest) (ms : List Member) (hs : List Head) (rs : List Ranked) (ps : List Fingerprint) (n : ℕ) (d : List (Signed ℕ)) (l : Signed ℕ) (h : Head) (j : ℕ) : Type 0 where
+  pub at : j < length rs → head_at (heads_by hs rs) j ≡ h
+  pub before : (i : ℕ) → i < j → head_at (heads_by hs rs) i ≡ h → IsNoShorter f ms ps n d l (rank_at rs i).place

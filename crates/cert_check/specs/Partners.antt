@@ -1,11 +1,10 @@
 -- Which members can be partners by the heads of their selected literals, and chains through the members of one head.
-use Rattle.std.specs.Prelude.{◌≡◌, ℕ, suc, ◌<◌, ◌≤◌, List, length, false, Option, Some, option_map, slice_index_or, unwrap_or}
+use Rattle.std.specs.Prelude.{◌≡◌, ℕ, suc, ◌<◌, ◌≤◌, List, length, false, Some, option_map, slice_index_or}
 use Rattle.inst_logic.specs.declared.signed.Signed.{Signed}
 use Rattle.inst_logic.specs.Signed.{complement}
 use Rattle.term_bank.specs.Forest.{Forest, number_of, symbol_of, tree_at}
 use Rattle.cert_format.specs.Certificate as format
 use Rattle.cert_format.specs.Validity.{IsRightPair}
-use Rattle.saturation_cert.specs.declared.member.Member.{Member}
 use Rattle.saturation_cert.specs.declared.certificate.Saturation.{Saturation}
 use Rattle.saturation_cert.specs.Truths.{IsSelectedLiteral}
 
@@ -51,10 +50,3 @@ pub record LeadThrough (c : format.Saturation) (hs : List Head) (same opposed : 
   pub count : length hs ≡ length c.base.members
   pub apart : AreApart c hs
   pub chained : AreChained hs same opposed 0
-
--- the members of one head, from the first on
-pub record AreGrouped (ms : List Member) (hs : List Head) (same : List ℕ) (first : Head → Option ℕ) : Type 0 where
-  pub count : length hs ≡ length ms
-  pub same_length : length same ≡ length hs
-  pub to_same : (k : ℕ) → k < length hs → IsNext hs (head_at hs k) (suc k) (slice_index_or same k 0)
-  pub to_first : (h : Head) → IsNext hs h 0 (unwrap_or (first h) (length hs))

@@ -44,7 +44,6 @@ fn is_right(
     requires whole { IsWholeBase base.old }
     requires within { i < length base.old.members }
     requires axioms { (n : ℕ) → IsRightAxiom (base_of base.old) n }
-    requires earlier { (m : ℕ) → m < i + 1 → IsRightMember (base_of base.old) m }
     ensures kept { KeepsBase base.old base.new }
     ensures whole { OnOk result (IsWholeBase base.new) }
     ensures right { IfOk result (λ r. IsTrue r ↔ IsRightMember (base_of base.old) (i + 1)) }

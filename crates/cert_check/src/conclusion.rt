@@ -1,13 +1,12 @@
 // Conclusions of two members: found anew and compared, not matched against what the certificate has. Both are in canonical
 // form, so they are the same clause exactly where their ids are equal.
 ghost use Rattle.std.specs.Prelude.{◌≡◌, ◌+◌, ◌<◌, ◌↔◌, All, IfOk, IsTrue, false, length, map, option_copied, true};
-ghost use Rattle.inst_logic.specs.Clauses.{IsCanonical};
 ghost use Rattle.inst_logic.specs.Derivations.{at_number};
 ghost use Rattle.cert_format.specs.Validity.{IsConclusion};
 ghost use Rattle.term_bank.specs.Forest.{AreFormed, Extends, IsClauseOf, clause_at, tree_at};
 ghost use Rattle.saturation_cert.specs.Values.{entry_of};
 ghost use Rattle.saturation_cert.specs.Wholes.{IsWholeClause};
-ghost use Rattle.cert_check.specs.Conclusions.{Concludes, HasNoProper, IsAtomOf, IsCanonicalMember, IsProperlyUnified, MembersConclude, MembersGive, literal_of};
+ghost use Rattle.cert_check.specs.Conclusions.{Concludes, HasNoProper, IsAtomOf, IsProperlyUnified, MembersConclude, MembersGive, literal_of};
 
 use crate::difference::same_clause;
 use clause_form::conclude_clause;
@@ -74,7 +73,6 @@ fn conclude_at(
     m: IdLiteral,
 ) -> Result<Option<IdClause>, Memory>
     requires clause { IsWholeClause bank.old clause.now }
-    requires canonical { IsCanonical (clause_at bank.old clause.now) }
     requires left { IsAtomOf bank.old l }
     requires right { IsAtomOf bank.old m }
     ensures concludes { IfOk result (Concludes bank.old bank.new clause.now l m) }
@@ -100,7 +98,6 @@ fn conclusion(
     premises: Premises,
 ) -> Result<Option<IdClause>, Memory>
     requires members { All (λ m. IsWholeClause bank.old m.clause) members.now }
-    requires canonical { IsCanonicalMember (map (entry_of bank.old) members.now) premises.from }
     ensures concludes { IfOk result (MembersConclude bank.new (map (entry_of bank.old) members.now) premises.from premises.place premises.partner premises.other) }
     ensures extends { Extends bank.old bank.new }
     ensures formed { AreFormed bank.old → AreFormed bank.new }
@@ -127,7 +124,6 @@ fn is_conclusion(
     clause: &IdClause,
 ) -> Result<bool, Memory>
     requires members { All (λ m. IsWholeClause bank.old m.clause) members.now }
-    requires canonical { IsCanonicalMember (map (entry_of bank.old) members.now) premises.from }
     requires clause { IsClauseOf bank.old clause.now }
     ensures gives { IfOk result (λ r. IsTrue r ↔ IsConclusion (map (entry_of bank.old) members.now) premises.from premises.place premises.partner premises.other (clause_at bank.old clause.now)) }
     ensures extends { Extends bank.old bank.new }
@@ -153,7 +149,6 @@ pub fn members_give(
     clause: &IdClause,
 ) -> Result<bool, Memory>
     requires members { All (λ m. IsWholeClause bank.old m.clause) members.now }
-    requires canonical { premises.from < i + 1 → IsCanonicalMember (map (entry_of bank.old) members.now) premises.from }
     requires clause { IsClauseOf bank.old clause.now }
     ensures gives { IfOk result (λ r. IsTrue r ↔ MembersGive (map (entry_of bank.old) members.now) (i + 1) premises.from premises.place premises.partner premises.other (clause_at bank.old clause.now)) }
     ensures extends { Extends bank.old bank.new }

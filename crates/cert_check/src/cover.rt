@@ -1,7 +1,8 @@
-// Covered instances. A variant is one look-up. Of the shorter members only those are tried whose selected literal has the
-// head of a literal of the instance, and a fingerprint that allows it, since it has to go onto one; trying all would cost
-// their number at each pair.
-ghost use Rattle.std.specs.Prelude.{◌≡◌, ◌↔◌, ◌<◌, ℕ, map, length, All, Any, IfOk, IsTrue, true, false};
+// Covered instances. A variant is one look-up. Other covers are shorter members, and of these only those are tried whose selected
+// literal has the head of a literal of the instance, and a fingerprint that allows it, since it has to go onto one; trying all
+// members would cost their number at each pair.
+ghost use Rattle.std.specs.Prelude.{◌≡◌, ◌↔◌, ◌<◌, ℕ, List, map, length, All, Any, IfOk, IsTrue, true, false};
+ghost use Rattle.std.specs.List.{HoldsAt};
 ghost use Rattle.inst_logic.specs.Clauses.{IsCanonical, instance};
 ghost use Rattle.inst_logic.specs.Unifiers.{Sided};
 ghost use Rattle.inst_logic.specs.declared.signed.Signed.{Signed};
@@ -11,10 +12,12 @@ ghost use Rattle.unify_core.specs.Chains.{AreBindings};
 ghost use Rattle.unify_core.specs.Sides.{IsResolvedBy, of_side};
 ghost use Rattle.unify_core.specs.Terms.{AreTerms};
 ghost use Rattle.saturation_cert.specs.Wholes.{IsWholeClause};
-ghost use Rattle.cert_check.specs.Covers.{IsCoveredIn, IsShorter, ShorterOf};
+ghost use Rattle.cert_check.specs.Covers.{IsCoveredIn, ShorterOf};
 ghost use Rattle.cert_check.specs.Grounds.{AreCanonicalMembers};
 ghost use Rattle.cert_check.specs.Fingerprints.{HasFingerprint};
+ghost use Rattle.cert_check.specs.Lengths.{AreGrouped};
 ghost use Rattle.cert_check.specs.Lookups.{HasNoShorter, IsLookup, IsNoShorter};
+ghost use Rattle.cert_check.specs.Partners.{Head};
 
 use crate::fingerprint::{Fingerprint, fingerprint_of};
 use crate::lookup::Lookup;
@@ -25,26 +28,8 @@ use std::alloc::Global;
 use term_bank::{Bank, IdClause, IdLiteral};
 use unify_core::{Bindings, Side};
 
-// Whether the member has fewer literals than this many and subsumes the clause.
-fn is_shorter(
-    alloc: Global,
-    bank: &Bank,
-    member: &IdClause,
-    len: usize,
-    c: &IdClause,
-) -> Result<bool, Memory>
-    requires member { IsClauseOf bank.now member.now }
-    requires clause { IsClauseOf bank.now c.now }
-    ensures { IfOk result (λ r. IsTrue r ↔ IsShorter len (clause_at bank.now c.now) (clause_at bank.now member.now)) }
-{
-    if member.len() >= len {
-        return Ok(false);
-    }
-    subsumes(alloc, bank, member, c)
-}
-
-// The same for the member at the place, counted from 0, where the fingerprint of its selected literal allows that one with
-// this fingerprint is an instance.
+// Whether the member at the place, counted from 0, subsumes the clause with fewer literals than this many. It is not tried where
+// the fingerprint of its selected literal excludes that one with this fingerprint is an instance.
 fn is_shorter_at(
     alloc: Global,
     bank: &Bank,
@@ -59,16 +44,17 @@ fn is_shorter_at(
     requires lookup { IsLookup bank.now members.now lookup.now }
     requires clause { IsClauseOf bank.now c.now }
     requires within { k < length members.now }
+    requires shorter { HoldsAt (λ m. length m.clause < len) members.now k }
     ensures yes { IfOk result (λ r. r ≡ true → Any (ShorterOf bank.now len c.now) members.now) }
     ensures no { IfOk result (λ r. r ≡ false → (l : Signed ℕ) → HasFingerprint bank.now (tree_at bank.now l.atom) fingerprint.now → IsNoShorter bank.now members.now lookup.now.fingerprints.items len c.now l k) }
 {
     if lookup.fingerprints[k].differs(fingerprint) {
         return Ok(false);
     }
-    is_shorter(alloc, bank, &members[k].clause, len, c)
+    subsumes(alloc, bank, &members[k].clause, c)
 }
 
-// Whether some member is so whose selected literal has the head of this one.
+// Whether some member is so whose selected literal has the head of this one. The shortest come first.
 fn leads_to_shorter(
     alloc: Global,
     bank: &Bank,
@@ -83,17 +69,17 @@ fn leads_to_shorter(
     requires clause { IsClauseOf bank.now c.now }
     requires literal { literal.now.atom < length bank.now.trees }
     ensures yes { IfOk result (λ r. r ≡ true → Any (ShorterOf bank.now len c.now) members.now) }
-    ensures no { IfOk result (λ r. r ≡ false → HasNoShorter bank.now members.now lookup.now.partners.heads.items lookup.now.fingerprints.items len c.now literal.now) }
+    ensures no { IfOk result (λ r. r ≡ false → (hs : List Head) → AreGrouped members.now hs lookup.now.lengths → HasNoShorter bank.now members.now hs lookup.now.fingerprints.items len c.now literal.now) }
 {
-    let partners = &lookup.partners;
-    let count = members.len();
+    let lengths = &lookup.lengths;
     let fingerprint = fingerprint_of(bank, literal.atom);
-    let mut k = partners.first_place(bank, literal);
-    while k < count {
+    let mut j = lengths.first_place(bank, literal);
+    while lengths.is_below(j, len) {
+        let k = lengths.ranked[j].place;
         if is_shorter_at(alloc, bank, members, lookup, len, c, &fingerprint, k)? {
             return Ok(true);
         }
-        k = partners.same[k];
+        j = lengths.same[j];
     }
     Ok(false)
 }

@@ -12,6 +12,7 @@ pub mod error;
 mod fingerprint;
 mod grounds;
 mod inputs;
+mod lengths;
 mod lookup;
 mod narrow;
 mod origin;

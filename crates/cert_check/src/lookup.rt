@@ -7,19 +7,20 @@ ghost use Rattle.cert_format.specs.Validity.{IsValidBase};
 ghost use Rattle.cert_check.specs.Lookups.{AreClausesOf, IsReady, has_clause};
 
 use crate::fingerprint::{Fingerprint, find_fingerprints};
+use crate::lengths::{Lengths, find_lengths};
 use crate::narrow::{Chains, find_chains};
-use crate::partners::{Partners, find_partners};
+use crate::partners::find_heads;
 use indexmap::IndexSet;
 use inst_logic::Memory;
 use saturation_cert::{Member, Saturation};
 use std::alloc::Global;
 use term_bank::IdClause;
 
-/// The members' clauses, the chains through the members whose selected literals have one head and through those of one class, and
-/// the fingerprints of the selected atoms.
+/// The members' clauses, the chains through the members whose selected literals have one head, from the shortest on, and through
+/// those of one class, and the fingerprints of the selected atoms.
 #[derive(Drop)]
 pub struct Lookup {
-    pub(crate) partners: Partners,
+    pub(crate) lengths: Lengths,
     pub(crate) chains: Chains,
     pub(crate) fingerprints: Vec<Fingerprint>,
     clauses: IndexSet<IdClause>,
@@ -50,11 +51,13 @@ pub fn find_lookup(alloc: Global, cert: &Saturation) -> Result<Lookup, Memory>
     ensures { IfOk result (IsReady cert.now) }
 {
     let fingerprints = find_fingerprints(alloc, cert)?;
-    let partners = find_partners(alloc, cert)?;
-    let chains = find_chains(alloc, &partners, &fingerprints)?;
-    let clauses = clauses_of(alloc, cert.base.members.as_slice())?;
+    let heads = find_heads(alloc, cert)?;
+    let members = cert.base.members.as_slice();
+    let lengths = find_lengths(alloc, members, &heads)?;
+    let chains = find_chains(alloc, &heads, &fingerprints)?;
+    let clauses = clauses_of(alloc, members)?;
     Ok(Lookup {
-        partners,
+        lengths,
         chains,
         fingerprints,
         clauses,

@@ -7,7 +7,7 @@ ghost use Rattle.cert_format.specs.Certificate as format;
 ghost use Rattle.term_bank.specs.Forest.{KeepsPlaces};
 ghost use Rattle.cert_check.specs.Fingerprints.{TellApart};
 ghost use Rattle.cert_check.specs.Narrow.{AreNarrow, AreUnmarked, IsNarrow, class_eq, class_in, no_class};
-ghost use Rattle.cert_check.specs.Partners.{LeadThrough};
+ghost use Rattle.cert_check.specs.Partners.{AreApart, LeadThrough};
 
 use crate::fingerprint::Fingerprint;
 use crate::partners::{HeadId, Partners, chained};
@@ -144,17 +144,17 @@ fn chains_of(partners: Partners) -> Chains
     }
 }
 
-// The chains of the members by their classes.
+// The chains by the classes of members with these heads.
 pub fn find_chains(
     alloc: Global,
-    partners: &Partners,
+    heads: &[HeadId],
     fingerprints: &[Fingerprint],
 ) -> Result<Chains, Memory>
-    requires { length fingerprints.now ≡ length partners.now.heads.items }
-    ensures { (c : format.Saturation) → LeadThrough c partners.now.heads.items partners.now.same.items partners.now.opposed.items → TellApart c fingerprints.now → IfOk result (λ n. LeadThrough c n.heads.items n.same.items n.opposed.items) }
+    requires { length fingerprints.now ≡ length heads.now }
+    ensures { (c : format.Saturation) → length heads.now ≡ length c.base.members → AreApart c heads.now → TellApart c fingerprints.now → IfOk result (λ n. LeadThrough c n.heads.items n.same.items n.opposed.items) }
 {
-    let unmarked = unmarked_symbols(alloc, &partners.heads, fingerprints)?;
-    let narrow = narrow_heads(alloc, &unmarked, &partners.heads, fingerprints)?;
+    let unmarked = unmarked_symbols(alloc, heads, fingerprints)?;
+    let narrow = narrow_heads(alloc, &unmarked, heads, fingerprints)?;
     let chains = chained(alloc, narrow)?;
     Ok(chains_of(chains))
 }

@@ -1,13 +1,12 @@
-// Chains of members by the heads of their selected literals: each place leads on to the next one of the same head, and to the
-// next one of the opposite head. So a scan for members that subsume visits only those that may; that for partners goes along
-// narrower chains, which are made in the same way.
+// The heads of the members' selected literals, and chains by heads: each place leads on to the next one of the same head, and to
+// the next one of the opposite head.
 ghost use Rattle.std.specs.Prelude.{◌≡◌, ◌<◌, ℕ, length, IfOk, IfSome, Some, option_map, unwrap_or};
 ghost use Rattle.indexmap.specs.IndexMap.{get};
 ghost use Rattle.clause_form.specs.Literals.{id_eq};
 ghost use Rattle.term_bank.specs.Forest.{symbol_at, symbol_of, tree_at};
 ghost use Rattle.saturation_cert.specs.Values.{saturation_of};
 ghost use Rattle.saturation_cert.specs.Wholes.{HasPlaces, IsWholeSaturation};
-ghost use Rattle.cert_check.specs.Partners.{AreChained, AreGrouped, Head, IsHeadAt, IsHeadOf, IsNext, LeadThrough, head_at};
+ghost use Rattle.cert_check.specs.Partners.{AreApart, AreChained, Head, IsHeadAt, IsHeadOf, IsNext, head_at};
 
 use indexmap::IndexMap;
 use inst_logic::{Memory, Signed};
@@ -19,18 +18,18 @@ use term_bank::{Bank, IdLiteral};
 // A sign and the number of a symbol.
 pub type HeadId = Signed<usize>;
 
-// For each member, counted from 0, the head of its selected literal, and the place of the next member with that head and of
-// the next one with the opposite head. Where there is none it is the number of members. And for each head its first member.
+// For each place, counted from 0, its head, and the next place with that head and the next one with the opposite head. Where
+// there is none it is the number of places. And for each head its first place.
 #[derive(Drop)]
 pub struct Partners {
     pub(crate) heads: Vec<HeadId>,
-    first: IndexMap<HeadId, usize>,
+    pub(crate) first: IndexMap<HeadId, usize>,
     pub(crate) same: Vec<usize>,
     pub(crate) opposed: Vec<usize>,
 }
 
 // The head of the literal, unless its atom is a variable.
-fn head_of(bank: &Bank, l: &IdLiteral) -> Option<HeadId>
+pub fn head_of(bank: &Bank, l: &IdLiteral) -> Option<HeadId>
     requires { l.now.atom < length bank.now.trees }
     ensures is { IfSome result (IsHeadAt bank.now l.now) }
     ensures only { (h : Head) → IsHeadAt bank.now l.now h → result ≡ Some h }
@@ -56,11 +55,13 @@ fn head(cert: &Saturation, i: usize) -> HeadId
     }
 }
 
-fn heads(alloc: Global, cert: &Saturation) -> Result<Vec<HeadId>, Memory>
+// The heads of the members.
+pub fn find_heads(alloc: Global, cert: &Saturation) -> Result<Vec<HeadId>, Memory>
     requires whole { IsWholeSaturation cert.now }
     requires placed { HasPlaces (saturation_of cert.now) }
     ensures count { IfOk result (λ hs. length hs.items ≡ length cert.now.base.members) }
     ensures heads { IfOk result (λ hs. (k : ℕ) → k < length hs.items → IsHeadOf cert.now k (head_at hs.items k)) }
+    ensures apart { IfOk result (λ hs. AreApart (saturation_of cert.now) hs.items) }
 {
     let mut heads = Vec::new(alloc);
     for i in 0..cert.base.members.len() {
@@ -70,8 +71,8 @@ fn heads(alloc: Global, cert: &Saturation) -> Result<Vec<HeadId>, Memory>
     Ok(heads)
 }
 
-// The place of the first member of the head, or the number of members where there is none.
-fn place_of(first: &IndexMap<HeadId, usize>, head: HeadId, count: usize) -> usize
+// The first place of the head, or the number of places where there is none.
+pub fn place_of(first: &IndexMap<HeadId, usize>, head: HeadId, count: usize) -> usize
     ensures { result ≡ unwrap_or (get id_eq first.now head) count }
 {
     first.get(&head).copied().unwrap_or(count)
@@ -99,32 +100,4 @@ pub fn chained(alloc: Global, heads: Vec<HeadId>) -> Result<Partners, Memory>
         same,
         opposed: other,
     })
-}
-
-// The chains of the members.
-pub fn find_partners(alloc: Global, cert: &Saturation) -> Result<Partners, Memory>
-    requires whole { IsWholeSaturation cert.now }
-    requires placed { HasPlaces (saturation_of cert.now) }
-    ensures pairs { IfOk result (λ p. LeadThrough (saturation_of cert.now) p.heads.items p.same.items p.opposed.items) }
-    ensures groups { IfOk result (λ p. AreGrouped cert.now.base.members p.heads.items p.same.items (get id_eq p.first)) }
-    ensures heads { IfOk result (λ p. (k : ℕ) → k < length cert.now.base.members → IsHeadOf cert.now k (head_at p.heads.items k)) }
-{
-    let heads = heads(alloc, cert)?;
-    chained(alloc, heads)
-}
-
-impl Partners {
-    /// The place of the first member whose selected literal has the head of this one, or the number of members where there is
-    /// none.
-    pub fn first_place(&self, bank: &Bank, l: &IdLiteral) -> usize
-        requires within { l.now.atom < length bank.now.trees }
-        requires first { (h : Head) → IsNext self.now.heads.items h 0 (unwrap_or (get id_eq self.now.first h) (length self.now.heads.items)) }
-        ensures { (h : Head) → IsHeadAt bank.now l.now h → IsNext self.now.heads.items h 0 result }
-    {
-        let count = self.heads.len();
-        match head_of(bank, l) {
-            Some(head) => place_of(&self.first, head, count),
-            None => count,
-        }
-    }
 }

@@ -1,11 +1,11 @@
-use Rattle.std.proofs.Common.{◌≡◌, List, All, sym, subst, ap, ◌∙◌, get_or, arith, map, ◌+◌}
+use Rattle.std.proofs.Common.{◌≡◌, List, All, sym, subst, ap, ◌∙◌, get_or, map, ◌+◌}
 use Rattle.std.proofs.lemmas.Result.{IfOk-weaker}
 use Rattle.term_bank.specs.Forest.{clause_at}
 use Rattle.saturation_cert.specs.Wholes.{IsWholeClause}
 use Rattle.saturation_cert.specs.Values.{entry_of}
-use Rattle.cert_check.specs.Conclusions.{IsCanonicalMember, MembersGive}
+use Rattle.cert_check.specs.Conclusions.{MembersGive}
 use Rattle.saturation_cert.specs.declared.member.Member.{Member}
-use Rattle.cert_check.proofs.MemberOrigins.{canonical_before, right_inst}
+use Rattle.cert_check.proofs.MemberOrigins.{right_inst}
 use Rattle.cert_check.proofs.Rightness.{right_input, ids_of, member_ids}
 use Rattle.cert_check.proofs.Refutations.{whole_base}
 use Rattle.cert_check.proofs.base.is_right.Goals as goal
@@ -40,11 +40,6 @@ pub members_give-requires-clause-members : goal.members_give-requires-clause-mem
 members_give-requires-clause-members c =
     let b = c.args.base.now in
     subst (λ (ms : List Member). All (λ m. IsWholeClause b.bank m.clause) ms) (sym c.as_slice-in-Inst.ensures) c.requires.whole.members
-
-pub members_give-requires-clause-canonical : goal.members_give-requires-clause-canonical
-members_give-requires-clause-canonical c =
-    let b = c.args.base.now in
-    λ h. subst (λ (ms : List Member). IsCanonicalMember (map (entry_of b.bank) ms) c.in-Inst.from) (sym c.as_slice-in-Inst.ensures) (canonical_before b c.args.i c.in-Inst.from (omega arith) c.requires.earlier)
 
 pub members_give-requires-clause-clause : goal.members_give-requires-clause-clause
 members_give-requires-clause-clause c =

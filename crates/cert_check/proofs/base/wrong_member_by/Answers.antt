@@ -1,4 +1,4 @@
-use Rattle.std.proofs.Common.{ℕ, ◌+◌, ◌<◌, arith, refl, sym, subst}
+use Rattle.std.proofs.Common.{ℕ, ◌+◌, arith, refl, sym, subst}
 use Rattle.cert_format.specs.Certificate as format
 use Rattle.cert_format.specs.Validity.{IsRightAxiom, IsRightMember}
 use Rattle.saturation_cert.specs.Values.{base_of}
@@ -11,11 +11,6 @@ pub is_right-requires-clause-axioms : goal.is_right-requires-clause-axioms
 is_right-requires-clause-axioms c =
     let same = base_same c.args.base.now c.loop-i.base c.requires.whole c.loop-i.invariant.kept in
     subst (λ (b : format.Base). (n : ℕ) → IsRightAxiom b n) (sym same) c.requires.axioms
-
-pub is_right-requires-clause-earlier : goal.is_right-requires-clause-earlier
-is_right-requires-clause-earlier c =
-    let same = base_same c.args.base.now c.loop-i.base c.requires.whole c.loop-i.invariant.kept in
-    subst (λ (b : format.Base). (m : ℕ) → m < c.loop-i.i + 1 → IsRightMember b m) (sym same) c.loop-i.invariant.right
 
 pub returns-then-not-branch-clause-first : goal.returns-then-not-branch-clause-first
 returns-then-not-branch-clause-first c =

@@ -2,18 +2,13 @@ use Rattle.std.proofs.Common.{◌≡◌, sym, ap, ◌∙◌, Some}
 use Rattle.std.specs.Prelude.{option_copied}
 use Rattle.inst_logic.specs.Derivations.{at_number}
 use Rattle.cert_check.specs.Conclusions.{literal_of}
-use Rattle.cert_check.proofs.Conclusions.{member_whole, canonical_there, literal_atom, concluded, when_ok}
+use Rattle.cert_check.proofs.Conclusions.{member_whole, literal_atom, concluded, when_ok}
 use Rattle.cert_check.proofs.conclusion.conclusion.Goals as goal
 
 pub conclude_at-requires-clause-clause : goal.conclude_at-requires-clause-clause
 conclude_at-requires-clause-clause c =
     let at : at_number c.args.members.now c.args.premises.from ≡ Some c.in-Some.member.now = sym c.numbered_item.ensures ∙ ap option_copied c.in-Some.is in
     member_whole c.args.bank.now c.args.members.now c.args.premises.from c.in-Some.member.now c.requires.members at
-
-pub conclude_at-requires-clause-canonical : goal.conclude_at-requires-clause-canonical
-conclude_at-requires-clause-canonical c =
-    let at : at_number c.args.members.now c.args.premises.from ≡ Some c.in-Some.member.now = sym c.numbered_item.ensures ∙ ap option_copied c.in-Some.is in
-    canonical_there c.args.bank.now c.args.members.now c.args.premises.from c.in-Some.member.now c.requires.canonical at
 
 pub conclude_at-requires-clause-left : goal.conclude_at-requires-clause-left
 conclude_at-requires-clause-left c =

@@ -1,9 +1,10 @@
 use Rattle.std.proofs.Common.{◌≡◌, ◌<◌, ◌∙◌, length, get_or, sym, subst, true, false, arith}
-use Rattle.std.proofs.lemmas.List.{get_or_default}
+use Rattle.std.proofs.lemmas.List.{get_or_default, length-map}
 use Rattle.std.proofs.lemmas.Result.{IfOk-weaker}
-use Rattle.term_bank.specs.Forest.{tree_at}
+use Rattle.inst_logic.specs.Clauses.{Subsumes}
+use Rattle.saturation_cert.specs.declared.member.Member.{Member}
+use Rattle.term_bank.specs.Forest.{clause_at, literal_tree, tree_at}
 use Rattle.cert_check.specs.declared.fingerprint.Fingerprint.{Fingerprint}
-use Rattle.cert_check.specs.Covers.{ShorterOf}
 use Rattle.cert_check.specs.Fingerprints.{Differ, fingerprint_at}
 use Rattle.cert_check.proofs.FingerprintLaws.{instance_agrees}
 use Rattle.cert_check.proofs.cover.is_shorter_at.Goals as goal
@@ -21,15 +22,18 @@ returns-then-differs-clause-no c e l has m inst short =
 
 pub returns-clause-yes : goal.returns-clause-yes
 returns-clause-yes c =
+    let f = c.args.bank.now in
     let ms = c.args.members.now in
     let k = c.args.k in
     let m = c.index-members-k.result in
-    IfOk-weaker c.is_shorter.result _ _ (λ r h t. (k, get_or ms k m, c.requires.within, get_or_default ms k (get_or ms k m) m c.requires.within, h.0 t)) c.is_shorter.ensures
+    let less : length (clause_at f (get_or ms k m).clause) < c.args.len = omega (arith, c.requires.shorter m, length-map (get_or ms k m).clause (literal_tree f)) in
+    IfOk-weaker c.subsumes.result _ _ (λ r h t. (k, get_or ms k m, c.requires.within, get_or_default ms k (get_or ms k m) m c.requires.within, (less, h.0 t))) c.subsumes.ensures
 
 pub returns-clause-no : goal.returns-clause-no
 returns-clause-no c =
+    let f = c.args.bank.now in
     let ms = c.args.members.now in
     let k = c.args.k in
-    IfOk-weaker c.is_shorter.result _ _ (λ r h e l has m inst short.
+    IfOk-weaker c.subsumes.result _ _ (λ r h e l has m inst short.
     let same : get_or ms k m ≡ get_or ms k c.index-members-k.result = get_or_default ms k m c.index-members-k.result c.requires.within in
-    let t : false ≡ true = sym e ∙ h.1 (subst (ShorterOf c.args.bank.now c.args.len c.args.c.now) same short) in cc) c.is_shorter.ensures
+    let t : false ≡ true = sym e ∙ h.1 (subst (λ (x : Member). Subsumes (clause_at f x.clause) (clause_at f c.args.c.now)) same short.1) in cc) c.subsumes.ensures

@@ -1,33 +1,31 @@
 use Rattle.std.proofs.Common.{◌≡◌, ℕ, ◌<◌, ◌∙◌, List, length, get_or, ap, subst, true, false, below_more, arith}
 use Rattle.std.proofs.lemmas.List.{get_or_default}
-use Rattle.indexmap.specs.IndexMap.{get}
 use Rattle.inst_logic.specs.declared.signed.Signed.{Signed}
-use Rattle.clause_form.specs.Literals.{id_eq}
 use Rattle.cert_check.specs.Lookups.{HasNoShorter}
 use Rattle.cert_check.proofs.ShorterLaws.{none_shorter}
 use Rattle.cert_check.proofs.cover.some_shorter.Goals as goal
 
 pub loop-literal-preserved : goal.loop-literal-preserved
-loop-literal-preserved c i x less =
+loop-literal-preserved c i x less hs groups =
     let f = c.args.bank.now in
     let ms = c.args.members.now in
-    let hs = c.args.lookup.now.partners.heads.items in
     let ps = c.args.lookup.now.fingerprints.items in
     let ls = c.as_slice-literals.result.now in
     let j = c.loop-literal.literal-index in
     let within : j < length ls = omega (arith, c.loop-literal-test.true) in
-    below_more (λ i. (x : Signed ℕ) → HasNoShorter f ms hs ps c.args.len c.args.c.now (get_or ls i x)) j (λ k l y. c.loop-literal.invariant k y l)
+    below_more (λ i. (x : Signed ℕ) → HasNoShorter f ms hs ps c.args.len c.args.c.now (get_or ls i x)) j (λ k l y. c.loop-literal.invariant k y l hs groups)
     (λ y. let same = c.literal-item.is ∙ get_or_default ls j c.literal-item.result y within in
-    subst (HasNoShorter f ms hs ps c.args.len c.args.c.now) same (c.in_ok-leads_to_shorter.ensures.no c.if-branch.false)) i less x
+    subst (HasNoShorter f ms hs ps c.args.len c.args.c.now) same (c.in_ok-leads_to_shorter.ensures.no c.if-branch.false hs groups)) i less x
 
 pub returns : goal.returns
 returns c =
     let f = c.args.bank.now in
     let ms = c.args.members.now in
-    let p = c.args.lookup.now.partners in
+    let ps = c.args.lookup.now.fingerprints.items in
+    let known = c.requires.lookup in
     let same = c.as_slice-literals.ensures in (
       (λ t. absurd (let e : false ≡ true = t in cc)),
-      (λ any. absurd (none_shorter f ms p.heads.items c.args.lookup.now.fingerprints.items p.same.items (get id_eq p.first) c.requires.lookup.groups c.args.len c.args.c.now c.requires.lookup.marked
-          (λ i x less. subst (λ (ls : List (Signed ℕ)). HasNoShorter f ms p.heads.items c.args.lookup.now.fingerprints.items c.args.len c.args.c.now (get_or ls i x)) same
-          (c.loop-literal.invariant i x (omega (arith, less, c.loop-literal-test.false, ap (λ (ls : List (Signed ℕ)). length ls) same)))) any)),
+      (λ any. absurd (none_shorter f ms known.heads ps c.args.len c.args.c.now known.marked
+          (λ i x less. subst (λ (ls : List (Signed ℕ)). HasNoShorter f ms known.heads ps c.args.len c.args.c.now (get_or ls i x)) same
+          (c.loop-literal.invariant i x (omega (arith, less, c.loop-literal-test.false, ap (λ (ls : List (Signed ℕ)). length ls) same)) known.heads known.groups)) any)),
     )

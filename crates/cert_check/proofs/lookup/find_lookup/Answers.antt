@@ -1,32 +1,44 @@
 use Rattle.std.proofs.Common.{◌≡◌, ◌∙◌, List, length, subst, ap, sym, arith}
+use Rattle.std.proofs.lemmas.List.{length-map}
 use Rattle.saturation_cert.specs.declared.member.Member.{Member}
-use Rattle.saturation_cert.specs.Values.{saturation_of}
+use Rattle.saturation_cert.specs.Values.{entry_of, saturation_of}
 use Rattle.cert_check.specs.declared.fingerprint.Fingerprint.{Fingerprint}
 use Rattle.cert_check.specs.Fingerprints.{TellApart, fingerprint_at}
+use Rattle.cert_check.specs.Lengths.{AreGrouped}
 use Rattle.cert_check.specs.Lookups.{AreClausesOf}
-use Rattle.cert_check.specs.Partners.{head_at}
+use Rattle.cert_check.specs.Partners.{AreApart, Head, head_at}
 use Rattle.cert_check.proofs.LookupLaws.{member_marked}
 use Rattle.cert_check.proofs.lookup.find_lookup.Goals as goal
 
+pub find_lengths-requires : goal.find_lengths-requires
+find_lengths-requires c =
+    ap (λ (xs : List Head). length xs) c.deref.ensures.value ∙ c.in_ok-heads.ensures.count ∙ sym (ap (λ (ms : List Member). length ms) c.as_slice-members.ensures)
+
 pub find_chains-requires : goal.find_chains-requires
-find_chains-requires c = ap (λ (ps : List Fingerprint). length ps) c.deref.ensures.value ∙ c.in_ok-fingerprints.ensures.count ∙ sym c.in_ok-partners.ensures.groups.count
+find_chains-requires c =
+    ap (λ (ps : List Fingerprint). length ps) c.deref-3.ensures.value ∙ c.in_ok-fingerprints.ensures.count ∙ sym (ap (λ (xs : List Head). length xs) c.deref-2.ensures.value ∙ c.in_ok-heads.ensures.count)
 
 pub returns : goal.returns
 returns c =
     let cert = c.args.cert.now in
-    let hs = c.in_ok-partners.partners.heads.items in
+    let hs = c.in_ok-heads.heads.items in
     let ps = c.in_ok-fingerprints.fingerprints.items in
     let count : length ps ≡ length cert.base.members = c.in_ok-fingerprints.ensures.count in
+    let places : length hs ≡ length cert.base.members = c.in_ok-heads.ensures.count in
+    let same : c.deref-2.result.now ≡ hs = c.deref-2.ensures.value in
     record {
       whole = c.requires.whole;
       base = c.requires.base;
       placed = c.requires.placed;
       lookup = record {
-        clauses = subst (λ (ms : List Member). AreClausesOf ms c.in_ok-clauses.clauses.keys) c.as_slice.ensures c.in_ok-clauses.ensures;
+        clauses = subst (λ (ms : List Member). AreClausesOf ms c.in_ok-clauses.clauses.keys) c.as_slice-members.ensures c.in_ok-clauses.ensures;
         count = count;
-        marked = λ k m within. member_marked cert k (head_at hs k) (fingerprint_at ps k) (c.in_ok-partners.ensures.heads k within) (c.in_ok-fingerprints.ensures.each k (omega (arith, count, within))) m within;
-        groups = c.in_ok-partners.ensures.groups;
+        heads = hs;
+        marked = λ k m within. member_marked cert k (head_at hs k) (fingerprint_at ps k) (c.in_ok-heads.ensures.heads k (omega (arith, places, within))) (c.in_ok-fingerprints.ensures.each k (omega (arith, count, within))) m within;
+        groups = subst (λ (ms : List Member). AreGrouped ms hs c.in_ok-lengths.lengths) c.as_slice-members.ensures
+            (subst (λ (xs : List Head). AreGrouped c.as_slice-members.result.now xs c.in_ok-lengths.lengths) c.deref.ensures.value c.in_ok-lengths.ensures);
       };
-      chains = c.in_ok-chains.ensures (saturation_of cert) c.in_ok-partners.ensures.pairs (subst (TellApart (saturation_of cert)) (sym c.deref.ensures.value) c.in_ok-fingerprints.ensures.apart);
+      chains = c.in_ok-chains.ensures (saturation_of cert) (ap (λ (xs : List Head). length xs) same ∙ places ∙ sym (length-map cert.base.members (entry_of cert.base.bank)))
+          (subst (AreApart (saturation_of cert)) (sym same) c.in_ok-heads.ensures.apart) (subst (TellApart (saturation_of cert)) (sym c.deref-3.ensures.value) c.in_ok-fingerprints.ensures.apart);
       fingerprints = c.in_ok-fingerprints.ensures.apart;
     }

@@ -1,7 +1,7 @@
 use Rattle.std.proofs.Common.{ℕ, ◌<◌, List, subst, sym, rules}
 use Rattle.cert_check.specs.Partners.{Head, IsHeadOf, head_at}
-use Rattle.cert_check.proofs.HeadLaws.{one_more_head}
-use Rattle.cert_check.proofs.partners.heads.Goals as goal
+use Rattle.cert_check.proofs.HeadLaws.{all_apart, one_more_head}
+use Rattle.cert_check.proofs.partners.find_heads.Goals as goal
 
 pub loop-i-preserved : goal.loop-i-preserved
 loop-i-preserved c = record {
@@ -12,3 +12,6 @@ loop-i-preserved c = record {
 
 pub returns-clause-heads : goal.returns-clause-heads
 returns-clause-heads c = subst (λ n. (k : ℕ) → k < n → IsHeadOf c.args.cert.now k (head_at c.loop-i.heads.items k)) (sym c.loop-i.invariant.count) c.loop-i.invariant.each
+
+pub returns-clause-apart : goal.returns-clause-apart
+returns-clause-apart c = all_apart c.args.cert.now c.loop-i.heads.items (subst (λ n. (k : ℕ) → k < n → IsHeadOf c.args.cert.now k (head_at c.loop-i.heads.items k)) (sym c.loop-i.invariant.count) c.loop-i.invariant.each)

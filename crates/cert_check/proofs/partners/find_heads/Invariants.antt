@@ -1,6 +1,6 @@
 use Rattle.std.proofs.Common.{◌≡◌, ℕ, ◌<◌, length}
 use Rattle.cert_check.specs.Partners.{IsHeadOf, head_at}
-use Rattle.cert_check.proofs.partners.heads.Given as goal
+use Rattle.cert_check.proofs.partners.find_heads.Given as goal
 
 abbrev pub invariant-loop-i : goal.invariant-loop-i
 invariant-loop-i l = record {
