@@ -1,15 +1,29 @@
--- A clause of ids and its trees, as the bank grows.
-use Rattle.std.proofs.Common.{◌≡◌, ℕ, zero, suc, ◌<◌, List, [], ◌∷◌, ◌++◌, length, map, get_or, true, refl, ap, ap₂, sym, subst, ◌∙◌, arith}
+-- A clause of ids and its trees, as the bank grows, and where equal trees have equal ids. Crates above cite these laws.
+use Rattle.std.proofs.Common.{◌≡◌, ℕ, zero, suc, ◌<◌, List, [], ◌∷◌, ◌++◌, length, map, get_or, Bool, true, false, refl, ap, ap₂, sym, subst, ◌∙◌, arith}
 use Rattle.std.specs.List.{All}
 use Rattle.std.proofs.lemmas.List.{map_push}
-use Rattle.std.proofs.lemmas.List.Elements.{All-head, All-tail, All-weaker, All-push, All-nil, All-cons}
+use Rattle.std.proofs.lemmas.List.Elements.{All-head, All-tail, All-weaker, All-push, All-nil, All-cons, All-map}
+use Rattle.std.proofs.lemmas.List.Folds.{list_all_at}
 use Rattle.inst_logic.specs.declared.signed.Signed.{Signed}
 use Rattle.inst_logic.specs.declared.clause.Literal.{Literal}
 use Rattle.inst_logic.specs.LiteralView.{literal}
 use Rattle.inst_logic.specs.Tree.{Tree}
-use Rattle.inst_logic.specs.WellFormed.{IsAtom, atom_is_formed, clause_is_formed}
+use Rattle.inst_logic.specs.Clauses.{TreeClause}
+use Rattle.inst_logic.specs.WellFormed.{IsAtom, IsFormedClause, AreFormedClauses, atom_is_formed, clause_is_formed}
+use Rattle.inst_logic.proofs.Membership.{◌∈◌, in_all}
 use Rattle.inst_logic.proofs.SameLemmas.{and_left, and_right}
-use Rattle.term_bank.specs.Forest.{Forest, tree_at, Extends, IsClauseOf, clause_at}
+use Rattle.term_bank.specs.Forest.{Forest, tree_at, Extends, AreDistinct, AreIds, IsClauseOf, clause_at, literal_tree}
+
+-- literals of ids with equal trees are equal
+pub same_literal : (f : Forest) → AreDistinct f.trees → (k l : Signed ℕ) → k.atom < length f.trees → l.atom < length f.trees → literal_tree f k ≡ literal_tree f l → k ≡ l
+same_literal f once k l a b e =
+    let s : k.positive ≡ l.positive = ap (λ (x : Signed Tree). x.positive) e in
+    let t : k.atom ≡ l.atom = once k.atom l.atom a b (ap (λ (x : Signed Tree). x.atom) e) in
+    ap₂ (λ p n. record { positive = p; atom = n }) s t
+
+-- the atoms of a clause of ids are ids
+pub atom_ids : (f : Forest) (c : List (Signed ℕ)) → IsClauseOf f c → AreIds f (map (λ l. l.atom) c)
+atom_ids f c h = All-map (λ (i : ℕ). i < length f.trees) (λ l. l.atom) c h
 
 module _ (f g : Forest) (e : Extends f g) where
   pub clause_of_extends : (c : List (Signed ℕ)) → IsClauseOf f c → IsClauseOf g c
@@ -63,6 +77,18 @@ module _ {A : Type 0} (ids : A → List (Signed ℕ)) (f g : Forest) (e : Extend
 
   pub list_trees_pushed : (xs : List A) (y : A) → All (λ x. IsClauseOf f (ids x)) xs → map (λ x. clause_at g (ids x)) (xs ++ y ∷ []) ≡ map (λ x. clause_at f (ids x)) xs ++ clause_at g (ids y) ∷ []
   list_trees_pushed xs y h = map_push (λ x. clause_at g (ids x)) xs y ∙ ap (λ ys. ys ++ clause_at g (ids y) ∷ []) (list_trees_extend xs h)
+
+-- an extension keeps the trees of clauses
+pub clauses_extend : (f g : Forest) → Extends f g → (cs : List (List (Signed ℕ))) → ((c : List (Signed ℕ)) → c ∈ cs → IsClauseOf f c) → map (clause_at g) cs ≡ map (clause_at f) cs
+clauses_extend f g e cs h = list_trees_extend (λ c. c) f g e cs (in_all (IsClauseOf f) cs h)
+
+-- each of some formed clauses is formed
+pub formed_at : (trees : List TreeClause) (i : ℕ) (d : TreeClause) → AreFormedClauses trees → i < length trees → d ≡ get_or trees i d → IsFormedClause d
+formed_at trees i d h within is = by (clause_is_formed (get_or trees i d)) refl
+  where
+    by : (b : Bool) → clause_is_formed (get_or trees i d) ≡ b → IsFormedClause d
+    by true e = ap clause_is_formed is ∙ e
+    by false e = let no = list_all_at clause_is_formed trees i d within e in absurd (cc)
 
 -- each atom of a formed clause is formed
 pub literal_formed : (ls : List Literal) (i : ℕ) (l : Literal) → i < length ls → l ≡ get_or ls i l → clause_is_formed (map literal ls) ≡ true → atom_is_formed (literal l).atom ≡ true

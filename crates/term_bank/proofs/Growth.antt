@@ -1,5 +1,5 @@
--- A bank and a bank that extends it.
-use Rattle.std.proofs.Common.{◌≡◌, ℕ, ◌<◌, List, [], ◌∷◌, ◌++◌, ◌-◌, length, map, take, drop, true, refl, ap, ap₂, ◌∙◌, arith, length-drop}
+-- A bank and a bank that extends it. Crates above cite these laws.
+use Rattle.std.proofs.Common.{◌≡◌, ◌≢◌, ℕ, ◌<◌, List, [], ◌∷◌, ◌++◌, ◌-◌, length, map, take, drop, true, refl, ap, ap₂, ◌∙◌, arith, length-drop}
 use Rattle.std.specs.List.{list_all}
 use Rattle.std.proofs.lemmas.List.{take_all, take-map, drop-map, length-map}
 use Rattle.inst_logic.specs.declared.symbol.Sym.{Sym}
@@ -8,7 +8,7 @@ use Rattle.term_bank.specs.Steps.{applied}
 use Rattle.term_bank.proofs.Walks.{applied_formed}
 use Rattle.std.proofs.lemmas.List.{map_push}
 use Rattle.inst_logic.specs.Tree.{Tree, app, of_list}
-use Rattle.std.proofs.lemmas.List.Elements.{All-head, All-tail, All-take, All-weaker}
+use Rattle.std.proofs.lemmas.List.Elements.{All-head, All-tail, All-push, All-take, All-weaker}
 use Rattle.term_bank.specs.Forest.{Forest, tree_at, KeepsPlaces, IsAt, AreIds, Extends}
 
 keeps_trans : {A : Type 0} (d : A) (xs ys zs : List A) → KeepsPlaces d xs ys → KeepsPlaces d ys zs → KeepsPlaces d xs zs
@@ -32,8 +32,16 @@ map_extends f g (i ∷ ids) e h =
     ap₂ (λ x xs. x ∷ xs) (e.trees.1 i (All-head (λ i. i < length f.trees) i ids h)) (map_extends f g ids e (All-tail (λ i. i < length f.trees) i ids h))
 
 -- one more id
+pub ids_pushed : (f g : Forest) (ids : List ℕ) (id : ℕ) → Extends f g → AreIds f ids → id < length g.trees → AreIds g (ids ++ id ∷ [])
+ids_pushed f g ids id e h n = All-push (λ i. i < length g.trees) ids id (ids_extend f g ids e h) n
+
 pub map_pushed : (f g : Forest) (ids : List ℕ) (id : ℕ) (t : Tree) → Extends f g → AreIds f ids → tree_at g id ≡ t → map (tree_at g) (ids ++ id ∷ []) ≡ map (tree_at f) ids ++ t ∷ []
 map_pushed f g ids id t e within at = map_push (tree_at g) ids id ∙ ap₂ (λ xs x. xs ++ x ∷ []) (map_extends f g ids e within) at
+
+-- a list that is not empty is not mapped to the empty list
+pub none_left : {A B : Type 0} (f : A → B) (xs : List A) → xs ≢ [] → map f xs ≢ []
+none_left f [] n e = n refl
+none_left f (x ∷ xs) n e = absurd cc
 
 -- the ids on top, as a slice
 pub slice_is : (ids ds : List ℕ) (k len n : ℕ) → ds ≡ ids → k ≡ len - n → len ≡ length ids → take (length ds - k) (drop k ds) ≡ drop (length ids - n) ids
