@@ -1,7 +1,9 @@
 -- The entries of a map after an insertion.
-use Rattle.std.proofs.Common.{◌≡◌, ℕ, zero, suc, ◌+◌, ◌<◌, List, [], ◌∷◌, length, Bool, true, false, refl, ap, ap₂, sym, nat_eq, ◌∙◌, arith, Result, Ok, Err, IfOk, inl, inr, get_or}
+use Rattle.std.proofs.Common.{◌≡◌, ℕ, zero, suc, ◌+◌, ◌<◌, List, [], ◌∷◌, length, Bool, true, false, refl, ap, ap₂, sym, nat_eq, ◌∙◌, arith, Result, Ok, Err, IfOk, inl, inr, get_or, Some}
 use Rattle.std.specs.Map.{keys_of}
-use Rattle.std.specs.List.{position_or_len}
+use Rattle.std.specs.List.{position_or_len, position}
+use Rattle.std.proofs.lemmas.List.{length-map, get_or-map}
+use Rattle.std.proofs.lemmas.List.Quantifiers.{position-Some}
 use Rattle.std.proofs.lemmas.Slice.Eq.{bytes_eq-Decides}
 use Rattle.std.proofs.lemmas.Bool.Decides.{Decides-eqb}
 use Rattle.inst_logic.proofs.SameLemmas.{and_left, and_right, and_both}
@@ -58,6 +60,13 @@ module _ {K V : Type 0} (eq : K → K → Bool) (same_key : (k l : K) → eq k l
               absent : (i : ℕ) → i < length (x ∷ es) → ¬ ((get_or (x ∷ es) i none).0 ≡ e.0)
               absent zero p q = let t : eq e.0 x.0 ≡ true = ap (eq e.0) q ∙ itself e.0 in absurd (cc)
               absent (suc i) p q = g.1 i (omega arith) q
+
+  -- where a key is found
+  pub key_at : (es : List (K × V)) (k : K) (i : ℕ) → position (eq k) (keys_of es) ≡ Some i → (i < length es) × ((get_or es i none).0 ≡ k)
+  key_at es k i e =
+      let p = position-Some (eq k) (keys_of es) i none.0 e in
+      let within : i < length es = omega (arith, p.0, length-map es (λ (x : K × V). x.0)) in
+      (within, sym (get_or-map (λ (x : K × V). x.0) es i none none.0 within) ∙ sym (same_key k (get_or (keys_of es) i none.0) p.1))
 
 pub if_ok_both : {A E : Type 0} (P Q R : A → Type 0) (r : Result A E) → IfOk r P → IfOk r Q → ((x : A) → P x → Q x → R x) → IfOk r R
 if_ok_both P Q R (Ok x) p q f = f x p q

@@ -14,7 +14,8 @@ ghost use Rattle.term_bank.specs.Shapes.{shape_of, IsRootOf};
 use crate::id::{TermId, copied};
 use crate::node::{Measures, Node};
 use crate::store::{
-    application_measures, kind_at, measures_at, node_at, node_number, symbol_in, symbol_number,
+    application_measures, application_number, kind_at, measures_at, node_at, node_number,
+    symbol_in, symbol_number,
 };
 use indexmap::{IndexMap, IndexSet};
 use inst_logic::{Memory, Sym};
@@ -29,6 +30,8 @@ pub struct Bank {
     pub(crate) alloc: Global,
     symbols: IndexSet<Sym>,
     nodes: IndexMap<Node, Measures>,
+    // Where the arguments of an application are put to look it up.
+    room: Vec<TermId>,
     pub(crate) spent: bool,
 }
 
@@ -83,8 +86,8 @@ fn insert_variable(
     node_number(nodes, Node::Var(v), measures)
 }
 
-// The application of the symbol of this number.
-fn insert_numbered(
+// The application of the symbol of this number, copied and measured.
+fn insert_measured(
     alloc: Global,
     symbols: &IndexSet<Sym>,
     nodes: &mut IndexMap<Node, Measures>,
@@ -106,12 +109,37 @@ fn insert_numbered(
     node_number(nodes, Node::App(number, copy), measures)
 }
 
+// The application of the symbol of this number. Most are there already: those are found before anything is copied or measured.
+fn insert_numbered(
+    alloc: Global,
+    symbols: &IndexSet<Sym>,
+    nodes: &mut IndexMap<Node, Measures>,
+    number: usize,
+    args: &[TermId],
+    room: &mut Vec<TermId>,
+) -> Result<TermId, Memory>
+    requires bank { IsBank symbols.now.keys nodes.old.entries }
+    requires number { number < length symbols.now.keys }
+    requires within { All (λ i. i < length (trees_of symbols.now.keys nodes.old.entries)) args.now }
+    ensures bank { IsBank symbols.now.keys nodes.new.entries }
+    ensures extends { ExtendsTrees (trees_of symbols.now.keys nodes.old.entries) (trees_of symbols.now.keys nodes.new.entries) }
+    ensures formed { AreFormedTrees (trees_of symbols.now.keys nodes.old.entries) → IsFormed (app (symbol_at symbols.now.keys number) (of_list (map (nth (trees_of symbols.now.keys nodes.old.entries)) args.now))) → AreFormedTrees (trees_of symbols.now.keys nodes.new.entries) }
+    ensures at { IfOk result (λ i. (i < length (trees_of symbols.now.keys nodes.new.entries)) × (nth (trees_of symbols.now.keys nodes.new.entries) i ≡ app (symbol_at symbols.now.keys number) (of_list (map (nth (trees_of symbols.now.keys nodes.old.entries)) args.now)))) }
+    ensures held { OnErr result (trees_of symbols.now.keys nodes.new.entries ≡ trees_of symbols.now.keys nodes.old.entries) }
+{
+    match application_number(alloc, nodes, number, args, room)? {
+        Some(id) => Ok(id),
+        None => insert_measured(alloc, symbols, nodes, number, args),
+    }
+}
+
 fn insert_application(
     alloc: Global,
     symbols: &mut IndexSet<Sym>,
     nodes: &mut IndexMap<Node, Measures>,
     sym: &Sym,
     args: &[TermId],
+    room: &mut Vec<TermId>,
 ) -> Result<TermId, Memory>
     requires bank { IsBank symbols.old.keys nodes.old.entries }
     requires within { All (λ i. i < length (trees_of symbols.old.keys nodes.old.entries)) args.now }
@@ -123,7 +151,7 @@ fn insert_application(
     ensures held { OnErr result (trees_of symbols.new.keys nodes.new.entries ≡ trees_of symbols.old.keys nodes.old.entries) }
 {
     let number = symbol_number(symbols, sym)?;
-    insert_numbered(alloc, symbols, nodes, number, args)
+    insert_numbered(alloc, symbols, nodes, number, args, room)
 }
 
 impl Bank {
@@ -135,6 +163,7 @@ impl Bank {
             alloc,
             symbols: IndexSet::new(alloc),
             nodes: IndexMap::new(alloc),
+            room: Vec::new(alloc),
             spent: false,
         }
     }
@@ -172,7 +201,8 @@ impl Bank {
     }
 
     /// The id of the symbol applied to the terms of these ids; the bank stays well formed where they are as many as its
-    /// arity. The symbol is copied where it is new. Two look-ups, of the symbol by its name and of the node by its arguments.
+    /// arity. The symbol is copied where it is new. Two look-ups, of the symbol by its name and of the node by its arguments,
+    /// and one more where the tree is new.
     pub fn app(&mut self, sym: &Sym, args: &[TermId]) -> Result<TermId, Memory>
         requires { AreIds self.old args.now }
         ensures at { IfOk result (λ id. IsAt self.new id (app sym.now (of_list (map (tree_at self.old) args.now)))) }
@@ -185,13 +215,21 @@ impl Bank {
         if self.spent {
             return Err(Memory);
         }
-        let result = insert_application(self.alloc, &mut self.symbols, &mut self.nodes, sym, args);
+        let result = insert_application(
+            self.alloc,
+            &mut self.symbols,
+            &mut self.nodes,
+            sym,
+            args,
+            &mut self.room,
+        );
         self.spent = result.is_err();
         result
     }
 
     /// The id of the symbol at the root of `like`, which is no variable, applied to the terms of these ids; the bank stays
-    /// well formed where they are as many as its arity. The symbol is neither copied nor looked up: one look-up, of the node.
+    /// well formed where they are as many as its arity. The symbol is neither copied nor looked up: one look-up, of the node,
+    /// and one more where the tree is new.
     pub fn app_like(&mut self, like: TermId, args: &[TermId]) -> Result<TermId, Memory>
         requires within { like < length self.old.trees }
         requires application { IsApplication (tree_at self.old like) }
@@ -210,7 +248,14 @@ impl Bank {
             Node::Var(_) => unreachable!(),
             Node::App(number, _) => *number,
         };
-        let result = insert_numbered(self.alloc, &self.symbols, &mut self.nodes, number, args);
+        let result = insert_numbered(
+            self.alloc,
+            &self.symbols,
+            &mut self.nodes,
+            number,
+            args,
+            &mut self.room,
+        );
         self.spent = result.is_err();
         result
     }

@@ -1,16 +1,19 @@
 // Numbers for symbols and nodes. These are functions over one map each, so that what is done with symbols needs no word on
 // the nodes.
-ghost use Rattle.std.specs.Prelude.{◌≡◌, ℕ, ◌<◌, ◌+◌, min, IfOk, OnErr, length, sum_by, fold, None};
+ghost use Rattle.std.specs.Prelude.{◌≡◌, ℕ, ◌<◌, ◌+◌, min, IfOk, IfSome, OnErr, length, sum_by, fold, None};
 ghost use Rattle.std.specs.List.{All};
 ghost use Rattle.inst_logic.specs.Measure.{function_count};
 ghost use Rattle.term_bank.specs.Forest.{symbol_at};
 ghost use Rattle.term_bank.specs.Greatest.{greater};
+ghost use Rattle.term_bank.specs.declared.node.Node.TheVariants.{App};
 ghost use Rattle.term_bank.specs.Nodes.{entry_at, SymbolsGrow, NodesGrow};
 
-use crate::id::TermId;
+use crate::id::{TermId, TermIdList};
 use crate::node::{Measures, Node};
 use indexmap::{IndexMap, IndexSet};
 use inst_logic::{Kind, Memory, Sym};
+use std::alloc::Global;
+use std::mem::replace;
 
 // The number of the symbol. A new one goes last.
 pub fn symbol_number(symbols: &mut IndexSet<Sym>, sym: &Sym) -> Result<usize, Memory>
@@ -59,6 +62,44 @@ pub fn node_number(
 {
     let (number, _) = nodes.insert_full(node, measures)?;
     Ok(TermId::of(number))
+}
+
+// The number of the node, where it is there.
+fn found_number(nodes: &IndexMap<Node, Measures>, node: &Node) -> Option<TermId>
+    ensures { IfSome result (λ i. (i < length nodes.now.entries) × ((entry_at nodes.now.entries i).0 ≡ node.now)) }
+{
+    match nodes.get_index_of(node) {
+        None => None,
+        Some(number) => Some(TermId::of(number)),
+    }
+}
+
+// The room that the node's arguments take.
+fn room_of(alloc: Global, node: Node) -> Vec<TermId> {
+    match node {
+        Node::Var(_) => Vec::new(alloc),
+        Node::App(_, args) => Vec::from(args),
+    }
+}
+
+// The number of the application of the symbol of this number, where it is there. The arguments are copied into the room, so that
+// no look-up takes memory once the room is as long as the longest list.
+pub fn application_number(
+    alloc: Global,
+    nodes: &IndexMap<Node, Measures>,
+    number: usize,
+    args: &[TermId],
+    room: &mut Vec<TermId>,
+) -> Result<Option<TermId>, Memory>
+    ensures { IfOk result (λ found. IfSome found (λ i. (i < length nodes.now.entries) × ((entry_at nodes.now.entries i).0 ≡ App number args.now))) }
+{
+    let mut copy = replace(room, Vec::new(alloc));
+    copy.clear();
+    copy.extend_from_slice(args)?;
+    let node = Node::App(number, TermIdList::from(copy));
+    let found = found_number(nodes, &node);
+    *room = room_of(alloc, node);
+    Ok(found)
 }
 
 // What is stored beside the node.
