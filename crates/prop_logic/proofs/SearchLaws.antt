@@ -1,4 +1,4 @@
--- Derivations that grow by a step, parts of lists, cores, and what a refutation says.
+-- Derivations that grow by a step, parts of lists, cores, and what a refutation says. Crates above cite these laws.
 use Rattle.std.proofs.Common.{◌≡◌, ◌≢◌, ℕ, suc, zero, ◌+◌, ◌-◌, ◌<◌, Bool, true, false, ◌⊎◌, inl, inr, List, [], ◌∷◌, ◌++◌, length, map, take, drop, get_or, Option, Some, None, refl, sym, ap, ◌∙◌, subst, arith}
 use Rattle.std.specs.Prelude.{All, Contains, slice_get}
 use Rattle.std.proofs.lemmas.List.{length_push, map-append, length-map, drop-append-le, take_more}
@@ -95,6 +95,16 @@ sub_push (x ∷ xs) ys z s =
       slice_get_append ys (z ∷ []) s.0 x s.1,
       subst (IsSubList (xs ++ z ∷ [])) (sym (drop-append-le (s.0 + 1) ys (z ∷ []) (omega arith))) (sub_push xs (drop (s.0 + 1) ys) z s.2),
     )
+
+-- without assumptions no core has a literal
+pub no_core : (core : List (Signed ℕ)) → IsSubList core [] → core ≡ []
+no_core [] h = refl
+no_core (l ∷ core) h = absurd (let e = h.1 in cc)
+
+-- a clause with no literal outside the empty list is empty
+pub none_inside : (c : List (Signed ℕ)) → All (Contains []) c → c ≡ []
+none_inside [] a = refl
+none_inside (l ∷ ls) a = absurd (omega (arith, (a 0 l (omega arith)).1))
 
 pub ends_with_push : (steps : List Step) (s : Step) → EndsWith (steps ++ s ∷ []) s.clause
 ends_with_push steps s =

@@ -17,5 +17,5 @@ pub use literal::{
     Derivation, Hint, HintList, Lit, LitList, LitLists, Step, cited, complement, complements,
 };
 pub use plain::Plain;
-pub use solver::{Answer, Solver};
+pub use solver::{Answer, Solver, make_atoms};
 pub use valuation::Valuation;

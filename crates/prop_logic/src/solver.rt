@@ -67,3 +67,15 @@ pub trait Solver: Drop {
     /// of it.
     fn conflicts(&self) -> u64;
 }
+
+/// Makes so many atoms.
+pub fn make_atoms<S: Solver>(solver: &mut S, count: usize) -> Result<(), Memory>
+    ensures atoms { OnOk result (S.atoms solver.new ≡ S.atoms solver.old + count) }
+    ensures added { OnOk result (S.added solver.new ≡ S.added solver.old) }
+    ensures err { OnErr result (IsTrue (S.spent solver.new)) }
+{
+    for _ in 0..count {
+        solver.new_atom()?;
+    }
+    Ok(())
+}
