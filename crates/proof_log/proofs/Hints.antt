@@ -1,9 +1,8 @@
 -- What is left of the hints of a step, as a loop goes over them.
 use Rattle.std.proofs.Common.{◌≡◌, ℕ, suc, zero, ◌+◌, ◌-◌, ◌<◌, ◌≤◌, ◌⊎◌, inl, inr, List, [], ◌∷◌, ◌++◌, length, drop, map, refl, Option, Some, None, get_or, sym, ap, ◌∙◌, subst, arith, ◌↔◌}
-use Rattle.std.specs.Prelude.{All, Contains, slice_get}
+use Rattle.std.specs.Prelude.{All, Contains}
 use Rattle.std.proofs.lemmas.List.{drop_more, drop_all, length-drop, length-map}
 use Rattle.std.proofs.lemmas.List.Elements.{All-contains, All-map}
-use Rattle.std.proofs.lemmas.Option.{slice_get-get_or, slice_get_past}
 use Rattle.inst_logic.specs.declared.signed.Signed.{Signed}
 use Rattle.inst_logic.specs.Signed.{complement}
 use Rattle.inst_logic.specs.Derivations.{IsOnlyOutside, IsShown, at_number}
@@ -12,7 +11,8 @@ use Rattle.prop_logic.specs.declared.literal.Hint.{Hint}
 use Rattle.prop_logic.specs.declared.literal.Hint.TheVariants.{Added, Step as Earlier}
 use Rattle.prop_logic.specs.declared.literal.Step.{Step}
 use Rattle.prop_logic.specs.Literal.{cited, AtomsBelow, AllAtomsBelow, StepsBelow}
-use Rattle.proof_log.specs.Propagation.{ClosesAll}
+use Rattle.prop_logic.specs.Analysis.{ClosesAll}
+use Rattle.inst_logic.proofs.Items.{at_number_in}
 
 -- there is only one literal outside
 same_outside : (F clause : List (Signed ℕ)) (x y : Signed ℕ) → IsOnlyOutside F clause x → IsOnlyOutside F clause y → y ≡ x
@@ -58,18 +58,6 @@ left_count name hints i = length-map (drop i hints) name ∙ length-drop i hints
 
 pub left_none : (name : Hint → Option (List (Signed ℕ))) (F : List (Signed ℕ)) (hints : List Hint) (i : ℕ) → length hints ≤ i → ClosesAll F (map name (drop i hints)) → ⊥
 left_none name F hints i k c = subst (λ xs. ClosesAll F (map name xs)) (drop_all i hints k) c
-
--- the item of a number inside the list
-pub at_number_in : {X : Type 0} (xs : List X) (n : ℕ) (d : X) → 0 < n → n ≤ length xs → at_number xs n ≡ Some (get_or xs (n - 1) d)
-at_number_in xs zero d h k = absurd (omega arith)
-at_number_in xs (suc n) d h k =
-    let e : suc n - 1 ≡ n = omega arith in
-    subst (λ m. slice_get xs n ≡ Some (get_or xs m d)) (sym e) (slice_get-get_or xs n d (omega arith))
-
-pub at_number_none : {X : Type 0} (xs : List X) (n : ℕ) → (n ≤ 0) ⊎ (length xs < n) → at_number xs n ≡ None
-at_number_none xs zero h = refl
-at_number_none xs (suc n) (inl h) = absurd (omega arith)
-at_number_none xs (suc n) (inr h) = slice_get_past xs n (omega arith)
 
 -- the clause of an earlier step, by its number
 pub clause_in : (earlier : List Step) (n : ℕ) (d : Step) → 0 < n → n ≤ length earlier → at_number (map (λ s. s.clause) earlier) n ≡ Some (get_or earlier (n - 1) d).clause

@@ -1,5 +1,5 @@
 -- Steps by their numbers, and what a derivation whose steps are all shown refutes.
-use Rattle.std.proofs.Common.{◌≡◌, ℕ, suc, zero, ◌+◌, ◌-◌, ◌<◌, ◌≤◌, ◌⊎◌, inl, inr, List, [], ◌∷◌, length, take, map, Some, get_or, refl, sym, ap, ◌∙◌, subst, arith, ◌↔◌}
+use Rattle.std.proofs.Common.{◌≡◌, ℕ, suc, zero, ◌+◌, ◌-◌, ◌<◌, ◌≤◌, ◌⊎◌, inl, inr, List, [], length, take, map, Some, get_or, sym, ap, ◌∙◌, subst, arith, ◌↔◌}
 use Rattle.std.specs.Prelude.{All, Contains, slice_get, ◌==◌}
 use Rattle.std.proofs.lemmas.Bool.{cases_eq}
 use Rattle.std.proofs.lemmas.Bool.Decides.{Decides-eqb}
@@ -15,7 +15,8 @@ use Rattle.prop_logic.specs.declared.literal.Step.{Step}
 use Rattle.prop_logic.specs.Literal.{cited, all_cited, IsShownStep, IsShownDerivation}
 use Rattle.prop_logic.specs.Solving.{EndsWith}
 use Rattle.proof_log.specs.Shown.{IsShownNumber, IsFirstNotShown}
-use Rattle.proof_log.proofs.Hints.{at_number_in}
+use Rattle.inst_logic.proofs.Items.{at_number_in}
+use Rattle.prop_logic.proofs.SearchLaws.{none_inside}
 
 -- an answer for the step at a number is one for the number
 pub number_is_shown : (given : List (List (Signed ℕ))) (steps : List Step) (n : ℕ) (s : Step) (P : Type 0) → 0 < n → n ≤ length steps → s ≡ get_or steps (n - 1) s → P ↔ IsShownStep given (take (n - 1) steps) s → P ↔ IsShownNumber given steps n
@@ -82,11 +83,7 @@ one_first given steps m n a b =
     order : (j k : ℕ) → (j ≡ k → ⊥) → ¬ (j < k) → ¬ (k < j) → ⊥
     order j k e f g = omega (arith, e, f, g)
 
--- a clause with no literal outside the empty list is empty
-pub none_inside : (c : List (Signed ℕ)) → All (Contains []) c → c ≡ []
-none_inside [] a = refl
-none_inside (l ∷ ls) a = absurd (omega (arith, (a 0 l (omega arith)).1))
-
+-- the empty clause has no literal outside the empty list
 pub all_inside : (c : List (Signed ℕ)) → c ≡ [] → All (Contains []) c × All (Contains c) []
 all_inside c e = (subst (λ x. All (Contains []) x) (sym e) (All-nil (Contains [])), All-nil (Contains c))
 

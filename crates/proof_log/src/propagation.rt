@@ -6,7 +6,7 @@ ghost use Rattle.inst_logic.specs.Signed.{complement, IsTautology};
 ghost use Rattle.inst_logic.specs.Derivations.{IsOnlyOutside};
 ghost use Rattle.prop_logic.specs.Literal.{cited, IsShownStep, AtomsBelow, AllAtomsBelow, StepsBelow};
 ghost use Rattle.proof_log.specs.Marks.{room, Holds};
-ghost use Rattle.proof_log.specs.Propagation.{ClosesAll};
+ghost use Rattle.prop_logic.specs.Analysis.{ClosesAll};
 
 use crate::marks::Marks;
 use prop_logic::{Hint, Lit, LitList, Step, complement};

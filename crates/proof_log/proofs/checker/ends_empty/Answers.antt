@@ -1,7 +1,8 @@
 use Rattle.std.proofs.Common.{◌≡◌, ◌-◌, length, Some, sym, ap, ◌∙◌}
 use Rattle.std.specs.Prelude.{slice_get}
 use Rattle.std.proofs.lemmas.Option.{same_Some}
-use Rattle.proof_log.proofs.Steps.{none_inside, all_inside}
+use Rattle.prop_logic.proofs.SearchLaws.{none_inside}
+use Rattle.proof_log.proofs.Steps.{all_inside}
 use Rattle.proof_log.proofs.checker.ends_empty.Goals as goal
 
 pub returns-in-Some : goal.returns-in-Some

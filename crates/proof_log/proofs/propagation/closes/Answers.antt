@@ -8,7 +8,7 @@ use Rattle.prop_logic.specs.declared.literal.Hint.{Hint}
 use Rattle.prop_logic.specs.declared.literal.Hint.TheVariants.{Added}
 use Rattle.prop_logic.specs.Literal.{cited, AtomsBelow}
 use Rattle.inst_logic.specs.Derivations.{IsOnlyOutside}
-use Rattle.proof_log.specs.Propagation.{ClosesAll}
+use Rattle.prop_logic.specs.Analysis.{ClosesAll}
 use Rattle.proof_log.specs.Marks.{room, Holds, with_mark}
 use Rattle.proof_log.proofs.Hints.{left_more, left_last, left_unnamed, left_stuck, left_from, left_count, left_none, cited_below}
 use Rattle.proof_log.proofs.MarkedSets.{holds_insert, with_mark_room}

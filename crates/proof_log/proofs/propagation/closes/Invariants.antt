@@ -1,7 +1,7 @@
 use Rattle.std.proofs.Common.{ℕ, ◌≡◌, List, drop, map, ◌↔◌}
 use Rattle.inst_logic.specs.declared.signed.Signed.{Signed}
 use Rattle.prop_logic.specs.Literal.{cited}
-use Rattle.proof_log.specs.Propagation.{ClosesAll}
+use Rattle.prop_logic.specs.Analysis.{ClosesAll}
 use Rattle.proof_log.specs.Marks.{room, Holds}
 use Rattle.proof_log.proofs.propagation.closes.Given as goal
 

@@ -1,7 +1,8 @@
 use Rattle.std.proofs.Common.{◌≡◌, ◌<◌, ◌≤◌, length, map, ◌⊎◌, inl, inr, sym, ap, ◌∙◌, arith}
 use Rattle.std.proofs.lemmas.List.{length-map}
 use Rattle.prop_logic.specs.Literal.{cited}
-use Rattle.proof_log.proofs.Hints.{clause_in, at_number_none}
+use Rattle.inst_logic.proofs.Items.{at_number_past}
+use Rattle.proof_log.proofs.Hints.{clause_in}
 use Rattle.proof_log.proofs.propagation.find_cited.Goals as goal
 use Rattle.proof_log.proofs.propagation.find_cited.Goals.{else-n-gt0-2-via-then-n-gt0-2+else-n-earlier, else-n-gt0-2-via-else-n-gt0-2}
 
@@ -19,4 +20,4 @@ returns-else-n-gt0-2 c =
       | else-n-gt0-2-via-then-n-gt0-2+else-n-earlier w ↦ inr (omega (arith, w.if-n-earlier.false))
       | else-n-gt0-2-via-else-n-gt0-2 w ↦ inl w.if-n-gt0-2.false
     ] in
-    sym (ap (cited c.args.given.now c.args.earlier.now) c.in-Step.is ∙ at_number_none clauses c.in-Step.n out)
+    sym (ap (cited c.args.given.now c.args.earlier.now) c.in-Step.is ∙ at_number_past clauses c.in-Step.n out)

@@ -3,7 +3,7 @@ use Rattle.std.specs.Prelude.{IsTrue}
 use Rattle.std.proofs.lemmas.List.{length-map}
 use Rattle.std.proofs.lemmas.Bool.{eqb-false}
 use Rattle.prop_logic.specs.Literal.{cited}
-use Rattle.proof_log.specs.Propagation.{ClosesAll}
+use Rattle.prop_logic.specs.Analysis.{ClosesAll}
 use Rattle.proof_log.specs.Marks.{room, Holds}
 use Rattle.proof_log.proofs.Hints.{shown_by_hints}
 use Rattle.proof_log.proofs.MarkedSets.{holds_none}
