@@ -1,8 +1,8 @@
-mod Atoms
-mod DistinctLiterals
-mod Images
-mod LeftTerms
-mod Literals
-mod Numbered
-mod SymbolNames
-mod Walking
+pub mod Atoms
+pub mod DistinctLiterals
+pub mod Images
+pub mod LeftTerms
+pub mod Literals
+pub mod Numbered
+pub mod SymbolNames
+pub mod Walking

@@ -10,3 +10,4 @@ mod repeats;
 
 pub use abstraction::Abstraction;
 pub use bot::bot_of;
+pub use repeats::add_literal;
