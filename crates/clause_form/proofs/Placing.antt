@@ -1,21 +1,21 @@
 -- The search for places of literals: what a choice that is taken leaves, and what the end of the search says.
-use Rattle.std.proofs.Common.{◌≡◌, ℕ, zero, suc, ◌+◌, ◌<◌, ◌≤◌, Bool, true, false, cond, nat_eq, List, [], ◌∷◌, ◌++◌, ◌⊎◌, inl, inr, refl, sym, ap, ap₂, ◌∙◌, subst as transport, length, append-nil, map, take, get_or, arith, Result, Ok, Err, IfOk}
+use Rattle.std.proofs.Common.{◌≡◌, ℕ, zero, suc, ◌+◌, ◌<◌, ◌≤◌, Bool, true, false, List, [], ◌∷◌, ◌++◌, ◌⊎◌, inl, inr, refl, sym, ap, ap₂, ◌∙◌, subst as transport, length, append-nil, map, take, get_or, arith, Result, Ok, Err, IfOk}
 use Rattle.std.specs.Prelude.{◌↔◌, IsTrue, All}
 use Rattle.std.specs.List.Sorted.{IsPermutation}
 use Rattle.std.proofs.Math.Seq.{take-length}
 use Rattle.std.proofs.lemmas.Bool.{cases_lt, false≢true}
-use Rattle.std.proofs.lemmas.Bool.Decides.{Decides-eqb}
 use Rattle.std.proofs.lemmas.List.{get_or_default, take-take, take_at, length-append, length-take-le}
 use Rattle.std.proofs.lemmas.List.Sorted.{All-permutation, IsPermutation-sym, IsPermutation-map}
 use Rattle.inst_logic.specs.declared.signed.Signed.{Signed}
-use Rattle.inst_logic.specs.Tree.{Tree, var}
+use Rattle.inst_logic.specs.Tree.{Tree}
 use Rattle.inst_logic.specs.Substitution.{Substitution, subst_literal}
 use Rattle.inst_logic.specs.Clauses.{Subsumes}
-use Rattle.term_bank.specs.Forest.{Forest, tree_at, clause_at}
+use Rattle.term_bank.specs.Forest.{Forest, clause_at}
 use Rattle.unify_core.specs.Lists.{◌∈◌}
 use Rattle.unify_core.specs.Sides.{Binding}
 use Rattle.unify_core.specs.Bindings.{Bound_list}
 use Rattle.unify_core.specs.Matching.{AreMatches, Agrees}
+use Rattle.unify_core.proofs.ByBindings.{by_bindings, bindings_agree}
 use Rattle.unify_core.proofs.Lists.{∈-append_left, ∈-last, ∈-push}
 use Rattle.inst_calculus.proofs.Membership.{◌∈◌ as ◌∈'◌, from_map, in_map, equal_in}
 use Rattle.inst_calculus.proofs.Clauses.{IsWithin, part_within, within_part}
@@ -24,27 +24,6 @@ use Rattle.clause_form.specs.declared.subsumption.Choice.{Choice}
 use Rattle.clause_form.specs.declared.subsumption.Ranked.{Ranked}
 use Rattle.term_bank.specs.Forest.{literal_tree}
 use Rattle.inst_logic.proofs.Membership.{in_take}
-
--- the substitution of bindings
-value : Forest → List Binding → Substitution
-value f [] v = var v
-value f (e ∷ es) v = cond (nat_eq e.0.var v) (tree_at f e.1.term) (value f es v)
-
-abbrev AreOnce : List Binding → Type 0
-AreOnce es = (d e : Binding) → d ∈ es → e ∈ es → d.0.var ≡ e.0.var → d.1 ≡ e.1
-
-value_agrees : (f : Forest) (es : List Binding) → AreOnce es → Agrees f (value f es) es
-unfolding value
-value_agrees f [] once e i = absurd i
-value_agrees f (d ∷ es) once e i = by (nat_eq d.0.var e.0.var) refl i (λ j. value_agrees f es (λ a b u w. once a b (inr u) (inr w)) e j)
-  where
-    by : (b : Bool) → nat_eq d.0.var e.0.var ≡ b → e ∈ (d ∷ es) → (e ∈ es → value f es e.0.var ≡ tree_at f e.1.term) → cond (nat_eq d.0.var e.0.var) (tree_at f d.1.term) (value f es e.0.var) ≡ tree_at f e.1.term
-    by true q j rest = rw q (ap (λ b. tree_at f b.term) (once d e (inl refl) j ((Decides-eqb d.0.var e.0.var).0 q)))
-    by false q (inr j) rest = rw q (rest j)
-    by false q (inl g) rest = rw q (absurd (differs (ap (λ b. b.0.var) (sym g))))
-      where
-        differs : d.0.var ≡ e.0.var → ⊥
-        differs h = let k : nat_eq d.0.var e.0.var ≡ true = (Decides-eqb d.0.var e.0.var).1 h in cc
 
 pub matches_take : (f : Forest) (n : ℕ) (es : List Binding) → AreMatches f es → AreMatches f (take n es)
 matches_take f n es h = record {
@@ -273,11 +252,8 @@ module _ (f : Forest) (d c : List (Signed ℕ)) (es : List Binding) (xs : List C
 pub placed_all : (f : Forest) (d c : List (Signed ℕ)) (es : List Binding) (xs : List Choice) (x : Choice) → IsPlacing f d c es (xs ++ x ∷ []) → x.literal ≡ length d → (s : Substitution) × HasPlaces f s d c
 placed_all f d c es xs x p e =
     let front = matches_take f x.kept es p.matches in
-    let ag = value_agrees_of front in
-    (value f (take x.kept es), λ k kl. let (i, l, g) = (p.reached x (∈-last x xs)).placed k (omega arith) in (i, l, g (value f (take x.kept es)) ag))
-  where
-    value_agrees_of : AreMatches f (take x.kept es) → Agrees f (value f (take x.kept es)) (take x.kept es)
-    value_agrees_of m = value_agrees f (take x.kept es) m.once
+    let ag = bindings_agree f (take x.kept es) front.once in
+    (by_bindings f (take x.kept es), λ k kl. let (i, l, g) = (p.reached x (∈-last x xs)).placed k (omega arith) in (i, l, g (by_bindings f (take x.kept es)) ag))
 
 pub within : (f : Forest) (d c : List (Signed ℕ)) (es : List Binding) (xs : List Choice) (x : Choice) → IsPlacing f d c es (xs ++ x ∷ []) → ¬ (x.literal ≡ length d) → x.literal < length d
 within f d c es xs x p h = let k = (p.reached x (∈-last x xs)).literal in omega (arith, k, h)

@@ -117,6 +117,9 @@ pub fn conclude_clause(
     requires clause { IsClauseOf bank.old c.now }
     requires bindings { AreBindings bank.old b.now.entries }
     ensures made { IfOk result (λ d. (s : Sided) → IsResolvedBy bank.old b.now.entries s → IsClauseAt bank.new d (canonical_form (instance (of_side s side) (clause_at bank.old c.now)))) }
+    ensures ids { IfOk result (λ d. IsClauseOf bank.new d) }
+    ensures canonical { IfOk result (λ d. IsCanonical (clause_at bank.new d)) }
+    ensures atoms { IfOk result (λ d. AreTerms bank.old b.now.entries → IsFormedClause (clause_at bank.old c.now) → IsFormedClause (clause_at bank.new d)) }
     ensures extends { Extends bank.old bank.new }
     ensures unspent { OnOk result (bank.old.spent ≡ false → bank.new.spent ≡ false) }
     ensures formed { AreFormed bank.old → AreTerms bank.old b.now.entries → AreFormed bank.new }

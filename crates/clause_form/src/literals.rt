@@ -1,5 +1,5 @@
 // Clauses whose atoms were built: repeats are dropped only then, since different literals may become one.
-ghost use Rattle.std.specs.Prelude.{◌≡◌, ◌++◌, ◌∷◌, map, length, IfOk, OnOk};
+ghost use Rattle.std.specs.Prelude.{◌≡◌, [], ◌++◌, ◌∷◌, map, length, IfOk, OnOk};
 ghost use Rattle.inst_logic.specs.Lists.{distinct, with_item};
 ghost use Rattle.clause_form.specs.Literals.{with_atoms, id_eq};
 
@@ -36,6 +36,15 @@ fn add_literal(
     Ok(())
 }
 
+// An empty clause with room for so many literals. Most clauses have no repeated literals, and so no room to spare.
+fn room_for(alloc: Global, count: usize) -> Result<IdClause, Memory>
+    ensures { IfOk result (λ d. d ≡ []) }
+{
+    let mut literals = Vec::new(alloc);
+    literals.reserve_exact(count)?;
+    Ok(IdClause::from(literals))
+}
+
 // The literals with other atoms, each repeated one at its first place only.
 pub fn clause_of(
     alloc: Global,
@@ -46,7 +55,7 @@ pub fn clause_of(
     ensures { IfOk result (λ d. d ≡ distinct id_eq (with_atoms literals.now atoms.now)) }
 {
     let mut seen: IndexSet<IdLiteral> = IndexSet::new(alloc);
-    let mut clause = IdClause::new(alloc);
+    let mut clause = room_for(alloc, literals.len())?;
     for (i, l) in literals.iter().enumerate() {
         let literal = IdLiteral {
             positive: l.positive,
