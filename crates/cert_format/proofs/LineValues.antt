@@ -31,7 +31,7 @@ use Rattle.cert_format.proofs.LineNotes.{below}
 use Rattle.cert_format.proofs.Machines.{first_step}
 use Rattle.cert_format.proofs.FirstFormat.{test_yes, exact}
 use Rattle.cert_format.proofs.LineTexts.{count_append, count_own}
-use Rattle.cert_format.proofs.ValueRuns.{IsSorted, good, Few}
+use Rattle.cert_format.proofs.ValueRuns.{IsSorted, good, Few, run}
 use Rattle.cert_format.proofs.GroupItems.{all_append, parts_good, origin_good, hint_numbers}
 use Rattle.cert_format.proofs.ValueLaws.{only}
 
@@ -68,9 +68,6 @@ body_push h is n c note m b =
     by k false e at small f = f
 
 -- ---- the lines of a run that ends
-
-abbrev pub run : State → List Line → Option State
-run = machines.run line_text step is_done
 
 pub guard_both : (b : Bool) (t u : State) → guarded b t ≡ Some u → (b ≡ true) × (t ≡ u)
 guard_both true t u h = (refl, cc)

@@ -18,8 +18,8 @@ use Rattle.std.proofs.lemmas.Bool.{and_parts}
 use Rattle.cert_format.proofs.Machines as machines
 use Rattle.cert_format.proofs.FirstFormat.{exact}
 use Rattle.cert_format.proofs.LineTexts.{text_is}
-use Rattle.cert_format.proofs.ValueRuns.{are_lines}
-use Rattle.cert_format.proofs.LineValues.{run, next, guard_both, finish, empty_body, AreOfValue, saturated_lines, refuted_lines, of_refutation, of_saturation}
+use Rattle.cert_format.proofs.ValueRuns.{are_lines, run}
+use Rattle.cert_format.proofs.LineValues.{next, guard_both, finish, empty_body, AreOfValue, saturated_lines, refuted_lines, of_refutation, of_saturation}
 
 -- behind the first two lines
 formatted : (r : Bool) (name : List ℕ) (ls : List Line) (t : State) → is_text_name name ≡ true → run (machine.formatted is_read is_text_name clause_is_printable note_is_printable r name 1) ls ≡ Some t → is_done t ≡ true → AreOfValue (status r name ∷ opening r name ∷ version 1 ∷ ls)

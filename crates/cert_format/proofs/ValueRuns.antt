@@ -62,7 +62,8 @@ follows h before i l g few =
     and_from (fits h i.note) _ a.0 (and_from (nat_le (last_rank before) (rank i.note)) _ (less_equal (last_rank before) (rank i.note) l) (and_from (nat_eq n n) _ (same_number n)
     (and_from (is_number n) _ (small_number n few) a.1)))
 
-abbrev run : State → List Line → Option State
+-- the run of the machine over the lines
+abbrev pub run : State → List Line → Option State
 run = machines.run line_text step is_done
 
 rank_count : (k : ℕ) (before is : List Item) (i : Item) → rank i.note ≡ k → count k (before ++ i ∷ is) < 2 ^ 64 → suc (count k before) < 2 ^ 64
@@ -178,20 +179,9 @@ selected_length [] ps = omega arith
 selected_length (e ∷ es) [] = omega arith
 selected_length (e ∷ es) (p ∷ ps) = omega (arith, selected_length es ps)
 
--- a group counts where its rank is asked for
-count_group : (r k : ℕ) (is : List Item) → list_all (λ (i : Item). nat_eq (rank i.note) r) is ≡ true → count k is ≡ cond (nat_eq r k) (length is) 0
-count_group r k is h = by (nat_eq r k) refl
-  where
-    by : (t : Bool) → nat_eq r k ≡ t → count k is ≡ cond t (length is) 0
-    by true e = count_own k is (subst (λ (j : ℕ). list_all (λ (i : Item). nat_eq (rank i.note) j) is ≡ true) (number_is r k e) h)
-    by false e = count_other r k is h e
-
 -- groups of different ranks: the count of a rank is at most the length of one of them
 abbrev pub Few : ℕ → List Item → Type 0
 Few m is = (k : ℕ) → count k is < m
-
-few_nil : (m : ℕ) → 0 < m → Few m []
-few_nil m h k = h
 
 few_group : (m r : ℕ) (is js : List Item) → list_all (λ (i : Item). nat_eq (rank i.note) r) is ≡ true → length is < m → count r js ≡ 0 → Few m js → Few m (is ++ js)
 few_group m r is js h less none_ few k = by (nat_eq r k) refl

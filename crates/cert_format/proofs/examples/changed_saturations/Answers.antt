@@ -1,5 +1,6 @@
 use Rattle.std.proofs.Common.{◌≡◌, ℕ, zero, suc, ◌<◌, List, [], ◌∷◌, length, refl, sym, ap, ◌∙◌, subst as transport, lit<, lit≤, arith, inl, inr, true, false, not, rules}
 use Rattle.std.specs.Prelude.{Any, Contains, Some, None}
+use Rattle.std.proofs.lemmas.Option.{same_Some}
 use Rattle.inst_logic.specs.declared.signed.Signed.{Signed}
 use Rattle.inst_logic.specs.Tree.{Tree, var}
 use Rattle.inst_logic.specs.Signed.{complement, IsTautology}
@@ -169,9 +170,6 @@ first_input : (d : TreeClause) → tie_one ≡ d → Any (λ (e : Entry). Subsum
 first_input d e = transport (λ (x : TreeClause). Any (λ (e : Entry). Subsumes e.clause x) (entry tie_one (input 1) ∷ [])) e
     (0, entry tie_one (input 1), lit< tt, refl, (var, each_all (Contains tie_one) tie_one ((0, lit< tt, refl), ((1, lit< tt, refl), tt))))
 
-same_item : {A : Type 0} (x y : A) → Some x ≡ Some y → x ≡ y
-same_item x y e = cc
-
 not_before_input : (k : ℕ) → ¬ Precedes (Input (suc (suc k))) (Input 2)
 not_before_input k b = grind arith
 
@@ -187,7 +185,7 @@ before_input (Shown n) b = tt
 before_input NotEmpty b = tt
 before_input (Place n) b = one_place n
 before_input (Input zero) b = λ d i. absurd (let e : None ≡ Some d = i in cc)
-before_input (Input (suc zero)) b = λ d i. inr (first_input d (same_item tie_one d i))
+before_input (Input (suc zero)) b = λ d i. inr (first_input d (same_Some tie_one d i))
 before_input (Input (suc (suc k))) b = absurd (not_before_input k b)
 before_input (Pair l r) b = absurd (input_pair l r b)
 
@@ -206,10 +204,10 @@ conclusion_is e l m r i j k u =
 
 not_concluded : ¬ IsConclusion wrong_entries 1 1 2 1 (yes (p_pair constant_b constant_a) ∷ yes (q constant_a) ∷ [])
 not_concluded h =
-    let i : entry tie_one (input 1) ≡ h.entry = same_item _ _ h.entry_at in
-    let o : entry tie_two (input 2) ≡ h.partner_entry = same_item _ _ h.partner_at in
-    let j : yes (p_pair (var 0) constant_a) ≡ h.literal = same_item _ _ (transport (λ (x : Entry). at_number x.clause 1 ≡ Some h.literal) (sym i) h.literal_at) in
-    let k : no (p_pair constant_b (var 0)) ≡ h.other_literal = same_item _ _ (transport (λ (x : Entry). at_number x.clause 1 ≡ Some h.other_literal) (sym o) h.other_at) in
+    let i : entry tie_one (input 1) ≡ h.entry = same_Some _ _ h.entry_at in
+    let o : entry tie_two (input 2) ≡ h.partner_entry = same_Some _ _ h.partner_at in
+    let j : yes (p_pair (var 0) constant_a) ≡ h.literal = same_Some _ _ (transport (λ (x : Entry). at_number x.clause 1 ≡ Some h.literal) (sym i) h.literal_at) in
+    let k : no (p_pair constant_b (var 0)) ≡ h.other_literal = same_Some _ _ (transport (λ (x : Entry). at_number x.clause 1 ≡ Some h.other_literal) (sym o) h.other_at) in
     let same : tie_three ≡ (yes (p_pair constant_b constant_a) ∷ yes (q constant_a) ∷ []) =
     conclusion_is h.entry h.literal h.other_literal h.unifier i j k h.most_general.unifies ∙ sym h.conclusion in
     search rules
