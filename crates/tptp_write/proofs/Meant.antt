@@ -24,7 +24,7 @@ use Rattle.tptp_write.specs.Again.{tree_is_narrow, trees_are_narrow}
 use Rattle.tptp_write.proofs.Written.{variable_text, name_kind, name_tok, written, headed, writtens, atom_of, equation_of, good_tree, good_trees, good_sides, good_by, good_atom, good_literal}
 use Rattle.tptp_write.proofs.Tokens.{both_true, and_both, content}
 use Rattle.tptp_write.proofs.Named.{small_tree, small_trees, small_literal}
-use Rattle.inst_logic.proofs.Formed.{function_of, function_name}
+use Rattle.inst_logic.proofs.Formed.{function_name}
 
 -- ---- kinds of name tokens
 

@@ -1,5 +1,5 @@
--- What steps print, and how much work they are.
-use Rattle.std.proofs.Common.{◌≡◌, ℕ, ◌+◌, ◌-◌, ◌*◌, ◌<◌, ◌≤◌, List, [], ◌∷◌, ◌++◌, length, map, take, drop, get_or, ap, sym, ◌∙◌, arith, append_assoc, append-nil, codes}
+-- What steps print, and how much work they are. Crates above cite these laws.
+use Rattle.std.proofs.Common.{◌≡◌, ◌≢◌, ℕ, ◌+◌, ◌-◌, ◌*◌, ◌<◌, ◌≤◌, List, [], ◌∷◌, ◌++◌, length, map, take, drop, get_or, refl, ap, sym, ◌∙◌, arith, append_assoc, append-nil, codes}
 use Rattle.std.proofs.lemmas.List.{drop_more, drop_all, take_rest}
 use denote.Bor.{Bor}
 use Rattle.inst_logic.specs.declared.clause.Literal.{Literal}
@@ -7,7 +7,7 @@ use Rattle.inst_logic.specs.declared.term.Term.{Term}
 use Rattle.inst_logic.specs.Tree.{Tree, of_list}
 use Rattle.inst_logic.specs.View.{tree}
 use Rattle.inst_logic.specs.Measure.{trees_size}
-use Rattle.inst_logic.specs.Printing.{tree_text, arguments_text, more_text, joined, literal_text, clause_text}
+use Rattle.inst_logic.specs.Printing.{tree_text, arguments_text, more_text, sides_text, joined, literal_text, clause_text}
 use Rattle.inst_logic.specs.LiteralView.{literal}
 use Rattle.inst_logic.specs.Clauses.{TreeClause}
 use Rattle.tptp_write.specs.declared.terms.Step.{Step}
@@ -43,6 +43,13 @@ one_more before after terms i t lt le is h =
     let text : steps_text (after ++ PrintNext t ∷ []) ≡ (44 ∷ tree_text (tree t.now) ++ more_text (of_list mid)) ++ steps_text before =
     steps_text_push after (PrintNext t) ∙ (ap (λ (bs : List ℕ). (44 ∷ tree_text (tree t.now)) ++ bs) h.text ∙ sym (append_assoc (44 ∷ tree_text (tree t.now)) (more_text (of_list mid)) (steps_text before))) in
     record { text = rw at text; size = rw at (omega (arith, steps_size_push after (PrintNext t), h.size)) }
+
+-- an equality that has not two arguments is printed as arguments
+pub other_sides : (sign : List ℕ) (ts : List Tree) → length ts ≢ 2 → sides_text sign (of_list ts) ≡ arguments_text (of_list ts)
+other_sides sign [] h = refl
+other_sides sign (t ∷ []) h = refl
+other_sides sign (t ∷ u ∷ []) h = absurd (h refl)
+other_sides sign (t ∷ u ∷ v ∷ ts) h = refl
 
 -- the first literal, and what follows it
 pub first_literal : (l : List ℕ) (ls : TreeClause) → joined (codes " | ") (l ∷ map literal_text ls) ≡ l ++ following_text ls

@@ -1,5 +1,6 @@
 -- What is left of the printing of terms, as a list of steps whose last one comes first.
 use Rattle.std.specs.Prelude.{ℕ, ◌+◌, ◌*◌, List, [], ◌∷◌, ◌++◌}
+use Rattle.inst_logic.specs.Codes as byte
 use Rattle.inst_logic.specs.View.{tree}
 use Rattle.inst_logic.specs.Measure.{tree_size}
 use Rattle.inst_logic.specs.Printing.{tree_text}
@@ -9,8 +10,8 @@ use Rattle.tptp_write.specs.declared.terms.Step.TheVariants.{Print, PrintNext, C
 -- what a step prints
 abbrev pub step_text : Step → List ℕ
 step_text (Print t) = tree_text (tree t.now)
-step_text (PrintNext t) = 44 ∷ tree_text (tree t.now)
-step_text Close = 41 ∷ []
+step_text (PrintNext t) = byte.comma ∷ tree_text (tree t.now)
+step_text Close = byte.closing_parenthesis ∷ []
 
 -- what all steps print
 abbrev pub steps_text : List Step → List ℕ

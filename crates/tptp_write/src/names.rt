@@ -29,13 +29,13 @@ pub fn push_number(text: &mut Vec<u8>, n: usize) -> Result<(), Memory>
 fn is_lower(byte: u8) -> bool
     ensures { result ≡ printing.is_lower byte }
 {
-    97 <= byte && byte <= 122
+    b'a' <= byte && byte <= b'z'
 }
 
 fn is_word_byte(byte: u8) -> bool
     ensures { result ≡ printing.is_word_byte byte }
 {
-    is_lower(byte) || 65 <= byte && byte <= 90 || 48 <= byte && byte <= 57 || byte == 95
+    is_lower(byte) || b'A' <= byte && byte <= b'Z' || b'0' <= byte && byte <= b'9' || byte == b'_'
 }
 
 fn are_word_bytes(bytes: &[u8]) -> bool
