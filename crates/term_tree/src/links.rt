@@ -47,6 +47,10 @@ fn push_exit(nodes: &mut Vec<Node>, node: usize, number: usize) -> Result<(), Me
     ensures pairs { (content_at nodes.new.items node).pairs ≡ (content_at nodes.old.items node).pairs }
 {
     let here = &mut nodes[node];
+    // (most nodes have one exit, and a list that grows by itself begins with room for four)
+    if here.exits.is_empty() {
+        here.exits.reserve_exact(1)?;
+    }
     here.exits.push(number)?;
     Ok(())
 }
