@@ -1,12 +1,11 @@
 -- Statements that are clauses are read token by token.
-use Rattle.std.proofs.Common.{◌≡◌, ℕ, Bool, true, false, cond, List, [], ◌∷◌, length, Option, Some, None, Result, Err, refl, ap, ◌∙◌, inl, inr}
+use Rattle.std.proofs.Common.{◌≡◌, ℕ, Bool, true, false, cond, List, [], ◌∷◌, length, Option, Some, None, Result, Err, refl, ap, subst, ◌∙◌, inl, inr}
 use Rattle.std.specs.Prelude.{◌&&◌}
 use Rattle.tptp_tokens.specs.Stream.{Tok}
 use Rattle.tptp_read.specs.declared.statement.Statement.{Statement}
 use Rattle.tptp_read.specs.declared.stop.Stop.{Stop}
 use Rattle.tptp_read.specs.declared.stop.Stop.TheVariants as stops
-use Rattle.tptp_read.specs.declared.value.Refused.{Refused}
-use Rattle.tptp_read.specs.declared.value.Refused.TheVariants as parts
+use Rattle.tptp_read.specs.declared.refusal.Refusal.{Refusal}
 use Rattle.tptp_read.specs.Grammar.{Item, Note, Form, cnf, is_name}
 use Rattle.tptp_read.specs.Meaning.{Fault, syntax_fault, judged}
 use Rattle.tptp_read.specs.Parse.{◌>>=◌, begins_with, behind, many_at}
@@ -17,8 +16,7 @@ use Rattle.tptp_read.specs.Shapes.{seen}
 use Rattle.tptp_read.specs.Selected.{starts}
 use Rattle.tptp_read.specs.Skim.{rest_of, after_note}
 use Rattle.tptp_read.specs.Bodies.{disjunction_at, wrotes, Body, body_of, judged_body}
-use Rattle.tptp_read.specs.Judging.{IsRefused}
-use Rattle.tptp_read.specs.Verdicts.{judged_form, refusal_of, refusal_as, IsOf}
+use Rattle.tptp_read.specs.Verdicts.{judged_form, refusal_of, IsOf, Tells}
 use Rattle.tptp_read.proofs.ParseLaws.{some_is}
 use Rattle.inst_logic.proofs.Booleans.{first_false}
 
@@ -175,8 +173,5 @@ no_body d ts n r rest stops.Wrong h bad =
     let whole : cnf_at d ts ≡ None = at_head d ts n r rest h ∙ rw none refl in
     ap judged_form whole
 
-pub refused_is : (e : Refused) (v w : Result Statement Fault) → w ≡ v → IsRefused e v → IsOf (λ f. w ≡ Err f) (refusal_as e)
-refused_is (parts.Role x) v w e h = e ∙ h
-refused_is (parts.Feature x) v w e h = e ∙ h
-refused_is (parts.Limit x) v w e h = e ∙ h
-refused_is parts.Memory v w e h = tt
+pub tells_as : (r : Result Statement Refusal) (v w : Result Statement Fault) → v ≡ w → Tells r v → Tells r w
+tells_as r v w e h = subst (λ (x : Result Statement Fault). Tells r x) e h

@@ -1,5 +1,5 @@
 -- Texts of one ground atom.
-use Rattle.std.specs.Prelude.{◌≡◌, ℕ, ◌<◌, ◌≤◌, List, [], ◌∷◌, Bool, true, false, not, IsTrue, Some, None, ⊤}
+use Rattle.std.specs.Prelude.{◌≡◌, ℕ, ◌+◌, ◌<◌, ◌≤◌, List, [], ◌∷◌, Bool, true, false, not, IsTrue, Some, None, ⊤}
 use Rattle.std.specs.List.{list_any}
 use Rattle.inst_logic.specs.Tree.{Tree}
 use Rattle.inst_logic.specs.declared.signed.Signed.{Signed}
@@ -11,6 +11,7 @@ use Rattle.tptp_read.specs.Lexemes.{Begins, is_variable_kind}
 use Rattle.tptp_read.specs.Grammar.{Simple, atom, equation, simple_text, simple_fits}
 use Rattle.tptp_read.specs.Meaning.{from_simple, literal_of, first_feature, wrote_wide, is_constant_atom, Fault, syntax_fault, feature, limit}
 use Rattle.tptp_read.specs.Rules.{nesting_from}
+use Rattle.tptp_read.specs.Limits.{most_nesting}
 
 -- all tokens of the text, in order
 pub record AreTokens (text : List ℕ) (ts : List Tok) : Type 0 where
@@ -46,7 +47,7 @@ pub record IsAtomForm (ts : List Tok) (a : Simple) : Type 0 where
 pub record ReadsAtom (text : List ℕ) (l : Signed Tree) : Type 0 where
   pub tokens : List Tok
   pub are_tokens : AreTokens text tokens
-  pub flat : nesting_within tokens < 257
+  pub flat : nesting_within tokens < most_nesting + 1
   pub form : Simple
   pub is_form : IsAtomForm tokens form
   pub no_feature : first_feature tokens ≡ None
@@ -56,10 +57,10 @@ pub record ReadsAtom (text : List ℕ) (l : Signed Tree) : Type 0 where
 -- the first rule that applies to the text of an atom has this fault
 pub data OffendsAtom (text : List ℕ) (e : Fault) : Type 0 where
   no_tokens : HasNoTokens text → e ≡ syntax_fault → OffendsAtom text e
-  too_deep : (ts : List Tok) → AreTokens text ts → 257 ≤ nesting_within ts → e ≡ limit Nesting → OffendsAtom text e
-  no_atom : (ts : List Tok) → AreTokens text ts → nesting_within ts < 257 → ((a : Simple) → ¬ IsAtomForm ts a) → e ≡ syntax_fault → OffendsAtom text e
-  refused_feature : (ts : List Tok) → AreTokens text ts → nesting_within ts < 257 → (a : Simple) → IsAtomForm ts a → (w : List ℕ) → first_feature ts ≡ Some w → e ≡ feature w → OffendsAtom text e
-  too_wide : (ts : List Tok) → AreTokens text ts → nesting_within ts < 257 → (a : Simple) → IsAtomForm ts a → first_feature ts ≡ None → wrote_wide (from_simple a) ≡ true → e ≡ limit Arity → OffendsAtom text e
+  too_deep : (ts : List Tok) → AreTokens text ts → most_nesting + 1 ≤ nesting_within ts → e ≡ limit Nesting → OffendsAtom text e
+  no_atom : (ts : List Tok) → AreTokens text ts → nesting_within ts < most_nesting + 1 → ((a : Simple) → ¬ IsAtomForm ts a) → e ≡ syntax_fault → OffendsAtom text e
+  refused_feature : (ts : List Tok) → AreTokens text ts → nesting_within ts < most_nesting + 1 → (a : Simple) → IsAtomForm ts a → (w : List ℕ) → first_feature ts ≡ Some w → e ≡ feature w → OffendsAtom text e
+  too_wide : (ts : List Tok) → AreTokens text ts → nesting_within ts < most_nesting + 1 → (a : Simple) → IsAtomForm ts a → first_feature ts ≡ None → wrote_wide (from_simple a) ≡ true → e ≡ limit Arity → OffendsAtom text e
 
 -- what an error says of the text of an atom, which counts as the first statement
 abbrev pub IsAtomCause : List ℕ → ReadError → Type 0

@@ -1,5 +1,5 @@
 -- What the disjunction of a statement is, as far as its value goes.
-use Rattle.std.specs.Prelude.{ℕ, List, ◌++◌, length, Bool, nat_le, if◌then◌else◌, Option, Some, Result, Ok, Err}
+use Rattle.std.specs.Prelude.{ℕ, ◌+◌, List, ◌++◌, length, Bool, nat_le, if◌then◌else◌, Option, Some, Result, Ok, Err}
 use Rattle.std.specs.List.{list_any, flat_map}
 use Rattle.std.specs.Option.{option_map_or}
 use Rattle.std.specs.Str.{bytes_eq}
@@ -18,6 +18,7 @@ use Rattle.tptp_read.specs.Parse.{◌>>=◌, Reads, many_at}
 use Rattle.tptp_read.specs.ParseClause.{items_of, item_at}
 use Rattle.tptp_read.specs.Gathered.{gathered}
 use Rattle.inst_logic.specs.Codes as byte
+use Rattle.tptp_read.specs.Limits.{most_variables}
 
 -- a first part, and the parts behind it
 unfoldable pub disjunction_at : ℕ → Reads (Item × List Item)
@@ -43,7 +44,7 @@ abbrev pub body_of : List Wrote → Body
 body_of ws =
     let used = flat_map used_tokens ws in
     let vs = distinct bytes_eq (variable_names used) in
-    record { clause = flat_map (literal_of vs) ws; always = list_any is_always ws; feature = first_feature used; wide = list_any wrote_wide ws; crowded = nat_le 10001 (length vs) }
+    record { clause = flat_map (literal_of vs) ws; always = list_any is_always ws; feature = first_feature used; wide = list_any wrote_wide ws; crowded = nat_le (most_variables + 1) (length vs) }
 
 -- the statement with this body, or the first of its faults
 abbrev pub judged_as : Tok → Role → Body → Result Statement Fault

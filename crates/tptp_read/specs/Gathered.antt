@@ -1,5 +1,5 @@
 -- What is gathered of a disjunction while it is read.
-use Rattle.std.specs.Prelude.{ℕ, List, [], ◌∷◌, ◌++◌, Bool, true, false, not, ◌||◌, nat_le, Option, Some, None}
+use Rattle.std.specs.Prelude.{ℕ, ◌+◌, List, [], ◌∷◌, ◌++◌, Bool, true, false, not, ◌||◌, nat_le, Option, Some, None}
 use Rattle.std.specs.Option.{option_map}
 use Rattle.inst_logic.specs.Tree.{Tree, var, app, Trees}
 use Rattle.inst_logic.specs.Tree as tree
@@ -9,6 +9,7 @@ use Rattle.tptp_read.specs.declared.clause.Literals.{Literals}
 use Rattle.tptp_read.specs.Meaning.{Wrote, literal_of, is_always, first_feature, used_tokens}
 use Rattle.tptp_read.specs.Shapes.{Shape}
 use Rattle.inst_logic.specs.Codes as byte
+use Rattle.tptp_read.specs.Limits.{most_arguments}
 
 pub record Gathered : Type 0 where
   pub clause : List (Signed Tree)
@@ -58,7 +59,7 @@ put g s f = put_as s.truth g s f
 abbrev mutual
   pub tree_wide : Tree → Bool
   tree_wide (var n) = false
-  tree_wide (app s ts) = nat_le 1025 s.arity || trees_wide ts
+  tree_wide (app s ts) = nat_le (most_arguments + 1) s.arity || trees_wide ts
 
   pub trees_wide : Trees → Bool
   trees_wide tree.none = false

@@ -3,6 +3,7 @@ pub mod Fronts
 pub mod Grammar
 pub mod LexemeView
 pub mod Lexemes
+pub mod Limits
 pub mod Meaning
 pub mod Parse
 pub mod ParseClause
@@ -19,5 +20,4 @@ pub mod Shapes
 pub mod Gathered
 pub mod Plain
 pub mod Bodies
-pub mod Judging
 pub mod AtomReading

@@ -18,6 +18,7 @@ use Rattle.tptp_tokens.specs.Stream.{Tok}
 use Rattle.tptp_read.specs.Lexemes.{is_feature, is_quoted_kind, is_variable_kind, is_dollar_kind}
 use Rattle.tptp_read.specs.Grammar.{Written, single, applied, Writtens, none, more, Negated, no_atom, no_equation, in_parens, Simple, atom, equation, unequal, negated, Item, simple, nested, Items, last, or, Form, cnf, whole, selected}
 use Rattle.inst_logic.specs.Codes as byte
+use Rattle.tptp_read.specs.Limits.{most_arguments, most_variables}
 
 -- why a statement is refused
 pub data Fault : Type 0 where
@@ -101,7 +102,7 @@ count (more t ts) = count ts + 1
 abbrev mutual
   pub is_wide : Written → Bool
   is_wide (single t) = false
-  is_wide (applied f t ts) = nat_le 1025 (count ts + 1) || (is_wide t || are_wide ts)
+  is_wide (applied f t ts) = nat_le (most_arguments + 1) (count ts + 1) || (is_wide t || are_wide ts)
 
   pub are_wide : Writtens → Bool
   are_wide none = false
@@ -157,7 +158,7 @@ read_cnf name word role ws =
     option_map_or (λ w. Err (feature w))
     (first_feature used)
     (if list_any wrote_wide ws then Err (limit Arity)
-    else (if nat_le 10001 (length vs) then Err (limit Variables)
+    else (if nat_le (most_variables + 1) (length vs) then Err (limit Variables)
     else Ok (Cnf (name_of name) role (list_any is_always ws) (flat_map (literal_of vs) ws))))
 
 abbrev pub judged : Form → Result Statement Fault

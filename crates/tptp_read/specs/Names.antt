@@ -1,5 +1,5 @@
 -- Names that can be printed and read again.
-use Rattle.std.specs.Prelude.{ℕ, List, IsTrue}
+use Rattle.std.specs.Prelude.{IsTrue}
 use Rattle.inst_logic.specs.Printing.{is_readable_name}
 use Rattle.inst_logic.specs.Readable.{clause_is_readable}
 pub use Rattle.inst_logic.specs.Readable.{kind_is_readable, tree_is_readable, trees_are_readable, clause_is_readable}

@@ -9,6 +9,7 @@ use Rattle.tptp_read.specs.Lexemes.{Begins, mark, lower, is_mark_token}
 use Rattle.tptp_read.specs.Grammar.{Form, IsForm}
 use Rattle.tptp_read.specs.Meaning.{Fault, syntax_fault, language, limit, judged}
 use Rattle.inst_logic.specs.Codes as byte
+use Rattle.tptp_read.specs.Limits.{most_nesting}
 
 abbrev pub is_language : List ℕ → Bool
 is_language w = list_any (bytes_eq w) (codes "fof" ∷ codes "tff" ∷ codes "tcf" ∷ codes "thf" ∷ codes "tpi" ∷ [])
@@ -61,7 +62,7 @@ pub record IsRead (text : List ℕ) (s : Statement) (rest : List ℕ) : Type 0 w
   pub language : IsNoOtherLanguage text
   pub tokens : List Tok
   pub front : IsFront text tokens rest
-  pub flat : nesting tokens < 257
+  pub flat : nesting tokens < most_nesting + 1
   pub form : Form
   pub is_form : IsForm tokens form
   pub value : judged form ≡ Ok s
@@ -70,6 +71,6 @@ pub record IsRead (text : List ℕ) (s : Statement) (rest : List ℕ) : Type 0 w
 pub data IsOffence (text : List ℕ) (e : Fault) : Type 0 where
   other_language : (w : List ℕ) → IsOtherLanguage text w → e ≡ language w → IsOffence text e
   no_front : IsNoOtherLanguage text → HasNoFront text → e ≡ syntax_fault → IsOffence text e
-  too_deep : IsNoOtherLanguage text → (ts : List Tok) (rest : List ℕ) → IsFront text ts rest → 257 ≤ nesting ts → e ≡ limit Nesting → IsOffence text e
-  no_form : IsNoOtherLanguage text → (ts : List Tok) (rest : List ℕ) → IsFront text ts rest → nesting ts < 257 → ((f : Form) → ¬ IsForm ts f) → e ≡ syntax_fault → IsOffence text e
-  refused : IsNoOtherLanguage text → (ts : List Tok) (rest : List ℕ) → IsFront text ts rest → nesting ts < 257 → (f : Form) → IsForm ts f → judged f ≡ Err e → IsOffence text e
+  too_deep : IsNoOtherLanguage text → (ts : List Tok) (rest : List ℕ) → IsFront text ts rest → most_nesting + 1 ≤ nesting ts → e ≡ limit Nesting → IsOffence text e
+  no_form : IsNoOtherLanguage text → (ts : List Tok) (rest : List ℕ) → IsFront text ts rest → nesting ts < most_nesting + 1 → ((f : Form) → ¬ IsForm ts f) → e ≡ syntax_fault → IsOffence text e
+  refused : IsNoOtherLanguage text → (ts : List Tok) (rest : List ℕ) → IsFront text ts rest → nesting ts < most_nesting + 1 → (f : Form) → IsForm ts f → judged f ≡ Err e → IsOffence text e

@@ -9,8 +9,6 @@ use Rattle.tptp_read.specs.declared.stop.Stop.TheVariants as stops
 use Rattle.tptp_read.specs.declared.statement.Statement.{Statement}
 use Rattle.tptp_read.specs.declared.text.ReadError.{ReadError}
 use Rattle.tptp_read.specs.declared.text.ReadError.TheVariants as errors
-use Rattle.tptp_read.specs.declared.value.Refused.{Refused}
-use Rattle.tptp_read.specs.declared.value.Refused.TheVariants as parts
 use Rattle.tptp_read.specs.Grammar.{Form}
 use Rattle.tptp_read.specs.Meaning.{Fault, syntax_fault, language, feature, role_fault, limit, judged}
 use Rattle.tptp_read.specs.ParseForm.{form_at}
@@ -26,12 +24,6 @@ verdict ts = judged_form (form_at ts)
 abbrev pub refusal_of : Stop → Refusal
 refusal_of stops.Memory = refusals.Memory
 refusal_of stops.Wrong = refusals.Syntax
-
-abbrev pub refusal_as : Refused → Refusal
-refusal_as (parts.Role w) = refusals.Role w
-refusal_as (parts.Feature w) = refusals.Feature w
-refusal_as (parts.Limit which) = refusals.Limit which
-refusal_as parts.Memory = refusals.Memory
 
 -- the refusal is of this fault, or memory ran out
 abbrev pub IsOf : (Fault → Type 0) → Refusal → Type 0

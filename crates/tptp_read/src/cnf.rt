@@ -63,8 +63,5 @@ pub(crate) fn cnf<'a>(alloc: Global, tokens: &[Lexeme<'a>]) -> Result<Statement,
     if !ends_at(tokens, end) {
         return Err(Refusal::Syntax);
     }
-    match cnf_value(alloc, &tokens[2], &tokens[4], body) {
-        Ok(statement) => Ok(statement),
-        Err(why) => Err(Refusal::from(why)),
-    }
+    cnf_value(alloc, &tokens[2], &tokens[4], body)
 }

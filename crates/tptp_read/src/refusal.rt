@@ -3,12 +3,11 @@
 ghost use Rattle.std.specs.Prelude.{◌≡◌};
 ghost use Rattle.tptp_read.specs.declared.refusal.Refusal.TheVariants as refusals;
 ghost use Rattle.tptp_read.specs.declared.stop.Stop.TheVariants as stops;
-ghost use Rattle.tptp_read.specs.Verdicts.{refusal_of, refusal_as, IsSaid};
+ghost use Rattle.tptp_read.specs.Verdicts.{refusal_of, IsSaid};
 
 use crate::statement::Which;
 use crate::stop::Stop;
 use crate::text::ReadError;
-use crate::value::Refused;
 use inst_logic::{Memory, Name};
 use std::alloc::Global;
 
@@ -38,19 +37,6 @@ impl<'a> From<Stop> for Refusal<'a> {
         match e {
             Stop::Memory => Refusal::Memory,
             Stop::Wrong => Refusal::Syntax,
-        }
-    }
-}
-
-impl<'a> From<Refused<'a>> for Refusal<'a> {
-    ghost from_gives = { λ s e. e ≡ refusal_as s };
-
-    fn from(e: Refused<'a>) -> Refusal<'a> {
-        match e {
-            Refused::Role(word) => Refusal::Role(word),
-            Refused::Feature(word) => Refusal::Feature(word),
-            Refused::Limit(which) => Refusal::Limit(which),
-            Refused::Memory => Refusal::Memory,
         }
     }
 }

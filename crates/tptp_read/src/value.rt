@@ -4,32 +4,14 @@ ghost use Rattle.std.specs.Prelude.{◌≡◌};
 ghost use Rattle.tptp_read.specs.Meaning.{role_of};
 ghost use Rattle.tptp_read.specs.LexemeView.{tok};
 ghost use Rattle.tptp_read.specs.Bodies.{body as body_view, judged_as, judged_body};
-ghost use Rattle.tptp_read.specs.Judging.{Judges};
-ghost use Rattle.tptp_read.specs.declared.value.Refused.TheVariants as refused;
+ghost use Rattle.tptp_read.specs.Verdicts.{Tells};
 
 use crate::body::Body;
 use crate::lexeme::Lexeme;
+use crate::refusal::Refusal;
 use crate::statement::{Role, Statement, Which};
 use crate::words::name_of;
-use inst_logic::Memory;
 use std::alloc::Global;
-
-// Why a statement whose tokens have a form is none that is read.
-#[derive(Debug, Drop)]
-pub(crate) enum Refused<'a> {
-    Role(&'a [u8]),
-    Feature(&'a [u8]),
-    Limit(Which),
-    Memory,
-}
-
-impl<'a> From<Memory> for Refused<'a> {
-    ghost from_gives = { λ _ e. e ≡ refused.Memory };
-
-    fn from(_e: Memory) -> Refused<'a> {
-        Refused::Memory
-    }
-}
 
 fn role_of(word: &[u8]) -> Option<Role>
     ensures { result ≡ role_of word.now }
@@ -63,17 +45,17 @@ fn statement<'a>(
     name: &Lexeme,
     role: Role,
     body: Body<'a>,
-) -> Result<Statement, Refused<'a>>
-    ensures { Judges result (judged_as (tok name.now) role (body_view body.entry)) }
+) -> Result<Statement, Refusal<'a>>
+    ensures { Tells result (judged_as (tok name.now) role (body_view body.entry)) }
 {
     if let Some(word) = body.literals.feature {
-        return Err(Refused::Feature(word));
+        return Err(Refusal::Feature(word));
     }
     if body.wide {
-        return Err(Refused::Limit(Which::Arity));
+        return Err(Refusal::Limit(Which::Arity));
     }
     if body.crowded {
-        return Err(Refused::Limit(Which::Variables));
+        return Err(Refusal::Limit(Which::Variables));
     }
     Ok(Statement::Cnf {
         name: name_of(alloc, name)?,
@@ -89,11 +71,11 @@ pub(crate) fn cnf_value<'a>(
     name: &Lexeme,
     role: &Lexeme<'a>,
     body: Body<'a>,
-) -> Result<Statement, Refused<'a>>
-    ensures { Judges result (judged_body (tok name.now) (tok role.now) (body_view body.entry)) }
+) -> Result<Statement, Refusal<'a>>
+    ensures { Tells result (judged_body (tok name.now) (tok role.now) (body_view body.entry)) }
 {
     match role_of(role.text) {
-        None => Err(Refused::Role(role.text)),
+        None => Err(Refusal::Role(role.text)),
         Some(known) => statement(alloc, name, known, body),
     }
 }

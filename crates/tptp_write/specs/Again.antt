@@ -8,6 +8,7 @@ use Rattle.inst_logic.specs.Clauses.{TreeClause, IsCanonical, order_of}
 use Rattle.inst_logic.specs.WellFormed.{IsFormedClause}
 use Rattle.tptp_read.specs.declared.statement.Role.TheVariants.{Axiom}
 use Rattle.tptp_read.specs.declared.statement.Statement.TheVariants.{Cnf}
+use Rattle.tptp_read.specs.Limits.{most_arguments, most_nesting, most_variables}
 use Rattle.tptp_read.specs.Names.{clause_is_readable}
 use Rattle.tptp_read.specs.Text.{Readable}
 
@@ -39,11 +40,11 @@ abbrev pub clause_nesting : TreeClause → ℕ
 clause_nesting [] = 0
 clause_nesting (l ∷ ls) = max (literal_nesting l.atom) (clause_nesting ls)
 
--- no symbol has more than 1,024 arguments
+-- no symbol has more arguments than the reader takes
 abbrev mutual
   pub tree_is_narrow : Tree → Bool
   tree_is_narrow (var n) = true
-  tree_is_narrow (app s ts) = nat_le s.arity 1024 && trees_are_narrow ts
+  tree_is_narrow (app s ts) = nat_le s.arity most_arguments && trees_are_narrow ts
 
   pub trees_are_narrow : Trees → Bool
   trees_are_narrow none = true
@@ -54,9 +55,9 @@ pub record CanBeRead (c : TreeClause) : Type 0 where
   pub formed : IsFormedClause c
   pub canonical : IsCanonical c
   pub names : IsTrue (clause_is_readable c)
-  pub nesting : clause_nesting c + 1 ≤ 256
+  pub nesting : clause_nesting c + 1 ≤ most_nesting
   pub narrow : IsTrue (list_all (λ l. tree_is_narrow l.atom) c)
-  pub variables : length (order_of c) ≤ 10000
+  pub variables : length (order_of c) ≤ most_variables
 
 -- cnf(a,axiom,TEXT).
 abbrev pub as_statement : List ℕ → List ℕ

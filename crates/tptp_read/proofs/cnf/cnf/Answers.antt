@@ -10,7 +10,7 @@ use Rattle.tptp_read.specs.Bodies.{body, judged_body}
 use Rattle.tptp_read.specs.Verdicts.{judged_form}
 use Rattle.tptp_read.proofs.ParseLaws.{both_true}
 use Rattle.tptp_read.proofs.Places.{behind_toks, toks_at, other}
-use Rattle.tptp_read.proofs.Clauses.{IsHead, no_head, no_body, no_note, no_tail, cnf_done, refused_is}
+use Rattle.tptp_read.proofs.Clauses.{IsHead, no_head, no_body, no_note, no_tail, cnf_done, tells_as}
 use Rattle.tptp_read.proofs.cnf.cnf.Goals as goal
 
 head_is : (ls : List Lexeme) → 5 < length ls → (begins_with 40 (toks (drop 1 ls)) && (starts is_name (toks (drop 2 ls)) && (begins_with 44 (toks (drop 3 ls)) && (starts is_lower (toks (drop 4 ls)) && begins_with 44 (toks (drop 5 ls)))))) ≡ true
@@ -58,16 +58,9 @@ returns-then-not-ends_at c =
     let head = head_is ls (c.has_head.ensures.within c.if-not-has_head.false) (sym c.has_head.ensures.is ∙ c.if-not-has_head.false) in
     no_tail (length ls) (toks (drop 1 ls)) (tok (get_or ls 2 other)) (tok (get_or ls 4 other)) (toks (drop 6 ls)) (toks (drop c.in-Ok.read.1 ls)) (toks (drop c.in-Some.end ls)) (body c.in-Ok.read.0) head c.in-Ok.ensures.is (sym c.in-Some.ensures.is) (sym c.ends_at.ensures ∙ c.if-not-ends_at.true)
 
-pub returns-in-Ok-cnf_value : goal.returns-in-Ok-cnf_value
-returns-in-Ok-cnf_value c =
-    let ls = c.args.tokens.now in
-    let head = head_is ls (c.has_head.ensures.within c.if-not-has_head.false) (sym c.has_head.ensures.is ∙ c.if-not-has_head.false) in
-    cnf_done (length ls) (toks (drop 1 ls)) (tok (get_or ls 2 other)) (tok (get_or ls 4 other)) (toks (drop 6 ls)) (toks (drop c.in-Ok.read.1 ls)) (toks (drop c.in-Some.end ls)) (body c.in-Ok.read.0) head c.in-Ok.ensures.is (sym c.in-Some.ensures.is) (sym c.ends_at.ensures ∙ c.if-not-ends_at.false)
-    ∙ c.in-Ok-cnf_value.ensures
-
-pub returns-in-Err-cnf_value : goal.returns-in-Err-cnf_value
-returns-in-Err-cnf_value c =
+pub returns : goal.returns
+returns c =
     let ls = c.args.tokens.now in
     let head = head_is ls (c.has_head.ensures.within c.if-not-has_head.false) (sym c.has_head.ensures.is ∙ c.if-not-has_head.false) in
     let whole = cnf_done (length ls) (toks (drop 1 ls)) (tok (get_or ls 2 other)) (tok (get_or ls 4 other)) (toks (drop 6 ls)) (toks (drop c.in-Ok.read.1 ls)) (toks (drop c.in-Some.end ls)) (body c.in-Ok.read.0) head c.in-Ok.ensures.is (sym c.in-Some.ensures.is) (sym c.ends_at.ensures ∙ c.if-not-ends_at.false) in
-    rw c.from-in-Err-cnf_value.ensures (refused_is c.in-Err-cnf_value.why (judged_body (tok (get_or ls 2 other)) (tok (get_or ls 4 other)) (body c.in-Ok.read.0)) (judged_form (cnf_at (length ls) (toks (drop 1 ls)))) whole c.in-Err-cnf_value.ensures)
+    tells_as _ (judged_body (tok (get_or ls 2 other)) (tok (get_or ls 4 other)) (body c.in-Ok.read.0)) (judged_form (cnf_at (length ls) (toks (drop 1 ls)))) (sym whole) c.cnf_value.ensures
