@@ -3,16 +3,17 @@ use Rattle.std.specs.Prelude.{◌≡◌, ◌≢◌, ℕ, List, [], ◌∷◌, ma
 use Rattle.inst_logic.specs.declared.signed.Signed.{Signed}
 use Rattle.term_bank.specs.Forest.{Forest, IsClauseAt}
 use Rattle.cert_format.specs.Forms.{Form, form_text, form_atom, forms_text, ArePrintableForms}
+use Rattle.inst_logic.specs.Codes as byte
 
 -- a literal that ends the clause, or has another one behind it
 abbrev pub ended_by : Bool → List ℕ → List ℕ
-ended_by true rest = 44 ∷ rest
-ended_by false rest = 32 ∷ 124 ∷ 32 ∷ rest
+ended_by true rest = byte.comma ∷ rest
+ended_by false rest = byte.space ∷ byte.bar ∷ byte.space ∷ rest
 
 -- forms that are done, each with ` | ` behind it
 abbrev pub before_forms : List Form → List ℕ → List ℕ
 before_forms [] rest = rest
-before_forms (f ∷ fs) rest = form_text f (32 ∷ 124 ∷ 32 ∷ before_forms fs rest)
+before_forms (f ∷ fs) rest = form_text f (byte.space ∷ byte.bar ∷ byte.space ∷ before_forms fs rest)
 
 -- these forms have been read
 abbrev pub read_by : Bool → List Form → List ℕ → List ℕ

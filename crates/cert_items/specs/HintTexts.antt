@@ -5,16 +5,17 @@ use Rattle.inst_calculus.specs.Steps.{Cited}
 use Rattle.cert_format.specs.LineTexts.{hint, more_hints, hints, hint_is_printable, hints_are_printable}
 use Rattle.saturation_cert.specs.declared.certificate.GroundHint.{GroundHint}
 use Rattle.saturation_cert.specs.Values.{hint_of}
+use Rattle.inst_logic.specs.Codes as byte
 
 -- a hint that ends the list, or has another one behind it
 abbrev pub hint_end : Bool → List ℕ → List ℕ
-hint_end true rest = 93 ∷ 41 ∷ rest
-hint_end false rest = 44 ∷ rest
+hint_end true rest = byte.closing_bracket ∷ byte.closing_parenthesis ∷ rest
+hint_end false rest = byte.comma ∷ rest
 
 -- hints that are done, each with a comma behind it
 abbrev pub before_hints : List Cited → List ℕ → List ℕ
 before_hints [] rest = rest
-before_hints (h ∷ hs) rest = hint h (44 ∷ before_hints hs rest)
+before_hints (h ∷ hs) rest = hint h (byte.comma ∷ before_hints hs rest)
 
 abbrev pub read_hints : Bool → List Cited → List ℕ → List ℕ
 read_hints true hs rest = hints hs rest

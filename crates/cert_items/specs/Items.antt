@@ -10,6 +10,7 @@ use Rattle.cert_items.specs.declared.group.Group.{Group}
 use Rattle.cert_items.specs.declared.group.Group.TheVariants as groups
 use Rattle.cert_items.specs.declared.note.Note as read
 use Rattle.cert_items.specs.declared.note.Note.TheVariants as notes
+use Rattle.inst_logic.specs.Codes as byte
 
 -- ---- groups
 
@@ -48,7 +49,7 @@ role_of groups.Step rest = codes "plain," ++ rest
 
 -- the line of an item of the group with this number, up to its clause
 abbrev pub head_text : Group → ℕ → List ℕ → List ℕ
-head_text g n rest = codes "cnf(" ++ (letter_of g ∷ (decimal n ++ 44 ∷ role_of g rest))
+head_text g n rest = codes "cnf(" ++ (letter_of g ∷ (decimal n ++ byte.comma ∷ role_of g rest))
 
 -- ---- notes
 
@@ -81,7 +82,7 @@ NoNote refutation group n bytes = (note : Note) (rest : List ℕ) → IsNote ref
 
 -- none with the end of its line behind it
 abbrev pub NoLastNote : Bool → Group → ℕ → List ℕ → Type 0
-NoLastNote refutation group n bytes = (note : Note) (rest : List ℕ) → IsNote refutation group note → bytes ≢ note_text n note (41 ∷ 46 ∷ 10 ∷ rest)
+NoLastNote refutation group n bytes = (note : Note) (rest : List ℕ) → IsNote refutation group note → bytes ≢ note_text n note (byte.closing_parenthesis ∷ byte.full_stop ∷ byte.line_feed ∷ rest)
 
 -- ---- items
 

@@ -9,6 +9,7 @@ use Rattle.cert_items.specs.declared.terms.Open.{Open}
 use Rattle.cert_items.specs.declared.terms.Left.{Left}
 use Rattle.cert_format.specs.Names.{IsNameText}
 use Rattle.cert_format.specs.Spelling.{term, following, is_printable, Follows}
+use Rattle.inst_logic.specs.Codes as byte
 
 -- the id is that of an application of the symbol of this kind whose name is printed so
 pub record IsApplied (f : Forest) (id : ℕ) (kind : Kind) (text : List ℕ) (args : List Tree) : Type 0 where
@@ -25,12 +26,12 @@ pub record Part : Type 0 where
 -- each term with a comma behind it
 abbrev pub before : List Tree → List ℕ → List ℕ
 before [] rest = rest
-before (t ∷ ts) rest = term t (44 ∷ before ts rest)
+before (t ∷ ts) rest = term t (byte.comma ∷ before ts rest)
 
 -- the text of the parts, the outermost first, and of the terms that are done behind them
 abbrev pub opened : List Part → List Tree → List ℕ → List ℕ
 opened [] done rest = before done rest
-opened (p ∷ ps) done rest = before p.done (p.name ++ 40 ∷ opened ps done rest)
+opened (p ∷ ps) done rest = before p.done (p.name ++ byte.opening_parenthesis ∷ opened ps done rest)
 
 -- all terms of the parts
 abbrev pub parts_done : List Part → List Tree
@@ -100,4 +101,4 @@ NoTerm bytes = (t : Tree) (rest : List ℕ) → IsTrue (is_printable t) → Foll
 
 -- neither a comma nor the closing parenthesis of an open application is at the front of the text
 abbrev pub IsStuck : List Open → List ℕ → Type 0
-IsStuck opens rest = ((x : List ℕ) → rest ≢ 44 ∷ x) × (opens ≢ [] → (x : List ℕ) → rest ≢ 41 ∷ x)
+IsStuck opens rest = ((x : List ℕ) → rest ≢ byte.comma ∷ x) × (opens ≢ [] → (x : List ℕ) → rest ≢ byte.closing_parenthesis ∷ x)

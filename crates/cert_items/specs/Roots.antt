@@ -11,6 +11,7 @@ use Rattle.cert_format.specs.Names.{IsNameText}
 use Rattle.cert_format.specs.Runs.{Ends}
 use Rattle.cert_format.specs.Spelling.{term, arguments, goes_on, Follows, is_printable}
 use Rattle.cert_items.specs.Reading.{ArePrintable}
+use Rattle.inst_logic.specs.Codes as byte
 
 pub record IsVariableAt (n : ℕ) (bytes rest : List ℕ) : Type 0 where
   pub is : bytes ≡ 88 ∷ decimal n ++ rest
@@ -42,7 +43,7 @@ pub record IsTermAt (f : Forest) (id : ℕ) (bytes rest : List ℕ) : Type 0 whe
 
 -- the atom of an equality
 abbrev pub equality_atom : Tree → Tree → Tree
-equality_atom t u = app (record { kind = Equality; name = 61 ∷ []; arity = 2 }) (of_list (t ∷ u ∷ []))
+equality_atom t u = app (record { kind = Equality; name = byte.equals_sign ∷ []; arity = 2 }) (of_list (t ∷ u ∷ []))
 
 -- the literal of ids is at the front of the text
 pub record IsLiteralAt (f : Forest) (l : Signed ℕ) (bytes rest : List ℕ) : Type 0 where

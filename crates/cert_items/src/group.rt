@@ -2,6 +2,7 @@
 ghost use Rattle.std.specs.Prelude.{◌≡◌, ◌≢◌, ◌++◌, ◌<◌, ◌^◌, ◌∷◌, ℕ, List, IfSome, IfNone, decimal};
 ghost use Rattle.cert_items.specs.declared.group.Group.{Group};
 ghost use Rattle.cert_items.specs.Items.{head_text, letter_of, role_of};
+ghost use Rattle.inst_logic.specs.Codes as byte;
 
 use crate::mark::word;
 use crate::number::marked;
@@ -47,8 +48,8 @@ fn role(group: Group, bytes: &[u8]) -> Option<&[u8]>
 
 // The group and the number behind `cnf(`, and what follows the comma.
 fn numbered(bytes: &[u8]) -> Option<(Group, usize, &[u8])>
-    ensures some { IfSome result (λ r. (bytes.now ≡ letter_of r.0 ∷ (decimal r.1 ++ 44 ∷ r.2.now)) × (r.1 < 2 ^ 64)) }
-    ensures none { IfNone result ((g : Group) (n : ℕ) (rest : List ℕ) → n < 2 ^ 64 → bytes.now ≢ letter_of g ∷ (decimal n ++ 44 ∷ rest)) }
+    ensures some { IfSome result (λ r. (bytes.now ≡ letter_of r.0 ∷ (decimal r.1 ++ byte.comma ∷ r.2.now)) × (r.1 < 2 ^ 64)) }
+    ensures none { IfNone result ((g : Group) (n : ℕ) (rest : List ℕ) → n < 2 ^ 64 → bytes.now ≢ letter_of g ∷ (decimal n ++ byte.comma ∷ rest)) }
 {
     match letter(bytes) {
         None => None,

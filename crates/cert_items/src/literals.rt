@@ -8,6 +8,7 @@ ghost use Rattle.cert_format.specs.Names.{IsNameText};
 ghost use Rattle.cert_format.specs.Spelling.{is_printable, goes_on, IsEqualitySign};
 ghost use Rattle.cert_items.specs.Reading.{ArePrintable, NoTerm};
 ghost use Rattle.cert_items.specs.Roots.{IsRootAt, IsRoot, IsTermAt, IsApplicationAt, IsLiteralAt, NoForm, equality_atom};
+ghost use Rattle.inst_logic.specs.Codes as byte;
 
 use crate::mark::{mark, word};
 use crate::name::name;
@@ -172,7 +173,7 @@ fn equal<'a>(
     ensures extends { Extends bank.old bank.new }
     ensures formed { AreFormed bank.old → AreFormed bank.new }
     ensures some { IfOk result (λ r. IfSome r (λ p. IsLiteralAt bank.new p.0 bytes.now p.1.now)) }
-    ensures none { ((rest : List ℕ) → bytes.now ≢ 126 ∷ rest) → IfOk result (λ r. IfNone r (NoForm bytes.now)) }
+    ensures none { ((rest : List ℕ) → bytes.now ≢ byte.tilde ∷ rest) → IfOk result (λ r. IfNone r (NoForm bytes.now)) }
 {
     match term(alloc, bank, ids, after) {
         Err(e) => Err(e),
@@ -194,7 +195,7 @@ fn unsigned<'a>(
     ensures extends { Extends bank.old bank.new }
     ensures formed { AreFormed bank.old → AreFormed bank.new }
     ensures some { IfOk result (λ r. IfSome r (λ p. IsLiteralAt bank.new p.0 bytes.now p.1.now)) }
-    ensures none { ((rest : List ℕ) → bytes.now ≢ 126 ∷ rest) → IfOk result (λ r. IfNone r (NoForm bytes.now)) }
+    ensures none { ((rest : List ℕ) → bytes.now ≢ byte.tilde ∷ rest) → IfOk result (λ r. IfNone r (NoForm bytes.now)) }
 {
     match head(alloc, bank, ids, bytes)? {
         None => Ok(None),
@@ -223,8 +224,8 @@ fn negated<'a>(
 ) -> Result<Option<(IdLiteral, &'a [u8])>, Memory>
     ensures extends { Extends bank.old bank.new }
     ensures formed { AreFormed bank.old → AreFormed bank.new }
-    ensures some { IfOk result (λ r. IfSome r (λ p. IsLiteralAt bank.new p.0 (126 ∷ bytes.now) p.1.now)) }
-    ensures none { IfOk result (λ r. IfNone r (NoForm (126 ∷ bytes.now))) }
+    ensures some { IfOk result (λ r. IfSome r (λ p. IsLiteralAt bank.new p.0 (byte.tilde ∷ bytes.now) p.1.now)) }
+    ensures none { IfOk result (λ r. IfNone r (NoForm (byte.tilde ∷ bytes.now))) }
 {
     match head(alloc, bank, ids, bytes)? {
         None => Ok(None),

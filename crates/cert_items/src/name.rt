@@ -5,23 +5,24 @@ ghost use Rattle.inst_logic.specs.Printing as printing;
 ghost use Rattle.inst_logic.specs.Printing.{is_word_byte, is_readable_name, name_text};
 ghost use Rattle.cert_format.specs.Runs.{run, begins, Ends};
 ghost use Rattle.cert_format.specs.Names.{closing, name_len, IsNameText};
+ghost use Rattle.inst_logic.specs.Codes as character;
 
 fn is_lower(byte: u8) -> bool
     ensures { result ≡ printing.is_lower byte }
 {
-    97 <= byte && byte <= 122
+    b'a' <= byte && byte <= b'z'
 }
 
 pub fn is_word_byte(byte: u8) -> bool
     ensures { result ≡ is_word_byte byte }
 {
-    is_lower(byte) || 65 <= byte && byte <= 90 || 48 <= byte && byte <= 57 || byte == 95
+    is_lower(byte) || b'A' <= byte && byte <= b'Z' || b'0' <= byte && byte <= b'9' || byte == b'_'
 }
 
 fn is_printed(byte: u8) -> bool
-    ensures { result ≡ printing.is_between 32 126 byte }
+    ensures { result ≡ printing.is_between character.space character.tilde byte }
 {
-    32 <= byte && byte <= 126
+    b' ' <= byte && byte <= b'~'
 }
 
 // How many bytes at the front belong to a word.

@@ -3,6 +3,7 @@ ghost use Rattle.std.specs.Prelude.{◌≡◌, ◌∷◌, ℕ, List, [], Bool, I
 ghost use Rattle.saturation_cert.specs.declared.certificate.GroundHint.{GroundHint};
 ghost use Rattle.cert_items.specs.declared.group.Group.TheVariants.{Input as InInputs, Axiom as InAxioms, Member as InMembers, Ground as InGrounds, Step as InSteps};
 ghost use Rattle.cert_items.specs.Items.{IsNoteAt, NoNote, NoLastNote, note_of};
+ghost use Rattle.inst_logic.specs.Codes as byte;
 
 use crate::group::Group;
 use crate::hint_list::read_hints;
@@ -138,7 +139,7 @@ pub fn last_note<'a>(
     bytes: &'a [u8],
 ) -> Result<Option<(Note, &'a [u8])>, Memory>
     requires empty { hints.old ≡ [] }
-    ensures some { IfOk result (λ r. IfSome r (λ p. IsNoteAt refutation group n (note_of p.0 hints.new) bytes.now (41 ∷ 46 ∷ 10 ∷ p.1.now))) }
+    ensures some { IfOk result (λ r. IfSome r (λ p. IsNoteAt refutation group n (note_of p.0 hints.new) bytes.now (byte.closing_parenthesis ∷ byte.full_stop ∷ byte.line_feed ∷ p.1.now))) }
     ensures none { IfOk result (λ r. IfNone r (NoLastNote refutation group n bytes.now)) }
 {
     match read_note(alloc, hints, refutation, group, n, bytes) {

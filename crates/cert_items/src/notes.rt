@@ -2,6 +2,7 @@
 ghost use Rattle.std.specs.Prelude.{◌≡◌, ◌≢◌, ◌++◌, ◌∷◌, ◌<◌, ◌^◌, ℕ, List, IfSome, IfNone, IsTrue, decimal, codes};
 ghost use Rattle.inst_logic.specs.Printing.{is_readable_name, name_text};
 ghost use Rattle.cert_format.specs.Names.{IsNameText};
+ghost use Rattle.inst_logic.specs.Codes as byte;
 
 use crate::mark::{mark, word};
 use crate::name::name;
@@ -9,8 +10,8 @@ use crate::number::marked;
 
 /// The name of a statement as it is printed, and what follows the parenthesis behind it.
 pub fn named(bytes: &[u8]) -> Option<(&[u8], &[u8])>
-    ensures some { IfSome result (λ r. (bytes.now ≡ codes "named(" ++ (r.0.now ++ 41 ∷ r.1.now)) × IsNameText r.0.now) }
-    ensures none { IfNone result ((w rest : List ℕ) → IsTrue (is_readable_name w) → bytes.now ≢ codes "named(" ++ (name_text w ++ 41 ∷ rest)) }
+    ensures some { IfSome result (λ r. (bytes.now ≡ codes "named(" ++ (r.0.now ++ byte.closing_parenthesis ∷ r.1.now)) × IsNameText r.0.now) }
+    ensures none { IfNone result ((w rest : List ℕ) → IsTrue (is_readable_name w) → bytes.now ≢ codes "named(" ++ (name_text w ++ byte.closing_parenthesis ∷ rest)) }
 {
     match word(bytes, b"named(") {
         None => None,
@@ -26,9 +27,9 @@ pub fn named(bytes: &[u8]) -> Option<(&[u8], &[u8])>
 
 /// The member that a ground clause comes from, and what follows the parenthesis behind it.
 pub fn grounded(bytes: &[u8]) -> Option<(usize, &[u8])>
-    ensures some { IfSome result (λ r. bytes.now ≡ codes "ground(m" ++ (decimal r.0 ++ 41 ∷ r.1.now)) }
+    ensures some { IfSome result (λ r. bytes.now ≡ codes "ground(m" ++ (decimal r.0 ++ byte.closing_parenthesis ∷ r.1.now)) }
     ensures fits { IfSome result (λ r. r.0 < 2 ^ 64) }
-    ensures none { IfNone result ((n : ℕ) (rest : List ℕ) → n < 2 ^ 64 → bytes.now ≢ codes "ground(m" ++ (decimal n ++ 41 ∷ rest)) }
+    ensures none { IfNone result ((n : ℕ) (rest : List ℕ) → n < 2 ^ 64 → bytes.now ≢ codes "ground(m" ++ (decimal n ++ byte.closing_parenthesis ∷ rest)) }
 {
     match word(bytes, b"ground(m") {
         None => None,

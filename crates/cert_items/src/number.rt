@@ -4,6 +4,7 @@ ghost use Rattle.std.specs.List.{list_all};
 ghost use Rattle.std.specs.Char.{is_ascii_digit};
 ghost use Rattle.cert_format.specs.Runs.{run, Ends};
 ghost use Rattle.cert_format.specs.Digits.{value, is_plain};
+ghost use Rattle.inst_logic.specs.Codes as byte;
 
 use crate::mark::mark;
 
@@ -22,11 +23,11 @@ pub fn digits_len(bytes: &[u8]) -> usize
 // The number with one more digit, and `None` where it is no `usize`.
 fn with_digit(n: usize, digit: u8) -> Option<usize>
     requires { IsTrue (is_ascii_digit digit) }
-    ensures some { IfSome result (λ m. m ≡ n * 10 + (digit - 48)) }
-    ensures none { IfNone result (2 ^ 64 ≤ n * 10 + (digit - 48)) }
+    ensures some { IfSome result (λ m. m ≡ n * 10 + (digit - byte.digit_zero)) }
+    ensures none { IfNone result (2 ^ 64 ≤ n * 10 + (digit - byte.digit_zero)) }
 {
     match n.checked_mul(10) {
-        Some(tens) => tens.checked_add(usize::from(digit - 48)),
+        Some(tens) => tens.checked_add(usize::from(digit - b'0')),
         None => None,
     }
 }
@@ -53,7 +54,7 @@ fn is_plain(digits: &[u8]) -> bool
 {
     match digits {
         [] => false,
-        [first, rest @ ..] => *first != 48 || rest.is_empty(),
+        [first, rest @ ..] => *first != b'0' || rest.is_empty(),
     }
 }
 

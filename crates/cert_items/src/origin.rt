@@ -4,6 +4,7 @@ ghost use Rattle.std.specs.Char.{is_ascii_digit};
 ghost use Rattle.inst_calculus.specs.Entries as entries;
 ghost use Rattle.cert_format.specs.LineTexts.{origin_text, origin_is_printable};
 ghost use Rattle.saturation_cert.specs.Values.{origin_of};
+ghost use Rattle.inst_logic.specs.Codes as character;
 
 use crate::mark::{mark, word};
 use crate::number::marked;
@@ -12,9 +13,9 @@ use saturation_cert::Origin;
 // Two numbers with a comma between them, and the mark behind them.
 fn pair(bytes: &[u8], byte: u8) -> Option<(usize, usize, &[u8])>
     requires { is_ascii_digit byte ≡ false }
-    ensures some { IfSome result (λ r. bytes.now ≡ decimal r.0 ++ 44 ∷ (decimal r.1 ++ byte ∷ r.2.now)) }
+    ensures some { IfSome result (λ r. bytes.now ≡ decimal r.0 ++ character.comma ∷ (decimal r.1 ++ byte ∷ r.2.now)) }
     ensures fits { IfSome result (λ r. (r.0 < 2 ^ 64) × (r.1 < 2 ^ 64)) }
-    ensures none { IfNone result ((m n : ℕ) (rest : List ℕ) → m < 2 ^ 64 → n < 2 ^ 64 → bytes.now ≢ decimal m ++ 44 ∷ (decimal n ++ byte ∷ rest)) }
+    ensures none { IfNone result ((m n : ℕ) (rest : List ℕ) → m < 2 ^ 64 → n < 2 ^ 64 → bytes.now ≢ decimal m ++ character.comma ∷ (decimal n ++ byte ∷ rest)) }
 {
     match marked(bytes, b',') {
         None => None,

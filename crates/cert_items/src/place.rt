@@ -3,6 +3,7 @@ ghost use Rattle.std.specs.Prelude.{◌≡◌, ◌≢◌, ◌++◌, ◌∷◌, �
 ghost use Rattle.inst_calculus.specs.Entries as entries;
 ghost use Rattle.cert_format.specs.LineTexts.{origin_text, origin_is_printable};
 ghost use Rattle.saturation_cert.specs.Values.{origin_of};
+ghost use Rattle.inst_logic.specs.Codes as byte;
 
 use crate::mark::{mark, word};
 use crate::number::marked;
@@ -11,9 +12,9 @@ use saturation_cert::Origin;
 
 // The place behind an origin, and what follows it.
 fn place(bytes: &[u8]) -> Option<(usize, &[u8])>
-    ensures some { IfSome result (λ r. bytes.now ≡ codes ",[selected(" ++ (decimal r.0 ++ 41 ∷ 93 ∷ r.1.now)) }
+    ensures some { IfSome result (λ r. bytes.now ≡ codes ",[selected(" ++ (decimal r.0 ++ byte.closing_parenthesis ∷ byte.closing_bracket ∷ r.1.now)) }
     ensures fits { IfSome result (λ r. r.0 < 2 ^ 64) }
-    ensures none { IfNone result ((p : ℕ) (rest : List ℕ) → p < 2 ^ 64 → bytes.now ≢ codes ",[selected(" ++ (decimal p ++ 41 ∷ 93 ∷ rest)) }
+    ensures none { IfNone result ((p : ℕ) (rest : List ℕ) → p < 2 ^ 64 → bytes.now ≢ codes ",[selected(" ++ (decimal p ++ byte.closing_parenthesis ∷ byte.closing_bracket ∷ rest)) }
 {
     match word(bytes, b",[selected(") {
         None => None,
@@ -29,9 +30,9 @@ fn place(bytes: &[u8]) -> Option<(usize, &[u8])>
 
 /// The origin and the place at the front, and what follows them.
 pub fn selected(bytes: &[u8]) -> Option<(Origin, usize, &[u8])>
-    ensures some { IfSome result (λ r. bytes.now ≡ origin_text (origin_of r.0) (codes ",[selected(" ++ (decimal r.1 ++ 41 ∷ 93 ∷ r.2.now))) }
+    ensures some { IfSome result (λ r. bytes.now ≡ origin_text (origin_of r.0) (codes ",[selected(" ++ (decimal r.1 ++ byte.closing_parenthesis ∷ byte.closing_bracket ∷ r.2.now))) }
     ensures fits { IfSome result (λ r. IsTrue (origin_is_printable (origin_of r.0)) × (r.1 < 2 ^ 64)) }
-    ensures none { IfNone result ((o : entries.Origin) (p : ℕ) (rest : List ℕ) → IsTrue (origin_is_printable o) → p < 2 ^ 64 → bytes.now ≢ origin_text o (codes ",[selected(" ++ (decimal p ++ 41 ∷ 93 ∷ rest))) }
+    ensures none { IfNone result ((o : entries.Origin) (p : ℕ) (rest : List ℕ) → IsTrue (origin_is_printable o) → p < 2 ^ 64 → bytes.now ≢ origin_text o (codes ",[selected(" ++ (decimal p ++ byte.closing_parenthesis ∷ byte.closing_bracket ∷ rest))) }
 {
     match read_origin(bytes) {
         None => None,

@@ -5,6 +5,7 @@ ghost use Rattle.inst_logic.specs.Printing.{clause_text};
 ghost use Rattle.term_bank.specs.Forest.{AreFormed, clause_at, Extends};
 ghost use Rattle.cert_format.specs.FirstFormat.{clause_is_printable};
 ghost use Rattle.saturation_cert.specs.Wholes.{IsWholeClause};
+ghost use Rattle.inst_logic.specs.Codes as byte;
 
 use crate::clause::clause;
 use crate::text_bank::{TextBank, is_canonical};
@@ -22,10 +23,10 @@ pub fn printable_clause<'a>(
     bytes: &'a [u8],
 ) -> Result<Option<&'a [u8]>, Memory>
     requires empty { literals.old ≡ [] }
-    ensures some { IfOk result (λ r. IfSome r (λ rest. bytes.now ≡ clause_text (clause_at bank.new literals.new) ++ 44 ∷ rest.now)) }
+    ensures some { IfOk result (λ r. IfSome r (λ rest. bytes.now ≡ clause_text (clause_at bank.new literals.new) ++ byte.comma ∷ rest.now)) }
     ensures printable { IfOk result (λ r. IfSome r (λ _. IsTrue (clause_is_printable (clause_at bank.new literals.new)))) }
     ensures whole { IfOk result (λ r. IfSome r (λ _. IsWholeClause bank.new literals.new)) }
-    ensures none { IfOk result (λ r. IfNone r ((c : TreeClause) (rest : List ℕ) → IsTrue (clause_is_printable c) → bytes.now ≢ clause_text c ++ 44 ∷ rest)) }
+    ensures none { IfOk result (λ r. IfNone r ((c : TreeClause) (rest : List ℕ) → IsTrue (clause_is_printable c) → bytes.now ≢ clause_text c ++ byte.comma ∷ rest)) }
     ensures extends { Extends bank.old bank.new }
     ensures formed { AreFormed bank.old → AreFormed bank.new }
 {

@@ -7,6 +7,7 @@ ghost use Rattle.cert_format.specs.Names.{IsNameText};
 ghost use Rattle.cert_format.specs.Runs.{begins, Ends};
 ghost use Rattle.cert_format.specs.Spelling.{goes_on, IsClose};
 ghost use Rattle.cert_items.specs.Reading.{IsDue, IsRead, IsState, NoTerm, NoTerms, AreTerms, IsStuck};
+ghost use Rattle.inst_logic.specs.Codes as byte;
 
 use crate::mark::mark;
 use crate::name::{is_word_byte, name};
@@ -35,7 +36,7 @@ pub fn goes_on(bytes: &[u8]) -> bool
 {
     match bytes {
         [] => false,
-        [first, ..] => is_word_byte(*first) || *first == 40,
+        [first, ..] => is_word_byte(*first) || *first == b'(',
     }
 }
 
@@ -131,7 +132,7 @@ fn close<'a>(
     text: &[u8],
     rest: &'a [u8],
 ) -> Result<Option<Left<'a>>, Memory>
-    requires { IsRead bank.old text.now opens.old.items ids.old.items (41 ∷ rest.now) }
+    requires { IsRead bank.old text.now opens.old.items ids.old.items (byte.closing_parenthesis ∷ rest.now) }
     ensures extends { Extends bank.old bank.new }
     ensures formed { AreFormed bank.old → AreFormed bank.new }
     ensures some { IfOk result (λ r. IfSome r (IsState bank.new text.now opens.new.items ids.new.items)) }

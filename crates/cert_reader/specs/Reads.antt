@@ -13,6 +13,7 @@ use Rattle.cert_reader.specs.declared.certificate.Certificate.{Certificate}
 use Rattle.cert_reader.specs.declared.certificate.Certificate.TheVariants as forms
 use Rattle.cert_reader.specs.declared.error.CertError.{CertError}
 use Rattle.cert_reader.specs.declared.error.CertError.TheVariants as errors
+use Rattle.inst_logic.specs.Codes as byte
 
 -- ---- what is read
 
@@ -39,7 +40,7 @@ pub record IsOtherFormat (word : List ℕ) : Type 0 where
   pub digits : IsTrue (list_all is_ascii_digit word)
   pub some : word ≢ []
   pub few : length word ≤ 18
-  pub plain : (rest : List ℕ) → word ≢ 48 ∷ rest
+  pub plain : (rest : List ℕ) → word ≢ byte.digit_zero ∷ rest
   pub other : word ≢ 49 ∷ []
 
 -- The first two lines are those of some certificate text, and the third is `% instgen certificate ` with the number of another
@@ -48,7 +49,7 @@ pub record IsVersion (text word : List ℕ) : Type 0 where
   pub begun : IsFront IsCertificateText 2 text
   pub format : IsOtherFormat word
   pub rest : List ℕ
-  pub third : text ≡ begun.front ++ (codes "% instgen certificate " ++ (word ++ 10 ∷ rest))
+  pub third : text ≡ begun.front ++ (codes "% instgen certificate " ++ (word ++ byte.line_feed ∷ rest))
 
 abbrev pub HasVersion : List ℕ → Type 0
 HasVersion text = (word : List ℕ) × IsVersion text word

@@ -7,6 +7,7 @@ use Rattle.cert_format.specs.LineTexts.{line, is_text_name}
 use Rattle.cert_reader.specs.Reads.{IsSyntaxAt, IsVersion}
 use Rattle.cert_reader.specs.declared.start.Start.{Start}
 use Rattle.cert_reader.specs.declared.start.Start.TheVariants.{Begun, Bad, Other}
+use Rattle.inst_logic.specs.Codes as byte
 
 -- the first three lines, in a certificate's text of this form under this name
 pub record HasBegun (text : List ℕ) (refutation : Bool) (name rest : List ℕ) : Type 0 where
@@ -15,7 +16,7 @@ pub record HasBegun (text : List ℕ) (refutation : Bool) (name rest : List ℕ)
 
 -- the third line but for the digits
 abbrev pub format_line : List ℕ → List ℕ → List ℕ
-format_line word rest = codes "% instgen certificate " ++ (word ++ 10 ∷ rest)
+format_line word rest = codes "% instgen certificate " ++ (word ++ byte.line_feed ∷ rest)
 
 -- no line of a format is at the front
 abbrev pub NoFormat : List ℕ → Type 0

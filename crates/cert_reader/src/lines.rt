@@ -10,6 +10,7 @@ ghost use Rattle.cert_format.specs.LineTexts.{line, is_text_name};
 ghost use Rattle.cert_format.specs.LineTexts as texts;
 ghost use Rattle.cert_reader.specs.Reads.{IsOtherFormat};
 ghost use Rattle.cert_reader.specs.Starts.{format_line, NoFormat};
+ghost use Rattle.inst_logic.specs.Codes as byte;
 
 use cert_items::mark::{mark, word};
 use cert_items::name::name;
@@ -18,7 +19,7 @@ use cert_items::number::digits_len;
 fn is_name_byte(byte: u8) -> bool
     ensures { result ≡ texts.is_name_byte byte }
 {
-    32 <= byte && byte != 127
+    b' ' <= byte && byte != 127
 }
 
 // How many bytes at the front may stand in the name of a text.
@@ -35,8 +36,8 @@ fn name_len(bytes: &[u8]) -> usize
 
 // The name that stands up to the end of the line, and what follows the line.
 fn text_name(bytes: &[u8]) -> Option<(&[u8], &[u8])>
-    ensures some { IfSome result (λ r. (bytes.now ≡ r.0.now ++ 10 ∷ r.1.now) × IsTrue (is_text_name r.0.now)) }
-    ensures none { IfNone result ((n rest : List ℕ) → IsTrue (is_text_name n) → bytes.now ≢ n ++ 10 ∷ rest) }
+    ensures some { IfSome result (λ r. (bytes.now ≡ r.0.now ++ byte.line_feed ∷ r.1.now) × IsTrue (is_text_name r.0.now)) }
+    ensures none { IfNone result ((n rest : List ℕ) → IsTrue (is_text_name n) → bytes.now ≢ n ++ byte.line_feed ∷ rest) }
 {
     let (name, after) = bytes.split_at(name_len(bytes));
     if name.is_empty() || name.len() > 4096 {
@@ -50,8 +51,8 @@ fn text_name(bytes: &[u8]) -> Option<(&[u8], &[u8])>
 
 // The name behind the words, up to the end of the line, and what follows the line.
 fn named<'a>(words: &[u8], bytes: &'a [u8]) -> Option<(&'a [u8], &'a [u8])>
-    ensures some { IfSome result (λ r. (bytes.now ≡ words.now ++ (r.0.now ++ 10 ∷ r.1.now)) × IsTrue (is_text_name r.0.now)) }
-    ensures none { IfNone result ((n rest : List ℕ) → IsTrue (is_text_name n) → bytes.now ≢ words.now ++ (n ++ 10 ∷ rest)) }
+    ensures some { IfSome result (λ r. (bytes.now ≡ words.now ++ (r.0.now ++ byte.line_feed ∷ r.1.now)) × IsTrue (is_text_name r.0.now)) }
+    ensures none { IfNone result ((n rest : List ℕ) → IsTrue (is_text_name n) → bytes.now ≢ words.now ++ (n ++ byte.line_feed ∷ rest)) }
 {
     match word(bytes, words) {
         None => None,
@@ -75,8 +76,8 @@ pub fn status(bytes: &[u8]) -> Option<(bool, &[u8], &[u8])>
 
 // What follows the line of these words and this name.
 fn about<'a>(words: &[u8], name: &[u8], bytes: &'a [u8]) -> Option<&'a [u8]>
-    ensures some { IfSome result (λ rest. bytes.now ≡ words.now ++ (name.now ++ 10 ∷ rest.now)) }
-    ensures none { IfNone result ((rest : List ℕ) → bytes.now ≢ words.now ++ (name.now ++ 10 ∷ rest)) }
+    ensures some { IfSome result (λ rest. bytes.now ≡ words.now ++ (name.now ++ byte.line_feed ∷ rest.now)) }
+    ensures none { IfNone result ((rest : List ℕ) → bytes.now ≢ words.now ++ (name.now ++ byte.line_feed ∷ rest)) }
 {
     match word(bytes, words) {
         None => None,
@@ -136,7 +137,7 @@ pub fn is_first_format(digits: &[u8]) -> bool
 {
     match digits {
         [] => false,
-        [first, rest @ ..] => *first == 49 && rest.is_empty(),
+        [first, rest @ ..] => *first == b'1' && rest.is_empty(),
     }
 }
 
@@ -149,14 +150,14 @@ pub fn is_other_format(digits: &[u8]) -> bool
     match digits {
         [] => false,
         [first, rest @ ..] => {
-            *first != 48 && digits.len() <= 18 && !(*first == 49 && rest.is_empty())
+            *first != b'0' && digits.len() <= 18 && !(*first == b'1' && rest.is_empty())
         }
     }
 }
 
 /// The name of the constant as it is printed, and what follows the line.
 pub fn constant(bytes: &[u8]) -> Option<(&[u8], &[u8])>
-    ensures some { IfSome result (λ r. (bytes.now ≡ codes "% ground constant " ++ (r.0.now ++ 10 ∷ r.1.now)) × IsNameText r.0.now) }
+    ensures some { IfSome result (λ r. (bytes.now ≡ codes "% ground constant " ++ (r.0.now ++ byte.line_feed ∷ r.1.now)) × IsNameText r.0.now) }
     ensures none { IfNone result ((c rest : List ℕ) → IsTrue (is_readable_name c) → bytes.now ≢ line (lines.constant c) rest) }
 {
     match word(bytes, b"% ground constant ") {

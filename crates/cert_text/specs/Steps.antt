@@ -5,12 +5,13 @@ use Rattle.inst_logic.specs.Printing.{tree_text}
 use Rattle.term_bank.specs.Forest.{Forest, tree_at}
 use Rattle.cert_text.specs.declared.walk.Step.{Step}
 use Rattle.cert_text.specs.declared.walk.Step.TheVariants.{Print, PrintNext, Close}
+use Rattle.inst_logic.specs.Codes as byte
 
 -- what a step prints
 abbrev pub step_text : Forest → Step → List ℕ
 step_text f (Print id) = tree_text (tree_at f id)
-step_text f (PrintNext id) = 44 ∷ tree_text (tree_at f id)
-step_text f Close = 41 ∷ []
+step_text f (PrintNext id) = byte.comma ∷ tree_text (tree_at f id)
+step_text f Close = byte.closing_parenthesis ∷ []
 
 -- what all steps print
 abbrev pub steps_text : Forest → List Step → List ℕ

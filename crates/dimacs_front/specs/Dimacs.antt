@@ -6,6 +6,7 @@ use Rattle.inst_logic.specs.declared.signed.Signed.{Signed}
 use Rattle.dimacs_front.specs.Lines.{Placed, placed, tokens}
 use Rattle.dimacs_front.specs.Numbers.{value}
 use Rattle.dimacs_front.specs.declared.cnf.Cnf.{Cnf}
+use Rattle.inst_logic.specs.Codes as byte
 
 -- 1 to 10 digits of this value; zero is one digit
 pub record Spells (n : ℕ) (digits : List ℕ) : Type 0 where
@@ -17,12 +18,12 @@ pub record Spells (n : ℕ) (digits : List ℕ) : Type 0 where
 
 -- the number of the literal's variable, with a `-` before it where the literal is negative
 abbrev pub SpellsLiteral : Signed ℕ → List ℕ → Type 0
-SpellsLiteral l word = (digits : List ℕ) × Spells (l.atom + 1) digits × (word ≡ (if l.positive then [] else 45 ∷ []) ++ digits)
+SpellsLiteral l word = (digits : List ℕ) × Spells (l.atom + 1) digits × (word ≡ (if l.positive then [] else byte.minus ∷ []) ++ digits)
 
 -- the tokens are those of the literals, which are about the first variables, then `0`, and then the rest
 abbrev pub SpellsClause : ℕ → List Placed → List (Signed ℕ) → List Placed → Type 0
 SpellsClause vars [] clause rest = ⊥
-SpellsClause vars (t ∷ ts) [] rest = (t.text ≡ 48 ∷ []) × (ts ≡ rest)
+SpellsClause vars (t ∷ ts) [] rest = (t.text ≡ byte.digit_zero ∷ []) × (ts ≡ rest)
 SpellsClause vars (t ∷ ts) (l ∷ clause) rest = SpellsLiteral l t.text × (l.atom < vars) × SpellsClause vars ts clause rest
 
 -- the tokens are those of the clauses, one after the other

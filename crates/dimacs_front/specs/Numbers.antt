@@ -5,6 +5,7 @@ use Rattle.std.specs.Char.{is_ascii_digit}
 use Rattle.dimacs_front.specs.Lines.{begins}
 use Rattle.dimacs_front.specs.declared.numbers.Mark.{Mark}
 use Rattle.dimacs_front.specs.declared.numbers.Mark.TheVariants.{End, Literal}
+use Rattle.inst_logic.specs.Codes as byte
 
 -- the value of decimal digits that stand behind those of n
 abbrev pub value_behind : ℕ → List ℕ → ℕ
@@ -34,7 +35,7 @@ mark_by positive (Some n) = if n == 0 then (if positive then Some End else None)
 
 -- a number, or a `-` and a number that isn't 0
 abbrev pub mark_of : List ℕ → Option Mark
-mark_of text = if begins 45 text then mark_by false (number (drop 1 text)) else mark_by true (number text)
+mark_of text = if begins byte.minus text then mark_by false (number (drop 1 text)) else mark_by true (number text)
 
 -- a literal's atom is below n
 abbrev pub IsMarkBelow : ℕ → Mark → Type 0

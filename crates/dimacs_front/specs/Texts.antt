@@ -5,14 +5,15 @@ use Rattle.inst_logic.specs.declared.signed.Signed.{Signed}
 use Rattle.prop_logic.specs.declared.literal.Hint.{Hint}
 use Rattle.prop_logic.specs.declared.literal.Hint.TheVariants.{Added, Step as Earlier}
 use Rattle.prop_logic.specs.declared.literal.Step.{Step}
+use Rattle.inst_logic.specs.Codes as byte
 
 -- a blank and the number
 abbrev pub number_word : ℕ → List ℕ
-number_word n = 32 ∷ decimal n
+number_word n = byte.space ∷ decimal n
 
 -- a blank, and the number of the literal's variable with a `-` before it where the literal is negative
 abbrev pub literal_word : Signed ℕ → List ℕ
-literal_word l = 32 ∷ (if l.positive then [] else 45 ∷ []) ++ decimal (l.atom + 1)
+literal_word l = byte.space ∷ (if l.positive then [] else byte.minus ∷ []) ++ decimal (l.atom + 1)
 
 -- the literal that each value makes true, the first of them that of atom n
 abbrev pub value_words : ℕ → List Bool → List ℕ

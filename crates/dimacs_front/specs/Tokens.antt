@@ -3,6 +3,7 @@ use Rattle.std.specs.Prelude.{◌≡◌, ℕ, ◌+◌, ◌∷◌, ◌++◌, ◌=
 use Rattle.dimacs_front.specs.Lines.{Placed, placed, lines, words, begins_word, tokens_from, end_from}
 use Rattle.dimacs_front.specs.declared.stream.Token.{Token}
 use Rattle.dimacs_front.specs.declared.stream.Tokens.{Tokens}
+use Rattle.inst_logic.specs.Codes as byte
 
 -- the tokens of what is left of a line and of the lines behind it
 abbrev pub tokens_within : ℕ → List (List ℕ) → List Placed
@@ -31,7 +32,7 @@ end_of t = end_at t.fresh t.line t.rest.now
 -- a word begins here, or the input ends
 abbrev pub IsAtWord : Bool → List ℕ → Type 0
 IsAtWord fresh [] = Unit {0}
-IsAtWord true (b ∷ bs) = b ≡ 37
+IsAtWord true (b ∷ bs) = b ≡ byte.percent
 IsAtWord false (b ∷ bs) = begins_word (b ∷ bs) ≡ true
 
 -- how many bytes at the front pass the test
@@ -42,7 +43,7 @@ run p (b ∷ bs) = if p b then run p bs + 1 else 0
 -- from the line's end on
 abbrev pub from_line_end : List ℕ → List ℕ
 from_line_end [] = []
-from_line_end (b ∷ bs) = if b == 10 then b ∷ bs else from_line_end bs
+from_line_end (b ∷ bs) = if b == byte.line_feed then b ∷ bs else from_line_end bs
 
 -- the number behind that of the last line, at the end of the input
 abbrev pub ended : Bool → ℕ → ℕ

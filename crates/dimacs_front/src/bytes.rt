@@ -6,7 +6,7 @@ ghost use Rattle.dimacs_front.specs.Tokens.{from_line_end, run};
 pub(crate) fn is_blank(b: u8) -> bool
     ensures { result ≡ is_blank b }
 {
-    (9 <= b && b <= 13) || b == 32
+    (b'\t' <= b && b <= b'\r') || b == b' '
 }
 
 // How many bytes come before the next blank.
@@ -27,7 +27,7 @@ pub(crate) fn from_line_end(bytes: &[u8]) -> &[u8]
     ensures within { length result.now ≤ length bytes.now }
 {
     let mut n = 0;
-    while n < bytes.len() && bytes[n] != 10 {
+    while n < bytes.len() && bytes[n] != b'\n' {
         n += 1;
     }
     &bytes[n..]

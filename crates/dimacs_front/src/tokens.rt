@@ -27,7 +27,7 @@ impl<'a> Tokens<'a> {
     {
         while let [byte, after @ ..] = self.rest {
             let byte = *byte;
-            if byte == 10 {
+            if byte == b'\n' {
                 self.rest = after;
                 self.line += 1;
                 self.fresh = true;

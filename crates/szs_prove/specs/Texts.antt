@@ -22,6 +22,7 @@ use Rattle.szs_prove.specs.declared.exit.Exit.{Exit}
 use Rattle.szs_prove.specs.declared.exit.Exit.TheVariants.{Decided, ResourceOut, Refused, Usage, ReadFault, WriteFault, Memory, Sat, Unsat, CheckFailed}
 use Rattle.szs_prove.specs.declared.refusal.Refusal.{Refusal}
 use Rattle.szs_prove.specs.declared.refusal.Refusal.TheVariants as why
+use Rattle.inst_logic.specs.Codes as byte
 
 abbrev pub code_of : Exit → ℕ
 code_of Decided = 0
@@ -77,7 +78,7 @@ which_word Variables = codes "variables"
 
 -- what stands between a word of the reason and the number of the statement, and before the file's name
 abbrev pub at_statement : ℕ → List ℕ → List (List ℕ)
-at_statement k file = codes ": statement " ∷ decimal k ∷ codes " of " ∷ file ∷ (10 ∷ []) ∷ []
+at_statement k file = codes ": statement " ∷ decimal k ∷ codes " of " ∷ file ∷ (byte.line_feed ∷ []) ∷ []
 
 abbrev pub text_pieces : List ℕ → ReadError → List (List ℕ)
 text_pieces file (text.Syntax k) = codes "% syntax" ∷ at_statement k file
@@ -89,14 +90,14 @@ text_pieces file text.Memory = []
 
 -- a lead and a name in a line
 abbrev pub named_pieces : List ℕ → List ℕ → List (List ℕ)
-named_pieces lead name = lead ∷ name ∷ (10 ∷ []) ∷ []
+named_pieces lead name = lead ∷ name ∷ (byte.line_feed ∷ []) ∷ []
 
 abbrev pub selection_pieces : List ℕ → List ℕ → List (List ℕ)
-selection_pieces wanted file = codes "% not selected: " ∷ wanted ∷ codes " in " ∷ file ∷ (10 ∷ []) ∷ []
+selection_pieces wanted file = codes "% not selected: " ∷ wanted ∷ codes " in " ∷ file ∷ (byte.line_feed ∷ []) ∷ []
 
 -- the budget, what a run left of it, and the size of the least conclusion that did not fit
 abbrev pub budget_pieces : ℕ → ℕ → ℕ → List (List ℕ)
-budget_pieces budget left wanted = codes "% budget " ∷ decimal budget ∷ codes ", left " ∷ decimal left ∷ codes ", least conclusion " ∷ decimal wanted ∷ (10 ∷ []) ∷ []
+budget_pieces budget left wanted = codes "% budget " ∷ decimal budget ∷ codes ", left " ∷ decimal left ∷ codes ", least conclusion " ∷ decimal wanted ∷ (byte.line_feed ∷ []) ∷ []
 
 -- the pieces of the second line, where there is one
 abbrev pub load_pieces : LoadError → List (List ℕ)
@@ -104,19 +105,19 @@ load_pieces (load.Text file fault) = text_pieces file fault
 load_pieces (load.Absent wanted) = named_pieces (codes "% absent: ") wanted
 load_pieces (load.NotSelected file wanted) = selection_pieces wanted file
 load_pieces (load.IncludeDepth file) = named_pieces (codes "% limit include depth: ") file
-load_pieces load.TooLong = (codes "% limit bytes" ++ 10 ∷ []) ∷ []
-load_pieces load.ReadFault = (codes "% read fault" ++ 10 ∷ []) ∷ []
+load_pieces load.TooLong = (codes "% limit bytes" ++ byte.line_feed ∷ []) ∷ []
+load_pieces load.ReadFault = (codes "% read fault" ++ byte.line_feed ∷ []) ∷ []
 load_pieces load.Memory = []
 
 abbrev pub reason_pieces : Refusal → List (List ℕ)
-reason_pieces why.Usage = (codes "% usage" ++ 10 ∷ []) ∷ []
+reason_pieces why.Usage = (codes "% usage" ++ byte.line_feed ∷ []) ∷ []
 reason_pieces (why.Load e) = load_pieces e
 reason_pieces (why.OutOfBudget budget left wanted) = budget_pieces budget left wanted
 reason_pieces why.Memory = []
 
 -- the status line, and then the reason
 abbrev pub pieces_of : List ℕ → Refusal → List (List ℕ)
-pieces_of name refusal = codes "% SZS status " ∷ status_of refusal ∷ codes " for " ∷ name ∷ (10 ∷ []) ∷ reason_pieces refusal
+pieces_of name refusal = codes "% SZS status " ∷ status_of refusal ∷ codes " for " ∷ name ∷ (byte.line_feed ∷ []) ∷ reason_pieces refusal
 
 abbrev pub refusal_text : List ℕ → Refusal → List ℕ
 refusal_text name refusal = concat (pieces_of name refusal)

@@ -5,20 +5,21 @@ use Rattle.std.specs.Str.{bytes_eq}
 use Rattle.outside_io.specs.Files.{bytes_named}
 use Rattle.outside_io.specs.declared.library.NamedFile.{NamedFile}
 use Rattle.inst_logic.specs.Clauses.{TreeClause}
+use Rattle.inst_logic.specs.Codes as byte
 
 -- the name up to and including its last `/`, or nothing
 abbrev pub directory : List ℕ → List ℕ
 directory [] = []
-directory (b ∷ bs) = if list_any (nat_eq 47) (b ∷ bs) then b ∷ directory bs else []
+directory (b ∷ bs) = if list_any (nat_eq byte.slash) (b ∷ bs) then b ∷ directory bs else []
 
 abbrev pub begins_with_slash : List ℕ → Bool
 begins_with_slash [] = false
-begins_with_slash (b ∷ bs) = nat_eq b 47
+begins_with_slash (b ∷ bs) = nat_eq b byte.slash
 
 -- under the root, where there is one
 abbrev pub under_root : Option (List ℕ) → List ℕ → List (List ℕ)
 under_root None wanted = []
-under_root (Some root) wanted = (root ++ 47 ∷ wanted) ∷ []
+under_root (Some root) wanted = (root ++ byte.slash ∷ wanted) ∷ []
 
 -- The names under which an include is tried, in order: one that begins with `/` as it is, another after the directory of the
 -- including file, and then under the root.

@@ -8,6 +8,7 @@ ghost use Rattle.tptp_load.specs.Loading.{limit};
 ghost use Rattle.tptp_load.specs.Includes.{tries, under_root};
 ghost use Rattle.tptp_load.specs.Finding.{IsFirst, IsNotFound, IsNotRead};
 ghost use Rattle.tptp_load.specs.Found.{pair_of};
+ghost use Rattle.inst_logic.specs.Codes as byte;
 
 use crate::error::LoadError;
 use crate::file::read_named;
@@ -50,7 +51,7 @@ fn beside(alloc: Global, from: &str, wanted: &str) -> Result<String, Memory>
 
 // The root, `/` and the name.
 fn below(alloc: Global, root: &str, wanted: &str) -> Result<String, Memory>
-    ensures { IfOk result (λ s. string_bytes s ≡ root.now ++ 47 ∷ wanted.now) }
+    ensures { IfOk result (λ s. string_bytes s ≡ root.now ++ byte.slash ∷ wanted.now) }
 {
     let mut name = String::from_str(alloc, root)?;
     name.push('/')?;
