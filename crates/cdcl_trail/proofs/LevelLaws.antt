@@ -4,9 +4,9 @@ use Rattle.std.specs.Prelude.{Contains, nat_le, slice_get}
 use Rattle.std.proofs.lemmas.Bool.{leb-true}
 use Rattle.std.proofs.lemmas.Bool.Decides.{nat_tests}
 use Rattle.inst_logic.specs.declared.signed.Signed.{Signed}
+use Rattle.inst_logic.proofs.Items.{contains_here, contains_there}
 use Rattle.cdcl_trail.specs.Trail.{literals_of, entries_up_to}
 use Rattle.cdcl_trail.specs.declared.entry.Entry.{Entry}
-use Rattle.cdcl_trail.proofs.TrailLaws.{contains_here, contains_there}
 
 lt_leb : (a b : ℕ) → b < a → nat_le a b ≡ false
 lt_leb a b h = grind (arith, nat_tests)

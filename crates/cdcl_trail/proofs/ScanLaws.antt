@@ -7,6 +7,7 @@ use Rattle.std.proofs.lemmas.Option.{none-some, same_Some}
 use Rattle.std.proofs.lemmas.Bool.{eqb-true, eqb-false, eq-eqb}
 use Rattle.std.proofs.Math.Dec.{eqb}
 use Rattle.std.specs.Bool.{beq}
+use Rattle.inst_logic.proofs.Items.{contains_here, contains_there}
 use Rattle.prop_logic.proofs.ListLaws.{Contains-take}
 use Rattle.inst_logic.specs.declared.signed.Signed.{Signed}
 use Rattle.inst_logic.specs.Signed.{complement}
@@ -14,7 +15,6 @@ use Rattle.cdcl_trail.specs.declared.entry.Entry.{Entry}
 use Rattle.cdcl_trail.specs.Propagation.{IsFalseIn, GivesUnit, IsStable}
 use Rattle.cdcl_trail.specs.Scan.{HasRest, RestsAt}
 use Rattle.cdcl_trail.specs.Trail.{IsUnset, value_of, literals_of}
-use Rattle.cdcl_trail.proofs.TrailLaws.{contains_here, contains_there}
 
 pub same_lit : (a l : Signed ℕ) → a.atom ≡ l.atom → a.positive ≡ l.positive → a ≡ l
 same_lit a l atoms signs =

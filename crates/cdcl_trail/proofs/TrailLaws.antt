@@ -11,6 +11,7 @@ use Rattle.std.proofs.lemmas.Option.{none-some}
 use Rattle.std.proofs.lemmas.Bool.{cases_eq, leb-true, le-leb}
 use Rattle.std.proofs.lemmas.Bool.Decides.{nat_tests}
 use Rattle.inst_logic.specs.declared.signed.Signed.{Signed}
+use Rattle.inst_logic.proofs.Items.{contains_here, contains_there}
 use Rattle.cdcl_trail.specs.declared.entry.Entry.{Entry}
 use Rattle.cdcl_trail.specs.Trail.{Trail, IsTrail, IsUnset, IsDecision, value_of, level_of, reason_of, with_decision, with_implied, entries_up_to}
 use Rattle.cdcl_trail.specs.Values.{found}
@@ -104,12 +105,6 @@ implied t l n v low unset =
     }
 
 -- an element that passes is one of those that do
-pub contains_here : {X : Type 0} (x : X) (xs : List X) → Contains (x ∷ xs) x
-contains_here x xs = (0, omega arith, refl)
-
-pub contains_there : {X : Type 0} (y x : X) (xs : List X) → Contains xs x → Contains (y ∷ xs) x
-contains_there y x xs c = (suc c.0, omega (arith, c.1), c.2)
-
 contains_filter : {X : Type 0} (p : X → Bool) (xs : List X) → All (λ x. p x ≡ true → Contains (filter p xs) x) xs
 contains_filter p [] = All-nil (λ x. p x ≡ true → Contains [] x)
 contains_filter {X} p (y ∷ ys) =

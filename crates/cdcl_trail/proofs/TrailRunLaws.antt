@@ -8,6 +8,7 @@ use Rattle.std.proofs.lemmas.Option.{slice_get_within, get_or_from_slice_get}
 use Rattle.std.proofs.lemmas.Bool.{eqb-true}
 use Rattle.inst_logic.specs.declared.signed.Signed.{Signed}
 use Rattle.inst_logic.specs.Signed.{complement}
+use Rattle.inst_logic.proofs.Items.{contains_here, contains_there}
 use Rattle.prop_logic.proofs.ListLaws.{take_of_take, slice_get_take, All-slice_get}
 use Rattle.prop_logic.proofs.SearchLaws.{complement_twice}
 use Rattle.cdcl_trail.specs.Running.{at_level, numbers_at, IsRunning, Runs, IsTrailRun}
@@ -21,7 +22,6 @@ use Rattle.cdcl_trail.specs.declared.watch.Pair.{Pair}
 use Rattle.cdcl_trail.specs.declared.watch.Watch.{Watch}
 use Rattle.cdcl_trail.proofs.ListRunLaws.{still_true}
 use Rattle.cdcl_trail.proofs.PropagationLaws.{longer}
-use Rattle.cdcl_trail.proofs.TrailLaws.{contains_here, contains_there}
 use Rattle.cdcl_trail.proofs.VisitLaws.{runs_on, slot_below}
 use Rattle.cdcl_trail.proofs.WatchLaws.{due_first, due_second, one_if}
 

@@ -1,7 +1,7 @@
 -- One value more, one less, and the first entry of an atom.
 use Rattle.std.proofs.Common.{◌≡◌, ◌≢◌, ℕ, suc, zero, ◌+◌, ◌<◌, ◌≤◌, Bool, true, false, not, cond, inl, inr, List, [], ◌∷◌, ◌++◌, ◌-◌, length, map, take, set, Option, Some, None, get_or, refl, sym, ap, ◌∙◌, subst, arith, length-set}
 use Rattle.std.specs.Prelude.{All, AllPairs, Contains, slice_get, count_by, is_some, ◌==◌, nat_le}
-use Rattle.std.proofs.lemmas.List.{length_push, map-append, same_from_push, append-nil, take_all}
+use Rattle.std.proofs.lemmas.List.{get_or-set_same, get_or-set_other, length_push, map-append, same_from_push, append-nil, take_all}
 use Rattle.std.proofs.lemmas.List.Elements.{All-head, All-tail, All-push, All-weaker, All-contains, All-map, Contains-push, Contains-push_cases, Contains-append_left, filter-append}
 use Rattle.std.proofs.lemmas.List.Quantifiers.{all_pairs_push}
 use Rattle.std.proofs.lemmas.List.Sums.{sum_by-set, sum_by-append, count_by_more_no}
@@ -12,7 +12,7 @@ use Rattle.inst_logic.specs.declared.signed.Signed.{Signed}
 use Rattle.prop_logic.proofs.ListLaws.{slice_get_set, slice_get_set_other, slice_get_append, slice_get_last, slice_get_push, All-from_contained}
 use Rattle.cdcl_trail.specs.declared.entry.Entry.{Entry}
 use Rattle.cdcl_trail.specs.Trail.{IsUnset, literals_of, entries_up_to}
-use Rattle.cdcl_trail.specs.Values.{entry_or, entry_at, found, AreByAtom}
+use Rattle.cdcl_trail.specs.Values.{entry_or, entry_at, found, AreByAtom, ArePlaces}
 
 abbrev unset_count : List (Option Entry) → ℕ
 unset_count by_atom = count_by (λ o. not (is_some o)) by_atom
@@ -54,6 +54,9 @@ few_entries es by_atom v = omega (arith, v.counted)
 not_unset : (by_atom : List (Option Entry)) (a b : ℕ) (e : Entry) → slice_get by_atom a ≡ Some None → slice_get by_atom b ≡ Some (Some e) → b ≡ a → ⊥
 not_unset by_atom a b e none at same = none-some e (same_Some None (Some e) (sym none ∙ ap (slice_get by_atom) (sym same) ∙ at))
 
+pub unset_atom : (es : List Entry) (by_atom : List (Option Entry)) (a : ℕ) → AreByAtom es by_atom → slice_get by_atom a ≡ Some None → IsUnset es a
+unset_atom es by_atom a v at = All-weaker (λ e. slice_get by_atom e.lit.atom ≡ Some (Some e)) (λ e. e.lit.atom ≢ a) (λ e here same. not_unset by_atom a e.lit.atom e at here same) es v.at_atom
+
 -- where each atom has a value there are as many entries
 no_unset : (xs : List (Option Entry)) → ((a : ℕ) → slice_get xs a ≡ Some None → ⊥) → unset_count xs ≡ 0
 no_unset xs full = subst (λ ys. unset_count ys ≡ 0) (take_all (length xs) xs (omega arith)) (first (length xs) (omega arith))
@@ -75,7 +78,7 @@ no_unset xs full = subst (λ ys. unset_count ys ≡ 0) (take_all (length xs) xs 
 
 pub all_set : (es : List Entry) (by_atom : List (Option Entry)) → AreByAtom es by_atom → ((a : ℕ) → a < length by_atom → IsUnset es a → ⊥) → length es ≡ length by_atom
 all_set es by_atom v full =
-    let none = no_unset by_atom (λ a at. full a (slice_get_within by_atom a None at) (All-weaker (λ e. slice_get by_atom e.lit.atom ≡ Some (Some e)) (λ e. e.lit.atom ≢ a) (λ e here same. not_unset by_atom a e.lit.atom e at here same) es v.at_atom)) in
+    let none = no_unset by_atom (λ a at. full a (slice_get_within by_atom a None at) (unset_atom es by_atom a v at)) in
     omega (arith, v.counted, none)
 
 -- one entry more
@@ -143,6 +146,57 @@ undo_by_atom es by_atom e v =
         let hi : i < length es = omega arith in
         v.once i j d h (omega (arith, n)) (ap (λ y. y.lit.atom) (early i d hi) ∙ same ∙ ap (λ y. y.lit.atom) (sym (early j d k)))
 
+-- places
+pub put_places : (es : List Entry) (by_atom : List (Option Entry)) (places : List ℕ) (e : Entry) → e.lit.atom < length by_atom → ArePlaces es by_atom places → ArePlaces (es ++ e ∷ []) (set by_atom e.lit.atom (Some e)) (set places e.lit.atom (length es))
+put_places es by_atom places e low p =
+    let a = e.lit.atom in
+    let new = set by_atom a (Some e) in
+    record {
+      held = λ k x f. elim (cases_eq k a) [
+        | inl here ↦
+            let same : e ≡ x = same_Some e x (same_Some (Some e) (Some x) (sym (slice_get_set by_atom a (Some e) low) ∙ ap (slice_get new) (sym here) ∙ f)) in
+            let place : get_or (set places a (length es)) k 0 ≡ length es = ap (λ i. get_or (set places a (length es)) i 0) here ∙ get_or-set_same places a (length es) 0 (omega (arith, low, p.size)) in
+            ap (slice_get (es ++ e ∷ [])) place ∙ slice_get_last es e ∙ ap Some same
+        | inr other ↦
+            let old = p.held k x (sym (slice_get_set_other by_atom a k (Some e) other) ∙ f) in
+            ap (slice_get (es ++ e ∷ [])) (get_or-set_other places a k (length es) 0 other) ∙ slice_get_append es (e ∷ []) (get_or places k 0) x old
+      ];
+      size = omega (arith, p.size, length-set by_atom a (Some e), length-set places a (length es));
+    }
+
+pub undo_places : (es : List Entry) (by_atom : List (Option Entry)) (places : List ℕ) (e : Entry) → AreByAtom (es ++ e ∷ []) by_atom → ArePlaces (es ++ e ∷ []) by_atom places → ArePlaces es (set by_atom e.lit.atom None) places
+undo_places es by_atom places e v p =
+    let a = e.lit.atom in
+    let at : slice_get by_atom a ≡ Some (Some e) = All-contains (λ x. slice_get by_atom x.lit.atom ≡ Some (Some x)) (es ++ e ∷ []) e v.at_atom (Contains-push es e) in
+    let inside = slice_get_within by_atom a (Some e) at in
+    record {
+      held = λ k x f. elim (cases_eq k a) [
+        | inl here ↦ absurd (none-some x (same_Some None (Some x) (sym (slice_get_set by_atom a None inside) ∙ ap (slice_get (set by_atom a None)) (sym here) ∙ f)))
+        | inr other ↦
+            let old : slice_get by_atom k ≡ Some (Some x) = sym (slice_get_set_other by_atom a k None other) ∙ f in
+            elim (slice_get_push es e (get_or places k 0) x (p.held k x old)) [
+              | inl early ↦ early.0
+              | inr last ↦ absurd (other (sym (v.by_entry k x old).1 ∙ ap (λ y. y.lit.atom) (sym last.1)))
+            ]
+      ];
+      size = omega (arith, p.size, length-set by_atom a None);
+    }
+
+-- one place more than is needed
+pub longer_places : (es : List Entry) (by_atom : List (Option Entry)) (places : List ℕ) → ArePlaces es by_atom places → ArePlaces es by_atom (places ++ 0 ∷ [])
+longer_places es by_atom places p = record {
+  held = λ a e f.
+      let low = slice_get_within by_atom a (Some e) f in
+      ap (slice_get es) (get_or_from_slice_get (places ++ 0 ∷ []) a (get_or places a 0) 0 (slice_get_append places (0 ∷ []) a (get_or places a 0) (slice_get-get_or places a 0 (omega (arith, low, p.size))))) ∙ p.held a e f;
+  size = omega (arith, p.size, length_push places 0);
+}
+
+pub grown_places : (es : List Entry) (by_atom : List (Option Entry)) (places : List ℕ) → ArePlaces es by_atom places → ArePlaces es (by_atom ++ None ∷ []) (places ++ 0 ∷ [])
+grown_places es by_atom places p = record {
+  held = λ a e f. elim (slice_get_push by_atom None a (Some e) f) [ inl old ↦ (longer_places es by_atom places p).held a e old.0 | inr new ↦ absurd (none-some e new.1) ];
+  size = omega (arith, p.size, length_push by_atom None, length_push places 0);
+}
+
 -- the entries of literals at which nothing changed
 same_entries : (by_atom : List (Option Entry)) (a : ℕ) (o : Option Entry) (ls : List (Signed ℕ)) → All (λ l. l.atom ≢ a) ls → map (entry_at (set by_atom a o)) ls ≡ map (entry_at by_atom) ls
 same_entries by_atom a o [] h = refl
@@ -198,6 +252,15 @@ undo_at_atom by_atom ls l same v =
     let w = subst (λ xs. AreByAtom xs by_atom) (split_entries by_atom ls l) v in
     subst (λ a. AreByAtom (map (entry_at by_atom) ls) (set by_atom a None)) (ap (λ y. y.atom) s.1) (undo_by_atom (map (entry_at by_atom) ls) by_atom (entry_at by_atom l) w)
 
+pub undo_at_places : (by_atom : List (Option Entry)) (places : List ℕ) (ls : List (Signed ℕ)) (l : Signed ℕ) → literals_of (map (entry_at by_atom) (ls ++ l ∷ [])) ≡ ls ++ l ∷ [] → AreByAtom (map (entry_at by_atom) (ls ++ l ∷ [])) by_atom
+    → ArePlaces (map (entry_at by_atom) (ls ++ l ∷ [])) by_atom places → ArePlaces (map (entry_at by_atom) ls) (set by_atom l.atom None) places
+undo_at_places by_atom places ls l same v p =
+    let es = map (entry_at by_atom) ls in
+    let s = split_literals by_atom ls l same in
+    let w = subst (λ xs. AreByAtom xs by_atom) (split_entries by_atom ls l) v in
+    let q = subst (λ xs. ArePlaces xs by_atom places) (split_entries by_atom ls l) p in
+    subst (λ a. ArePlaces es (set by_atom a None) places) (ap (λ y. y.atom) s.1) (undo_places es by_atom places (entry_at by_atom l) w q)
+
 -- the last literal's atom has its entry
 pub last_at : (by_atom : List (Option Entry)) (ls : List (Signed ℕ)) (l : Signed ℕ) → literals_of (map (entry_at by_atom) (ls ++ l ∷ [])) ≡ ls ++ l ∷ [] → AreByAtom (map (entry_at by_atom) (ls ++ l ∷ [])) by_atom
     → slice_get by_atom l.atom ≡ Some (Some (entry_at by_atom l))
@@ -227,8 +290,7 @@ find_some (x ∷ es) a e all c at = by_test (x.lit.atom == a) refl (λ k. find_s
     by_test false t rest = rw t (rest (later t c))
 
 pub found_is : (es : List Entry) (by_atom : List (Option Entry)) (a : ℕ) (o : Option Entry) → AreByAtom es by_atom → slice_get by_atom a ≡ Some o → o ≡ found es a
-found_is es by_atom a None v at =
-    sym (find_none es a (All-weaker (λ x. slice_get by_atom x.lit.atom ≡ Some (Some x)) (λ x. x.lit.atom ≢ a) (λ x t same. not_unset by_atom a x.lit.atom x at t same) es v.at_atom))
+found_is es by_atom a None v at = sym (find_none es a (unset_atom es by_atom a v at))
 found_is es by_atom a (Some x) v at =
     let f = v.by_entry a x at in
     let all : All (λ y. y.lit.atom ≡ a → y ≡ x) es = All-weaker (λ y. slice_get by_atom y.lit.atom ≡ Some (Some y)) (λ y. y.lit.atom ≡ a → y ≡ x)

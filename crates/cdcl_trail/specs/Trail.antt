@@ -1,5 +1,5 @@
 -- Trails: the true literals in the order in which they became so, each with its level and its reason.
-use Rattle.std.specs.Prelude.{◌≡◌, ◌≢◌, ℕ, ◌+◌, ◌<◌, ◌≤◌, ◌==◌, nat_le, Bool, not, List, [], ◌∷◌, ◌++◌, map, filter, Option, Some, None, All, AllPairs, Contains, if◌then◌else◌}
+use Rattle.std.specs.Prelude.{◌≡◌, ◌≢◌, ℕ, ◌+◌, ◌<◌, ◌≤◌, ◌==◌, nat_le, Bool, not, List, [], ◌∷◌, ◌++◌, map, filter, Option, Some, None, All, AllPairs, Contains, slice_get, if◌then◌else◌}
 use Rattle.inst_logic.specs.declared.signed.Signed.{Signed}
 use Rattle.cdcl_trail.specs.declared.entry.Entry.{Entry}
 
@@ -13,6 +13,10 @@ pub record Trail : Type 0 where
 -- no entry is for the atom: it has no value
 abbrev pub IsUnset : List Entry → ℕ → Type 0
 IsUnset entries atom = All (λ e. e.lit.atom ≢ atom) entries
+
+-- the entry at this place is the atom's
+abbrev pub IsPlaceOf : List Entry → ℕ → ℕ → Type 0
+IsPlaceOf entries atom place = (e : Entry) × (slice_get entries place ≡ Some e) × (e.lit.atom ≡ atom)
 
 -- an entry that opens its level
 abbrev pub IsDecision : Entry → Type 0

@@ -1,5 +1,6 @@
 -- The entries that the fields hold.
 use Rattle.std.specs.Prelude.{◌≡◌, ◌≢◌, ℕ, ◌+◌, ◌≤◌, ◌==◌, not, List, [], ◌∷◌, length, map, Option, Some, None, All, AllPairs, Contains, slice_get, count_by, is_some, vec_capacity, if◌then◌else◌}
+use Rattle.std.specs.List.{slice_index_or}
 use Rattle.inst_logic.specs.declared.signed.Signed.{Signed}
 use Rattle.cdcl_trail.specs.declared.entry.Entry.{Entry}
 use Rattle.cdcl_trail.specs.declared.values.Values.{Values}
@@ -31,7 +32,13 @@ pub record AreByAtom (entries : List Entry) (by_atom : List (Option Entry)) : Ty
   pub once : AllPairs (λ a b. a.lit.atom ≢ b.lit.atom) entries
   pub counted : length entries + count_by (λ o. not (is_some o)) by_atom ≡ length by_atom
 
+-- the entry of each atom that has one is at the atom's place
+pub record ArePlaces (entries : List Entry) (by_atom : List (Option Entry)) (places : List ℕ) : Type 0 where
+  pub held : (a : ℕ) (e : Entry) → slice_get by_atom a ≡ Some (Some e) → slice_get entries (slice_index_or places a 0) ≡ Some e
+  pub size : length by_atom ≤ length places
+
 pub record AreValues (v : Values) : Type 0 where
   pub by_atom : AreByAtom (entries_of v) v.entries.items
+  pub places : ArePlaces (entries_of v) v.entries.items v.places.items
   pub literals : literals_of (entries_of v) ≡ v.literals.items
   pub room : length v.entries.items ≤ vec_capacity v.literals

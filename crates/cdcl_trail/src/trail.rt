@@ -9,7 +9,7 @@ ghost use Rattle.cdcl_trail.specs.Clauses.{clause_number, ClausesBelow, AddsClau
 ghost use Rattle.cdcl_trail.specs.Watch.{pair_at};
 ghost use Rattle.cdcl_trail.specs.Propagation.{Propagates, IsConflict, IsStable};
 ghost use Rattle.cdcl_trail.specs.Values.{AreValues, entries_of};
-ghost use Rattle.cdcl_trail.specs.Trail.{IsTrail, IsUnset, value_of, level_of, reason_of, literals_of, with_atom, with_decision, with_implied, back_at};
+ghost use Rattle.cdcl_trail.specs.Trail.{IsTrail, IsUnset, IsPlaceOf, value_of, level_of, reason_of, literals_of, with_atom, with_decision, with_implied, back_at};
 
 use crate::clauses::Clauses;
 use crate::detach::{forget_loose, unpass_all, unwatch};
@@ -204,6 +204,15 @@ impl Trail {
             Some(entry) => Some(entry.level),
             None => None,
         }
+    }
+
+    /// The place of the atom's literal among the assigned ones, or `None` where it has no value. It is read, and not looked for.
+    pub fn place_of(&self, atom: usize) -> Option<usize>
+        requires { atom < self.now.trail.atoms }
+        ensures some { IfSome result (IsPlaceOf self.now.trail.entries atom) }
+        ensures none { IfNone result (IsUnset self.now.trail.entries atom) }
+    {
+        self.values.place(atom)
     }
 
     /// The true literals in the order in which they became so.

@@ -1,8 +1,8 @@
 // The values of atoms, kept twice: in the order in which they came, so that the last ones are taken back in one step each,
-// and by atom, so that each is read in one step.
-ghost use Rattle.std.specs.Prelude.{◌≡◌, ◌+◌, ◌<◌, ◌≤◌, ◌∷◌, ◌++◌, [], List, false, length, take, IsTrue, All, AllPairs, Contains, MatchBool, IfOk, IfSome, OnErr, ℕ, Some, slice_get};
+// and by atom, so that each is read in one step. The places by atom lead from one to the other.
+ghost use Rattle.std.specs.Prelude.{◌≡◌, ◌+◌, ◌<◌, ◌≤◌, ◌∷◌, ◌++◌, [], List, false, length, take, IsTrue, All, AllPairs, Contains, MatchBool, IfOk, IfSome, IfNone, OnErr, ℕ, Some, slice_get};
 ghost use Rattle.inst_logic.specs.declared.signed.Signed.{Signed};
-ghost use Rattle.cdcl_trail.specs.Trail.{IsUnset, value_of, literals_of, entries_up_to};
+ghost use Rattle.cdcl_trail.specs.Trail.{IsUnset, IsPlaceOf, value_of, literals_of, entries_up_to};
 ghost use Rattle.cdcl_trail.specs.Propagation.{IsFalseIn};
 ghost use Rattle.cdcl_trail.specs.declared.entry.Entry.{Entry};
 ghost use Rattle.cdcl_trail.specs.Values.{AreValues, entries_of, found};
@@ -12,11 +12,13 @@ use inst_logic::Memory;
 use prop_logic::Lit;
 use std::alloc::Global;
 
-// The true literals in their order, with room for one of each atom, and for each atom its entry.
+// The true literals in their order, with room for one of each atom, and for each atom its entry and the place of its literal,
+// which counts only where the atom has a value.
 #[derive(Drop)]
 pub(crate) struct Values {
     pub(crate) literals: Vec<Lit>,
     pub(crate) entries: Vec<Option<Entry>>,
+    pub(crate) places: Vec<usize>,
 }
 
 impl Values {
@@ -28,6 +30,7 @@ impl Values {
         Values {
             literals: Vec::new(alloc),
             entries: Vec::new(alloc),
+            places: Vec::new(alloc),
         }
     }
 
@@ -42,6 +45,7 @@ impl Values {
     {
         let atom = self.entries.len();
         self.literals.reserve(atom + 1 - self.literals.len())?;
+        self.places.push(0)?;
         self.entries.push(None)?;
         Ok(atom)
     }
@@ -71,6 +75,19 @@ impl Values {
         ensures { result ≡ found (entries_of self.now) atom }
     {
         self.entries[atom]
+    }
+
+    // The place of the atom's literal, or `None` where it has no value.
+    pub(crate) fn place(&self, atom: usize) -> Option<usize>
+        requires values { AreValues self.now }
+        requires atom { atom < length self.now.entries.items }
+        ensures some { IfSome result (IsPlaceOf (entries_of self.now) atom) }
+        ensures none { IfNone result (IsUnset (entries_of self.now) atom) }
+    {
+        match self.entries[atom] {
+            Some(_) => Some(self.places[atom]),
+            None => None,
+        }
     }
 
     // The value of the literal, or `None` where its atom has none.
@@ -116,6 +133,7 @@ impl Values {
         ensures entries { entries_of self.new ≡ entries_of self.old ++ entry ∷ [] }
         ensures atoms { length self.new.entries.items ≡ length self.old.entries.items }
     {
+        self.places[entry.lit.atom] = self.literals.len();
         self.literals.push_reserved(entry.lit);
         self.entries[entry.lit.atom] = Some(entry);
     }

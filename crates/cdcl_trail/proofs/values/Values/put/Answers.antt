@@ -2,8 +2,8 @@ use Rattle.std.proofs.Common.{◌≡◌, ◌≤◌, ◌++◌, ◌∷◌, [], len
 use Rattle.std.proofs.lemmas.List.{length-map}
 use Rattle.std.specs.Prelude.{vec_capacity}
 use Rattle.cdcl_trail.specs.Trail.{literals_of}
-use Rattle.cdcl_trail.specs.Values.{AreByAtom, entries_of, entry_at}
-use Rattle.cdcl_trail.proofs.ValuesLaws.{no_entry, has_room, put_by_atom, put_entries, put_literals}
+use Rattle.cdcl_trail.specs.Values.{AreByAtom, ArePlaces, entries_of, entry_at}
+use Rattle.cdcl_trail.proofs.ValuesLaws.{no_entry, has_room, put_by_atom, put_places, put_entries, put_literals}
 use Rattle.cdcl_trail.proofs.values.Values.put.Goals as goal
 
 pub push_reserved-requires : goal.push_reserved-requires
@@ -15,6 +15,9 @@ push_reserved-requires c =
     let room : length v.entries.items ≤ vec_capacity v.literals = c.requires.values.room in
     omega (arith, few, n, room, v.literals.ok.0)
 
+pub index_mut-requires : goal.index_mut-requires
+index_mut-requires c = let size = c.requires.values.places.size in omega (arith, c.requires.atom, size, c.args.self.now.places.ok.0)
+
 pub returns-clause-values : goal.returns-clause-values
 returns-clause-values c =
     let v = c.args.self.now in
@@ -23,10 +26,13 @@ returns-clause-values c =
     let none = no_entry (entries_of v) v.entries.items e.lit.atom c.requires.values.by_atom c.requires.atom c.requires.unset in
     let entries : map (entry_at new) c.push_reserved.new.self.items ≡ entries_of v ++ e ∷ [] =
     ap (map (entry_at new)) c.push_reserved.ensures.items ∙ put_entries v.entries.items v.literals.items e c.requires.values.literals c.requires.atom c.requires.unset in
+    let count : length (entries_of v) ≡ c.len.result = omega (arith, length-map v.literals.items (entry_at v.entries.items), v.literals.ok.0, c.len.ensures) in
     let size : length new ≡ length v.entries.items = length-set v.entries.items e.lit.atom (Some e) in
     let room : length v.entries.items ≤ vec_capacity v.literals = c.requires.values.room in
     record {
       by_atom = subst (λ es. AreByAtom es new) (sym entries) (put_by_atom (entries_of v) v.entries.items e none c.requires.values.by_atom);
+      places = subst (λ es. ArePlaces es new (set v.places.items e.lit.atom c.len.result)) (sym entries)
+          (subst (λ n. ArePlaces (entries_of v ++ e ∷ []) new (set v.places.items e.lit.atom n)) count (put_places (entries_of v) v.entries.items v.places.items e c.requires.atom c.requires.values.places));
       literals = ap literals_of entries ∙ put_literals (entries_of v) v.literals.items e c.requires.values.literals ∙ sym c.push_reserved.ensures.items;
       room = subst (λ n. length new ≤ n) (sym c.push_reserved.ensures.capacity) (subst (λ n. n ≤ vec_capacity v.literals) (sym size) room);
     }

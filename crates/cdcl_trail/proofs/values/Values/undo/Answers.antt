@@ -3,8 +3,8 @@ use Rattle.std.specs.Prelude.{vec_capacity}
 use Rattle.std.proofs.lemmas.List.{same_from_push}
 use Rattle.std.proofs.lemmas.Option.{slice_get_within}
 use Rattle.cdcl_trail.specs.Trail.{literals_of}
-use Rattle.cdcl_trail.specs.Values.{AreByAtom, entry_at}
-use Rattle.cdcl_trail.proofs.ValuesLaws.{last_at, split_literals, split_entries, undo_entries, undo_at_atom}
+use Rattle.cdcl_trail.specs.Values.{AreByAtom, ArePlaces, entry_at}
+use Rattle.cdcl_trail.proofs.ValuesLaws.{last_at, split_literals, split_entries, undo_entries, undo_at_atom, undo_at_places}
 use Rattle.cdcl_trail.proofs.values.Values.undo.Goals as goal
 
 pub index_mut-requires : goal.index_mut-requires
@@ -30,6 +30,8 @@ returns-in-Some-clause-values c =
     let room : length b ≤ vec_capacity v.literals = c.requires.room in
     record {
       by_atom = subst (λ es. AreByAtom es (set b a None)) (sym entries) (undo_at_atom b ls c.in-Some.l same held);
+      places = subst (λ es. ArePlaces es (set b a None) v.places.items) (sym entries)
+          (undo_at_places b v.places.items ls c.in-Some.l same held (subst (λ xs. ArePlaces (map (entry_at b) xs) b v.places.items) c.in-Some.ensures.items c.requires.places));
       literals = ap literals_of entries ∙ (split_literals b ls c.in-Some.l same).0;
       room = subst (λ n. length (set b a None) ≤ n) (sym c.in-Some.ensures.capacity) (subst (λ n. n ≤ vec_capacity v.literals) (sym size) room);
     }
