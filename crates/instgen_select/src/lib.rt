@@ -5,8 +5,6 @@
 mod choice;
 mod queue;
 mod slots;
-#[cfg(test)]
-mod tests;
 
 pub use choice::choose;
 pub use queue::Queue;

@@ -1,8 +1,15 @@
 // The one test, since each more costs a proof of the report that a run makes of it.
-use crate::{derivations, questions, trails, valuations};
+use crate::{choices, derivations, questions, trails, valuations};
 use inst_logic::Memory;
 use std::alloc::Global;
 use std::test::Fail;
+
+fn of_choices(alloc: Global) -> Result<[bool; 2], Memory> {
+    Ok([
+        choices::least_and_oldest_are_picked_in_turn(alloc)?,
+        choices::a_true_place_is_kept(alloc)?,
+    ])
+}
 
 fn of_derivations(alloc: Global) -> Result<[bool; 2], Memory> {
     Ok([
@@ -46,6 +53,7 @@ fn of_valuations(alloc: Global) -> Result<[bool; 2], Memory> {
 #[test]
 fn answers_are_as_wanted(rt: HostRuntime) -> Result<(), Fail> {
     let alloc = rt.alloc();
+    assert_eq!(rt; of_choices(alloc)?, [true; 2]);
     assert_eq!(rt; of_derivations(alloc)?, [true; 2]);
     assert_eq!(rt; of_questions(alloc)?, [true; 12]);
     assert_eq!(rt; of_trails(alloc)?, [true; 3]);
