@@ -6,7 +6,7 @@ use Rattle.std.proofs.lemmas.List.Elements.{All-contains, All-weaker}
 use Rattle.std.proofs.lemmas.Option.{slice_get-get_or}
 use Rattle.inst_logic.specs.declared.signed.Signed.{Signed}
 use Rattle.inst_logic.specs.Signed.{complement}
-use Rattle.prop_logic.proofs.ListLaws.{Contains-take}
+use Rattle.prop_logic.proofs.ListLaws.{all_more, Contains-take}
 use Rattle.cdcl_trail.specs.Propagation.{IsFalseIn}
 use Rattle.cdcl_trail.specs.Running.{numbers_at, IsRunning, Runs, Visits, IsListRun}
 use Rattle.cdcl_trail.specs.Trail.{literals_of}
@@ -18,7 +18,7 @@ use Rattle.cdcl_trail.specs.declared.values.Values.{Values}
 use Rattle.cdcl_trail.specs.declared.visit.Visit.TheVariants.{Kept, Moved}
 use Rattle.cdcl_trail.specs.declared.watch.Pair.{Pair}
 use Rattle.cdcl_trail.specs.declared.watch.Watch.{Watch}
-use Rattle.cdcl_trail.proofs.ScanLaws.{all_more, all_past}
+use Rattle.cdcl_trail.proofs.ScanLaws.{all_past}
 use Rattle.cdcl_trail.proofs.VisitLaws.{runs_on, runs_none}
 
 -- what is true stays so where entries are added

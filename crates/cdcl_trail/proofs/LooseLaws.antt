@@ -8,7 +8,7 @@ use Rattle.std.proofs.lemmas.Option.{none-some, same_Some, slice_get_within, sli
 use Rattle.std.proofs.lemmas.Bool.{cases_eq}
 use Rattle.inst_logic.specs.declared.signed.Signed.{Signed}
 use Rattle.inst_logic.specs.Signed.{complement}
-use Rattle.prop_logic.proofs.ListLaws.{Contains-slice_get, slice_get-Contains, slice_get_set, slice_get_set_other, Contains-take, take_of_take, take_slice_get}
+use Rattle.prop_logic.proofs.ListLaws.{all_more, Contains-slice_get, slice_get-Contains, slice_get_set, slice_get_set_other, Contains-take, take_of_take, take_slice_get}
 use Rattle.cdcl_trail.specs.Clauses.{clause_number, ClausesBelow}
 use Rattle.cdcl_trail.specs.Loose.{add_to, with_pair, AreLoose, IsLooseRun}
 use Rattle.cdcl_trail.specs.Propagation.{IsFalseIn, Propagates}
@@ -25,7 +25,6 @@ use Rattle.cdcl_trail.proofs.ListRunLaws.{still_true}
 use Rattle.cdcl_trail.proofs.PropagationLaws.{nothing_added, one_added}
 use Rattle.cdcl_trail.proofs.TrailLaws.{trail_of, same_trail, implied}
 use Rattle.cdcl_trail.proofs.VisitLaws.{runs_none, runs_on}
-use Rattle.cdcl_trail.proofs.ScanLaws.{all_more}
 use Rattle.cdcl_trail.proofs.WatchLaws.{contains_removed, times_push, one_here, one_not, one_if, due_first, due_second, due_neither, pair_at_set, pair_at_other}
 
 -- a watch more in one list

@@ -1,7 +1,7 @@
 -- What the values say of a clause.
 use Rattle.std.proofs.Common.{◌≡◌, ◌≢◌, ℕ, suc, zero, Bool, true, false, not, cond, ◌⊎◌, inl, inr, List, [], ◌∷◌, ◌+◌, ◌<◌, ◌≤◌, length, get_or, take, Option, Some, None, refl, sym, ap, ◌∙◌, subst, arith}
 use Rattle.std.specs.Prelude.{All, AllPairs, Contains, MatchBool, ◌==◌, ◌&&◌}
-use Rattle.std.proofs.lemmas.List.{take_more, take_all}
+use Rattle.std.proofs.lemmas.List.{take_all}
 use Rattle.std.proofs.lemmas.List.Elements.{All-nil, All-cons, All-push, All-weaker, All-contains, All-map, All-contains_itself}
 use Rattle.std.proofs.lemmas.Option.{none-some, same_Some}
 use Rattle.std.proofs.lemmas.Bool.{eqb-true, eqb-false, eq-eqb}
@@ -174,10 +174,7 @@ is_true_by es l false once e = λ f. not_both es l once f (false_value es l e)
 pub not_true_by : (es : List Entry) (l : Signed ℕ) → AllPairs (λ a b. a.lit.atom ≢ b.lit.atom) es → value_of es l ≡ None → Contains (literals_of es) l → ⊥
 not_true_by es l once e f = unset_not_in es l (none_value es l e) f
 
--- one item more of which it holds
-pub all_more : {X : Type 0} (P : X → Type 0) (xs : List X) (i : ℕ) (d : X) → i < length xs → All P (take i xs) → P (get_or xs i d) → All P (take (i + 1) xs)
-all_more P xs i d h before here = subst (All P) (sym (take_more xs i d h)) (All-push P (take i xs) (get_or xs i d) before here)
-
+-- what holds of all the first items
 pub all_past : {X : Type 0} (P : X → Type 0) (xs : List X) (i : ℕ) → length xs ≤ i → All P (take i xs) → All P xs
 all_past P xs i h all = subst (All P) (take_all i xs h) all
 

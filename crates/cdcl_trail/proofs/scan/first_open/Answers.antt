@@ -1,7 +1,8 @@
 use Rattle.std.proofs.Common.{◌≤◌, false, length, arith}
+use Rattle.prop_logic.proofs.ListLaws.{all_more}
 use Rattle.cdcl_trail.specs.Propagation.{IsFalseIn}
 use Rattle.cdcl_trail.specs.Values.{entries_of}
-use Rattle.cdcl_trail.proofs.ScanLaws.{all_more, all_past, decided_true}
+use Rattle.cdcl_trail.proofs.ScanLaws.{all_past, decided_true}
 use Rattle.cdcl_trail.proofs.scan.first_open.Goals as goal
 
 pub loop-l-preserved : goal.loop-l-preserved

@@ -1,8 +1,9 @@
 use Rattle.std.proofs.Common.{◌≡◌, ◌≤◌, ◌⊎◌, ℕ, inl, false, length, arith}
 use Rattle.inst_logic.specs.declared.signed.Signed.{Signed}
+use Rattle.prop_logic.proofs.ListLaws.{all_more}
 use Rattle.cdcl_trail.specs.Propagation.{IsFalseIn}
 use Rattle.cdcl_trail.specs.Values.{entries_of}
-use Rattle.cdcl_trail.proofs.ScanLaws.{all_more, all_past, decided_true}
+use Rattle.cdcl_trail.proofs.ScanLaws.{all_past, decided_true}
 use Rattle.cdcl_trail.proofs.scan.other_open.Goals as goal
 
 pub loop-l-preserved : goal.loop-l-preserved
