@@ -11,16 +11,16 @@ use Rattle.cdcl_trail.specs.declared.entry.Entry.{Entry}
 use Rattle.cdcl_trail.specs.Trail.{Trail, IsTrail, IsDecision, level_of, reason_of, literals_of, entries_up_to, back_at, with_implied}
 use Rattle.cdcl_trail.specs.Propagation.{IsFalseIn, IsConflict}
 use Rattle.cdcl_trail.proofs.LevelLaws.{up_to_up_to}
+use Rattle.cdcl_trail.proofs.TrailLaws.{level_within}
 use Rattle.prop_logic.specs.declared.solver.Answer.{Answer}
 use Rattle.prop_logic.specs.Solving.{IsAnswer}
 use Rattle.cdcl_core.specs.declared.search.Search.{Search}
 use Rattle.cdcl_core.specs.Search.{IsKept, IsTrueUpTo, IsSearch, IsBackFrom, weight, Advances, Ends}
-use Rattle.cdcl_core.proofs.EntryLaws.{item, pair_at, before_or_here, of_false, to_false, level_found, reason_found}
+use Rattle.cdcl_core.proofs.EntryLaws.{entry_at, pair_at, before_or_here, of_false, to_false, level_found, reason_found}
 use Rattle.cdcl_core.proofs.GoLaws.{marks_search, none_of}
 use Rattle.cdcl_core.proofs.Measure.{weight_below, weight_backjump}
 use Rattle.cdcl_core.proofs.RoomLaws.{room}
 use Rattle.cdcl_core.proofs.SearchLaws.{of_up_to, up_to_contains}
-use Rattle.cdcl_core.proofs.StepLaws.{level_low}
 
 pub both_ok : {X E : Type 0} (r : Result X E) (P Q R : Type 0) → (P → Q → R) → OnOk r P → OnOk r Q → OnOk r R
 both_ok (Ok x) P Q R f p q = f p q
@@ -94,7 +94,7 @@ advances_from first old new l level key b trail below added =
     let low : level < b.level = omega (arith, below, ap (λ x. x.level) b.back) in
     let es : new.trail.trail.entries ≡ entries_up_to t.entries level ++ d ∷ [] = ap (λ x. x.entries) trail ∙ ap (λ xs. entries_up_to xs level ++ d ∷ []) up ∙ ap (λ xs. xs ++ d ∷ []) (up_to_up_to t.entries level b.level (omega (arith, low))) in
     let full = room t b.trail in
-    let top = level_low t b.trail in
+    let top = level_within t b.trail in
     record {
       same = record { atoms = ap (λ x. x.atoms) trail ∙ ap (λ x. x.atoms) b.back; added = added ∙ b.added };
       within = weight_below t.atoms t.entries full;
@@ -186,20 +186,20 @@ decided_or_given (Some x) b e h n = none-some x (sym n)
 pub shared_given : (t : Trail) (assumptions : List (Signed ℕ)) (place : ℕ) (lit : Signed ℕ) (o : Option ℕ) (b : Bool) → IsTrail t → place < length t.entries → ((e : Entry) → slice_get t.entries place ≡ Some e → lit ≡ e.lit) → o ≡ reason_of t.entries lit.atom → b ≡ is_some o → b ≡ true
     → AreShared t.entries assumptions place → AreShared t.entries assumptions (place + 1)
 shared_given t assumptions place lit o b v low read reason is some before =
-    let x = item t.entries place low in
+    let x = entry_at t.entries place lit low in
     let found = reason_found t x.0 lit.atom v (Contains-slice_get t.entries place x.0 x.1) (ap (λ y. y.atom) (sym (read x.0 x.1))) in
     shared_more t assumptions place x.0 x.1 (λ chosen. absurd (decided_or_given o b (sym is) some (reason ∙ found ∙ chosen))) before
 
 pub shared_found : (t : Trail) (assumptions : List (Signed ℕ)) (place k : ℕ) (lit : Signed ℕ) → place < length t.entries → ((e : Entry) → slice_get t.entries place ≡ Some e → lit ≡ e.lit) → slice_get assumptions k ≡ Some lit
     → AreShared t.entries assumptions place → AreShared t.entries assumptions (place + 1)
 shared_found t assumptions place k lit low read at before =
-    let x = item t.entries place low in
+    let x = entry_at t.entries place lit low in
     shared_more t assumptions place x.0 x.1 (λ chosen. subst (Contains assumptions) (read x.0 x.1) (Contains-slice_get assumptions k lit at)) before
 
 pub shared_stop : (t : Trail) (assumptions : List (Signed ℕ)) (place level : ℕ) (lit : Signed ℕ) (o : Option ℕ) (b : Bool) → IsTrail t → place < length t.entries → ((e : Entry) → slice_get t.entries place ≡ Some e → lit ≡ e.lit) → o ≡ reason_of t.entries lit.atom → b ≡ is_some o → b ≡ false
     → level ≤ unwrap_or (level_of t.entries lit.atom) 0 - 1 → AreShared t.entries assumptions place → (d : Entry) → Contains t.entries d → IsDecision d → d.level ≤ level → Contains assumptions d.lit
 shared_stop t assumptions place level lit o b v low read reason is none stop before =
-    let x = item t.entries place low in
+    let x = entry_at t.entries place lit low in
     let c = Contains-slice_get t.entries place x.0 x.1 in
     let atom = ap (λ y. y.atom) (sym (read x.0 x.1)) in
     let chosen = sym (reason_found t x.0 lit.atom v c atom) ∙ sym reason ∙ none_of o (sym is ∙ none) in

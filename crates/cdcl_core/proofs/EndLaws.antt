@@ -24,6 +24,7 @@ use Rattle.prop_logic.proofs.SearchLaws.{sub_more, sub_push, contains_map, shown
 use Rattle.cdcl_trail.specs.declared.entry.Entry.{Entry}
 use Rattle.cdcl_trail.specs.Trail.{Trail, IsTrail, IsDecision, level_of, value_of, reason_of, literals_of}
 use Rattle.cdcl_trail.specs.Propagation.{IsFalseIn, IsStable}
+use Rattle.cdcl_trail.proofs.ScanLaws.{true_value, true_has_value}
 use Rattle.cdcl_core.specs.Log.{IsFound}
 use Rattle.cdcl_core.specs.declared.search.Search.{Search}
 use Rattle.cdcl_core.specs.Analysis.{HasDecisionsAnd}
@@ -149,35 +150,10 @@ pub core_below : (n : ℕ) (es : List Entry) (marks : List Bool) (r : Signed ℕ
 core_below n es marks r assumptions core low part = All-weaker (Contains assumptions) (λ l. l.atom < n) (λ l c. All-contains (λ x. x.atom < n) assumptions l low c) core part
 
 -- what the trail's value says
-value_same : (p : Bool) → cond p p (not p) ≡ true
-value_same true = refl
-value_same false = refl
-
-pub value_of_true : (t : Trail) (l : Signed ℕ) → IsTrail t → Contains (literals_of t.entries) l → value_of t.entries l ≡ Some true
-value_of_true t l v c =
-    let f = of_literals t.entries l c in
-    value_found t f.0 l v f.1 (ap (λ x. x.atom) (sym f.2)) ∙ ap (λ x. Some (cond x.positive l.positive (not l.positive))) (sym f.2) ∙ ap Some (value_same l.positive)
-
-sign_same : (p q : Bool) → cond p q (not q) ≡ true → p ≡ q
-sign_same true true e = refl
-sign_same true false e = sym e
-sign_same false true e = e
-sign_same false false e = refl
-
-value_step : (x : Entry) (xs : List Entry) (l : Signed ℕ) (b : Bool) → (x.lit.atom == l.atom) ≡ b → (value_of xs l ≡ Some true → Contains (literals_of xs) l) → cond b (Some (cond x.lit.positive l.positive (not l.positive))) (value_of xs l) ≡ Some true → Contains (literals_of (x ∷ xs)) l
-value_step x xs l true s rest e =
-    let same : x.lit.atom ≡ l.atom = grind (arith, nat_tests) in
-    (0, omega arith, made x.lit l (sign_same x.lit.positive l.positive (same_Some (cond x.lit.positive l.positive (not l.positive)) true e)) same)
-value_step x xs l false s rest e = let c = rest e in (suc c.0, omega (arith, c.1), c.2)
-
-pub of_value_true : (es : List Entry) (l : Signed ℕ) → value_of es l ≡ Some true → Contains (literals_of es) l
-of_value_true [] l e = absurd (none-some true e)
-of_value_true (x ∷ xs) l e = value_step x xs l (x.lit.atom == l.atom) refl (λ f. of_value_true xs l f) e
-
 pub truth_read : (t : Trail) (l : Signed ℕ) (o : Option Bool) (b : Bool) → IsTrail t → o ≡ value_of t.entries l → b ≡ unwrap_or o false → MatchBool b (Contains (literals_of t.entries) l) (¬ Contains (literals_of t.entries) l)
-truth_read t l (Some true) b v read got = subst (λ x. MatchBool x (Contains (literals_of t.entries) l) (¬ Contains (literals_of t.entries) l)) (sym got) (of_value_true t.entries l (sym read))
-truth_read t l (Some false) b v read got = subst (λ x. MatchBool x (Contains (literals_of t.entries) l) (¬ Contains (literals_of t.entries) l)) (sym got) (λ c. true≢false (same_Some true false (sym (value_of_true t l v c) ∙ sym read)))
-truth_read t l None b v read got = subst (λ x. MatchBool x (Contains (literals_of t.entries) l) (¬ Contains (literals_of t.entries) l)) (sym got) (λ c. none-some true (read ∙ value_of_true t l v c))
+truth_read t l (Some true) b v read got = subst (λ x. MatchBool x (Contains (literals_of t.entries) l) (¬ Contains (literals_of t.entries) l)) (sym got) (true_value t.entries l (sym read))
+truth_read t l (Some false) b v read got = subst (λ x. MatchBool x (Contains (literals_of t.entries) l) (¬ Contains (literals_of t.entries) l)) (sym got) (λ c. true≢false (same_Some true false (sym (true_has_value t.entries l v.once c) ∙ sym read)))
+truth_read t l None b v read got = subst (λ x. MatchBool x (Contains (literals_of t.entries) l) (¬ Contains (literals_of t.entries) l)) (sym got) (λ c. none-some true (read ∙ true_has_value t.entries l v.once c))
 
 test_self : (l : Signed ℕ) → (beq l.positive l.positive && eqb l.atom l.atom) ≡ true
 test_self l = ap (λ b. b && eqb l.atom l.atom) (sign_self l.positive) ∙ eq-eqb l.atom l.atom refl

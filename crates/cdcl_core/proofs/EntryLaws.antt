@@ -14,11 +14,11 @@ use Rattle.cdcl_trail.specs.declared.entry.Entry.{Entry}
 use Rattle.cdcl_trail.specs.Trail.{Trail, IsTrail, level_of, reason_of, value_of, literals_of}
 use Rattle.cdcl_trail.specs.Propagation.{IsFalseIn}
 
--- an item at each place
-pub item : (es : List Entry) (k : ℕ) → k < length es → (e : Entry) × (slice_get es k ≡ Some e)
-item [] k h = absurd (omega (arith, h))
-item (e ∷ es) zero h = (e, refl)
-item (e ∷ es) (suc k) h = item es k (omega (arith, h))
+-- the entry at a place
+pub entry_at : (entries : List Entry) (i : ℕ) (d : Signed ℕ) → i < length entries → (e : Entry) × (slice_get entries i ≡ Some e) × (get_or (literals_of entries) i d ≡ e.lit)
+entry_at [] i d h = absurd (omega arith)
+entry_at (x ∷ xs) zero d h = (x, refl, refl)
+entry_at (x ∷ xs) (suc i) d h = entry_at xs i d (omega arith)
 
 -- pairs of a list
 pub pairs_tail : {X : Type 0} (R : X → X → Type 0) (x : X) (xs : List X) → AllPairs R (x ∷ xs) → AllPairs R xs
@@ -40,6 +40,12 @@ pair_before R xs i x y h at c =
     let g = slice_get_take xs i k.0 x k.1 in
     pair_at R xs k.0 i x y h g.1 g.0 at
 
+pub either_less : (i j : ℕ) → (i ≡ j → ⊥) → (i < j) ⊎ (j < i)
+either_less zero zero n = absurd (n refl)
+either_less zero (suc j) n = inl (omega arith)
+either_less (suc i) zero n = inr (omega arith)
+either_less (suc i) (suc j) n = elim (either_less i j (λ e. n (ap suc e))) [ inl h ↦ inl (omega arith) | inr h ↦ inr (omega arith) ]
+
 pub pair_any : {X : Type 0} (R : X → X → Type 0) (xs : List X) (x y : X) → AllPairs R xs → Contains xs x → Contains xs y → (x ≡ y) ⊎ (R x y ⊎ R y x)
 pair_any R xs x y h cx cy =
     let i = slice_get-Contains xs x cx in
@@ -49,15 +55,9 @@ pair_any R xs x y h cx cy =
       | inr other ↦ inr (by_order i.0 j.0 i.1 j.1 other)
     ]
   where
-    order : (i j : ℕ) → (i ≡ j → ⊥) → (i < j) ⊎ (j < i)
-    order zero zero n = absurd (n refl)
-    order zero (suc j) n = inl (omega arith)
-    order (suc i) zero n = inr (omega arith)
-    order (suc i) (suc j) n = elim (order i j (λ e. n (ap suc e))) [ inl h ↦ inl (omega arith) | inr h ↦ inr (omega arith) ]
-
     by_order : (i j : ℕ) → slice_get xs i ≡ Some x → slice_get xs j ≡ Some y → (i ≡ j → ⊥) → R x y ⊎ R y x
     by_order i j ei ej n =
-        let apart : (i < j) ⊎ (j < i) = order i j n in
+        let apart : (i < j) ⊎ (j < i) = either_less i j n in
         elim apart [ inl low ↦ inl (pair_at R xs i j x y h low ei ej) | inr high ↦ inr (pair_at R xs j i y x h high ej ei) ]
 
 -- one item more
@@ -117,10 +117,10 @@ same_entry t e d v ce cd same =
       | inr other ↦ elim other [ inl n ↦ absurd (n same) | inr n ↦ absurd (n (sym same)) ]
     ]
 
-same_test : (a b : ℕ) → a ≡ b → (a == b) ≡ true
+pub same_test : (a b : ℕ) → a ≡ b → (a == b) ≡ true
 same_test a b e = eq-eqb a b e
 
-other_test : (a b : ℕ) → (a ≡ b → ⊥) → (a == b) ≡ false
+pub other_test : (a b : ℕ) → (a ≡ b → ⊥) → (a == b) ≡ false
 other_test a b n = grind (arith, nat_tests)
 
 -- what the entries say of the atom of an entry

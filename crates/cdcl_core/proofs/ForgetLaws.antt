@@ -70,10 +70,6 @@ pub found_clause : (r : Option (Bor (List (Signed ℕ)))) (clauses : List (Optio
 found_clause None clauses n some e = absurd (false≢true some)
 found_clause (Some b) clauses n some e = (b.now, sym e)
 
--- such states one after another
-pub same_none : (s : Search) → IsKept s → IsSameButClauses s s
-same_none s k = record { kept = k; trail = refl; log = refl; assumed = refl; checked = refl }
-
 -- nothing rests on the list of the learned clauses
 pub same_learned : (s : Search) (learned : Learned) → IsKept s → IsSameButClauses s (record s { learned = learned })
 same_learned s learned k = record {

@@ -9,7 +9,7 @@ use Rattle.cdcl_trail.specs.declared.entry.Entry.{Entry}
 use Rattle.cdcl_trail.specs.Trail.{Trail, IsTrail, with_atom, entries_up_to}
 use Rattle.cdcl_core.specs.declared.phases.Phases.{Phases}
 use Rattle.cdcl_core.specs.Phases.{IsSaved, ArePhases}
-use Rattle.cdcl_core.proofs.EntryLaws.{item, take_item, pair_before}
+use Rattle.cdcl_core.proofs.EntryLaws.{entry_at, take_item, pair_before}
 use Rattle.cdcl_core.proofs.SearchLaws.{of_up_to}
 
 take_zero : (values : List Bool) (n : ℕ) (es : List Entry) → n ≡ 0 → All (IsSaved values) (take n es)
@@ -60,7 +60,7 @@ phases_atom old new p q t values saved h = record {
 -- one value more
 pub saved_more : (t : Trail) (values : List Bool) (place : ℕ) (lit : Signed ℕ) → IsTrail t → place < length t.entries → ((e : Entry) → slice_get t.entries place ≡ Some e → lit ≡ e.lit) → lit.atom < t.atoms → length values ≡ t.atoms → All (IsSaved values) (take place t.entries) → All (IsSaved (set values lit.atom lit.positive)) (take (place + 1) t.entries)
 saved_more t values place lit v low read below size before =
-    let x = item t.entries place low in
+    let x = entry_at t.entries place lit low in
     let is = read x.0 x.1 in
     let new = set values lit.atom lit.positive in
     subst (All (IsSaved new)) (sym (take_item t.entries place x.0 x.1))

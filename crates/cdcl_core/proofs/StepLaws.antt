@@ -15,6 +15,7 @@ use Rattle.cdcl_trail.specs.Attached.{AreAttached}
 use Rattle.cdcl_trail.specs.Clauses.{clause_number}
 use Rattle.cdcl_trail.specs.Trail.{Trail, IsTrail, IsUnset, level_of, literals_of, entries_up_to, with_decision, with_implied, back_at}
 use Rattle.cdcl_trail.specs.Propagation.{IsFalseIn, GivesUnit}
+use Rattle.cdcl_trail.proofs.TrailLaws.{level_within}
 use Rattle.cdcl_core.specs.declared.search.Search.{Search}
 use Rattle.cdcl_core.specs.Log.{IsLog}
 use Rattle.cdcl_core.specs.Analysis.{IsFalseBelow, IsLearned}
@@ -52,16 +53,6 @@ opened t v (suc (suc m)) h g =
     order zero (suc b) = inl (omega arith)
     order (suc a) zero = inr (omega arith)
     order (suc a) (suc b) = elim (order a b) [ inl h ↦ inl (omega arith) | inr h ↦ inr (omega arith) ]
-
-pub level_low : (t : Trail) → IsTrail t → t.level ≤ length t.entries
-level_low t v = by_level t.level refl
-  where
-    by_level : (n : ℕ) → t.level ≡ n → n ≤ length t.entries
-    by_level zero e = omega arith
-    by_level (suc n) e =
-        let f = opened t v (suc n) (omega arith) (omega (arith, e)) in
-        let inside = slice_get_within t.entries f.0 f.1 f.2 in
-        omega (arith, f.4, inside)
 
 -- what is learned is unit at the highest level of its other literals
 pub record IsUnitAt (t : Trail) (clause : List (Signed ℕ)) (l : Signed ℕ) (level : ℕ) : Type 0 where
@@ -111,7 +102,7 @@ learned_search assumptions old new clause l level key v u trail log given named 
     let levels : new.trail.trail.level ≡ level = ap (λ x. x.level) trail in
     let atoms : new.trail.trail.atoms ≡ t.atoms = ap (λ x. x.atoms) trail in
     let full = room t v in
-    let low = level_low t v in
+    let low = level_within t v in
     let has : (a : Signed ℕ) → old.assumed ≤ level → IsTrueUpTo t.entries old.assumed a → IsTrueUpTo new.trail.trail.entries new.assumed a =
     λ a h f. (f.0, subst (λ es. Contains es f.0) (sym entries) (Contains-append_left up (d ∷ []) f.0 (up_to_contains t.entries level f.0 f.1 (omega (arith, f.3, h)))), f.2, omega (arith, f.3, h, assumed)) in (
       record {

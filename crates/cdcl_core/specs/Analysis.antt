@@ -1,5 +1,5 @@
 -- What the analysis of a conflict knows at each place of the trail, and what it leaves.
-use Rattle.std.specs.Prelude.{◌≡◌, ◌≢◌, ℕ, ◌+◌, ◌-◌, ◌^◌, ◌<◌, ◌≤◌, ◌==◌, ◌&&◌, Bool, true, false, not, List, [], ◌∷◌, ◌++◌, length, map, take, reverse, Some, All, Contains, slice_get, if◌then◌else◌}
+use Rattle.std.specs.Prelude.{◌≡◌, ◌≢◌, ℕ, ◌+◌, ◌-◌, ◌^◌, ◌<◌, ◌≤◌, ◌==◌, ◌&&◌, Bool, true, false, List, [], ◌∷◌, ◌++◌, length, map, take, reverse, Some, All, Contains, slice_get, if◌then◌else◌}
 use Rattle.std.specs.List.{slice_index_or}
 use Rattle.inst_logic.specs.declared.signed.Signed.{Signed}
 use Rattle.inst_logic.specs.Signed.{complement}
@@ -10,7 +10,7 @@ use Rattle.cdcl_trail.specs.declared.entry.Entry.{Entry}
 use Rattle.cdcl_trail.specs.Trail.{Trail, IsTrail, IsDecision}
 use Rattle.cdcl_trail.specs.Propagation.{IsFalseIn, GivesUnit}
 use Rattle.cdcl_core.specs.declared.log.Log.{Log}
-use Rattle.cdcl_core.specs.declared.analysis.Counts.{Counts}
+use Rattle.cdcl_core.specs.declared.analysis.Waiting.{Waiting}
 use Rattle.cdcl_core.specs.declared.analysis.Analysis.{Analysis}
 use Rattle.cdcl_core.specs.Log.{IsNamed}
 
@@ -20,27 +20,26 @@ IsMarked marks atom = slice_index_or marks atom false ≡ true
 abbrev pub KeepsMarks : List Bool → List Bool → Type 0
 KeepsMarks old new = (a : ℕ) → IsMarked old a → IsMarked new a
 
-abbrev pub is_at : ℕ → Entry → Bool
-is_at level e = e.level == level
+-- how many of the entries of this level have marked atoms
+abbrev pub marked_count : ℕ → List Bool → List Entry → ℕ
+marked_count level marks [] = 0
+marked_count level marks (e ∷ es) = (if e.level == level && slice_index_or marks e.lit.atom false then 1 else 0) + marked_count level marks es
 
-abbrev pub is_off : ℕ → Entry → Bool
-is_off level e = not (e.level == level)
+-- no more of the first i entries are marked at the present level than are counted
+abbrev pub AreCounted : Trail → ℕ → List Bool → ℕ → Type 0
+AreCounted t i marks present = marked_count t.level marks (take i t.entries) ≤ present
 
--- how many of the entries that pass q have marked atoms
-abbrev pub marked_count : (Entry → Bool) → List Bool → List Entry → ℕ
-marked_count q marks [] = 0
-marked_count q marks (e ∷ es) = (if q e && slice_index_or marks e.lit.atom false then 1 else 0) + marked_count q marks es
-
--- no more of the first i entries are marked than are counted
-pub record AreCounted (t : Trail) (i : ℕ) (marks : List Bool) (now : Counts) : Type 0 where
-  pub present : marked_count (is_at t.level) marks (take i t.entries) ≤ now.present
-  pub below : marked_count (is_off t.level) marks (take i t.entries) ≤ now.below
+-- those of the first i entries that are marked wait, and no entry waits that is not marked
+pub record AreWaiting (t : Trail) (i : ℕ) (marks : List Bool) (places : List ℕ) : Type 0 where
+  pub all : (k : ℕ) (e : Entry) → k < i → slice_get t.entries k ≡ Some e → IsMarked marks e.lit.atom → Contains places k
+  pub marked : (k : ℕ) (e : Entry) → Contains places k → slice_get t.entries k ≡ Some e → IsMarked marks e.lit.atom
 
 -- the marks of the clause are added
-pub record MarksToo (t : Trail) (clause : List (Signed ℕ)) (old new : List Bool) (was is : Counts) : Type 0 where
+pub record MarksToo (t : Trail) (clause : List (Signed ℕ)) (old new : List Bool) (was is : Waiting) : Type 0 where
   pub marked : All (λ l. IsMarked new l.atom) clause
   pub kept : KeepsMarks old new
-  pub counted : (i : ℕ) → AreCounted t i old was → AreCounted t i new is
+  pub counted : (i : ℕ) → AreCounted t i old was.present → AreCounted t i new is.present
+  pub waiting : (i : ℕ) → AreWaiting t i old was.places → AreWaiting t i new is.places
 
 -- the reason of an entry is named, and made its literal true
 abbrev pub AreImplied : Log → List Entry → Type 0
@@ -90,7 +89,7 @@ HasAll clause F = All (Contains F) clause
 -- the analysis when it has met the entries from i on
 pub record IsMet (log : Log) (t : Trail) (i : ℕ) (marks : List Bool) (a : Analysis) : Type 0 where
   pub closes : ClosesFrom log t.entries (take i t.entries) marks (HasAll a.clause.items) (reverse a.hints.items)
-  pub counted : AreCounted t i marks a.counts
+  pub counted : AreCounted t i marks a.waiting.present
   pub learned : IsLearned t.entries a.clause.items
   pub first : AreBelowFirst t.entries (take i t.entries) marks a.clause.items
 
@@ -99,7 +98,8 @@ pub record IsBegun (log : Log) (t : Trail) (n : ℕ) (c : List (Signed ℕ)) (ma
   pub clause : a.clause.items ≡ []
   pub hints : (h : Hint) → slice_get log.names.items n ≡ Some h → a.hints.items ≡ h ∷ []
   pub marked : All (λ l. IsMarked marks l.atom) c
-  pub counted : (i : ℕ) → AreCounted t i marks a.counts
+  pub counted : (i : ℕ) → AreCounted t i marks a.waiting.present
+  pub waiting : (i : ℕ) → AreWaiting t i marks a.waiting.places
 
 -- what gave the literal at the place is in its stead
 pub record Resolves (log : Log) (t : Trail) (i : ℕ) (l : Signed ℕ) (old new : List Bool) (a b : Analysis) : Type 0 where
@@ -109,7 +109,7 @@ pub record Resolves (log : Log) (t : Trail) (i : ℕ) (l : Signed ℕ) (old new 
   pub unit : GivesUnit (take i t.entries) clause l
   pub same : b.clause.items ≡ a.clause.items
   pub hints : b.hints.items ≡ a.hints.items ++ hint ∷ []
-  pub marked : MarksToo t clause old new a.counts b.counts
+  pub marked : MarksToo t clause old new a.waiting b.waiting
 
 -- what is left when it has met all
 pub record IsAnalysis (log : Log) (entries : List Entry) (a : Analysis) : Type 0 where
@@ -124,9 +124,8 @@ abbrev pub HasDecisionsAnd : Signed ℕ → List Entry → List Bool → List (S
 HasDecisionsAnd l entries marks F = Contains F l × HasDecisions entries marks F
 
 -- the same where exactly the decisions stay, from the place of the entry of l back
-pub record IsMetDecided (log : Log) (t : Trail) (start i : ℕ) (l : Signed ℕ) (marks : List Bool) (a : Analysis) : Type 0 where
-  pub closes : ClosesFrom log (take start t.entries) (take i t.entries) marks (HasDecisionsAnd l (take start t.entries) marks) (reverse a.hints.items)
-  pub counted : AreCounted t i marks a.counts
+abbrev pub IsMetDecided : Log → Trail → ℕ → ℕ → Signed ℕ → List Bool → Analysis → Type 0
+IsMetDecided log t start i l marks a = ClosesFrom log (take start t.entries) (take i t.entries) marks (HasDecisionsAnd l (take start t.entries) marks) (reverse a.hints.items)
 
 -- from the literal and the complements of the marked decisions the hints close
 abbrev pub ShowsGiven : Log → List Entry → Signed ℕ → List Bool → List Hint → Type 0

@@ -1,8 +1,9 @@
 // Analysis of conflicts, up to the first unique implication point (Marques-Silva and Sakallah, GRASP, 1999; Zhang and others,
-// Efficient conflict driven learning in a Boolean satisfiability solver, 2001): one walk down the trail, which ends where no
-// marked literal is left. Literals of level 0 are resolved away, so no learned clause has one. The hints come out from the
-// last to the first, and are turned round at the end.
-ghost use Rattle.std.specs.Prelude.{◌≡◌, ℕ, ◌+◌, ◌++◌, ◌∷◌, [], ◌<◌, ◌≤◌, List, Bool, Some, All, Contains, IsTrue, MatchBool, length, map, slice_get, IfOk, OnOk};
+// Efficient conflict driven learning in a Boolean satisfiability solver, 2001): one walk down the trail, from one marked
+// literal to the next. A walk over all places would cost each conflict the length of the trail, where most literals have
+// nothing to do with it. Literals of level 0 are resolved away, so no learned clause has one. The hints come out from the last
+// to the first, and are turned round at the end.
+ghost use Rattle.std.specs.Prelude.{◌≡◌, ℕ, ◌+◌, ◌++◌, ◌∷◌, [], ◌<◌, ◌≤◌, List, Bool, true, Some, Contains, IsTrue, length, slice_get, slice_set, IfOk, OnOk};
 ghost use Rattle.inst_logic.specs.declared.signed.Signed.{Signed};
 ghost use Rattle.inst_logic.specs.Signed.{complement};
 ghost use Rattle.prop_logic.specs.declared.literal.Hint.{Hint};
@@ -10,20 +11,21 @@ ghost use Rattle.prop_logic.specs.Literal.{cited, AtomsBelow};
 ghost use Rattle.cdcl_trail.specs.declared.entry.Entry.{Entry};
 ghost use Rattle.cdcl_trail.specs.Trail.{IsTrail};
 ghost use Rattle.cdcl_core.specs.Log.{IsNamed};
-ghost use Rattle.cdcl_core.specs.Analysis.{IsMarked, AreCounted, MarksToo, IsReady, IsBegun, Resolves, NamesFalse, IsMet, IsMetDecided, IsAnalysis, ShowsGiven};
+ghost use Rattle.cdcl_core.specs.Analysis.{IsMarked, AreCounted, AreWaiting, MarksToo, IsReady, IsBegun, Resolves, NamesFalse, IsMet, IsMetDecided, IsAnalysis, ShowsGiven};
 
 use crate::log::Log;
 use crate::marks::Marks;
+use crate::places::Places;
 use cdcl_trail::Trail;
 use inst_logic::Memory;
 use prop_logic::{Hint, Lit, complement};
 use std::alloc::Global;
 
-// How many marked literals are still to be met: of the present level, and of those below it.
-#[derive(Clone, Copy)]
-pub(crate) struct Counts {
+// The marked literals that are still to be met: how many are of the present level, and the places of all.
+#[derive(Drop)]
+pub(crate) struct Waiting {
     pub(crate) present: usize,
-    pub(crate) below: usize,
+    pub(crate) places: Places,
 }
 
 // The complements of the literals that stay, the hints in the reverse of the order in which they are resolved, and the places
@@ -33,7 +35,7 @@ pub(crate) struct Analysis {
     pub(crate) clause: Vec<Lit>,
     pub(crate) hints: Vec<Hint>,
     pub(crate) facts: Vec<usize>,
-    pub(crate) counts: Counts,
+    pub(crate) waiting: Waiting,
 }
 
 // The literal at a place of the trail.
@@ -46,38 +48,71 @@ pub(crate) fn literal_at(trail: &Trail, place: usize) -> Lit
     literals[place]
 }
 
-fn mark(trail: &Trail, marks: &mut Marks, counts: &mut Counts, lit: Lit)
+// Counts an atom that is to be marked, if it is of the present level.
+fn count(trail: &Trail, present: &mut usize, atom: usize)
+    requires trail { IsTrail trail.now.trail }
+    requires room { length trail.now.trail.entries ≤ usize.MAX }
+    requires atom { atom < trail.now.trail.atoms }
+    ensures { (i : ℕ) (marks : List Bool) → AreCounted trail.now.trail i marks present.old → AreCounted trail.now.trail i (slice_set marks atom true) present.new }
+{
+    let level = trail.level_of(atom).unwrap_or(0);
+    if level == trail.level() {
+        *present = present.saturating_add(1);
+    }
+}
+
+// The place of an atom that is to be marked waits, if it has a value.
+fn wait(trail: &Trail, places: &mut Places, atom: usize) -> Result<(), Memory>
+    requires trail { IsTrail trail.now.trail }
+    requires atom { atom < trail.now.trail.atoms }
+    ensures { OnOk result ((i : ℕ) (marks : List Bool) → atom < length marks → AreWaiting trail.now.trail i marks places.old → AreWaiting trail.now.trail i (slice_set marks atom true) places.new) }
+{
+    match trail.place_of(atom) {
+        None => Ok(()),
+        Some(place) => places.push(place),
+    }
+}
+
+fn mark(
+    trail: &Trail,
+    marks: &mut Marks,
+    waiting: &mut Waiting,
+    lit: Lit,
+) -> Result<(), Memory>
     requires trail { IsTrail trail.now.trail }
     requires room { length trail.now.trail.entries ≤ usize.MAX }
     requires size { length marks.old ≡ trail.now.trail.atoms }
     requires atom { lit.atom < trail.now.trail.atoms }
-    ensures size { length marks.new ≡ length marks.old }
-    ensures marked { MarksToo trail.now.trail (lit ∷ []) marks.old marks.new counts.old counts.new }
+    ensures size { OnOk result (length marks.new ≡ length marks.old) }
+    ensures marked { OnOk result (MarksToo trail.now.trail (lit ∷ []) marks.old marks.new waiting.old waiting.new) }
 {
     if marks.contains(lit.atom) {
-        return;
+        return Ok(());
     }
+    wait(trail, &mut waiting.places, lit.atom)?;
+    count(trail, &mut waiting.present, lit.atom);
     marks.insert(lit.atom);
-    let level = trail.level_of(lit.atom).unwrap_or(0);
-    if level == trail.level() {
-        counts.present = counts.present.saturating_add(1);
-    } else {
-        counts.below = counts.below.saturating_add(1);
-    }
+    Ok(())
 }
 
 // Marks the atoms of the clause.
-fn mark_all(trail: &Trail, marks: &mut Marks, counts: &mut Counts, clause: &[Lit])
+fn mark_all(
+    trail: &Trail,
+    marks: &mut Marks,
+    waiting: &mut Waiting,
+    clause: &[Lit],
+) -> Result<(), Memory>
     requires trail { IsTrail trail.now.trail }
     requires room { length trail.now.trail.entries ≤ usize.MAX }
     requires size { length marks.old ≡ trail.now.trail.atoms }
     requires atoms { AtomsBelow trail.now.trail.atoms clause.now }
-    ensures size { length marks.new ≡ length marks.old }
-    ensures marked { MarksToo trail.now.trail clause.now marks.old marks.new counts.old counts.new }
+    ensures size { OnOk result (length marks.new ≡ length marks.old) }
+    ensures marked { OnOk result (MarksToo trail.now.trail clause.now marks.old marks.new waiting.old waiting.new) }
 {
     for lit in clause {
-        mark(trail, marks, counts, *lit);
+        mark(trail, marks, waiting, *lit)?;
     }
+    Ok(())
 }
 
 // Whether all atoms of the clause are marked or of level 0.
@@ -106,25 +141,23 @@ fn stays(
 ) -> bool
     requires ready { IsReady log.now trail.now.trail }
     requires size { length marks.now ≡ trail.now.trail.atoms }
-    ensures { IsTrue result → (0 < level) × (analysis.now.clause.items ≡ [] → (level ≡ trail.now.trail.level) × (analysis.now.counts.present ≤ 1)) }
+    ensures { IsTrue result → (0 < level) × (analysis.now.clause.items ≡ [] → (level ≡ trail.now.trail.level) × (analysis.now.waiting.present ≤ 1)) }
 {
     if level == 0 {
         return false;
     }
     if analysis.clause.is_empty() {
-        return level == trail.level() && analysis.counts.present <= 1;
+        return level == trail.level() && analysis.waiting.present <= 1;
     }
     !are_marked(trail, marks, log.cited(log.hint_of(number)))
 }
 
 // Counts a literal as met.
-fn count_met(trail: &Trail, counts: &mut Counts, level: usize)
-    ensures { (i : ℕ) (e : Entry) (marks : List Bool) → slice_get trail.now.trail.entries i ≡ Some e → IsMarked marks e.lit.atom → e.level ≡ level → AreCounted trail.now.trail (i + 1) marks counts.old → AreCounted trail.now.trail i marks counts.new }
+fn count_met(trail: &Trail, present: &mut usize, level: usize)
+    ensures { (i : ℕ) (e : Entry) (marks : List Bool) → slice_get trail.now.trail.entries i ≡ Some e → IsMarked marks e.lit.atom → e.level ≡ level → AreCounted trail.now.trail (i + 1) marks present.old → AreCounted trail.now.trail i marks present.new }
 {
     if level == trail.level() {
-        counts.present = counts.present.saturating_sub(1);
-    } else {
-        counts.below = counts.below.saturating_sub(1);
+        *present = present.saturating_sub(1);
     }
 }
 
@@ -141,11 +174,10 @@ fn take(
     ensures size { OnOk result (length marks.new ≡ length marks.old) }
     ensures clause { OnOk result (analysis.new.clause ≡ analysis.old.clause) }
     ensures hints { OnOk result (analysis.new.hints.items ≡ analysis.old.hints.items ++ hint ∷ []) }
-    ensures marked { OnOk result ((c : List (Signed ℕ)) → cited log.now.added log.now.steps hint ≡ Some c → MarksToo trail.now.trail c marks.old marks.new analysis.old.counts analysis.new.counts) }
+    ensures marked { OnOk result ((c : List (Signed ℕ)) → cited log.now.added log.now.steps hint ≡ Some c → MarksToo trail.now.trail c marks.old marks.new analysis.old.waiting analysis.new.waiting) }
 {
     analysis.hints.push(hint)?;
-    mark_all(trail, marks, &mut analysis.counts, log.cited(hint));
-    Ok(())
+    mark_all(trail, marks, &mut analysis.waiting, log.cited(hint))
 }
 
 // Lists the place of a fact of level 0 whose clause has other literals.
@@ -159,7 +191,7 @@ fn list_fact(
     requires { place < length trail.now.trail.entries }
     ensures clause { OnOk result (analysis.new.clause ≡ analysis.old.clause) }
     ensures hints { OnOk result (analysis.new.hints ≡ analysis.old.hints) }
-    ensures counts { OnOk result (analysis.new.counts ≡ analysis.old.counts) }
+    ensures waiting { OnOk result (analysis.new.waiting ≡ analysis.old.waiting) }
 {
     let lit = literal_at(trail, place);
     if trail.level_of(lit.atom) == Some(0) && 1 < log.cited(hint).len() {
@@ -191,13 +223,13 @@ fn resolve(
 fn keep(analysis: &mut Analysis, lit: Lit) -> Result<(), Memory>
     ensures clause { OnOk result (analysis.new.clause.items ≡ analysis.old.clause.items ++ complement lit ∷ []) }
     ensures hints { OnOk result (analysis.new.hints ≡ analysis.old.hints) }
-    ensures counts { OnOk result (analysis.new.counts ≡ analysis.old.counts) }
+    ensures waiting { OnOk result (analysis.new.waiting ≡ analysis.old.waiting) }
 {
     analysis.clause.push(complement(lit))?;
     Ok(())
 }
 
-// Goes one literal further back on the trail.
+// Meets the marked literal at the place.
 fn meet(
     log: &Log,
     trail: &Trail,
@@ -208,23 +240,22 @@ fn meet(
     requires ready { IsReady log.now trail.now.trail }
     requires size { length marks.old ≡ trail.now.trail.atoms }
     requires place { place < length trail.now.trail.entries }
+    requires marked { (e : Entry) → slice_get trail.now.trail.entries place ≡ Some e → IsMarked marks.old e.lit.atom }
     requires met { IsMet log.now trail.now.trail (place + 1) marks.old analysis.old }
     ensures size { OnOk result (length marks.new ≡ length marks.old) }
+    ensures waiting { OnOk result (AreWaiting trail.now.trail place marks.old analysis.old.waiting.places → AreWaiting trail.now.trail place marks.new analysis.new.waiting.places) }
     ensures met { OnOk result (IsMet log.now trail.now.trail place marks.new analysis.new) }
 {
     let lit = literal_at(trail, place);
-    if !marks.contains(lit.atom) {
-        return Ok(());
-    }
     let level = trail.level_of(lit.atom).unwrap_or(0);
     match trail.reason(lit.atom) {
         None => {
-            count_met(trail, &mut analysis.counts, level);
+            count_met(trail, &mut analysis.waiting.present, level);
             keep(analysis, lit)
         }
         Some(number) => {
             let remains = stays(log, trail, marks, analysis, level, number);
-            count_met(trail, &mut analysis.counts, level);
+            count_met(trail, &mut analysis.waiting.present, level);
             if remains {
                 return keep(analysis, lit);
             }
@@ -244,40 +275,31 @@ fn meet_decided(
     requires ready { IsReady log.now trail.now.trail }
     requires size { length marks.old ≡ trail.now.trail.atoms }
     requires place { place < length trail.now.trail.entries }
+    requires marked { (e : Entry) → slice_get trail.now.trail.entries place ≡ Some e → IsMarked marks.old e.lit.atom }
     ensures size { OnOk result (length marks.new ≡ length marks.old) }
+    ensures waiting { OnOk result (AreWaiting trail.now.trail place marks.old analysis.old.waiting.places → AreWaiting trail.now.trail place marks.new analysis.new.waiting.places) }
     ensures met { OnOk result ((start : ℕ) (l : Signed ℕ) → place < start → IsMetDecided log.now trail.now.trail start (place + 1) l marks.old analysis.old → IsMetDecided log.now trail.now.trail start place l marks.new analysis.new) }
 {
     let lit = literal_at(trail, place);
-    if !marks.contains(lit.atom) {
-        return Ok(());
-    }
-    let level = trail.level_of(lit.atom).unwrap_or(0);
-    count_met(trail, &mut analysis.counts, level);
     match trail.reason(lit.atom) {
         None => Ok(()),
         Some(number) => resolve(log, trail, marks, analysis, place, number),
     }
 }
 
-// Whether a marked literal is still to be met.
-fn any_left(counts: Counts) -> bool
-    ensures { MatchBool result (Unit {0}) ((counts.present ≡ 0) × (counts.below ≡ 0)) }
-{
-    0 < counts.present || 0 < counts.below
-}
-
 // An analysis that has met nothing.
 fn no_analysis(alloc: Global) -> Analysis
     ensures clause { result.clause.items ≡ [] }
     ensures hints { result.hints.items ≡ [] }
+    ensures places { result.waiting.places ≡ [] }
 {
     Analysis {
         clause: Vec::new(alloc),
         hints: Vec::new(alloc),
         facts: Vec::new(alloc),
-        counts: Counts {
+        waiting: Waiting {
             present: 0,
-            below: 0,
+            places: Places::new(alloc),
         },
     }
 }
@@ -320,27 +342,21 @@ pub(crate) fn analyze(
 {
     let mut analysis = begin(alloc, log, trail, marks, number)?;
     let mut place = count;
-    while 0 < place && any_left(analysis.counts) {
-        place -= 1;
+    while let Some(next) = analysis.waiting.places.take_below(place) {
+        place = next;
         meet(log, trail, marks, &mut analysis, place)?;
     }
     analysis.hints.reverse();
     Ok(analysis)
 }
 
-// The place on the trail of the literal.
-fn place_of(literals: &[Lit], lit: Lit) -> usize
-    requires { Contains literals.now lit }
-    ensures { slice_get literals.now result ≡ Some lit }
+// The place on the trail of a true literal.
+fn place_of(trail: &Trail, lit: Lit) -> usize
+    requires trail { IsTrail trail.now.trail }
+    requires atom { lit.atom < trail.now.trail.atoms }
+    ensures { (e : Entry) → Contains trail.now.trail.entries e → e.lit ≡ lit → slice_get trail.now.trail.entries result ≡ Some e }
 {
-    let mut place = literals.len();
-    while 0 < place {
-        place -= 1;
-        if literals[place] == lit {
-            return place;
-        }
-    }
-    0
+    trail.place_of(lit.atom).unwrap_or(0)
 }
 
 // Marks the decisions on which a true literal depends that the clause of this number gave, and answers the hints.
@@ -359,9 +375,9 @@ pub(crate) fn analyze_given(
     ensures hints { IfOk result (λ hints. ShowsGiven log.now trail.now.trail.entries lit marks.new hints.items) }
 {
     let mut analysis = begin(alloc, log, trail, marks, number)?;
-    let mut place = place_of(trail.assigned(), lit);
-    while 0 < place && any_left(analysis.counts) {
-        place -= 1;
+    let mut place = place_of(trail, lit);
+    while let Some(next) = analysis.waiting.places.take_below(place) {
+        place = next;
         meet_decided(log, trail, marks, &mut analysis, place)?;
     }
     analysis.hints.reverse();

@@ -12,6 +12,7 @@ mod marks;
 mod order;
 mod pace;
 mod phases;
+mod places;
 mod reasons;
 mod search;
 mod units;

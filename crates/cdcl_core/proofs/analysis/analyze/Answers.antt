@@ -1,22 +1,37 @@
-use Rattle.std.proofs.Common.{arith, refl, ◌∙◌, inl, inr}
-use Rattle.cdcl_core.proofs.MeetLaws.{IsDone, met_first, analysis_done}
-use Rattle.cdcl_core.proofs.analysis.analyze.Goals.{then-loop-place-test+else-any_left, else-loop-place-test}
+use Rattle.std.proofs.Common.{◌≤◌, length, arith, refl, ◌∙◌}
+use Rattle.cdcl_core.specs.declared.analysis.Analysis.{Analysis}
+use Rattle.cdcl_core.proofs.MeetLaws.{met_first, met_taken, analysis_done}
+use Rattle.cdcl_core.proofs.AnalysisLaws.{covers_none, waiting_taken}
 use Rattle.cdcl_core.proofs.analysis.analyze.Goals as goal
 
-pub loop-place-init : goal.loop-place-init
-loop-place-init c =
+pub loop-next-init : goal.loop-next-init
+loop-next-init c =
+    let begun = c.in_ok-analysis.ensures.begun c.requires.conflict.0 c.requires.conflict.1 in
     record {
       within = omega (arith, c.requires.count);
       size = c.in_ok-analysis.ensures.size ∙ c.requires.size;
-      met = met_first c.args.log.now c.args.trail.now.trail c.args.count c.args.number c.begin.new.marks c.in_ok-analysis.analysis c.requires.count c.requires.conflict
-          (c.in_ok-analysis.ensures.begun c.requires.conflict.0 c.requires.conflict.1);
+      met = met_first c.args.log.now c.args.trail.now.trail c.args.count c.args.number c.begin.new.marks c.in_ok-analysis.analysis c.requires.count c.requires.conflict begun;
+      waiting = begun.waiting c.args.count;
+    }
+
+pub meet-requires-clause-met : goal.meet-requires-clause-met
+meet-requires-clause-met c = met_taken c.args.log.now c.args.trail.now.trail c.loop-next.place c.in-Some.next c.loop-next.marks c.take_below.new.self c.loop-next.analysis c.in-Some.ensures.some c.loop-next.invariant.waiting c.loop-next.invariant.met
+
+pub loop-next-preserved : goal.loop-next-preserved
+loop-next-preserved c =
+    let t = c.args.trail.now.trail in
+    let x = c.loop-next.invariant in
+    record {
+      within = omega (arith, x.within, c.in-Some.ensures.some.below);
+      size = c.in_ok-meet.ensures.size ∙ x.size;
+      met = c.in_ok-meet.ensures.met;
+      waiting = c.in_ok-meet.ensures.waiting (waiting_taken t c.loop-next.place c.in-Some.next c.loop-next.marks c.loop-next.analysis.waiting.places c.take_below.new.self c.in-Some.ensures.some x.waiting);
     }
 
 pub returns-clause-analysis : goal.returns-clause-analysis
 returns-clause-analysis c =
-    let a = c.loop-place.analysis in
-    let done : IsDone c.loop-place.place a.counts = elim c.loop-place-test.branch [
-      | then-loop-place-test+else-any_left w ↦ inr w.if-any_left.ensures
-      | else-loop-place-test w ↦ inl (λ h. omega (arith, h, w.loop-place-test.false))
-    ] in
-    analysis_done c.args.log.now c.args.trail.now.trail c.loop-place.place c.loop-place.marks a (record a { hints = c.reverse.new.self }) c.requires.ready.trail done refl c.reverse.ensures.items c.loop-place.invariant.met
+    let t = c.args.trail.now.trail in
+    let a = c.loop-next.analysis in
+    let b : Analysis = record a { hints = c.reverse.new.self; waiting = record { present = a.waiting.present; places = c.take_below.new.self } } in
+    analysis_done c.args.log.now t c.loop-next.place c.loop-next.marks a b c.requires.ready.trail
+    (λ F. covers_none t c.loop-next.place c.loop-next.marks a.waiting.places F c.in_default.ensures.none c.loop-next.invariant.waiting) refl c.reverse.ensures.items c.loop-next.invariant.met

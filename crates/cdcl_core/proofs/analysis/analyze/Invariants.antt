@@ -1,13 +1,14 @@
 use Rattle.std.proofs.Common.{◌≡◌, ◌≤◌, length}
-use Rattle.cdcl_core.specs.Analysis.{IsMet}
+use Rattle.cdcl_core.specs.Analysis.{AreWaiting, IsMet}
 use Rattle.cdcl_core.proofs.analysis.analyze.Given as goal
 
-abbrev pub invariant-loop-place : goal.invariant-loop-place
-invariant-loop-place l = record {
+abbrev pub invariant-loop-next : goal.invariant-loop-next
+invariant-loop-next l = record {
   within : l.place ≤ length l.trail.trail.entries;
   size : length l.marks ≡ l.trail.trail.atoms;
   met : IsMet l.log l.trail.trail l.place l.marks l.analysis;
+  waiting : AreWaiting l.trail.trail l.place l.marks l.analysis.waiting.places;
 }
 
-abbrev pub decreases-loop-place : goal.decreases-loop-place
-decreases-loop-place l = l.place
+abbrev pub decreases-loop-next : goal.decreases-loop-next
+decreases-loop-next l = l.place

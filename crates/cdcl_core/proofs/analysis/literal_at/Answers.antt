@@ -1,7 +1,7 @@
 use Rattle.std.proofs.Common.{ℕ, ◌<◌, get_or, false, sym, ap, ◌∙◌, subst}
 use Rattle.inst_logic.specs.declared.signed.Signed.{Signed}
 use Rattle.prop_logic.proofs.ListLaws.{All-slice_get}
-use Rattle.cdcl_core.proofs.MeetLaws.{entry_at}
+use Rattle.cdcl_core.proofs.EntryLaws.{entry_at}
 use Rattle.cdcl_core.proofs.analysis.literal_at.Goals as goal
 
 pub returns-clause-atom : goal.returns-clause-atom

@@ -15,7 +15,7 @@ loop-lit-preserved c =
     let i = c.loop-lit.lit-index in
     let d : Signed ℕ = record { positive = false; atom = 0 } in
     record {
-      size = c.mark.ensures.size ∙ c.loop-lit.invariant.size;
-      marked = subst (λ xs. MarksToo t xs c.args.marks.now c.mark.new.marks c.args.counts.now c.mark.new.counts) (sym (take_more clause i d c.loop-lit-test.true))
-          (marks_more t (take i clause) (get_or clause i d) c.args.marks.now c.loop-lit.marks c.mark.new.marks c.args.counts.now c.loop-lit.counts c.mark.new.counts c.loop-lit.invariant.marked c.mark.ensures.marked);
+      size = c.in_ok-mark.ensures.size ∙ c.loop-lit.invariant.size;
+      marked = subst (λ xs. MarksToo t xs c.args.marks.now c.mark.new.marks c.args.waiting.now c.mark.new.waiting) (sym (take_more clause i d c.loop-lit-test.true))
+          (marks_more t (take i clause) (get_or clause i d) c.args.marks.now c.loop-lit.marks c.mark.new.marks c.args.waiting.now c.loop-lit.waiting c.mark.new.waiting c.loop-lit.invariant.marked c.in_ok-mark.ensures.marked);
     }

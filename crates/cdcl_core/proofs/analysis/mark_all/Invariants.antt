@@ -5,5 +5,5 @@ use Rattle.cdcl_core.proofs.analysis.mark_all.Given as goal
 abbrev pub invariant-loop-lit : goal.invariant-loop-lit
 invariant-loop-lit l = record {
   size : length l.marks ≡ l.trail.trail.atoms;
-  marked : MarksToo l.trail.trail (take l.lit-index l.clause) l.initial.marks l.marks l.initial.counts l.counts;
+  marked : MarksToo l.trail.trail (take l.lit-index l.clause) l.initial.marks l.marks l.initial.waiting l.waiting;
 }

@@ -21,7 +21,7 @@ returns-clause-resolved c =
     let marks = c.args.marks.now in
     let new = c.take.new.marks in
     let same = c.in_ok-list_fact.ensures in
-    on_ok_three c.take.result (b.clause ≡ mid.clause) (b.hints.items ≡ mid.hints.items ++ hint ∷ []) ((d : List (Signed ℕ)) → cited log.added log.steps hint ≡ Some d → MarksToo t d marks new mid.counts b.counts)
+    on_ok_three c.take.result (b.clause ≡ mid.clause) (b.hints.items ≡ mid.hints.items ++ hint ∷ []) ((d : List (Signed ℕ)) → cited log.added log.steps hint ≡ Some d → MarksToo t d marks new mid.waiting b.waiting)
     ((e : Entry) → slice_get t.entries i ≡ Some e → e.reason ≡ Some c.args.number → Resolves log t i e.lit marks new a b)
     (λ clause hints marked e at reason.
     let why = c.requires.ready.implied i c.args.number e at reason in
@@ -34,6 +34,6 @@ returns-clause-resolved c =
       unit = subst (GivesUnit before g.0) is g.2;
       same = ap (λ x. x.items) (clause ∙ same.clause);
       hints = hints ∙ ap (λ x. x.items ++ hint ∷ []) same.hints;
-      marked = subst (λ o. MarksToo t g.0 marks new o b.counts) same.counts (marked g.0 g.1);
+      marked = subst (λ o. MarksToo t g.0 marks new o b.waiting) same.waiting (marked g.0 g.1);
     })
     c.take.ensures.clause c.take.ensures.hints c.take.ensures.marked

@@ -8,7 +8,7 @@ use Rattle.prop_logic.specs.Analysis.{ClosesAll}
 use Rattle.prop_logic.proofs.ListLaws.{Contains-slice_get}
 use Rattle.prop_logic.proofs.SearchLaws.{complement_twice}
 use Rattle.cdcl_trail.specs.Propagation.{GivesUnit}
-use Rattle.cdcl_core.proofs.MeetLaws.{entry_at}
+use Rattle.cdcl_core.proofs.EntryLaws.{entry_at}
 use Rattle.cdcl_core.proofs.EndLaws.{literals_differ}
 use Rattle.cdcl_core.proofs.SearchLaws.{implied_of}
 use Rattle.cdcl_core.proofs.UnitLaws.{Leads, leads_same, leads_more, leads_done, false_other}

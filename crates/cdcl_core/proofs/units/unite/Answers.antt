@@ -6,7 +6,8 @@ use Rattle.prop_logic.specs.Analysis.{ClosesAll}
 use Rattle.prop_logic.proofs.ListLaws.{Contains-slice_get}
 use Rattle.cdcl_trail.specs.declared.entry.Entry.{Entry}
 use Rattle.cdcl_core.specs.Search.{IsLogMore}
-use Rattle.cdcl_core.proofs.MeetLaws.{entry_at, reason_read, on_ok}
+use Rattle.cdcl_core.proofs.EntryLaws.{entry_at}
+use Rattle.cdcl_core.proofs.MeetLaws.{reason_read, on_ok}
 use Rattle.cdcl_core.proofs.units.unite.Goals as goal
 
 pub unit_hints-requires-clause-given : goal.unit_hints-requires-clause-given
