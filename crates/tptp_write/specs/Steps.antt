@@ -6,7 +6,6 @@ use Rattle.inst_logic.specs.Measure.{tree_size}
 use Rattle.inst_logic.specs.Printing.{tree_text}
 use Rattle.tptp_write.specs.declared.terms.Step.{Step}
 use Rattle.tptp_write.specs.declared.terms.Step.TheVariants.{Print, PrintNext, Close}
-use Rattle.inst_logic.specs.Codes as byte
 
 -- what a step prints
 abbrev pub step_text : Step → List ℕ
