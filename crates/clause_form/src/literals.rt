@@ -8,11 +8,15 @@ use inst_logic::Memory;
 use std::alloc::Global;
 use term_bank::{IdClause, IdLiteral, TermId};
 
+// So many literals at most are compared with each other: for them a set would cost more than it saves.
+const FEW: usize = 8;
+
 // The atoms of the literals, in order.
 pub fn atoms_of(alloc: Global, literals: &[IdLiteral]) -> Result<Vec<TermId>, Memory>
     ensures { IfOk result (λ v. v.items ≡ map (λ l. l.atom) literals.now) }
 {
     let mut atoms = Vec::new(alloc);
+    atoms.reserve_exact(literals.len())?;
     for l in literals {
         atoms.push(l.atom)?;
     }
@@ -45,12 +49,35 @@ fn room_for(alloc: Global, count: usize) -> Result<IdClause, Memory>
     Ok(IdClause::from(literals))
 }
 
-// The literals with other atoms, each repeated one at its first place only.
-pub fn clause_of(
-    alloc: Global,
-    literals: &[IdLiteral],
-    atoms: &[TermId],
-) -> Result<IdClause, Memory>
+// The same, where the literals are looked at one by one.
+fn add_to_few(clause: &mut IdClause, literal: IdLiteral) -> Result<(), Memory>
+    ensures { OnOk result (clause.new ≡ with_item id_eq clause.old literal) }
+{
+    if clause.as_slice().contains(&literal) {
+        return Ok(());
+    }
+    clause.push(literal)?;
+    Ok(())
+}
+
+// The literals with other atoms, each repeated one at its first place only, where they are few.
+fn few_of(alloc: Global, literals: &[IdLiteral], atoms: &[TermId]) -> Result<IdClause, Memory>
+    requires { length literals.now ≡ length atoms.now }
+    ensures { IfOk result (λ d. d ≡ distinct id_eq (with_atoms literals.now atoms.now)) }
+{
+    let mut clause = room_for(alloc, literals.len())?;
+    for (i, l) in literals.iter().enumerate() {
+        let literal = IdLiteral {
+            positive: l.positive,
+            atom: atoms[i],
+        };
+        add_to_few(&mut clause, literal)?;
+    }
+    Ok(clause)
+}
+
+// The same where they may be many.
+fn many_of(alloc: Global, literals: &[IdLiteral], atoms: &[TermId]) -> Result<IdClause, Memory>
     requires { length literals.now ≡ length atoms.now }
     ensures { IfOk result (λ d. d ≡ distinct id_eq (with_atoms literals.now atoms.now)) }
 {
@@ -64,4 +91,20 @@ pub fn clause_of(
         add_literal(&mut seen, &mut clause, literal)?;
     }
     Ok(clause)
+}
+
+// The literals with other atoms, each repeated one at its first place only.
+pub fn clause_of(
+    alloc: Global,
+    literals: &[IdLiteral],
+    atoms: &[TermId],
+) -> Result<IdClause, Memory>
+    requires { length literals.now ≡ length atoms.now }
+    ensures { IfOk result (λ d. d ≡ distinct id_eq (with_atoms literals.now atoms.now)) }
+{
+    if literals.len() <= FEW {
+        few_of(alloc, literals, atoms)
+    } else {
+        many_of(alloc, literals, atoms)
+    }
 }
