@@ -21,12 +21,6 @@ chosen_weight c (suc i) l s light =
     let h : tree_weight s.member.selected.atom < 2 ^ 64 - 1 = all_in (λ (m : Member). tree_weight m.selected.atom < 2 ^ 64 - 1) (selected_members (saturation_of c)) light s.member (selected_is_member (saturation_of c) i s.member s.is) in
     subst (λ (k : Signed Tree). tree_weight k.atom < 2 ^ 64 - 1) s.literal h
 
-pub light_at : (c : Saturation) (i : ℕ) (l : Signed ℕ) → IsSelectedLiteral c (suc i) l → tree_weight (tree_at c.base.bank l.atom) < 2 ^ 64 - 1 → IsLight c i
-light_at c i l s light m is =
-    let e : m ≡ s.member = selected_once (saturation_of c).base.members (saturation_of c).places (suc i) m s.member is s.is in
-    let w : tree_weight s.member.selected.atom < 2 ^ 64 - 1 = subst (λ (k : Signed Tree). tree_weight k.atom < 2 ^ 64 - 1) (sym s.literal) light in
-    subst (λ (x : Member). tree_weight x.selected.atom < 2 ^ 64 - 1) (sym e) w
-
 pub all_light : (c : Saturation) (n : ℕ) → length c.base.members ≤ n → ((i : ℕ) → i < n → IsLight c i) → AreLight (selected_members (saturation_of c))
 all_light c n all each = in_all (λ (m : Member). tree_weight m.selected.atom < 2 ^ 64 - 1) (selected_members (saturation_of c)) (λ m i.
     let (k, s) = selected_number (saturation_of c) m i in
