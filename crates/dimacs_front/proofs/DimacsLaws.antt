@@ -10,7 +10,8 @@ use Rattle.dimacs_front.specs.declared.error.DimacsError.{DimacsError}
 use Rattle.dimacs_front.specs.declared.error.DimacsError.TheVariants.{Syntax, Count, Limit}
 use Rattle.dimacs_front.specs.declared.header.Header.{Header}
 use Rattle.dimacs_front.specs.declared.cnf.Cnf.{Cnf}
-use Rattle.dimacs_front.proofs.Spelling.{and_parts, not_lt, spelled_number, number_spells}
+use Rattle.inst_logic.proofs.Booleans.{both_true}
+use Rattle.dimacs_front.proofs.Spelling.{not_lt, spelled_number, number_spells}
 use Rattle.dimacs_front.proofs.SpelledClauses.{AreRead, clauses_read, tokens_spell}
 
 same_is : (a b : List ℕ) → same_bytes a b ≡ true → a ≡ b
@@ -18,7 +19,7 @@ same_is [] [] e = refl
 same_is [] (y ∷ ys) e = absurd (let f : false ≡ true = e in cc)
 same_is (x ∷ xs) [] e = absurd (let f : false ≡ true = e in cc)
 same_is (x ∷ xs) (y ∷ ys) e =
-    let p = and_parts (nat_eq x y) (same_bytes xs ys) e in
+    let p = both_true (nat_eq x y) (same_bytes xs ys) e in
     ap (λ n. n ∷ xs) (eqb-true x y p.0) ∙ ap (λ t. y ∷ t) (same_is xs ys p.1)
 
 not_over : (n : ℕ) → n ≤ 1000000 → nat_lt 1000000 n ≡ false
@@ -104,7 +105,7 @@ vars_inverse : (p cnf v : List ℕ) (n : ℕ) → (if same_bytes p (codes "p") &
 vars_inverse p cnf v n e = by (same_bytes p (codes "p") && same_bytes cnf (codes "cnf")) refl e
   where
     by : (b : Bool) → (same_bytes p (codes "p") && same_bytes cnf (codes "cnf")) ≡ b → (if b then number v else None) ≡ Some n → (p ≡ codes "p") × (cnf ≡ codes "cnf") × (number v ≡ Some n)
-    by true t f = let q = and_parts (same_bytes p (codes "p")) (same_bytes cnf (codes "cnf")) t in (same_is p (codes "p") q.0, same_is cnf (codes "cnf") q.1, f)
+    by true t f = let q = both_true (same_bytes p (codes "p")) (same_bytes cnf (codes "cnf")) t in (same_is p (codes "p") q.0, same_is cnf (codes "cnf") q.1, f)
     by false t f = absurd (let g : None ≡ Some n = f in cc)
 
 heads : (line : ℕ) (ws : List (List ℕ)) (h : Header) → header_on line ws ≡ Ok h → Heads line ws h

@@ -2,16 +2,14 @@
 use Rattle.std.proofs.Common.{◌≡◌, ◌≢◌, ℕ, ◌+◌, ◌-◌, ◌*◌, ◌<◌, ◌≤◌, ◌==◌, ◌&&◌, Bool, true, false, List, [], ◌∷◌, ◌++◌, length, drop, Option, None, Some, nat_lt, nat_le, if◌then◌else◌, refl, ap, sym, subst, inl, inr, ◌∙◌, arith}
 use Rattle.std.proofs.lemmas.Bool.{cases_Bool, eqb-true, eqb-false, eq-eqb, cases_lt, ltb-true, lt-ltb, leb-true, le-leb}
 use Rattle.std.specs.List.{list_all}
-use Rattle.std.specs.Char.{is_ascii_digit}
+use Rattle.std.specs.Char.{is_ascii_digit, digit_value}
+use Rattle.std.proofs.lemmas.Str.{digit_value_digit}
+use Rattle.inst_logic.proofs.Booleans.{both_true}
 use Rattle.inst_logic.specs.declared.signed.Signed.{Signed}
 use Rattle.dimacs_front.specs.Lines.{begins}
 use Rattle.dimacs_front.specs.Numbers.{value, digits_value, unless_zeros, number, mark_by, mark_of}
 use Rattle.dimacs_front.specs.Dimacs.{Spells, SpellsLiteral}
 use Rattle.dimacs_front.specs.declared.numbers.Mark.TheVariants.{End, Literal}
-
-pub and_parts : (a b : Bool) → (a && b) ≡ true → (a ≡ true) × (b ≡ true)
-and_parts true b e = (refl, e)
-and_parts false b e = absurd (let f : false ≡ true = e in cc)
 
 pub not_lt : (a b : ℕ) → nat_lt a b ≡ false → b ≤ a
 not_lt a b e = elim (cases_lt a b) [ inl h ↦ absurd (let f = lt-ltb a b h in cc) | inr h ↦ h ]
@@ -44,7 +42,7 @@ read_digits n len v false e = absurd (let f : None ≡ Some n = e in cc)
 read_within : (n : ℕ) (ds : List ℕ) (b : Bool) → (nat_lt 0 (length ds) && nat_le (length ds) 10) ≡ b → (if b then unless_zeros (length ds) (digits_value ds) else None) ≡ Some n → Spells n ds
 read_within n ds false t e = absurd (let f : None ≡ Some n = e in cc)
 read_within n ds true t e =
-    let p = and_parts (nat_lt 0 (length ds)) (nat_le (length ds) 10) t in
+    let p = both_true (nat_lt 0 (length ds)) (nat_le (length ds) 10) t in
     let some = ltb-true 0 (length ds) p.0 in
     let d = read_digits n (length ds) (value ds) (list_all is_ascii_digit ds) e in
     let z = read_zeros n (value ds) (length ds) (value ds == 0 && nat_lt 1 (length ds)) some refl d.1 in
@@ -57,7 +55,7 @@ number_spells n ds e = read_within n ds (nat_lt 0 (length ds) && nat_le (length 
 no_minus : (ds : List ℕ) → list_all is_ascii_digit ds ≡ true → begins 45 ds ≡ false
 no_minus [] h = refl
 no_minus (d ∷ ds) h = elim (cases_Bool (d == 45)) [
-  | inl e ↦ let p = and_parts (is_ascii_digit d) (list_all is_ascii_digit ds) h in let q : is_ascii_digit 45 ≡ true = subst (λ n. is_ascii_digit n ≡ true) (eqb-true d 45 e) p.0 in absurd (let f : false ≡ true = q in cc)
+  | inl e ↦ let p = both_true (is_ascii_digit d) (list_all is_ascii_digit ds) h in let q : is_ascii_digit 45 ≡ true = subst (λ n. is_ascii_digit n ≡ true) (eqb-true d 45 e) p.0 in absurd (let f : false ≡ true = q in cc)
   | inr e ↦ e
 ]
 
@@ -122,10 +120,10 @@ literal_spells l word e = elim (cases_Bool (begins 45 word)) [
 one_digit : (word : List ℕ) → Spells 0 word → word ≡ 48 ∷ []
 one_digit [] s = absurd (let h = s.some in omega arith)
 one_digit (d ∷ []) s =
-    let p = and_parts (is_ascii_digit d) true s.are_digits in
-    let v : 0 * 10 + (d - 48) ≡ 0 = s.is in
-    let q = and_parts (nat_le 48 d) (nat_le d 57) p.0 in
-    let low = leb-true 48 d q.0 in
+    let p = both_true (is_ascii_digit d) true s.are_digits in
+    let v : 0 * 10 + digit_value d ≡ 0 = s.is in
+    let q = both_true (nat_le 48 d) (nat_le d 57) p.0 in
+    let back : digit_value d + 48 ≡ d = digit_value_digit d (leb-true 48 d q.0, leb-true d 57 q.1) in
     let is : d ≡ 48 = omega arith in
     ap (λ n. n ∷ []) is
 one_digit (d ∷ e ∷ word) s = let h : length (d ∷ e ∷ word) ≡ 1 = s.zero_is_one refl in absurd (omega arith)

@@ -2,6 +2,7 @@
 use Rattle.std.specs.Prelude.{◌≡◌, ◌≢◌, ℕ, ◌+◌, ◌<◌, ◌≤◌, List, [], ◌∷◌, ◌++◌, length, true, codes, All, if◌then◌else◌}
 use Rattle.std.specs.List.{list_all}
 use Rattle.std.specs.Char.{is_ascii_digit}
+use Rattle.inst_logic.specs.Codes as byte
 use Rattle.inst_logic.specs.declared.signed.Signed.{Signed}
 use Rattle.dimacs_front.specs.Lines.{Placed, placed, tokens}
 use Rattle.dimacs_front.specs.Numbers.{value}

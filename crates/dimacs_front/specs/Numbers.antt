@@ -1,19 +1,17 @@
 -- Numbers, and what a token among the clauses says.
-use Rattle.std.specs.Prelude.{ℕ, ◌<◌, ◌+◌, ◌-◌, ◌*◌, List, [], ◌∷◌, length, drop, Bool, true, false, ◌&&◌, ◌==◌, nat_le, nat_lt, Option, None, Some, if◌then◌else◌}
+use Rattle.std.specs.Prelude.{ℕ, ◌<◌, ◌-◌, List, length, drop, Bool, true, false, ◌&&◌, ◌==◌, nat_le, nat_lt, Option, None, Some, if◌then◌else◌}
 use Rattle.std.specs.List.{list_all}
 use Rattle.std.specs.Char.{is_ascii_digit}
+use Rattle.std.specs.Str.Parse as parse
+use Rattle.inst_logic.specs.Codes as byte
 use Rattle.dimacs_front.specs.Lines.{begins}
 use Rattle.dimacs_front.specs.declared.numbers.Mark.{Mark}
 use Rattle.dimacs_front.specs.declared.numbers.Mark.TheVariants.{End, Literal}
 use Rattle.inst_logic.specs.Codes as byte
 
--- the value of decimal digits that stand behind those of n
-abbrev pub value_behind : ℕ → List ℕ → ℕ
-value_behind n [] = n
-value_behind n (d ∷ ds) = value_behind (n * 10 + (d - 48)) ds
-
+-- the value of decimal digits
 abbrev pub value : List ℕ → ℕ
-value ds = value_behind 0 ds
+value ds = parse.digits_value 10 ds
 
 -- the value, where all bytes are digits
 abbrev pub digits_value : List ℕ → Option ℕ

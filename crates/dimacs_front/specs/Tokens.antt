@@ -1,5 +1,6 @@
 -- A text that is read from a place on.
 use Rattle.std.specs.Prelude.{◌≡◌, ℕ, ◌+◌, ◌∷◌, ◌++◌, ◌==◌, List, [], Bool, true, false, Option, None, Some, map, if◌then◌else◌}
+use Rattle.inst_logic.specs.Codes as byte
 use Rattle.dimacs_front.specs.Lines.{Placed, placed, lines, words, begins_word, tokens_from, end_from}
 use Rattle.dimacs_front.specs.declared.stream.Token.{Token}
 use Rattle.dimacs_front.specs.declared.stream.Tokens.{Tokens}
@@ -34,11 +35,6 @@ abbrev pub IsAtWord : Bool → List ℕ → Type 0
 IsAtWord fresh [] = Unit {0}
 IsAtWord true (b ∷ bs) = b ≡ byte.percent
 IsAtWord false (b ∷ bs) = begins_word (b ∷ bs) ≡ true
-
--- how many bytes at the front pass the test
-abbrev pub run : (ℕ → Bool) → List ℕ → ℕ
-run p [] = 0
-run p (b ∷ bs) = if p b then run p bs + 1 else 0
 
 -- from the line's end on
 abbrev pub from_line_end : List ℕ → List ℕ

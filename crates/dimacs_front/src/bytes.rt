@@ -1,7 +1,8 @@
 // Bytes by their classes.
-ghost use Rattle.std.specs.Prelude.{◌≡◌, ◌≤◌, ◌≢◌, ◌==◌, ◌↔◌, length, not, IsTrue, drop};
+ghost use Rattle.std.specs.Prelude.{◌≡◌, ◌≤◌, ◌≢◌, ◌==◌, ◌↔◌, length, IsTrue, drop};
+ghost use Rattle.std.specs.List.{position_or_len};
 ghost use Rattle.dimacs_front.specs.Lines.{is_blank};
-ghost use Rattle.dimacs_front.specs.Tokens.{from_line_end, run};
+ghost use Rattle.dimacs_front.specs.Tokens.{from_line_end};
 
 pub(crate) fn is_blank(b: u8) -> bool
     ensures { result ≡ is_blank b }
@@ -11,7 +12,7 @@ pub(crate) fn is_blank(b: u8) -> bool
 
 // How many bytes come before the next blank.
 pub(crate) fn word_len(bytes: &[u8]) -> usize
-    ensures is { result ≡ run (λ b. not (is_blank b)) bytes.now }
+    ensures is { result ≡ position_or_len is_blank bytes.now }
     ensures within { result ≤ length bytes.now }
 {
     let mut n = 0;

@@ -1,8 +1,0 @@
-use Rattle.std.proofs.Common.{◌≡◌, ◌+◌}
-use Rattle.dimacs_front.proofs.solving.make_atoms.Given as goal
-
-abbrev pub invariant-loop : goal.invariant-loop
-invariant-loop g l = record {
-  atoms : g.S.Solver.atoms l.solver ≡ g.S.Solver.atoms l.initial.solver + l.counter;
-  added : g.S.Solver.added l.solver ≡ g.S.Solver.added l.initial.solver;
-}
