@@ -1,5 +1,5 @@
 // The next token. Each byte is passed once, and nothing is copied.
-ghost use Rattle.std.specs.Prelude.{◌≡◌, drop};
+ghost use Rattle.std.specs.Prelude.{◌≡◌};
 ghost use Rattle.dimacs_front.specs.Lines.{tokens, end_line};
 ghost use Rattle.dimacs_front.specs.Tokens.{coming, end_of, ended, Gives, IsAtWord};
 
