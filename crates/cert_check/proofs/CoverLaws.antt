@@ -3,21 +3,16 @@ use Rattle.std.proofs.Common.{◌≡◌, ◌↔◌, inl, inr, ℕ, ◌<◌, List
 use Rattle.std.specs.Prelude.{All, Any, Bool, IsTrue}
 use Rattle.std.proofs.lemmas.List.{length-map}
 use Rattle.inst_logic.specs.declared.signed.Signed.{Signed}
-use Rattle.inst_logic.specs.Clauses.{TreeClause, canonical_form, instance, Subsumes, IsCanonical}
+use Rattle.inst_logic.specs.Clauses.{TreeClause, canonical_form, Subsumes, IsCanonical}
 use Rattle.inst_calculus.specs.Saturation.{IsCovered, tautology, variant, shorter}
 use Rattle.inst_calculus.proofs.CanonicalForms.{canonical_of_canonical}
 use Rattle.inst_calculus.proofs.CoveredInstances.{covered_when_renamed}
 use Rattle.inst_calculus.proofs.Membership.{◌∈◌, any_in, in_any, all_in, in_all, in_map, from_map, contains_in, in_contains}
 use Rattle.inst_logic.specs.Signed.{IsTautology}
-use Rattle.inst_logic.specs.Unifiers.{Sided}
 use Rattle.clause_form.specs.Conclusions.{AreCanonicalIn}
 use Rattle.clause_form.proofs.Ids.{variants_equal}
-use Rattle.term_bank.specs.Forest.{literal_tree, Forest, AreDistinct, Extends, IsClauseAt, IsClauseOf, clause_at}
+use Rattle.term_bank.specs.Forest.{literal_tree, Forest, AreDistinct, Extends, IsClauseOf, clause_at}
 use Rattle.term_bank.proofs.Clauses.{clause_extends}
-use Rattle.unify_core.specs.Chains.{AreBindings}
-use Rattle.unify_core.specs.Sides.{Binding, IsResolvedBy, of_side}
-use Rattle.unify_core.specs.declared.side.Side.{Side}
-use Rattle.clause_form.proofs.Concluded.{solution_of}
 use Rattle.saturation_cert.specs.declared.member.Member.{Member}
 use Rattle.saturation_cert.specs.Wholes.{IsWholeClause}
 use Rattle.cert_check.specs.Covers.{Covers, CoversOf, ShorterOf, IsCoveredIn}
@@ -70,14 +65,6 @@ module _ (f g : Forest) (grown : Extends f g) (ms : List Member) (whole : All (�
       (λ h. covered_when_renamed (map (clause_of f) ms) (clause_at f c) (clause_at g d) e (from_members h) (ap canonical_form form ∙ canonical_of_canonical e)),
       (λ h. to_members (covered_when_renamed (map (clause_of f) ms) (clause_at f c) e (clause_at g d) h (sym (ap canonical_form form ∙ canonical_of_canonical e)))),
     )
-
--- what is made of bindings that stand for some substitution is canonical
-pub made_form : (f g : Forest) (es : List Binding) (x : Side) (c d : List (Signed ℕ)) → AreBindings f es
-    → ((s : Sided) → IsResolvedBy f es s → IsClauseAt g d (canonical_form (instance (of_side s x) (clause_at f c)))) → IsClauseOf g d × IsCanonical (clause_at g d)
-made_form f g es x c d b made =
-    let (s, r) = solution_of f es b in
-    let k = made s r in
-    (k.0, subst IsCanonical (sym k.1) (canonical_of_canonical (instance (of_side s x) (clause_at f c))))
 
 -- the members that cover a canonical clause: those with its ids, and shorter ones
 module _ (f : Forest) (ms : List Member) (distinct : AreDistinct f.trees) (ids : All (λ m. IsClauseOf f m.clause) ms) (canonical : AreCanonicalMembers f ms)

@@ -1,9 +1,9 @@
 -- Lists of clauses and their ids.
-use Rattle.std.proofs.Common.{◌≡◌, ℕ, ◌+◌, ◌<◌, List, [], ◌∷◌, ◌++◌, refl, ap, ap₂, sym, ◌∙◌, map, subst, arith, inl, inr, length, take, get_or, true, false, Bool}
+use Rattle.std.proofs.Common.{◌≡◌, ℕ, ◌+◌, ◌<◌, List, [], ◌∷◌, ◌++◌, ap, ap₂, sym, ◌∙◌, map, subst, inl, inr, length, take, get_or}
 use Rattle.std.specs.Prelude.{All}
 use Rattle.std.specs.List.{list_all}
 use Rattle.std.proofs.lemmas.List.{map-append, take_more}
-use Rattle.std.proofs.lemmas.List.Folds.{list_all-append, list_all_at}
+use Rattle.std.proofs.lemmas.List.Folds.{list_all-append}
 use Rattle.inst_logic.specs.declared.signed.Signed.{Signed}
 use Rattle.inst_logic.specs.Clauses.{TreeClause}
 use Rattle.inst_logic.specs.WellFormed.{IsAtom, IsFormedClause, AreFormedClauses, clause_is_formed, atom_is_formed}
@@ -11,34 +11,20 @@ use Rattle.inst_logic.proofs.SameLemmas.{and_right}
 use Rattle.inst_calculus.specs.Axioms.{equality_axioms, with_axioms}
 use Rattle.inst_calculus.proofs.Membership.{◌∈◌, all_in, in_all, in_either, all_pass, from_map}
 use Rattle.term_bank.specs.Forest.{Forest, Extends, IsClauseOf, clause_at, tree_at}
-use Rattle.term_bank.proofs.Clauses.{clause_extends}
+use Rattle.term_bank.proofs.Clauses.{clause_of_extends, clauses_extend}
 use Rattle.saturation_cert.specs.Wholes.{IsWholeClause}
-
-pub ids_same : (f g : Forest) → Extends f g → (cs : List (List (Signed ℕ))) → ((c : List (Signed ℕ)) → c ∈ cs → IsClauseOf f c) → map (clause_at g) cs ≡ map (clause_at f) cs
-ids_same f g grown [] h = refl
-ids_same f g grown (c ∷ cs) h = ap₂ (λ x xs. x ∷ xs) (clause_extends f g grown c (h c (inl refl))) (ids_same f g grown cs (λ d i. h d (inr i)))
-
-pub ids_grown : (f g : Forest) → Extends f g → (c : List (Signed ℕ)) → IsClauseOf f c → IsClauseOf g c
-ids_grown f g grown c h = in_all (λ (l : Signed ℕ). l.atom < length g.trees) c (λ l i. let k = all_in (λ (m : Signed ℕ). m.atom < length f.trees) c h l i in omega (arith, k, grown.trees.0))
 
 -- one more clause
 pub one_more_at : (f g : Forest) → Extends f g → (cs : List (List (Signed ℕ))) (c : List (Signed ℕ)) (trees : List TreeClause) (i : ℕ) (d : TreeClause) → All (IsClauseOf f) cs
     → map (clause_at f) cs ≡ take i trees → i < length trees → d ≡ get_or trees i d → clause_at g c ≡ d → map (clause_at g) (cs ++ c ∷ []) ≡ take (i + 1) trees
 one_more_at f g grown cs c trees i d ids at within is here =
-    map-append (clause_at g) cs (c ∷ []) ∙ ap₂ (λ xs x. xs ++ x ∷ []) (ids_same f g grown cs (all_in (IsClauseOf f) cs ids) ∙ at) (here ∙ is) ∙ sym (take_more trees i d within)
+    map-append (clause_at g) cs (c ∷ []) ∙ ap₂ (λ xs x. xs ++ x ∷ []) (clauses_extend f g grown cs (all_in (IsClauseOf f) cs ids) ∙ at) (here ∙ is) ∙ sym (take_more trees i d within)
 
 pub one_more_in : (f g : Forest) → Extends f g → (cs : List (List (Signed ℕ))) (c : List (Signed ℕ)) → All (IsClauseOf f) cs → IsClauseOf g c → All (IsClauseOf g) (cs ++ c ∷ [])
 one_more_in f g grown cs c ids here = in_all (IsClauseOf g) (cs ++ c ∷ []) each
   where
     each : (d : List (Signed ℕ)) → d ∈ (cs ++ c ∷ []) → IsClauseOf g d
-    each d i = elim (in_either d cs (c ∷ []) i) [ inl k ↦ ids_grown f g grown d (all_in (IsClauseOf f) cs ids d k) | inr (inl e) ↦ subst (IsClauseOf g) (sym e) here | inr (inr b) ↦ absurd b ]
-
-pub formed_at : (trees : List TreeClause) (i : ℕ) (d : TreeClause) → AreFormedClauses trees → i < length trees → d ≡ get_or trees i d → IsFormedClause d
-formed_at trees i d h within is = by (clause_is_formed (get_or trees i d)) refl
-  where
-    by : (b : Bool) → clause_is_formed (get_or trees i d) ≡ b → IsFormedClause d
-    by true e = ap clause_is_formed is ∙ e
-    by false e = let no = list_all_at clause_is_formed trees i d within e in absurd (cc)
+    each d i = elim (in_either d cs (c ∷ []) i) [ inl k ↦ clause_of_extends f g grown d (all_in (IsClauseOf f) cs ids d k) | inr (inl e) ↦ subst (IsClauseOf g) (sym e) here | inr (inr b) ↦ absurd b ]
 
 -- whole clauses are formed
 pub whole_formed : (f : Forest) (c : List (Signed ℕ)) → IsWholeClause f c → IsFormedClause (clause_at f c)

@@ -6,7 +6,7 @@ use Rattle.inst_logic.specs.Clauses.{TreeClause}
 use Rattle.inst_calculus.specs.Entries.{Entry}
 use Rattle.inst_calculus.proofs.OneConclusion.{one_conclusion}
 use Rattle.term_bank.specs.Forest.{Forest, AreDistinct, Extends, IsClauseOf, clause_at}
-use Rattle.term_bank.proofs.Clauses.{clause_extends}
+use Rattle.term_bank.proofs.Clauses.{clause_extends, clause_of_extends}
 use Rattle.cert_format.specs.Validity.{Gives, IsConclusion, IsRightMember}
 use Rattle.saturation_cert.specs.declared.member.Member.{Member}
 use Rattle.saturation_cert.specs.declared.member.Origin.{Origin}
@@ -15,7 +15,6 @@ use Rattle.saturation_cert.specs.declared.certificate.Base.{Base}
 use Rattle.saturation_cert.specs.Values.{base_of, entry_of, origin_of}
 use Rattle.cert_check.specs.Conclusions.{MembersGive}
 use Rattle.clause_form.proofs.Ids.{same_ids}
-use Rattle.cert_check.proofs.Interning.{ids_grown}
 use Rattle.cert_check.proofs.Rightness.{right_by}
 
 -- the ids of the conclusion are those of the clause where the clause is the conclusion
@@ -24,7 +23,7 @@ pub gives_by : (f g : Forest) → Extends f g → AreDistinct g.trees → (es : 
 gives_by f g grown once es from place partner other clause d in_clause in_d h = (
   (λ e. subst (IsConclusion es from place partner other) (ap (clause_at g) e ∙ clause_extends f g grown clause in_clause) h),
   (λ k.
-      same_ids g once d clause in_d (ids_grown f g grown clause in_clause)
+      same_ids g once d clause in_d (clause_of_extends f g grown clause in_clause)
       (one_conclusion es from place partner other (clause_at g d) (clause_at f clause) h k ∙ sym (clause_extends f g grown clause in_clause))),
 )
 

@@ -12,16 +12,15 @@ use Rattle.inst_calculus.proofs.Clauses.{literal_var, literals_agree}
 use Rattle.inst_logic.specs.Derivations.{at_number}
 use Rattle.inst_calculus.proofs.Membership.{◌∈◌}
 use Rattle.term_bank.specs.Forest.{Forest, AreDistinct, Extends, IsClauseOf, clause_at}
-use Rattle.term_bank.proofs.Clauses.{clause_extends}
+use Rattle.term_bank.proofs.Clauses.{clause_extends, clause_of_extends}
 use Rattle.clause_form.proofs.Ids.{same_ids}
-use Rattle.cert_check.proofs.Interning.{ids_grown}
 
 -- the ids of the canonical form are those of the clause where their trees are equal
 pub same_form : (f g : Forest) → Extends f g → AreDistinct g.trees → (from clause d : List (Signed ℕ)) → IsClauseOf f clause → IsClauseOf g d
     → clause_at g d ≡ canonical_form (clause_at f from) → (d ≡ clause) ↔ (clause_at f clause ≡ canonical_form (clause_at f from))
 same_form f g grown once from clause d in_clause in_d at = (
   (λ e. sym (clause_extends f g grown clause in_clause) ∙ ap (clause_at g) (sym e) ∙ at),
-  (λ e. same_ids g once d clause in_d (ids_grown f g grown clause in_clause) (at ∙ sym e ∙ sym (clause_extends f g grown clause in_clause))),
+  (λ e. same_ids g once d clause in_d (clause_of_extends f g grown clause in_clause) (at ∙ sym e ∙ sym (clause_extends f g grown clause in_clause))),
 )
 
 -- a literal without variables is in canonical form

@@ -9,6 +9,7 @@ use Rattle.inst_logic.proofs.ShownLaws.{HasAtoms, NameAtoms, hint_renamed, shown
 use Rattle.inst_calculus.specs.Steps.{Step as TreeStep, cited_clause}
 use Rattle.inst_calculus.proofs.Membership.{◌∈◌, all_in, in_all, from_map, contains_in}
 use Rattle.term_bank.specs.Forest.{Forest, AreDistinct, clause_at, tree_at}
+use Rattle.term_bank.proofs.Growth.{none_left}
 use Rattle.prop_logic.specs.Literal.{cited, AllAtomsBelow, AtomsBelow, StepsBelow, IsShownStep}
 use Rattle.prop_logic.specs.declared.literal.Step.{Step}
 use Rattle.saturation_cert.specs.declared.certificate.GroundHint.{GroundHint}
@@ -65,10 +66,6 @@ all_cited_below n gs before a b hs = in_all (λ o. (c : List (Signed ℕ)) → o
     let (g, j, same) = from_map (cited gs before) o (map numbered_hint hs) i in
     let (h, k, is) = from_map numbered_hint g hs j in
     cited_below n gs before a b h c (ap (cited gs before) is ∙ same ∙ e))
-
-none_left : {A B : Type 0} (f : A → B) (xs : List A) → xs ≢ [] → map f xs ≢ []
-none_left f [] n e = n refl
-none_left f (x ∷ xs) n e = absurd cc
 
 module _ (r : Refutation) (whole : IsWholeRefutation r) (once : AreDistinct r.base.bank.trees) where
   abbrev f : Forest

@@ -3,7 +3,8 @@ use Rattle.std.specs.Prelude.{All}
 use Rattle.inst_logic.specs.WellFormed.{AreFormedClauses}
 use Rattle.term_bank.specs.Forest.{IsClauseOf, clause_at}
 use Rattle.term_bank.proofs.Growth.{extends_trans}
-use Rattle.cert_check.proofs.Interning.{one_more_at, one_more_in, formed_at}
+use Rattle.term_bank.proofs.Clauses.{formed_at}
+use Rattle.cert_check.proofs.Interning.{one_more_at, one_more_in}
 use Rattle.cert_check.proofs.axioms.interned.Goals as goal
 
 pub loop-c-preserved : goal.loop-c-preserved

@@ -2,7 +2,7 @@ use Rattle.std.proofs.Common.{◌↔◌, subst}
 use Rattle.std.proofs.lemmas.Result.{IfOk-weaker}
 use Rattle.std.specs.Prelude.{IsTrue}
 use Rattle.cert_check.specs.Covers.{IsCoveredIn}
-use Rattle.cert_check.proofs.CoverLaws.{members_later, canonical_later, made_form, covered_in}
+use Rattle.cert_check.proofs.CoverLaws.{members_later, canonical_later, covered_in}
 use Rattle.cert_check.proofs.LookupLaws.{lookup_later}
 use Rattle.cert_check.proofs.cover.is_covered.Goals as goal
 
@@ -16,12 +16,10 @@ pub has_cover-requires-clause-lookup : goal.has_cover-requires-clause-lookup
 has_cover-requires-clause-lookup c = lookup_later c.args.bank.now c.conclude_clause.new.bank c.conclude_clause.ensures.extends c.args.members.now c.requires.members c.args.lookup.now c.requires.lookup
 
 pub has_cover-requires-clause-clause : goal.has_cover-requires-clause-clause
-has_cover-requires-clause-clause c =
-    (made_form c.args.bank.now c.conclude_clause.new.bank c.args.bindings.now.entries c.args.side c.args.c.now c.in_ok-conclusion.conclusion c.requires.bindings c.in_ok-conclusion.ensures.made).0
+has_cover-requires-clause-clause c = c.in_ok-conclusion.ensures.ids
 
 pub has_cover-requires-clause-canonical : goal.has_cover-requires-clause-canonical
-has_cover-requires-clause-canonical c =
-    (made_form c.args.bank.now c.conclude_clause.new.bank c.args.bindings.now.entries c.args.side c.args.c.now c.in_ok-conclusion.conclusion c.requires.bindings c.in_ok-conclusion.ensures.made).1
+has_cover-requires-clause-canonical c = c.in_ok-conclusion.ensures.canonical
 
 pub returns-clause-covered : goal.returns-clause-covered
 returns-clause-covered c =
