@@ -31,7 +31,9 @@ use Rattle.saturation_cert.specs.Truths.{IsSelectedLiteral}
 use Rattle.saturation_cert.specs.Values.{base_of, saturation_of, entry_of}
 use Rattle.saturation_cert.specs.Wholes.{IsWholeSaturation, HasPlaces, KeepsSaturation}
 use Rattle.cert_format.specs.Validity.{IsValidBase}
-use Rattle.cert_check.specs.Closings.{IsSideCovered, IsSideClosed, IsProperSomewhere, IsPairClosed}
+use Rattle.inst_calculus.proofs.Choice.{swapped, swapped_general}
+use Rattle.cert_check.specs.Closings.{IsGeneralOn, IsSideCovered, IsSideClosed, IsProperSomewhere, IsPairClosed}
+use Rattle.cert_check.specs.Origins.{IsMade}
 use Rattle.cert_check.specs.Grounds.{AreCanonicalMembers}
 use Rattle.cert_check.proofs.Bases.{member_canonical}
 use Rattle.cert_check.proofs.CoverLaws.{clause_of}
@@ -102,11 +104,11 @@ module _ (c : Saturation) where
 
 -- what holds over a grown bank held before
 module _ (old new : Saturation) (whole : IsWholeSaturation old) (kept : KeepsSaturation old new) where
-  pub side_before : (es : List Binding) → AreBindings old.base.bank es → (x : Side) (n : ℕ) (r : Bool) → IsSideClosed new es x n r → IsSideClosed old es x n r
-  side_before es b x n r h s resolved m sel a b2 g =
+  pub side_before : (es : List Binding) → AreBindings old.base.bank es → (x : Side) (i j : ℕ) (r : Bool) → IsSideClosed new es x i j r → IsSideClosed old es x i j r
+  side_before es b x i j r h s resolved m n at_m at_n g =
       let same = saturation_same old new whole kept in
-      subst (λ (y : format.Saturation). IsTrue r ↔ (IsProper (of_side s x) (of_pair x a b2) → IsCovered (member_clauses (selected_members y)) m.clause (instance (of_side s x) m.clause))) same
-      (h s (resolved_later old.base.bank new.base.bank es s kept.base.bank b resolved) m (subst (λ (y : format.Saturation). SelectsAt y n m) (sym same) sel) a b2 g)
+      subst (λ (y : format.Saturation). IsTrue r ↔ (IsProper (of_side s x) m.selected.atom → IsCovered (member_clauses (selected_members y)) m.clause (instance (of_side s x) m.clause))) same
+      (h s (resolved_later old.base.bank new.base.bank es s kept.base.bank b resolved) m n (subst (λ (y : format.Saturation). SelectsAt y i m) (sym same) at_m) (subst (λ (y : format.Saturation). SelectsAt y j n) (sym same) at_n) g)
 
 pub decided : {P : Type 0} (b : Bool) → (b ≡ true → P) → (b ≡ false → ¬ P) → IsTrue b ↔ P
 decided true y n = ((λ t. y refl), (λ p. refl))
@@ -127,23 +129,38 @@ proper_second f es r none is not s resolved a b g =
     let by : IsTrue r ↔ IsProper s.right b = decided r (λ t. is t a b s resolved g) (λ t. not t a b s resolved g) in
     ((λ t. inr (by.0 t)), (λ h. elim h [ inl p ↦ absurd (none a b s resolved g p) | inr p ↦ by.1 p ]))
 
+proper_there : (f : Forest) (es : List Binding) (x : Side) → ProperOn f es x → (a b : Tree) (s : Sided) → IsResolvedBy f es s → IsGeneralOn x s a b → IsProper (of_side s x) a
+proper_there f es Left h a b s resolved g = h a b s resolved g
+proper_there f es Right h a b s resolved g = h b a s resolved g
+
+not_proper_there : (f : Forest) (es : List Binding) (x : Side) → NotProperOn f es x → (a b : Tree) (s : Sided) → IsResolvedBy f es s → IsGeneralOn x s a b → ¬ (IsProper (of_side s x) a)
+not_proper_there f es Left h a b s resolved g = h a b s resolved g
+not_proper_there f es Right h a b s resolved g = h b a s resolved g
+
 module _ (c : Saturation) (es : List Binding) where
-  pub side_not_proper : (x : Side) (n : ℕ) → NotProperOn c.base.bank es x → IsSideClosed c es x n true
-  side_not_proper x n none s resolved m sel a b g = ((λ t p. absurd (none a b s resolved g p)), (λ h. refl))
+  pub side_not_proper : (x : Side) (i j : ℕ) → NotProperOn c.base.bank es x → IsSideClosed c es x i j true
+  side_not_proper x i j none s resolved m n at_m at_n g = ((λ t p. absurd (not_proper_there c.base.bank es x none m.selected.atom n.selected.atom s resolved g p)), (λ h. refl))
 
-  pub side_proper : (x : Side) (n : ℕ) → ProperOn c.base.bank es x → (r : Bool) → IsSideCovered c es x n r → IsSideClosed c es x n r
-  side_proper x n proper r h s resolved m sel a b g = ((λ t p. (h s resolved m sel).0 t), (λ k. (h s resolved m sel).1 (k (proper a b s resolved g))))
-
-  pub open_left : (i j : ℕ) (r : Bool) → r ≡ false → IsSideClosed c es Left i r → IsPairClosed c es i j false
-  open_left i j r e h s resolved m n p q g = (
-    (λ t. absurd (let k : false ≡ true = t in cc)),
-    (λ k. absurd (let t : r ≡ true = (h s resolved m p m.selected.atom n.selected.atom g).1 k.left in let u : false ≡ true = sym e ∙ t in cc)),
+  pub side_proper : (x : Side) (i j : ℕ) → ProperOn c.base.bank es x → (r : Bool) → IsSideCovered c es x i r → IsSideClosed c es x i j r
+  side_proper x i j proper r h s resolved m n at_m at_n g = (
+    (λ t p. (h s resolved m at_m).0 t),
+    (λ k. (h s resolved m at_m).1 (k (proper_there c.base.bank es x proper m.selected.atom n.selected.atom s resolved g))),
   )
 
-  pub both_sides : (i j : ℕ) (somewhere left r : Bool) → somewhere ≡ true → left ≡ true → IsProperSomewhere c.base.bank es somewhere → IsSideClosed c es Left i left → IsSideClosed c es Right j r → IsPairClosed c es i j r
+  pub side_made : (x : Side) (i j : ℕ) → IsMade c i j → IsSideClosed c es x i j true
+  side_made Left i j made s resolved m n at_m at_n g = ((λ t p. made m n at_m at_n s g), (λ h. refl))
+  side_made Right i j made s resolved m n at_m at_n g = ((λ t p. made m n at_m at_n (swapped s) (swapped_general s n.selected.atom m.selected.atom g)), (λ h. refl))
+
+  pub open_left : (i j : ℕ) (r : Bool) → r ≡ false → IsSideClosed c es Left i j r → IsPairClosed c es i j false
+  open_left i j r e h s resolved m n p q g = (
+    (λ t. absurd (let k : false ≡ true = t in cc)),
+    (λ k. absurd (let t : r ≡ true = (h s resolved m n p q g).1 k.left in let u : false ≡ true = sym e ∙ t in cc)),
+  )
+
+  pub both_sides : (i j : ℕ) (somewhere left r : Bool) → somewhere ≡ true → left ≡ true → IsProperSomewhere c.base.bank es somewhere → IsSideClosed c es Left i j left → IsSideClosed c es Right j i r → IsPairClosed c es i j r
   both_sides i j somewhere left r e f some h k s resolved m n p q g =
       let a = m.selected.atom in
       let b = n.selected.atom in (
-        (λ t. record { proper = (some s resolved a b g).0 e; left = (h s resolved m p a b g).0 f; right = (k s resolved n q a b g).0 t }),
-        (λ closed. (k s resolved n q a b g).1 closed.right),
+        (λ t. record { proper = (some s resolved a b g).0 e; left = (h s resolved m n p q g).0 f; right = (k s resolved n m q p g).0 t }),
+        (λ closed. (k s resolved n m q p g).1 closed.right),
       )

@@ -22,5 +22,6 @@ pub mod HeadLaws
 pub mod NarrowLaws
 pub mod FingerprintLaws
 pub mod LengthLaws
+pub mod MadeLaws
 pub mod LookupLaws
 pub mod ShorterLaws

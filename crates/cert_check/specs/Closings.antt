@@ -8,8 +8,9 @@ use Rattle.inst_calculus.specs.Saturation.{IsClosed, IsCovered}
 use Rattle.term_bank.specs.Forest.{Forest}
 use Rattle.cert_format.specs.Certificate.{selected_members}
 use Rattle.cert_format.specs.Validity.{SelectsAt}
-use Rattle.unify_core.specs.Sides.{Binding, IsResolvedBy, of_pair, of_side}
+use Rattle.unify_core.specs.Sides.{Binding, IsResolvedBy, of_side}
 use Rattle.unify_core.specs.declared.side.Side.{Side}
+use Rattle.unify_core.specs.declared.side.Side.TheVariants.{Left, Right}
 use Rattle.saturation_cert.specs.declared.certificate.Saturation.{Saturation}
 use Rattle.saturation_cert.specs.Values.{saturation_of}
 
@@ -21,10 +22,15 @@ HasCoveredSide c s side m = IsCovered (member_clauses (selected_members (saturat
 abbrev pub IsSideCovered : Saturation → List Binding → Side → ℕ → Bool → Type 0
 IsSideCovered c es side n r = (s : Sided) → IsResolvedBy c.base.bank es s → (m : Member) → SelectsAt (saturation_of c) n m → IsTrue r ↔ HasCoveredSide c s side m
 
--- the answer is whether it is so if the unifier is proper on the side
-abbrev pub IsSideClosed : Saturation → List Binding → Side → ℕ → Bool → Type 0
-IsSideClosed c es side n r = (s : Sided) → IsResolvedBy c.base.bank es s → (m : Member) → SelectsAt (saturation_of c) n m → (a b : Tree) → IsMostGeneral s a b
-    → IsTrue r ↔ (IsProper (of_side s side) (of_pair side a b) → HasCoveredSide c s side m)
+-- a most general unifier with the first tree on the side
+abbrev pub IsGeneralOn : Side → Sided → Tree → Tree → Type 0
+IsGeneralOn Left s a b = IsMostGeneral s a b
+IsGeneralOn Right s a b = IsMostGeneral s b a
+
+-- the answer is whether the instance of member i by member j, which is on the other side, is covered if the unifier is proper for it
+abbrev pub IsSideClosed : Saturation → List Binding → Side → ℕ → ℕ → Bool → Type 0
+IsSideClosed c es side i j r = (s : Sided) → IsResolvedBy c.base.bank es s → (m n : Member) → SelectsAt (saturation_of c) i m → SelectsAt (saturation_of c) j n → IsGeneralOn side s m.selected.atom n.selected.atom
+    → IsTrue r ↔ (IsProper (of_side s side) m.selected.atom → HasCoveredSide c s side m)
 
 -- the answer is whether the unifier is proper on a side
 abbrev pub IsProperSomewhere : Forest → List Binding → Bool → Type 0

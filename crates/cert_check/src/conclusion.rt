@@ -17,7 +17,7 @@ use term_bank::{Bank, IdClause, IdLiteral, TermId};
 use unify_core::{Bindings, Side};
 
 // Literal `place` of member `from` with literal `other` of member `partner`, all counted from 1.
-#[derive(Clone, Copy)]
+#[derive(Clone, Copy, Debug, PartialEq, Eq, Hash)]
 pub struct Premises {
     pub from: usize,
     pub place: usize,

@@ -1,7 +1,7 @@
 // The check of the pairs of selected literals. Only pairs of one class and opposite signs are visited, along chains, and of these
 // only those are unified whose fingerprints allow it: no other pair unifies. The chains keep the order of the numbers, since the
 // complaint is about the first pair.
-ghost use Rattle.std.specs.Prelude.{◌↔◌, ◌<◌, suc, length, IfOk, IsTrue, OnOk};
+ghost use Rattle.std.specs.Prelude.{◌≡◌, ◌↔◌, ◌<◌, suc, length, true, IfOk, IsTrue, OnOk};
 ghost use Rattle.cert_format.specs.Validity.{IsRightPair};
 ghost use Rattle.unify_core.specs.Chains.{AreBindings};
 ghost use Rattle.unify_core.specs.Terms.{AreTerms};
@@ -11,7 +11,9 @@ ghost use Rattle.cert_check.specs.Closings.{IsPairClosed, IsProperSomewhere, IsS
 ghost use Rattle.cert_check.specs.FirstPairs.{IsFirstWrongPairOf};
 ghost use Rattle.cert_check.specs.Firsts.{IsFirstWrongOf};
 ghost use Rattle.cert_check.specs.Lookups.{IsReady};
+ghost use Rattle.cert_check.specs.Origins.{IsMade};
 
+use crate::conclusion::Premises;
 use crate::cover::is_covered;
 use crate::lookup::Lookup;
 use inst_logic::Memory;
@@ -61,7 +63,30 @@ fn is_side_covered(
     )
 }
 
-// The same where the unifier is proper on the side, and true where it is not.
+// Whether a member was made from the selected literals of members `i` and `j`, counted from 0. The origins were checked before, so
+// it is the instance of the first by the second.
+fn has_made(cert: &Saturation, lookup: &Lookup, i: usize, j: usize) -> bool
+    requires ready { IsReady cert.now lookup.now }
+    requires left { i < length cert.now.base.members }
+    requires right { j < length cert.now.base.members }
+    ensures { result ≡ true → IsMade cert.now (suc i) (suc j) }
+{
+    let Some(place) = cert.places.get(i) else {
+        return false;
+    };
+    let Some(other) = cert.places.get(j) else {
+        return false;
+    };
+    lookup.has_made(&Premises {
+        from: i + 1,
+        place: *place,
+        partner: j + 1,
+        other: *other,
+    })
+}
+
+// Whether the instance of member `i` by member `j`, on the side of the bindings, is covered where the unifier is proper on it. One
+// that is a member by its origin is not built.
 fn is_side_closed(
     alloc: Global,
     cert: &mut Saturation,
@@ -69,19 +94,24 @@ fn is_side_closed(
     bindings: &Bindings,
     side: Side,
     i: usize,
+    j: usize,
 ) -> Result<bool, Memory>
     requires ready { IsReady cert.old lookup.now }
     requires within { i < length cert.old.base.members }
+    requires partner { j < length cert.old.base.members }
     requires bindings { AreBindings cert.old.base.bank bindings.now.entries }
     requires terms { AreTerms cert.old.base.bank bindings.now.entries }
     ensures kept { KeepsSaturation cert.old cert.new }
     ensures whole { OnOk result (IsWholeSaturation cert.new) }
-    ensures closed { IfOk result (IsSideClosed cert.old bindings.now.entries side (suc i)) }
+    ensures closed { IfOk result (IsSideClosed cert.old bindings.now.entries side (suc i) (suc j)) }
 {
-    if bindings.proper(&cert.base.bank, side) {
-        return is_side_covered(alloc, cert, lookup, bindings, side, i);
+    if !bindings.proper(&cert.base.bank, side) {
+        return Ok(true);
     }
-    Ok(true)
+    if has_made(cert, lookup, i, j) {
+        return Ok(true);
+    }
+    is_side_covered(alloc, cert, lookup, bindings, side, i)
 }
 
 // Whether members `i` and `j`, counted from 0, are closed for the unifier that the bindings stand for.
@@ -105,10 +135,10 @@ fn is_closed(
     if !is_proper(&cert.base.bank, bindings) {
         return Ok(false);
     }
-    if !is_side_closed(alloc, cert, lookup, bindings, Side::Left, i)? {
+    if !is_side_closed(alloc, cert, lookup, bindings, Side::Left, i, j)? {
         return Ok(false);
     }
-    is_side_closed(alloc, cert, lookup, bindings, Side::Right, j)
+    is_side_closed(alloc, cert, lookup, bindings, Side::Right, j, i)
 }
 
 // Whether the selected literals of members `i` and `j`, counted from 0, do not unify with opposite signs, or are closed.

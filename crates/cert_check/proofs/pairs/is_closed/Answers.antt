@@ -26,4 +26,4 @@ returns-clause-closed c =
     let es = c.args.bindings.now.entries in
     IfOk-weaker c.is_side_closed-2.result _ _ (λ r h.
     both_sides old es (suc c.args.i) (suc c.args.j) c.is_proper.result c.in_ok-is_side_closed.field-0 r c.if-not-is_proper.false c.if-not-branch.false c.is_proper.ensures c.in_ok-is_side_closed.ensures.closed
-    (side_before old c.is_side_closed.new.cert c.requires.ready.whole c.is_side_closed.ensures.kept es c.requires.bindings Right (suc c.args.j) r h)) c.is_side_closed-2.ensures.closed
+    (side_before old c.is_side_closed.new.cert c.requires.ready.whole c.is_side_closed.ensures.kept es c.requires.bindings Right (suc c.args.j) (suc c.args.i) r h)) c.is_side_closed-2.ensures.closed

@@ -1,0 +1,105 @@
+-- What a member whose origin is two members with their selected literals covers.
+use Rattle.std.proofs.Common.{◌≡◌, inl, inr, ◌⊎◌, ℕ, zero, suc, ◌+◌, ◌<◌, Bool, true, false, cond, List, length, get_or, nat_eq, refl, ap, sym, ◌∙◌, map, subst, arith, Some}
+use Rattle.std.specs.Prelude.{Any, slice_get, option_map}
+use Rattle.std.proofs.lemmas.Bool.Decides.{Decides-eqb}
+use Rattle.std.proofs.lemmas.List.{get_or_default}
+use Rattle.std.proofs.lemmas.Option.{slice_get-map, slice_get-get_or}
+use Rattle.inst_logic.specs.declared.signed.Signed.{Signed}
+use Rattle.inst_logic.specs.EqualLaws.{and_left, and_right}
+use Rattle.inst_logic.specs.Clauses.{TreeClause, AreVariants, canonical_form, instance}
+use Rattle.inst_logic.specs.Derivations.{at_number}
+use Rattle.inst_logic.specs.Tree.{Tree}
+use Rattle.inst_logic.specs.Unifiers.{Sided, IsMostGeneral}
+use Rattle.inst_calculus.specs.Conclusions.{IsConclusion}
+use Rattle.inst_calculus.specs.Entries.{Entry}
+use Rattle.inst_calculus.specs.Models.{Member as Selected, member_clauses}
+use Rattle.inst_calculus.specs.Saturation.{IsCovered, variant}
+use Rattle.inst_calculus.proofs.CanonicalForms.{canonical_of_canonical}
+use Rattle.inst_calculus.proofs.Choice.{instance_of_choice}
+use Rattle.inst_calculus.proofs.Membership.{contains_in, in_contains, in_map}
+use Rattle.cert_format.specs.Certificate.{selected_members}
+use Rattle.cert_format.specs.Validity.{Gives, IsValidBase, SelectsAt}
+use Rattle.cert_format.specs.declared.complaint.Complaint.TheVariants.{Member as Derived}
+use Rattle.cert_format.proofs.Numbers.{same_item}
+use Rattle.term_bank.specs.Forest.{clause_at}
+use Rattle.saturation_cert.specs.declared.certificate.Saturation.{Saturation}
+use Rattle.saturation_cert.specs.declared.member.Member.{Member}
+use Rattle.saturation_cert.specs.declared.member.Origin.{Origin}
+use Rattle.saturation_cert.specs.declared.member.Origin.TheVariants.{Inst}
+use Rattle.saturation_cert.specs.Values.{base_of, entry_of, origin_of, saturation_of}
+use Rattle.saturation_cert.specs.Wholes.{HasPlaces}
+use Rattle.cert_check.specs.declared.conclusion.Premises.{Premises}
+use Rattle.cert_check.specs.Origins.{IsMade, origin_from, premises_eq}
+use Rattle.cert_check.proofs.Closings.{selected_cover}
+use Rattle.cert_check.proofs.CoverLaws.{clause_of}
+
+-- one more origin among those noted
+pub premises_same : (p q : Premises) → premises_eq p q ≡ true → p ≡ q
+premises_same p q e =
+    let from = (Decides-eqb p.from q.from).0 (and_left (nat_eq p.from q.from) _ e) in
+    let rest = and_right (nat_eq p.from q.from) _ e in
+    let place = (Decides-eqb p.place q.place).0 (and_left (nat_eq p.place q.place) _ rest) in
+    let last = and_right (nat_eq p.place q.place) _ rest in
+    let partner = (Decides-eqb p.partner q.partner).0 (and_left (nat_eq p.partner q.partner) _ last) in
+    let other = (Decides-eqb p.other q.other).0 (and_right (nat_eq p.partner q.partner) _ last) in
+    λ z. record { from = from z; place = place z; partner = partner z; other = other z }
+
+pub noted_before : (p q : Premises) (old new : Bool) → new ≡ cond (premises_eq p q) true old → new ≡ true → (old ≡ true) ⊎ (p ≡ q)
+noted_before p q old new is known = by (premises_eq p q) refl
+  where
+    by : (b : Bool) → premises_eq p q ≡ b → (old ≡ true) ⊎ (p ≡ q)
+    by true e = inr (premises_same p q e)
+    by false e = inl (sym (is ∙ ap (λ b. cond b true old) e) ∙ known)
+
+module _ (c : Saturation) (base : IsValidBase (base_of c.base)) (placed : HasPlaces (saturation_of c)) (i j place other : ℕ) (here : slice_get c.places i ≡ Some place) (there : slice_get c.places j ≡ Some other) where
+  -- what the origin gives is the conclusion
+  conclusion_at : (k : ℕ) (x : Member) → k < length c.base.members → x ≡ get_or c.base.members k x → x.origin ≡ Inst (suc i) place (suc j) other
+      → IsConclusion (map (entry_of c.base.bank) c.base.members) (suc i) place (suc j) other (clause_at c.base.bank x.clause)
+  conclusion_at k x within is origin =
+      let at : slice_get (map (entry_of c.base.bank) c.base.members) k ≡ Some (entry_of c.base.bank x) =
+      slice_get-map (entry_of c.base.bank) c.base.members k ∙ ap (option_map (entry_of c.base.bank)) (slice_get-get_or c.base.members k x within ∙ ap Some (sym is)) in
+      let gives : Gives (base_of c.base) (suc k) (origin_of x.origin) (clause_at c.base.bank x.clause) = base (Derived (suc k)) (entry_of c.base.bank x) at in
+      (subst (λ (o : Origin). Gives (base_of c.base) (suc k) (origin_of o) (clause_at c.base.bank x.clause)) origin gives).2
+
+  -- and a variant of the instance
+  module _ (m n : Selected) (at_m : SelectsAt (saturation_of c) (suc i) m) (at_n : SelectsAt (saturation_of c) (suc j) n) (s : Sided) (general : IsMostGeneral s m.selected.atom n.selected.atom) (d : TreeClause)
+      (h : IsConclusion (map (entry_of c.base.bank) c.base.members) (suc i) place (suc j) other d) where
+    entry : h.entry ≡ at_m.entry
+    entry = same_item (at_number (map (entry_of c.base.bank) c.base.members) (suc i)) h.entry at_m.entry h.entry_at at_m.entry_at
+
+    partner : h.partner_entry ≡ at_n.entry
+    partner = same_item (at_number (map (entry_of c.base.bank) c.base.members) (suc j)) h.partner_entry at_n.entry h.partner_at at_n.entry_at
+
+    literal : h.literal ≡ m.selected
+    literal =
+        let p : at_m.place ≡ place = same_item (slice_get c.places i) at_m.place place at_m.place_at here in
+        same_item (at_number h.entry.clause place) h.literal m.selected h.literal_at
+        (ap (λ (e : Entry). at_number e.clause place) entry ∙ ap (at_number at_m.entry.clause) (sym p) ∙ at_m.selected)
+
+    other_literal : h.other_literal ≡ n.selected
+    other_literal =
+        let p : at_n.place ≡ other = same_item (slice_get c.places j) at_n.place other at_n.place_at there in
+        same_item (at_number h.partner_entry.clause other) h.other_literal n.selected h.other_at
+        (ap (λ (e : Entry). at_number e.clause other) partner ∙ ap (at_number at_n.entry.clause) (sym p) ∙ at_n.selected)
+
+    general_there : IsMostGeneral s h.literal.atom h.other_literal.atom
+    general_there =
+        subst (λ (l : Signed Tree). IsMostGeneral s l.atom h.other_literal.atom) (sym literal)
+        (subst (λ (l : Signed Tree). IsMostGeneral s m.selected.atom l.atom) (sym other_literal) general)
+
+    variants : AreVariants (instance s.left m.clause) d
+    variants =
+        let clause : h.entry.clause ≡ m.clause = ap (λ (e : Entry). e.clause) entry ∙ sym at_m.clause in
+        let same : AreVariants (instance s.left h.entry.clause) (instance h.unifier.left h.entry.clause) =
+        (instance_of_choice h.literal.atom h.other_literal.atom s h.unifier general_there h.most_general h.entry.clause).0 in
+        sym (ap (λ (x : TreeClause). canonical_form (instance s.left x)) clause) ∙ same
+        ∙ sym (ap canonical_form h.conclusion ∙ canonical_of_canonical (instance h.unifier.left h.entry.clause))
+
+  pub made_covers : (first second : ℕ) → first ≡ suc i → second ≡ suc j → Any (λ (x : Member). x.origin ≡ Inst first place second other) c.base.members → IsMade c (suc i) (suc j)
+  made_covers first second left right any m n at_m at_n s general =
+      let (k, x, within, is, made) = any in
+      let origin : x.origin ≡ Inst (suc i) place (suc j) other = made ∙ (λ z. Inst (left z) place (right z) other) in
+      let d = clause_at c.base.bank x.clause in
+      let v : AreVariants (instance s.left m.clause) d = variants m n at_m at_n s general d (conclusion_at k x within (sym is) origin) in
+      let found = in_contains d (map (clause_of c.base.bank) c.base.members) (in_map (clause_of c.base.bank) x c.base.members (contains_in x c.base.members (k, within, is))) in
+      (selected_cover c placed m.clause (instance s.left m.clause)).0 (variant d found v)
