@@ -90,9 +90,9 @@ pub fn find_lookup(alloc: Global, cert: &Saturation) -> Result<Lookup, Memory>
 {
     let fingerprints = find_fingerprints(alloc, cert)?;
     let heads = find_heads(alloc, cert)?;
+    let chains = find_chains(alloc, &heads, &fingerprints)?;
     let members = cert.base.members.as_slice();
     let lengths = find_lengths(alloc, members, &heads)?;
-    let chains = find_chains(alloc, &heads, &fingerprints)?;
     let made = premises_of(alloc, members)?;
     let clauses = clauses_of(alloc, members)?;
     Ok(Lookup {

@@ -13,11 +13,11 @@ use Rattle.cert_check.proofs.lookup.find_lookup.Goals as goal
 
 pub find_lengths-requires : goal.find_lengths-requires
 find_lengths-requires c =
-    ap (λ (xs : List Head). length xs) c.deref.ensures.value ∙ c.in_ok-heads.ensures.count ∙ sym (ap (λ (ms : List Member). length ms) c.as_slice-members.ensures)
+    ap (λ (xs : List Head). length xs) c.deref-3.ensures.value ∙ c.in_ok-heads.ensures.count ∙ sym (ap (λ (ms : List Member). length ms) c.as_slice-members.ensures)
 
 pub find_chains-requires : goal.find_chains-requires
 find_chains-requires c =
-    ap (λ (ps : List Fingerprint). length ps) c.deref-3.ensures.value ∙ c.in_ok-fingerprints.ensures.count ∙ sym (ap (λ (xs : List Head). length xs) c.deref-2.ensures.value ∙ c.in_ok-heads.ensures.count)
+    ap (λ (ps : List Fingerprint). length ps) c.deref-2.ensures.value ∙ c.in_ok-fingerprints.ensures.count ∙ sym (ap (λ (xs : List Head). length xs) c.deref.ensures.value ∙ c.in_ok-heads.ensures.count)
 
 pub returns : goal.returns
 returns c =
@@ -26,7 +26,7 @@ returns c =
     let ps = c.in_ok-fingerprints.fingerprints.items in
     let count : length ps ≡ length cert.base.members = c.in_ok-fingerprints.ensures.count in
     let places : length hs ≡ length cert.base.members = c.in_ok-heads.ensures.count in
-    let same : c.deref-2.result.now ≡ hs = c.deref-2.ensures.value in
+    let same : c.deref.result.now ≡ hs = c.deref.ensures.value in
     record {
       whole = c.requires.whole;
       base = c.requires.base;
@@ -37,10 +37,10 @@ returns c =
         heads = hs;
         marked = λ k m within. member_marked cert k (head_at hs k) (fingerprint_at ps k) (c.in_ok-heads.ensures.heads k (omega (arith, places, within))) (c.in_ok-fingerprints.ensures.each k (omega (arith, count, within))) m within;
         groups = subst (λ (ms : List Member). AreGrouped ms hs c.in_ok-lengths.lengths) c.as_slice-members.ensures
-            (subst (λ (xs : List Head). AreGrouped c.as_slice-members.result.now xs c.in_ok-lengths.lengths) c.deref.ensures.value c.in_ok-lengths.ensures);
+            (subst (λ (xs : List Head). AreGrouped c.as_slice-members.result.now xs c.in_ok-lengths.lengths) c.deref-3.ensures.value c.in_ok-lengths.ensures);
         made = subst (λ (ms : List Member). ArePremises ms c.in_ok-made.made.keys) c.as_slice-members.ensures c.in_ok-made.ensures;
       };
       chains = c.in_ok-chains.ensures (saturation_of cert) (ap (λ (xs : List Head). length xs) same ∙ places ∙ sym (length-map cert.base.members (entry_of cert.base.bank)))
-          (subst (AreApart (saturation_of cert)) (sym same) c.in_ok-heads.ensures.apart) (subst (TellApart (saturation_of cert)) (sym c.deref-3.ensures.value) c.in_ok-fingerprints.ensures.apart);
+          (subst (AreApart (saturation_of cert)) (sym same) c.in_ok-heads.ensures.apart) (subst (TellApart (saturation_of cert)) (sym c.deref-2.ensures.value) c.in_ok-fingerprints.ensures.apart);
       fingerprints = c.in_ok-fingerprints.ensures.apart;
     }
