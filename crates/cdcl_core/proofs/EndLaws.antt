@@ -30,7 +30,7 @@ use Rattle.cdcl_core.specs.declared.search.Search.{Search}
 use Rattle.cdcl_core.specs.Analysis.{HasDecisionsAnd}
 use Rattle.cdcl_core.specs.Phases.{IsSaved}
 use Rattle.cdcl_core.specs.Search.{IsKept, IsTrueUpTo, IsInCore, IsCoreIn}
-use Rattle.cdcl_core.proofs.EntryLaws.{of_literals, to_literals, value_found, reason_found, consistent}
+use Rattle.cdcl_core.proofs.EntryLaws.{of_literals, to_literals, reason_found, consistent}
 
 entry_step : (x : Entry) (xs : List Entry) (a : ℕ) (b : Bool) → (x.lit.atom == a) ≡ b → ((level_of xs a ≡ None → ⊥) → (e : Entry) × Contains xs e × (e.lit.atom ≡ a)) → (cond b (Some x.level) (level_of xs a) ≡ None → ⊥) → (e : Entry) × Contains (x ∷ xs) e × (e.lit.atom ≡ a)
 entry_step x xs a true s rest n = let same : x.lit.atom ≡ a = grind (arith, nat_tests) in (x, (0, omega arith, refl), same)

@@ -1,10 +1,8 @@
 -- One literal further back in the analysis.
-use Rattle.std.proofs.Common.{◌≡◌, ◌≢◌, ℕ, suc, zero, ◌+◌, ◌<◌, ◌≤◌, Bool, true, false, cond, Result, Ok, Err, ◌⊎◌, inl, inr, List, [], ◌∷◌, ◌++◌, length, map, take, replicate, get_or, Option, Some, None, refl, sym, ap, ◌∙◌, subst, arith}
+use Rattle.std.proofs.Common.{◌≡◌, ◌≢◌, ℕ, ◌+◌, ◌<◌, ◌≤◌, Bool, true, false, cond, Result, Ok, Err, ◌⊎◌, inl, inr, List, [], ◌∷◌, ◌++◌, length, map, take, replicate, get_or, Option, Some, None, refl, sym, ap, ◌∙◌, subst, arith}
 use Rattle.std.specs.Prelude.{All, Contains, slice_get, reverse, unwrap_or, OnOk, IfSome, IfNone, ◌==◌, ◌&&◌}
 use Rattle.std.proofs.lemmas.List.{reverse-append}
 use Rattle.std.proofs.lemmas.List.Elements.{All-contains, All-weaker, All-contains_itself, Contains-push, Contains-append_left}
-use Rattle.std.proofs.lemmas.Option.{same_Some}
-use Rattle.std.proofs.lemmas.Bool.{false≢true}
 use Rattle.inst_logic.specs.declared.signed.Signed.{Signed}
 use Rattle.inst_logic.specs.Signed.{complement}
 use Rattle.prop_logic.specs.declared.literal.Hint.{Hint}
@@ -12,7 +10,7 @@ use Rattle.prop_logic.specs.Literal.{cited}
 use Rattle.prop_logic.specs.Analysis.{ClosesAll}
 use Rattle.prop_logic.proofs.ListLaws.{All-from_contained, Contains-slice_get, slice_get-Contains, slice_get_take, take_whole, Contains-take, take_slice_get}
 use Rattle.cdcl_trail.specs.declared.entry.Entry.{Entry}
-use Rattle.cdcl_trail.specs.Trail.{Trail, IsTrail, IsUnset, IsPlaceOf, level_of, reason_of, literals_of}
+use Rattle.cdcl_trail.specs.Trail.{Trail, IsTrail, IsUnset, IsPlaceOf, level_of, reason_of}
 use Rattle.cdcl_trail.specs.Propagation.{IsFalseIn}
 use Rattle.cdcl_core.specs.declared.log.Log.{Log}
 use Rattle.cdcl_core.specs.declared.analysis.Analysis.{Analysis}

@@ -73,12 +73,7 @@ fn wait(trail: &Trail, places: &mut Places, atom: usize) -> Result<(), Memory>
     }
 }
 
-fn mark(
-    trail: &Trail,
-    marks: &mut Marks,
-    waiting: &mut Waiting,
-    lit: Lit,
-) -> Result<(), Memory>
+fn mark(trail: &Trail, marks: &mut Marks, waiting: &mut Waiting, lit: Lit) -> Result<(), Memory>
     requires trail { IsTrail trail.now.trail }
     requires room { length trail.now.trail.entries ≤ usize.MAX }
     requires size { length marks.old ≡ trail.now.trail.atoms }

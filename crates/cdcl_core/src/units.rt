@@ -19,17 +19,9 @@ fn known(log: &Log, trail: &Trail, lit: Lit) -> Option<Hint>
     requires { lit.atom < trail.now.trail.atoms }
     ensures { IfSome result (λ hint. cited log.now.added log.now.steps hint ≡ Some (lit ∷ [])) }
 {
-    match trail.reason(lit.atom) {
-        None => None,
-        Some(number) => {
-            let hint = log.given_by(lit, number);
-            if log.is_unit(hint, lit) {
-                Some(hint)
-            } else {
-                None
-            }
-        }
-    }
+    let number = trail.reason(lit.atom)?;
+    let hint = log.given_by(lit, number);
+    log.is_unit(hint, lit).then_some(hint)
 }
 
 // The hints that show the literal at the place alone by the clause of this number, which gave it, if the clause's other

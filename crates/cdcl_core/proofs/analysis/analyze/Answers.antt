@@ -1,4 +1,4 @@
-use Rattle.std.proofs.Common.{◌≤◌, length, arith, refl, ◌∙◌}
+use Rattle.std.proofs.Common.{arith, refl, ◌∙◌}
 use Rattle.cdcl_core.specs.declared.analysis.Analysis.{Analysis}
 use Rattle.cdcl_core.proofs.MeetLaws.{met_first, met_taken, analysis_done}
 use Rattle.cdcl_core.proofs.AnalysisLaws.{covers_none, waiting_taken}

@@ -1,5 +1,4 @@
-use Rattle.std.proofs.Common.{◌≡◌, ◌+◌, ◌<◌, Some, arith, sym, ◌∙◌, subst}
-use Rattle.std.specs.Prelude.{slice_get}
+use Rattle.std.proofs.Common.{◌<◌, arith, sym, ◌∙◌, subst}
 use Rattle.std.proofs.lemmas.Option.{slice_get_within}
 use Rattle.cdcl_core.specs.Analysis.{IsMetDecided, ShowsGiven}
 use Rattle.cdcl_core.proofs.MeetLaws.{met_decided_first, met_decided_taken, given_done}

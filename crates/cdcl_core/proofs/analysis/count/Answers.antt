@@ -1,4 +1,4 @@
-use Rattle.std.proofs.Common.{refl, sym, ap, ◌∙◌}
+use Rattle.std.proofs.Common.{sym, ap, ◌∙◌}
 use Rattle.std.specs.Prelude.{unwrap_or}
 use Rattle.cdcl_core.proofs.AnalysisLaws.{counted_present, counted_other}
 use Rattle.cdcl_core.proofs.analysis.count.Goals as goal

@@ -1,4 +1,4 @@
-use Rattle.std.proofs.Common.{Some, sym, ap, ◌∙◌}
+use Rattle.std.proofs.Common.{ap, ◌∙◌}
 use Rattle.std.specs.Prelude.{slice_get}
 use Rattle.cdcl_core.proofs.MeetLaws.{place_read}
 use Rattle.cdcl_core.proofs.analysis.place_of.Goals as goal
