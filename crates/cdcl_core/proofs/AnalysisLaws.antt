@@ -207,12 +207,6 @@ covers_none t limit marks places F none w = λ e c m.
     absurd (none k.0 g.1 (w.all k.0 e g.1 g.0 m))
 
 -- marks of a clause
-pub marks_none : (t : Trail) (marks : List Bool) (o : Waiting) → MarksToo t [] marks marks o o
-marks_none t marks o = record { marked = All-nil (λ l. IsMarked marks l.atom); kept = λ a m. m; counted = λ i c. c; waiting = λ i w. w }
-
-pub marks_again : (t : Trail) (l : Signed ℕ) (marks : List Bool) (o : Waiting) → IsMarked marks l.atom → MarksToo t (l ∷ []) marks marks o o
-marks_again t l marks o m = record { marked = All-cons (λ x. IsMarked marks x.atom) l [] m (All-nil (λ x. IsMarked marks x.atom)); kept = λ a k. k; counted = λ i c. c; waiting = λ i w. w }
-
 pub marks_one : (t : Trail) (l : Signed ℕ) (marks : List Bool) (was is : Waiting) → l.atom < length marks → ((i : ℕ) → AreCounted t i marks was.present → AreCounted t i (set marks l.atom true) is.present)
     → ((i : ℕ) → AreWaiting t i marks was.places → AreWaiting t i (set marks l.atom true) is.places) → MarksToo t (l ∷ []) marks (set marks l.atom true) was is
 marks_one t l marks was is h counted waiting =

@@ -102,15 +102,6 @@ advances_from first old new l level key b trail below added =
     }
 
 -- a question begins
-pub begun_free : (assumptions : List (Signed ℕ)) (s : Search) → assumptions ≡ [] → IsTrail s.trail.trail → s.assumed ≡ 0 → s.checked ≡ 0 → IsKept s → IsSearch assumptions s
-begun_free assumptions s none v assumed checked k = record {
-  kept = k;
-  low = omega (arith, assumed);
-  decisions = λ e c chosen h. absurd (omega (arith, All-contains (λ x. IsDecision x → 0 < x.level) s.trail.trail.entries e v.above c chosen, h, assumed));
-  all_true = λ h. subst (All (IsTrueUpTo s.trail.trail.entries s.assumed)) (sym none) (All-nil (IsTrueUpTo s.trail.trail.entries s.assumed));
-  checked = none_checked (Contains (literals_of s.trail.trail.entries)) s.checked assumptions checked;
-}
-
 pub begun_at : (assumptions : List (Signed ℕ)) (old s : Search) (level : ℕ) → s.trail.trail ≡ back_at old.trail.trail level → s.assumed ≡ level → s.checked ≡ 0
     → ((e : Entry) → Contains old.trail.trail.entries e → IsDecision e → e.level ≤ level → Contains assumptions e.lit) → IsKept s → IsSearch assumptions s
 begun_at assumptions old s level trail assumed checked shared k = record {
@@ -209,14 +200,7 @@ shared_stop t assumptions place level lit o b v low read reason is none stop bef
 pub shared_all : (t : Trail) (assumptions : List (Signed ℕ)) (place : ℕ) → length t.entries ≤ place → AreShared t.entries assumptions place → (d : Entry) → Contains t.entries d → IsDecision d → Contains assumptions d.lit
 shared_all t assumptions place h before d c chosen = before d (subst (λ xs. Contains xs d) (sym (take_all place t.entries h)) c) chosen
 
--- the measure falls at a restart, whatever the weight is after it
-pub restart_falls : (left less bound w v : ℕ) → less + 1 ≡ left → less * (bound + 1) + (bound - v) < left * (bound + 1) + (bound - w)
-restart_falls left less bound w v e =
-    let more : suc less * (bound + 1) ≡ less * (bound + 1) + (bound + 1) = omega arith in
-    let is : left ≡ suc less = omega (arith, e) in
-    let grown = ap (λ k. k * (bound + 1)) is in
-    omega (arith, more, grown)
-
+-- the measure falls with each step
 pub step_falls : (left less bound w v : ℕ) → less ≡ left → w < bound → w < v → less * (bound + 1) + (bound - v) < left * (bound + 1) + (bound - w)
 step_falls left less bound w v e h g =
     let same = ap (λ k. k * (bound + 1)) e in

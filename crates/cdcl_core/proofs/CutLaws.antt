@@ -18,7 +18,7 @@ use Rattle.prop_logic.specs.Solving.{EndsWith}
 use Rattle.prop_logic.specs.Search.{AreGood}
 use Rattle.prop_logic.specs.Cut.{IsCutOf}
 use Rattle.prop_logic.proofs.ListLaws.{slice_get_take, slice_get-Contains, All-slice_get}
-use Rattle.prop_logic.proofs.SearchLaws.{good_push, good_none, last_cited, cited_later, ends_with_push}
+use Rattle.prop_logic.proofs.SearchLaws.{good_push, last_cited, cited_later, ends_with_push}
 use Rattle.cdcl_core.specs.Cut.{CitesOnly, Rises, AreNeeded, IsRenamed, IsCopy}
 
 pub rises_at : (xs : List ℕ) (i j : ℕ) → Rises xs → i < j → j < length xs → get_or xs i 0 < get_or xs j 0
@@ -91,14 +91,6 @@ pub record KeepsFirst (steps : List Step) (places : List ℕ) (i : ℕ) (kept : 
   pub named : (j : ℕ) (s : Step) → j < i → slice_get steps (get_or places j 0) ≡ Some s → (clauses : List (List (Signed ℕ))) → cited clauses kept (Earlier (suc j)) ≡ Some s.clause
   pub good : (clauses : List (List (Signed ℕ))) (n : ℕ) → AreGood clauses n steps → AreGood clauses n kept
   pub last : (s : Step) → 0 < i → slice_get steps (get_or places (i - 1) 0) ≡ Some s → EndsWith kept s.clause
-
-pub keeps_none : (steps : List Step) (places : List ℕ) (kept : List Step) → kept ≡ [] → KeepsFirst steps places 0 kept
-keeps_none steps places kept e = record {
-  size = ap length e;
-  named = λ j s h. absurd (omega arith);
-  good = λ clauses n g. subst (AreGood clauses n) (sym e) (good_none clauses n);
-  last = λ s h. absurd (omega arith);
-}
 
 renamed_cited : (clauses : List (List (Signed ℕ))) (steps : List Step) (places : List ℕ) (i p : ℕ) (kept : List Step) (h k : Hint) → Rises places → i < length places → p ≡ get_or places i 0
     → CitesOnly (Contains places) p h → IsRenamed places h k → KeepsFirst steps places i kept → Stays (cited clauses (take p steps)) (cited clauses kept) h k

@@ -103,9 +103,6 @@ satisfied assumptions s valuation k v stable full saved all =
     }
 
 -- the core, one assumption further
-pub core_none : (es : List Entry) (marks : List Bool) (r : Signed ℕ) → IsCoreIn es marks r [] []
-core_none es marks r = record { within = tt; whole = All-nil (λ l. IsInCore es marks r l → Contains [] l); true_ones = All-nil (λ l. (l ≡ r) ⊎ Contains (literals_of es) l) }
-
 pub core_more : (es : List Entry) (marks : List Bool) (r : Signed ℕ) (assumptions core more : List (Signed ℕ)) (i : ℕ) (d : Signed ℕ) → i < length assumptions → (get_or assumptions i d ≡ r) ⊎ Contains (literals_of es) (get_or assumptions i d) → more ≡ core ++ get_or assumptions i d ∷ []
     → IsCoreIn es marks r (take i assumptions) core → IsCoreIn es marks r (take (i + 1) assumptions) more
 core_more es marks r assumptions core more i d h has grown c =
@@ -145,9 +142,6 @@ core_has t marks r assumptions core inside decisions c = (
   contains_map complement core r (All-contains (λ l. IsInCore t.entries marks r l → Contains core l) assumptions r c.whole inside (inl refl)),
   λ e k chosen m. contains_map complement core e.lit (All-contains (λ l. IsInCore t.entries marks r l → Contains core l) assumptions e.lit c.whole (decisions e k chosen) (inr (e, k, refl, chosen, m))),
 )
-
-pub core_below : (n : ℕ) (es : List Entry) (marks : List Bool) (r : Signed ℕ) (assumptions core : List (Signed ℕ)) → AtomsBelow n assumptions → All (Contains assumptions) core → AtomsBelow n core
-core_below n es marks r assumptions core low part = All-weaker (Contains assumptions) (λ l. l.atom < n) (λ l c. All-contains (λ x. x.atom < n) assumptions l low c) core part
 
 -- what the trail's value says
 pub truth_read : (t : Trail) (l : Signed ℕ) (o : Option Bool) (b : Bool) → IsTrail t → o ≡ value_of t.entries l → b ≡ unwrap_or o false → MatchBool b (Contains (literals_of t.entries) l) (¬ Contains (literals_of t.entries) l)

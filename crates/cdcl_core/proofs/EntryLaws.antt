@@ -2,7 +2,7 @@
 use Rattle.std.proofs.Common.{◌≡◌, ◌≢◌, ℕ, suc, zero, ◌+◌, ◌<◌, Bool, true, false, not, cond, ◌⊎◌, inl, inr, List, [], ◌∷◌, ◌++◌, length, take, get_or, Some, refl, sym, ap, ◌∙◌, subst, arith, eq-eqb}
 use Rattle.std.specs.Prelude.{AllPairs, Contains, slice_get, ◌==◌}
 use Rattle.std.proofs.lemmas.List.{take_more}
-use Rattle.std.proofs.lemmas.List.Elements.{All-contains, All-map, Contains-push, Contains-push_cases, Contains-append_left}
+use Rattle.std.proofs.lemmas.List.Elements.{All-contains, All-map, Contains-push, Contains-push_cases}
 use Rattle.std.proofs.lemmas.Option.{same_Some, slice_get_within, slice_get-get_or}
 use Rattle.std.proofs.lemmas.Bool.{cases_eq}
 use Rattle.std.proofs.lemmas.Bool.Decides.{nat_tests}
@@ -69,9 +69,6 @@ take_item xs i x at =
 
 pub before_or_here : {X : Type 0} (xs : List X) (i : ℕ) (x y : X) → slice_get xs i ≡ Some x → Contains (take (i + 1) xs) y → Contains (take i xs) y ⊎ (x ≡ y)
 before_or_here xs i x y at c = Contains-push_cases (take i xs) x y (subst (λ l. Contains l y) (take_item xs i x at) c)
-
-pub before_too : {X : Type 0} (xs : List X) (i : ℕ) (x y : X) → slice_get xs i ≡ Some x → Contains (take i xs) y → Contains (take (i + 1) xs) y
-before_too xs i x y at c = subst (λ l. Contains l y) (sym (take_item xs i x at)) (Contains-append_left (take i xs) (x ∷ []) y c)
 
 pub here_too : {X : Type 0} (xs : List X) (i : ℕ) (x : X) → slice_get xs i ≡ Some x → Contains (take (i + 1) xs) x
 here_too xs i x at = subst (λ l. Contains l x) (sym (take_item xs i x at)) (Contains-push (take i xs) x)

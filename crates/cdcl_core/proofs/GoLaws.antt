@@ -20,7 +20,7 @@ use Rattle.cdcl_trail.specs.declared.entry.Entry.{Entry}
 use Rattle.cdcl_trail.specs.Trail.{Trail, IsTrail, IsDecision, reason_of, literals_of}
 use Rattle.cdcl_core.specs.declared.search.Search.{Search}
 use Rattle.cdcl_core.specs.Analysis.{ShowsGiven, IsMarked}
-use Rattle.cdcl_core.specs.Search.{IsKept, IsTrueUpTo, IsSearch, Ends, Continues, IsInCore, IsCoreIn}
+use Rattle.cdcl_core.specs.Search.{IsKept, IsTrueUpTo, IsSearch, Ends, IsInCore, IsCoreIn}
 use Rattle.cdcl_core.proofs.EntryLaws.{of_literals, reason_found}
 use Rattle.cdcl_core.proofs.KeptLaws.{kept_same, closes_shown, closes_hinted}
 use Rattle.cdcl_core.proofs.EndLaws.{answer_refutes, core_free, core_has, clash_answer}
@@ -34,10 +34,6 @@ marks_search assumptions s m same k = record {
   all_true = k.all_true;
   checked = k.checked;
 }
-
-pub marks_continue : (assumptions : List (Signed ℕ)) (s new : Search) (m : List Bool) (found : Option Answer) → Continues assumptions (record s { marks = m }) new found → Continues assumptions s new found
-marks_continue assumptions s new m None c = (c.0, record { same = record { atoms = c.1.same.atoms; added = c.1.same.added }; within = c.1.within; risen = c.1.risen })
-marks_continue assumptions s new m (Some a) c = record { kept = c.kept; same = record { atoms = c.same.atoms; added = c.same.added }; answered = c.answered }
 
 -- the end by steps
 pub refuted_ends : (assumptions core : List (Signed ℕ)) (s : Search) (last : Step) (derivation : List Step) → last.clause ≡ map complement core → IsSubList core assumptions → IsKept s → AtomsBelow s.trail.trail.atoms core → ClosesAll (map complement core) (map (cited s.log.added s.log.steps) last.hints)
@@ -98,9 +94,6 @@ one_mark n a m e h = (
   ap length e ∙ length-set (replicate n false) a true ∙ length-replicate n false,
   ap (λ x. get_or x a false) e ∙ get_or-set_same (replicate n false) a true false (omega (arith, length-replicate n false)),
 )
-
-pub one_mark_size : (n a : ℕ) (m : List Bool) → m ≡ set (replicate n false) a true → a < n → length m ≡ n
-one_mark_size n a m e h = (one_mark n a m e h).0
 
 -- an assumption and its complement
 pub clash_ends : (assumptions core : List (Signed ℕ)) (s : Search) (m : List Bool) (l : Signed ℕ) (derivation : List Step) → m ≡ set (replicate (length s.marks) false) l.atom true → IsKept s → AtomsBelow s.trail.trail.atoms assumptions → IsCoreIn s.trail.trail.entries m l assumptions core → Contains assumptions l → Contains assumptions (complement l)

@@ -54,12 +54,6 @@ new_kept s added steps clauses entries atoms marks values saved attached = recor
 attached_same : (old new : Search) → new.trail ≡ old.trail → new.clauses ≡ old.clauses → AreAttached old.trail old.clauses → AreAttached new.trail new.clauses
 attached_same old new trail clauses a = subst (λ t. AreAttached t new.clauses) (sym trail) (subst (AreAttached old.trail) (sym clauses) a)
 
-KeepsAttached : WatchedTrail → WatchedTrail → Type 0
-KeepsAttached old new = (clauses : List (Option (List (Signed ℕ)))) → AreAttached old clauses → AreAttached new clauses
-
-AttachesTo : WatchedTrail → WatchedTrail → ℕ → Type 0
-AttachesTo old new n = (before after : List (Option (List (Signed ℕ)))) (c : List (Signed ℕ)) → AddsClause before after c n → AreAttached old before → AreAttached new after
-
 -- the same state with other marks, phases and places to look at
 pub kept_same : (old new : Search) → new.log ≡ old.log → new.clauses ≡ old.clauses → new.trail ≡ old.trail → length new.marks ≡ length old.marks → (ArePhases old.trail.trail old.phases → ArePhases new.trail.trail new.phases) → IsKept old → IsKept new
 kept_same old new log clauses watched marks phases k =

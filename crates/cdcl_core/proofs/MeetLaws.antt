@@ -163,16 +163,9 @@ level_read t e l o n v c is read got = sym (got ∙ ap (λ x. unwrap_or x 0) (re
 pub reason_read : (t : Trail) (e : Entry) (l : Signed ℕ) (o : Option ℕ) → IsTrail t → Contains t.entries e → l ≡ e.lit → o ≡ reason_of t.entries l.atom → e.reason ≡ o
 reason_read t e l o v c is read = sym (read ∙ ap (λ x. reason_of t.entries x.atom) is ∙ reason_found t e e.lit.atom v c refl)
 
-pub marked_read : (marks : List Bool) (e : Entry) (l : Signed ℕ) (b : Bool) → l ≡ e.lit → b ≡ get_or marks l.atom false → b ≡ true → IsMarked marks e.lit.atom
-marked_read marks e l b is read set_there = sym (ap (λ x. get_or marks x.atom false) is) ∙ sym read ∙ set_there
-
 pub on_ok : {T E : Type 0} (r : Result T E) (P Q : Type 0) → (P → Q) → OnOk r P → OnOk r Q
 on_ok (Ok x) P Q f h = f h
 on_ok (Err e) P Q f h = tt
-
-pub on_ok_two : {T E : Type 0} (r : Result T E) (P R Q : Type 0) → (P → R → Q) → OnOk r P → OnOk r R → OnOk r Q
-on_ok_two (Ok x) P R Q f h g = f h g
-on_ok_two (Err e) P R Q f h g = tt
 
 pub on_ok_three : {T E : Type 0} (r : Result T E) (P R S Q : Type 0) → (P → R → S → Q) → OnOk r P → OnOk r R → OnOk r S → OnOk r Q
 on_ok_three (Ok x) P R S Q f h g k = f h g k

@@ -15,7 +15,7 @@ use Rattle.std.proofs.lemmas.Option.{same_Some}
 use Rattle.prop_logic.specs.declared.literal.Hint.{Hint}
 use Rattle.prop_logic.specs.declared.literal.Hint.TheVariants.{Added, Step as Earlier}
 use Rattle.prop_logic.specs.declared.literal.Step.{Step}
-use Rattle.cdcl_core.specs.Cut.{CitesOnly, Rises, AreNeeded}
+use Rattle.cdcl_core.specs.Cut.{CitesOnly, Rises}
 
 -- a number put into a set
 pub puts_in : (old new : BTreeSet ℕ) (k : ℕ) → Updates nat_cmp old new k true → Contains new.keys k
@@ -99,17 +99,6 @@ reached_more steps taken more waiting rest now p s left low is at cited kept bel
         | inr there ↦ All-weaker (CitesOnly (IsKnown taken waiting) k) (CitesOnly (IsKnown (p ∷ taken) now) k)
             (λ h f. cites_weaker (IsKnown taken waiting) (IsKnown (p ∷ taken) now) k h known f) x.hints (a.closed k x there e)
       ];
-    }
-
-pub reached_all : (steps : List Step) (taken waiting : List ℕ) → (0 < length waiting → ⊥) → IsReached steps taken waiting → AreNeeded steps taken
-reached_all steps taken (w ∷ waiting) none a = absurd (none (omega arith))
-reached_all steps taken [] none a =
-    let only : (k : ℕ) → IsKnown taken [] k → Contains taken k = λ k h. elim h [ inl t ↦ t | inr w ↦ nothing_in k w ] in
-    record {
-      rising = a.rising;
-      within = a.within;
-      last = λ some. only (length steps - 1) (a.last some);
-      closed = λ k s c e. All-weaker (CitesOnly (IsKnown taken []) k) (CitesOnly (Contains taken) k) (λ h f. cites_weaker (IsKnown taken []) (Contains taken) k h only f) s.hints (a.closed k s c e);
     }
 
 pub reached_within : (steps : List Step) (taken waiting rest : List ℕ) (p : ℕ) → waiting ≡ rest ++ p ∷ [] → IsReached steps taken waiting → p < length steps

@@ -9,11 +9,11 @@ use Rattle.prop_logic.proofs.ListLaws.{slice_get_push, slice_get_take, take_slic
 use Rattle.cdcl_trail.specs.declared.entry.Entry.{Entry}
 use Rattle.cdcl_trail.specs.Clauses.{clause_number, AddsClause}
 use Rattle.cdcl_trail.specs.Trail.{Trail, IsTrail, IsDecision, entries_up_to}
-use Rattle.cdcl_trail.specs.Propagation.{GivesUnit, Propagates, IsConflict}
+use Rattle.cdcl_trail.specs.Propagation.{GivesUnit, Propagates}
 use Rattle.cdcl_core.specs.declared.log.Log.{Log}
 use Rattle.cdcl_core.specs.declared.search.Search.{Search}
 use Rattle.cdcl_core.specs.Log.{IsLog}
-use Rattle.cdcl_core.specs.Analysis.{AreImplied, NamesFalse, IsReady}
+use Rattle.cdcl_core.specs.Analysis.{AreImplied, IsReady}
 use Rattle.cdcl_core.specs.Search.{AreGiven, IsKept, weight}
 use Rattle.cdcl_core.proofs.EntryLaws.{pairs_head, pairs_tail}
 use Rattle.cdcl_core.proofs.LogLaws.{clause_kept}
@@ -146,9 +146,6 @@ pub implied_of : (n : ℕ) (clauses : List (Option (List (Signed ℕ)))) (log : 
 implied_of n clauses log es v g = λ k m e at reason.
     let h = g k m e at reason in
     (h.0, v.named m h.0 h.1, h.2)
-
-pub conflict_named : (n : ℕ) (clauses : List (Option (List (Signed ℕ)))) (log : Log) (es : List Entry) (k : ℕ) → IsLog n clauses log → IsConflict clauses es k → NamesFalse log es k
-conflict_named n clauses log es k v f = (f.0, v.named k f.0 f.1, f.2)
 
 pub ready_of : (s : Search) → IsKept s → IsTrail s.trail.trail → length s.trail.trail.entries ≤ 2 ^ 64 - 1 → IsReady s.log s.trail.trail
 ready_of s v t room = record {

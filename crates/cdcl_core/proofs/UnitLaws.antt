@@ -31,13 +31,6 @@ Leads log entries l part hints =
     (rest : List Hint) → ((G : List (Signed ℕ)) → IsFreeBut entries l G → Contains G l → All (Contains G) part → ClosesAll G (map (cited log.added log.steps) rest))
     → (F : List (Signed ℕ)) → IsFreeBut entries l F → Contains F l → ClosesAll F (map (cited log.added log.steps) (hints ++ rest))
 
-pub leads_none : (log : Log) (entries : List Entry) (l : Signed ℕ) (clause : List (Signed ℕ)) → Leads log entries l (take 0 clause) []
-leads_none log entries l clause = λ rest k F free has. k F free has (no_part F clause)
-  where
-    no_part : (F xs : List (Signed ℕ)) → All (Contains F) (take 0 xs)
-    no_part F [] = All-nil (Contains F)
-    no_part F (x ∷ xs) = All-nil (Contains F)
-
 -- the literal itself
 pub leads_same : (log : Log) (entries : List Entry) (l : Signed ℕ) (part : List (Signed ℕ)) (hints : List Hint) → Leads log entries l part hints → Leads log entries l (part ++ l ∷ []) hints
 leads_same log entries l part hints x = λ rest k F free has. x rest (λ G left inside all. k G left inside (All-push (Contains G) part l all inside)) F free has
@@ -90,9 +83,6 @@ more_step atoms old new l hints low closes added steps names =
       log = λ clauses v. log_step atoms clauses s old new v (closes_shown (l ∷ []) (map (cited old.added old.steps) hints) closes) (closes_hinted old.added old.steps (l ∷ []) hints closes)
           (All-cons (λ y. y.atom < atoms) l [] low (All-nil (λ y. y.atom < atoms))) added steps (ap (λ x. x.items) names);
     }
-
-pub more_none : (atoms : ℕ) (log : Log) → IsLogMore atoms log log
-more_none atoms log = record { added = refl; log = λ clauses v. v }
 
 pub more_both : (atoms : ℕ) (first old new : Log) → IsLogMore atoms first old → IsLogMore atoms old new → IsLogMore atoms first new
 more_both atoms first old new a b = record { added = b.added ∙ a.added; log = λ clauses v. b.log clauses (a.log clauses v) }

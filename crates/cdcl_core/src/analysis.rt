@@ -49,7 +49,7 @@ pub(crate) fn literal_at(trail: &Trail, place: usize) -> Lit
 }
 
 // Counts an atom that is to be marked, if it is of the present level.
-fn count(trail: &Trail, present: &mut usize, atom: usize)
+fn count_marked(trail: &Trail, present: &mut usize, atom: usize)
     requires trail { IsTrail trail.now.trail }
     requires room { length trail.now.trail.entries ≤ usize.MAX }
     requires atom { atom < trail.now.trail.atoms }
@@ -61,8 +61,8 @@ fn count(trail: &Trail, present: &mut usize, atom: usize)
     }
 }
 
-// The place of an atom that is to be marked waits, if it has a value.
-fn wait(trail: &Trail, places: &mut Places, atom: usize) -> Result<(), Memory>
+// Puts the place of an atom that is to be marked to those that wait, if it has a value.
+fn push_place(trail: &Trail, places: &mut Places, atom: usize) -> Result<(), Memory>
     requires trail { IsTrail trail.now.trail }
     requires atom { atom < trail.now.trail.atoms }
     ensures { OnOk result ((i : ℕ) (marks : List Bool) → atom < length marks → AreWaiting trail.now.trail i marks places.old → AreWaiting trail.now.trail i (slice_set marks atom true) places.new) }
@@ -84,8 +84,8 @@ fn mark(trail: &Trail, marks: &mut Marks, waiting: &mut Waiting, lit: Lit) -> Re
     if marks.contains(lit.atom) {
         return Ok(());
     }
-    wait(trail, &mut waiting.places, lit.atom)?;
-    count(trail, &mut waiting.present, lit.atom);
+    push_place(trail, &mut waiting.places, lit.atom)?;
+    count_marked(trail, &mut waiting.present, lit.atom);
     marks.insert(lit.atom);
     Ok(())
 }

@@ -1,8 +1,8 @@
 -- A clause is detached.
-use Rattle.std.proofs.Common.{◌≡◌, ◌≢◌, ℕ, zero, suc, ◌+◌, ◌<◌, ◌≤◌, inl, inr, Bool, true, false, List, [], ◌∷◌, ◌++◌, length, map, take, drop, set, get_or, Option, Some, None, refl, sym, ap, ◌∙◌, subst, arith, length-set}
+use Rattle.std.proofs.Common.{◌≡◌, ◌≢◌, ℕ, zero, suc, ◌+◌, ◌<◌, inl, inr, Bool, true, false, List, [], ◌∷◌, ◌++◌, length, map, take, drop, set, get_or, Option, Some, None, refl, sym, ap, ◌∙◌, subst, arith, length-set}
 use Rattle.std.specs.Prelude.{All, Contains, slice_get, ◌==◌}
 use Rattle.std.specs.List.{swap_remove}
-use Rattle.std.proofs.lemmas.List.{get_or-set_same, get_or-set_other, take_all}
+use Rattle.std.proofs.lemmas.List.{get_or-set_same, get_or-set_other}
 use Rattle.std.proofs.lemmas.List.Sums.{count_by_more_no}
 use Rattle.std.proofs.lemmas.Option.{none-some, slice_get_within, get_or_from_slice_get}
 use Rattle.std.proofs.lemmas.Bool.{cases_eq, ne_eqb}
@@ -64,9 +64,6 @@ attached_detached t w w' n before after removes a here other size others gone su
     watching_one m p at e = none-some p (sym here ∙ ap (pair_at w'.pairs) (sym e) ∙ at)
 
 -- one list is walked
-pub unwatch_begins : (n j : ℕ) (lists : List (List Watch)) → IsUnwatchedTo n j 0 lists lists
-unwatch_begins n j lists = record { gone = refl; others = λ m e. refl; old_ones = λ x c. c; apart = λ k e. refl; size = refl }
-
 pub unwatch_dropped : (n j place : ℕ) (old mid new : List (List Watch)) (w : Watch) → IsUnwatchedTo n j place old mid → j < length mid → slice_get (list_at mid j) place ≡ Some w → w.number ≡ n
     → new ≡ set mid j (swap_remove (list_at mid j) place w) → IsUnwatchedTo n j place old new
 unwatch_dropped n j place old mid new w u inside at same is =
@@ -92,9 +89,6 @@ unwatch_kept n j place old mid w u at other =
       apart = u.apart;
       size = u.size;
     }
-
-pub unwatch_ends : (n j place : ℕ) (old new : List (List Watch)) → IsUnwatchedTo n j place old new → length (list_at new j) ≤ place → IsUnwatched n j old new
-unwatch_ends n j place old new u h = record { gone = ap (times n) (sym (take_all place (list_at new j) h)) ∙ u.gone; others = u.others; old_ones = u.old_ones; apart = u.apart; size = u.size }
 
 -- both lists of a pair
 pub unwatched_both : (n : ℕ) (p : Pair) (old mid new : List (List Watch)) → slot_of p.first ≢ slot_of p.second → IsUnwatched n (slot_of p.first) old mid → IsUnwatched n (slot_of p.second) mid new → IsUnwatchedBoth n p old new

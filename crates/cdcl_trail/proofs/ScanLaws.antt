@@ -8,7 +8,6 @@ use Rattle.std.proofs.lemmas.Bool.{eqb-true, eqb-false, eq-eqb}
 use Rattle.std.proofs.Math.Dec.{eqb}
 use Rattle.std.specs.Bool.{beq}
 use Rattle.inst_logic.proofs.Items.{contains_here, contains_there}
-use Rattle.prop_logic.proofs.ListLaws.{Contains-take}
 use Rattle.inst_logic.specs.declared.signed.Signed.{Signed}
 use Rattle.inst_logic.specs.Signed.{complement}
 use Rattle.cdcl_trail.specs.declared.entry.Entry.{Entry}
@@ -137,20 +136,7 @@ unequal a l h e =
     same_sign false true e = absurd cc
     same_sign false false e = refl
 
--- what holds of the first literals
-pub rest_of_first : (es : List Entry) (clause : List (Signed ℕ)) (n : ℕ) → HasRest es (take n clause) → HasRest es clause
-rest_of_first es clause n (inl t) = inl (t.0, Contains-take clause n t.0 t.1, t.2)
-rest_of_first es clause n (inr t) = inr (t.0, t.1, Contains-take clause n t.0 t.2, Contains-take clause n t.1 t.3, t.4, t.5, t.6)
-
 -- what the value says of a literal
-pub false_has_value : (es : List Entry) (l : Signed ℕ) → AllPairs (λ a b. a.lit.atom ≢ b.lit.atom) es → IsFalseIn es l → value_of es l ≡ Some false
-false_has_value es l once f = by_value (value_of es l) refl
-  where
-    by_value : (o : Option Bool) → value_of es l ≡ o → value_of es l ≡ Some false
-    by_value None e = absurd (unset_not_false es l (none_value es l e) f)
-    by_value (Some true) e = absurd (not_both es l once (true_value es l e) f)
-    by_value (Some false) e = e
-
 pub true_has_value : (es : List Entry) (l : Signed ℕ) → AllPairs (λ a b. a.lit.atom ≢ b.lit.atom) es → Contains (literals_of es) l → value_of es l ≡ Some true
 true_has_value es l once f = by_value (value_of es l) refl
   where

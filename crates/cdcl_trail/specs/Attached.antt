@@ -25,9 +25,6 @@ pub record WatchedTrail : Type 0 where
   pub trail : Trail
   pub watching : Watching
 
-abbrev pub nothing_done : Head
-nothing_done = record { place = 0; passed = 0 }
-
 -- how far propagation came at a level
 abbrev pub head_at : Watching → ℕ → Head
 head_at w k = slice_index_or w.heads k w.head

@@ -9,7 +9,7 @@ returns-clause-marked c =
     let t = c.args.trail.now.trail in
     let l = c.args.lit in
     let marks = c.args.marks.now in
-    let is : Waiting = record { present = c.count.new.present; places = c.wait.new.places } in
+    let is : Waiting = record { present = c.count_marked.new.present; places = c.push_place.new.places } in
     let inside : l.atom < length marks = omega (arith, c.requires.atom, c.requires.size) in
     subst (λ m. MarksToo t (l ∷ []) marks m c.args.waiting.now is) (sym c.insert.ensures)
-    (marks_one t l marks c.args.waiting.now is inside (λ i k. c.count.ensures i marks k) (λ i w. c.in_ok-wait.ensures i marks inside w))
+    (marks_one t l marks c.args.waiting.now is inside (λ i k. c.count_marked.ensures i marks k) (λ i w. c.in_ok-push_place.ensures i marks inside w))

@@ -2,7 +2,7 @@ use Rattle.std.proofs.Common.{◌<◌, ◌∷◌, ℕ, List, Bool, true, length,
 use Rattle.cdcl_core.specs.Analysis.{AreWaiting}
 use Rattle.cdcl_core.proofs.AnalysisLaws.{waiting_more, waiting_unset}
 use Rattle.cdcl_core.proofs.MeetLaws.{on_ok}
-use Rattle.cdcl_core.proofs.analysis.wait.Goals as goal
+use Rattle.cdcl_core.proofs.analysis.push_place.Goals as goal
 
 pub returns-in-None : goal.returns-in-None
 returns-in-None c i marks inside w = waiting_unset c.args.trail.now.trail i c.args.atom marks c.args.places.now c.in-None.ensures.none inside w
