@@ -20,7 +20,7 @@ use Rattle.cert_format.specs.Printable.{IsPrintableClause}
 use Rattle.inst_machine.specs.Machine.{IsFirst}
 use Rattle.inst_machine.proofs.Prolonged.{first_passed_over, first_taken}
 use Rattle.term_bank.specs.Forest.{Forest, AreDistinct, Extends, IsClauseOf, IsClauseAt, clause_at, tree_at}
-use Rattle.term_bank.proofs.Clauses.{clause_extends}
+use Rattle.term_bank.proofs.Clauses.{clause_extends, clauses_extend}
 use Rattle.clause_form.proofs.Ids.{same_ids}
 use Rattle.saturation_cert.specs.declared.member.Origin.TheVariants.{Input}
 use Rattle.saturation_cert.specs.Values.{origin_of}
@@ -37,14 +37,10 @@ use Rattle.instgen_loop.proofs.Works.{after_more}
 
 -- Clauses in the bank
 
-ids_same : (f g : Forest) → Extends f g → (cs : List (List (Signed ℕ))) → ((c : List (Signed ℕ)) → c ∈ cs → IsClauseOf f c) → map (clause_at g) cs ≡ map (clause_at f) cs
-ids_same f g grown [] h = refl
-ids_same f g grown (c ∷ cs) h = ap₂ (λ (x : TreeClause) xs. x ∷ xs) (clause_extends f g grown c (h c (inl refl))) (ids_same f g grown cs (λ d i. h d (inr i)))
-
 pub given_grown : (f g : Forest) → Extends f g → (ids : List (List (Signed ℕ))) (cs : List TreeClause) → AreGiven f ids cs → AreGiven g ids cs
 given_grown f g grown ids cs h = record {
   whole = in_all (IsWholeClause g) ids (λ c i. whole_kept f g grown c (all_in (IsWholeClause f) ids h.whole c i));
-  same = ids_same f g grown ids (λ c i. let w = all_in (IsWholeClause f) ids h.whole c i in w.ids) ∙ h.same;
+  same = clauses_extend f g grown ids (λ c i. let w = all_in (IsWholeClause f) ids h.whole c i in w.ids) ∙ h.same;
 }
 
 -- the ids of a well-formed clause are whole
@@ -55,13 +51,6 @@ whole_at f c trees at formed = record {
       passes (λ (x : Signed Tree). atom_is_formed x.atom) (clause_at f c) (ap clause_is_formed at.1 ∙ formed) (record { positive = l.positive; atom = tree_at f l.atom })
       (in_map (λ (x : Signed ℕ). record { positive = x.positive; atom = tree_at f x.atom }) l c i));
 }
-
-pub formed_at : (trees : List TreeClause) (i : ℕ) (d : TreeClause) → AreFormedClauses trees → i < length trees → d ≡ get_or trees i d → IsFormedClause d
-formed_at trees i d h within is = by (clause_is_formed (get_or trees i d)) refl
-  where
-    by : (b : Bool) → clause_is_formed (get_or trees i d) ≡ b → IsFormedClause d
-    by true e = ap clause_is_formed is ∙ e
-    by false e = let no = list_all_at clause_is_formed trees i d within e in absurd (cc)
 
 pub one_more_given : (f g : Forest) → Extends f g → (ids : List (List (Signed ℕ))) (c : List (Signed ℕ)) (trees : List TreeClause) (i : ℕ) (d : TreeClause) → AreGiven f ids (take i trees)
     → i < length trees → d ≡ get_or trees i d → IsClauseAt g c d → IsFormedClause d → AreGiven g (ids ++ c ∷ []) (take (i + 1) trees)

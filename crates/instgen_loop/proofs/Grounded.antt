@@ -21,6 +21,7 @@ use Rattle.prop_logic.specs.declared.literal.Step.{Step}
 use Rattle.prop_logic.specs.Literal.{AllAtomsBelow}
 use Rattle.prop_logic.specs.Solving.{IsAnswer, Refutes, Satisfies, IsSubList}
 use Rattle.prop_logic.specs.Valuation.{IsHeld}
+use Rattle.prop_logic.proofs.SearchLaws.{no_core}
 use Rattle.engine_laws.proofs.Bits.{literal_is_as_true}
 use Rattle.term_bank.specs.Forest.{Forest, tree_at}
 use Rattle.term_index.specs.Pairs.{Pair}
@@ -165,10 +166,6 @@ module _ {S I C : Type 0} (atoms : S → ℕ) (added : S → List (List (Signed 
     with_kept bot cs budget (v, b, h) = let (w, k) = truth_kept bot cs budget v b h in (w, true, k)
 
 -- Answers without assumptions
-
-no_core : (core : List (Signed ℕ)) → IsSubList core [] → core ≡ []
-no_core [] h = refl
-no_core (l ∷ core) h = absurd (let e = h.1 in cc)
 
 pub unsat_refutes : (n : ℕ) (cs : List (List (Signed ℕ))) (a : Answer) (core : List (Signed ℕ)) (derivation : List Step) → IsAnswer n cs [] a → a ≡ Unsat core derivation → Refutes n cs [] [] derivation
 unsat_refutes n cs a core derivation h e =

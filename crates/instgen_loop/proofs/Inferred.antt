@@ -32,14 +32,16 @@ use Rattle.saturation_cert.specs.Values.{origin_of}
 use Rattle.saturation_cert.specs.declared.member.Origin.{Origin}
 use Rattle.inst_calculus.proofs.Distinct.{length_map}
 use Rattle.engine_laws.specs.Places.{IsPlaced}
-use Rattle.inst_calculus.specs.Abstraction.{AreGroundAtoms, grounding}
+use Rattle.inst_calculus.specs.Abstraction.{AreGroundAtoms}
 use Rattle.inst_calculus.proofs.Items.{same_item}
 use Rattle.term_index.specs.Pairs.{Pair}
-use Rattle.ground_abs.specs.Abstracts.{AreNotesIn}
+use Rattle.ground_abs.proofs.Images.{notes_stay}
 use Rattle.instgen_loop.specs.declared.state.Run.{Run}
 use Rattle.instgen_loop.specs.Clauses.{Item, AreEntries, AreFirsts, entries_in, clauses_in}
+use Rattle.instgen_select.specs.Queues.{numbers}
 use Rattle.instgen_loop.specs.Loops.{items, IsSafe, IsUnified, IsSideWorked, Goes, Appends}
-use Rattle.term_bank.proofs.Growth.{at_extends, ids_extend, map_extends}
+use Rattle.instgen_loop.specs.Running.{Reads}
+use Rattle.term_bank.proofs.Growth.{ids_extend, map_extends}
 use Rattle.term_bank.proofs.Clauses.{clause_extends}
 use Rattle.instgen_loop.proofs.Grown.{entries_kept}
 use Rattle.instgen_loop.proofs.Works.{at_number_map}
@@ -81,12 +83,6 @@ concluded_whole f g es side items e d h entries i made =
       atoms = atoms_of_formed g d (transport IsFormedClause (sym at.1) (canonical_is_formed (instance s (clause_at f e.0)) (instance_is_formed s (clause_at f e.0) (side_terms f es side h) (from_clause_at f e.0 atoms))));
     }
 
-pub made_canonical : (f g : Forest) (es : List Binding) (side : Side) (c : TreeClause) (d : List (Signed ℕ)) → IsUnified f es
-    → ((s : Sided) → IsResolvedBy f es s → clause_at g d ≡ canonical_form (instance (of_side s side) c)) → IsCanonical (clause_at g d)
-made_canonical f g es side c d h made =
-    let q = made h.unifier h.resolved in
-    transport IsCanonical (sym q) (canonical_of_canonical (instance (of_side h.unifier side) c))
-
 pub length_at : (f : Forest) (c : List (Signed ℕ)) → length (clause_at f c) ≡ length c
 length_at f c = length_map (λ (l : Signed ℕ). record { positive = l.positive; atom = tree_at f l.atom }) c
 
@@ -107,11 +103,6 @@ premise_bounded h (suc i) e at = h.bounded i e at
 pub item_later : {S I C : Type 0} (old new : Run S I C) (n : ℕ) (e : Item) → Goes old new → at_number (items old) n ≡ Some e → at_number (items new) n ≡ Some e
 item_later old new n e goes at = let (more, q) = goes.entries in ap (λ xs. at_number xs n) q ∙ at_number_append (items old) more n e at
 
-notes_stay : (f g : Forest) (bot : Sym) (notes : List (ℕ × ℕ)) → Extends f g → AreNotesIn f bot notes → AreNotesIn g bot notes
-notes_stay f g bot notes e h i r at =
-    let (k, l) = h i r at in
-    (omega (arith, e.trees.0), at_extends f g r (subst (grounding bot) (tree_at g i)) e (transport (λ t. IsAt f r (subst (grounding bot) t)) (sym (e.trees.1 i k)) l))
-
 pub safe_grown : {S I C : Type 0} (atoms : S → ℕ) (pairs : I → List Pair) (fits : Forest → I → Type 0) (r : Run S I C) (g : Forest) → IsSafe atoms pairs fits r → Extends r.entries.bank g → AreFormed g → fits g r.entries.first
     → IsSafe atoms pairs fits (record r { entries = record r.entries { bank = g } })
 safe_grown atoms pairs fits r g h e formed stored = record {
@@ -128,6 +119,21 @@ safe_grown atoms pairs fits r g h e formed stored = record {
   within = h.within;
   placed = h.placed;
 }
+
+-- a grown bank alone
+pub goes_grown : {S I C : Type 0} (r : Run S I C) (g : Forest) → Extends r.entries.bank g → Goes r (record r { entries = record r.entries { bank = g } })
+goes_grown r g e = record {
+  bank = e;
+  entries = ([], sym (append-nil (items r)));
+  held = ([], sym (append-nil r.held.items));
+  waits = (0, omega arith, sym (append-nil (numbers r.queue.items)));
+  selection = refl;
+  valuation = refl;
+  literals = ([], sym (append-nil r.ground.literals));
+}
+
+pub reads_grown : {S I C : Type 0} (r : Run S I C) (g : Forest) → Extends r.entries.bank g → Reads r (record r { entries = record r.entries { bank = g } })
+reads_grown r g e = record { bank = e; rest = refl }
 
 pub same_clauses : (f : Forest) (es : List Item) → entry_clauses (entries_in f es) ≡ clauses_in f es
 same_clauses f es = map_map (λ (x : Entry). x.clause) (λ (x : Item). record { clause = clause_at f x.0; origin = origin_of x.1 }) es

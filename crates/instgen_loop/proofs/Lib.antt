@@ -1,5 +1,4 @@
 pub mod Asked
-pub mod Banks
 pub mod Covers
 pub mod Firsts
 pub mod Links

@@ -18,7 +18,7 @@ use Rattle.inst_logic.specs.WellFormed.{IsAtom}
 use Rattle.inst_logic.specs.Substitution.{tree_vars}
 use Rattle.inst_logic.proofs.SameLemmas.{signed_eq_decides, literal_eq_decides}
 use Rattle.inst_logic.proofs.Numbering.{map_map}
-use Rattle.inst_logic.proofs.Membership.{get_or_in}
+use Rattle.inst_logic.proofs.Membership.{get_or_in, map_agree}
 use Rattle.inst_calculus.specs.Abstraction.{abstraction, abstract_literals, named_literal}
 use Rattle.inst_calculus.specs.Axioms.{clause_symbols, tree_symbols, equality_axioms, with_axioms}
 use Rattle.inst_calculus.specs.Steps.{Cited, given, earlier, Step, cited_clause, IsShownFrom, EndsEmpty, renamed_literal, renamed_clause, renamed_step, without_repeats, HasAtomsBelow}
@@ -41,6 +41,10 @@ use Rattle.cert_format.specs.Validity.{IsValidRefutation}
 use Rattle.cert_format.proofs.Numbers.{slice_get_of_map, in_slice_get}
 use Rattle.cert_format.proofs.RightCertificates.{refuted_is_valid}
 use Rattle.term_bank.specs.Forest.{Forest, AreDistinct, IsClauseOf, clause_at, literal_tree, tree_at}
+use Rattle.prop_logic.proofs.SearchLaws.{none_inside}
+use Rattle.term_bank.proofs.Clauses.{same_literal}
+use Rattle.term_bank.proofs.Growth.{none_left}
+use Rattle.ground_abs.proofs.Numbered.{named_trees}
 use Rattle.term_index.specs.Pairs.{Pair}
 use Rattle.ground_abs.specs.Abstracts.{atoms_in, AreAtomsIn}
 use Rattle.ground_abs.specs.Numbers.{named}
@@ -72,10 +76,6 @@ cited_of (hint.Step n) = earlier n
 abbrev plain_step : NumberedStep → Step ℕ
 plain_step s = record { clause = s.clause; hints = map cited_of s.hints }
 
-map_agree : {A B : Type 0} (f g : A → B) (xs : List A) → ((x : A) → x ∈ xs → f x ≡ g x) → map f xs ≡ map g xs
-map_agree f g [] h = refl
-map_agree f g (x ∷ xs) h = ap₂ (λ y ys. y ∷ ys) (h x (inl refl)) (map_agree f g xs (λ y i. h y (inr i)))
-
 hint_same : (gs : List (List (Signed ℕ))) (before : List NumberedStep) (h : Hint) → cited gs before h ≡ cited_clause gs (map plain_step before) (cited_of h)
 hint_same gs before (hint.Added n) = refl
 hint_same gs before (hint.Step n) = ap (λ cs. at_number cs n) (sym (map_map (λ (s : Step ℕ). s.clause) plain_step before))
@@ -94,34 +94,13 @@ steps_shown gs ss shown k t at =
 empty_no_tautology : {A : Type 0} → ¬ IsTautology {A = A} []
 empty_no_tautology (l, i, j) = omega (arith, i.1)
 
-none_inside : (c : List (Signed ℕ)) → All (Contains []) c → c ≡ []
-none_inside [] a = refl
-none_inside (l ∷ ls) a = absurd (omega (arith, (a 0 l (omega arith)).1))
-
-none_left : {A B : Type 0} (f : A → B) (xs : List A) → xs ≢ [] → map f xs ≢ []
-none_left f [] n e = n refl
-none_left f (x ∷ xs) n e = absurd cc
-
 -- Literals of ids in a bank where equal trees have equal ids
-
-same_literal : (f : Forest) → AreDistinct f.trees → (k l : Signed ℕ) → k.atom < length f.trees → l.atom < length f.trees → literal_tree f k ≡ literal_tree f l → k ≡ l
-same_literal f once k l a b e =
-    let s : k.positive ≡ l.positive = ap (λ (x : Signed Tree). x.positive) e in
-    let t : k.atom ≡ l.atom = once k.atom l.atom a b (ap (λ (x : Signed Tree). x.atom) e) in
-    ap₂ (λ p n. record { positive = p; atom = n }) s t
 
 repeats_dropped : (f : Forest) → AreDistinct f.trees → (ls : List (Signed ℕ)) → ((l : Signed ℕ) → l ∈ ls → l.atom < length f.trees) → clause_at f (distinct (signed_eq nat_eq) ls) ≡ distinct literal_eq (clause_at f ls)
 repeats_dropped f once ls h =
     sym (distinct_map (signed_eq nat_eq) (signed_eq_decides nat_eq Decides-eqb) literal_eq literal_eq_decides (literal_tree f) ls (λ k i l j e. same_literal f once k l (h k i) (h l j) e))
 
 -- Atoms by their numbers
-
-named_trees : (f : Forest) (ids : List ℕ) (lits : List (Signed ℕ)) → AtomsBelow (length ids) lits → map (named_literal (atoms_in f ids)) lits ≡ clause_at f (map (named ids) lits)
-named_trees f ids [] below = refl
-named_trees f ids (l ∷ lits) below =
-    let IsBelow : Signed ℕ → Type 0 = λ k. k.atom < length ids in
-    let same : get_or (map (tree_at f) ids) l.atom (var 0) ≡ tree_at f (get_or ids l.atom 0) = get_or-map (tree_at f) ids l.atom 0 (var 0) (All-head IsBelow l lits below) in
-    ap₂ (λ (t : Tree) (rest : List (Signed Tree)). record { positive = l.positive; atom = t } ∷ rest) same (named_trees f ids lits (All-tail IsBelow l lits below))
 
 module _ (f : Forest) (ids : List ℕ) (fits : AreAtomsIn f ids) where
   pub named_in : (c : List (Signed ℕ)) → AtomsBelow (length ids) c → (l : Signed ℕ) → l ∈ map (named ids) c → l.atom ∈ ids

@@ -10,7 +10,7 @@ ghost use Rattle.instgen_loop.specs.Grounds.{IsLinked};
 
 use ground_abs::Abstraction;
 use inst_logic::Memory;
-use prop_logic::{LitLists, Solver, Valuation};
+use prop_logic::{LitLists, Solver, Valuation, make_atoms};
 use term_bank::{Bank, IdClause};
 
 /// The abstractions of the entries, one for one, and the last valuation of their atoms.
@@ -20,17 +20,6 @@ pub struct Ground<S: Solver> {
     pub solver: S,
     pub literals: LitLists,
     pub valuation: Valuation,
-}
-
-// Makes so many atoms.
-fn make_atoms<S: Solver>(solver: &mut S, count: usize) -> Result<(), Memory>
-    ensures atoms { OnOk result (S.atoms solver.new ≡ S.atoms solver.old + count) }
-    ensures added { OnOk result (S.added solver.new ≡ S.added solver.old) }
-{
-    for _ in 0..count {
-        solver.new_atom()?;
-    }
-    Ok(())
 }
 
 /// Adds the abstraction of one more entry.

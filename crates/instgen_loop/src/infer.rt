@@ -132,12 +132,12 @@ pub fn conclusion_of<S: Solver, I: PartnerIndex>(
     ensures left { run.new.left ≡ run.old.left }
     ensures reads { OnOk result (Reads run.old run.new) }
     ensures whole { IfOk result (IsWholeClause run.new.entries.bank) }
+    ensures canonical { IfOk result (λ d. IsCanonical (clause_at run.new.entries.bank d)) }
     ensures made { IfOk result (IsConclusionFor run.old run.new side from) }
 {
     match run.entries.clauses.get_index(from - 1) {
         Some((clause, _)) => {
-            let made = conclude_clause(alloc, &mut run.entries.bank, &run.bindings, side, clause)?;
-            Ok(made)
+            conclude_clause(alloc, &mut run.entries.bank, &run.bindings, side, clause)
         }
         None => unreachable!(),
     }

@@ -79,7 +79,33 @@ fn allowed(p: &Problem, budget: u64) -> Option<u64>
     if function_free(p) { None } else { Some(budget) }
 }
 
-// Makes the run with its indexes.
+// Makes the indexes of the selected literals.
+fn drive_with<S: Solver, I: PartnerIndex>(
+    alloc: Global,
+    p: &Problem,
+    run: &mut Run<S, I>,
+    positive: I,
+    negative: I,
+    budget: u64,
+) -> Result<Outcome, Memory>
+    requires fresh { IsFresh S.atoms S.added I.pairs run.old }
+    requires allowed { IsAllowed run.old p.now.clauses budget }
+    requires bot { IsBot p.now.clauses run.old.ground.abstraction.bot }
+    requires constant { IsTrue (is_constant run.old.ground.abstraction.bot) }
+    requires bot_name { IsTrue (is_readable_name run.old.ground.abstraction.bot.name) }
+    requires positive { I.pairs positive ≡ [] }
+    requires negative { I.pairs negative ≡ [] }
+    requires clauses { All IsPrintableClause p.now.clauses }
+    requires named { length p.now.names ≡ length p.now.clauses }
+    requires readable { All (λ n. IsTrue (is_readable_name n)) p.now.names }
+    ensures outcome { IfOk result (IsOutcome p.now.clauses p.now.names budget) }
+    ensures appended { IfOk result (λ o. IsFalse (is_function_free p.now.clauses) → appended_count (journal_of o) ≤ budget) }
+{
+    let mut partners = Partners { positive, negative };
+    drive(alloc, p, run, &mut partners, budget)
+}
+
+// Makes the run.
 fn run_with<S: Solver, I: PartnerIndex>(
     alloc: Global,
     p: &Problem,
@@ -106,8 +132,7 @@ fn run_with<S: Solver, I: PartnerIndex>(
     ensures appended { IfOk result (λ o. IsFalse (is_function_free p.now.clauses) → appended_count (journal_of o) ≤ budget) }
 {
     let mut run = new_run(alloc, solver, first, bot, allowed(p, budget));
-    let mut partners = Partners { positive, negative };
-    drive(alloc, p, &mut run, &mut partners, budget)
+    drive_with(alloc, p, &mut run, positive, negative, budget)
 }
 
 /// Runs the engine on the problem's clauses and their axioms of equality. The budget counts the symbols and variables of the

@@ -1,36 +1,17 @@
 // Clauses and steps over numbered atoms as those of a certificate: the ids of the atoms stand in the place of their numbers, and
 // a repeated literal, which hints count once, is dropped.
-ghost use Rattle.std.specs.Prelude.{◌≡◌, ◌<◌, length, map, nat_eq, IfOk, OnOk};
-ghost use Rattle.inst_logic.specs.Equal.{signed_eq};
-ghost use Rattle.inst_logic.specs.Lists.{with_item};
+ghost use Rattle.std.specs.Prelude.{◌≡◌, ◌<◌, length, map, IfOk};
 ghost use Rattle.prop_logic.specs.Literal.{AtomsBelow, AllAtomsBelow, StepsBelow};
 ghost use Rattle.ground_abs.specs.Numbers.{named};
 ghost use Rattle.instgen_loop.specs.Refuting.{ground_clause, ground_hint, ground_step};
 
-use ground_abs::Abstraction;
+use ground_abs::{Abstraction, add_literal};
 use indexmap::IndexSet;
 use inst_logic::Memory;
 use prop_logic::{Derivation, Hint, HintList, Lit, LitList, LitLists, Step};
 use saturation_cert::{GroundHint, GroundHintList, GroundStep, GroundStepList};
 use std::alloc::Global;
 use term_bank::{IdClause, IdClauseList, IdLiteral};
-
-// One more literal, where it is not there.
-fn add_literal(
-    seen: &mut IndexSet<IdLiteral>,
-    clause: &mut IdClause,
-    literal: IdLiteral,
-) -> Result<(), Memory>
-    requires { clause.old ≡ seen.old.keys }
-    ensures same { OnOk result (clause.new ≡ seen.new.keys) }
-    ensures added { OnOk result (seen.new.keys ≡ with_item (signed_eq nat_eq) seen.old.keys literal) }
-{
-    let kept = literal;
-    if seen.insert(literal)? {
-        clause.push(kept)?;
-    }
-    Ok(())
-}
 
 // The literal with the id of its atom.
 fn named_literal(abstraction: &Abstraction, l: Lit) -> IdLiteral

@@ -7,7 +7,7 @@ use Rattle.term_bank.specs.Forest.{clause_at}
 use Rattle.unify_core.specs.declared.side.Side.TheVariants.{Left}
 use Rattle.instgen_loop.specs.Clauses.{Item}
 use Rattle.instgen_loop.specs.Loops.{items, IsUnified}
-use Rattle.instgen_loop.proofs.Inferred.{unified_stays, made_canonical, premise_bounded, length_at}
+use Rattle.instgen_loop.proofs.Inferred.{unified_stays, premise_bounded, length_at}
 use Rattle.instgen_loop.proofs.Runs.{may_read, size_concluded, made_concluded}
 use Rattle.instgen_loop.proofs.Decisions.{cover_of_made, has_literal, items_read, places_read, reads_more}
 use Rattle.instgen_loop.proofs.decide.uncovered_size.Goals as goal
@@ -19,13 +19,7 @@ conclusion_of-requires-clause-unified g c =
     subst (IsUnified r1.entries.bank) (sym c.in_ok-size.ensures.bindings) (unified_stays run.entries.bank r1.entries.bank run.bindings.entries c.in_ok-size.ensures.goes.bank c.requires.unified)
 
 pub is_covered-requires-clause-canonical : goal.is_covered-requires-clause-canonical
-is_covered-requires-clause-canonical g c =
-    let run = c.args.run.now in
-    let r1 = c.conclusion_size.new.run in
-    let r2 = c.conclusion_of.new.run in
-    let m = c.in_ok-conclusion.ensures.made in
-    made_canonical r1.entries.bank r2.entries.bank r1.bindings.entries Left (clause_at r1.entries.bank m.item.0) c.in_ok-conclusion.conclusion
-    (subst (IsUnified r1.entries.bank) (sym c.in_ok-size.ensures.bindings) (unified_stays run.entries.bank r1.entries.bank run.bindings.entries c.in_ok-size.ensures.goes.bank c.requires.unified)) m.made
+is_covered-requires-clause-canonical g c = c.in_ok-conclusion.ensures.canonical
 
 pub is_covered-requires-clause-literal : goal.is_covered-requires-clause-literal
 is_covered-requires-clause-literal g c =

@@ -11,7 +11,7 @@ use Rattle.instgen_loop.specs.Clauses.{Item}
 use Rattle.instgen_loop.specs.Loops.{items, IsUnified}
 use Rattle.instgen_loop.proofs.Selected.{literal_of, place_positive}
 use Rattle.instgen_loop.proofs.Works.{goes_on}
-use Rattle.instgen_loop.proofs.Inferred.{unified_stays, made_canonical, made_shorter, premise_bounded, item_later, side_by_cover, clause_of_placed, length_at}
+use Rattle.instgen_loop.proofs.Inferred.{unified_stays, made_shorter, premise_bounded, item_later, side_by_cover, clause_of_placed, length_at}
 use Rattle.inst_logic.specs.Measure.{clause_size}
 use Rattle.inst_logic.specs.Clauses.{TreeClause}
 use Rattle.instgen_loop.proofs.Runs.{may_read, running_read, running_held, running_inferred, size_concluded, made_concluded}
@@ -30,13 +30,7 @@ conclusion_of-requires-clause-unified g c =
     subst (IsUnified r1.entries.bank) (sym c.in_ok-size.ensures.bindings) (unified_stays run.entries.bank r1.entries.bank run.bindings.entries c.in_ok-size.ensures.goes.bank c.requires.unified)
 
 pub append_uncovered-requires-clause-canonical : goal.append_uncovered-requires-clause-canonical
-append_uncovered-requires-clause-canonical g c =
-    let run = c.args.run.now in
-    let r1 = c.budgeted_size.new.run in
-    let r2 = c.conclusion_of.new.run in
-    let m = c.in_ok-conclusion.ensures.made in
-    made_canonical r1.entries.bank r2.entries.bank r1.bindings.entries c.args.side (clause_at r1.entries.bank m.item.0) c.in_ok-conclusion.conclusion
-    (subst (IsUnified r1.entries.bank) (sym c.in_ok-size.ensures.bindings) (unified_stays run.entries.bank r1.entries.bank run.bindings.entries c.in_ok-size.ensures.goes.bank c.requires.unified)) m.made
+append_uncovered-requires-clause-canonical g c = c.in_ok-conclusion.ensures.canonical
 
 pub append_uncovered-requires-clause-literal : goal.append_uncovered-requires-clause-literal
 append_uncovered-requires-clause-literal g c =

@@ -3,7 +3,8 @@ use Rattle.inst_logic.specs.declared.signed.Signed.{Signed}
 use Rattle.inst_logic.specs.WellFormed.{AreFormedClauses}
 use Rattle.term_bank.proofs.Growth.{extends_trans}
 use Rattle.instgen_loop.specs.Starting.{AreGiven}
-use Rattle.instgen_loop.proofs.FirstEntries.{one_more_given, formed_at}
+use Rattle.term_bank.proofs.Clauses.{formed_at}
+use Rattle.instgen_loop.proofs.FirstEntries.{one_more_given}
 use Rattle.instgen_loop.proofs.start.interned.Goals as goal
 
 pub loop-c-preserved : goal.loop-c-preserved
