@@ -291,6 +291,7 @@ struct Known {
     value: Option<bool>,
     reason: Option<usize>,
     level: Option<usize>,
+    place: Option<usize>,
     second: Option<Lit>,
 }
 
@@ -308,6 +309,7 @@ fn given_by(trail: &mut Trail, clauses: &mut Clauses) -> Result<Known, Memory>
         value: trail.value(lit(1, true)),
         reason: trail.reason(1),
         level: trail.level_of(1),
+        place: trail.place_of(1),
         second: trail.assigned().get(1).copied(),
     })
 }
@@ -324,6 +326,7 @@ pub fn a_decision_gives_the_other_literal(alloc: Global) -> Result<bool, Memory>
         value: Some(true),
         reason: Some(1),
         level: Some(1),
+        place: Some(1),
         second: Some(lit(1, true)),
     };
     Ok(given(alloc)? == want)
