@@ -1,15 +1,13 @@
 -- Words ask at most one thing.
 use Rattle.std.proofs.Common.{◌≡◌, ◌∙◌, ℕ, ◌≤◌, List, Option, Some, None, false, sym, ap, arith, rules, codes, refl}
 use Rattle.std.proofs.Math.Dec.{eqb}
+use Rattle.std.proofs.lemmas.Option.{same_Some}
 use Rattle.inst_logic.specs.Tree.{Tree}
 use Rattle.inst_logic.specs.declared.signed.Signed.{Signed}
 use Rattle.cert_format.specs.Printable.{IsTextName}
 use Rattle.command_words.specs.Asked.{Asked, IsAsked, SaysAtom, SaysBudget, SaysLength, name_of, prove, sat, check, ask, stress, word_of}
 use Rattle.command_words.proofs.AtomTexts.{same_reading}
 use Rattle.command_words.proofs.FirstWords.{differ, second}
-
-same_some : {X : Type 0} (o : Option X) (x y : X) → o ≡ Some x → o ≡ Some y → x ≡ y
-same_some o x y e f = cc
 
 same_budget : (given : Option (List ℕ)) (m n : ℕ) → SaysBudget given m → SaysBudget given n → m ≡ n
 same_budget None m n e f = e ∙ sym f
@@ -37,33 +35,33 @@ same_ask : (c d : List ℕ) (a b : Signed Tree) → c ≡ d → a ≡ b → ask 
 same_ask c d a b e f = cc
 
 same_words : (words : List (List ℕ)) (a b : Asked) → IsAsked words a → IsAsked words b → word_of a ≡ word_of b
-same_words words a b h k = same_some _ (word_of a) (word_of b) h.command k.command
+same_words words a b h k = same_Some (word_of a) (word_of b) (sym h.command ∙ k.command)
 
 other_word : (words : List (List ℕ)) (a b : Asked) → IsAsked words a → IsAsked words b → eqb (second (word_of a)) (second (word_of b)) ≡ false → a ≡ b
 other_word words a b h k apart = absurd (differ (word_of a) (word_of b) apart (same_words words a b h k))
 
 pub once : (words : List (List ℕ)) (a b : Asked) → IsAsked words a → IsAsked words b → a ≡ b
 once words (prove f r m) (prove g s n) h k = same_prove f g r s m n
-    (same_some _ f g h.says.0.0 k.says.0.0) (sym h.says.1.0 ∙ k.says.1.0) (same_budget _ m n h.says.2 k.says.2)
+    (same_Some f g (sym h.says.0.0 ∙ k.says.0.0)) (sym h.says.1.0 ∙ k.says.1.0) (same_budget _ m n h.says.2 k.says.2)
 once words (prove f r m) (sat g) h k = other_word words (prove f r m) (sat g) h k refl
 once words (prove f r m) (check d q s) h k = other_word words (prove f r m) (check d q s) h k refl
 once words (prove f r m) (ask d b) h k = other_word words (prove f r m) (ask d b) h k refl
 once words (prove f r m) (stress n) h k = other_word words (prove f r m) (stress n) h k refl
 once words (sat f) (prove g s n) h k = other_word words (sat f) (prove g s n) h k refl
-once words (sat f) (sat g) h k = ap sat (same_some _ f g h.says.0 k.says.0)
+once words (sat f) (sat g) h k = ap sat (same_Some f g (sym h.says.0 ∙ k.says.0))
 once words (sat f) (check d q s) h k = other_word words (sat f) (check d q s) h k refl
 once words (sat f) (ask d b) h k = other_word words (sat f) (ask d b) h k refl
 once words (sat f) (stress n) h k = other_word words (sat f) (stress n) h k refl
 once words (check c p r) (prove g s n) h k = other_word words (check c p r) (prove g s n) h k refl
 once words (check c p r) (sat g) h k = other_word words (check c p r) (sat g) h k refl
 once words (check c p r) (check d q s) h k = same_check c d p q r s
-    (same_some _ c d h.says.0.0 k.says.0.0) (sym h.says.1.0 ∙ k.says.1.0) (sym h.says.2.0 ∙ k.says.2.0)
+    (same_Some c d (sym h.says.0.0 ∙ k.says.0.0)) (sym h.says.1.0 ∙ k.says.1.0) (sym h.says.2.0 ∙ k.says.2.0)
 once words (check c p r) (ask d b) h k = other_word words (check c p r) (ask d b) h k refl
 once words (check c p r) (stress n) h k = other_word words (check c p r) (stress n) h k refl
 once words (ask c a) (prove g s n) h k = other_word words (ask c a) (prove g s n) h k refl
 once words (ask c a) (sat g) h k = other_word words (ask c a) (sat g) h k refl
 once words (ask c a) (check d q s) h k = other_word words (ask c a) (check d q s) h k refl
-once words (ask c a) (ask d b) h k = same_ask c d a b (same_some _ c d h.says.0.0 k.says.0.0) (same_atom _ a b h.says.1 k.says.1)
+once words (ask c a) (ask d b) h k = same_ask c d a b (same_Some c d (sym h.says.0.0 ∙ k.says.0.0)) (same_atom _ a b h.says.1 k.says.1)
 once words (ask c a) (stress n) h k = other_word words (ask c a) (stress n) h k refl
 once words (stress m) (prove g s n) h k = other_word words (stress m) (prove g s n) h k refl
 once words (stress m) (sat g) h k = other_word words (stress m) (sat g) h k refl

@@ -23,7 +23,7 @@ fn is_name(word: &str) -> bool
     if bytes.is_empty() || bytes.len() > 4096 {
         return false;
     }
-    bytes.iter().all(|&byte| byte >= 32 && byte != 127)
+    bytes.iter().all(|&byte| byte >= b' ' && byte != 127)
 }
 
 fn are_digits(word: &str) -> bool
