@@ -14,7 +14,7 @@ use Rattle.inst_calculus.proofs.Distinct.{distinct_map}
 use Rattle.term_bank.specs.Forest.{Forest, clause_at, literal_tree, IsClauseAt, IsClauseOf, Extends, AreDistinct}
 use Rattle.clause_form.specs.Literals.{id_eq}
 use Rattle.clause_form.proofs.Assembly.{id_eq_decides}
-use Rattle.clause_form.proofs.Ids.{same_literal}
+use Rattle.term_bank.proofs.Clauses.{same_literal}
 use Rattle.cert_items.specs.Orders.{in_order}
 use Rattle.cert_items.proofs.Clauses.{grown_clause}
 use Rattle.cert_items.proofs.Orders.{own_numbers}

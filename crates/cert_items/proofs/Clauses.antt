@@ -117,9 +117,6 @@ read_literal f g c l bytes rest e after h grows a =
       printable = all_forms h.forms a.form h.printable a.printable;
     }
 
-pub nothing_read : (f : Forest) (bytes : List ℕ) → HasRead f [] false bytes bytes
-nothing_read f bytes = record { forms = []; clause = (λ k d h. absurd (omega arith), refl); is = refl; printable = refl }
-
 pub no_clause : (f : Forest) (c : List (Signed ℕ)) (bytes rest : List ℕ) → ((x : List ℕ) → bytes ≢ codes "$false," ++ x) → HasRead f c false bytes rest → NoFormHead rest → NoClause bytes
 no_clause f c bytes rest empty_ h bad [] after good is = empty_ after is
 no_clause f c bytes rest empty_ h bad (g ∷ gs) after good is =

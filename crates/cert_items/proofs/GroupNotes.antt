@@ -33,32 +33,10 @@ form_in r (shown_by hs) h = refl
 
 -- ---- inputs and axioms
 
-pub input_note : (r : Bool) (n : ℕ) (w bytes rest : List ℕ) → bytes ≡ codes "named(" ++ (name_text w ++ 41 ∷ rest) → is_readable_name w ≡ true → IsNoteAt r groups.Input n (named w) bytes rest
-input_note r n w bytes rest is readable = (record { printable = readable; form = λ h e. refl; group_is = refl }, is)
-
-pub no_input_note : (r : Bool) (n : ℕ) (bytes : List ℕ) → ((w rest : List ℕ) → is_readable_name w ≡ true → bytes ≢ codes "named(" ++ (name_text w ++ 41 ∷ rest)) → NoNote r groups.Input n bytes
-no_input_note r n bytes bad (named w) rest i e = bad w rest i.printable e
-no_input_note r n bytes bad _ rest i e = let q = i.group_is in cc
-
-pub axiom_note : (r : Bool) (n : ℕ) (bytes rest : List ℕ) → bytes ≡ codes "equality" ++ rest → IsNoteAt r groups.Axiom n equality bytes rest
-axiom_note r n bytes rest is = (record { printable = refl; form = λ h e. refl; group_is = refl }, is)
-
-pub no_axiom_note : (r : Bool) (n : ℕ) (bytes : List ℕ) → ((rest : List ℕ) → bytes ≢ codes "equality" ++ rest) → NoNote r groups.Axiom n bytes
-no_axiom_note r n bytes bad equality rest i e = bad rest e
-no_axiom_note r n bytes bad _ rest i e = let q = i.group_is in cc
-
 -- ---- members
 
 pub member_note : (r : Bool) (n : ℕ) (o : Origin) (bytes rest : List ℕ) → r ≡ true → bytes ≡ origin_text o rest → origin_is_printable o ≡ true → IsNoteAt r groups.Member n (member o) bytes rest
 member_note r n o bytes rest t is p = (record { printable = p; form = λ h e. e ∙ t; group_is = refl }, is)
-
-pub selected_note : (r : Bool) (n : ℕ) (o : Origin) (p : ℕ) (bytes rest : List ℕ) → r ≡ false → bytes ≡ origin_text o (codes ",[selected(" ++ (decimal p ++ 41 ∷ 93 ∷ rest)) → origin_is_printable o ≡ true → p < 2 ^ 64 → IsNoteAt r groups.Member n (selected o p) bytes rest
-selected_note r n o p bytes rest t is h small = (record { printable = and_from (origin_is_printable o) (is_number p) h (small_number p small); form = λ k e. ap not (e ∙ t); group_is = refl }, is)
-
-pub no_member_note : (r : Bool) (n : ℕ) (bytes : List ℕ) → r ≡ true → ((o : Origin) (rest : List ℕ) → origin_is_printable o ≡ true → bytes ≢ origin_text o rest) → NoNote r groups.Member n bytes
-no_member_note r n bytes t bad (member o) rest i e = bad o rest i.printable e
-no_member_note r n bytes t bad (selected o p) rest i e = let q : not r ≡ true = i.form (header r) refl in let k = ap not t in cc
-no_member_note r n bytes t bad _ rest i e = let q = i.group_is in cc
 
 pub no_selected_note : (r : Bool) (n : ℕ) (bytes : List ℕ) → r ≡ false → ((o : Origin) (p : ℕ) (rest : List ℕ) → origin_is_printable o ≡ true → p < 2 ^ 64 → bytes ≢ origin_text o (codes ",[selected(" ++ (decimal p ++ 41 ∷ 93 ∷ rest))) → NoNote r groups.Member n bytes
 no_selected_note r n bytes t bad (selected o p) rest i e = let a = and_parts (origin_is_printable o) (is_number p) i.printable in bad o p rest a.0 (below p a.1) e
@@ -73,10 +51,6 @@ ground_note r n k bytes rest t same is = (record { printable = refl; form = λ h
 pub no_ground_form : (r : Bool) (n : ℕ) (bytes : List ℕ) → r ≡ false → NoNote r groups.Ground n bytes
 no_ground_form r n bytes t ground_of rest i e = let q : r ≡ true = i.form (header r) refl in cc
 no_ground_form r n bytes t _ rest i e = let q = i.group_is in cc
-
-pub no_ground_note : (r : Bool) (n : ℕ) (bytes : List ℕ) → n < 2 ^ 64 → ((k : ℕ) (rest : List ℕ) → k < 2 ^ 64 → bytes ≢ codes "ground(m" ++ (decimal k ++ 41 ∷ rest)) → NoNote r groups.Ground n bytes
-no_ground_note r n bytes small bad ground_of rest i e = bad n rest small e
-no_ground_note r n bytes small bad _ rest i e = let q = i.group_is in cc
 
 pub other_ground : (r : Bool) (n k : ℕ) (bytes after : List ℕ) → n < 2 ^ 64 → k < 2 ^ 64 → k ≢ n → bytes ≡ codes "ground(m" ++ (decimal k ++ 41 ∷ after) → NoNote r groups.Ground n bytes
 other_ground r n k bytes after small fits differ is = no_ground_by
@@ -101,14 +75,6 @@ step_note r n hs bytes after rest t is at p k = (record { printable = some_hints
 pub no_step_form : (r : Bool) (n : ℕ) (bytes : List ℕ) → r ≡ false → NoNote r groups.Step n bytes
 no_step_form r n bytes t (shown_by hs) rest i e = let q : r ≡ true = i.form (header r) refl in cc
 no_step_form r n bytes t _ rest i e = let q = i.group_is in cc
-
-pub no_step_word : (r : Bool) (n : ℕ) (bytes : List ℕ) → ((rest : List ℕ) → bytes ≢ codes "rup([" ++ rest) → NoNote r groups.Step n bytes
-no_step_word r n bytes bad (shown_by hs) rest i e = bad (hints hs rest) e
-no_step_word r n bytes bad _ rest i e = let q = i.group_is in cc
-
-pub no_step_hints : (r : Bool) (n : ℕ) (bytes after : List ℕ) → bytes ≡ codes "rup([" ++ after → NoHints after → NoNote r groups.Step n bytes
-no_step_hints r n bytes after is bad (shown_by hs) rest i e = bad hs rest i.printable (behind_front (codes "rup([") _ _ (sym is ∙ e))
-no_step_hints r n bytes after is bad _ rest i e = let q = i.group_is in cc
 
 -- ---- the end of a line
 

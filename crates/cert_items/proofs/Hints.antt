@@ -16,23 +16,7 @@ use Rattle.cert_format.proofs.LineNotes.{behind_front, below, hint_once, more_en
 
 -- ---- one hint
 
-pub no_given : (bytes after : List ℕ) → bytes ≡ 103 ∷ after → ((n : ℕ) (rest : List ℕ) → n < 2 ^ 64 → Ends is_ascii_digit rest → after ≢ decimal n ++ rest) → (h : Cited) (rest : List ℕ) → hint_is_printable h ≡ true → Ends is_ascii_digit rest → bytes ≢ hint h rest
-no_given bytes after is bad (given k) rest p e h = bad k rest (below k p) e (behind_front (103 ∷ []) _ _ (sym is ∙ h))
-no_given bytes after is bad (earlier k) rest p e h = let q = ap (begins (λ (z : ℕ). nat_eq z 103)) (sym is ∙ h) in cc
-
-pub no_earlier : (bytes after : List ℕ) → bytes ≡ 114 ∷ after → ((n : ℕ) (rest : List ℕ) → n < 2 ^ 64 → Ends is_ascii_digit rest → after ≢ decimal n ++ rest) → (h : Cited) (rest : List ℕ) → hint_is_printable h ≡ true → Ends is_ascii_digit rest → bytes ≢ hint h rest
-no_earlier bytes after is bad (earlier k) rest p e h = bad k rest (below k p) e (behind_front (114 ∷ []) _ _ (sym is ∙ h))
-no_earlier bytes after is bad (given k) rest p e h = let q = ap (begins (λ (z : ℕ). nat_eq z 103)) (sym is ∙ h) in cc
-
-pub no_letter : (bytes : List ℕ) → ((rest : List ℕ) → bytes ≢ 103 ∷ rest) → ((rest : List ℕ) → bytes ≢ 114 ∷ rest) → (h : Cited) (rest : List ℕ) → hint_is_printable h ≡ true → Ends is_ascii_digit rest → bytes ≢ hint h rest
-no_letter bytes f g (given k) rest p e h = f (decimal k ++ rest) h
-no_letter bytes f g (earlier k) rest p e h = g (decimal k ++ rest) h
-
 -- ---- what follows
-
-pub neither : (rest : List ℕ) → ((x : List ℕ) → rest ≢ 44 ∷ x) → ((x : List ℕ) → rest ≢ 93 ∷ 41 ∷ x) → (e : Bool) (x : List ℕ) → rest ≢ hint_end e x
-neither rest f g true x h = g x h
-neither rest f g false x h = f x h
 
 more_ended : (hs : List Cited) (rest : List ℕ) → (e : Bool) × (x : List ℕ) × (more_hints hs rest ≡ hint_end e x)
 more_ended [] rest = (true, rest, refl)
@@ -78,9 +62,6 @@ read_hint list h bytes rest e after r is p =
       some = λ _. not_empty list h;
     }
 
-pub no_hints_read : (bytes : List ℕ) → HasHints [] false bytes bytes
-no_hints_read bytes = record { is = refl; printable = refl; some = λ e. absurd cc }
-
 -- what begins behind the hints that have been read
 head_by : (done : List Cited) (rest : List ℕ) → list_all hint_is_printable done ≡ true → NoHintHead rest → (h : Cited) (hs : List Cited) (after : List ℕ) → hint_is_printable h ≡ true → list_all hint_is_printable hs ≡ true → before_hints done rest ≢ hint h (more_hints hs after)
 head_by [] rest g bad h hs after p q e = bad h hs after p q e
@@ -98,11 +79,3 @@ no_hints list bytes rest r bad [] after p e = absurd cc
 no_hints list bytes rest r bad (h ∷ hs) after p e = let a = and_parts (hint_is_printable h) _ p in head_by (map hint_of list) rest r.printable bad h hs after a.0 a.1 (sym r.is ∙ e)
 
 -- ---- lengths
-
-pub hint_longer : (h : Cited) (x : List ℕ) → length x ≤ length (hint h x)
-hint_longer (given k) x = let a = length-append (decimal k) x in omega arith
-hint_longer (earlier k) x = let a = length-append (decimal k) x in omega arith
-
-pub end_longer : (e : Bool) (x : List ℕ) → length x < length (hint_end e x)
-end_longer true x = omega arith
-end_longer false x = omega arith

@@ -51,18 +51,11 @@ one_head g h n k x y p q e =
     let a = one_number g h n k (role_of g x) (role_of h y) p q (behind_front (codes "cnf(") _ _ e) in
     (a.0, a.1, one_role g x y (a.2 ∙ ap (λ (i : Group). role_of i y) (sym a.0)))
 
--- a letter whose number cannot be read
-pub no_number : (g : Group) (bytes digits : List ℕ) → bytes ≡ letter_of g ∷ digits → ((n : ℕ) (rest : List ℕ) → n < 2 ^ 64 → digits ≢ decimal n ++ 44 ∷ rest) → (h : Group) (n : ℕ) (rest : List ℕ) → n < 2 ^ 64 → bytes ≢ letter_of h ∷ (decimal n ++ 44 ∷ rest)
-no_number g bytes digits is bad h n rest small e = bad n rest small (first_two (letter_of g) (letter_of h) _ _ (sym is ∙ e)).1
-
 -- a head whose role cannot be read
 pub no_role : (g : Group) (n : ℕ) (bytes after behind : List ℕ) → bytes ≡ codes "cnf(" ++ after → after ≡ letter_of g ∷ (decimal n ++ 44 ∷ behind) → n < 2 ^ 64 → ((rest : List ℕ) → behind ≢ role_of g rest) → (h : Group) (k : ℕ) (rest : List ℕ) → k < 2 ^ 64 → bytes ≢ head_text h k rest
 no_role g n bytes after behind is at small bad h k rest q e =
     let a = one_number g h n k behind (role_of h rest) small q (sym at ∙ behind_front (codes "cnf(") _ _ (sym is ∙ e)) in
     bad rest (a.2 ∙ ap (λ (i : Group). role_of i rest) (sym a.0))
-
-pub no_letter : (bytes after : List ℕ) → bytes ≡ codes "cnf(" ++ after → ((g : Group) (n : ℕ) (rest : List ℕ) → n < 2 ^ 64 → after ≢ letter_of g ∷ (decimal n ++ 44 ∷ rest)) → (h : Group) (k : ℕ) (rest : List ℕ) → k < 2 ^ 64 → bytes ≢ head_text h k rest
-no_letter bytes after is bad h k rest q e = bad h k (role_of h rest) q (behind_front (codes "cnf(") _ _ (sym is ∙ e))
 
 -- ---- lines
 

@@ -16,19 +16,6 @@ use Rattle.cert_items.specs.declared.text_bank.Known.{Known}
 use Rattle.cert_items.specs.Known.{IsKnown, AreKnown, remembered}
 use Rattle.cert_items.specs.Reading.{IsApplied}
 
-known_grows : (f g : Forest) (text : List ℕ) (k : Known) → Extends f g → IsKnown f text k → IsKnown g text k
-known_grows f g text k grows h = record {
-  name = h.name;
-  spelled = h.spelled;
-  readable = h.readable;
-  args = h.args;
-  count = h.count;
-  at = at_extends f g k.id _ grows h.at;
-}
-
-pub all_known_grow : (f g : Forest) (es : List (Vec ℕ × Known)) → Extends f g → AreKnown f es → AreKnown g es
-all_known_grow f g es grows h = All-weaker (λ (e : Vec ℕ × Known). IsKnown f e.0.items e.1) (λ (e : Vec ℕ × Known). IsKnown g e.0.items e.1) (λ e k. known_grows f g e.0.items e.1 grows k) es h
-
 found_in : (f : Forest) (text : List ℕ) (es : List (Vec ℕ × Known)) → AreKnown f es → IfSome (remembered text es) (IsKnown f text)
 found_in f text [] h = tt
 found_in f text (e ∷ es) h = by (pointwise nat_eq text e.0.items) refl (found_in f text es (All-tail (λ (x : Vec ℕ × Known). IsKnown f x.0.items x.1) e es h))
@@ -41,17 +28,6 @@ found_in f text (e ∷ es) h = by (pointwise nat_eq text e.0.items) refl (found_
 
 pub found : (f : Forest) (text : List ℕ) (es : List (Vec ℕ × Known)) (k : Known) → AreKnown f es → Some k ≡ remembered text es → IsKnown f text k
 found f text es k h e = subst (λ (r : Option Known). IfSome r (IsKnown f text)) (sym e) (found_in f text es h)
-
--- an application of the symbol is one of a known symbol
-pub first_known : (f : Forest) (id : ℕ) (kind : Kind) (text : List ℕ) (args : List Tree) (k : Known) → IsApplied f id kind text args → k ≡ record { kind = kind; arity = length args; id = id } → IsKnown f text k
-first_known f id kind text args k h is = subst (IsKnown f text) (sym is) (record {
-  name = h.name;
-  spelled = h.spelled;
-  readable = h.readable;
-  args = args;
-  count = refl;
-  at = h.at;
-})
 
 -- one more name
 pub one_more_known : (f : Forest) (es fs : List (Vec ℕ × Known)) (text : List ℕ) (key : Vec ℕ) (k : Known) → fs ≡ es ++ (key, k) ∷ [] → key.items ≡ text → IsKnown f text k → AreKnown f es → AreKnown f fs

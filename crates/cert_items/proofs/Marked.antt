@@ -34,14 +34,6 @@ pub no_input : (bytes after : List ℕ) → bytes ≡ codes "input(" ++ after �
 no_input bytes after is bad (input k) rest h e = bad k rest (below k h) (behind_front (codes "input(") _ _ (sym is ∙ e))
 no_input bytes after is bad (inst a p b q) rest h e = let k = ap (λ (xs : List ℕ). nat_eq (at_two xs) 112) (sym is ∙ e) in cc
 
-pub no_inst : (bytes after : List ℕ) → bytes ≡ codes "inst(m" ++ after → ((a p b q : ℕ) (rest : List ℕ) → origin_is_printable (inst a p b q) ≡ true → codes "inst(m" ++ after ≢ origin_text (inst a p b q) rest) → (o : Origin) (rest : List ℕ) → origin_is_printable o ≡ true → bytes ≢ origin_text o rest
-no_inst bytes after is bad (inst a p b q) rest h e = bad a p b q rest h (sym is ∙ e)
-no_inst bytes after is bad (input k) rest h e = let k = ap (λ (xs : List ℕ). nat_eq (at_two xs) 112) (sym is ∙ e) in cc
-
-pub no_word : (bytes : List ℕ) → ((rest : List ℕ) → bytes ≢ codes "input(" ++ rest) → ((rest : List ℕ) → bytes ≢ codes "inst(m" ++ rest) → (o : Origin) (rest : List ℕ) → origin_is_printable o ≡ true → bytes ≢ origin_text o rest
-no_word bytes f g (input k) rest h e = f (decimal k ++ 41 ∷ rest) e
-no_word bytes f g (inst a p b q) rest h e = g (decimal a ++ 44 ∷ (decimal p ++ 44 ∷ 109 ∷ (decimal b ++ 44 ∷ (decimal q ++ 41 ∷ rest)))) e
-
 -- the numbers of an instance fit
 pub record AreSmall (a p b q : ℕ) : Type 0 where
   pub from : a < 2 ^ 64

@@ -117,23 +117,6 @@ pub met_before : (f : Forest) (n id g : ℕ) (rest : List ℕ) → IsGreatest (t
 met_before f n id g rest greatest less h =
     skipped n (tree_vars (tree_at f id)) (ids_vars f rest) (λ v i. (let k = all_in (λ w. w ≤ g) (tree_vars (tree_at f id)) greatest.1 v i in omega (arith, k, less))) ∙ h
 
--- the next variable
-pub next_variable : (f : Forest) (n m id : ℕ) (rest : List ℕ) → var n ≡ tree_at f id → m ≡ n + 1 → in_order m (ids_vars f rest) ≡ true → in_order n (ids_vars f (id ∷ rest)) ≡ true
-next_variable f n m id rest is more h =
-    let not_below : ltb n n ≡ false = by (ltb n n) refl in
-    let here : nat_eq n n ≡ true = (Decides-eqb n n).1 refl in
-    let next : m ≡ suc n = more ∙ one-add-right in
-    ap (λ (t : Tree). in_order n (tree_vars t ++ ids_vars f rest)) (sym is)
-    ∙ ap₂ (λ (a b : Bool). if a then in_order n (ids_vars f rest) else if b then in_order (suc n) (ids_vars f rest) else false) not_below here
-    ∙ ap (λ k. in_order k (ids_vars f rest)) (sym next) ∙ h
-  where
-    by : (b : Bool) → ltb n n ≡ b → b ≡ false
-    by true e = absurd (let l = (Decides-ltb n n).0 e in omega arith)
-    by false e = refl
-
-    one-add-right : n + 1 ≡ suc n
-    one-add-right = omega arith
-
 joined_vars : (f : Forest) (ids rest : List ℕ) → ids_vars f (ids ++ rest) ≡ trees_vars (of_list (map (tree_at f) ids)) ++ ids_vars f rest
 joined_vars f [] rest = refl
 joined_vars f (id ∷ ids) rest =
@@ -163,6 +146,3 @@ passed_size f id rest = let k = some_size (tree_at f id) in omega (arith, k)
 pub clause_ids : (f : Forest) (c : List (Signed ℕ)) → ids_vars f (map (λ l. l.atom) c) ≡ clause_vars (clause_at f c)
 clause_ids f [] = refl
 clause_ids f (l ∷ c) = ap (λ vs. tree_vars (tree_at f l.atom) ++ vs) (clause_ids f c)
-
-pub atoms_within : (f : Forest) (c : List (Signed ℕ)) → IsClauseOf f c → AreIds f (map (λ l. l.atom) c)
-atoms_within f c h = All-map (λ (i : ℕ). i < length f.trees) (λ l. l.atom) c h

@@ -24,15 +24,12 @@ use Rattle.cert_format.proofs.Spelling.{parts, one_term, following_follows, foll
 use Rattle.cert_format.proofs.Names.{names_once}
 use Rattle.std.proofs.lemmas.Bool.Decides.{nat_tests}
 use Rattle.inst_logic.proofs.Numbers.{equal_numbers}
-use Rattle.term_bank.proofs.Growth.{ids_extend}
+use Rattle.term_bank.proofs.Growth.{ids_pushed}
 
 -- ---- one more term
 
 all_pushed : (ts : List Tree) (t : Tree) → ArePrintable ts → is_printable t ≡ true → ArePrintable (ts ++ t ∷ [])
 all_pushed ts t h p = list_all-append is_printable ts (t ∷ []) ∙ and_from (list_all is_printable ts) (is_printable t && true) h (and_from (is_printable t) true p refl)
-
-pub within_pushed : (f g : Forest) (ids : List ℕ) (id : ℕ) → Extends f g → AreIds f ids → id < length g.trees → AreIds g (ids ++ id ∷ [])
-within_pushed f g ids id e h n = All-push (λ i. i < length g.trees) ids id (ids_extend f g ids e h) n
 
 -- the term that was due is done
 pub done_term : (f g : Forest) (bytes : List ℕ) (opens : List Open) (ids : List ℕ) (id : ℕ) (t : Tree) (text rest : List ℕ) → IsDue f bytes opens ids text → text ≡ term t rest → Follows t rest → is_printable t ≡ true
@@ -45,7 +42,7 @@ done_term f g bytes opens ids id t text rest d is follows printable grows at = r
   follows = follows;
   open_parts = d.open_parts;
   names = d.names;
-  within = within_pushed f g ids id grows d.within at.0;
+  within = ids_pushed f g ids id grows d.within at.0;
   trees = map_pushed f g ids id t grows d.within at.1 ∙ ap (λ (ts : List Tree). ts ++ t ∷ []) d.trees ∙ append_assoc (parts_done d.parts) d.done (t ∷ []);
   printable = subst ArePrintable (append_assoc (parts_done d.parts) d.done (t ∷ [])) (all_pushed (parts_done d.parts ++ d.done) t d.printable printable);
 }
@@ -390,7 +387,7 @@ closed f g bytes os o ids id rest k within grows a =
       follows = applied_follows (record { kind = Function; name = a.name; arity = length (k.done ++ k.last ∷ []) }) k.done k.last rest;
       open_parts = k.open_parts;
       names = k.names;
-      within = within_pushed f g (take o.start ids) id grows within a.at.0;
+      within = ids_pushed f g (take o.start ids) id grows within a.at.0;
       trees = map_pushed f g (take o.start ids) id t grows within at ∙ ap (λ (ts : List Tree). ts ++ t ∷ []) front ∙ group;
       printable = subst ArePrintable group (all_pushed (parts_done k.outer ++ k.front) t good.0 p);
     }
@@ -444,10 +441,6 @@ some_weaker (Some x) P Q f h = f x h
 
 pub not_at : (c : ℕ) (rest : List ℕ) → begins (nat_eq c) rest ≡ false → (x : List ℕ) → rest ≢ c ∷ x
 not_at c rest h x e = let k : begins (nat_eq c) (c ∷ x) ≡ false = subst (λ (xs : List ℕ). begins (nat_eq c) xs ≡ false) e h in let m = equal_numbers c c refl in cc
-
-pub is_at : (c : ℕ) (rest : List ℕ) → begins (nat_eq c) rest ≡ true → ((x : List ℕ) → rest ≢ c ∷ x) → ⊥
-is_at c [] h no_ = cc
-is_at c (b ∷ bs) h no_ = no_ bs (let e : c ≡ b = grind (arith, nat_tests) in ap (λ (x : ℕ). x ∷ bs) (sym e))
 
 pub is_none : {A : Type 0} (r : Option A) (P : Type 0) → r ≡ None → IfNone r P → P
 is_none {A} r P e h = subst (λ (x : Option A). IfNone x P) e h

@@ -33,11 +33,11 @@ rank_of groups.Step = 4
 
 -- the letter before the number
 abbrev pub letter_of : Group → ℕ
-letter_of groups.Input = 105
-letter_of groups.Axiom = 101
-letter_of groups.Member = 109
-letter_of groups.Ground = 103
-letter_of groups.Step = 114
+letter_of groups.Input = byte.letter_i
+letter_of groups.Axiom = byte.letter_e
+letter_of groups.Member = byte.letter_m
+letter_of groups.Ground = byte.letter_g
+letter_of groups.Step = byte.letter_r
 
 -- the role and its comma
 abbrev pub role_of : Group → List ℕ → List ℕ

@@ -102,7 +102,7 @@ fn name_len(bytes: &[u8]) -> usize
 {
     match bytes {
         [] => 0,
-        [39, rest @ ..] => match closing(rest) {
+        [b'\'', rest @ ..] => match closing(rest) {
             None => 0,
             Some(n) => {
                 let content = &rest[..n - 1];

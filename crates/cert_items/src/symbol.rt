@@ -40,7 +40,7 @@ pub fn name_of(alloc: Global, text: &[u8]) -> Result<Name, Memory>
     requires { IsNameText text.now }
     ensures { IfOk result (λ n. (text.now ≡ name_text n) × IsTrue (is_readable_name n)) }
 {
-    match mark(text, 39) {
+    match mark(text, b'\'') {
         Some(rest) => {
             let bytes = content(alloc, rest)?;
             Ok(Name::of(alloc, bytes.as_slice())?)

@@ -4,7 +4,8 @@ use Rattle.std.proofs.lemmas.List.{append-nil, reverse-append}
 use Rattle.std.proofs.lemmas.List.Elements.{All-head, All-tail}
 use Rattle.term_bank.specs.Forest.{AreIds}
 use Rattle.cert_items.specs.Orders.{in_order, ids_vars}
-use Rattle.cert_items.proofs.Orders.{clause_ids, atoms_within}
+use Rattle.term_bank.proofs.Clauses.{atom_ids}
+use Rattle.cert_items.proofs.Orders.{clause_ids}
 use Rattle.cert_items.proofs.order.is_ordered.Goals as goal
 
 pub loop-id-init : goal.loop-id-init
@@ -14,7 +15,7 @@ loop-id-init c =
     c.in_ok-push_atoms.ensures ∙ ap (λ (ls : List ℕ). map (λ l. l.atom) c.as_slice.result.now ++ reverse ls) c.new-left.ensures.items ∙ append-nil _ ∙ ap (map (λ l. l.atom)) c.as_slice.ensures in
     record {
       order = λ h. sym (ap (in_order 0) (clause_ids f c.args.c.now)) ∙ sym (ap (λ (ids : List ℕ). in_order 0 (ids_vars f ids)) start) ∙ h;
-      within = subst (AreIds f) (sym start) (atoms_within f c.args.c.now c.requires);
+      within = subst (AreIds f) (sym start) (atom_ids f c.args.c.now c.requires);
     }
 
 pub visit-requires-clause-within : goal.visit-requires-clause-within
