@@ -19,7 +19,7 @@ use Rattle.prop_logic.specs.declared.solver.Answer.{Answer}
 use Rattle.prop_logic.specs.declared.solver.Answer.TheVariants.{Sat, Unsat}
 use Rattle.prop_logic.specs.declared.literal.Step.{Step}
 use Rattle.prop_logic.specs.Literal.{AllAtomsBelow}
-use Rattle.prop_logic.specs.Solving.{IsAnswer, Refutes, Satisfies, IsSubList}
+use Rattle.prop_logic.specs.Solving.{IsAnswer, Refutes, Satisfies}
 use Rattle.prop_logic.specs.Valuation.{IsHeld}
 use Rattle.prop_logic.proofs.SearchLaws.{no_core}
 use Rattle.engine_laws.proofs.Bits.{literal_is_as_true}

@@ -3,9 +3,8 @@ use Rattle.std.proofs.Common.{◌≡◌, ℕ, zero, suc, ◌≤◌, List, [], �
 use Rattle.inst_logic.specs.declared.signed.Signed.{Signed}
 use Rattle.inst_logic.specs.Tree.{Tree}
 use Rattle.inst_logic.specs.Derivations.{at_number}
-use Rattle.inst_logic.specs.declared.symbol.Sym.{Sym}
-use Rattle.inst_logic.specs.Substitution.{Substitution, subst}
-use Rattle.inst_logic.specs.Clauses.{TreeClause, instance, canonical_form, order_of, numbered, IsCanonical}
+use Rattle.inst_logic.specs.Substitution.{Substitution}
+use Rattle.inst_logic.specs.Clauses.{TreeClause, instance, canonical_form, order_of, numbered}
 use Rattle.inst_logic.specs.WellFormed.{IsAtom, IsTerm, atom_is_formed, IsFormedClause}
 use Rattle.inst_logic.specs.Unifiers.{Sided}
 use Rattle.inst_logic.proofs.SameLemmas.{and_both}
@@ -21,7 +20,7 @@ use Rattle.inst_calculus.proofs.Instances.{instance_is_formed}
 use Rattle.inst_calculus.proofs.Unify.{most_general_formed}
 use Rattle.inst_calculus.proofs.CanonicalForms.{canonical_of_canonical}
 use Rattle.inst_calculus.proofs.CoveredInstances.{covered_when_renamed}
-use Rattle.term_bank.specs.Forest.{Forest, AreFormed, IsClauseOf, IsClauseAt, IsAt, Extends, clause_at, tree_at}
+use Rattle.term_bank.specs.Forest.{Forest, AreFormed, IsClauseOf, IsClauseAt, Extends, clause_at, tree_at}
 use Rattle.unify_core.specs.Sides.{Binding, IsResolvedBy, of_side}
 use Rattle.unify_core.specs.declared.side.Side.{Side}
 use Rattle.unify_core.specs.declared.side.Side.TheVariants.{Left, Right}

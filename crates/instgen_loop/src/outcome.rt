@@ -105,7 +105,7 @@ fn drive_with<S: Solver, I: PartnerIndex>(
     drive(alloc, p, run, &mut partners, budget)
 }
 
-// Makes the run.
+// Makes the run. It stands in a box: a function that holds so many maps by itself takes long to prove.
 fn run_with<S: Solver, I: PartnerIndex>(
     alloc: Global,
     p: &Problem,
@@ -131,7 +131,10 @@ fn run_with<S: Solver, I: PartnerIndex>(
     ensures outcome { IfOk result (IsOutcome p.now.clauses p.now.names budget) }
     ensures appended { IfOk result (λ o. IsFalse (is_function_free p.now.clauses) → appended_count (journal_of o) ≤ budget) }
 {
-    let mut run = new_run(alloc, solver, first, bot, allowed(p, budget));
+    let mut run = Box::new(
+        alloc,
+        new_run(alloc, solver, first, bot, allowed(p, budget)),
+    )?;
     drive_with(alloc, p, &mut run, positive, negative, budget)
 }
 
