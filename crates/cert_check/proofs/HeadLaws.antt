@@ -159,8 +159,8 @@ one_more_head c hs i h len each last =
     (subst (λ n. IsHeadOf c n (head_at (hs ++ h ∷ []) n)) len (subst (IsHeadOf c (length hs)) (sym (get_or-append_seam hs h [] _)) (subst (λ n. IsHeadOf c n h) (sym len) last)))
 
 -- the scan over the later members of the opposite head
-module _ (c : format.Saturation) (hs : List Head) (same opposed : List ℕ) (lead : LeadThrough c hs same opposed) (i : ℕ) (inside : i < length hs) where
-  pub first_partner_at : IsNext hs (complement (head_at hs i)) (suc i) (get_or opposed i 0)
+module _ (c : format.Saturation) (same opposed : List ℕ) (lead : LeadThrough c same opposed) (i : ℕ) (inside : i < length lead.heads) where
+  pub first_partner_at : IsNext lead.heads (complement (head_at lead.heads i)) (suc i) (get_or opposed i 0)
   first_partner_at = lead.chained.to_opposed i (omega arith) inside
 
   pub partners_begin : (k : ℕ) → k < get_or opposed i 0 → IsRightPair c (suc i) (suc k)
@@ -170,9 +170,9 @@ module _ (c : format.Saturation) (hs : List Head) (same opposed : List ℕ) (lea
   ]
 
   -- place j has the opposite head, and so has the place that it leads to
-  module _ (j : ℕ) (later : i < j) (within : j < length hs) (at : head_at hs j ≡ complement (head_at hs i)) where
-    pub next_partner : IsNext hs (complement (head_at hs i)) (suc j) (get_or same j 0)
-    next_partner = subst (λ (h : Head). IsNext hs h (suc j) (get_or same j 0)) at (lead.chained.to_same j (omega arith) within)
+  module _ (j : ℕ) (later : i < j) (within : j < length lead.heads) (at : head_at lead.heads j ≡ complement (head_at lead.heads i)) where
+    pub next_partner : IsNext lead.heads (complement (head_at lead.heads i)) (suc j) (get_or same j 0)
+    next_partner = subst (λ (h : Head). IsNext lead.heads h (suc j) (get_or same j 0)) at (lead.chained.to_same j (omega arith) within)
 
     pub partners_go_on : ((k : ℕ) → k < j → IsRightPair c (suc i) (suc k)) → IsRightPair c (suc i) (suc j) → (k : ℕ) → k < get_or same j 0 → IsRightPair c (suc i) (suc k)
     partners_go_on before here k less = elim (cases_lt k j) [

@@ -145,6 +145,6 @@ ready_kept old new l h kept whole =
       base = valid_kept old new h.whole kept h.base;
       placed = placed_kept old new h.whole kept h.placed;
       lookup = lookup_kept old new h.whole kept l h.lookup;
-      chains = subst (λ (x : format.Saturation). LeadThrough x l.chains.heads.items l.chains.same.items l.chains.opposed.items) (sym same) h.chains;
+      chains = subst (λ (x : format.Saturation). LeadThrough x l.chains.same.items l.chains.opposed.items) (sym same) h.chains;
       fingerprints = subst (λ (x : format.Saturation). TellApart x l.fingerprints.items) (sym same) h.fingerprints;
     }

@@ -128,8 +128,9 @@ narrow_apart c hs ps ns prints count narrow apart told i j less within other = e
 ]
 
 pub chains_lead : (c : format.Saturation) (hs : List Head) (ps : List Fingerprint) (ns : List Head) (same opposed : List ℕ) → length ps ≡ length hs → length ns ≡ length hs → AreNarrow hs ps ns
-    → length hs ≡ length c.base.members → AreApart c hs → TellApart c ps → AreChained ns same opposed 0 → LeadThrough c ns same opposed
+    → length hs ≡ length c.base.members → AreApart c hs → TellApart c ps → AreChained ns same opposed 0 → LeadThrough c same opposed
 chains_lead c hs ps ns same opposed prints count narrow members apart told chained = record {
+  heads = ns;
   count = count ∙ members;
   apart = narrow_apart c hs ps ns prints count narrow apart told;
   chained = chained;

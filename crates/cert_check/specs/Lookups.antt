@@ -52,7 +52,7 @@ pub record IsReady (c : Saturation) (l : Lookup) : Type 0 where
   pub base : IsValidBase (base_of c.base)
   pub placed : HasPlaces (saturation_of c)
   pub lookup : IsLookup c.base.bank c.base.members l
-  pub chains : LeadThrough (saturation_of c) l.chains.heads.items l.chains.same.items l.chains.opposed.items
+  pub chains : LeadThrough (saturation_of c) l.chains.same.items l.chains.opposed.items
   pub fingerprints : TellApart (saturation_of c) l.fingerprints.items
 
 -- the fingerprint is that of an atom that has the literal's atom as an instance

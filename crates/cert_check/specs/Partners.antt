@@ -46,7 +46,8 @@ pub record AreChained (hs : List Head) (same opposed : List ℕ) (i : ℕ) : Typ
   pub to_opposed : (k : ℕ) → i ≤ k → k < length hs → IsNext hs (complement (head_at hs k)) (suc k) (slice_index_or opposed k 0)
 
 -- the chains leave out no pair that is not right
-pub record LeadThrough (c : format.Saturation) (hs : List Head) (same opposed : List ℕ) : Type 0 where
-  pub count : length hs ≡ length c.base.members
-  pub apart : AreApart c hs
-  pub chained : AreChained hs same opposed 0
+pub record LeadThrough (c : format.Saturation) (same opposed : List ℕ) : Type 0 where
+  pub heads : List Head
+  pub count : length heads ≡ length c.base.members
+  pub apart : AreApart c heads
+  pub chained : AreChained heads same opposed 0

@@ -22,11 +22,9 @@ pub struct Class {
     mark: u32,
 }
 
-/// For each member, counted from 0, its sign with the number of its class, and the places of the next members of its class with
-/// its sign and with the opposite one. Where there is none it is the number of members.
+/// For each member, counted from 0, the places of the next members of its class with its sign and with the opposite one. Where there is none it is the number of members.
 #[derive(Drop)]
 pub struct Chains {
-    heads: Vec<HeadId>,
     pub(crate) same: Vec<usize>,
     pub(crate) opposed: Vec<usize>,
 }
@@ -127,21 +125,12 @@ fn narrow_heads(
     Ok(narrow)
 }
 
-// What is left of the chains through some heads without the places where they begin.
+// What is left of the chains through some heads without these and the places where they begin.
 fn chains_of(partners: Partners) -> Chains
-    ensures { (result.heads.items ≡ partners.heads.items) × (result.same.items ≡ partners.same.items) × (result.opposed.items ≡ partners.opposed.items) }
+    ensures { (result.same.items ≡ partners.same.items) × (result.opposed.items ≡ partners.opposed.items) }
 {
-    let Partners {
-        heads,
-        same,
-        opposed,
-        ..
-    } = partners;
-    Chains {
-        heads,
-        same,
-        opposed,
-    }
+    let Partners { same, opposed, .. } = partners;
+    Chains { same, opposed }
 }
 
 // The chains by the classes of members with these heads.
@@ -151,7 +140,7 @@ pub fn find_chains(
     fingerprints: &[Fingerprint],
 ) -> Result<Chains, Memory>
     requires { length fingerprints.now ≡ length heads.now }
-    ensures { (c : format.Saturation) → length heads.now ≡ length c.base.members → AreApart c heads.now → TellApart c fingerprints.now → IfOk result (λ n. LeadThrough c n.heads.items n.same.items n.opposed.items) }
+    ensures { (c : format.Saturation) → length heads.now ≡ length c.base.members → AreApart c heads.now → TellApart c fingerprints.now → IfOk result (λ n. LeadThrough c n.same.items n.opposed.items) }
 {
     let unmarked = unmarked_symbols(alloc, heads, fingerprints)?;
     let narrow = narrow_heads(alloc, &unmarked, heads, fingerprints)?;

@@ -14,8 +14,6 @@ returns c cert members apart told =
     let found = c.in_ok-chains.ensures in
     let count : length p.heads.items ≡ length hs = ap length found.0 ∙ c.in_ok-narrow.ensures.count in
     let narrow : AreNarrow hs ps p.heads.items = subst (λ (ns : List Head). AreNarrow hs ps ns) (sym found.0) c.in_ok-narrow.ensures.narrow in
-    let h : LeadThrough cert p.heads.items p.same.items p.opposed.items =
+    let h : LeadThrough cert p.same.items p.opposed.items =
     chains_lead cert hs ps p.heads.items p.same.items p.opposed.items c.requires count narrow members apart told found.1 in
-    subst (λ (xs : List Head). LeadThrough cert xs r.same.items r.opposed.items) (sym is.0)
-    (subst (λ (xs : List ℕ). LeadThrough cert p.heads.items xs r.opposed.items) (sym is.1)
-    (subst (λ (xs : List ℕ). LeadThrough cert p.heads.items p.same.items xs) (sym is.2) h))
+    subst (λ (xs : List ℕ). LeadThrough cert xs r.opposed.items) (sym is.0) (subst (λ (xs : List ℕ). LeadThrough cert p.same.items xs) (sym is.1) h)

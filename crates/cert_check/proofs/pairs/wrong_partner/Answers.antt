@@ -4,7 +4,7 @@ use Rattle.cert_format.specs.Certificate as format
 use Rattle.cert_format.specs.Validity.{IsRightPair}
 use Rattle.saturation_cert.specs.Values.{saturation_of, entry_of}
 use Rattle.inst_logic.specs.Signed.{complement}
-use Rattle.cert_check.specs.Partners.{IsNext, head_at}
+use Rattle.cert_check.specs.Partners.{IsNext, LeadThrough, head_at}
 use Rattle.cert_check.proofs.HeadLaws.{first_partner_at, partners_begin, next_partner, partners_go_on}
 use Rattle.cert_check.proofs.LookupLaws.{ready_kept}
 use Rattle.cert_check.proofs.Saturations.{saturation_same, keeps_saturation_trans}
@@ -15,19 +15,19 @@ pub loop-j-init : goal.loop-j-init
 loop-j-init c =
     let p = c.args.lookup.now.chains in
     let old = saturation_of c.args.cert.now in
-    let count : length p.heads.items ≡ length c.args.cert.now.base.members = c.requires.ready.chains.count ∙ length-map c.args.cert.now.base.members (entry_of c.args.cert.now.base.bank) in
-    let inside : c.args.i < length p.heads.items = omega (arith, count, c.requires.within) in
-    let there : c.args.i < length p.opposed.items = omega (arith, inside, c.requires.ready.chains.chained.opposed_length) in
-    let same : c.index-j.result.now ≡ get_or p.opposed.items c.args.i 0 = c.index-j.ensures ∙ get_or_default p.opposed.items c.args.i c.index-j.result.now 0 there in
-    let next : IsNext p.heads.items (complement (head_at p.heads.items c.args.i)) (suc c.args.i) c.index-j.result.now =
-    subst (IsNext p.heads.items (complement (head_at p.heads.items c.args.i)) (suc c.args.i)) (sym same) (first_partner_at old p.heads.items p.same.items p.opposed.items c.requires.ready.chains c.args.i inside) in
+    let i = c.args.i in
+    let ready = c.requires.ready.chains in
+    let inside : (lead : LeadThrough old p.same.items p.opposed.items) → i < length lead.heads = λ lead. omega (arith, lead.count, length-map c.args.cert.now.base.members (entry_of c.args.cert.now.base.bank), c.requires.within) in
+    let there : i < length p.opposed.items = omega (arith, inside ready, ready.chained.opposed_length) in
+    let same : c.index-j.result.now ≡ get_or p.opposed.items i 0 = c.index-j.ensures ∙ get_or_default p.opposed.items i c.index-j.result.now 0 there in
+    let next : (lead : LeadThrough old p.same.items p.opposed.items) → IsNext lead.heads (complement (head_at lead.heads i)) (suc i) c.index-j.result.now =
+    λ lead. subst (IsNext lead.heads (complement (head_at lead.heads i)) (suc i)) (sym same) (first_partner_at old p.same.items p.opposed.items lead i (inside lead)) in
     record {
       kept = keeps_itself c.args.cert.now;
       whole = c.requires.ready.whole;
-      later = let q = next.from_there in omega arith;
-      within = next.within;
-      at = next.at;
-      before = subst (λ n. (k : ℕ) → k < n → IsRightPair old (suc c.args.i) (suc k)) (sym same) (partners_begin old p.heads.items p.same.items p.opposed.items c.requires.ready.chains c.args.i inside);
+      later = let q = (next ready).from_there in omega arith;
+      at = λ lead. (next lead).at;
+      before = subst (λ n. (k : ℕ) → k < n → IsRightPair old (suc i) (suc k)) (sym same) (partners_begin old p.same.items p.opposed.items ready i (inside ready));
     }
 
 pub is_right_partner-requires-clause-ready : goal.is_right_partner-requires-clause-ready
@@ -43,26 +43,27 @@ pub loop-j-preserved : goal.loop-j-preserved
 loop-j-preserved c =
     let p = c.args.lookup.now.chains in
     let old = saturation_of c.args.cert.now in
-    let here = saturation_same c.args.cert.now c.loop-j.cert c.requires.ready.whole c.loop-j.invariant.kept in
-    let count : length p.heads.items ≡ length c.args.cert.now.base.members = c.requires.ready.chains.count ∙ length-map c.args.cert.now.base.members (entry_of c.args.cert.now.base.bank) in
-    let inside : c.args.i < length p.heads.items = omega (arith, count, c.requires.within) in
+    let i = c.args.i in
     let j = c.loop-j.j in
     let to = c.index-j-in-loop-j.result.now in
-    let stays : j < length p.heads.items = omega (arith, count, c.len-count.ensures, c.loop-j-test.true) in
-    let there : j < length p.same.items = omega (arith, stays, c.requires.ready.chains.chained.same_length) in
+    let ready = c.requires.ready.chains in
+    let here = saturation_same c.args.cert.now c.loop-j.cert c.requires.ready.whole c.loop-j.invariant.kept in
+    let count = length-map c.args.cert.now.base.members (entry_of c.args.cert.now.base.bank) in
+    let inside : (lead : LeadThrough old p.same.items p.opposed.items) → i < length lead.heads = λ lead. omega (arith, lead.count, count, c.requires.within) in
+    let stays : (lead : LeadThrough old p.same.items p.opposed.items) → j < length lead.heads = λ lead. omega (arith, lead.count, count, c.len-count.ensures, c.loop-j-test.true) in
+    let there : j < length p.same.items = omega (arith, stays ready, ready.chained.same_length) in
     let same : to ≡ get_or p.same.items j 0 = c.index-j-in-loop-j.ensures ∙ get_or_default p.same.items j to 0 there in
-    let at = c.loop-j.invariant.at stays in
-    let next : IsNext p.heads.items (complement (head_at p.heads.items c.args.i)) (suc j) to =
-    subst (IsNext p.heads.items (complement (head_at p.heads.items c.args.i)) (suc j)) (sym same) (next_partner old p.heads.items p.same.items p.opposed.items c.requires.ready.chains c.args.i inside j c.loop-j.invariant.later stays at) in
+    let next : (lead : LeadThrough old p.same.items p.opposed.items) → IsNext lead.heads (complement (head_at lead.heads i)) (suc j) to =
+    λ lead. subst (IsNext lead.heads (complement (head_at lead.heads i)) (suc j)) (sym same)
+    (next_partner old p.same.items p.opposed.items lead i (inside lead) j c.loop-j.invariant.later (stays lead) (c.loop-j.invariant.at lead (stays lead))) in
     record {
       kept = keeps_saturation_trans c.args.cert.now c.loop-j.cert c.is_right_partner.new.cert c.loop-j.invariant.kept c.is_right_partner.ensures.kept;
       whole = c.in_ok-is_right_partner.ensures.whole;
-      later = let q = next.from_there in let r = c.loop-j.invariant.later in omega arith;
-      within = next.within;
-      at = next.at;
-      before = subst (λ n. (k : ℕ) → k < n → IsRightPair old (suc c.args.i) (suc k)) (sym same)
-          (partners_go_on old p.heads.items p.same.items p.opposed.items c.requires.ready.chains c.args.i inside j c.loop-j.invariant.later stays at c.loop-j.invariant.before
-          (subst (λ (x : format.Saturation). IsRightPair x (suc c.args.i) (suc j)) here (c.in_ok-is_right_partner.ensures.right.0 c.if-not-branch.false)));
+      later = let q = (next ready).from_there in let r = c.loop-j.invariant.later in omega arith;
+      at = λ lead. (next lead).at;
+      before = subst (λ n. (k : ℕ) → k < n → IsRightPair old (suc i) (suc k)) (sym same)
+          (partners_go_on old p.same.items p.opposed.items ready i (inside ready) j c.loop-j.invariant.later (stays ready) (c.loop-j.invariant.at ready (stays ready)) c.loop-j.invariant.before
+          (subst (λ (x : format.Saturation). IsRightPair x (suc i) (suc j)) here (c.in_ok-is_right_partner.ensures.right.0 c.if-not-branch.false)));
     }
 
 pub returns-clause-first : goal.returns-clause-first
