@@ -4,14 +4,12 @@ use Rattle.std.specs.Prelude.{All, IfOk, Result, Ok, Err, option_map}
 use Rattle.std.proofs.lemmas.Option.{slice_get-map}
 use Rattle.inst_logic.specs.declared.signed.Signed.{Signed}
 use Rattle.inst_logic.specs.Tree.{Tree}
-use Rattle.inst_logic.specs.Clauses.{TreeClause}
 use Rattle.inst_logic.specs.Derivations.{at_number}
 use Rattle.inst_logic.specs.Unifiers.{IsMostGeneral, IsProper}
 use Rattle.inst_logic.specs.WellFormed.{IsAtom}
 use Rattle.inst_logic.proofs.ShownLaws.{at_number_contains}
 use Rattle.inst_calculus.specs.Entries.{Entry}
 use Rattle.inst_calculus.proofs.Membership.{all_in, contains_in}
-use Rattle.cert_format.specs.Validity.{IsConclusion}
 use Rattle.saturation_cert.specs.declared.member.Member.{Member}
 use Rattle.saturation_cert.specs.Values.{entry_of}
 use Rattle.saturation_cert.specs.Wholes.{IsWholeClause}
@@ -72,20 +70,6 @@ module _ (f : Forest) where
         within = all_in (λ (x : Signed ℕ). x.atom < length f.trees) m.clause w.ids l i;
         atom = all_in (λ (x : Signed ℕ). IsAtom (tree_at f x.atom)) m.clause w.atoms l i;
       }
-
-  -- without the literal there is no conclusion
-  pub no_entry : (ms : List Member) (from place partner other : ℕ) → at_number ms from ≡ None → (c : TreeClause) → ¬ IsConclusion (map (entry_of f) ms) from place partner other c
-  no_entry ms from place partner other e c h = let k = sym h.entry_at ∙ entry_number ms from ∙ ap (option_map (entry_of f)) e in absurd (cc)
-
-  pub no_literal : (ms : List Member) (from place partner other : ℕ) → literal_of ms from place ≡ None → (c : TreeClause) → ¬ IsConclusion (map (entry_of f) ms) from place partner other c
-  no_literal ms from place partner other e c h =
-      let (l, u, v) = literal_named ms from place h.entry h.literal h.entry_at h.literal_at in
-      let k = sym u ∙ e in absurd (cc)
-
-  pub no_other : (ms : List Member) (from place partner other : ℕ) → literal_of ms partner other ≡ None → (c : TreeClause) → ¬ IsConclusion (map (entry_of f) ms) from place partner other c
-  no_other ms from place partner other e c h =
-      let (l, u, v) = literal_named ms partner other h.partner_entry h.other_literal h.partner_at h.other_at in
-      let k = sym u ∙ e in absurd (cc)
 
   -- what the two literals conclude is what the members do
   pub concluded : (g : Forest) (ms : List Member) (from place partner other : ℕ) (m : Member) (k l : Signed ℕ)

@@ -1,8 +1,7 @@
 -- What a member whose origin is two members with their selected literals covers.
-use Rattle.std.proofs.Common.{◌≡◌, inl, inr, ◌⊎◌, ℕ, zero, suc, ◌+◌, ◌<◌, Bool, true, false, cond, List, length, get_or, nat_eq, refl, ap, sym, ◌∙◌, map, subst, arith, Some}
+use Rattle.std.proofs.Common.{◌≡◌, inl, inr, ◌⊎◌, ℕ, suc, ◌<◌, Bool, true, false, cond, length, get_or, nat_eq, refl, ap, sym, ◌∙◌, map, subst, Some}
 use Rattle.std.specs.Prelude.{Any, slice_get, option_map}
 use Rattle.std.proofs.lemmas.Bool.Decides.{Decides-eqb}
-use Rattle.std.proofs.lemmas.List.{get_or_default}
 use Rattle.std.proofs.lemmas.Option.{slice_get-map, slice_get-get_or}
 use Rattle.inst_logic.specs.declared.signed.Signed.{Signed}
 use Rattle.inst_logic.specs.EqualLaws.{and_left, and_right}
@@ -12,12 +11,11 @@ use Rattle.inst_logic.specs.Tree.{Tree}
 use Rattle.inst_logic.specs.Unifiers.{Sided, IsMostGeneral}
 use Rattle.inst_calculus.specs.Conclusions.{IsConclusion}
 use Rattle.inst_calculus.specs.Entries.{Entry}
-use Rattle.inst_calculus.specs.Models.{Member as Selected, member_clauses}
-use Rattle.inst_calculus.specs.Saturation.{IsCovered, variant}
+use Rattle.inst_calculus.specs.Models.{Member as Selected}
+use Rattle.inst_calculus.specs.Saturation.{variant}
 use Rattle.inst_calculus.proofs.CanonicalForms.{canonical_of_canonical}
 use Rattle.inst_calculus.proofs.Choice.{instance_of_choice}
 use Rattle.inst_calculus.proofs.Membership.{contains_in, in_contains, in_map}
-use Rattle.cert_format.specs.Certificate.{selected_members}
 use Rattle.cert_format.specs.Validity.{Gives, IsValidBase, SelectsAt}
 use Rattle.cert_format.specs.declared.complaint.Complaint.TheVariants.{Member as Derived}
 use Rattle.cert_format.proofs.Numbers.{same_item}
@@ -29,7 +27,7 @@ use Rattle.saturation_cert.specs.declared.member.Origin.TheVariants.{Inst}
 use Rattle.saturation_cert.specs.Values.{base_of, entry_of, origin_of, saturation_of}
 use Rattle.saturation_cert.specs.Wholes.{HasPlaces}
 use Rattle.cert_check.specs.declared.conclusion.Premises.{Premises}
-use Rattle.cert_check.specs.Origins.{IsMade, origin_from, premises_eq}
+use Rattle.cert_check.specs.Origins.{IsMade, premises_eq}
 use Rattle.cert_check.proofs.Closings.{selected_cover}
 use Rattle.cert_check.proofs.CoverLaws.{clause_of}
 

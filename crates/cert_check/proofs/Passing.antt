@@ -1,12 +1,11 @@
 -- The members, one after another.
-use Rattle.std.proofs.Common.{◌≡◌, ℕ, zero, suc, ◌+◌, ◌<◌, ◌≤◌, ap, map, subst, arith, ◌⊎◌, inl, inr, length, None}
+use Rattle.std.proofs.Common.{◌≡◌, ℕ, zero, suc, ◌+◌, ◌<◌, ◌≤◌, map, subst, arith, ◌⊎◌, inl, inr, length, None}
 use Rattle.std.specs.Prelude.{slice_get}
 use Rattle.std.proofs.lemmas.List.{length-map}
 use Rattle.cert_format.specs.Certificate as format
 use Rattle.cert_format.specs.Validity.{IsRightMember}
 use Rattle.saturation_cert.specs.declared.certificate.Base.{Base}
 use Rattle.saturation_cert.specs.Values.{base_of, entry_of}
-use Rattle.saturation_cert.specs.Wholes.{KeepsBase}
 use Rattle.cert_check.specs.Firsts.{IsFirstWrong}
 use Rattle.std.proofs.lemmas.Option.{slice_get_past}
 
@@ -31,6 +30,3 @@ one_more_right b i f here m l = elim (lt_or_le m (i + 1)) [ inl k ↦ f m k | in
 
 pub first_wrong : (b : format.Base) (i : ℕ) → ((m : ℕ) → m < i + 1 → IsRightMember b m) → ¬ IsRightMember b (i + 1) → IsFirstWrong (IsRightMember b) (i + 1)
 first_wrong b i f h = record { applies = h; before = f }
-
-pub same_count : (old new : Base) → KeepsBase old new → length new.members ≡ length old.members
-same_count old new kept = ap (λ (b : Base). length b.members) kept.rest

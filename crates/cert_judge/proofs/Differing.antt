@@ -11,12 +11,11 @@ use Rattle.inst_logic.specs.WellFormed.{AreFormedClauses, IsFormedClause}
 use Rattle.inst_logic.proofs.ShownLaws.{at_number_contains}
 use Rattle.inst_calculus.proofs.Membership.{◌∈◌, all_in, in_all, contains_in}
 use Rattle.term_bank.specs.Forest.{Forest, Extends, AreDistinct, IsClauseAt, IsClauseOf, clause_at}
-use Rattle.term_bank.proofs.Clauses.{clause_extends}
+use Rattle.term_bank.proofs.Clauses.{clause_extends, clause_of_extends, formed_at}
 use Rattle.cert_format.specs.Certificate as format
 use Rattle.saturation_cert.specs.Wholes.{IsWholeClause}
 use Rattle.cert_check.specs.Firsts.{IsFirstWrong, IsFirstWrongOf}
 use Rattle.cert_check.proofs.Differences.{same_ids, first_difference, no_difference}
-use Rattle.cert_check.proofs.Interning.{ids_grown, formed_at}
 use Rattle.cert_judge.specs.Judgements.{IsDifference}
 use Rattle.inst_logic.proofs.Items.{lists_equal}
 
@@ -27,12 +26,12 @@ Ids = List (Signed ℕ)
 pub stands : (f g : Forest) → Extends f g → AreDistinct g.trees → (c own : Ids) (d : TreeClause) → IsClauseOf f c → IsClauseAt g own d → (b : Bool) → IsTrue b ↔ (c ≡ own) → IsTrue b ↔ (clause_at f c ≡ d)
 stands f g grown once c own d ids at b same = (
   (λ t. sym (clause_extends f g grown c ids) ∙ ap (clause_at g) (same.0 t) ∙ at.1),
-  (λ e. same.1 (same_ids g once c own (ids_grown f g grown c ids) at.0 (clause_extends f g grown c ids ∙ e ∙ sym at.1))),
+  (λ e. same.1 (same_ids g once c own (clause_of_extends f g grown c ids) at.0 (clause_extends f g grown c ids ∙ e ∙ sym at.1))),
 )
 
 -- the ids of a list as the bank grows
 pub all_grown : (f g : Forest) → Extends f g → (cs : List Ids) → All (IsClauseOf f) cs → All (IsClauseOf g) cs
-all_grown f g grown cs h = in_all (IsClauseOf g) cs (λ c i. ids_grown f g grown c (all_in (IsClauseOf f) cs h c i))
+all_grown f g grown cs h = in_all (IsClauseOf g) cs (λ c i. clause_of_extends f g grown c (all_in (IsClauseOf f) cs h c i))
 
 pub ids_at : (f : Forest) (cs : List Ids) → All (IsClauseOf f) cs → (i : ℕ) (c : Ids) → slice_get cs i ≡ Some c → IsClauseOf f c
 ids_at f cs h i c at = all_in (IsClauseOf f) cs h c (contains_in c cs (at_number_contains cs (suc i) c at))

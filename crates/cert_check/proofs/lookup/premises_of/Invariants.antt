@@ -1,4 +1,3 @@
-use Rattle.std.proofs.Common.{take}
 use Rattle.cert_check.specs.Origins.{ArePremises}
 use Rattle.cert_check.proofs.lookup.premises_of.Given as goal
 
