@@ -4,6 +4,7 @@ use Rattle.std.specs.Prelude.{codes, decimal}
 use Rattle.std.specs.List.{list_all}
 use Rattle.std.specs.Char.{is_ascii_digit}
 use Rattle.std.proofs.lemmas.Fmt.{decimal_digit}
+use Rattle.std.proofs.lemmas.Option.{same_Some}
 use Rattle.inst_logic.specs.Printing.{is_readable_name, name_text}
 use Rattle.cert_format.specs.Fronts.{first_lines}
 use Rattle.cert_format.specs.LineMachine.{status, opening, version, constant, nothing, begun, opened, awaits}
@@ -15,7 +16,7 @@ use Rattle.cert_format.proofs.Runs.{one_split}
 use Rattle.cert_reader.specs.Bodies.{header, HasRead, IsRefusedAt}
 use Rattle.cert_reader.specs.Reads.{IsOtherFormat, IsVersion, HasVersion, IsSyntaxAt}
 use Rattle.cert_reader.specs.Starts.{format_line, NoFormat, HasBegun}
-use Rattle.cert_reader.proofs.FirstLines.{two_front, two_lines, two_more, some_once, version_third, fewer_front}
+use Rattle.cert_reader.proofs.FirstLines.{two_front, two_lines, two_more, version_third, fewer_front}
 use Rattle.cert_reader.proofs.Steps.{no_status, no_opening, no_version, no_constant, one_line, two_leads, saturation_leads, refutation_leads, constant_leads, in_front, refused}
 
 -- ---- the first and the second line
@@ -69,7 +70,7 @@ pub other_format : (r : Bool) (n text x digits rest : List ℕ) → is_text_name
 other_format r n text x digits rest h is at o =
     let q = refused_third r n text x h is (λ y e. o.other (one_word digits (49 ∷ []) rest y o.digits refl (sym at ∙ e)).0) in
     let f = q.first.least 2 (omega arith) in
-    let same = some_once f.front (two_front r n []) (sym f.here ∙ ap (first_lines 2) is ∙ two_lines r n x h) in
+    let same = same_Some f.front (two_front r n []) (sym f.here ∙ ap (first_lines 2) is ∙ two_lines r n x h) in
     record {
       begun = f;
       format = o;

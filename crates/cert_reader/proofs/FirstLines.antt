@@ -2,6 +2,7 @@
 use Rattle.std.proofs.Common.{◌≡◌, ℕ, zero, suc, Bool, true, false, cond, List, [], ◌∷◌, ◌++◌, Option, Some, None, refl, sym, ap, ◌∙◌}
 use Rattle.std.specs.Prelude.{◌==◌}
 use Rattle.std.specs.Option.{option_map}
+use Rattle.std.proofs.lemmas.Option.{same_Some}
 use Rattle.cert_format.specs.Fronts.{first_lines, IsFront}
 use Rattle.cert_format.specs.LineMachine.{Line, status, opening}
 use Rattle.cert_format.specs.LineTexts.{line, line_text, is_text_name}
@@ -31,14 +32,11 @@ two_more r n x = line_more (status r n) (line (opening r n) []) x ∙ ap (line (
 behind_line : (l : Line) (x y : List ℕ) → line l x ≡ line l y → x ≡ y
 behind_line l x y e = behind_front (line_text l) x y (line_more l [] x ∙ e ∙ sym (line_more l [] y))
 
-pub some_once : {A : Type 0} (a b : A) → Some a ≡ Some b → a ≡ b
-some_once a b e = cc
-
 -- the third line of a text of another format
 pub version_third : (text : List ℕ) (r : Bool) (n third : List ℕ) → is_text_name n ≡ true → text ≡ two_front r n third → (word : List ℕ) (v : IsVersion text word) → third ≡ format_line word v.rest
 version_third text r n third h is word v =
     let F = format_line word v.rest in
-    let same = some_once v.begun.front (two_front r n []) (sym v.begun.here ∙ ap (first_lines 2) is ∙ two_lines r n third h) in
+    let same = same_Some v.begun.front (two_front r n []) (sym v.begun.here ∙ ap (first_lines 2) is ∙ two_lines r n third h) in
     let e = sym is ∙ v.third ∙ ap (λ (xs : List ℕ). xs ++ F) same ∙ two_more r n F in
     behind_line (opening r n) third F (behind_line (status r n) (line (opening r n) third) (line (opening r n) F) e)
 

@@ -399,23 +399,6 @@ module _ (f h : Forest) (grown : Extends f h) where
 abbrev no_groups : Groups
 no_groups = record { inputs = []; names = []; axioms = []; members = []; places = []; grounds = []; steps = []; last = kinds.Input }
 
-empty_form : (r : Bool) → HasForm r no_groups
-empty_form true = tt
-empty_form false = (refl, refl, refl)
-
 pub empty_items : (r : Bool) (f : Forest) (g : Groups) → g ≡ no_groups → items_of r f g ≡ []
 empty_items true f g e = ap (items_of true f) e
 empty_items false f g e = ap (items_of false f) e
-
-pub empty_groups : (r : Bool) (f : Forest) (g : Groups) → f.trees ≡ [] → g ≡ no_groups → AreGroups r f g
-empty_groups r f g none e = subst (AreGroups r f) (sym e) (record {
-  bank = λ i within. (let n : length f.trees ≡ 0 = ap length none in absurd (omega arith));
-  inputs = All-nil (IsWholeClause f);
-  named = refl;
-  axioms = All-nil (IsWholeClause f);
-  members = All-nil (λ (m : Member). IsWholeClause f m.clause);
-  grounds = All-nil (IsWholeClause f);
-  steps = All-nil (λ (s : GroundStep). IsWholeClause f s.clause);
-  form = empty_form r;
-  last = ap last_rank (empty_items r f no_groups refl);
-})

@@ -41,7 +41,7 @@ pub record IsOtherFormat (word : List ℕ) : Type 0 where
   pub some : word ≢ []
   pub few : length word ≤ 18
   pub plain : (rest : List ℕ) → word ≢ byte.digit_zero ∷ rest
-  pub other : word ≢ 49 ∷ []
+  pub other : word ≢ codes "1"
 
 -- The first two lines are those of some certificate text, and the third is `% instgen certificate ` with the number of another
 -- format.

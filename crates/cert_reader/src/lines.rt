@@ -132,8 +132,8 @@ pub fn format(bytes: &[u8]) -> Option<(&[u8], &[u8])>
 
 /// Whether these digits are the number of the first format.
 pub fn is_first_format(digits: &[u8]) -> bool
-    ensures yes { IsTrue result → digits.now ≡ 49 ∷ [] }
-    ensures no { result ≡ false → digits.now ≢ 49 ∷ [] }
+    ensures yes { IsTrue result → digits.now ≡ codes "1" }
+    ensures no { result ≡ false → digits.now ≢ codes "1" }
 {
     match digits {
         [] => false,

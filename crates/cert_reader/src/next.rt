@@ -1,5 +1,5 @@
 // One item more.
-ghost use Rattle.std.specs.Prelude.{◌≡◌, ◌<◌, List, ℕ, length, OnOk, IfOk, IfSome, IfNone};
+ghost use Rattle.std.specs.Prelude.{◌<◌, length, IfOk, IfSome, IfNone};
 ghost use Rattle.cert_reader.specs.Bodies.{IsNextItem, NoNextItem};
 ghost use Rattle.cert_reader.specs.Groups.{AreGroups, items_of};
 
