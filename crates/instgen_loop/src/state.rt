@@ -65,8 +65,7 @@ pub fn make_entry<S: Solver, I: PartnerIndex>(
     let number = run.entries.clauses.len() + 1;
     add_entry(&mut run.entries.bank, &mut run.ground, &clause)?;
     run.queue.put(number, rank(run.left, number, size))?;
-    push_entry(&mut run.entries, clause, origin)?;
-    Ok(())
+    push_entry(&mut run.entries, clause, origin)
 }
 
 /// Appends a new clause that was inferred.
