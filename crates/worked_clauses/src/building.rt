@@ -1,7 +1,6 @@
 // The lists of certificates from texts of clauses. Only whoever puts them together owns a bank.
-ghost use Rattle.std.specs.Prelude.{◌≡◌, ◌∷◌, ◌++◌, [], All, IfOk, List, OnOk};
-ghost use Rattle.inst_logic.specs.declared.signed.Signed.{Signed};
-ghost use Rattle.term_bank.specs.Forest.{AreFormed, Extends, Forest};
+ghost use Rattle.std.specs.Prelude.{All, IfOk, OnOk};
+ghost use Rattle.term_bank.specs.Forest.{AreFormed, Extends};
 ghost use Rattle.tptp_read.specs.Text.{IsFormedStatement};
 ghost use Rattle.saturation_cert.specs.Wholes.{IsWholeClause};
 
