@@ -5,7 +5,10 @@ use Rattle.std.proofs.lemmas.List.{take_all, take-append-drop, length-take, leng
 use Rattle.inst_logic.specs.declared.symbol.Sym.{Sym}
 use Rattle.inst_logic.specs.Tree.{Tree, var}
 use Rattle.term_bank.specs.Forest.{Forest, KeepsPlaces, Extends, ExtendsTrees, nth}
-use Rattle.term_bank.specs.Nodes.{Entry, no_entry, entry_at, trees_of, node_fits, AreMeasuresOf, IsBank}
+use Rattle.term_bank.specs.declared.node.Node.{Node}
+use Rattle.term_bank.specs.declared.node.Node.TheVariants.{Var}
+use Rattle.term_bank.specs.declared.node.Measures.{Measures}
+use Rattle.term_bank.specs.Nodes.{reading, stored, node_in, no_measures, measures_in, trees_of, node_fits, AreMeasuresOf, IsBank}
 use Rattle.term_bank.proofs.Nodes.{length_trees, trees_more}
 
 -- what keeps its places stands first
@@ -17,33 +20,38 @@ keeps_take d (x ∷ xs) (y ∷ ys) k = ap₂ (λ z zs. z ∷ zs) (k.1 0 (omega a
 at_most_or_more : (n m : ℕ) → (n ≤ m) ⊎ (m ≤ n)
 at_most_or_more n m = grind arith
 
-module _ (ss : List Sym) (es : List Entry) (k : ℕ) where
-  -- the trees of the first entries
-  pub trees_take : trees_of ss (take k es) ≡ take k (trees_of ss es)
-  trees_take = by (at_most_or_more k (length es))
+module _ (ss : List Sym) (ns : List Node) (k : ℕ) where
+  -- the trees of the first nodes
+  pub trees_take : trees_of ss (take k ns) ≡ take k (trees_of ss ns)
+  trees_take = by (at_most_or_more k (length ns))
     where
-      by : (k ≤ length es) ⊎ (length es ≤ k) → trees_of ss (take k es) ≡ take k (trees_of ss es)
+      by : (k ≤ length ns) ⊎ (length ns ≤ k) → trees_of ss (take k ns) ≡ take k (trees_of ss ns)
       by (inl p) =
-          let first : ExtendsTrees (trees_of ss (take k es)) (trees_of ss es) =
-          subst (λ (xs : List Entry). ExtendsTrees (trees_of ss (take k es)) (trees_of ss xs)) (take-append-drop k es) (trees_more ss (take k es) (drop k es)) in
-          sym (keeps_take (var 0) (trees_of ss (take k es)) (trees_of ss es) first) ∙ ap (λ n. take n (trees_of ss es)) (length_trees ss (take k es) ∙ length-take-le k es p)
-      by (inr p) = ap (trees_of ss) (take_all k es p) ∙ sym (take_all k (trees_of ss es) (omega (arith, length_trees ss es, p)))
+          let first : ExtendsTrees (trees_of ss (take k ns)) (trees_of ss ns) =
+          subst (λ (xs : List Node). ExtendsTrees (trees_of ss (take k ns)) (trees_of ss xs)) (take-append-drop k ns) (trees_more ss (take k ns) (drop k ns)) in
+          sym (keeps_take (var 0) (trees_of ss (take k ns)) (trees_of ss ns) first) ∙ ap (λ n. take n (trees_of ss ns)) (length_trees ss (take k ns) ∙ length-take-le k ns p)
+      by (inr p) = ap (trees_of ss) (take_all k ns p) ∙ sym (take_all k (trees_of ss ns) (omega (arith, length_trees ss ns, p)))
 
-  entry_kept : (j : ℕ) → j < length (take k es) → entry_at (take k es) j ≡ entry_at es j
-  entry_kept j h = get_or-take k es j no_entry (omega (arith, length-take k es))
+  node_kept : (j : ℕ) → j < length (take k ns) → node_in (take k ns) j ≡ node_in ns j
+  node_kept j h = get_or-take k ns j (Var 0) (omega (arith, length-take k ns))
 
-  tree_kept : (j : ℕ) → j < length (take k es) → nth (trees_of ss (take k es)) j ≡ nth (trees_of ss es) j
-  tree_kept j h = ap (λ (us : List Tree). nth us j) trees_take ∙ get_or-take k (trees_of ss es) j (var 0) (omega (arith, length-take k es))
+  measures_kept : (ms : List Measures) → (j : ℕ) → j < length (take k ns) → measures_in (take k ms) j ≡ measures_in ms j
+  measures_kept ms j h = get_or-take k ms j no_measures (omega (arith, length-take k ns))
 
-  -- the first entries are a bank
-  pub bank_take : IsBank ss es → IsBank ss (take k es)
-  bank_take b = record {
+  tree_kept : (j : ℕ) → j < length (take k ns) → nth (trees_of ss (take k ns)) j ≡ nth (trees_of ss ns) j
+  tree_kept j h = ap (λ (us : List Tree). nth us j) trees_take ∙ get_or-take k (trees_of ss ns) j (var 0) (omega (arith, length-take k ns))
+
+  -- the first nodes and their measures are a bank
+  pub bank_take : (ms : List Measures) → IsBank ss ns ms → IsBank ss (take k ns) (take k ms)
+  bank_take ms b = record {
     symbols_once = b.symbols_once;
-    fits = λ j h. subst (λ (x : Entry). node_fits (length ss) j x.0 ≡ true) (sym (entry_kept j h)) (b.fits j (omega (arith, length-take k es)));
-    measures = λ j h. subst (λ (t : Tree). AreMeasuresOf t (entry_at (take k es) j).1) (sym (tree_kept j h))
-        (subst (λ (x : Entry). AreMeasuresOf (nth (trees_of ss es) j) x.1) (sym (entry_kept j h)) (b.measures j (omega (arith, length-take k es))));
-    distinct = λ i j p q e. b.distinct i j (omega (arith, length_trees ss es, length_trees ss (take k es), length-take k es)) (omega (arith, length_trees ss es, length_trees ss (take k es), length-take k es))
-        (sym (tree_kept i (omega (arith, length_trees ss (take k es)))) ∙ e ∙ tree_kept j (omega (arith, length_trees ss (take k es))));
+    fits = λ j h. subst (λ (m : Node). node_fits (length ss) j m ≡ true) (sym (node_kept j h)) (b.fits j (omega (arith, length-take k ns)));
+    exact = λ j h. subst (λ (m : Node). stored (reading m) ≡ m) (sym (node_kept j h)) (b.exact j (omega (arith, length-take k ns)));
+    beside = omega (arith, length-take k ns, length-take k ms, b.beside);
+    measures = λ j h. subst (λ (t : Tree). AreMeasuresOf t (measures_in (take k ms) j)) (sym (tree_kept j h))
+        (subst (λ (x : Measures). AreMeasuresOf (nth (trees_of ss ns) j) x) (sym (measures_kept ms j h)) (b.measures j (omega (arith, length-take k ns))));
+    distinct = λ i j p q e. b.distinct i j (omega (arith, length_trees ss ns, length_trees ss (take k ns), length-take k ns)) (omega (arith, length_trees ss ns, length_trees ss (take k ns), length-take k ns))
+        (sym (tree_kept i (omega (arith, length_trees ss (take k ns)))) ∙ e ∙ tree_kept j (omega (arith, length_trees ss (take k ns))));
   }
 
 -- what extended the bank goes

@@ -1,31 +1,56 @@
--- The entries of a map after an insertion.
-use Rattle.std.proofs.Common.{◌≡◌, ℕ, zero, suc, ◌+◌, ◌<◌, List, [], ◌∷◌, length, Bool, true, false, refl, ap, ap₂, sym, nat_eq, ◌∙◌, arith, Result, Ok, Err, IfOk, inl, inr, get_or, Some}
+-- The entries of a map after an insertion, and the nodes of a set.
+use Rattle.std.proofs.Common.{◌≡◌, ℕ, zero, suc, ◌+◌, ◌<◌, List, [], ◌∷◌, length, Bool, true, false, ◌++◌, refl, ap, ap₂, sym, nat_eq, ◌||◌, ◌∙◌, arith, Result, Ok, Err, IfOk, inl, inr, get_or, Some, not, if◌then◌else◌}
 use Rattle.std.specs.Map.{keys_of}
-use Rattle.std.specs.List.{position_or_len, position}
-use Rattle.std.proofs.lemmas.List.{length-map, get_or-map}
+use Rattle.std.specs.List.{position_or_len, position, list_any}
 use Rattle.std.proofs.lemmas.List.Quantifiers.{position-Some}
 use Rattle.std.proofs.lemmas.Slice.Eq.{bytes_eq-Decides}
 use Rattle.std.proofs.lemmas.Bool.Decides.{Decides-eqb}
 use Rattle.inst_logic.proofs.SameLemmas.{and_left, and_right, and_both}
+use Rattle.std.proofs.lemmas.List.{length_push, get_or_push}
 use Rattle.indexmap.specs.IndexMap.{insert_entry}
+use Rattle.indexmap.specs.IndexSet.{insert_key}
 use Rattle.term_bank.specs.contracts.node.NodePartialEq.TheImpl as node
 use Rattle.term_bank.specs.declared.node.Node.{Node}
-use Rattle.term_bank.specs.declared.node.Node.TheVariants.{Var, App}
-use Rattle.term_bank.specs.Nodes.{IsGrownBy}
+use Rattle.term_bank.specs.declared.node.Node.TheVariants.{Var, Constant, Unary, Binary, Many}
+use Rattle.term_bank.specs.Nodes.{IsGrownBy, IsNumbered, node_in}
 
 -- the derived test of equality of nodes decides equality
 abbrev pub node_eq : Node → Node → Bool
 node_eq = (node.ghosts).eq
 
 pub node_same : (n m : Node) → node_eq n m ≡ true → n ≡ m
-node_same (Var v) (Var w) h = ap (λ x. Var x) ((Decides-eqb v w).0 h)
-node_same (Var v) (App s xs) h = absurd (cc)
-node_same (App s xs) (Var v) h = absurd (cc)
-node_same (App s xs) (App r ys) h = ap₂ (λ x y. App x y) ((Decides-eqb s r).0 (and_left _ _ h)) ((bytes_eq-Decides xs ys).0 (and_right (nat_eq s r) _ h))
+node_same (Var s) (Var r) h = ap (λ x. Var x) ((Decides-eqb s r).0 h)
+node_same (Var s) (Constant r) h = absurd (cc)
+node_same (Var s) (Unary r ys) h = absurd (cc)
+node_same (Var s) (Binary r ys) h = absurd (cc)
+node_same (Var s) (Many r ys) h = absurd (cc)
+node_same (Constant s) (Var r) h = absurd (cc)
+node_same (Constant s) (Constant r) h = ap (λ x. Constant x) ((Decides-eqb s r).0 h)
+node_same (Constant s) (Unary r ys) h = absurd (cc)
+node_same (Constant s) (Binary r ys) h = absurd (cc)
+node_same (Constant s) (Many r ys) h = absurd (cc)
+node_same (Unary s xs) (Var r) h = absurd (cc)
+node_same (Unary s xs) (Constant r) h = absurd (cc)
+node_same (Unary s xs) (Unary r ys) h = ap₂ (λ x y. Unary x y) ((Decides-eqb s r).0 (and_left _ _ h)) ((bytes_eq-Decides xs ys).0 (and_right (nat_eq s r) _ h))
+node_same (Unary s xs) (Binary r ys) h = absurd (cc)
+node_same (Unary s xs) (Many r ys) h = absurd (cc)
+node_same (Binary s xs) (Var r) h = absurd (cc)
+node_same (Binary s xs) (Constant r) h = absurd (cc)
+node_same (Binary s xs) (Unary r ys) h = absurd (cc)
+node_same (Binary s xs) (Binary r ys) h = ap₂ (λ x y. Binary x y) ((Decides-eqb s r).0 (and_left _ _ h)) ((bytes_eq-Decides xs ys).0 (and_right (nat_eq s r) _ h))
+node_same (Binary s xs) (Many r ys) h = absurd (cc)
+node_same (Many s xs) (Var r) h = absurd (cc)
+node_same (Many s xs) (Constant r) h = absurd (cc)
+node_same (Many s xs) (Unary r ys) h = absurd (cc)
+node_same (Many s xs) (Binary r ys) h = absurd (cc)
+node_same (Many s xs) (Many r ys) h = ap₂ (λ x y. Many x y) ((Decides-eqb s r).0 (and_left _ _ h)) ((bytes_eq-Decides xs ys).0 (and_right (nat_eq s r) _ h))
 
 pub node_itself : (n : Node) → node_eq n n ≡ true
-node_itself (Var v) = (Decides-eqb v v).1 refl
-node_itself (App s xs) = and_both _ _ ((Decides-eqb s s).1 refl) ((bytes_eq-Decides xs xs).1 refl)
+node_itself (Var s) = (Decides-eqb s s).1 refl
+node_itself (Constant s) = (Decides-eqb s s).1 refl
+node_itself (Unary s xs) = and_both _ _ ((Decides-eqb s s).1 refl) ((bytes_eq-Decides xs xs).1 refl)
+node_itself (Binary s xs) = and_both _ _ ((Decides-eqb s s).1 refl) ((bytes_eq-Decides xs xs).1 refl)
+node_itself (Many s xs) = and_both _ _ ((Decides-eqb s s).1 refl) ((bytes_eq-Decides xs xs).1 refl)
 
 -- what an insertion makes of the entries
 pub record IsInserted {K V : Type 0} (none : K × V) (es fs : List (K × V)) (e : K × V) (i : ℕ) : Type 0 where
@@ -61,12 +86,41 @@ module _ {K V : Type 0} (eq : K → K → Bool) (same_key : (k l : K) → eq k l
               absent zero p q = let t : eq e.0 x.0 ≡ true = ap (eq e.0) q ∙ itself e.0 in absurd (cc)
               absent (suc i) p q = g.1 i (omega arith) q
 
-  -- where a key is found
-  pub key_at : (es : List (K × V)) (k : K) (i : ℕ) → position (eq k) (keys_of es) ≡ Some i → (i < length es) × ((get_or es i none).0 ≡ k)
-  key_at es k i e =
-      let p = position-Some (eq k) (keys_of es) i none.0 e in
-      let within : i < length es = omega (arith, p.0, length-map es (λ (x : K × V). x.0)) in
-      (within, sym (get_or-map (λ (x : K × V). x.0) es i none none.0 within) ∙ sym (same_key k (get_or (keys_of es) i none.0) p.1))
+-- where a node is found
+pub node_found : (ns : List Node) (n : Node) (i : ℕ) → position (node_eq n) ns ≡ Some i → (i < length ns) × (node_in ns i ≡ n)
+node_found ns n i e = let p = position-Some (node_eq n) ns i (Var 0) e in (p.0, sym (node_same n (node_in ns i) p.1))
+
+-- a node that the set has, and one that it lacks
+abbrev IsPlaced : List Node → Node → ℕ → Bool → Type 0
+IsPlaced ns n i true = (i < length ns) × (node_in ns i ≡ n)
+IsPlaced ns n i false = (i ≡ length ns) × ((j : ℕ) → j < length ns → ¬ (node_in ns j ≡ n))
+
+placed : (ns : List Node) (n : Node) → IsPlaced ns n (position_or_len (node_eq n) ns) (list_any (node_eq n) ns)
+placed [] n = (refl, λ j h. absurd (omega arith))
+placed (x ∷ ns) n = by (node_eq n x) refl (list_any (node_eq n) ns) (placed ns n)
+  where
+    later : (j : ℕ) → node_in (x ∷ ns) (1 + j) ≡ node_in ns j
+    later j = let q : 1 + j ≡ suc j = omega arith in ap (λ i. node_in (x ∷ ns) i) q
+
+    more : (b : Bool) (j : ℕ) → node_eq n x ≡ false → IsPlaced ns n j b → IsPlaced (x ∷ ns) n (1 + j) b
+    more true j h p = (omega (arith, p.0), later j ∙ p.1)
+    more false j h p = (omega (arith, p.0), absent)
+      where
+        absent : (i : ℕ) → i < length (x ∷ ns) → ¬ (node_in (x ∷ ns) i ≡ n)
+        absent zero q e = let t : node_eq n x ≡ true = ap (node_eq n) e ∙ node_itself n in absurd (cc)
+        absent (suc i) q e = p.1 i (omega arith) e
+
+    by : (b : Bool) → node_eq n x ≡ b → (any : Bool) → IsPlaced ns n (position_or_len (node_eq n) ns) any → IsPlaced (x ∷ ns) n (position_or_len (node_eq n) (x ∷ ns)) (node_eq n x || any)
+    by true h any p = rw h (omega arith, sym (node_same n x h))
+    by false h any p = rw h (more any (position_or_len (node_eq n) ns) h p)
+
+-- what an insertion of a node makes of the nodes
+pub numbered : (ns : List Node) (n : Node) → IsNumbered ns (insert_key node_eq ns n) n (position_or_len (node_eq n) ns) (not (list_any (node_eq n) ns))
+numbered ns n = by (list_any (node_eq n) ns) (position_or_len (node_eq n) ns) (placed ns n)
+  where
+    by : (b : Bool) (i : ℕ) → IsPlaced ns n i b → IsNumbered ns (if b then ns else ns ++ n ∷ []) n i (not b)
+    by true i p = record { within = p.0; at = p.1; known = λ _. refl; grown = λ e. absurd (cc) }
+    by false i p = record { within = omega (arith, p.0, length_push ns n); at = get_or_push ns n (Var 0) i (sym p.0); known = λ e. absurd (cc); grown = λ _. (refl, p.1) }
 
 pub if_ok_both : {A E : Type 0} (P Q R : A → Type 0) (r : Result A E) → IfOk r P → IfOk r Q → ((x : A) → P x → Q x → R x) → IfOk r R
 if_ok_both P Q R (Ok x) p q f = f x p q

@@ -1,5 +1,5 @@
 -- The measures of an application, and what an insertion makes of a bank.
-use Rattle.std.proofs.Common.{◌≡◌, ℕ, ◌+◌, ◌-◌, ◌^◌, ◌<◌, min, List, [], ◌∷◌, ◌++◌, length, map, fold, Option, Some, None, true, refl, ap, sym, ◌∙◌, subst, arith, nat_lt, ◌⊎◌, inl, inr}
+use Rattle.std.proofs.Common.{◌≡◌, ℕ, ◌+◌, ◌-◌, ◌^◌, ◌<◌, min, List, [], ◌∷◌, ◌++◌, length, map, fold, Option, Some, None, Bool, true, false, refl, ap, sym, ◌∙◌, subst, arith, nat_lt, ◌⊎◌, inl, inr}
 use Rattle.std.specs.Prelude.{sum_by}
 use Rattle.std.specs.List.{All, list_all}
 use Rattle.std.proofs.lemmas.List.{get_or_append_left, get_or_push, length_push}
@@ -8,16 +8,16 @@ use Rattle.std.proofs.lemmas.List.Elements.{All-head, All-tail}
 use Rattle.std.proofs.lemmas.Bool.{lt-ltb}
 use Rattle.inst_logic.proofs.SameLemmas.{and_left, and_right, and_both}
 use Rattle.inst_logic.specs.declared.symbol.Sym.{Sym}
-use Rattle.inst_logic.specs.Tree.{Tree, var, of_list}
+use Rattle.inst_logic.specs.Tree.{Tree, var, app, of_list}
 use Rattle.inst_logic.specs.Measure.{tree_size, trees_size, tree_weight, trees_weight, function_count}
 use Rattle.term_bank.specs.declared.node.Node.{Node}
-use Rattle.term_bank.specs.declared.node.Node.TheVariants.{Var, App}
+use Rattle.term_bank.specs.declared.node.Node.TheVariants.{Var}
 use Rattle.term_bank.specs.declared.node.Measures.{Measures}
 use Rattle.term_bank.specs.Forest.{ExtendsTrees, KeepsPlaces, IsFormed, AreFormedTrees, no_symbol, symbol_at, nth}
 use Rattle.term_bank.specs.Greatest.{greater, greatest_variable, greatest_variables}
-use Rattle.term_bank.specs.Nodes.{Entry, entry_at, node_tree, trees_of, node_fits, AreMeasuresOf, IsBank, SymbolsGrow, NodesGrow}
+use Rattle.term_bank.specs.Nodes.{reading, stored, node_of, measures_in, reading_tree, node_tree, trees_of, reading_fits, node_fits, AreMeasuresOf, IsBank, IsNumbered, SymbolsGrow}
 use Rattle.term_bank.proofs.Greatest.{greater_none, greater_assoc}
-use Rattle.term_bank.proofs.Nodes.{below, last_or_before, node_agree, length_trees, tree_at_node, trees_push, trees_symbol, bank_symbol, bank_node}
+use Rattle.term_bank.proofs.Nodes.{below, last_or_before, node_agree, length_trees, tree_at_node, trees_push, trees_symbol, bank_symbol, bank_node, reading_of}
 
 pub all_below : (n : ℕ) (args : List ℕ) → All (λ i. i < n) args → list_all (λ i. nat_lt i n) args ≡ true
 all_below n [] h = refl
@@ -50,19 +50,26 @@ module _ (ts : List Tree) (n m : ℕ) where
       greatests g same (greater a (g i)) args (and_right (nat_lt i n) _ h) ∙ greater_assoc a (g i) _
       ∙ ap (λ b. greater a (greater b (greatest_variables (of_list (map (nth ts) args))))) (same i (below i n (and_left (nat_lt i n) _ h)))
 
-pub application_measures : (ss : List Sym) (es : List Entry) → IsBank ss es → (s : ℕ) (f : Sym) (args : List ℕ) (x : Measures) → symbol_at ss s ≡ f → All (λ i. i < length es) args
-    → x.size ≡ min (sum_by (λ i. (entry_at es i).1.size) args + 1) (2 ^ 64 - 1)
-    → x.weight ≡ min (sum_by (λ i. (entry_at es i).1.weight) args + function_count f.kind) (2 ^ 64 - 1)
-    → x.greatest ≡ fold (λ g i. greater g (entry_at es i).1.greatest) None args → AreMeasuresOf (node_tree ss (trees_of ss es) (App s args)) x
-application_measures ss es b s f args x is within size weight greatest =
-    let all = all_below (length es) args within in
-    let ts = trees_of ss es in
+-- the node of an application
+pub node_of_tree : (ss : List Sym) (ts : List Tree) (s : ℕ) (args : List ℕ) → node_tree ss ts (node_of s args) ≡ app (symbol_at ss s) (of_list (map (nth ts) args))
+node_of_tree ss ts s args = ap (reading_tree ss ts) (reading_of s args)
+
+pub node_of_fits : (n k s : ℕ) (args : List ℕ) → s < n → All (λ i. i < k) args → node_fits n k (node_of s args) ≡ true
+node_of_fits n k s args h all = ap (reading_fits n k) (reading_of s args) ∙ and_both (nat_lt s n) _ (lt-ltb s n h) (all_below k args all)
+
+pub application_measures : (ss : List Sym) (ns : List Node) (ms : List Measures) → IsBank ss ns ms → (s : ℕ) (f : Sym) (args : List ℕ) (x : Measures) → symbol_at ss s ≡ f → All (λ i. i < length ns) args
+    → x.size ≡ min (sum_by (λ i. (measures_in ms i).size) args + 1) (2 ^ 64 - 1)
+    → x.weight ≡ min (sum_by (λ i. (measures_in ms i).weight) args + function_count f.kind) (2 ^ 64 - 1)
+    → x.greatest ≡ fold (λ g i. greater g (measures_in ms i).greatest) None args → AreMeasuresOf (app (symbol_at ss s) (of_list (map (nth (trees_of ss ns)) args))) x
+application_measures ss ns ms b s f args x is within size weight greatest =
+    let all = all_below (length ns) args within in
+    let ts = trees_of ss ns in
     let m : ℕ = 2 ^ 64 - 1 in
     record {
-      size = size ∙ sizes ts (length es) m (λ i. (entry_at es i).1.size) (λ i h. (b.measures i h).size) args all 1;
-      weight = weight ∙ weights ts (length es) m (λ i. (entry_at es i).1.weight) (λ i h. (b.measures i h).weight) args all (function_count f.kind)
+      size = size ∙ sizes ts (length ns) m (λ i. (measures_in ms i).size) (λ i h. (b.measures i h).size) args all 1;
+      weight = weight ∙ weights ts (length ns) m (λ i. (measures_in ms i).weight) (λ i h. (b.measures i h).weight) args all (function_count f.kind)
           ∙ ap (λ (g : Sym). min (trees_weight (of_list (map (nth ts) args)) + function_count g.kind) m) (sym is);
-      greatest = greatest ∙ greatests ts (length es) m (λ i. (entry_at es i).1.greatest) (λ i h. (b.measures i h).greatest) None args all;
+      greatest = greatest ∙ greatests ts (length ns) m (λ i. (measures_in ms i).greatest) (λ i h. (b.measures i h).greatest) None args all;
     }
 
 pub variable_measures : (ss : List Sym) (ts : List Tree) (v : ℕ) → AreMeasuresOf (node_tree ss ts (Var v)) (record { size = 1; weight = 0; greatest = Some v })
@@ -73,37 +80,23 @@ pub symbols_kept : (ss rs : List Sym) (s : Sym) → SymbolsGrow ss rs s → Keep
 symbols_kept ss rs s (inl e) = subst (λ (xs : List Sym). KeepsPlaces no_symbol ss xs) (sym e) (omega arith, λ i h. refl)
 symbols_kept ss rs s (inr p) = subst (λ (xs : List Sym). KeepsPlaces no_symbol ss xs) (sym p.0) (omega (arith, length_push ss s), λ i h. get_or_append_left ss (s ∷ []) no_symbol i h)
 
--- a tree has one record of measures
-measures_unique : (t : Tree) (x y : Measures) → AreMeasuresOf t x → AreMeasuresOf t y → x ≡ y
-measures_unique t x y p q =
-    let s : x.size ≡ y.size = p.size ∙ sym q.size in
-    let w : x.weight ≡ y.weight = p.weight ∙ sym q.weight in
-    let g : x.greatest ≡ y.greatest = p.greatest ∙ sym q.greatest in
-    λ i. record { size = s i; weight = w i; greatest = g i }
+pub record IsSameBank (ss : List Sym) (ns : List Node) (ms : List Measures) (rs : List Sym) : Type 0 where
+  pub bank : IsBank rs ns ms
+  pub trees : trees_of rs ns ≡ trees_of ss ns
 
--- a node that is there has the measures of its tree
-pub known_measures : (ss : List Sym) (es : List Entry) → IsBank ss es → (n : Node) (x : Measures) → AreMeasuresOf (node_tree ss (trees_of ss es) n) x
-    → (i : ℕ) → i < length es → (entry_at es i).0 ≡ n → (entry_at es i).1 ≡ x
-known_measures ss es b n x measures i h e =
-    let t : nth (trees_of ss es) i ≡ node_tree ss (trees_of ss es) n = tree_at_node ss es i h (b.fits i h) ∙ ap (node_tree ss (trees_of ss es)) e in
-    measures_unique (nth (trees_of ss es) i) (entry_at es i).1 x (b.measures i h) (subst (λ (u : Tree). AreMeasuresOf u x) (sym t) measures)
-
-pub record IsSameBank (ss : List Sym) (es : List Entry) (rs : List Sym) : Type 0 where
-  pub bank : IsBank rs es
-  pub trees : trees_of rs es ≡ trees_of ss es
-
-pub symbol_step : (ss rs : List Sym) (s : Sym) (es : List Entry) → IsBank ss es → SymbolsGrow ss rs s → IsSameBank ss es rs
-symbol_step ss rs s es b (inl e) = record { bank = subst (λ (xs : List Sym). IsBank xs es) (sym e) b; trees = ap (λ (xs : List Sym). trees_of xs es) e }
-symbol_step ss rs s es b (inr p) = record {
-  bank = subst (λ (xs : List Sym). IsBank xs es) (sym p.0) (bank_symbol ss s es b p.1);
-  trees = ap (λ (xs : List Sym). trees_of xs es) p.0 ∙ trees_symbol ss s es b;
+pub symbol_step : (ss rs : List Sym) (s : Sym) (ns : List Node) (ms : List Measures) → IsBank ss ns ms → SymbolsGrow ss rs s → IsSameBank ss ns ms rs
+symbol_step ss rs s ns ms b (inl e) = record { bank = subst (λ (xs : List Sym). IsBank xs ns ms) (sym e) b; trees = ap (λ (xs : List Sym). trees_of xs ns) e }
+symbol_step ss rs s ns ms b (inr p) = record {
+  bank = subst (λ (xs : List Sym). IsBank xs ns ms) (sym p.0) (bank_symbol ss s ns ms b p.1);
+  trees = ap (λ (xs : List Sym). trees_of xs ns) p.0 ∙ trees_symbol ss s ns ms b;
 }
 
-pub record IsBankWith (ss : List Sym) (es fs : List Entry) (n : Node) : Type 0 where
-  pub bank : IsBank ss fs
-  pub extends : ExtendsTrees (trees_of ss es) (trees_of ss fs)
-  pub formed : AreFormedTrees (trees_of ss es) → IsFormed (node_tree ss (trees_of ss es) n) → AreFormedTrees (trees_of ss fs)
-  pub at : (i : ℕ) → i < length fs → (entry_at fs i).0 ≡ n → (i < length (trees_of ss fs)) × (nth (trees_of ss fs) i ≡ node_tree ss (trees_of ss es) n)
+-- the node stands at the number in a bank that extends the first
+pub record IsBankWith (ss : List Sym) (ns os : List Node) (ps : List Measures) (n : Node) (i : ℕ) : Type 0 where
+  pub bank : IsBank ss os ps
+  pub extends : ExtendsTrees (trees_of ss ns) (trees_of ss os)
+  pub formed : AreFormedTrees (trees_of ss ns) → IsFormed (node_tree ss (trees_of ss ns) n) → AreFormedTrees (trees_of ss os)
+  pub at : (i < length (trees_of ss os)) × (nth (trees_of ss os) i ≡ node_tree ss (trees_of ss ns) n)
 
 -- one more formed tree
 formed_push : (ts : List Tree) (t : Tree) → AreFormedTrees ts → IsFormed t → AreFormedTrees (ts ++ t ∷ [])
@@ -113,29 +106,38 @@ formed_push ts t old new i h = by (last_or_before i (length ts) (omega (arith, l
     by (inl p) = subst IsFormed (sym (get_or_append_left ts (t ∷ []) (var 0) i p)) (old i p)
     by (inr p) = subst IsFormed (sym (get_or_push ts t (var 0) i (sym p))) new
 
-pub node_step : (ss : List Sym) (es fs : List Entry) (n : Node) (x : Measures) → IsBank ss es → node_fits (length ss) (length es) n ≡ true → AreMeasuresOf (node_tree ss (trees_of ss es) n) x
-    → NodesGrow es fs (n, x) → IsBankWith ss es fs n
-node_step ss es fs n x b fits measures grown = record {
-  bank = bank grown;
-  extends = extends grown;
-  formed = formed grown;
-  at = λ i h e. (omega (arith, length_trees ss fs), at i h e);
-}
-  where
-    bank : NodesGrow es fs (n, x) → IsBank ss fs
-    bank (inl e) = subst (λ (xs : List Entry). IsBank ss xs) (sym e) b
-    bank (inr p) = subst (λ (xs : List Entry). IsBank ss xs) (sym p.0) (bank_node ss es (n, x) b fits measures p.1)
+module _ (ss : List Sym) (ns os : List Node) (ms : List Measures) (n : Node) (i : ℕ) (new : Bool) (b : IsBank ss ns ms) (fits : node_fits (length ss) (length ns) n ≡ true) (numbered : IsNumbered ns os n i new) where
+  stands : (ps : List Measures) → IsBank ss os ps → ExtendsTrees (trees_of ss ns) (trees_of ss os) → (i < length (trees_of ss os)) × (nth (trees_of ss os) i ≡ node_tree ss (trees_of ss ns) n)
+  stands ps grown extends = (
+    omega (arith, length_trees ss os, numbered.within),
+    tree_at_node ss os i numbered.within (grown.fits i numbered.within) ∙ ap (node_tree ss (trees_of ss os)) numbered.at
+        ∙ node_agree ss (trees_of ss os) (trees_of ss ns) (length ns) n fits (λ j k. extends.1 j (omega (arith, length_trees ss ns))),
+  )
 
-    extends : NodesGrow es fs (n, x) → ExtendsTrees (trees_of ss es) (trees_of ss fs)
-    extends (inl e) = subst (λ (xs : List Entry). ExtendsTrees (trees_of ss es) (trees_of ss xs)) (sym e) (omega arith, λ i h. refl)
-    extends (inr p) = subst (λ (us : List Tree). ExtendsTrees (trees_of ss es) us) (sym (ap (λ (xs : List Entry). trees_of ss xs) p.0 ∙ trees_push ss es (n, x)))
-        (omega (arith, length_push (trees_of ss es) (node_tree ss (trees_of ss es) n)), λ i h. get_or_append_left (trees_of ss es) (node_tree ss (trees_of ss es) n ∷ []) (var 0) i h)
+  -- a node that was there
+  pub known_step : new ≡ false → IsBankWith ss ns os ms n i
+  known_step h =
+      let e : os ≡ ns = numbered.known h in
+      let bank : IsBank ss os ms = subst (λ (xs : List Node). IsBank ss xs ms) (sym e) b in
+      let extends : ExtendsTrees (trees_of ss ns) (trees_of ss os) = subst (λ (xs : List Node). ExtendsTrees (trees_of ss ns) (trees_of ss xs)) (sym e) (omega arith, λ i h. refl) in
+      record {
+        bank = bank;
+        extends = extends;
+        formed = λ old made. subst (λ (xs : List Node). AreFormedTrees (trees_of ss xs)) (sym e) old;
+        at = stands ms bank extends;
+      }
 
-    formed : NodesGrow es fs (n, x) → AreFormedTrees (trees_of ss es) → IsFormed (node_tree ss (trees_of ss es) n) → AreFormedTrees (trees_of ss fs)
-    formed (inl e) old new = subst (λ (xs : List Entry). AreFormedTrees (trees_of ss xs)) (sym e) old
-    formed (inr p) old new =
-        subst AreFormedTrees (sym (ap (λ (xs : List Entry). trees_of ss xs) p.0 ∙ trees_push ss es (n, x))) (formed_push (trees_of ss es) (node_tree ss (trees_of ss es) n) old new)
-
-    at : (i : ℕ) → i < length fs → (entry_at fs i).0 ≡ n → nth (trees_of ss fs) i ≡ node_tree ss (trees_of ss es) n
-    at i h e = tree_at_node ss fs i h ((bank grown).fits i h) ∙ ap (node_tree ss (trees_of ss fs)) e
-        ∙ node_agree ss (trees_of ss fs) (trees_of ss es) (length es) n fits (λ j k. (extends grown).1 j (omega (arith, length_trees ss es)))
+  -- a new node, and its measures
+  pub new_step : new ≡ true → (x : Measures) → stored (reading n) ≡ n → AreMeasuresOf (node_tree ss (trees_of ss ns) n) x → IsBankWith ss ns os (ms ++ x ∷ []) n i
+  new_step h x exact measures =
+      let p = numbered.grown h in
+      let trees : trees_of ss os ≡ trees_of ss ns ++ node_tree ss (trees_of ss ns) n ∷ [] = ap (λ (xs : List Node). trees_of ss xs) p.0 ∙ trees_push ss ns n in
+      let bank : IsBank ss os (ms ++ x ∷ []) = subst (λ (xs : List Node). IsBank ss xs (ms ++ x ∷ [])) (sym p.0) (bank_node ss ns ms n x b fits exact measures p.1) in
+      let extends : ExtendsTrees (trees_of ss ns) (trees_of ss os) = subst (λ (us : List Tree). ExtendsTrees (trees_of ss ns) us) (sym trees)
+      (omega (arith, length_push (trees_of ss ns) (node_tree ss (trees_of ss ns) n)), λ i h. get_or_append_left (trees_of ss ns) (node_tree ss (trees_of ss ns) n ∷ []) (var 0) i h) in
+      record {
+        bank = bank;
+        extends = extends;
+        formed = λ old made. subst AreFormedTrees (sym trees) (formed_push (trees_of ss ns) (node_tree ss (trees_of ss ns) n) old made);
+        at = stands (ms ++ x ∷ []) bank extends;
+      }

@@ -11,26 +11,29 @@ ghost use Rattle.term_bank.specs.Greatest.{IsGreatest};
 ghost use Rattle.term_bank.specs.Nodes.{trees_of, IsBank};
 ghost use Rattle.term_bank.specs.Shapes.{shape_of, IsRootOf};
 
-use crate::id::{TermId, copied};
-use crate::node::{Measures, Node};
+use crate::id::TermId;
+use crate::node::{Measures, Node, Parts};
 use crate::store::{
-    application_measures, application_number, kind_at, measures_at, node_at, node_number,
-    symbol_in, symbol_number,
+    application_measures, application_number, kind_at, make_room, measures_at, node_at,
+    node_number, symbol_in, symbol_number,
 };
-use indexmap::{IndexMap, IndexSet};
+use indexmap::IndexSet;
 use inst_logic::{Memory, Sym};
 use std::alloc::Global;
 use std::marker::Model;
 
 /// Terms and atoms, each tree once. Contracts see the list of its trees by their ids.
 ///
-/// After want of memory the trees are those from before, and each call that can want memory wants it.
+/// A bank has room for 4,294,967,296 trees. After want of memory or room the trees are those from before, and each call that
+/// can want memory wants it.
 #[derive(Drop)]
 pub struct Bank {
     pub(crate) alloc: Global,
     symbols: IndexSet<Sym>,
-    nodes: IndexMap<Node, Measures>,
-    // Where the arguments of an application are put to look it up.
+    nodes: IndexSet<Node>,
+    // Of each node, one for one.
+    measures: Vec<Measures>,
+    // Where more than two arguments of an application are put to look it up.
     room: Vec<TermId>,
     pub(crate) spent: bool,
 }
@@ -43,9 +46,9 @@ impl Model for Bank {
 
     ghost coded = { forest_code };
 
-    ghost view = { λ b. record { trees = trees_of b.symbols.keys b.nodes.entries; symbols = b.symbols.keys; spent = b.spent } };
+    ghost view = { λ b. record { trees = trees_of b.symbols.keys b.nodes.keys; symbols = b.symbols.keys; spent = b.spent } };
 
-    ghost invariant = { λ b. IsBank b.symbols.keys b.nodes.entries };
+    ghost invariant = { λ b. IsBank b.symbols.keys b.nodes.keys b.measures.items };
 }
 
 /// Whether a tree is a variable or an application.
@@ -68,90 +71,81 @@ pub enum Root<'a> {
 
 fn insert_variable(
     symbols: &IndexSet<Sym>,
-    nodes: &mut IndexMap<Node, Measures>,
+    nodes: &mut IndexSet<Node>,
+    measures: &mut Vec<Measures>,
     v: usize,
 ) -> Result<TermId, Memory>
-    requires { IsBank symbols.now.keys nodes.old.entries }
-    ensures bank { IsBank symbols.now.keys nodes.new.entries }
-    ensures extends { ExtendsTrees (trees_of symbols.now.keys nodes.old.entries) (trees_of symbols.now.keys nodes.new.entries) }
-    ensures formed { AreFormedTrees (trees_of symbols.now.keys nodes.old.entries) → AreFormedTrees (trees_of symbols.now.keys nodes.new.entries) }
-    ensures at { IfOk result (λ i. (i < length (trees_of symbols.now.keys nodes.new.entries)) × (nth (trees_of symbols.now.keys nodes.new.entries) i ≡ var v)) }
-    ensures held { OnErr result (trees_of symbols.now.keys nodes.new.entries ≡ trees_of symbols.now.keys nodes.old.entries) }
+    requires { IsBank symbols.now.keys nodes.old.keys measures.old.items }
+    ensures bank { IsBank symbols.now.keys nodes.new.keys measures.new.items }
+    ensures extends { ExtendsTrees (trees_of symbols.now.keys nodes.old.keys) (trees_of symbols.now.keys nodes.new.keys) }
+    ensures formed { AreFormedTrees (trees_of symbols.now.keys nodes.old.keys) → AreFormedTrees (trees_of symbols.now.keys nodes.new.keys) }
+    ensures at { IfOk result (λ i. (i < length (trees_of symbols.now.keys nodes.new.keys)) × (nth (trees_of symbols.now.keys nodes.new.keys) i ≡ var v)) }
+    ensures held { OnErr result (trees_of symbols.now.keys nodes.new.keys ≡ trees_of symbols.now.keys nodes.old.keys) }
 {
-    let measures = Measures {
+    make_room(nodes, measures)?;
+    let (id, new) = node_number(nodes, Node::Var(v))?;
+    if !new {
+        return Ok(id);
+    }
+    measures.push_reserved(Measures {
         size: 1,
         weight: 0,
         greatest: Some(v),
-    };
-    node_number(nodes, Node::Var(v), measures)
+    });
+    Ok(id)
 }
 
-// The application of the symbol of this number, copied and measured.
-fn insert_measured(
-    alloc: Global,
-    symbols: &IndexSet<Sym>,
-    nodes: &mut IndexMap<Node, Measures>,
-    number: usize,
-    args: &[TermId],
-) -> Result<TermId, Memory>
-    requires bank { IsBank symbols.now.keys nodes.old.entries }
-    requires number { number < length symbols.now.keys }
-    requires within { All (λ i. i < length (trees_of symbols.now.keys nodes.old.entries)) args.now }
-    ensures bank { IsBank symbols.now.keys nodes.new.entries }
-    ensures extends { ExtendsTrees (trees_of symbols.now.keys nodes.old.entries) (trees_of symbols.now.keys nodes.new.entries) }
-    ensures formed { AreFormedTrees (trees_of symbols.now.keys nodes.old.entries) → IsFormed (app (symbol_at symbols.now.keys number) (of_list (map (nth (trees_of symbols.now.keys nodes.old.entries)) args.now))) → AreFormedTrees (trees_of symbols.now.keys nodes.new.entries) }
-    ensures at { IfOk result (λ i. (i < length (trees_of symbols.now.keys nodes.new.entries)) × (nth (trees_of symbols.now.keys nodes.new.entries) i ≡ app (symbol_at symbols.now.keys number) (of_list (map (nth (trees_of symbols.now.keys nodes.old.entries)) args.now)))) }
-    ensures held { OnErr result (trees_of symbols.now.keys nodes.new.entries ≡ trees_of symbols.now.keys nodes.old.entries) }
-{
-    let copy = copied(alloc, args)?;
-    let kind = kind_at(symbols, number);
-    let measures = application_measures(nodes, kind, args);
-    node_number(nodes, Node::App(number, copy), measures)
-}
-
-// The application of the symbol of this number. Most are there already: those are found before anything is copied or measured.
+// The application of the symbol of this number. Most are there already: those are found before anything is measured, and before
+// any list is made but in the kept room.
 fn insert_numbered(
     alloc: Global,
     symbols: &IndexSet<Sym>,
-    nodes: &mut IndexMap<Node, Measures>,
+    nodes: &mut IndexSet<Node>,
+    measures: &mut Vec<Measures>,
     number: usize,
     args: &[TermId],
     room: &mut Vec<TermId>,
 ) -> Result<TermId, Memory>
-    requires bank { IsBank symbols.now.keys nodes.old.entries }
+    requires bank { IsBank symbols.now.keys nodes.old.keys measures.old.items }
     requires number { number < length symbols.now.keys }
-    requires within { All (λ i. i < length (trees_of symbols.now.keys nodes.old.entries)) args.now }
-    ensures bank { IsBank symbols.now.keys nodes.new.entries }
-    ensures extends { ExtendsTrees (trees_of symbols.now.keys nodes.old.entries) (trees_of symbols.now.keys nodes.new.entries) }
-    ensures formed { AreFormedTrees (trees_of symbols.now.keys nodes.old.entries) → IsFormed (app (symbol_at symbols.now.keys number) (of_list (map (nth (trees_of symbols.now.keys nodes.old.entries)) args.now))) → AreFormedTrees (trees_of symbols.now.keys nodes.new.entries) }
-    ensures at { IfOk result (λ i. (i < length (trees_of symbols.now.keys nodes.new.entries)) × (nth (trees_of symbols.now.keys nodes.new.entries) i ≡ app (symbol_at symbols.now.keys number) (of_list (map (nth (trees_of symbols.now.keys nodes.old.entries)) args.now)))) }
-    ensures held { OnErr result (trees_of symbols.now.keys nodes.new.entries ≡ trees_of symbols.now.keys nodes.old.entries) }
+    requires within { All (λ i. i < length (trees_of symbols.now.keys nodes.old.keys)) args.now }
+    ensures bank { IsBank symbols.now.keys nodes.new.keys measures.new.items }
+    ensures extends { ExtendsTrees (trees_of symbols.now.keys nodes.old.keys) (trees_of symbols.now.keys nodes.new.keys) }
+    ensures formed { AreFormedTrees (trees_of symbols.now.keys nodes.old.keys) → IsFormed (app (symbol_at symbols.now.keys number) (of_list (map (nth (trees_of symbols.now.keys nodes.old.keys)) args.now))) → AreFormedTrees (trees_of symbols.now.keys nodes.new.keys) }
+    ensures at { IfOk result (λ i. (i < length (trees_of symbols.now.keys nodes.new.keys)) × (nth (trees_of symbols.now.keys nodes.new.keys) i ≡ app (symbol_at symbols.now.keys number) (of_list (map (nth (trees_of symbols.now.keys nodes.old.keys)) args.now)))) }
+    ensures held { OnErr result (trees_of symbols.now.keys nodes.new.keys ≡ trees_of symbols.now.keys nodes.old.keys) }
 {
-    match application_number(alloc, nodes, number, args, room)? {
-        Some(id) => Ok(id),
-        None => insert_measured(alloc, symbols, nodes, number, args),
+    make_room(nodes, measures)?;
+    let (id, new) = application_number(alloc, nodes, number, args, room)?;
+    if !new {
+        return Ok(id);
     }
+    let kind = kind_at(symbols, number);
+    let found = application_measures(measures, kind, args);
+    measures.push_reserved(found);
+    Ok(id)
 }
 
 fn insert_application(
     alloc: Global,
     symbols: &mut IndexSet<Sym>,
-    nodes: &mut IndexMap<Node, Measures>,
+    nodes: &mut IndexSet<Node>,
+    measures: &mut Vec<Measures>,
     sym: &Sym,
     args: &[TermId],
     room: &mut Vec<TermId>,
 ) -> Result<TermId, Memory>
-    requires bank { IsBank symbols.old.keys nodes.old.entries }
-    requires within { All (λ i. i < length (trees_of symbols.old.keys nodes.old.entries)) args.now }
-    ensures bank { IsBank symbols.new.keys nodes.new.entries }
-    ensures extends { ExtendsTrees (trees_of symbols.old.keys nodes.old.entries) (trees_of symbols.new.keys nodes.new.entries) }
+    requires bank { IsBank symbols.old.keys nodes.old.keys measures.old.items }
+    requires within { All (λ i. i < length (trees_of symbols.old.keys nodes.old.keys)) args.now }
+    ensures bank { IsBank symbols.new.keys nodes.new.keys measures.new.items }
+    ensures extends { ExtendsTrees (trees_of symbols.old.keys nodes.old.keys) (trees_of symbols.new.keys nodes.new.keys) }
     ensures symbols { KeepsPlaces no_symbol symbols.old.keys symbols.new.keys }
-    ensures formed { AreFormedTrees (trees_of symbols.old.keys nodes.old.entries) → IsFormed (app sym.now (of_list (map (nth (trees_of symbols.old.keys nodes.old.entries)) args.now))) → AreFormedTrees (trees_of symbols.new.keys nodes.new.entries) }
-    ensures at { IfOk result (λ i. (i < length (trees_of symbols.new.keys nodes.new.entries)) × (nth (trees_of symbols.new.keys nodes.new.entries) i ≡ app sym.now (of_list (map (nth (trees_of symbols.old.keys nodes.old.entries)) args.now)))) }
-    ensures held { OnErr result (trees_of symbols.new.keys nodes.new.entries ≡ trees_of symbols.old.keys nodes.old.entries) }
+    ensures formed { AreFormedTrees (trees_of symbols.old.keys nodes.old.keys) → IsFormed (app sym.now (of_list (map (nth (trees_of symbols.old.keys nodes.old.keys)) args.now))) → AreFormedTrees (trees_of symbols.new.keys nodes.new.keys) }
+    ensures at { IfOk result (λ i. (i < length (trees_of symbols.new.keys nodes.new.keys)) × (nth (trees_of symbols.new.keys nodes.new.keys) i ≡ app sym.now (of_list (map (nth (trees_of symbols.old.keys nodes.old.keys)) args.now)))) }
+    ensures held { OnErr result (trees_of symbols.new.keys nodes.new.keys ≡ trees_of symbols.old.keys nodes.old.keys) }
 {
     let number = symbol_number(symbols, sym)?;
-    insert_numbered(alloc, symbols, nodes, number, args, room)
+    insert_numbered(alloc, symbols, nodes, measures, number, args, room)
 }
 
 impl Bank {
@@ -162,7 +156,8 @@ impl Bank {
         Bank {
             alloc,
             symbols: IndexSet::new(alloc),
-            nodes: IndexMap::new(alloc),
+            nodes: IndexSet::new(alloc),
+            measures: Vec::new(alloc),
             room: Vec::new(alloc),
             spent: false,
         }
@@ -195,14 +190,14 @@ impl Bank {
         if self.spent {
             return Err(Memory);
         }
-        let result = insert_variable(&self.symbols, &mut self.nodes, v);
+        let result = insert_variable(&self.symbols, &mut self.nodes, &mut self.measures, v);
         self.spent = result.is_err();
         result
     }
 
     /// The id of the symbol applied to the terms of these ids; the bank stays well formed where they are as many as its
     /// arity. The symbol is copied where it is new. Two look-ups, of the symbol by its name and of the node by its arguments,
-    /// and one more where the tree is new.
+    /// and one more where the tree is new and has more than two arguments.
     pub fn app(&mut self, sym: &Sym, args: &[TermId]) -> Result<TermId, Memory>
         requires { AreIds self.old args.now }
         ensures at { IfOk result (λ id. IsAt self.new id (app sym.now (of_list (map (tree_at self.old) args.now)))) }
@@ -219,6 +214,7 @@ impl Bank {
             self.alloc,
             &mut self.symbols,
             &mut self.nodes,
+            &mut self.measures,
             sym,
             args,
             &mut self.room,
@@ -229,7 +225,7 @@ impl Bank {
 
     /// The id of the symbol at the root of `like`, which is no variable, applied to the terms of these ids; the bank stays
     /// well formed where they are as many as its arity. The symbol is neither copied nor looked up: one look-up, of the node,
-    /// and one more where the tree is new.
+    /// and one more where the tree is new and has more than two arguments.
     pub fn app_like(&mut self, like: TermId, args: &[TermId]) -> Result<TermId, Memory>
         requires within { like < length self.old.trees }
         requires application { IsApplication (tree_at self.old like) }
@@ -244,14 +240,15 @@ impl Bank {
         if self.spent {
             return Err(Memory);
         }
-        let number = match node_at(&self.nodes, like) {
-            Node::Var(_) => unreachable!(),
-            Node::App(number, _) => *number,
+        let number = match node_at(&self.nodes, like).parts() {
+            Parts::Var(_) => unreachable!(),
+            Parts::App(number, _) => number,
         };
         let result = insert_numbered(
             self.alloc,
             &self.symbols,
             &mut self.nodes,
+            &mut self.measures,
             number,
             args,
             &mut self.room,
@@ -267,6 +264,7 @@ impl Bank {
         ensures spent { self.new.spent ≡ true }
     {
         self.nodes.truncate(len);
+        self.measures.truncate(len);
         self.spent = true;
     }
 
@@ -275,9 +273,9 @@ impl Bank {
         requires { id < length self.now.trees }
         ensures { result ≡ shape_of (tree_at self.now id) }
     {
-        match node_at(&self.nodes, id) {
-            Node::Var(v) => Shape::Var(*v),
-            Node::App(_, _) => Shape::App,
+        match node_at(&self.nodes, id).parts() {
+            Parts::Var(v) => Shape::Var(v),
+            Parts::App(_, _) => Shape::App,
         }
     }
 
@@ -286,11 +284,9 @@ impl Bank {
         requires { id < length self.now.trees }
         ensures { IsRootOf self.now id result }
     {
-        match node_at(&self.nodes, id) {
-            Node::Var(v) => Root::Var(*v),
-            Node::App(number, args) => {
-                Root::App(symbol_in(&self.symbols, *number), args.as_slice())
-            }
+        match node_at(&self.nodes, id).parts() {
+            Parts::Var(v) => Root::Var(v),
+            Parts::App(number, args) => Root::App(symbol_in(&self.symbols, number), args),
         }
     }
 
@@ -299,9 +295,9 @@ impl Bank {
         requires { id < length self.now.trees }
         ensures { option_copied result ≡ symbol_of (tree_at self.now id) }
     {
-        match node_at(&self.nodes, id) {
-            Node::Var(_) => None,
-            Node::App(number, _) => self.symbols.get_index(*number),
+        match node_at(&self.nodes, id).parts() {
+            Parts::Var(_) => None,
+            Parts::App(number, _) => self.symbols.get_index(number),
         }
     }
 
@@ -313,9 +309,9 @@ impl Bank {
         ensures symbol { option_map (symbol_at self.now.symbols) result ≡ symbol_of (tree_at self.now id) }
         ensures within { IfSome result (λ number. number < length self.now.symbols) }
     {
-        match node_at(&self.nodes, id) {
-            Node::Var(_) => None,
-            Node::App(number, _) => Some(*number),
+        match node_at(&self.nodes, id).parts() {
+            Parts::Var(_) => None,
+            Parts::App(number, _) => Some(number),
         }
     }
 
@@ -325,9 +321,9 @@ impl Bank {
         ensures trees { map (tree_at self.now) result.now ≡ arguments_of (tree_at self.now id) }
         ensures smaller { All (λ i. i < id) result.now }
     {
-        match node_at(&self.nodes, id) {
-            Node::Var(_) => &[],
-            Node::App(_, args) => args.as_slice(),
+        match node_at(&self.nodes, id).parts() {
+            Parts::Var(_) => &[],
+            Parts::App(_, args) => args,
         }
     }
 
@@ -336,7 +332,7 @@ impl Bank {
         requires { id < length self.now.trees }
         ensures { result ≡ min (tree_size (tree_at self.now id)) u64.MAX }
     {
-        measures_at(&self.nodes, id).size
+        measures_at(&self.measures, id).size
     }
 
     /// The number of occurrences of symbols of kind Function, constants among them, or `u64::MAX` where it is larger. It is kept
@@ -345,7 +341,7 @@ impl Bank {
         requires { id < length self.now.trees }
         ensures { result ≡ min (tree_weight (tree_at self.now id)) u64.MAX }
     {
-        measures_at(&self.nodes, id).weight
+        measures_at(&self.measures, id).weight
     }
 
     /// Whether the tree has no variables. It is read off the greatest variable, which is kept beside the node.
@@ -354,7 +350,7 @@ impl Bank {
         ensures test { result ≡ is_ground (tree_at self.now id) }
         ensures variables { IsTrue result ↔ (tree_vars (tree_at self.now id) ≡ []) }
     {
-        measures_at(&self.nodes, id).greatest.is_none()
+        measures_at(&self.measures, id).greatest.is_none()
     }
 
     /// The greatest number of a variable of the tree, and `None` where it has no variable. It is kept beside the node.
@@ -362,6 +358,6 @@ impl Bank {
         requires { id < length self.now.trees }
         ensures { IsGreatest (tree_vars (tree_at self.now id)) result }
     {
-        measures_at(&self.nodes, id).greatest
+        measures_at(&self.measures, id).greatest
     }
 }

@@ -1,5 +1,5 @@
 // The numbers of interned trees, in a type of their own so that none is taken for another number, and clauses over them.
-ghost use Rattle.std.specs.Prelude.{◌≡◌, IfOk};
+ghost use Rattle.std.specs.Prelude.{◌≡◌, ◌<◌, ◌^◌, IfOk};
 
 use inst_logic::{ListOf, Memory, Signed};
 use std::alloc::Global;
@@ -7,7 +7,7 @@ use std::marker::Model;
 
 /// The number of a tree in its bank, counted from 0.
 #[derive(Clone, Copy, Debug, PartialEq, Eq, Hash)]
-pub struct TermId(pub(crate) usize);
+pub struct TermId(pub(crate) u32);
 
 impl Model for TermId {
     ghost use Rattle.std.specs.Prelude.{ℕ};
@@ -24,13 +24,14 @@ impl TermId {
     pub fn number(self) -> usize
         ensures { result ≡ self }
     {
-        self.0
+        self.0 as usize
     }
 
     pub(crate) fn of(number: usize) -> TermId
+        requires { number < 2 ^ 32 }
         ensures { result ≡ number }
     {
-        TermId(number)
+        TermId(number as u32)
     }
 }
 

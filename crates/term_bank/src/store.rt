@@ -1,16 +1,17 @@
-// Numbers for symbols and nodes. These are functions over one map each, so that what is done with symbols needs no word on
+// Numbers for symbols and nodes. These are functions over one set each, so that what is done with symbols needs no word on
 // the nodes.
-ghost use Rattle.std.specs.Prelude.{◌≡◌, ℕ, ◌<◌, ◌+◌, min, IfOk, IfSome, OnErr, length, sum_by, fold, None};
+ghost use Rattle.std.specs.Prelude.{◌≡◌, ℕ, ◌<◌, ◌+◌, min, ◌^◌, IfOk, IfSome, OnOk, OnErr, length, sum_by, fold, None};
 ghost use Rattle.std.specs.List.{All};
+ghost use Rattle.std.specs.Vec.{vec_len, vec_capacity};
 ghost use Rattle.inst_logic.specs.Measure.{function_count};
 ghost use Rattle.term_bank.specs.Forest.{symbol_at};
 ghost use Rattle.term_bank.specs.Greatest.{greater};
-ghost use Rattle.term_bank.specs.declared.node.Node.TheVariants.{App};
-ghost use Rattle.term_bank.specs.Nodes.{entry_at, SymbolsGrow, NodesGrow};
+ghost use Rattle.term_bank.specs.declared.node.Node.TheVariants.{Many};
+ghost use Rattle.term_bank.specs.Nodes.{node_in, measures_in, node_of, SymbolsGrow, IsNumbered};
 
-use crate::id::{TermId, TermIdList};
+use crate::id::{TermId, TermIdList, copied};
 use crate::node::{Measures, Node};
-use indexmap::{IndexMap, IndexSet};
+use indexmap::IndexSet;
 use inst_logic::{Kind, Memory, Sym};
 use std::alloc::Global;
 use std::mem::replace;
@@ -48,25 +49,33 @@ pub fn kind_at(symbols: &IndexSet<Sym>, number: usize) -> Kind
     symbol_in(symbols, number).kind
 }
 
-// The number of the node. A new one goes last, and one that is there has these measures.
-pub fn node_number(
-    nodes: &mut IndexMap<Node, Measures>,
-    node: Node,
-    measures: Measures,
-) -> Result<TermId, Memory>
-    requires { (i : ℕ) → i < length nodes.old.entries → (entry_at nodes.old.entries i).0 ≡ node → (entry_at nodes.old.entries i).1 ≡ measures }
-    ensures within { IfOk result (λ i. i < length nodes.new.entries) }
-    ensures at { IfOk result (λ i. (entry_at nodes.new.entries i).0 ≡ node) }
-    ensures grown { NodesGrow nodes.old.entries nodes.new.entries (node, measures) }
-    ensures held { OnErr result (nodes.new.entries ≡ nodes.old.entries) }
+// Refuses where there is no number for another node, or no memory for what stands beside it.
+pub fn make_room(nodes: &IndexSet<Node>, measures: &mut Vec<Measures>) -> Result<(), Memory>
+    ensures items { measures.new.items ≡ measures.old.items }
+    ensures number { OnOk result (length nodes.now.keys < 2 ^ 32) }
+    ensures room { OnOk result (vec_len measures.new < vec_capacity measures.new) }
 {
-    let (number, _) = nodes.insert_full(node, measures)?;
-    Ok(TermId::of(number))
+    if nodes.len() > u32::MAX as usize {
+        return Err(Memory);
+    }
+    measures.reserve(1)?;
+    Ok(())
+}
+
+// The number of the node, and whether it is new. A new one goes last.
+pub fn node_number(nodes: &mut IndexSet<Node>, node: Node) -> Result<(TermId, bool), Memory>
+    requires { length nodes.old.keys < 2 ^ 32 }
+    ensures numbered { IfOk result (λ r. IsNumbered nodes.old.keys nodes.new.keys node r.0 r.1) }
+    ensures held { OnErr result (nodes.new.keys ≡ nodes.old.keys) }
+{
+    let (number, new) = nodes.insert_full(node)?;
+    Ok((TermId::of(number), new))
 }
 
 // The number of the node, where it is there.
-fn found_number(nodes: &IndexMap<Node, Measures>, node: &Node) -> Option<TermId>
-    ensures { IfSome result (λ i. (i < length nodes.now.entries) × ((entry_at nodes.now.entries i).0 ≡ node.now)) }
+fn found_number(nodes: &IndexSet<Node>, node: &Node) -> Option<TermId>
+    requires { length nodes.now.keys < 2 ^ 32 }
+    ensures { IfSome result (λ i. (i < length nodes.now.keys) × (node_in nodes.now.keys i ≡ node.now)) }
 {
     match nodes.get_index_of(node) {
         None => None,
@@ -77,63 +86,96 @@ fn found_number(nodes: &IndexMap<Node, Measures>, node: &Node) -> Option<TermId>
 // The room that the node's arguments take.
 fn room_of(alloc: Global, node: Node) -> Vec<TermId> {
     match node {
-        Node::Var(_) => Vec::new(alloc),
-        Node::App(_, args) => Vec::from(args),
+        Node::Many(_, args) => Vec::from(args),
+        _ => Vec::new(alloc),
     }
 }
 
-// The number of the application of the symbol of this number, where it is there. The arguments are copied into the room, so that
-// no look-up takes memory once the room is as long as the longest list.
-pub fn application_number(
+// The number of the application to more than two arguments, where it is there. They are copied into the room, so that no
+// look-up takes memory once the room is as long as the longest list.
+fn found_many(
     alloc: Global,
-    nodes: &IndexMap<Node, Measures>,
+    nodes: &IndexSet<Node>,
     number: usize,
     args: &[TermId],
     room: &mut Vec<TermId>,
 ) -> Result<Option<TermId>, Memory>
-    ensures { IfOk result (λ found. IfSome found (λ i. (i < length nodes.now.entries) × ((entry_at nodes.now.entries i).0 ≡ App number args.now))) }
+    requires { length nodes.now.keys < 2 ^ 32 }
+    ensures { IfOk result (λ found. IfSome found (λ i. (i < length nodes.now.keys) × (node_in nodes.now.keys i ≡ Many number args.now))) }
 {
     let mut copy = replace(room, Vec::new(alloc));
     copy.clear();
     copy.extend_from_slice(args)?;
-    let node = Node::App(number, TermIdList::from(copy));
+    let node = Node::Many(number, TermIdList::from(copy));
     let found = found_number(nodes, &node);
     *room = room_of(alloc, node);
     Ok(found)
 }
 
-// What is stored beside the node.
-pub fn measures_at(nodes: &IndexMap<Node, Measures>, id: TermId) -> Measures
-    requires { id < length nodes.now.entries }
-    ensures { result ≡ (entry_at nodes.now.entries id).1 }
+// The number of the application to more than two arguments, and whether it is new. They are copied for a new one alone.
+fn many_number(
+    alloc: Global,
+    nodes: &mut IndexSet<Node>,
+    number: usize,
+    args: &[TermId],
+    room: &mut Vec<TermId>,
+) -> Result<(TermId, bool), Memory>
+    requires { length nodes.old.keys < 2 ^ 32 }
+    ensures numbered { IfOk result (λ r. IsNumbered nodes.old.keys nodes.new.keys (Many number args.now) r.0 r.1) }
+    ensures held { OnErr result (nodes.new.keys ≡ nodes.old.keys) }
 {
-    match nodes.get_index(id.number()) {
-        Some((_, measures)) => *measures,
-        None => unreachable!(),
+    match found_many(alloc, nodes, number, args, room)? {
+        Some(id) => Ok((id, false)),
+        None => node_number(nodes, Node::Many(number, copied(alloc, args)?)),
     }
 }
 
+// The number of the application of the symbol of this number, and whether it is new. One look-up, and for a new one of more than
+// two arguments another.
+pub fn application_number(
+    alloc: Global,
+    nodes: &mut IndexSet<Node>,
+    number: usize,
+    args: &[TermId],
+    room: &mut Vec<TermId>,
+) -> Result<(TermId, bool), Memory>
+    requires { length nodes.old.keys < 2 ^ 32 }
+    ensures numbered { IfOk result (λ r. IsNumbered nodes.old.keys nodes.new.keys (node_of number args.now) r.0 r.1) }
+    ensures held { OnErr result (nodes.new.keys ≡ nodes.old.keys) }
+{
+    match args {
+        [] => node_number(nodes, Node::Constant(number)),
+        [only] => node_number(nodes, Node::Unary(number, [*only])),
+        [first, second] => node_number(nodes, Node::Binary(number, [*first, *second])),
+        _ => many_number(alloc, nodes, number, args, room),
+    }
+}
+
+// What is stored beside the node.
+pub fn measures_at(measures: &Vec<Measures>, id: TermId) -> Measures
+    requires { id < length measures.now.items }
+    ensures { result ≡ measures_in measures.now.items id }
+{
+    measures[id.number()]
+}
+
 // The node of the id.
-pub fn node_at<'a>(nodes: &'a IndexMap<Node, Measures>, id: TermId) -> &'a Node
-    requires { id < length nodes.now.entries }
-    ensures { result.now ≡ (entry_at nodes.now.entries id).0 }
+pub fn node_at<'a>(nodes: &'a IndexSet<Node>, id: TermId) -> &'a Node
+    requires { id < length nodes.now.keys }
+    ensures { result.now ≡ node_in nodes.now.keys id }
 {
     match nodes.get_index(id.number()) {
-        Some((node, _)) => node,
+        Some(node) => node,
         None => unreachable!(),
     }
 }
 
 // The measures of an application of a symbol of this kind.
-pub fn application_measures(
-    nodes: &IndexMap<Node, Measures>,
-    kind: Kind,
-    args: &[TermId],
-) -> Measures
-    requires { All (λ i. i < length nodes.now.entries) args.now }
-    ensures size { result.size ≡ min (sum_by (λ i. (entry_at nodes.now.entries i).1.size) args.now + 1) u64.MAX }
-    ensures weight { result.weight ≡ min (sum_by (λ i. (entry_at nodes.now.entries i).1.weight) args.now + function_count kind) u64.MAX }
-    ensures greatest { result.greatest ≡ fold (λ g i. greater g (entry_at nodes.now.entries i).1.greatest) None args.now }
+pub fn application_measures(all: &Vec<Measures>, kind: Kind, args: &[TermId]) -> Measures
+    requires { All (λ i. i < length all.now.items) args.now }
+    ensures size { result.size ≡ min (sum_by (λ i. (measures_in all.now.items i).size) args.now + 1) u64.MAX }
+    ensures weight { result.weight ≡ min (sum_by (λ i. (measures_in all.now.items i).weight) args.now + function_count kind) u64.MAX }
+    ensures greatest { result.greatest ≡ fold (λ g i. greater g (measures_in all.now.items i).greatest) None args.now }
 {
     let mut size: u64 = 1;
     let mut weight: u64 = match kind {
@@ -142,7 +184,7 @@ pub fn application_measures(
     };
     let mut greatest = None;
     for a in args {
-        let measures = measures_at(nodes, *a);
+        let measures = measures_at(all, *a);
         size = size.saturating_add(measures.size);
         weight = weight.saturating_add(measures.weight);
         greatest = greatest.max(measures.greatest);

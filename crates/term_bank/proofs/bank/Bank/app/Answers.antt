@@ -10,5 +10,5 @@ returns-clause-at c = rw (← c.self.view_is) c.insert_application-result.ensure
 pub returns-clause-formed : goal.returns-clause-formed
 returns-clause-formed c =
     let new = c.insert_application-result.new in
-    let P : List Tree → Type 0 = λ ts. AreFormedTrees ts → IsFormed (app c.args.sym.now (of_list (map (nth ts) c.args.args.now))) → AreFormedTrees (trees_of new.symbols.keys new.nodes.entries) in
+    let P : List Tree → Type 0 = λ ts. AreFormedTrees ts → IsFormed (app c.args.sym.now (of_list (map (nth ts) c.args.args.now))) → AreFormedTrees (trees_of new.symbols.keys new.nodes.keys) in
     subst P (ap (λ (f : Forest). f.trees) c.self.view_is) c.insert_application-result.ensures.formed
