@@ -16,3 +16,4 @@ pub mod Placing
 pub mod PlacingSteps
 pub mod Variables
 pub mod Greatest
+pub mod Settling

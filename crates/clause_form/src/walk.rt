@@ -1,6 +1,9 @@
-// The walk that builds terms. A list of steps stands for what is left of it, so no depth of term exhausts a stack. A shared
-// node is built once, and one without variables stays as it is.
-ghost use Rattle.std.specs.Prelude.{◌≡◌, ℕ, false, ◌<◌, ◌++◌, ◌∷◌, List, length, map, reverse, IfOk, OnOk, None, []};
+// The walk that builds terms. A list of steps stands for what is left of it, so no depth of term exhausts a stack. A node
+// without variables stays as it is. A node whose arguments become variables, listed terms or terms without variables is
+// built where it stands, and nothing is noted of it: its arguments are what it costs, at each place. Any other node is noted
+// and opened once, however often it is shared, so the walk stays linear. (A variable that is bound to an application with
+// variables is no such argument: a chain of bindings that each name the next one twice would else double at each link.)
+ghost use Rattle.std.specs.Prelude.{◌≡◌, ℕ, true, false, ◌<◌, ◌++◌, ◌∷◌, List, length, map, reverse, IfOk, IfSome, OnOk, None, []};
 ghost use Rattle.std.specs.List.{All, IsDistinct};
 ghost use Rattle.std.specs.Map.{keys_of};
 ghost use Rattle.indexmap.specs.IndexMap.{insert_entry};
@@ -8,7 +11,7 @@ ghost use Rattle.inst_logic.specs.Tree.{Tree, var};
 ghost use Rattle.inst_logic.specs.Unifiers.{IsApplication};
 ghost use Rattle.term_bank.specs.Forest.{Forest, tree_at, IsAt, AreIds, Extends, AreFormed, IsFormed, arguments_of};
 ghost use Rattle.clause_form.specs.declared.walk.Step.TheVariants.{Visit, Build};
-ghost use Rattle.clause_form.specs.Walks.{Reading, IsReading, IsRootOf, IsFree, IsStep, AreLeaves, AreNotes, AreNoteIds, AreNodes, note_of, bound_eq, numbers_of, with_vars, vars_on, trees_on, on, IsUnderway, IsFormedReading, IsBegun, IsBeginning};
+ghost use Rattle.clause_form.specs.Walks.{Reading, IsReading, IsRootOf, IsFree, IsStep, AreLeaves, AreNotes, AreNoteIds, AreNodes, note_of, bound_eq, numbers_of, with_vars, vars_on, trees_on, on, IsUnderway, IsFormedReading, IsBegun, IsBeginning, IsSettled, AreFirst, IsMetEarly};
 
 use indexmap::{IndexMap, IndexSet};
 use inst_logic::Memory;
@@ -145,6 +148,161 @@ fn open_node(
     push_arguments(bank, steps, node)
 }
 
+// What a node that was followed becomes, where it has no variables or is a variable.
+fn settled(
+    bank: &mut Bank,
+    leaves: &Leaves<'_>,
+    order: &mut IndexSet<Variable>,
+    node: Bound,
+) -> Result<Option<TermId>, Memory>
+    requires within { node.term < length bank.old.trees }
+    requires leaves { AreLeaves bank.old leaves.now }
+    ensures within { IfOk result (λ o. IfSome o (λ id. id < length bank.new.trees)) }
+    ensures settled { IfOk result (λ o. IfSome o (λ id. (f : Forest) → Extends f bank.old → AreLeaves f leaves.now → node.term < length f.trees → IsFree f leaves.now node → IsSettled f bank.new leaves.now node id (numbers_of order.old.keys) (numbers_of order.new.keys))) }
+    ensures same { IfOk result (λ o. o ≡ None → order.new.keys ≡ order.old.keys) }
+    ensures application { IfOk result (λ o. o ≡ None → IsApplication (tree_at bank.old node.term)) }
+    ensures extends { Extends bank.old bank.new }
+    ensures unspent { OnOk result (bank.old.spent ≡ false → bank.new.spent ≡ false) }
+    ensures formed { AreFormed bank.old → AreFormed bank.new }
+{
+    if bank.ground(node.term) {
+        return Ok(Some(node.term));
+    }
+    match bank.shape(node.term) {
+        Shape::Var(v) => {
+            let id = leaf(bank, leaves, order, node, v)?;
+            Ok(Some(id))
+        }
+        Shape::App => Ok(None),
+    }
+}
+
+// Puts what the argument becomes on the terms. False where it is an application with variables.
+fn settle_argument(
+    bank: &mut Bank,
+    leaves: &Leaves<'_>,
+    ids: &mut Vec<TermId>,
+    order: &mut IndexSet<Variable>,
+    argument: Bound,
+) -> Result<bool, Memory>
+    requires within { argument.term < length bank.old.trees }
+    requires leaves { AreLeaves bank.old leaves.now }
+    ensures settled { IfOk result (λ done. done ≡ true → (id : ℕ) × (ids.new.items ≡ ids.old.items ++ id ∷ []) × (id < length bank.new.trees) × ((f : Forest) → Extends f bank.old → AreLeaves f leaves.now → argument.term < length f.trees → IsSettled f bank.new leaves.now argument id (numbers_of order.old.keys) (numbers_of order.new.keys))) }
+    ensures same { IfOk result (λ done. done ≡ false → (ids.new.items ≡ ids.old.items) × (order.new.keys ≡ order.old.keys)) }
+    ensures extends { Extends bank.old bank.new }
+    ensures unspent { OnOk result (bank.old.spent ≡ false → bank.new.spent ≡ false) }
+    ensures formed { AreFormed bank.old → AreFormed bank.new }
+{
+    let node = root(bank, leaves, argument);
+    match settled(bank, leaves, order, node)? {
+        Some(id) => {
+            ids.push(id)?;
+            Ok(true)
+        }
+        None => Ok(false),
+    }
+}
+
+// The same for the arguments of the node, up to the first of which that is an application with variables.
+fn settle_arguments(
+    bank: &mut Bank,
+    leaves: &Leaves<'_>,
+    ids: &mut Vec<TermId>,
+    order: &mut IndexSet<Variable>,
+    node: Bound,
+) -> Result<bool, Memory>
+    requires within { node.term < length bank.old.trees }
+    requires leaves { AreLeaves bank.old leaves.now }
+    requires application { IsApplication (tree_at bank.old node.term) }
+    ensures grown { OnOk result ((built : List ℕ) × (ids.new.items ≡ ids.old.items ++ built)) }
+    ensures early { OnOk result ((f : Forest) → Extends f bank.old → AreLeaves f leaves.now → node.term < length f.trees → IsMetEarly f leaves.now node (numbers_of order.old.keys) (numbers_of order.new.keys)) }
+    ensures all { IfOk result (λ done. done ≡ true → AreFirst bank.old bank.new leaves.now node (length (arguments_of (tree_at bank.old node.term))) ids.old.items ids.new.items (numbers_of order.old.keys) (numbers_of order.new.keys)) }
+    ensures extends { Extends bank.old bank.new }
+    ensures unspent { OnOk result (bank.old.spent ≡ false → bank.new.spent ≡ false) }
+    ensures formed { AreFormed bank.old → AreFormed bank.new }
+{
+    for i in 0..bank.args(node.term).len() {
+        let argument = Bound {
+            side: node.side,
+            term: bank.args(node.term)[i],
+        };
+        if !settle_argument(bank, leaves, ids, order, argument)? {
+            return Ok(false);
+        }
+    }
+    Ok(true)
+}
+
+// Whether each argument is a variable or has no variables. This only saves tries: a variable may be bound to more.
+fn looks_flat(bank: &Bank, term: TermId) -> bool
+    requires { term < length bank.now.trees }
+{
+    for argument in bank.args(term) {
+        if !bank.ground(*argument) && bank.shape(*argument) == Shape::App {
+            return false;
+        }
+    }
+    true
+}
+
+// The node's symbol applied to what its arguments become, where they all are settled. The terms are as before.
+fn applied(
+    bank: &mut Bank,
+    leaves: &Leaves<'_>,
+    ids: &mut Vec<TermId>,
+    order: &mut IndexSet<Variable>,
+    node: Bound,
+) -> Result<Option<TermId>, Memory>
+    requires within { node.term < length bank.old.trees }
+    requires leaves { AreLeaves bank.old leaves.now }
+    requires application { IsApplication (tree_at bank.old node.term) }
+    ensures within { IfOk result (λ o. IfSome o (λ id. id < length bank.new.trees)) }
+    ensures settled { IfOk result (λ o. IfSome o (λ id. (f : Forest) → Extends f bank.old → AreLeaves f leaves.now → node.term < length f.trees → IsSettled f bank.new leaves.now node id (numbers_of order.old.keys) (numbers_of order.new.keys))) }
+    ensures early { OnOk result ((f : Forest) → Extends f bank.old → AreLeaves f leaves.now → node.term < length f.trees → IsMetEarly f leaves.now node (numbers_of order.old.keys) (numbers_of order.new.keys)) }
+    ensures same { OnOk result (ids.new.items ≡ ids.old.items) }
+    ensures extends { Extends bank.old bank.new }
+    ensures unspent { OnOk result (bank.old.spent ≡ false → bank.new.spent ≡ false) }
+    ensures formed { (f : Forest) (r : Reading) (final : List ℕ) → Extends f bank.old → AreLeaves f leaves.now → node.term < length f.trees → IsReading f leaves.now r final → IsBegun final (with_vars (numbers_of order.old.keys) (r.vars node)) → IsFormed (r.tree node) → AreFormed bank.old → AreFormed bank.new }
+{
+    let start = ids.len();
+    if !settle_arguments(bank, leaves, ids, order, node)? {
+        ids.truncate(start);
+        return Ok(None);
+    }
+    let id = bank.app_like(node.term, &ids[start..])?;
+    ids.truncate(start);
+    Ok(Some(id))
+}
+
+// What a node that was followed becomes, where it is settled or flat.
+fn found(
+    bank: &mut Bank,
+    leaves: &Leaves<'_>,
+    ids: &mut Vec<TermId>,
+    order: &mut IndexSet<Variable>,
+    node: Bound,
+) -> Result<Option<TermId>, Memory>
+    requires within { node.term < length bank.old.trees }
+    requires leaves { AreLeaves bank.old leaves.now }
+    ensures within { IfOk result (λ o. IfSome o (λ id. id < length bank.new.trees)) }
+    ensures settled { IfOk result (λ o. IfSome o (λ id. (f : Forest) → Extends f bank.old → AreLeaves f leaves.now → node.term < length f.trees → IsFree f leaves.now node → IsSettled f bank.new leaves.now node id (numbers_of order.old.keys) (numbers_of order.new.keys))) }
+    ensures early { IfOk result (λ o. o ≡ None → (f : Forest) → Extends f bank.old → AreLeaves f leaves.now → node.term < length f.trees → IsMetEarly f leaves.now node (numbers_of order.old.keys) (numbers_of order.new.keys)) }
+    ensures application { IfOk result (λ o. o ≡ None → IsApplication (tree_at bank.new node.term)) }
+    ensures same { OnOk result (ids.new.items ≡ ids.old.items) }
+    ensures extends { Extends bank.old bank.new }
+    ensures unspent { OnOk result (bank.old.spent ≡ false → bank.new.spent ≡ false) }
+    ensures formed { (f : Forest) (r : Reading) (final : List ℕ) → Extends f bank.old → AreLeaves f leaves.now → node.term < length f.trees → IsReading f leaves.now r final → IsBegun final (with_vars (numbers_of order.old.keys) (r.vars node)) → IsFormed (r.tree node) → AreFormed bank.old → AreFormed bank.new }
+{
+    let at = node;
+    if let Some(id) = settled(bank, leaves, order, at)? {
+        return Ok(Some(id));
+    }
+    if !looks_flat(bank, node.term) {
+        return Ok(None);
+    }
+    applied(bank, leaves, ids, order, node)
+}
+
 // Finds the term of the node, or opens the node.
 fn visit(
     bank: &mut Bank,
@@ -164,26 +322,20 @@ fn visit(
     ensures ids { OnOk result (AreIds bank.new ids.new.items) }
     ensures extends { Extends bank.old bank.new }
     ensures unspent { OnOk result (bank.old.spent ≡ false → bank.new.spent ≡ false) }
-    ensures formed { AreFormed bank.old → AreFormed bank.new }
+    ensures formed { (f : Forest) (r : Reading) (outs : List Tree) (final : List ℕ) → Extends f bank.old → AreLeaves f leaves.now → at.term < length f.trees → IsReading f leaves.now r final → IsUnderway f bank.old r outs final (Visit at ∷ reverse steps.old.items) ids.old.items (numbers_of order.old.keys) notes.old.entries → IsFormed (r.tree at) → AreFormed bank.old → AreFormed bank.new }
 {
     let node = root(bank, leaves, at);
-    if bank.ground(node.term) {
-        ids.push(node.term)?;
+    let at = node;
+    if let Some(id) = found(bank, leaves, ids, order, at)? {
+        ids.push(id)?;
         return Ok(());
     }
-    match bank.shape(node.term) {
-        Shape::Var(v) => {
-            let id = leaf(bank, leaves, order, node, v)?;
+    match notes.get(&node).copied() {
+        Some(id) => {
             ids.push(id)?;
             Ok(())
         }
-        Shape::App => match notes.get(&node).copied() {
-            Some(id) => {
-                ids.push(id)?;
-                Ok(())
-            }
-            None => open_node(bank, steps, notes, node),
-        },
+        None => open_node(bank, steps, notes, node),
     }
 }
 

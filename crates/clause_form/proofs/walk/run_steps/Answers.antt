@@ -49,7 +49,10 @@ loop-step-preserved-in-Continue-1 c =
       underway = λ r outs final reading b.
           k.underway r outs final reading
           (subst (λ (zs : List Step). IsUnderway c.args.bank.now c.loop-step.bank r outs final zs c.loop-step.ids.items (numbers_of c.loop-step.order.keys) c.loop-step.notes.entries) top (c.loop-step.invariant.underway r outs final reading b));
-      formed = λ r outs final reading b fr old. c.visit.ensures.formed (c.loop-step.invariant.formed r outs final reading b fr old);
+      formed = λ r outs final reading b fr old.
+          c.visit.ensures.formed c.args.bank.now r outs final c.loop-step.invariant.extends c.requires.leaves node reading
+          (subst (λ (zs : List Step). IsUnderway c.args.bank.now c.loop-step.bank r outs final zs c.loop-step.ids.items (numbers_of c.loop-step.order.keys) c.loop-step.notes.entries) top (c.loop-step.invariant.underway r outs final reading b))
+          (fr c.in-Visit.at node) (c.loop-step.invariant.formed r outs final reading b fr old);
     }
 
 pub loop-step-smaller : goal.loop-step-smaller
@@ -88,3 +91,11 @@ returns-in_err-build-in-Build-clause-formed c r outs final reading b fr old =
     c.build.ensures.formed c.args.bank.now c.args.leaves.now r outs final (reverse c.pop.new.self.items) (numbers_of c.loop-step.order.keys) c.loop-step.invariant.extends node.0 reading
     (subst (λ (zs : List Step). IsUnderway c.args.bank.now c.loop-step.bank r outs final zs c.loop-step.ids.items (numbers_of c.loop-step.order.keys) c.loop-step.notes.entries) top (c.loop-step.invariant.underway r outs final reading b))
     (fr c.in-Build.node node.0) (c.loop-step.invariant.formed r outs final reading b fr old)
+
+pub returns-in_err-visit-in-Visit-clause-formed : goal.returns-in_err-visit-in-Visit-clause-formed
+returns-in_err-visit-in-Visit-clause-formed c r outs final reading b fr old =
+    let top = top_step c.loop-step.steps.items c.pop.new.self.items c.in-Some.step (Visit c.in-Visit.at) c.in-Some.ensures.items c.in-Visit.is in
+    let node = first_node c.args.bank.now (reverse c.loop-step.steps.items) (reverse c.pop.new.self.items) (Visit c.in-Visit.at) top c.loop-step.invariant.nodes in
+    c.visit.ensures.formed c.args.bank.now r outs final c.loop-step.invariant.extends c.requires.leaves node reading
+    (subst (λ (zs : List Step). IsUnderway c.args.bank.now c.loop-step.bank r outs final zs c.loop-step.ids.items (numbers_of c.loop-step.order.keys) c.loop-step.notes.entries) top (c.loop-step.invariant.underway r outs final reading b))
+    (fr c.in-Visit.at node) (c.loop-step.invariant.formed r outs final reading b fr old)
