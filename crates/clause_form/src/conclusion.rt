@@ -65,7 +65,7 @@ fn conclude_with(
     ensures unspent { OnOk result (bank.old.spent ≡ false → bank.new.spent ≡ false) }
     ensures formed { AreFormed bank.old → AreTerms bank.old b.now.entries → AreFormed bank.new }
 {
-    let mut nodes = atoms_of(alloc, c.as_slice())?;
+    let mut nodes = atoms_of(alloc, c.as_slice(), variables.len())?;
     nodes.extend_from_slice(variables)?;
     let leaves = Leaves::Led(b);
     let mut atoms = build_all(alloc, bank, &leaves, side, &nodes)?;
@@ -124,7 +124,7 @@ pub fn conclude_clause(
     ensures unspent { OnOk result (bank.old.spent ≡ false → bank.new.spent ≡ false) }
     ensures formed { AreFormed bank.old → AreTerms bank.old b.now.entries → AreFormed bank.new }
 {
-    let atoms = atoms_of(alloc, c.as_slice())?;
+    let atoms = atoms_of(alloc, c.as_slice(), 0)?;
     let leaves = Leaves::Led(b);
     let built = build_all(alloc, bank, &leaves, side, &atoms)?;
     bank.distinct();
@@ -148,7 +148,7 @@ pub fn under(
     ensures unspent { OnOk result (bank.old.spent ≡ false → bank.new.spent ≡ false) }
     ensures formed { AreFormed bank.old → AreTermIds bank.old terms.now → AreFormed bank.new }
 {
-    let atoms = atoms_of(alloc, c.as_slice())?;
+    let atoms = atoms_of(alloc, c.as_slice(), 0)?;
     let leaves = Leaves::Listed(terms.as_slice());
     let built = build_all(alloc, bank, &leaves, Side::Left, &atoms)?;
     bank.distinct();

@@ -11,12 +11,12 @@ use term_bank::{IdClause, IdLiteral, TermId};
 // So many literals at most are compared with each other: for them a set would cost more than it saves.
 const FEW: usize = 8;
 
-// The atoms of the literals, in order.
-pub fn atoms_of(alloc: Global, literals: &[IdLiteral]) -> Result<Vec<TermId>, Memory>
+// The atoms of the literals, in order, with room for so many more terms.
+pub fn atoms_of(alloc: Global, literals: &[IdLiteral], more: usize) -> Result<Vec<TermId>, Memory>
     ensures { IfOk result (λ v. v.items ≡ map (λ l. l.atom) literals.now) }
 {
     let mut atoms = Vec::new(alloc);
-    atoms.reserve_exact(literals.len())?;
+    atoms.reserve_exact(literals.len().saturating_add(more))?;
     for l in literals {
         atoms.push(l.atom)?;
     }

@@ -19,6 +19,9 @@ use std::alloc::Global;
 use term_bank::{Bank, Shape, TermId};
 use unify_core::{Bindings, Bound, Side, Variable};
 
+// So many terms and steps beyond the first ones have room from the start: those of most atoms with arguments.
+const ROOM: usize = 8;
+
 #[derive(Clone, Copy)]
 pub enum Step {
     // The term of the node is to be found or built.
@@ -382,7 +385,7 @@ fn run_steps(
     ensures unspent { OnOk result (bank.old.spent ≡ false → bank.new.spent ≡ false) }
     ensures formed { (r : Reading) (outs : List Tree) (final : List ℕ) → IsReading bank.old leaves.now r final → IsBeginning bank.old r outs final (reverse steps.old.items) (numbers_of order.old.keys) → IsFormedReading bank.old r → AreFormed bank.old → AreFormed bank.new }
 {
-    let mut ids: Vec<TermId> = Vec::new(alloc);
+    let mut ids: Vec<TermId> = Vec::with_capacity(alloc, steps.len() + ROOM)?;
     let mut notes: IndexMap<Bound, TermId> = IndexMap::new(alloc);
     while let Some(step) = steps.pop() {
         match step {
@@ -409,7 +412,7 @@ pub fn build_all(
     ensures unspent { OnOk result (bank.old.spent ≡ false → bank.new.spent ≡ false) }
     ensures formed { (r : Reading) (final : List ℕ) → IsReading bank.old leaves.now r final → with_vars [] (vars_on r side terms.now) ≡ final → IsFormedReading bank.old r → AreFormed bank.old → AreFormed bank.new }
 {
-    let mut steps: Vec<Step> = Vec::new(alloc);
+    let mut steps: Vec<Step> = Vec::with_capacity(alloc, terms.len() + ROOM)?;
     let mut order: IndexSet<Variable> = IndexSet::new(alloc);
     push_visits(&mut steps, side, terms)?;
     run_steps(alloc, bank, leaves, &mut steps, &mut order)
