@@ -1,8 +1,8 @@
 -- The ground clauses of the members under one term.
-use Rattle.std.proofs.Common.{◌≡◌, ℕ, zero, suc, ◌<◌, ◌≤◌, List, [], ◌∷◌, refl, ap, sym, ◌∙◌, map, subst, arith, length, get_or}
-use Rattle.std.specs.Prelude.{All, option_map}
+use Rattle.std.proofs.Common.{◌≡◌, ℕ, suc, ◌≤◌, List, [], ◌∷◌, refl, ap, ap₂, sym, ◌∙◌, map, subst, arith, length, get_or}
+use Rattle.std.specs.Prelude.{◌↔◌, All, option_map, slice_get}
 use Rattle.std.proofs.lemmas.List.{length-map}
-use Rattle.std.proofs.lemmas.List.Elements.{All-get_or}
+use Rattle.std.proofs.lemmas.List.Elements.{All-head, All-tail}
 use Rattle.std.proofs.lemmas.Option.{slice_get-map}
 use Rattle.inst_logic.specs.declared.signed.Signed.{Signed}
 use Rattle.inst_logic.specs.declared.symbol.Sym.{Sym}
@@ -16,16 +16,15 @@ use Rattle.inst_calculus.specs.Abstraction.{abstraction}
 use Rattle.inst_calculus.specs.Entries.{Entry, entry_clauses}
 use Rattle.inst_calculus.proofs.CanonicalForms.{canonical_variable_below}
 use Rattle.inst_calculus.proofs.Clauses.{literals_agree}
-use Rattle.inst_calculus.proofs.Membership.{◌∈◌}
+use Rattle.inst_calculus.proofs.Membership.{◌∈◌, all_in}
 use Rattle.term_bank.specs.Forest.{Forest, Extends, IsAt, IsClauseOf, clause_at, tree_at}
-use Rattle.term_bank.proofs.Clauses.{clause_extends}
+use Rattle.term_bank.proofs.Clauses.{clause_extends, clause_of_extends, clauses_extend}
 use Rattle.clause_form.specs.Conclusions.{by_terms}
 use Rattle.cert_format.specs.Validity.{IsRightMember}
 use Rattle.saturation_cert.specs.declared.certificate.Base.{Base}
 use Rattle.saturation_cert.specs.declared.member.Member.{Member}
 use Rattle.saturation_cert.specs.Values.{base_of, entry_of}
-use Rattle.saturation_cert.specs.Wholes.{IsWholeClause}
-use Rattle.cert_check.specs.Grounds.{AreCanonicalMembers}
+use Rattle.cert_check.specs.Grounds.{AreCanonicalMembers, IsGroundAt}
 use Rattle.cert_check.proofs.Bases.{member_canonical}
 
 -- where each of the terms is the same, so is the instance
@@ -43,26 +42,12 @@ ground_instance s c canonical empty =
 pub at_grown : (f g : Forest) → Extends f g → (id : ℕ) (t : Tree) → IsAt f id t → IsAt g id t
 at_grown f g grown id t h = (omega (arith, h.0, grown.trees.0), grown.trees.1 id h.0 ∙ h.1)
 
-pub member_whole : (f : Forest) (ms : List Member) (i : ℕ) (m : Member) → All (λ x. IsWholeClause f x.clause) ms → i < length ms → m ≡ get_or ms i m → IsWholeClause f m.clause
-member_whole f ms i m h within is = subst (λ (x : Member). IsWholeClause f x.clause) (sym is) (All-get_or (λ (x : Member). IsWholeClause f x.clause) ms i m within h)
-
-pub canonical_grown : (f g : Forest) → Extends f g → (ms : List Member) (i : ℕ) (m : Member) → AreCanonicalMembers f ms → i < length ms → m ≡ get_or ms i m → IsClauseOf f m.clause → IsCanonical (clause_at g m.clause)
-canonical_grown f g grown ms i m h within is ids =
-    subst IsCanonical (sym (clause_extends f g grown m.clause ids))
-    (subst (λ (x : Member). IsCanonical (clause_at f x.clause)) (sym is) (All-get_or (λ (x : Member). IsCanonical (clause_at f x.clause)) ms i m within h))
-
 abbrev pub abstractions : Sym → Forest → List Member → List TreeClause
 abstractions bot f ms = map (abstraction bot) (entry_clauses (map (entry_of f) ms))
 
 pub count_same : (bot : Sym) (f : Forest) (ms : List Member) → length (abstractions bot f ms) ≡ length ms
 count_same bot f ms =
     length-map (entry_clauses (map (entry_of f) ms)) (abstraction bot) ∙ length-map (map (entry_of f) ms) (λ (e : Entry). e.clause) ∙ length-map ms (entry_of f)
-
--- the clause at place i
-pub abstraction_at : (bot : Sym) (f : Forest) (ms : List Member) (i : ℕ) (m : Member) → m ≡ get_or ms i m → abstraction bot (clause_at f m.clause) ≡ get_or (abstractions bot f ms) i (abstraction bot (clause_at f m.clause))
-abstraction_at bot f [] i m is = refl
-abstraction_at bot f (n ∷ ms) zero m is = ap (λ (x : Member). abstraction bot (clause_at f x.clause)) is
-abstraction_at bot f (n ∷ ms) (suc i) m is = abstraction_at bot f ms i m is
 
 -- an instance under the constant is the abstraction
 pub abstraction_grown : (bot : Sym) (f g : Forest) → Extends f g → (constant : ℕ) (c : List (Signed ℕ)) → IsClauseOf f c → tree_at g constant ≡ app bot none → instance (λ _. tree_at g constant) (clause_at g c) ≡ abstraction bot (clause_at f c)
@@ -73,3 +58,32 @@ pub canonical_members : (b : Base) → ((n : ℕ) → IsRightMember (base_of b) 
 canonical_members b right =
     All-from_slice_get (λ (m : Member). IsCanonical (clause_at b.bank m.clause)) b.members
     (λ k m at. member_canonical (base_of b) (suc k) (right (suc k)) (entry_of b.bank m) (slice_get-map (entry_of b.bank) b.members k ∙ ap (option_map (entry_of b.bank)) at))
+
+-- the members and ground clauses in a bank that has grown
+module _ (f g : Forest) (grown : Extends f g) where
+  pub members_of : (ms : List Member) → All (λ m. IsClauseOf f m.clause) ms → All (λ m. IsClauseOf g m.clause) ms
+  members_of ms h i d within = clause_of_extends f g grown (get_or ms i d).clause (h i d within)
+
+  pub canonical_grown : (ms : List Member) → All (λ m. IsClauseOf f m.clause) ms → AreCanonicalMembers f ms → AreCanonicalMembers g ms
+  canonical_grown ms h canonical i d within = subst IsCanonical (sym (clause_extends f g grown (get_or ms i d).clause (h i d within))) (canonical i d within)
+
+  pub grounds_of : (cs : List (List (Signed ℕ))) → All (IsClauseOf f) cs → All (IsClauseOf g) cs
+  grounds_of cs h i d within = clause_of_extends f g grown (get_or cs i d) (h i d within)
+
+  module _ (bot : Sym) (constant : ℕ) (at : tree_at g constant ≡ app bot none) where
+    all_abstracted : (ms : List Member) → All (λ m. IsClauseOf f m.clause) ms → map (λ m. instance (λ _. tree_at g constant) (clause_at g m.clause)) ms ≡ abstractions bot f ms
+    all_abstracted [] h = refl
+    all_abstracted (m ∷ ms) h = ap₂ (λ x xs. x ∷ xs)
+        (abstraction_grown bot f g grown constant m.clause (All-head (λ (x : Member). IsClauseOf f x.clause) m ms h) at)
+        (all_abstracted ms (All-tail (λ (x : Member). IsClauseOf f x.clause) m ms h))
+
+    -- a right ground clause at place i in the grown bank is right in the first one
+    pub ground_same : (ms : List Member) (cs : List (List (Signed ℕ))) → All (λ m. IsClauseOf f m.clause) ms → All (IsClauseOf f) cs → (i : ℕ)
+        → IsGroundAt g constant ms cs i ↔ (slice_get (map (clause_at f) cs) i ≡ slice_get (abstractions bot f ms) i)
+    ground_same ms cs in_ms in_cs i = ((λ e. sym left ∙ e ∙ right), (λ e. left ∙ e ∙ sym right))
+      where
+        left : option_map (clause_at g) (slice_get cs i) ≡ slice_get (map (clause_at f) cs) i
+        left = sym (slice_get-map (clause_at g) cs i) ∙ ap (λ (xs : List TreeClause). slice_get xs i) (clauses_extend f g grown cs (all_in (IsClauseOf f) cs in_cs))
+
+        right : option_map (λ m. instance (λ _. tree_at g constant) (clause_at g m.clause)) (slice_get ms i) ≡ slice_get (abstractions bot f ms) i
+        right = sym (slice_get-map (λ (m : Member). instance (λ _. tree_at g constant) (clause_at g m.clause)) ms i) ∙ ap (λ (xs : List TreeClause). slice_get xs i) (all_abstracted ms in_ms)

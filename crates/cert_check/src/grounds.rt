@@ -1,15 +1,17 @@
-// The ground clauses of the members, made anew and compared by ids.
-ghost use Rattle.std.specs.Prelude.{◌≡◌, ◌<◌, ◌≤◌, All, IfOk, IsTrue, length, map};
+// Whether the ground clauses are the members' under a constant. Each is compared by its ids as it comes, and only an instance of
+// a clause with variables is built.
+ghost use Rattle.std.specs.Prelude.{◌≡◌, ◌↔◌, ◌<◌, ◌≤◌, All, IfOk, IsTrue, length, map};
 ghost use Rattle.inst_logic.specs.Clauses.{IsCanonical, instance, order_of};
+ghost use Rattle.inst_logic.specs.Derivations.{at_number};
 ghost use Rattle.inst_logic.specs.WellFormed.{IsTerm, is_constant};
 ghost use Rattle.inst_calculus.specs.Abstraction.{abstraction};
 ghost use Rattle.inst_calculus.specs.Entries.{entry_clauses};
 ghost use Rattle.saturation_cert.specs.Values.{entry_of};
-ghost use Rattle.saturation_cert.specs.Wholes.{IsWholeClause};
 ghost use Rattle.term_bank.specs.Forest.{AreFormed, Extends, IsClauseAt, IsClauseOf, clause_at, tree_at};
-ghost use Rattle.cert_check.specs.Grounds.{AreCanonicalMembers};
+ghost use Rattle.cert_check.specs.Firsts.{IsFirstWrongOf};
+ghost use Rattle.cert_check.specs.Grounds.{AreCanonicalMembers, IsGroundAt};
 
-use crate::lookup::copied;
+use crate::difference::same_clause;
 use clause_form::{greatest_variable, under};
 use inst_logic::{Memory, Sym};
 use saturation_cert::MemberList;
@@ -52,47 +54,108 @@ fn built_under(
     under(alloc, bank, c, &terms)
 }
 
-// The same; a clause without variables stays as it is, and most members of a refutation are such.
-fn under_term(
+// Whether the clauses stand for the same trees: equal trees have equal ids.
+fn same_trees(bank: &Bank, c: &IdClause, d: &IdClause) -> bool
+    requires left { IsClauseOf bank.now c.now }
+    requires right { IsClauseOf bank.now d.now }
+    ensures { IsTrue result ↔ (clause_at bank.now c.now ≡ clause_at bank.now d.now) }
+{
+    bank.distinct();
+    same_clause(c, d)
+}
+
+// Whether the ground clause is that instance of the clause, which is built.
+fn is_built_under(
     alloc: Global,
     bank: &mut Bank,
     term: TermId,
     c: &IdClause,
-) -> Result<IdClause, Memory>
+    ground: &IdClause,
+) -> Result<bool, Memory>
     requires within { term < length bank.old.trees }
     requires is_term { IsTerm (tree_at bank.old term) }
     requires clause { IsClauseOf bank.old c.now }
     requires canonical { IsCanonical (clause_at bank.old c.now) }
-    ensures instance { IfOk result (λ d. IsClauseAt bank.new d (instance (λ _. tree_at bank.old term) (clause_at bank.old c.now))) }
+    requires ground { IsClauseOf bank.old ground.now }
+    ensures instance { IfOk result (λ r. IsTrue r ↔ (clause_at bank.old ground.now ≡ instance (λ _. tree_at bank.old term) (clause_at bank.old c.now))) }
+    ensures extends { Extends bank.old bank.new }
+    ensures formed { AreFormed bank.old → AreFormed bank.new }
+{
+    let built = built_under(alloc, bank, term, c)?;
+    Ok(same_trees(bank, ground, &built))
+}
+
+// The same. A clause without variables, as most members of a refutation are, is its own instance.
+fn is_under(
+    alloc: Global,
+    bank: &mut Bank,
+    term: TermId,
+    c: &IdClause,
+    ground: &IdClause,
+) -> Result<bool, Memory>
+    requires within { term < length bank.old.trees }
+    requires is_term { IsTerm (tree_at bank.old term) }
+    requires clause { IsClauseOf bank.old c.now }
+    requires canonical { IsCanonical (clause_at bank.old c.now) }
+    requires ground { IsClauseOf bank.old ground.now }
+    ensures instance { IfOk result (λ r. IsTrue r ↔ (clause_at bank.old ground.now ≡ instance (λ _. tree_at bank.old term) (clause_at bank.old c.now))) }
     ensures extends { Extends bank.old bank.new }
     ensures formed { AreFormed bank.old → AreFormed bank.new }
 {
     match greatest_variable(bank, c) {
-        None => copied(alloc, c),
-        Some(_) => built_under(alloc, bank, term, c),
+        None => Ok(same_trees(bank, ground, c)),
+        Some(_) => is_built_under(alloc, bank, term, c, ground),
     }
 }
 
-// Each member's clause with the constant in the place of every variable.
-pub fn grounded(
+// Whether there are a ground clause and a member at the place, counted from 0, and the one is the other under the term; or neither
+// is there.
+fn is_ground_at(
+    alloc: Global,
+    bank: &mut Bank,
+    term: TermId,
+    members: &MemberList,
+    grounds: &IdClauseList,
+    i: usize,
+) -> Result<bool, Memory>
+    requires within { term < length bank.old.trees }
+    requires is_term { IsTerm (tree_at bank.old term) }
+    requires members { All (λ m. IsClauseOf bank.old m.clause) members.now }
+    requires canonical { AreCanonicalMembers bank.old members.now }
+    requires grounds { All (IsClauseOf bank.old) grounds.now }
+    ensures right { IfOk result (λ r. IsTrue r ↔ IsGroundAt bank.old term members.now grounds.now i) }
+    ensures extends { Extends bank.old bank.new }
+    ensures formed { AreFormed bank.old → AreFormed bank.new }
+{
+    match (grounds.get(i), members.get(i)) {
+        (Some(ground), Some(member)) => is_under(alloc, bank, term, &member.clause, ground),
+        (None, None) => Ok(true),
+        _ => Ok(false),
+    }
+}
+
+// The number of the first ground clause that is not its member's clause with the constant in the place of every variable.
+pub fn first_wrong_ground(
     alloc: Global,
     bank: &mut Bank,
     bot: &Sym,
     members: &MemberList,
-) -> Result<IdClauseList, Memory>
+    grounds: &IdClauseList,
+) -> Result<Option<usize>, Memory>
     requires formed { AreFormed bank.old }
     requires bot { IsTrue (is_constant bot.now) }
-    requires members { All (λ m. IsWholeClause bank.old m.clause) members.now }
+    requires members { All (λ m. IsClauseOf bank.old m.clause) members.now }
     requires canonical { AreCanonicalMembers bank.old members.now }
-    ensures at { IfOk result (λ ids. map (clause_at bank.new) ids ≡ map (abstraction bot.now) (entry_clauses (map (entry_of bank.old) members.now))) }
-    ensures ids { IfOk result (All (IsClauseOf bank.new)) }
+    requires grounds { All (IsClauseOf bank.old) grounds.now }
+    ensures first { IfOk result (IsFirstWrongOf (λ n. at_number (map (clause_at bank.old) grounds.now) n ≡ at_number (map (abstraction bot.now) (entry_clauses (map (entry_of bank.old) members.now))) n)) }
     ensures extends { Extends bank.old bank.new }
     ensures formed { AreFormed bank.new }
 {
     let constant = bank.app(bot, &[])?;
-    let mut ids = IdClauseList::new(alloc);
-    for member in members.as_slice() {
-        ids.push(under_term(alloc, bank, constant, &member.clause)?)?;
+    for i in 0..members.len().max(grounds.len()) {
+        if !is_ground_at(alloc, bank, constant, members, grounds, i)? {
+            return Ok(Some(i + 1));
+        }
     }
-    Ok(ids)
+    Ok(None)
 }

@@ -14,9 +14,8 @@ ghost use Rattle.saturation_cert.specs.Wholes.{IsWholeRefutation, KeepsRefutatio
 ghost use Rattle.cert_check.specs.Answers.{IsCheckCause};
 
 use crate::base::check_base;
-use crate::difference::difference;
 use crate::error::CheckError;
-use crate::grounds::grounded;
+use crate::grounds::first_wrong_ground;
 use crate::steps::{first_wrong, numbered_clauses, numbered_steps};
 use cert_format::Complaint;
 use cert_format::laws::valid_refutations_refute;
@@ -69,8 +68,13 @@ fn wrong_ground(alloc: Global, cert: &mut Refutation) -> Result<Option<usize>, M
     ensures whole { OnOk result (IsWholeRefutation cert.new) }
     ensures first { IfOk result (IsFirstWrongOf (IsRightGround (refutation_of cert.old))) }
 {
-    let expected = grounded(alloc, &mut cert.base.bank, &cert.bot, &cert.base.members)?;
-    Ok(difference(&cert.base.bank, &cert.grounds, &expected))
+    first_wrong_ground(
+        alloc,
+        &mut cert.base.bank,
+        &cert.bot,
+        &cert.base.members,
+        &cert.grounds,
+    )
 }
 
 // The number of the first step that has no hint or is not shown.
