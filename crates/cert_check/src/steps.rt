@@ -15,7 +15,7 @@ use term_bank::{IdClause, IdClauseList};
 fn numbered_clause(alloc: Global, c: &IdClause) -> Result<LitList, Memory>
     ensures { IfOk result (λ d. d ≡ c.now) }
 {
-    let mut literals = LitList::new(alloc);
+    let mut literals = LitList::from(Vec::with_capacity(alloc, c.len())?);
     for l in c.as_slice() {
         literals.push(Signed {
             positive: l.positive,
@@ -29,7 +29,7 @@ fn numbered_clause(alloc: Global, c: &IdClause) -> Result<LitList, Memory>
 pub fn numbered_clauses(alloc: Global, clauses: &IdClauseList) -> Result<LitLists, Memory>
     ensures { IfOk result (λ ds. ds ≡ clauses.now) }
 {
-    let mut lists = LitLists::new(alloc);
+    let mut lists = LitLists::from(Vec::with_capacity(alloc, clauses.len())?);
     for c in clauses.as_slice() {
         lists.push(numbered_clause(alloc, c)?)?;
     }
@@ -48,7 +48,7 @@ fn numbered_hint(hint: &GroundHint) -> Hint
 fn numbered_hints(alloc: Global, hints: &GroundHintList) -> Result<HintList, Memory>
     ensures { IfOk result (λ hs. hs ≡ map numbered_hint hints.now) }
 {
-    let mut list = HintList::new(alloc);
+    let mut list = HintList::from(Vec::with_capacity(alloc, hints.len())?);
     for hint in hints.as_slice() {
         list.push(numbered_hint(hint))?;
     }
@@ -59,7 +59,7 @@ fn numbered_hints(alloc: Global, hints: &GroundHintList) -> Result<HintList, Mem
 pub fn numbered_steps(alloc: Global, steps: &GroundStepList) -> Result<Derivation, Memory>
     ensures { IfOk result (λ ds. ds ≡ map numbered_step steps.now) }
 {
-    let mut derivation = Derivation::new(alloc);
+    let mut derivation = Derivation::from(Vec::with_capacity(alloc, steps.len())?);
     for step in steps.as_slice() {
         let clause = numbered_clause(alloc, &step.clause)?;
         let hints = numbered_hints(alloc, &step.hints)?;
