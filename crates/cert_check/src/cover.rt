@@ -72,8 +72,11 @@ fn leads_to_shorter(
     ensures no { IfOk result (λ r. r ≡ false → (hs : List Head) → AreGrouped members.now hs lookup.now.lengths → HasNoShorter bank.now members.now hs lookup.now.fingerprints.items len c.now literal.now) }
 {
     let lengths = &lookup.lengths;
-    let fingerprint = fingerprint_of(bank, literal.atom);
     let mut j = lengths.first_place(bank, literal);
+    if !lengths.is_below(j, len) {
+        return Ok(false);
+    }
+    let fingerprint = fingerprint_of(bank, literal.atom);
     while lengths.is_below(j, len) {
         let k = lengths.ranked[j].place;
         if is_shorter_at(alloc, bank, members, lookup, len, c, &fingerprint, k)? {
