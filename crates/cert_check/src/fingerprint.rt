@@ -119,7 +119,7 @@ pub fn find_fingerprints(alloc: Global, cert: &Saturation) -> Result<Vec<Fingerp
     ensures each { IfOk result (λ ps. (k : ℕ) → k < length ps.items → IsFingerprintOf cert.now k (fingerprint_at ps.items k)) }
     ensures apart { IfOk result (λ ps. TellApart (saturation_of cert.now) ps.items) }
 {
-    let mut fingerprints = Vec::new(alloc);
+    let mut fingerprints = Vec::with_capacity(alloc, cert.base.members.len())?;
     for i in 0..cert.base.members.len() {
         let fingerprint = selected_fingerprint(cert, i);
         fingerprints.push(fingerprint)?;

@@ -35,7 +35,7 @@ fn with_lengths(alloc: Global, members: &[Member]) -> Result<Vec<Ranked>, Memory
     ensures each { IfOk result (λ rs. All (IsRankOf members.now) rs.items) }
     ensures all { IfOk result (λ rs. (k : ℕ) → k < length members.now → Any (λ r. r.place ≡ k) rs.items) }
 {
-    let mut ranked = Vec::new(alloc);
+    let mut ranked = Vec::with_capacity(alloc, members.len())?;
     for place in 0..members.len() {
         let member = &members[place];
         ranked.push(Ranked {
@@ -60,7 +60,7 @@ fn ordered_heads(alloc: Global, ranked: &[Ranked], heads: &[HeadId]) -> Result<V
     requires { All (λ r. r.place < length heads.now) ranked.now }
     ensures { IfOk result (λ hs. hs.items ≡ heads_by heads.now ranked.now) }
 {
-    let mut ordered = Vec::new(alloc);
+    let mut ordered = Vec::with_capacity(alloc, ranked.len())?;
     for r in ranked {
         ordered.push(heads[r.place])?;
     }

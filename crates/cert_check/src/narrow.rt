@@ -22,7 +22,8 @@ pub struct Class {
     mark: u32,
 }
 
-/// For each member, counted from 0, the places of the next members of its class with its sign and with the opposite one. Where there is none it is the number of members.
+/// For each member, counted from 0, the places of the next members of its class with its sign and with the opposite one. Where
+/// there is none it is the number of members.
 #[derive(Drop)]
 pub struct Chains {
     pub(crate) same: Vec<usize>,
@@ -115,7 +116,7 @@ fn narrow_heads(
     ensures narrow { IfOk result (λ ns. AreNarrow heads.now fingerprints.now ns.items) }
 {
     let mut classes: IndexSet<Class> = IndexSet::new(alloc);
-    let mut narrow = Vec::new(alloc);
+    let mut narrow = Vec::with_capacity(alloc, heads.len())?;
     for i in 0..heads.len() {
         let head = &heads[i];
         let fingerprint = &fingerprints[i];

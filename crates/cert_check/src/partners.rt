@@ -63,7 +63,7 @@ pub fn find_heads(alloc: Global, cert: &Saturation) -> Result<Vec<HeadId>, Memor
     ensures heads { IfOk result (λ hs. (k : ℕ) → k < length hs.items → IsHeadOf cert.now k (head_at hs.items k)) }
     ensures apart { IfOk result (λ hs. AreApart (saturation_of cert.now) hs.items) }
 {
-    let mut heads = Vec::new(alloc);
+    let mut heads = Vec::with_capacity(alloc, cert.base.members.len())?;
     for i in 0..cert.base.members.len() {
         let head = head(cert, i);
         heads.push(head)?;
