@@ -1,20 +1,17 @@
 -- What stands behind clauses is read group by group.
 use Rattle.std.proofs.Common.{◌≡◌, ◌≢◌, ℕ, ◌^◌, ◌<◌, Bool, true, false, List, [], ◌∷◌, ◌++◌, map, refl, sym, ap, ◌∙◌}
-use Rattle.std.specs.Prelude.{not, codes, decimal}
+use Rattle.std.specs.Prelude.{codes, decimal}
 use Rattle.std.specs.List.{list_all}
-use Rattle.std.proofs.lemmas.Bool.{and_parts, and_from}
-use Rattle.inst_logic.specs.Printing.{is_readable_name, name_text}
+use Rattle.std.proofs.lemmas.Bool.{and_parts}
 use Rattle.inst_calculus.specs.Entries.{Origin}
 use Rattle.inst_calculus.specs.Steps.{Cited}
 use Rattle.cert_format.specs.LineMachine.{is_number, Note, named, equality, member, selected, ground_of, shown_by, rank, Header}
 use Rattle.cert_format.specs.LineTexts.{origin_text, origin_is_printable, hints, hint_is_printable, hints_are_printable, note_text}
 use Rattle.cert_format.proofs.LineNotes.{behind_front, below, in_form, note_once}
 use Rattle.cert_format.proofs.Marked.{marked_once}
-use Rattle.cert_format.proofs.Spelling.{small_number}
 use Rattle.cert_items.specs.declared.group.Group.{Group}
 use Rattle.cert_items.specs.declared.group.Group.TheVariants as groups
 use Rattle.cert_items.specs.Items.{group_of, rank_of, HasForm, IsNote, IsNoteAt, NoNote, NoLastNote}
-use Rattle.cert_items.specs.HintTexts.{NoHints}
 
 -- ---- forms
 

@@ -1,18 +1,18 @@
 -- Hints are read one by one.
-use Rattle.std.proofs.Common.{◌≡◌, ◌≢◌, ℕ, ◌<◌, ◌≤◌, ◌^◌, Bool, true, false, List, [], ◌∷◌, ◌++◌, length, map, refl, sym, ap, ◌∙◌, arith, length-append}
-use Rattle.std.specs.Prelude.{decimal, nat_eq}
+use Rattle.std.proofs.Common.{◌≡◌, ◌≢◌, ℕ, Bool, true, false, List, [], ◌∷◌, ◌++◌, map, refl, sym, ap, ◌∙◌}
+use Rattle.std.specs.Prelude.{nat_eq}
 use Rattle.std.specs.List.{list_all}
 use Rattle.std.specs.Char.{is_ascii_digit}
 use Rattle.std.proofs.lemmas.List.Folds.{list_all-append}
 use Rattle.std.proofs.lemmas.List.{map-append}
-use Rattle.inst_calculus.specs.Steps.{Cited, given, earlier}
+use Rattle.inst_calculus.specs.Steps.{Cited}
 use Rattle.cert_format.specs.Runs.{begins, Ends}
 use Rattle.cert_format.specs.LineTexts.{hint, more_hints, hints, hint_is_printable}
 use Rattle.cert_items.specs.HintTexts.{hint_end, before_hints, read_hints, HasHints, NoHintHead, NoHints}
 use Rattle.saturation_cert.specs.declared.certificate.GroundHint.{GroundHint}
 use Rattle.saturation_cert.specs.Values.{hint_of}
 use Rattle.std.proofs.lemmas.Bool.{and_parts, and_from}
-use Rattle.cert_format.proofs.LineNotes.{behind_front, below, hint_once, more_ends}
+use Rattle.cert_format.proofs.LineNotes.{behind_front, hint_once, more_ends}
 
 -- ---- one hint
 

@@ -1,20 +1,13 @@
 -- What is remembered of names stays true as the bank grows, and is found by a name's text.
-use Rattle.std.proofs.Common.{◌≡◌, ℕ, zero, suc, List, [], ◌∷◌, ◌++◌, length, map, refl, sym, ap, ◌∙◌, subst, Bool, true, false, cond, Option, None, Some, IfSome, nat_eq}
-use Rattle.std.specs.Prelude.{All}
+use Rattle.std.proofs.Common.{◌≡◌, ℕ, List, [], ◌∷◌, ◌++◌, refl, sym, subst, Bool, true, false, cond, Option, Some, IfSome, nat_eq}
 use Rattle.std.specs.Global.{Vec}
-use Rattle.std.specs.Map.{lookup}
 use Rattle.std.specs.Cmp.Lexicographic.{pointwise}
 use Rattle.std.proofs.lemmas.Bool.Decides.{Decides-eqb}
 use Rattle.std.proofs.lemmas.Slice.Eq.{slice_eq-Decides}
-use Rattle.std.proofs.lemmas.List.{length-map}
-use Rattle.std.proofs.lemmas.List.Elements.{All-head, All-tail, All-push, All-weaker}
-use Rattle.inst_logic.specs.declared.symbol.Kind.{Kind}
-use Rattle.inst_logic.specs.Tree.{Tree, app, of_list}
-use Rattle.term_bank.specs.Forest.{Forest, Extends, IsAt, AreFormed, IsFormed, tree_at, with_arguments}
-use Rattle.term_bank.proofs.Growth.{at_extends}
+use Rattle.std.proofs.lemmas.List.Elements.{All-head, All-tail, All-push}
+use Rattle.term_bank.specs.Forest.{Forest}
 use Rattle.cert_items.specs.declared.text_bank.Known.{Known}
 use Rattle.cert_items.specs.Known.{IsKnown, AreKnown, remembered}
-use Rattle.cert_items.specs.Reading.{IsApplied}
 
 found_in : (f : Forest) (text : List ℕ) (es : List (Vec ℕ × Known)) → AreKnown f es → IfSome (remembered text es) (IsKnown f text)
 found_in f text [] h = tt

@@ -1,22 +1,21 @@
 -- Clauses whose variables are 0, 1, 2 by first occurrence, and the walk that sees it.
-use Rattle.std.proofs.Common.{◌≡◌, ℕ, zero, suc, ◌+◌, ◌<◌, ◌≤◌, List, [], ◌∷◌, ◌++◌, ◌⊎◌, inl, inr, refl, sym, ap, ap₂, ◌∙◌, subst, map, length, get_or, nat_eq, ltb, Bool, true, false, Option, None, Some, arith, append_assoc}
-use Rattle.std.specs.Prelude.{fold, All, if◌then◌else◌, ◌||◌, sum_by}
+use Rattle.std.proofs.Common.{◌≡◌, ℕ, zero, suc, ◌+◌, ◌<◌, ◌≤◌, List, [], ◌∷◌, ◌++◌, inl, inr, refl, sym, ap, ap₂, ◌∙◌, subst, map, length, get_or, nat_eq, ltb, Bool, true, false, None, Some, arith, append_assoc}
+use Rattle.std.specs.Prelude.{fold, if◌then◌else◌, ◌||◌}
 use Rattle.std.specs.List.{list_any}
 use Rattle.std.proofs.lemmas.Bool.Decides.{Decides-eqb, Decides-ltb}
 use Rattle.std.proofs.lemmas.List.{length-append, get_or_append_left, get_or_push}
-use Rattle.std.proofs.lemmas.List.Elements.{All-map}
 use Rattle.std.proofs.lemmas.List.Folds.{list_any-append}
 use Rattle.inst_logic.specs.declared.signed.Signed.{Signed}
 use Rattle.inst_logic.specs.declared.symbol.Sym.{Sym}
-use Rattle.inst_logic.specs.Tree.{Tree, var, app, to_list, of_list}
-use Rattle.inst_logic.specs.Lists.{distinct, with_item}
+use Rattle.inst_logic.specs.Tree.{Tree, var, app, of_list}
+use Rattle.inst_logic.specs.Lists.{with_item}
 use Rattle.inst_logic.specs.Measure.{tree_size, trees_size}
 use Rattle.inst_logic.specs.Substitution.{tree_vars, trees_vars, clause_vars}
 use Rattle.inst_logic.specs.Clauses.{TreeClause, numbered, order_of}
 use Rattle.inst_logic.proofs.Distinct.{distinct_append}
 use Rattle.inst_calculus.proofs.Membership.{◌∈◌, all_in, in_left, in_right}
 use Rattle.inst_calculus.proofs.Distinct.{in_distinct, items_present, item_at_place, place, place_below}
-use Rattle.term_bank.specs.Forest.{Forest, tree_at, clause_at, AreIds, IsClauseOf}
+use Rattle.term_bank.specs.Forest.{Forest, tree_at, clause_at}
 use Rattle.term_bank.specs.Greatest.{IsGreatest}
 use Rattle.cert_items.specs.Orders.{in_order, ids_vars, ids_size}
 

@@ -1,4 +1,4 @@
-use Rattle.std.proofs.Common.{◌≡◌, ◌∙◌, ◌+◌, ◌++◌, ◌∷◌, ℕ, suc, List, [], ap, sym, take, arith}
+use Rattle.std.proofs.Common.{◌≡◌, ◌∙◌, ◌+◌, ◌++◌, ◌∷◌, ℕ, suc, [], ap, sym, take, arith}
 use Rattle.std.proofs.Math.Seq.{take-suc}
 use Rattle.inst_logic.specs.declared.signed.Signed.{Signed}
 use Rattle.cert_items.proofs.Repeats.{one_more}

@@ -1,4 +1,4 @@
-use Rattle.std.proofs.Common.{◌≡◌, ◌≤◌, ◌+◌, ◌++◌, ◌∷◌, List, ℕ, true, sym, subst}
+use Rattle.std.proofs.Common.{◌≡◌, ◌≤◌, ◌+◌, ◌∷◌, List, ℕ, true, sym, subst}
 use Rattle.std.specs.Prelude.{reverse}
 use Rattle.cert_items.specs.Orders.{in_order, ids_vars, ids_size}
 use Rattle.cert_items.proofs.Orders.{opened, opened_size}

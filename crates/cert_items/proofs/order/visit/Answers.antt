@@ -1,5 +1,5 @@
 use Rattle.std.specs.Prelude.{reverse}
-use Rattle.cert_items.proofs.Orders.{no_variable, met_before, passed_size}
+use Rattle.cert_items.proofs.Orders.{met_before, passed_size}
 use Rattle.cert_items.proofs.order.visit.Goals as goal
 
 pub returns-in-None-clause-size : goal.returns-in-None-clause-size

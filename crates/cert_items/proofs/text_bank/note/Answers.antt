@@ -1,4 +1,4 @@
-use Rattle.std.proofs.Common.{◌≡◌, ◌∙◌, List, ℕ, None, ap, sym}
+use Rattle.std.proofs.Common.{◌∙◌, List, ℕ, ap}
 use Rattle.indexmap.proofs.CallerLemmas.{insert_entry-new}
 use Rattle.cert_items.specs.Known.{remembered}
 use Rattle.cert_items.proofs.Known.{one_more_known}
