@@ -108,8 +108,8 @@ fn is_under(
     }
 }
 
-// Whether there are a ground clause and a member at the place, counted from 0, and the one is the other under the term; or neither
-// is there.
+// Whether there are a ground clause and a member at the place, counted from 0, and the one is the other under the term; or
+// neither is there.
 fn is_ground_at(
     alloc: Global,
     bank: &mut Bank,

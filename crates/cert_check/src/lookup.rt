@@ -19,8 +19,8 @@ use saturation_cert::{Member, Origin, Saturation};
 use std::alloc::Global;
 use term_bank::IdClause;
 
-/// The members' clauses, the premises of those that are instances, the chains through the members whose selected literals have one
-/// head, from the shortest on, and through those of one class, and the fingerprints of the selected atoms.
+/// The members' clauses, the premises of those that are instances, the chains through the members whose selected literals have
+/// one head, from the shortest on, and through those of one class, and the fingerprints of the selected atoms.
 #[derive(Drop)]
 pub struct Lookup {
     pub(crate) lengths: Lengths,

@@ -63,8 +63,8 @@ fn is_side_covered(
     )
 }
 
-// Whether a member was made from the selected literals of members `i` and `j`, counted from 0. The origins were checked before, so
-// it is the instance of the first by the second.
+// Whether a member was made from the selected literals of members `i` and `j`, counted from 0. The origins were checked before,
+// so it is the instance of the first by the second.
 fn has_made(cert: &Saturation, lookup: &Lookup, i: usize, j: usize) -> bool
     requires ready { IsReady cert.now lookup.now }
     requires left { i < length cert.now.base.members }
@@ -85,8 +85,8 @@ fn has_made(cert: &Saturation, lookup: &Lookup, i: usize, j: usize) -> bool
     })
 }
 
-// Whether the instance of member `i` by member `j`, on the side of the bindings, is covered where the unifier is proper on it. One
-// that is a member by its origin is not built.
+// Whether the instance of member `i` by member `j`, on the side of the bindings, is covered where the unifier is proper on it.
+// One that is a member by its origin is not built.
 fn is_side_closed(
     alloc: Global,
     cert: &mut Saturation,
