@@ -1,8 +1,9 @@
 // The walk that builds terms. A list of steps stands for what is left of it, so no depth of term exhausts a stack. A node
-// without variables stays as it is. A node whose arguments become variables, listed terms or terms without variables is
-// built where it stands, and nothing is noted of it: its arguments are what it costs, at each place. Any other node is noted
-// and opened once, however often it is shared, so the walk stays linear. (A variable that is bound to an application with
-// variables is no such argument: a chain of bindings that each name the next one twice would else double at each link.)
+// without variables stays as it is. A node of a few arguments, each of which becomes a variable, a listed term or a term without
+// variables, is built where it stands, and nothing is noted of it: its arguments are what it costs, at each place. Any other
+// node is noted and opened once, however often it is shared, so the walk takes time in the shared nodes. (A variable that is
+// bound to an application with variables is no such argument: a chain of bindings that each name the next one twice would
+// else double at each link.)
 ghost use Rattle.std.specs.Prelude.{◌≡◌, ℕ, true, false, ◌<◌, ◌++◌, ◌∷◌, List, length, map, reverse, IfOk, IfSome, OnOk, None, []};
 ghost use Rattle.std.specs.List.{All, IsDistinct};
 ghost use Rattle.std.specs.Map.{keys_of};
@@ -21,6 +22,9 @@ use unify_core::{Bindings, Bound, Side, Variable};
 
 // So many terms and steps beyond the first ones have room from the start: those of most atoms with arguments.
 const ROOM: usize = 8;
+
+// The arguments of a node are gone through at each of its places where they are so many at most. A wider node is noted.
+const WIDE: usize = 64;
 
 #[derive(Clone, Copy)]
 pub enum Step {
@@ -236,10 +240,14 @@ fn settle_arguments(
     Ok(true)
 }
 
-// Whether each argument is a variable or has no variables. This only saves tries: a variable may be bound to more.
+// Whether each argument is a variable or has no variables, and they are not many. This only saves tries: a variable may be bound
+// to more.
 fn looks_flat(bank: &Bank, term: TermId) -> bool
     requires { term < length bank.now.trees }
 {
+    if bank.args(term).len() > WIDE {
+        return false;
+    }
     for argument in bank.args(term) {
         if !bank.ground(*argument) && bank.shape(*argument) == Shape::App {
             return false;
