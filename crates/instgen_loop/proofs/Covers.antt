@@ -15,15 +15,18 @@ use Rattle.inst_logic.specs.Clauses.{TreeClause, instance, Subsumes, IsCanonical
 use Rattle.inst_logic.specs.Derivations.{at_number}
 use Rattle.inst_calculus.specs.Saturation.{IsCovered, tautology, variant, shorter}
 use Rattle.inst_calculus.proofs.Membership.{◌∈◌, contains_in, in_contains, in_all, all_in, in_map, from_map}
-use Rattle.inst_calculus.proofs.Clauses.{in_instance}
+use Rattle.inst_calculus.proofs.Clauses.{in_instance, literal_var}
 use Rattle.inst_logic.proofs.ShownLaws.{slice_get_contains}
 use Rattle.cert_format.proofs.Numbers.{in_slice_get}
-use Rattle.term_bank.specs.Forest.{Forest, AreDistinct, IsClauseOf, clause_at, tree_at}
-use Rattle.clause_form.proofs.Ids.{same_ids}
+use Rattle.term_bank.specs.Forest.{Forest, AreDistinct, IsClauseOf, clause_at, is_ground, literal_tree, tree_at}
+use Rattle.term_bank.proofs.Clauses.{same_literal}
+use Rattle.clause_form.proofs.Ids.{head_id, same_ids}
+use Rattle.clause_form.proofs.Readings.{ground_stays}
 use Rattle.term_index.specs.Pairs.{Pair, Gives}
 use Rattle.inst_calculus.proofs.Items.{same_item}
 use Rattle.saturation_cert.specs.declared.member.Origin.{Origin}
-use Rattle.instgen_loop.specs.Clauses.{Item, AreEntries, AreFirsts, IsShorterPart, HasShorterPart, clauses_in}
+use Rattle.instgen_loop.specs.declared.entries.Entries.{Entries}
+use Rattle.instgen_loop.specs.Clauses.{Item, AreEntries, AreFirsts, IsPast, IsShorterPart, IsUnit, HasShorterPart, clauses_in}
 
 pub at_suc : (es : List Item) (k : ℕ) (e : Item) → ¬ (k ≡ 0) → Some e ≡ slice_get es (k - 1) → at_number es k ≡ Some e
 at_suc es zero e n q = absurd (n refl)
@@ -76,21 +79,76 @@ first_matches f m rest d (s, part) =
     let (l, j, e) = from_map (λ (x : Signed ℕ). record { positive = x.positive; atom = tree_at f x.atom }) (subst_literal s first) d i in
     (l, j, (s, ap (λ (x : Signed Tree). x.atom) (sym e)))
 
--- no stored pair that is more general than the literal is of a shorter part
-abbrev pub IsPast : Forest → List Pair → List Item → List (Signed ℕ) → ℕ → Signed ℕ → Type 0
-IsPast f pairs es d len l = (p : Pair) → Contains pairs p → Matches (tree_at f p.0) (tree_at f l.atom) → ¬ IsShorterPart f es d len p.1
+-- a literal without variables, alone, that has an instance within d is a literal of d
+unit_within : (f : Forest) (m : Signed ℕ) (d : List (Signed ℕ)) → is_ground (tree_at f m.atom) ≡ true → Subsumes (clause_at f (m ∷ [])) (clause_at f d) → (l : Signed ℕ) × (l ∈ d) × (literal_tree f l ≡ literal_tree f m)
+unit_within f m d still (s, part) =
+    let first : Signed Tree = literal_tree f m in
+    let i = contains_in (subst_literal s first) (clause_at f d) (all_in (Contains (clause_at f d)) (instance s (clause_at f (m ∷ []))) part (subst_literal s first) (in_instance s first (clause_at f (m ∷ [])) (inl refl))) in
+    let (l, j, e) = from_map (literal_tree f) (subst_literal s first) d i in
+    (l, j, e ∙ ap (λ t. record { positive = m.positive; atom = t }) (ground_stays s (tree_at f m.atom) still))
 
-pub none_is_shorter : (f : Forest) (pairs : List Pair) (has_empty : Bool) (longest : ℕ) (es : List Item) (d : List (Signed ℕ)) (len : ℕ) → AreFirsts pairs has_empty longest es → len ≤ longest
-    → has_empty ≡ false → All (IsPast f pairs es d len) d → ¬ HasShorterPart f es d len
-none_is_shorter f pairs has_empty longest es d len firsts within no_empty passed (zero, s) = cc (s.item_at)
-none_is_shorter f pairs has_empty longest es d len firsts within no_empty passed (suc i, s) = go s.item.0 refl
+module _ {I C : Type 0} (pairs : I → List Pair) (n : Entries I C) (es : List Item) (d : List (Signed ℕ)) (len : ℕ) where
+  pub none_is_shorter : AreFirsts pairs n es → AreDistinct n.bank.trees → AreEntries n.bank es → IsClauseOf n.bank d → len ≤ n.longest → n.has_empty ≡ false → All (λ l. ¬ Contains n.units.keys l) d
+      → All (IsPast n.bank (pairs n.first) es d len) d → ¬ HasShorterPart n.bank es d len
+  none_is_shorter firsts distinct entries ids within no_empty lacks passed (zero, s) = cc (s.item_at)
+  none_is_shorter firsts distinct entries ids within no_empty lacks passed (suc i, s) = go s.item.0 refl
+    where
+      found : (m : Signed ℕ) (rest : List (Signed ℕ)) → s.item.0 ≡ m ∷ rest → IsUnit n.bank n.units.keys s.item.0 m ⊎ Contains (pairs n.first) (m.atom, suc i) → ⊥
+      found m rest e (inl (one, still, among)) =
+          let f = n.bank in
+          let (l, j, q) = unit_within f m d still (transport (λ x. Subsumes (clause_at f x) (clause_at f d)) one s.within) in
+          let item_ids = all_in (λ (x : Item). IsClauseOf f x.0) es entries.ids s.item (contains_in s.item es (slice_get_contains es i s.item s.item_at)) in
+          let same = same_literal f distinct l m (all_in (λ (k : Signed ℕ). k.atom < length f.trees) d ids l j) (head_id f m [] (transport (IsClauseOf f) one item_ids)) q in
+          all_in (λ l. ¬ Contains n.units.keys l) d lacks l j (transport (Contains n.units.keys) (sym same) among)
+      found m rest e (inr stored) =
+          let (l, j, h) = first_matches n.bank m rest d (transport (λ x. Subsumes (clause_at n.bank x) (clause_at n.bank d)) e s.within) in
+          all_in (IsPast n.bank (pairs n.first) es d len) d passed l j (m.atom, suc i) stored h s
+
+      go : (c : List (Signed ℕ)) → s.item.0 ≡ c → ⊥
+      go [] e = let t = firsts.flagged i s.item s.item_at e in cc
+      go (m ∷ rest) e = found m rest e (firsts.first i s.item m s.item_at (ap (λ x. slice_get x 0) e) (let k = s.shorter in omega arith))
+
+  -- only the empty clause has fewer literals than one
+  pub none_is_so_short : AreFirsts pairs n es → len ≤ 1 → n.has_empty ≡ false → ¬ HasShorterPart n.bank es d len
+  none_is_so_short firsts few no_empty (zero, s) = cc (s.item_at)
+  none_is_so_short firsts few no_empty (suc i, s) =
+      let none : s.item.0 ≡ [] = let k = s.shorter in empty s.item.0 (omega arith) in
+      let t = firsts.flagged i s.item s.item_at none in cc
+    where
+      empty : (c : List (Signed ℕ)) → length c < 1 → c ≡ []
+      empty [] k = refl
+      empty (l ∷ c) k = absurd (omega arith)
+
+  -- a unit is shorter than a premise with more literals
+  pub unit_is_shorter : AreFirsts pairs n es → 1 < len → (l : Signed ℕ) → Contains d l → Contains n.units.keys l → HasShorterPart n.bank es d len
+  unit_is_shorter firsts more l j k =
+      let f = n.bank in
+      let (i, e, at, one) = firsts.unit l k in (
+        suc i,
+        record {
+          item = e;
+          item_at = at;
+          shorter = let q : length e.0 ≡ 1 = ap length one in omega arith;
+          within = transport (λ x. Subsumes (clause_at f x) (clause_at f d)) (sym one) (var, in_all (Contains (clause_at f d)) (instance var (clause_at f (l ∷ []))) (λ x i. alone x i));
+        },
+      )
+    where
+      alone : (x : Signed Tree) → x ∈ instance var (clause_at n.bank (l ∷ [])) → Contains (clause_at n.bank d) x
+      alone x (inl q) = transport (Contains (clause_at n.bank d)) (sym (q ∙ literal_var (literal_tree n.bank l))) (in_contains (literal_tree n.bank l) (clause_at n.bank d) (in_map (literal_tree n.bank) l d (contains_in l d j)))
+      alone x (inr i) = absurd i
+
+-- a literal that is not found is not there
+pub lacks_literal : (E : Signed ℕ → Signed ℕ → Bool) → ((x y : Signed ℕ) → Decides (E x y) (x ≡ y)) → (ks : List (Signed ℕ)) (l : Signed ℕ) → list_any (E l) ks ≡ false → ¬ Contains ks l
+lacks_literal E law ks l q i = absent ks q (contains_in l ks i)
   where
-    go : (c : List (Signed ℕ)) → s.item.0 ≡ c → ⊥
-    go [] e = let t = firsts.flagged i s.item s.item_at e in cc
-    go (m ∷ rest) e =
-        let (l, j, h) = first_matches f m rest d (transport (λ x. Subsumes (clause_at f x) (clause_at f d)) e s.within) in
-        all_in (IsPast f pairs es d len) d passed l j
-        (m.atom, suc i) (firsts.first i s.item m s.item_at (ap (λ x. slice_get x 0) e) (let k = s.shorter in omega arith)) h s
+    absent : (xs : List (Signed ℕ)) → list_any (E l) xs ≡ false → ¬ (l ∈ xs)
+    absent [] q i = absurd i
+    absent (x ∷ xs) q i = go (E l x) (law l x) q i (absent xs)
+      where
+        go : (b : Bool) → Decides b (l ≡ x) → (b || list_any (E l) xs) ≡ false → (l ≡ x) ⊎ (l ∈ xs) → (list_any (E l) xs ≡ false → ¬ (l ∈ xs)) → ⊥
+        go true k p j rest = absurd cc
+        go false k p (inl s) rest = not_from_Decides false k refl s
+        go false k p (inr j) rest = rest p j
 
 -- Covered
 
@@ -101,9 +159,9 @@ module _ (f : Forest) (es : List Item) (d : List (Signed ℕ)) (c : TreeClause) 
   item_in : (e : Item) → Contains es e → Contains (clauses_in f es) (clause_at f e.0)
   item_in e h = in_contains (clause_at f e.0) (clauses_in f es) (in_map (λ (x : Item). clause_at f x.0) e es (contains_in e es h))
 
-  pub covered_by_empty : (pairs : List Pair) (longest : ℕ) → AreFirsts pairs true longest es → 0 < length c → Covered
-  covered_by_empty pairs longest firsts l =
-      let (i, e, at, none) = firsts.empty refl in
+  pub covered_by_empty : {I C : Type 0} (pairs : I → List Pair) (n : Entries I C) → AreFirsts pairs n es → n.has_empty ≡ true → 0 < length c → Covered
+  covered_by_empty pairs n firsts t l =
+      let (i, e, at, none) = firsts.empty t in
       let q : clause_at f e.0 ≡ [] = ap (clause_at f) none in
       shorter (clause_at f e.0) (item_in e (slice_get_contains es i e at)) (let m : length (clause_at f e.0) ≡ 0 = ap length q in omega arith)
       (transport (λ x. Subsumes x (clause_at f d)) (sym q) (var, in_all (Contains (clause_at f d)) [] (λ x i. absurd i)))
@@ -173,9 +231,9 @@ has_key E law es d r h = (
         go false k p (inr j) rest = rest p j
 
 -- no entry covers it but shorter ones
-pub covered_or_not : (f : Forest) (es : List Item) (d : List (Signed ℕ)) (pairs : List Pair) (has_empty : Bool) (len : ℕ) (r : Bool) → AreDistinct f.trees → AreEntries f es → IsClauseOf f d → IsCanonical (clause_at f d)
+pub covered_or_not : (f : Forest) (es : List Item) (d : List (Signed ℕ)) (len : ℕ) (r : Bool) → AreDistinct f.trees → AreEntries f es → IsClauseOf f d → IsCanonical (clause_at f d)
     → ¬ IsTautology (clause_at f d) → ((e : Item) → Contains es e → ¬ (e.0 ≡ d)) → (r ≡ true → HasShorterPart f es d len) → (r ≡ false → ¬ HasShorterPart f es d len)
     → (c : TreeClause) → length c ≡ len → IsTrue r ↔ IsCovered (clauses_in f es) c (clause_at f d)
-covered_or_not f es d pairs has_empty len true distinct entries within canonical no_tautology no_key some none c q = (λ t. covered_by_shorter f es d c len q (some refl), λ k. refl)
-covered_or_not f es d pairs has_empty len false distinct entries within canonical no_tautology no_key some none c q =
+covered_or_not f es d len true distinct entries within canonical no_tautology no_key some none c q = (λ t. covered_by_shorter f es d c len q (some refl), λ k. refl)
+covered_or_not f es d len false distinct entries within canonical no_tautology no_key some none c q =
     (λ t. absurd cc, λ k. absurd (not_covered f es d c len q distinct entries within canonical no_tautology no_key (none refl) k))

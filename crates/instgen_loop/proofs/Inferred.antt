@@ -1,5 +1,5 @@
 -- Conclusions as entries.
-use Rattle.std.proofs.Common.{◌≡◌, ℕ, zero, suc, ◌≤◌, List, [], ◌∷◌, ◌++◌, inl, inr, refl, sym, ap, ◌∙◌, subst as transport, length, length-append, append-nil, ◌+◌, arith, All, Contains, Bool, Option, Some}
+use Rattle.std.proofs.Common.{◌≡◌, ℕ, zero, suc, ◌≤◌, List, [], ◌∷◌, ◌++◌, inl, inr, refl, sym, ap, ◌∙◌, subst as transport, length, length-append, append-nil, ◌+◌, arith, All, Contains, Option, Some}
 use Rattle.inst_logic.specs.declared.signed.Signed.{Signed}
 use Rattle.inst_logic.specs.Tree.{Tree}
 use Rattle.inst_logic.specs.Derivations.{at_number}
@@ -36,7 +36,9 @@ use Rattle.inst_calculus.proofs.Items.{same_item}
 use Rattle.term_index.specs.Pairs.{Pair}
 use Rattle.ground_abs.proofs.Images.{notes_stay}
 use Rattle.instgen_loop.specs.declared.state.Run.{Run}
+use Rattle.instgen_loop.specs.declared.entries.Entries.{Entries}
 use Rattle.instgen_loop.specs.Clauses.{Item, AreEntries, AreFirsts, entries_in, clauses_in}
+use Rattle.instgen_loop.proofs.Firsts.{firsts_kept}
 use Rattle.instgen_select.specs.Queues.{numbers}
 use Rattle.instgen_loop.specs.Loops.{items, IsSafe, IsUnified, IsSideWorked, Goes, Appends}
 use Rattle.instgen_loop.specs.Running.{Reads}
@@ -94,7 +96,7 @@ made_shorter f g es side c d h made =
     omega (arith, q, length_instance (numbered (order_of x)) x, length_instance (of_side h.unifier side) (clause_at f c), length_at g d, length_at f c)
 
 -- no entry has more literals than the longest
-pub premise_bounded : {pairs : List Pair} {has_empty : Bool} {longest : ℕ} {es : List Item} → AreFirsts pairs has_empty longest es → (n : ℕ) (e : Item) → at_number es n ≡ Some e → length e.0 ≤ longest
+pub premise_bounded : {I C : Type 0} {pairs : I → List Pair} {entries : Entries I C} {es : List Item} → AreFirsts pairs entries es → (n : ℕ) (e : Item) → at_number es n ≡ Some e → length e.0 ≤ entries.longest
 premise_bounded h zero e at = absurd cc
 premise_bounded h (suc i) e at = h.bounded i e at
 
@@ -106,7 +108,7 @@ pub safe_grown : {S I C : Type 0} (atoms : S → ℕ) (pairs : I → List Pair) 
     → IsSafe atoms pairs fits (record r { entries = record r.entries { bank = g } })
 safe_grown atoms pairs fits r g h e formed stored = record {
   entries = entries_kept r.entries.bank g e formed (items r) h.entries;
-  firsts = h.firsts;
+  firsts = firsts_kept pairs r.entries g (items r) e h.entries h.firsts;
   stored = stored;
   numbered = record {
     within = ids_extend r.entries.bank g r.ground.abstraction.ids e h.numbered.within;

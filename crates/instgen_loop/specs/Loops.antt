@@ -44,7 +44,7 @@ pub record IsLiteralPlace (es : List Item) (places : List ℕ) (i : ℕ) : Type 
 -- What each call on a run needs: ids are ids, the indexes and the solver fit the entries, and numbers name entries.
 pub record IsSafe {S I C : Type 0} (atoms : S → ℕ) (pairs : I → List Pair) (fits : Forest → I → Type 0) (r : Run S I C) : Type 0 where
   pub entries : AreEntries r.entries.bank (items r)
-  pub firsts : AreFirsts (pairs r.entries.first) r.entries.has_empty r.entries.longest (items r)
+  pub firsts : AreFirsts pairs r.entries (items r)
   pub stored : fits r.entries.bank r.entries.first
   pub numbered : AreAtomsIn r.entries.bank r.ground.abstraction.ids
   pub notes : AreNotesIn r.entries.bank r.ground.abstraction.bot r.ground.abstraction.notes

@@ -1,36 +1,68 @@
 // The entries, and what finds those that may cover a conclusion.
-ghost use Rattle.std.specs.Prelude.{◌≡◌, ◌⊎◌, ◌<◌, ◌≤◌, ◌+◌, ◌++◌, ◌∷◌, [], ◌↔◌, ℕ, length, IsTrue, IfOk, OnOk, true, false, Contains};
-ghost use Rattle.inst_logic.specs.Substitution.{Matches};
+ghost use Rattle.std.specs.Prelude.{◌≡◌, ◌⊎◌, ◌<◌, ◌≤◌, ◌+◌, ◌++◌, ◌∷◌, [], ◌↔◌, ℕ, length, IsTrue, IfOk, OnOk, true, false, Some, All, Contains, slice_get};
+ghost use Rattle.inst_logic.specs.declared.signed.Signed.{Signed};
 ghost use Rattle.inst_logic.specs.Clauses.{TreeClause, IsCanonical};
 ghost use Rattle.inst_calculus.specs.Saturation.{IsCovered};
-ghost use Rattle.term_bank.specs.Forest.{tree_at, clause_at, IsClauseOf};
-ghost use Rattle.term_index.specs.Pairs.{Pair};
-ghost use Rattle.instgen_loop.specs.Clauses.{AreEntries, AreFirsts, IsShorterPart, HasShorterPart, Item, clauses_in};
+ghost use Rattle.term_bank.specs.Forest.{clause_at, IsClauseOf};
+ghost use Rattle.instgen_loop.specs.Clauses.{AreEntries, AreFirsts, IsPast, IsShorterPart, HasShorterPart, Item, clauses_in};
 ghost use Rattle.saturation_cert.specs.declared.member.Origin.{Origin};
 
 use clause_form::{subsumes, tautology};
-use indexmap::IndexMap;
+use indexmap::{IndexMap, IndexSet};
 use inst_logic::Memory;
 use saturation_cert::Origin;
 use std::alloc::Global;
-use term_bank::{Bank, IdClause, TermId};
+use term_bank::{Bank, IdClause, IdLiteral};
 use term_index::{PartnerIndex, View};
 
-/// The clauses of the entries with their origins, by their numbers, over one bank. An index has the first literal's atom of
-/// each that has fewer literals than the longest, so that shorter ones with an instance within a conclusion are among the
-/// generalisations of its atoms. The longest are shorter than no conclusion's premise, and mostly they are the most. The empty
-/// clause is in no index and covers everything.
+/// The clauses of the entries with their origins, by their numbers, over one bank, and what finds those with an instance within a
+/// conclusion that are shorter than its premise. The longest are shorter than no premise, and the empty clause covers everything. A
+/// ground unit clause has an instance within those that have its literal: it is looked up, and stands in no index. Of each other
+/// entry that is shorter than the longest an index has the first literal's atom, which is among the generalisations of the atoms of
+/// a conclusion that has an instance of the entry within it.
 #[derive(Drop)]
 pub struct Entries<I: PartnerIndex> {
     pub bank: Bank,
     pub clauses: IndexMap<IdClause, Origin>,
+    /// The literals of ground unit clauses.
+    pub units: IndexSet<IdLiteral>,
     pub first: I,
+    /// Whether the index may have atoms.
+    pub has_first: bool,
     pub has_empty: bool,
     /// No entry has more literals.
     pub longest: usize,
 }
 
-// Stores the first literal's atom of the clause under the number, where it has one and may be shorter than a premise.
+// Stores the first literal of a clause that may be shorter than a premise: among the units, or its atom under the number.
+fn add_shorter<I: PartnerIndex>(
+    entries: &mut Entries<I>,
+    clause: &IdClause,
+    l: IdLiteral,
+    number: usize,
+) -> Result<(), Memory>
+    requires clause { IsClauseOf entries.old.bank clause.now }
+    requires first { slice_get clause.now 0 ≡ Some l }
+    requires fits { I.fits entries.old.bank entries.old.first }
+    requires firsts { AreFirsts I.pairs entries.old entries.old.clauses.entries }
+    requires number { number ≡ length entries.old.clauses.entries + 1 }
+    requires bounded { length clause.now ≤ entries.old.longest }
+    ensures firsts { OnOk result ((origin : Origin) → AreFirsts I.pairs entries.new (entries.old.clauses.entries ++ (clause.now, origin) ∷ [])) }
+    ensures fits { OnOk result (I.fits entries.new.bank entries.new.first) }
+    ensures bank { entries.new.bank ≡ entries.old.bank }
+    ensures clauses { entries.new.clauses.entries ≡ entries.old.clauses.entries }
+    ensures longest { entries.new.longest ≡ entries.old.longest }
+{
+    if clause.len() == 1 && entries.bank.ground(l.atom) {
+        entries.units.insert(l)?;
+        Ok(())
+    } else {
+        entries.has_first = true;
+        entries.first.insert(&entries.bank, l.atom, number)
+    }
+}
+
+// The same of any clause, of which there is nothing to store where it is one of the longest.
 fn add_first<I: PartnerIndex>(
     entries: &mut Entries<I>,
     clause: &IdClause,
@@ -38,10 +70,10 @@ fn add_first<I: PartnerIndex>(
 ) -> Result<(), Memory>
     requires clause { IsClauseOf entries.old.bank clause.now }
     requires fits { I.fits entries.old.bank entries.old.first }
-    requires firsts { AreFirsts (I.pairs entries.old.first) entries.old.has_empty entries.old.longest entries.old.clauses.entries }
+    requires firsts { AreFirsts I.pairs entries.old entries.old.clauses.entries }
     requires number { number ≡ length entries.old.clauses.entries + 1 }
     requires bounded { length clause.now ≤ entries.old.longest }
-    ensures firsts { OnOk result ((origin : Origin) → AreFirsts (I.pairs entries.new.first) entries.new.has_empty entries.new.longest (entries.old.clauses.entries ++ (clause.now, origin) ∷ [])) }
+    ensures firsts { OnOk result ((origin : Origin) → AreFirsts I.pairs entries.new (entries.old.clauses.entries ++ (clause.now, origin) ∷ [])) }
     ensures fits { OnOk result (I.fits entries.new.bank entries.new.first) }
     ensures bank { entries.new.bank ≡ entries.old.bank }
     ensures clauses { entries.new.clauses.entries ≡ entries.old.clauses.entries }
@@ -54,7 +86,7 @@ fn add_first<I: PartnerIndex>(
         }
         Some(l) => {
             if clause.len() < entries.longest {
-                entries.first.insert(&entries.bank, l.atom, number)
+                add_shorter(entries, clause, *l, number)
             } else {
                 Ok(())
             }
@@ -70,10 +102,10 @@ pub fn push_entry<I: PartnerIndex>(
 ) -> Result<(), Memory>
     requires clause { IsClauseOf entries.old.bank clause }
     requires fits { I.fits entries.old.bank entries.old.first }
-    requires firsts { AreFirsts (I.pairs entries.old.first) entries.old.has_empty entries.old.longest entries.old.clauses.entries }
+    requires firsts { AreFirsts I.pairs entries.old entries.old.clauses.entries }
     requires bounded { length clause ≤ entries.old.longest }
     requires new { (e : Item) → Contains entries.old.clauses.entries e → ¬ (e.0 ≡ clause) }
-    ensures firsts { OnOk result (AreFirsts (I.pairs entries.new.first) entries.new.has_empty entries.new.longest entries.new.clauses.entries) }
+    ensures firsts { OnOk result (AreFirsts I.pairs entries.new entries.new.clauses.entries) }
     ensures longest { OnOk result (entries.new.longest ≡ entries.old.longest) }
     ensures fits { OnOk result (I.fits entries.new.bank entries.new.first) }
     ensures bank { OnOk result (entries.new.bank ≡ entries.old.bank) }
@@ -112,25 +144,24 @@ fn is_shorter_part<I: PartnerIndex>(
     }
 }
 
-// Whether some entry whose first atom is more general than this one is so.
+// Whether some entry of the index whose first atom is more general than the literal's is so.
 fn has_shorter_at<I: PartnerIndex>(
     alloc: Global,
     entries: &Entries<I>,
-    atom: TermId,
+    l: IdLiteral,
     d: &IdClause,
     len: usize,
 ) -> Result<bool, Memory>
     requires entries { AreEntries entries.now.bank entries.now.clauses.entries }
     requires clause { IsClauseOf entries.now.bank d.now }
-    requires atom { atom < length entries.now.bank.trees }
+    requires atom { l.atom < length entries.now.bank.trees }
     requires fits { I.fits entries.now.bank entries.now.first }
     ensures yes { IfOk result (λ r. r ≡ true → HasShorterPart entries.now.bank entries.now.clauses.entries d.now len) }
-    ensures no { IfOk result (λ r. r ≡ false → (p : Pair) → Contains (I.pairs entries.now.first) p → Matches (tree_at entries.now.bank p.0) (tree_at entries.now.bank atom)
-        → ¬ IsShorterPart entries.now.bank entries.now.clauses.entries d.now len p.1) }
+    ensures no { IfOk result (λ r. r ≡ false → IsPast entries.now.bank (I.pairs entries.now.first) entries.now.clauses.entries d.now len l) }
 {
     let mut cursor = entries
         .first
-        .start(&entries.bank, atom, View::Generalisations)?;
+        .start(&entries.bank, l.atom, View::Generalisations)?;
     loop {
         match entries.first.next(&mut cursor)? {
             None => return Ok(false),
@@ -143,7 +174,41 @@ fn has_shorter_at<I: PartnerIndex>(
     }
 }
 
-// Whether some entry with a literal is so.
+// Whether some entry of the index is so.
+fn has_shorter_first<I: PartnerIndex>(
+    alloc: Global,
+    entries: &Entries<I>,
+    d: &IdClause,
+    len: usize,
+) -> Result<bool, Memory>
+    requires entries { AreEntries entries.now.bank entries.now.clauses.entries }
+    requires clause { IsClauseOf entries.now.bank d.now }
+    requires fits { I.fits entries.now.bank entries.now.first }
+    ensures yes { IfOk result (λ r. r ≡ true → HasShorterPart entries.now.bank entries.now.clauses.entries d.now len) }
+    ensures no { IfOk result (λ r. r ≡ false → All (IsPast entries.now.bank (I.pairs entries.now.first) entries.now.clauses.entries d.now len) d.now) }
+{
+    for l in d.as_slice() {
+        if has_shorter_at(alloc, entries, *l, d, len)? {
+            return Ok(true);
+        }
+    }
+    Ok(false)
+}
+
+// Whether some literal of the clause is a unit.
+fn has_unit(units: &IndexSet<IdLiteral>, d: &IdClause) -> bool
+    ensures yes { result ≡ true → (l : Signed ℕ) × Contains d.now l × Contains units.now.keys l }
+    ensures no { result ≡ false → All (λ l. ¬ Contains units.now.keys l) d.now }
+{
+    for l in d.as_slice() {
+        if units.contains(l) {
+            return true;
+        }
+    }
+    false
+}
+
+// Whether some entry with a literal is so. Only the empty clause is shorter than a premise of one.
 fn has_shorter<I: PartnerIndex>(
     alloc: Global,
     entries: &Entries<I>,
@@ -151,22 +216,29 @@ fn has_shorter<I: PartnerIndex>(
     len: usize,
 ) -> Result<bool, Memory>
     requires entries { AreEntries entries.now.bank entries.now.clauses.entries }
-    requires firsts { AreFirsts (I.pairs entries.now.first) entries.now.has_empty entries.now.longest entries.now.clauses.entries }
+    requires firsts { AreFirsts I.pairs entries.now entries.now.clauses.entries }
     requires clause { IsClauseOf entries.now.bank d.now }
     requires bounded { len ≤ entries.now.longest }
     requires fits { I.fits entries.now.bank entries.now.first }
     ensures yes { IfOk result (λ r. r ≡ true → HasShorterPart entries.now.bank entries.now.clauses.entries d.now len) }
     ensures no { IfOk result (λ r. r ≡ false → entries.now.has_empty ≡ false → ¬ HasShorterPart entries.now.bank entries.now.clauses.entries d.now len) }
 {
-    for l in d.as_slice() {
-        if has_shorter_at(alloc, entries, l.atom, d, len)? {
-            return Ok(true);
-        }
+    // So a literal that a unit becomes has the unit's id.
+    entries.bank.distinct();
+    if len <= 1 {
+        return Ok(false);
     }
-    Ok(false)
+    if has_unit(&entries.units, d) {
+        return Ok(true);
+    }
+    if !entries.has_first {
+        return Ok(false);
+    }
+    has_shorter_first(alloc, entries, d, len)
 }
 
-/// Whether the entries cover the clause in canonical form, as an instance of a clause with so many literals.
+/// Whether the entries cover the clause in canonical form, as an instance of a clause with so many literals: it is a tautology or
+/// an entry, or has an instance of a shorter entry within it. The index is walked only where no literal is a unit.
 pub fn is_covered<I: PartnerIndex>(
     alloc: Global,
     entries: &Entries<I>,
@@ -174,7 +246,7 @@ pub fn is_covered<I: PartnerIndex>(
     len: usize,
 ) -> Result<bool, Memory>
     requires entries { AreEntries entries.now.bank entries.now.clauses.entries }
-    requires firsts { AreFirsts (I.pairs entries.now.first) entries.now.has_empty entries.now.longest entries.now.clauses.entries }
+    requires firsts { AreFirsts I.pairs entries.now entries.now.clauses.entries }
     requires clause { IsClauseOf entries.now.bank d.now }
     requires bounded { len ≤ entries.now.longest }
     requires canonical { IsCanonical (clause_at entries.now.bank d.now) }

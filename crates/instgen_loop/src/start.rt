@@ -23,7 +23,7 @@ use crate::state::{Run, make_entry};
 use clause_form::{clause_size, tautology};
 use equality_axioms::axioms_of;
 use ground_abs::Abstraction;
-use indexmap::IndexMap;
+use indexmap::{IndexMap, IndexSet};
 use inst_logic::{ClauseList, Memory, NameList, Problem, Sym};
 use instgen_select::Queue;
 use prop_logic::{LitLists, Solver, Valuation};
@@ -44,6 +44,7 @@ pub struct Given {
 
 fn no_entries<I: PartnerIndex>(alloc: Global, first: I) -> Entries<I>
     ensures bank { result.bank ≡ record { trees = []; symbols = []; spent = false } }
+    ensures units { result.units.keys ≡ [] }
     ensures first { result.first ≡ first }
     ensures has_empty { result.has_empty ≡ false }
     ensures clauses { result.clauses.entries ≡ [] }
@@ -51,7 +52,9 @@ fn no_entries<I: PartnerIndex>(alloc: Global, first: I) -> Entries<I>
     Entries {
         bank: Bank::new(alloc),
         clauses: IndexMap::new(alloc),
+        units: IndexSet::new(alloc),
         first,
+        has_first: false,
         has_empty: false,
         longest: 0,
     }

@@ -7,6 +7,7 @@ use Rattle.instgen_loop.specs.Clauses.{Item, AreEntries, clauses_in}
 use Rattle.instgen_loop.specs.Grounds.{IsLinked}
 use Rattle.instgen_loop.specs.Loops.{IsLiteralPlace}
 use Rattle.instgen_loop.proofs.Grown.{one_more_entry, clauses_pushed, place_kept, waiting_pushed}
+use Rattle.instgen_loop.proofs.Firsts.{firsts_kept}
 use Rattle.instgen_loop.proofs.state.make_entry.Goals as goal
 
 -- what holds after a success by what else holds after it
@@ -21,6 +22,11 @@ of_three (Err e) A B C Q f a b c = tt
 of_four : {T E : Type 0} (r : Result T E) (A B C D Q : Type 0) → (A → B → C → D → Q) → OnOk r A → OnOk r B → OnOk r C → OnOk r D → OnOk r Q
 of_four (Ok x) A B C D Q f a b c d = f a b c d
 of_four (Err e) A B C D Q f a b c d = tt
+
+pub push_entry-requires-clause-firsts : goal.push_entry-requires-clause-firsts
+push_entry-requires-clause-firsts g c =
+    let old = c.args.run.now in
+    firsts_kept g.I.PartnerIndex.pairs old.entries c.add_entry.new.bank old.entries.clauses.entries c.in_ok-add_entry.ensures.extends c.requires.safe.entries c.requires.safe.firsts
 
 pub returns-clause-safe : goal.returns-clause-safe
 returns-clause-safe g c =
