@@ -17,12 +17,11 @@ use term_index::PartnerIndex;
 fn members_of(alloc: Global, clauses: IndexMap<IdClause, Origin>) -> Result<MemberList, Memory>
     ensures { IfOk result (λ members. members ≡ map member_of clauses.entries) }
 {
-    let pairs: Vec<(IdClause, Origin)> = clauses.into_iter().collect(alloc)?;
-    let mut members = MemberList::new(alloc);
-    for (clause, origin) in pairs {
+    let mut members = Vec::with_capacity(alloc, clauses.len())?;
+    for (clause, origin) in clauses {
         members.push(Member { clause, origin })?;
     }
-    Ok(members)
+    Ok(MemberList::from(members))
 }
 
 /// The base of a certificate: the run's entries become its members, and the run's bank is its bank.

@@ -43,12 +43,13 @@ pub enum Outcome {
     },
 }
 
-// Starts a run, lets it work, and ends it.
+// Starts a run, lets it work, and ends it. The indexes of the selected literals go before a refutation is made, which needs memory
+// and no indexes.
 fn drive<S: Solver, I: PartnerIndex>(
     alloc: Global,
     p: &Problem,
     run: &mut Run<S, I>,
-    partners: &mut Partners<I>,
+    mut partners: Partners<I>,
     budget: u64,
 ) -> Result<Outcome, Memory>
     requires fresh { IsFresh S.atoms S.added I.pairs run.old }
@@ -56,8 +57,8 @@ fn drive<S: Solver, I: PartnerIndex>(
     requires bot { IsBot p.now.clauses run.old.ground.abstraction.bot }
     requires constant { IsTrue (is_constant run.old.ground.abstraction.bot) }
     requires bot_name { IsTrue (is_readable_name run.old.ground.abstraction.bot.name) }
-    requires positive { I.pairs partners.old.positive ≡ [] }
-    requires negative { I.pairs partners.old.negative ≡ [] }
+    requires positive { I.pairs partners.positive ≡ [] }
+    requires negative { I.pairs partners.negative ≡ [] }
     requires clauses { All IsPrintableClause p.now.clauses }
     requires named { length p.now.names ≡ length p.now.clauses }
     requires readable { All (λ n. IsTrue (is_readable_name n)) p.now.names }
@@ -65,9 +66,12 @@ fn drive<S: Solver, I: PartnerIndex>(
     ensures appended { IfOk result (λ o. IsFalse (is_function_free p.now.clauses) → appended_count (journal_of o) ≤ budget) }
 {
     let given = start(alloc, p, run, budget)?;
-    match cycle(alloc, run, partners, p, budget)? {
-        Some(derivation) => refuted(alloc, p, run, given, derivation, budget),
-        None => finish(alloc, p, run, partners, given, budget),
+    match cycle(alloc, run, &mut partners, p, budget)? {
+        Some(derivation) => {
+            drop(partners);
+            refuted(alloc, p, run, given, derivation, budget)
+        }
+        None => finish(alloc, p, run, &partners, given, budget),
     }
 }
 
@@ -101,8 +105,7 @@ fn drive_with<S: Solver, I: PartnerIndex>(
     ensures outcome { IfOk result (IsOutcome p.now.clauses p.now.names budget) }
     ensures appended { IfOk result (λ o. IsFalse (is_function_free p.now.clauses) → appended_count (journal_of o) ≤ budget) }
 {
-    let mut partners = Partners { positive, negative };
-    drive(alloc, p, run, &mut partners, budget)
+    drive(alloc, p, run, Partners { positive, negative }, budget)
 }
 
 // Makes the run. It stands in a box: a function that holds so many maps by itself takes long to prove.

@@ -20,7 +20,7 @@ use crate::state::Run;
 use crate::steps::{ground_clauses, ground_steps};
 use ground_abs::bot_of;
 use inst_logic::{Memory, Problem};
-use prop_logic::{Derivation, Solver};
+use prop_logic::{Derivation, LitLists, Solver};
 use saturation_cert::Refutation;
 use std::alloc::Global;
 use std::mem::replace;
@@ -43,6 +43,8 @@ fn refutation_of<S: Solver, I: PartnerIndex>(
     let bot = bot_of(alloc, p)?;
     let grounds = ground_clauses(alloc, &run.ground.abstraction, &run.ground.literals)?;
     let steps = ground_steps(alloc, &run.ground.abstraction, derivation)?;
+    // Their memory serves for the members.
+    run.ground.literals = LitLists::new(alloc);
     let base = base_of(alloc, run, given)?;
     Ok(Refutation {
         base,

@@ -12,7 +12,7 @@ use Rattle.instgen_loop.proofs.FreshRuns.{problem_later, same_constant, appended
 use Rattle.instgen_loop.proofs.outcome.drive.Goals as goal
 
 pub cycle-requires-clause-tended : goal.cycle-requires-clause-tended
-cycle-requires-clause-tended g c = all_wait g.I.PartnerIndex.pairs c.start.new.run c.args.partners.now c.requires.positive c.requires.negative c.in_ok-given.ensures.waiting
+cycle-requires-clause-tended g c = all_wait g.I.PartnerIndex.pairs c.start.new.run c.args.partners c.requires.positive c.requires.negative c.in_ok-given.ensures.waiting
 
 pub cycle-requires-clause-formed : goal.cycle-requires-clause-formed
 cycle-requires-clause-formed g c = with_axioms_formed c.args.p.now.clauses (printable_formed c.args.p.now.clauses c.requires.clauses)
