@@ -83,7 +83,7 @@ fn allowed(p: &Problem, budget: u64) -> Option<u64>
     if function_free(p) { None } else { Some(budget) }
 }
 
-// Makes the indexes of the selected literals.
+// Runs the engine with the indexes that it is given.
 fn drive_with<S: Solver, I: PartnerIndex>(
     alloc: Global,
     p: &Problem,
