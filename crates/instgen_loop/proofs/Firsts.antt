@@ -63,7 +63,6 @@ module _ {I C : Type 0} (pairs : I → List Pair) where
     kept : (d : List (Signed ℕ)) (l : Signed ℕ) (k : ℕ) → IsFound n d l k → IsFound m d l k
     last : (l : Signed ℕ) → slice_get c 0 ≡ Some l → length c < n.longest → IsFound m c l (suc (length es))
     units : (l : Signed ℕ) → Contains m.units.keys l → Contains n.units.keys l ⊎ (c ≡ l ∷ [])
-    without_pairs : m.has_first ≡ false → pairs m.first ≡ []
     flagged : n.has_empty ≡ true → m.has_empty ≡ true
     none : c ≡ [] → m.has_empty ≡ true
     below : (p : Pair) → Contains (pairs m.first) p → p.1 ≤ length es + 1
@@ -74,7 +73,6 @@ module _ {I C : Type 0} (pairs : I → List Pair) where
     bounded = λ i e p. bounded i e (last_or_before es (c, o) i e p);
     first = λ i e k p q r. first i e k q r (last_or_before es (c, o) i e p);
     unit = λ l i. unit l (g.units l i);
-    without_pairs = g.without_pairs;
     flagged = λ i e p q. flagged i e q (last_or_before es (c, o) i e p);
     below = λ p i. let k : p.1 ≤ length es + 1 = g.below p i in omega (arith, longer);
     empty = λ t. empty (g.empty t);
@@ -107,22 +105,21 @@ module _ {I C : Type 0} (pairs : I → List Pair) where
 
   -- its first atom goes into the index
   pub first_stored : (n : Entries I C) (j : I) (es : List Item) (c : List (Signed ℕ)) (l : Signed ℕ) (number : ℕ) → AreFirsts pairs n es → length c ≤ n.longest → slice_get c 0 ≡ Some l → number ≡ length es + 1
-      → Adds (l.atom, number) (pairs n.first) (pairs j) → (o : Origin) → AreFirsts pairs (record n { has_first = true; first = j }) (es ++ (c, o) ∷ [])
-  first_stored n j es c l number h short at e adds o = one_more n (record n { has_first = true; first = j }) es c o h (record {
+      → Adds (l.atom, number) (pairs n.first) (pairs j) → (o : Origin) → AreFirsts pairs (record n { first = j }) (es ++ (c, o) ∷ [])
+  first_stored n j es c l number h short at e adds o = one_more n (record n { first = j }) es c o h (record {
     longest = refl;
     short = short;
     kept = λ d k i u. kept d k i u;
     last = λ k q r. let same = same_first c l k at q in let m : suc (length es) ≡ number = omega arith in
         inr ((adds (k.atom, suc (length es))).1 (inl (λ x. ((ap (λ (y : Signed ℕ). y.atom) (sym same)) x, m x))));
     units = λ k i. inl i;
-    without_pairs = λ t. let u : true ≡ false = t in absurd cc;
     flagged = λ t. t;
     none = λ q. absurd (not_empty c l at q);
     below = λ p i. below p ((adds p).0 i);
     empty = λ t. inl t;
   })
     where
-      kept : (d : List (Signed ℕ)) (k : Signed ℕ) (i : ℕ) → IsFound n d k i → IsFound (record n { has_first = true; first = j }) d k i
+      kept : (d : List (Signed ℕ)) (k : Signed ℕ) (i : ℕ) → IsFound n d k i → IsFound (record n { first = j }) d k i
       kept d k i (inl u) = inl u
       kept d k i (inr s) = inr ((adds (k.atom, i)).1 (inr s))
 
@@ -139,7 +136,6 @@ module _ {I C : Type 0} (pairs : I → List Pair) where
     kept = λ d k i u. kept d k i u;
     last = λ k q r. let same = same_first c l k at q in transport (λ (x : Signed ℕ). IsFound (record n { units = m.units }) c x (suc (length es))) same (inl (alone c l one at, still, there));
     units = λ k i. units k ((in_inserted E n.units.keys l k).1 (transport (λ ks. Contains ks k) keys i));
-    without_pairs = h.without_pairs;
     flagged = λ t. t;
     none = λ q. absurd (not_empty c l at q);
     below = λ p i. let k : p.1 ≤ length es = h.below p i in omega arith;
@@ -166,7 +162,6 @@ module _ {I C : Type 0} (pairs : I → List Pair) where
     kept = λ d k i u. u;
     last = λ k q r. absurd (long r);
     units = λ k i. inl i;
-    without_pairs = h.without_pairs;
     flagged = λ t. t;
     none = λ q. absurd (not_empty c l at q);
     below = λ p i. let k : p.1 ≤ length es = h.below p i in omega arith;
@@ -180,7 +175,6 @@ module _ {I C : Type 0} (pairs : I → List Pair) where
     kept = λ d k i u. u;
     last = λ k q r. let t : None ≡ Some k = sym at ∙ q in absurd cc;
     units = λ k i. inl i;
-    without_pairs = h.without_pairs;
     flagged = λ t. refl;
     none = λ q. refl;
     below = λ p i. let k : p.1 ≤ length es = h.below p i in omega arith;
@@ -189,7 +183,7 @@ module _ {I C : Type 0} (pairs : I → List Pair) where
 
   -- the map of the clauses is spoken of by itself
   pub firsts_over : (n m : Entries I C) (es : List Item) → m ≡ record n { clauses = m.clauses } → AreFirsts pairs n es → AreFirsts pairs m es
-  firsts_over n m es is h = transport (λ (x : Entries I C). AreFirsts pairs x es) (sym is) (record { bounded = h.bounded; first = h.first; unit = h.unit; without_pairs = h.without_pairs; flagged = h.flagged; below = h.below; empty = h.empty })
+  firsts_over n m es is h = transport (λ (x : Entries I C). AreFirsts pairs x es) (sym is) (record { bounded = h.bounded; first = h.first; unit = h.unit; flagged = h.flagged; below = h.below; empty = h.empty })
 
   -- a grown bank
   pub firsts_kept : (n : Entries I C) (g : Forest) (es : List Item) → Extends n.bank g → AreEntries n.bank es → AreFirsts pairs n es → AreFirsts pairs (record n { bank = g }) es
@@ -197,7 +191,6 @@ module _ {I C : Type 0} (pairs : I → List Pair) where
     bounded = h.bounded;
     first = λ i e l p q r. first i e l p (h.first i e l p q r);
     unit = h.unit;
-    without_pairs = h.without_pairs;
     flagged = h.flagged;
     below = h.below;
     empty = h.empty;

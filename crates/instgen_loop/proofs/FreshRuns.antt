@@ -83,7 +83,6 @@ module _ {S I C : Type 0} (atoms : S → ℕ) (added : S → List (List (Signed 
       bounded = λ i e p. let m = slice_get_below [] i e p in absurd (omega arith);
       first = λ i e l p q k. let m = slice_get_below [] i e p in absurd (omega arith);
       unit = λ l i. absurd (contains_in l [] (transport (λ ks. Contains ks l) h.units i));
-      without_pairs = λ t. h.first;
       flagged = λ i e p q. let m = slice_get_below [] i e p in absurd (omega arith);
       below = λ p i. absurd (contains_in p [] (transport (λ ps. Contains ps p) h.first i));
       empty = λ t. let e : false ≡ true = sym h.has_empty ∙ t in absurd cc;

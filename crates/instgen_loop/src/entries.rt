@@ -15,11 +15,11 @@ use std::alloc::Global;
 use term_bank::{Bank, IdClause, IdLiteral};
 use term_index::{PartnerIndex, View};
 
-/// The clauses of the entries with their origins, by their numbers, over one bank, and what finds those with an instance within a
-/// conclusion that are shorter than its premise. The longest are shorter than no premise, and the empty clause covers everything. A
-/// ground unit clause has an instance within those that have its literal: it is looked up, and stands in no index. Of each other
-/// entry that is shorter than the longest an index has the first literal's atom, which is among the generalisations of the atoms of
-/// a conclusion that has an instance of the entry within it.
+/// The clauses of the entries with their origins, by their numbers, over one bank, and what finds those with an instance
+/// within a conclusion that are shorter than its premise. The longest are shorter than no premise, and the empty clause covers
+/// everything. A ground unit clause has an instance within those that have its literal: it is looked up, and stands in no
+/// index. Of each other entry that is shorter than the longest an index has the first literal's atom, which is among the
+/// generalisations of the atoms of a conclusion that has an instance of the entry within it.
 #[derive(Drop)]
 pub struct Entries<I: PartnerIndex> {
     pub bank: Bank,
@@ -27,8 +27,6 @@ pub struct Entries<I: PartnerIndex> {
     /// The literals of ground unit clauses.
     pub units: IndexSet<IdLiteral>,
     pub first: I,
-    /// Whether the index may have atoms.
-    pub has_first: bool,
     pub has_empty: bool,
     /// No entry has more literals.
     pub longest: usize,
@@ -57,7 +55,6 @@ fn add_shorter<I: PartnerIndex>(
         entries.units.insert(l)?;
         Ok(())
     } else {
-        entries.has_first = true;
         entries.first.insert(&entries.bank, l.atom, number)
     }
 }
@@ -208,7 +205,7 @@ fn has_unit(units: &IndexSet<IdLiteral>, d: &IdClause) -> bool
     false
 }
 
-// Whether some entry with a literal is so. Only the empty clause is shorter than a premise of one.
+// Whether some entry with a literal has fewer than `len`, and an instance within the clause. None has fewer than one.
 fn has_shorter<I: PartnerIndex>(
     alloc: Global,
     entries: &Entries<I>,
@@ -230,9 +227,6 @@ fn has_shorter<I: PartnerIndex>(
     }
     if has_unit(&entries.units, d) {
         return Ok(true);
-    }
-    if !entries.has_first {
-        return Ok(false);
     }
     has_shorter_first(alloc, entries, d, len)
 }

@@ -43,8 +43,8 @@ pub enum Outcome {
     },
 }
 
-// Starts a run, lets it work, and ends it. The indexes of the selected literals go before a refutation is made, which needs memory
-// and no indexes.
+// Starts a run, lets it work, and ends it. The indexes of the selected literals go before a refutation is made, which needs
+// memory and no indexes.
 fn drive<S: Solver, I: PartnerIndex>(
     alloc: Global,
     p: &Problem,

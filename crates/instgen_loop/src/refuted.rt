@@ -55,7 +55,7 @@ fn refutation_of<S: Solver, I: PartnerIndex>(
 }
 
 /// The refutation that the derivation gives, with the journal: for each entry its abstraction for ground clause, and the steps
-/// over the atoms. It takes the bank, the entries and the journal of the run, which serves for nothing after.
+/// over the atoms. It takes the bank, the entries, their literals and the journal of the run, which serves for nothing after.
 pub fn refuted<S: Solver, I: PartnerIndex>(
     alloc: Global,
     p: &Problem,

@@ -54,7 +54,6 @@ fn no_entries<I: PartnerIndex>(alloc: Global, first: I) -> Entries<I>
         clauses: IndexMap::new(alloc),
         units: IndexSet::new(alloc),
         first,
-        has_first: false,
         has_empty: false,
         longest: 0,
     }
