@@ -1,6 +1,6 @@
 // A bank of trees, each stored once and named by its number (hash consing; Ershov, On programming of arithmetic
 // operations, 1958; Goto, Monocopy and associative algorithms in extended Lisp, 1974).
-ghost use Rattle.std.specs.Prelude.{◌≡◌, ◌↔◌, IsTrue, ℕ, ◌<◌, [], length, false, true, min, map, take, IfOk, IfSome, OnOk, OnErr, option_copied, option_map};
+ghost use Rattle.std.specs.Prelude.{◌≡◌, ◌↔◌, IsTrue, ◌<◌, [], length, false, true, min, map, take, IfOk, IfSome, OnOk, OnErr, option_copied, option_map};
 ghost use Rattle.std.specs.List.{All};
 ghost use Rattle.inst_logic.specs.Tree.{var, app, of_list};
 ghost use Rattle.inst_logic.specs.Measure.{tree_size, tree_weight};

@@ -1,6 +1,6 @@
 // Numbers for symbols and nodes. These are functions over one set each, so that what is done with symbols needs no word on
 // the nodes.
-ghost use Rattle.std.specs.Prelude.{◌≡◌, ℕ, ◌<◌, ◌+◌, min, ◌^◌, IfOk, IfSome, OnOk, OnErr, length, sum_by, fold, None};
+ghost use Rattle.std.specs.Prelude.{◌≡◌, ◌<◌, ◌+◌, min, ◌^◌, IfOk, IfSome, OnOk, OnErr, length, sum_by, fold, None};
 ghost use Rattle.std.specs.List.{All};
 ghost use Rattle.std.specs.Vec.{vec_len, vec_capacity};
 ghost use Rattle.inst_logic.specs.Measure.{function_count};
@@ -92,7 +92,7 @@ fn room_of(alloc: Global, node: Node) -> Vec<TermId> {
 }
 
 // The number of the application to more than two arguments, where it is there. They are copied into the room, so that no
-// look-up takes memory once the room is as long as the longest list.
+// look-up takes memory for them once the room is as long as the longest list.
 fn found_many(
     alloc: Global,
     nodes: &IndexSet<Node>,
