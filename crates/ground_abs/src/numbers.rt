@@ -34,7 +34,9 @@ pub fn numbered_literals(
     ensures below { IfOk result (λ lits. AtomsBelow (length ids.new.keys) lits) }
     ensures grows { Grows ids.old.keys ids.new.keys }
 {
-    let mut lits = LitList::new(alloc);
+    let mut room = Vec::new(alloc);
+    room.reserve_exact(literals.len())?;
+    let mut lits = LitList::from(room);
     for l in literals {
         let atom = number_of(ids, l.atom)?;
         lits.push(Lit {

@@ -113,7 +113,9 @@ fn interned_clause(alloc: Global, bank: &mut Bank, c: &Clause) -> Result<IdClaus
     ensures formed { AreFormed bank.old → IsFormedClause c.now → AreFormed bank.new }
     ensures unspent { OnOk result (bank.new.spent ≡ false) }
 {
-    let mut ids = IdClause::new(alloc);
+    let mut room = Vec::new(alloc);
+    room.reserve_exact(c.len())?;
+    let mut ids = IdClause::from(room);
     let mut steps = Vec::new(alloc);
     for l in c.as_slice() {
         let atom = interned_atom(alloc, bank, &mut steps, l)?;
