@@ -76,6 +76,21 @@ impl Queue {
         stored
     }
 
+    // The least. Where none is left the slots, which are all gaps, begin anew: else each put of a long run would keep one.
+    fn take_least_or_begin(&mut self) -> Option<Item>
+        ensures none { IfNone result ((self.old.items ≡ []) × (self.new.items ≡ self.old.items)) }
+        ensures some { IfSome result (λ item. IsPicked false self.old.items self.new.items item.number) }
+        ensures even { self.new.even ≡ self.old.even }
+        ensures spent { self.new.spent ≡ self.old.spent }
+    {
+        let taken = take_least(&mut self.slots, &mut self.heap);
+        if taken.is_none() {
+            self.slots.clear();
+            self.front = 0;
+        }
+        taken
+    }
+
     // The oldest, or the least.
     fn take(&mut self, oldest: bool) -> Option<Item>
         ensures none { IfNone result ((self.old.items ≡ []) × (self.new.items ≡ self.old.items)) }
@@ -86,7 +101,7 @@ impl Queue {
         if oldest {
             take_oldest(&mut self.slots, &mut self.front)
         } else {
-            take_least(&mut self.slots, &mut self.heap)
+            self.take_least_or_begin()
         }
     }
 
