@@ -19,6 +19,7 @@ pub enum Items<T> {
 /// sixteen, and no memory besides before it gets a second item.
 #[derive(Drop)]
 pub struct ShortList<T> {
+    alloc: Global,
     items: Items<T>,
 }
 
@@ -42,11 +43,12 @@ fn pair_of<T: Copy + Drop>(alloc: Global, first: T, second: T) -> Result<Box<Vec
 }
 
 impl<T: Copy + Drop> ShortList<T> {
-    /// An empty one, which takes no memory.
-    pub fn new() -> Self
+    /// An empty one, which takes no memory. It keeps the allocator for what is pushed.
+    pub fn new(alloc: Global) -> Self
         ensures { result ≡ [] }
     {
         ShortList {
+            alloc,
             items: Items::Empty,
         }
     }
@@ -85,7 +87,7 @@ impl<T: Copy + Drop> ShortList<T> {
     }
 
     /// Puts `x` at the end. Where memory is refused nothing is changed.
-    pub fn push(&mut self, alloc: Global, x: T) -> Result<(), Memory>
+    pub fn push(&mut self, x: T) -> Result<(), Memory>
         ensures ok { OnOk result (self.new ≡ self.old ++ x ∷ []) }
         ensures err { OnErr result (self.new ≡ self.old) }
     {
@@ -95,7 +97,7 @@ impl<T: Copy + Drop> ShortList<T> {
                 Ok(())
             }
             Items::One(item) => {
-                let all = pair_of(alloc, item[0], x)?;
+                let all = pair_of(self.alloc, item[0], x)?;
                 self.items = Items::Many(all);
                 Ok(())
             }
