@@ -1,5 +1,5 @@
 -- One value more, one less, and the first entry of an atom.
-use Rattle.std.proofs.Common.{◌≡◌, ◌≢◌, ℕ, suc, zero, ◌+◌, ◌<◌, ◌≤◌, Bool, true, false, not, cond, inl, inr, List, [], ◌∷◌, ◌++◌, ◌-◌, length, map, take, set, Option, Some, None, get_or, refl, sym, ap, ◌∙◌, subst, arith, length-set}
+use Rattle.std.proofs.Common.{◌≡◌, ◌≢◌, ℕ, suc, zero, ◌+◌, ◌^◌, ◌<◌, ◌≤◌, Bool, true, false, not, cond, inl, inr, List, [], ◌∷◌, ◌++◌, ◌-◌, length, map, take, set, Option, Some, None, get_or, refl, sym, ap, ◌∙◌, subst, arith, length-set}
 use Rattle.std.specs.Prelude.{All, AllPairs, Contains, slice_get, count_by, is_some, ◌==◌, nat_le}
 use Rattle.std.proofs.lemmas.List.{get_or-set_same, get_or-set_other, length_push, map-append, same_from_push, append-nil, take_all}
 use Rattle.std.proofs.lemmas.List.Elements.{All-head, All-tail, All-push, All-weaker, All-contains, All-map, Contains-push, Contains-push_cases, Contains-append_left, filter-append}
@@ -11,8 +11,10 @@ use Rattle.std.proofs.lemmas.Bool.Decides.{nat_tests}
 use Rattle.inst_logic.specs.declared.signed.Signed.{Signed}
 use Rattle.prop_logic.proofs.ListLaws.{slice_get_set, slice_get_set_other, slice_get_append, slice_get_last, slice_get_push, All-from_contained}
 use Rattle.cdcl_trail.specs.declared.entry.Entry.{Entry}
-use Rattle.cdcl_trail.specs.Trail.{IsUnset, literals_of, entries_up_to}
-use Rattle.cdcl_trail.specs.Values.{entry_or, entry_at, found, AreByAtom, ArePlaces}
+use Rattle.cdcl_trail.specs.Trail.{IsTrail, IsUnset, literals_of, entries_up_to}
+use Rattle.cdcl_trail.specs.Values.{entry_or, entry_at, entries_of, found, AreByAtom, ArePlaces, AreValues}
+use Rattle.cdcl_trail.specs.declared.values.Values.{Values}
+use Rattle.cdcl_trail.proofs.TrailLaws.{trail_of, level_within}
 
 abbrev unset_count : List (Option Entry) → ℕ
 unset_count by_atom = count_by (λ o. not (is_some o)) by_atom
@@ -50,6 +52,11 @@ has_room es by_atom a v none = omega (arith, v.counted, count_some by_atom a (re
 
 pub few_entries : (es : List Entry) (by_atom : List (Option Entry)) → AreByAtom es by_atom → length es ≤ length by_atom
 few_entries es by_atom v = omega (arith, v.counted)
+
+-- levels fit into a slot
+pub level_small : (v : Values) (level : ℕ) (spent : Bool) → AreValues v → IsTrail (trail_of (length v.entries.items) level (entries_of v) spent) → level < 2 ^ 31
+level_small v level spent h t =
+    omega (arith, level_within (trail_of (length v.entries.items) level (entries_of v) spent) t, few_entries (entries_of v) v.entries.items h.by_atom, h.small)
 
 not_unset : (by_atom : List (Option Entry)) (a b : ℕ) (e : Entry) → slice_get by_atom a ≡ Some None → slice_get by_atom b ≡ Some (Some e) → b ≡ a → ⊥
 not_unset by_atom a b e none at same = none-some e (same_Some None (Some e) (sym none ∙ ap (slice_get by_atom) (sym same) ∙ at))
@@ -164,7 +171,7 @@ put_places es by_atom places e low p =
       size = omega (arith, p.size, length-set by_atom a (Some e), length-set places a (length es));
     }
 
-pub undo_places : (es : List Entry) (by_atom : List (Option Entry)) (places : List ℕ) (e : Entry) → AreByAtom (es ++ e ∷ []) by_atom → ArePlaces (es ++ e ∷ []) by_atom places → ArePlaces es (set by_atom e.lit.atom None) places
+pub undo_places : (es : List Entry) (by_atom : List (Option Entry)) (places : List ℕ) (e : Entry) → AreByAtom (es ++ e ∷ []) by_atom → ArePlaces (es ++ e ∷ []) by_atom places → ArePlaces es (set by_atom e.lit.atom None) (set places e.lit.atom 0)
 undo_places es by_atom places e v p =
     let a = e.lit.atom in
     let at : slice_get by_atom a ≡ Some (Some e) = All-contains (λ x. slice_get by_atom x.lit.atom ≡ Some (Some x)) (es ++ e ∷ []) e v.at_atom (Contains-push es e) in
@@ -175,15 +182,15 @@ undo_places es by_atom places e v p =
         | inr other ↦
             let old : slice_get by_atom k ≡ Some (Some x) = sym (slice_get_set_other by_atom a k None other) ∙ f in
             elim (slice_get_push es e (get_or places k 0) x (p.held k x old)) [
-              | inl early ↦ early.0
+              | inl early ↦ ap (slice_get es) (get_or-set_other places a k 0 0 other) ∙ early.0
               | inr last ↦ absurd (other (sym (v.by_entry k x old).1 ∙ ap (λ y. y.lit.atom) (sym last.1)))
             ]
       ];
-      size = omega (arith, p.size, length-set by_atom a None);
+      size = omega (arith, p.size, length-set by_atom a None, length-set places a 0);
     }
 
 -- one place more than is needed
-pub longer_places : (es : List Entry) (by_atom : List (Option Entry)) (places : List ℕ) → ArePlaces es by_atom places → ArePlaces es by_atom (places ++ 0 ∷ [])
+longer_places : (es : List Entry) (by_atom : List (Option Entry)) (places : List ℕ) → ArePlaces es by_atom places → ArePlaces es by_atom (places ++ 0 ∷ [])
 longer_places es by_atom places p = record {
   held = λ a e f.
       let low = slice_get_within by_atom a (Some e) f in
@@ -253,13 +260,13 @@ undo_at_atom by_atom ls l same v =
     subst (λ a. AreByAtom (map (entry_at by_atom) ls) (set by_atom a None)) (ap (λ y. y.atom) s.1) (undo_by_atom (map (entry_at by_atom) ls) by_atom (entry_at by_atom l) w)
 
 pub undo_at_places : (by_atom : List (Option Entry)) (places : List ℕ) (ls : List (Signed ℕ)) (l : Signed ℕ) → literals_of (map (entry_at by_atom) (ls ++ l ∷ [])) ≡ ls ++ l ∷ [] → AreByAtom (map (entry_at by_atom) (ls ++ l ∷ [])) by_atom
-    → ArePlaces (map (entry_at by_atom) (ls ++ l ∷ [])) by_atom places → ArePlaces (map (entry_at by_atom) ls) (set by_atom l.atom None) places
+    → ArePlaces (map (entry_at by_atom) (ls ++ l ∷ [])) by_atom places → ArePlaces (map (entry_at by_atom) ls) (set by_atom l.atom None) (set places l.atom 0)
 undo_at_places by_atom places ls l same v p =
     let es = map (entry_at by_atom) ls in
     let s = split_literals by_atom ls l same in
     let w = subst (λ xs. AreByAtom xs by_atom) (split_entries by_atom ls l) v in
     let q = subst (λ xs. ArePlaces xs by_atom places) (split_entries by_atom ls l) p in
-    subst (λ a. ArePlaces es (set by_atom a None) places) (ap (λ y. y.atom) s.1) (undo_places es by_atom places (entry_at by_atom l) w q)
+    subst (λ a. ArePlaces es (set by_atom a None) (set places a 0)) (ap (λ y. y.atom) s.1) (undo_places es by_atom places (entry_at by_atom l) w q)
 
 -- the last literal's atom has its entry
 pub last_at : (by_atom : List (Option Entry)) (ls : List (Signed ℕ)) (l : Signed ℕ) → literals_of (map (entry_at by_atom) (ls ++ l ∷ [])) ≡ ls ++ l ∷ [] → AreByAtom (map (entry_at by_atom) (ls ++ l ∷ [])) by_atom

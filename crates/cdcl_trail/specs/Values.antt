@@ -1,5 +1,5 @@
 -- The entries that the fields hold.
-use Rattle.std.specs.Prelude.{◌≡◌, ◌≢◌, ℕ, ◌+◌, ◌≤◌, ◌==◌, not, List, [], ◌∷◌, length, map, Option, Some, None, All, AllPairs, Contains, slice_get, count_by, is_some, vec_capacity, if◌then◌else◌}
+use Rattle.std.specs.Prelude.{◌≡◌, ◌≢◌, ℕ, ◌+◌, ◌≤◌, ◌<◌, ◌^◌, ◌==◌, not, List, [], ◌∷◌, length, map, Option, Some, None, All, AllPairs, Contains, slice_get, count_by, is_some, vec_capacity, if◌then◌else◌}
 use Rattle.std.specs.List.{slice_index_or}
 use Rattle.inst_logic.specs.declared.signed.Signed.{Signed}
 use Rattle.cdcl_trail.specs.declared.entry.Entry.{Entry}
@@ -39,6 +39,7 @@ pub record ArePlaces (entries : List Entry) (by_atom : List (Option Entry)) (pla
 
 pub record AreValues (v : Values) : Type 0 where
   pub by_atom : AreByAtom (entries_of v) v.entries.items
-  pub places : ArePlaces (entries_of v) v.entries.items v.places.items
+  pub places : ArePlaces (entries_of v) v.entries.items v.entries.places
   pub literals : literals_of (entries_of v) ≡ v.literals.items
   pub room : length v.entries.items ≤ vec_capacity v.literals
+  pub small : length v.entries.items < 2 ^ 31

@@ -5,6 +5,7 @@
 pub mod clauses;
 mod detach;
 pub mod entry;
+mod entry_table;
 mod lists;
 mod loose;
 mod propagation;

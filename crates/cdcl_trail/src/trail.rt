@@ -144,8 +144,9 @@ impl Trail {
         }
     }
 
-    /// Makes an atom, takes its room, and answers its number, counted from 0. After want of memory the atoms and values are
-    /// those from before, nothing is promised of the attached clauses, and every later call that can want memory wants it.
+    /// Makes an atom, takes its room, and answers its number, counted from 0. There is room for 2^31 - 1 atoms at most. After
+    /// want of memory the atoms and values are those from before, nothing is promised of the attached clauses, and every later
+    /// call that can want memory wants it.
     pub fn grow(&mut self) -> Result<usize, Memory>
         ensures number { IfOk result (λ n. n ≡ self.old.trail.atoms) }
         ensures ok { OnOk result ((self.old.trail.spent ≡ false) × (self.new.trail ≡ with_atom self.old.trail)) }

@@ -1,6 +1,6 @@
 // The values of atoms, kept twice: in the order in which they came, so that the last ones are taken back in one step each,
 // and by atom, so that each is read in one step. The places by atom lead from one to the other.
-ghost use Rattle.std.specs.Prelude.{◌≡◌, ◌+◌, ◌<◌, ◌≤◌, ◌∷◌, ◌++◌, [], List, false, length, take, IsTrue, All, AllPairs, Contains, MatchBool, IfOk, IfSome, IfNone, OnErr, ℕ, Some, slice_get};
+ghost use Rattle.std.specs.Prelude.{◌≡◌, ◌+◌, ◌<◌, ◌≤◌, ◌^◌, ◌∷◌, ◌++◌, [], List, false, length, take, IsTrue, All, AllPairs, Contains, MatchBool, IfOk, IfSome, IfNone, OnErr, ℕ, Some, slice_get};
 ghost use Rattle.inst_logic.specs.declared.signed.Signed.{Signed};
 ghost use Rattle.cdcl_trail.specs.Trail.{IsUnset, IsPlaceOf, value_of, literals_of, entries_up_to};
 ghost use Rattle.cdcl_trail.specs.Propagation.{IsFalseIn};
@@ -8,17 +8,19 @@ ghost use Rattle.cdcl_trail.specs.declared.entry.Entry.{Entry};
 ghost use Rattle.cdcl_trail.specs.Values.{AreValues, entries_of, found};
 
 use crate::entry::Entry;
+use crate::entry_table::EntryTable;
 use inst_logic::Memory;
 use prop_logic::Lit;
 use std::alloc::Global;
 
-// The true literals in their order, with room for one of each atom, and for each atom its entry and the place of its literal,
-// which counts only where the atom has a value.
+// As many atoms as fit into half of a u32 with room for one number that is no literal.
+const MOST_ATOMS: usize = 0x7fff_ffff;
+
+// The true literals in their order, with room for one of each atom, and for each atom its entry and the place of its literal.
 #[derive(Drop)]
 pub(crate) struct Values {
     pub(crate) literals: Vec<Lit>,
-    pub(crate) entries: Vec<Option<Entry>>,
-    pub(crate) places: Vec<usize>,
+    pub(crate) entries: EntryTable,
 }
 
 impl Values {
@@ -29,12 +31,11 @@ impl Values {
     {
         Values {
             literals: Vec::new(alloc),
-            entries: Vec::new(alloc),
-            places: Vec::new(alloc),
+            entries: EntryTable::new(alloc),
         }
     }
 
-    // Makes an atom, and answers its number.
+    // Makes an atom, and answers its number. Past the largest number of atoms there is no room.
     pub(crate) fn grow(&mut self) -> Result<usize, Memory>
         requires { AreValues self.old }
         ensures values { AreValues self.new }
@@ -44,9 +45,11 @@ impl Values {
         ensures err { OnErr result (length self.new.entries.items ≡ length self.old.entries.items) }
     {
         let atom = self.entries.len();
+        if atom == MOST_ATOMS {
+            return Err(Memory);
+        }
         self.literals.reserve(atom + 1 - self.literals.len())?;
-        self.places.push(0)?;
-        self.entries.push(None)?;
+        self.entries.push()?;
         Ok(atom)
     }
 
@@ -74,7 +77,7 @@ impl Values {
         requires atom { atom < length self.now.entries.items }
         ensures { result ≡ found (entries_of self.now) atom }
     {
-        self.entries[atom]
+        self.entries.entry(atom)
     }
 
     // The place of the atom's literal, or `None` where it has no value.
@@ -84,8 +87,8 @@ impl Values {
         ensures some { IfSome result (IsPlaceOf (entries_of self.now) atom) }
         ensures none { IfNone result (IsUnset (entries_of self.now) atom) }
     {
-        match self.entries[atom] {
-            Some(_) => Some(self.places[atom]),
+        match self.entries.sign(atom) {
+            Some(_) => Some(self.entries.place(atom)),
             None => None,
         }
     }
@@ -96,8 +99,8 @@ impl Values {
         requires atom { l.atom < length self.now.entries.items }
         ensures { result ≡ value_of (entries_of self.now) l }
     {
-        match self.entries[l.atom] {
-            Some(entry) => Some(entry.lit.positive == l.positive),
+        match self.entries.sign(l.atom) {
+            Some(positive) => Some(positive == l.positive),
             None => None,
         }
     }
@@ -129,13 +132,13 @@ impl Values {
         requires values { AreValues self.old }
         requires atom { entry.lit.atom < length self.old.entries.items }
         requires unset { IsUnset (entries_of self.old) entry.lit.atom }
+        requires level { entry.level < 2 ^ 32 }
         ensures values { AreValues self.new }
         ensures entries { entries_of self.new ≡ entries_of self.old ++ entry ∷ [] }
         ensures atoms { length self.new.entries.items ≡ length self.old.entries.items }
     {
-        self.places[entry.lit.atom] = self.literals.len();
+        self.entries.put(entry, self.literals.len());
         self.literals.push_reserved(entry.lit);
-        self.entries[entry.lit.atom] = Some(entry);
     }
 
     // Whether the last value is of a level above this one.
@@ -146,7 +149,7 @@ impl Values {
         ensures rest { result ≡ false → All (λ e. e.level ≤ level) (entries_of self.now) }
     {
         match self.literals.last() {
-            Some(l) => match self.entries[l.atom] {
+            Some(l) => match self.entries.entry(l.atom) {
                 Some(entry) => level < entry.level,
                 None => false,
             },
@@ -162,7 +165,7 @@ impl Values {
         ensures atoms { length self.new.entries.items ≡ length self.old.entries.items }
     {
         if let Some(l) = self.literals.pop() {
-            self.entries[l.atom] = None;
+            self.entries.clear(l.atom);
         }
     }
 

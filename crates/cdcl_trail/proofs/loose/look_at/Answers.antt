@@ -1,4 +1,4 @@
-use Rattle.std.proofs.Common.{◌≡◌, ◌<◌, ◌⊎◌, length, set, Some, None, sym, ap, ◌∙◌, subst}
+use Rattle.std.proofs.Common.{◌≡◌, ◌<◌, ◌⊎◌, length, set, Some, None, sym, ap, ◌∙◌, subst, false, arith}
 use Rattle.std.proofs.lemmas.Option.{none-some, same_Some}
 use Rattle.std.specs.Prelude.{All, Contains}
 use Rattle.cdcl_trail.specs.Clauses.{clause_number}
@@ -11,7 +11,13 @@ use Rattle.cdcl_trail.proofs.ScanLaws.{decided_false}
 use Rattle.cdcl_trail.proofs.VisitLaws.{runs_none, neither, atom_below, slot_below, slot_injective}
 use Rattle.cdcl_trail.proofs.WatchLaws.{pair_at_set}
 use Rattle.cdcl_trail.proofs.LooseLaws.{paired_watched, paired_runs, unit_running, unit_runs, last_true, none_at}
+use Rattle.cdcl_trail.proofs.ValuesLaws.{level_small}
 use Rattle.cdcl_trail.proofs.loose.look_at.Goals as goal
+
+pub put-requires-clause-level : goal.put-requires-clause-level
+put-requires-clause-level c =
+    let r = c.requires.running in
+    omega (arith, level_small c.args.values.now c.args.level false r.values r.trail)
 
 pub returns-in_default-first_open-clause-looked : goal.returns-in_default-first_open-clause-looked
 returns-in_default-first_open-clause-looked c =

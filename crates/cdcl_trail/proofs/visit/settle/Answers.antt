@@ -1,4 +1,4 @@
-use Rattle.std.proofs.Common.{◌≡◌, set, ◌++◌, ◌∷◌, [], ◌⊎◌, Some, sym, ap, ◌∙◌, subst}
+use Rattle.std.proofs.Common.{◌≡◌, set, ◌++◌, ◌∷◌, [], ◌⊎◌, Some, sym, ap, ◌∙◌, subst, false, arith}
 use Rattle.std.proofs.lemmas.Option.{slice_get_within, none-some}
 use Rattle.std.specs.Prelude.{All, Contains}
 use Rattle.cdcl_trail.specs.Clauses.{clause_number}
@@ -8,7 +8,13 @@ use Rattle.cdcl_trail.specs.Watch.{slot_of, list_at, pair_at, pair_of}
 use Rattle.cdcl_trail.proofs.ScanLaws.{decided_true, decided_false}
 use Rattle.cdcl_trail.proofs.VisitLaws.{of_pair, other_below, neither, visits_false, visits_moved, visits_implied, move_of}
 use Rattle.cdcl_trail.proofs.WatchLaws.{pair_within}
+use Rattle.cdcl_trail.proofs.ValuesLaws.{level_small}
 use Rattle.cdcl_trail.proofs.visit.settle.Goals as goal
+
+pub put-requires-clause-level : goal.put-requires-clause-level
+put-requires-clause-level c =
+    let r = c.requires.running in
+    omega (arith, level_small c.args.values.now c.args.level false r.values r.trail)
 
 pub move_watch-requires-clause-place : goal.move_watch-requires-clause-place
 move_watch-requires-clause-place c = slice_get_within (list_at c.args.lists.now (slot_of c.args.l)) c.args.place c.requires.watch.0 c.requires.watch.1

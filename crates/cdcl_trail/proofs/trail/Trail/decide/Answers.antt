@@ -4,9 +4,14 @@ use Rattle.cdcl_trail.specs.Attached.{Watching, WatchedTrail, AreAttached}
 use Rattle.cdcl_trail.specs.Trail.{Trail, IsUnset, with_decision}
 use Rattle.cdcl_trail.specs.Values.{entries_of}
 use Rattle.cdcl_trail.proofs.TrailLaws.{trail_of, same_trail, decided, level_within}
-use Rattle.cdcl_trail.proofs.ValuesLaws.{no_entry, has_room}
+use Rattle.cdcl_trail.proofs.ValuesLaws.{no_entry, has_room, level_small}
 use Rattle.cdcl_trail.proofs.AttachedLaws.{attached_decided, attached_as, trail_as}
 use Rattle.cdcl_trail.proofs.trail.Trail.decide.Goals as goal
+
+pub put-requires-clause-level : goal.put-requires-clause-level
+put-requires-clause-level c =
+    let s = c.self.inside in
+    omega (arith, level_small s.values s.level s.spent c.self.invariant.0 c.self.invariant.1)
 
 pub push_reserved-requires : goal.push_reserved-requires
 push_reserved-requires c =

@@ -4,7 +4,13 @@ use Rattle.cdcl_trail.specs.Trail.{Trail, IsUnset, with_implied}
 use Rattle.cdcl_trail.specs.Values.{entries_of}
 use Rattle.cdcl_trail.proofs.TrailLaws.{trail_of, same_trail, implied}
 use Rattle.cdcl_trail.proofs.AttachedLaws.{attached_implied, attached_as, trail_as}
+use Rattle.cdcl_trail.proofs.ValuesLaws.{level_small}
 use Rattle.cdcl_trail.proofs.trail.Trail.imply.Goals as goal
+
+pub put-requires-clause-level : goal.put-requires-clause-level
+put-requires-clause-level c =
+    let s = c.self.inside in
+    omega (arith, level_small s.values s.level s.spent c.self.invariant.0 c.self.invariant.1)
 
 pub put-requires-clause-unset : goal.put-requires-clause-unset
 put-requires-clause-unset c =

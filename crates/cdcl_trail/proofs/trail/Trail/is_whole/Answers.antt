@@ -18,8 +18,8 @@ returns c =
           let none : IsUnset es a = subst (λ (x : WatchedTrail). IsUnset x.trail.entries a) (sym c.self.view_is) unset in
           let few : length es < length b = has_room es b a c.self.invariant.0.by_atom (no_entry es b a c.self.invariant.0.by_atom low none) in
           let same : c.len.result ≡ c.len-2.result = eqb-true c.len.result c.len-2.result t in
-          absurd (omega (arith, few, same, c.len.ensures, c.len-2.ensures, s.values.literals.ok.0, s.values.entries.ok.0, size)),
+          absurd (omega (arith, few, same, c.len.ensures, c.len-2.ensures, s.values.literals.ok.0, size)),
       λ full.
           let all : length es ≡ length b = all_set es b c.self.invariant.0.by_atom (λ a low unset. full a (subst (λ (x : WatchedTrail). a < x.trail.atoms) c.self.view_is low) (subst (λ (x : WatchedTrail). IsUnset x.trail.entries a) c.self.view_is unset)) in
-          eq-eqb c.len.result c.len-2.result (omega (arith, all, c.len.ensures, c.len-2.ensures, s.values.literals.ok.0, s.values.entries.ok.0, size)),
+          eq-eqb c.len.result c.len-2.result (omega (arith, all, c.len.ensures, c.len-2.ensures, s.values.literals.ok.0, size)),
     )

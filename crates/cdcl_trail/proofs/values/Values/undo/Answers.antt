@@ -7,15 +7,14 @@ use Rattle.cdcl_trail.specs.Values.{AreByAtom, ArePlaces, entry_at}
 use Rattle.cdcl_trail.proofs.ValuesLaws.{last_at, split_literals, split_entries, undo_entries, undo_at_atom, undo_at_places}
 use Rattle.cdcl_trail.proofs.values.Values.undo.Goals as goal
 
-pub index_mut-requires : goal.index_mut-requires
-index_mut-requires c =
+pub clear-requires : goal.clear-requires
+clear-requires c =
     let v = c.args.self.now in
     let b = v.entries.items in
     let same = subst (λ ls. literals_of (map (entry_at b) ls) ≡ ls) c.in-Some.ensures.items c.requires.literals in
     let held = subst (λ ls. AreByAtom (map (entry_at b) ls) b) c.in-Some.ensures.items c.requires.by_atom in
     let at = last_at b c.pop.new.self.items c.in-Some.l same held in
-    let h = slice_get_within b c.in-Some.l.atom (Some (entry_at b c.in-Some.l)) at in
-    omega (arith, h, v.entries.ok.0)
+    slice_get_within b c.in-Some.l.atom (Some (entry_at b c.in-Some.l)) at
 
 pub returns-in-Some-clause-values : goal.returns-in-Some-clause-values
 returns-in-Some-clause-values c =
@@ -25,15 +24,19 @@ returns-in-Some-clause-values c =
     let ls = c.pop.new.self.items in
     let same = subst (λ xs. literals_of (map (entry_at b) xs) ≡ xs) c.in-Some.ensures.items c.requires.literals in
     let held = subst (λ xs. AreByAtom (map (entry_at b) xs) b) c.in-Some.ensures.items c.requires.by_atom in
-    let entries : map (entry_at (set b a None)) ls ≡ map (entry_at b) ls = undo_entries b ls c.in-Some.l same held in
+    let items : c.clear.new.self.items ≡ set b a None = c.clear.ensures.items in
+    let entries : map (entry_at c.clear.new.self.items) ls ≡ map (entry_at b) ls = ap (λ x. map (entry_at x) ls) items ∙ undo_entries b ls c.in-Some.l same held in
     let size : length (set b a None) ≡ length b = length-set b a None in
     let room : length b ≤ vec_capacity v.literals = c.requires.room in
     record {
-      by_atom = subst (λ es. AreByAtom es (set b a None)) (sym entries) (undo_at_atom b ls c.in-Some.l same held);
-      places = subst (λ es. ArePlaces es (set b a None) v.places.items) (sym entries)
-          (undo_at_places b v.places.items ls c.in-Some.l same held (subst (λ xs. ArePlaces (map (entry_at b) xs) b v.places.items) c.in-Some.ensures.items c.requires.places));
+      by_atom = subst (λ es. AreByAtom es c.clear.new.self.items) (sym entries) (subst (AreByAtom (map (entry_at b) ls)) (sym items) (undo_at_atom b ls c.in-Some.l same held));
+      places = subst (λ es. ArePlaces es c.clear.new.self.items c.clear.new.self.places) (sym entries)
+          (subst (λ x. ArePlaces (map (entry_at b) ls) x c.clear.new.self.places) (sym items)
+          (subst (ArePlaces (map (entry_at b) ls) (set b a None)) (sym c.clear.ensures.places)
+          (undo_at_places b v.entries.places ls c.in-Some.l same held (subst (λ xs. ArePlaces (map (entry_at b) xs) b v.entries.places) c.in-Some.ensures.items c.requires.places))));
       literals = ap literals_of entries ∙ (split_literals b ls c.in-Some.l same).0;
-      room = subst (λ n. length (set b a None) ≤ n) (sym c.in-Some.ensures.capacity) (subst (λ n. n ≤ vec_capacity v.literals) (sym size) room);
+      room = omega (arith, room, size, ap length items, c.in-Some.ensures.capacity);
+      small = omega (arith, c.requires.small, size, ap length items);
     }
 
 pub returns-in-Some-clause-entries : goal.returns-in-Some-clause-entries
@@ -44,4 +47,4 @@ returns-in-Some-clause-entries c es e split =
     let same = subst (λ xs. literals_of (map (entry_at b) xs) ≡ xs) c.in-Some.ensures.items c.requires.literals in
     let held = subst (λ xs. AreByAtom (map (entry_at b) xs) b) c.in-Some.ensures.items c.requires.by_atom in
     let last : map (entry_at b) ls ++ entry_at b c.in-Some.l ∷ [] ≡ es ++ e ∷ [] = sym (split_entries b ls c.in-Some.l) ∙ ap (map (entry_at b)) (sym c.in-Some.ensures.items) ∙ split in
-    undo_entries b ls c.in-Some.l same held ∙ (same_from_push (map (entry_at b) ls) es (entry_at b c.in-Some.l) e last).0
+    ap (λ x. map (entry_at x) ls) c.clear.ensures.items ∙ undo_entries b ls c.in-Some.l same held ∙ (same_from_push (map (entry_at b) ls) es (entry_at b c.in-Some.l) e last).0
