@@ -174,8 +174,8 @@ pub last_true : (es more : List Entry) (o : Signed ℕ) (level n : ℕ) → more
 last_true es more o level n e =
     subst (λ xs. Contains (literals_of xs) o) (sym e) (subst (λ xs. Contains xs o) (sym (map-append (λ (x : Entry). x.lit) es ((record { lit = o; level = level; reason = Some n }) ∷ []))) (Contains-push (literals_of es) o))
 
-pub none_at : (pairs : List (Option Pair)) (n : ℕ) (d : Option Pair) → n < length pairs → is_some (get_or pairs n d) ≡ false → pair_at pairs n ≡ None
-none_at pairs n d h f = ap pair_in (slice_get-get_or pairs n d h) ∙ is_none (get_or pairs n d) f
+pub none_at : (read pair : Option Pair) → read ≡ pair → is_some read ≡ false → pair ≡ None
+none_at read pair same f = sym same ∙ is_none read f
   where
     is_none : (o : Option Pair) → is_some o ≡ false → o ≡ None
     is_none None e = refl

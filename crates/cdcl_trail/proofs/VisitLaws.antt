@@ -1,5 +1,5 @@
 -- What one visit keeps and says.
-use Rattle.std.proofs.Common.{◌≡◌, ◌≢◌, ℕ, suc, zero, ◌+◌, ◌-◌, ◌<◌, ◌≤◌, Bool, true, false, ◌⊎◌, inl, inr, List, [], ◌∷◌, ◌++◌, length, map, take, set, Option, Some, None, refl, sym, ap, ◌∙◌, subst, arith, length-set}
+use Rattle.std.proofs.Common.{◌≡◌, ◌≢◌, ℕ, suc, zero, ◌+◌, ◌-◌, ◌^◌, ◌<◌, ◌≤◌, Bool, true, false, ◌⊎◌, inl, inr, List, [], ◌∷◌, ◌++◌, length, map, take, set, Option, Some, None, refl, sym, ap, ◌∙◌, subst, arith, length-set}
 use Rattle.std.specs.Prelude.{All, Contains, slice_get, ◌==◌}
 use Rattle.std.specs.List.{swap_remove, slice_index_or}
 use Rattle.std.proofs.lemmas.List.{take-map, take-set, length-take, length-map, map-append}
@@ -163,6 +163,10 @@ of_pair clauses lists pairs n p l o c h at both here =
 -- an atom of a clause is an atom
 pub atom_below : (clauses : List (Option (List (Signed ℕ)))) (n atoms : ℕ) (c : List (Signed ℕ)) (l : Signed ℕ) → ClausesBelow atoms clauses → clause_number clauses n ≡ Some c → Contains c l → l.atom < atoms
 atom_below clauses n atoms c l below at has = All-contains (λ x. x.atom < atoms) c l (below n c at) has
+
+-- packed literals fit
+pub lists_small : (clauses : List (Option (List (Signed ℕ)))) (level : ℕ) (v : Values) (lists : List (List Watch)) (pairs : List (Option Pair)) → IsRunning clauses level v lists pairs → length lists < 2 ^ 32
+lists_small clauses level v lists pairs r = let small = r.values.small in omega (arith, r.slots, small)
 
 -- the atom of the other literal of a pair
 pub other_below : (clauses : List (Option (List (Signed ℕ)))) (level : ℕ) (v : Values) (lists : List (List Watch)) (pairs : List (Option Pair)) (n : ℕ) (p : Pair) (l o : Signed ℕ) → IsRunning clauses level v lists pairs → pair_at pairs n ≡ Some p → HasBoth p l o → o.atom < length v.entries.items

@@ -6,6 +6,7 @@ ghost use Rattle.cdcl_trail.specs.Watch.{slot_of, list_at, times, pair_at, AreWa
 ghost use Rattle.cdcl_trail.specs.Detach.{IsUnwatched, IsUnwatchedBoth, IsUnwatchedAll, unpassed};
 
 use crate::lists::{count_at, drop_watch, watch_at};
+use crate::packed_pair::PackedPair;
 use crate::visit::pair_of_clause;
 use crate::watch::{Head, Pair};
 use crate::watch_list::WatchList;
@@ -42,15 +43,15 @@ fn unwatch_pair(lists: &mut [WatchList], pair: Pair, atoms: usize, n: usize)
     unwatch_one(lists, pair.second, n);
 }
 
-fn put_none(pairs: &mut [Option<Pair>], n: usize)
+fn put_none(pairs: &mut [PackedPair], n: usize)
     requires { n < length pairs.old }
     ensures { pairs.new ≡ slice_set pairs.old n None }
 {
-    pairs[n] = None;
+    pairs[n] = PackedPair::none();
 }
 
 // Clause n watches nothing, and stands in no list.
-pub(crate) fn unwatch(lists: &mut [WatchList], pairs: &mut [Option<Pair>], atoms: usize, n: usize)
+pub(crate) fn unwatch(lists: &mut [WatchList], pairs: &mut [PackedPair], atoms: usize, n: usize)
     requires { length lists.old ≡ atoms + atoms }
     ensures lists { (clauses : List (Option (List (Signed ℕ)))) → AreWatched clauses lists.old pairs.old → IsUnwatchedAll n lists.old lists.new }
     ensures none { pair_at pairs.new n ≡ None }

@@ -8,6 +8,7 @@ pub mod entry;
 mod entry_table;
 mod lists;
 mod loose;
+mod packed_pair;
 mod propagation;
 mod scan;
 pub mod trail;

@@ -1,6 +1,6 @@
 // Clauses that watch nothing: those of fewer than two different literals, and those that had fewer than two literals that were
 // not false whenever they were looked at. They are looked at whole.
-ghost use Rattle.std.specs.Prelude.{◌≡◌, ◌≢◌, ◌<◌, ◌≤◌, ℕ, List, Some, None, length, take, slice_set, IfOk, IfSome, IfNone, OnOk, OnErr, Contains, All};
+ghost use Rattle.std.specs.Prelude.{◌≡◌, ◌≢◌, ◌<◌, ◌≤◌, ◌^◌, ℕ, List, Some, None, length, take, slice_set, IfOk, IfSome, IfNone, OnOk, OnErr, Contains, All};
 ghost use Rattle.inst_logic.specs.declared.signed.Signed.{Signed};
 ghost use Rattle.cdcl_trail.specs.Clauses.{clause_number};
 ghost use Rattle.cdcl_trail.specs.Propagation.{IsConflict, Propagates};
@@ -13,8 +13,10 @@ ghost use Rattle.cdcl_trail.specs.Loose.{IsLookedAt, AreLoose, with_pair};
 use crate::clauses::Clauses;
 use crate::entry::Entry;
 use crate::lists::add_watch;
+use crate::packed_pair::PackedPair;
 use crate::scan::{first_open, other_open};
 use crate::values::Values;
+use crate::visit::pair_of_clause;
 use crate::watch::{Pair, Watch};
 use crate::watch_list::WatchList;
 use inst_logic::Memory;
@@ -34,7 +36,7 @@ pub(crate) enum Look {
 // The clause of this number watches the pair.
 fn watch_pair(
     lists: &mut [WatchList],
-    pairs: &mut [Option<Pair>],
+    pairs: &mut [PackedPair],
     number: usize,
     pair: Pair,
 ) -> Result<(), Memory>
@@ -42,6 +44,7 @@ fn watch_pair(
     requires second { slot_of pair.second < length lists.old }
     requires apart { slot_of pair.first ≢ slot_of pair.second }
     requires number { number < length pairs.old }
+    requires small { length lists.old < 2 ^ 32 }
     ensures lists { OnOk result (lists.new ≡ with_pair lists.old number pair) }
     ensures size { OnOk result (length lists.new ≡ length lists.old) }
     ensures pairs { OnOk result (pairs.new ≡ slice_set pairs.old number (Some pair)) }
@@ -56,7 +59,7 @@ fn watch_pair(
     };
     add_watch(lists, pair.first, first)?;
     add_watch(lists, pair.second, second)?;
-    pairs[number] = Some(pair);
+    pairs[number] = PackedPair::of(pair);
     Ok(())
 }
 
@@ -64,7 +67,7 @@ fn watch_pair(
 pub(crate) fn look_at(
     values: &mut Values,
     lists: &mut [WatchList],
-    pairs: &mut [Option<Pair>],
+    pairs: &mut [PackedPair],
     clauses: &Clauses,
     level: usize,
     number: usize,
@@ -79,7 +82,7 @@ pub(crate) fn look_at(
     let Some(clause) = clauses.get(number) else {
         return Ok(Look::Taken);
     };
-    if pairs[number].is_some() {
+    if pair_of_clause(pairs, number).is_some() {
         return Ok(Look::Taken);
     }
     let Some(first) = first_open(values, clause.as_slice()) else {
@@ -107,7 +110,7 @@ pub(crate) fn look_at(
 pub(crate) fn settle_loose(
     values: &mut Values,
     lists: &mut [WatchList],
-    pairs: &mut [Option<Pair>],
+    pairs: &mut [PackedPair],
     loose: &mut Vec<usize>,
     passed: &mut usize,
     clauses: &Clauses,

@@ -9,9 +9,10 @@ ghost use Rattle.cdcl_trail.specs.Loose.{AreLoose};
 
 use crate::clauses::Clauses;
 use crate::loose::settle_loose;
+use crate::packed_pair::PackedPair;
 use crate::values::Values;
 use crate::visit_trail::visit_trail;
-use crate::watch::{Head, Pair};
+use crate::watch::Head;
 use crate::watch_list::WatchList;
 use inst_logic::Memory;
 
@@ -19,7 +20,7 @@ use inst_logic::Memory;
 pub(crate) fn saturate(
     values: &mut Values,
     lists: &mut [WatchList],
-    pairs: &mut [Option<Pair>],
+    pairs: &mut [PackedPair],
     loose: &mut Vec<usize>,
     head: &mut Head,
     clauses: &Clauses,

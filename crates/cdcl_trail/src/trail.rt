@@ -14,9 +14,10 @@ ghost use Rattle.cdcl_trail.specs.Trail.{IsTrail, IsUnset, IsPlaceOf, value_of, 
 use crate::clauses::Clauses;
 use crate::detach::{forget_loose, unpass_all, unwatch};
 use crate::entry::Entry;
+use crate::packed_pair::PackedPair;
 use crate::propagation::saturate;
 use crate::values::Values;
-use crate::watch::{Head, Pair};
+use crate::watch::Head;
 use crate::watch_list::WatchList;
 use inst_logic::Memory;
 use prop_logic::Lit;
@@ -32,7 +33,7 @@ pub struct Trail {
     level: usize,
     spent: bool,
     lists: Vec<WatchList>,
-    pairs: Vec<Option<Pair>>,
+    pairs: Vec<PackedPair>,
     loose: Vec<usize>,
     head: Head,
     heads: Vec<Head>,
@@ -99,19 +100,19 @@ fn restore(heads: &mut Vec<Head>, present: Head, level: usize) -> Head
 }
 
 // Makes the list longer than n.
-fn lengthen(pairs: &mut Vec<Option<Pair>>, n: usize) -> Result<(), Memory>
+fn lengthen(pairs: &mut Vec<PackedPair>, n: usize) -> Result<(), Memory>
     ensures longer { OnOk result (n < length pairs.new.items) }
     ensures kept { (k : ℕ) → pair_at pairs.new.items k ≡ pair_at pairs.old.items k }
     ensures size { length pairs.old.items ≤ length pairs.new.items }
 {
     while pairs.len() <= n {
-        pairs.push(None)?;
+        pairs.push(PackedPair::none())?;
     }
     Ok(())
 }
 
 // Ends the loose clauses with this one.
-fn add_loose(pairs: &mut Vec<Option<Pair>>, loose: &mut Vec<usize>, n: usize) -> Result<(), Memory>
+fn add_loose(pairs: &mut Vec<PackedPair>, loose: &mut Vec<usize>, n: usize) -> Result<(), Memory>
     ensures longer { OnOk result (n < length pairs.new.items) }
     ensures kept { (k : ℕ) → pair_at pairs.new.items k ≡ pair_at pairs.old.items k }
     ensures size { length pairs.old.items ≤ length pairs.new.items }

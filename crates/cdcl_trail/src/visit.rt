@@ -1,6 +1,6 @@
 // What comes of one watch of a literal that became false. The blocker is looked at first, then the other literal that the
 // clause watches, and the clause itself only where neither is true, since reading it is what costs.
-ghost use Rattle.std.specs.Prelude.{◌≡◌, ◌≢◌, ◌⊎◌, ◌<◌, ℕ, Option, List, Some, length, slice_get, slice_set, IfOk, OnOk, OnErr, Contains};
+ghost use Rattle.std.specs.Prelude.{◌≡◌, ◌≢◌, ◌⊎◌, ◌<◌, ◌^◌, ℕ, Option, List, Some, length, slice_get, slice_set, IfOk, OnOk, OnErr, Contains};
 ghost use Rattle.std.specs.List.{swap_remove};
 ghost use Rattle.inst_logic.specs.declared.signed.Signed.{Signed};
 ghost use Rattle.cdcl_trail.specs.Propagation.{IsFalseIn};
@@ -14,6 +14,7 @@ ghost use Rattle.cdcl_trail.specs.declared.watch.Pair.{Pair};
 use crate::clauses::Clauses;
 use crate::entry::Entry;
 use crate::lists::{add_watch, drop_watch, put_watch, slot, watch_at};
+use crate::packed_pair::PackedPair;
 use crate::scan::other_open;
 use crate::values::Values;
 use crate::watch::{Pair, Watch};
@@ -35,7 +36,7 @@ pub(crate) enum Visit {
 // The clause that watched the literal and the other one watches the next one in its place.
 fn move_watch(
     lists: &mut [WatchList],
-    pairs: &mut [Option<Pair>],
+    pairs: &mut [PackedPair],
     l: Lit,
     place: usize,
     number: usize,
@@ -47,6 +48,8 @@ fn move_watch(
     requires apart { slot_of next ≢ slot_of l }
     requires place { place < length (list_at lists.old (slot_of l)) }
     requires number { number < length pairs.old }
+    requires other { slot_of other < length lists.old }
+    requires small { length lists.old < 2 ^ 32 }
     ensures watched { OnOk result ((clauses : List (Option (List (Signed ℕ)))) (w : Watch) (p : Pair) (c : List (Signed ℕ)) → w.number ≡ number → IsMove clauses lists.old pairs.old l other next place w p c → AreWatched clauses lists.new pairs.new) }
     ensures lists { OnOk result ((w : Watch) → slice_get (list_at lists.old (slot_of l)) place ≡ Some w → list_at lists.new (slot_of l) ≡ swap_remove (list_at lists.old (slot_of l)) place w) }
     ensures size { OnOk result (length lists.new ≡ length lists.old) }
@@ -58,7 +61,7 @@ fn move_watch(
     };
     add_watch(lists, next, watch)?;
     drop_watch(lists, l, place);
-    pairs[number] = Some(Pair {
+    pairs[number] = PackedPair::of(Pair {
         first: other,
         second: next,
     });
@@ -66,11 +69,11 @@ fn move_watch(
 }
 
 // What the clause of this number watches, if it watches.
-pub(crate) fn pair_of_clause(pairs: &[Option<Pair>], number: usize) -> Option<Pair>
+pub(crate) fn pair_of_clause(pairs: &[PackedPair], number: usize) -> Option<Pair>
     ensures { result ≡ pair_at pairs.now number }
 {
     match pairs.get(number) {
-        Some(pair) => *pair,
+        Some(pair) => pair.get(),
         None => None,
     }
 }
@@ -90,7 +93,7 @@ fn other_of(pair: Pair, l: Lit) -> Lit
 fn settle(
     values: &mut Values,
     lists: &mut [WatchList],
-    pairs: &mut [Option<Pair>],
+    pairs: &mut [PackedPair],
     clauses: &Clauses,
     level: usize,
     l: Lit,
@@ -132,7 +135,7 @@ fn settle(
 fn visit_clause(
     values: &mut Values,
     lists: &mut [WatchList],
-    pairs: &mut [Option<Pair>],
+    pairs: &mut [PackedPair],
     clauses: &Clauses,
     level: usize,
     l: Lit,
@@ -166,7 +169,7 @@ fn visit_clause(
 pub(crate) fn visit_at(
     values: &mut Values,
     lists: &mut [WatchList],
-    pairs: &mut [Option<Pair>],
+    pairs: &mut [PackedPair],
     clauses: &Clauses,
     level: usize,
     l: Lit,

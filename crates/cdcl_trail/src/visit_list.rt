@@ -9,9 +9,9 @@ ghost use Rattle.cdcl_trail.specs.Running.{at_level, numbers_at, IsRunning, Runs
 
 use crate::clauses::Clauses;
 use crate::lists::count_at;
+use crate::packed_pair::PackedPair;
 use crate::values::Values;
 use crate::visit::{Visit, visit_at};
-use crate::watch::Pair;
 use crate::watch_list::WatchList;
 use inst_logic::Memory;
 use prop_logic::Lit;
@@ -20,7 +20,7 @@ use prop_logic::Lit;
 pub(crate) fn visit_list(
     values: &mut Values,
     lists: &mut [WatchList],
-    pairs: &mut [Option<Pair>],
+    pairs: &mut [PackedPair],
     clauses: &Clauses,
     level: usize,
     l: Lit,

@@ -7,9 +7,9 @@ ghost use Rattle.cdcl_trail.specs.Watching.{IsSettled};
 ghost use Rattle.cdcl_trail.specs.Running.{at_level, IsRunning, Runs};
 
 use crate::clauses::Clauses;
+use crate::packed_pair::PackedPair;
 use crate::values::Values;
 use crate::visit_list::visit_list;
-use crate::watch::Pair;
 use crate::watch_list::WatchList;
 use inst_logic::Memory;
 use prop_logic::complement;
@@ -19,7 +19,7 @@ use prop_logic::complement;
 pub(crate) fn visit_trail(
     values: &mut Values,
     lists: &mut [WatchList],
-    pairs: &mut [Option<Pair>],
+    pairs: &mut [PackedPair],
     clauses: &Clauses,
     level: usize,
     head: &mut usize,

@@ -8,7 +8,7 @@ use Rattle.cdcl_trail.specs.Values.{entries_of}
 use Rattle.cdcl_trail.specs.Watch.{slot_of, pair_at, AreWatched}
 use Rattle.cdcl_trail.specs.declared.watch.Pair.{Pair}
 use Rattle.cdcl_trail.proofs.ScanLaws.{decided_false}
-use Rattle.cdcl_trail.proofs.VisitLaws.{runs_none, neither, atom_below, slot_below, slot_injective}
+use Rattle.cdcl_trail.proofs.VisitLaws.{runs_none, neither, atom_below, lists_small, slot_below, slot_injective}
 use Rattle.cdcl_trail.proofs.WatchLaws.{pair_at_set}
 use Rattle.cdcl_trail.proofs.LooseLaws.{paired_watched, paired_runs, unit_running, unit_runs, last_true, none_at}
 use Rattle.cdcl_trail.proofs.ValuesLaws.{level_small}
@@ -18,6 +18,9 @@ pub put-requires-clause-level : goal.put-requires-clause-level
 put-requires-clause-level c =
     let r = c.requires.running in
     omega (arith, level_small c.args.values.now c.args.level false r.values r.trail)
+
+pub watch_pair-requires-clause-small : goal.watch_pair-requires-clause-small
+watch_pair-requires-clause-small c = lists_small c.args.clauses.now c.args.level c.args.values.now c.args.lists.now c.args.pairs.now c.requires.running
 
 pub returns-in_default-first_open-clause-looked : goal.returns-in_default-first_open-clause-looked
 returns-in_default-first_open-clause-looked c =
@@ -36,7 +39,7 @@ returns-in_ok-watch_pair-in-Some-other_open-clause-running c =
     let atoms = length c.args.values.now.entries.items in
     let at : clause_number clauses n ≡ Some c.in-Some.clause.now = sym c.in-Some.ensures in
     let room = c.requires.room c.in-Some.clause.now at in
-    let none : pair_at c.args.pairs.now n ≡ None = none_at c.args.pairs.now n None room (sym c.if-is_some.ensures) in
+    let none : pair_at c.args.pairs.now n ≡ None = none_at c.pair_of_clause.result (pair_at c.args.pairs.now n) c.pair_of_clause.ensures (sym c.if-is_some.ensures) in
     let has_a : Contains c.in-Some.clause.now a = subst (λ ls. Contains ls a) c.as_slice.ensures c.in-Some-first_open.ensures.some.0 in
     let has_b : Contains c.in-Some.clause.now b = subst (λ ls. Contains ls b) c.as_slice-2.ensures c.in-Some-other_open.ensures.some.0 in
     let in_a = subst (λ m. slot_of a < m) (sym r.slots) (slot_below a atoms (atom_below clauses n atoms c.in-Some.clause.now a r.below at has_a)) in
