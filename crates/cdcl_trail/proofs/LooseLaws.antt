@@ -4,7 +4,7 @@ use Rattle.std.specs.Prelude.{All, Contains, slice_get, is_some, ◌==◌}
 use Rattle.std.specs.List.{swap_remove, slice_index_or}
 use Rattle.std.proofs.lemmas.List.{get_or-set_same, get_or-set_other, map-append, take-set, length-take}
 use Rattle.std.proofs.lemmas.List.Elements.{All-weaker, Contains-push, Contains-push_cases}
-use Rattle.std.proofs.lemmas.Option.{none-some, same_Some, slice_get_within, slice_get-get_or, get_or_from_slice_get}
+use Rattle.std.proofs.lemmas.Option.{none-some, same_Some, slice_get_within, get_or_from_slice_get}
 use Rattle.std.proofs.lemmas.Bool.{cases_eq}
 use Rattle.inst_logic.specs.declared.signed.Signed.{Signed}
 use Rattle.inst_logic.specs.Signed.{complement}
@@ -15,7 +15,7 @@ use Rattle.cdcl_trail.specs.Propagation.{IsFalseIn, Propagates}
 use Rattle.cdcl_trail.specs.Running.{at_level, IsRunning, Runs}
 use Rattle.cdcl_trail.specs.Trail.{IsUnset, literals_of, with_implied}
 use Rattle.cdcl_trail.specs.Values.{AreValues, entries_of}
-use Rattle.cdcl_trail.specs.Watch.{slot_of, list_at, times, pair_in, pair_at, due, IsPairOf, AreWatched}
+use Rattle.cdcl_trail.specs.Watch.{slot_of, list_at, times, pair_at, due, IsPairOf, AreWatched}
 use Rattle.cdcl_trail.specs.Watching.{IsTrueAt, Watches}
 use Rattle.cdcl_trail.specs.declared.entry.Entry.{Entry}
 use Rattle.cdcl_trail.specs.declared.values.Values.{Values}

@@ -175,6 +175,10 @@ other_below clauses level v lists pairs n p l o r at both =
     let c = x.clause in
     atom_below clauses n (length v.entries.items) c o r.below x.here (of_pair clauses lists pairs n p l o c r.watched at both x.here).1
 
+pub other_slot : (clauses : List (Option (List (Signed ℕ)))) (level : ℕ) (v : Values) (lists : List (List Watch)) (pairs : List (Option Pair)) (n : ℕ) (p : Pair) (l o : Signed ℕ) → IsRunning clauses level v lists pairs → pair_at pairs n ≡ Some p → HasBoth p l o → slot_of o < length lists
+other_slot clauses level v lists pairs n p l o r at both =
+    subst (λ m. slot_of o < m) (sym r.slots) (slot_below o (length v.entries.items) (other_below clauses level v lists pairs n p l o r at both))
+
 conflict : (clauses : List (Option (List (Signed ℕ)))) (es : List Entry) (n : ℕ) (o : Signed ℕ) (c : List (Signed ℕ)) → clause_number clauses n ≡ Some c → All (λ m. IsFalseIn es m ⊎ (m ≡ o)) c → IsFalseIn es o → IsConflict clauses es n
 conflict clauses es n o c at all f = (c, at, All-weaker (λ m. IsFalseIn es m ⊎ (m ≡ o)) (IsFalseIn es) (λ m h. either m h) c all)
   where

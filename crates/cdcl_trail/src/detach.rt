@@ -77,14 +77,14 @@ pub(crate) fn unpass_all(heads: &mut Vec<Head>)
 }
 
 // Takes clause n out of the loose ones.
-pub(crate) fn forget_loose(loose: &mut Vec<usize>, n: usize)
+pub(crate) fn forget_loose(loose: &mut Vec<u32>, n: usize)
     ensures gone { ¬ Contains loose.new.items n }
     ensures kept { (m : ℕ) → m ≢ n → Contains loose.old.items m → Contains loose.new.items m }
     ensures old { (m : ℕ) → Contains loose.new.items m → Contains loose.old.items m }
 {
     let mut place = 0;
     while place < loose.len() {
-        if loose[place] == n {
+        if loose[place] as usize == n {
             loose.swap_remove(place);
         } else {
             place += 1;

@@ -9,6 +9,7 @@ mod entry_table;
 mod lists;
 mod loose;
 mod packed_pair;
+mod packed_watch;
 mod propagation;
 mod scan;
 pub mod trail;

@@ -1,7 +1,8 @@
 // The watch lists of all literals, in one vector: for atom a, at place 2a that of its negative literal and at 2a + 1 that of
 // its positive one.
-ghost use Rattle.std.specs.Prelude.{◌≡◌, ◌++◌, ◌∷◌, [], ◌<◌, ◌≤◌, length, slice_get, slice_set, Some, OnOk};
+ghost use Rattle.std.specs.Prelude.{◌≡◌, ◌++◌, ◌∷◌, [], ◌<◌, ◌≤◌, ◌^◌, length, slice_get, slice_set, Some, OnOk};
 ghost use Rattle.std.specs.List.{swap_remove};
+ghost use Rattle.cdcl_trail.specs.Packed.{literal_of};
 ghost use Rattle.cdcl_trail.specs.Watch.{slot_of, list_at};
 
 use crate::watch::Watch;
@@ -21,6 +22,16 @@ pub(crate) fn slot(l: Lit) -> usize
     }
 }
 
+// The literal whose list is at this place.
+pub(crate) fn literal_at(place: u32) -> Lit
+    ensures { result ≡ literal_of place }
+{
+    Lit {
+        positive: place % 2 == 1,
+        atom: place as usize / 2,
+    }
+}
+
 // How many clauses watch the literal.
 pub(crate) fn count_at(lists: &[WatchList], l: Lit) -> usize
     requires { slot_of l < length lists.now }
@@ -32,13 +43,16 @@ pub(crate) fn count_at(lists: &[WatchList], l: Lit) -> usize
 pub(crate) fn watch_at(lists: &[WatchList], l: Lit, place: usize) -> Watch
     requires slot { slot_of l < length lists.now }
     requires place { place < length (list_at lists.now (slot_of l)) }
-    ensures { slice_get (list_at lists.now (slot_of l)) place ≡ Some result }
+    ensures watch { slice_get (list_at lists.now (slot_of l)) place ≡ Some result }
+    ensures number { result.number < 2 ^ 32 }
 {
     lists[slot(l)].at(place)
 }
 
 pub(crate) fn add_watch(lists: &mut [WatchList], l: Lit, watch: Watch) -> Result<(), Memory>
-    requires { slot_of l < length lists.old }
+    requires slot { slot_of l < length lists.old }
+    requires number { watch.number < 2 ^ 32 }
+    requires blocker { slot_of watch.blocker < 2 ^ 32 }
     ensures added { OnOk result (lists.new ≡ slice_set lists.old (slot_of l) (list_at lists.old (slot_of l) ++ watch ∷ [])) }
     ensures size { length lists.new ≡ length lists.old }
 {
@@ -57,6 +71,8 @@ pub(crate) fn drop_watch(lists: &mut [WatchList], l: Lit, place: usize) -> Watch
 pub(crate) fn put_watch(lists: &mut [WatchList], l: Lit, place: usize, watch: Watch)
     requires slot { slot_of l < length lists.old }
     requires place { place < length (list_at lists.old (slot_of l)) }
+    requires number { watch.number < 2 ^ 32 }
+    requires blocker { slot_of watch.blocker < 2 ^ 32 }
     ensures { lists.new ≡ slice_set lists.old (slot_of l) (slice_set (list_at lists.old (slot_of l)) place watch) }
 {
     lists[slot(l)].put(place, watch)

@@ -44,6 +44,7 @@ fn watch_pair(
     requires second { slot_of pair.second < length lists.old }
     requires apart { slot_of pair.first ≢ slot_of pair.second }
     requires number { number < length pairs.old }
+    requires small_number { number < 2 ^ 32 }
     requires small { length lists.old < 2 ^ 32 }
     ensures lists { OnOk result (lists.new ≡ with_pair lists.old number pair) }
     ensures size { OnOk result (length lists.new ≡ length lists.old) }
@@ -74,6 +75,7 @@ pub(crate) fn look_at(
 ) -> Result<Look, Memory>
     requires running { IsRunning clauses.now level values.old lists.old pairs.old }
     requires room { (c : List (Signed ℕ)) → clause_number clauses.now number ≡ Some c → number < length pairs.old }
+    requires number { number < 2 ^ 32 }
     ensures running { OnOk result (IsRunning clauses.now level values.new lists.new pairs.new) }
     ensures runs { OnOk result (Runs clauses.now level values.old pairs.old values.new pairs.new) }
     ensures looked { IfOk result (IsLookedAt clauses.now number (entries_of values.new) pairs.new) }
@@ -111,7 +113,7 @@ pub(crate) fn settle_loose(
     values: &mut Values,
     lists: &mut [WatchList],
     pairs: &mut [PackedPair],
-    loose: &mut Vec<usize>,
+    loose: &mut Vec<u32>,
     passed: &mut usize,
     clauses: &Clauses,
     level: usize,
@@ -129,7 +131,8 @@ pub(crate) fn settle_loose(
     ensures added { Propagates clauses.now (at_level level values.old) (at_level level values.new) }
 {
     while *passed < loose.len() {
-        match look_at(values, lists, pairs, clauses, level, loose[*passed])? {
+        let number = loose[*passed] as usize;
+        match look_at(values, lists, pairs, clauses, level, number)? {
             Look::Passed => *passed += 1,
             Look::Taken => {
                 loose.swap_remove(*passed);

@@ -1,11 +1,9 @@
 // The pairs that clauses watch, packed: 8 bytes a clause. A literal is packed as the place of its watch list.
 ghost use Rattle.std.specs.Prelude.{◌≡◌, ◌+◌, ◌<◌, ◌^◌, Some, None};
 ghost use Rattle.cdcl_trail.specs.Watch.{slot_of};
-ghost use Rattle.cdcl_trail.specs.PackedPairs.{literal_of};
 
-use crate::lists::slot;
+use crate::lists::{literal_at, slot};
 use crate::watch::Pair;
-use prop_logic::Lit;
 use std::marker::Model;
 
 // No literal has this place.
@@ -24,22 +22,12 @@ impl Model for PackedPair {
 
     ghost Value = { Option Pair };
 
-    ghost use Rattle.cdcl_trail.specs.PackedPairs.{pair_at_slots};
+    ghost use Rattle.cdcl_trail.specs.Packed.{pair_at_slots};
 
     ghost view = { λ p. pair_at_slots p.first p.second };
 }
 
 const _: () = prove!(size_of::<PackedPair>() == 8);
-
-// The literal whose list is at this place.
-fn literal(place: u32) -> Lit
-    ensures { result ≡ literal_of place }
-{
-    Lit {
-        positive: place % 2 == 1,
-        atom: place as usize / 2,
-    }
-}
 
 impl PackedPair {
     pub(crate) fn none() -> PackedPair
@@ -69,8 +57,8 @@ impl PackedPair {
             return None;
         }
         Some(Pair {
-            first: literal(self.first),
-            second: literal(self.second),
+            first: literal_at(self.first),
+            second: literal_at(self.second),
         })
     }
 }

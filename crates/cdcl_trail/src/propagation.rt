@@ -21,7 +21,7 @@ pub(crate) fn saturate(
     values: &mut Values,
     lists: &mut [WatchList],
     pairs: &mut [PackedPair],
-    loose: &mut Vec<usize>,
+    loose: &mut Vec<u32>,
     head: &mut Head,
     clauses: &Clauses,
     level: usize,

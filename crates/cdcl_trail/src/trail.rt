@@ -34,7 +34,7 @@ pub struct Trail {
     spent: bool,
     lists: Vec<WatchList>,
     pairs: Vec<PackedPair>,
-    loose: Vec<usize>,
+    loose: Vec<u32>,
     head: Head,
     heads: Vec<Head>,
 }
@@ -111,15 +111,18 @@ fn lengthen(pairs: &mut Vec<PackedPair>, n: usize) -> Result<(), Memory>
     Ok(())
 }
 
-// Ends the loose clauses with this one.
-fn add_loose(pairs: &mut Vec<PackedPair>, loose: &mut Vec<usize>, n: usize) -> Result<(), Memory>
+// Ends the loose clauses with this one. There is no room for a number that takes more than a u32.
+fn add_loose(pairs: &mut Vec<PackedPair>, loose: &mut Vec<u32>, n: usize) -> Result<(), Memory>
     ensures longer { OnOk result (n < length pairs.new.items) }
     ensures kept { (k : ℕ) → pair_at pairs.new.items k ≡ pair_at pairs.old.items k }
     ensures size { length pairs.old.items ≤ length pairs.new.items }
     ensures loose { OnOk result (loose.new.items ≡ loose.old.items ++ n ∷ []) }
 {
+    if n > u32::MAX as usize {
+        return Err(Memory);
+    }
     lengthen(pairs, n)?;
-    loose.push(n)?;
+    loose.push(n as u32)?;
     Ok(())
 }
 
@@ -277,8 +280,9 @@ impl Trail {
     }
 
     /// Attaches the clause of this number: `propagate` looks at it from now on. It watches nothing before that first look, so
-    /// it may have any literals, true and false ones among them. After want of memory the values are those from before,
-    /// nothing is promised of the attached clauses, and every later call that can want memory wants it.
+    /// it may have any literals, true and false ones among them. There is room for numbers below 2^32. After want of memory
+    /// the values are those from before, nothing is promised of the attached clauses, and every later call that can want
+    /// memory wants it.
     pub fn attach(&mut self, clauses: &Clauses, n: usize) -> Result<(), Memory>
         ensures trail { OnOk result ((self.old.trail.spent ≡ false) × (self.new.trail ≡ self.old.trail)) }
         ensures attached { OnOk result ((before after : List (Option (List (Signed ℕ)))) (c : List (Signed ℕ)) → AddsClause before after c n → AreAttached self.old before → AreAttached self.new after) }

@@ -48,6 +48,7 @@ fn move_watch(
     requires apart { slot_of next ≢ slot_of l }
     requires place { place < length (list_at lists.old (slot_of l)) }
     requires number { number < length pairs.old }
+    requires small_number { number < 2 ^ 32 }
     requires other { slot_of other < length lists.old }
     requires small { length lists.old < 2 ^ 32 }
     ensures watched { OnOk result ((clauses : List (Option (List (Signed ℕ)))) (w : Watch) (p : Pair) (c : List (Signed ℕ)) → w.number ≡ number → IsMove clauses lists.old pairs.old l other next place w p c → AreWatched clauses lists.new pairs.new) }
@@ -105,6 +106,7 @@ fn settle(
     requires is_false { IsFalseIn (entries_of values.old) l }
     requires watch { (w : Watch) × (slice_get (list_at lists.old (slot_of l)) place ≡ Some w) × (w.number ≡ number) }
     requires pair { (p : Pair) × (pair_at pairs.old number ≡ Some p) × HasBoth p l other }
+    requires number { number < 2 ^ 32 }
     requires not_true { ¬ Contains (literals_of (entries_of values.old)) other }
     ensures visits { IfOk result (Visits clauses.now level l place values.old lists.old pairs.old values.new lists.new pairs.new) }
     ensures err { OnErr result (values.new ≡ values.old) }
@@ -145,6 +147,7 @@ fn visit_clause(
     requires running { IsRunning clauses.now level values.old lists.old pairs.old }
     requires is_false { IsFalseIn (entries_of values.old) l }
     requires watch { (w : Watch) × (slice_get (list_at lists.old (slot_of l)) place ≡ Some w) × (w.number ≡ number) }
+    requires number { number < 2 ^ 32 }
     ensures visits { IfOk result (Visits clauses.now level l place values.old lists.old pairs.old values.new lists.new pairs.new) }
     ensures err { OnErr result (values.new ≡ values.old) }
 {

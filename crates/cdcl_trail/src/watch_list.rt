@@ -1,7 +1,9 @@
 // The watches of one literal. They have no order, so that one is taken away in one step.
-ghost use Rattle.std.specs.Prelude.{◌≡◌, ◌++◌, ◌∷◌, [], ◌<◌, length, slice_get, slice_set, Some, OnOk};
+ghost use Rattle.std.specs.Prelude.{◌≡◌, ◌++◌, ◌∷◌, [], ◌<◌, ◌^◌, length, slice_get, slice_set, Some, OnOk};
 ghost use Rattle.std.specs.List.{swap_remove, slice_index_or};
+ghost use Rattle.cdcl_trail.specs.Watch.{slot_of};
 
+use crate::packed_watch::PackedWatch;
 use crate::watch::Watch;
 use inst_logic::Memory;
 use std::alloc::Global;
@@ -10,7 +12,7 @@ use std::marker::Model;
 // The clauses that watch a literal, in no order.
 #[derive(Drop)]
 pub struct WatchList {
-    items: Vec<Watch>,
+    items: Vec<PackedWatch>,
 }
 
 impl Model for WatchList {
@@ -39,19 +41,22 @@ impl WatchList {
 
     pub(crate) fn at(&self, place: usize) -> Watch
         requires { place < length self.now }
-        ensures { slice_get self.now place ≡ Some result }
+        ensures watch { slice_get self.now place ≡ Some result }
+        ensures number { result.number < 2 ^ 32 }
     {
-        self.items[place]
+        self.items[place].get()
     }
 
     pub(crate) fn push(&mut self, watch: Watch) -> Result<(), Memory>
+        requires number { watch.number < 2 ^ 32 }
+        requires blocker { slot_of watch.blocker < 2 ^ 32 }
         ensures { OnOk result (self.new ≡ self.old ++ watch ∷ []) }
     {
         // (most literals are watched by one clause or by none, and a list that grows by itself begins with room for four)
         if self.items.is_empty() {
             self.items.reserve_exact(1)?;
         }
-        self.items.push(watch)?;
+        self.items.push(PackedWatch::of(watch))?;
         Ok(())
     }
 
@@ -61,13 +66,15 @@ impl WatchList {
         ensures value { slice_get self.old place ≡ Some result }
         ensures items { self.new ≡ swap_remove self.old place result }
     {
-        self.items.swap_remove(place)
+        self.items.swap_remove(place).get()
     }
 
     pub(crate) fn put(&mut self, place: usize, watch: Watch)
-        requires { place < length self.old }
+        requires place { place < length self.old }
+        requires number { watch.number < 2 ^ 32 }
+        requires blocker { slot_of watch.blocker < 2 ^ 32 }
         ensures { self.new ≡ slice_set self.old place watch }
     {
-        self.items[place] = watch;
+        self.items[place] = PackedWatch::of(watch);
     }
 }

@@ -1,4 +1,4 @@
-use Rattle.std.proofs.Common.{◌≡◌, ◌<◌, length, set, ◌++◌, ◌∷◌, [], ◌⊎◌, Some, sym, ap, ◌∙◌, subst, false, arith}
+use Rattle.std.proofs.Common.{◌≡◌, set, ◌++◌, ◌∷◌, [], ◌⊎◌, Some, sym, ap, ◌∙◌, subst, false, arith}
 use Rattle.std.proofs.lemmas.Option.{slice_get_within, none-some}
 use Rattle.std.specs.Prelude.{All, Contains}
 use Rattle.cdcl_trail.specs.Clauses.{clause_number}
@@ -6,7 +6,7 @@ use Rattle.cdcl_trail.specs.Propagation.{IsFalseIn}
 use Rattle.cdcl_trail.specs.Values.{entries_of}
 use Rattle.cdcl_trail.specs.Watch.{slot_of, list_at, pair_at, pair_of}
 use Rattle.cdcl_trail.proofs.ScanLaws.{decided_true, decided_false}
-use Rattle.cdcl_trail.proofs.VisitLaws.{of_pair, lists_small, slot_below, other_below, neither, visits_false, visits_moved, visits_implied, move_of}
+use Rattle.cdcl_trail.proofs.VisitLaws.{of_pair, lists_small, other_below, other_slot, neither, visits_false, visits_moved, visits_implied, move_of}
 use Rattle.cdcl_trail.proofs.WatchLaws.{pair_within}
 use Rattle.cdcl_trail.proofs.ValuesLaws.{level_small}
 use Rattle.cdcl_trail.proofs.visit.settle.Goals as goal
@@ -25,10 +25,7 @@ move_watch-requires-clause-number c = pair_within c.args.pairs.now c.args.number
 pub move_watch-requires-clause-other : goal.move_watch-requires-clause-other
 move_watch-requires-clause-other c =
     let p = c.requires.pair in
-    let r = c.requires.running in
-    let o = c.args.other in
-    subst (λ n. slot_of o < n) (sym r.slots)
-    (slot_below o (length c.args.values.now.entries.items) (other_below c.args.clauses.now c.args.level c.args.values.now c.args.lists.now c.args.pairs.now c.args.number p.0 c.args.l o r p.1 p.2))
+    other_slot c.args.clauses.now c.args.level c.args.values.now c.args.lists.now c.args.pairs.now c.args.number p.0 c.args.l c.args.other c.requires.running p.1 p.2
 
 pub move_watch-requires-clause-small : goal.move_watch-requires-clause-small
 move_watch-requires-clause-small c = lists_small c.args.clauses.now c.args.level c.args.values.now c.args.lists.now c.args.pairs.now c.requires.running

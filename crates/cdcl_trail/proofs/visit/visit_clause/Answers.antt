@@ -1,9 +1,9 @@
-use Rattle.std.proofs.Common.{◌≡◌, Some, refl, sym, ap, ◌∙◌}
+use Rattle.std.proofs.Common.{◌≡◌, Some, refl, sym, ap, ◌∙◌, arith}
 use Rattle.std.proofs.lemmas.Option.{slice_get_within, none-some}
 use Rattle.cdcl_trail.specs.Clauses.{clause_number}
 use Rattle.cdcl_trail.specs.Watch.{slot_of, list_at, pair_at}
 use Rattle.cdcl_trail.proofs.ScanLaws.{decided_true}
-use Rattle.cdcl_trail.proofs.VisitLaws.{watch_pair, watches_of, of_pair, other_below, visits_blocked, slot_within}
+use Rattle.cdcl_trail.proofs.VisitLaws.{watch_pair, watches_of, of_pair, lists_small, other_below, other_slot, visits_blocked, slot_within}
 use Rattle.cdcl_trail.proofs.visit.visit_clause.Goals.{In-Some}
 use Rattle.cdcl_trail.proofs.visit.visit_clause.Goals as goal
 
@@ -23,6 +23,19 @@ is_true-requires-clause-atom c =
 
 pub put_watch-requires-clause-place : goal.put_watch-requires-clause-place
 put_watch-requires-clause-place c = slice_get_within (list_at c.args.lists.now (slot_of c.args.l)) c.args.place c.requires.watch.0 c.requires.watch.1
+
+pub put_watch-requires-clause-blocker : goal.put_watch-requires-clause-blocker
+put_watch-requires-clause-blocker c =
+    let w = c.requires.watch in
+    let p = c.in-Some.pair in
+    let r = c.requires.running in
+    let at : pair_at c.args.pairs.now c.args.number ≡ Some p = sym c.in-Some.ensures in
+    let both = c.other_of-other.ensures (watches_of c.args.clauses.now c.args.lists.now c.args.pairs.now c.args.l c.args.place c.args.number w.0 p r.watched w.1 w.2 at) in
+    omega (
+      arith,
+      other_slot c.args.clauses.now c.args.level c.args.values.now c.args.lists.now c.args.pairs.now c.args.number p c.args.l c.other_of-other.result r at both,
+      lists_small c.args.clauses.now c.args.level c.args.values.now c.args.lists.now c.args.pairs.now r,
+    )
 
 pub returns-then-is_true-clause-visits : goal.returns-then-is_true-clause-visits
 returns-then-is_true-clause-visits c =

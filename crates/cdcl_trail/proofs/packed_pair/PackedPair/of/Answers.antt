@@ -1,6 +1,6 @@
 use Rattle.std.proofs.Common.{ap₂, ◌∙◌}
-use Rattle.cdcl_trail.specs.PackedPairs.{pair_at_slots}
-use Rattle.cdcl_trail.proofs.PackedPairLaws.{pair_again}
+use Rattle.cdcl_trail.specs.Packed.{pair_at_slots}
+use Rattle.cdcl_trail.proofs.PackedLaws.{pair_again}
 use Rattle.cdcl_trail.proofs.packed_pair.PackedPair.of.Goals as goal
 
 pub returns : goal.returns

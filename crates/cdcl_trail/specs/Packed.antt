@@ -1,4 +1,4 @@
--- What packed pairs say.
+-- What packed literals and pairs say.
 use Rattle.std.specs.Prelude.{ℕ, ◌/◌, ◌%◌, ◌==◌, Option, Some, None, if◌then◌else◌}
 use Rattle.inst_logic.specs.declared.signed.Signed.{Signed}
 use Rattle.cdcl_trail.specs.declared.watch.Pair.{Pair}

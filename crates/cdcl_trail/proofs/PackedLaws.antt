@@ -1,13 +1,13 @@
 -- What was packed is read again.
-use Rattle.std.proofs.Common.{◌≡◌, ◌≢◌, ℕ, ◌+◌, ◌/◌, ◌%◌, ◌<◌, ◌^◌, Bool, true, false, cond, Some, refl, ap, ap₂, ◌∙◌, arith}
+use Rattle.std.proofs.Common.{◌≡◌, ℕ, ◌+◌, ◌/◌, ◌%◌, ◌<◌, ◌^◌, Bool, true, false, cond, Some, ap₂, arith}
 use Rattle.std.specs.Prelude.{◌==◌}
 use Rattle.std.proofs.lemmas.Bool.{ne_eqb}
 use Rattle.inst_logic.specs.declared.signed.Signed.{Signed}
 use Rattle.cdcl_trail.specs.declared.watch.Pair.{Pair}
-use Rattle.cdcl_trail.specs.PackedPairs.{literal_of, pair_at_slots}
+use Rattle.cdcl_trail.specs.Packed.{literal_of, pair_at_slots}
 use Rattle.cdcl_trail.specs.Watch.{slot_of}
 
-literal_again : (positive : Bool) (a : ℕ) → literal_of (a + a + cond positive 1 0) ≡ record { positive = positive; atom = a }
+pub literal_again : (positive : Bool) (a : ℕ) → literal_of (a + a + cond positive 1 0) ≡ record { positive = positive; atom = a }
 literal_again true a =
     let low : (a + a + 1) % 2 ≡ 1 = omega arith in
     let half : (a + a + 1) / 2 ≡ a = omega arith in
