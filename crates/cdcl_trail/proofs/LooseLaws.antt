@@ -210,7 +210,7 @@ contains_kept xs i d x at c other =
 
 pub loose_begins : (clauses : List (Option (List (Signed ℕ)))) (level : ℕ) (v : Values) (lists : List (List Watch)) (pairs : List (Option Pair)) (loose : List ℕ) (passed : ℕ) → IsRunning clauses level v lists pairs → AreLoose clauses (entries_of v) pairs loose passed
     → IsLooseRun clauses level v pairs loose passed v lists pairs loose passed
-loose_begins clauses level v lists pairs loose passed r a = record { running = r; runs = runs_none clauses level v pairs; are_loose = a; front = refl; on = omega arith }
+loose_begins clauses level v lists pairs loose passed r a = record { running = r; runs = runs_none clauses level v pairs; are_loose = a; front = refl; on = omega arith; short = omega arith }
 
 seen_still : (clauses : List (Option (List (Signed ℕ)))) (level : ℕ) (v v' : Values) (pairs pairs' : List (Option Pair)) (ns : List ℕ) → Runs clauses level v pairs v' pairs' → All (IsTrueAt clauses (entries_of v)) ns → All (IsTrueAt clauses (entries_of v')) ns
 seen_still clauses level v v' pairs pairs' ns step seen = All-weaker (IsTrueAt clauses (entries_of v)) (IsTrueAt clauses (entries_of v')) (λ n t. still_true clauses (entries_of v) (entries_of v') n step.added.kept t) ns seen
@@ -238,6 +238,7 @@ loose_passed clauses level v v' v'' lists'' lists' pairs pairs' pairs'' loose lo
       are_loose = record { room = on.room; all = on.all; there = on.there; seen = all_more (IsTrueAt clauses (entries_of v'')) loose' passed' n inside on.seen here; low = omega (arith, inside) };
       front = run.front;
       on = omega (arith, run.on);
+      short = run.short;
     }
 
 pub loose_taken : (clauses : List (Option (List (Signed ℕ)))) (level : ℕ) (v v' v'' : Values) (lists'' : List (List Watch)) (lists' : List (List Watch)) (pairs pairs' pairs'' : List (Option Pair)) (loose loose' : List ℕ) (passed passed' n : ℕ)
@@ -259,4 +260,5 @@ loose_taken clauses level v v' v'' lists'' lists' pairs pairs' pairs'' loose loo
       };
       front = sym (take_of_take (swap_remove loose' passed' n) passed' passed run.on) ∙ ap (take passed) less.0 ∙ take_of_take loose' passed' passed run.on ∙ run.front;
       on = run.on;
+      short = omega (arith, run.short, less.1);
     }

@@ -42,3 +42,4 @@ pub record IsLooseRun (clauses : List (Option (List (Signed ℕ)))) (level : ℕ
   pub are_loose : AreLoose clauses (entries_of v') pairs' loose' passed'
   pub front : take passed loose' ≡ take passed loose
   pub on : passed ≤ passed'
+  pub short : length loose' ≤ length loose

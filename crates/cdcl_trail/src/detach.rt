@@ -1,6 +1,6 @@
 // Clauses are taken out of their watch lists at once, by a scan of both. Watches that are left until they are met, as in
 // MiniSat, would need a mark, since the number of a clause that was forgotten may be given again.
-ghost use Rattle.std.specs.Prelude.{◌≡◌, ◌≢◌, ◌+◌, ◌<◌, ℕ, List, Option, None, length, map, vec_capacity, slice_set, Contains};
+ghost use Rattle.std.specs.Prelude.{◌≡◌, ◌≢◌, ◌+◌, ◌<◌, ◌≤◌, ℕ, List, Option, None, length, map, vec_capacity, slice_set, Contains};
 ghost use Rattle.inst_logic.specs.declared.signed.Signed.{Signed};
 ghost use Rattle.cdcl_trail.specs.Watch.{slot_of, list_at, times, pair_at, AreWatched};
 ghost use Rattle.cdcl_trail.specs.Detach.{IsUnwatched, IsUnwatchedBoth, IsUnwatchedAll, unpassed};
@@ -80,6 +80,7 @@ pub(crate) fn unpass_all(heads: &mut Vec<Head>)
 pub(crate) fn forget_loose(loose: &mut Vec<u32>, n: usize)
     ensures gone { ¬ Contains loose.new.items n }
     ensures kept { (m : ℕ) → m ≢ n → Contains loose.old.items m → Contains loose.new.items m }
+    ensures short { length loose.new.items ≤ length loose.old.items }
     ensures old { (m : ℕ) → Contains loose.new.items m → Contains loose.old.items m }
 {
     let mut place = 0;

@@ -114,28 +114,30 @@ pub(crate) fn settle_loose(
     lists: &mut [WatchList],
     pairs: &mut [PackedPair],
     loose: &mut Vec<u32>,
-    passed: &mut usize,
+    passed: &mut u32,
     clauses: &Clauses,
     level: usize,
 ) -> Result<Option<usize>, Memory>
     requires running { IsRunning clauses.now level values.old lists.old pairs.old }
     requires loose { AreLoose clauses.now (entries_of values.old) pairs.old loose.old.items passed.old }
+    requires short { length loose.old.items < 2 ^ 32 }
     ensures running { OnOk result (IsRunning clauses.now level values.new lists.new pairs.new) }
     ensures runs { OnOk result (Runs clauses.now level values.old pairs.old values.new pairs.new) }
     ensures conflict { IfOk result (λ found. IfSome found (IsConflict clauses.now (entries_of values.new))) }
     ensures loose { OnOk result (AreLoose clauses.now (entries_of values.new) pairs.new loose.new.items passed.new) }
     ensures front { OnOk result (take passed.old loose.new.items ≡ take passed.old loose.old.items) }
+    ensures short { length loose.new.items ≤ length loose.old.items }
     ensures on { OnOk result (passed.old ≤ passed.new) }
     ensures whole { IfOk result (λ found. IfNone found (passed.new ≡ length loose.new.items)) }
     ensures values { AreValues values.new }
     ensures added { Propagates clauses.now (at_level level values.old) (at_level level values.new) }
 {
-    while *passed < loose.len() {
-        let number = loose[*passed] as usize;
+    while (*passed as usize) < loose.len() {
+        let number = loose[*passed as usize] as usize;
         match look_at(values, lists, pairs, clauses, level, number)? {
             Look::Passed => *passed += 1,
             Look::Taken => {
-                loose.swap_remove(*passed);
+                loose.swap_remove(*passed as usize);
             }
             Look::False(number) => return Ok(Some(number)),
         }

@@ -1,6 +1,6 @@
 // Unit propagation: first the clauses that watch nothing, then the watch lists. A clause without watches that was passed has
 // a true literal, so it needs no second look before the level of that literal is taken back.
-ghost use Rattle.std.specs.Prelude.{◌≡◌, ◌≤◌, length, take, IfOk, IfSome, IfNone, OnOk};
+ghost use Rattle.std.specs.Prelude.{◌≡◌, ◌<◌, ◌≤◌, ◌^◌, length, take, IfOk, IfSome, IfNone, OnOk};
 ghost use Rattle.cdcl_trail.specs.Propagation.{IsConflict, IsStable, Propagates};
 ghost use Rattle.cdcl_trail.specs.Values.{AreValues, entries_of};
 ghost use Rattle.cdcl_trail.specs.Watching.{IsSettled};
@@ -28,12 +28,14 @@ pub(crate) fn saturate(
 ) -> Result<Option<usize>, Memory>
     requires running { IsRunning clauses.now level values.old lists.old pairs.old }
     requires loose { AreLoose clauses.now (entries_of values.old) pairs.old loose.old.items head.old.passed }
+    requires short { length loose.old.items < 2 ^ 32 }
     requires head { head.old.place ≤ length (entries_of values.old) }
     requires settled { IsSettled clauses.now pairs.old (entries_of values.old) head.old.place }
     ensures running { OnOk result (IsRunning clauses.now level values.new lists.new pairs.new) }
     ensures runs { OnOk result (Runs clauses.now level values.old pairs.old values.new pairs.new) }
     ensures loose { OnOk result (AreLoose clauses.now (entries_of values.new) pairs.new loose.new.items head.new.passed) }
     ensures front { OnOk result (take head.old.passed loose.new.items ≡ take head.old.passed loose.old.items) }
+    ensures short { length loose.new.items ≤ length loose.old.items }
     ensures on { OnOk result (head.old.passed ≤ head.new.passed) }
     ensures head { OnOk result (head.new.place ≤ length (entries_of values.new)) }
     ensures settled { OnOk result (IsSettled clauses.now pairs.new (entries_of values.new) head.new.place) }

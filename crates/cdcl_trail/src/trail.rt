@@ -1,7 +1,7 @@
 // The trail of a solver, with the clauses that are attached to it. Whoever searches sees true literals, levels and reasons,
 // and no watch. The room of an atom's value is taken with the atom, so decisions, implied literals and ways back cannot fail;
 // only new atoms, attached clauses and new watches can want memory.
-ghost use Rattle.std.specs.Prelude.{◌≡◌, ◌<◌, ◌↔◌, ◌≤◌, ◌≢◌, ◌+◌, ◌++◌, ◌∷◌, ℕ, List, Option, Some, None, All, [], false, true, length, take, vec_capacity, map, IfOk, OnOk, OnErr, IsErr, IfSome, IfNone, IsTrue};
+ghost use Rattle.std.specs.Prelude.{◌≡◌, ◌<◌, ◌^◌, ◌↔◌, ◌≤◌, ◌≢◌, ◌+◌, ◌++◌, ◌∷◌, ℕ, List, Option, Some, None, All, [], false, true, length, take, vec_capacity, map, IfOk, OnOk, OnErr, IsErr, IfSome, IfNone, IsTrue};
 ghost use Rattle.std.specs.List.{slice_index_or};
 ghost use Rattle.inst_logic.specs.declared.signed.Signed.{Signed};
 ghost use Rattle.cdcl_trail.specs.Attached.{WatchedTrail, AreAttached};
@@ -40,7 +40,7 @@ pub struct Trail {
 }
 
 impl Model for Trail {
-    ghost use Rattle.std.specs.Prelude.{◌≡◌, ◌+◌, ◌≤◌, length, vec_capacity};
+    ghost use Rattle.std.specs.Prelude.{◌≡◌, ◌+◌, ◌<◌, ◌≤◌, ◌^◌, length, vec_capacity};
     ghost use Rattle.cdcl_trail.specs.Attached.{WatchedTrail};
 
     ghost Value = { WatchedTrail };
@@ -53,7 +53,7 @@ impl Model for Trail {
       watching = record { lists = t.lists.items; pairs = t.pairs.items; loose = t.loose.items; head = t.head; heads = t.heads.items };
     } };
 
-    ghost invariant = { λ t. AreValues t.values × IsTrail (record { atoms = length t.values.entries.items; level = t.level; entries = entries_of t.values; spent = t.spent }) × (length t.lists.items ≡ length t.values.entries.items + length t.values.entries.items) × (length t.heads.items ≡ t.level) × (length t.values.entries.items ≤ vec_capacity t.heads) };
+    ghost invariant = { λ t. AreValues t.values × IsTrail (record { atoms = length t.values.entries.items; level = t.level; entries = entries_of t.values; spent = t.spent }) × (length t.lists.items ≡ length t.values.entries.items + length t.values.entries.items) × (length t.heads.items ≡ t.level) × (length t.values.entries.items ≤ vec_capacity t.heads) × (length t.loose.items < 2 ^ 32) };
 }
 
 // Takes the room of one more atom.
@@ -111,14 +111,17 @@ fn lengthen(pairs: &mut Vec<PackedPair>, n: usize) -> Result<(), Memory>
     Ok(())
 }
 
-// Ends the loose clauses with this one. There is no room for a number that takes more than a u32.
+// Ends the loose clauses with this one, where its number and how many they are fit into a u32.
 fn add_loose(pairs: &mut Vec<PackedPair>, loose: &mut Vec<u32>, n: usize) -> Result<(), Memory>
+    requires short { length loose.old.items < 2 ^ 32 }
+    ensures short { length loose.new.items < 2 ^ 32 }
     ensures longer { OnOk result (n < length pairs.new.items) }
     ensures kept { (k : ℕ) → pair_at pairs.new.items k ≡ pair_at pairs.old.items k }
     ensures size { length pairs.old.items ≤ length pairs.new.items }
     ensures loose { OnOk result (loose.new.items ≡ loose.old.items ++ n ∷ []) }
 {
-    if n > u32::MAX as usize {
+    let most = u32::MAX as usize;
+    if n > most || loose.len() == most {
         return Err(Memory);
     }
     lengthen(pairs, n)?;
@@ -280,9 +283,9 @@ impl Trail {
     }
 
     /// Attaches the clause of this number: `propagate` looks at it from now on. It watches nothing before that first look, so
-    /// it may have any literals, true and false ones among them. There is room for numbers below 2^32. After want of memory
-    /// the values are those from before, nothing is promised of the attached clauses, and every later call that can want
-    /// memory wants it.
+    /// it may have any literals, true and false ones among them. There is room for numbers below 2^32, and for 2^32 - 1
+    /// clauses that watch nothing. After want of memory the values are those from before, nothing is promised of the attached
+    /// clauses, and every later call that can want memory wants it.
     pub fn attach(&mut self, clauses: &Clauses, n: usize) -> Result<(), Memory>
         ensures trail { OnOk result ((self.old.trail.spent ≡ false) × (self.new.trail ≡ self.old.trail)) }
         ensures attached { OnOk result ((before after : List (Option (List (Signed ℕ)))) (c : List (Signed ℕ)) → AddsClause before after c n → AreAttached self.old before → AreAttached self.new after) }

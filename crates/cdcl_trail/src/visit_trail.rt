@@ -22,7 +22,7 @@ pub(crate) fn visit_trail(
     pairs: &mut [PackedPair],
     clauses: &Clauses,
     level: usize,
-    head: &mut usize,
+    head: &mut u32,
 ) -> Result<Option<usize>, Memory>
     requires running { IsRunning clauses.now level values.old lists.old pairs.old }
     requires head { head.old ≤ length (entries_of values.old) }
@@ -36,8 +36,8 @@ pub(crate) fn visit_trail(
     ensures values { AreValues values.new }
     ensures added { Propagates clauses.now (at_level level values.old) (at_level level values.new) }
 {
-    while *head < values.literals.len() {
-        let l = complement(values.literals[*head]);
+    while (*head as usize) < values.literals.len() {
+        let l = complement(values.literals[*head as usize]);
         if let Some(number) = visit_list(values, lists, pairs, clauses, level, l)? {
             return Ok(Some(number));
         }

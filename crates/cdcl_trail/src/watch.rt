@@ -20,6 +20,6 @@ pub struct Pair {
 /// How far propagation came: before this place of the trail, and before this place of the loose clauses.
 #[derive(Clone, Copy, Debug, PartialEq, Eq)]
 pub struct Head {
-    pub place: usize,
-    pub passed: usize,
+    pub place: u32,
+    pub passed: u32,
 }

@@ -18,6 +18,7 @@ loop-place-preserved-then-index-n c =
     record {
       gone = λ h. c.loop-place.invariant.gone (subst (λ ys. Contains ys c.args.n) (ap (take i) new ∙ (front_removed xs i r at).0) h);
       kept = λ m e h. subst (λ ys. Contains ys m) (sym new) (contains_kept xs i r m at (c.loop-place.invariant.kept m e h) (λ f. e (f ∙ same)));
+      short = omega (arith, c.loop-place.invariant.short, ap length new, (front_removed xs i r at).1);
       old = λ m h. c.loop-place.invariant.old m (contains_removed xs i r m at (subst (λ ys. Contains ys m) new h));
     }
 

@@ -18,6 +18,7 @@ invariant_of-self c =
       omega (arith, c.self.invariant.2, c.back_to.ensures.atoms),
       omega (arith, c.self.invariant.3, low, ap length c.restore-head.ensures.heads, length-take n s.heads.items),
       omega (arith, c.self.invariant.4, c.back_to.ensures.atoms, c.restore-head.ensures.capacity),
+      c.self.invariant.5,
     )
 
 pub returns-clause-attached : goal.returns-clause-attached

@@ -42,6 +42,7 @@ invariant_of-self c =
       omega (arith, c.self.invariant.2, c.put.ensures.atoms),
       omega (arith, c.self.invariant.3, ap length c.push_reserved.ensures.items, length_push s.heads.items s.head),
       omega (arith, c.self.invariant.4, c.put.ensures.atoms, c.push_reserved.ensures.capacity),
+      c.self.invariant.5,
     )
 
 pub returns-clause-attached : goal.returns-clause-attached

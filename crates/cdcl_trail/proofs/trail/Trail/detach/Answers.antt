@@ -21,6 +21,7 @@ invariant_of-self c =
       omega (arith, refill.ok.0, s.lists.ok.0, c.self.invariant.2),
       ap length c.unpass_all.ensures.heads ∙ length-map s.heads.items unpassed ∙ c.self.invariant.3,
       omega (arith, c.self.invariant.4, c.unpass_all.ensures.capacity),
+      omega (arith, c.self.invariant.5, c.forget_loose.ensures.short),
     )
 
 pub returns-clause-attached : goal.returns-clause-attached

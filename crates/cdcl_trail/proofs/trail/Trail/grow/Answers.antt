@@ -28,6 +28,7 @@ invariant_of-self c =
       omega (arith, two, c.self.invariant.2, e.atoms),
       ap length e.heads ∙ c.self.invariant.3,
       e.capacity,
+      c.self.invariant.5,
     )
 
 pub invariant_of-self-in-Err : goal.invariant_of-self-in-Err
@@ -40,6 +41,7 @@ invariant_of-self-in-Err c =
       omega (arith, ap length e.err_lists, c.self.invariant.2, e.err_atoms),
       ap length e.heads ∙ c.self.invariant.3,
       e.capacity,
+      c.self.invariant.5,
     )
 
 pub returns-in-Ok-clause-attached : goal.returns-in-Ok-clause-attached

@@ -28,6 +28,7 @@ invariant_of-self c =
       omega (arith, c.self.invariant.2, c.put.ensures.atoms),
       c.self.invariant.3,
       omega (arith, c.self.invariant.4, c.put.ensures.atoms),
+      c.self.invariant.5,
     )
 
 pub returns-clause-attached : goal.returns-clause-attached

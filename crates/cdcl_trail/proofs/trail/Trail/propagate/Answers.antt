@@ -79,4 +79,5 @@ invariant_of-self-in-Err c =
       omega (arith, refill.ok.0, s.lists.ok.0, c.self.invariant.2, atoms),
       c.self.invariant.3,
       omega (arith, c.self.invariant.4, atoms),
+      omega (arith, c.self.invariant.5, c.saturate-found.ensures.short),
     )
