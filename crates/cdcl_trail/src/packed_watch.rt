@@ -7,7 +7,7 @@ use crate::watch::Watch;
 use std::marker::Model;
 
 // A watch of a list.
-#[derive(Drop)]
+#[derive(Clone, Copy)]
 pub struct PackedWatch {
     number: u32,
     blocker: u32,
@@ -21,6 +21,14 @@ impl Model for PackedWatch {
     ghost use Rattle.cdcl_trail.specs.Packed.{literal_of};
 
     ghost view = { λ w. record { number = w.number; blocker = literal_of w.blocker } };
+
+    ghost use Rattle.std.proofs.Common.{ap, ℕ};
+    ghost use Rattle.cdcl_trail.specs.Watch.{slot_of};
+    ghost use Rattle.cdcl_trail.specs.PackedPlaces.{place_again};
+
+    ghost inverse = { λ w. record { number = w.number; blocker = slot_of w.blocker } };
+
+    ghost inverse_ok = { λ w h. ap (λ (b : ℕ). record { number = w.number; blocker = b }) (place_again w.blocker) };
 }
 
 const _: () = prove!(size_of::<PackedWatch>() == 8);

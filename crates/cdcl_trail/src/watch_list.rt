@@ -6,13 +6,14 @@ ghost use Rattle.cdcl_trail.specs.Watch.{slot_of};
 use crate::packed_watch::PackedWatch;
 use crate::watch::Watch;
 use inst_logic::Memory;
+use short_lists::ShortList;
 use std::alloc::Global;
 use std::marker::Model;
 
-// The clauses that watch a literal, in no order.
+// The clauses that watch a literal, in no order: most often one or none.
 #[derive(Drop)]
 pub struct WatchList {
-    items: Vec<PackedWatch>,
+    items: ShortList<PackedWatch>,
 }
 
 impl Model for WatchList {
@@ -21,7 +22,7 @@ impl Model for WatchList {
 
     ghost Value = { List Watch };
 
-    ghost view = { λ l. l.items.items };
+    ghost view = { λ l. l.items };
 }
 
 impl WatchList {
@@ -29,7 +30,7 @@ impl WatchList {
         ensures { result ≡ [] }
     {
         WatchList {
-            items: Vec::new(alloc),
+            items: ShortList::new(alloc),
         }
     }
 
@@ -44,7 +45,7 @@ impl WatchList {
         ensures watch { slice_get self.now place ≡ Some result }
         ensures number { result.number < 2 ^ 32 }
     {
-        self.items[place].get()
+        self.items.at(place).get()
     }
 
     pub(crate) fn push(&mut self, watch: Watch) -> Result<(), Memory>
@@ -52,12 +53,7 @@ impl WatchList {
         requires blocker { slot_of watch.blocker < 2 ^ 32 }
         ensures { OnOk result (self.new ≡ self.old ++ watch ∷ []) }
     {
-        // (most literals are watched by one clause or by none, and a list that grows by itself begins with room for four)
-        if self.items.is_empty() {
-            self.items.reserve_exact(1)?;
-        }
-        self.items.push(PackedWatch::of(watch))?;
-        Ok(())
+        self.items.push(PackedWatch::of(watch))
     }
 
     // Takes the watch away, and puts the last one in its place.
@@ -75,6 +71,6 @@ impl WatchList {
         requires blocker { slot_of watch.blocker < 2 ^ 32 }
         ensures { self.new ≡ slice_set self.old place watch }
     {
-        self.items[place] = PackedWatch::of(watch);
+        self.items.put(place, PackedWatch::of(watch));
     }
 }
