@@ -37,20 +37,21 @@ fn is_kept(old: Option<usize>, clause: &[Lit], v: &Valuation) -> bool
     }
 }
 
-fn choose_of(old: Option<usize>, clause: &[Lit], v: &Valuation) -> Option<usize>
-    requires { IfSome old (λ p. (0 < p) × (p ≤ length clause.now)) }
-    ensures { IsChosen old clause.now v.now result }
+/// The place of a true literal, counted from 1: the old place where its literal is true in the valuation, else the first.
+pub fn choose_among(old: Option<usize>, literals: &[Lit], v: &Valuation) -> Option<usize>
+    requires place { IfSome old (λ p. (0 < p) × (p ≤ length literals.now)) }
+    ensures chosen { IsChosen old literals.now v.now result }
 {
-    if is_kept(old, clause, v) {
+    if is_kept(old, literals, v) {
         return old;
     }
-    first_true(clause, v)
+    first_true(literals, v)
 }
 
-/// The place of a true literal, counted from 1: the old place where its literal is true in the valuation, else the first.
+/// The same for a clause in a list of its own.
 pub fn choose(old: Option<usize>, clause: &LitList, v: &Valuation) -> Option<usize>
     requires place { IfSome old (λ p. (0 < p) × (p ≤ length clause.now)) }
     ensures chosen { IsChosen old clause.now v.now result }
 {
-    choose_of(old, clause.as_slice(), v)
+    choose_among(old, clause.as_slice(), v)
 }

@@ -6,5 +6,5 @@ mod choice;
 mod queue;
 mod slots;
 
-pub use choice::choose;
+pub use choice::{choose, choose_among};
 pub use queue::Queue;
