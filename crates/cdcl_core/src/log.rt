@@ -1,23 +1,25 @@
 // The added clauses and the steps, and by which of these a clause is known to the trail. The trail's number of a forgotten
 // clause may be given again, while its step stays here, since other steps may cite it: so the two kinds of numbers are kept
 // apart.
-ghost use Rattle.std.specs.Prelude.{◌≡◌, [], ◌∷◌, ◌<◌, ℕ, List, Some, IsTrue, length, slice_get, OnOk};
+ghost use Rattle.std.specs.Prelude.{◌≡◌, [], ◌∷◌, ◌<◌, ℕ, List, Some, IsTrue, length, map, slice_get, option_copied, OnOk};
 ghost use Rattle.inst_logic.specs.declared.signed.Signed.{Signed};
+ghost use Rattle.inst_logic.specs.Derivations.{at_number};
 ghost use Rattle.prop_logic.specs.Literal.{cited, AtomsBelow, AllAtomsBelow, StepsBelow};
 ghost use Rattle.prop_logic.specs.declared.literal.Hint.{Hint};
 ghost use Rattle.cdcl_trail.specs.declared.entry.Entry.{Entry};
 ghost use Rattle.cdcl_trail.specs.Propagation.{GivesUnit};
 ghost use Rattle.cdcl_core.specs.Log.{PutsName, IsNamed};
 
+use flat_clauses::FlatClauses;
 use inst_logic::Memory;
-use prop_logic::{Derivation, Hint, Lit, LitLists};
+use prop_logic::{Derivation, Hint, Lit};
 use std::alloc::Global;
 
 // `names` has for the number of each clause what cites it here, and `units` for some atoms the step that has their literal
 // alone. No proof rests on `units`: what it has is looked at before it is used.
 #[derive(Drop)]
 pub(crate) struct Log {
-    pub(crate) added: LitLists,
+    pub(crate) added: FlatClauses,
     pub(crate) steps: Derivation,
     pub(crate) names: Vec<Hint>,
     pub(crate) units: Vec<Hint>,
@@ -49,7 +51,7 @@ impl Log {
         ensures steps { result.steps ≡ [] }
     {
         Log {
-            added: LitLists::new(alloc),
+            added: FlatClauses::new(alloc),
             steps: Derivation::new(alloc),
             names: Vec::new(alloc),
             units: Vec::new(alloc),
@@ -63,25 +65,49 @@ impl Log {
         self.names.get(number).copied().unwrap_or(Hint::Added(0))
     }
 
-    // The clause that the hint cites.
+    // The added clause of this number, counted from 1.
+    fn added_clause(&self, number: usize) -> Option<&[Lit]>
+        ensures { option_copied result ≡ at_number self.now.added number }
+    {
+        if number == 0 {
+            return None;
+        }
+        self.added.get(number - 1)
+    }
+
+    // The clause of the step of this number, counted from 1.
+    fn step_clause(&self, number: usize) -> Option<&[Lit]>
+        ensures { option_copied result ≡ at_number (map (λ s. s.clause) self.now.steps) number }
+    {
+        if number == 0 {
+            return None;
+        }
+        match self.steps.get(number - 1) {
+            None => None,
+            Some(step) => Some(step.clause.as_slice()),
+        }
+    }
+
+    // The clause that the hint cites, if it cites one.
+    fn found(&self, hint: Hint) -> Option<&[Lit]>
+        ensures { option_copied result ≡ cited self.now.added self.now.steps hint }
+    {
+        match hint {
+            Hint::Added(number) => self.added_clause(number),
+            Hint::Step(number) => self.step_clause(number),
+        }
+    }
+
+    // The clause that the hint cites, or an empty slice where it cites none.
     pub(crate) fn cited(&self, hint: Hint) -> &[Lit]
         ensures below { (n : ℕ) → AllAtomsBelow n self.now.added → StepsBelow n self.now.steps → AtomsBelow n result.now }
         ensures clause { (c : List (Signed ℕ)) → cited self.now.added self.now.steps hint ≡ Some c → result.now ≡ c }
         ensures some { 0 < length result.now → cited self.now.added self.now.steps hint ≡ Some result.now }
     {
-        match hint {
-            Hint::Added(n) => {
-                if 0 < n && n <= self.added.len() {
-                    return self.added.as_slice()[n - 1].as_slice();
-                }
-            }
-            Hint::Step(n) => {
-                if 0 < n && n <= self.steps.len() {
-                    return self.steps.as_slice()[n - 1].clause.as_slice();
-                }
-            }
+        match self.found(hint) {
+            Some(clause) => clause,
+            None => &[],
         }
-        &[]
     }
 
     // Whether the hint cites the literal alone.

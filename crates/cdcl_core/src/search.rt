@@ -302,8 +302,7 @@ impl Search {
         ensures trail { OnOk result (self.new.trail.trail ≡ self.old.trail.trail) }
         ensures added { OnOk result (self.new.log.added ≡ self.old.log.added ++ clause.now ∷ []) }
     {
-        let copy = LitList::from(Vec::from_slice(self.alloc, clause)?);
-        self.log.added.push(copy)?;
+        self.log.added.push(clause)?;
         let number = self.log.added.len();
         let key = self.clauses.add(clause)?;
         put_name(&mut self.log.names, key, Hint::Added(number))?;

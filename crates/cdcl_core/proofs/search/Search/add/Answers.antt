@@ -1,4 +1,4 @@
-use Rattle.std.proofs.Common.{◌++◌, ◌∷◌, [], refl, ap, ◌∙◌, subst}
+use Rattle.std.proofs.Common.{refl, subst}
 use Rattle.prop_logic.specs.declared.literal.Hint.TheVariants.{Added}
 use Rattle.cdcl_core.specs.declared.search.Search.{Search}
 use Rattle.cdcl_core.specs.Log.{PutsName}
@@ -11,6 +11,5 @@ returns-clause-kept c =
     let log = old.log in
     let key = c.in_ok-key.key in
     let new : Search = record old { log = record log { added = c.push.new.self; names = c.put_name.new.names }; clauses = c.add.new.self; trail = c.attach.new.self } in
-    let grown = c.in_ok-push.ensures.ok ∙ ap (λ x. log.added ++ x ∷ []) (c.from-copy.ensures ∙ c.in_ok-from_slice.ensures.items) in
     let puts = subst (λ n. PutsName log.names.items c.put_name.new.names.items key (Added n)) c.len-number.ensures c.in_ok-put_name.ensures in
-    added_kept old new c.args.clause.now key c.requires.atoms c.in_ok-key.ensures.number grown refl puts c.in_ok-attach.ensures.trail.1 c.in_ok-attach.ensures.attached refl refl c.requires.kept
+    added_kept old new c.args.clause.now key c.requires.atoms c.in_ok-key.ensures.number c.in_ok-push.ensures.ok refl puts c.in_ok-attach.ensures.trail.1 c.in_ok-attach.ensures.attached refl refl c.requires.kept
