@@ -24,8 +24,15 @@ const CONFLICTS: u64 = 100;
 #[derive(Clone, Copy, Debug, PartialEq, Eq, PartialOrd, Ord)]
 pub(crate) struct Rank {
     unused: u64,
-    step: usize,
-    pub(crate) number: usize,
+    step: u32,
+    number: u32,
+}
+
+impl Rank {
+    // The trail's number of the clause.
+    pub(crate) fn number(&self) -> usize {
+        self.number as usize
+    }
 }
 
 // No clause has number 0.
@@ -75,11 +82,18 @@ impl Learned {
         if literals <= SHORT {
             return Ok(());
         }
-        self.ranks.push(Rank {
-            unused: 0,
-            step,
-            number,
-        })?;
+        self.list(step, number)
+    }
+
+    // Lists the clause of the step. One of a higher number than 32 bits have is not listed, and so never forgotten.
+    fn list(&mut self, step: usize, number: usize) -> Result<(), Memory> {
+        if let (Ok(step), Ok(number)) = (u32::try_from(step), u32::try_from(number)) {
+            self.ranks.push(Rank {
+                unused: 0,
+                step,
+                number,
+            })?;
+        }
         Ok(())
     }
 
@@ -109,7 +123,7 @@ impl Learned {
         for place in 0..self.ranks.len() {
             if place < self.ranks.len() {
                 let rank = self.ranks[place];
-                let unused = u64::MAX - self.uses.count(rank.step);
+                let unused = u64::MAX - self.uses.count(rank.step as usize);
                 self.ranks[place] = Rank { unused, ..rank };
             }
         }
@@ -138,7 +152,7 @@ impl Learned {
 
     // Lists a clause that was taken out again, if it is still there. Without room for it, it is never forgotten.
     pub(crate) fn list_again(&mut self, rank: Rank, clauses: &Clauses) {
-        if clauses.get(rank.number).is_none() {
+        if clauses.get(rank.number()).is_none() {
             return;
         }
         let _ = self.passed.push(rank);

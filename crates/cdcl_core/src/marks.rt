@@ -12,8 +12,8 @@ use std::marker::Model;
 // An atom is in the set where its stamp is the present one.
 #[derive(Drop)]
 pub(crate) struct Marks {
-    stamps: Vec<u64>,
-    present: u64,
+    stamps: Vec<u32>,
+    present: u32,
     order: Order,
 }
 
@@ -49,12 +49,12 @@ impl Marks {
         Ok(())
     }
 
-    // Stamps are set anew only once in 2^64 calls. What is put in from now on rises by more.
+    // Stamps are set anew only once in 2^32 calls. What is put in from now on rises by more.
     pub(crate) fn clear(&mut self)
         ensures { self.new ≡ replicate (length self.old) false }
     {
         self.order.decay();
-        if self.present < u64::MAX {
+        if self.present < u32::MAX {
             self.present += 1;
         } else {
             self.stamps.fill(0);

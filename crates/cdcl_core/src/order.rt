@@ -13,13 +13,18 @@ const HIGHEST: u64 = 1 << 60;
 // From one conflict to the next, what a raise counts grows by one part of so many.
 const DECAY: u64 = 30;
 
-// A heap of atoms by activity, with the place of each atom in it.
+// A heap of atoms by activity, with the place of each atom in it. An atom that is no `u32` is not put in.
 #[derive(Drop)]
 pub(crate) struct Order {
-    heap: Vec<usize>,
-    places: Vec<usize>,
+    heap: Vec<u32>,
+    places: Vec<u32>,
     activities: Vec<u64>,
     step: u64,
+}
+
+// The number in 32 bits. Places are below the number of the atoms in the heap, so none is too high.
+fn narrow(number: usize) -> u32 {
+    u32::try_from(number).unwrap_or(u32::MAX)
 }
 
 impl Order {
@@ -41,19 +46,20 @@ impl Order {
         Ok(())
     }
 
-    fn activity(&self, atom: usize) -> u64 {
-        self.activities.get(atom).copied().unwrap_or(0)
+    fn activity(&self, atom: u32) -> u64 {
+        self.activities.get(atom as usize).copied().unwrap_or(0)
     }
 
     // Puts the atom at the place.
-    fn put(&mut self, place: usize, atom: usize)
+    fn put(&mut self, place: usize, atom: u32)
         ensures { length self.new.heap.items ≡ length self.old.heap.items }
     {
         if place < self.heap.len() {
             self.heap[place] = atom;
         }
-        if atom < self.places.len() {
-            self.places[atom] = place;
+        let index = atom as usize;
+        if index < self.places.len() {
+            self.places[index] = narrow(place);
         }
     }
 
@@ -121,12 +127,12 @@ impl Order {
     {
         let last = self.heap.pop()?;
         if self.heap.is_empty() {
-            return Some(last);
+            return Some(last as usize);
         }
         let top = self.heap[0];
         self.put(0, last);
         self.sink(0);
-        Some(top)
+        Some(top as usize)
     }
 
     // Takes atoms out until one has no value.
@@ -142,9 +148,16 @@ impl Order {
         None
     }
 
+    // The place that the atom had last, or 0.
+    fn place_of(&self, atom: usize) -> usize {
+        self.places.get(atom).copied().unwrap_or(0) as usize
+    }
+
     fn holds(&self, atom: usize) -> bool {
-        let place = self.places.get(atom).copied().unwrap_or(0);
-        self.heap.get(place).copied() == Some(atom)
+        match self.heap.get(self.place_of(atom)) {
+            Some(held) => *held as usize == atom,
+            None => false,
+        }
     }
 
     // Puts the atom in again, if it is not there.
@@ -152,11 +165,14 @@ impl Order {
         if self.holds(atom) {
             return;
         }
+        let Ok(number) = u32::try_from(atom) else {
+            return;
+        };
         let place = self.heap.len();
-        if self.heap.push(atom).is_err() {
+        if self.heap.push(number).is_err() {
             return;
         }
-        self.put(place, atom);
+        self.put(place, number);
         self.rise(place);
     }
 
@@ -181,8 +197,7 @@ impl Order {
             self.shrink();
         }
         if self.holds(atom) {
-            let place = self.places.get(atom).copied().unwrap_or(0);
-            self.rise(place);
+            self.rise(self.place_of(atom));
         }
     }
 

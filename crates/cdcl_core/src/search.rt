@@ -357,7 +357,7 @@ impl Search {
         let assigned = self.trail.assigned().len();
         for _ in 0..self.learned.sort(added, assigned) {
             let rank = self.learned.pop();
-            self.forget(rank.number);
+            self.forget(rank.number());
             self.learned.list_again(rank, &self.clauses);
         }
     }
