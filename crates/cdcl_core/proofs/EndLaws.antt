@@ -93,7 +93,7 @@ satisfied assumptions s valuation k v stable full saved all =
     let t = s.trail.trail in
     record {
       clauses_true = All-from_contained (IsTrueClause (IsHeld valuation)) s.log.added (λ c inside.
-          let n = All-contains (IsFound s.clauses s.log.names.items) s.log.added c k.log.held inside in
+          let n = All-contains (IsFound s.clauses s.log.names) s.log.added c k.log.held inside in
           let low = All-contains (AtomsBelow t.atoms) s.log.added c k.log.below inside in
           elim (clause_cases t c (All-weaker (λ l. l.atom < t.atoms) (λ l. Contains (literals_of t.entries) l ⊎ IsFalseIn t.entries l) (λ l h. true_or_false t l (full l.atom h)) c low)) [
             | inl f ↦ (f.1.0, f.0, f.1.1, f.1.2, literal_true t valuation f.0 saved f.2)

@@ -31,10 +31,10 @@ was_there old new n k c r e =
       | inr other ↦ sym (r.others k other) ∙ e
     ]
 
-log_forgot : (atoms : ℕ) (old new : List (Option (List (Signed ℕ)))) (n : ℕ) (log : Log) → RemovesClause old new n → ((i : ℕ) → slice_get log.names.items n ≡ Some (Added i) → ⊥) → IsLog atoms old log → IsLog atoms new log
+log_forgot : (atoms : ℕ) (old new : List (Option (List (Signed ℕ)))) (n : ℕ) (log : Log) → RemovesClause old new n → ((i : ℕ) → slice_get log.names n ≡ Some (Added i) → ⊥) → IsLog atoms old log → IsLog atoms new log
 log_forgot atoms old new n log r step v = record {
   named = λ k c e. v.named k c (was_there old new n k c r e);
-  held = All-weaker (IsFound old log.names.items) (IsFound new log.names.items) (λ c f. (f.0, f.1, still_there old new n f.0 (Some c) r (λ same. step f.1 (ap (slice_get log.names.items) (sym same) ∙ f.3)) f.2, f.3)) log.added v.held;
+  held = All-weaker (IsFound old log.names) (IsFound new log.names) (λ c f. (f.0, f.1, still_there old new n f.0 (Some c) r (λ same. step f.1 (ap (slice_get log.names) (sym same) ∙ f.3)) f.2, f.3)) log.added v.held;
   below = v.below;
   good = v.good;
 }
@@ -53,7 +53,7 @@ no_reason t clauses c n v g here all = All-from_contained (λ e. e.reason ≢ So
     let same : f.0 ≡ c = same_Some f.0 c (sym f.1 ∙ here) in
     All-contains (λ l. reason_of t.entries l.atom ≢ Some n) c e.lit all (subst (λ x. Contains x e.lit) same f.2.here) (reason_found t e e.lit.atom v inside refl ∙ reason))
 
-pub forgot : (old new : Search) (n : ℕ) → RemovesClause old.clauses new.clauses n → ((i : ℕ) → slice_get old.log.names.items n ≡ Some (Added i) → ⊥) → All (λ e. e.reason ≢ Some n) old.trail.trail.entries
+pub forgot : (old new : Search) (n : ℕ) → RemovesClause old.clauses new.clauses n → ((i : ℕ) → slice_get old.log.names n ≡ Some (Added i) → ⊥) → All (λ e. e.reason ≢ Some n) old.trail.trail.entries
     → new.trail.trail ≡ old.trail.trail → ((before after : List (Option (List (Signed ℕ)))) → RemovesClause before after n → AreAttached old.trail before → AreAttached new.trail after)
     → new.log ≡ old.log → new.marks ≡ old.marks → new.phases ≡ old.phases → IsKept old → IsKept new
 forgot old new n r step free trail attached log marks phases k =

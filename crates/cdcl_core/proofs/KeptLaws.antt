@@ -42,7 +42,7 @@ new_kept s added steps clauses entries atoms marks values saved attached = recor
   attached = attached s.clauses (λ n. subst (λ x. clause_number x n ≡ None) (sym clauses) (none_at n));
   log = record {
     named = λ n c e. absurd (no_clause n c (ap (λ x. clause_number x n) (sym clauses) ∙ e));
-    held = subst (All (IsFound s.clauses s.log.names.items)) (sym added) (All-nil (IsFound s.clauses s.log.names.items));
+    held = subst (All (IsFound s.clauses s.log.names)) (sym added) (All-nil (IsFound s.clauses s.log.names));
     below = subst (All (AtomsBelow s.trail.trail.atoms)) (sym added) (All-nil (AtomsBelow s.trail.trail.atoms));
     good = subst (λ x. AreGood s.log.added s.trail.trail.atoms x) (sym steps) (good_none s.log.added s.trail.trail.atoms);
   };
@@ -78,7 +78,7 @@ atom_kept old new trail attached clauses log marks values saved k =
       phases = phases_atom old.trail.trail new.trail.trail old.phases new.phases trail values saved k.phases;
     }
 
-pub added_kept : (old new : Search) (clause : List (Signed ℕ)) (key : ℕ) → AtomsBelow old.trail.trail.atoms clause → AddsClause old.clauses new.clauses clause key → new.log.added ≡ old.log.added ++ clause ∷ [] → new.log.steps ≡ old.log.steps → PutsName old.log.names.items new.log.names.items key (Added (length new.log.added))
+pub added_kept : (old new : Search) (clause : List (Signed ℕ)) (key : ℕ) → AtomsBelow old.trail.trail.atoms clause → AddsClause old.clauses new.clauses clause key → new.log.added ≡ old.log.added ++ clause ∷ [] → new.log.steps ≡ old.log.steps → PutsName old.log.names new.log.names key (Added (length new.log.added))
     → new.trail.trail ≡ old.trail.trail → ((before after : List (Option (List (Signed ℕ)))) (c : List (Signed ℕ)) → AddsClause before after c key → AreAttached old.trail before → AreAttached new.trail after) → new.marks ≡ old.marks → new.phases ≡ old.phases → IsKept old → IsKept new
 added_kept old new clause key low a grown same p trail attached marks phases k =
     let atoms = ap (λ x. x.atoms) trail in
@@ -118,13 +118,13 @@ step_kept old new clause hints low closes added steps names watched clauses mark
     record {
       attached = attached_same old new watched clauses k.attached;
       log = subst (λ n. IsLog n new.clauses new.log) (sym atoms) (subst (λ x. IsLog old.trail.trail.atoms x new.log) (sym clauses)
-          (log_step old.trail.trail.atoms old.clauses s old.log new.log k.log (closes_shown clause (map (cited old.log.added old.log.steps) hints) closes) (closes_hinted old.log.added old.log.steps clause hints closes) low added steps (ap (λ x. x.items) names)));
+          (log_step old.trail.trail.atoms old.clauses s old.log new.log k.log (closes_shown clause (map (cited old.log.added old.log.steps) hints) closes) (closes_hinted old.log.added old.log.steps clause hints closes) low added steps names));
       given = subst (λ x. AreGiven x new.trail.trail.entries) (sym clauses) (subst (AreGiven old.clauses) (sym (ap (λ x. x.entries) trail)) k.given);
       marks = ap length marks ∙ k.marks ∙ sym atoms;
       phases = phases_same old.trail.trail new.trail.trail old.phases new.phases trail phases k.phases;
     }
 
-pub use_kept : (old new : Search) (key : ℕ) (before : List Step) (s : Step) → old.log.steps ≡ before ++ s ∷ [] → AddsClause old.clauses new.clauses s.clause key → new.log.added ≡ old.log.added → new.log.steps ≡ old.log.steps → PutsName old.log.names.items new.log.names.items key (Earlier (length new.log.steps))
+pub use_kept : (old new : Search) (key : ℕ) (before : List Step) (s : Step) → old.log.steps ≡ before ++ s ∷ [] → AddsClause old.clauses new.clauses s.clause key → new.log.added ≡ old.log.added → new.log.steps ≡ old.log.steps → PutsName old.log.names new.log.names key (Earlier (length new.log.steps))
     → new.trail.trail ≡ old.trail.trail → ((before after : List (Option (List (Signed ℕ)))) (c : List (Signed ℕ)) → AddsClause before after c key → AreAttached old.trail before → AreAttached new.trail after) → new.marks ≡ old.marks → new.phases ≡ old.phases → IsKept old → IsKept new
 use_kept old new key before s ends a added steps p trail attached marks phases k =
     let atoms = ap (λ x. x.atoms) trail in

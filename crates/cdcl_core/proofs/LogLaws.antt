@@ -80,14 +80,14 @@ clause_kept old new clause n k c a e =
       | inr other ↦ a.others k other ∙ e
     ]
 
-named_more : (old new : List (Option (List (Signed ℕ)))) (clause : List (Signed ℕ)) (n : ℕ) (h : Hint) (log next : Log) → AddsClause old new clause n → PutsName log.names.items next.names.items n h → cited next.added next.steps h ≡ Some clause
+named_more : (old new : List (Option (List (Signed ℕ)))) (clause : List (Signed ℕ)) (n : ℕ) (h : Hint) (log next : Log) → AddsClause old new clause n → PutsName log.names next.names n h → cited next.added next.steps h ≡ Some clause
     → ((g : Hint) (c : List (Signed ℕ)) → cited log.added log.steps g ≡ Some c → cited next.added next.steps g ≡ Some c) → ((k : ℕ) (c : List (Signed ℕ)) → clause_number old k ≡ Some c → IsNamed log k c)
     → (k : ℕ) (c : List (Signed ℕ)) → clause_number new k ≡ Some c → IsNamed next k c
 named_more old new clause n h log next a p cites stays named k c e =
     elim (cases_eq k n) [
       | inl same ↦
           let is : clause ≡ c = same_Some clause c (sym a.added ∙ ap (clause_number new) (sym same) ∙ e) in
-          (h, ap (slice_get next.names.items) same ∙ p.here, cites ∙ ap Some is)
+          (h, ap (slice_get next.names) same ∙ p.here, cites ∙ ap Some is)
       | inr other ↦
           let f = named k c (sym (a.others k other) ∙ e) in
           (f.0, p.others k f.0 other f.1, stays f.0 c f.2)
@@ -104,7 +104,7 @@ last_added added clause steps =
 
 -- an added clause
 pub log_added : (n : ℕ) (old new : List (Option (List (Signed ℕ)))) (clause : List (Signed ℕ)) (k : ℕ) (log next : Log) → IsLog n old log → AtomsBelow n clause → AddsClause old new clause k → next.added ≡ log.added ++ clause ∷ [] → next.steps ≡ log.steps
-    → PutsName log.names.items next.names.items k (Added (length next.added)) → IsLog n new next
+    → PutsName log.names next.names k (Added (length next.added)) → IsLog n new next
 log_added n old new clause k log next v low a grown same p =
     let h : Hint = Added (length next.added) in
     let cites : cited next.added next.steps h ≡ Some clause = ap (λ xs. cited xs next.steps (Added (length xs))) grown ∙ last_added log.added clause next.steps in
@@ -112,26 +112,26 @@ log_added n old new clause k log next v low a grown same p =
     λ g c e. ap (λ xs. cited xs next.steps g) grown ∙ ap (λ ss. cited (log.added ++ clause ∷ []) ss g) same ∙ cited_grown log.added (clause ∷ []) log.steps g c e in
     record {
       named = named_more old new clause k h log next a p cites stays v.named;
-      held = subst (All (IsFound new next.names.items)) (sym grown) (All-push (IsFound new next.names.items) log.added clause (held_more old new log.names.items next.names.items clause k h log.added a p v.held) (k, length next.added, a.added, p.here));
+      held = subst (All (IsFound new next.names)) (sym grown) (All-push (IsFound new next.names) log.added clause (held_more old new log.names next.names clause k h log.added a p v.held) (k, length next.added, a.added, p.here));
       below = subst (AllAtomsBelow n) (sym grown) (All-push (AtomsBelow n) log.added clause v.below low);
       good = subst (λ xs. AreGood xs n next.steps) (sym grown) (subst (AreGood (log.added ++ clause ∷ []) n) (sym same) (good_grown log.added (clause ∷ []) n log.steps v.good));
     }
 
 -- a step more
 pub log_step : (n : ℕ) (clauses : List (Option (List (Signed ℕ)))) (s : Step) (log next : Log) → IsLog n clauses log → IsShown s.clause (map (cited log.added log.steps) s.hints) → (s.hints ≡ [] → ⊥) → AtomsBelow n s.clause
-    → next.added ≡ log.added → next.steps ≡ log.steps ++ s ∷ [] → next.names.items ≡ log.names.items → IsLog n clauses next
+    → next.added ≡ log.added → next.steps ≡ log.steps ++ s ∷ [] → next.names ≡ log.names → IsLog n clauses next
 log_step n clauses s log next v shown hinted low same grown names = record {
   named = λ k c e.
       let f = v.named k c e in
       (f.0, ap (λ xs. slice_get xs k) names ∙ f.1, ap (λ xs. cited xs next.steps f.0) same ∙ ap (λ ss. cited log.added ss f.0) grown ∙ cited_later log.added log.steps (s ∷ []) f.0 c f.2);
-  held = subst (All (IsFound clauses next.names.items)) (sym same) (subst (λ xs. All (IsFound clauses xs) log.added) (sym names) v.held);
+  held = subst (All (IsFound clauses next.names)) (sym same) (subst (λ xs. All (IsFound clauses xs) log.added) (sym names) v.held);
   below = subst (AllAtomsBelow n) (sym same) v.below;
   good = subst (λ xs. AreGood xs n next.steps) (sym same) (subst (AreGood log.added n) (sym grown) (good_push log.added n log.steps s v.good shown hinted low));
 }
 
 -- a learned clause, whose step is the last one
 pub log_learned : (n : ℕ) (old new : List (Option (List (Signed ℕ)))) (k : ℕ) (s : Step) (before : List Step) (log next : Log) → IsLog n old log → log.steps ≡ before ++ s ∷ [] → AddsClause old new s.clause k → next.added ≡ log.added → next.steps ≡ log.steps
-    → PutsName log.names.items next.names.items k (Earlier (length next.steps)) → IsLog n new next
+    → PutsName log.names next.names k (Earlier (length next.steps)) → IsLog n new next
 log_learned n old new k s before log next v ends a same_added same p =
     let h : Hint = Earlier (length next.steps) in
     let whole : next.steps ≡ before ++ s ∷ [] = same ∙ ends in
@@ -139,7 +139,7 @@ log_learned n old new k s before log next v ends a same_added same p =
     let stays : (g : Hint) (c : List (Signed ℕ)) → cited log.added log.steps g ≡ Some c → cited next.added next.steps g ≡ Some c = λ g c e. ap (λ xs. cited xs next.steps g) same_added ∙ ap (λ ss. cited log.added ss g) same ∙ e in
     record {
       named = named_more old new s.clause k h log next a p cites stays v.named;
-      held = subst (All (IsFound new next.names.items)) (sym same_added) (held_more old new log.names.items next.names.items s.clause k h log.added a p v.held);
+      held = subst (All (IsFound new next.names)) (sym same_added) (held_more old new log.names next.names s.clause k h log.added a p v.held);
       below = subst (AllAtomsBelow n) (sym same_added) v.below;
       good = subst (λ xs. AreGood xs n next.steps) (sym same_added) (subst (AreGood log.added n) (sym same) v.good);
     }

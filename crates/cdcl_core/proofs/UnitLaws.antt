@@ -81,7 +81,7 @@ more_step atoms old new l hints low closes added steps names =
     record {
       added = added;
       log = λ clauses v. log_step atoms clauses s old new v (closes_shown (l ∷ []) (map (cited old.added old.steps) hints) closes) (closes_hinted old.added old.steps (l ∷ []) hints closes)
-          (All-cons (λ y. y.atom < atoms) l [] low (All-nil (λ y. y.atom < atoms))) added steps (ap (λ x. x.items) names);
+          (All-cons (λ y. y.atom < atoms) l [] low (All-nil (λ y. y.atom < atoms))) added steps names;
     }
 
 pub more_both : (atoms : ℕ) (first old new : Log) → IsLogMore atoms first old → IsLogMore atoms old new → IsLogMore atoms first new

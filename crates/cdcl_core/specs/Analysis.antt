@@ -96,7 +96,7 @@ pub record IsMet (log : Log) (t : Trail) (i : ℕ) (marks : List Bool) (a : Anal
 -- the clause of the number is marked, and nothing else
 pub record IsBegun (log : Log) (t : Trail) (n : ℕ) (c : List (Signed ℕ)) (marks : List Bool) (a : Analysis) : Type 0 where
   pub clause : a.clause.items ≡ []
-  pub hints : (h : Hint) → slice_get log.names.items n ≡ Some h → a.hints.items ≡ h ∷ []
+  pub hints : (h : Hint) → slice_get log.names n ≡ Some h → a.hints.items ≡ h ∷ []
   pub marked : All (λ l. IsMarked marks l.atom) c
   pub counted : (i : ℕ) → AreCounted t i marks a.waiting.present
   pub waiting : (i : ℕ) → AreWaiting t i marks a.waiting.places

@@ -15,7 +15,7 @@ pub record PutsName (old new : List Hint) (n : ℕ) (h : Hint) : Type 0 where
 
 -- the clause is what the number's name cites
 abbrev pub IsNamed : Log → ℕ → List (Signed ℕ) → Type 0
-IsNamed log n c = (h : Hint) × (slice_get log.names.items n ≡ Some h) × (cited log.added log.steps h ≡ Some c)
+IsNamed log n c = (h : Hint) × (slice_get log.names n ≡ Some h) × (cited log.added log.steps h ≡ Some c)
 
 -- the clause is one of the trail's, with the name of an added one
 abbrev pub IsFound : List (Option (List (Signed ℕ))) → List Hint → List (Signed ℕ) → Type 0
@@ -24,6 +24,6 @@ IsFound clauses names c = (n : ℕ) × (i : ℕ) × (clause_number clauses n ≡
 -- each clause of the trail has a name, each added clause is one of the trail's, and the steps are right
 pub record IsLog (atoms : ℕ) (clauses : List (Option (List (Signed ℕ)))) (log : Log) : Type 0 where
   pub named : (n : ℕ) (c : List (Signed ℕ)) → clause_number clauses n ≡ Some c → IsNamed log n c
-  pub held : All (IsFound clauses log.names.items) log.added
+  pub held : All (IsFound clauses log.names) log.added
   pub below : AllAtomsBelow atoms log.added
   pub good : AreGood log.added atoms log.steps

@@ -9,6 +9,7 @@ mod cut;
 mod learned;
 mod log;
 mod marks;
+mod names;
 mod order;
 mod pace;
 mod phases;

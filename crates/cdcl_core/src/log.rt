@@ -1,17 +1,17 @@
 // The added clauses and the steps, and by which of these a clause is known to the trail. The trail's number of a forgotten
 // clause may be given again, while its step stays here, since other steps may cite it: so the two kinds of numbers are kept
 // apart.
-ghost use Rattle.std.specs.Prelude.{◌≡◌, [], ◌∷◌, ◌<◌, ℕ, List, Some, IsTrue, length, map, slice_get, option_copied, OnOk};
+ghost use Rattle.std.specs.Prelude.{◌≡◌, [], ◌∷◌, ◌<◌, ℕ, List, Some, IsTrue, length, map, slice_get, option_copied};
 ghost use Rattle.inst_logic.specs.declared.signed.Signed.{Signed};
 ghost use Rattle.inst_logic.specs.Derivations.{at_number};
 ghost use Rattle.prop_logic.specs.Literal.{cited, AtomsBelow, AllAtomsBelow, StepsBelow};
 ghost use Rattle.prop_logic.specs.declared.literal.Hint.{Hint};
 ghost use Rattle.cdcl_trail.specs.declared.entry.Entry.{Entry};
 ghost use Rattle.cdcl_trail.specs.Propagation.{GivesUnit};
-ghost use Rattle.cdcl_core.specs.Log.{PutsName, IsNamed};
+ghost use Rattle.cdcl_core.specs.Log.{IsNamed};
 
+use crate::names::Names;
 use flat_clauses::FlatClauses;
-use inst_logic::Memory;
 use prop_logic::{Derivation, Hint, Lit};
 use std::alloc::Global;
 
@@ -21,28 +21,8 @@ use std::alloc::Global;
 pub(crate) struct Log {
     pub(crate) added: FlatClauses,
     pub(crate) steps: Derivation,
-    pub(crate) names: Vec<Hint>,
-    pub(crate) units: Vec<Hint>,
-}
-
-// Makes the list longer than `number`.
-fn lengthen(names: &mut Vec<Hint>, number: usize) -> Result<(), Memory>
-    ensures room { OnOk result (number < length names.new.items) }
-    ensures kept { OnOk result ((k : ℕ) (h : Hint) → slice_get names.old.items k ≡ Some h → slice_get names.new.items k ≡ Some h) }
-{
-    while names.len() <= number {
-        names.push(Hint::Added(0))?;
-    }
-    Ok(())
-}
-
-// Gives the number its name.
-pub(crate) fn put_name(names: &mut Vec<Hint>, number: usize, hint: Hint) -> Result<(), Memory>
-    ensures { OnOk result (PutsName names.old.items names.new.items number hint) }
-{
-    lengthen(names, number)?;
-    names[number] = hint;
-    Ok(())
+    pub(crate) names: Names,
+    pub(crate) units: Names,
 }
 
 impl Log {
@@ -53,16 +33,16 @@ impl Log {
         Log {
             added: FlatClauses::new(alloc),
             steps: Derivation::new(alloc),
-            names: Vec::new(alloc),
-            units: Vec::new(alloc),
+            names: Names::new(alloc),
+            units: Names::new(alloc),
         }
     }
 
     // What cites the clause of this number. Number 0 of the added clauses is none.
     pub(crate) fn hint_of(&self, number: usize) -> Hint
-        ensures { (h : Hint) → slice_get self.now.names.items number ≡ Some h → result ≡ h }
+        ensures { (h : Hint) → slice_get self.now.names number ≡ Some h → result ≡ h }
     {
-        self.names.get(number).copied().unwrap_or(Hint::Added(0))
+        self.names.get(number).unwrap_or(Hint::Added(0))
     }
 
     // The added clause of this number, counted from 1.
@@ -122,7 +102,7 @@ impl Log {
     pub(crate) fn given_by(&self, lit: Lit, number: usize) -> Hint
         ensures { (before : List Entry) (c : List (Signed ℕ)) → IsNamed self.now number c → GivesUnit before c lit → (d : List (Signed ℕ)) × (cited self.now.added self.now.steps result ≡ Some d) × GivesUnit before d lit }
     {
-        let unit = self.units.get(lit.atom).copied().unwrap_or(Hint::Added(0));
+        let unit = self.units.get(lit.atom).unwrap_or(Hint::Added(0));
         if self.is_unit(unit, lit) {
             return unit;
         }

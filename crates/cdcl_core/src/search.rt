@@ -20,7 +20,7 @@ ghost use Rattle.cdcl_core.specs.Search.{IsKept, IsTrueUpTo, IsSearch, IsCoreIn,
 use crate::analysis::{Analysis, analyze, analyze_given, literal_at};
 use crate::cut::cut;
 use crate::learned::Learned;
-use crate::log::{Log, put_name};
+use crate::log::Log;
 use crate::marks::Marks;
 use crate::pace::Pace;
 use crate::phases::Phases;
@@ -305,7 +305,7 @@ impl Search {
         self.log.added.push(clause)?;
         let number = self.log.added.len();
         let key = self.clauses.add(clause)?;
-        put_name(&mut self.log.names, key, Hint::Added(number))?;
+        self.log.names.put(key, Hint::Added(number))?;
         self.trail.attach(&self.clauses, key)?;
         Ok(number)
     }
@@ -393,7 +393,7 @@ impl Search {
         let clause = self.log.cited(hint);
         let literals = clause.len();
         let key = self.clauses.add(clause)?;
-        put_name(&mut self.log.names, key, hint)?;
+        self.log.names.put(key, hint)?;
         self.trail.attach(&self.clauses, key)?;
         let hints = self.log.hints_of(step);
         self.learned.push(step, key, literals, hints)?;

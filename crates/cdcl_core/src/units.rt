@@ -8,7 +8,7 @@ ghost use Rattle.cdcl_trail.specs.Trail.{IsTrail};
 ghost use Rattle.cdcl_core.specs.Search.{IsLogOf, IsLogMore};
 
 use crate::analysis::literal_at;
-use crate::log::{Log, put_name};
+use crate::log::Log;
 use cdcl_trail::Trail;
 use inst_logic::Memory;
 use prop_logic::{Hint, HintList, Lit, LitList, Step, complement};
@@ -69,7 +69,7 @@ fn push_unit(alloc: Global, log: &mut Log, lit: Lit, hints: Vec<Hint>) -> Result
         hints: HintList::from(hints),
     })?;
     let step = Hint::Step(log.steps.len());
-    put_name(&mut log.units, lit.atom, step)
+    log.units.put(lit.atom, step)
 }
 
 // Makes a step of the fact at the place, if those that it rests on are known.
