@@ -1,17 +1,20 @@
 -- The pairs of a node and their places after one is put or taken.
-use Rattle.std.proofs.Common.{◌≡◌, ◌≢◌, ◌<◌, ◌≤◌, ◌+◌, ◌-◌, ◌⊎◌, inl, inr, ℕ, List, [], ◌∷◌, ◌++◌, length, get_or, Contains, Bool, true, false, cond, ◌&&◌, nat_eq, nat_lt, Option, Some, None, refl, sym, ◌∙◌, ap, subst, arith, length-append}
+use Rattle.std.proofs.Common.{◌≡◌, ◌≢◌, ◌<◌, ◌≤◌, ◌+◌, ◌-◌, ◌^◌, ◌⊎◌, inl, inr, ℕ, List, [], ◌∷◌, ◌++◌, length, get_or, Contains, Bool, true, false, cond, ◌&&◌, nat_eq, nat_lt, Option, Some, None, refl, sym, ◌∙◌, ap, subst, arith, length-append}
 use Rattle.std.specs.Prelude.{AllPairs}
 use Rattle.std.specs.List.{swap_remove}
 use Rattle.std.proofs.Math.ListN.{get_or-append}
 use Rattle.std.proofs.Math.Seq.{get_or-append_seam}
 use Rattle.std.proofs.lemmas.List.{get_or_default}
+use Rattle.std.proofs.lemmas.List.Elements.{Contains-push_cases}
 use Rattle.std.proofs.lemmas.Bool.Decides.{Decides-eqb}
 use Rattle.inst_logic.specs.EqualLaws.{and_both, and_left, and_right}
 use Rattle.term_bank.proofs.Nodes.{last_or_before}
 use Rattle.term_index.specs.Pairs.{Pair, Removes}
 use Rattle.term_tree.specs.Found.{place_of, AreFound}
 use Rattle.term_tree.specs.Nodes.{Content}
-use Rattle.term_tree.specs.Paths.{content_at, Holds}
+use Rattle.term_tree.specs.Paths.{content_at, Holds, KeepsPairs}
+use Rattle.term_tree.specs.State.{pairs_of}
+use Rattle.term_tree.specs.StateLaws.{stored_held}
 use Rattle.term_tree.proofs.Linking.{swapped, same_number}
 
 abbrev pair_eq : Pair → Pair → Bool
@@ -45,21 +48,27 @@ change_other found more p w h q d = h q ∙ ap (λ b. cond b w (place_of found q
 
 -- one pair more
 pub put_found : (found more : List (Pair × ℕ)) (ns ms : List Content) (node : ℕ) (p : Pair) → ((n : ℕ) → ¬ (Holds ns n p)) → AreFound found ns → Changes found more p (Some (length (content_at ns node).pairs))
-    → (content_at ms node).pairs ≡ (content_at ns node).pairs ++ p ∷ [] → ((n : ℕ) → ¬ (n ≡ node) → content_at ms n ≡ content_at ns n) → AreFound more ms
-put_found found more ns ms node p absent old change here others n i q w is = elim (same_number n node) [
-  | inl e ↦ at (subst (λ m. i < length (content_at ms m).pairs) e w) (subst (λ m. get_or (content_at ms m).pairs i q ≡ q) e is)
-  | inr d ↦ before n (subst (λ (x : Content). i < length x.pairs) (others n d) w) (subst (λ (x : Content). get_or x.pairs i q ≡ q) (others n d) is)
-]
+    → (content_at ms node).pairs ≡ (content_at ns node).pairs ++ p ∷ [] → ((n : ℕ) → ¬ (n ≡ node) → content_at ms n ≡ content_at ns n) → p.1 < 2 ^ 32 → AreFound more ms
+put_found found more ns ms node p absent old change here others short = record {
+  small = λ n q h. elim (same_number n node) [
+    | inl e ↦ elim (Contains-push_cases (content_at ns node).pairs p q (subst (λ ys. Contains ys q) here (subst (λ m. Holds ms m q) e h))) [
+      | inl k ↦ old.small node q k
+      | inr k ↦ subst (λ (x : Pair). x.1 < 2 ^ 32) k short
+    ]
+    | inr d ↦ old.small n q (subst (λ (x : Content). Contains x.pairs q) (others n d) h)
+  ];
+  placed = λ n i q w is. elim (same_number n node) [
+    | inl e ↦ at i q (subst (λ m. i < length (content_at ms m).pairs) e w) (subst (λ m. get_or (content_at ms m).pairs i q ≡ q) e is)
+    | inr d ↦ before i q n (subst (λ (x : Content). i < length x.pairs) (others n d) w) (subst (λ (x : Content). get_or x.pairs i q ≡ q) (others n d) is)
+  ];
+}
   where
-    xs : List Pair
-    xs = (content_at ns node).pairs
+    before : (i : ℕ) (q : Pair) (n : ℕ) → i < length (content_at ns n).pairs → get_or (content_at ns n).pairs i q ≡ q → place_of more q ≡ Some i
+    before i q n b h = change_other found more p (Some (length (content_at ns node).pairs)) change q (λ e. absent n (i, b, subst (λ x. get_or (content_at ns n).pairs i x ≡ x) (sym e) h)) ∙ old.placed n i q b h
 
-    before : (n : ℕ) → i < length (content_at ns n).pairs → get_or (content_at ns n).pairs i q ≡ q → place_of more q ≡ Some i
-    before n b h = change_other found more p (Some (length (content_at ns node).pairs)) change q (λ e. absent n (i, b, subst (λ x. get_or (content_at ns n).pairs i x ≡ x) (sym e) h)) ∙ old n i q b h
-
-    at : i < length (content_at ms node).pairs → get_or (content_at ms node).pairs i q ≡ q → place_of more q ≡ Some i
-    at b h = elim (last_or_before i (length (content_at ns node).pairs) (omega (arith, b, ap length here, length-append (content_at ns node).pairs (p ∷ [])))) [
-      | inl c ↦ before node c (sym (get_or-append (content_at ns node).pairs (p ∷ []) q i c) ∙ ap (λ ys. get_or ys i q) (sym here) ∙ h)
+    at : (i : ℕ) (q : Pair) → i < length (content_at ms node).pairs → get_or (content_at ms node).pairs i q ≡ q → place_of more q ≡ Some i
+    at i q b h = elim (last_or_before i (length (content_at ns node).pairs) (omega (arith, b, ap length here, length-append (content_at ns node).pairs (p ∷ [])))) [
+      | inl c ↦ before i q node c (sym (get_or-append (content_at ns node).pairs (p ∷ []) q i c) ∙ ap (λ ys. get_or ys i q) (sym here) ∙ h)
       | inr s ↦ (let e : p ≡ q = sym (get_or-append_seam (content_at ns node).pairs p [] q) ∙ ap (λ k. get_or ((content_at ns node).pairs ++ p ∷ []) k q) (sym s) ∙ ap (λ ys. get_or ys i q) (sym here) ∙ h in
           change_here found more p (Some (length (content_at ns node).pairs)) change q e ∙ ap Some (sym s))
     ]
@@ -127,27 +136,47 @@ pub take_found : (found mid more : List (Pair × ℕ)) (ns ms : List Content) (n
     → (content_at ms node).pairs ≡ swap_remove (content_at ns node).pairs i d → ((n : ℕ) → ¬ (n ≡ node) → content_at ms n ≡ content_at ns n) → AllPairs ◌≢◌ (content_at ns node).pairs
     → ((m n : ℕ) (q : Pair) → Holds ns m q → Holds ns n q → m ≡ n) → get_or (content_at ns node).pairs (length (content_at ns node).pairs - 1) last ≡ last
     → Changes found mid last (Some i) → Changes mid more p None → AreFound found ns → AreFound more ms
-take_found found mid more ns ms node i p last d w at is others once one end change gone old n k q b h = elim (same_number n node) [
-  | inl e ↦ here k (subst (λ m. k < length (content_at ms m).pairs) e b) (subst (λ m. get_or (content_at ms m).pairs k q ≡ q) e h)
-  | inr s ↦ (let b' : k < length (content_at ns n).pairs = subst (λ (x : Content). k < length x.pairs) (others n s) b in
-      let h' : get_or (content_at ns n).pairs k q ≡ q = subst (λ (x : Content). get_or x.pairs k q ≡ q) (others n s) h in
-      change_other mid more p None gone q (λ e. s (one n node q (k, b', h') (subst (Holds ns node) e (i, w, at))))
-      ∙ change_other found mid last (Some i) change q (λ e. s (one n node q (k, b', h') (subst (Holds ns node) e (length (content_at ns node).pairs - 1, omega (arith, w), end)))) ∙ old n k q b' h')
-]
+take_found found mid more ns ms node i p last d w at is others once one end change gone old = record {
+  small = λ n q h. elim (same_number n node) [
+    | inl e ↦ old.small node q (((swap_removes (content_at ns node).pairs (content_at ms node).pairs p d i w at is once).1 q).0 (subst (λ m. Holds ms m q) e h)).0
+    | inr s ↦ old.small n q (subst (λ (x : Content). Contains x.pairs q) (others n s) h)
+  ];
+  placed = placed;
+}
   where
-    here : (k : ℕ) → k < length (content_at ms node).pairs → get_or (content_at ms node).pairs k q ≡ q → place_of more q ≡ Some k
-    here k b h =
-        let xs = (content_at ns node).pairs in
-        let ys = (content_at ms node).pairs in
-        let r = from xs ys p d i w at is once k b in
-        let sw = swap xs ys p d i w at is once in
-        let s : get_or ys k p ≡ q = get_or_default ys k p q b ∙ h in
-        let t : get_or xs r.0 q ≡ q = get_or_default xs r.0 q p r.1 ∙ sym r.2 ∙ s in
-        change_other mid more p None gone q (λ e. not_taken xs ys p d i w at is once k b (s ∙ sym e))
-        ∙ elim r.3 [
-          | inl x ↦ (let e : last ≡ q = sym end ∙ get_or_default xs (length xs - 1) last q (omega (arith, w)) ∙ ap (λ m. get_or xs m q) (omega (arith, x.1, sw.0)) ∙ t in
-              change_here found mid last (Some i) change q e ∙ ap Some (sym x.0))
-          | inr x ↦ change_other found mid last (Some i) change q
-              (λ e. (let z : r.0 ≡ length xs - 1 = one_at xs ys p d i w at is once r.0 (length xs - 1) q r.1 (omega (arith, w)) (t ∙ sym (subst (λ y. get_or xs (length xs - 1) y ≡ y) e end)) in omega (arith, z, x.1, b, sw.0)))
-              ∙ old node r.0 q r.1 t ∙ ap Some x.1
-        ]
+    placed : (n k : ℕ) (q : Pair) → k < length (content_at ms n).pairs → get_or (content_at ms n).pairs k q ≡ q → place_of more q ≡ Some k
+    placed n k q b h = elim (same_number n node) [
+      | inl e ↦ here k (subst (λ m. k < length (content_at ms m).pairs) e b) (subst (λ m. get_or (content_at ms m).pairs k q ≡ q) e h)
+      | inr s ↦ (let b' : k < length (content_at ns n).pairs = subst (λ (x : Content). k < length x.pairs) (others n s) b in
+          let h' : get_or (content_at ns n).pairs k q ≡ q = subst (λ (x : Content). get_or x.pairs k q ≡ q) (others n s) h in
+          change_other mid more p None gone q (λ e. s (one n node q (k, b', h') (subst (Holds ns node) e (i, w, at))))
+          ∙ change_other found mid last (Some i) change q (λ e. s (one n node q (k, b', h') (subst (Holds ns node) e (length (content_at ns node).pairs - 1, omega (arith, w), end)))) ∙ old.placed n k q b' h')
+    ]
+      where
+        here : (k : ℕ) → k < length (content_at ms node).pairs → get_or (content_at ms node).pairs k q ≡ q → place_of more q ≡ Some k
+        here k b h =
+            let xs = (content_at ns node).pairs in
+            let ys = (content_at ms node).pairs in
+            let r = from xs ys p d i w at is once k b in
+            let sw = swap xs ys p d i w at is once in
+            let s : get_or ys k p ≡ q = get_or_default ys k p q b ∙ h in
+            let t : get_or xs r.0 q ≡ q = get_or_default xs r.0 q p r.1 ∙ sym r.2 ∙ s in
+            change_other mid more p None gone q (λ e. not_taken xs ys p d i w at is once k b (s ∙ sym e))
+            ∙ elim r.3 [
+              | inl x ↦ (let e : last ≡ q = sym end ∙ get_or_default xs (length xs - 1) last q (omega (arith, w)) ∙ ap (λ m. get_or xs m q) (omega (arith, x.1, sw.0)) ∙ t in
+                  change_here found mid last (Some i) change q e ∙ ap Some (sym x.0))
+              | inr x ↦ change_other found mid last (Some i) change q
+                  (λ e. (let z : r.0 ≡ length xs - 1 = one_at xs ys p d i w at is once r.0 (length xs - 1) q r.1 (omega (arith, w)) (t ∙ sym (subst (λ y. get_or xs (length xs - 1) y ≡ y) e end)) in omega (arith, z, x.1, b, sw.0)))
+                  ∙ old.placed node r.0 q r.1 t ∙ ap Some x.1
+            ]
+
+-- the same with the same pairs
+pub found_kept : (found : List (Pair × ℕ)) (ns ms : List Content) → KeepsPairs ns ms → AreFound found ns → AreFound found ms
+found_kept found ns ms same old = record {
+  small = λ n p h. old.small n p (subst (λ xs. Contains xs p) (same n) h);
+  placed = λ n i p w h. old.placed n i p (subst (λ xs. i < length xs) (same n) w) (subst (λ xs. get_or xs i p ≡ p) (same n) h);
+}
+
+-- no pair has an entry that does not fit
+pub too_large : (found : List (Pair × ℕ)) (ns : List Content) (p : Pair) → AreFound found ns → 2 ^ 32 ≤ p.1 → ¬ (Contains (pairs_of ns) p)
+too_large found ns p old large h = let k = stored_held ns p h in omega (arith, large, old.small k.0 p k.2)

@@ -9,6 +9,7 @@ ghost use Rattle.term_tree.specs.Paths.{IsChild};
 ghost use Rattle.term_tree.specs.Left.{IsDescent, AreBelow, IsSorted, Closes, left_size, AreLeftNumbered};
 
 use crate::node::Span;
+use crate::number::short;
 use inst_logic::Memory;
 use std::alloc::Global;
 use term_bank::{Bank, TermId};
@@ -16,7 +17,7 @@ use term_bank::{Bank, TermId};
 /// A term that began at the node, and ends when so many terms are left.
 #[derive(Clone, Copy, Debug, PartialEq, Eq)]
 pub struct Open {
-    pub begin: usize,
+    pub begin: u32,
     pub height: usize,
 }
 
@@ -70,7 +71,7 @@ fn close(
         }
         closed.push(Span {
             begin: last.begin,
-            end: node,
+            end: short(node)?,
         })?;
     }
     Ok(())
@@ -95,7 +96,7 @@ pub fn pass(
 {
     let height = descent.left.len();
     descent.opened.push(Open {
-        begin: node,
+        begin: short(node)?,
         height,
     })?;
     push_args(&mut descent.left, bank.args(id))?;

@@ -8,6 +8,7 @@ ghost use Rattle.term_tree.specs.Paths.{IsArena, AreListed, IsBare, Exits, conte
 ghost use Rattle.term_tree.specs.Lists.{Numbers, KeepsExits, KeepsOthers, ListsAll, AreWithin};
 
 use crate::node::{Edge, Node, Span};
+use crate::number::short;
 use indexmap::IndexSet;
 use inst_logic::Memory;
 
@@ -17,16 +18,19 @@ fn exit_in(nodes: &Vec<Node>, node: usize, place: usize) -> Option<usize>
     ensures { MatchOption result (length (content_at nodes.now.items node).exits ≤ place) (λ r. (place < length (content_at nodes.now.items node).exits) × (exit_at nodes.now.items node place ≡ r)) }
 {
     let here = &nodes[node];
-    here.exits.get(place).copied()
+    match here.exits.get(place) {
+        None => None,
+        Some(r) => Some(*r as usize),
+    }
 }
 
 // How many exits the node has.
-fn count_of(nodes: &Vec<Node>, node: usize) -> usize
+fn count_of(nodes: &Vec<Node>, node: usize) -> Result<u32, Memory>
     requires { node < length nodes.now.items }
-    ensures { result ≡ length (content_at nodes.now.items node).exits }
+    ensures { IfOk result (λ n. n ≡ length (content_at nodes.now.items node).exits) }
 {
     let here = &nodes[node];
-    here.exits.len()
+    short(here.exits.len())
 }
 
 // Whether nothing ends at the node and it has no exits.
@@ -51,7 +55,7 @@ fn push_exit(nodes: &mut Vec<Node>, node: usize, number: usize) -> Result<(), Me
     if here.exits.is_empty() {
         here.exits.reserve_exact(1)?;
     }
-    here.exits.push(number)?;
+    here.exits.push(short(number)?)?;
     Ok(())
 }
 
@@ -69,11 +73,7 @@ fn take_exit(nodes: &mut Vec<Node>, node: usize, place: usize)
 }
 
 // The number of the span. A new one goes last, and has some place.
-fn numbered(
-    spans: &mut IndexSet<Span>,
-    places: &mut Vec<usize>,
-    span: Span,
-) -> Result<usize, Memory>
+fn numbered(spans: &mut IndexSet<Span>, places: &mut Vec<u32>, span: Span) -> Result<usize, Memory>
     requires { length places.old.items ≡ length spans.old.keys }
     ensures number { IfOk result (Numbers spans.old.keys spans.new.keys span) }
     ensures places { OnOk result (length places.new.items ≡ length spans.new.keys) }
@@ -88,13 +88,13 @@ fn numbered(
 }
 
 // Whether the span of this number is among the node's exits, at its place.
-fn is_linked(places: &Vec<usize>, nodes: &Vec<Node>, node: usize, number: usize) -> bool
+fn is_linked(places: &Vec<u32>, nodes: &Vec<Node>, node: usize, number: usize) -> bool
     requires node { node < length nodes.now.items }
     requires number { number < length places.now.items }
     ensures yes { result ≡ true → (place_at places.now.items number < length (content_at nodes.now.items node).exits) × (exit_at nodes.now.items node (place_at places.now.items number) ≡ number) }
     ensures no { result ≡ false → place_at places.now.items number < length (content_at nodes.now.items node).exits → ¬ (exit_at nodes.now.items node (place_at places.now.items number) ≡ number) }
 {
-    match exit_in(nodes, node, places[number]) {
+    match exit_in(nodes, node, places[number] as usize) {
         None => false,
         Some(r) => r == number,
     }
@@ -103,7 +103,7 @@ fn is_linked(places: &Vec<usize>, nodes: &Vec<Node>, node: usize, number: usize)
 // Lists the span where it begins, if it is not listed there.
 fn link(
     spans: &mut IndexSet<Span>,
-    places: &mut Vec<usize>,
+    places: &mut Vec<u32>,
     nodes: &mut Vec<Node>,
     span: Span,
 ) -> Result<(), Memory>
@@ -117,18 +117,19 @@ fn link(
     ensures pairs { KeepsPairs nodes.old.items nodes.new.items }
 {
     let number = numbered(spans, places, span)?;
-    if is_linked(places, nodes, span.begin, number) {
+    let begin = span.begin as usize;
+    if is_linked(places, nodes, begin, number) {
         return Ok(());
     }
-    places[number] = count_of(nodes, span.begin);
-    push_exit(nodes, span.begin, number)?;
+    places[number] = count_of(nodes, begin)?;
+    push_exit(nodes, begin, number)?;
     Ok(())
 }
 
 // Lists all the spans.
 pub fn link_all(
     spans: &mut IndexSet<Span>,
-    places: &mut Vec<usize>,
+    places: &mut Vec<u32>,
     nodes: &mut Vec<Node>,
     added: &[Span],
 ) -> Result<(), Memory>
@@ -146,21 +147,21 @@ pub fn link_all(
 }
 
 // Tells the exit at the place that it is there, if there is one.
-fn renumber(places: &mut Vec<usize>, nodes: &Vec<Node>, node: usize, place: usize)
+fn renumber(places: &mut Vec<u32>, nodes: &Vec<Node>, node: usize, place: u32)
     requires node { node < length nodes.now.items }
     requires within { place < length (content_at nodes.now.items node).exits → exit_at nodes.now.items node place < length places.old.items }
     ensures len { length places.new.items ≡ length places.old.items }
     ensures place { place < length (content_at nodes.now.items node).exits → place_at places.new.items (exit_at nodes.now.items node place) ≡ place }
     ensures others { (r : ℕ) → (place < length (content_at nodes.now.items node).exits → ¬ (r ≡ exit_at nodes.now.items node place)) → place_at places.new.items r ≡ place_at places.old.items r }
 {
-    match exit_in(nodes, node, place) {
+    match exit_in(nodes, node, place as usize) {
         None => {}
         Some(moved) => places[moved] = place,
     }
 }
 
 // Takes the span of this number from the exits of the node where it begins, where it is among them.
-fn unlink(places: &mut Vec<usize>, nodes: &mut Vec<Node>, node: usize, number: usize)
+fn unlink(places: &mut Vec<u32>, nodes: &mut Vec<Node>, node: usize, number: usize)
     requires number { number < length places.old.items }
     requires node { node < length nodes.old.items }
     requires exits { (i : ℕ) → i < length (content_at nodes.old.items node).exits → exit_at nodes.old.items node i < length places.old.items }
@@ -170,7 +171,7 @@ fn unlink(places: &mut Vec<usize>, nodes: &mut Vec<Node>, node: usize, number: u
         return;
     }
     let place = places[number];
-    take_exit(nodes, node, place);
+    take_exit(nodes, node, place as usize);
     renumber(places, nodes, node, place);
 }
 
@@ -178,7 +179,7 @@ fn unlink(places: &mut Vec<usize>, nodes: &mut Vec<Node>, node: usize, number: u
 fn unlink_bare(
     edges: &IndexSet<Edge>,
     spans: &IndexSet<Span>,
-    places: &mut Vec<usize>,
+    places: &mut Vec<u32>,
     nodes: &mut Vec<Node>,
     span: Span,
 )
@@ -191,12 +192,12 @@ fn unlink_bare(
 {
     // The contract names the edges, which the code does not need.
     let _count = edges.len();
-    if !is_bare(nodes, span.end) {
+    if !is_bare(nodes, span.end as usize) {
         return;
     }
     match spans.get_index_of(&span) {
         None => {}
-        Some(number) => unlink(places, nodes, span.begin, number),
+        Some(number) => unlink(places, nodes, span.begin as usize, number),
     }
 }
 
@@ -205,7 +206,7 @@ fn unlink_bare(
 pub fn prune(
     edges: &IndexSet<Edge>,
     spans: &IndexSet<Span>,
-    places: &mut Vec<usize>,
+    places: &mut Vec<u32>,
     nodes: &mut Vec<Node>,
     removed: &[Span],
 )

@@ -1,4 +1,4 @@
-use Rattle.std.proofs.Common.{subst, sym, ◌∙◌, arith}
+use Rattle.std.proofs.Common.{◌≡◌, ◌++◌, ◌∷◌, [], subst, sym, ◌∙◌, arith}
 use Rattle.term_tree.specs.Left.{IsSorted}
 use Rattle.term_tree.proofs.DescentLaws.{closes_more, front_sorted, below_last}
 use Rattle.term_tree.proofs.descent.close.Goals as goal
@@ -14,5 +14,6 @@ returns-then-last-height-clause-below c =
 pub loop-last-preserved : goal.loop-last-preserved
 loop-last-preserved c = record {
   closes = closes_more c.args.opened.now.items c.loop-last.opened.items c.pop.new.self.items c.in-Some.last c.args.closed.now.items c.loop-last.closed.items c.push-in-Some.new.self.items c.args.node c.args.height
-      c.in-Some.ensures.items c.in_ok-push-2.ensures.items (omega (arith, c.if-last-height.false)) c.loop-last.invariant.closes;
+      c.in-Some.ensures.items
+      (subst (λ m. c.push-in-Some.new.self.items ≡ c.loop-last.closed.items ++ record { begin = c.in-Some.last.begin; end = m } ∷ []) c.in_ok-short.ensures.same c.in_ok-push-2.ensures.items) (omega (arith, c.if-last-height.false)) c.loop-last.invariant.closes;
 }

@@ -17,7 +17,8 @@ returns-clause-descent c =
     let h : c.len-height.result ≡ length rest = omega (arith, c.len-height.ensures, c.args.descent.now.left.ok.0) in
     let e = c.in_ok-push_args.ensures in
     let k : c.len-left.result ≡ length (rest ++ reverse args) = omega (arith, c.len-left.ensures, c.push_args.new.left.ok.0, ap length e) in
-    let one = subst (λ (xs : List Open). Closes xs after old new c.args.next c.len-left.result) c.in_ok-push.ensures.items c.in_ok-close.ensures.closes in
+    let pushed = subst (λ (xs : List Open). Closes xs after old new c.args.next c.len-left.result) c.in_ok-push.ensures.items c.in_ok-close.ensures.closes in
+    let one = subst (λ (m : ℕ). Closes (before ++ record { begin = m; height = c.len-height.result } ∷ []) after old new c.args.next c.len-left.result) c.in_ok-short.ensures.same pushed in
     let two = subst (λ (n : ℕ). Closes (before ++ record { begin = c.args.node; height = n } ∷ []) after old new c.args.next c.len-left.result) h one in
     let closes = subst (λ (n : ℕ). Closes (before ++ record { begin = c.args.node; height = length rest } ∷ []) after old new c.args.next n) k two in
     λ es all d child. subst (λ (xs : List ℕ). IsDescent f es all c.args.next xs after new) (sym e)

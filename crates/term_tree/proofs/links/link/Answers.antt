@@ -16,19 +16,19 @@ pub returns-clause-listed : goal.returns-clause-listed
 returns-clause-listed c =
     let qs = c.numbered.new.places.items in
     let r = c.in_ok-number.number in
-    let k = c.count_of.result in
+    let k = c.in_ok-places.field-0 in
     pushed_listed c.numbered.new.spans.keys qs (Rattle.std.proofs.Common.slice_set qs r k) c.args.nodes.now.items c.push_exit.new.nodes.items c.args.span r (listed c)
     c.in_ok-number.ensures.number.within c.in_ok-number.ensures.number.is (c.is_linked.ensures.no c.if-is_linked.false)
-    (length-set qs r k) (get_or-set_same qs r k 0 (within c) ∙ c.count_of.ensures) (λ j d. get_or-set_other qs r j k 0 d)
+    (length-set qs r k) (get_or-set_same qs r k 0 (within c) ∙ c.in_ok-places.ensures) (λ j d. get_or-set_other qs r j k 0 d)
     c.in_ok-push_exit.ensures.exits c.push_exit.ensures.others
 
 pub returns-clause-kept : goal.returns-clause-kept
 returns-clause-kept c = λ n e x.
     (let qs = c.numbered.new.places.items in
     let r = c.in_ok-number.number in
-    let k = c.count_of.result in
+    let k = c.in_ok-places.field-0 in
     pushed_kept c.numbered.new.spans.keys qs (Rattle.std.proofs.Common.slice_set qs r k) c.args.nodes.now.items c.push_exit.new.nodes.items c.args.span r (listed c)
     c.in_ok-number.ensures.number.within c.in_ok-number.ensures.number.is (c.is_linked.ensures.no c.if-is_linked.false)
-    (length-set qs r k) (get_or-set_same qs r k 0 (within c) ∙ c.count_of.ensures) (λ j d. get_or-set_other qs r j k 0 d)
+    (length-set qs r k) (get_or-set_same qs r k 0 (within c) ∙ c.in_ok-places.ensures) (λ j d. get_or-set_other qs r j k 0 d)
     c.in_ok-push_exit.ensures.exits c.push_exit.ensures.others n e
     (numbered_kept c.args.spans.now.keys c.numbered.new.spans.keys c.args.span r c.in_ok-number.ensures.number c.args.places.now.items qs c.args.nodes.now.items c.requires.listed c.in_ok-number.ensures.places c.in_ok-number.ensures.kept n e x))

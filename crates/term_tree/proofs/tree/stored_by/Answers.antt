@@ -8,6 +8,7 @@ use Rattle.term_tree.proofs.DescentLaws.{way_linked, way_within}
 use Rattle.term_tree.proofs.Growing.{grown_arena, grown_keeps}
 use Rattle.term_tree.proofs.Linking.{listed_arena}
 use Rattle.term_tree.proofs.TermLaws.{spans_labels}
+use Rattle.term_tree.proofs.PairLaws.{found_kept}
 use Rattle.term_tree.proofs.StoreLaws.{ChangesAt, pairs_kept, stored_kept, put_arena, put_adds, put_stored, on_err, held_pairs}
 use Rattle.term_tree.proofs.tree.stored_by.Goals as goal
 use Rattle.term_tree.proofs.tree.stored_by.Goals.{In_ok-put_pair}
@@ -86,3 +87,8 @@ returns-clause-added c =
 pub put_pair-requires-clause-absent : goal.put_pair-requires-clause-absent
 put_pair-requires-clause-absent c = λ n h. c.requires.absent (subst (λ ps. Contains ps (c.args.atom, c.args.entry))
     (pairs_kept c.args.nodes.now.items c.link_all.new.nodes.items (λ k. c.link_all.ensures.pairs k ∙ c.grown_leaf.ensures.pairs k ∙ c.rooted.ensures.pairs k)) (held_stored c.link_all.new.nodes.items n (c.args.atom, c.args.entry) h))
+
+pub put_pair-requires-clause-found : goal.put_pair-requires-clause-found
+put_pair-requires-clause-found c =
+    found_kept c.args.found.now.entries c.args.nodes.now.items c.link_all.new.nodes.items
+    (λ n. c.link_all.ensures.pairs n ∙ c.grown_leaf.ensures.pairs n ∙ c.rooted.ensures.pairs n) c.requires.found

@@ -7,6 +7,7 @@ use Rattle.term_index.specs.Pairs.{Removes}
 use Rattle.term_tree.specs.State.{pairs_of, IsStored}
 use Rattle.term_tree.proofs.DescentLaws.{way_within}
 use Rattle.term_tree.proofs.PathLaws.{leads_in}
+use Rattle.term_tree.proofs.PairLaws.{found_kept}
 use Rattle.term_tree.proofs.StoreLaws.{changed, absent_nowhere, taken_arena, taken_stored, taken_removes, taken_absent, stored_kept, pairs_kept}
 use Rattle.term_tree.proofs.tree.taken_by.Goals as goal
 
@@ -51,3 +52,6 @@ returns-in_ok-there-in-Some-clause-absent c = λ t.
 
 pub returns-in_err-there-in-Some-clause-stored : goal.returns-in_err-there-in-Some-clause-stored
 returns-in_err-there-in-Some-clause-stored c = subst (IsStored c.args.bank.now c.args.edges.now.keys) (sym c.in_err-there-in-Some.ensures.held) c.requires.stored
+
+pub returns-in_ok-there-in-Some-clause-found : goal.returns-in_ok-there-in-Some-clause-found
+returns-in_ok-there-in-Some-clause-found c = found_kept c.take_pair.new.found.entries c.take_pair.new.nodes.items c.prune.new.nodes.items c.prune.ensures.pairs c.in_ok-there-in-Some.ensures.found
