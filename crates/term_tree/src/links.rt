@@ -18,7 +18,7 @@ fn exit_in(nodes: &Vec<Node>, node: usize, place: usize) -> Option<usize>
     ensures { MatchOption result (length (content_at nodes.now.items node).exits ≤ place) (λ r. (place < length (content_at nodes.now.items node).exits) × (exit_at nodes.now.items node place ≡ r)) }
 {
     let here = &nodes[node];
-    match here.exits.get(place) {
+    match here.exits.as_slice().get(place) {
         None => None,
         Some(r) => Some(*r as usize),
     }
@@ -51,10 +51,6 @@ fn push_exit(nodes: &mut Vec<Node>, node: usize, number: usize) -> Result<(), Me
     ensures pairs { (content_at nodes.new.items node).pairs ≡ (content_at nodes.old.items node).pairs }
 {
     let here = &mut nodes[node];
-    // (most nodes have one exit, and a list that grows by itself begins with room for four)
-    if here.exits.is_empty() {
-        here.exits.reserve_exact(1)?;
-    }
     here.exits.push(short(number)?)?;
     Ok(())
 }
