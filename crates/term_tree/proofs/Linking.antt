@@ -299,6 +299,7 @@ unlinked_arena es ss ps qs ns ms s r a w is end bare h = record {
   none = λ v. a.none (omega (arith, h.len));
   order = a.order;
   once = a.once;
+  short = a.short;
   listed = h.listed ss a.listed;
   spans = a.spans;
   linked = λ n c k reach. (let x = a.linked n c k (before c reach) in (
@@ -329,6 +330,7 @@ listed_arena es ss ts ps qs ns ms added a l h len pairs are = record {
   none = λ v. a.none (omega (arith, len));
   order = a.order;
   once = a.once;
+  short = a.short;
   listed = l;
   spans = λ r w. elim (h.spans r w) [
     | inl x ↦ subst (λ (y : Span). Spans es y.begin y.end) (sym x.1) (a.spans r x.0)
