@@ -1,7 +1,7 @@
 // The added clauses and the steps, and by which of these a clause is known to the trail. The trail's number of a forgotten
 // clause may be given again, while its step stays here, since other steps may cite it: so the two kinds of numbers are kept
 // apart.
-ghost use Rattle.std.specs.Prelude.{◌≡◌, [], ◌∷◌, ◌<◌, ℕ, List, Some, IsTrue, length, map, slice_get, option_copied};
+ghost use Rattle.std.specs.Prelude.{◌≡◌, [], ◌∷◌, ◌<◌, ℕ, List, Some, IsTrue, length, map, slice_get, option_copied, IfOk};
 ghost use Rattle.inst_logic.specs.declared.signed.Signed.{Signed};
 ghost use Rattle.inst_logic.specs.Derivations.{at_number};
 ghost use Rattle.prop_logic.specs.Literal.{cited, AtomsBelow, AllAtomsBelow, StepsBelow};
@@ -12,7 +12,8 @@ ghost use Rattle.cdcl_core.specs.Log.{IsNamed};
 
 use crate::names::Names;
 use flat_clauses::FlatClauses;
-use prop_logic::{Derivation, Hint, Lit};
+use inst_logic::Memory;
+use prop_logic::{Derivation, Hint, HintList, Lit, LitList, Step};
 use std::alloc::Global;
 
 // `names` has for the number of each clause what cites it here, and `units` for some atoms the step that has their literal
@@ -23,6 +24,15 @@ pub(crate) struct Log {
     pub(crate) steps: Derivation,
     pub(crate) names: Names,
     pub(crate) units: Names,
+}
+
+// A step whose lists are as long as they need be: those that an analysis made have room for more.
+pub(crate) fn step_of(alloc: Global, clause: &[Lit], hints: &[Hint]) -> Result<Step, Memory>
+    ensures { IfOk result (λ step. step ≡ record { clause = clause.now; hints = hints.now }) }
+{
+    let clause = LitList::from(Vec::from_slice(alloc, clause)?);
+    let hints = HintList::from(Vec::from_slice(alloc, hints)?);
+    Ok(Step { clause, hints })
 }
 
 impl Log {

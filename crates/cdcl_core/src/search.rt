@@ -20,7 +20,7 @@ ghost use Rattle.cdcl_core.specs.Search.{IsKept, IsTrueUpTo, IsSearch, IsCoreIn,
 use crate::analysis::{Analysis, analyze, analyze_given, literal_at};
 use crate::cut::cut;
 use crate::learned::Learned;
-use crate::log::Log;
+use crate::log::{Log, step_of};
 use crate::marks::Marks;
 use crate::pace::Pace;
 use crate::phases::Phases;
@@ -374,10 +374,8 @@ impl Search {
         ensures clauses { self.new.clauses ≡ self.old.clauses }
         ensures assumed { self.new.assumed ≡ self.old.assumed }
     {
-        self.log.steps.push(Step {
-            clause,
-            hints: HintList::from(hints),
-        })
+        let step = step_of(self.alloc, clause.as_slice(), hints.as_slice())?;
+        self.log.steps.push(step)
     }
 
     // Gives the clause of the last step to the trail, and answers its number there.

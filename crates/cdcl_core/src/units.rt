@@ -8,10 +8,10 @@ ghost use Rattle.cdcl_trail.specs.Trail.{IsTrail};
 ghost use Rattle.cdcl_core.specs.Search.{IsLogOf, IsLogMore};
 
 use crate::analysis::literal_at;
-use crate::log::Log;
+use crate::log::{Log, step_of};
 use cdcl_trail::Trail;
 use inst_logic::Memory;
-use prop_logic::{Hint, HintList, Lit, LitList, Step, complement};
+use prop_logic::{Hint, Lit, complement};
 use std::alloc::Global;
 
 // What cites the literal alone, if a clause gave it and it is known.
@@ -62,14 +62,10 @@ fn push_unit(alloc: Global, log: &mut Log, lit: Lit, hints: Vec<Hint>) -> Result
     ensures more { OnOk result ((atoms : ℕ) → lit.atom < atoms → IsLogMore atoms log.old log.new) }
     ensures added { log.new.added ≡ log.old.added }
 {
-    let mut clause = LitList::new(alloc);
-    clause.push(lit)?;
-    log.steps.push(Step {
-        clause,
-        hints: HintList::from(hints),
-    })?;
-    let step = Hint::Step(log.steps.len());
-    log.units.put(lit.atom, step)
+    let step = step_of(alloc, &[lit], hints.as_slice())?;
+    log.steps.push(step)?;
+    let hint = Hint::Step(log.steps.len());
+    log.units.put(lit.atom, hint)
 }
 
 // Makes a step of the fact at the place, if those that it rests on are known.
