@@ -194,6 +194,13 @@ pub slots_oldest : (old new : List (Option Item)) (front later : ℕ) (heap : Li
     → AreSlots new later heap
 slots_oldest old new front later heap item h (k, t, g) gaps l = record { ranking = subst (λ s. IsRanking s heap) (sym t.1) (ranking_taken old k heap h.ranking); gaps = gaps; within = l }
 
+pub slots_least : (old new : List (Option Item)) (front : ℕ) (heap rest : List Ranked) (item : Item) → AreSlots old front heap → IsLeastTaken old new item → IsRanking new rest → AreSlots new front rest
+slots_least old new front heap rest item h (k, t, g) r = record {
+  ranking = r;
+  gaps = subst (λ s. AreGapsBefore s front) (sym t.1) (gaps_taken old k front h.gaps);
+  within = let f = h.within in let e = ap length t.1 in let d = length_taken old k in omega arith;
+}
+
 pub slots_gap : (slots : List (Option Item)) (front : ℕ) (heap : List Ranked) → AreSlots slots front heap → AreSlots (slots ++ None ∷ []) front heap
 slots_gap slots front heap h = record {
   ranking = record {
@@ -272,6 +279,15 @@ pub slots_after_oldest : (o : Option Item) (old new : List (Option Item)) (front
 slots_after_oldest None old new front later heap h s n g l = record { ranking = subst (λ z. IsRanking z heap) (sym n.0) h.ranking; gaps = g; within = l }
 slots_after_oldest (Some x) old new front later heap h s n g l = slots_oldest old new front later heap x h s g l
 
+pub slots_after_least : (o : Option Item) (old new : List (Option Item)) (front : ℕ) (heap rest : List Ranked) → AreSlots old front heap → IfSome o (λ x. IsLeastTaken old new x)
+    → IfNone o ((new ≡ old) × AreGaps old) → IsRanking new rest → AreSlots new front rest
+slots_after_least None old new front heap rest h s n r = record {
+  ranking = r;
+  gaps = subst (λ z. AreGapsBefore z front) (sym n.0) h.gaps;
+  within = subst (λ z. front ≤ length z) (sym n.0) h.within;
+}
+slots_after_least (Some x) old new front heap rest h s n r = slots_least old new front heap rest x h s r
+
 pub some_oldest : (o : Option Item) (old new : List (Option Item)) → IfSome o (λ x. IsOldestTaken old new x) → IfSome o (λ x. IsPicked true (waiting_of old) (waiting_of new) x.number)
 some_oldest None old new s = tt
 some_oldest (Some x) old new s = oldest_picked old new x s
@@ -284,7 +300,7 @@ pub none_waits : (o : Option Item) (old new : List (Option Item)) → IfNone o (
 none_waits None old new n = (no_items old n.1, ap waiting_of n.0)
 none_waits (Some x) old new n = tt
 
--- where nothing waits, no slots are as good
-pub none_begins : (o : Option Item) (old new begun : List (Option Item)) → IfNone o ((new ≡ old) × AreGaps old) → begun ≡ [] → IfNone o ((waiting_of old ≡ []) × (waiting_of begun ≡ waiting_of old))
-none_begins None old new begun n b = (no_items old n.1, ap waiting_of b ∙ sym (no_items old n.1))
-none_begins (Some x) old new begun n b = tt
+-- an empty heap names no item
+pub nothing_waits : (slots : List (Option Item)) (heap : List Ranked) → length heap ≡ 0 → IsRanking slots heap → waiting_of slots ≡ []
+nothing_waits slots [] e r = no_items slots (λ j item at. let (x, (k, l, p), q) = r.named j item at in omega (arith, l))
+nothing_waits slots (x ∷ heap) e r = absurd (omega (arith, e))

@@ -48,7 +48,7 @@ pub fn choose_among(old: Option<usize>, literals: &[Lit], v: &Valuation) -> Opti
     first_true(literals, v)
 }
 
-/// The same for a clause in a list of its own.
+/// As `choose_among`, for a clause in a list of its own.
 pub fn choose(old: Option<usize>, clause: &LitList, v: &Valuation) -> Option<usize>
     requires place { IfSome old (λ p. (0 < p) × (p ≤ length clause.now)) }
     ensures chosen { IsChosen old clause.now v.now result }

@@ -46,6 +46,18 @@ impl Queue {
         }
     }
 
+    // Begins with new slots where nothing waits, since they are all gaps then: else each put of a long run would keep one.
+    fn begin_anew(&mut self)
+        ensures items { self.new.items ≡ self.old.items }
+        ensures even { self.new.even ≡ self.old.even }
+        ensures spent { self.new.spent ≡ self.old.spent }
+    {
+        if self.heap.peek().is_none() {
+            self.slots.clear();
+            self.front = 0;
+        }
+    }
+
     // The slot is made before the heap names it, and is a gap until then.
     fn store(&mut self, item: Item) -> Result<(), Memory>
         ensures ok { OnOk result (self.new.items ≡ self.old.items ++ (item.number, item.size) ∷ []) }
@@ -71,24 +83,10 @@ impl Queue {
         if self.spent {
             return Err(Memory);
         }
+        self.begin_anew();
         let stored = self.store(Item { number, size });
         self.spent = stored.is_err();
         stored
-    }
-
-    // The least. Where none is left the slots, which are all gaps, begin anew: else each put of a long run would keep one.
-    fn take_least_or_begin(&mut self) -> Option<Item>
-        ensures none { IfNone result ((self.old.items ≡ []) × (self.new.items ≡ self.old.items)) }
-        ensures some { IfSome result (λ item. IsPicked false self.old.items self.new.items item.number) }
-        ensures even { self.new.even ≡ self.old.even }
-        ensures spent { self.new.spent ≡ self.old.spent }
-    {
-        let taken = take_least(&mut self.slots, &mut self.heap);
-        if taken.is_none() {
-            self.slots.clear();
-            self.front = 0;
-        }
-        taken
     }
 
     // The oldest, or the least.
@@ -101,7 +99,7 @@ impl Queue {
         if oldest {
             take_oldest(&mut self.slots, &mut self.front)
         } else {
-            self.take_least_or_begin()
+            take_least(&mut self.slots, &mut self.heap)
         }
     }
 

@@ -61,7 +61,6 @@ pub(crate) fn take_least(
     ensures some { IfSome result (λ item. IsLeastTaken slots.old.items slots.new.items item) }
     ensures none { IfNone result ((slots.new.items ≡ slots.old.items) × AreGaps slots.old.items) }
     ensures ranking { IsRanking slots.new.items (heap_items heap.new) }
-    ensures empty { IfNone result (heap_items heap.new ≡ []) }
 {
     while let Some(Reverse((_, _, place))) = heap.pop() {
         let taken = take_at(slots, place);
