@@ -31,3 +31,4 @@ pub mod Ended
 pub mod Endings
 pub mod Stopped
 pub mod Decisions
+pub mod Logged

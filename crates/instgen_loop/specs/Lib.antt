@@ -14,3 +14,6 @@ pub mod Starting
 pub mod Refuting
 pub mod Deciding
 pub mod Ending
+pub mod Endings
+pub mod Lines
+pub mod EventLogs

@@ -5,24 +5,25 @@ ghost use Rattle.prop_logic.specs.Solving.{IsAnswer};
 ghost use Rattle.instgen_select.specs.Choices.{IsTrueAt};
 ghost use Rattle.instgen_loop.specs.Solves.{IsTrueEntry};
 
-use crate::settle::clause_after;
+use crate::ground::clause_after;
+use flat_clauses::FlatClauses;
 use inst_logic::Memory;
-use instgen_select::choose;
-use prop_logic::{Answer, LitList, LitLists, Solver, Valuation};
+use instgen_select::choose_among;
+use prop_logic::{Answer, Lit, Solver, Valuation};
 use std::alloc::Global;
 
 // Whether a literal of the clause is true.
-fn is_true(clause: &LitList, v: &Valuation) -> bool
+fn is_true(clause: &[Lit], v: &Valuation) -> bool
     ensures { result ≡ true → (p : ℕ) × IsTrueAt clause.now v.now p }
 {
-    match choose(None, clause, v) {
+    match choose_among(None, clause, v) {
         Some(_) => true,
         None => false,
     }
 }
 
 // Whether all the clauses after the first `count` are true.
-fn are_true_after(literals: &LitLists, count: usize, v: &Valuation) -> bool
+fn are_true_after(literals: &FlatClauses, count: usize, v: &Valuation) -> bool
     ensures { result ≡ true → (i : ℕ) → count ≤ i → i < length literals.now → IsTrueEntry literals.now v.now i }
 {
     for k in count..literals.len() {
@@ -38,7 +39,7 @@ fn are_true_after(literals: &LitLists, count: usize, v: &Valuation) -> bool
 pub fn ask<S: Solver>(
     alloc: Global,
     solver: &mut S,
-    literals: &LitLists,
+    literals: &FlatClauses,
     count: usize,
     v: &Valuation,
 ) -> Result<Answer, Memory>

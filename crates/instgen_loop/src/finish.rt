@@ -4,17 +4,17 @@ ghost use Rattle.inst_logic.specs.Printing.{is_readable_name};
 ghost use Rattle.inst_calculus.specs.Axioms.{with_axioms};
 ghost use Rattle.cert_format.specs.Printable.{IsPrintableClause};
 ghost use Rattle.instgen_loop.specs.Loops.{IsSafe, items};
-ghost use Rattle.instgen_loop.specs.Outcomes.{IsOutcome, journal_of};
+ghost use Rattle.instgen_loop.specs.Outcomes.{IsOutcome};
 ghost use Rattle.instgen_loop.specs.Deciding.{IsDecision, IsLeastOpen};
 ghost use Rattle.instgen_loop.specs.Ending.{IsAtRest, saturation_from};
+ghost use Rattle.instgen_loop.specs.Endings.{outcome_from};
 ghost use Rattle.instgen_loop.specs.Running.{IsSolvedFor};
 ghost use Rattle.instgen_loop.specs.Starting.{IsOfProblem};
 ghost use Rattle.instgen_loop.specs.Tended.{AreTended};
 
 use crate::decide::decide;
-use crate::event::Journal;
+use crate::ending::Ending;
 use crate::hand_over::base_of;
-use crate::outcome::Outcome;
 use crate::queue::Partners;
 use crate::start::Given;
 use crate::state::Run;
@@ -22,7 +22,6 @@ use inst_logic::{Memory, Problem};
 use prop_logic::Solver;
 use saturation_cert::Saturation;
 use std::alloc::Global;
-use std::mem::replace;
 use term_index::PartnerIndex;
 
 // The run's entries with their places, which takes the run's bank.
@@ -34,7 +33,7 @@ fn saturation_of<S: Solver, I: PartnerIndex>(
     ensures cert { IfOk result (λ s. s ≡ saturation_from run.old given) }
     ensures journal { OnOk result (run.new.journal ≡ run.old.journal) }
 {
-    let places = run.selection.take_places(alloc);
+    let places = run.selection.place_list(alloc)?;
     let base = base_of(alloc, run, given)?;
     Ok(Saturation { base, places })
 }
@@ -47,7 +46,7 @@ fn saturated<S: Solver, I: PartnerIndex>(
     _partners: &Partners<I>,
     given: Given,
     _budget: u64,
-) -> Result<Outcome, Memory>
+) -> Result<Ending, Memory>
     requires rest { IsAtRest S.atoms I.pairs I.fits run.old _partners.now }
     requires running { IsSolvedFor S.atoms S.added run.old (with_axioms _p.now.clauses) _budget }
     requires problem { IsOfProblem run.old given _p.now.clauses _p.now.names }
@@ -55,12 +54,11 @@ fn saturated<S: Solver, I: PartnerIndex>(
     requires named { length _p.now.names ≡ length _p.now.clauses }
     requires readable { All (λ n. IsTrue (is_readable_name n)) _p.now.names }
     requires decided { IsDecision run.old None }
-    ensures outcome { IfOk result (IsOutcome _p.now.clauses _p.now.names _budget) }
-    ensures journal { IfOk result (λ o. journal_of o ≡ run.old.journal) }
+    ensures outcome { IfOk result (λ e. IsOutcome _p.now.clauses _p.now.names _budget (outcome_from e run.new.journal)) }
+    ensures journal { OnOk result (run.new.journal ≡ run.old.journal) }
 {
     let cert = saturation_of(alloc, run, given)?;
-    let journal = replace(&mut run.journal, Journal::new(alloc));
-    Ok(Outcome::Saturated { cert, journal })
+    Ok(Ending::Saturated(cert))
 }
 
 // What is left of a budget that is not enough.
@@ -83,27 +81,25 @@ fn stopped<S: Solver, I: PartnerIndex>(
     given: Given,
     _budget: u64,
     wanted: u64,
-) -> Result<Outcome, Memory>
+) -> Result<Ending, Memory>
     requires rest { IsAtRest S.atoms I.pairs I.fits run.old _partners.now }
     requires running { IsSolvedFor S.atoms S.added run.old (with_axioms _p.now.clauses) _budget }
     requires problem { IsOfProblem run.old given _p.now.clauses _p.now.names }
     requires open { IsLeastOpen run.old wanted }
-    ensures outcome { IfOk result (IsOutcome _p.now.clauses _p.now.names _budget) }
-    ensures journal { IfOk result (λ o. journal_of o ≡ run.old.journal) }
+    ensures outcome { IfOk result (λ e. IsOutcome _p.now.clauses _p.now.names _budget (outcome_from e run.new.journal)) }
+    ensures journal { OnOk result (run.new.journal ≡ run.old.journal) }
 {
     let left = left_of(run);
     let state = saturation_of(alloc, run, given)?;
-    let journal = replace(&mut run.journal, Journal::new(alloc));
-    Ok(Outcome::OutOfBudget {
+    Ok(Ending::OutOfBudget {
         left,
         wanted,
         state,
-        journal,
     })
 }
 
-/// Looks at what was held back once more, and hands the bank, the entries with their places and the journal over. The run serves
-/// for nothing after.
+/// Looks at what was held back once more, and hands the bank and the entries with their places over. Only the run's journal
+/// serves for anything after.
 pub fn finish<S: Solver, I: PartnerIndex>(
     alloc: Global,
     p: &Problem,
@@ -111,7 +107,7 @@ pub fn finish<S: Solver, I: PartnerIndex>(
     partners: &Partners<I>,
     given: Given,
     budget: u64,
-) -> Result<Outcome, Memory>
+) -> Result<Ending, Memory>
     requires safe { IsSafe S.atoms I.pairs I.fits run.old }
     requires tended { AreTended I.pairs run.old partners.now }
     requires rests { run.old.queue.items ≡ [] }
@@ -121,8 +117,8 @@ pub fn finish<S: Solver, I: PartnerIndex>(
     requires clauses { All IsPrintableClause p.now.clauses }
     requires named { length p.now.names ≡ length p.now.clauses }
     requires readable { All (λ n. IsTrue (is_readable_name n)) p.now.names }
-    ensures outcome { IfOk result (IsOutcome p.now.clauses p.now.names budget) }
-    ensures journal { IfOk result (λ o. journal_of o ≡ run.old.journal) }
+    ensures outcome { IfOk result (λ e. IsOutcome p.now.clauses p.now.names budget (outcome_from e run.new.journal)) }
+    ensures journal { OnOk result (run.new.journal ≡ run.old.journal) }
 {
     match decide(alloc, run)? {
         None => saturated(alloc, p, run, partners, given, budget),

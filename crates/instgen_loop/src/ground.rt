@@ -1,5 +1,5 @@
 // The propositional side: the abstraction of each entry, in the solver and beside it.
-ghost use Rattle.std.specs.Prelude.{◌≡◌, ◌+◌, ◌-◌, ◌≤◌, ◌++◌, ◌∷◌, [], ℕ, List, length, map, All, OnOk, IfOk, false};
+ghost use Rattle.std.specs.Prelude.{◌≡◌, ◌+◌, ◌-◌, ◌<◌, ◌≤◌, ◌++◌, ◌∷◌, [], ℕ, List, length, map, All, OnOk, IfOk, Some, slice_get, false};
 ghost use Rattle.inst_logic.specs.declared.symbol.Sym.{Sym};
 ghost use Rattle.inst_logic.specs.declared.signed.Signed.{Signed};
 ghost use Rattle.inst_logic.specs.Clauses.{TreeClause};
@@ -8,9 +8,10 @@ ghost use Rattle.term_bank.specs.Forest.{Extends, AreFormed, IsClauseOf, clause_
 ghost use Rattle.ground_abs.specs.Abstracts.{AreAtomsIn, AreNotesIn, Grows};
 ghost use Rattle.instgen_loop.specs.Grounds.{IsLinked};
 
+use flat_clauses::FlatClauses;
 use ground_abs::Abstraction;
 use inst_logic::Memory;
-use prop_logic::{LitLists, Solver, Valuation, make_atoms};
+use prop_logic::{Lit, Solver, Valuation, make_atoms};
 use term_bank::{Bank, IdClause};
 
 /// The abstractions of the entries, one for one, and the last valuation of their atoms.
@@ -18,8 +19,19 @@ use term_bank::{Bank, IdClause};
 pub struct Ground<S: Solver> {
     pub abstraction: Abstraction,
     pub solver: S,
-    pub literals: LitLists,
+    pub literals: FlatClauses,
     pub valuation: Valuation,
+}
+
+/// The numbered literals of the entry after the first `count`.
+pub fn clause_after(literals: &FlatClauses, count: usize) -> &[Lit]
+    requires { count < length literals.now }
+    ensures { slice_get literals.now count ≡ Some result.now }
+{
+    match literals.get(count) {
+        Some(clause) => clause,
+        None => unreachable!(),
+    }
 }
 
 /// Adds the abstraction of one more entry.
@@ -49,7 +61,8 @@ pub fn add_entry<S: Solver>(
     let lits = ground.abstraction.abstract_clause(bank, clause)?;
     let count = ground.abstraction.len() - before;
     make_atoms(&mut ground.solver, count)?;
-    ground.solver.add(lits.as_slice())?;
-    ground.literals.push(lits)?;
+    let literals = lits.as_slice();
+    ground.solver.add(literals)?;
+    ground.literals.push(literals)?;
     Ok(())
 }

@@ -1,15 +1,18 @@
 // What the engine answers.
-ghost use Rattle.std.specs.Prelude.{◌≡◌, ◌≤◌, [], length, true, false, Some, None, All, IsTrue, IsFalse, IfOk};
+ghost use Rattle.std.specs.Prelude.{◌≡◌, ◌≤◌, [], length, true, false, Some, None, All, IsTrue, IsFalse, IfOk, OnOk};
 ghost use Rattle.inst_logic.specs.Measure.{is_function_free};
 ghost use Rattle.inst_logic.specs.Printing.{is_readable_name};
 ghost use Rattle.cert_format.specs.Printable.{IsPrintableClause};
 ghost use Rattle.inst_logic.specs.WellFormed.{is_constant};
 ghost use Rattle.inst_calculus.specs.Abstraction.{IsBot};
+ghost use Rattle.instgen_loop.specs.Endings.{outcome_from};
 ghost use Rattle.instgen_loop.specs.Starting.{IsFresh, IsAllowed};
 ghost use Rattle.instgen_loop.specs.Outcomes.{IsOutcome, IsDecided, appended_count, journal_of};
 
 use crate::cycle::cycle;
+use crate::ending::{Ending, outcome_from};
 use crate::event::Journal;
+use crate::event_log::EventLog;
 use crate::finish::finish;
 use crate::queue::Partners;
 use crate::refuted::refuted;
@@ -20,6 +23,7 @@ use inst_logic::{Memory, Problem, Sym, function_free};
 use prop_logic::Solver;
 use saturation_cert::{Refutation, Saturation};
 use std::alloc::Global;
+use std::mem::replace;
 use term_index::PartnerIndex;
 
 /// A certificate, or what the budget left open. The ids of the journal are those of the certificate's bank.
@@ -44,14 +48,14 @@ pub enum Outcome {
 }
 
 // Starts a run, lets it work, and ends it. The indexes of the selected literals go before a refutation is made, which needs
-// memory and no indexes.
+// memory and no indexes. The run keeps its journal.
 fn drive<S: Solver, I: PartnerIndex>(
     alloc: Global,
     p: &Problem,
     run: &mut Run<S, I>,
     mut partners: Partners<I>,
     budget: u64,
-) -> Result<Outcome, Memory>
+) -> Result<Ending, Memory>
     requires fresh { IsFresh S.atoms S.added I.pairs run.old }
     requires allowed { IsAllowed run.old p.now.clauses budget }
     requires bot { IsBot p.now.clauses run.old.ground.abstraction.bot }
@@ -62,8 +66,8 @@ fn drive<S: Solver, I: PartnerIndex>(
     requires clauses { All IsPrintableClause p.now.clauses }
     requires named { length p.now.names ≡ length p.now.clauses }
     requires readable { All (λ n. IsTrue (is_readable_name n)) p.now.names }
-    ensures outcome { IfOk result (IsOutcome p.now.clauses p.now.names budget) }
-    ensures appended { IfOk result (λ o. IsFalse (is_function_free p.now.clauses) → appended_count (journal_of o) ≤ budget) }
+    ensures outcome { IfOk result (λ e. IsOutcome p.now.clauses p.now.names budget (outcome_from e run.new.journal)) }
+    ensures appended { OnOk result (IsFalse (is_function_free p.now.clauses) → appended_count run.new.journal ≤ budget) }
 {
     let given = start(alloc, p, run, budget)?;
     match cycle(alloc, run, &mut partners, p, budget)? {
@@ -91,7 +95,7 @@ fn drive_with<S: Solver, I: PartnerIndex>(
     positive: I,
     negative: I,
     budget: u64,
-) -> Result<Outcome, Memory>
+) -> Result<Ending, Memory>
     requires fresh { IsFresh S.atoms S.added I.pairs run.old }
     requires allowed { IsAllowed run.old p.now.clauses budget }
     requires bot { IsBot p.now.clauses run.old.ground.abstraction.bot }
@@ -102,13 +106,14 @@ fn drive_with<S: Solver, I: PartnerIndex>(
     requires clauses { All IsPrintableClause p.now.clauses }
     requires named { length p.now.names ≡ length p.now.clauses }
     requires readable { All (λ n. IsTrue (is_readable_name n)) p.now.names }
-    ensures outcome { IfOk result (IsOutcome p.now.clauses p.now.names budget) }
-    ensures appended { IfOk result (λ o. IsFalse (is_function_free p.now.clauses) → appended_count (journal_of o) ≤ budget) }
+    ensures outcome { IfOk result (λ e. IsOutcome p.now.clauses p.now.names budget (outcome_from e run.new.journal)) }
+    ensures appended { OnOk result (IsFalse (is_function_free p.now.clauses) → appended_count run.new.journal ≤ budget) }
 {
     drive(alloc, p, run, Partners { positive, negative }, budget)
 }
 
-// Makes the run. It stands in a box: a function that holds so many maps by itself takes long to prove.
+// Makes the run, which is gone when the journal is made. It stands in a box: a function that holds so many maps by itself takes
+// long to prove.
 fn run_with<S: Solver, I: PartnerIndex>(
     alloc: Global,
     p: &Problem,
@@ -138,7 +143,10 @@ fn run_with<S: Solver, I: PartnerIndex>(
         alloc,
         new_run(alloc, solver, first, bot, allowed(p, budget)),
     )?;
-    drive_with(alloc, p, &mut run, positive, negative, budget)
+    let ending = drive_with(alloc, p, &mut run, positive, negative, budget)?;
+    let log = replace(&mut run.journal, EventLog::new(alloc));
+    drop(run);
+    outcome_from(alloc, ending, &log)
 }
 
 /// Runs the engine on the problem's clauses and their axioms of equality. The budget counts the symbols and variables of the

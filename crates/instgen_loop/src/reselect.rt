@@ -9,6 +9,7 @@ ghost use Rattle.instgen_loop.specs.Tended.{indexed_of};
 ghost use Rattle.instgen_loop.specs.Choosing.{IsUnderWay, IsChoice};
 ghost use Rattle.instgen_loop.specs.Settling.{AreSelectable, IsOrderly, Reselects, Requeues};
 
+use crate::ground::clause_after;
 use crate::infer::clause_of;
 use crate::order::rank;
 use crate::queue::{Partners, is_positive};
@@ -16,17 +17,18 @@ use crate::selection::{Chosen, chosen_literal};
 use crate::state::Run;
 use crate::work::selected_atom;
 use clause_form::clause_size;
+use flat_clauses::FlatClauses;
 use inst_logic::Memory;
-use prop_logic::{LitList, LitLists, Solver, Valuation};
+use prop_logic::{Lit, Solver, Valuation};
 use std::alloc::Global;
 use term_index::PartnerIndex;
 
 /// The numbered literals of entry `n`.
-pub fn numbered_clause(literals: &LitLists, n: usize) -> &LitList
+pub fn numbered_clause(literals: &FlatClauses, n: usize) -> &[Lit]
     requires { (0 < n) × (n ≤ length literals.now) }
     ensures { at_number literals.now n ≡ Some result.now }
 {
-    &literals.as_slice()[n - 1]
+    clause_after(literals, n - 1)
 }
 
 // Removes the entry from the index of its literal's sign, and answers whether it was there.
@@ -124,7 +126,7 @@ fn reselect_each<S: Solver, I: PartnerIndex>(
     run: &mut Run<S, I>,
     partners: &mut Partners<I>,
     v: &Valuation,
-    entries: &[usize],
+    entries: &[u32],
 ) -> Result<(), Memory>
     requires orderly { IsOrderly S.atoms I.pairs I.fits run.old partners.old }
     requires selectable { AreSelectable run.old v.now }
@@ -136,7 +138,7 @@ fn reselect_each<S: Solver, I: PartnerIndex>(
         → IsUnderWay run.old.ground.literals v.now left [] run.new.selection) }
 {
     for n in entries {
-        reselect(run, partners, v, *n)?;
+        reselect(run, partners, v, *n as usize)?;
     }
     Ok(())
 }

@@ -1,14 +1,16 @@
 // The selected literals of the entries.
-ghost use Rattle.std.specs.Prelude.{◌≡◌, ◌<◌, ◌≤◌, ◌-◌, ◌++◌, ◌∷◌, [], suc, Some, length, OnOk, IfSome, slice_get, slice_set, slice_index_or};
+ghost use Rattle.std.specs.Prelude.{◌≡◌, ◌<◌, ◌≤◌, ◌-◌, ◌++◌, ◌∷◌, [], suc, Some, length, IfOk, OnOk, IfSome, slice_get, slice_set, slice_index_or};
 ghost use Rattle.inst_logic.specs.Derivations.{at_number};
 ghost use Rattle.inst_logic.specs.Truth.{IsTrueClause};
 ghost use Rattle.prop_logic.specs.Valuation.{IsHeld};
 ghost use Rattle.instgen_select.specs.Choices.{IsTrueAt};
 ghost use Rattle.instgen_loop.specs.Choosing.{IsChoice, AreUsersKept};
 
-use inst_logic::{Memory, NumberList, PlaceList};
-use instgen_select::choose;
-use prop_logic::{LitList, Valuation};
+use crate::small::small;
+use crate::users::Users;
+use inst_logic::{Memory, PlaceList};
+use instgen_select::choose_among;
+use prop_logic::{Lit, Valuation};
 use std::alloc::Global;
 use std::marker::Model;
 use std::mem::replace;
@@ -21,19 +23,19 @@ pub struct Chosen {
 }
 
 // The place of a true literal of a true clause: the old one where it is true.
-fn chosen_place(old: Option<usize>, clause: &LitList, v: &Valuation) -> usize
+fn chosen_place(old: Option<usize>, clause: &[Lit], v: &Valuation) -> usize
     requires place { IfSome old (λ p. (0 < p) × (p ≤ length clause.now)) }
     requires holds { IsTrueClause (IsHeld v.now) clause.now }
     ensures { IsTrueAt clause.now v.now result }
 {
-    match choose(old, clause, v) {
+    match choose_among(old, clause, v) {
         Some(place) => place,
         None => unreachable!(),
     }
 }
 
 /// The choice of a true literal of a true clause: that at the old place where it is true.
-pub fn chosen_literal(old: Option<usize>, clause: &LitList, v: &Valuation) -> Chosen
+pub fn chosen_literal(old: Option<usize>, clause: &[Lit], v: &Valuation) -> Chosen
     requires place { IfSome old (λ p. (0 < p) × (p ≤ length clause.now)) }
     requires holds { IsTrueClause (IsHeld v.now) clause.now }
     ensures { IsChoice clause.now v.now result.place result.atom }
@@ -41,15 +43,27 @@ pub fn chosen_literal(old: Option<usize>, clause: &LitList, v: &Valuation) -> Ch
     let place = chosen_place(old, clause, v);
     Chosen {
         place,
-        atom: clause.as_slice()[place - 1].atom,
+        atom: clause[place - 1].atom,
     }
 }
 
-fn add_user(users: &mut Vec<NumberList>, atom: usize, n: usize) -> Result<(), Memory>
+fn add_user(users: &mut Vec<Users>, atom: usize, n: usize) -> Result<(), Memory>
     requires { atom < length users.old.items }
     ensures { OnOk result (users.new.items ≡ slice_set users.old.items atom (slice_index_or users.old.items atom [] ++ n ∷ [])) }
 {
+    let n = small(n)?;
     users[atom].push(n)
+}
+
+// The places in a list as certificates have it.
+fn listed(alloc: Global, places: &[u32]) -> Result<PlaceList, Memory>
+    ensures { IfOk result (λ list. list ≡ places.now) }
+{
+    let mut list = Vec::with_capacity(alloc, places.len())?;
+    for place in places {
+        list.push(*place as usize)?;
+    }
+    Ok(PlaceList::from(list))
 }
 
 /// For each of the first entries the place of its selected literal, counted from 1, and for each numbered atom the entries that
@@ -57,8 +71,8 @@ fn add_user(users: &mut Vec<NumberList>, atom: usize, n: usize) -> Result<(), Me
 /// the last solve have no place yet.
 #[derive(Drop)]
 pub struct Selection {
-    places: Vec<usize>,
-    users: Vec<NumberList>,
+    places: Vec<u32>,
+    users: Vec<Users>,
 }
 
 impl Model for Selection {
@@ -92,7 +106,7 @@ impl Selection {
         requires { (0 < n) × (n ≤ length self.now.places) }
         ensures { at_number self.now.places n ≡ Some result }
     {
-        self.places[n - 1]
+        self.places[n - 1] as usize
     }
 
     /// Makes lists of users for so many atoms.
@@ -102,18 +116,18 @@ impl Selection {
         ensures users { OnOk result (AreUsersKept self.old.users self.new.users) }
     {
         for _ in self.users.len()..count {
-            self.users.push(NumberList::new(alloc))?;
+            self.users.push(Users::new(alloc))?;
         }
         Ok(())
     }
 
     /// The users of the atom, taken out.
-    pub fn take_users(&mut self, alloc: Global, atom: usize) -> NumberList
+    pub fn take_users(&mut self, alloc: Global, atom: usize) -> Users
         requires { atom < length self.old.users }
         ensures taken { slice_get self.old.users atom ≡ Some result }
         ensures rest { self.new ≡ record { places = self.old.places; users = slice_set self.old.users atom [] } }
     {
-        replace(&mut self.users[atom], NumberList::new(alloc))
+        replace(&mut self.users[atom], Users::new(alloc))
     }
 
     /// Selects the literal for entry `n`.
@@ -122,7 +136,7 @@ impl Selection {
         requires atom { chosen.atom < length self.old.users }
         ensures { OnOk result (self.new ≡ record { places = slice_set self.old.places (n - 1) chosen.place; users = slice_set self.old.users chosen.atom (slice_index_or self.old.users chosen.atom [] ++ n ∷ []) }) }
     {
-        self.places[n - 1] = chosen.place;
+        self.places[n - 1] = small(chosen.place)?;
         add_user(&mut self.users, chosen.atom, n)
     }
 
@@ -131,14 +145,14 @@ impl Selection {
         requires atom { chosen.atom < length self.old.users }
         ensures { OnOk result (self.new ≡ record { places = self.old.places ++ chosen.place ∷ []; users = slice_set self.old.users chosen.atom (slice_index_or self.old.users chosen.atom [] ++ suc (length self.old.places) ∷ []) }) }
     {
-        self.places.push(chosen.place)?;
+        self.places.push(small(chosen.place)?)?;
         add_user(&mut self.users, chosen.atom, self.places.len())
     }
 
-    /// The places, taken out.
-    pub fn take_places(&mut self, alloc: Global) -> PlaceList
-        ensures { result ≡ self.old.places }
+    /// The places, as certificates have them.
+    pub fn place_list(&self, alloc: Global) -> Result<PlaceList, Memory>
+        ensures { IfOk result (λ list. list ≡ self.now.places) }
     {
-        PlaceList::from(replace(&mut self.places, Vec::new(alloc)))
+        listed(alloc, &self.places)
     }
 }

@@ -15,27 +15,24 @@ ghost use Rattle.instgen_loop.specs.Choosing.{IsUnderWay, AreNumbersPlaced};
 ghost use Rattle.instgen_loop.specs.Settling.{IsOrderly, IsGrounded, IsSomeRun, Settles};
 
 use crate::ask::ask;
-use crate::event::Event;
 use crate::flips::flips_between;
+use crate::ground::clause_after;
 use crate::queue::Partners;
 use crate::reselect::reselect_all;
 use crate::selection::{Selection, chosen_literal};
 use crate::state::Run;
+use flat_clauses::FlatClauses;
 use inst_logic::Memory;
-use prop_logic::{Answer, Derivation, LitList, LitLists, Solver, Valuation};
+use prop_logic::{Answer, Derivation, Solver, Valuation};
 use std::alloc::Global;
 use term_index::PartnerIndex;
 
-/// The numbered literals of the entry after the first `count`.
-pub fn clause_after(literals: &LitLists, count: usize) -> &LitList
-    requires { count < length literals.now }
-    ensures { slice_get literals.now count ≡ Some result.now }
-{
-    &literals.as_slice()[count]
-}
-
 // The first entry without a place gets one.
-fn place_next(selection: &mut Selection, literals: &LitLists, v: &Valuation) -> Result<(), Memory>
+fn place_next(
+    selection: &mut Selection,
+    literals: &FlatClauses,
+    v: &Valuation,
+) -> Result<(), Memory>
     requires within { length selection.old.places < length literals.now }
     requires hold { All (IsTrueClause (IsHeld v.now)) literals.now }
     requires below { AllAtomsBelow (length selection.old.users) literals.now }
@@ -52,7 +49,7 @@ fn place_next(selection: &mut Selection, literals: &LitLists, v: &Valuation) -> 
 }
 
 // Each entry without a place gets one.
-fn place_new(selection: &mut Selection, literals: &LitLists, v: &Valuation) -> Result<(), Memory>
+fn place_new(selection: &mut Selection, literals: &FlatClauses, v: &Valuation) -> Result<(), Memory>
     requires within { length selection.old.places ≤ length literals.now }
     requires hold { All (IsTrueClause (IsHeld v.now)) literals.now }
     requires below { AllAtomsBelow (length selection.old.users) literals.now }
@@ -118,7 +115,7 @@ fn accept<S: Solver, I: PartnerIndex>(
         &v,
     )?;
     select_true(alloc, run, partners, &v, &flips.numbers)?;
-    run.journal.push(Event::Solved(flips.atoms))?;
+    run.journal.push_solved(&flips.atoms)?;
     run.ground.valuation = v;
     Ok(())
 }

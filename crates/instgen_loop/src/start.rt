@@ -16,17 +16,18 @@ ghost use Rattle.instgen_loop.specs.Starting.{IsFresh, IsAllowed, AreGiven, IsOf
 ghost use Rattle.instgen_loop.specs.FirstEntries.{Continues, IsStarted};
 
 use crate::entries::Entries;
-use crate::event::Journal;
+use crate::event_log::EventLog;
 use crate::ground::Ground;
 use crate::selection::Selection;
 use crate::state::{Run, make_entry};
 use clause_form::{clause_size, tautology};
 use equality_axioms::axioms_of;
+use flat_clauses::FlatClauses;
 use ground_abs::Abstraction;
 use indexmap::{IndexMap, IndexSet};
 use inst_logic::{ClauseList, Memory, NameList, Problem, Sym};
 use instgen_select::Queue;
-use prop_logic::{LitLists, Solver, Valuation};
+use prop_logic::{Solver, Valuation};
 use saturation_cert::Origin;
 use std::alloc::Global;
 use term_bank::{Bank, IdClause, IdClauseList};
@@ -80,13 +81,13 @@ pub fn new_run<S: Solver, I: PartnerIndex>(
         ground: Ground {
             abstraction: Abstraction::new(alloc, bot),
             solver,
-            literals: LitLists::new(alloc),
+            literals: FlatClauses::new(alloc),
             valuation: Valuation::new(alloc),
         },
         selection: Selection::new(alloc),
         queue: Queue::new(alloc),
         held: Vec::new(alloc),
-        journal: Journal::new(alloc),
+        journal: EventLog::new(alloc),
         bindings: Bindings::new(alloc),
         left,
     }

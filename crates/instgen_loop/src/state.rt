@@ -9,7 +9,7 @@ ghost use Rattle.instgen_loop.specs.Loops.{IsSafe, Appends, KeepsLink};
 ghost use Rattle.instgen_loop.specs.FirstEntries.{MakesEntry};
 
 use crate::entries::{Entries, push_entry};
-use crate::event::{Event, Journal};
+use crate::event_log::EventLog;
 use crate::ground::{Ground, add_entry};
 use crate::order::rank;
 use crate::selection::Selection;
@@ -40,7 +40,7 @@ pub struct Run<S: Solver, I: PartnerIndex> {
     pub selection: Selection,
     pub queue: Queue,
     pub held: Vec<Held>,
-    pub journal: Journal,
+    pub journal: EventLog,
     pub bindings: Bindings,
     /// What is left of the budget, in symbols. There is none on function-free problems.
     pub left: Option<u64>,
@@ -85,6 +85,6 @@ pub fn append<S: Solver, I: PartnerIndex>(
     ensures linked { OnOk result (KeepsLink S.atoms S.added run.old run.new) }
 {
     make_entry(run, clause, origin.clone()?, size)?;
-    run.journal.push(Event::Inferred(origin))?;
+    run.journal.push_inferred(&origin)?;
     Ok(())
 }

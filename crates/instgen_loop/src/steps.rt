@@ -5,10 +5,12 @@ ghost use Rattle.prop_logic.specs.Literal.{AtomsBelow, AllAtomsBelow, StepsBelow
 ghost use Rattle.ground_abs.specs.Numbers.{named};
 ghost use Rattle.instgen_loop.specs.Refuting.{ground_clause, ground_hint, ground_step};
 
+use crate::ground::clause_after;
+use flat_clauses::FlatClauses;
 use ground_abs::{Abstraction, add_literal};
 use indexmap::IndexSet;
 use inst_logic::Memory;
-use prop_logic::{Derivation, Hint, HintList, Lit, LitList, LitLists, Step};
+use prop_logic::{Derivation, Hint, HintList, Lit, Step};
 use saturation_cert::{GroundHint, GroundHintList, GroundStep, GroundStepList};
 use std::alloc::Global;
 use term_bank::{IdClause, IdClauseList, IdLiteral};
@@ -31,14 +33,14 @@ fn named_literal(abstraction: &Abstraction, l: Lit) -> IdLiteral
 fn ground_clause(
     alloc: Global,
     abstraction: &Abstraction,
-    literals: &LitList,
+    literals: &[Lit],
 ) -> Result<IdClause, Memory>
     requires below { AtomsBelow (length abstraction.now.ids) literals.now }
     ensures { IfOk result (λ c. c ≡ ground_clause abstraction.now.ids literals.now) }
 {
     let mut seen: IndexSet<IdLiteral> = IndexSet::new(alloc);
     let mut clause = IdClause::new(alloc);
-    for l in literals.as_slice() {
+    for l in literals {
         let literal = named_literal(abstraction, *l);
         add_literal(&mut seen, &mut clause, literal)?;
     }
@@ -49,16 +51,17 @@ fn ground_clause(
 pub fn ground_clauses(
     alloc: Global,
     abstraction: &Abstraction,
-    clauses: &LitLists,
+    clauses: &FlatClauses,
 ) -> Result<IdClauseList, Memory>
     requires below { AllAtomsBelow (length abstraction.now.ids) clauses.now }
     ensures { IfOk result (λ cs. cs ≡ map (ground_clause abstraction.now.ids) clauses.now) }
 {
-    let mut grounds = IdClauseList::new(alloc);
-    for c in clauses.as_slice() {
-        grounds.push(ground_clause(alloc, abstraction, c)?)?;
+    let mut grounds = Vec::with_capacity(alloc, clauses.len())?;
+    for i in 0..clauses.len() {
+        let clause = ground_clause(alloc, abstraction, clause_after(clauses, i))?;
+        grounds.push(clause)?;
     }
-    Ok(grounds)
+    Ok(IdClauseList::from(grounds))
 }
 
 fn ground_hint(hint: Hint) -> GroundHint
@@ -85,7 +88,7 @@ fn ground_step(alloc: Global, abstraction: &Abstraction, step: &Step) -> Result<
     requires below { AtomsBelow (length abstraction.now.ids) step.now.clause }
     ensures { IfOk result (λ s. s ≡ ground_step abstraction.now.ids step.now) }
 {
-    let clause = ground_clause(alloc, abstraction, &step.clause)?;
+    let clause = ground_clause(alloc, abstraction, step.clause.as_slice())?;
     let hints = ground_hints(alloc, &step.hints)?;
     Ok(GroundStep { clause, hints })
 }

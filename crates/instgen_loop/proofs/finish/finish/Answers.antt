@@ -1,7 +1,6 @@
 use Rattle.std.proofs.Common.{◌∙◌}
-use Rattle.std.proofs.lemmas.Result.{IfOk-weaker}
+use Rattle.std.proofs.lemmas.Result.{on_ok_weaker}
 use Rattle.inst_calculus.specs.Axioms.{with_axioms}
-use Rattle.instgen_loop.specs.declared.outcome.Outcome.{Outcome}
 use Rattle.instgen_loop.proofs.Ended.{held_conclude, rest_read, solved_read, problem_read, journal_read}
 use Rattle.instgen_loop.proofs.finish.finish.Goals as goal
 
@@ -28,8 +27,8 @@ stopped-requires-clause-problem g c = problem_read c.args.run.now c.decide.new.r
 
 pub returns-in-None-clause-journal : goal.returns-in-None-clause-journal
 returns-in-None-clause-journal g c =
-    IfOk-weaker c.saturated.result _ _ (λ (o : Outcome) e. e ∙ journal_read c.args.run.now c.decide.new.run c.in_ok-decide.ensures.reads) c.saturated.ensures.journal
+    on_ok_weaker c.saturated.result (λ e. e ∙ journal_read c.args.run.now c.decide.new.run c.in_ok-decide.ensures.reads) c.saturated.ensures.journal
 
 pub returns-in-Some-clause-journal : goal.returns-in-Some-clause-journal
 returns-in-Some-clause-journal g c =
-    IfOk-weaker c.stopped.result _ _ (λ (o : Outcome) e. e ∙ journal_read c.args.run.now c.decide.new.run c.in_ok-decide.ensures.reads) c.stopped.ensures.journal
+    on_ok_weaker c.stopped.result (λ e. e ∙ journal_read c.args.run.now c.decide.new.run c.in_ok-decide.ensures.reads) c.stopped.ensures.journal

@@ -23,9 +23,8 @@ returns-clause-linked g c = λ bot cs h.
           let e = c.in_ok-add.ensures.grown in
           let f = c.in_ok-make_atoms.ensures.added in
           let p = c.in_ok-push.ensures.ok in
-          let q = c.as_slice.ensures in
-          e ∙ ap (λ xs. xs ++ c.as_slice.result.now ∷ []) (f ∙ h.given) ∙ ap (λ (x : List (Signed _)). old.literals ++ x ∷ []) q ∙ sym p;
-      same = subst (λ x. AreAbstracted bot (atoms_in c.abstract_clause.new.bank later) x (cs ++ clause ∷ [])) (sym c.in_ok-push.ensures.ok)
+          e ∙ ap (λ xs. xs ++ c.as_slice-literals.result.now ∷ []) (f ∙ h.given) ∙ sym p;
+      same = subst (λ x. AreAbstracted bot (atoms_in c.abstract_clause.new.bank later) x (cs ++ clause ∷ [])) (sym (c.in_ok-push.ensures.ok ∙ ap (λ (x : List (Signed _)). old.literals ++ x ∷ []) c.as_slice-literals.ensures))
           (one_more_linked c.args.bank.now c.abstract_clause.new.bank before later bot old.literals cs c.in_ok-lits.lits clause
           a.extends h.fits.within a.grows h.same a.below (a.literals ∙ ap (λ b. abstract_literals b clause) h.constant));
       used = one_more_used c.args.bank.now c.abstract_clause.new.bank before later bot cs clause a.extends h.fits.within

@@ -1,12 +1,9 @@
-use Rattle.std.proofs.Common.{◌≡◌, ◌≤◌, sym, subst, List}
-use Rattle.std.specs.Prelude.{IsFalse}
-use Rattle.std.proofs.lemmas.Result.{IfOk-weaker}
-use Rattle.inst_logic.specs.Measure.{is_function_free}
+use Rattle.std.proofs.Common.{◌≤◌, sym, subst, List}
+use Rattle.std.proofs.lemmas.Result.{on_ok_weaker}
 use Rattle.inst_calculus.specs.Axioms.{with_axioms}
 use Rattle.inst_calculus.proofs.EqualityAxioms.{with_axioms_formed}
 use Rattle.instgen_loop.specs.declared.event.Event.{Event}
-use Rattle.instgen_loop.specs.declared.outcome.Outcome.{Outcome}
-use Rattle.instgen_loop.specs.Outcomes.{appended_count, journal_of}
+use Rattle.instgen_loop.specs.Outcomes.{appended_count}
 use Rattle.instgen_loop.proofs.Started.{all_wait, printable_formed}
 use Rattle.instgen_loop.proofs.FreshRuns.{problem_later, same_constant, appended_within}
 use Rattle.instgen_loop.proofs.outcome.drive.Goals as goal
@@ -39,12 +36,12 @@ pub returns-in-Some-clause-appended : goal.returns-in-Some-clause-appended
 returns-in-Some-clause-appended g c =
     let run = c.cycle.new.run in
     let clauses = c.args.p.now.clauses in
-    IfOk-weaker c.refuted.result (λ (o : Outcome). journal_of o ≡ run.journal) (λ o. IsFalse (is_function_free clauses) → appended_count (journal_of o) ≤ c.args.budget)
-    (λ o e f. subst (λ (js : List Event). appended_count js ≤ c.args.budget) (sym e) (appended_within g.S.Solver.atoms g.S.Solver.added run clauses c.args.budget c.in_ok-derivation.ensures.running f)) c.refuted.ensures.journal
+    on_ok_weaker c.refuted.result
+    (λ e f. subst (λ (js : List Event). appended_count js ≤ c.args.budget) (sym e) (appended_within g.S.Solver.atoms g.S.Solver.added run clauses c.args.budget c.in_ok-derivation.ensures.running f)) c.refuted.ensures.journal
 
 pub returns-in-None-clause-appended : goal.returns-in-None-clause-appended
 returns-in-None-clause-appended g c =
     let run = c.cycle.new.run in
     let clauses = c.args.p.now.clauses in
-    IfOk-weaker c.finish.result (λ (o : Outcome). journal_of o ≡ run.journal) (λ o. IsFalse (is_function_free clauses) → appended_count (journal_of o) ≤ c.args.budget)
-    (λ o e f. subst (λ (js : List Event). appended_count js ≤ c.args.budget) (sym e) (appended_within g.S.Solver.atoms g.S.Solver.added run clauses c.args.budget c.in_ok-derivation.ensures.running f)) c.finish.ensures.journal
+    on_ok_weaker c.finish.result
+    (λ e f. subst (λ (js : List Event). appended_count js ≤ c.args.budget) (sym e) (appended_within g.S.Solver.atoms g.S.Solver.added run clauses c.args.budget c.in_ok-derivation.ensures.running f)) c.finish.ensures.journal

@@ -21,21 +21,21 @@ select_true-requires-clause-below g c = subst (All (λ n. n < length c.args.run.
 
 pub returns-clause-orderly : goal.returns-clause-orderly
 returns-clause-orderly g c =
-    accepted_orderly g.S.Solver.atoms g.I.PartnerIndex.pairs g.I.PartnerIndex.fits c.select_true.new.run c.select_true.new.partners c.in_ok-select_true.ensures.orderly c.push.new.self c.args.v
+    accepted_orderly g.S.Solver.atoms g.I.PartnerIndex.pairs g.I.PartnerIndex.fits c.select_true.new.run c.select_true.new.partners c.in_ok-select_true.ensures.orderly c.push_solved.new.self c.args.v
 
 pub returns-clause-users : goal.returns-clause-users
 returns-clause-users g c =
-    accepted_users g.S.Solver.atoms g.S.Solver.added c.args.run.now c.select_true.new.run c.args.v c.in_ok-select_true.ensures.settles c.push.new.self c.in_ok-flips.flips.atoms c.in_ok-push.ensures.ok c.in_ok-flips.ensures.ids c.in_ok-flips.ensures.flips
+    accepted_users g.S.Solver.atoms g.S.Solver.added c.args.run.now c.select_true.new.run c.args.v c.in_ok-select_true.ensures.settles c.push_solved.new.self c.in_ok-flips.flips.atoms c.in_ok-push_solved.ensures c.in_ok-flips.ensures.ids c.in_ok-flips.ensures.flips
     (subst (λ n. length c.args.v ≤ n) c.requires.orderly.safe.count c.requires.satisfies.within)
 
 pub returns-clause-whole : goal.returns-clause-whole
 returns-clause-whole g c =
-    accepted_whole g.S.Solver.atoms g.S.Solver.added c.args.run.now c.select_true.new.run c.args.v c.in_ok-select_true.ensures.settles c.push.new.self c.in_ok-flips.flips.atoms c.in_ok-push.ensures.ok c.in_ok-flips.ensures.ids c.in_ok-flips.ensures.flips
+    accepted_whole g.S.Solver.atoms g.S.Solver.added c.args.run.now c.select_true.new.run c.args.v c.in_ok-select_true.ensures.settles c.push_solved.new.self c.in_ok-flips.flips.atoms c.in_ok-push_solved.ensures c.in_ok-flips.ensures.ids c.in_ok-flips.ensures.flips
     (subst (λ n. length c.args.v ≤ n) c.requires.orderly.safe.count c.requires.satisfies.within)
 
 pub returns-clause-solves : goal.returns-clause-solves
 returns-clause-solves g c = (
   c.in_ok-flips.flips.atoms,
-  accepted_solves g.S.Solver.atoms g.S.Solver.added c.args.run.now c.select_true.new.run c.args.v c.in_ok-select_true.ensures.settles c.push.new.self c.in_ok-flips.flips.atoms c.in_ok-push.ensures.ok c.in_ok-flips.ensures.ids c.in_ok-flips.ensures.flips
+  accepted_solves g.S.Solver.atoms g.S.Solver.added c.args.run.now c.select_true.new.run c.args.v c.in_ok-select_true.ensures.settles c.push_solved.new.self c.in_ok-flips.flips.atoms c.in_ok-push_solved.ensures c.in_ok-flips.ensures.ids c.in_ok-flips.ensures.flips
       (subst (λ n. length c.args.v ≤ n) c.requires.orderly.safe.count c.requires.satisfies.within),
 )

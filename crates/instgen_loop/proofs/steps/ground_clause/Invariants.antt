@@ -7,5 +7,5 @@ use Rattle.instgen_loop.proofs.steps.ground_clause.Given as goal
 abbrev pub invariant-loop-l : goal.invariant-loop-l
 invariant-loop-l l = record {
   same : l.clause ≡ l.seen.keys;
-  made : l.seen.keys ≡ distinct (signed_eq nat_eq) (map (named l.abstraction.ids) (take l.l-index l.l-items));
+  made : l.seen.keys ≡ distinct (signed_eq nat_eq) (map (named l.abstraction.ids) (take l.l-index l.literals));
 }
