@@ -2,10 +2,12 @@
 ghost use Rattle.std.specs.Prelude.{◌≡◌, map, IfOk, OnOk};
 ghost use Rattle.instgen_loop.specs.Refuting.{member_of, base_from};
 
+use crate::selection::Selection;
 use crate::start::Given;
 use crate::state::Run;
 use indexmap::IndexMap;
 use inst_logic::Memory;
+use instgen_select::Queue;
 use prop_logic::Solver;
 use saturation_cert::{Base, Member, MemberList, Origin};
 use std::alloc::Global;
@@ -33,6 +35,9 @@ pub fn base_of<S: Solver, I: PartnerIndex>(
     ensures base { IfOk result (λ b. b ≡ base_from run.old given) }
     ensures journal { OnOk result (run.new.journal ≡ run.old.journal) }
 {
+    // Their memory serves for the members.
+    run.selection = Selection::new(alloc);
+    run.queue = Queue::new(alloc);
     let clauses = replace(&mut run.entries.clauses, IndexMap::new(alloc));
     let members = members_of(alloc, clauses)?;
     Ok(Base {
