@@ -29,7 +29,6 @@ pub mod small;
 pub mod start;
 pub mod state;
 pub mod steps;
-pub mod users;
 pub mod work;
 
 pub use event::{Event, FlipList, Journal};

@@ -7,13 +7,16 @@ ghost use Rattle.instgen_select.specs.Choices.{IsTrueAt};
 ghost use Rattle.instgen_loop.specs.Choosing.{IsChoice, AreUsersKept};
 
 use crate::small::small;
-use crate::users::Users;
 use inst_logic::{Memory, PlaceList};
 use instgen_select::choose_among;
 use prop_logic::{Lit, Valuation};
+use short_lists::ShortList;
 use std::alloc::Global;
 use std::marker::Model;
 use std::mem::replace;
+
+/// The numbers of the entries that may have an atom selected: most often one or none.
+pub type Users = ShortList<u32>;
 
 /// The place of a literal, counted from 1, with the number of its atom.
 #[derive(Clone, Copy, Debug, PartialEq, Eq)]
