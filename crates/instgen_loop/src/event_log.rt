@@ -28,6 +28,8 @@ pub enum Line {
     },
 }
 
+const _: () = prove!(size_of::<Line>() == 20);
+
 // The line of an appended entry.
 fn line_of(origin: &Origin) -> Result<Line, Memory>
     ensures event { IfOk result (λ l. (flips : List ℕ) → event_of flips l ≡ Inferred origin.now) }
@@ -130,7 +132,7 @@ impl EventLog {
         }
     }
 
-    /// Adds a solve with its flips. It lacks memory where a run has more than 2^32 flips.
+    /// Adds a solve with its flips. It lacks memory where a run would have more than 2^32 - 1 flips.
     pub fn push_solved(&mut self, flips: &FlipList) -> Result<(), Memory>
         ensures { OnOk result (self.new ≡ self.old ++ Solved flips.now ∷ []) }
     {

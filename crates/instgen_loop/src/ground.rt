@@ -34,7 +34,7 @@ pub fn clause_after(literals: &FlatClauses, count: usize) -> &[Lit]
     }
 }
 
-/// Adds the abstraction of one more entry.
+/// Adds the abstraction of one more entry. It lacks memory where all entries would have more than 2^32 - 1 literals.
 pub fn add_entry<S: Solver>(
     bank: &mut Bank,
     ground: &mut Ground<S>,

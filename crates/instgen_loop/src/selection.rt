@@ -133,7 +133,7 @@ impl Selection {
         replace(&mut self.users[atom], Users::new(alloc))
     }
 
-    /// Selects the literal for entry `n`.
+    /// Selects the literal for entry `n`. It lacks memory where a number needs more than four bytes.
     pub fn select(&mut self, n: usize, chosen: Chosen) -> Result<(), Memory>
         requires within { (0 < n) × (n ≤ length self.old.places) }
         requires atom { chosen.atom < length self.old.users }
@@ -143,7 +143,7 @@ impl Selection {
         add_user(&mut self.users, chosen.atom, n)
     }
 
-    /// Selects the literal for the next entry, which has no place yet.
+    /// The same for the next entry, which has no place yet.
     pub fn select_next(&mut self, chosen: Chosen) -> Result<(), Memory>
         requires atom { chosen.atom < length self.old.users }
         ensures { OnOk result (self.new ≡ record { places = self.old.places ++ chosen.place ∷ []; users = slice_set self.old.users chosen.atom (slice_index_or self.old.users chosen.atom [] ++ suc (length self.old.places) ∷ []) }) }
