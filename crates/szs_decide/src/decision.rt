@@ -70,14 +70,15 @@ fn refuted(
     alloc: Global,
     p: &Problem,
     cert: Refutation,
-    _journal: Journal,
+    journal: Journal,
 ) -> Result<CheckedRefutation, Memory>
     requires problem { IsPrintableProblem p.now }
-    requires outcome { IsRefutedRun p.now.clauses p.now.names cert _journal }
+    requires outcome { IsRefutedRun p.now.clauses p.now.names cert journal }
     ensures { IfOk result (IsRefutedBy p.now) }
 {
     refutation_numbers(&cert);
     valid_certificates_certify();
+    drop(journal);
     checked_refutation(alloc, cert)
 }
 
@@ -85,14 +86,15 @@ fn satisfied(
     alloc: Global,
     p: &Problem,
     cert: Saturation,
-    _journal: Journal,
+    journal: Journal,
 ) -> Result<CheckedSaturation, Memory>
     requires problem { IsPrintableProblem p.now }
-    requires outcome { IsSaturatedRun p.now.clauses p.now.names cert _journal }
+    requires outcome { IsSaturatedRun p.now.clauses p.now.names cert journal }
     ensures { IfOk result (IsSatisfiedBy p.now) }
 {
     saturation_numbers(&cert);
     valid_certificates_certify();
+    drop(journal);
     checked_saturation(alloc, cert)
 }
 

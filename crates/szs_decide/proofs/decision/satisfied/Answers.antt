@@ -9,5 +9,5 @@ checked_saturation-requires-clause-whole c = c.requires.outcome.run.whole
 
 pub returns : goal.returns
 returns c =
-    always_satisfied c.valid_certificates_certify.ensures c.args.p.now c.requires.problem c.args.cert c.args._journal c.requires.outcome c.saturation_numbers.ensures
+    always_satisfied c.valid_certificates_certify.ensures c.args.p.now c.requires.problem c.args.cert c.args.journal c.requires.outcome c.saturation_numbers.ensures
     c.checked_saturation.result c.checked_saturation.ensures
