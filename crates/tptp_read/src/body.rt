@@ -13,7 +13,7 @@ use crate::numbers::variables_of;
 use crate::stop::Stop;
 use crate::width::is_wide;
 use indexmap::IndexSet;
-use inst_logic::Clause;
+use inst_logic::{Clause, Literal};
 use std::alloc::Global;
 
 // The most different variables that a statement may have.
@@ -26,6 +26,15 @@ pub(crate) struct Body<'a> {
     pub(crate) literals: Literals<'a>,
     pub(crate) wide: bool,
     pub(crate) crowded: bool,
+}
+
+// The clause in no more memory than it takes: a list that was pushed to has room for more.
+fn trimmed(clause: Clause) -> Clause
+    ensures { result ≡ clause }
+{
+    let mut literals: Vec<Literal> = Vec::from(clause);
+    literals.shrink_to_fit();
+    Clause::from(literals)
 }
 
 // The literals of a disjunction.
@@ -46,6 +55,7 @@ fn disjunction<'a>(
     let depth = tokens.len();
     let after = item(alloc, vars, depth, depth, tokens, at, &mut literals)?;
     let after = items(alloc, vars, depth, depth, tokens, after, &mut literals)?;
+    literals.clause = trimmed(literals.clause);
     Ok((literals, after))
 }
 

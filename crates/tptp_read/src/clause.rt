@@ -14,6 +14,7 @@ ghost use Rattle.inst_logic.specs.Codes as byte;
 use crate::lexeme::Lexeme;
 use crate::literals::{Atomic, literal};
 use crate::stop::Stop;
+use crate::terms::trimmed;
 use crate::words::{is_feature, stands_at};
 use indexmap::IndexSet;
 use inst_logic::{Clause, Kind, Literal, Memory, Name, Sym, Term, TermList};
@@ -80,7 +81,7 @@ fn push_equation(
     clause.push(Literal {
         positive,
         sym,
-        args,
+        args: trimmed(args),
     })
 }
 

@@ -94,6 +94,15 @@ fn applied(
     Ok((Term::App(sym, args), after + 1))
 }
 
+// The list in no more memory than it takes: a list that was pushed to has room for more.
+pub(crate) fn trimmed(args: TermList) -> TermList
+    ensures { result ≡ args }
+{
+    let mut items: Vec<Term> = Vec::from(args);
+    items.shrink_to_fit();
+    TermList::from(items)
+}
+
 // The terms behind the first, each with a comma before it.
 #[cycle(term)]
 fn arguments(
@@ -115,5 +124,5 @@ fn arguments(
         args.push(t)?;
         next = after;
     }
-    Ok((args, next))
+    Ok((trimmed(args), next))
 }

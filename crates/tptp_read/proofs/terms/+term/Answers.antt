@@ -23,6 +23,7 @@ term-returns-then-at-tokens-clause-is t c = ap (λ r. in_trees (texts c.args.var
 
 pub arguments-returns-clause-is : goal.arguments-returns-clause-is
 arguments-returns-clause-is t c = arguments_done (texts c.args.vars.now.keys) c.args.depth (toks (drop c.loop-alloc.next c.args.tokens.now)) c.loop-alloc.args _ (sym c.stands_at.ensures.is ∙ c.loop-alloc-test.false) c.loop-alloc.invariant.total
+    ∙ ap (λ args. Some (args, toks (drop c.loop-alloc.next c.args.tokens.now))) (sym c.trimmed.ensures)
 
 pub term-returns-then-depth-eq0-clause-is : goal.term-returns-then-depth-eq0-clause-is
 term-returns-then-depth-eq0-clause-is t c =
