@@ -17,6 +17,7 @@ use crate::log::Log;
 use crate::marks::Marks;
 use crate::places::Places;
 use cdcl_trail::Trail;
+use flat_clauses::Literals;
 use inst_logic::Memory;
 use prop_logic::{Hint, Lit, complement};
 use std::alloc::Global;
@@ -95,7 +96,7 @@ fn mark_all(
     trail: &Trail,
     marks: &mut Marks,
     waiting: &mut Waiting,
-    clause: &[Lit],
+    clause: &Literals,
 ) -> Result<(), Memory>
     requires trail { IsTrail trail.now.trail }
     requires room { length trail.now.trail.entries ≤ usize.MAX }
@@ -104,18 +105,19 @@ fn mark_all(
     ensures size { OnOk result (length marks.new ≡ length marks.old) }
     ensures marked { OnOk result (MarksToo trail.now.trail clause.now marks.old marks.new waiting.old waiting.new) }
 {
-    for lit in clause {
-        mark(trail, marks, waiting, *lit)?;
+    for i in 0..clause.len() {
+        mark(trail, marks, waiting, clause.at(i))?;
     }
     Ok(())
 }
 
 // Whether all atoms of the clause are marked or of level 0.
-fn are_marked(trail: &Trail, marks: &Marks, clause: &[Lit]) -> bool
+fn are_marked(trail: &Trail, marks: &Marks, clause: &Literals) -> bool
     requires size { length marks.now ≡ trail.now.trail.atoms }
     requires atoms { AtomsBelow (length marks.now) clause.now }
 {
-    for lit in clause {
+    for i in 0..clause.len() {
+        let lit = clause.at(i);
         if !marks.contains(lit.atom) && trail.level_of(lit.atom) != Some(0) {
             return false;
         }
@@ -144,7 +146,7 @@ fn stays(
     if analysis.clause.is_empty() {
         return level == trail.level() && analysis.waiting.present <= 1;
     }
-    !are_marked(trail, marks, log.cited(log.hint_of(number)))
+    !are_marked(trail, marks, &log.cited(log.hint_of(number)))
 }
 
 // Counts a literal as met.
@@ -172,7 +174,7 @@ fn take(
     ensures marked { OnOk result ((c : List (Signed ℕ)) → cited log.now.added log.now.steps hint ≡ Some c → MarksToo trail.now.trail c marks.old marks.new analysis.old.waiting analysis.new.waiting) }
 {
     analysis.hints.push(hint)?;
-    mark_all(trail, marks, &mut analysis.waiting, log.cited(hint))
+    mark_all(trail, marks, &mut analysis.waiting, &log.cited(hint))
 }
 
 // Lists the place of a fact of level 0 whose clause has other literals.

@@ -6,12 +6,13 @@ ghost use Rattle.inst_logic.specs.declared.signed.Signed.{Signed};
 ghost use Rattle.inst_logic.specs.Derivations.{at_number};
 ghost use Rattle.prop_logic.specs.Literal.{cited, AtomsBelow, AllAtomsBelow, StepsBelow};
 ghost use Rattle.prop_logic.specs.declared.literal.Hint.{Hint};
+ghost use Rattle.prop_logic.specs.declared.literal.Hint.TheVariants.{Step as CitesStep};
 ghost use Rattle.cdcl_trail.specs.declared.entry.Entry.{Entry};
 ghost use Rattle.cdcl_trail.specs.Propagation.{GivesUnit};
 ghost use Rattle.cdcl_core.specs.Log.{IsNamed};
 
 use crate::names::Names;
-use flat_clauses::FlatClauses;
+use flat_clauses::{FlatClauses, Literals, PackedLit};
 use inst_logic::Memory;
 use prop_logic::{Derivation, Hint, HintList, Lit, LitList, Step};
 use std::alloc::Global;
@@ -56,7 +57,7 @@ impl Log {
     }
 
     // The added clause of this number, counted from 1.
-    fn added_clause(&self, number: usize) -> Option<&[Lit]>
+    fn added_clause(&self, number: usize) -> Option<&[PackedLit]>
         ensures { option_copied result ≡ at_number self.now.added number }
     {
         if number == 0 {
@@ -78,25 +79,41 @@ impl Log {
         }
     }
 
-    // The clause that the hint cites, if it cites one.
-    fn found(&self, hint: Hint) -> Option<&[Lit]>
-        ensures { option_copied result ≡ cited self.now.added self.now.steps hint }
+    // The literals of the step of this number, or none where there is no step.
+    pub(crate) fn step_literals(&self, number: usize) -> &[Lit]
+        ensures { (c : List (Signed ℕ)) → cited self.now.added self.now.steps (CitesStep number) ≡ Some c → result.now ≡ c }
     {
-        match hint {
-            Hint::Added(number) => self.added_clause(number),
-            Hint::Step(number) => self.step_clause(number),
+        match self.step_clause(number) {
+            Some(clause) => clause,
+            None => &[],
         }
     }
 
-    // The clause that the hint cites, or an empty slice where it cites none.
-    pub(crate) fn cited(&self, hint: Hint) -> &[Lit]
-        ensures below { (n : ℕ) → AllAtomsBelow n self.now.added → StepsBelow n self.now.steps → AtomsBelow n result.now }
-        ensures clause { (c : List (Signed ℕ)) → cited self.now.added self.now.steps hint ≡ Some c → result.now ≡ c }
-        ensures some { 0 < length result.now → cited self.now.added self.now.steps hint ≡ Some result.now }
+    // The clause that the hint cites, if it cites one.
+    fn found(&self, hint: Hint) -> Option<Literals<'_>>
+        ensures { result ≡ cited self.now.added self.now.steps hint }
+    {
+        match hint {
+            Hint::Added(number) => match self.added_clause(number) {
+                None => None,
+                Some(clause) => Some(Literals::packed(clause)),
+            },
+            Hint::Step(number) => match self.step_clause(number) {
+                None => None,
+                Some(clause) => Some(Literals::plain(clause)),
+            },
+        }
+    }
+
+    // The clause that the hint cites, or no literals where it cites none.
+    pub(crate) fn cited(&self, hint: Hint) -> Literals<'_>
+        ensures below { (n : ℕ) → AllAtomsBelow n self.now.added → StepsBelow n self.now.steps → AtomsBelow n result }
+        ensures clause { (c : List (Signed ℕ)) → cited self.now.added self.now.steps hint ≡ Some c → result ≡ c }
+        ensures some { 0 < length result → cited self.now.added self.now.steps hint ≡ Some result }
     {
         match self.found(hint) {
             Some(clause) => clause,
-            None => &[],
+            None => Literals::plain(&[]),
         }
     }
 
@@ -105,7 +122,7 @@ impl Log {
         ensures { IsTrue result → cited self.now.added self.now.steps hint ≡ Some (lit ∷ []) }
     {
         let clause = self.cited(hint);
-        clause.len() == 1 && clause[0] == lit
+        clause.len() == 1 && clause.at(0) == lit
     }
 
     // What cites the literal alone, if that is known, and else the clause of this number, which gave it.

@@ -27,6 +27,7 @@ use crate::phases::Phases;
 use crate::reasons::mark_reasons;
 use crate::units::unite_all;
 use cdcl_trail::{Clauses, Trail};
+use flat_clauses::Literals;
 use inst_logic::Memory;
 use prop_logic::{Answer, Derivation, Hint, HintList, Lit, LitList, Step, complement, complements};
 use std::alloc::Global;
@@ -131,12 +132,12 @@ fn is_step(hint: Hint) -> bool
 }
 
 // Whether the clause gave one of its literals its value.
-fn is_reason(trail: &Trail, clause: &[Lit], number: usize) -> bool
+fn is_reason(trail: &Trail, clause: &Literals, number: usize) -> bool
     requires { AtomsBelow trail.now.trail.atoms clause.now }
     ensures { IsFalse result → All (λ l. reason_of trail.now.trail.entries l.atom ≢ Some number) clause.now }
 {
-    for lit in clause {
-        if trail.reason(lit.atom) == Some(number) {
+    for i in 0..clause.len() {
+        if trail.reason(clause.at(i).atom) == Some(number) {
             return true;
         }
     }
@@ -144,14 +145,14 @@ fn is_reason(trail: &Trail, clause: &[Lit], number: usize) -> bool
 }
 
 // The highest level of the literals.
-fn highest_level(trail: &Trail, literals: &[Lit]) -> usize
+fn highest_level(trail: &Trail, literals: &Literals) -> usize
     requires { AtomsBelow trail.now.trail.atoms literals.now }
     ensures reached { All (λ l. unwrap_or (level_of trail.now.trail.entries l.atom) 0 ≤ result) literals.now }
     ensures least { (top : ℕ) → 0 < top → All (λ l. unwrap_or (level_of trail.now.trail.entries l.atom) 0 < top) literals.now → result < top }
 {
     let mut highest = 0;
-    for lit in literals {
-        highest = highest.max(trail.level_of(lit.atom).unwrap_or(0));
+    for i in 0..literals.len() {
+        highest = highest.max(trail.level_of(literals.at(i).atom).unwrap_or(0));
     }
     highest
 }
@@ -340,7 +341,7 @@ impl Search {
         if !is_step(hint) || self.clauses.get(number).is_none() {
             return;
         }
-        if is_reason(&self.trail, self.log.cited(hint), number) {
+        if is_reason(&self.trail, &self.log.cited(hint), number) {
             return;
         }
         self.trail.detach(&self.clauses, number);
@@ -388,7 +389,7 @@ impl Search {
     {
         let step = self.log.steps.len();
         let hint = Hint::Step(step);
-        let clause = self.log.cited(hint);
+        let clause = self.log.step_literals(step);
         let literals = clause.len();
         let key = self.clauses.add(clause)?;
         self.log.names.put(key, hint)?;
@@ -409,7 +410,7 @@ impl Search {
         ensures added { self.new.log.added ≡ self.old.log.added }
     {
         let lit = analysis.clause[0];
-        let level = highest_level(&self.trail, &analysis.clause[1..]);
+        let level = highest_level(&self.trail, &Literals::plain(&analysis.clause[1..]));
         self.push_step(LitList::from(analysis.clause), analysis.hints)?;
         let key = self.use_last_step()?;
         unite_all(self.alloc, &mut self.log, &self.trail, &analysis.facts)?;
@@ -447,7 +448,7 @@ impl Search {
         ensures added { self.new.log.added ≡ self.old.log.added }
         ensures conflict { IsConflict self.new.clauses self.new.trail.trail.entries number }
     {
-        let highest = highest_level(&self.trail, self.log.cited(self.log.hint_of(number)));
+        let highest = highest_level(&self.trail, &self.log.cited(self.log.hint_of(number)));
         let level = highest.min(self.trail.level());
         self.back_to(level);
         self.trail.assigned().len()

@@ -43,11 +43,12 @@ fn unit_hints(
     let last = log.hint_of(number);
     let clause = log.cited(last);
     let mut hints = Vec::new(alloc);
-    for other in clause {
-        if *other == lit {
+    for i in 0..clause.len() {
+        let other = clause.at(i);
+        if other == lit {
             continue;
         }
-        match known(log, trail, complement(*other)) {
+        match known(log, trail, complement(other)) {
             None => return Ok(None),
             Some(hint) => hints.push(hint)?,
         }

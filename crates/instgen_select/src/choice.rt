@@ -4,6 +4,7 @@ ghost use Rattle.inst_logic.specs.Truth.{IsTrueLiteral};
 ghost use Rattle.prop_logic.specs.Valuation.{IsHeld};
 ghost use Rattle.instgen_select.specs.Choices.{IsTrueAt, IsChosen};
 
+use flat_clauses::{Literals, PackedLit};
 use prop_logic::{Lit, LitList, Valuation};
 
 fn is_true(l: Lit, v: &Valuation) -> bool
@@ -13,12 +14,12 @@ fn is_true(l: Lit, v: &Valuation) -> bool
     v.value(l.atom) == l.positive
 }
 
-fn first_true(clause: &[Lit], v: &Valuation) -> Option<usize>
+fn first_true(clause: &Literals, v: &Valuation) -> Option<usize>
     ensures some { IfSome result (λ q. IsTrueAt clause.now v.now q × ((p : ℕ) → p < q → ¬ IsTrueAt clause.now v.now p)) }
     ensures none { result ≡ None → (p : ℕ) → ¬ IsTrueAt clause.now v.now p }
 {
     for i in 0..clause.len() {
-        if is_true(clause[i], v) {
+        if is_true(clause.at(i), v) {
             return Some(i + 1);
         }
     }
@@ -26,26 +27,34 @@ fn first_true(clause: &[Lit], v: &Valuation) -> Option<usize>
 }
 
 // Whether the literal at the old place is true.
-fn is_kept(old: Option<usize>, clause: &[Lit], v: &Valuation) -> bool
+fn is_kept(old: Option<usize>, clause: &Literals, v: &Valuation) -> bool
     requires { IfSome old (λ p. (0 < p) × (p ≤ length clause.now)) }
     ensures yes { result ≡ true → IsChosen old clause.now v.now old }
     ensures no { result ≡ false → IfSome old (λ p. ¬ IsTrueAt clause.now v.now p) }
 {
     match old {
         None => false,
-        Some(p) => is_true(clause[p - 1], v),
+        Some(p) => is_true(clause.at(p - 1), v),
     }
 }
 
+// The place of a true literal: the old one where its literal is true, else the first.
+fn choose_in(old: Option<usize>, clause: &Literals, v: &Valuation) -> Option<usize>
+    requires place { IfSome old (λ p. (0 < p) × (p ≤ length clause.now)) }
+    ensures chosen { IsChosen old clause.now v.now result }
+{
+    if is_kept(old, clause, v) {
+        return old;
+    }
+    first_true(clause, v)
+}
+
 /// The place of a true literal, counted from 1: the old place where its literal is true in the valuation, else the first.
-pub fn choose_among(old: Option<usize>, literals: &[Lit], v: &Valuation) -> Option<usize>
+pub fn choose_among(old: Option<usize>, literals: &[PackedLit], v: &Valuation) -> Option<usize>
     requires place { IfSome old (λ p. (0 < p) × (p ≤ length literals.now)) }
     ensures chosen { IsChosen old literals.now v.now result }
 {
-    if is_kept(old, literals, v) {
-        return old;
-    }
-    first_true(literals, v)
+    choose_in(old, &Literals::packed(literals), v)
 }
 
 /// As `choose_among`, for a clause in a list of its own.
@@ -53,5 +62,5 @@ pub fn choose(old: Option<usize>, clause: &LitList, v: &Valuation) -> Option<usi
     requires place { IfSome old (λ p. (0 < p) × (p ≤ length clause.now)) }
     ensures chosen { IsChosen old clause.now v.now result }
 {
-    choose_among(old, clause.as_slice(), v)
+    choose_in(old, &Literals::plain(clause.as_slice()), v)
 }

@@ -3,15 +3,15 @@ use Rattle.flat_clauses.proofs.PieceLaws.{ends_after, cuts_after}
 use Rattle.flat_clauses.proofs.pieces.push_piece.Goals as goal
 
 pub returns-clause-ends : goal.returns-clause-ends
-returns-clause-ends c =
-    let end : c.in_ok-end.end ≡ length c.args.literals.now.items + length c.args.piece.now = search rules in
-    let literals : c.extend_from_slice.new.self.items ≡ c.args.literals.now.items ++ c.args.piece.now = search rules in
+returns-clause-ends g c =
+    let end : c.in_ok-end.end ≡ length c.args.items.now.items + length c.args.piece.now = search rules in
+    let items : c.extend_from_slice.new.self.items ≡ c.args.items.now.items ++ c.args.piece.now = search rules in
     let ends : c.push_reserved.new.self.items ≡ c.args.ends.now.items ++ c.in_ok-end.end ∷ [] = search rules in
-    ends_after c.args.literals.now.items c.args.piece.now _ c.args.ends.now.items _ c.in_ok-end.end end literals ends c.requires
+    ends_after c.args.items.now.items c.args.piece.now _ c.args.ends.now.items _ c.in_ok-end.end end items ends c.requires
 
 pub returns-clause-ok : goal.returns-clause-ok
-returns-clause-ok c =
-    let end : c.in_ok-end.end ≡ length c.args.literals.now.items + length c.args.piece.now = search rules in
-    let literals : c.extend_from_slice.new.self.items ≡ c.args.literals.now.items ++ c.args.piece.now = search rules in
+returns-clause-ok g c =
+    let end : c.in_ok-end.end ≡ length c.args.items.now.items + length c.args.piece.now = search rules in
+    let items : c.extend_from_slice.new.self.items ≡ c.args.items.now.items ++ c.args.piece.now = search rules in
     let ends : c.push_reserved.new.self.items ≡ c.args.ends.now.items ++ c.in_ok-end.end ∷ [] = search rules in
-    cuts_after c.args.literals.now.items c.args.piece.now _ c.args.ends.now.items _ c.in_ok-end.end end literals ends c.requires
+    cuts_after c.args.items.now.items c.args.piece.now _ c.args.ends.now.items _ c.in_ok-end.end end items ends c.requires

@@ -1,4 +1,4 @@
-use Rattle.std.proofs.Common.{◌≡◌, ◌-◌, length, take, drop, min, Some, sym, ap, ◌∙◌, subst, arith}
+use Rattle.std.proofs.Common.{◌≡◌, min, Some, sym, ap, ◌∙◌, subst, arith}
 use Rattle.prop_logic.specs.declared.literal.Step.{Step}
 use Rattle.prop_logic.specs.Literal.{AtomsBelow}
 use Rattle.cdcl_trail.specs.Clauses.{clause_number}
@@ -17,7 +17,7 @@ highest_level-level-requires c =
     let t = c.args.self.now.trail.trail in
     let clause = c.args.analysis.clause.items in
     let xs = c.deref.result.now in
-    rest_below t.atoms clause (take (length xs - 1) (drop 1 xs)) (rest_is clause xs c.deref.ensures.value) (learned_below t clause c.requires.trail c.requires.analysis.learned)
+    rest_below t.atoms clause c.plain.result (c.plain.ensures ∙ rest_is clause xs c.deref.ensures.value) (learned_below t clause c.requires.trail c.requires.analysis.learned)
 
 pub push_step-requires-clause-atoms : goal.push_step-requires-clause-atoms
 push_step-requires-clause-atoms c =
@@ -45,7 +45,7 @@ back_to-requires-clause-level c =
     let xs = c.deref.result.now in
     let l = c.index-lit.result.now in
     let level = c.highest_level-level.result in
-    let u = learned_unit_of t clause (take (length xs - 1) (drop 1 xs)) l l level c.requires.trail c.requires.analysis.learned c.requires.some c.index-lit.ensures (rest_is clause xs c.deref.ensures.value) c.highest_level-level.ensures.reached c.highest_level-level.ensures.least in
+    let u = learned_unit_of t clause c.plain.result l l level c.requires.trail c.requires.analysis.learned c.requires.some c.index-lit.ensures (c.plain.ensures ∙ rest_is clause xs c.deref.ensures.value) c.highest_level-level.ensures.reached c.highest_level-level.ensures.least in
     omega (arith, u.within, ap (λ x. x.level) c.in_ok-key.ensures.trail, ap (λ x. x.trail.level) c.in_ok-push_step.ensures.trail)
 
 pub imply-requires-clause-unset : goal.imply-requires-clause-unset
@@ -55,7 +55,7 @@ imply-requires-clause-unset c =
     let xs = c.deref.result.now in
     let l = c.index-lit.result.now in
     let level = c.highest_level-level.result in
-    let u = learned_unit_of t clause (take (length xs - 1) (drop 1 xs)) l l level c.requires.trail c.requires.analysis.learned c.requires.some c.index-lit.ensures (rest_is clause xs c.deref.ensures.value) c.highest_level-level.ensures.reached c.highest_level-level.ensures.least in
+    let u = learned_unit_of t clause c.plain.result l l level c.requires.trail c.requires.analysis.learned c.requires.some c.index-lit.ensures (c.plain.ensures ∙ rest_is clause xs c.deref.ensures.value) c.highest_level-level.ensures.reached c.highest_level-level.ensures.least in
     let trail = c.back_to.ensures.trail ∙ ap (λ x. back_at x level) (c.in_ok-key.ensures.trail ∙ ap (λ x. x.trail) c.in_ok-push_step.ensures.trail) in
     subst (λ x. IsUnset x.entries l.atom) (sym trail) u.unset
 
@@ -70,7 +70,7 @@ returns-clause-learned c = λ first assumptions from s.
     let key = c.in_ok-key.key in
     let back = c.back_to.new.self in
     let new : Search = record back { trail = c.imply.new.self } in
-    let u = learned_unit_of t clause (take (length xs - 1) (drop 1 xs)) l l level c.requires.trail c.requires.analysis.learned c.requires.some c.index-lit.ensures (rest_is clause xs c.deref.ensures.value) c.highest_level-level.ensures.reached c.highest_level-level.ensures.least in
+    let u = learned_unit_of t clause c.plain.result l l level c.requires.trail c.requires.analysis.learned c.requires.some c.index-lit.ensures (c.plain.ensures ∙ rest_is clause xs c.deref.ensures.value) c.highest_level-level.ensures.reached c.highest_level-level.ensures.least in
     let pushed = c.in_ok-push_step.ensures in
     let used = c.in_ok-key.ensures in
     let backed = c.back_to.ensures in

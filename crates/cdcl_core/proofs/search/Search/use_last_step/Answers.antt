@@ -15,7 +15,7 @@ returns-clause-kept c = λ before s ends.
     let key = c.in_ok-key.key in
     let new : Search = record old { log = record log { names = c.put.new.self }; clauses = c.add.new.self; trail = c.attach.new.self; learned = c.push.new.self } in
     let named = ap (λ n. cited log.added log.steps (Earlier n)) c.len-step.ensures ∙ ap (λ ss. cited log.added ss (Earlier (length ss))) ends ∙ last_cited log.added before s in
-    let is = c.cited-clause.ensures.clause s.clause named in
+    let is = c.step_literals-clause.ensures s.clause named in
     let adds = subst (λ x. AddsClause old.clauses c.add.new.self x key) is c.in_ok-key.ensures.number in
     let puts = subst (λ n. PutsName log.names c.put.new.self key (Earlier n)) c.len-step.ensures c.in_ok-put.ensures in
     (use_kept old new key before s ends adds refl refl puts c.in_ok-attach.ensures.trail.1 c.in_ok-attach.ensures.attached refl refl c.requires, adds.added)
