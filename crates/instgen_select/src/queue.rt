@@ -10,9 +10,13 @@ use std::cmp::Reverse;
 use std::collections::BinaryHeap;
 use std::marker::Model;
 
+// So many slots are kept for what is put next.
+const FEW: usize = 64;
+
 /// Numbers with their sizes. A pick takes logarithmic time for each put, taken over all of them.
 #[derive(Drop)]
 pub struct Queue {
+    alloc: Global,
     slots: Vec<Option<Item>>,
     front: usize,
     heap: BinaryHeap<Ranked>,
@@ -38,6 +42,7 @@ impl Queue {
         ensures { result ≡ record { items = []; even = false; spent = false } }
     {
         Queue {
+            alloc,
             slots: Vec::new(alloc),
             front: 0,
             heap: BinaryHeap::new(alloc),
@@ -46,15 +51,22 @@ impl Queue {
         }
     }
 
-    // Begins with new slots where nothing waits, since they are all gaps then: else each put of a long run would keep one.
+    // Begins with new slots where nothing waits, since they are all gaps then: else each put of a long run would keep one. Many
+    // slots give their memory back, and so does the heap, which had room for as many.
     fn begin_anew(&mut self)
         ensures items { self.new.items ≡ self.old.items }
         ensures even { self.new.even ≡ self.old.even }
         ensures spent { self.new.spent ≡ self.old.spent }
     {
-        if self.heap.peek().is_none() {
+        if self.heap.peek().is_some() {
+            return;
+        }
+        self.front = 0;
+        if self.slots.len() > FEW {
+            self.slots = Vec::new(self.alloc);
+            self.heap = BinaryHeap::new(self.alloc);
+        } else {
             self.slots.clear();
-            self.front = 0;
         }
     }
 

@@ -32,9 +32,10 @@ fn add_giving(alloc: Global, problem: &mut Problem, stated: StatedClause) -> Res
 fn problem_of(alloc: Global, list: Vec<StatedClause>) -> Result<Problem, Memory>
     ensures { IfOk result (λ p. p ≡ problem_of list.items) }
 {
+    let count = list.len();
     let mut problem = Problem {
-        clauses: ClauseList::new(alloc),
-        names: NameList::new(alloc),
+        clauses: ClauseList::from(Vec::with_capacity(alloc, count)?),
+        names: NameList::from(Vec::with_capacity(alloc, count)?),
     };
     for stated in list {
         add_giving(alloc, &mut problem, stated)?;
