@@ -11,11 +11,12 @@ ghost use Rattle.term_bank.specs.Greatest.{IsGreatest};
 ghost use Rattle.term_bank.specs.Nodes.{trees_of, IsBank};
 ghost use Rattle.term_bank.specs.Shapes.{shape_of, IsRootOf};
 
+use crate::boxed_list::BoxedList;
 use crate::id::TermId;
 use crate::node::{Measures, Node, Parts};
 use crate::store::{
-    application_measures, application_number, kind_at, make_room, measures_at, node_at,
-    node_number, symbol_in, symbol_number,
+    application_measures, application_number, kind_at, make_room, measures_at, node_at, symbol_in,
+    symbol_number, variable_number,
 };
 use indexmap::IndexSet;
 use inst_logic::{Memory, Sym};
@@ -24,8 +25,8 @@ use std::marker::Model;
 
 /// Terms and atoms, each tree once. Contracts see the list of its trees by their ids.
 ///
-/// A bank has room for 4,294,967,296 trees. After want of memory or room the trees are those from before, and each call that
-/// can want memory wants it.
+/// A bank has room for 4,294,967,296 trees, and for variables and symbols whose numbers are below 4,294,967,296. After want of
+/// memory or room the trees are those from before, and each call that can want memory wants it.
 #[derive(Drop)]
 pub struct Bank {
     pub(crate) alloc: Global,
@@ -34,7 +35,7 @@ pub struct Bank {
     // Of each node, one for one.
     measures: Vec<Measures>,
     // Where more than two arguments of an application are put to look it up.
-    room: Vec<TermId>,
+    room: Option<BoxedList<TermId>>,
     pub(crate) spent: bool,
 }
 
@@ -83,7 +84,7 @@ fn insert_variable(
     ensures held { OnErr result (trees_of symbols.now.keys nodes.new.keys ≡ trees_of symbols.now.keys nodes.old.keys) }
 {
     make_room(nodes, measures)?;
-    let (id, new) = node_number(nodes, Node::Var(v))?;
+    let (id, new) = variable_number(nodes, v)?;
     if !new {
         return Ok(id);
     }
@@ -104,7 +105,7 @@ fn insert_numbered(
     measures: &mut Vec<Measures>,
     number: usize,
     args: &[TermId],
-    room: &mut Vec<TermId>,
+    room: &mut Option<BoxedList<TermId>>,
 ) -> Result<TermId, Memory>
     requires bank { IsBank symbols.now.keys nodes.old.keys measures.old.items }
     requires number { number < length symbols.now.keys }
@@ -133,7 +134,7 @@ fn insert_application(
     measures: &mut Vec<Measures>,
     sym: &Sym,
     args: &[TermId],
-    room: &mut Vec<TermId>,
+    room: &mut Option<BoxedList<TermId>>,
 ) -> Result<TermId, Memory>
     requires bank { IsBank symbols.old.keys nodes.old.keys measures.old.items }
     requires within { All (λ i. i < length (trees_of symbols.old.keys nodes.old.keys)) args.now }
@@ -158,7 +159,7 @@ impl Bank {
             symbols: IndexSet::new(alloc),
             nodes: IndexSet::new(alloc),
             measures: Vec::new(alloc),
-            room: Vec::new(alloc),
+            room: None,
             spent: false,
         }
     }

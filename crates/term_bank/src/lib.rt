@@ -3,6 +3,7 @@
 #![tactic(auto)]
 
 pub mod bank;
+mod boxed_list;
 pub mod id;
 pub mod intern;
 pub mod laws;
