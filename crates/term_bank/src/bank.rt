@@ -13,6 +13,7 @@ ghost use Rattle.term_bank.specs.Shapes.{shape_of, IsRootOf};
 
 use crate::boxed_list::BoxedList;
 use crate::id::TermId;
+use crate::measure_list::MeasureList;
 use crate::node::{Measures, Node, Parts};
 use crate::store::{
     application_measures, application_number, kind_at, make_room, measures_at, node_at, symbol_in,
@@ -33,7 +34,7 @@ pub struct Bank {
     symbols: IndexSet<Sym>,
     nodes: IndexSet<Node>,
     // Of each node, one for one.
-    measures: Vec<Measures>,
+    measures: MeasureList,
     // Where more than two arguments of an application are put to look it up.
     room: Option<BoxedList<TermId>>,
     pub(crate) spent: bool,
@@ -73,7 +74,7 @@ pub enum Root<'a> {
 fn insert_variable(
     symbols: &IndexSet<Sym>,
     nodes: &mut IndexSet<Node>,
-    measures: &mut Vec<Measures>,
+    measures: &mut MeasureList,
     v: usize,
 ) -> Result<TermId, Memory>
     requires { IsBank symbols.now.keys nodes.old.keys measures.old.items }
@@ -102,7 +103,7 @@ fn insert_numbered(
     alloc: Global,
     symbols: &IndexSet<Sym>,
     nodes: &mut IndexSet<Node>,
-    measures: &mut Vec<Measures>,
+    measures: &mut MeasureList,
     number: usize,
     args: &[TermId],
     room: &mut Option<BoxedList<TermId>>,
@@ -131,7 +132,7 @@ fn insert_application(
     alloc: Global,
     symbols: &mut IndexSet<Sym>,
     nodes: &mut IndexSet<Node>,
-    measures: &mut Vec<Measures>,
+    measures: &mut MeasureList,
     sym: &Sym,
     args: &[TermId],
     room: &mut Option<BoxedList<TermId>>,
@@ -158,7 +159,7 @@ impl Bank {
             alloc,
             symbols: IndexSet::new(alloc),
             nodes: IndexSet::new(alloc),
-            measures: Vec::new(alloc),
+            measures: MeasureList::new(alloc),
             room: None,
             spent: false,
         }

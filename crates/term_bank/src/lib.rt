@@ -7,6 +7,7 @@ mod boxed_list;
 pub mod id;
 pub mod intern;
 pub mod laws;
+mod measure_list;
 mod node;
 mod store;
 mod walk;

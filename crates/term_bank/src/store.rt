@@ -2,7 +2,6 @@
 // the nodes.
 ghost use Rattle.std.specs.Prelude.{◌≡◌, ◌<◌, ◌+◌, min, ◌^◌, IfOk, IfSome, OnOk, OnErr, length, sum_by, fold, None};
 ghost use Rattle.std.specs.List.{All};
-ghost use Rattle.std.specs.Vec.{vec_len, vec_capacity};
 ghost use Rattle.inst_logic.specs.Measure.{function_count};
 ghost use Rattle.term_bank.specs.Forest.{symbol_at};
 ghost use Rattle.term_bank.specs.Greatest.{greater};
@@ -11,6 +10,7 @@ ghost use Rattle.term_bank.specs.Nodes.{node_in, measures_in, node_of, SymbolsGr
 
 use crate::boxed_list::BoxedList;
 use crate::id::TermId;
+use crate::measure_list::MeasureList;
 use crate::node::{Measures, Node};
 use indexmap::IndexSet;
 use inst_logic::{Kind, Memory, Sym};
@@ -50,16 +50,15 @@ pub fn kind_at(symbols: &IndexSet<Sym>, number: usize) -> Kind
 }
 
 // Refuses where there is no number for another node, or no memory for what stands beside it.
-pub fn make_room(nodes: &IndexSet<Node>, measures: &mut Vec<Measures>) -> Result<(), Memory>
+pub fn make_room(nodes: &IndexSet<Node>, measures: &mut MeasureList) -> Result<(), Memory>
     ensures items { measures.new.items ≡ measures.old.items }
     ensures number { OnOk result (length nodes.now.keys < 2 ^ 32) }
-    ensures room { OnOk result (vec_len measures.new < vec_capacity measures.new) }
+    ensures room { OnOk result (0 < measures.new.room) }
 {
     if nodes.len() > u32::MAX as usize {
         return Err(Memory);
     }
-    measures.reserve(1)?;
-    Ok(())
+    measures.reserve()
 }
 
 // The number in four bytes; want of memory where it needs more.
@@ -186,11 +185,11 @@ pub fn variable_number(nodes: &mut IndexSet<Node>, v: usize) -> Result<(TermId, 
 }
 
 // What is stored beside the node.
-pub fn measures_at(measures: &Vec<Measures>, id: TermId) -> Measures
+pub fn measures_at(measures: &MeasureList, id: TermId) -> Measures
     requires { id < length measures.now.items }
     ensures { result ≡ measures_in measures.now.items id }
 {
-    measures[id.number()]
+    measures.at(id.number())
 }
 
 // The node of the id.
@@ -205,7 +204,7 @@ pub fn node_at<'a>(nodes: &'a IndexSet<Node>, id: TermId) -> &'a Node
 }
 
 // The measures of an application of a symbol of this kind.
-pub fn application_measures(all: &Vec<Measures>, kind: Kind, args: &[TermId]) -> Measures
+pub fn application_measures(all: &MeasureList, kind: Kind, args: &[TermId]) -> Measures
     requires { All (λ i. i < length all.now.items) args.now }
     ensures size { result.size ≡ min (sum_by (λ i. (measures_in all.now.items i).size) args.now + 1) u64.MAX }
     ensures weight { result.weight ≡ min (sum_by (λ i. (measures_in all.now.items i).weight) args.now + function_count kind) u64.MAX }
