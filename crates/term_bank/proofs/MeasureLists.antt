@@ -9,12 +9,12 @@ use Rattle.term_bank.specs.declared.node.Measures.{Measures}
 use Rattle.term_bank.specs.declared.measure_list.ShortMeasures.{ShortMeasures}
 use Rattle.term_bank.specs.Forest.{KeepsPlaces}
 use Rattle.term_bank.specs.Nodes.{no_measures}
-use Rattle.term_bank.specs.ShortMeasures.{greatest_in, measures_of, IsWithin}
+use Rattle.term_bank.specs.ShortMeasures.{long_size, greatest_in, measures_of, IsWithin}
 
 module _ (ls ms : List Measures) (keeps : KeepsPlaces no_measures ls ms) where
   -- an entry keeps its measures
   entry_kept : (s : ShortMeasures) → IsWithin (length ls) s → measures_of ms s ≡ measures_of ls s
-  entry_kept s within = by (nat_eq s.size 4294967295) (λ h. within ((Decides-eqb s.size 4294967295).0 h))
+  entry_kept s within = by (nat_eq s.size long_size) (λ h. within ((Decides-eqb s.size long_size).0 h))
     where
       own : Measures
       own = record { size = s.size; weight = s.weight; greatest = greatest_in s.greatest }
