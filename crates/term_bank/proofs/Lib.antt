@@ -8,3 +8,4 @@ pub mod Growth
 pub mod Cuts
 pub mod Clauses
 pub mod GroundTrees
+pub mod MeasureLists

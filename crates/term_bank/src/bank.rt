@@ -11,11 +11,13 @@ ghost use Rattle.term_bank.specs.Greatest.{IsGreatest};
 ghost use Rattle.term_bank.specs.Nodes.{trees_of, IsBank};
 ghost use Rattle.term_bank.specs.Shapes.{shape_of, IsRootOf};
 
+use crate::boxed_list::BoxedList;
 use crate::id::TermId;
+use crate::measure_list::MeasureList;
 use crate::node::{Measures, Node, Parts};
 use crate::store::{
-    application_measures, application_number, kind_at, make_room, measures_at, node_at,
-    node_number, symbol_in, symbol_number,
+    application_measures, application_number, kind_at, make_room, measures_at, node_at, symbol_in,
+    symbol_number, variable_number,
 };
 use indexmap::IndexSet;
 use inst_logic::{Memory, Sym};
@@ -24,17 +26,17 @@ use std::marker::Model;
 
 /// Terms and atoms, each tree once. Contracts see the list of its trees by their ids.
 ///
-/// A bank has room for 4,294,967,296 trees. After want of memory or room the trees are those from before, and each call that
-/// can want memory wants it.
+/// A bank has room for 4,294,967,296 trees, and for variables and symbols whose numbers are below 4,294,967,296. After want of
+/// memory or room the trees are those from before, and each call that can want memory wants it.
 #[derive(Drop)]
 pub struct Bank {
     pub(crate) alloc: Global,
     symbols: IndexSet<Sym>,
     nodes: IndexSet<Node>,
     // Of each node, one for one.
-    measures: Vec<Measures>,
+    measures: MeasureList,
     // Where more than two arguments of an application are put to look it up.
-    room: Vec<TermId>,
+    room: Option<BoxedList<TermId>>,
     pub(crate) spent: bool,
 }
 
@@ -72,7 +74,7 @@ pub enum Root<'a> {
 fn insert_variable(
     symbols: &IndexSet<Sym>,
     nodes: &mut IndexSet<Node>,
-    measures: &mut Vec<Measures>,
+    measures: &mut MeasureList,
     v: usize,
 ) -> Result<TermId, Memory>
     requires { IsBank symbols.now.keys nodes.old.keys measures.old.items }
@@ -83,7 +85,7 @@ fn insert_variable(
     ensures held { OnErr result (trees_of symbols.now.keys nodes.new.keys ≡ trees_of symbols.now.keys nodes.old.keys) }
 {
     make_room(nodes, measures)?;
-    let (id, new) = node_number(nodes, Node::Var(v))?;
+    let (id, new) = variable_number(nodes, v)?;
     if !new {
         return Ok(id);
     }
@@ -101,10 +103,10 @@ fn insert_numbered(
     alloc: Global,
     symbols: &IndexSet<Sym>,
     nodes: &mut IndexSet<Node>,
-    measures: &mut Vec<Measures>,
+    measures: &mut MeasureList,
     number: usize,
     args: &[TermId],
-    room: &mut Vec<TermId>,
+    room: &mut Option<BoxedList<TermId>>,
 ) -> Result<TermId, Memory>
     requires bank { IsBank symbols.now.keys nodes.old.keys measures.old.items }
     requires number { number < length symbols.now.keys }
@@ -130,10 +132,10 @@ fn insert_application(
     alloc: Global,
     symbols: &mut IndexSet<Sym>,
     nodes: &mut IndexSet<Node>,
-    measures: &mut Vec<Measures>,
+    measures: &mut MeasureList,
     sym: &Sym,
     args: &[TermId],
-    room: &mut Vec<TermId>,
+    room: &mut Option<BoxedList<TermId>>,
 ) -> Result<TermId, Memory>
     requires bank { IsBank symbols.old.keys nodes.old.keys measures.old.items }
     requires within { All (λ i. i < length (trees_of symbols.old.keys nodes.old.keys)) args.now }
@@ -157,8 +159,8 @@ impl Bank {
             alloc,
             symbols: IndexSet::new(alloc),
             nodes: IndexSet::new(alloc),
-            measures: Vec::new(alloc),
-            room: Vec::new(alloc),
+            measures: MeasureList::new(alloc),
+            room: None,
             spent: false,
         }
     }

@@ -1,8 +1,7 @@
 // The numbers of interned trees, in a type of their own so that none is taken for another number, and clauses over them.
-ghost use Rattle.std.specs.Prelude.{◌≡◌, ◌<◌, ◌^◌, IfOk};
+ghost use Rattle.std.specs.Prelude.{◌≡◌, ◌<◌, ◌^◌};
 
-use inst_logic::{ListOf, Memory, Signed};
-use std::alloc::Global;
+use inst_logic::{ListOf, Signed};
 use std::marker::Model;
 
 /// The number of a tree in its bank, counted from 0.
@@ -37,13 +36,6 @@ impl TermId {
 
 /// A list of ids of one bank: an id of another bank may be the number of another tree.
 pub type TermIdList = ListOf<TermId>;
-
-// A list of these ids.
-pub(crate) fn copied(alloc: Global, ids: &[TermId]) -> Result<TermIdList, Memory>
-    ensures { IfOk result (λ list. list ≡ ids.now) }
-{
-    Ok(TermIdList::from(Vec::from_slice(alloc, ids)?))
-}
 
 /// A sign and the id of an atom.
 pub type IdLiteral = Signed<TermId>;

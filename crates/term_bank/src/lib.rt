@@ -3,9 +3,11 @@
 #![tactic(auto)]
 
 pub mod bank;
+mod boxed_list;
 pub mod id;
 pub mod intern;
 pub mod laws;
+mod measure_list;
 mod node;
 mod store;
 mod walk;

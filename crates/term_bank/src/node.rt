@@ -2,19 +2,23 @@
 // those of the arguments. So a measure costs one look-up, however large the tree is.
 ghost use Rattle.term_bank.specs.Nodes.{AreParts};
 
-use crate::id::{TermId, TermIdList};
+use crate::boxed_list::BoxedList;
+use crate::id::TermId;
 
 // A variable by its number, or the number of a symbol with the ids of its arguments. Up to two of them stand in the node
-// itself: most trees take no list, and are compared without one.
+// itself: most trees take no list, and are compared without one. Numbers have four bytes each, and a longer list stands
+// behind one pointer: so no node takes more than one of two arguments.
 #[derive(Debug, Drop, PartialEq, Eq, Hash)]
 pub enum Node {
-    Var(usize),
-    Constant(usize),
-    Unary(usize, [TermId; 1]),
-    Binary(usize, [TermId; 2]),
+    Var(u32),
+    Constant(u32),
+    Unary(u32, [TermId; 1]),
+    Binary(u32, [TermId; 2]),
     // More than two.
-    Many(usize, TermIdList),
+    Many(u32, BoxedList<TermId>),
 }
+
+const _: () = prove!(size_of::<Node>() == 16);
 
 // A node as a variable, or as a symbol's number with a list of arguments.
 #[derive(Clone, Copy)]
@@ -29,11 +33,11 @@ impl Node {
         ensures { AreParts self.now result }
     {
         match self {
-            Node::Var(v) => Parts::Var(*v),
-            Node::Constant(number) => Parts::App(*number, &[]),
-            Node::Unary(number, args) => Parts::App(*number, args),
-            Node::Binary(number, args) => Parts::App(*number, args),
-            Node::Many(number, args) => Parts::App(*number, args.as_slice()),
+            Node::Var(v) => Parts::Var(*v as usize),
+            Node::Constant(number) => Parts::App(*number as usize, &[]),
+            Node::Unary(number, args) => Parts::App(*number as usize, args),
+            Node::Binary(number, args) => Parts::App(*number as usize, args),
+            Node::Many(number, args) => Parts::App(*number as usize, args.as_slice()),
         }
     }
 }

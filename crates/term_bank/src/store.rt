@@ -2,19 +2,19 @@
 // the nodes.
 ghost use Rattle.std.specs.Prelude.{◌≡◌, ◌<◌, ◌+◌, min, ◌^◌, IfOk, IfSome, OnOk, OnErr, length, sum_by, fold, None};
 ghost use Rattle.std.specs.List.{All};
-ghost use Rattle.std.specs.Vec.{vec_len, vec_capacity};
 ghost use Rattle.inst_logic.specs.Measure.{function_count};
 ghost use Rattle.term_bank.specs.Forest.{symbol_at};
 ghost use Rattle.term_bank.specs.Greatest.{greater};
-ghost use Rattle.term_bank.specs.declared.node.Node.TheVariants.{Many};
+ghost use Rattle.term_bank.specs.declared.node.Node.TheVariants.{Var, Many};
 ghost use Rattle.term_bank.specs.Nodes.{node_in, measures_in, node_of, SymbolsGrow, IsNumbered};
 
-use crate::id::{TermId, TermIdList, copied};
+use crate::boxed_list::BoxedList;
+use crate::id::TermId;
+use crate::measure_list::MeasureList;
 use crate::node::{Measures, Node};
 use indexmap::IndexSet;
 use inst_logic::{Kind, Memory, Sym};
 use std::alloc::Global;
-use std::mem::replace;
 
 // The number of the symbol. A new one goes last.
 pub fn symbol_number(symbols: &mut IndexSet<Sym>, sym: &Sym) -> Result<usize, Memory>
@@ -50,20 +50,29 @@ pub fn kind_at(symbols: &IndexSet<Sym>, number: usize) -> Kind
 }
 
 // Refuses where there is no number for another node, or no memory for what stands beside it.
-pub fn make_room(nodes: &IndexSet<Node>, measures: &mut Vec<Measures>) -> Result<(), Memory>
+pub fn make_room(nodes: &IndexSet<Node>, measures: &mut MeasureList) -> Result<(), Memory>
     ensures items { measures.new.items ≡ measures.old.items }
     ensures number { OnOk result (length nodes.now.keys < 2 ^ 32) }
-    ensures room { OnOk result (vec_len measures.new < vec_capacity measures.new) }
+    ensures room { OnOk result (0 < measures.new.room) }
 {
     if nodes.len() > u32::MAX as usize {
         return Err(Memory);
     }
-    measures.reserve(1)?;
-    Ok(())
+    measures.reserve()
+}
+
+// The number in four bytes; want of memory where it needs more.
+fn in_four_bytes(number: usize) -> Result<u32, Memory>
+    ensures { IfOk result (λ n. n ≡ number) }
+{
+    match u32::try_from(number) {
+        Ok(n) => Ok(n),
+        Err(_) => Err(Memory),
+    }
 }
 
 // The number of the node, and whether it is new. A new one goes last.
-pub fn node_number(nodes: &mut IndexSet<Node>, node: Node) -> Result<(TermId, bool), Memory>
+fn node_number(nodes: &mut IndexSet<Node>, node: Node) -> Result<(TermId, bool), Memory>
     requires { length nodes.old.keys < 2 ^ 32 }
     ensures numbered { IfOk result (λ r. IsNumbered nodes.old.keys nodes.new.keys node r.0 r.1) }
     ensures held { OnErr result (nodes.new.keys ≡ nodes.old.keys) }
@@ -83,12 +92,28 @@ fn found_number(nodes: &IndexSet<Node>, node: &Node) -> Option<TermId>
     }
 }
 
-// The room that the node's arguments take.
-fn room_of(alloc: Global, node: Node) -> Vec<TermId> {
+// The list of the node's arguments, for the next look-up.
+fn room_of(node: Node) -> Option<BoxedList<TermId>> {
     match node {
-        Node::Many(_, args) => Vec::from(args),
-        _ => Vec::new(alloc),
+        Node::Many(_, args) => Some(args),
+        _ => None,
     }
+}
+
+// These ids in the list of the room, or in a new one where there is none.
+fn filled(
+    alloc: Global,
+    args: &[TermId],
+    room: &mut Option<BoxedList<TermId>>,
+) -> Result<BoxedList<TermId>, Memory>
+    ensures { IfOk result (λ list. list ≡ args.now) }
+{
+    let mut list = match room.take() {
+        Some(list) => list,
+        None => BoxedList::new(alloc)?,
+    };
+    list.fill(args)?;
+    Ok(list)
 }
 
 // The number of the application to more than two arguments, where it is there. They are copied into the room, so that no
@@ -96,19 +121,16 @@ fn room_of(alloc: Global, node: Node) -> Vec<TermId> {
 fn found_many(
     alloc: Global,
     nodes: &IndexSet<Node>,
-    number: usize,
+    number: u32,
     args: &[TermId],
-    room: &mut Vec<TermId>,
+    room: &mut Option<BoxedList<TermId>>,
 ) -> Result<Option<TermId>, Memory>
     requires { length nodes.now.keys < 2 ^ 32 }
     ensures { IfOk result (λ found. IfSome found (λ i. (i < length nodes.now.keys) × (node_in nodes.now.keys i ≡ Many number args.now))) }
 {
-    let mut copy = replace(room, Vec::new(alloc));
-    copy.clear();
-    copy.extend_from_slice(args)?;
-    let node = Node::Many(number, TermIdList::from(copy));
+    let node = Node::Many(number, filled(alloc, args, room)?);
     let found = found_number(nodes, &node);
-    *room = room_of(alloc, node);
+    *room = room_of(node);
     Ok(found)
 }
 
@@ -116,9 +138,9 @@ fn found_many(
 fn many_number(
     alloc: Global,
     nodes: &mut IndexSet<Node>,
-    number: usize,
+    number: u32,
     args: &[TermId],
-    room: &mut Vec<TermId>,
+    room: &mut Option<BoxedList<TermId>>,
 ) -> Result<(TermId, bool), Memory>
     requires { length nodes.old.keys < 2 ^ 32 }
     ensures numbered { IfOk result (λ r. IsNumbered nodes.old.keys nodes.new.keys (Many number args.now) r.0 r.1) }
@@ -126,23 +148,24 @@ fn many_number(
 {
     match found_many(alloc, nodes, number, args, room)? {
         Some(id) => Ok((id, false)),
-        None => node_number(nodes, Node::Many(number, copied(alloc, args)?)),
+        None => node_number(nodes, Node::Many(number, BoxedList::copied(alloc, args)?)),
     }
 }
 
 // The number of the application of the symbol of this number, and whether it is new. One look-up, and for a new one of more than
-// two arguments another.
+// two arguments another. It refuses a number that needs more than four bytes.
 pub fn application_number(
     alloc: Global,
     nodes: &mut IndexSet<Node>,
     number: usize,
     args: &[TermId],
-    room: &mut Vec<TermId>,
+    room: &mut Option<BoxedList<TermId>>,
 ) -> Result<(TermId, bool), Memory>
     requires { length nodes.old.keys < 2 ^ 32 }
     ensures numbered { IfOk result (λ r. IsNumbered nodes.old.keys nodes.new.keys (node_of number args.now) r.0 r.1) }
     ensures held { OnErr result (nodes.new.keys ≡ nodes.old.keys) }
 {
+    let number = in_four_bytes(number)?;
     match args {
         [] => node_number(nodes, Node::Constant(number)),
         [only] => node_number(nodes, Node::Unary(number, [*only])),
@@ -151,12 +174,22 @@ pub fn application_number(
     }
 }
 
+// The number of the variable, and whether it is new. It refuses a variable whose number needs more than four bytes.
+pub fn variable_number(nodes: &mut IndexSet<Node>, v: usize) -> Result<(TermId, bool), Memory>
+    requires { length nodes.old.keys < 2 ^ 32 }
+    ensures numbered { IfOk result (λ r. IsNumbered nodes.old.keys nodes.new.keys (Var v) r.0 r.1) }
+    ensures held { OnErr result (nodes.new.keys ≡ nodes.old.keys) }
+{
+    let number = in_four_bytes(v)?;
+    node_number(nodes, Node::Var(number))
+}
+
 // What is stored beside the node.
-pub fn measures_at(measures: &Vec<Measures>, id: TermId) -> Measures
+pub fn measures_at(measures: &MeasureList, id: TermId) -> Measures
     requires { id < length measures.now.items }
     ensures { result ≡ measures_in measures.now.items id }
 {
-    measures[id.number()]
+    measures.at(id.number())
 }
 
 // The node of the id.
@@ -171,7 +204,7 @@ pub fn node_at<'a>(nodes: &'a IndexSet<Node>, id: TermId) -> &'a Node
 }
 
 // The measures of an application of a symbol of this kind.
-pub fn application_measures(all: &Vec<Measures>, kind: Kind, args: &[TermId]) -> Measures
+pub fn application_measures(all: &MeasureList, kind: Kind, args: &[TermId]) -> Measures
     requires { All (λ i. i < length all.now.items) args.now }
     ensures size { result.size ≡ min (sum_by (λ i. (measures_in all.now.items i).size) args.now + 1) u64.MAX }
     ensures weight { result.weight ≡ min (sum_by (λ i. (measures_in all.now.items i).weight) args.now + function_count kind) u64.MAX }
