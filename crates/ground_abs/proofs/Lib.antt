@@ -4,5 +4,6 @@ pub mod Images
 pub mod LeftTerms
 pub mod Literals
 pub mod Numbered
+pub mod NumbersOfIds
 pub mod SymbolNames
 pub mod Walking

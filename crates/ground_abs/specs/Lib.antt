@@ -1,4 +1,5 @@
 pub mod Abstracts
+pub mod IdNumbers
 pub mod Names
 pub mod Numbering
 pub mod Numbers

@@ -10,10 +10,10 @@ ghost use Rattle.term_bank.specs.Forest.{Forest, Extends, AreDistinct, AreFormed
 ghost use Rattle.ground_abs.specs.Abstracts.{atoms_in, AreAtomsIn, AreNotesIn, AreNumbered, Grows};
 ghost use Rattle.ground_abs.specs.Walks.{Goes};
 
+use crate::atom_numbers::AtomNumbers;
 use crate::grounding::Grounding;
-use crate::numbers::{number_of, numbered_literals};
+use crate::numbers::numbered_literals;
 use crate::repeats::without_repeats;
-use indexmap::IndexSet;
 use inst_logic::{Memory, Sym};
 use prop_logic::LitList;
 use std::alloc::Global;
@@ -23,12 +23,13 @@ use term_bank::{Bank, IdClause, TermId};
 /// Ground atoms of one bank with numbers, from 0 in the order of first use, and the constant that stands for every variable.
 ///
 /// It notes what terms of the bank become, so each is walked once, whatever the number of calls. After want of memory the atoms
-/// have the numbers that they had before, and each call that can want memory wants it.
+/// have the numbers that they had before, and each call that can want memory wants it. More than 2^32 - 1 atoms are want of
+/// memory.
 #[derive(Drop)]
 pub struct Abstraction {
     alloc: Global,
     grounding: Grounding,
-    ids: IndexSet<TermId>,
+    ids: AtomNumbers,
     spent: bool,
 }
 
@@ -39,7 +40,7 @@ impl Model for Abstraction {
 
     ghost Value = { Numbering };
 
-    ghost view = { λ a. record { bot = a.grounding.bot; ids = a.ids.keys; notes = a.grounding.notes.entries; spent = a.spent } };
+    ghost view = { λ a. record { bot = a.grounding.bot; ids = a.ids; notes = a.grounding.notes.entries; spent = a.spent } };
 
     ghost invariant = { λ a. IsTrue (is_constant a.grounding.bot) };
 }
@@ -68,17 +69,17 @@ fn grounded(
 fn numbered(
     alloc: Global,
     grounding: &mut Grounding,
-    ids: &mut IndexSet<TermId>,
+    ids: &mut AtomNumbers,
     bank: &mut Bank,
     c: &IdClause,
 ) -> Result<LitList, Memory>
     requires clause { IsClauseOf bank.old c.now }
     requires notes { AreNotesIn bank.old grounding.old.bot grounding.old.notes.entries }
-    ensures literals { IfOk result (λ lits. map (named_literal (atoms_in bank.new ids.new.keys)) lits ≡ abstract_literals grounding.old.bot (clause_at bank.old c.now)) }
-    ensures below { IfOk result (λ lits. AtomsBelow (length ids.new.keys) lits) }
-    ensures numbered { OnOk result (AreNumbered bank.new ids.old.keys ids.new.keys (abstract_literals grounding.old.bot (clause_at bank.old c.now))) }
-    ensures grows { Grows ids.old.keys ids.new.keys }
-    ensures fits { OnOk result (IsTrue (is_constant grounding.old.bot) → All (λ l. IsAtom (tree_at bank.old l.atom)) c.now → AreAtomsIn bank.old ids.old.keys → AreAtomsIn bank.new ids.new.keys) }
+    ensures literals { IfOk result (λ lits. map (named_literal (atoms_in bank.new ids.new)) lits ≡ abstract_literals grounding.old.bot (clause_at bank.old c.now)) }
+    ensures below { IfOk result (λ lits. AtomsBelow (length ids.new) lits) }
+    ensures numbered { OnOk result (AreNumbered bank.new ids.old ids.new (abstract_literals grounding.old.bot (clause_at bank.old c.now))) }
+    ensures grows { Grows ids.old ids.new }
+    ensures fits { OnOk result (IsTrue (is_constant grounding.old.bot) → All (λ l. IsAtom (tree_at bank.old l.atom)) c.now → AreAtomsIn bank.old ids.old → AreAtomsIn bank.new ids.new) }
     ensures goes { Goes bank.old bank.new grounding.old.bot grounding.new.notes.entries }
     ensures bot { grounding.new.bot ≡ grounding.old.bot }
     ensures unspent { OnOk result (bank.old.spent ≡ false → bank.new.spent ≡ false) }
@@ -98,7 +99,7 @@ impl Abstraction {
         Abstraction {
             alloc,
             grounding: Grounding::new(alloc, bot),
-            ids: IndexSet::new(alloc),
+            ids: AtomNumbers::new(alloc),
             spent: false,
         }
     }
@@ -126,7 +127,7 @@ impl Abstraction {
         if self.spent {
             return Err(Memory);
         }
-        let result = number_of(&mut self.ids, atom);
+        let result = self.ids.number_of(atom);
         self.spent = result.is_err();
         result
     }
@@ -135,7 +136,7 @@ impl Abstraction {
     pub fn atom_at(&self, n: usize) -> Option<TermId>
         ensures { result ≡ slice_get self.now.ids n }
     {
-        self.ids.get_index(n).copied()
+        self.ids.at(n)
     }
 
     // After want of memory the first `len` atoms keep their numbers, and the others have none.

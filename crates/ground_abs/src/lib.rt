@@ -2,8 +2,10 @@
 #![tactic(auto)]
 
 pub mod abstraction;
+mod atom_numbers;
 pub mod bot;
 mod grounding;
+mod id_numbers;
 pub mod laws;
 mod numbers;
 mod repeats;

@@ -28,8 +28,8 @@ returns-else-is_err-clause-notes c =
 pub returns-then-is_err-clause-fits : goal.returns-then-is_err-clause-fits
 returns-then-is_err-clause-fits c = λ atoms fit.
     let g = c.numbered-result.new.bank in
-    let old = c.self.inside.ids.keys in
-    let kept = c.give_up.ensures.ids ∙ ap (λ (n : ℕ). take n c.numbered-result.new.ids.keys) c.len-len.ensures.len ∙ grown_taken old c.numbered-result.new.ids.keys c.numbered-result.ensures.grows
+    let old = c.self.inside.ids in
+    let kept = c.give_up.ensures.ids ∙ ap (λ (n : ℕ). take n c.numbered-result.new.ids) c.len-len.ensures.len ∙ grown_taken old c.numbered-result.new.ids c.numbered-result.ensures.grows
     ∙ ap (λ (n : Numbering). n.ids) c.self.view_is in
     subst (AreAtomsIn g) (sym kept) (atoms_stay c.args.bank.now g c.args.self.now.ids c.numbered-result.ensures.goes.extends fit)
 
