@@ -7,6 +7,7 @@ pub mod bot;
 mod grounding;
 mod id_numbers;
 pub mod laws;
+mod note_table;
 mod numbers;
 mod repeats;
 
