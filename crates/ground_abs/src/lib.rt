@@ -2,9 +2,12 @@
 #![tactic(auto)]
 
 pub mod abstraction;
+mod atom_numbers;
 pub mod bot;
 mod grounding;
+mod id_numbers;
 pub mod laws;
+mod note_table;
 mod numbers;
 mod repeats;
 
