@@ -6,14 +6,14 @@ ghost use Rattle.instgen_select.specs.Choices.{IsTrueAt};
 ghost use Rattle.instgen_loop.specs.Solves.{IsTrueEntry};
 
 use crate::ground::clause_after;
-use flat_clauses::FlatClauses;
+use flat_clauses::{FlatClauses, PackedLit};
 use inst_logic::Memory;
 use instgen_select::choose_among;
-use prop_logic::{Answer, Lit, Solver, Valuation};
+use prop_logic::{Answer, Solver, Valuation};
 use std::alloc::Global;
 
 // Whether a literal of the clause is true.
-fn is_true(clause: &[Lit], v: &Valuation) -> bool
+fn is_true(clause: &[PackedLit], v: &Valuation) -> bool
     ensures { result ≡ true → (p : ℕ) × IsTrueAt clause.now v.now p }
 {
     match choose_among(None, clause, v) {

@@ -8,10 +8,10 @@ ghost use Rattle.term_bank.specs.Forest.{Extends, AreFormed, IsClauseOf, clause_
 ghost use Rattle.ground_abs.specs.Abstracts.{AreAtomsIn, AreNotesIn, Grows};
 ghost use Rattle.instgen_loop.specs.Grounds.{IsLinked};
 
-use flat_clauses::FlatClauses;
+use flat_clauses::{FlatClauses, PackedLit};
 use ground_abs::Abstraction;
 use inst_logic::Memory;
-use prop_logic::{Lit, Solver, Valuation, make_atoms};
+use prop_logic::{Solver, Valuation, make_atoms};
 use term_bank::{Bank, IdClause};
 
 /// The abstractions of the entries, one for one, and the last valuation of their atoms.
@@ -24,7 +24,7 @@ pub struct Ground<S: Solver> {
 }
 
 /// The numbered literals of the entry after the first `count`.
-pub fn clause_after(literals: &FlatClauses, count: usize) -> &[Lit]
+pub fn clause_after(literals: &FlatClauses, count: usize) -> &[PackedLit]
     requires { count < length literals.now }
     ensures { slice_get literals.now count ≡ Some result.now }
 {

@@ -17,14 +17,14 @@ use crate::selection::{Chosen, chosen_literal};
 use crate::state::Run;
 use crate::work::selected_atom;
 use clause_form::clause_size;
-use flat_clauses::FlatClauses;
+use flat_clauses::{FlatClauses, PackedLit};
 use inst_logic::Memory;
-use prop_logic::{Lit, Solver, Valuation};
+use prop_logic::{Solver, Valuation};
 use std::alloc::Global;
 use term_index::PartnerIndex;
 
 /// The numbered literals of entry `n`.
-pub fn numbered_clause(literals: &FlatClauses, n: usize) -> &[Lit]
+pub fn numbered_clause(literals: &FlatClauses, n: usize) -> &[PackedLit]
     requires { (0 < n) × (n ≤ length literals.now) }
     ensures { at_number literals.now n ≡ Some result.now }
 {

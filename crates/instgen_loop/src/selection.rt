@@ -7,9 +7,10 @@ ghost use Rattle.instgen_select.specs.Choices.{IsTrueAt};
 ghost use Rattle.instgen_loop.specs.Choosing.{IsChoice, AreUsersKept};
 
 use crate::small::small;
+use flat_clauses::PackedLit;
 use inst_logic::{Memory, PlaceList};
 use instgen_select::choose_among;
-use prop_logic::{Lit, Valuation};
+use prop_logic::Valuation;
 use short_lists::ShortList;
 use std::alloc::Global;
 use std::marker::Model;
@@ -26,7 +27,7 @@ pub struct Chosen {
 }
 
 // The place of a true literal of a true clause: the old one where it is true.
-fn chosen_place(old: Option<usize>, clause: &[Lit], v: &Valuation) -> usize
+fn chosen_place(old: Option<usize>, clause: &[PackedLit], v: &Valuation) -> usize
     requires place { IfSome old (λ p. (0 < p) × (p ≤ length clause.now)) }
     requires holds { IsTrueClause (IsHeld v.now) clause.now }
     ensures { IsTrueAt clause.now v.now result }
@@ -38,7 +39,7 @@ fn chosen_place(old: Option<usize>, clause: &[Lit], v: &Valuation) -> usize
 }
 
 /// The choice of a true literal of a true clause: that at the old place where it is true.
-pub fn chosen_literal(old: Option<usize>, clause: &[Lit], v: &Valuation) -> Chosen
+pub fn chosen_literal(old: Option<usize>, clause: &[PackedLit], v: &Valuation) -> Chosen
     requires place { IfSome old (λ p. (0 < p) × (p ≤ length clause.now)) }
     requires holds { IsTrueClause (IsHeld v.now) clause.now }
     ensures { IsChoice clause.now v.now result.place result.atom }
@@ -46,7 +47,7 @@ pub fn chosen_literal(old: Option<usize>, clause: &[Lit], v: &Valuation) -> Chos
     let place = chosen_place(old, clause, v);
     Chosen {
         place,
-        atom: clause[place - 1].atom,
+        atom: clause[place - 1].lit().atom,
     }
 }
 

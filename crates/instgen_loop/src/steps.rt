@@ -6,7 +6,7 @@ ghost use Rattle.ground_abs.specs.Numbers.{named};
 ghost use Rattle.instgen_loop.specs.Refuting.{ground_clause, ground_hint, ground_step};
 
 use crate::ground::clause_after;
-use flat_clauses::FlatClauses;
+use flat_clauses::{FlatClauses, Literals};
 use ground_abs::{Abstraction, add_literal};
 use indexmap::IndexSet;
 use inst_logic::Memory;
@@ -33,15 +33,15 @@ fn named_literal(abstraction: &Abstraction, l: Lit) -> IdLiteral
 fn ground_clause(
     alloc: Global,
     abstraction: &Abstraction,
-    literals: &[Lit],
+    literals: &Literals,
 ) -> Result<IdClause, Memory>
     requires below { AtomsBelow (length abstraction.now.ids) literals.now }
     ensures { IfOk result (λ c. c ≡ ground_clause abstraction.now.ids literals.now) }
 {
     let mut seen: IndexSet<IdLiteral> = IndexSet::new(alloc);
     let mut clause = IdClause::new(alloc);
-    for l in literals {
-        let literal = named_literal(abstraction, *l);
+    for i in 0..literals.len() {
+        let literal = named_literal(abstraction, literals.at(i));
         add_literal(&mut seen, &mut clause, literal)?;
     }
     Ok(clause)
@@ -58,7 +58,8 @@ pub fn ground_clauses(
 {
     let mut grounds = Vec::with_capacity(alloc, clauses.len())?;
     for i in 0..clauses.len() {
-        let clause = ground_clause(alloc, abstraction, clause_after(clauses, i))?;
+        let literals = Literals::packed(clause_after(clauses, i));
+        let clause = ground_clause(alloc, abstraction, &literals)?;
         grounds.push(clause)?;
     }
     Ok(IdClauseList::from(grounds))
@@ -88,7 +89,8 @@ fn ground_step(alloc: Global, abstraction: &Abstraction, step: &Step) -> Result<
     requires below { AtomsBelow (length abstraction.now.ids) step.now.clause }
     ensures { IfOk result (λ s. s ≡ ground_step abstraction.now.ids step.now) }
 {
-    let clause = ground_clause(alloc, abstraction, step.clause.as_slice())?;
+    let literals = Literals::plain(step.clause.as_slice());
+    let clause = ground_clause(alloc, abstraction, &literals)?;
     let hints = ground_hints(alloc, &step.hints)?;
     Ok(GroundStep { clause, hints })
 }

@@ -4,8 +4,8 @@ use Rattle.inst_logic.specs.Lists.{distinct}
 use Rattle.ground_abs.specs.Numbers.{named}
 use Rattle.instgen_loop.proofs.steps.ground_clause.Given as goal
 
-abbrev pub invariant-loop-l : goal.invariant-loop-l
-invariant-loop-l l = record {
+abbrev pub invariant-loop-i : goal.invariant-loop-i
+invariant-loop-i l = record {
   same : l.clause ≡ l.seen.keys;
-  made : l.seen.keys ≡ distinct (signed_eq nat_eq) (map (named l.abstraction.ids) (take l.l-index l.literals));
+  made : l.seen.keys ≡ distinct (signed_eq nat_eq) (map (named l.abstraction.ids) (take l.i l.literals));
 }
