@@ -98,11 +98,11 @@ fn renumber(alloc: Global, places: &[usize], hints: &[Hint]) -> Result<HintList,
     requires { Rises places.now }
     ensures { IfOk result (AllZip (IsRenamed places.now) hints.now) }
 {
-    let mut others = HintList::new(alloc);
+    let mut others = Vec::with_capacity(alloc, hints.len())?;
     for hint in hints {
         others.push(renumber_one(places, *hint))?;
     }
-    Ok(others)
+    Ok(HintList::from(others))
 }
 
 fn copy(alloc: Global, places: &[usize], step: &Step) -> Result<Step, Memory>

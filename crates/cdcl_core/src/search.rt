@@ -426,6 +426,9 @@ impl Search {
         requires closes { ClosesAll (map complement core) (map (cited self.now.log.added self.now.log.steps) hints.items) }
         ensures { IfOk result (λ answer. (assumptions : List (Signed ℕ)) → IsSubList core assumptions → Ends assumptions self.now self.now answer) }
     {
+        // They are copied, and may be many.
+        let mut hints = hints;
+        hints.shrink_to_fit();
         let last = Step {
             clause: complements(self.alloc, core.as_slice())?,
             hints: HintList::from(hints),

@@ -11,5 +11,5 @@ loop-hint-preserved c =
     let R = IsRenamed c.args.places.now in
     let i = c.loop-hint.hint-index in
     let d : Hint = Added 0 in
-    subst (AllZip R (take (i + 1) c.args.hints.now)) (sym c.in_ok-push.ensures.ok)
-    (zip_more R c.args.hints.now c.loop-hint.others i d c.renumber_one.result c.loop-hint-test.true c.loop-hint.invariant c.renumber_one.ensures)
+    subst (AllZip R (take (i + 1) c.args.hints.now)) (sym c.in_ok-push.ensures.items)
+    (zip_more R c.args.hints.now c.loop-hint.others.items i d c.renumber_one.result c.loop-hint-test.true c.loop-hint.invariant c.renumber_one.ensures)

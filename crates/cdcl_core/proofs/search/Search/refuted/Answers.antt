@@ -14,5 +14,5 @@ returns c = λ assumptions within.
     let last : Step = record { clause = c.in_ok-complements.field-0; hints = c.from.result } in
     let derivation = c.in_ok-derivation.derivation in
     refuted_ends assumptions core s last derivation (c.in_ok-complements.ensures ∙ ap (map complement) c.as_slice.ensures) within c.requires.kept c.requires.atoms
-    (subst (λ hs. ClosesAll (map complement core) (map (cited s.log.added s.log.steps) hs)) (sym c.from.ensures) c.requires.closes)
+    (subst (λ hs. ClosesAll (map complement core) (map (cited s.log.added s.log.steps) hs)) (sym (c.from.ensures ∙ c.shrink_to_fit.ensures.items)) c.requires.closes)
     (subst (λ ss. IsCutOf (ss ++ last ∷ []) derivation) c.as_slice-2.ensures c.in_ok-derivation.ensures)
