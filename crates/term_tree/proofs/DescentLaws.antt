@@ -172,14 +172,14 @@ descent_kept f es fs kept all node left opened closed d = record {
 }
 
 -- the spans of an atom's terms are all those to nodes on its way
-pub way_linked : (f : Forest) (es : List Edge) (ts : List Span) (ms : List Content) → ((k : ℕ) → k < length es → (edge_at es k).from ≤ k) → IsIndexed es → (atom leaf : ℕ) (spans : List Span) → leaf ≤ length es
-    → IsWay f es atom leaf spans → ((s : Span) → Contains spans s → Exits ts ms s.begin s.end) → IsLinked es ts ms leaf
-way_linked f es ts ms order once atom leaf spans w way listed n c rest (ks, k, q) leads = by ks k q
+pub way_linked : (f : Forest) (es : List Edge) (ms : List Content) → ((k : ℕ) → k < length es → (edge_at es k).from ≤ k) → IsIndexed es → (atom leaf : ℕ) (spans : List Span) → leaf ≤ length es
+    → IsWay f es atom leaf spans → ((s : Span) → Contains spans s → Exits ms s.begin s.end) → IsLinked es ms leaf
+way_linked f es ms order once atom leaf spans w way listed n c rest (ks, k, q) leads = by ks k q
   where
     up : c ≤ leaf
     up = let u = leads_up es order c rest leaf leads in omega arith
 
-    by : (ks : List Label) → Leads es n ks c → Passes 1 ks 0 → Exits ts ms n c
+    by : (ks : List Label) → Leads es n ks c → Passes 1 ks 0 → Exits ms n c
     by [] k q = let z : 1 ≡ 0 = q in absurd (omega arith)
     by (l ∷ ls) k q =
         let v = leads_up es order n (l ∷ ls) c k in
@@ -193,7 +193,7 @@ way_linked f es ts ms order once atom leaf spans w way listed n c rest (ks, k, q
         let e : (l ∷ ls) ++ rest ≡ s.0.0 ++ s.1.0 = one_way es order n ((l ∷ ls) ++ rest) (s.0.0 ++ s.1.0) leaf down (leads_append es n r.2.0 leaf s.0.0 s.1.0 s.0.1 s.1.1) in
         let p : l ∷ ls ≡ s.0.0 = prefix_free (l ∷ ls) s.0.0 rest s.1.0 1 e q s.0.2 in
         let t : c ≡ r.2.0 = leads_once es once n (l ∷ ls) c r.2.0 k (subst (λ xs. Leads es n xs r.2.0) (sym p) s.0.1) in
-        subst (λ x. Exits ts ms n x) (sym t) (listed (record { begin = n; end = r.2.0 }) there)
+        subst (λ x. Exits ms n x) (sym t) (listed (record { begin = n; end = r.2.0 }) there)
 
 -- all of them are between nodes
 pub way_within : (f : Forest) (es : List Edge) → ((k : ℕ) → k < length es → (edge_at es k).from ≤ k) → (atom leaf count : ℕ) (spans : List Span) → leaf < count → IsWay f es atom leaf spans
