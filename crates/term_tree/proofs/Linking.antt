@@ -12,7 +12,7 @@ use Rattle.term_tree.specs.declared.node.Edge.{Edge}
 use Rattle.term_tree.specs.declared.node.Span.{Span}
 use Rattle.term_tree.specs.Nodes.{Content}
 use Rattle.term_tree.specs.Lists.{IsNoted, KeepsExits, KeepsOthers, ListsAll}
-use Rattle.term_tree.specs.Paths.{PlaceLists, Leads, Spans, Passes, Reaches, Holds, Exits, IsArena, AreListed, IsBare, KeepsPairs, content_at, exit_at, place_of}
+use Rattle.term_tree.specs.Paths.{PlaceLists, Leads, Crosses, Passes, Reaches, Holds, Exits, IsArena, AreListed, IsBare, KeepsPairs, content_at, exit_at, place_of}
 use Rattle.term_tree.proofs.PathLaws.{leads_split, from_root, one_way, leads_append}
 use Rattle.term_tree.proofs.TermLaws.{passes_split, first_terms}
 
@@ -210,11 +210,12 @@ module _ (es : List Edge) (ps qs : PlaceLists) (ns ms : List Content) (s : Span)
 -- no pair ends at a bare node or below it
 pub bare_reaches : (es : List Edge) (ps : PlaceLists) (ns : List Content) → IsArena es ps ns → (c : ℕ) → c < length ns → IsBare (content_at ns c) → ¬ (Reaches es ns c)
 bare_reaches es ps ns a c w bare ([], m, p, l, h) = let z : length (content_at ns c).pairs ≡ 0 = ap length bare.0 in let k = subst (λ x. Holds ns x p) (sym l) h in absurd (omega (arith, z, k.1))
-bare_reaches es ps ns a c w bare (x ∷ ls, m, p, l, h) =
+bare_reaches es ps ns a zero w bare (x ∷ ls, m, p, (d, k, l), h) = none_in d (content_at ns 0).exits bare.1 (a.linked 0 d (x, k) (ls, m, p, l, h))
+bare_reaches es ps ns a (suc n) w bare (x ∷ ls, m, p, l, h) =
     let some : 0 < length ns = omega arith in
-    let root = from_root es a.order c (omega (arith, a.count some)) in
+    let root = from_root es a.order (suc n) (omega (arith, a.count some)) in
     let full = a.whole m p h in
-    let same : full.0 ≡ root.0 ++ x ∷ ls = one_way es a.order 0 full.0 (root.0 ++ x ∷ ls) m full.1 (leads_append es 0 c m root.0 (x ∷ ls) root.1 l) in
+    let same : full.0 ≡ root.0 ++ x ∷ ls = one_way es a.order 0 full.0 (root.0 ++ x ∷ ls) m full.1 (leads_append es 0 (suc n) m root.0 (x ∷ ls) root.1 l) in
     let s = passes_split root.0 (x ∷ ls) 1 0 (subst (λ xs. Passes 1 xs 0) same full.2) in
     at s.0 s.2
   where
@@ -222,9 +223,9 @@ bare_reaches es ps ns a c w bare (x ∷ ls, m, p, l, h) =
     at zero q = q
     at (suc k) q =
         let r = first_terms (x ∷ ls) (suc k) 1 k (omega arith) q in
-        let t = leads_split es c m r.0 r.1 (subst (λ xs. Leads es c xs m) r.2 l) in
-        let e = a.linked c t.0 (r.0, t.1, r.3) (r.1, m, p, t.2, h) in
-        none_in t.0 (content_at ns c).exits bare.1 e
+        let t = leads_split es (suc n) m r.0 r.1 (subst (λ xs. Leads es (suc n) xs m) r.2 l) in
+        let e = a.linked (suc n) t.0 (r.0, t.1, r.3) (r.1, m, p, t.2, h) in
+        none_in t.0 (content_at ns (suc n)).exits bare.1 e
 
 -- the tree without an exit that leads to a bare node
 pub unlinked_arena : (es : List Edge) (ps qs : PlaceLists) (ns ms : List Content) (s : Span) → IsArena es ps ns → s.end < length ns → IsBare (content_at ns s.end) → AreListed es qs ms → KeepsOthers ns s ms → IsArena es qs ms
@@ -235,7 +236,7 @@ unlinked_arena es ps qs ns ms s a end bare l h = record {
   once = a.once;
   short = a.short;
   listed = l;
-  spans = λ n c x. a.spans n c (h.fewer n c x);
+  exits = λ n c x. a.exits n c (h.fewer n c x);
   linked = λ n c k reach. h.kept n c (a.linked n c k (before c reach)) (λ e. bare_reaches es ps ns a s.end end bare (subst (Reaches es ns) (ap (λ (y : Span). y.end) e) (before c reach)));
   whole = λ n p k. a.whole n p (held n p k);
   pairs_once = λ n. subst (AllPairs ◌≢◌) (sym (h.pairs n)) (a.pairs_once n);
@@ -250,7 +251,7 @@ unlinked_arena es ps qs ns ms s a end bare l h = record {
 
 -- the tree with more spans listed
 pub listed_arena : (es : List Edge) (ps qs : PlaceLists) (ns ms : List Content) (added : List Span) → IsArena es ps ns → AreListed es qs ms → ListsAll ns added ms → length ms ≡ length ns → KeepsPairs ns ms
-    → ((s : Span) → Contains added s → Spans es s.begin s.end) → IsArena es qs ms
+    → ((s : Span) → Contains added s → Crosses es s.begin s.end) → IsArena es qs ms
 listed_arena es ps qs ns ms added a l h len pairs are = record {
   count = λ v. len ∙ a.count (omega (arith, len));
   none = λ v. a.none (omega (arith, len));
@@ -258,7 +259,7 @@ listed_arena es ps qs ns ms added a l h len pairs are = record {
   once = a.once;
   short = a.short;
   listed = l;
-  spans = λ n c x. elim (h.sound n c x) [ inl y ↦ a.spans n c y | inr y ↦ are (record { begin = n; end = c }) y ];
+  exits = λ n c x. elim (h.sound n c x) [ inl y ↦ a.exits n c y | inr y ↦ are (record { begin = n; end = c }) y ];
   linked = λ n c k reach. h.kept n c (a.linked n c k (reach.0, reach.1, reach.2, reach.3, held reach.1 reach.2 reach.4));
   whole = λ n p k. a.whole n p (held n p k);
   pairs_once = λ n. subst (AllPairs ◌≢◌) (sym (pairs n)) (a.pairs_once n);
