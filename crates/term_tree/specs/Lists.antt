@@ -1,33 +1,31 @@
--- What changes in the lists of spans.
-use Rattle.std.specs.Prelude.{◌≡◌, ℕ, ◌<◌, List, [], ◌∷◌, ◌++◌, length, Contains, ◌⊎◌, All}
+-- What changes in the lists of exits.
+use Rattle.std.specs.Prelude.{◌≡◌, ℕ, ◌<◌, List, length, Contains, Some, ◌⊎◌, All}
+use Rattle.term_tree.specs.declared.node.Edge.{Edge}
 use Rattle.term_tree.specs.declared.node.Span.{Span}
 use Rattle.term_tree.specs.Nodes.{Content}
-use Rattle.term_tree.specs.Paths.{span_at, content_at, Exits, AreListed, KeepsPairs}
+use Rattle.term_tree.specs.Paths.{PlaceLists, place_of, Exits, KeepsPairs}
 
--- the span has the number, and went last where it is new
-pub record Numbers (ss ts : List Span) (s : Span) (r : ℕ) : Type 0 where
-  pub within : r < length ts
-  pub is : span_at ts r ≡ s
-  pub cases : (ts ≡ ss) ⊎ ((ts ≡ ss ++ s ∷ []) × ((i : ℕ) → i < length ss → ¬ (span_at ss i ≡ s)))
+-- the span has the place, and what is known of the others stays
+pub record IsNoted (es : List Edge) (ps qs : PlaceLists) (s : Span) (k : ℕ) : Type 0 where
+  pub here : place_of es qs s ≡ Some k
+  pub others : (t : Span) (p : ℕ) → ¬ (t ≡ s) → place_of es ps t ≡ Some p → place_of es qs t ≡ Some p
 
 -- what was listed still is
-abbrev pub KeepsExits : List Span → List Content → List Span → List Content → Type 0
-KeepsExits ss ns ts ms = (n c : ℕ) → Exits ss ns n c → Exits ts ms n c
+abbrev pub KeepsExits : List Content → List Content → Type 0
+KeepsExits ns ms = (n c : ℕ) → Exits ns n c → Exits ms n c
 
 abbrev pub AreWithin : ℕ → List Span → Type 0
 AreWithin k xs = All (λ s. (s.begin < k) × (s.end < k)) xs
 
 -- these spans are listed too
-pub record ListsAll (ss : List Span) (ns : List Content) (added : List Span) (ts : List Span) (ms : List Content) : Type 0 where
-  pub spans : (r : ℕ) → r < length ts → ((r < length ss) × (span_at ts r ≡ span_at ss r)) ⊎ Contains added (span_at ts r)
-  pub all : (s : Span) → Contains added s → Exits ts ms s.begin s.end
-  pub kept : KeepsExits ss ns ts ms
+pub record ListsAll (ns : List Content) (added : List Span) (ms : List Content) : Type 0 where
+  pub sound : (n c : ℕ) → Exits ms n c → Exits ns n c ⊎ Contains added (record { begin = n; end = c })
+  pub all : (s : Span) → Contains added s → Exits ms s.begin s.end
+  pub kept : KeepsExits ns ms
 
--- all but the exit of this number stay at the node
-pub record KeepsOthers (ps : List ℕ) (ns : List Content) (node number : ℕ) (qs : List ℕ) (ms : List Content) : Type 0 where
+-- all but this span stay where they are listed
+pub record KeepsOthers (ns : List Content) (s : Span) (ms : List Content) : Type 0 where
   pub len : length ms ≡ length ns
   pub pairs : KeepsPairs ns ms
-  pub others : (n : ℕ) → ¬ (n ≡ node) → content_at ms n ≡ content_at ns n
-  pub listed : (ss : List Span) → AreListed ss ps ns → AreListed ss qs ms
-  pub kept : (r : ℕ) → Contains (content_at ns node).exits r → ¬ (r ≡ number) → Contains (content_at ms node).exits r
-  pub fewer : (r : ℕ) → Contains (content_at ms node).exits r → Contains (content_at ns node).exits r
+  pub kept : (n c : ℕ) → Exits ns n c → ¬ (record { begin = n; end = c } ≡ s) → Exits ms n c
+  pub fewer : (n c : ℕ) → Exits ms n c → Exits ns n c

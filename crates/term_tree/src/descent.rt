@@ -1,4 +1,4 @@
-// The way of an atom down the tree, label by label, and the spans of its terms.
+// The way of an atom down the tree, label by label, and the exits that lead along it.
 ghost use Rattle.std.specs.Prelude.{◌≡◌, ◌<◌, ◌+◌, ◌++◌, ◌∷◌, [], List, length, IfOk, OnOk, reverse};
 ghost use Rattle.term_bank.specs.Forest.{tree_at};
 ghost use Rattle.term_tree.specs.declared.label.Label.{Label};
@@ -6,7 +6,7 @@ ghost use Rattle.term_tree.specs.declared.node.Edge.{Edge};
 ghost use Rattle.term_tree.specs.Labels.{label_of};
 ghost use Rattle.term_tree.specs.Numbered.{IsKnown};
 ghost use Rattle.term_tree.specs.Paths.{IsChild};
-ghost use Rattle.term_tree.specs.Left.{IsDescent, AreBelow, IsSorted, Closes, left_size, AreLeftNumbered};
+ghost use Rattle.term_tree.specs.Left.{IsDescent, AreBelow, IsSorted, Enters, Closes, left_size, AreLeftNumbered};
 
 use crate::node::Span;
 use crate::number::short;
@@ -22,7 +22,7 @@ pub struct Open {
 }
 
 /// The terms that are left, the last one first; those of which the symbol is passed and some argument is left, the outer ones
-/// first; and the spans of those that have ended, the inner ones first.
+/// first; and the exits that have ended, the first edge before the terms, and of these the inner ones first.
 #[derive(Drop)]
 pub struct Descent {
     pub left: Vec<TermId>,
@@ -50,6 +50,30 @@ fn push_args(left: &mut Vec<TermId>, args: &[TermId]) -> Result<(), Memory>
     for i in (0..args.len()).rev() {
         left.push(args[i])?;
     }
+    Ok(())
+}
+
+// A term begins at the node. One from the root is the whole atom, and in its place the first edge alone is told: the leaf tells
+// the atom.
+fn enter(
+    opened: &mut Vec<Open>,
+    closed: &mut Vec<Span>,
+    node: usize,
+    next: usize,
+    height: usize,
+) -> Result<(), Memory>
+    requires sorted { IsSorted opened.old.items }
+    requires below { AreBelow (height + 1) opened.old.items }
+    ensures enters { OnOk result (Enters opened.old.items opened.new.items closed.old.items closed.new.items node next height) }
+    ensures sorted { OnOk result (IsSorted opened.new.items) }
+{
+    let begin = short(node)?;
+    if node == 0 {
+        let end = short(next)?;
+        closed.push(Span { begin, end })?;
+        return Ok(());
+    }
+    opened.push(Open { begin, height })?;
     Ok(())
 }
 
@@ -95,10 +119,7 @@ pub fn pass(
     ensures numbered { OnOk result (IsKnown bank.now (tree_at bank.now id) → AreLeftNumbered bank.now descent.new.left.items → AreLeftNumbered bank.now (descent.old.left.items ++ id ∷ [])) }
 {
     let height = descent.left.len();
-    descent.opened.push(Open {
-        begin: short(node)?,
-        height,
-    })?;
+    enter(&mut descent.opened, &mut descent.closed, node, next, height)?;
     push_args(&mut descent.left, bank.args(id))?;
     let left = descent.left.len();
     close(&mut descent.opened, &mut descent.closed, left, next)?;

@@ -1,6 +1,5 @@
 use Rattle.std.proofs.Common.{◌≡◌, ◌<◌, ◌++◌, ◌∷◌, [], ℕ, List, ap, sym, subst, length, reverse, arith}
-use Rattle.term_tree.specs.declared.descent.Open.{Open}
-use Rattle.term_tree.specs.Left.{IsDescent, Closes, left_size, AreLeftNumbered}
+use Rattle.term_tree.specs.Left.{IsDescent, Enters, Closes, left_size, AreLeftNumbered}
 use Rattle.term_tree.proofs.DescentLaws.{descent_on}
 use Rattle.term_tree.proofs.LeftLaws.{smaller_left, numbered_on}
 use Rattle.term_tree.proofs.descent.pass.Goals as goal
@@ -17,12 +16,12 @@ returns-clause-descent c =
     let h : c.len-height.result ≡ length rest = omega (arith, c.len-height.ensures, c.args.descent.now.left.ok.0) in
     let e = c.in_ok-push_args.ensures in
     let k : c.len-left.result ≡ length (rest ++ reverse args) = omega (arith, c.len-left.ensures, c.push_args.new.left.ok.0, ap length e) in
-    let pushed = subst (λ (xs : List Open). Closes xs after old new c.args.next c.len-left.result) c.in_ok-push.ensures.items c.in_ok-close.ensures.closes in
-    let one = subst (λ (m : ℕ). Closes (before ++ record { begin = m; height = c.len-height.result } ∷ []) after old new c.args.next c.len-left.result) c.in_ok-short.ensures.same pushed in
-    let two = subst (λ (n : ℕ). Closes (before ++ record { begin = c.args.node; height = n } ∷ []) after old new c.args.next c.len-left.result) h one in
-    let closes = subst (λ (n : ℕ). Closes (before ++ record { begin = c.args.node; height = length rest } ∷ []) after old new c.args.next n) k two in
+    let mid = c.enter.new.opened.items in
+    let near = c.enter.new.closed.items in
+    let enters = subst (λ (n : ℕ). Enters before mid old near c.args.node c.args.next n) h c.in_ok-enter.ensures.enters in
+    let closes = subst (λ (n : ℕ). Closes mid after near new c.args.next n) k c.in_ok-close.ensures.closes in
     λ es all d child. subst (λ (xs : List ℕ). IsDescent f es all c.args.next xs after new) (sym e)
-    (descent_on f es all c.args.node c.args.next c.args.id rest args before after old new d c.requires.below child c.args-2.ensures.trees c.args-2.ensures.smaller closes)
+    (descent_on f es all c.args.node c.args.next c.args.id rest args before after old new d c.requires.below child c.args-2.ensures.trees c.args-2.ensures.smaller mid near enters c.in_ok-enter.ensures.sorted closes)
 
 pub returns-clause-smaller : goal.returns-clause-smaller
 returns-clause-smaller c =

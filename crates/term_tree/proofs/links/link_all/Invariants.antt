@@ -5,8 +5,8 @@ use Rattle.term_tree.proofs.links.link_all.Given as goal
 
 abbrev pub invariant-loop-span : goal.invariant-loop-span
 invariant-loop-span l = record {
-  listed : AreListed l.spans.keys l.places.items l.nodes.items;
-  all : ListsAll l.fn.spans.keys l.fn.nodes.items (take l.span-index l.added) l.spans.keys l.nodes.items;
+  listed : AreListed l.edges.keys l.places l.nodes.items;
+  all : ListsAll l.fn.nodes.items (take l.span-index l.added) l.nodes.items;
   len : length l.nodes.items ≡ length l.fn.nodes.items;
   pairs : KeepsPairs l.fn.nodes.items l.nodes.items;
 }

@@ -4,7 +4,7 @@ use Rattle.term_tree.proofs.links.prune.Given as goal
 
 abbrev pub invariant-loop-i : goal.invariant-loop-i
 invariant-loop-i l = record {
-  arena : IsArena l.edges.keys l.spans.keys l.places.items l.nodes.items;
+  arena : IsArena l.edges.keys l.places l.nodes.items;
   len : length l.nodes.items ≡ length l.fn.nodes.items;
   pairs : KeepsPairs l.fn.nodes.items l.nodes.items;
 }

@@ -51,25 +51,25 @@ same c = pairs_kept c.args.nodes.now.items c.link_all.new.nodes.items (kept c)
 gone : (c : In_ok-put_pair) → ¬ (Contains (pairs_of c.link_all.new.nodes.items) (c.args.atom, c.args.entry))
 gone c h = c.requires.absent (subst (λ ps. Contains ps (c.args.atom, c.args.entry)) (same c) h)
 
-grown : (c : In_ok-put_pair) → IsArena c.grown_leaf.new.edges.keys c.args.spans.now.keys c.args.places.now.items c.grown_leaf.new.nodes.items
+grown : (c : In_ok-put_pair) → IsArena c.grown_leaf.new.edges.keys c.args.places.now c.grown_leaf.new.nodes.items
 grown c =
-    grown_arena c.args.edges.now.keys c.grown_leaf.new.edges.keys c.args.spans.now.keys c.args.places.now.items c.rooted.new.nodes.items c.grown_leaf.new.nodes.items c.in_ok-rooted.ensures.root c.in_ok-node.ensures.grown
-    (c.rooted.ensures.arena c.args.edges.now.keys c.args.spans.now.keys c.args.places.now.items c.requires.arena)
+    grown_arena c.args.edges.now.keys c.grown_leaf.new.edges.keys c.args.places.now c.rooted.new.nodes.items c.grown_leaf.new.nodes.items c.in_ok-rooted.ensures.root c.in_ok-node.ensures.grown
+    (c.rooted.ensures.arena c.args.edges.now.keys c.args.places.now c.requires.arena)
 
-listed : (c : In_ok-put_pair) → IsArena c.grown_leaf.new.edges.keys c.link_all.new.spans.keys c.link_all.new.places.items c.link_all.new.nodes.items
+listed : (c : In_ok-put_pair) → IsArena c.grown_leaf.new.edges.keys c.link_all.new.places c.link_all.new.nodes.items
 listed c =
-    listed_arena c.grown_leaf.new.edges.keys c.args.spans.now.keys c.link_all.new.spans.keys c.args.places.now.items c.link_all.new.places.items c.grown_leaf.new.nodes.items c.link_all.new.nodes.items c.as_slice.result.now
+    listed_arena c.grown_leaf.new.edges.keys c.args.places.now c.link_all.new.places c.grown_leaf.new.nodes.items c.link_all.new.nodes.items c.as_slice.result.now
     (grown c) c.in_ok-link_all.ensures.listed c.in_ok-link_all.ensures.all c.link_all.ensures.len c.link_all.ensures.pairs
     (λ s h. (c.in_ok-node.ensures.way.sound s (subst (λ xs. Contains xs s) c.as_slice.ensures.value h)).0)
 
-linked : (c : In_ok-put_pair) → IsLinked c.grown_leaf.new.edges.keys c.link_all.new.spans.keys c.link_all.new.nodes.items c.in_ok-node.node
+linked : (c : In_ok-put_pair) → IsLinked c.grown_leaf.new.edges.keys c.link_all.new.nodes.items c.in_ok-node.node
 linked c =
-    way_linked c.args.bank.now c.grown_leaf.new.edges.keys c.link_all.new.spans.keys c.link_all.new.nodes.items (grown c).order (grown c).once c.args.atom c.in_ok-node.node c.grown_leaf.new.descent.closed.items
+    way_linked c.args.bank.now c.grown_leaf.new.edges.keys c.link_all.new.nodes.items (grown c).order (grown c).once c.args.atom c.in_ok-node.node c.grown_leaf.new.descent.closed.items
     (omega (arith, c.in_ok-node.ensures.within, c.in_ok-node.ensures.grown.count)) c.in_ok-node.ensures.way (λ s h. c.in_ok-link_all.ensures.all.all s (subst (λ xs. Contains xs s) (sym c.as_slice.ensures.value) h))
 
 pub returns-clause-arena : goal.returns-clause-arena
 returns-clause-arena c =
-    put_arena c.in_ok-node.node c.link_all.new.nodes.items c.put_pair.new.nodes.items (changes c) (c.args.atom, c.args.entry) c.in_ok-put_pair.ensures.pairs (gone c) c.grown_leaf.new.edges.keys c.link_all.new.spans.keys c.link_all.new.places.items
+    put_arena c.in_ok-node.node c.link_all.new.nodes.items c.put_pair.new.nodes.items (changes c) (c.args.atom, c.args.entry) c.in_ok-put_pair.ensures.pairs (gone c) c.grown_leaf.new.edges.keys c.link_all.new.places
     (listed c) (linked c) (spans_labels c.args.bank.now c.grown_leaf.new.edges.keys (Rattle.term_bank.specs.Forest.tree_at c.args.bank.now c.args.atom) c.in_ok-node.node c.in_ok-node.ensures.way.leads)
 
 pub returns-clause-stored : goal.returns-clause-stored
@@ -92,3 +92,11 @@ pub put_pair-requires-clause-found : goal.put_pair-requires-clause-found
 put_pair-requires-clause-found c =
     found_kept c.args.found.now.entries c.args.nodes.now.items c.link_all.new.nodes.items
     (λ n. c.link_all.ensures.pairs n ∙ c.grown_leaf.ensures.pairs n ∙ c.rooted.ensures.pairs n) c.requires.found
+
+pub grown_leaf-requires-clause-count : goal.grown_leaf-requires-clause-count
+grown_leaf-requires-clause-count c = (c.rooted.ensures.arena c.args.edges.now.keys c.args.places.now c.requires.arena).count c.in_ok-rooted.ensures.root
+
+pub link_all-requires-clause-listed : goal.link_all-requires-clause-listed
+link_all-requires-clause-listed c =
+    (grown_arena c.args.edges.now.keys c.grown_leaf.new.edges.keys c.args.places.now c.rooted.new.nodes.items c.grown_leaf.new.nodes.items c.in_ok-rooted.ensures.root c.in_ok-node.ensures.grown
+    (c.rooted.ensures.arena c.args.edges.now.keys c.args.places.now c.requires.arena)).listed

@@ -23,7 +23,7 @@ take_pair-requires-clause-within c =
 
 pub prune-requires-clause-arena : goal.prune-requires-clause-arena
 prune-requires-clause-arena c =
-    taken_arena c.in-Some.node c.args.nodes.now.items c.take_pair.new.nodes.items (changed c.take_pair.ensures.len c.take_pair.ensures.others c.take_pair.ensures.exits) (c.args.atom, c.args.entry) c.in_ok-there-in-Some.there c.in_ok-there-in-Some.ensures.there c.in_ok-there-in-Some.ensures.absent c.args.edges.now.keys c.args.spans.now.keys c.args.places.now.items c.requires.arena c.in_ok-there-in-Some.ensures.once
+    taken_arena c.in-Some.node c.args.nodes.now.items c.take_pair.new.nodes.items (changed c.take_pair.ensures.len c.take_pair.ensures.others c.take_pair.ensures.exits) (c.args.atom, c.args.entry) c.in_ok-there-in-Some.there c.in_ok-there-in-Some.ensures.there c.in_ok-there-in-Some.ensures.absent c.args.edges.now.keys c.args.places.now c.requires.arena c.in_ok-there-in-Some.ensures.once
 
 pub prune-requires-clause-within : goal.prune-requires-clause-within
 prune-requires-clause-within c =
@@ -42,7 +42,7 @@ returns-in_ok-there-in-Some-clause-stored c =
 pub returns-in_ok-there-in-Some-clause-there : goal.returns-in_ok-there-in-Some-clause-there
 returns-in_ok-there-in-Some-clause-there c = λ t.
     subst (Removes (c.args.atom, c.args.entry) (pairs_of c.args.nodes.now.items)) (sym (pairs_kept c.take_pair.new.nodes.items c.prune.new.nodes.items c.prune.ensures.pairs))
-    (taken_removes c.in-Some.node c.args.nodes.now.items c.take_pair.new.nodes.items (changed c.take_pair.ensures.len c.take_pair.ensures.others c.take_pair.ensures.exits) (c.args.atom, c.args.entry) c.in_ok-there-in-Some.there c.in_ok-there-in-Some.ensures.there c.in_ok-there-in-Some.ensures.absent c.args.edges.now.keys c.args.spans.now.keys c.args.places.now.items c.requires.arena t)
+    (taken_removes c.in-Some.node c.args.nodes.now.items c.take_pair.new.nodes.items (changed c.take_pair.ensures.len c.take_pair.ensures.others c.take_pair.ensures.exits) (c.args.atom, c.args.entry) c.in_ok-there-in-Some.there c.in_ok-there-in-Some.ensures.there c.in_ok-there-in-Some.ensures.absent c.args.edges.now.keys c.args.places.now c.requires.arena t)
 
 pub returns-in_ok-there-in-Some-clause-absent : goal.returns-in_ok-there-in-Some-clause-absent
 returns-in_ok-there-in-Some-clause-absent c = λ t.
