@@ -1,5 +1,4 @@
 use Rattle.std.proofs.Common.{◌∙◌}
-use Rattle.std.proofs.lemmas.Result.{on_ok_weaker}
 use Rattle.inst_calculus.specs.Axioms.{with_axioms}
 use Rattle.instgen_loop.proofs.Ended.{held_conclude, rest_read, solved_read, problem_read, journal_read}
 use Rattle.instgen_loop.proofs.finish.finish.Goals as goal
@@ -26,9 +25,7 @@ pub stopped-requires-clause-problem : goal.stopped-requires-clause-problem
 stopped-requires-clause-problem g c = problem_read c.args.run.now c.decide.new.run c.in_ok-decide.ensures.reads c.args.given c.args.p.now.clauses c.args.p.now.names c.requires.problem
 
 pub returns-in-None-clause-journal : goal.returns-in-None-clause-journal
-returns-in-None-clause-journal g c =
-    on_ok_weaker c.saturated.result (λ e. e ∙ journal_read c.args.run.now c.decide.new.run c.in_ok-decide.ensures.reads) c.saturated.ensures.journal
+returns-in-None-clause-journal g c = c.saturated.ensures.journal ∙ journal_read c.args.run.now c.decide.new.run c.in_ok-decide.ensures.reads
 
 pub returns-in-Some-clause-journal : goal.returns-in-Some-clause-journal
-returns-in-Some-clause-journal g c =
-    on_ok_weaker c.stopped.result (λ e. e ∙ journal_read c.args.run.now c.decide.new.run c.in_ok-decide.ensures.reads) c.stopped.ensures.journal
+returns-in-Some-clause-journal g c = c.stopped.ensures.journal ∙ journal_read c.args.run.now c.decide.new.run c.in_ok-decide.ensures.reads

@@ -39,8 +39,8 @@ returns-in-Some-clause-appended g c =
     on_ok_weaker c.refuted.result
     (λ e f. subst (λ (js : List Event). appended_count js ≤ c.args.budget) (sym e) (appended_within g.S.Solver.atoms g.S.Solver.added run clauses c.args.budget c.in_ok-derivation.ensures.running f)) c.refuted.ensures.journal
 
-pub returns-in-None-clause-appended : goal.returns-in-None-clause-appended
-returns-in-None-clause-appended g c =
+pub returns-clause-appended : goal.returns-clause-appended
+returns-clause-appended g c =
     let run = c.cycle.new.run in
     let clauses = c.args.p.now.clauses in
     on_ok_weaker c.finish.result
