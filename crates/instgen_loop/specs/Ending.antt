@@ -23,5 +23,5 @@ abbrev pub settled_from : {S I C : Type 0} → Run S I C → Given → SettledRu
 settled_from r g = record { remains = remains_of r g; selection = r.selection }
 
 -- the run's entries with their places
-abbrev pub saturation_from : SettledRun → Saturation
-saturation_from r = record { base = base_from r.remains; places = r.selection.places }
+abbrev pub saturation_from : List (List ℕ) → SettledRun → Saturation
+saturation_from names r = record { base = base_from names r.remains; places = r.selection.places }

@@ -1,5 +1,5 @@
 -- An ending with its journal.
-use Rattle.std.specs.Prelude.{List, length}
+use Rattle.std.specs.Prelude.{ℕ, List, length}
 use Rattle.inst_logic.specs.Clauses.{TreeClause}
 use Rattle.inst_calculus.specs.Abstraction.{IsBot}
 use Rattle.prop_logic.specs.Literal.{AllAtomsBelow, StepsBelow}
@@ -24,7 +24,7 @@ IsEnding clauses (endings.Refuted r) = IsRefuted clauses r
 IsEnding clauses (endings.Saturated r) = Unit {0}
 IsEnding clauses (endings.OutOfBudget left wanted r) = Unit {0}
 
-abbrev pub outcome_from : Ending → List Event → Outcome
-outcome_from (endings.Refuted r) journal = Refuted (refutation_from r) journal
-outcome_from (endings.Saturated r) journal = Saturated (saturation_from r) journal
-outcome_from (endings.OutOfBudget left wanted r) journal = OutOfBudget left wanted (saturation_from r) journal
+abbrev pub outcome_from : List (List ℕ) → Ending → List Event → Outcome
+outcome_from names (endings.Refuted r) journal = Refuted (refutation_from names r) journal
+outcome_from names (endings.Saturated r) journal = Saturated (saturation_from names r) journal
+outcome_from names (endings.OutOfBudget left wanted r) journal = OutOfBudget left wanted (saturation_from names r) journal

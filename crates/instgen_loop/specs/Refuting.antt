@@ -38,16 +38,16 @@ member_of e = record { clause = e.0; origin = e.1 }
 abbrev pub remains_of : {S I C : Type 0} → Run S I C → Given → Remains
 remains_of r g = record { bank = r.entries.bank; clauses = r.entries.clauses; given = g }
 
-abbrev pub base_from : Remains → Base
-base_from m = record { bank = m.bank; inputs = m.given.inputs; names = m.given.names; axioms = m.given.axioms; members = map member_of m.clauses.entries }
+abbrev pub base_from : List (List ℕ) → Remains → Base
+base_from names m = record { bank = m.bank; inputs = m.given.inputs; names = names; axioms = m.given.axioms; members = map member_of m.clauses.entries }
 
 -- what a refutation is made of
 abbrev pub refuted_from : {S I C : Type 0} → Run S I C → Given → List Step → RefutedRun
 refuted_from r g steps = record { remains = remains_of r g; abstraction = r.ground.abstraction; literals = r.ground.literals; derivation = steps }
 
-abbrev pub refutation_from : RefutedRun → Refutation
-refutation_from r = record {
-  base = base_from r.remains;
+abbrev pub refutation_from : List (List ℕ) → RefutedRun → Refutation
+refutation_from names r = record {
+  base = base_from names r.remains;
   bot = r.abstraction.bot;
   grounds = map (ground_clause r.abstraction.ids) r.literals;
   steps = map (ground_step r.abstraction.ids) r.derivation;

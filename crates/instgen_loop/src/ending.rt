@@ -29,7 +29,7 @@ pub fn outcome_from(
     log: &EventLog,
 ) -> Result<Outcome, Memory>
     requires ending { IsEnding p.now.clauses ending }
-    ensures { IfOk result (λ o. o ≡ outcome_from ending log.now) }
+    ensures { IfOk result (λ o. o ≡ outcome_from p.now.names ending log.now) }
 {
     match ending {
         Ending::Refuted(run) => {
@@ -38,7 +38,7 @@ pub fn outcome_from(
             Ok(Outcome::Refuted { cert, journal })
         }
         Ending::Saturated(run) => {
-            let cert = saturation_of(alloc, run)?;
+            let cert = saturation_of(alloc, p, run)?;
             let journal = log.journal(alloc)?;
             Ok(Outcome::Saturated { cert, journal })
         }
@@ -47,7 +47,7 @@ pub fn outcome_from(
             wanted,
             state,
         } => {
-            let state = saturation_of(alloc, state)?;
+            let state = saturation_of(alloc, p, state)?;
             let journal = log.journal(alloc)?;
             Ok(Outcome::OutOfBudget {
                 left,

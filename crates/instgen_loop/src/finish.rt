@@ -34,13 +34,13 @@ pub struct SettledRun {
 }
 
 /// The run's entries with their places.
-pub fn saturation_of(alloc: Global, run: SettledRun) -> Result<Saturation, Memory>
-    ensures { IfOk result (λ s. s ≡ saturation_from run) }
+pub fn saturation_of(alloc: Global, p: &Problem, run: SettledRun) -> Result<Saturation, Memory>
+    ensures { IfOk result (λ s. s ≡ saturation_from p.now.names run) }
 {
     let places = run.selection.place_list(alloc)?;
     // Its memory serves for the members.
     drop(run.selection);
-    let base = base_of(alloc, run.remains)?;
+    let base = base_of(alloc, p, run.remains)?;
     Ok(Saturation { base, places })
 }
 
@@ -65,13 +65,13 @@ fn saturated<S: Solver, I: PartnerIndex>(
 ) -> Ending
     requires rest { IsAtRest S.atoms I.pairs I.fits run.old _partners.now }
     requires running { IsSolvedFor S.atoms S.added run.old (with_axioms _p.now.clauses) _budget }
-    requires problem { IsOfProblem run.old given _p.now.clauses _p.now.names }
+    requires problem { IsOfProblem run.old given _p.now.clauses }
     requires clauses { All IsPrintableClause _p.now.clauses }
     requires named { length _p.now.names ≡ length _p.now.clauses }
     requires readable { All (λ n. IsTrue (is_readable_name n)) _p.now.names }
     requires decided { IsDecision run.old None }
     ensures ending { IsEnding _p.now.clauses result }
-    ensures outcome { IsOutcome _p.now.clauses _p.now.names _budget (outcome_from result run.new.journal) }
+    ensures outcome { IsOutcome _p.now.clauses _p.now.names _budget (outcome_from _p.now.names result run.new.journal) }
     ensures journal { run.new.journal ≡ run.old.journal }
 {
     Ending::Saturated(taken(alloc, run, given))
@@ -100,10 +100,10 @@ fn stopped<S: Solver, I: PartnerIndex>(
 ) -> Ending
     requires rest { IsAtRest S.atoms I.pairs I.fits run.old _partners.now }
     requires running { IsSolvedFor S.atoms S.added run.old (with_axioms _p.now.clauses) _budget }
-    requires problem { IsOfProblem run.old given _p.now.clauses _p.now.names }
+    requires problem { IsOfProblem run.old given _p.now.clauses }
     requires open { IsLeastOpen run.old wanted }
     ensures ending { IsEnding _p.now.clauses result }
-    ensures outcome { IsOutcome _p.now.clauses _p.now.names _budget (outcome_from result run.new.journal) }
+    ensures outcome { IsOutcome _p.now.clauses _p.now.names _budget (outcome_from _p.now.names result run.new.journal) }
     ensures journal { run.new.journal ≡ run.old.journal }
 {
     let left = left_of(run);
@@ -129,12 +129,12 @@ pub fn finish<S: Solver, I: PartnerIndex>(
     requires rests { run.old.queue.items ≡ [] }
     requires whole { length run.old.selection.places ≡ length (items run.old) }
     requires running { IsSolvedFor S.atoms S.added run.old (with_axioms p.now.clauses) budget }
-    requires problem { IsOfProblem run.old given p.now.clauses p.now.names }
+    requires problem { IsOfProblem run.old given p.now.clauses }
     requires clauses { All IsPrintableClause p.now.clauses }
     requires named { length p.now.names ≡ length p.now.clauses }
     requires readable { All (λ n. IsTrue (is_readable_name n)) p.now.names }
     ensures ending { IfOk result (IsEnding p.now.clauses) }
-    ensures outcome { IfOk result (λ e. IsOutcome p.now.clauses p.now.names budget (outcome_from e run.new.journal)) }
+    ensures outcome { IfOk result (λ e. IsOutcome p.now.clauses p.now.names budget (outcome_from p.now.names e run.new.journal)) }
     ensures journal { OnOk result (run.new.journal ≡ run.old.journal) }
 {
     match decide(alloc, run)? {

@@ -6,7 +6,7 @@ ghost use Rattle.instgen_loop.specs.Refuting.{member_of, remains_of, base_from};
 use crate::start::Given;
 use crate::state::Run;
 use indexmap::IndexMap;
-use inst_logic::Memory;
+use inst_logic::{Memory, NameList, Problem};
 use prop_logic::Solver;
 use saturation_cert::{Base, Member, MemberList, Origin};
 use std::alloc::Global;
@@ -49,16 +49,32 @@ fn members_of(alloc: Global, clauses: IndexMap<IdClause, Origin>) -> Result<Memb
     Ok(MemberList::from(members))
 }
 
-/// The base of a certificate: the run's entries become its members, and the run's bank is its bank.
-pub fn base_of(alloc: Global, remains: Remains) -> Result<Base, Memory>
-    ensures { IfOk result (λ b. b ≡ base_from remains) }
+fn copied_names(alloc: Global, names: &NameList) -> Result<NameList, Memory>
+    ensures { IfOk result (λ copy. copy ≡ names.now) }
 {
-    let members = members_of(alloc, remains.clauses)?;
+    let mut copy = Vec::with_capacity(alloc, names.len())?;
+    for name in names.as_slice() {
+        copy.push(name.clone()?)?;
+    }
+    Ok(NameList::from(copy))
+}
+
+/// The base of a certificate: the run's entries become its members, and the run's bank is its bank.
+pub fn base_of(alloc: Global, p: &Problem, remains: Remains) -> Result<Base, Memory>
+    ensures { IfOk result (λ b. b ≡ base_from p.now.names remains) }
+{
+    let Remains {
+        bank,
+        clauses,
+        given,
+    } = remains;
+    let members = members_of(alloc, clauses)?;
+    let names = copied_names(alloc, &p.names)?;
     Ok(Base {
-        bank: remains.bank,
-        inputs: remains.given.inputs,
-        names: remains.given.names,
-        axioms: remains.given.axioms,
+        bank,
+        inputs: given.inputs,
+        names,
+        axioms: given.axioms,
         members,
     })
 }

@@ -66,7 +66,7 @@ fn drive<S: Solver, I: PartnerIndex>(
     requires named { length p.now.names ≡ length p.now.clauses }
     requires readable { All (λ n. IsTrue (is_readable_name n)) p.now.names }
     ensures ending { IfOk result (IsEnding p.now.clauses) }
-    ensures outcome { IfOk result (λ e. IsOutcome p.now.clauses p.now.names budget (outcome_from e run.new.journal)) }
+    ensures outcome { IfOk result (λ e. IsOutcome p.now.clauses p.now.names budget (outcome_from p.now.names e run.new.journal)) }
     ensures appended { OnOk result (IsFalse (is_function_free p.now.clauses) → appended_count run.new.journal ≤ budget) }
 {
     let given = start(alloc, p, run, budget)?;
@@ -104,7 +104,7 @@ fn drive_with<S: Solver, I: PartnerIndex>(
     requires named { length p.now.names ≡ length p.now.clauses }
     requires readable { All (λ n. IsTrue (is_readable_name n)) p.now.names }
     ensures ending { IfOk result (IsEnding p.now.clauses) }
-    ensures outcome { IfOk result (λ e. IsOutcome p.now.clauses p.now.names budget (outcome_from e run.new.journal)) }
+    ensures outcome { IfOk result (λ e. IsOutcome p.now.clauses p.now.names budget (outcome_from p.now.names e run.new.journal)) }
     ensures appended { OnOk result (IsFalse (is_function_free p.now.clauses) → appended_count run.new.journal ≤ budget) }
 {
     drive(alloc, p, run, Partners { positive, negative }, budget)

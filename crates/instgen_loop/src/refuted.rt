@@ -38,9 +38,9 @@ pub struct RefutedRun {
 /// The refutation that the derivation gives: for each entry its abstraction for ground clause, and the steps over the atoms.
 pub fn refutation_of(alloc: Global, p: &Problem, run: RefutedRun) -> Result<Refutation, Memory>
     requires refuted { IsRefuted p.now.clauses run }
-    ensures { IfOk result (λ r. r ≡ refutation_from run) }
+    ensures { IfOk result (λ r. r ≡ refutation_from p.now.names run) }
 {
-    let base = base_of(alloc, run.remains)?;
+    let base = base_of(alloc, p, run.remains)?;
     let bot = bot_of(alloc, p)?;
     let grounds = ground_clauses(alloc, &run.abstraction, &run.literals)?;
     // Their memory serves for the steps.
@@ -90,12 +90,12 @@ pub fn refuted<S: Solver, I: PartnerIndex>(
     requires safe { IsSafe S.atoms I.pairs I.fits run.old }
     requires running { IsRunningFor S.atoms S.added run.old (with_axioms p.now.clauses) _budget }
     requires refutes { Refutes (S.atoms run.old.ground.solver) (S.added run.old.ground.solver) [] [] derivation }
-    requires problem { IsOfProblem run.old given p.now.clauses p.now.names }
+    requires problem { IsOfProblem run.old given p.now.clauses }
     requires clauses { All IsPrintableClause p.now.clauses }
     requires named { length p.now.names ≡ length p.now.clauses }
     requires readable { All (λ n. IsTrue (is_readable_name n)) p.now.names }
     ensures ending { IfOk result (IsEnding p.now.clauses) }
-    ensures outcome { IfOk result (λ e. IsOutcome p.now.clauses p.now.names _budget (outcome_from e run.new.journal)) }
+    ensures outcome { IfOk result (λ e. IsOutcome p.now.clauses p.now.names _budget (outcome_from p.now.names e run.new.journal)) }
     ensures journal { OnOk result (run.new.journal ≡ run.old.journal) }
 {
     // So equal atoms have equal ids.

@@ -13,7 +13,7 @@ pub saturated-requires-clause-running : goal.saturated-requires-clause-running
 saturated-requires-clause-running g c = solved_read c.args.run.now c.decide.new.run c.in_ok-decide.ensures.reads g.S.Solver.atoms g.S.Solver.added g.I.PartnerIndex.pairs g.I.PartnerIndex.fits (with_axioms c.args.p.now.clauses) c.args.budget c.requires.safe c.requires.running
 
 pub saturated-requires-clause-problem : goal.saturated-requires-clause-problem
-saturated-requires-clause-problem g c = problem_read c.args.run.now c.decide.new.run c.in_ok-decide.ensures.reads c.args.given c.args.p.now.clauses c.args.p.now.names c.requires.problem
+saturated-requires-clause-problem g c = problem_read c.args.run.now c.decide.new.run c.in_ok-decide.ensures.reads c.args.given c.args.p.now.clauses c.requires.problem
 
 pub stopped-requires-clause-rest : goal.stopped-requires-clause-rest
 stopped-requires-clause-rest g c = rest_read c.args.run.now c.decide.new.run c.in_ok-decide.ensures.reads g.S.Solver.atoms g.I.PartnerIndex.pairs g.I.PartnerIndex.fits c.args.partners.now c.requires.safe c.in_ok-decide.ensures.safe c.requires.tended c.requires.rests c.requires.whole
@@ -22,7 +22,7 @@ pub stopped-requires-clause-running : goal.stopped-requires-clause-running
 stopped-requires-clause-running g c = solved_read c.args.run.now c.decide.new.run c.in_ok-decide.ensures.reads g.S.Solver.atoms g.S.Solver.added g.I.PartnerIndex.pairs g.I.PartnerIndex.fits (with_axioms c.args.p.now.clauses) c.args.budget c.requires.safe c.requires.running
 
 pub stopped-requires-clause-problem : goal.stopped-requires-clause-problem
-stopped-requires-clause-problem g c = problem_read c.args.run.now c.decide.new.run c.in_ok-decide.ensures.reads c.args.given c.args.p.now.clauses c.args.p.now.names c.requires.problem
+stopped-requires-clause-problem g c = problem_read c.args.run.now c.decide.new.run c.in_ok-decide.ensures.reads c.args.given c.args.p.now.clauses c.requires.problem
 
 pub returns-in-None-clause-journal : goal.returns-in-None-clause-journal
 returns-in-None-clause-journal g c = c.saturated.ensures.journal ∙ journal_read c.args.run.now c.decide.new.run c.in_ok-decide.ensures.reads

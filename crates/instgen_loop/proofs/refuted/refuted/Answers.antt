@@ -21,4 +21,4 @@ returns-clause-outcome g c =
     let S = g.S.Solver in
     let I = g.I.PartnerIndex in
     refuted_outcome S.atoms S.added I.pairs I.fits c.args.run.now c.args.given c.args.p.now.clauses c.args.p.now.names c.args._budget c.args.derivation c.distinct.ensures c.requires.safe c.requires.running c.requires.refutes c.requires.problem
-    c.requires.clauses c.requires.named c.requires.readable (refutation_from c.in_ok-refuted.refuted) c.taken.new.run.journal (ap refutation_from c.in_ok-refuted.ensures.taken) c.in_ok-refuted.ensures.journal
+    c.requires.clauses c.requires.named c.requires.readable (refutation_from c.args.p.now.names c.in_ok-refuted.refuted) c.taken.new.run.journal (ap (refutation_from c.args.p.now.names) c.in_ok-refuted.ensures.taken) c.in_ok-refuted.ensures.journal
