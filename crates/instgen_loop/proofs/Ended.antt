@@ -55,8 +55,8 @@ module _ {S I C : Type 0} (old new : Run S I C) (reads : Reads old new) where
       → IsSolvedFor atoms added old cs budget → IsSolvedFor atoms added new cs budget
   solved_read atoms added pairs fits cs budget safe (bot, v, h) = (bot, v, running_read atoms added old new reads safe.entries bot cs budget v h)
 
-  pub problem_read : (g : Given) (clauses : List TreeClause) (names : List (List ℕ)) → IsOfProblem old g clauses names → IsOfProblem new g clauses names
-  problem_read g clauses names h = problem_later old new g clauses names reads.bank (ap (λ (r : Run S I C). r.ground.abstraction.bot) reads.rest) h
+  pub problem_read : (g : Given) (clauses : List TreeClause) → IsOfProblem old g clauses → IsOfProblem new g clauses
+  problem_read g clauses h = problem_later old new g clauses reads.bank (ap (λ (r : Run S I C). r.ground.abstraction.bot) reads.rest) h
 
   pub journal_read : new.journal ≡ old.journal
   journal_read = ap (λ (r : Run S I C). r.journal) reads.rest

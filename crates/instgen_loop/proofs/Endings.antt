@@ -35,7 +35,7 @@ use Rattle.instgen_loop.specs.declared.event.Event.{Event}
 use Rattle.instgen_loop.specs.declared.start.Given.{Given}
 use Rattle.instgen_loop.specs.declared.state.Run.{Run}
 use Rattle.instgen_loop.specs.declared.queue.Partners.{Partners}
-use Rattle.instgen_loop.specs.Ending.{IsAtRest, saturation_from}
+use Rattle.instgen_loop.specs.Ending.{IsAtRest, settled_from, saturation_from}
 use Rattle.instgen_loop.specs.Loops.{items, held_of}
 use Rattle.instgen_loop.specs.Outcomes.{IsSelectedRun, IsSaturatedRun}
 use Rattle.instgen_loop.specs.Refuting.{member_of}
@@ -63,7 +63,7 @@ settled_by_places bot t places h whole = in_all (λ (e : Entry). IsTrueClause (C
     (clause_is_true bot t p.entry.clause m.selected (contains_in m.selected p.entry.clause (at_number_contains p.entry.clause p.place m.selected p.selected)) holds))
 
 module _ {S I C : Type 0} (atoms : S → ℕ) (added : S → List (List (Signed ℕ))) (pairs : I → List Pair) (fits : Forest → I → Type 0) (r : Run S I C) (p : Partners I C) (g : Given) (clauses : List TreeClause) (names : List (List ℕ))
-    (budget : ℕ) (v : List Tree) (rest : IsAtRest atoms pairs fits r p) (h : IsRunning atoms added r r.ground.abstraction.bot (with_axioms clauses) budget v true) (problem : IsOfProblem r g clauses names) where
+    (budget : ℕ) (v : List Tree) (rest : IsAtRest atoms pairs fits r p) (h : IsRunning atoms added r r.ground.abstraction.bot (with_axioms clauses) budget v true) (problem : IsOfProblem r g clauses) where
   abbrev f : Forest
   f = r.entries.bank
 
@@ -80,21 +80,20 @@ module _ {S I C : Type 0} (atoms : S → ℕ) (added : S → List (List (Signed 
   members_same : map (entry_of f) (map member_of (items r)) ≡ entries_of r
   members_same = map_map (entry_of f) member_of (items r)
 
-  pub same : saturation_of (saturation_from r g) ≡ saturation_at r base
+  pub same : saturation_of (saturation_from names (settled_from r g)) ≡ saturation_at r base
   same =
       let inputs = problem.inputs.same in
       let axioms = problem.axioms.same in
-      let named = problem.named in
-      λ i. record { base = record { inputs = inputs i; names = named i; axioms = axioms i; members = members_same i }; places = r.selection.places }
+      λ i. record { base = record { inputs = inputs i; names = names; axioms = axioms i; members = members_same i }; places = r.selection.places }
 
   pub long : length r.selection.places ≡ length (entries_of r)
   long = rest.whole ∙ sym (length_map member_of (items r)) ∙ sym (length_map (entry_of f) (map member_of (items r))) ∙ ap length members_same
 
-  pub selected_run : IsSelectedRun clauses names (saturation_from r g) r.journal bot t
+  pub selected_run : IsSelectedRun clauses names (saturation_from names (settled_from r g)) r.journal bot t
   selected_run = record {
     run = record {
       inputs = problem.inputs.same;
-      named = problem.named;
+      named = refl;
       axioms = problem.axioms.same;
       replays = record { constant = problem.bot; replays = h.replays };
       members = sym members_same;
@@ -122,7 +121,7 @@ module _ {S I C : Type 0} (atoms : S → ℕ) (added : S → List (List (Signed 
       placed = long;
     }
 
-    pub saturated_run : IsSaturatedRun clauses names (saturation_from r g) r.journal
+    pub saturated_run : IsSaturatedRun clauses names (saturation_from names (settled_from r g)) r.journal
     saturated_run = record {
       bot = bot;
       state = t;
@@ -138,10 +137,10 @@ pub own_constant : {S I C : Type 0} (atoms : S → ℕ) (added : S → List (Lis
 own_constant atoms added r constant cs budget v h = transport (λ x. IsRunning atoms added r x cs budget v true) (sym h.linked.constant) h
 
 pub saturated_outcome : {S I C : Type 0} (atoms : S → ℕ) (added : S → List (List (Signed ℕ))) (pairs : I → List Pair) (fits : Forest → I → Type 0) (r : Run S I C) (p : Partners I C) (g : Given) (clauses : List TreeClause) (names : List (List ℕ))
-    (budget : ℕ) → IsAtRest atoms pairs fits r p → IsSolvedFor atoms added r (with_axioms clauses) budget → IsOfProblem r g clauses names → All IsPrintableClause clauses → length names ≡ length clauses
-    → All (λ n. IsTrue (is_readable_name n)) names → All (IsDecided (entries_of r) r.selection.places []) (held_of r) → (cert : Saturation) (journal : List Event) → cert ≡ saturation_from r g → journal ≡ r.journal
+    (budget : ℕ) → IsAtRest atoms pairs fits r p → IsSolvedFor atoms added r (with_axioms clauses) budget → IsOfProblem r g clauses → All IsPrintableClause clauses → length names ≡ length clauses
+    → All (λ n. IsTrue (is_readable_name n)) names → All (IsDecided (entries_of r) r.selection.places []) (held_of r) → (cert : Saturation) (journal : List Event) → cert ≡ saturation_from names (settled_from r g) → journal ≡ r.journal
     → IsSaturatedRun clauses names cert journal
 saturated_outcome atoms added pairs fits r p g clauses names budget rest (constant, v, h) problem printable count readable decided cert journal e q =
-    let run : IsSaturatedRun clauses names (saturation_from r g) r.journal =
+    let run : IsSaturatedRun clauses names (saturation_from names (settled_from r g)) r.journal =
     saturated_run atoms added pairs fits r p g clauses names budget v rest (own_constant atoms added r constant (with_axioms clauses) budget v h) problem printable count readable decided in
-    transport (λ c. IsSaturatedRun clauses names c journal) (sym e) (transport (IsSaturatedRun clauses names (saturation_from r g)) (sym q) run)
+    transport (λ c. IsSaturatedRun clauses names c journal) (sym e) (transport (IsSaturatedRun clauses names (saturation_from names (settled_from r g))) (sym q) run)

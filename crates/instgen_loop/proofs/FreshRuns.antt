@@ -175,11 +175,10 @@ starts_with atoms added old r clauses budget h allowed same =
 
 -- What stays of the problem
 
-pub problem_later : {S I C : Type 0} (old new : Run S I C) (g : Given) (clauses : List TreeClause) (names : List (List ℕ)) → Extends old.entries.bank new.entries.bank → new.ground.abstraction.bot ≡ old.ground.abstraction.bot
-    → IsOfProblem old g clauses names → IsOfProblem new g clauses names
-problem_later old new g clauses names grown bot h = record {
+pub problem_later : {S I C : Type 0} (old new : Run S I C) (g : Given) (clauses : List TreeClause) → Extends old.entries.bank new.entries.bank → new.ground.abstraction.bot ≡ old.ground.abstraction.bot
+    → IsOfProblem old g clauses → IsOfProblem new g clauses
+problem_later old new g clauses grown bot h = record {
   inputs = given_grown old.entries.bank new.entries.bank grown g.inputs clauses h.inputs;
-  named = h.named;
   axioms = given_grown old.entries.bank new.entries.bank grown g.axioms (equality_axioms clauses) h.axioms;
   bot = transport (IsBot clauses) (sym bot) h.bot;
   constant = transport (λ (s : Sym). IsTrue (is_constant s)) (sym bot) h.constant;

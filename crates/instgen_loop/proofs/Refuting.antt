@@ -59,7 +59,7 @@ use Rattle.instgen_loop.specs.Clauses.{Item, AreEntries, clauses_in}
 use Rattle.instgen_loop.specs.Grounds.{IsUsed}
 use Rattle.instgen_loop.specs.Loops.{items, IsSafe}
 use Rattle.instgen_loop.specs.Outcomes.{IsRefutedRun}
-use Rattle.instgen_loop.specs.Refuting.{ground_clause, ground_hint, ground_step, member_of, refutation_from}
+use Rattle.instgen_loop.specs.Refuting.{ground_clause, ground_hint, ground_step, member_of, refuted_from, refutation_from}
 use Rattle.instgen_loop.specs.Running.{entries_of, state_of, event_in, IsRunning, IsRunningFor}
 use Rattle.instgen_loop.specs.Starting.{IsOfProblem}
 use Rattle.instgen_loop.proofs.Inferred.{same_clauses}
@@ -169,7 +169,7 @@ whole_items f es h = in_all (λ (m : Member). IsWholeClause f m.clause) (map mem
 module _ {S I C : Type 0} (atoms : S → ℕ) (added : S → List (List (Signed ℕ))) (pairs : I → List Pair) (fits : Forest → I → Type 0) (r : Run S I C) (g : Given) (clauses : List TreeClause) (names : List (List ℕ))
     (budget : ℕ) (v : List Tree) (b : Bool) (steps : List NumberedStep) (once : AreDistinct r.entries.bank.trees) (safe : IsSafe atoms pairs fits r)
     (h : IsRunning atoms added r r.ground.abstraction.bot (with_axioms clauses) budget v b) (refutes : Refutes (atoms r.ground.solver) (added r.ground.solver) [] [] steps)
-    (problem : IsOfProblem r g clauses names) (printable : All IsPrintableClause clauses) (count : length names ≡ length clauses) (readable : All (λ n. IsTrue (is_readable_name n)) names) where
+    (problem : IsOfProblem r g clauses) (printable : All IsPrintableClause clauses) (count : length names ≡ length clauses) (readable : All (λ n. IsTrue (is_readable_name n)) names) where
   abbrev f : Forest
   f = r.entries.bank
 
@@ -220,13 +220,12 @@ module _ {S I C : Type 0} (atoms : S → ℕ) (added : S → List (List (Signed 
   members_same : map (entry_of f) (map member_of (items r)) ≡ entries_of r
   members_same = map_map (entry_of f) member_of (items r)
 
-  same : refutation_of (refutation_from r g steps) ≡ plain
+  same : refutation_of (refutation_from names (refuted_from r g steps)) ≡ plain
   same =
       let inputs = problem.inputs.same in
       let axioms = problem.axioms.same in
-      let named = problem.named in
       λ i. record {
-        base = record { inputs = inputs i; names = named i; axioms = axioms i; members = members_same i };
+        base = record { inputs = inputs i; names = names; axioms = axioms i; members = members_same i };
         bot = bot;
         grounds = grounds_same i;
         steps = steps_same i;
@@ -332,7 +331,7 @@ module _ {S I C : Type 0} (atoms : S → ℕ) (added : S → List (List (Signed 
 
   -- its ids are those of the bank
 
-  is_whole : IsWholeRefutation (refutation_from r g steps)
+  is_whole : IsWholeRefutation (refutation_from names (refuted_from r g steps))
   is_whole = record {
     base = record { bank = safe.entries.formed; inputs = problem.inputs.whole; axioms = problem.axioms.whole; members = whole_items f (items r) safe.entries };
     grounds = in_all (IsWholeClause f) (map (ground_clause ids) lits) (λ d i.
@@ -346,12 +345,12 @@ module _ {S I C : Type 0} (atoms : S → ℕ) (added : S → List (List (Signed 
       length_map (ground_clause ids) lits ∙ same_count (map (named_literal (atoms_in f ids))) (abstract_literals bot) lits given_clauses h.linked.same.same
       ∙ length_map (λ (e : Item). clause_at f e.0) (items r) ∙ sym (length_map member_of (items r))
 
-  pub refuted_run : IsRefutedRun clauses names (refutation_from r g steps) r.journal
+  pub refuted_run : IsRefutedRun clauses names (refutation_from names (refuted_from r g steps)) r.journal
   refuted_run = record {
     state = state_of r v b;
     run = record {
       inputs = problem.inputs.same;
-      named = problem.named;
+      named = refl;
       axioms = problem.axioms.same;
       replays = record { constant = problem.bot; replays = h.replays };
       members = sym members_same;
@@ -373,9 +372,9 @@ derivation_below atoms added r cs budget steps (constant, v, b, h) k = transport
 
 pub refuted_outcome : {S I C : Type 0} (atoms : S → ℕ) (added : S → List (List (Signed ℕ))) (pairs : I → List Pair) (fits : Forest → I → Type 0) (r : Run S I C) (g : Given) (clauses : List TreeClause) (names : List (List ℕ))
     (budget : ℕ) (steps : List NumberedStep) → AreDistinct r.entries.bank.trees → IsSafe atoms pairs fits r → IsRunningFor atoms added r (with_axioms clauses) budget → Refutes (atoms r.ground.solver) (added r.ground.solver) [] [] steps
-    → IsOfProblem r g clauses names → All IsPrintableClause clauses → length names ≡ length clauses → All (λ n. IsTrue (is_readable_name n)) names → (cert : Refutation) (journal : List Event) → cert ≡ refutation_from r g steps → journal ≡ r.journal
+    → IsOfProblem r g clauses → All IsPrintableClause clauses → length names ≡ length clauses → All (λ n. IsTrue (is_readable_name n)) names → (cert : Refutation) (journal : List Event) → cert ≡ refutation_from names (refuted_from r g steps) → journal ≡ r.journal
     → IsRefutedRun clauses names cert journal
 refuted_outcome atoms added pairs fits r g clauses names budget steps once safe (constant, v, b, h) refutes problem printable count readable cert journal e q =
     let own : IsRunning atoms added r r.ground.abstraction.bot (with_axioms clauses) budget v b = transport (λ x. IsRunning atoms added r x (with_axioms clauses) budget v b) (sym h.linked.constant) h in
-    let run : IsRefutedRun clauses names (refutation_from r g steps) r.journal = refuted_run atoms added pairs fits r g clauses names budget v b steps once safe own refutes problem printable count readable in
-    transport (λ c. IsRefutedRun clauses names c journal) (sym e) (transport (IsRefutedRun clauses names (refutation_from r g steps)) (sym q) run)
+    let run : IsRefutedRun clauses names (refutation_from names (refuted_from r g steps)) r.journal = refuted_run atoms added pairs fits r g clauses names budget v b steps once safe own refutes problem printable count readable in
+    transport (λ c. IsRefutedRun clauses names c journal) (sym e) (transport (IsRefutedRun clauses names (refutation_from names (refuted_from r g steps))) (sym q) run)

@@ -28,7 +28,7 @@ use Rattle.instgen_loop.specs.declared.state.Run.{Run}
 use Rattle.instgen_loop.specs.declared.state.Held as code
 use Rattle.instgen_loop.specs.declared.queue.Partners.{Partners}
 use Rattle.instgen_loop.specs.Deciding.{IsOpenHeld, IsLeastOpen}
-use Rattle.instgen_loop.specs.Ending.{IsAtRest, saturation_from}
+use Rattle.instgen_loop.specs.Ending.{IsAtRest, settled_from, saturation_from}
 use Rattle.instgen_loop.specs.Loops.{held_in, held_of}
 use Rattle.instgen_loop.specs.Outcomes.{IsStoppedRun}
 use Rattle.instgen_loop.specs.Running.{entries_of, state_of, event_in, IsRunning, IsSolvedFor}
@@ -97,7 +97,7 @@ has_functions clauses h = go (is_function_free clauses) refl
     go false e = refl
 
 module _ {S I C : Type 0} (atoms : S → ℕ) (added : S → List (List (Signed ℕ))) (pairs : I → List Pair) (fits : Forest → I → Type 0) (r : Run S I C) (p : Partners I C) (g : Given) (clauses : List TreeClause) (names : List (List ℕ))
-    (budget : ℕ) (v : List Tree) (rest : IsAtRest atoms pairs fits r p) (h : IsRunning atoms added r r.ground.abstraction.bot (with_axioms clauses) budget v true) (problem : IsOfProblem r g clauses names)
+    (budget : ℕ) (v : List Tree) (rest : IsAtRest atoms pairs fits r p) (h : IsRunning atoms added r r.ground.abstraction.bot (with_axioms clauses) budget v true) (problem : IsOfProblem r g clauses)
     (wanted : ℕ) (open_ones : IsLeastOpen r wanted) where
   abbrev bot : Sym
   bot = r.ground.abstraction.bot
@@ -156,7 +156,7 @@ module _ {S I C : Type 0} (atoms : S → ℕ) (added : S → List (List (Signed 
             transport (λ d. left < clause_size d) (one_conclusion (entries_of r) x.from x.place x.partner x.other b.clause c b.concluded k) b.large;
       }
 
-  pub stopped_run : (left : ℕ) → r.left ≡ Some left → IsStoppedRun clauses names budget left wanted (saturation_from r g) r.journal
+  pub stopped_run : (left : ℕ) → r.left ≡ Some left → IsStoppedRun clauses names budget left wanted (saturation_from names (settled_from r g)) r.journal
   stopped_run left e = record {
     bot = bot;
     state = t;
@@ -168,13 +168,13 @@ module _ {S I C : Type 0} (atoms : S → ℕ) (added : S → List (List (Signed 
 -- from what the cycle leaves
 
 module _ {S I C : Type 0} (atoms : S → ℕ) (added : S → List (List (Signed ℕ))) (pairs : I → List Pair) (fits : Forest → I → Type 0) (r : Run S I C) (p : Partners I C) (g : Given) (clauses : List TreeClause) (names : List (List ℕ))
-    (budget wanted : ℕ) (rest : IsAtRest atoms pairs fits r p) (problem : IsOfProblem r g clauses names) (open_ones : IsLeastOpen r wanted) where
+    (budget wanted : ℕ) (rest : IsAtRest atoms pairs fits r p) (problem : IsOfProblem r g clauses) (open_ones : IsLeastOpen r wanted) where
   pub has_left : IsSolvedFor atoms added r (with_axioms clauses) budget → ¬ (r.left ≡ None)
   has_left (constant, v, h) = some_left atoms added pairs fits r p g clauses names budget v rest (own_constant atoms added r constant (with_axioms clauses) budget v h) problem wanted open_ones
 
-  pub stopped_outcome : IsSolvedFor atoms added r (with_axioms clauses) budget → (left : ℕ) → r.left ≡ Some left → (cert : Saturation) (journal : List Event) → cert ≡ saturation_from r g → journal ≡ r.journal
+  pub stopped_outcome : IsSolvedFor atoms added r (with_axioms clauses) budget → (left : ℕ) → r.left ≡ Some left → (cert : Saturation) (journal : List Event) → cert ≡ saturation_from names (settled_from r g) → journal ≡ r.journal
       → IsStoppedRun clauses names budget left wanted cert journal
   stopped_outcome (constant, v, h) left l cert journal e q =
-      let run : IsStoppedRun clauses names budget left wanted (saturation_from r g) r.journal =
+      let run : IsStoppedRun clauses names budget left wanted (saturation_from names (settled_from r g)) r.journal =
       stopped_run atoms added pairs fits r p g clauses names budget v rest (own_constant atoms added r constant (with_axioms clauses) budget v h) problem wanted open_ones left l in
-      transport (λ c. IsStoppedRun clauses names budget left wanted c journal) (sym e) (transport (IsStoppedRun clauses names budget left wanted (saturation_from r g)) (sym q) run)
+      transport (λ c. IsStoppedRun clauses names budget left wanted c journal) (sym e) (transport (IsStoppedRun clauses names budget left wanted (saturation_from names (settled_from r g))) (sym q) run)

@@ -5,9 +5,10 @@ use Rattle.term_index.specs.Pairs.{Pair}
 use Rattle.saturation_cert.specs.declared.certificate.Saturation.{Saturation}
 use Rattle.instgen_loop.specs.declared.start.Given.{Given}
 use Rattle.instgen_loop.specs.declared.state.Run.{Run}
+use Rattle.instgen_loop.specs.declared.finish.SettledRun.{SettledRun}
 use Rattle.instgen_loop.specs.declared.queue.Partners.{Partners}
 use Rattle.instgen_loop.specs.Loops.{items, IsSafe}
-use Rattle.instgen_loop.specs.Refuting.{base_from}
+use Rattle.instgen_loop.specs.Refuting.{remains_of, base_from}
 use Rattle.instgen_loop.specs.Tended.{AreTended}
 
 -- nothing waits, each entry has a place, and what is indexed is worked
@@ -17,6 +18,10 @@ pub record IsAtRest {S I C : Type 0} (atoms : S → ℕ) (pairs : I → List Pai
   pub rests : r.queue.items ≡ []
   pub whole : length r.selection.places ≡ length (items r)
 
+-- what a saturation is made of
+abbrev pub settled_from : {S I C : Type 0} → Run S I C → Given → SettledRun
+settled_from r g = record { remains = remains_of r g; selection = r.selection }
+
 -- the run's entries with their places
-abbrev pub saturation_from : {S I C : Type 0} → Run S I C → Given → Saturation
-saturation_from r g = record { base = base_from r g; places = r.selection.places }
+abbrev pub saturation_from : List (List ℕ) → SettledRun → Saturation
+saturation_from names r = record { base = base_from names r.remains; places = r.selection.places }

@@ -15,8 +15,9 @@ use Rattle.saturation_cert.specs.declared.certificate.GroundStep.{GroundStep}
 use Rattle.saturation_cert.specs.declared.certificate.Refutation.{Refutation}
 use Rattle.instgen_loop.specs.declared.start.Given.{Given}
 use Rattle.instgen_loop.specs.declared.state.Run.{Run}
+use Rattle.instgen_loop.specs.declared.hand_over.Remains.{Remains}
+use Rattle.instgen_loop.specs.declared.refuted.RefutedRun.{RefutedRun}
 use Rattle.instgen_loop.specs.Clauses.{Item}
-use Rattle.instgen_loop.specs.Loops.{items}
 
 -- the literals with the ids of their atoms, each at its first place only
 abbrev pub ground_clause : List ℕ → List (Signed ℕ) → List (Signed ℕ)
@@ -33,14 +34,21 @@ ground_step ids s = record { clause = ground_clause ids s.clause; hints = map gr
 abbrev pub member_of : Item → Member
 member_of e = record { clause = e.0; origin = e.1 }
 
--- what the run and its problem give to a certificate
-abbrev pub base_from : {S I C : Type 0} → Run S I C → Given → Base
-base_from r g = record { bank = r.entries.bank; inputs = g.inputs; names = g.names; axioms = g.axioms; members = map member_of (items r) }
+-- what a run leaves to a certificate
+abbrev pub remains_of : {S I C : Type 0} → Run S I C → Given → Remains
+remains_of r g = record { bank = r.entries.bank; clauses = r.entries.clauses; given = g }
 
-abbrev pub refutation_from : {S I C : Type 0} → Run S I C → Given → List Step → Refutation
-refutation_from r g steps = record {
-  base = base_from r g;
-  bot = r.ground.abstraction.bot;
-  grounds = map (ground_clause r.ground.abstraction.ids) r.ground.literals;
-  steps = map (ground_step r.ground.abstraction.ids) steps;
+abbrev pub base_from : List (List ℕ) → Remains → Base
+base_from names m = record { bank = m.bank; inputs = m.given.inputs; names = names; axioms = m.given.axioms; members = map member_of m.clauses.entries }
+
+-- what a refutation is made of
+abbrev pub refuted_from : {S I C : Type 0} → Run S I C → Given → List Step → RefutedRun
+refuted_from r g steps = record { remains = remains_of r g; abstraction = r.ground.abstraction; literals = r.ground.literals; derivation = steps }
+
+abbrev pub refutation_from : List (List ℕ) → RefutedRun → Refutation
+refutation_from names r = record {
+  base = base_from names r.remains;
+  bot = r.abstraction.bot;
+  grounds = map (ground_clause r.abstraction.ids) r.literals;
+  steps = map (ground_step r.abstraction.ids) r.derivation;
 }

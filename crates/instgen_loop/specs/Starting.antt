@@ -44,9 +44,8 @@ pub record AreGiven (f : Forest) (ids : List (List (Signed ℕ))) (cs : List Tre
   pub same : map (clause_at f) ids ≡ cs
 
 -- the lists are those of the problem over the run's bank, and the run's constant is that of its clauses and can be printed
-pub record IsOfProblem {S I C : Type 0} (r : Run S I C) (g : Given) (clauses : List TreeClause) (names : List (List ℕ)) : Type 0 where
+pub record IsOfProblem {S I C : Type 0} (r : Run S I C) (g : Given) (clauses : List TreeClause) : Type 0 where
   pub inputs : AreGiven r.entries.bank g.inputs clauses
-  pub named : g.names ≡ names
   pub axioms : AreGiven r.entries.bank g.axioms (equality_axioms clauses)
   pub bot : IsBot clauses r.ground.abstraction.bot
   pub constant : IsTrue (is_constant r.ground.abstraction.bot)

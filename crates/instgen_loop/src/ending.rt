@@ -1,42 +1,60 @@
-// How a run ends. The events become a journal only once the run is gone, so that its memory serves for them.
+// How a run ends. The certificate and the journal are made only once the run is gone, so that its memory serves for them.
 ghost use Rattle.std.specs.Prelude.{◌≡◌, IfOk};
-ghost use Rattle.instgen_loop.specs.Endings.{outcome_from};
+ghost use Rattle.instgen_loop.specs.Endings.{IsEnding, outcome_from};
 
 use crate::event_log::EventLog;
+use crate::finish::{SettledRun, saturation_of};
 use crate::outcome::Outcome;
-use inst_logic::Memory;
-use saturation_cert::{Refutation, Saturation};
+use crate::refuted::{RefutedRun, refutation_of};
+use inst_logic::{Memory, Problem};
 use std::alloc::Global;
 
-/// An outcome without its journal.
+/// What an outcome is made of, beside its journal.
 #[derive(Drop)]
 pub enum Ending {
-    Refuted(Refutation),
-    Saturated(Saturation),
+    Refuted(RefutedRun),
+    Saturated(SettledRun),
     OutOfBudget {
         left: u64,
         wanted: u64,
-        state: Saturation,
+        state: SettledRun,
     },
 }
 
 /// The outcome that ends so after these events.
-pub fn outcome_from(alloc: Global, ending: Ending, log: &EventLog) -> Result<Outcome, Memory>
-    ensures { IfOk result (λ o. o ≡ outcome_from ending log.now) }
+pub fn outcome_from(
+    alloc: Global,
+    p: &Problem,
+    ending: Ending,
+    log: &EventLog,
+) -> Result<Outcome, Memory>
+    requires ending { IsEnding p.now.clauses ending }
+    ensures { IfOk result (λ o. o ≡ outcome_from p.now.names ending log.now) }
 {
-    let journal = log.journal(alloc)?;
     match ending {
-        Ending::Refuted(cert) => Ok(Outcome::Refuted { cert, journal }),
-        Ending::Saturated(cert) => Ok(Outcome::Saturated { cert, journal }),
+        Ending::Refuted(run) => {
+            let cert = refutation_of(alloc, p, run)?;
+            let journal = log.journal(alloc)?;
+            Ok(Outcome::Refuted { cert, journal })
+        }
+        Ending::Saturated(run) => {
+            let cert = saturation_of(alloc, p, run)?;
+            let journal = log.journal(alloc)?;
+            Ok(Outcome::Saturated { cert, journal })
+        }
         Ending::OutOfBudget {
             left,
             wanted,
             state,
-        } => Ok(Outcome::OutOfBudget {
-            left,
-            wanted,
-            state,
-            journal,
-        }),
+        } => {
+            let state = saturation_of(alloc, p, state)?;
+            let journal = log.journal(alloc)?;
+            Ok(Outcome::OutOfBudget {
+                left,
+                wanted,
+                state,
+                journal,
+            })
+        }
     }
 }

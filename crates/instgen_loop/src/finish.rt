@@ -6,39 +6,55 @@ ghost use Rattle.cert_format.specs.Printable.{IsPrintableClause};
 ghost use Rattle.instgen_loop.specs.Loops.{IsSafe, items};
 ghost use Rattle.instgen_loop.specs.Outcomes.{IsOutcome};
 ghost use Rattle.instgen_loop.specs.Deciding.{IsDecision, IsLeastOpen};
-ghost use Rattle.instgen_loop.specs.Ending.{IsAtRest, saturation_from};
-ghost use Rattle.instgen_loop.specs.Endings.{outcome_from};
+ghost use Rattle.instgen_loop.specs.Ending.{IsAtRest, settled_from, saturation_from};
+ghost use Rattle.instgen_loop.specs.Endings.{IsEnding, outcome_from};
 ghost use Rattle.instgen_loop.specs.Running.{IsSolvedFor};
 ghost use Rattle.instgen_loop.specs.Starting.{IsOfProblem};
 ghost use Rattle.instgen_loop.specs.Tended.{AreTended};
 
 use crate::decide::decide;
 use crate::ending::Ending;
-use crate::hand_over::base_of;
+use crate::hand_over::{Remains, base_of, hand_over};
 use crate::queue::Partners;
+use crate::selection::Selection;
 use crate::start::Given;
 use crate::state::Run;
 use inst_logic::{Memory, Problem};
 use prop_logic::Solver;
 use saturation_cert::Saturation;
 use std::alloc::Global;
+use std::mem::replace;
 use term_index::PartnerIndex;
 
-// The run's entries with their places, which takes the run's bank.
-fn saturation_of<S: Solver, I: PartnerIndex>(
-    alloc: Global,
-    run: &mut Run<S, I>,
-    given: Given,
-) -> Result<Saturation, Memory>
-    ensures cert { IfOk result (λ s. s ≡ saturation_from run.old given) }
-    ensures journal { OnOk result (run.new.journal ≡ run.old.journal) }
+/// What a saturation is made of: what the run leaves, and the places of its entries.
+#[derive(Drop)]
+pub struct SettledRun {
+    pub remains: Remains,
+    pub selection: Selection,
+}
+
+/// The run's entries with their places.
+pub fn saturation_of(alloc: Global, p: &Problem, run: SettledRun) -> Result<Saturation, Memory>
+    ensures { IfOk result (λ s. s ≡ saturation_from p.now.names run) }
 {
     let places = run.selection.place_list(alloc)?;
-    let base = base_of(alloc, run, given)?;
+    // Its memory serves for the members.
+    drop(run.selection);
+    let base = base_of(alloc, p, run.remains)?;
     Ok(Saturation { base, places })
 }
 
-// The saturation that a run gives of which nothing that was held back is open.
+// Takes of the run what a saturation is made of.
+fn taken<S: Solver, I: PartnerIndex>(alloc: Global, run: &mut Run<S, I>, given: Given) -> SettledRun
+    ensures taken { result ≡ settled_from run.old given }
+    ensures journal { run.new.journal ≡ run.old.journal }
+{
+    let selection = replace(&mut run.selection, Selection::new(alloc));
+    let remains = hand_over(alloc, run, given);
+    SettledRun { remains, selection }
+}
+
+// What the saturation is made of that a run gives of which nothing that was held back is open.
 fn saturated<S: Solver, I: PartnerIndex>(
     alloc: Global,
     _p: &Problem,
@@ -46,19 +62,19 @@ fn saturated<S: Solver, I: PartnerIndex>(
     _partners: &Partners<I>,
     given: Given,
     _budget: u64,
-) -> Result<Ending, Memory>
+) -> Ending
     requires rest { IsAtRest S.atoms I.pairs I.fits run.old _partners.now }
     requires running { IsSolvedFor S.atoms S.added run.old (with_axioms _p.now.clauses) _budget }
-    requires problem { IsOfProblem run.old given _p.now.clauses _p.now.names }
+    requires problem { IsOfProblem run.old given _p.now.clauses }
     requires clauses { All IsPrintableClause _p.now.clauses }
     requires named { length _p.now.names ≡ length _p.now.clauses }
     requires readable { All (λ n. IsTrue (is_readable_name n)) _p.now.names }
     requires decided { IsDecision run.old None }
-    ensures outcome { IfOk result (λ e. IsOutcome _p.now.clauses _p.now.names _budget (outcome_from e run.new.journal)) }
-    ensures journal { OnOk result (run.new.journal ≡ run.old.journal) }
+    ensures ending { IsEnding _p.now.clauses result }
+    ensures outcome { IsOutcome _p.now.clauses _p.now.names _budget (outcome_from _p.now.names result run.new.journal) }
+    ensures journal { run.new.journal ≡ run.old.journal }
 {
-    let cert = saturation_of(alloc, run, given)?;
-    Ok(Ending::Saturated(cert))
+    Ending::Saturated(taken(alloc, run, given))
 }
 
 // What is left of a budget that is not enough.
@@ -81,21 +97,21 @@ fn stopped<S: Solver, I: PartnerIndex>(
     given: Given,
     _budget: u64,
     wanted: u64,
-) -> Result<Ending, Memory>
+) -> Ending
     requires rest { IsAtRest S.atoms I.pairs I.fits run.old _partners.now }
     requires running { IsSolvedFor S.atoms S.added run.old (with_axioms _p.now.clauses) _budget }
-    requires problem { IsOfProblem run.old given _p.now.clauses _p.now.names }
+    requires problem { IsOfProblem run.old given _p.now.clauses }
     requires open { IsLeastOpen run.old wanted }
-    ensures outcome { IfOk result (λ e. IsOutcome _p.now.clauses _p.now.names _budget (outcome_from e run.new.journal)) }
-    ensures journal { OnOk result (run.new.journal ≡ run.old.journal) }
+    ensures ending { IsEnding _p.now.clauses result }
+    ensures outcome { IsOutcome _p.now.clauses _p.now.names _budget (outcome_from _p.now.names result run.new.journal) }
+    ensures journal { run.new.journal ≡ run.old.journal }
 {
     let left = left_of(run);
-    let state = saturation_of(alloc, run, given)?;
-    Ok(Ending::OutOfBudget {
+    Ending::OutOfBudget {
         left,
         wanted,
-        state,
-    })
+        state: taken(alloc, run, given),
+    }
 }
 
 /// Looks at what was held back once more, and hands the bank and the entries with their places over. Only the run's journal
@@ -113,15 +129,16 @@ pub fn finish<S: Solver, I: PartnerIndex>(
     requires rests { run.old.queue.items ≡ [] }
     requires whole { length run.old.selection.places ≡ length (items run.old) }
     requires running { IsSolvedFor S.atoms S.added run.old (with_axioms p.now.clauses) budget }
-    requires problem { IsOfProblem run.old given p.now.clauses p.now.names }
+    requires problem { IsOfProblem run.old given p.now.clauses }
     requires clauses { All IsPrintableClause p.now.clauses }
     requires named { length p.now.names ≡ length p.now.clauses }
     requires readable { All (λ n. IsTrue (is_readable_name n)) p.now.names }
-    ensures outcome { IfOk result (λ e. IsOutcome p.now.clauses p.now.names budget (outcome_from e run.new.journal)) }
+    ensures ending { IfOk result (IsEnding p.now.clauses) }
+    ensures outcome { IfOk result (λ e. IsOutcome p.now.clauses p.now.names budget (outcome_from p.now.names e run.new.journal)) }
     ensures journal { OnOk result (run.new.journal ≡ run.old.journal) }
 {
     match decide(alloc, run)? {
-        None => saturated(alloc, p, run, partners, given, budget),
-        Some(wanted) => stopped(alloc, p, run, partners, given, budget, wanted),
+        None => Ok(saturated(alloc, p, run, partners, given, budget)),
+        Some(wanted) => Ok(stopped(alloc, p, run, partners, given, budget, wanted)),
     }
 }

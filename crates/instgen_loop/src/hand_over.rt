@@ -1,19 +1,42 @@
-// What a run and its problem give to a certificate.
-ghost use Rattle.std.specs.Prelude.{◌≡◌, map, IfOk, OnOk};
-ghost use Rattle.instgen_loop.specs.Refuting.{member_of, base_from};
+// What a run leaves to a certificate, and the base that is made of it. The run is gone by then, so that its memory serves for the
+// certificate.
+ghost use Rattle.std.specs.Prelude.{◌≡◌, map, IfOk};
+ghost use Rattle.instgen_loop.specs.Refuting.{member_of, remains_of, base_from};
 
-use crate::selection::Selection;
 use crate::start::Given;
 use crate::state::Run;
 use indexmap::IndexMap;
-use inst_logic::Memory;
-use instgen_select::Queue;
+use inst_logic::{Memory, NameList, Problem};
 use prop_logic::Solver;
 use saturation_cert::{Base, Member, MemberList, Origin};
 use std::alloc::Global;
 use std::mem::replace;
 use term_bank::{Bank, IdClause};
 use term_index::PartnerIndex;
+
+/// What a run leaves to a certificate: its bank, its entries, and what it was given.
+#[derive(Drop)]
+pub struct Remains {
+    pub bank: Bank,
+    pub clauses: IndexMap<IdClause, Origin>,
+    pub given: Given,
+}
+
+/// Takes the bank and the entries of the run.
+pub fn hand_over<S: Solver, I: PartnerIndex>(
+    alloc: Global,
+    run: &mut Run<S, I>,
+    given: Given,
+) -> Remains
+    ensures remains { result ≡ remains_of run.old given }
+    ensures journal { run.new.journal ≡ run.old.journal }
+{
+    Remains {
+        bank: replace(&mut run.entries.bank, Bank::new(alloc)),
+        clauses: replace(&mut run.entries.clauses, IndexMap::new(alloc)),
+        given,
+    }
+}
 
 // The clauses with their origins as members, in their order.
 fn members_of(alloc: Global, clauses: IndexMap<IdClause, Origin>) -> Result<MemberList, Memory>
@@ -26,24 +49,31 @@ fn members_of(alloc: Global, clauses: IndexMap<IdClause, Origin>) -> Result<Memb
     Ok(MemberList::from(members))
 }
 
-/// The base of a certificate: the run's entries become its members, and the run's bank is its bank.
-pub fn base_of<S: Solver, I: PartnerIndex>(
-    alloc: Global,
-    run: &mut Run<S, I>,
-    given: Given,
-) -> Result<Base, Memory>
-    ensures base { IfOk result (λ b. b ≡ base_from run.old given) }
-    ensures journal { OnOk result (run.new.journal ≡ run.old.journal) }
+fn copied_names(alloc: Global, names: &NameList) -> Result<NameList, Memory>
+    ensures { IfOk result (λ copy. copy ≡ names.now) }
 {
-    // Their memory serves for the members.
-    run.selection = Selection::new(alloc);
-    run.queue = Queue::new(alloc);
-    let clauses = replace(&mut run.entries.clauses, IndexMap::new(alloc));
+    let mut copy = Vec::with_capacity(alloc, names.len())?;
+    for name in names.as_slice() {
+        copy.push(name.clone()?)?;
+    }
+    Ok(NameList::from(copy))
+}
+
+/// The base of a certificate: the run's entries become its members, and the run's bank is its bank.
+pub fn base_of(alloc: Global, p: &Problem, remains: Remains) -> Result<Base, Memory>
+    ensures { IfOk result (λ b. b ≡ base_from p.now.names remains) }
+{
+    let Remains {
+        bank,
+        clauses,
+        given,
+    } = remains;
     let members = members_of(alloc, clauses)?;
+    let names = copied_names(alloc, &p.names)?;
     Ok(Base {
-        bank: replace(&mut run.entries.bank, Bank::new(alloc)),
+        bank,
         inputs: given.inputs,
-        names: given.names,
+        names,
         axioms: given.axioms,
         members,
     })

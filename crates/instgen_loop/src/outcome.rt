@@ -5,7 +5,7 @@ ghost use Rattle.inst_logic.specs.Printing.{is_readable_name};
 ghost use Rattle.cert_format.specs.Printable.{IsPrintableClause};
 ghost use Rattle.inst_logic.specs.WellFormed.{is_constant};
 ghost use Rattle.inst_calculus.specs.Abstraction.{IsBot};
-ghost use Rattle.instgen_loop.specs.Endings.{outcome_from};
+ghost use Rattle.instgen_loop.specs.Endings.{IsEnding, outcome_from};
 ghost use Rattle.instgen_loop.specs.Starting.{IsFresh, IsAllowed};
 ghost use Rattle.instgen_loop.specs.Outcomes.{IsOutcome, IsDecided, appended_count, journal_of};
 
@@ -47,8 +47,7 @@ pub enum Outcome {
     },
 }
 
-// Starts a run, lets it work, and ends it. The indexes of the selected literals go before a refutation is made, which needs
-// memory and no indexes. The run keeps its journal.
+// Starts a run, lets it work, and ends it. The run keeps its journal.
 fn drive<S: Solver, I: PartnerIndex>(
     alloc: Global,
     p: &Problem,
@@ -66,15 +65,13 @@ fn drive<S: Solver, I: PartnerIndex>(
     requires clauses { All IsPrintableClause p.now.clauses }
     requires named { length p.now.names ≡ length p.now.clauses }
     requires readable { All (λ n. IsTrue (is_readable_name n)) p.now.names }
-    ensures outcome { IfOk result (λ e. IsOutcome p.now.clauses p.now.names budget (outcome_from e run.new.journal)) }
+    ensures ending { IfOk result (IsEnding p.now.clauses) }
+    ensures outcome { IfOk result (λ e. IsOutcome p.now.clauses p.now.names budget (outcome_from p.now.names e run.new.journal)) }
     ensures appended { OnOk result (IsFalse (is_function_free p.now.clauses) → appended_count run.new.journal ≤ budget) }
 {
     let given = start(alloc, p, run, budget)?;
     match cycle(alloc, run, &mut partners, p, budget)? {
-        Some(derivation) => {
-            drop(partners);
-            refuted(alloc, p, run, given, derivation, budget)
-        }
+        Some(derivation) => refuted(alloc, p, run, given, derivation, budget),
         None => finish(alloc, p, run, &partners, given, budget),
     }
 }
@@ -106,13 +103,14 @@ fn drive_with<S: Solver, I: PartnerIndex>(
     requires clauses { All IsPrintableClause p.now.clauses }
     requires named { length p.now.names ≡ length p.now.clauses }
     requires readable { All (λ n. IsTrue (is_readable_name n)) p.now.names }
-    ensures outcome { IfOk result (λ e. IsOutcome p.now.clauses p.now.names budget (outcome_from e run.new.journal)) }
+    ensures ending { IfOk result (IsEnding p.now.clauses) }
+    ensures outcome { IfOk result (λ e. IsOutcome p.now.clauses p.now.names budget (outcome_from p.now.names e run.new.journal)) }
     ensures appended { OnOk result (IsFalse (is_function_free p.now.clauses) → appended_count run.new.journal ≤ budget) }
 {
     drive(alloc, p, run, Partners { positive, negative }, budget)
 }
 
-// Makes the run, which is gone when the journal is made. It stands in a box: a function that holds so many maps by itself takes
+// Makes the run, which is gone when the certificate and the journal are made, as are its indexes. It stands in a box: a function that holds so many maps by itself takes
 // long to prove.
 fn run_with<S: Solver, I: PartnerIndex>(
     alloc: Global,
@@ -146,7 +144,7 @@ fn run_with<S: Solver, I: PartnerIndex>(
     let ending = drive_with(alloc, p, &mut run, positive, negative, budget)?;
     let log = replace(&mut run.journal, EventLog::new(alloc));
     drop(run);
-    outcome_from(alloc, ending, &log)
+    outcome_from(alloc, p, ending, &log)
 }
 
 /// Runs the engine on the problem's clauses and their axioms of equality. The budget counts the symbols and variables of the

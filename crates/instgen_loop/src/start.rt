@@ -25,7 +25,7 @@ use equality_axioms::axioms_of;
 use flat_clauses::FlatClauses;
 use ground_abs::Abstraction;
 use indexmap::{IndexMap, IndexSet};
-use inst_logic::{ClauseList, Memory, NameList, Problem, Sym};
+use inst_logic::{ClauseList, Memory, Problem, Sym};
 use instgen_select::Queue;
 use prop_logic::{Solver, Valuation};
 use saturation_cert::Origin;
@@ -34,12 +34,11 @@ use term_bank::{Bank, IdClause, IdClauseList};
 use term_index::PartnerIndex;
 use unify_core::Bindings;
 
-/// What certificates tell of the problem: its clauses and its axioms of equality, over the bank of a run, and the names of the
-/// clauses.
+/// What certificates tell of the problem beside the names of its clauses: the clauses and their axioms of equality, over the bank
+/// of a run.
 #[derive(Drop)]
 pub struct Given {
     pub inputs: IdClauseList,
-    pub names: NameList,
     pub axioms: IdClauseList,
 }
 
@@ -106,16 +105,6 @@ fn interned(alloc: Global, bank: &mut Bank, clauses: &ClauseList) -> Result<IdCl
         ids.push(bank.clause(c)?)?;
     }
     Ok(ids)
-}
-
-fn copied_names(alloc: Global, names: &NameList) -> Result<NameList, Memory>
-    ensures { IfOk result (λ copy. copy ≡ names.now) }
-{
-    let mut copy = NameList::new(alloc);
-    for name in names.as_slice() {
-        copy.push(name.clone()?)?;
-    }
-    Ok(copy)
 }
 
 fn copied_clause(alloc: Global, c: &IdClause) -> Result<IdClause, Memory>
@@ -200,7 +189,6 @@ fn given_in(alloc: Global, bank: &mut Bank, p: &Problem) -> Result<Given, Memory
     requires formed { AreFormed bank.old }
     requires clauses { AreFormedClauses p.now.clauses }
     ensures inputs { IfOk result (λ g. AreGiven bank.new g.inputs p.now.clauses) }
-    ensures names { IfOk result (λ g. g.names ≡ p.now.names) }
     ensures axioms { IfOk result (λ g. AreGiven bank.new g.axioms (equality_axioms p.now.clauses)) }
     ensures extends { Extends bank.old bank.new }
     ensures formed { AreFormed bank.new }
@@ -208,12 +196,7 @@ fn given_in(alloc: Global, bank: &mut Bank, p: &Problem) -> Result<Given, Memory
     let inputs = interned(alloc, bank, &p.clauses)?;
     let axioms = axioms_of(alloc, p)?;
     let axioms = interned(alloc, bank, &axioms)?;
-    let names = copied_names(alloc, &p.names)?;
-    Ok(Given {
-        inputs,
-        names,
-        axioms,
-    })
+    Ok(Given { inputs, axioms })
 }
 
 // The greatest number of literals that one of the clauses has, or `least` where that is more.
@@ -242,7 +225,7 @@ pub fn start<S: Solver, I: PartnerIndex>(
     requires constant { IsTrue (is_constant run.old.ground.abstraction.bot) }
     requires readable { IsTrue (is_readable_name run.old.ground.abstraction.bot.name) }
     requires clauses { All IsPrintableClause p.now.clauses }
-    ensures problem { IfOk result (λ g. IsOfProblem run.new g p.now.clauses p.now.names) }
+    ensures problem { IfOk result (λ g. IsOfProblem run.new g p.now.clauses) }
     ensures safe { OnOk result (IsSafe S.atoms I.pairs I.fits run.new) }
     ensures waiting { OnOk result (numbers run.new.queue.items ≡ after 0 (length (items run.new))) }
     ensures selection { OnOk result (run.new.selection ≡ record { places = []; users = [] }) }

@@ -1,5 +1,4 @@
 use Rattle.std.proofs.Common.{◌∙◌}
-use Rattle.std.proofs.lemmas.Result.{on_ok_weaker}
 use Rattle.inst_calculus.specs.Axioms.{with_axioms}
 use Rattle.instgen_loop.proofs.Ended.{held_conclude, rest_read, solved_read, problem_read, journal_read}
 use Rattle.instgen_loop.proofs.finish.finish.Goals as goal
@@ -14,7 +13,7 @@ pub saturated-requires-clause-running : goal.saturated-requires-clause-running
 saturated-requires-clause-running g c = solved_read c.args.run.now c.decide.new.run c.in_ok-decide.ensures.reads g.S.Solver.atoms g.S.Solver.added g.I.PartnerIndex.pairs g.I.PartnerIndex.fits (with_axioms c.args.p.now.clauses) c.args.budget c.requires.safe c.requires.running
 
 pub saturated-requires-clause-problem : goal.saturated-requires-clause-problem
-saturated-requires-clause-problem g c = problem_read c.args.run.now c.decide.new.run c.in_ok-decide.ensures.reads c.args.given c.args.p.now.clauses c.args.p.now.names c.requires.problem
+saturated-requires-clause-problem g c = problem_read c.args.run.now c.decide.new.run c.in_ok-decide.ensures.reads c.args.given c.args.p.now.clauses c.requires.problem
 
 pub stopped-requires-clause-rest : goal.stopped-requires-clause-rest
 stopped-requires-clause-rest g c = rest_read c.args.run.now c.decide.new.run c.in_ok-decide.ensures.reads g.S.Solver.atoms g.I.PartnerIndex.pairs g.I.PartnerIndex.fits c.args.partners.now c.requires.safe c.in_ok-decide.ensures.safe c.requires.tended c.requires.rests c.requires.whole
@@ -23,12 +22,10 @@ pub stopped-requires-clause-running : goal.stopped-requires-clause-running
 stopped-requires-clause-running g c = solved_read c.args.run.now c.decide.new.run c.in_ok-decide.ensures.reads g.S.Solver.atoms g.S.Solver.added g.I.PartnerIndex.pairs g.I.PartnerIndex.fits (with_axioms c.args.p.now.clauses) c.args.budget c.requires.safe c.requires.running
 
 pub stopped-requires-clause-problem : goal.stopped-requires-clause-problem
-stopped-requires-clause-problem g c = problem_read c.args.run.now c.decide.new.run c.in_ok-decide.ensures.reads c.args.given c.args.p.now.clauses c.args.p.now.names c.requires.problem
+stopped-requires-clause-problem g c = problem_read c.args.run.now c.decide.new.run c.in_ok-decide.ensures.reads c.args.given c.args.p.now.clauses c.requires.problem
 
 pub returns-in-None-clause-journal : goal.returns-in-None-clause-journal
-returns-in-None-clause-journal g c =
-    on_ok_weaker c.saturated.result (λ e. e ∙ journal_read c.args.run.now c.decide.new.run c.in_ok-decide.ensures.reads) c.saturated.ensures.journal
+returns-in-None-clause-journal g c = c.saturated.ensures.journal ∙ journal_read c.args.run.now c.decide.new.run c.in_ok-decide.ensures.reads
 
 pub returns-in-Some-clause-journal : goal.returns-in-Some-clause-journal
-returns-in-Some-clause-journal g c =
-    on_ok_weaker c.stopped.result (λ e. e ∙ journal_read c.args.run.now c.decide.new.run c.in_ok-decide.ensures.reads) c.stopped.ensures.journal
+returns-in-Some-clause-journal g c = c.stopped.ensures.journal ∙ journal_read c.args.run.now c.decide.new.run c.in_ok-decide.ensures.reads

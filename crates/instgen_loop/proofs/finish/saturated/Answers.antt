@@ -1,3 +1,5 @@
+use Rattle.std.proofs.Common.{ap}
+use Rattle.instgen_loop.specs.Ending.{saturation_from}
 use Rattle.instgen_loop.proofs.Endings.{saturated_outcome}
 use Rattle.instgen_loop.proofs.finish.saturated.Goals as goal
 
@@ -6,4 +8,4 @@ returns-clause-outcome g c =
     let S = g.S.Solver in
     let I = g.I.PartnerIndex in
     saturated_outcome S.atoms S.added I.pairs I.fits c.args.run.now c.args._partners.now c.args.given c.args._p.now.clauses c.args._p.now.names c.args._budget c.requires.rest c.requires.running c.requires.problem
-    c.requires.clauses c.requires.named c.requires.readable c.requires.decided c.in_ok-cert.cert c.saturation_of.new.run.journal c.in_ok-cert.ensures.cert c.in_ok-cert.ensures.journal
+    c.requires.clauses c.requires.named c.requires.readable c.requires.decided (saturation_from c.args._p.now.names c.taken.result) c.taken.new.run.journal (ap (saturation_from c.args._p.now.names) c.taken.ensures.taken) c.taken.ensures.journal

@@ -1,3 +1,5 @@
+use Rattle.std.proofs.Common.{ap}
+use Rattle.instgen_loop.specs.Ending.{saturation_from}
 use Rattle.instgen_loop.proofs.Stopped.{has_left, stopped_outcome}
 use Rattle.instgen_loop.proofs.finish.stopped.Goals as goal
 
@@ -11,4 +13,4 @@ returns-clause-outcome g c =
     let S = g.S.Solver in
     let I = g.I.PartnerIndex in
     stopped_outcome S.atoms S.added I.pairs I.fits c.args.run.now c.args._partners.now c.args.given c.args._p.now.clauses c.args._p.now.names c.args._budget c.args.wanted c.requires.rest c.requires.problem c.requires.open
-    c.requires.running c.left_of-left.result c.left_of-left.ensures c.in_ok-state.state c.saturation_of.new.run.journal c.in_ok-state.ensures.cert c.in_ok-state.ensures.journal
+    c.requires.running c.left_of-left.result c.left_of-left.ensures (saturation_from c.args._p.now.names c.taken.result) c.taken.new.run.journal (ap (saturation_from c.args._p.now.names) c.taken.ensures.taken) c.taken.ensures.journal

@@ -20,7 +20,7 @@ refuted-requires-clause-problem g c =
     let clauses = c.args.p.now.clauses in
     let old = c.start.new.run in
     let new = c.cycle.new.run in
-    problem_later old new c.in_ok-given.given clauses c.args.p.now.names d.bank
+    problem_later old new c.in_ok-given.given clauses d.bank
     (same_constant g.S.Solver.atoms g.S.Solver.added new old.ground.abstraction.bot (with_axioms clauses) c.args.budget (d.kept old.ground.abstraction.bot c.in_ok-given.ensures.running)) c.in_ok-given.ensures.problem
 
 pub finish-requires-clause-problem : goal.finish-requires-clause-problem
@@ -29,7 +29,7 @@ finish-requires-clause-problem g c =
     let clauses = c.args.p.now.clauses in
     let old = c.start.new.run in
     let new = c.cycle.new.run in
-    problem_later old new c.in_ok-given.given clauses c.args.p.now.names d.bank
+    problem_later old new c.in_ok-given.given clauses d.bank
     (same_constant g.S.Solver.atoms g.S.Solver.added new old.ground.abstraction.bot (with_axioms clauses) c.args.budget (d.kept old.ground.abstraction.bot c.in_ok-given.ensures.running)) c.in_ok-given.ensures.problem
 
 pub returns-in-Some-clause-appended : goal.returns-in-Some-clause-appended
@@ -39,8 +39,8 @@ returns-in-Some-clause-appended g c =
     on_ok_weaker c.refuted.result
     (λ e f. subst (λ (js : List Event). appended_count js ≤ c.args.budget) (sym e) (appended_within g.S.Solver.atoms g.S.Solver.added run clauses c.args.budget c.in_ok-derivation.ensures.running f)) c.refuted.ensures.journal
 
-pub returns-in-None-clause-appended : goal.returns-in-None-clause-appended
-returns-in-None-clause-appended g c =
+pub returns-clause-appended : goal.returns-clause-appended
+returns-clause-appended g c =
     let run = c.cycle.new.run in
     let clauses = c.args.p.now.clauses in
     on_ok_weaker c.finish.result

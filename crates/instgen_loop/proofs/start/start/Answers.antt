@@ -115,5 +115,5 @@ returns-clause-problem g c =
     let mid = c.given_in.new.bank in
     let n = c.longest-run.result in
     let last = c.start_entries-2.new.run in
-    problem_later (record run { entries = record run.entries { bank = mid; longest = n } }) last c.in_ok-given.given c.args.p.now.clauses c.args.p.now.names (extends_trans mid c.start_entries.new.run.entries.bank last.entries.bank a.bank b.bank) (b.bot ∙ a.bot)
-    (record { inputs = e.inputs; named = e.names; axioms = e.axioms; bot = c.requires.bot; constant = c.requires.constant; readable = c.requires.readable })
+    problem_later (record run { entries = record run.entries { bank = mid; longest = n } }) last c.in_ok-given.given c.args.p.now.clauses (extends_trans mid c.start_entries.new.run.entries.bank last.entries.bank a.bank b.bank) (b.bot ∙ a.bot)
+    (record { inputs = e.inputs; axioms = e.axioms; bot = c.requires.bot; constant = c.requires.constant; readable = c.requires.readable })
