@@ -7,6 +7,7 @@ ghost use Rattle.term_bank.specs.Forest.{clause_at, IsClauseOf};
 ghost use Rattle.instgen_loop.specs.Clauses.{AreEntries, AreFirsts, IsPast, IsShorterPart, HasShorterPart, Item, clauses_in};
 ghost use Rattle.saturation_cert.specs.declared.member.Origin.{Origin};
 
+use crate::origin::PackedOrigin;
 use clause_form::{subsumes, tautology};
 use indexmap::{IndexMap, IndexSet};
 use inst_logic::Memory;
@@ -23,7 +24,7 @@ use term_index::{PartnerIndex, View};
 #[derive(Drop)]
 pub struct Entries<I: PartnerIndex> {
     pub bank: Bank,
-    pub clauses: IndexMap<IdClause, Origin>,
+    pub clauses: IndexMap<IdClause, PackedOrigin>,
     /// The literals of ground unit clauses.
     pub units: IndexSet<IdLiteral>,
     pub first: I,
@@ -108,9 +109,10 @@ pub fn push_entry<I: PartnerIndex>(
     ensures bank { OnOk result (entries.new.bank ≡ entries.old.bank) }
     ensures pushed { OnOk result (entries.new.clauses.entries ≡ entries.old.clauses.entries ++ (clause, origin) ∷ []) }
 {
+    let packed = PackedOrigin::of(&origin)?;
     let number = entries.clauses.len() + 1;
     add_first(entries, &clause, number)?;
-    entries.clauses.insert(clause, origin)?;
+    entries.clauses.insert(clause, packed)?;
     Ok(())
 }
 

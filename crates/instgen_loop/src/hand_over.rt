@@ -2,6 +2,7 @@
 ghost use Rattle.std.specs.Prelude.{◌≡◌, map, IfOk, OnOk};
 ghost use Rattle.instgen_loop.specs.Refuting.{member_of, base_from};
 
+use crate::origin::PackedOrigin;
 use crate::selection::Selection;
 use crate::start::Given;
 use crate::state::Run;
@@ -9,19 +10,25 @@ use indexmap::IndexMap;
 use inst_logic::Memory;
 use instgen_select::Queue;
 use prop_logic::Solver;
-use saturation_cert::{Base, Member, MemberList, Origin};
+use saturation_cert::{Base, Member, MemberList};
 use std::alloc::Global;
 use std::mem::replace;
 use term_bank::{Bank, IdClause};
 use term_index::PartnerIndex;
 
 // The clauses with their origins as members, in their order.
-fn members_of(alloc: Global, clauses: IndexMap<IdClause, Origin>) -> Result<MemberList, Memory>
+fn members_of(
+    alloc: Global,
+    clauses: IndexMap<IdClause, PackedOrigin>,
+) -> Result<MemberList, Memory>
     ensures { IfOk result (λ members. members ≡ map member_of clauses.entries) }
 {
     let mut members = Vec::with_capacity(alloc, clauses.len())?;
     for (clause, origin) in clauses {
-        members.push(Member { clause, origin })?;
+        members.push(Member {
+            clause,
+            origin: origin.origin(),
+        })?;
     }
     Ok(MemberList::from(members))
 }
