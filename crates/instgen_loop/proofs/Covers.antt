@@ -26,7 +26,7 @@ use Rattle.term_index.specs.Pairs.{Pair, Gives}
 use Rattle.inst_calculus.proofs.Items.{same_item}
 use Rattle.saturation_cert.specs.declared.member.Origin.{Origin}
 use Rattle.instgen_loop.specs.declared.entries.Entries.{Entries}
-use Rattle.instgen_loop.specs.Clauses.{Item, AreEntries, AreFirsts, IsPast, IsShorterPart, IsUnit, HasShorterPart, clauses_in}
+use Rattle.instgen_loop.specs.Clauses.{Item, AreEntries, AreFirsts, IsEntry, IsNoUnit, IsPast, IsShorterPart, IsUnit, HasShorterPart, clauses_in}
 
 pub at_suc : (es : List Item) (k : ℕ) (e : Item) → ¬ (k ≡ 0) → Some e ≡ slice_get es (k - 1) → at_number es k ≡ Some e
 at_suc es zero e n q = absurd (n refl)
@@ -88,18 +88,18 @@ unit_within f m d still (s, part) =
     (l, j, e ∙ ap (λ t. record { positive = m.positive; atom = t }) (ground_stays s (tree_at f m.atom) still))
 
 module _ {I C : Type 0} (pairs : I → List Pair) (n : Entries I C) (es : List Item) (d : List (Signed ℕ)) (len : ℕ) where
-  pub none_is_shorter : AreFirsts pairs n es → AreDistinct n.bank.trees → AreEntries n.bank es → IsClauseOf n.bank d → len ≤ n.longest → n.has_empty ≡ false → All (λ l. ¬ Contains n.units.keys l) d
+  pub none_is_shorter : AreFirsts pairs n es → AreDistinct n.bank.trees → AreEntries n.bank es → IsClauseOf n.bank d → len ≤ n.longest → n.has_empty ≡ false → All (IsNoUnit n.bank es) d
       → All (IsPast n.bank (pairs n.first) es d len) d → ¬ HasShorterPart n.bank es d len
   none_is_shorter firsts distinct entries ids within no_empty lacks passed (zero, s) = cc (s.item_at)
   none_is_shorter firsts distinct entries ids within no_empty lacks passed (suc i, s) = go s.item.0 refl
     where
-      found : (m : Signed ℕ) (rest : List (Signed ℕ)) → s.item.0 ≡ m ∷ rest → IsUnit n.bank n.units.keys s.item.0 m ⊎ Contains (pairs n.first) (m.atom, suc i) → ⊥
-      found m rest e (inl (one, still, among)) =
+      found : (m : Signed ℕ) (rest : List (Signed ℕ)) → s.item.0 ≡ m ∷ rest → IsUnit n.bank s.item.0 m ⊎ Contains (pairs n.first) (m.atom, suc i) → ⊥
+      found m rest e (inl (one, still)) =
           let f = n.bank in
           let (l, j, q) = unit_within f m d still (transport (λ x. Subsumes (clause_at f x) (clause_at f d)) one s.within) in
           let item_ids = all_in (λ (x : Item). IsClauseOf f x.0) es entries.ids s.item (contains_in s.item es (slice_get_contains es i s.item s.item_at)) in
           let same = same_literal f distinct l m (all_in (λ (k : Signed ℕ). k.atom < length f.trees) d ids l j) (head_id f m [] (transport (IsClauseOf f) one item_ids)) q in
-          all_in (λ l. ¬ Contains n.units.keys l) d lacks l j (transport (Contains n.units.keys) (sym same) among)
+          all_in (IsNoUnit f es) d lacks l j (transport (λ (x : Signed ℕ). is_ground (tree_at f x.atom) ≡ true) (sym same) still) (s.item, slice_get_contains es i s.item s.item_at, one ∙ ap (λ x. x ∷ []) (sym same))
       found m rest e (inr stored) =
           let (l, j, h) = first_matches n.bank m rest d (transport (λ x. Subsumes (clause_at n.bank x) (clause_at n.bank d)) e s.within) in
           all_in (IsPast n.bank (pairs n.first) es d len) d passed l j (m.atom, suc i) stored h s
@@ -120,10 +120,10 @@ module _ {I C : Type 0} (pairs : I → List Pair) (n : Entries I C) (es : List I
       empty (l ∷ c) k = absurd (omega arith)
 
   -- a unit is shorter than a premise with more literals
-  pub unit_is_shorter : AreFirsts pairs n es → 1 < len → (l : Signed ℕ) → Contains d l → Contains n.units.keys l → HasShorterPart n.bank es d len
-  unit_is_shorter firsts more l j k =
+  pub unit_is_shorter : 1 < len → (l : Signed ℕ) → Contains d l → IsEntry es l → HasShorterPart n.bank es d len
+  unit_is_shorter more l j (e, k, one) =
       let f = n.bank in
-      let (i, e, at, one) = firsts.unit l k in (
+      let (i, at) = in_slice_get e es (contains_in e es k) in (
         suc i,
         record {
           item = e;
@@ -136,19 +136,6 @@ module _ {I C : Type 0} (pairs : I → List Pair) (n : Entries I C) (es : List I
       alone : (x : Signed Tree) → x ∈ instance var (clause_at n.bank (l ∷ [])) → Contains (clause_at n.bank d) x
       alone x (inl q) = transport (Contains (clause_at n.bank d)) (sym (q ∙ literal_var (literal_tree n.bank l))) (in_contains (literal_tree n.bank l) (clause_at n.bank d) (in_map (literal_tree n.bank) l d (contains_in l d j)))
       alone x (inr i) = absurd i
-
--- a literal that is not found is not there
-pub lacks_literal : (E : Signed ℕ → Signed ℕ → Bool) → ((x y : Signed ℕ) → Decides (E x y) (x ≡ y)) → (ks : List (Signed ℕ)) (l : Signed ℕ) → list_any (E l) ks ≡ false → ¬ Contains ks l
-lacks_literal E law ks l q i = absent ks q (contains_in l ks i)
-  where
-    absent : (xs : List (Signed ℕ)) → list_any (E l) xs ≡ false → ¬ (l ∈ xs)
-    absent [] q i = absurd i
-    absent (x ∷ xs) q i = go (E l x) (law l x) q i (absent xs)
-      where
-        go : (b : Bool) → Decides b (l ≡ x) → (b || list_any (E l) xs) ≡ false → (l ≡ x) ⊎ (l ∈ xs) → (list_any (E l) xs ≡ false → ¬ (l ∈ xs)) → ⊥
-        go true k p j rest = absurd cc
-        go false k p (inl s) rest = not_from_Decides false k refl s
-        go false k p (inr j) rest = rest p j
 
 -- Covered
 

@@ -1,14 +1,11 @@
 -- One more entry in the map and in the index of first literals.
 use Rattle.std.proofs.Common.{◌≡◌, ℕ, zero, suc, ◌+◌, ◌<◌, ◌≤◌, List, [], ◌∷◌, ◌++◌, ◌⊎◌, inl, inr, refl, sym, ap, ◌∙◌, subst as transport, length, length-append, arith, Contains, Bool, true, false, cond, Some, None, Decides}
-use Rattle.std.specs.Prelude.{slice_get, if◌then◌else◌}
-use Rattle.std.specs.List.{list_any}
+use Rattle.std.specs.Prelude.{slice_get}
 use Rattle.std.specs.Cmp.Lexicographic.{pointwise, pointwise_decides}
 use Rattle.indexmap.specs.IndexMap.{insert_entry}
-use Rattle.indexmap.specs.IndexSet.{insert_key}
-use Rattle.indexmap.proofs.CallerLemmas.{Contains-insert_key}
 use Rattle.inst_logic.specs.declared.signed.Signed.{Signed}
 use Rattle.inst_logic.proofs.ShownLaws.{slice_get_append, slice_get_contains}
-use Rattle.inst_calculus.proofs.Membership.{◌∈◌, contains_in, in_contains, in_left, in_either, all_in}
+use Rattle.inst_calculus.proofs.Membership.{◌∈◌, contains_in, all_in}
 use Rattle.engine_laws.proofs.Lists.{slice_get_last}
 use Rattle.inst_calculus.proofs.Items.{same_item}
 use Rattle.term_index.specs.Pairs.{Pair, Adds}
@@ -29,24 +26,13 @@ no_items : {X : Type 0} (xs : List X) → slice_get xs 0 ≡ None → xs ≡ []
 no_items [] e = refl
 no_items (x ∷ xs) e = absurd cc
 
--- a literal that was inserted, and those that were there
-pub in_inserted : (E : Signed ℕ → Signed ℕ → Bool) → (ks : List (Signed ℕ)) (l k : Signed ℕ) → (Contains ks k → Contains (insert_key E ks l) k) × (Contains (insert_key E ks l) k → Contains ks k ⊎ (k ≡ l))
-in_inserted E ks l k = go (list_any (E l) ks)
-  where
-    go : (b : Bool) → (Contains ks k → Contains (if b then ks else ks ++ l ∷ []) k) × (Contains (if b then ks else ks ++ l ∷ []) k → Contains ks k ⊎ (k ≡ l))
-    go true = (λ i. i, λ i. inl i)
-    go false = (
-      λ i. in_contains k (ks ++ l ∷ []) (in_left k ks (l ∷ []) (contains_in k ks i)),
-      λ i. elim (in_either k ks (l ∷ []) (contains_in k (ks ++ l ∷ []) i)) [ inl j ↦ inl (in_contains k ks j) | inr (inl e) ↦ inr e | inr (inr j) ↦ absurd j ],
-    )
-
 not_empty : (c : List (Signed ℕ)) (l : Signed ℕ) → slice_get c 0 ≡ Some l → ¬ (c ≡ [])
 not_empty c l at e = let t : None ≡ Some l = ap (λ (xs : List (Signed ℕ)). slice_get xs 0) (sym e) ∙ at in cc
 
 same_first : (c : List (Signed ℕ)) (l k : Signed ℕ) → slice_get c 0 ≡ Some l → slice_get c 0 ≡ Some k → l ≡ k
 same_first c l k at q = same_item (slice_get c 0) l k at q
 
-alone : (c : List (Signed ℕ)) (l : Signed ℕ) → length c ≡ 1 → slice_get c 0 ≡ Some l → c ≡ l ∷ []
+pub alone : (c : List (Signed ℕ)) (l : Signed ℕ) → length c ≡ 1 → slice_get c 0 ≡ Some l → c ≡ l ∷ []
 alone [] l e at = absurd cc
 alone (k ∷ []) l e at = let q : k ≡ l = same_item (Some k) k l refl at in ap (λ x. x ∷ []) q
 alone (k ∷ m ∷ c) l e at = absurd (omega arith)
@@ -54,7 +40,7 @@ alone (k ∷ m ∷ c) l e at = absurd (omega arith)
 module _ {I C : Type 0} (pairs : I → List Pair) where
   -- a shorter entry is a unit, or in the index
   abbrev IsFound : Entries I C → List (Signed ℕ) → Signed ℕ → ℕ → Type 0
-  IsFound n d l k = IsUnit n.bank n.units.keys d l ⊎ Contains (pairs n.first) (l.atom, k)
+  IsFound n d l k = IsUnit n.bank d l ⊎ Contains (pairs n.first) (l.atom, k)
 
   -- what one more clause changes
   record IsOneMore (n m : Entries I C) (es : List Item) (c : List (Signed ℕ)) : Type 0 where
@@ -62,7 +48,6 @@ module _ {I C : Type 0} (pairs : I → List Pair) where
     short : length c ≤ n.longest
     kept : (d : List (Signed ℕ)) (l : Signed ℕ) (k : ℕ) → IsFound n d l k → IsFound m d l k
     last : (l : Signed ℕ) → slice_get c 0 ≡ Some l → length c < n.longest → IsFound m c l (suc (length es))
-    units : (l : Signed ℕ) → Contains m.units.keys l → Contains n.units.keys l ⊎ (c ≡ l ∷ [])
     flagged : n.has_empty ≡ true → m.has_empty ≡ true
     none : c ≡ [] → m.has_empty ≡ true
     below : (p : Pair) → Contains (pairs m.first) p → p.1 ≤ length es + 1
@@ -72,7 +57,6 @@ module _ {I C : Type 0} (pairs : I → List Pair) where
   one_more n m es c o h g = record {
     bounded = λ i e p. bounded i e (last_or_before es (c, o) i e p);
     first = λ i e k p q r. first i e k q r (last_or_before es (c, o) i e p);
-    unit = λ l i. unit l (g.units l i);
     flagged = λ i e p q. flagged i e q (last_or_before es (c, o) i e p);
     below = λ p i. let k : p.1 ≤ length es + 1 = g.below p i in omega (arith, longer);
     empty = λ t. empty (g.empty t);
@@ -91,10 +75,6 @@ module _ {I C : Type 0} (pairs : I → List Pair) where
           let same : length e.0 ≡ length c = ap (λ (x : Item). length x.0) s in
           transport (λ (x : Item). IsFound m x.0 k (suc i)) (sym s) (transport (λ j. IsFound m c k (suc j)) (sym p) (g.last k (ap (λ (x : Item). slice_get x.0 0) (sym s) ∙ q) (omega (arith, g.longest))))
 
-      unit : (l : Signed ℕ) → Contains n.units.keys l ⊎ (c ≡ l ∷ []) → (i : ℕ) × (e : Item) × (slice_get (es ++ (c, o) ∷ []) i ≡ Some e) × (e.0 ≡ l ∷ [])
-      unit l (inl j) = let (i, e, p, q) = h.unit l j in (i, e, slice_get_append es ((c, o) ∷ []) i e p, q)
-      unit l (inr q) = (length es, (c, o), slice_get_last es (c, o), q)
-
       flagged : (i : ℕ) (e : Item) → e.0 ≡ [] → (slice_get es i ≡ Some e) ⊎ ((i ≡ length es) × (e ≡ (c, o))) → m.has_empty ≡ true
       flagged i e q (inl p) = g.flagged (h.flagged i e p q)
       flagged i e q (inr (p, r)) = g.none (ap (λ (x : Item). x.0) (sym r) ∙ q)
@@ -112,7 +92,6 @@ module _ {I C : Type 0} (pairs : I → List Pair) where
     kept = λ d k i u. kept d k i u;
     last = λ k q r. let same = same_first c l k at q in let m : suc (length es) ≡ number = omega arith in
         inr ((adds (k.atom, suc (length es))).1 (inl (λ x. ((ap (λ (y : Signed ℕ). y.atom) (sym same)) x, m x))));
-    units = λ k i. inl i;
     flagged = λ t. t;
     none = λ q. absurd (not_empty c l at q);
     below = λ p i. below p ((adds p).0 i);
@@ -127,41 +106,14 @@ module _ {I C : Type 0} (pairs : I → List Pair) where
       below p (inl q) = let m : p.1 ≡ number = ap (λ (x : Pair). x.1) q in omega arith
       below p (inr i) = let m : p.1 ≤ length es = h.below p i in omega arith
 
-  -- its literal goes among the units
-  pub unit_stored : (E : Signed ℕ → Signed ℕ → Bool) → ((x y : Signed ℕ) → Decides (E x y) (x ≡ y)) → (n m : Entries I C) (es : List Item) (c : List (Signed ℕ)) (l : Signed ℕ) → m ≡ record n { units = m.units } → m.units.keys ≡ insert_key E n.units.keys l
-      → AreFirsts pairs n es → length c ≤ n.longest → slice_get c 0 ≡ Some l → length c ≡ 1 → is_ground (tree_at n.bank l.atom) ≡ true → (o : Origin) → AreFirsts pairs m (es ++ (c, o) ∷ [])
-  unit_stored E law n m es c l is keys h short at one still o = transport (λ (x : Entries I C). AreFirsts pairs x (es ++ (c, o) ∷ [])) (sym is) (one_more n (record n { units = m.units }) es c o h (record {
-    longest = refl;
-    short = short;
-    kept = λ d k i u. kept d k i u;
-    last = λ k q r. let same = same_first c l k at q in transport (λ (x : Signed ℕ). IsFound (record n { units = m.units }) c x (suc (length es))) same (inl (alone c l one at, still, there));
-    units = λ k i. units k ((in_inserted E n.units.keys l k).1 (transport (λ ks. Contains ks k) keys i));
-    flagged = λ t. t;
-    none = λ q. absurd (not_empty c l at q);
-    below = λ p i. let k : p.1 ≤ length es = h.below p i in omega arith;
-    empty = λ t. inl t;
-  }))
-    where
-      there : Contains m.units.keys l
-      there = transport (λ ks. Contains ks l) (sym keys) (Contains-insert_key E (λ x y. (law x y).0) n.units.keys l)
-
-      kept : (d : List (Signed ℕ)) (k : Signed ℕ) (i : ℕ) → IsFound n d k i → IsFound (record n { units = m.units }) d k i
-      kept d k i (inl (q, s, j)) = inl (q, s, transport (λ ks. Contains ks k) (sym keys) ((in_inserted E n.units.keys l k).0 j))
-      kept d k i (inr s) = inr s
-
-      units : (k : Signed ℕ) → Contains n.units.keys k ⊎ (k ≡ l) → Contains n.units.keys k ⊎ (c ≡ k ∷ [])
-      units k (inl i) = inl i
-      units k (inr e) = inr (alone c l one at ∙ ap (λ x. x ∷ []) (sym e))
-
-  -- the longest are not stored
-  pub first_left : (n : Entries I C) (es : List Item) (c : List (Signed ℕ)) (l : Signed ℕ) → AreFirsts pairs n es → length c ≤ n.longest → ¬ (length c < n.longest) → slice_get c 0 ≡ Some l → (o : Origin)
+  -- units and the longest are not stored
+  pub first_left : (n : Entries I C) (es : List Item) (c : List (Signed ℕ)) (l : Signed ℕ) → AreFirsts pairs n es → length c ≤ n.longest → (length c < n.longest → IsUnit n.bank c l) → slice_get c 0 ≡ Some l → (o : Origin)
       → AreFirsts pairs n (es ++ (c, o) ∷ [])
-  first_left n es c l h short long at o = one_more n n es c o h (record {
+  first_left n es c l h short unit at o = one_more n n es c o h (record {
     longest = refl;
     short = short;
     kept = λ d k i u. u;
-    last = λ k q r. absurd (long r);
-    units = λ k i. inl i;
+    last = λ k q r. transport (λ (x : Signed ℕ). IsFound n c x (suc (length es))) (same_first c l k at q) (inl (unit r));
     flagged = λ t. t;
     none = λ q. absurd (not_empty c l at q);
     below = λ p i. let k : p.1 ≤ length es = h.below p i in omega arith;
@@ -174,7 +126,6 @@ module _ {I C : Type 0} (pairs : I → List Pair) where
     short = short;
     kept = λ d k i u. u;
     last = λ k q r. let t : None ≡ Some k = sym at ∙ q in absurd cc;
-    units = λ k i. inl i;
     flagged = λ t. refl;
     none = λ q. refl;
     below = λ p i. let k : p.1 ≤ length es = h.below p i in omega arith;
@@ -183,24 +134,23 @@ module _ {I C : Type 0} (pairs : I → List Pair) where
 
   -- the map of the clauses is spoken of by itself
   pub firsts_over : (n m : Entries I C) (es : List Item) → m ≡ record n { clauses = m.clauses } → AreFirsts pairs n es → AreFirsts pairs m es
-  firsts_over n m es is h = transport (λ (x : Entries I C). AreFirsts pairs x es) (sym is) (record { bounded = h.bounded; first = h.first; unit = h.unit; flagged = h.flagged; below = h.below; empty = h.empty })
+  firsts_over n m es is h = transport (λ (x : Entries I C). AreFirsts pairs x es) (sym is) (record { bounded = h.bounded; first = h.first; flagged = h.flagged; below = h.below; empty = h.empty })
 
   -- a grown bank
   pub firsts_kept : (n : Entries I C) (g : Forest) (es : List Item) → Extends n.bank g → AreEntries n.bank es → AreFirsts pairs n es → AreFirsts pairs (record n { bank = g }) es
   firsts_kept n g es grown entries h = record {
     bounded = h.bounded;
     first = λ i e l p q r. first i e l p (h.first i e l p q r);
-    unit = h.unit;
     flagged = h.flagged;
     below = h.below;
     empty = h.empty;
   }
     where
       first : (i : ℕ) (e : Item) (l : Signed ℕ) → slice_get es i ≡ Some e → IsFound n e.0 l (suc i) → IsFound (record n { bank = g }) e.0 l (suc i)
-      first i e l p (inl (one, still, j)) =
+      first i e l p (inl (one, still)) =
           let ids = all_in (λ (x : Item). IsClauseOf n.bank x.0) es entries.ids e (contains_in e es (slice_get_contains es i e p)) in
           let same : tree_at g l.atom ≡ tree_at n.bank l.atom = grown.trees.1 l.atom (head_id n.bank l [] (transport (IsClauseOf n.bank) one ids)) in
-          inl (one, ap is_ground same ∙ still, j)
+          inl (one, ap is_ground same ∙ still)
       first i e l p (inr s) = inr s
 
 -- a new key goes last

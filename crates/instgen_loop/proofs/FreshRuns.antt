@@ -46,7 +46,6 @@ module _ {S I C : Type 0} (atoms : S → ℕ) (added : S → List (List (Signed 
   fresh_interned r g n formed h = record {
     bank = formed;
     entries = h.entries;
-    units = h.units;
     first = h.first;
     has_empty = h.has_empty;
     ids = h.ids;
@@ -82,7 +81,6 @@ module _ {S I C : Type 0} (atoms : S → ℕ) (added : S → List (List (Signed 
     firsts = transport (AreFirsts pairs r.entries) (sym h.entries) (record {
       bounded = λ i e p. let m = slice_get_below [] i e p in absurd (omega arith);
       first = λ i e l p q k. let m = slice_get_below [] i e p in absurd (omega arith);
-      unit = λ l i. absurd (contains_in l [] (transport (λ ks. Contains ks l) h.units i));
       flagged = λ i e p q. let m = slice_get_below [] i e p in absurd (omega arith);
       below = λ p i. absurd (contains_in p [] (transport (λ ps. Contains ps p) h.first i));
       empty = λ t. let e : false ≡ true = sym h.has_empty ∙ t in absurd cc;

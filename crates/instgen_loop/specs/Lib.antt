@@ -17,3 +17,4 @@ pub mod Ending
 pub mod Endings
 pub mod Lines
 pub mod EventLogs
+pub mod Origins

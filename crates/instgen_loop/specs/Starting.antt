@@ -18,7 +18,6 @@ use Rattle.instgen_loop.specs.Loops.{items}
 pub record IsFresh {S I C : Type 0} (atoms : S → ℕ) (added : S → List (List (Signed ℕ))) (pairs : I → List Pair) (r : Run S I C) : Type 0 where
   pub bank : AreFormed r.entries.bank
   pub entries : items r ≡ []
-  pub units : r.entries.units.keys ≡ []
   pub first : pairs r.entries.first ≡ []
   pub has_empty : r.entries.has_empty ≡ false
   pub ids : r.ground.abstraction.ids ≡ []

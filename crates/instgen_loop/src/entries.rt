@@ -4,35 +4,54 @@ ghost use Rattle.inst_logic.specs.declared.signed.Signed.{Signed};
 ghost use Rattle.inst_logic.specs.Clauses.{TreeClause, IsCanonical};
 ghost use Rattle.inst_calculus.specs.Saturation.{IsCovered};
 ghost use Rattle.term_bank.specs.Forest.{clause_at, IsClauseOf};
-ghost use Rattle.instgen_loop.specs.Clauses.{AreEntries, AreFirsts, IsPast, IsShorterPart, HasShorterPart, Item, clauses_in};
+ghost use Rattle.instgen_loop.specs.Clauses.{AreEntries, AreFirsts, IsEntry, IsUnit, IsNoUnit, IsPast, IsShorterPart, HasShorterPart, Item, clauses_in};
 ghost use Rattle.saturation_cert.specs.declared.member.Origin.{Origin};
 
+use crate::origin::PackedOrigin;
 use clause_form::{subsumes, tautology};
-use indexmap::{IndexMap, IndexSet};
+use indexmap::IndexMap;
 use inst_logic::Memory;
 use saturation_cert::Origin;
 use std::alloc::Global;
+use std::mem::replace;
 use term_bank::{Bank, IdClause, IdLiteral};
 use term_index::{PartnerIndex, View};
 
 /// The clauses of the entries with their origins, by their numbers, over one bank, and what finds those with an instance
 /// within a conclusion that are shorter than its premise. The longest are shorter than no premise, and the empty clause covers
-/// everything. A ground unit clause has an instance within those that have its literal: it is looked up, and stands in no
-/// index. Of each other entry that is shorter than the longest an index has the first literal's atom, which is among the
-/// generalisations of the atoms of a conclusion that has an instance of the entry within it.
+/// everything. A ground unit clause has an instance within those that have its literal: it is looked up among the entries, and
+/// stands in no index. Of each other entry that is shorter than the longest an index has the first literal's atom, which is
+/// among the generalisations of the atoms of a conclusion that has an instance of the entry within it.
 #[derive(Drop)]
 pub struct Entries<I: PartnerIndex> {
     pub bank: Bank,
-    pub clauses: IndexMap<IdClause, Origin>,
-    /// The literals of ground unit clauses.
-    pub units: IndexSet<IdLiteral>,
+    pub clauses: IndexMap<IdClause, PackedOrigin>,
     pub first: I,
     pub has_empty: bool,
     /// No entry has more literals.
     pub longest: usize,
 }
 
-// Stores the first literal of a clause that may be shorter than a premise: among the units, or its atom under the number.
+// Whether the clause is its first literal alone, which has no variables.
+fn is_ground_unit(bank: &Bank, clause: &IdClause, l: IdLiteral) -> bool
+    requires atom { l.atom < length bank.now.trees }
+    requires first { slice_get clause.now 0 ≡ Some l }
+    ensures { IsTrue result ↔ IsUnit bank.now clause.now l }
+{
+    clause.len() == 1 && bank.ground(l.atom)
+}
+
+// Whether the index has the first literal of such a clause: it may be shorter than a premise, and is no ground unit.
+fn is_indexed<I: PartnerIndex>(entries: &Entries<I>, clause: &IdClause, l: IdLiteral) -> bool
+    requires atom { l.atom < length entries.now.bank.trees }
+    requires first { slice_get clause.now 0 ≡ Some l }
+    ensures yes { result ≡ true → (length clause.now < entries.now.longest) × ¬ IsUnit entries.now.bank clause.now l }
+    ensures no { result ≡ false → length clause.now < entries.now.longest → IsUnit entries.now.bank clause.now l }
+{
+    clause.len() < entries.longest && !is_ground_unit(&entries.bank, clause, l)
+}
+
+// Stores the first literal's atom under the number.
 fn add_shorter<I: PartnerIndex>(
     entries: &mut Entries<I>,
     clause: &IdClause,
@@ -51,15 +70,10 @@ fn add_shorter<I: PartnerIndex>(
     ensures clauses { entries.new.clauses.entries ≡ entries.old.clauses.entries }
     ensures longest { entries.new.longest ≡ entries.old.longest }
 {
-    if clause.len() == 1 && entries.bank.ground(l.atom) {
-        entries.units.insert(l)?;
-        Ok(())
-    } else {
-        entries.first.insert(&entries.bank, l.atom, number)
-    }
+    entries.first.insert(&entries.bank, l.atom, number)
 }
 
-// The same of any clause, of which there is nothing to store where it is one of the longest.
+// Stores what finds the clause, where there is anything to store.
 fn add_first<I: PartnerIndex>(
     entries: &mut Entries<I>,
     clause: &IdClause,
@@ -82,7 +96,7 @@ fn add_first<I: PartnerIndex>(
             Ok(())
         }
         Some(l) => {
-            if clause.len() < entries.longest {
+            if is_indexed(entries, clause, *l) {
                 add_shorter(entries, clause, *l, number)
             } else {
                 Ok(())
@@ -108,9 +122,10 @@ pub fn push_entry<I: PartnerIndex>(
     ensures bank { OnOk result (entries.new.bank ≡ entries.old.bank) }
     ensures pushed { OnOk result (entries.new.clauses.entries ≡ entries.old.clauses.entries ++ (clause, origin) ∷ []) }
 {
+    let packed = PackedOrigin::of(&origin)?;
     let number = entries.clauses.len() + 1;
     add_first(entries, &clause, number)?;
-    entries.clauses.insert(clause, origin)?;
+    entries.clauses.insert(clause, packed)?;
     Ok(())
 }
 
@@ -192,17 +207,44 @@ fn has_shorter_first<I: PartnerIndex>(
     Ok(false)
 }
 
-// Whether some literal of the clause is a unit.
-fn has_unit(units: &IndexSet<IdLiteral>, d: &IdClause) -> bool
-    ensures yes { result ≡ true → (l : Signed ℕ) × Contains d.now l × Contains units.now.keys l }
-    ensures no { result ≡ false → All (λ l. ¬ Contains units.now.keys l) d.now }
+// Whether the literal alone is an entry, where it has no variables. The key is made anew in the memory that it has.
+fn is_unit<I: PartnerIndex>(
+    alloc: Global,
+    entries: &Entries<I>,
+    l: IdLiteral,
+    key: &mut IdClause,
+) -> Result<bool, Memory>
+    requires { l.atom < length entries.now.bank.trees }
+    ensures yes { IfOk result (λ r. r ≡ true → IsEntry entries.now.clauses.entries l) }
+    ensures no { IfOk result (λ r. r ≡ false → IsNoUnit entries.now.bank entries.now.clauses.entries l) }
 {
+    if !entries.bank.ground(l.atom) {
+        return Ok(false);
+    }
+    let mut alone = Vec::from(replace(key, IdClause::new(alloc)));
+    alone.clear();
+    alone.push(l)?;
+    *key = IdClause::from(alone);
+    Ok(entries.clauses.contains_key(&*key))
+}
+
+// Whether some literal of the clause is a unit.
+fn has_unit<I: PartnerIndex>(
+    alloc: Global,
+    entries: &Entries<I>,
+    d: &IdClause,
+) -> Result<bool, Memory>
+    requires { IsClauseOf entries.now.bank d.now }
+    ensures yes { IfOk result (λ r. r ≡ true → (l : Signed ℕ) × Contains d.now l × IsEntry entries.now.clauses.entries l) }
+    ensures no { IfOk result (λ r. r ≡ false → All (IsNoUnit entries.now.bank entries.now.clauses.entries) d.now) }
+{
+    let mut key = IdClause::new(alloc);
     for l in d.as_slice() {
-        if units.contains(l) {
-            return true;
+        if is_unit(alloc, entries, *l, &mut key)? {
+            return Ok(true);
         }
     }
-    false
+    Ok(false)
 }
 
 // Whether some entry with a literal has fewer than `len`, and an instance within the clause. None has fewer than one.
@@ -225,7 +267,7 @@ fn has_shorter<I: PartnerIndex>(
     if len <= 1 {
         return Ok(false);
     }
-    if has_unit(&entries.units, d) {
+    if has_unit(alloc, entries, d)? {
         return Ok(true);
     }
     has_shorter_first(alloc, entries, d, len)

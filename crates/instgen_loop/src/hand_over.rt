@@ -3,12 +3,13 @@
 ghost use Rattle.std.specs.Prelude.{◌≡◌, map, IfOk};
 ghost use Rattle.instgen_loop.specs.Refuting.{member_of, remains_of, base_from};
 
+use crate::origin::PackedOrigin;
 use crate::start::Given;
 use crate::state::Run;
 use indexmap::IndexMap;
 use inst_logic::{Memory, NameList, Problem};
 use prop_logic::Solver;
-use saturation_cert::{Base, Member, MemberList, Origin};
+use saturation_cert::{Base, Member, MemberList};
 use std::alloc::Global;
 use std::mem::replace;
 use term_bank::{Bank, IdClause};
@@ -18,7 +19,7 @@ use term_index::PartnerIndex;
 #[derive(Drop)]
 pub struct Remains {
     pub bank: Bank,
-    pub clauses: IndexMap<IdClause, Origin>,
+    pub clauses: IndexMap<IdClause, PackedOrigin>,
     pub given: Given,
 }
 
@@ -39,12 +40,18 @@ pub fn hand_over<S: Solver, I: PartnerIndex>(
 }
 
 // The clauses with their origins as members, in their order.
-fn members_of(alloc: Global, clauses: IndexMap<IdClause, Origin>) -> Result<MemberList, Memory>
+fn members_of(
+    alloc: Global,
+    clauses: IndexMap<IdClause, PackedOrigin>,
+) -> Result<MemberList, Memory>
     ensures { IfOk result (λ members. members ≡ map member_of clauses.entries) }
 {
     let mut members = Vec::with_capacity(alloc, clauses.len())?;
     for (clause, origin) in clauses {
-        members.push(Member { clause, origin })?;
+        members.push(Member {
+            clause,
+            origin: origin.origin(),
+        })?;
     }
     Ok(MemberList::from(members))
 }

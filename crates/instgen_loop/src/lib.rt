@@ -19,6 +19,7 @@ pub mod hand_over;
 pub mod infer;
 pub mod laws;
 pub mod order;
+pub mod origin;
 pub mod outcome;
 pub mod queue;
 pub mod refuted;

@@ -24,7 +24,7 @@ use clause_form::{clause_size, tautology};
 use equality_axioms::axioms_of;
 use flat_clauses::FlatClauses;
 use ground_abs::Abstraction;
-use indexmap::{IndexMap, IndexSet};
+use indexmap::IndexMap;
 use inst_logic::{ClauseList, Memory, Problem, Sym};
 use instgen_select::Queue;
 use prop_logic::{Solver, Valuation};
@@ -44,7 +44,6 @@ pub struct Given {
 
 fn no_entries<I: PartnerIndex>(alloc: Global, first: I) -> Entries<I>
     ensures bank { result.bank ≡ record { trees = []; symbols = []; spent = false } }
-    ensures units { result.units.keys ≡ [] }
     ensures first { result.first ≡ first }
     ensures has_empty { result.has_empty ≡ false }
     ensures clauses { result.clauses.entries ≡ [] }
@@ -52,7 +51,6 @@ fn no_entries<I: PartnerIndex>(alloc: Global, first: I) -> Entries<I>
     Entries {
         bank: Bank::new(alloc),
         clauses: IndexMap::new(alloc),
-        units: IndexSet::new(alloc),
         first,
         has_empty: false,
         longest: 0,

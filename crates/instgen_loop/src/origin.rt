@@ -1,0 +1,85 @@
+// Origins of entries in few bytes.
+ghost use Rattle.std.specs.Prelude.{◌≡◌, IfOk};
+
+use crate::small::small;
+use inst_logic::Memory;
+use saturation_cert::Origin;
+use std::marker::Model;
+
+// No literal that an inference can be at has this place: with one of its partner the entries would have too many.
+const INPUT: u32 = 0xffff_ffff;
+
+/// An origin in sixteen bytes: its four numbers, or that of an input in the first place and no place in the second.
+#[derive(Clone, Copy)]
+pub struct PackedOrigin {
+    from: u32,
+    place: u32,
+    partner: u32,
+    other: u32,
+}
+
+impl Model for PackedOrigin {
+    ghost use Rattle.saturation_cert.specs.declared.member.Origin.{Origin};
+
+    ghost Value = { Origin };
+
+    ghost use Rattle.instgen_loop.specs.Origins.{origin_in, numbers_of, IsPlain, numbers_again};
+
+    ghost view = { origin_in };
+
+    ghost invariant = { IsPlain };
+
+    ghost inverse = { numbers_of };
+
+    ghost inverse_ok = { numbers_again };
+}
+
+const _: () = prove!(size_of::<PackedOrigin>() == 16);
+
+impl PackedOrigin {
+    /// The origin in sixteen bytes. It lacks memory where a number needs more than four, or the place is 2^32 - 1.
+    pub fn of(origin: &Origin) -> Result<PackedOrigin, Memory>
+        ensures { IfOk result (λ o. o ≡ origin.now) }
+    {
+        match origin {
+            Origin::Input(k) => Ok(PackedOrigin {
+                from: small(*k)?,
+                place: INPUT,
+                partner: 0,
+                other: 0,
+            }),
+            Origin::Inst {
+                from,
+                place,
+                partner,
+                other,
+            } => {
+                let place = small(*place)?;
+                if place == INPUT {
+                    return Err(Memory);
+                }
+                Ok(PackedOrigin {
+                    from: small(*from)?,
+                    place,
+                    partner: small(*partner)?,
+                    other: small(*other)?,
+                })
+            }
+        }
+    }
+
+    /// The origin.
+    pub fn origin(self) -> Origin
+        ensures { result ≡ self }
+    {
+        if self.place == INPUT {
+            return Origin::Input(self.from as usize);
+        }
+        Origin::Inst {
+            from: self.from as usize,
+            place: self.place as usize,
+            partner: self.partner as usize,
+            other: self.other as usize,
+        }
+    }
+}
