@@ -19,7 +19,7 @@ fn exit_in(nodes: &Vec<Node>, node: usize, place: usize) -> Option<u32>
     ensures { MatchOption result (length (content_at nodes.now.items node).exits ≤ place) (λ c. (place < length (content_at nodes.now.items node).exits) × (exit_at nodes.now.items node place ≡ c)) }
 {
     let here = &nodes[node];
-    match here.exits.as_slice().get(place) {
+    match here.exits().get(place) {
         None => None,
         Some(end) => Some(*end),
     }
@@ -31,7 +31,7 @@ fn count_of(nodes: &Vec<Node>, node: usize) -> Result<u32, Memory>
     ensures { IfOk result (λ n. n ≡ length (content_at nodes.now.items node).exits) }
 {
     let here = &nodes[node];
-    short(here.exits.len())
+    short(here.exits().len())
 }
 
 // Whether nothing ends at the node and it has no exits.
@@ -40,7 +40,7 @@ fn is_bare(nodes: &Vec<Node>, node: usize) -> bool
     ensures { result ≡ true → IsBare (content_at nodes.now.items node) }
 {
     let here = &nodes[node];
-    here.exits.is_empty() && here.pairs.is_empty()
+    here.exits().is_empty() && here.pairs().is_empty()
 }
 
 // Puts the exit at the end of the node's.
@@ -52,7 +52,7 @@ fn push_exit(nodes: &mut Vec<Node>, node: usize, end: u32) -> Result<(), Memory>
     ensures pairs { (content_at nodes.new.items node).pairs ≡ (content_at nodes.old.items node).pairs }
 {
     let here = &mut nodes[node];
-    here.exits.push(end)?;
+    here.push_exit(end)?;
     Ok(())
 }
 
@@ -66,7 +66,7 @@ fn take_exit(nodes: &mut Vec<Node>, node: usize, place: usize)
     ensures pairs { (content_at nodes.new.items node).pairs ≡ (content_at nodes.old.items node).pairs }
 {
     let here = &mut nodes[node];
-    here.exits.swap_remove(place);
+    here.take_exit(place);
 }
 
 // The place of the span among the exits of the node where it begins, if it is listed there.
