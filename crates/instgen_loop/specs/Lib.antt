@@ -15,6 +15,6 @@ pub mod Refuting
 pub mod Deciding
 pub mod Ending
 pub mod Endings
-pub mod Lines
+pub mod Marks
 pub mod EventLogs
 pub mod Origins

@@ -1,10 +1,12 @@
 // The events of a run while it lasts, in few bytes each. A list of events takes more than twice as much, and each solve in it a
 // piece of memory of its own, so one is made only at the end.
-ghost use Rattle.std.specs.Prelude.{◌≡◌, ◌++◌, ◌∷◌, [], ℕ, List, length, map, All, IfOk, OnOk};
+ghost use Rattle.std.specs.Prelude.{◌≡◌, ◌++◌, ◌∷◌, [], length, IfOk, OnOk};
+ghost use Rattle.saturation_cert.specs.declared.member.Origin.{Origin};
 ghost use Rattle.instgen_loop.specs.declared.event.Event.TheVariants.{Solved, Inferred};
-ghost use Rattle.instgen_loop.specs.Lines.{event_of, IsWithin};
+ghost use Rattle.instgen_loop.specs.Marks.{inferred, events_from, AreInOrder};
 
 use crate::event::{Event, FlipList, Journal};
+use crate::origin::PackedOrigin;
 use crate::small::small;
 use inst_logic::Memory;
 use saturation_cert::Origin;
@@ -12,113 +14,76 @@ use std::alloc::Global;
 use std::marker::Model;
 use term_bank::TermId;
 
-/// One event: a solve is a part of the list of all flips, and an origin has its numbers in four bytes each.
+/// How many flips all solves up to one have, and how many entries had been appended before it.
 #[derive(Clone, Copy, Debug)]
-pub enum Line {
-    Solved {
-        begin: u32,
-        end: u32,
-    },
-    Input(u32),
-    Inst {
-        from: u32,
-        place: u32,
-        partner: u32,
-        other: u32,
-    },
+pub struct Mark {
+    pub flipped: u32,
+    pub appended: u32,
 }
 
-const _: () = prove!(size_of::<Line>() == 20);
+const _: () = prove!(size_of::<Mark>() == 8);
 
-// The line of an appended entry.
-fn line_of(origin: &Origin) -> Result<Line, Memory>
-    ensures event { IfOk result (λ l. (flips : List ℕ) → event_of flips l ≡ Inferred origin.now) }
-    ensures within { IfOk result (λ l. (count : ℕ) → IsWithin count l) }
+// Adds the event of a solve with these flips.
+fn add_solved(alloc: Global, events: &mut Vec<Event>, flips: &[TermId]) -> Result<(), Memory>
+    ensures { OnOk result (events.new.items ≡ events.old.items ++ Solved flips.now ∷ []) }
 {
-    match origin {
-        Origin::Input(k) => Ok(Line::Input(small(*k)?)),
-        Origin::Inst {
-            from,
-            place,
-            partner,
-            other,
-        } => Ok(Line::Inst {
-            from: small(*from)?,
-            place: small(*place)?,
-            partner: small(*partner)?,
-            other: small(*other)?,
-        }),
+    let own = Vec::from_slice(alloc, flips)?;
+    events.push(Event::Solved(FlipList::from(own)))?;
+    Ok(())
+}
+
+// Adds the events of appended entries with these origins.
+fn add_inferred(events: &mut Vec<Event>, origins: &[PackedOrigin]) -> Result<(), Memory>
+    ensures { OnOk result (events.new.items ≡ events.old.items ++ inferred origins.now) }
+{
+    for origin in origins {
+        events.push(Event::Inferred(origin.origin()))?;
     }
+    Ok(())
 }
 
-// Puts the flips of a solve at the end of all, and gives its line.
-fn add_flips(flips: &mut Vec<TermId>, added: &FlipList) -> Result<Line, Memory>
-    ensures event { IfOk result (λ l. event_of flips.new.items l ≡ Solved added.now) }
-    ensures within { IfOk result (IsWithin (length flips.new.items)) }
-    ensures grows { (more : List ℕ) × (flips.new.items ≡ flips.old.items ++ more) }
+// The events of the marks, each after the entries that were appended before it.
+fn events_at(
+    alloc: Global,
+    flips: &[TermId],
+    origins: &[PackedOrigin],
+    marks: &[Mark],
+) -> Result<Journal, Memory>
+    requires { AreInOrder (length flips.now) (length origins.now) 0 0 marks.now }
+    ensures { IfOk result (λ j. j ≡ events_from flips.now origins.now 0 0 marks.now) }
 {
-    let begin = small(flips.len())?;
-    flips.extend_from_slice(added.as_slice())?;
-    let end = small(flips.len())?;
-    Ok(Line::Solved { begin, end })
-}
-
-// The event of the line.
-fn event_at(alloc: Global, flips: &[TermId], line: Line) -> Result<Event, Memory>
-    requires { IsWithin (length flips.now) line }
-    ensures { IfOk result (λ e. e ≡ event_of flips.now line) }
-{
-    match line {
-        Line::Solved { begin, end } => {
-            let own = Vec::from_slice(alloc, &flips[begin as usize..end as usize])?;
-            Ok(Event::Solved(FlipList::from(own)))
-        }
-        Line::Input(k) => Ok(Event::Inferred(Origin::Input(k as usize))),
-        Line::Inst {
-            from,
-            place,
-            partner,
-            other,
-        } => Ok(Event::Inferred(Origin::Inst {
-            from: from as usize,
-            place: place as usize,
-            partner: partner as usize,
-            other: other as usize,
-        })),
+    let mut events = Vec::with_capacity(alloc, marks.len() + origins.len())?;
+    let mut flipped = 0;
+    let mut done = 0;
+    for mark in marks {
+        add_inferred(&mut events, &origins[done..mark.appended as usize])?;
+        add_solved(alloc, &mut events, &flips[flipped..mark.flipped as usize])?;
+        flipped = mark.flipped as usize;
+        done = mark.appended as usize;
     }
-}
-
-// The events of the lines.
-fn events_at(alloc: Global, flips: &[TermId], lines: &[Line]) -> Result<Journal, Memory>
-    requires { All (IsWithin (length flips.now)) lines.now }
-    ensures { IfOk result (λ j. j ≡ map (event_of flips.now) lines.now) }
-{
-    let mut events = Vec::with_capacity(alloc, lines.len())?;
-    for line in lines {
-        events.push(event_at(alloc, flips, *line)?)?;
-    }
+    add_inferred(&mut events, &origins[done..])?;
     Ok(Journal::from(events))
 }
 
 /// What the engine did so far, in order. Contracts see it as the list of events.
 #[derive(Drop)]
 pub struct EventLog {
-    lines: Vec<Line>,
+    solves: Vec<Mark>,
     flips: Vec<TermId>,
+    appended: Vec<PackedOrigin>,
 }
 
 impl Model for EventLog {
-    ghost use Rattle.std.specs.Prelude.{List, All, length};
+    ghost use Rattle.std.specs.Prelude.{List};
     ghost use Rattle.instgen_loop.specs.declared.event.Event.{Event};
 
     ghost Value = { List Event };
 
-    ghost use Rattle.instgen_loop.specs.Lines.{IsWithin};
-    ghost use Rattle.instgen_loop.specs.EventLogs.{events_in};
+    ghost use Rattle.instgen_loop.specs.EventLogs.{events_in, IsInOrder};
 
     ghost view = { events_in };
 
-    ghost invariant = { λ a. All (IsWithin (length a.flips.items)) a.lines.items };
+    ghost invariant = { IsInOrder };
 }
 
 impl EventLog {
@@ -127,8 +92,9 @@ impl EventLog {
         ensures { result ≡ [] }
     {
         EventLog {
-            lines: Vec::new(alloc),
+            solves: Vec::new(alloc),
             flips: Vec::new(alloc),
+            appended: Vec::new(alloc),
         }
     }
 
@@ -136,17 +102,24 @@ impl EventLog {
     pub fn push_solved(&mut self, flips: &FlipList) -> Result<(), Memory>
         ensures { OnOk result (self.new ≡ self.old ++ Solved flips.now ∷ []) }
     {
-        let line = add_flips(&mut self.flips, flips)?;
-        self.lines.push(line)?;
+        let added = flips.as_slice();
+        let mark = Mark {
+            flipped: small(self.flips.len() + added.len())?,
+            appended: small(self.appended.len())?,
+        };
+        // So the mark of flips that are there is not refused.
+        self.solves.reserve(1)?;
+        self.flips.extend_from_slice(added)?;
+        self.solves.push(mark)?;
         Ok(())
     }
 
-    /// Adds an entry that was appended. It lacks memory where a number needs more than four bytes.
+    /// Adds an entry that was appended. It lacks memory where a number of the origin has no room.
     pub fn push_inferred(&mut self, origin: &Origin) -> Result<(), Memory>
         ensures { OnOk result (self.new ≡ self.old ++ Inferred origin.now ∷ []) }
     {
-        let line = line_of(origin)?;
-        self.lines.push(line)?;
+        let packed = PackedOrigin::of(origin)?;
+        self.appended.push(packed)?;
         Ok(())
     }
 
@@ -154,6 +127,6 @@ impl EventLog {
     pub fn journal(&self, alloc: Global) -> Result<Journal, Memory>
         ensures { IfOk result (λ j. j ≡ self.now) }
     {
-        events_at(alloc, &self.flips, &self.lines)
+        events_at(alloc, &self.flips, &self.appended, &self.solves)
     }
 }

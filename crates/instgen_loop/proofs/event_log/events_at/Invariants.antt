@@ -1,6 +1,9 @@
-use Rattle.std.proofs.Common.{◌≡◌, map, take}
-use Rattle.instgen_loop.specs.Lines.{event_of}
+use Rattle.std.proofs.Common.{◌≡◌, ◌++◌, length, drop}
+use Rattle.instgen_loop.specs.Marks.{events_from, AreInOrder}
 use Rattle.instgen_loop.proofs.event_log.events_at.Given as goal
 
-abbrev pub invariant-loop-line : goal.invariant-loop-line
-invariant-loop-line l = l.events.items ≡ map (event_of l.flips) (take l.line-index l.lines)
+abbrev pub invariant-loop-mark : goal.invariant-loop-mark
+invariant-loop-mark l = record {
+  same : l.events.items ++ events_from l.flips l.origins l.flipped l.done (drop l.mark-index l.marks) ≡ events_from l.flips l.origins 0 0 l.marks;
+  ordered : AreInOrder (length l.flips) (length l.origins) l.flipped l.done (drop l.mark-index l.marks);
+}

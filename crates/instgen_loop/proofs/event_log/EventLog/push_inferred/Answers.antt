@@ -1,9 +1,17 @@
-use Rattle.std.proofs.Common.{All, length, sym, subst}
-use Rattle.std.proofs.lemmas.List.Elements.{All-push}
-use Rattle.instgen_loop.specs.Lines.{IsWithin}
+use Rattle.std.proofs.Common.{◌++◌, ◌∷◌, [], ap, ◌∙◌, length}
+use Rattle.saturation_cert.specs.declared.member.Origin.{Origin}
+use Rattle.instgen_loop.specs.declared.event.Event.TheVariants.{Inferred}
+use Rattle.instgen_loop.proofs.Logged.{order_after_entry, entry_pushed}
 use Rattle.instgen_loop.proofs.event_log.EventLog.push_inferred.Goals as goal
 
 pub invariant_of-self-2 : goal.invariant_of-self-2
 invariant_of-self-2 c =
-    let within = IsWithin (length c.self.inside.flips.items) in
-    subst (All within) (sym c.in_ok-push.ensures.items) (All-push within c.self.inside.lines.items c.in_ok-line.line c.self.invariant (c.in_ok-line.ensures.within (length c.self.inside.flips.items)))
+    let a = c.self.inside in
+    order_after_entry (length a.flips.items) a.appended.items c.push.new.self.items c.in_ok-packed.packed a.solves.items c.in_ok-push.ensures.items c.self.invariant
+
+pub returns : goal.returns
+returns c =
+    let a = c.self.inside in
+    entry_pushed a.flips.items a.appended.items c.push.new.self.items c.in_ok-packed.packed (length a.flips.items) a.solves.items c.in_ok-push.ensures.items c.self.invariant
+    ∙ ap (λ js. js ++ Inferred c.in_ok-packed.packed ∷ []) c.self.view_is
+    ∙ ap (λ (o : Origin). c.args.self.now ++ Inferred o ∷ []) c.in_ok-packed.ensures
