@@ -6,7 +6,7 @@ use inst_logic::Memory;
 use saturation_cert::Origin;
 use std::marker::Model;
 
-// No literal that an inference can be at has this place: with one of its partner the entries would have too many.
+// No literal that an inference can be at has this place: the literals of its entries would have no room.
 const INPUT: u32 = 0xffff_ffff;
 
 /// An origin in sixteen bytes: its four numbers, or that of an input in the first place and no place in the second.
