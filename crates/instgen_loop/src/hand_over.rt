@@ -4,7 +4,7 @@ ghost use Rattle.std.specs.Prelude.{◌≡◌, map, IfOk};
 ghost use Rattle.instgen_loop.specs.Refuting.{member_of, remains_of, base_from};
 
 use crate::origin::PackedOrigin;
-use crate::start::Given;
+use crate::start::{Given, IdClauses, copied_clause, literals_after};
 use crate::state::Run;
 use indexmap::IndexMap;
 use inst_logic::{Memory, NameList, Problem};
@@ -12,7 +12,7 @@ use prop_logic::Solver;
 use saturation_cert::{Base, Member, MemberList};
 use std::alloc::Global;
 use std::mem::replace;
-use term_bank::{Bank, IdClause};
+use term_bank::{Bank, IdClause, IdClauseList};
 use term_index::PartnerIndex;
 
 /// What a run leaves to a certificate: its bank, its entries, and what it was given.
@@ -66,6 +66,18 @@ fn copied_names(alloc: Global, names: &NameList) -> Result<NameList, Memory>
     Ok(NameList::from(copy))
 }
 
+// The clauses as certificates have them.
+fn clause_list(alloc: Global, clauses: IdClauses) -> Result<IdClauseList, Memory>
+    ensures { IfOk result (λ list. list ≡ clauses) }
+{
+    let mut list = Vec::with_capacity(alloc, clauses.len())?;
+    for i in 0..clauses.len() {
+        let clause = copied_clause(alloc, literals_after(&clauses, i))?;
+        list.push(clause)?;
+    }
+    Ok(IdClauseList::from(list))
+}
+
 /// The base of a certificate: the run's entries become its members, and the run's bank is its bank.
 pub fn base_of(alloc: Global, p: &Problem, remains: Remains) -> Result<Base, Memory>
     ensures { IfOk result (λ b. b ≡ base_from p.now.names remains) }
@@ -76,12 +88,14 @@ pub fn base_of(alloc: Global, p: &Problem, remains: Remains) -> Result<Base, Mem
         given,
     } = remains;
     let members = members_of(alloc, clauses)?;
+    let inputs = clause_list(alloc, given.inputs)?;
     let names = copied_names(alloc, &p.names)?;
+    let axioms = clause_list(alloc, given.axioms)?;
     Ok(Base {
         bank,
-        inputs: given.inputs,
+        inputs,
         names,
-        axioms: given.axioms,
+        axioms,
         members,
     })
 }

@@ -149,8 +149,8 @@ fn run_with<S: Solver, I: PartnerIndex>(
 
 /// Runs the engine on the problem's clauses and their axioms of equality. The budget counts the symbols and variables of the
 /// entries that are appended; it does not count on problems without function symbols, where the entries are bounded anyway. There
-/// is room for 2^32 - 1 literals of entries, for as many changes of atoms over all solves, and for 2^31 different ground atoms:
-/// beyond that it wants memory.
+/// is room for 2^32 - 1 literals of the problem's clauses, for as many of their axioms and of entries, for as many changes of atoms
+/// over all solves, and for 2^31 different ground atoms: beyond that it wants memory.
 pub fn run<S: Solver, I: PartnerIndex>(
     alloc: Global,
     p: &Problem,

@@ -1,5 +1,5 @@
 // The start of a run: the problem's clauses and their axioms of equality go into its bank, and become its first entries.
-ghost use Rattle.std.specs.Prelude.{◌≡◌, ◌≤◌, ◌+◌, ◌++◌, ◌∷◌, [], List, All, length, map, false, IsTrue, IfOk, OnOk};
+ghost use Rattle.std.specs.Prelude.{◌≡◌, ◌<◌, ◌≤◌, ◌+◌, ◌++◌, ◌∷◌, [], List, All, length, map, slice_get, Some, false, IsTrue, IfOk, OnOk};
 ghost use Rattle.inst_logic.specs.declared.symbol.Sym.{Sym};
 ghost use Rattle.inst_logic.specs.Clauses.{TreeClause, IsCanonical};
 ghost use Rattle.inst_logic.specs.WellFormed.{AreFormedClauses, is_constant};
@@ -22,7 +22,7 @@ use crate::selection::Selection;
 use crate::state::{Run, make_entry};
 use clause_form::{clause_size, tautology};
 use equality_axioms::axioms_of;
-use flat_clauses::FlatClauses;
+use flat_clauses::{FlatClauses, FlatLists};
 use ground_abs::Abstraction;
 use indexmap::IndexMap;
 use inst_logic::{ClauseList, Memory, Problem, Sym};
@@ -30,16 +30,19 @@ use instgen_select::Queue;
 use prop_logic::{Solver, Valuation};
 use saturation_cert::Origin;
 use std::alloc::Global;
-use term_bank::{Bank, IdClause, IdClauseList};
+use term_bank::{Bank, IdClause, IdLiteral};
 use term_index::PartnerIndex;
 use unify_core::Bindings;
+
+/// Clauses over a bank, one after the other in one list of literals.
+pub type IdClauses = FlatLists<IdLiteral>;
 
 /// What certificates tell of the problem beside the names of its clauses: the clauses and their axioms of equality, over the bank
 /// of a run.
 #[derive(Drop)]
 pub struct Given {
-    pub inputs: IdClauseList,
-    pub axioms: IdClauseList,
+    pub inputs: IdClauses,
+    pub axioms: IdClauses,
 }
 
 fn no_entries<I: PartnerIndex>(alloc: Global, first: I) -> Entries<I>
@@ -91,24 +94,37 @@ pub fn new_run<S: Solver, I: PartnerIndex>(
 }
 
 // The clauses with the id of each atom in its place.
-fn interned(alloc: Global, bank: &mut Bank, clauses: &ClauseList) -> Result<IdClauseList, Memory>
+fn interned(alloc: Global, bank: &mut Bank, clauses: &ClauseList) -> Result<IdClauses, Memory>
     requires formed { AreFormed bank.old }
     requires clauses { AreFormedClauses clauses.now }
     ensures given { IfOk result (λ ids. AreGiven bank.new ids clauses.now) }
     ensures extends { Extends bank.old bank.new }
     ensures formed { AreFormed bank.new }
 {
-    let mut ids = IdClauseList::new(alloc);
+    let mut ids = IdClauses::new(alloc);
     for c in clauses.as_slice() {
-        ids.push(bank.clause(c)?)?;
+        let literals = bank.clause(c)?;
+        ids.push(literals.as_slice())?;
     }
     Ok(ids)
 }
 
-fn copied_clause(alloc: Global, c: &IdClause) -> Result<IdClause, Memory>
-    ensures { IfOk result (λ d. d ≡ c.now) }
+/// The literals of the clause after the first `count`.
+pub fn literals_after(clauses: &IdClauses, count: usize) -> &[IdLiteral]
+    requires { count < length clauses.now }
+    ensures { slice_get clauses.now count ≡ Some result.now }
 {
-    Ok(IdClause::from(Vec::from_slice(alloc, c.as_slice())?))
+    match clauses.get(count) {
+        Some(literals) => literals,
+        None => unreachable!(),
+    }
+}
+
+/// A clause of these literals, with no room for more.
+pub fn copied_clause(alloc: Global, literals: &[IdLiteral]) -> Result<IdClause, Memory>
+    ensures { IfOk result (λ c. c ≡ literals.now) }
+{
+    Ok(IdClause::from(Vec::from_slice(alloc, literals)?))
 }
 
 // The next number; want of memory past the last one.
@@ -123,30 +139,29 @@ fn next_number(k: usize) -> Result<usize, Memory>
 
 // Clause `k` becomes an entry, where it is no tautology and no variant of an entry.
 fn start_entry<S: Solver, I: PartnerIndex>(
-    alloc: Global,
     run: &mut Run<S, I>,
-    clause: &IdClause,
+    clause: IdClause,
     k: usize,
 ) -> Result<(), Memory>
     requires safe { IsSafe S.atoms I.pairs I.fits run.old }
-    requires whole { IsWholeClause run.old.entries.bank clause.now }
-    requires canonical { IsCanonical (clause_at run.old.entries.bank clause.now) }
-    requires bounded { length clause.now ≤ run.old.entries.longest }
+    requires whole { IsWholeClause run.old.entries.bank clause }
+    requires canonical { IsCanonical (clause_at run.old.entries.bank clause) }
+    requires bounded { length clause ≤ run.old.entries.longest }
     ensures safe { OnOk result (IsSafe S.atoms I.pairs I.fits run.new) }
     ensures continues { OnOk result (Continues run.old run.new) }
 
-    ensures started { OnOk result ((cs : List TreeClause) → k ≡ length cs + 1 → IsStarted S.atoms S.added run.old cs → IsStarted S.atoms S.added run.new (cs ++ clause_at run.old.entries.bank clause.now ∷ [])) }
+    ensures started { OnOk result ((cs : List TreeClause) → k ≡ length cs + 1 → IsStarted S.atoms S.added run.old cs → IsStarted S.atoms S.added run.new (cs ++ clause_at run.old.entries.bank clause ∷ [])) }
 {
     // So a variant has an equal key.
     run.entries.bank.distinct();
-    if tautology(clause) {
+    if tautology(&clause) {
         return Ok(());
     }
-    if run.entries.clauses.contains_key(clause) {
+    if run.entries.clauses.contains_key(&clause) {
         return Ok(());
     }
-    let size = clause_size(&run.entries.bank, clause);
-    make_entry(run, copied_clause(alloc, clause)?, Origin::Input(k), size)?;
+    let size = clause_size(&run.entries.bank, &clause);
+    make_entry(run, clause, Origin::Input(k), size)?;
     Ok(())
 }
 
@@ -154,7 +169,7 @@ fn start_entry<S: Solver, I: PartnerIndex>(
 fn start_entries<S: Solver, I: PartnerIndex>(
     alloc: Global,
     run: &mut Run<S, I>,
-    clauses: &IdClauseList,
+    clauses: &IdClauses,
     before: usize,
 ) -> Result<(), Memory>
     requires safe { IsSafe S.atoms I.pairs I.fits run.old }
@@ -167,9 +182,10 @@ fn start_entries<S: Solver, I: PartnerIndex>(
     ensures started { OnOk result ((cs : List TreeClause) → before ≡ length cs → IsStarted S.atoms S.added run.old cs → IsStarted S.atoms S.added run.new (cs ++ map (clause_at run.old.entries.bank) clauses.now)) }
 {
     let mut k = before;
-    for c in clauses.as_slice() {
+    for i in 0..clauses.len() {
         k = next_number(k)?;
-        start_entry(alloc, run, c, k)?;
+        let clause = copied_clause(alloc, literals_after(clauses, i))?;
+        start_entry(run, clause, k)?;
     }
     Ok(())
 }
@@ -198,13 +214,13 @@ fn given_in(alloc: Global, bank: &mut Bank, p: &Problem) -> Result<Given, Memory
 }
 
 // The greatest number of literals that one of the clauses has, or `least` where that is more.
-fn longest(clauses: &IdClauseList, least: usize) -> usize
+fn longest(clauses: &IdClauses, least: usize) -> usize
     ensures least { least ≤ result }
     ensures each { All (λ c. length c ≤ result) clauses.now }
 {
     let mut longest = least;
-    for c in clauses.as_slice() {
-        longest = greater(longest, c.len());
+    for i in 0..clauses.len() {
+        longest = greater(longest, literals_after(clauses, i).len());
     }
     longest
 }

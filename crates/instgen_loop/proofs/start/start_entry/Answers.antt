@@ -1,11 +1,7 @@
-use Rattle.std.proofs.Common.{◌≡◌, inl, inr, true, false, nat_eq, sym, subst, List, ℕ, Contains}
+use Rattle.std.proofs.Common.{◌≡◌, inl, inr, true, false, nat_eq}
 use Rattle.std.proofs.lemmas.Bool.Decides.{Decides-eqb}
 use Rattle.inst_logic.specs.EqualLaws.{signed_eq_decides}
-use Rattle.inst_logic.specs.declared.signed.Signed.{Signed}
 use Rattle.term_bank.specs.Forest.{clause_at}
-use Rattle.saturation_cert.specs.declared.member.Origin.TheVariants.{Input}
-use Rattle.instgen_loop.specs.Clauses.{Item}
-use Rattle.instgen_loop.specs.FirstEntries.{MakesEntry}
 use Rattle.instgen_loop.proofs.Covers.{has_key}
 use Rattle.instgen_loop.proofs.FirstEntries.{known_clause, new_clause, passes_over, takes}
 use Rattle.instgen_loop.proofs.start.start_entry.Goals as goal
@@ -13,28 +9,26 @@ use Rattle.instgen_loop.proofs.start.start_entry.Goals as goal
 pub returns-then-tautology-clause-started : goal.returns-then-tautology-clause-started
 returns-then-tautology-clause-started g c = λ cs n h.
     let f = c.args.run.now.entries.bank in
-    passes_over g.S.Solver.atoms g.S.Solver.added c.args.run.now cs (clause_at f c.args.clause.now) (inl ((c.tautology.ensures.trees f c.distinct.ensures c.requires.whole.ids).0 c.if-tautology.true)) h
+    passes_over g.S.Solver.atoms g.S.Solver.added c.args.run.now cs (clause_at f c.args.clause) (inl ((c.tautology.ensures.trees f c.distinct.ensures c.requires.whole.ids).0 c.if-tautology.true)) h
 
 pub returns-then-contains_key-clause-started : goal.returns-then-contains_key-clause-started
 returns-then-contains_key-clause-started g c = λ cs n h.
     let f = c.args.run.now.entries.bank in
     let es = c.args.run.now.entries.clauses.entries in
-    let d = c.args.clause.now in
+    let d = c.args.clause in
     let (e, i, p) = (has_key _ (signed_eq_decides nat_eq Decides-eqb) es d c.contains_key.result c.contains_key.ensures).0 c.if-contains_key.true in
     passes_over g.S.Solver.atoms g.S.Solver.added c.args.run.now cs (clause_at f d) (inr (known_clause f es d e i p c.requires.canonical)) h
 
 pub make_entry-requires-clause-new : goal.make_entry-requires-clause-new
 make_entry-requires-clause-new g c =
-    subst (λ (d : List (Signed ℕ)). (e : Item) → Contains c.args.run.now.entries.clauses.entries e → ¬ (e.0 ≡ d)) (sym c.in_ok-copied_clause.ensures)
-    ((has_key _ (signed_eq_decides nat_eq Decides-eqb) c.args.run.now.entries.clauses.entries c.args.clause.now c.contains_key.result c.contains_key.ensures).1 c.if-contains_key.false)
+    (has_key _ (signed_eq_decides nat_eq Decides-eqb) c.args.run.now.entries.clauses.entries c.args.clause c.contains_key.result c.contains_key.ensures).1 c.if-contains_key.false
 
 pub returns-clause-started : goal.returns-clause-started
 returns-clause-started g c = λ cs n h.
     let run = c.args.run.now in
     let f = run.entries.bank in
-    let d = c.args.clause.now in
-    let makes = subst (λ (x : List (Signed ℕ)). MakesEntry run c.make_entry.new.run x (Input c.args.k)) c.in_ok-copied_clause.ensures c.in_ok-make_entry.ensures.makes in
-    takes g.S.Solver.atoms g.S.Solver.added run c.make_entry.new.run d c.args.k cs makes c.in_ok-make_entry.ensures.linked c.requires.safe.entries c.requires.whole.ids c.requires.canonical
+    let d = c.args.clause in
+    takes g.S.Solver.atoms g.S.Solver.added run c.make_entry.new.run d c.args.k cs c.in_ok-make_entry.ensures.makes c.in_ok-make_entry.ensures.linked c.requires.safe.entries c.requires.whole.ids c.requires.canonical
     (λ t. let u : c.tautology.result ≡ true = (c.tautology.ensures.trees f c.distinct.ensures c.requires.whole.ids).1 t in let w : c.tautology.result ≡ false = c.if-tautology.false in cc)
     (new_clause f run.entries.clauses.entries d c.distinct.ensures c.requires.safe.entries c.requires.whole.ids c.requires.canonical
     ((has_key _ (signed_eq_decides nat_eq Decides-eqb) run.entries.clauses.entries d c.contains_key.result c.contains_key.ensures).1 c.if-contains_key.false)) n h
