@@ -56,7 +56,7 @@ fn filled(
     stored: usize,
     rounds: usize,
 ) -> Result<usize, Memory>
-    requires empty { index.old ≡ record { edges = []; spans = []; places = []; nodes = []; found = []; spent = false } }
+    requires empty { index.old ≡ record { edges = []; places = record { ends = []; spans = [] }; nodes = []; found = []; spent = false } }
     requires ids { AreIds bank.now terms.now.all.items }
 {
     let mut places = terms.atoms.clone()?;
@@ -76,7 +76,7 @@ fn filled_in_bank(
     stored: usize,
     rounds: usize,
 ) -> Result<usize, Memory>
-    requires empty { index.old ≡ record { edges = []; spans = []; places = []; nodes = []; found = []; spent = false } }
+    requires empty { index.old ≡ record { edges = []; places = record { ends = []; spans = [] }; nodes = []; found = []; spent = false } }
 {
     let mut terms = no_terms(alloc);
     terms_of_kind(alloc, bank, &mut terms, kind, constants)?;

@@ -142,7 +142,7 @@ fn wide(
     bindings: &mut Bindings,
     index: &mut Tree,
 ) -> Result<bool, Memory>
-    requires { index.old ≡ record { edges = []; spans = []; places = []; nodes = []; found = []; spent = false } }
+    requires { index.old ≡ record { edges = []; places = record { ends = []; spans = [] }; nodes = []; found = []; spent = false } }
 {
     let rows = [
         row(6, View::Unifiable, [1, 2, 4, 0]),
@@ -210,7 +210,7 @@ fn one_of_many(
     bindings: &mut Bindings,
     index: &mut Tree,
 ) -> Result<bool, Fail>
-    requires { index.old ≡ record { edges = []; spans = []; places = []; nodes = []; found = []; spent = false } }
+    requires { index.old ≡ record { edges = []; places = record { ends = []; spans = [] }; nodes = []; found = []; spent = false } }
 {
     let rows = [
         row(14, View::Unifiable, [7, 0, 0, 0]),
@@ -280,7 +280,7 @@ fn shared(
     bindings: &mut Bindings,
     index: &mut Tree,
 ) -> Result<bool, Memory>
-    requires { index.old ≡ record { edges = []; spans = []; places = []; nodes = []; found = []; spent = false } }
+    requires { index.old ≡ record { edges = []; places = record { ends = []; spans = [] }; nodes = []; found = []; spent = false } }
 {
     let rows = [
         row(69, View::Unifiable, [1, 2, 0, 0]),
@@ -313,7 +313,7 @@ fn trial_in_bank(
     index: &mut Tree,
     trial: Trial,
 ) -> Result<bool, Fail>
-    requires { index.old ≡ record { edges = []; spans = []; places = []; nodes = []; found = []; spent = false } }
+    requires { index.old ≡ record { edges = []; places = record { ends = []; spans = [] }; nodes = []; found = []; spent = false } }
 {
     let mut bank = Bank::new(alloc);
     tried(alloc, &mut bank, bindings, index, trial)
@@ -326,7 +326,7 @@ fn tried(
     index: &mut Tree,
     trial: Trial,
 ) -> Result<bool, Fail>
-    requires { index.old ≡ record { edges = []; spans = []; places = []; nodes = []; found = []; spent = false } }
+    requires { index.old ≡ record { edges = []; places = record { ends = []; spans = [] }; nodes = []; found = []; spent = false } }
 {
     match trial {
         Trial::Wide => Ok(wide(alloc, bank, bindings, index)?),
@@ -336,7 +336,7 @@ fn tried(
 }
 
 fn trial_holds(alloc: Global, index: &mut Tree, trial: Trial) -> Result<bool, Fail>
-    requires { index.old ≡ record { edges = []; spans = []; places = []; nodes = []; found = []; spent = false } }
+    requires { index.old ≡ record { edges = []; places = record { ends = []; spans = [] }; nodes = []; found = []; spent = false } }
 {
     let mut bindings = Bindings::new(alloc);
     trial_in_bank(alloc, &mut bindings, index, trial)
