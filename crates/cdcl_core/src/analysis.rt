@@ -17,7 +17,7 @@ use crate::log::Log;
 use crate::marks::Marks;
 use crate::places::Places;
 use cdcl_trail::Trail;
-use flat_clauses::Literals;
+use compact_lists::Literals;
 use inst_logic::Memory;
 use prop_logic::{Hint, Lit, complement};
 use std::alloc::Global;

@@ -12,7 +12,7 @@ ghost use Rattle.cdcl_trail.specs.Propagation.{GivesUnit};
 ghost use Rattle.cdcl_core.specs.Log.{IsNamed};
 
 use crate::names::Names;
-use flat_clauses::{FlatClauses, Literals, PackedLit};
+use compact_lists::{FlatClauses, Literals, PackedLit};
 use inst_logic::Memory;
 use prop_logic::{Derivation, Hint, HintList, Lit, LitList, Step};
 use std::alloc::Global;

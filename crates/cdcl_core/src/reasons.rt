@@ -8,7 +8,7 @@ ghost use Rattle.cdcl_core.specs.Analysis.{IsReady};
 use crate::log::Log;
 use crate::marks::Marks;
 use cdcl_trail::Trail;
-use flat_clauses::Literals;
+use compact_lists::Literals;
 use prop_logic::Lit;
 
 // Marks the atoms of the clause that aren't, which raises them.

@@ -27,7 +27,7 @@ use crate::phases::Phases;
 use crate::reasons::mark_reasons;
 use crate::units::unite_all;
 use cdcl_trail::{Clauses, Trail};
-use flat_clauses::Literals;
+use compact_lists::Literals;
 use inst_logic::Memory;
 use prop_logic::{Answer, Derivation, Hint, HintList, Lit, LitList, Step, complement, complements};
 use std::alloc::Global;

@@ -5,8 +5,8 @@ ghost use Rattle.cdcl_trail.specs.Watch.{slot_of};
 
 use crate::packed_watch::PackedWatch;
 use crate::watch::Watch;
+use compact_lists::ShortList;
 use inst_logic::Memory;
-use short_lists::ShortList;
 use std::alloc::Global;
 use std::marker::Model;
 

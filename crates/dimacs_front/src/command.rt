@@ -13,9 +13,8 @@ use crate::error::DimacsError;
 use crate::file::SatError;
 use crate::sat::answer_file;
 use itoa::Buffer;
-use outside_io::{Library, Sink, Trouble, write_all};
+use outside_io::{Library, Sink, Trouble, write_all, write_pieces};
 use std::alloc::Global;
-use whole_file::write_pieces;
 
 /// How the command ends.
 #[derive(Clone, Copy, Debug, PartialEq, Eq)]

@@ -8,7 +8,7 @@ use inst_logic::{Memory, Problem};
 use instgen_loop::{Outcome, run};
 use outside_io::Library;
 use std::alloc::Global;
-use term_tree::Tree;
+use term_index::Tree;
 use tptp_load::load;
 
 #[tactic(auto, using(std::proofs::lemmas::Grind::common_steps, worked_engine::proofs::Printable::printable_clauses, worked_engine::proofs::Printable::readable_names))]

@@ -1,14 +1,13 @@
 // A tree that is filled and asked.
 ghost use Rattle.std.specs.Prelude.{◌≡◌, ◌<◌, [], length, false};
 ghost use Rattle.term_bank.specs.Forest.{AreIds};
-ghost use Rattle.term_tree.specs.State.{Fits};
+ghost use Rattle.term_index.specs.State.{Fits};
 
 use crate::atoms::{Kind, Terms, no_terms, terms_of_kind};
 use inst_logic::Memory;
 use std::alloc::Global;
 use term_bank::{Bank, TermId};
-use term_index::{View, candidates};
-use term_tree::Tree;
+use term_index::{Tree, View, candidates};
 use worked_index::building::{store_all, terms_of};
 
 // How many entries the query is given.

@@ -6,7 +6,7 @@ ghost use Rattle.instgen_select.specs.Choices.{IsTrueAt};
 ghost use Rattle.instgen_loop.specs.Solves.{IsTrueEntry};
 
 use crate::ground::clause_after;
-use flat_clauses::{FlatClauses, PackedLit};
+use compact_lists::{FlatClauses, PackedLit};
 use inst_logic::Memory;
 use instgen_select::choose_among;
 use prop_logic::{Answer, Solver, Valuation};

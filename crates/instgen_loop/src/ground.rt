@@ -8,7 +8,7 @@ ghost use Rattle.term_bank.specs.Forest.{Extends, AreFormed, IsClauseOf, clause_
 ghost use Rattle.ground_abs.specs.Abstracts.{AreAtomsIn, AreNotesIn, Grows};
 ghost use Rattle.instgen_loop.specs.Grounds.{IsLinked};
 
-use flat_clauses::{FlatClauses, PackedLit};
+use compact_lists::{FlatClauses, PackedLit};
 use ground_abs::Abstraction;
 use inst_logic::Memory;
 use prop_logic::{Solver, Valuation, make_atoms};

@@ -17,7 +17,7 @@ use crate::hand_over::{Remains, base_of, hand_over};
 use crate::start::Given;
 use crate::state::Run;
 use crate::steps::{ground_clauses, ground_steps};
-use flat_clauses::FlatClauses;
+use compact_lists::FlatClauses;
 use ground_abs::{Abstraction, bot_of};
 use inst_logic::{Memory, Problem};
 use prop_logic::{Derivation, Solver};

@@ -17,7 +17,7 @@ use crate::selection::{Chosen, chosen_literal};
 use crate::state::Run;
 use crate::work::selected_atom;
 use clause_form::clause_size;
-use flat_clauses::{FlatClauses, PackedLit};
+use compact_lists::{FlatClauses, PackedLit};
 use inst_logic::Memory;
 use prop_logic::{Solver, Valuation};
 use std::alloc::Global;

@@ -7,11 +7,10 @@ ghost use Rattle.instgen_select.specs.Choices.{IsTrueAt};
 ghost use Rattle.instgen_loop.specs.Choosing.{IsChoice, AreUsersKept};
 
 use crate::small::small;
-use flat_clauses::PackedLit;
+use compact_lists::{PackedLit, ShortList};
 use inst_logic::{Memory, PlaceList};
 use instgen_select::choose_among;
 use prop_logic::Valuation;
-use short_lists::ShortList;
 use std::alloc::Global;
 use std::marker::Model;
 use std::mem::replace;

@@ -21,7 +21,7 @@ use crate::queue::Partners;
 use crate::reselect::reselect_all;
 use crate::selection::{Selection, chosen_literal};
 use crate::state::Run;
-use flat_clauses::FlatClauses;
+use compact_lists::FlatClauses;
 use inst_logic::Memory;
 use prop_logic::{Answer, Derivation, Solver, Valuation};
 use std::alloc::Global;

@@ -6,7 +6,7 @@ ghost use Rattle.ground_abs.specs.Numbers.{named};
 ghost use Rattle.instgen_loop.specs.Refuting.{ground_clause, ground_hint, ground_step};
 
 use crate::ground::clause_after;
-use flat_clauses::{FlatClauses, Literals};
+use compact_lists::{FlatClauses, Literals};
 use ground_abs::{Abstraction, add_literal};
 use indexmap::IndexSet;
 use inst_logic::Memory;

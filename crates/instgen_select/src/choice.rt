@@ -4,7 +4,7 @@ ghost use Rattle.inst_logic.specs.Truth.{IsTrueLiteral};
 ghost use Rattle.prop_logic.specs.Valuation.{IsHeld};
 ghost use Rattle.instgen_select.specs.Choices.{IsTrueAt, IsChosen};
 
-use flat_clauses::{Literals, PackedLit};
+use compact_lists::{Literals, PackedLit};
 use prop_logic::{Lit, LitList, Valuation};
 
 fn is_true(l: Lit, v: &Valuation) -> bool

@@ -4,3 +4,4 @@ pub mod Files
 pub mod InMemory
 pub mod RealFiles
 pub mod Taken
+pub mod WholeFiles

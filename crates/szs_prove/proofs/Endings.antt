@@ -12,22 +12,22 @@ use Rattle.tptp_load.specs.declared.error.LoadError.TheVariants as load
 use Rattle.inst_logic.specs.Tree.{Tree}
 use Rattle.inst_logic.specs.declared.memory.Memory.{Memory as OutOfMemory}
 use Rattle.inst_logic.specs.declared.signed.Signed.{Signed}
-use Rattle.cert_judge.specs.Words.{judgement_line, reply_line}
-use Rattle.cert_judge.specs.declared.judgement.Judgement.{Judgement}
-use Rattle.cert_judge.specs.declared.judgement.Judgement.TheVariants as judgement
-use Rattle.cert_judge.specs.declared.reply.Reply.{Reply}
-use Rattle.cert_judge.specs.declared.reply.Reply.TheVariants as reply
-use Rattle.cert_judge.specs.declared.words.Form.{Form}
-use Rattle.chain_stress.specs.Sizes.{IsRefutedIn}
-use Rattle.chain_stress.specs.Words.{size_lines}
-use Rattle.chain_stress.specs.declared.sizes.Size.{Size}
-use Rattle.check_front.specs.Checks.{IsCheckFault, IsJudged}
-use Rattle.check_front.specs.Queries.{IsAskFault, IsReplied}
-use Rattle.check_front.specs.Texts.{fault_text, told_text}
-use Rattle.check_front.specs.declared.check.CheckFault.{CheckFault}
-use Rattle.check_front.specs.declared.check.CheckFault.TheVariants as unjudged
-use Rattle.check_front.specs.declared.fault.CertFault.{CertFault}
-use Rattle.check_front.specs.declared.fault.CertFault.TheVariants as cert
+use Rattle.cert_front.specs.Words.{judgement_line, reply_line}
+use Rattle.cert_front.specs.declared.judgement.Judgement.{Judgement}
+use Rattle.cert_front.specs.declared.judgement.Judgement.TheVariants as judgement
+use Rattle.cert_front.specs.declared.reply.Reply.{Reply}
+use Rattle.cert_front.specs.declared.reply.Reply.TheVariants as reply
+use Rattle.cert_front.specs.declared.words.Form.{Form}
+use Rattle.szs_prove.specs.Sizes.{IsRefutedIn}
+use Rattle.szs_prove.specs.SizeWords.{size_lines}
+use Rattle.szs_prove.specs.declared.sizes.Size.{Size}
+use Rattle.cert_front.specs.Checks.{IsCheckFault, IsJudged}
+use Rattle.cert_front.specs.Queries.{IsAskFault, IsReplied}
+use Rattle.cert_front.specs.Texts.{fault_text, told_text}
+use Rattle.cert_front.specs.declared.check.CheckFault.{CheckFault}
+use Rattle.cert_front.specs.declared.check.CheckFault.TheVariants as unjudged
+use Rattle.cert_front.specs.declared.fault.CertFault.{CertFault}
+use Rattle.cert_front.specs.declared.fault.CertFault.TheVariants as cert
 use Rattle.command_words.specs.Asked.{Asked, prove, sat, check, ask, stress, IsAsked, IsUnread, name_of}
 use Rattle.dimacs_front.specs.Command.{status_line}
 use Rattle.dimacs_front.specs.Command as dimacs

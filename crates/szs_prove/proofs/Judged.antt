@@ -4,19 +4,19 @@ use Rattle.std.specs.Prelude.{Ok, Err}
 use Rattle.inst_logic.specs.Tree.{Tree}
 use Rattle.inst_logic.specs.declared.memory.Memory.{Memory as OutOfMemory}
 use Rattle.inst_logic.specs.declared.signed.Signed.{Signed}
-use Rattle.cert_judge.specs.Words.{judgement_line, reply_line}
-use Rattle.cert_judge.specs.declared.judgement.Judgement.{Judgement}
-use Rattle.cert_judge.specs.declared.reply.Reply.{Reply}
-use Rattle.cert_judge.specs.declared.words.Form.{Form}
-use Rattle.chain_stress.specs.Sizes.{IsRefutedIn}
-use Rattle.chain_stress.specs.Words.{size_lines}
-use Rattle.chain_stress.specs.declared.sizes.Size.{Size}
-use Rattle.check_front.specs.Checks.{IsCheckFault, IsJudged}
-use Rattle.check_front.specs.Queries.{IsAskFault, IsReplied}
-use Rattle.check_front.specs.Texts.{fault_text}
-use Rattle.check_front.specs.declared.check.CheckFault.{CheckFault}
-use Rattle.check_front.specs.declared.check.CheckFault.TheVariants as unjudged
-use Rattle.check_front.specs.declared.fault.CertFault.{CertFault}
+use Rattle.cert_front.specs.Words.{judgement_line, reply_line}
+use Rattle.cert_front.specs.declared.judgement.Judgement.{Judgement}
+use Rattle.cert_front.specs.declared.reply.Reply.{Reply}
+use Rattle.cert_front.specs.declared.words.Form.{Form}
+use Rattle.szs_prove.specs.Sizes.{IsRefutedIn}
+use Rattle.szs_prove.specs.SizeWords.{size_lines}
+use Rattle.szs_prove.specs.declared.sizes.Size.{Size}
+use Rattle.cert_front.specs.Checks.{IsCheckFault, IsJudged}
+use Rattle.cert_front.specs.Queries.{IsAskFault, IsReplied}
+use Rattle.cert_front.specs.Texts.{fault_text}
+use Rattle.cert_front.specs.declared.check.CheckFault.{CheckFault}
+use Rattle.cert_front.specs.declared.check.CheckFault.TheVariants as unjudged
+use Rattle.cert_front.specs.declared.fault.CertFault.{CertFault}
 use Rattle.tptp_load.specs.declared.error.LoadError.{LoadError}
 use Rattle.command_words.specs.Asked.{check, ask, stress, IsAsked}
 use Rattle.szs_prove.specs.Answered.{Answered, Writing}

@@ -1,6 +1,11 @@
 pub mod AskedAtoms
+pub mod ChainClauses
+pub mod ChainModels
+pub mod CheckedDecisions
+pub mod Decided
 pub mod Endings
 pub mod Judged
+pub mod Loaded
 pub mod Pieces
 pub mod Proved
 pub mod Situated

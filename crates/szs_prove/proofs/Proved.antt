@@ -10,10 +10,10 @@ use Rattle.saturation_cert.specs.declared.certificate.Refutation.{Refutation}
 use Rattle.saturation_cert.specs.declared.certificate.Saturation.{Saturation}
 use Rattle.saturation_cert.specs.Values.{refutation_of, saturation_of}
 use Rattle.command_words.specs.Asked.{prove, IsAsked}
-use Rattle.szs_decide.specs.Decisions.{IsDecision, IsRefutedBy, IsSatisfiedBy}
-use Rattle.szs_decide.specs.declared.decision.Decision.{Decision}
-use Rattle.szs_decide.specs.declared.decision.Decision.TheVariants as decision
-use Rattle.szs_decide.specs.declared.decision.Decision.TheVariants.{Unsatisfiable, Satisfiable}
+use Rattle.szs_prove.specs.Decisions.{IsDecision, IsRefutedBy, IsSatisfiedBy}
+use Rattle.szs_prove.specs.declared.decision.Decision.{Decision}
+use Rattle.szs_prove.specs.declared.decision.Decision.TheVariants as decision
+use Rattle.szs_prove.specs.declared.decision.Decision.TheVariants.{Unsatisfiable, Satisfiable}
 use Rattle.szs_prove.specs.Answered.{Answered, HasVerdict, Writing}
 use Rattle.szs_prove.specs.Answers.{IsProblemOf, IsRefusal, Reading, verdict, refusal}
 use Rattle.szs_prove.specs.Proving.{HasCertificate, IsUndecided}

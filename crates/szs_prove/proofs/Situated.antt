@@ -11,16 +11,16 @@ use Rattle.tptp_load.specs.declared.error.LoadError.TheVariants as load
 use Rattle.inst_logic.specs.Tree.{Tree}
 use Rattle.inst_logic.specs.declared.memory.Memory.{Memory as OutOfMemory}
 use Rattle.inst_logic.specs.declared.signed.Signed.{Signed}
-use Rattle.cert_judge.specs.declared.judgement.Judgement.{Judgement}
-use Rattle.cert_judge.specs.declared.reply.Reply.{Reply}
-use Rattle.cert_judge.specs.declared.words.Form.{Form}
-use Rattle.chain_stress.specs.declared.sizes.Size.{Size}
-use Rattle.check_front.specs.Checks.{HasCertificate, IsCheckFault, IsFound, IsJudged, IsProblemFault}
-use Rattle.check_front.specs.Queries.{IsAskFault, IsFoundReply, IsReplied}
-use Rattle.check_front.specs.declared.check.CheckFault.{CheckFault}
-use Rattle.check_front.specs.declared.check.CheckFault.TheVariants as unjudged
-use Rattle.check_front.specs.declared.fault.CertFault.{CertFault}
-use Rattle.check_front.specs.declared.fault.CertFault.TheVariants as bad
+use Rattle.cert_front.specs.declared.judgement.Judgement.{Judgement}
+use Rattle.cert_front.specs.declared.reply.Reply.{Reply}
+use Rattle.cert_front.specs.declared.words.Form.{Form}
+use Rattle.szs_prove.specs.declared.sizes.Size.{Size}
+use Rattle.cert_front.specs.Checks.{HasCertificate, IsCheckFault, IsFound, IsJudged, IsProblemFault}
+use Rattle.cert_front.specs.Queries.{IsAskFault, IsFoundReply, IsReplied}
+use Rattle.cert_front.specs.declared.check.CheckFault.{CheckFault}
+use Rattle.cert_front.specs.declared.check.CheckFault.TheVariants as unjudged
+use Rattle.cert_front.specs.declared.fault.CertFault.{CertFault}
+use Rattle.cert_front.specs.declared.fault.CertFault.TheVariants as bad
 use Rattle.command_words.specs.Asked.{Asked, prove, sat, check, ask, stress, IsAsked, IsUnread}
 use Rattle.dimacs_front.specs.Answers.{IsModel}
 use Rattle.dimacs_front.specs.Command as dimacs

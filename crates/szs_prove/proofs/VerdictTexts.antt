@@ -19,19 +19,19 @@ use Rattle.cert_format.specs.LineTexts.{line_text}
 use Rattle.cert_format.specs.Printable.{HasFormat, IsTextName}
 use Rattle.cert_format.specs.ValueLines.{constant_lines, is_refutation, item_lines, items_of}
 use Rattle.cert_format.proofs.LineTexts.{text_is}
-use Rattle.cert_judge.specs.Words.{judgement_line, reply_line}
-use Rattle.cert_judge.specs.declared.judgement.Judgement.{Judgement}
-use Rattle.cert_judge.specs.declared.judgement.Judgement.TheVariants as judgement
-use Rattle.cert_judge.specs.declared.reply.Reply.{Reply}
-use Rattle.cert_judge.specs.declared.reply.Reply.TheVariants as reply
-use Rattle.cert_judge.specs.declared.words.Form.{Form}
-use Rattle.chain_stress.specs.Words.{size_lines}
-use Rattle.chain_stress.specs.declared.sizes.Size.{Size}
-use Rattle.check_front.specs.Texts.{fault_text, told_text}
-use Rattle.check_front.specs.declared.check.CheckFault.{CheckFault}
-use Rattle.check_front.specs.declared.check.CheckFault.TheVariants as unjudged
-use Rattle.check_front.specs.declared.fault.CertFault.{CertFault}
-use Rattle.check_front.specs.declared.fault.CertFault.TheVariants as cert
+use Rattle.cert_front.specs.Words.{judgement_line, reply_line}
+use Rattle.cert_front.specs.declared.judgement.Judgement.{Judgement}
+use Rattle.cert_front.specs.declared.judgement.Judgement.TheVariants as judgement
+use Rattle.cert_front.specs.declared.reply.Reply.{Reply}
+use Rattle.cert_front.specs.declared.reply.Reply.TheVariants as reply
+use Rattle.cert_front.specs.declared.words.Form.{Form}
+use Rattle.szs_prove.specs.SizeWords.{size_lines}
+use Rattle.szs_prove.specs.declared.sizes.Size.{Size}
+use Rattle.cert_front.specs.Texts.{fault_text, told_text}
+use Rattle.cert_front.specs.declared.check.CheckFault.{CheckFault}
+use Rattle.cert_front.specs.declared.check.CheckFault.TheVariants as unjudged
+use Rattle.cert_front.specs.declared.fault.CertFault.{CertFault}
+use Rattle.cert_front.specs.declared.fault.CertFault.TheVariants as cert
 use Rattle.dimacs_front.specs.Command.{status_line}
 use Rattle.dimacs_front.specs.Command as dimacs
 use Rattle.dimacs_front.specs.Files.{IsOutcome}

@@ -8,15 +8,15 @@ use Rattle.outside_io.specs.declared.library.NamedFile.{NamedFile}
 use Rattle.cert_format.specs.Certificate.{Certificate}
 use Rattle.cert_format.specs.Text.{certificate_text}
 use Rattle.cert_format.specs.ValueLines.{IsCertificateText}
-use Rattle.cert_judge.specs.Words.{judgement_line, reply_line}
-use Rattle.cert_judge.specs.declared.judgement.Judgement.{Judgement}
-use Rattle.cert_judge.specs.declared.reply.Reply.{Reply}
-use Rattle.cert_judge.specs.declared.words.Form.{Form}
-use Rattle.chain_stress.specs.Sizes.{IsRefutedIn}
-use Rattle.chain_stress.specs.Words.{size_lines}
-use Rattle.chain_stress.specs.declared.sizes.Size.{Size}
-use Rattle.check_front.specs.Checks.{IsJudged}
-use Rattle.check_front.specs.Queries.{IsReplied}
+use Rattle.cert_front.specs.Words.{judgement_line, reply_line}
+use Rattle.cert_front.specs.declared.judgement.Judgement.{Judgement}
+use Rattle.cert_front.specs.declared.reply.Reply.{Reply}
+use Rattle.cert_front.specs.declared.words.Form.{Form}
+use Rattle.szs_prove.specs.Sizes.{IsRefutedIn}
+use Rattle.szs_prove.specs.SizeWords.{size_lines}
+use Rattle.szs_prove.specs.declared.sizes.Size.{Size}
+use Rattle.cert_front.specs.Checks.{IsJudged}
+use Rattle.cert_front.specs.Queries.{IsReplied}
 use Rattle.command_words.specs.Asked.{Asked, prove, check, ask, stress, IsAsked, name_of}
 use Rattle.szs_prove.specs.Answers.{Answer, Reading, IsAnswer, IsVerdict, IsOutOfBudget, exit_for, text_for}
 use Rattle.szs_prove.specs.Texts.{judgement_exit, refusal_text, reply_exit}

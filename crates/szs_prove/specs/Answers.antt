@@ -10,24 +10,24 @@ use Rattle.cert_format.specs.Certificate.{Certificate}
 use Rattle.cert_format.specs.Certifies.{Certifies}
 use Rattle.cert_format.specs.Printable.{IsTextName}
 use Rattle.cert_format.specs.Text.{certificate_text}
-use Rattle.cert_judge.specs.Words.{judgement_line, reply_line}
-use Rattle.cert_judge.specs.declared.judgement.Judgement.{Judgement}
-use Rattle.cert_judge.specs.declared.reply.Reply.{Reply}
-use Rattle.cert_judge.specs.declared.words.Form.{Form}
-use Rattle.chain_stress.specs.Sizes.{IsRefutedIn}
-use Rattle.chain_stress.specs.Words.{size_lines}
-use Rattle.chain_stress.specs.declared.sizes.Size.{Size}
-use Rattle.check_front.specs.Checks.{IsCheckFault, IsJudged}
-use Rattle.check_front.specs.Queries.{IsAskFault, IsReplied}
-use Rattle.check_front.specs.Texts.{fault_text}
-use Rattle.check_front.specs.declared.check.CheckFault.{CheckFault}
-use Rattle.check_front.specs.declared.fault.CertFault.{CertFault}
+use Rattle.cert_front.specs.Words.{judgement_line, reply_line}
+use Rattle.cert_front.specs.declared.judgement.Judgement.{Judgement}
+use Rattle.cert_front.specs.declared.reply.Reply.{Reply}
+use Rattle.cert_front.specs.declared.words.Form.{Form}
+use Rattle.szs_prove.specs.Sizes.{IsRefutedIn}
+use Rattle.szs_prove.specs.SizeWords.{size_lines}
+use Rattle.szs_prove.specs.declared.sizes.Size.{Size}
+use Rattle.cert_front.specs.Checks.{IsCheckFault, IsJudged}
+use Rattle.cert_front.specs.Queries.{IsAskFault, IsReplied}
+use Rattle.cert_front.specs.Texts.{fault_text}
+use Rattle.cert_front.specs.declared.check.CheckFault.{CheckFault}
+use Rattle.cert_front.specs.declared.fault.CertFault.{CertFault}
 use Rattle.command_words.specs.Asked.{prove, sat, check, ask, stress, IsAsked, IsUnread}
 use Rattle.dimacs_front.specs.Files.{IsOutcome}
 use Rattle.dimacs_front.specs.Command as dimacs
 use Rattle.dimacs_front.specs.declared.answers.SatAnswer.{SatAnswer}
 use Rattle.dimacs_front.specs.declared.file.SatError.{SatError}
-use Rattle.szs_decide.specs.Decisions.{IsReplayed, IsStopped}
+use Rattle.szs_prove.specs.Decisions.{IsReplayed, IsStopped}
 use Rattle.szs_prove.specs.Texts.{exit_of, fault_exit, judgement_exit, refusal_text, reply_exit, sat_exit, unjudged_exit, unjudged_text}
 use Rattle.szs_prove.specs.declared.exit.Exit.{Exit}
 use Rattle.szs_prove.specs.declared.exit.Exit.TheVariants.{Decided, Usage, Memory}

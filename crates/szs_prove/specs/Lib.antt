@@ -1,7 +1,12 @@
 pub mod Answered
 pub mod Answers
+pub mod Chains
+pub mod Decisions
 pub mod Piece
+pub mod Problems
 pub mod Proving
 pub mod Situations
+pub mod SizeWords
+pub mod Sizes
 pub mod Texts
 pub mod Written

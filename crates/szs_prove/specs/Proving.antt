@@ -4,7 +4,7 @@ use Rattle.inst_logic.specs.declared.clause.Problem.{Problem}
 use Rattle.cert_format.specs.Certificate.{Certificate}
 use Rattle.cert_format.specs.Certifies.{Certifies}
 use Rattle.cert_format.specs.Text.{certificate_text}
-use Rattle.szs_decide.specs.Decisions.{IsReplayed, IsStopped}
+use Rattle.szs_prove.specs.Decisions.{IsReplayed, IsStopped}
 use Rattle.szs_prove.specs.declared.refusal.Refusal.{Refusal}
 use Rattle.szs_prove.specs.declared.refusal.Refusal.TheVariants.{Usage, Load, OutOfBudget, Memory}
 

@@ -8,13 +8,13 @@ use Rattle.tptp_load.specs.Problems.{Loads, Refuses}
 use Rattle.tptp_load.specs.declared.error.LoadError.{LoadError}
 use Rattle.inst_logic.specs.Tree.{Tree}
 use Rattle.inst_logic.specs.declared.signed.Signed.{Signed}
-use Rattle.cert_judge.specs.declared.judgement.Judgement.{Judgement}
-use Rattle.cert_judge.specs.declared.reply.Reply.{Reply}
-use Rattle.cert_judge.specs.declared.words.Form.{Form}
-use Rattle.check_front.specs.Checks.{IsFound}
-use Rattle.check_front.specs.Queries.{IsFoundReply}
-use Rattle.check_front.specs.declared.check.CheckFault.{CheckFault}
-use Rattle.check_front.specs.declared.fault.CertFault.{CertFault}
+use Rattle.cert_front.specs.declared.judgement.Judgement.{Judgement}
+use Rattle.cert_front.specs.declared.reply.Reply.{Reply}
+use Rattle.cert_front.specs.declared.words.Form.{Form}
+use Rattle.cert_front.specs.Checks.{IsFound}
+use Rattle.cert_front.specs.Queries.{IsFoundReply}
+use Rattle.cert_front.specs.declared.check.CheckFault.{CheckFault}
+use Rattle.cert_front.specs.declared.fault.CertFault.{CertFault}
 use Rattle.command_words.specs.Asked.{prove, sat, check, ask, stress, IsAsked, IsUnread}
 use Rattle.dimacs_front.specs.Answers.{IsModel}
 use Rattle.outside_io.specs.Files.{bytes_named}

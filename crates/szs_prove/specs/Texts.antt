@@ -7,15 +7,15 @@ use Rattle.tptp_read.specs.declared.text.ReadError.{ReadError}
 use Rattle.tptp_read.specs.declared.text.ReadError.TheVariants as text
 use Rattle.tptp_load.specs.declared.error.LoadError.{LoadError}
 use Rattle.tptp_load.specs.declared.error.LoadError.TheVariants as load
-use Rattle.cert_judge.specs.declared.judgement.Judgement.{Judgement}
-use Rattle.cert_judge.specs.declared.judgement.Judgement.TheVariants as judgement
-use Rattle.cert_judge.specs.declared.reply.Reply.{Reply}
-use Rattle.cert_judge.specs.declared.reply.Reply.TheVariants as reply
-use Rattle.check_front.specs.Texts.{fault_text}
-use Rattle.check_front.specs.declared.check.CheckFault.{CheckFault}
-use Rattle.check_front.specs.declared.check.CheckFault.TheVariants as unjudged
-use Rattle.check_front.specs.declared.fault.CertFault.{CertFault}
-use Rattle.check_front.specs.declared.fault.CertFault.TheVariants as fault
+use Rattle.cert_front.specs.declared.judgement.Judgement.{Judgement}
+use Rattle.cert_front.specs.declared.judgement.Judgement.TheVariants as judgement
+use Rattle.cert_front.specs.declared.reply.Reply.{Reply}
+use Rattle.cert_front.specs.declared.reply.Reply.TheVariants as reply
+use Rattle.cert_front.specs.Texts.{fault_text}
+use Rattle.cert_front.specs.declared.check.CheckFault.{CheckFault}
+use Rattle.cert_front.specs.declared.check.CheckFault.TheVariants as unjudged
+use Rattle.cert_front.specs.declared.fault.CertFault.{CertFault}
+use Rattle.cert_front.specs.declared.fault.CertFault.TheVariants as fault
 use Rattle.dimacs_front.specs.declared.command.SatExit.{SatExit}
 use Rattle.dimacs_front.specs.declared.command.SatExit.TheVariants as sat
 use Rattle.szs_prove.specs.declared.exit.Exit.{Exit}

@@ -3,8 +3,8 @@ ghost use Rattle.std.specs.Prelude.{◌≡◌, ℕ, List, true, option_map};
 ghost use Rattle.inst_logic.specs.LiteralView.{literal};
 ghost use Rattle.inst_logic.specs.WellFormed.{IsAtom};
 ghost use Rattle.term_bank.specs.Forest.{is_ground};
-ghost use Rattle.cert_judge.specs.Words.{judgement_line, reply_line};
-ghost use Rattle.check_front.specs.Texts.{fault_text};
+ghost use Rattle.cert_front.specs.Words.{judgement_line, reply_line};
+ghost use Rattle.cert_front.specs.Texts.{fault_text};
 ghost use Rattle.command_words.specs.Asked.{check as checking, ask as asking, IsAsked};
 ghost use Rattle.szs_prove.specs.Answered.{Answered, reading, writing};
 ghost use Rattle.szs_prove.specs.Texts.{fault_exit, judgement_exit, reply_exit, unjudged_exit, unjudged_text};
@@ -12,8 +12,10 @@ ghost use Rattle.szs_prove.specs.Written.{IsWritten};
 
 use crate::exit::{Exit, exit_of_fault, exit_of_judgement, exit_of_reply};
 use crate::refusal::{Refusal, exit_after, write_refusal};
-use cert_judge::{Form, Judgement, Reply, write_judgement, write_reply};
-use check_front::{CertFault, CheckFault, ask_file, check_file, write_fault};
+use cert_front::{
+    CertFault, CheckFault, Form, Judgement, Reply, ask_file, check_file, write_fault,
+    write_judgement, write_reply,
+};
 use inst_logic::Literal;
 use outside_io::{Library, Sink};
 use std::alloc::Global;

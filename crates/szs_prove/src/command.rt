@@ -13,7 +13,7 @@ use crate::check::{ask, check};
 use crate::exit::{Exit, exit_of_sat};
 use crate::prove::prove;
 use crate::refusal::{Refusal, exit_after, write_refusal};
-use check_front::{atoms_are_variable_free, findings_are_one};
+use cert_front::{atoms_are_variable_free, findings_are_one};
 use command_words::laws::{asked_budget, asked_length, asked_once};
 use command_words::{Request, read_words};
 use dimacs_front::sat_file;

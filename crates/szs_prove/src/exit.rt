@@ -2,8 +2,7 @@
 ghost use Rattle.std.specs.Prelude.{◌≡◌};
 ghost use Rattle.szs_prove.specs.Texts.{code_of, fault_exit, judgement_exit, reply_exit, sat_exit};
 
-use cert_judge::{Judgement, Reply};
-use check_front::CertFault;
+use cert_front::{CertFault, Judgement, Reply};
 use dimacs_front::SatExit;
 
 /// How the program ends.

@@ -1,14 +1,24 @@
-//! The top call of the program: reads the words, and the files that they name, decides or checks them, and writes the answer. What is
-//! proved of it is proved over any library and sink that keep the laws of their traits.
+//! The top call of the program: reads the words, and the files that they name, decides or checks them, and writes the answer. The
+//! engine runs on a problem with clause learning and discrimination trees, and the checker judges what the engine answers before
+//! anyone sees it: it finds nothing, and that it does not is proved here. What is proved of the top call is proved over any library
+//! and sink that keep the laws of their traits.
 #![tactic(auto)]
 
 mod chain;
+pub mod chain_examples;
+pub mod chain_laws;
+pub mod chain_problem;
 mod check;
 mod command;
+pub mod deciding;
+pub mod decision;
+pub mod decision_laws;
 mod exit;
 mod piece;
 mod prove;
 mod refusal;
+mod size_words;
+pub mod sizes;
 
 pub use command::run;
 pub use exit::Exit;

@@ -6,19 +6,19 @@ ghost use Rattle.cert_format.specs.Printable.{IsTextName};
 ghost use Rattle.cert_format.specs.Text.{certificate_text};
 ghost use Rattle.saturation_cert.specs.Values.{refutation_of, saturation_of};
 ghost use Rattle.tptp_load.specs.Problems.{IsGoodProblem};
-ghost use Rattle.szs_decide.specs.Decisions.{IsDecision};
+ghost use Rattle.szs_prove.specs.Decisions.{IsDecision};
 ghost use Rattle.szs_prove.specs.Answered.{HasVerdict, reading};
 ghost use Rattle.szs_prove.specs.Answers.{IsProblemOf, IsRefusal};
 ghost use Rattle.szs_prove.specs.Proving.{HasCertificate, IsUndecided};
 
+use crate::decision::{Decision, decide};
+use crate::decision_laws::loaded_problems_are_printable;
 use crate::refusal::Refusal;
 use cert_check::{CheckedRefutation, CheckedSaturation};
 use cert_text::{refutation_text, saturation_text};
 use inst_logic::{ByteList, Memory, Problem};
 use outside_io::Library;
 use std::alloc::Global;
-use szs_decide::laws::loaded_problems_are_printable;
-use szs_decide::{Decision, decide};
 use tptp_load::LoadError;
 
 // The problem of the file.

@@ -5,9 +5,8 @@ ghost use Rattle.tptp_load.specs.Reading.{IsHeld, IsUnread};
 
 use crate::error::LoadError;
 use inst_logic::ByteList;
-use outside_io::Library;
+use outside_io::{FileError, Library, read_whole};
 use std::alloc::Global;
-use whole_file::{FileError, read_whole};
 
 // The most bytes over all files.
 const LIMIT: usize = 16_777_216;

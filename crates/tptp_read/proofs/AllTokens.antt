@@ -1,7 +1,7 @@
 -- The tokens of a whole text, one after the other.
 use Rattle.std.proofs.Common.{◌≡◌, ℕ, ◌≤◌, List, [], ◌∷◌, length, drop, Option, Some, None, refl, sym, ap, subst, ◌∙◌, arith}
 use Rattle.std.proofs.Math.ListN.{drop_of_length-le}
-use Rattle.tptp_tokens.specs.Stream.{Tok, IsNext, IsEnd, IsDone}
+use Rattle.tptp_read.specs.Stream.{Tok, IsNext, IsEnd, IsDone}
 use Rattle.tptp_read.specs.Lexemes.{Begins}
 use Rattle.tptp_read.specs.Atoms.{AreTokens}
 use Rattle.tptp_read.proofs.ParseLaws.{some_is}

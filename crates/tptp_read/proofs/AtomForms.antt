@@ -5,7 +5,7 @@ use Rattle.std.specs.List.{list_any}
 use Rattle.inst_logic.specs.Tree.{Tree}
 use Rattle.inst_logic.specs.declared.signed.Signed.{Signed}
 use Rattle.inst_logic.specs.declared.clause.Literal.{Literal}
-use Rattle.tptp_tokens.specs.Stream.{Tok}
+use Rattle.tptp_read.specs.Stream.{Tok}
 use Rattle.tptp_read.specs.declared.stop.Stop.{Stop}
 use Rattle.tptp_read.specs.declared.stop.Stop.TheVariants as stops
 use Rattle.tptp_read.specs.Grammar.{Negated, no_atom, no_equation, in_parens, Simple, atom, equation, unequal, negated, simple_fits, simple}

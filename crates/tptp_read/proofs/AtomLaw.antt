@@ -4,7 +4,7 @@ use Rattle.std.specs.Prelude.{◌⊎◌}
 use Rattle.std.proofs.lemmas.Bool.{cases_lt}
 use Rattle.inst_logic.specs.Tree.{Tree}
 use Rattle.inst_logic.specs.declared.signed.Signed.{Signed}
-use Rattle.tptp_tokens.specs.Stream.{Tok, IsDone}
+use Rattle.tptp_read.specs.Stream.{Tok, IsDone}
 use Rattle.tptp_read.specs.declared.statement.Which.TheVariants.{Nesting, Arity}
 use Rattle.tptp_read.specs.Lexemes.{Begins}
 use Rattle.tptp_read.specs.Grammar.{Simple}

@@ -7,9 +7,9 @@ use Rattle.std.proofs.lemmas.List.{append-nil, append_cancel_right, take_all}
 use Rattle.inst_logic.specs.Tree.{Tree}
 use Rattle.inst_logic.specs.declared.signed.Signed.{Signed}
 use Rattle.inst_logic.specs.Lists.{distinct}
-use Rattle.tptp_tokens.specs.declared.kind.TokenKind.{TokenKind}
-use Rattle.tptp_tokens.specs.declared.kind.TokenKind.TheVariants.{LowerWord, Variable, DollarWord, QuotedWord, DistinctObject, Integer, Rational, Real, Punctuation}
-use Rattle.tptp_tokens.specs.Stream.{Tok}
+use Rattle.tptp_read.specs.declared.kind.TokenKind.{TokenKind}
+use Rattle.tptp_read.specs.declared.kind.TokenKind.TheVariants.{LowerWord, Variable, DollarWord, QuotedWord, DistinctObject, Integer, Rational, Real, Punctuation}
+use Rattle.tptp_read.specs.Stream.{Tok}
 use Rattle.tptp_read.specs.declared.lexeme.Lexeme.{Lexeme}
 use Rattle.tptp_read.specs.declared.stop.Stop.{Stop}
 use Rattle.tptp_read.specs.declared.stop.Stop.TheVariants as stops

@@ -1,9 +1,9 @@
 -- Literals: what is read is spelled so, and what is spelled so is read.
 use Rattle.std.proofs.Common.{◌≡◌, ℕ, zero, suc, ◌+◌, ◌≤◌, max, true, false, cond, List, ◌∷◌, Some, None, refl, ap, subst, ◌∙◌, inl, inr, arith}
 use Rattle.std.specs.Prelude.{◌&&◌}
-use Rattle.tptp_tokens.specs.declared.kind.TokenKind.{TokenKind}
-use Rattle.tptp_tokens.specs.declared.kind.TokenKind.TheVariants.{LowerWord, Variable, DollarWord, QuotedWord, DistinctObject, Integer, Rational, Real, Punctuation}
-use Rattle.tptp_tokens.specs.Stream.{Tok}
+use Rattle.tptp_read.specs.declared.kind.TokenKind.{TokenKind}
+use Rattle.tptp_read.specs.declared.kind.TokenKind.TheVariants.{LowerWord, Variable, DollarWord, QuotedWord, DistinctObject, Integer, Rational, Real, Punctuation}
+use Rattle.tptp_read.specs.Stream.{Tok}
 use Rattle.tptp_read.specs.Lexemes.{mark, is_punctuation, is_head, is_plain}
 use Rattle.tptp_read.specs.Grammar.{Written, single, applied, term, term_fits, terms_fit, is_atom, Negated, no_atom, no_equation, in_parens, negated_text, negated_fits}
 use Rattle.tptp_read.specs.Parse.{◌>>=◌, Reads, begins_with, behind, term_at}

@@ -4,9 +4,9 @@ use Rattle.std.specs.Prelude.{◌&&◌, codes, Option}
 use Rattle.std.specs.List.{list_all}
 use Rattle.std.specs.Str.{bytes_eq}
 use Rattle.std.proofs.lemmas.Slice.Eq.{bytes_eq-Decides}
-use Rattle.tptp_tokens.specs.declared.kind.TokenKind.{TokenKind}
-use Rattle.tptp_tokens.specs.declared.kind.TokenKind.TheVariants.{LowerWord, Variable, DollarWord, QuotedWord, DistinctObject, Integer, Rational, Real, Punctuation}
-use Rattle.tptp_tokens.specs.Stream.{Tok}
+use Rattle.tptp_read.specs.declared.kind.TokenKind.{TokenKind}
+use Rattle.tptp_read.specs.declared.kind.TokenKind.TheVariants.{LowerWord, Variable, DollarWord, QuotedWord, DistinctObject, Integer, Rational, Real, Punctuation}
+use Rattle.tptp_read.specs.Stream.{Tok}
 use Rattle.tptp_read.specs.Lexemes.{mark, lower, is_lower_kind}
 use Rattle.tptp_read.specs.Grammar.{Item, Items, item, items, item_fits, items_fit, general, generals, general_fits, generals_fit, Note, unnoted, source, with_empty, with_list, note, note_fits, Form, cnf, whole, selected, is_name, names, form, form_fits, IsForm}
 use Rattle.tptp_read.specs.Parse.{◌>>=◌, begins_with, behind, many_at}

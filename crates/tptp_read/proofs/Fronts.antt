@@ -1,7 +1,7 @@
 -- The tokens up to the first full stop, one after the other.
 use Rattle.std.proofs.Common.{◌≡◌, ℕ, ◌+◌, ◌-◌, max, Bool, true, false, cond, List, [], ◌∷◌, ◌++◌, Some, None, refl, sym, ap, subst, ◌∙◌, arith}
 use Rattle.std.specs.Prelude.{not, ◌&&◌, IsTrue}
-use Rattle.tptp_tokens.specs.Stream.{Tok, IsNext, IsEnd, IsDone}
+use Rattle.tptp_read.specs.Stream.{Tok, IsNext, IsEnd, IsDone}
 use Rattle.tptp_read.specs.Lexemes.{Begins, mark, lower, is_mark_token, is_lower_kind}
 use Rattle.tptp_read.specs.Rules.{is_language, IsOtherLanguage, IsNoOtherLanguage, stops_last, IsFront, HasNoFront, opens, closes, nesting_from}
 use Rattle.tptp_read.specs.Fronts.{are_other, other_word}

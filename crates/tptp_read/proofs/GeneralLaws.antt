@@ -1,7 +1,7 @@
 -- Annotations: what is read is spelled so, and what is spelled so is read.
 use Rattle.std.proofs.Common.{◌≡◌, ℕ, zero, suc, ◌+◌, ◌≤◌, max, true, false, cond, List, [], ◌∷◌, length, Some, None, refl, sym, ap, subst, ◌∙◌, inl, inr, arith}
 use Rattle.std.specs.Prelude.{◌&&◌}
-use Rattle.tptp_tokens.specs.Stream.{Tok}
+use Rattle.tptp_read.specs.Stream.{Tok}
 use Rattle.tptp_read.specs.Lexemes.{mark, is_head, is_plain}
 use Rattle.tptp_read.specs.Grammar.{General, thing, pair, empty, filled, Thing, token, call, Generals, ended, also, general, thing_text, generals, general_fits, thing_fits, generals_fit}
 use Rattle.tptp_read.specs.Parse.{◌>>=◌, Reads, begins_with, behind, many_at}

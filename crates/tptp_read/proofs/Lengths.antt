@@ -1,6 +1,6 @@
 -- A statement has more tokens than open brackets.
 use Rattle.std.proofs.Common.{◌+◌, ◌≤◌, List, ◌∷◌, length, arith}
-use Rattle.tptp_tokens.specs.Stream.{Tok}
+use Rattle.tptp_read.specs.Stream.{Tok}
 use Rattle.tptp_read.specs.Lexemes.{mark}
 use Rattle.tptp_read.specs.Grammar.{Written, single, applied, Writtens, none, more, term, terms, Negated, no_atom, no_equation, in_parens, negated_text, Simple, atom, equation, unequal, negated, simple_text, unequal_mark, Item, simple, nested, Items, last, or, item, items}
 use Rattle.tptp_read.proofs.ParseLaws.{depth, depths}

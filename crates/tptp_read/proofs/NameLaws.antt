@@ -9,9 +9,9 @@ use Rattle.inst_logic.specs.Printing.{is_readable_name}
 use Rattle.inst_logic.specs.Tree.{Tree, var, app}
 use Rattle.inst_logic.specs.Tree as tree
 use Rattle.inst_logic.specs.declared.signed.Signed.{Signed}
-use Rattle.tptp_tokens.specs.declared.kind.TokenKind.{TokenKind}
-use Rattle.tptp_tokens.specs.declared.kind.TokenKind.TheVariants.{LowerWord, Variable, DollarWord, QuotedWord, DistinctObject, Integer, Rational, Real, Punctuation}
-use Rattle.tptp_tokens.specs.Stream.{Tok}
+use Rattle.tptp_read.specs.declared.kind.TokenKind.{TokenKind}
+use Rattle.tptp_read.specs.declared.kind.TokenKind.TheVariants.{LowerWord, Variable, DollarWord, QuotedWord, DistinctObject, Integer, Rational, Real, Punctuation}
+use Rattle.tptp_read.specs.Stream.{Tok}
 use Rattle.tptp_read.specs.Lexemes.{is_head, is_plain, is_feature, is_variable_kind, is_name_kind}
 use Rattle.tptp_read.specs.Grammar.{Written, single, applied, Writtens, none, more, term_fits, terms_fit, is_atom}
 use Rattle.tptp_read.specs.Meaning.{Wrote, predicate, equal, tokens_of, tokens_of_all, used_tokens, first_feature, tree_of, trees_of, predicate_of, literal_of, is_constant_atom, name_of}

@@ -12,7 +12,7 @@ use Rattle.inst_logic.proofs.Sets.{with_key}
 use Rattle.std.specs.Cmp.Lexicographic.{bytes_decides}
 use Rattle.std.proofs.lemmas.List.{map-append, append-nil, take_more}
 use Rattle.inst_logic.proofs.Distinct.{distinct_more}
-use Rattle.tptp_tokens.specs.Stream.{Tok}
+use Rattle.tptp_read.specs.Stream.{Tok}
 use Rattle.tptp_read.specs.declared.lexeme.Lexeme.{Lexeme}
 use Rattle.tptp_read.specs.Lexemes.{is_variable_kind}
 use Rattle.tptp_read.specs.Meaning.{variable_names}

@@ -1,11 +1,11 @@
 -- The first token of a text, as a function.
 use Rattle.std.proofs.Common.{◌≡◌, ℕ, List, [], ◌∷◌, length, Option, Some, None, MatchOption, refl, sym, subst, ◌∙◌, inl, inr}
 use Rattle.std.specs.Prelude.{◌⊎◌}
-use Rattle.tptp_tokens.specs.Stream.{Tok, IsNext, IsEnd, IsDone, HasNoToken}
-use Rattle.tptp_tokens.proofs.Longest.{longest_found}
-use Rattle.tptp_tokens.proofs.Skipping.{done_ends}
-use Rattle.tptp_tokens.proofs.Decided.{decided, token_no_piece, end_is_gap, done_is_end, same_ends}
-pub use Rattle.tptp_tokens.proofs.Decided.{next_shorter}
+use Rattle.tptp_read.specs.Stream.{Tok, IsNext, IsEnd, IsDone, HasNoToken}
+use Rattle.tptp_read.proofs.Longest.{longest_found}
+use Rattle.tptp_read.proofs.Skipping.{done_ends}
+use Rattle.tptp_read.proofs.Decided.{decided, token_no_piece, end_is_gap, done_is_end, same_ends}
+pub use Rattle.tptp_read.proofs.Decided.{next_shorter}
 
 pub next : List ℕ → Option (Tok × List ℕ)
 next text = (decided text).found

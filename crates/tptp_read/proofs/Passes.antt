@@ -1,6 +1,6 @@
 -- Statements one after the other.
 use Rattle.std.proofs.Common.{◌≡◌, ℕ, suc, ◌+◌, List, [], ◌∷◌, ◌++◌, length, refl, sym, subst, ◌∙◌, add-one}
-use Rattle.tptp_tokens.specs.Stream.{IsDone}
+use Rattle.tptp_read.specs.Stream.{IsDone}
 use Rattle.tptp_read.specs.declared.statement.Statement.{Statement}
 use Rattle.tptp_read.specs.declared.refusal.Refusal.{Refusal}
 use Rattle.tptp_read.specs.declared.refusal.Refusal.TheVariants as refusals

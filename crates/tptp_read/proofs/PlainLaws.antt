@@ -1,6 +1,6 @@
 -- Literals whose first token opens nothing.
 use Rattle.std.proofs.Common.{◌≡◌, ℕ, zero, suc, false, List, refl}
-use Rattle.tptp_tokens.specs.Stream.{Tok}
+use Rattle.tptp_read.specs.Stream.{Tok}
 use Rattle.tptp_read.specs.Parse.{begins_with}
 use Rattle.tptp_read.specs.ParseClause.{negated_with, negated_at, simple_at}
 use Rattle.tptp_read.specs.Shapes.{negated_plain, simple_plain}

@@ -3,7 +3,7 @@ use Rattle.std.proofs.Common.{◌≡◌, ℕ, Bool, true, false, cond, List, [],
 use Rattle.std.specs.Prelude.{◌&&◌}
 use Rattle.std.specs.List.{flat_map}
 use Rattle.std.proofs.lemmas.List.{append-nil, append_cancel_right}
-use Rattle.tptp_tokens.specs.Stream.{Tok}
+use Rattle.tptp_read.specs.Stream.{Tok}
 use Rattle.tptp_read.specs.Lexemes.{mark, is_head, is_punctuation, is_feature, is_variable_kind}
 use Rattle.tptp_read.specs.Grammar.{Written, single, applied, Writtens, none, more, term, terms, term_fits, terms_fit, is_atom, Negated, no_atom, no_equation, in_parens, negated_text, negated_fits, unequal_mark, Simple, atom, equation, unequal, negated, simple_text, simple_fits, Item, simple, nested, Items, last, or, item, items, item_fits, items_fit}
 use Rattle.tptp_read.specs.Meaning.{Wrote, from_negated, from_simple, from_item, from_items, tokens_of, tokens_of_all, first_feature, variable_names}

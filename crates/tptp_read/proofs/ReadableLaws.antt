@@ -11,9 +11,9 @@ use Rattle.inst_logic.specs.declared.signed.Signed.{Signed}
 use Rattle.inst_logic.specs.Lists.{distinct}
 use Rattle.inst_logic.specs.Tree.{Tree}
 use Rattle.inst_logic.specs.WellFormed.{IsAtom, atom_is_formed}
-use Rattle.tptp_tokens.specs.declared.kind.TokenKind.{TokenKind}
-use Rattle.tptp_tokens.specs.declared.kind.TokenKind.TheVariants.{LowerWord, Variable, DollarWord, QuotedWord, DistinctObject, Integer, Rational, Real, Punctuation}
-use Rattle.tptp_tokens.specs.Stream.{Tok}
+use Rattle.tptp_read.specs.declared.kind.TokenKind.{TokenKind}
+use Rattle.tptp_read.specs.declared.kind.TokenKind.TheVariants.{LowerWord, Variable, DollarWord, QuotedWord, DistinctObject, Integer, Rational, Real, Punctuation}
+use Rattle.tptp_read.specs.Stream.{Tok}
 use Rattle.tptp_read.specs.declared.statement.Role.{Role}
 use Rattle.tptp_read.specs.declared.statement.Statement.{Statement}
 use Rattle.tptp_read.specs.declared.statement.Statement.TheVariants.{Cnf, Include}

@@ -7,7 +7,7 @@ use Rattle.inst_logic.specs.Tree as logic
 use Rattle.inst_logic.specs.declared.symbol.Kind.TheVariants.{Function}
 use Rattle.tptp_read.specs.declared.stop.Stop.{Stop}
 use Rattle.tptp_read.specs.declared.stop.Stop.TheVariants as stops
-use Rattle.tptp_tokens.specs.Stream.{Tok}
+use Rattle.tptp_read.specs.Stream.{Tok}
 use Rattle.tptp_read.specs.Lexemes.{is_head, is_plain}
 use Rattle.tptp_read.specs.Grammar.{Written, single, applied}
 use Rattle.tptp_read.specs.Meaning.{tree_of, trees_of, count, name_of}

@@ -10,7 +10,7 @@ use Rattle.inst_logic.specs.Tree as logic
 use Rattle.inst_logic.specs.declared.signed.Signed.{Signed}
 use Rattle.inst_logic.specs.Lists.{distinct, with_item}
 use Rattle.inst_logic.proofs.Distinct.{any_kept, distinct_append}
-use Rattle.tptp_tokens.specs.Stream.{Tok}
+use Rattle.tptp_read.specs.Stream.{Tok}
 use Rattle.tptp_read.specs.Lexemes.{is_variable_kind}
 use Rattle.tptp_read.specs.Grammar.{Written, single, applied, Writtens, none, more}
 use Rattle.tptp_read.specs.Meaning.{Wrote, predicate, equal, tree_of, trees_of, predicate_of, literal_of, count, name_of, is_constant_atom, tokens_of, tokens_of_all, used_tokens, variable_names}

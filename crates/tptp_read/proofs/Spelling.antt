@@ -7,10 +7,10 @@ use Rattle.std.proofs.lemmas.Bool.Decides.{nat_tests}
 use Rattle.std.proofs.lemmas.List.Folds.{list_all-append}
 use Rattle.std.proofs.Math.Seq.{take-append_seam}
 use Rattle.inst_logic.specs.Printing.{is_between, is_readable_name}
-use Rattle.tptp_tokens.specs.declared.kind.TokenKind.{TokenKind}
-use Rattle.tptp_tokens.specs.Bytes.{is_word_byte, is_sign, is_printed}
-use Rattle.tptp_tokens.specs.Table.{are_items, IsBetween, IsOptionalSign, IsInteger, IsLowerWord, IsToken, a_lower, a_variable, a_dollar, a_double, a_quoted, a_distinct, an_integer, a_rational, a_fraction, an_exponent, a_real, a_mark, unequal}
-use Rattle.tptp_tokens.specs.Stream.{Tok, IsNext}
+use Rattle.tptp_read.specs.declared.kind.TokenKind.{TokenKind}
+use Rattle.tptp_read.specs.Bytes.{is_word_byte, is_sign, is_printed}
+use Rattle.tptp_read.specs.Table.{are_items, IsBetween, IsOptionalSign, IsInteger, IsLowerWord, IsToken, a_lower, a_variable, a_dollar, a_double, a_quoted, a_distinct, an_integer, a_rational, a_fraction, an_exponent, a_real, a_mark, unequal}
+use Rattle.tptp_read.specs.Stream.{Tok, IsNext}
 use Rattle.tptp_read.specs.Lexemes.{Begins, is_name_kind}
 use Rattle.tptp_read.specs.Meaning.{unquoted, name_of}
 use Rattle.tptp_read.proofs.ParseLaws.{both_true, and_both}

@@ -3,7 +3,7 @@ use Rattle.std.specs.Prelude.{◌≡◌, ℕ, ◌+◌, ◌<◌, ◌≤◌, List,
 use Rattle.std.specs.List.{list_any}
 use Rattle.inst_logic.specs.Tree.{Tree}
 use Rattle.inst_logic.specs.declared.signed.Signed.{Signed}
-use Rattle.tptp_tokens.specs.Stream.{Tok, IsDone}
+use Rattle.tptp_read.specs.Stream.{Tok, IsDone}
 use Rattle.tptp_read.specs.declared.statement.Which.TheVariants.{Nesting, Arity}
 use Rattle.tptp_read.specs.declared.text.ReadError.{ReadError}
 use Rattle.tptp_read.specs.declared.text.ReadError.TheVariants as errors

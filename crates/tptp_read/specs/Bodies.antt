@@ -6,7 +6,7 @@ use Rattle.std.specs.Str.{bytes_eq}
 use Rattle.inst_logic.specs.Tree.{Tree}
 use Rattle.inst_logic.specs.declared.signed.Signed.{Signed}
 use Rattle.inst_logic.specs.Lists.{distinct}
-use Rattle.tptp_tokens.specs.Stream.{Tok}
+use Rattle.tptp_read.specs.Stream.{Tok}
 use Rattle.tptp_read.specs.declared.statement.Role.{Role}
 use Rattle.tptp_read.specs.declared.statement.Which.TheVariants.{Arity, Variables}
 use Rattle.tptp_read.specs.declared.statement.Statement.{Statement}

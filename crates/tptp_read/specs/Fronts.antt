@@ -1,6 +1,6 @@
 -- What stands first in a text: the tokens of a statement, or why there is none.
 use Rattle.std.specs.Prelude.{ℕ, ◌≤◌, List, [], ◌∷◌, length, drop, Bool, ◌&&◌, if◌then◌else◌, Option, Some, None}
-use Rattle.tptp_tokens.specs.Stream.{Tok, IsDone}
+use Rattle.tptp_read.specs.Stream.{Tok, IsDone}
 use Rattle.tptp_read.specs.declared.front.Front.{Front}
 use Rattle.tptp_read.specs.declared.front.Front.TheVariants.{Done, Language, Unfinished, Whole}
 use Rattle.tptp_read.specs.Lexemes.{is_mark_token, is_lower_kind}

@@ -2,8 +2,8 @@
 -- in front of the tokens that follow it.
 use Rattle.std.specs.Prelude.{◌≡◌, List, [], ◌∷◌, Bool, true, ◌&&◌, IsTrue, codes}
 use Rattle.std.specs.List.{list_all}
-use Rattle.tptp_tokens.specs.declared.kind.TokenKind.TheVariants.{Punctuation}
-use Rattle.tptp_tokens.specs.Stream.{Tok}
+use Rattle.tptp_read.specs.declared.kind.TokenKind.TheVariants.{Punctuation}
+use Rattle.tptp_read.specs.Stream.{Tok}
 use Rattle.tptp_read.specs.Lexemes.{mark, lower, is_head, is_plain, is_lower_kind, is_quoted_kind, is_name_kind}
 use Rattle.inst_logic.specs.Codes as byte
 

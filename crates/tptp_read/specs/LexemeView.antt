@@ -8,7 +8,7 @@ use Rattle.inst_logic.specs.declared.term.Term.{Term}
 use Rattle.tptp_read.specs.declared.lexeme.Lexeme.{Lexeme}
 use Rattle.tptp_read.specs.declared.stop.Stop.{Stop}
 use Rattle.tptp_read.specs.declared.stop.Stop.TheVariants as stops
-use Rattle.tptp_tokens.specs.Stream.{Tok}
+use Rattle.tptp_read.specs.Stream.{Tok}
 use Rattle.tptp_read.specs.Grammar.{Written}
 use Rattle.tptp_read.specs.Meaning.{tree_of}
 

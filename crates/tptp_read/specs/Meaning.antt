@@ -14,7 +14,7 @@ use Rattle.tptp_read.specs.declared.statement.Which.{Which}
 use Rattle.tptp_read.specs.declared.statement.Which.TheVariants.{Arity, Variables}
 use Rattle.tptp_read.specs.declared.statement.Statement.{Statement}
 use Rattle.tptp_read.specs.declared.statement.Statement.TheVariants.{Cnf, Include}
-use Rattle.tptp_tokens.specs.Stream.{Tok}
+use Rattle.tptp_read.specs.Stream.{Tok}
 use Rattle.tptp_read.specs.Lexemes.{is_feature, is_quoted_kind, is_variable_kind, is_dollar_kind}
 use Rattle.tptp_read.specs.Grammar.{Written, single, applied, Writtens, none, more, Negated, no_atom, no_equation, in_parens, Simple, atom, equation, unequal, negated, Item, simple, nested, Items, last, or, Form, cnf, whole, selected}
 use Rattle.inst_logic.specs.Codes as byte

@@ -1,6 +1,6 @@
 -- Reading tokens from left to right.
 use Rattle.std.specs.Prelude.{ℕ, zero, suc, List, [], ◌∷◌, length, Bool, false, ◌&&◌, if◌then◌else◌, Option, Some, None}
-use Rattle.tptp_tokens.specs.Stream.{Tok}
+use Rattle.tptp_read.specs.Stream.{Tok}
 use Rattle.tptp_read.specs.Lexemes.{is_mark_token, is_head, is_plain}
 use Rattle.tptp_read.specs.Grammar.{Written, single, applied, Writtens, none, more}
 use Rattle.inst_logic.specs.Codes as byte

@@ -1,7 +1,7 @@
 -- Reading a whole statement from left to right.
 use Rattle.std.specs.Prelude.{ℕ, List, [], ◌∷◌, length, Bool, true, false, ◌&&◌, if◌then◌else◌, Option, Some, None, codes}
 use Rattle.std.specs.Str.{bytes_eq}
-use Rattle.tptp_tokens.specs.Stream.{Tok}
+use Rattle.tptp_read.specs.Stream.{Tok}
 use Rattle.tptp_read.specs.Lexemes.{is_lower_kind, is_quoted_kind}
 use Rattle.tptp_read.specs.Grammar.{Note, unnoted, source, with_empty, with_list, Form, cnf, whole, selected, is_name}
 use Rattle.tptp_read.specs.Parse.{◌>>=◌, Reads, begins_with, behind, many_at}

@@ -1,6 +1,6 @@
 -- Tokens without marks.
 use Rattle.std.specs.Prelude.{List, [], ◌∷◌, ◌++◌, Bool, ◌&&◌, if◌then◌else◌}
-use Rattle.tptp_tokens.specs.Stream.{Tok}
+use Rattle.tptp_read.specs.Stream.{Tok}
 use Rattle.tptp_read.specs.Lexemes.{is_punctuation}
 use Rattle.tptp_read.specs.Grammar.{term_fits, is_atom}
 use Rattle.tptp_read.specs.Meaning.{Wrote, predicate, equal, tokens_of}

@@ -2,7 +2,7 @@
 use Rattle.std.specs.Prelude.{◌≡◌, ℕ, ◌+◌, ◌-◌, ◌≤◌, ◌<◌, List, [], ◌∷◌, max, Bool, false, not, ◌||◌, ◌&&◌, if◌then◌else◌, IsTrue, Ok, Err, codes}
 use Rattle.std.specs.List.{list_any}
 use Rattle.std.specs.Str.{bytes_eq}
-use Rattle.tptp_tokens.specs.Stream.{Tok, IsNext}
+use Rattle.tptp_read.specs.Stream.{Tok, IsNext}
 use Rattle.tptp_read.specs.declared.statement.Which.TheVariants.{Nesting}
 use Rattle.tptp_read.specs.declared.statement.Statement.{Statement}
 use Rattle.tptp_read.specs.Lexemes.{Begins, mark, lower, is_mark_token}

@@ -1,7 +1,7 @@
 -- Names of statements that an include selects.
 use Rattle.std.specs.Prelude.{ℕ, List, [], ◌∷◌, ◌++◌, map, Bool, false, Option}
 use Rattle.std.specs.Option.{option_map}
-use Rattle.tptp_tokens.specs.Stream.{Tok}
+use Rattle.tptp_read.specs.Stream.{Tok}
 use Rattle.tptp_read.specs.Meaning.{name_of}
 
 -- behind these names

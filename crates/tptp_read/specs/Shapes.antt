@@ -3,7 +3,7 @@ use Rattle.std.specs.Prelude.{◌≡◌, ℕ, List, Bool, true, false, if◌then
 use Rattle.std.specs.Option.{option_map}
 use Rattle.inst_logic.specs.Tree.{Tree}
 use Rattle.inst_logic.specs.View.{tree}
-use Rattle.tptp_tokens.specs.Stream.{Tok}
+use Rattle.tptp_read.specs.Stream.{Tok}
 use Rattle.tptp_read.specs.declared.literals.Atomic.{Atomic}
 use Rattle.tptp_read.specs.Grammar.{Written, is_atom, Negated, no_atom, no_equation, Simple, atom, equation, unequal}
 use Rattle.tptp_read.specs.Meaning.{Wrote, predicate, equal, is_truth, tree_of}

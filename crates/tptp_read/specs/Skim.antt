@@ -1,7 +1,7 @@
 -- Where the tokens go on behind an annotation, which is read and not kept.
 use Rattle.std.specs.Prelude.{ℕ, List, length, if◌then◌else◌, Option, Some}
 use Rattle.std.specs.Option.{option_map}
-use Rattle.tptp_tokens.specs.Stream.{Tok}
+use Rattle.tptp_read.specs.Stream.{Tok}
 use Rattle.tptp_read.specs.Parse.{begins_with, behind, many_at}
 use Rattle.tptp_read.specs.ParseGeneral.{listing_with, thing_with, general_at}
 use Rattle.tptp_read.specs.ParseForm.{note_at}

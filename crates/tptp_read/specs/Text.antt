@@ -1,7 +1,7 @@
 -- Whole texts.
 use Rattle.std.specs.Prelude.{◌≡◌, ℕ, zero, suc, List, [], ◌∷◌, ⊤}
 use Rattle.inst_logic.specs.WellFormed.{IsFormedClause}
-use Rattle.tptp_tokens.specs.Stream.{IsDone}
+use Rattle.tptp_read.specs.Stream.{IsDone}
 use Rattle.tptp_read.specs.declared.statement.Statement.{Statement}
 use Rattle.tptp_read.specs.declared.statement.Statement.TheVariants.{Cnf, Include}
 use Rattle.tptp_read.specs.declared.text.ReadError.{ReadError}

@@ -1,7 +1,7 @@
 -- What reading a statement gives.
 use Rattle.std.specs.Prelude.{◌≡◌, ℕ, ◌≤◌, List, length, drop, Option, Some, None, Result, Ok, Err}
 use Rattle.std.specs.Option.{option_map_or}
-use Rattle.tptp_tokens.specs.Stream.{Tok, IsDone}
+use Rattle.tptp_read.specs.Stream.{Tok, IsDone}
 use Rattle.tptp_read.specs.declared.refusal.Refusal.{Refusal}
 use Rattle.tptp_read.specs.declared.refusal.Refusal.TheVariants as refusals
 use Rattle.tptp_read.specs.declared.stop.Stop.{Stop}

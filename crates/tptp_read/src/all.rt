@@ -4,9 +4,9 @@ ghost use Rattle.tptp_read.specs.Atoms.{AreTokens, HasNoTokens};
 ghost use Rattle.tptp_read.specs.LexemeView.{toks};
 
 use crate::lexeme::Lexeme;
+use crate::tokens::tokens;
 use inst_logic::Memory;
 use std::alloc::Global;
-use tptp_tokens::tokens::tokens;
 
 // The tokens of the text, or nothing where at some place before its end none begins.
 pub(crate) fn all_tokens<'a>(

@@ -8,12 +8,12 @@ ghost use Rattle.tptp_read.specs.Atoms.{nesting_within};
 ghost use Rattle.tptp_read.specs.LexemeView.{tok, toks};
 ghost use Rattle.tptp_read.specs.Fronts.{FrontOf, other_word};
 
+use crate::kind::TokenKind;
 use crate::lexeme::Lexeme;
+use crate::tokens::tokens;
 use crate::words::is_mark;
 use inst_logic::Memory;
 use std::alloc::Global;
-use tptp_tokens::TokenKind;
-use tptp_tokens::tokens::tokens;
 
 // What stands first in a text.
 #[derive(Drop)]

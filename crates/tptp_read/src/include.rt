@@ -10,6 +10,7 @@ ghost use Rattle.tptp_read.specs.LexemeView.{tok, toks, Gives};
 ghost use Rattle.tptp_read.specs.Selected.{in_names, starts};
 ghost use Rattle.inst_logic.specs.Codes as byte;
 
+use crate::kind::TokenKind;
 use crate::lexeme::Lexeme;
 use crate::notes::ends_at;
 use crate::statement::Statement;
@@ -17,7 +18,6 @@ use crate::stop::Stop;
 use crate::words::{is_quoted, name_of, stands_at};
 use inst_logic::NameList;
 use std::alloc::Global;
-use tptp_tokens::TokenKind;
 
 // Whether the token at this place may name a statement.
 pub(crate) fn name_at(tokens: &[Lexeme], at: usize) -> bool

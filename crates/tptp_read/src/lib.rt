@@ -1,5 +1,6 @@
-//! From bytes to the statements of a problem (the CNF part of the TPTP language). The grammar is data in `specs/`; the
-//! parser is proved to find a reading exactly where there is one, and that each text has one reading is a law.
+//! From bytes to the statements of a problem (the CNF part of the TPTP language). A token is defined by the table of spellings and by
+//! being the longest; the scanner is one way to find it. The grammar is data in `specs/`; the parser is proved to find a reading
+//! exactly where there is one, and that each text has one reading is a law.
 #![tactic(auto)]
 
 mod all;
@@ -10,23 +11,30 @@ mod cnf;
 mod front;
 mod general;
 mod include;
+pub mod kind;
 pub mod laws;
 mod lexeme;
 mod literals;
 mod notes;
 mod numbers;
 mod refusal;
+mod runs;
+mod scan;
+mod skip;
 pub mod statement;
 mod step;
 mod stop;
+pub mod stream;
 mod terms;
 pub mod text;
+pub mod token_laws;
+pub mod tokens;
 mod value;
 mod whole_atom;
 mod width;
 mod words;
 
+pub use kind::{Token, TokenKind};
 pub use statement::{Role, Statement, StatementList, Which};
+pub use stream::Tokens;
 pub use text::{ReadError, read_atom, read_text};
-pub use tptp_tokens::tokens::tokens;
-pub use tptp_tokens::{Token, TokenKind, Tokens};

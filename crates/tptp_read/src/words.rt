@@ -6,10 +6,10 @@ ghost use Rattle.tptp_read.specs.Parse.{begins_with};
 ghost use Rattle.tptp_read.specs.Meaning.{name_of, unquoted};
 ghost use Rattle.tptp_read.specs.LexemeView.{tok, toks};
 
+use crate::kind::TokenKind;
 use crate::lexeme::Lexeme;
 use inst_logic::{Memory, Name};
 use std::alloc::Global;
-use tptp_tokens::TokenKind;
 
 pub(crate) fn is_head(kind: TokenKind) -> bool
     ensures { result ≡ is_head kind }

@@ -14,7 +14,7 @@ use Rattle.inst_logic.specs.Substitution.{tree_vars, trees_vars}
 use Rattle.inst_logic.specs.Clauses.{TreeClause}
 use Rattle.inst_logic.specs.WellFormed.{count_of, fits_kind, is_function_kind, symbol_is_formed, tree_is_formed, trees_are_formed, atom_is_formed, clause_is_formed}
 use Rattle.inst_logic.specs.Printing.{is_lower_word, is_readable_name, escaped_all}
-use Rattle.tptp_tokens.specs.Stream.{Tok}
+use Rattle.tptp_read.specs.Stream.{Tok}
 use Rattle.tptp_read.specs.Lexemes.{is_head, is_plain, is_feature, is_variable_kind, is_dollar_kind}
 use Rattle.tptp_read.specs.Grammar.{term_fits, terms_fit, simple_fits, is_atom}
 use Rattle.tptp_read.specs.Meaning.{name_of, predicate, equal, from_simple, tokens_of, tokens_of_all, first_feature, variable_names, count, is_wide, are_wide}

@@ -8,7 +8,7 @@ use Rattle.inst_logic.specs.Tree.{Tree, var, app, Trees}
 use Rattle.inst_logic.specs.Tree as tree
 use Rattle.inst_logic.specs.Clauses.{TreeClause}
 use Rattle.inst_logic.specs.Printing.{is_lower_word}
-use Rattle.tptp_tokens.specs.Stream.{Tok}
+use Rattle.tptp_read.specs.Stream.{Tok}
 use Rattle.tptp_read.specs.Lexemes.{mark, lower, is_punctuation}
 use Rattle.tptp_read.specs.Rules.{opens, closes, nesting_from, nesting}
 use Rattle.tptp_read.specs.Grammar.{term, terms, simple_text, items, unequal_mark, form}

@@ -4,8 +4,8 @@ use Rattle.std.specs.Prelude.{codes}
 use Rattle.std.specs.List.{list_all}
 use Rattle.inst_logic.specs.Clauses.{TreeClause}
 use Rattle.inst_logic.specs.Printing.{clause_text}
-use Rattle.tptp_tokens.specs.Skipped.{nothing}
-use Rattle.tptp_tokens.specs.Stream.{Tok}
+use Rattle.tptp_read.specs.Skipped.{nothing}
+use Rattle.tptp_read.specs.Stream.{Tok}
 use Rattle.tptp_read.specs.declared.statement.Role.TheVariants.{Axiom}
 use Rattle.tptp_read.specs.declared.statement.Statement.TheVariants.{Cnf}
 use Rattle.tptp_read.specs.Lexemes.{Begins, lower}

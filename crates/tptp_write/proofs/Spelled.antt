@@ -10,7 +10,7 @@ use Rattle.inst_logic.specs.Tree.{Tree, var, app, Trees}
 use Rattle.inst_logic.specs.Tree as tree
 use Rattle.inst_logic.specs.Clauses.{TreeClause}
 use Rattle.inst_logic.specs.Printing.{is_readable_name, name_text, tree_text, arguments_text, more_text, sides_text, equality_sign, atom_text, signed_text, literal_text, joined, clause_text}
-use Rattle.tptp_tokens.specs.Stream.{Tok}
+use Rattle.tptp_read.specs.Stream.{Tok}
 use Rattle.tptp_read.specs.Lexemes.{Begins, mark, lower}
 use Rattle.tptp_read.specs.Grammar.{Written, single, applied, term, terms, Simple, atom, equation, unequal, negated, simple_text, items, unequal_mark, form}
 use Rattle.tptp_write.specs.Again.{as_statement}

@@ -1,7 +1,7 @@
 -- The full stop is the last token of a form and no other.
 use Rattle.std.proofs.Common.{◌≡◌, true, false, List, [], ◌∷◌, refl, ap}
 use Rattle.std.specs.Prelude.{◌&&◌, not}
-use Rattle.tptp_tokens.specs.Stream.{Tok}
+use Rattle.tptp_read.specs.Stream.{Tok}
 use Rattle.tptp_read.specs.Lexemes.{mark, lower, is_head, is_plain, is_mark_token}
 use Rattle.tptp_read.specs.Rules.{stops_last}
 use Rattle.tptp_read.specs.Grammar.{Written, single, applied, Writtens, none, more, term, terms, term_fits, terms_fit, Negated, no_atom, no_equation, in_parens, negated_text, negated_fits, is_atom, Simple, atom, equation, unequal, negated, simple_text, simple_fits, unequal_mark, Item, simple, nested, Items, last, or, item, items, item_fits, items_fit}

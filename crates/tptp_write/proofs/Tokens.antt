@@ -9,15 +9,15 @@ use Rattle.std.proofs.lemmas.Fmt.{decimal_is_IsNumeral}
 use Rattle.std.proofs.lemmas.Str.Parse.{digit_from_value}
 use Rattle.inst_logic.specs.Printing.{is_lower, is_between, is_lower_word, is_readable_name, name_text, escaped, escaped_all}
 use Rattle.inst_logic.specs.Printing as printing
-use Rattle.tptp_tokens.specs.declared.kind.TokenKind.TheVariants.{LowerWord, Variable, QuotedWord}
-use Rattle.tptp_tokens.specs.Bytes.{is_word_byte, is_printed, run}
-use Rattle.tptp_tokens.specs.Scan.{begins, token_at, quoted_at, dollar_at}
-use Rattle.tptp_tokens.specs.Table.{are_items}
-use Rattle.tptp_tokens.specs.Skipped.{nothing, blank}
-use Rattle.tptp_tokens.specs.Stream.{Tok, IsNext}
-use Rattle.tptp_tokens.proofs.Fronts.{run_more, run_none}
-use Rattle.tptp_tokens.proofs.Closings.{closing_found}
-use Rattle.tptp_tokens.proofs.Longest.{longest}
+use Rattle.tptp_read.specs.declared.kind.TokenKind.TheVariants.{LowerWord, Variable, QuotedWord}
+use Rattle.tptp_read.specs.Bytes.{is_word_byte, is_printed, run}
+use Rattle.tptp_read.specs.Scan.{begins, token_at, quoted_at, dollar_at}
+use Rattle.tptp_read.specs.Table.{are_items}
+use Rattle.tptp_read.specs.Skipped.{nothing, blank}
+use Rattle.tptp_read.specs.Stream.{Tok, IsNext}
+use Rattle.tptp_read.proofs.TokenFronts.{run_more, run_none}
+use Rattle.tptp_read.proofs.Closings.{closing_found}
+use Rattle.tptp_read.proofs.Longest.{longest}
 use Rattle.tptp_read.specs.Lexemes.{mark, lower}
 use Rattle.tptp_read.specs.Grammar.{unequal_mark}
 use Rattle.tptp_read.specs.Meaning.{unquoted}

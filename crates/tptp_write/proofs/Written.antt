@@ -7,9 +7,9 @@ use Rattle.inst_logic.specs.Tree.{Tree, var, app, Trees}
 use Rattle.inst_logic.specs.Tree as tree
 use Rattle.inst_logic.specs.Clauses.{TreeClause}
 use Rattle.inst_logic.specs.Printing.{is_lower_word, is_readable_name, name_text}
-use Rattle.tptp_tokens.specs.declared.kind.TokenKind.{TokenKind}
-use Rattle.tptp_tokens.specs.declared.kind.TokenKind.TheVariants.{LowerWord, Variable, DollarWord, QuotedWord}
-use Rattle.tptp_tokens.specs.Stream.{Tok}
+use Rattle.tptp_read.specs.declared.kind.TokenKind.{TokenKind}
+use Rattle.tptp_read.specs.declared.kind.TokenKind.TheVariants.{LowerWord, Variable, DollarWord, QuotedWord}
+use Rattle.tptp_read.specs.Stream.{Tok}
 use Rattle.tptp_read.specs.Lexemes.{lower}
 use Rattle.tptp_read.specs.Grammar.{Written, single, applied, Writtens, none, more, no_atom, Simple, atom, equation, unequal, negated, simple, Items, last, or, unnoted, Form, cnf}
 

@@ -11,7 +11,7 @@ use prop_logic::{Plain, Solver};
 use std::alloc::Global;
 use std::test::Fail;
 use term_index::{PartnerIndex, Rows};
-use term_tree::Tree;
+use term_index::Tree;
 use worked_index::Refusing;
 
 // What the run on the problem says of the row.

@@ -1,7 +1,7 @@
 // Tokens by their kinds.
 use inst_logic::Memory;
-use tptp_tokens::tokens::tokens;
-use tptp_tokens::{TokenKind, Tokens};
+use tptp_read::tokens::tokens;
+use tptp_read::{TokenKind, Tokens};
 use tptp_write::{push_bytes, push_number};
 
 // A text, its tokens as a letter for each kind, where the last of them ends, and where the search for another one ends. In the

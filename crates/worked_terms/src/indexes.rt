@@ -6,8 +6,7 @@ use inst_logic::{Kind, Memory};
 use std::alloc::Global;
 use std::test::Fail;
 use term_bank::{Bank, TermId};
-use term_index::{PartnerIndex, Rows, View, candidates};
-use term_tree::Tree;
+use term_index::{PartnerIndex, Rows, Tree, View, candidates};
 use unify_core::Bindings;
 use worked_index::Refusing;
 use worked_index::building::{

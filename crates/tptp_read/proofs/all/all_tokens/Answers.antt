@@ -1,6 +1,6 @@
 use Rattle.std.proofs.Common.{◌≡◌, ℕ, ◌≤◌, List, ◌++◌, ◌∷◌, [], drop, length, sym, ap, subst, ◌∙◌, arith, length-drop}
 use Rattle.std.proofs.lemmas.List.{map_push}
-use Rattle.tptp_tokens.specs.Stream.{IsNext, IsEnd, tok_of}
+use Rattle.tptp_read.specs.Stream.{IsNext, IsEnd, tok_of}
 use Rattle.tptp_read.specs.LexemeView.{toks}
 use Rattle.tptp_read.proofs.Fronts.{begins_more}
 use Rattle.tptp_read.proofs.AllTokens.{are_all, none_are, nothing_behind}

@@ -3,7 +3,7 @@ use Rattle.std.proofs.lemmas.List.{length-map}
 use Rattle.std.specs.Borrow.{Bor}
 use Rattle.std.specs.Str.{bytes_eq}
 use Rattle.inst_logic.specs.Lists.{distinct}
-use Rattle.tptp_tokens.specs.Stream.{Tok}
+use Rattle.tptp_read.specs.Stream.{Tok}
 use Rattle.tptp_read.specs.Meaning.{variable_names}
 use Rattle.tptp_read.specs.LexemeView.{toks, texts}
 use Rattle.tptp_read.specs.Gathered.{gathered}

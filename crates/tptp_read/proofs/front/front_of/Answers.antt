@@ -1,7 +1,7 @@
 use Rattle.std.proofs.Common.{◌≡◌, ℕ, ◌≤◌, List, ◌++◌, ◌∷◌, [], true, false, drop, length, sym, ap, subst, ◌∙◌, arith, length-drop}
 use Rattle.std.proofs.lemmas.List.{map_push, length-map}
 use Rattle.std.proofs.lemmas.Bool.{eq-eqb}
-use Rattle.tptp_tokens.specs.Stream.{IsNext, IsEnd, tok_of}
+use Rattle.tptp_read.specs.Stream.{IsNext, IsEnd, tok_of}
 use Rattle.tptp_read.specs.LexemeView.{tok, toks}
 use Rattle.tptp_read.specs.Fronts.{other_word}
 use Rattle.tptp_read.proofs.Fronts.{IsWhole, one_more, whole, other, unfinished}

@@ -1,7 +1,7 @@
 use Rattle.std.proofs.Common.{◌<◌, [], sym, ap, ◌∙◌, length, get_or, arith}
 use Rattle.std.specs.Str.{bytes_eq}
 use Rattle.inst_logic.specs.Lists.{with_item}
-use Rattle.tptp_tokens.specs.declared.kind.TokenKind.TheVariants.{LowerWord}
+use Rattle.tptp_read.specs.declared.kind.TokenKind.TheVariants.{LowerWord}
 use Rattle.tptp_read.specs.declared.lexeme.Lexeme.{Lexeme}
 use Rattle.tptp_read.specs.LexemeView.{texts}
 use Rattle.tptp_read.proofs.NameSets.{one_more_variable, no_more_variable}

@@ -1,7 +1,7 @@
 use Rattle.std.proofs.Common.{◌≡◌, ◌+◌, ◌-◌, Some, drop, [], get_or, true, false, sym, ap, subst, ◌∙◌, arith}
 use Rattle.std.specs.Prelude.{◌&&◌}
 use Rattle.std.proofs.lemmas.Result.{err_from_is_err_and}
-use Rattle.tptp_tokens.specs.declared.kind.TokenKind.TheVariants.{LowerWord}
+use Rattle.tptp_read.specs.declared.kind.TokenKind.TheVariants.{LowerWord}
 use Rattle.inst_logic.specs.View.{tree}
 use Rattle.inst_logic.specs.Tree.{app, of_list}
 use Rattle.inst_logic.specs.declared.symbol.Kind.TheVariants.{Function}

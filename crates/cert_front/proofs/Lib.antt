@@ -1,0 +1,9 @@
+pub mod Certificates
+pub mod Checks
+pub mod Differing
+pub mod Grown
+pub mod Light
+pub mod OneJudgement
+pub mod Queries
+pub mod Reading
+pub mod VariableFree

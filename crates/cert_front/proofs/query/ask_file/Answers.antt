@@ -1,0 +1,10 @@
+use Rattle.inst_logic.specs.LiteralView.{literal}
+use Rattle.cert_front.proofs.Queries.{exact}
+use Rattle.cert_front.proofs.query.ask_file.Goals as goal
+
+pub returns-clause-exact : goal.returns-clause-exact
+returns-clause-exact g c =
+    let told = g.L.Library.files c.args.files.now in
+    let before = g.L.Library.faults c.args.files.now in
+    let now = g.L.Library.faults c.reply_of_file.new.files in
+    exact c.findings_are_one.ensures.replies told before now c.args.name.now (literal c.args.atom.now).atom c.reply_of_file.result c.reply_of_file.ensures.replied c.reply_of_file.ensures.refused

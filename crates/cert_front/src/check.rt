@@ -1,0 +1,168 @@
+// Whether the certificate of a file is valid, and one of the problem of another file.
+ghost use Rattle.std.specs.Prelude.{◌≡◌, ◌≤◌, IfOk, IfErr, IfSome, option_map, option_copied};
+ghost use Rattle.std.specs.Option.{ForSome};
+ghost use Rattle.inst_logic.specs.WellFormed.{AreFormedClauses};
+ghost use Rattle.cert_front.specs.Judgements.{IsJudgement};
+ghost use Rattle.cert_reader.specs.Reads.{IsWholeCertificate, value_of};
+ghost use Rattle.cert_front.specs.Checks.{IsCheckFault, IsExactCheck, IsJudged, IsJudgedAs, IsProblemFault, IsProblemOf, IsUnjudged, form_of, of_cert, of_load};
+ghost use Rattle.cert_front.specs.declared.check.CheckFault.TheVariants as faults;
+
+use crate::fault::CertFault;
+use crate::file::read_file;
+use crate::file_laws::findings_are_one;
+use crate::judgement::{Judgement, judge_refutation, judge_saturation};
+use crate::words::Form;
+use cert_reader::Certificate;
+use inst_logic::{Memory, Problem};
+use outside_io::Library;
+use std::alloc::Global;
+use thiserror::Error;
+use tptp_load::{LoadError, load};
+
+/// Why a certificate is not judged.
+#[derive(Debug, Drop, Error)]
+pub enum CheckFault {
+    /// The file gives no certificate. The fault is never want of memory, and never that it is no saturation.
+    #[error("the file gives no certificate")]
+    Cert(CertFault),
+    /// The file of the problem gives none. The error is never want of memory.
+    #[error("the file gives no problem")]
+    Problem(LoadError),
+    /// Memory was wanted and not given.
+    #[error("out of memory")]
+    Memory,
+}
+
+impl From<CertFault> for CheckFault {
+    ghost from_gives = { λ f e. e ≡ of_cert f };
+
+    fn from(fault: CertFault) -> CheckFault {
+        match fault {
+            CertFault::Memory => CheckFault::Memory,
+            fault => CheckFault::Cert(fault),
+        }
+    }
+}
+
+impl From<LoadError> for CheckFault {
+    ghost from_gives = { λ l e. e ≡ of_load l };
+
+    fn from(error: LoadError) -> CheckFault {
+        match error {
+            LoadError::Memory => CheckFault::Memory,
+            error => CheckFault::Problem(error),
+        }
+    }
+}
+
+impl From<Memory> for CheckFault {
+    ghost from_gives = { λ _ e. e ≡ faults.Memory };
+
+    fn from(_e: Memory) -> CheckFault {
+        CheckFault::Memory
+    }
+}
+
+// The form of the certificate, with what it is found to be. The certificate is dropped.
+fn judge(
+    alloc: Global,
+    certificate: Certificate,
+    problem: Option<&Problem>,
+) -> Result<(Form, Judgement), Memory>
+    requires whole { IsWholeCertificate certificate }
+    requires problem { ForSome problem (λ p. AreFormedClauses p.now.clauses) }
+    ensures form { IfOk result (λ found. found.0 ≡ form_of (value_of certificate)) }
+    ensures judgement { IfOk result (λ found. IsJudgement (option_copied problem.entry) (value_of certificate) found.1) }
+{
+    match certificate {
+        Certificate::Refutation(cert) => {
+            let judgement = judge_refutation(alloc, cert, problem)?;
+            Ok((Form::Refutation, judgement))
+        }
+        Certificate::Saturation(cert) => {
+            let judgement = judge_saturation(alloc, cert, problem)?;
+            Ok((Form::Saturation, judgement))
+        }
+    }
+}
+
+// The problem of the file, where one is named.
+fn load_named<L: Library>(
+    alloc: Global,
+    files: &mut L,
+    problem: Option<&str>,
+    root: Option<&str>,
+) -> Result<Option<Problem>, LoadError>
+    ensures files { L.files files.new ≡ L.files files.old }
+    ensures later { L.faults files.old ≤ L.faults files.new }
+    ensures formed { IfOk result (λ p. IfSome p (λ q. AreFormedClauses q.clauses)) }
+    ensures loads { IfOk result (IsProblemOf (L.files files.old) (option_map (λ f. f.now) problem.entry) (option_map (λ r. r.now) root.entry)) }
+    ensures refused { IfErr result (IsProblemFault (L.files files.old) (L.faults files.old) (L.faults files.new) (option_map (λ f. f.now) problem.entry) (option_map (λ r. r.now) root.entry)) }
+{
+    match problem {
+        Some(file) => {
+            let loaded = load(alloc, files, file, root)?;
+            Ok(Some(loaded))
+        }
+        None => Ok(None),
+    }
+}
+
+// What a certificate is found to be for the problem of the file, where one is named.
+fn judge_for<L: Library>(
+    alloc: Global,
+    files: &mut L,
+    certificate: Certificate,
+    problem: Option<&str>,
+    root: Option<&str>,
+) -> Result<(Form, Judgement), CheckFault>
+    requires { IsWholeCertificate certificate }
+    ensures files { L.files files.new ≡ L.files files.old }
+    ensures later { L.faults files.old ≤ L.faults files.new }
+    ensures judged { IfOk result (IsJudgedAs (L.files files.old) (option_map (λ f. f.now) problem.entry) (option_map (λ r. r.now) root.entry) (value_of certificate)) }
+    ensures refused { IfErr result (IsUnjudged (L.files files.old) (L.faults files.old) (L.faults files.new) (option_map (λ f. f.now) problem.entry) (option_map (λ r. r.now) root.entry)) }
+{
+    let problem = load_named(alloc, files, problem, root)?;
+    let found = judge(alloc, certificate, problem.as_ref())?;
+    Ok(found)
+}
+
+// The same of the certificate of the file of this name.
+fn judge_file<L: Library>(
+    alloc: Global,
+    files: &mut L,
+    name: &str,
+    problem: Option<&str>,
+    root: Option<&str>,
+) -> Result<(Form, Judgement), CheckFault>
+    ensures files { L.files files.new ≡ L.files files.old }
+    ensures later { L.faults files.old ≤ L.faults files.new }
+    ensures judged { IfOk result (IsJudged (L.files files.old) name.now (option_map (λ f. f.now) problem.entry) (option_map (λ r. r.now) root.entry)) }
+    ensures refused { IfErr result (IsCheckFault (L.files files.old) (L.faults files.old) (L.faults files.new) name.now (option_map (λ f. f.now) problem.entry) (option_map (λ r. r.now) root.entry)) }
+{
+    match read_file(alloc, files, name) {
+        Ok(certificate) => judge_for(alloc, files, certificate, problem, root),
+        Err(fault) => Err(CheckFault::from(fault)),
+    }
+}
+
+/// What the certificate of a file is found to be, with its form: valid, or the first reason why it is not. Where a problem is
+/// named, its file is loaded, with the root for its includes, and the certificate has to be one of it. The file of the
+/// certificate is read first.
+pub fn check_file<L: Library>(
+    alloc: Global,
+    files: &mut L,
+    name: &str,
+    problem: Option<&str>,
+    root: Option<&str>,
+) -> Result<(Form, Judgement), CheckFault>
+    ensures files { L.files files.new ≡ L.files files.old }
+    ensures later { L.faults files.old ≤ L.faults files.new }
+    ensures judged { IfOk result (IsJudged (L.files files.old) name.now (option_map (λ f. f.now) problem.entry) (option_map (λ r. r.now) root.entry)) }
+    ensures refused { IfErr result (IsCheckFault (L.files files.old) (L.faults files.old) (L.faults files.new) name.now (option_map (λ f. f.now) problem.entry) (option_map (λ r. r.now) root.entry)) }
+    // Where the files are told, it is the answer that they give, but for faults and want of memory.
+    ensures exact { IfSome (L.files files.old) (λ told. IsExactCheck told (L.faults files.old) (L.faults files.new) name.now (option_map (λ f. f.now) problem.entry) (option_map (λ r. r.now) root.entry) result) }
+{
+    findings_are_one();
+    judge_file(alloc, files, name, problem, root)
+}

@@ -1,0 +1,42 @@
+// The certificate of a file. Its bytes are dropped once it is read.
+ghost use Rattle.std.specs.Prelude.{◌≡◌, ◌≤◌, IfOk, IfErr};
+ghost use Rattle.cert_reader.specs.Reads.{IsTextOf, IsWholeCertificate, value_of};
+ghost use Rattle.cert_front.specs.Certificates.{IsCertFault, IsCertificateOf, IsTextFault, limit};
+
+use crate::fault::{CertFault, of_file, of_text};
+use cert_reader::{Certificate, read_certificate};
+use outside_io::{Library, read_whole};
+use std::alloc::Global;
+
+// The most bytes of a certificate's file.
+const LIMIT: usize = 268_435_456;
+
+// The certificate whose text this is.
+fn read_text(alloc: Global, text: &[u8]) -> Result<Certificate, CertFault>
+    ensures read { IfOk result (λ c. IsTextOf text.now (value_of c)) }
+    ensures whole { IfOk result IsWholeCertificate }
+    ensures refused { IfErr result (IsTextFault text.now) }
+{
+    match read_certificate(alloc, text) {
+        Ok(certificate) => Ok(certificate),
+        Err(error) => Err(of_text(error)),
+    }
+}
+
+/// The certificate of the file of this name. Nobody has checked it.
+pub fn read_file<L: Library>(
+    alloc: Global,
+    files: &mut L,
+    name: &str,
+) -> Result<Certificate, CertFault>
+    ensures files { L.files files.new ≡ L.files files.old }
+    ensures later { L.faults files.old ≤ L.faults files.new }
+    ensures read { IfOk result (λ c. IsCertificateOf (L.files files.old) name.now (value_of c)) }
+    ensures whole { IfOk result IsWholeCertificate }
+    ensures refused { IfErr result (IsCertFault (L.files files.old) (L.faults files.old) (L.faults files.new) name.now) }
+{
+    match read_whole(alloc, files, name, LIMIT) {
+        Ok(text) => read_text(alloc, text.as_slice()),
+        Err(error) => Err(of_file(error)),
+    }
+}

@@ -1,0 +1,27 @@
+//! What is said of the certificate of a file: whether it is valid and one of the problem of another file, or what a saturation says
+//! of a ground atom; or the first reason why nothing is said; and the line that says so. Each finding is decided by the certificate
+//! and the problem alone, and where the library tells its files, by them alone, but for faults and want of memory.
+#![tactic(auto)]
+
+pub mod check;
+mod difference;
+pub mod fault;
+pub mod file;
+pub mod file_laws;
+pub mod judgement;
+pub mod laws;
+pub mod query;
+pub mod reply;
+mod texts;
+mod words;
+
+pub use check::{CheckFault, check_file};
+pub use fault::CertFault;
+pub use file::read_file;
+pub use file_laws::{atoms_are_variable_free, findings_are_one};
+pub use judgement::{Judgement, judge_refutation, judge_saturation};
+pub use laws::{judgements_are_one, replies_are_one, short_texts_are_light};
+pub use query::ask_file;
+pub use reply::{Reply, ask, reply_of};
+pub use texts::write_fault;
+pub use words::{Form, write_judgement, write_reply};

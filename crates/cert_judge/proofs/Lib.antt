@@ -1,4 +1,0 @@
-pub mod Differing
-pub mod OneJudgement
-pub mod Grown
-pub mod Light

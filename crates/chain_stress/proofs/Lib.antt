@@ -1,3 +1,0 @@
-pub mod ChainClauses
-pub mod ChainModels
-pub mod Decided

@@ -1,5 +1,0 @@
-pub mod VariableFree
-pub mod Reading
-pub mod Certificates
-pub mod Checks
-pub mod Queries

@@ -1,0 +1,5 @@
+pub mod Codes
+pub mod CodesAgain
+pub mod Items
+pub mod Literals
+pub mod Pieces

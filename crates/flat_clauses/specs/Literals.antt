@@ -1,9 +1,0 @@
--- The literals of a clause, packed or plain.
-use Rattle.std.specs.Prelude.{ℕ, List}
-use Rattle.inst_logic.specs.declared.signed.Signed.{Signed}
-use Rattle.flat_clauses.specs.declared.literals.Kept.{Kept}
-use Rattle.flat_clauses.specs.declared.literals.Kept.TheVariants.{Packed, Plain}
-
-abbrev pub literals_in : Kept → List (Signed ℕ)
-literals_in (Packed literals) = literals.now
-literals_in (Plain literals) = literals.now

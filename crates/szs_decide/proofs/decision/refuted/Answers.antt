@@ -1,7 +1,0 @@
-use Rattle.szs_decide.proofs.Judged.{always_refuted}
-use Rattle.szs_decide.proofs.decision.refuted.Goals as goal
-
-pub returns : goal.returns
-returns c =
-    always_refuted c.valid_certificates_certify.ensures c.args.p.now c.requires.problem c.args.cert c.args.journal c.requires.outcome c.refutation_numbers.ensures
-    c.checked_refutation.result c.checked_refutation.ensures.kept c.checked_refutation.ensures.same

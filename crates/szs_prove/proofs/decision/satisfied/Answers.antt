@@ -1,0 +1,13 @@
+use Rattle.szs_prove.proofs.CheckedDecisions.{always_satisfied}
+use Rattle.szs_prove.proofs.decision.satisfied.Goals as goal
+
+pub saturation_numbers-requires : goal.saturation_numbers-requires
+saturation_numbers-requires c = c.requires.outcome.run.whole
+
+pub checked_saturation-requires-clause-whole : goal.checked_saturation-requires-clause-whole
+checked_saturation-requires-clause-whole c = c.requires.outcome.run.whole
+
+pub returns : goal.returns
+returns c =
+    always_satisfied c.valid_certificates_certify.ensures c.args.p.now c.requires.problem c.args.cert c.args.journal c.requires.outcome c.saturation_numbers.ensures
+    c.checked_saturation.result c.checked_saturation.ensures

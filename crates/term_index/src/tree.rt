@@ -1,0 +1,381 @@
+// A discrimination tree as an index.
+ghost use Rattle.std.specs.Prelude.{◌≡◌, ◌<◌, ℕ, List, [], ◌∷◌, true, false, length, Contains, IsTrue, IsErr, IfOk, OnOk, OnErr};
+ghost use Rattle.term_bank.specs.Forest.{tree_at};
+ghost use Rattle.term_index.specs.Views.{Stands};
+ghost use Rattle.term_index.specs.Pairs.{Pair, Adds, Removes, IsAsked};
+ghost use Rattle.term_index.specs.Found.{AreFound};
+ghost use Rattle.term_index.specs.Paths.{PlaceLists, IsArena, KeepsPairs};
+ghost use Rattle.term_index.specs.declared.node.Edge.{Edge};
+ghost use Rattle.term_index.specs.Frames.{IsBegun};
+ghost use Rattle.term_index.specs.Wide.{IsWide};
+ghost use Rattle.term_index.specs.State.{pairs_of, IsStored, Fits, IsWalkOf};
+ghost use Rattle.term_index.specs.Walking.{WalkComes, most_of};
+ghost use Rattle.term_index.specs.StateLaws.{empty_tree, grown_tree};
+
+use crate::descent::{Descent, descent_of};
+use crate::index::PartnerIndex;
+use crate::links::{link_all, prune};
+use crate::node::{Edge, Node};
+use crate::number::short;
+use crate::pairs::{put_pair, take_pair};
+use crate::paths::{grown_leaf, leaf, push_node};
+use crate::places::{Places, no_places};
+use crate::query::{Query, query_of};
+use crate::view::View;
+use crate::walk::{Frame, Walk, is_dead, next_entry, pairs_at};
+use indexmap::{IndexMap, IndexSet};
+use inst_logic::Memory;
+use std::alloc::Global;
+use std::marker::Model;
+use term_bank::{Bank, TermId};
+
+/// A tree of the stored atoms by their labels from left to right (McCune, Experiments with discrimination-tree indexing and
+/// path indexing for term retrieval, 1992), where all variables have one label. An atom is wide to a query exactly where the
+/// two stand to each other as the view says when every occurrence of a variable is a variable of its own.
+///
+/// `insert` and `remove` take time in the symbols of the atom, which is spelled out, however many entries are stored with it;
+/// `start` in the nodes of the query, each once even where it shares them, and in none where no pair is stored; `next` in the
+/// nodes that it looks at. The child by a label is found by one hash, however many children a node has. A term that a variable of
+/// the query stands for is passed over in one step for each node at which it may end, however long it is; where that is a whole
+/// atom, since the query itself is a variable, all nodes are looked at. A node stays when the last pair below it is removed, for
+/// the next that is stored there, but no walk of another query comes to it any more.
+///
+/// A tree has room for 4,294,967,296 nodes, and for entries, numbers of symbols and numbers of arguments up to 4,294,967,295.
+/// `insert` and `start` want memory for what is larger, and nothing that is larger is there to be removed.
+#[derive(Drop)]
+pub struct Tree {
+    alloc: Global,
+    edges: IndexSet<Edge>,
+    places: Places,
+    nodes: Vec<Node>,
+    found: IndexMap<(TermId, u32), u32>,
+    spent: bool,
+}
+
+impl Model for Tree {
+    ghost use Rattle.std.specs.Prelude.{◌≡◌, false};
+    ghost use Rattle.term_index.specs.State.{State};
+    ghost use Rattle.term_index.specs.Found.{AreFound};
+    ghost use Rattle.term_index.specs.Paths.{IsArena};
+
+    ghost Value = { State };
+
+    ghost view = { λ t. record { edges = t.edges.keys; places = t.places; nodes = t.nodes.items; found = t.found.entries; spent = t.spent } };
+
+    ghost invariant = { λ t. t.spent ≡ false → IsArena t.edges.keys t.places t.nodes.items × AreFound t.found.entries t.nodes.items };
+}
+
+/// A walk over the tree, with a copy of its query. It holds no more frames than the steps that it has to come back to, and no
+/// more lists of what is to be met than the steps on the way to the node at hand.
+#[derive(Drop)]
+pub struct TreeCursor {
+    view: View,
+    query: Query,
+    walk: Walk,
+    broken: bool,
+}
+
+impl Tree {
+    /// An index without pairs.
+    pub fn new(alloc: Global) -> Tree
+        ensures { result ≡ record { edges = []; places = record { ends = []; spans = [] }; nodes = []; found = []; spent = false } }
+    {
+        Tree {
+            alloc,
+            edges: IndexSet::new(alloc),
+            places: no_places(alloc),
+            nodes: Vec::new(alloc),
+            found: IndexMap::new(alloc),
+            spent: false,
+        }
+    }
+}
+
+// A root, where there is none.
+fn rooted(alloc: Global, nodes: &mut Vec<Node>) -> Result<(), Memory>
+    ensures root { OnOk result (0 < length nodes.new.items) }
+    ensures arena { (es : List Edge) (ps : PlaceLists) → IsArena es ps nodes.old.items → IsArena es ps nodes.new.items }
+    ensures pairs { KeepsPairs nodes.old.items nodes.new.items }
+{
+    if nodes.is_empty() {
+        push_node(alloc, nodes)?;
+        return Ok(());
+    }
+    Ok(())
+}
+
+// Stores the pair, of which the terms are told one by one.
+fn stored_by(
+    alloc: Global,
+    edges: &mut IndexSet<Edge>,
+    places: &mut Places,
+    nodes: &mut Vec<Node>,
+    found: &mut IndexMap<(TermId, u32), u32>,
+    bank: &Bank,
+    atom: TermId,
+    entry: u32,
+    descent: &mut Descent,
+) -> Result<(), Memory>
+    requires within { atom < length bank.now.trees }
+    requires begins { (descent.old.left.items ≡ atom ∷ []) × (descent.old.opened.items ≡ []) × (descent.old.closed.items ≡ []) }
+    requires arena { IsArena edges.old.keys places.old nodes.old.items }
+    requires found { AreFound found.old.entries nodes.old.items }
+    requires stored { IsStored bank.now edges.old.keys nodes.old.items }
+    requires absent { ¬ Contains (pairs_of nodes.old.items) (atom, entry) }
+    ensures arena { OnOk result (IsArena edges.new.keys places.new nodes.new.items) }
+    ensures found { OnOk result (AreFound found.new.entries nodes.new.items) }
+    ensures stored { OnOk result (IsStored bank.now edges.new.keys nodes.new.items) }
+    ensures added { OnOk result (Adds (atom, entry) (pairs_of nodes.old.items) (pairs_of nodes.new.items)) }
+    ensures held { OnErr result (pairs_of nodes.new.items ≡ pairs_of nodes.old.items) }
+{
+    rooted(alloc, nodes)?;
+    let node = grown_leaf(alloc, edges, nodes, bank, atom, descent)?;
+    link_all(edges, places, nodes, descent.closed.as_slice())?;
+    put_pair(found, nodes, node, atom, entry)?;
+    Ok(())
+}
+
+// Stores the pair.
+fn stored(
+    alloc: Global,
+    edges: &mut IndexSet<Edge>,
+    places: &mut Places,
+    nodes: &mut Vec<Node>,
+    found: &mut IndexMap<(TermId, u32), u32>,
+    bank: &Bank,
+    atom: TermId,
+    entry: usize,
+) -> Result<(), Memory>
+    requires within { atom < length bank.now.trees }
+    requires arena { IsArena edges.old.keys places.old nodes.old.items }
+    requires found { AreFound found.old.entries nodes.old.items }
+    requires stored { IsStored bank.now edges.old.keys nodes.old.items }
+    requires absent { ¬ Contains (pairs_of nodes.old.items) (atom, entry) }
+    ensures arena { OnOk result (IsArena edges.new.keys places.new nodes.new.items) }
+    ensures found { OnOk result (AreFound found.new.entries nodes.new.items) }
+    ensures stored { OnOk result (IsStored bank.now edges.new.keys nodes.new.items) }
+    ensures added { OnOk result (Adds (atom, entry) (pairs_of nodes.old.items) (pairs_of nodes.new.items)) }
+    ensures held { OnErr result (pairs_of nodes.new.items ≡ pairs_of nodes.old.items) }
+{
+    let number = short(entry)?;
+    let mut descent = descent_of(alloc, atom)?;
+    stored_by(
+        alloc,
+        edges,
+        places,
+        nodes,
+        found,
+        bank,
+        atom,
+        number,
+        &mut descent,
+    )
+}
+
+// Takes the pair, where it is there.
+fn taken_by(
+    edges: &IndexSet<Edge>,
+    places: &mut Places,
+    nodes: &mut Vec<Node>,
+    found: &mut IndexMap<(TermId, u32), u32>,
+    bank: &Bank,
+    atom: TermId,
+    entry: u32,
+    descent: &mut Descent,
+) -> Result<bool, Memory>
+    requires within { atom < length bank.now.trees }
+    requires begins { (descent.old.left.items ≡ atom ∷ []) × (descent.old.opened.items ≡ []) × (descent.old.closed.items ≡ []) }
+    requires arena { IsArena edges.now.keys places.old nodes.old.items }
+    requires found { AreFound found.old.entries nodes.old.items }
+    requires stored { IsStored bank.now edges.now.keys nodes.old.items }
+    ensures arena { IsArena edges.now.keys places.new nodes.new.items }
+    ensures found { OnOk result (AreFound found.new.entries nodes.new.items) }
+    ensures stored { IsStored bank.now edges.now.keys nodes.new.items }
+    ensures there { IfOk result (λ r. r ≡ true → Removes (atom, entry) (pairs_of nodes.old.items) (pairs_of nodes.new.items)) }
+    ensures absent { IfOk result (λ r. r ≡ false → (¬ Contains (pairs_of nodes.old.items) (atom, entry)) × (pairs_of nodes.new.items ≡ pairs_of nodes.old.items)) }
+    ensures held { OnErr result (nodes.new.items ≡ nodes.old.items) }
+{
+    if nodes.is_empty() {
+        return Ok(false);
+    }
+    match leaf(edges, bank, atom, descent)? {
+        None => Ok(false),
+        Some(node) => {
+            let there = take_pair(found, nodes, node, atom, entry)?;
+            prune(edges, places, nodes, descent.closed.as_slice());
+            Ok(there)
+        }
+    }
+}
+
+// Takes the pair, where it is there.
+fn taken(
+    alloc: Global,
+    edges: &IndexSet<Edge>,
+    places: &mut Places,
+    nodes: &mut Vec<Node>,
+    found: &mut IndexMap<(TermId, u32), u32>,
+    bank: &Bank,
+    atom: TermId,
+    entry: usize,
+) -> Result<bool, Memory>
+    requires within { atom < length bank.now.trees }
+    requires arena { IsArena edges.now.keys places.old nodes.old.items }
+    requires found { AreFound found.old.entries nodes.old.items }
+    requires stored { IsStored bank.now edges.now.keys nodes.old.items }
+    ensures arena { IsArena edges.now.keys places.new nodes.new.items }
+    ensures found { OnOk result (AreFound found.new.entries nodes.new.items) }
+    ensures stored { IsStored bank.now edges.now.keys nodes.new.items }
+    ensures there { IfOk result (λ r. r ≡ true → Removes (atom, entry) (pairs_of nodes.old.items) (pairs_of nodes.new.items)) }
+    ensures absent { IfOk result (λ r. r ≡ false → (¬ Contains (pairs_of nodes.old.items) (atom, entry)) × (pairs_of nodes.new.items ≡ pairs_of nodes.old.items)) }
+    ensures held { OnErr result (nodes.new.items ≡ nodes.old.items) }
+{
+    match short(entry) {
+        // (no such entry was stored)
+        Err(_) => Ok(false),
+        Ok(number) => {
+            let mut descent = descent_of(alloc, atom)?;
+            taken_by(
+                edges,
+                places,
+                nodes,
+                found,
+                bank,
+                atom,
+                number,
+                &mut descent,
+            )
+        }
+    }
+}
+
+// A walk that has not begun: it has one frame at the root, if any pair is stored.
+fn begun(alloc: Global, nodes: &[Node]) -> Result<Walk, Memory>
+    ensures { IfOk result (λ w. IsBegun nodes.now w.cells.items w.stack.items w.leaf w.place) }
+{
+    let place = pairs_at(nodes, 0).len();
+    let mut stack = Vec::new(alloc);
+    if is_dead(nodes, 0) {
+        return Ok(Walk {
+            cells: Vec::new(alloc),
+            stack,
+            leaf: 0,
+            place,
+        });
+    }
+    stack.push(Frame {
+        node: 0,
+        at: 0,
+        end: 1,
+        rest: 0,
+        cells: 0,
+    })?;
+    Ok(Walk {
+        cells: Vec::new(alloc),
+        stack,
+        leaf: 0,
+        place,
+    })
+}
+
+impl PartnerIndex for Tree {
+    type Cursor = TreeCursor;
+
+    ghost pairs = { λ s. pairs_of s.nodes };
+
+    ghost spent = { λ s. s.spent };
+
+    ghost fits = { Fits };
+
+    ghost wide = { IsWide };
+
+    ghost walks = { λ s c. IsWalkOf s c.broken c.view c.query c.walk.cells.items c.walk.stack.items c.walk.leaf };
+
+    ghost to_come = { λ s c. WalkComes c.view c.query s.edges s.nodes c.walk.cells.items c.walk.stack.items c.walk.leaf c.walk.place };
+
+    ghost most = { λ s c. most_of s.nodes c.walk.stack.items c.walk.leaf c.walk.place };
+
+    ghost broken = { λ c. c.broken };
+
+    fn insert(&mut self, bank: &Bank, atom: TermId, entry: usize) -> Result<(), Memory> {
+        if self.spent {
+            return Err(Memory);
+        }
+        let result = stored(
+            self.alloc,
+            &mut self.edges,
+            &mut self.places,
+            &mut self.nodes,
+            &mut self.found,
+            bank,
+            atom,
+            entry,
+        );
+        self.spent = result.is_err();
+        result
+    }
+
+    fn remove(&mut self, bank: &Bank, atom: TermId, entry: usize) -> Result<bool, Memory> {
+        if self.spent {
+            return Err(Memory);
+        }
+        let result = taken(
+            self.alloc,
+            &self.edges,
+            &mut self.places,
+            &mut self.nodes,
+            &mut self.found,
+            bank,
+            atom,
+            entry,
+        );
+        self.spent = result.is_err();
+        result
+    }
+
+    /// A walk that is not refused memory gives just the pairs whose atoms are wide to the query.
+    fn start(&self, bank: &Bank, query: TermId, view: View) -> Result<TreeCursor, Memory>
+        requires within { query < length bank.now.trees }
+        requires fits { Fits bank.now self.now }
+        ensures walks { IfOk result (λ c. IsWalkOf self.now c.broken c.view c.query c.walk.cells.items c.walk.stack.items c.walk.leaf) }
+        ensures asked { IfOk result (λ c. IsAsked bank.now (pairs_of self.now.nodes) (IsWide view) (Stands view) query (WalkComes c.view c.query self.now.edges self.now.nodes c.walk.cells.items c.walk.stack.items c.walk.leaf c.walk.place)) }
+        ensures exact { IfOk result (λ c. (p : Pair) → Contains (pairs_of self.now.nodes) p → IsWide view (tree_at bank.now p.0) (tree_at bank.now query) → WalkComes c.view c.query self.now.edges self.now.nodes c.walk.cells.items c.walk.stack.items c.walk.leaf c.walk.place p) }
+        ensures whole { IfOk result (λ c. c.broken ≡ false) }
+        ensures stays_spent { IsTrue self.now.spent → IsErr result }
+    {
+        if self.spent {
+            return Err(Memory);
+        }
+        let walk = begun(self.alloc, self.nodes.as_slice())?;
+        let query = query_of(self.alloc, bank, query, &walk.stack)?;
+        Ok(TreeCursor {
+            view,
+            query,
+            walk,
+            broken: false,
+        })
+    }
+
+    fn next(&self, cursor: &mut TreeCursor) -> Result<Option<usize>, Memory> {
+        if cursor.broken {
+            return Err(Memory);
+        }
+        match next_entry(
+            &cursor.query,
+            cursor.view,
+            &self.edges,
+            self.nodes.as_slice(),
+            &mut cursor.walk,
+        ) {
+            Ok(found) => Ok(found),
+            Err(error) => {
+                cursor.broken = true;
+                Err(error)
+            }
+        }
+    }
+
+    ghost empty_fits = { empty_tree };
+
+    ghost grown_fits = { grown_tree };
+}

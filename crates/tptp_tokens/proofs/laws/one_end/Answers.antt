@@ -1,5 +1,0 @@
-use Rattle.tptp_tokens.proofs.Decided.{done_is_end, same_ends}
-use Rattle.tptp_tokens.proofs.laws.one_end.Goals as goal
-
-pub returns : goal.returns
-returns c = record { done = done_is_end; same = same_ends }

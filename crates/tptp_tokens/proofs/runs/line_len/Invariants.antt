@@ -1,9 +1,0 @@
-use Rattle.std.proofs.Common.{◌≡◌, ◌+◌, ◌-◌, ◌≤◌, length, drop}
-use Rattle.tptp_tokens.specs.Bytes.{run, is_no_line_feed}
-use Rattle.tptp_tokens.proofs.runs.line_len.Given as goal
-
-abbrev pub invariant-loop-n : goal.invariant-loop-n
-invariant-loop-n l = record { in_range : l.n ≤ length l.bytes; total : l.n + run is_no_line_feed (drop l.n l.bytes) ≡ run is_no_line_feed l.bytes }
-
-abbrev pub decreases-loop-n : goal.decreases-loop-n
-decreases-loop-n l = length l.bytes - l.n
