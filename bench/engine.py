@@ -1,5 +1,5 @@
 #!/usr/bin/env python3
-"""Builds crates/engine_speed, runs the engine alone on generated problems, and prints for each how the run ended, its members,
+"""Builds crates/speed, runs the engine alone on generated problems, and prints for each how the run ended, its members,
 solves and appended entries, the seconds, the members a second, and the bytes of memory a member. Words choose kinds of problems."""
 
 import argparse
@@ -11,7 +11,7 @@ import sys
 import tempfile
 
 TOP = os.path.dirname(os.path.dirname(os.path.abspath(__file__)))
-CRATE = os.path.join(TOP, 'crates', 'engine_speed')
+CRATE = os.path.join(TOP, 'crates', 'speed')
 
 
 def chain(length, reached=True):
@@ -116,7 +116,7 @@ def measured(program, path, budget, limit):
     if child == 0:
         os.dup2(write_end, 1)
         resource.setrlimit(resource.RLIMIT_CPU, (limit, limit))
-        os.execv(program, [program, path, str(budget)])
+        os.execv(program, [program, 'engine', path, str(budget)])
     os.close(write_end)
     with os.fdopen(read) as pipe:
         told = pipe.read().split()
@@ -129,13 +129,13 @@ def main():
     parser.add_argument('kinds', nargs='*')
     parser.add_argument('--limit', type=int, default=20, help='seconds for each run')
     parser.add_argument('--budget', type=int, default=20000, help='symbols, where there are function symbols')
-    parser.add_argument('--program', help='an engine_speed that is built already')
+    parser.add_argument('--program', help='a speed that is built already')
     parser.add_argument('--keep', help='a folder for the files')
     words = parser.parse_args()
     program = words.program
     if program is None:
-        subprocess.run(['rt', 'run', '--', 'tiny.p', '1'], cwd=CRATE, stdout=subprocess.DEVNULL, stderr=subprocess.DEVNULL)
-        program = os.path.join(CRATE, 'out', 'engine_speed')
+        subprocess.run(['rt', 'run', '--', 'engine', 'tiny.p', '1'], cwd=CRATE, stdout=subprocess.DEVNULL, stderr=subprocess.DEVNULL)
+        program = os.path.join(CRATE, 'out', 'speed')
     print('%-12s %-12s %-10s %8s %7s %8s %8s %9s %6s' % ('kind', 'size', 'status', 'members', 'solves', 'appended', 'seconds', 'members/s', 'bytes'))
     with tempfile.TemporaryDirectory() as folder:
         folder = words.keep or folder

@@ -1,5 +1,5 @@
 #!/usr/bin/env python3
-"""Builds crates/index_speed, runs it, and prints what storing atoms in the tree and asking for them costs. Each time is the
+"""Builds crates/speed, runs its part of the index, and prints what storing atoms in the tree and asking for them costs. Each time is the
 least of some runs, less that of a run that does all but the work that is measured."""
 
 import os
@@ -8,7 +8,7 @@ import subprocess
 import sys
 
 TOP = os.path.dirname(os.path.dirname(os.path.abspath(__file__)))
-CRATE = os.path.join(TOP, 'crates', 'index_speed')
+CRATE = os.path.join(TOP, 'crates', 'speed')
 RUNS = 5
 
 
@@ -17,7 +17,7 @@ def seconds(*words):
     least = None
     for _ in range(RUNS):
         before = resource.getrusage(resource.RUSAGE_CHILDREN)
-        run = subprocess.run([os.path.join(CRATE, 'out', 'index_speed'), *map(str, words)], capture_output=True, text=True, check=True)
+        run = subprocess.run([os.path.join(CRATE, 'out', 'speed'), 'index', *map(str, words)], capture_output=True, text=True, check=True)
         after = resource.getrusage(resource.RUSAGE_CHILDREN)
         spent = after.ru_utime + after.ru_stime - before.ru_utime - before.ru_stime
         least = spent if least is None else min(least, spent)
@@ -25,7 +25,7 @@ def seconds(*words):
 
 
 def main():
-    subprocess.run(['rt', 'run', '--', 'unary', '1', '1', '1'], cwd=CRATE, stdout=subprocess.DEVNULL, stderr=subprocess.DEVNULL, check=True)
+    subprocess.run(['rt', 'run', '--', 'index', 'unary', '1', '1', '1'], cwd=CRATE, stdout=subprocess.DEVNULL, stderr=subprocess.DEVNULL, check=True)
     for kind, constants, stored, rounds, what in [
         ('first', 317, 100000, 100, 'e(ci,X0) on atoms e(ci,cj)'),
         ('second', 317, 100000, 10, 'e(X0,cj) on atoms e(ci,cj)'),

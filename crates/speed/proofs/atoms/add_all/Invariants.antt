@@ -1,5 +1,5 @@
 use Rattle.term_bank.specs.Forest.{AreIds, Extends}
-use Rattle.index_speed.proofs.atoms.add_all.Given as goal
+use Rattle.speed.proofs.atoms.add_all.Given as goal
 
 abbrev pub invariant-loop-i : goal.invariant-loop-i
 invariant-loop-i l = record {

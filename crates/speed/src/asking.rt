@@ -10,6 +10,15 @@ use term_bank::{Bank, TermId};
 use term_index::{Tree, View, candidates};
 use worked_index::building::{store_all, terms_of};
 
+/// Atoms over so many constants, of which the first ones are stored, and how often all queries are asked.
+#[derive(Clone, Copy)]
+pub struct Queries {
+    pub kind: Kind,
+    pub constants: usize,
+    pub stored: usize,
+    pub rounds: usize,
+}
+
 // How many entries the query is given.
 fn given(index: &Tree, bank: &Bank, query: TermId) -> Result<usize, Memory>
     requires query { query < length bank.now.trees }
@@ -23,8 +32,7 @@ fn given(index: &Tree, bank: &Bank, query: TermId) -> Result<usize, Memory>
     Ok(count)
 }
 
-// How many entries all queries are given.
-fn given_all(index: &Tree, bank: &Bank, queries: &[TermId]) -> Result<usize, Memory>
+fn given_to_all(index: &Tree, bank: &Bank, queries: &[TermId]) -> Result<usize, Memory>
     requires queries { AreIds bank.now queries.now }
     requires fits { Fits bank.now index.now }
 {
@@ -35,73 +43,61 @@ fn given_all(index: &Tree, bank: &Bank, queries: &[TermId]) -> Result<usize, Mem
     Ok(count)
 }
 
-fn asked(index: &Tree, bank: &Bank, queries: &[TermId], rounds: usize) -> Result<usize, Memory>
+fn given_in_rounds(
+    index: &Tree,
+    bank: &Bank,
+    queries: &[TermId],
+    rounds: usize,
+) -> Result<usize, Memory>
     requires queries { AreIds bank.now queries.now }
     requires fits { Fits bank.now index.now }
 {
     let mut count: usize = 0;
     for _ in 0..rounds {
-        count = count.wrapping_add(given_all(index, bank, queries)?);
+        count = count.wrapping_add(given_to_all(index, bank, queries)?);
     }
     Ok(count)
 }
 
 // Stores atoms in the tree, and asks the queries.
-fn filled(
+fn given_by_tree(
     alloc: Global,
     index: &mut Tree,
     bank: &Bank,
     terms: &Terms,
-    stored: usize,
-    rounds: usize,
+    asked: Queries,
 ) -> Result<usize, Memory>
     requires empty { index.old ≡ record { edges = []; places = record { ends = []; spans = [] }; nodes = []; found = []; spent = false } }
     requires ids { AreIds bank.now terms.now.all.items }
 {
     let mut places = terms.atoms.clone()?;
-    places.truncate(stored);
+    places.truncate(asked.stored);
     let atoms = terms_of(alloc, bank, terms.all.as_slice(), places.as_slice())?;
     let queries = terms_of(alloc, bank, terms.all.as_slice(), terms.queries.as_slice())?;
     store_all(index, bank, atoms.as_slice())?;
-    asked(index, bank, queries.as_slice(), rounds)
+    given_in_rounds(index, bank, queries.as_slice(), asked.rounds)
 }
 
-fn filled_in_bank(
+fn given_by(
     alloc: Global,
     index: &mut Tree,
     bank: &mut Bank,
-    kind: Kind,
-    constants: usize,
-    stored: usize,
-    rounds: usize,
+    asked: Queries,
 ) -> Result<usize, Memory>
     requires empty { index.old ≡ record { edges = []; places = record { ends = []; spans = [] }; nodes = []; found = []; spent = false } }
 {
     let mut terms = no_terms(alloc);
-    terms_of_kind(alloc, bank, &mut terms, kind, constants)?;
-    filled(alloc, index, bank, &terms, stored, rounds)
+    terms_of_kind(alloc, bank, &mut terms, asked.kind, asked.constants)?;
+    given_by_tree(alloc, index, bank, &terms, asked)
 }
 
-fn measured_in_bank(
-    alloc: Global,
-    bank: &mut Bank,
-    kind: Kind,
-    constants: usize,
-    stored: usize,
-    rounds: usize,
-) -> Result<usize, Memory> {
+fn given_over(alloc: Global, bank: &mut Bank, asked: Queries) -> Result<usize, Memory> {
     let mut index = Tree::new(alloc);
-    filled_in_bank(alloc, &mut index, bank, kind, constants, stored, rounds)
+    given_by(alloc, &mut index, bank, asked)
 }
 
-/// How many entries are given in all rounds.
-pub fn measured(
-    alloc: Global,
-    kind: Kind,
-    constants: usize,
-    stored: usize,
-    rounds: usize,
-) -> Result<usize, Memory> {
+/// How many entries are given to all queries in all rounds.
+pub fn entries_given(alloc: Global, asked: Queries) -> Result<usize, Memory> {
     let mut bank = Bank::new(alloc);
-    measured_in_bank(alloc, &mut bank, kind, constants, stored, rounds)
+    given_over(alloc, &mut bank, asked)
 }

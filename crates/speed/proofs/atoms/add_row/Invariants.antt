@@ -1,5 +1,5 @@
 use Rattle.term_bank.specs.Forest.{AreIds, Extends}
-use Rattle.index_speed.proofs.atoms.add_row.Given as goal
+use Rattle.speed.proofs.atoms.add_row.Given as goal
 
 abbrev pub invariant-loop-j : goal.invariant-loop-j
 invariant-loop-j l = record {

@@ -27,7 +27,7 @@ fn outcome(alloc: Global, p: &Problem, budget: u32) -> Result<Outcome, Memory>
 }
 
 /// What a run on the file had. Nothing comes where there is no such problem or the memory does not do.
-pub fn measured<L: Library>(
+pub fn counts_on<L: Library>(
     alloc: Global,
     files: &mut L,
     name: &str,

@@ -1,5 +1,5 @@
 use Rattle.term_bank.specs.Forest.{AreIds, Extends}
-use Rattle.index_speed.proofs.atoms.add_constants.Given as goal
+use Rattle.speed.proofs.atoms.add_constants.Given as goal
 
 abbrev pub invariant-loop-n : goal.invariant-loop-n
 invariant-loop-n l = record {
