@@ -28,3 +28,5 @@ pub mod KeptSymbols
 pub mod Congruences
 pub mod GroundConstants
 pub mod TieMembers
+pub mod MadeLists
+pub mod NotRefuted

@@ -1,11 +1,11 @@
 -- Trees and substitutions: what a substitution makes of a tree depends on the tree's variables alone.
-use Rattle.std.proofs.Common.{◌≡◌, ℕ, inl, inr, refl, sym, ap, ap₂, ⊎_elim, subst as transport, Bool, true, false, Decides}
+use Rattle.std.proofs.Common.{◌≡◌, ℕ, [], inl, inr, refl, sym, ap, ap₂, ⊎_elim, subst as transport, Bool, true, false, Decides}
 use Rattle.inst_logic.specs.declared.symbol.Sym.{Sym}
 use Rattle.inst_logic.specs.Tree.{Tree, var, app, Trees, none, more}
 use Rattle.inst_logic.specs.Equal.{tree_eq}
 use Rattle.inst_logic.specs.Substitution.{Substitution, subst, substs, tree_vars, trees_vars}
 use Rattle.inst_logic.proofs.SameLemmas.{tree_eq_decides}
-use Rattle.inst_calculus.proofs.Membership.{◌∈◌, in_left, in_right, in_either}
+use Rattle.inst_calculus.proofs.Membership.{◌∈◌, in_left, in_right, in_either, nothing_in}
 
 -- the parts of equal trees are equal
 pub app_symbol : {f g : Sym} {ts us : Trees} → app f ts ≡ app g us → f ≡ g
@@ -80,3 +80,10 @@ mutual
     | inl j ↦ let (w, k, h) = variable_from s v t j in (w, in_left w (tree_vars t) (trees_vars ts) k, h)
     | inr j ↦ let (w, k, h) = variable_from_each s v ts j in (w, in_right w (tree_vars t) (trees_vars ts) k, h)
   ]
+
+-- ground terms for all variables
+abbrev pub IsGrounding : Substitution → Type 0
+IsGrounding s = (v : ℕ) → tree_vars (s v) ≡ []
+
+pub ground_under : (s : Substitution) → IsGrounding s → (t : Tree) → tree_vars (subst s t) ≡ []
+ground_under s g t = nothing_in (tree_vars (subst s t)) (λ v i. let (w, j, h) = variable_from s v t i in transport (λ vs. v ∈ vs) (g w) h)

@@ -6,6 +6,7 @@
 pub mod abstraction;
 pub mod axioms;
 pub mod conclusions;
+pub mod consistency;
 pub mod covering;
 pub mod derivations;
 pub mod examples;
@@ -20,6 +21,7 @@ pub use abstraction::{
 };
 pub use axioms::axioms_keep;
 pub use conclusions::{given_when_grown, one_conclusion};
+pub use consistency::not_refuted;
 pub use covering::{covered_when_grown, covered_when_renamed};
 pub use derivations::{
     kept_when_given_grows, refuted_by_numbered_steps, refuted_by_steps, shown_when_renamed,

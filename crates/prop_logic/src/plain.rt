@@ -96,9 +96,4 @@ impl Solver for Plain {
             }
         }
     }
-
-    // They aren't counted.
-    fn conflicts(&self) -> u64 {
-        0
-    }
 }

@@ -65,7 +65,9 @@ pub trait Solver: Drop {
 
     /// How much the searches learned so far, by steps that answer conflicts; 0 from a solver that keeps no count. Nothing is promised
     /// of it.
-    fn conflicts(&self) -> u64;
+    fn conflicts(&self) -> u64 {
+        0
+    }
 }
 
 /// Makes so many atoms.
