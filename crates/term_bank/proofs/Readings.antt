@@ -8,6 +8,7 @@ use Rattle.std.specs.List.{All, list_all}
 use Rattle.std.proofs.lemmas.List.Elements.{All-nil, All-cons}
 use Rattle.std.proofs.lemmas.Option.{slice_get-get_or}
 use Rattle.inst_logic.proofs.SameLemmas.{and_left, and_right}
+use Rattle.inst_logic.proofs.Applications.{same_list}
 use Rattle.inst_logic.specs.declared.symbol.Sym.{Sym}
 use Rattle.inst_logic.specs.Tree.{Tree, var, app, of_list, to_list}
 use Rattle.inst_logic.specs.Unifiers.{IsApplication}
@@ -19,10 +20,6 @@ use denote.Bor.{Bor}
 use Rattle.term_bank.specs.Forest.{Forest, tree_at, number_of, symbol_of, arguments_of, with_arguments, no_symbol, symbol_at, nth}
 use Rattle.term_bank.specs.Nodes.{AreParts, Reading, variable, application, reading, node_in, measures_in, reading_tree, node_tree, trees_of, reading_fits, AreMeasuresOf, IsBank}
 use Rattle.term_bank.proofs.Nodes.{below, length_trees, tree_at_node}
-
-to_of : (ts : List Tree) → to_list (of_list ts) ≡ ts
-to_of [] = refl
-to_of (t ∷ ts) = ap (λ us. t ∷ us) (to_of ts)
 
 below_all : (n : ℕ) (args : List ℕ) → list_all (λ i. nat_lt i n) args ≡ true → All (λ i. i < n) args
 below_all n [] h = All-nil (λ i. i < n)
@@ -90,7 +87,7 @@ module _ (ss : List Sym) (ns : List Node) (ms : List Measures) (f : Forest) (b :
   symbol_numbered us e s args p = ap (λ (xs : List Sym). Some (symbol_at xs s)) (sym e) ∙ ap symbol_of (sym (at_application s args p))
 
   pub arguments_are : (s : ℕ) (args : List ℕ) → reading (node_in ns id) ≡ application s args → map (tree_at f) args ≡ arguments_of (tree_at f id)
-  arguments_are s args e = sym (to_of (map (nth f.trees) args)) ∙ ap arguments_of (sym (at_application s args e))
+  arguments_are s args e = sym (same_list (map (nth f.trees) args)) ∙ ap arguments_of (sym (at_application s args e))
 
   pub arguments_below : (s : ℕ) (args : List ℕ) → reading (node_in ns id) ≡ application s args → All (λ i. i < id) args
   arguments_below s args e = below_all id args (and_right (nat_lt s (length ss)) _ (fits (application s args) e))
