@@ -26,7 +26,7 @@ pub struct Conclusion {
 }
 
 // The ids of the variables up to the greatest.
-fn variables_up_to(
+pub(crate) fn variables_up_to(
     alloc: Global,
     bank: &mut Bank,
     greatest: Option<usize>,

@@ -7,10 +7,14 @@ pub mod conclusion;
 pub mod laws;
 mod literals;
 mod renumber;
+mod subsuming;
 pub mod subsumption;
+mod terms;
 mod walk;
 
 pub use compare::{clause_size, greatest_variable, tautology, variant};
 pub use conclusion::{Conclusion, conclude, conclude_clause, under};
 pub use renumber::canonical;
+pub use subsuming::subsuming_terms;
 pub use subsumption::subsumes;
+pub use terms::terms_under;

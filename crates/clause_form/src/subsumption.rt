@@ -7,7 +7,7 @@ ghost use Rattle.inst_logic.specs.Clauses.{Subsumes};
 ghost use Rattle.inst_logic.specs.Substitution.{Substitution};
 ghost use Rattle.term_bank.specs.Forest.{IsClauseOf, clause_at};
 ghost use Rattle.unify_core.specs.Matching.{AreMatches};
-ghost use Rattle.clause_form.specs.Placements.{Goes, IsPlacedIn, HasPlaces, IsPut, IsMissed, IsPlacing, no_literal, steps_of};
+ghost use Rattle.clause_form.specs.Placements.{Goes, IsPlacedIn, HasPlaces, ArePlacedBy, IsPut, IsMissed, IsPlacing, no_literal, steps_of};
 ghost use Rattle.clause_form.specs.declared.subsumption.Ranked.{Ranked};
 
 use inst_logic::Memory;
@@ -52,7 +52,7 @@ fn has_candidate(bank: &Bank, l: &IdLiteral, c: &[IdLiteral]) -> bool
     false
 }
 
-fn have_candidates(bank: &Bank, f: &[IdLiteral], c: &[IdLiteral]) -> bool
+pub(crate) fn have_candidates(bank: &Bank, f: &[IdLiteral], c: &[IdLiteral]) -> bool
     requires left { IsClauseOf bank.now f.now }
     requires right { IsClauseOf bank.now c.now }
     ensures { result ≡ false → (s : Substitution) → ¬ (HasPlaces bank.now s f.now c.now) }
@@ -156,6 +156,7 @@ fn search_places(
     requires right { IsClauseOf bank.now c.now }
     requires placing { IsPlacing bank.now f.now c.now bindings.old.entries choices.old.items }
     ensures yes { IfOk result (λ r. r ≡ true → (s : Substitution) × HasPlaces bank.now s f.now c.now) }
+    ensures placed { IfOk result (λ r. r ≡ true → ArePlacedBy bank.now bindings.new.entries f.now c.now) }
     ensures no { IfOk result (λ r. r ≡ false → (s : Substitution) → ¬ (HasPlaces bank.now s f.now c.now)) }
 {
     loop {
@@ -214,7 +215,7 @@ fn literals_of(alloc: Global, all: &[Ranked]) -> Result<Vec<IdLiteral>, Memory>
 }
 
 // The literals in the order in which they are placed.
-fn by_rank(alloc: Global, bank: &Bank, f: &[IdLiteral]) -> Result<Vec<IdLiteral>, Memory>
+pub(crate) fn by_rank(alloc: Global, bank: &Bank, f: &[IdLiteral]) -> Result<Vec<IdLiteral>, Memory>
     requires { IsClauseOf bank.now f.now }
     ensures { IfOk result (λ v. IsPermutation f.now v.items) }
 {
@@ -224,7 +225,7 @@ fn by_rank(alloc: Global, bank: &Bank, f: &[IdLiteral]) -> Result<Vec<IdLiteral>
 }
 
 // The same where the literals of the first are in the order in which they are placed, and the bindings are empty.
-fn place_all(
+pub(crate) fn place_all(
     alloc: Global,
     bank: &Bank,
     bindings: &mut Bindings,
@@ -235,6 +236,7 @@ fn place_all(
     requires right { IsClauseOf bank.now c.now }
     requires empty { bindings.old ≡ record { entries = []; spent = false } }
     ensures yes { IfOk result (λ r. r ≡ true → (s : Substitution) × HasPlaces bank.now s ordered.now c.now) }
+    ensures placed { IfOk result (λ r. r ≡ true → ArePlacedBy bank.now bindings.new.entries ordered.now c.now) }
     ensures no { IfOk result (λ r. r ≡ false → (s : Substitution) → ¬ (HasPlaces bank.now s ordered.now c.now)) }
 {
     let mut choices = Vec::new(alloc);
