@@ -8,4 +8,4 @@ pub mod congruence;
 pub mod symbols;
 
 pub use axioms::{axioms_from, axioms_of};
-pub use symbols::SymList;
+pub use symbols::{SymList, symbols_in};
