@@ -1,0 +1,133 @@
+#!/usr/bin/env python3
+"""Runs the program on inputs as long as it reads, in a quarter of the length, a half, and the whole, and on large jobs in little
+memory. Prints the seconds and the memory of each: the time is to grow with the bytes, memory is to stay below 2 GiB, and in little
+memory each run is to end with its answer or with MemoryOut, and none by a signal. Words choose tables: long, little."""
+
+import os
+import sys
+import tempfile
+
+import runs
+
+WHOLE = 16777216
+INCLUDES = 16
+
+
+def padded(text, length):
+    """The text with blanks to that length."""
+    return text + b' ' * (length - len(text))
+
+
+def repeated(make, length):
+    """Pieces in a row, as many as there is room for."""
+    pieces, size, number = [], 0, 0
+    while True:
+        piece = make(number)
+        if size + len(piece) > length:
+            return b''.join(pieces)
+        pieces.append(piece)
+        size += len(piece)
+        number += 1
+
+
+def one_clause(literal):
+    def made(length):
+        head, end = b'cnf(a,axiom,$false', b').'
+        return head + repeated(literal, length - len(head) - len(end)) + end
+    return made
+
+
+def deep_terms(length):
+    term = b'f(' * 253 + b'c' + b')' * 253
+    return repeated(lambda n: b'cnf(k%d,axiom,p(%s)).\n' % (n, term), length)
+
+
+def units(length):
+    count = 300000 * length // WHOLE
+    room = length // count - 1
+    return b''.join((b'cnf(k%d,axiom,' % n + b'p%d).' % n).ljust(room) + b'\n' for n in range(count))
+
+
+def one_name(length):
+    head, end = b'cnf(a,axiom,', b').'
+    return head + b'p' * (length - len(head) - len(end)) + end
+
+
+def alone(make):
+    return lambda folder, length: runs.write(folder, 'long.p', padded(make(length), length))
+
+
+def over_includes(folder, length):
+    """The units, spread over a file and sixteen levels of includes, each file but the last with an include at its end."""
+    part = length // (INCLUDES + 1)
+    for level in range(INCLUDES + 1):
+        more = b"include('level%d.p').\n" % (level + 1) if level < INCLUDES else b''
+        text = repeated(lambda n, level=level: b'cnf(k%d_%d,axiom,q%d_%d).\n' % (level, n, level, n), part - len(more))
+        runs.write(folder, 'level%d.p' % level, padded(text + more, part))
+    return 'level0.p'
+
+
+KINDS = [
+    ('one clause, one literal again and again', alone(one_clause(lambda n: b'|q'))),
+    ('one clause, a literal for each place', alone(one_clause(lambda n: b'|q%d' % n))),
+    ('terms of 255 levels', alone(deep_terms)),
+    ('300,000 units', alone(units)),
+    ('one name', alone(one_name)),
+    ('over 16 levels of includes', over_includes),
+]
+
+
+def table_of_lengths(program, limit):
+    bad = 0
+    print('%-42s %10s %8s %9s %8s  %s' % ('input', 'bytes', 'ended', 'seconds', 'MB', 'first line'))
+    for what, make in KINDS:
+        for length in (WHOLE // 4, WHOLE // 2, WHOLE):
+            with tempfile.TemporaryDirectory() as folder:
+                name = make(folder, length)
+                found = runs.ended([program, 'prove', name], folder, limit)
+            wrong = found.status not in (0, 1) or found.bytes_held >= 2 ** 31
+            bad += wrong
+            print('%-42s %10d %8s %9.2f %8.0f  %s%s' % (
+                what, length, found.how(), found.seconds, found.bytes_held / 1e6, found.first_line()[:40], '   WRONG' if wrong else ''), flush=True)
+    with tempfile.TemporaryDirectory() as folder:
+        runs.write(folder, 'long.p', padded(b'', WHOLE + 1))
+        found = runs.ended([program, 'prove', 'long.p'], folder, limit)
+        print('%-42s %10d %8s %9.2f %8.0f  %s' % ('a byte more than is read', WHOLE + 1, found.how(), found.seconds, found.bytes_held / 1e6, found.first_line()[:40]))
+        bad += found.status != 2
+    return bad
+
+
+def table_of_memory(program, limit):
+    """Large jobs under a limit of memory, from 64 MiB on, until each has its answer."""
+    bad = 0
+    print('%-42s %8s %10s %9s  %s' % ('job', 'MiB', 'ended', 'seconds', 'first line'))
+    with tempfile.TemporaryDirectory() as folder:
+        chain = ['cnf(k0,axiom,r(c1)).', 'cnf(goal,axiom,~r(d)).', 'cnf(rule,axiom,~r(X) | ~e(X,Y) | r(Y)).']
+        chain += ['cnf(k%d,axiom,e(c%d,c%d)).' % (n, n, n + 1) for n in range(1, 33334)]
+        runs.write(folder, 'chain.p', '\n'.join(chain) + '\n')
+        for what, words in (('stress 100000', ['stress', '100000']), ('a saturation of 100,000 members', ['prove', 'chain.p'])):
+            for mib in (64, 96, 128, 192, 256, 384, 512, 768, 1024, 1536, 2048, 3072):
+                found = runs.ended([program, *words], folder, limit, mib * 2 ** 20)
+                wrong = found.status not in (0, 6) or (found.status == 6 and 'MemoryOut' not in found.first_line())
+                bad += wrong
+                print('%-42s %8d %10s %9.2f  %s%s' % (what, mib, found.how(), found.seconds, found.first_line()[:44], '   WRONG' if wrong else ''), flush=True)
+                if found.status == 0:
+                    break
+    return bad
+
+
+def main():
+    parser = runs.words_of(__doc__)
+    parser.add_argument('tables', nargs='*', help='long, little; both if none')
+    parser.add_argument('--limit', type=int, default=120, help='seconds of a processor for each run')
+    given = parser.parse_args()
+    program, bad = runs.built(given), 0
+    if not given.tables or 'long' in given.tables:
+        bad += table_of_lengths(program, given.limit)
+    if not given.tables or 'little' in given.tables:
+        bad += table_of_memory(program, given.limit)
+    print('%d wrong' % bad)
+    return 1 if bad else 0
+
+
+sys.exit(main())
