@@ -38,7 +38,8 @@ class Table:
         process = subprocess.Popen([*before, self.program, *words], cwd=self.folder, stderr=subprocess.DEVNULL, **how)
         text = b''
         if process.stdout:
-            text = process.stdout.read()
+            text = process.stdout.read(1 << 20)
+            process.stdout.close()
         process.wait(120)
         return runs.Ended(process.returncode, text)
 
