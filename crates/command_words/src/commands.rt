@@ -1,59 +1,62 @@
-// The commands, as `clap` is told them.
+// The commands, as `clap` is told them. An argument is added by a function of its own: what a function owns is proved at each of its
+// ways out, and an argument and a command have many fields.
 ghost use Rattle.std.specs.Prelude.{◌≡◌, IfOk};
-ghost use Rattle.clap.specs.Words.{app_of};
-ghost use Rattle.command_words.specs.Commands.{ask_command, check_command, prove_command, sat_command, stress_command};
+ghost use Rattle.clap.specs.Words.{app_of, with_rule};
+ghost use Rattle.command_words.specs.Commands.{ask_command, check_command, optional, prove_command, sat_command, stress_command, wanted};
 
 use clap::{Arg, Command};
 use inst_logic::Memory;
 use std::alloc::Global;
 
+// The command with one more word that has to be there.
+fn with_word<'a>(alloc: Global, command: Command<'a>, id: &'a str) -> Result<Command<'a>, Memory>
+    ensures { IfOk result (λ c. app_of c ≡ with_rule (app_of command.entry) (wanted id.now)) }
+{
+    let word = Arg::new(alloc, id).required(true);
+    let command = command.arg(word)?;
+    Ok(command)
+}
+
+// The command with one more option, which has a value and is named as it.
+fn with_option<'a>(alloc: Global, command: Command<'a>, id: &'a str) -> Result<Command<'a>, Memory>
+    ensures { IfOk result (λ c. app_of c ≡ with_rule (app_of command.entry) (optional id.now)) }
+{
+    let option = Arg::new(alloc, id).long(id);
+    let command = command.arg(option)?;
+    Ok(command)
+}
+
 pub(crate) fn make_prove<'a>(alloc: Global) -> Result<Command<'a>, Memory>
     ensures { IfOk result (λ c. app_of c ≡ prove_command) }
 {
-    let file = Arg::new(alloc, "file").required(true);
-    let root = Arg::new(alloc, "root").long("root");
-    let budget = Arg::new(alloc, "budget").long("budget");
-    let command = Command::new(alloc, "prove")
-        .arg(file)?
-        .arg(root)?
-        .arg(budget)?;
-    Ok(command)
+    let command = with_word(alloc, Command::new(alloc, "prove"), "file")?;
+    let command = with_option(alloc, command, "root")?;
+    with_option(alloc, command, "budget")
 }
 
 pub(crate) fn make_sat<'a>(alloc: Global) -> Result<Command<'a>, Memory>
     ensures { IfOk result (λ c. app_of c ≡ sat_command) }
 {
-    let file = Arg::new(alloc, "file").required(true);
-    let command = Command::new(alloc, "sat").arg(file)?;
-    Ok(command)
+    with_word(alloc, Command::new(alloc, "sat"), "file")
 }
 
 pub(crate) fn make_check<'a>(alloc: Global) -> Result<Command<'a>, Memory>
     ensures { IfOk result (λ c. app_of c ≡ check_command) }
 {
-    let cert = Arg::new(alloc, "cert").required(true);
-    let problem = Arg::new(alloc, "problem").long("problem");
-    let root = Arg::new(alloc, "root").long("root");
-    let command = Command::new(alloc, "check")
-        .arg(cert)?
-        .arg(problem)?
-        .arg(root)?;
-    Ok(command)
+    let command = with_word(alloc, Command::new(alloc, "check"), "cert")?;
+    let command = with_option(alloc, command, "problem")?;
+    with_option(alloc, command, "root")
 }
 
 pub(crate) fn make_ask<'a>(alloc: Global) -> Result<Command<'a>, Memory>
     ensures { IfOk result (λ c. app_of c ≡ ask_command) }
 {
-    let cert = Arg::new(alloc, "cert").required(true);
-    let atom = Arg::new(alloc, "atom").required(true);
-    let command = Command::new(alloc, "ask").arg(cert)?.arg(atom)?;
-    Ok(command)
+    let command = with_word(alloc, Command::new(alloc, "ask"), "cert")?;
+    with_word(alloc, command, "atom")
 }
 
 pub(crate) fn make_stress<'a>(alloc: Global) -> Result<Command<'a>, Memory>
     ensures { IfOk result (λ c. app_of c ≡ stress_command) }
 {
-    let number = Arg::new(alloc, "number").required(true);
-    let command = Command::new(alloc, "stress").arg(number)?;
-    Ok(command)
+    with_word(alloc, Command::new(alloc, "stress"), "number")
 }
