@@ -143,7 +143,7 @@ class Lane:
         self.top, self.folder, self.crates = top, folder, crates
         os.makedirs(folder)
         with open(os.path.join(folder, 'crates.txt'), 'w', encoding='utf-8') as file:
-            file.write(text)
+            file.writelines(line + '\n' for line in text.splitlines() if line.split(':')[0].split()[0] in crates)
         for name in crates:
             for part in PARTS:
                 source = os.path.join(top, 'crates', name, part)
