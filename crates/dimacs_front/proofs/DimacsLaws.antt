@@ -1,205 +1,106 @@
--- A text is read as clauses exactly where the relation of the form holds between them.
-use Rattle.std.proofs.Common.{◌≡◌, ◌≢◌, ℕ, ◌≤◌, ◌==◌, ◌&&◌, arith, Bool, true, false, List, [], ◌∷◌, All, length, drop, Option, None, Some, Result, Ok, Err, nat_lt, nat_eq, codes, if◌then◌else◌, refl, ap, sym, subst, inl, inr, ◌∙◌}
-use Rattle.std.proofs.lemmas.Bool.{cases_Bool, eqb-true, eq-eqb, ltb-true}
-use Rattle.inst_logic.specs.declared.signed.Signed.{Signed}
-use Rattle.dimacs_front.specs.Lines.{Placed, placed, tokens, end_line}
-use Rattle.dimacs_front.specs.Numbers.{number}
-use Rattle.dimacs_front.specs.Form.{same_bytes, words_on, vars_in, counted, heading, header_on, header, first_fault, marks, parts, whole, unless_fault, clauses_in, with_count, reading_by, reading}
-use Rattle.dimacs_front.specs.Dimacs.{Spells, SpellsClauses, IsDimacs}
+-- A text is read as clauses exactly where the relation of the form holds between them, and else has exactly one refusal.
+use Rattle.std.proofs.Common.{◌≡◌, ◌≢◌, ◌⊎◌, ℕ, List, Result, Ok, Err, refl, ap, sym, subst, inl, inr, ◌∙◌}
+use Rattle.std.specs.Prelude.{IfOk, IfErr}
+use Rattle.dimacs_front.specs.Lines.{Placed, tokens, end_line}
+use Rattle.dimacs_front.specs.Form.{header, clauses_in, with_count, reading_by, reading, IsRead}
+use Rattle.dimacs_front.specs.Dimacs.{SpellsClauses, HasHeader, header_for, IsDimacs}
+use Rattle.dimacs_front.specs.Refusals.{IsHeaderRefusal, no_header, no_variables, too_many_variables, no_count, IsClauseRefusal, out_of_place, above_variables, within_clause, other_count, IsRefusal, of_header, of_clauses, IsRefusedFor}
 use Rattle.dimacs_front.specs.declared.error.DimacsError.{DimacsError}
-use Rattle.dimacs_front.specs.declared.error.DimacsError.TheVariants.{Syntax, Count, Limit}
+use Rattle.dimacs_front.specs.declared.error.DimacsError.TheVariants.{Syntax, Range, Count, Limit, Twice, Memory}
 use Rattle.dimacs_front.specs.declared.header.Header.{Header}
 use Rattle.dimacs_front.specs.declared.cnf.Cnf.{Cnf}
-use Rattle.inst_logic.proofs.Booleans.{both_true}
-use Rattle.dimacs_front.proofs.Spelling.{not_lt, spelled_number, number_spells}
-use Rattle.dimacs_front.proofs.SpelledClauses.{AreRead, clauses_read, tokens_spell}
+use Rattle.dimacs_front.proofs.Headers.{same_error, header_read, behind_header, header_found, header_refused, header_refusal}
+use Rattle.dimacs_front.proofs.ClauseRefusals.{counted_clauses, clauses_refused, ClauseOutcome, clause_outcome}
 
-same_is : (a b : List ℕ) → same_bytes a b ≡ true → a ≡ b
-same_is [] [] e = refl
-same_is [] (y ∷ ys) e = absurd (let f : false ≡ true = e in cc)
-same_is (x ∷ xs) [] e = absurd (let f : false ≡ true = e in cc)
-same_is (x ∷ xs) (y ∷ ys) e =
-    let p = both_true (nat_eq x y) (same_bytes xs ys) e in
-    ap (λ n. n ∷ xs) (eqb-true x y p.0) ∙ ap (λ t. y ∷ t) (same_is xs ys p.1)
+-- what is spelled is read
 
-not_over : (n : ℕ) → n ≤ 1000000 → nat_lt 1000000 n ≡ false
-not_over n h = elim (cases_Bool (nat_lt 1000000 n)) [ inl e ↦ let l = ltb-true 1000000 n e in absurd (omega arith) | inr e ↦ e ]
-
--- the tokens of a header and what follows them
-headed : ℕ → List ℕ → List ℕ → List Placed → List Placed
-headed line v c rest = placed line (codes "p") ∷ placed line (codes "cnf") ∷ placed line v ∷ placed line c ∷ rest
-
-headed_words : (line : ℕ) (v c : List ℕ) (rest : List Placed) → words_on line (headed line v c rest) ≡ codes "p" ∷ codes "cnf" ∷ v ∷ c ∷ words_on line rest
-unfolding headed
-headed_words line v c rest = let q = eq-eqb line line refl in rw q refl
-
-header_read : (end line : ℕ) (v c : List ℕ) (rest : List Placed) (vars count : ℕ) → Spells vars v → vars ≤ 1000000 → Spells count c → header end (headed line v c rest) ≡ Ok (record { line = line; vars = vars; count = count })
-unfolding headed
-header_read end line v c rest vars count s limit u =
-    ap (header_on line) (headed_words line v c rest)
-    ∙ ap (λ o. heading line o (number c)) (spelled_number vars v s)
-    ∙ ap (heading line (Some vars)) (spelled_number count c u)
-    ∙ (let n = not_over vars limit in rw n refl)
-
-clauses_found : (end : ℕ) (h : Header) (ts : List Placed) (clauses : List (List (Signed ℕ))) → AreRead h ts clauses → clauses_in end h ts ≡ Ok clauses
-clauses_found end h ts clauses r =
-    ap (λ f. unless_fault f (whole end (parts [] (marks h ts)).ended (parts [] (marks h ts)).rest)) r.fault
-    ∙ ap (λ e. whole end e (parts [] (marks h ts)).rest) r.ended
-    ∙ ap (whole end clauses) r.left
-
-counted_right : (h : Header) (clauses : List (List (Signed ℕ))) → length clauses ≡ h.count → with_count h (Ok clauses) ≡ Ok (record { vars = h.vars; clauses = clauses })
-counted_right h clauses e = let q = eq-eqb (length clauses) h.count e in rw q refl
+reading_behind : (text : List ℕ) (h : Header) (rest : List Placed) → HasHeader (tokens text) h rest → reading text ≡ with_count h (clauses_in (end_line text) h rest)
+reading_behind text h rest d =
+    ap (reading_by (end_line text) (tokens text)) (header_read (end_line text) (tokens text) h rest d)
+    ∙ ap (λ us. with_count h (clauses_in (end_line text) h us)) (behind_header (tokens text) h rest d)
 
 pub dimacs_is_read : (text : List ℕ) (cnf : Cnf) → IsDimacs text cnf → reading text ≡ Ok cnf
-unfolding headed
 dimacs_is_read text cnf d =
-    let h : Header = record { line = d.line; vars = cnf.vars; count = length cnf.clauses } in
-    let end = end_line text in
-    ap (λ ts. reading_by end ts (header end ts)) d.all
-    ∙ ap (reading_by end (headed d.line d.vars_word d.count_word d.rest)) (header_read end d.line d.vars_word d.count_word d.rest cnf.vars (length cnf.clauses) d.vars d.limit d.count)
-    ∙ ap (with_count h) (clauses_found end h d.rest cnf.clauses (clauses_read h d.rest cnf.clauses d.behind d.clauses))
-    ∙ counted_right h cnf.clauses refl
+    let h = header_for d.line cnf in
+    reading_behind text h d.rest d.header ∙ counted_clauses (end_line text) h d.rest cnf refl refl d.behind d.clauses
 
--- the next word of the line is that of the next token
-record Next (line : ℕ) (ts : List Placed) (w : List ℕ) (ws : List (List ℕ)) : Type 0 where
-  rest : List Placed
-  all : ts ≡ placed line w ∷ rest
-  words : words_on line rest ≡ ws
+pub refusal_is_read : (text : List ℕ) (e : DimacsError) → IsRefusal text e → reading text ≡ Err e
+refusal_is_read text e (of_header r) = ap (reading_by (end_line text) (tokens text)) (header_refused (end_line text) (tokens text) e r)
+refusal_is_read text e (of_clauses h rest d r) = reading_behind text h rest d ∙ clauses_refused (end_line text) h rest e r
 
-next_of : (line : ℕ) (ts : List Placed) (w : List ℕ) (ws : List (List ℕ)) → words_on line ts ≡ w ∷ ws → Next line ts w ws
-next_of line [] w ws e = absurd (let f : [] ≡ w ∷ ws = e in cc)
-next_of line (t ∷ ts) w ws e = elim (cases_Bool (t.line == line)) [
-  | inl q ↦
-      let f : t.text ∷ words_on line ts ≡ w ∷ ws = rw q at e in
-      let same : t.text ≡ w = cc in
-      let others : words_on line ts ≡ ws = cc in
-      record { rest = ts; all = ap (λ n. placed n t.text ∷ ts) (eqb-true t.line line q) ∙ ap (λ x. placed line x ∷ ts) same; words = others }
-  | inr q ↦ absurd (let f : [] ≡ w ∷ ws = rw q at e in cc)
-]
+-- what is read is spelled
 
--- what a header says of the words of its line
-record Heads (line : ℕ) (ws : List (List ℕ)) (h : Header) : Type 0 where
-  vars_word : List ℕ
-  count_word : List ℕ
-  more : List (List ℕ)
-  all : ws ≡ codes "p" ∷ codes "cnf" ∷ vars_word ∷ count_word ∷ more
-  vars : Spells h.vars vars_word
-  limit : h.vars ≤ 1000000
-  count : Spells h.count count_word
-  line_is : h.line ≡ line
+abbrev Outcome : List ℕ → Result Cnf DimacsError → Type 0
+Outcome text (Ok cnf) = IsDimacs text cnf
+Outcome text (Err e) = IsRefusal text e
 
-heading_inverse : (line : ℕ) (v c : Option ℕ) (h : Header) → heading line v c ≡ Ok h → (v ≡ Some h.vars) × (c ≡ Some h.count) × (h.vars ≤ 1000000) × (h.line ≡ line)
-heading_inverse line None c h e = absurd (let f : Err (Syntax line) ≡ Ok h = e in cc)
-heading_inverse line (Some v) c h e = elim (cases_Bool (nat_lt 1000000 v)) [
-  | inl q ↦ absurd (let f : Err Limit ≡ Ok h = rw q at e in cc)
-  | inr q ↦ by c (rw q at e) (not_lt 1000000 v q)
-]
+clauses_outcome : (text : List ℕ) (h : Header) (rest : List Placed) → HasHeader (tokens text) h rest → (r : Result Cnf DimacsError) → ClauseOutcome (end_line text) h rest r → Outcome text r
+clauses_outcome text h rest d (Ok cnf) c =
+    let whole : h ≡ header_for h.line cnf = ap (λ n. record { line = h.line; vars = n; count = h.count }) c.vars_is ∙ ap (λ n. record { line = h.line; vars = cnf.vars; count = n }) c.count_is in
+    record { line = h.line; rest = rest; header = subst (λ x. HasHeader (tokens text) x rest) whole d; behind = c.behind; clauses = subst (λ n. SpellsClauses n rest cnf.clauses) c.vars_is c.clauses }
+clauses_outcome text h rest d (Err e) c = of_clauses h rest d c
+
+outcome : (text : List ℕ) → Outcome text (reading text)
+outcome text = go (header (end_line text) (tokens text)) refl
   where
-    by : (o : Option ℕ) → counted line v o ≡ Ok h → v ≤ 1000000 → (Some v ≡ Some h.vars) × (o ≡ Some h.count) × (h.vars ≤ 1000000) × (h.line ≡ line)
-    by None f l = absurd (let g : Err (Syntax line) ≡ Ok h = f in cc)
-    by (Some n) f l =
-        let r : record { line = line; vars = v; count = n } ≡ h = (let g : Ok (record { line = line; vars = v; count = n }) ≡ Ok h = f in cc) in
-        (ap (λ (x : Header). Some x.vars) r, ap (λ (x : Header). Some x.count) r, subst (λ (x : Header). x.vars ≤ 1000000) r l, sym (ap (λ (x : Header). x.line) r))
-
-vars_inverse : (p cnf v : List ℕ) (n : ℕ) → (if same_bytes p (codes "p") && same_bytes cnf (codes "cnf") then number v else None) ≡ Some n → (p ≡ codes "p") × (cnf ≡ codes "cnf") × (number v ≡ Some n)
-vars_inverse p cnf v n e = by (same_bytes p (codes "p") && same_bytes cnf (codes "cnf")) refl e
-  where
-    by : (b : Bool) → (same_bytes p (codes "p") && same_bytes cnf (codes "cnf")) ≡ b → (if b then number v else None) ≡ Some n → (p ≡ codes "p") × (cnf ≡ codes "cnf") × (number v ≡ Some n)
-    by true t f = let q = both_true (same_bytes p (codes "p")) (same_bytes cnf (codes "cnf")) t in (same_is p (codes "p") q.0, same_is cnf (codes "cnf") q.1, f)
-    by false t f = absurd (let g : None ≡ Some n = f in cc)
-
-heads : (line : ℕ) (ws : List (List ℕ)) (h : Header) → header_on line ws ≡ Ok h → Heads line ws h
-heads line [] h e = absurd (let q = heading_inverse line None None h e in let f = q.0 in cc)
-heads line (p ∷ []) h e = absurd (let q = heading_inverse line None None h e in let f = q.0 in cc)
-heads line (p ∷ cnf ∷ []) h e = absurd (let q = heading_inverse line None None h e in let f = q.0 in cc)
-heads line (p ∷ cnf ∷ v ∷ []) h e = absurd (let q = heading_inverse line (vars_in (p ∷ cnf ∷ v ∷ [])) None h e in let f = q.1 in cc)
-heads line (p ∷ cnf ∷ v ∷ c ∷ ws) h e =
-    let q = heading_inverse line (vars_in (p ∷ cnf ∷ v ∷ c ∷ ws)) (number c) h e in
-    let u = vars_inverse p cnf v h.vars q.0 in
-    record {
-      vars_word = v;
-      count_word = c;
-      more = ws;
-      all = ap (λ x. x ∷ cnf ∷ v ∷ c ∷ ws) u.0 ∙ ap (λ x. codes "p" ∷ x ∷ v ∷ c ∷ ws) u.1;
-      vars = number_spells h.vars v u.2;
-      limit = q.2;
-      count = number_spells h.count c q.1;
-      line_is = q.3;
-    }
-
--- the relation, for the tokens of a text
-record Shape (ts : List Placed) (cnf : Cnf) : Type 0 where
-  line : ℕ
-  vars_word : List ℕ
-  count_word : List ℕ
-  rest : List Placed
-  all : ts ≡ headed line vars_word count_word rest
-  vars : Spells cnf.vars vars_word
-  limit : cnf.vars ≤ 1000000
-  count : Spells (length cnf.clauses) count_word
-  behind : All (λ t. t.line ≢ line) rest
-  clauses : SpellsClauses cnf.vars rest cnf.clauses
-
--- clauses that are as many as the header says
-record Counted (h : Header) (r : Result (List (List (Signed ℕ))) DimacsError) (cnf : Cnf) : Type 0 where
-  clauses : List (List (Signed ℕ))
-  is : r ≡ Ok clauses
-  cnf_is : record { vars = h.vars; clauses = clauses } ≡ cnf
-  count : length clauses ≡ h.count
-
-count_inverse : (h : Header) (r : Result (List (List (Signed ℕ))) DimacsError) (cnf : Cnf) → with_count h r ≡ Ok cnf → Counted h r cnf
-count_inverse h (Err x) cnf e = absurd (let f : Err x ≡ Ok cnf = e in cc)
-count_inverse h (Ok cs) cnf e = elim (cases_Bool (length cs == h.count)) [
-  | inl q ↦
-      let f : Ok (record { vars = h.vars; clauses = cs }) ≡ Ok cnf = rw q at e in
-      let same : record { vars = h.vars; clauses = cs } ≡ cnf = cc in
-      record { clauses = cs; is = refl; cnf_is = same; count = eqb-true (length cs) h.count q }
-  | inr q ↦ absurd (let f : Err (Count (length cs)) ≡ Ok cnf = rw q at e in cc)
-]
-
-clauses_inverse : (end : ℕ) (fault : Option DimacsError) (ended : List (List (Signed ℕ))) (left : List (Signed ℕ)) (cs : List (List (Signed ℕ))) → unless_fault fault (whole end ended left) ≡ Ok cs → (fault ≡ None) × (ended ≡ cs) × (left ≡ [])
-clauses_inverse end (Some x) ended left cs e = absurd (let f : Err x ≡ Ok cs = e in cc)
-clauses_inverse end None ended [] cs e = (refl, (let f : Ok ended ≡ Ok cs = e in cc), refl)
-clauses_inverse end None ended (l ∷ ls) cs e = absurd (let f : Err (Syntax end) ≡ Ok cs = e in cc)
-
-shape_of : (end line : ℕ) (ts : List Placed) (h : Header) (cnf : Cnf) → Heads line (words_on line ts) h → with_count h (clauses_in end h (drop 4 ts)) ≡ Ok cnf → Shape ts cnf
-unfolding headed
-shape_of end line ts h cnf d e =
-    let one = next_of line ts (codes "p") (codes "cnf" ∷ d.vars_word ∷ d.count_word ∷ d.more) d.all in
-    let two = next_of line one.rest (codes "cnf") (d.vars_word ∷ d.count_word ∷ d.more) one.words in
-    let three = next_of line two.rest d.vars_word (d.count_word ∷ d.more) two.words in
-    let four = next_of line three.rest d.count_word d.more three.words in
-    let all : ts ≡ headed line d.vars_word d.count_word four.rest =
-    one.all ∙ ap (λ us. placed line (codes "p") ∷ us) two.all ∙ ap (λ us. placed line (codes "p") ∷ placed line (codes "cnf") ∷ us) three.all
-    ∙ ap (λ us. placed line (codes "p") ∷ placed line (codes "cnf") ∷ placed line d.vars_word ∷ us) four.all in
-    let f : with_count h (clauses_in end h four.rest) ≡ Ok cnf = subst (λ us. with_count h (clauses_in end h (drop 4 us)) ≡ Ok cnf) all e in
-    let k = count_inverse h (clauses_in end h four.rest) cnf f in
-    let p = parts [] (marks h four.rest) in
-    let i = clauses_inverse end (first_fault h four.rest) p.ended p.rest k.clauses k.is in
-    let s = tokens_spell h four.rest i.0 i.2 in
-    subst (Shape ts) k.cnf_is (record {
-      line = h.line;
-      vars_word = d.vars_word;
-      count_word = d.count_word;
-      rest = four.rest;
-      all = subst (λ n. ts ≡ headed n d.vars_word d.count_word four.rest) (sym d.line_is) all;
-      vars = d.vars;
-      limit = d.limit;
-      count = subst (λ n. Spells n d.count_word) (sym k.count) d.count;
-      behind = s.1;
-      clauses = subst (SpellsClauses h.vars four.rest) i.1 s.0;
-    })
-
-shape : (end : ℕ) (ts : List Placed) (cnf : Cnf) → reading_by end ts (header end ts) ≡ Ok cnf → Shape ts cnf
-shape end [] cnf e = absurd (let f : Err (Syntax end) ≡ Ok cnf = e in cc)
-shape end (t ∷ ts) cnf e = go (header_on t.line (words_on t.line (t ∷ ts))) refl e
-  where
-    go : (r : Result Header DimacsError) → header_on t.line (words_on t.line (t ∷ ts)) ≡ r → reading_by end (t ∷ ts) r ≡ Ok cnf → Shape (t ∷ ts) cnf
-    go (Err x) q f = absurd (let g : Err x ≡ Ok cnf = f in cc)
-    go (Ok h) q f = shape_of end t.line (t ∷ ts) h cnf (heads t.line (words_on t.line (t ∷ ts)) h q) f
+    go : (r : Result Header DimacsError) → header (end_line text) (tokens text) ≡ r → Outcome text (reading_by (end_line text) (tokens text) r)
+    go (Err e) k = of_header (header_refusal (end_line text) (tokens text) e k)
+    go (Ok h) k =
+        let (rest, d) = header_found (end_line text) (tokens text) h k in
+        let r = with_count h (clauses_in (end_line text) h rest) in
+        subst (λ us. Outcome text (with_count h (clauses_in (end_line text) h us))) (sym (behind_header (tokens text) h rest d)) (clauses_outcome text h rest d r (clause_outcome (end_line text) h rest))
 
 pub read_is_dimacs : (text : List ℕ) (cnf : Cnf) → reading text ≡ Ok cnf → IsDimacs text cnf
-unfolding headed
-read_is_dimacs text cnf e =
-    let s = shape (end_line text) (tokens text) cnf e in
-    record { line = s.line; vars_word = s.vars_word; count_word = s.count_word; rest = s.rest; all = s.all; vars = s.vars; limit = s.limit; count = s.count; behind = s.behind; clauses = s.clauses }
+read_is_dimacs text cnf e = subst (Outcome text) e (outcome text)
+
+pub read_is_refusal : (text : List ℕ) (e : DimacsError) → reading text ≡ Err e → IsRefusal text e
+read_is_refusal text e f = subst (Outcome text) f (outcome text)
+
+pub read_or_refused : (text : List ℕ) → ((cnf : Cnf) × IsDimacs text cnf) ⊎ ((e : DimacsError) × IsRefusal text e)
+read_or_refused text = go (reading text) (outcome text)
+  where
+    go : (r : Result Cnf DimacsError) → Outcome text r → ((cnf : Cnf) × IsDimacs text cnf) ⊎ ((e : DimacsError) × IsRefusal text e)
+    go (Ok cnf) o = inl (cnf, o)
+    go (Err e) o = inr (e, o)
+
+pub not_both : (text : List ℕ) (cnf : Cnf) (e : DimacsError) → IsDimacs text cnf → ¬ IsRefusal text e
+not_both text cnf e d r = let f : Ok cnf ≡ Err e = sym (dimacs_is_read text cnf d) ∙ refusal_is_read text e r in cc
+
+pub one_refusal : (text : List ℕ) (d e : DimacsError) → IsRefusal text d → IsRefusal text e → d ≡ e
+one_refusal text d e r s = same_error {A = Cnf} d e (sym (refusal_is_read text d r) ∙ refusal_is_read text e s)
+
+-- the form has no quantifiers, so no variable is refused as quantified twice
+
+header_never : (end : ℕ) (ts : List Placed) (e : DimacsError) (line : ℕ) → IsHeaderRefusal end ts e → e ≡ Twice line → ⊥
+header_never end ts e line (no_header q r) s = cc
+header_never end ts e line (no_variables t us q n r) s = cc
+header_never end ts e line (too_many_variables t us q v m d a r) s = cc
+header_never end ts e line (no_count t us q v m d l n r) s = cc
+
+clauses_never : (end : ℕ) (h : Header) (ts : List Placed) (e : DimacsError) (line : ℕ) → IsClauseRefusal end h ts e → e ≡ Twice line → ⊥
+clauses_never end h ts e line (out_of_place b t us q a o r) s = cc
+clauses_never end h ts e line (above_variables b t us q a n l k m r) s = cc
+clauses_never end h ts e line (within_clause a n r) s = cc
+clauses_never end h ts e line (other_count a cs k n r) s = cc
+
+pub never_twice : (text : List ℕ) (line : ℕ) → ¬ IsRefusal text (Twice line)
+never_twice text line (of_header r) = header_never (end_line text) (tokens text) (Twice line) line r refl
+never_twice text line (of_clauses h rest d r) = clauses_never (end_line text) h rest (Twice line) line r refl
+
+-- what an answer says that is what was to be read
+
+pub dimacs_of : (text : List ℕ) (r : Result Cnf DimacsError) → IsRead (reading text) r → IfOk r (IsDimacs text)
+dimacs_of text (Ok cnf) i = read_is_dimacs text cnf i
+dimacs_of text (Err e) i = tt
+
+pub refusal_of : (text : List ℕ) (r : Result Cnf DimacsError) → IsRead (reading text) r → IfErr r (IsRefusedFor text)
+refusal_of text (Ok cnf) i = tt
+refusal_of text (Err (Syntax line)) i = read_is_refusal text (Syntax line) i
+refusal_of text (Err (Range line)) i = read_is_refusal text (Range line) i
+refusal_of text (Err (Count found)) i = read_is_refusal text (Count found) i
+refusal_of text (Err Limit) i = read_is_refusal text Limit i
+refusal_of text (Err (Twice line)) i = read_is_refusal text (Twice line) i
+refusal_of text (Err Memory) i = tt
+
+pub never_twice_of : (text : List ℕ) (r : Result Cnf DimacsError) → IsRead (reading text) r → (line : ℕ) → r ≢ Err (Twice line)
+never_twice_of text r i line e = never_twice text line (read_is_refusal text (Twice line) (subst (IsRead (reading text)) e i))

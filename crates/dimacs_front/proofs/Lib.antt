@@ -3,4 +3,8 @@ pub mod WordLaws
 pub mod Models
 pub mod Spelling
 pub mod SpelledClauses
+pub mod Headers
+pub mod ClauseRefusals
 pub mod DimacsLaws
+pub mod QuantifierLaws
+pub mod QdimacsLaws

@@ -15,20 +15,20 @@ use Rattle.dimacs_front.specs.declared.numbers.Mark.{Mark}
 use Rattle.dimacs_front.specs.declared.numbers.Mark.TheVariants.{End, Literal}
 use Rattle.dimacs_front.proofs.Spelling.{spelled_literal, literal_spells, end_spells}
 
-differ : (a b : ℕ) → a ≢ b → (a == b) ≡ false
+pub differ : (a b : ℕ) → a ≢ b → (a == b) ≡ false
 differ a b n = elim (cases_Bool (a == b)) [ inl e ↦ absurd (n (eqb-true a b e)) | inr e ↦ e ]
 
 -- a token behind the header's line is judged by its mark
-judged_behind : (h : Header) (t : Placed) → t.line ≢ h.line → judged h t ≡ within h.vars t.line (mark_of t.text)
+pub judged_behind : (h : Header) (t : Placed) → t.line ≢ h.line → judged h t ≡ within h.vars t.line (mark_of t.text)
 judged_behind h t n = let e = differ t.line h.line n in rw e refl
 
-end_judged : (h : Header) (t : Placed) → t.line ≢ h.line → t.text ≡ 48 ∷ [] → judged h t ≡ Ok End
+pub end_judged : (h : Header) (t : Placed) → t.line ≢ h.line → t.text ≡ 48 ∷ [] → judged h t ≡ Ok End
 end_judged h t n e = judged_behind h t n ∙ ap (λ w. within h.vars t.line (mark_of w)) e
 
 within_literal : (vars line : ℕ) (l : Signed ℕ) → l.atom < vars → within vars line (Some (Literal l)) ≡ Ok (Literal l)
 within_literal vars line l lt = let e = lt-ltb l.atom vars lt in rw e refl
 
-literal_judged : (h : Header) (t : Placed) (l : Signed ℕ) → t.line ≢ h.line → SpellsLiteral l t.text → l.atom < h.vars → judged h t ≡ Ok (Literal l)
+pub literal_judged : (h : Header) (t : Placed) (l : Signed ℕ) → t.line ≢ h.line → SpellsLiteral l t.text → l.atom < h.vars → judged h t ≡ Ok (Literal l)
 literal_judged h t l n s lt = judged_behind h t n ∙ ap (within h.vars t.line) (spelled_literal l t.text s) ∙ within_literal h.vars t.line l lt
 
 -- what is read of tokens whose front spells a clause
@@ -76,11 +76,11 @@ clauses_read h ts (c ∷ cs) a (rest, s, more) =
     }
 
 -- what the marks of a token without a fault say
-record Says (h : Header) (t : Placed) (m : Mark) : Type 0 where
-  is : judged h t ≡ Ok m
-  behind : t.line ≢ h.line
-  mark : mark_of t.text ≡ Some m
-  below : (l : Signed ℕ) → m ≡ Literal l → l.atom < h.vars
+pub record Says (h : Header) (t : Placed) (m : Mark) : Type 0 where
+  pub is : judged h t ≡ Ok m
+  pub behind : t.line ≢ h.line
+  pub mark : mark_of t.text ≡ Some m
+  pub below : (l : Signed ℕ) → m ≡ Literal l → l.atom < h.vars
 
 says_within : (vars line : ℕ) (o : Option Mark) (m : Mark) → within vars line o ≡ Ok m → (o ≡ Some m) × ((l : Signed ℕ) → m ≡ Literal l → l.atom < vars)
 says_within vars line None m e = absurd (let f : Err (Syntax line) ≡ Ok m = e in cc)
@@ -91,7 +91,7 @@ says_within vars line (Some (Literal k)) m e = elim (cases_Bool (nat_lt k.atom v
   | inr t ↦ absurd (let f : Err (Range line) ≡ Ok m = rw t at e in cc)
 ]
 
-says : (h : Header) (t : Placed) (m : Mark) → judged h t ≡ Ok m → Says h t m
+pub says : (h : Header) (t : Placed) (m : Mark) → judged h t ≡ Ok m → Says h t m
 says h t m e = elim (cases_Bool (t.line == h.line)) [
   | inl q ↦ absurd (let f : Err (Syntax t.line) ≡ Ok m = rw q at e in cc)
   | inr q ↦ let w = says_within h.vars t.line (mark_of t.text) m (rw q at e) in

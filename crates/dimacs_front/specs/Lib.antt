@@ -2,9 +2,14 @@ pub mod Lines
 pub mod Tokens
 pub mod Numbers
 pub mod Form
+pub mod Quantified
+pub mod QuantifierLines
 pub mod Header
 pub mod Texts
 pub mod Answers
 pub mod Files
 pub mod Dimacs
+pub mod Refusals
+pub mod Qdimacs
+pub mod FormulaRefusals
 pub mod Command

@@ -132,6 +132,15 @@ fn write_fault<K: Sink>(
             write_lines(out, status, name, &[b"% clauses ", found, b"\n"])
         }
         DimacsError::Limit => write_lines(out, status, name, &[b"% limit variables\n"]),
+        DimacsError::Twice { line } => {
+            let line = digits.format(line).as_bytes();
+            write_lines(
+                out,
+                status,
+                name,
+                &[b"% quantified twice: line ", line, b" of ", name, b"\n"],
+            )
+        }
         DimacsError::Memory => write_lines(out, status, name, &[]),
     }
 }

@@ -1,8 +1,10 @@
 // The reader of the DIMACS form (Second DIMACS Implementation Challenge, Satisfiability: Suggested Format, 1993), of which
 // each clause is kept as it stands.
-ghost use Rattle.std.specs.Prelude.{◌≡◌, IfOk};
+ghost use Rattle.std.specs.Prelude.{◌≡◌, ◌≢◌, ℕ, Err, IfOk, IfErr};
+ghost use Rattle.dimacs_front.specs.declared.error.DimacsError.TheVariants as errors;
 ghost use Rattle.prop_logic.specs.Literal.{AllAtomsBelow};
 ghost use Rattle.dimacs_front.specs.Dimacs.{IsDimacs};
+ghost use Rattle.dimacs_front.specs.Refusals.{IsRefusedFor};
 ghost use Rattle.dimacs_front.specs.Numbers.{IsMarkBelow};
 ghost use Rattle.dimacs_front.specs.Lines.{placed};
 ghost use Rattle.dimacs_front.specs.Tokens.{coming, end_of};
@@ -11,7 +13,6 @@ ghost use Rattle.dimacs_front.specs.Form.{clauses_in, judged, reading, within, I
 use crate::cnf::Cnf;
 use crate::error::DimacsError;
 use crate::header::{Header, read_header};
-use crate::laws::read_as_spelled;
 use crate::numbers::{Mark, mark_of};
 use crate::stream::{Token, Tokens};
 use prop_logic::{LitList, LitLists};
@@ -40,7 +41,7 @@ fn judge(token: &Token, header: &Header) -> Result<Mark, DimacsError>
 }
 
 // The clauses behind the header.
-fn read_clauses(
+pub(crate) fn read_clauses(
     alloc: Global,
     tokens: &mut Tokens,
     header: &Header,
@@ -67,14 +68,11 @@ fn read_clauses(
     Ok(clauses)
 }
 
-/// The clauses of a text in the DIMACS form, in their order, each with its literals in their order. It takes time in proportion
-/// to the text.
-pub fn read_dimacs(alloc: Global, text: &[u8]) -> Result<Cnf, DimacsError>
-    ensures dimacs { IfOk result (IsDimacs text.now) }
+// What is read of the text.
+fn read_text(alloc: Global, text: &[u8]) -> Result<Cnf, DimacsError>
     ensures read { IsRead (reading text.now) result }
     ensures below { IfOk result (λ cnf. AllAtomsBelow cnf.vars cnf.clauses) }
 {
-    read_as_spelled();
     let mut tokens = Tokens::new(text);
     let header = read_header(&mut tokens)?;
     let clauses = read_clauses(alloc, &mut tokens, &header)?;
@@ -86,4 +84,16 @@ pub fn read_dimacs(alloc: Global, text: &[u8]) -> Result<Cnf, DimacsError>
         vars: header.vars,
         clauses,
     })
+}
+
+/// The clauses of a text in the DIMACS form, in their order, each with its literals in their order, or the first refusal in the
+/// order of the tokens. It takes time in proportion to the text.
+pub fn read_dimacs(alloc: Global, text: &[u8]) -> Result<Cnf, DimacsError>
+    ensures dimacs { IfOk result (IsDimacs text.now) }
+    ensures refused { IfErr result (IsRefusedFor text.now) }
+    ensures read { IsRead (reading text.now) result }
+    ensures below { IfOk result (λ cnf. AllAtomsBelow cnf.vars cnf.clauses) }
+    ensures once { (line : ℕ) → result ≢ Err (errors.Twice line) }
+{
+    read_text(alloc, text)
 }

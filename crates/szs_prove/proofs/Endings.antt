@@ -184,6 +184,7 @@ module _ (words : List (List ℕ)) (read : Reading) where
   text_tells file (fault.Range line) h = tt
   text_tells file (fault.Count found) h = tt
   text_tells file fault.Limit h = tt
+  text_tells file (fault.Twice line) h = tt
   text_tells file fault.Memory h = absurd h
 
   values_tell : (file : List ℕ) → IsAsked words (sat file) → (o : Result SatAnswer SatError) → IsOutcome read.files read.before read.now file o → Tells (dimacs.outcome_text file o) (sat_exit (dimacs.exit_of o))

@@ -149,6 +149,7 @@ not_fault files file c (fault.Syntax line) h k = not_refused files file c (fault
 not_fault files file c (fault.Range line) h k = not_refused files file c (fault.Range line) h k
 not_fault files file c (fault.Count found) h k = not_refused files file c (fault.Count found) h k
 not_fault files file c fault.Limit h k = not_refused files file c fault.Limit h k
+not_fault files file c (fault.Twice line) h k = not_refused files file c (fault.Twice line) h k
 not_fault files file c fault.Memory h k = k
 
 not_long : (files : List NamedFile) (file : List ℕ) (c : Cnf) → Holds files file c → (b : List ℕ) × (bytes_named files file ≡ Some b) × (limit < length b) → ⊥
@@ -351,6 +352,7 @@ module _ (words : List (List ℕ)) (files : List NamedFile) (read : Reading) (wr
   text_due file asked (fault.Range line) h = barred_due file asked (bar.Text (fault.Range line)) h
   text_due file asked (fault.Count found) h = barred_due file asked (bar.Text (fault.Count found)) h
   text_due file asked fault.Limit h = barred_due file asked (bar.Text fault.Limit) h
+  text_due file asked (fault.Twice line) h = barred_due file asked (bar.Text (fault.Twice line)) h
   text_due file asked fault.Memory h = absurd h
 
   values_due : (file : List ℕ) → IsAsked words (sat file) → (o : Result SatAnswer SatError) → IsOutcome (Some files) read.before read.now file o → IsDue (sat_exit (dimacs.exit_of o))

@@ -88,6 +88,7 @@ barred_text name (fault.Syntax line) = refl
 barred_text name (fault.Range line) = refl
 barred_text name (fault.Count found) = refl
 barred_text name fault.Limit = refl
+barred_text name (fault.Twice line) = refl
 barred_text name fault.Memory = refl
 
 barred : (name : List ℕ) (e : SatError) → begins_verdict (dimacs.refusal_text name e) ≡ false

@@ -97,6 +97,7 @@ fn push_error(answer: &mut Vec<u8>, error: &DimacsError) -> Result<(), Memory> {
         DimacsError::Range { line } => push_counted(answer, b"literal ", *line),
         DimacsError::Count { found } => push_counted(answer, b"clauses ", *found),
         DimacsError::Limit => push_bytes(answer, b"limit"),
+        DimacsError::Twice { line } => push_counted(answer, b"twice ", *line),
         DimacsError::Memory => Err(Memory),
     }
 }
