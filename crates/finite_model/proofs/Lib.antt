@@ -1,0 +1,17 @@
+pub mod Parts
+pub mod Cells
+pub mod Grounding
+pub mod ReadTables
+pub mod Interpreted
+pub mod NoModel
+pub mod FlatForm
+pub mod CellCounts
+pub mod Notes
+pub mod Walking
+pub mod Selections
+pub mod AddedClauses
+pub mod FilledTables
+pub mod RowSteps
+pub mod ReadCells
+pub mod CutCounts
+pub mod GroundAtoms

@@ -1,0 +1,159 @@
+// All tables of a problem, read by a truth test that makes its flattened form true.
+ghost use Rattle.std.specs.Prelude.{◌≡◌, ◌<◌, ◌++◌, ◌∷◌, [], ℕ, List, All, Contains, IfOk, OnOk, length, map, slice_index_or, take};
+ghost use Rattle.inst_logic.specs.declared.symbol.Sym.{Sym};
+ghost use Rattle.inst_logic.specs.WellFormed.{AreFormedClauses};
+ghost use Rattle.inst_calculus.specs.Models.{Member, Makes};
+ghost use Rattle.finite_model.specs.Flattening.{function_predicate, flattened, identity};
+ghost use Rattle.finite_model.specs.Reading.{AreRead, HasValues, IsReadFunction, IsReadPredicate};
+ghost use Rattle.finite_model.specs.Tables.{IsModel};
+
+use crate::cell_reading::{TruthTest, function_cells, predicate_cells};
+use crate::numbering::Numbering;
+use crate::tables::{Table, TableList, Tables};
+use inst_logic::{Memory, Problem, Sym};
+use std::alloc::Global;
+
+fn function_table<T: TruthTest>(
+    alloc: Global,
+    numbering: &Numbering,
+    test: &mut T,
+    f: &Sym,
+    k: usize,
+) -> Result<Table, Memory>
+    requires some { 0 < k }
+    requires values { HasValues (T.members test.old) k f.now.arity (function_predicate numbering.now f.now) }
+    ensures read { IfOk result (λ t. IsReadFunction (T.members test.old) k numbering.now t) }
+    ensures symbol { IfOk result (λ t. t.sym ≡ f.now) }
+    ensures same { T.members test.new ≡ T.members test.old }
+{
+    let sym = numbering.of_function(alloc, f)?;
+    let cells = function_cells(alloc, test, &sym, f.arity, k)?;
+    Ok(Table {
+        sym: f.clone()?,
+        cells,
+    })
+}
+
+fn predicate_table<T: TruthTest>(
+    alloc: Global,
+    numbering: &Numbering,
+    test: &mut T,
+    p: &Sym,
+    k: usize,
+) -> Result<Table, Memory>
+    requires { 0 < k }
+    ensures read { IfOk result (λ t. IsReadPredicate (T.members test.old) k numbering.now t) }
+    ensures symbol { IfOk result (λ t. t.sym ≡ p.now) }
+    ensures same { T.members test.new ≡ T.members test.old }
+{
+    let sym = numbering.of_predicate(alloc, p)?;
+    let cells = predicate_cells(alloc, test, &sym, p.arity, k)?;
+    Ok(Table {
+        sym: p.clone()?,
+        cells,
+    })
+}
+
+// The table of function number `i`, counted from 0.
+fn function_table_at<T: TruthTest>(
+    alloc: Global,
+    numbering: &Numbering,
+    test: &mut T,
+    i: usize,
+    k: usize,
+) -> Result<Table, Memory>
+    requires some { 0 < k }
+    requires within { i < length numbering.now.functions }
+    requires values { HasValues (T.members test.old) k (slice_index_or numbering.now.functions i identity).arity (function_predicate numbering.now (slice_index_or numbering.now.functions i identity)) }
+    ensures read { IfOk result (λ t. IsReadFunction (T.members test.old) k numbering.now t) }
+    ensures symbol { IfOk result (λ t. t.sym ≡ slice_index_or numbering.now.functions i identity) }
+    ensures same { T.members test.new ≡ T.members test.old }
+{
+    match numbering.functions.get_index(i) {
+        Some(f) => function_table(alloc, numbering, test, f, k),
+        None => unreachable!(),
+    }
+}
+
+fn function_tables<T: TruthTest>(
+    alloc: Global,
+    numbering: &Numbering,
+    test: &mut T,
+    k: usize,
+) -> Result<TableList, Memory>
+    requires some { 0 < k }
+    requires values { (f : Sym) → Contains numbering.now.functions f → HasValues (T.members test.old) k f.arity (function_predicate numbering.now f) }
+    ensures symbols { IfOk result (λ ts. map (λ t. t.sym) ts ≡ numbering.now.functions) }
+    ensures read { IfOk result (λ ts. All (IsReadFunction (T.members test.old) k numbering.now) ts) }
+    ensures same { T.members test.new ≡ T.members test.old }
+{
+    let mut tables = TableList::new(alloc);
+    for i in 0..numbering.functions.len() {
+        let table = function_table_at(alloc, numbering, test, i, k)?;
+        tables.push(table)?;
+    }
+    Ok(tables)
+}
+
+// The table of predicate number `i`, counted from 0.
+fn predicate_table_at<T: TruthTest>(
+    alloc: Global,
+    numbering: &Numbering,
+    test: &mut T,
+    i: usize,
+    k: usize,
+) -> Result<Table, Memory>
+    requires some { 0 < k }
+    requires within { i < length numbering.now.predicates }
+    ensures read { IfOk result (λ t. IsReadPredicate (T.members test.old) k numbering.now t) }
+    ensures symbol { IfOk result (λ t. t.sym ≡ slice_index_or numbering.now.predicates i identity) }
+    ensures same { T.members test.new ≡ T.members test.old }
+{
+    match numbering.predicates.get_index(i) {
+        Some(p) => predicate_table(alloc, numbering, test, p, k),
+        None => unreachable!(),
+    }
+}
+
+fn predicate_tables<T: TruthTest>(
+    alloc: Global,
+    numbering: &Numbering,
+    test: &mut T,
+    k: usize,
+) -> Result<TableList, Memory>
+    requires { 0 < k }
+    ensures symbols { IfOk result (λ ts. map (λ t. t.sym) ts ≡ numbering.now.predicates) }
+    ensures read { IfOk result (λ ts. All (IsReadPredicate (T.members test.old) k numbering.now) ts) }
+    ensures same { T.members test.new ≡ T.members test.old }
+{
+    let mut tables = TableList::new(alloc);
+    for i in 0..numbering.predicates.len() {
+        let table = predicate_table_at(alloc, numbering, test, i, k)?;
+        tables.push(table)?;
+    }
+    Ok(tables)
+}
+
+/// The tables of the problem over `k` elements, where the test's clauses make its flattened form true: they are a model. The test is
+/// asked once for each cell of a predicate, and at most `k` times for each cell of a function.
+pub fn read_tables<T: TruthTest>(
+    alloc: Global,
+    p: &Problem,
+    test: &mut T,
+    k: usize,
+) -> Result<Tables, Memory>
+    requires some { 0 < k }
+    requires formed { AreFormedClauses p.now.clauses }
+    requires makes { All (Makes (T.members test.old)) (flattened k p.now.clauses) }
+    ensures model { IfOk result (λ ts. IsModel k p.now.clauses ts) }
+    ensures read { IfOk result (λ ts. AreRead k p.now.clauses (T.members test.old) ts) }
+    ensures same { T.members test.new ≡ T.members test.old }
+{
+    let numbering = Numbering::of(alloc, &p.clauses)?;
+    let functions = function_tables(alloc, &numbering, test, k)?;
+    let predicates = predicate_tables(alloc, &numbering, test, k)?;
+    Ok(Tables {
+        functions,
+        predicates,
+    })
+}
