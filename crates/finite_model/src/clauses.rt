@@ -123,7 +123,11 @@ fn concatenation(first: Clause, second: Clause) -> Result<Clause, Memory>
 
 /// The flat form of the clause, before its variables are numbered.
 #[tactic(auto, using(std::proofs::lemmas::Grind::common_steps, crate::proofs::Notes::walked_is_flat))]
-pub(crate) fn flat_clause(alloc: Global, numbering: &Numbering, c: &Clause) -> Result<Clause, Memory>
+pub(crate) fn flat_clause(
+    alloc: Global,
+    numbering: &Numbering,
+    c: &Clause,
+) -> Result<Clause, Memory>
     ensures { IfOk result (λ d. d ≡ flat_clause numbering.now c.now) }
 {
     let mut notes = IndexSet::new(alloc);

@@ -39,12 +39,7 @@ fn variables(alloc: Global, count: usize) -> Result<TermList, Memory>
     Ok(ts)
 }
 
-fn value_literal(
-    alloc: Global,
-    graph: &Graph,
-    positive: bool,
-    e: usize,
-) -> Result<Literal, Memory>
+fn value_literal(alloc: Global, graph: &Graph, positive: bool, e: usize) -> Result<Literal, Memory>
     ensures { IfOk result (λ l. literal l ≡ value_literal graph.now.sym graph.now.arguments positive e) }
 {
     let mut args = variables(alloc, graph.arguments)?;
