@@ -1,2 +1,4 @@
 pub mod Trues
 pub mod SlotLaws
+pub mod NamingLaws
+pub mod Admitted

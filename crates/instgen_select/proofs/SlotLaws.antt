@@ -26,7 +26,7 @@ waiting_put [] item = refl
 waiting_put (None ∷ slots) item = waiting_put slots item
 waiting_put (Some x ∷ slots) item = ap (λ xs. waiting x ∷ xs) (waiting_put slots item)
 
-at_gap : (slots : List (Option Item)) (k : ℕ) (x : Item) → IsAt (slots ++ None ∷ []) k x → IsAt slots k x
+pub at_gap : (slots : List (Option Item)) (k : ℕ) (x : Item) → IsAt (slots ++ None ∷ []) k x → IsAt slots k x
 at_gap [] zero x e = absurd cc
 at_gap [] (suc k) x e = absurd cc
 at_gap (s ∷ slots) zero x e = e
@@ -40,7 +40,7 @@ length_put : (slots : List (Option Item)) (item : Item) → length (with_slot sl
 length_put [] item = refl
 length_put (s ∷ slots) item = ap suc (length_put slots item)
 
-at_put : (slots : List (Option Item)) (item : Item) (k : ℕ) (x : Item) → IsAt (with_slot slots item) k x → IsAt slots k x ⊎ ((k ≡ length slots) × (x ≡ item))
+pub at_put : (slots : List (Option Item)) (item : Item) (k : ℕ) (x : Item) → IsAt (with_slot slots item) k x → IsAt slots k x ⊎ ((k ≡ length slots) × (x ≡ item))
 at_put [] item zero x e = inr (refl, cc)
 at_put [] item (suc k) x e = absurd cc
 at_put (s ∷ slots) item zero x e = inl e
@@ -57,7 +57,7 @@ length_taken (s ∷ slots) zero = refl
 length_taken (s ∷ slots) (suc k) = ap suc (length_taken slots k)
 
 -- what is left when one is taken was there, in another slot
-at_taken : (slots : List (Option Item)) (k j : ℕ) (x : Item) → IsAt (slice_set slots k None) j x → IsAt slots j x × ¬ (j ≡ k)
+pub at_taken : (slots : List (Option Item)) (k j : ℕ) (x : Item) → IsAt (slice_set slots k None) j x → IsAt slots j x × ¬ (j ≡ k)
 at_taken [] k j x e = absurd cc
 at_taken (s ∷ slots) zero zero x e = absurd cc
 at_taken (s ∷ slots) zero (suc j) x e = (e, λ q. omega arith)

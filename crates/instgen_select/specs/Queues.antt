@@ -26,3 +26,15 @@ pub record IsPicked (even : Bool) (old new : List Waiting) (number : ℕ) : Type
   pub before : old ≡ front ++ (number, size) ∷ back
   pub after : new ≡ front ++ back
   pub turn : MatchBool even (front ≡ []) (All (IsNoLarger (number, size)) old)
+
+pub record Turn_list : Type 0 where
+  pub items : List Waiting
+  pub spent : Bool
+
+-- the number is taken out of the list, and all others stay in their order
+pub record IsTakenOut (old new : List Waiting) (number : ℕ) : Type 0 where
+  pub size : ℕ
+  pub front : List Waiting
+  pub back : List Waiting
+  pub before : old ≡ front ++ (number, size) ∷ back
+  pub after : new ≡ front ++ back

@@ -3,8 +3,13 @@
 #![tactic(auto)]
 
 mod choice;
+mod passive;
 mod queue;
+mod rounds;
 mod slots;
+mod turns;
 
 pub use choice::{choose, choose_among};
+pub use passive::Passive;
 pub use queue::Queue;
+pub use turns::Turns;

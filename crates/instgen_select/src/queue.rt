@@ -84,10 +84,8 @@ impl Queue {
         Ok(())
     }
 
-    /// Puts the number at the end. After want of memory it is not there, what was there is, and every later put is refused;
-    /// picks go on.
-    pub fn put(&mut self, number: usize, size: u64) -> Result<(), Memory>
-        requires absent { ¬ Contains (numbers self.old.items) number }
+    // Puts the number at the end, whether or not it is there already.
+    pub(crate) fn append(&mut self, number: usize, size: u64) -> Result<(), Memory>
         ensures ok { OnOk result (self.new ≡ record { items = self.old.items ++ (number, size) ∷ []; even = self.old.even; spent = false }) }
         ensures err { OnErr result (self.new ≡ record { items = self.old.items; even = self.old.even; spent = true }) }
         ensures stays_spent { IsTrue self.old.spent → IsErr result }
@@ -99,6 +97,17 @@ impl Queue {
         let stored = self.store(Item { number, size });
         self.spent = stored.is_err();
         stored
+    }
+
+    /// Puts the number at the end. After want of memory it is not there, what was there is, and every later put is refused;
+    /// picks go on.
+    pub fn put(&mut self, number: usize, size: u64) -> Result<(), Memory>
+        requires absent { ¬ Contains (numbers self.old.items) number }
+        ensures ok { OnOk result (self.new ≡ record { items = self.old.items ++ (number, size) ∷ []; even = self.old.even; spent = false }) }
+        ensures err { OnErr result (self.new ≡ record { items = self.old.items; even = self.old.even; spent = true }) }
+        ensures stays_spent { IsTrue self.old.spent → IsErr result }
+    {
+        self.append(number, size)
     }
 
     // The oldest, or the least.
@@ -129,19 +138,6 @@ impl Queue {
                 self.even = !self.even;
                 Some(item.number)
             }
-        }
-    }
-
-    /// Takes the least number by size and number out, and no turn. `None` where none is left.
-    pub fn pick_least(&mut self) -> Option<usize>
-        ensures none { IfNone result ((self.old.items ≡ []) × (self.new ≡ self.old)) }
-        ensures some { IfSome result (λ number. IsPicked false self.old.items self.new.items number) }
-        ensures turn { self.new.even ≡ self.old.even }
-        ensures spent { self.new.spent ≡ self.old.spent }
-    {
-        match self.take(false) {
-            None => None,
-            Some(item) => Some(item.number),
         }
     }
 }

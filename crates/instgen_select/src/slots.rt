@@ -17,7 +17,7 @@ pub(crate) struct Item {
 // A size, a number and the place of a slot, the least first.
 pub(crate) type Ranked = Reverse<(u64, usize, usize)>;
 
-fn take_at(slots: &mut Vec<Option<Item>>, place: usize) -> Option<Item>
+pub(crate) fn take_at(slots: &mut Vec<Option<Item>>, place: usize) -> Option<Item>
     ensures some { IfSome result (λ item. IsTakenAt slots.old.items slots.new.items place item) }
     ensures none { IfNone result ((slots.new.items ≡ slots.old.items) × ((item : Item) → ¬ IsAt slots.old.items place item)) }
 {
