@@ -15,7 +15,8 @@ import tempfile
 
 from run import TOP, shown, timed, verdict
 
-# A literal is a sign, a predicate and a tuple of terms; a term is a variable where it begins with a capital letter.
+# A literal is a sign, a predicate and a tuple of terms; a term is a variable where it begins with a capital letter. The predicate
+# `=` is equality.
 
 
 def yes(name, *terms):
@@ -115,6 +116,22 @@ def ring(size, refuted):
     return clauses + different([f"p{n}" for n in range(size + 1)]) + [[yes("tok", f"p{size}", f"t{steps}")]]
 
 
+def equations(length, refuted, source=None):
+    """A row of equations between a fact and its denial. Satisfiable ones are short, since all equations of the row follow."""
+    if not refuted:
+        length //= 25
+    pairs = [(n, n + 1) for n in range(1, length)]
+    if source:
+        source.shuffle(pairs)
+        pairs = [source.choice([(a, b), (b, a)]) for a, b in pairs]
+    return [[yes("=", f"a{a}", f"a{b}")] for a, b in pairs] + [[yes("p", "a1")], [no("p", f"a{length}" if refuted else "b")]]
+
+
+def mixed(length, refuted):
+    """The same in any order, and with their sides exchanged at random."""
+    return equations(length, refuted, random.Random(length))
+
+
 KINDS = {
     "chain": (chain, (100, 1000, 10000)),
     "pigeons": (pigeons, (5, 6, 7)),
@@ -124,20 +141,24 @@ KINDS = {
     "grid": (grid, (8, 16, 32)),
     "ontology": (ontology, (20, 60, 120)),
     "ring": (ring, (4, 8, 12)),
+    "equations": (equations, (50, 100, 200, 400)),
+    "mixed": (mixed, (50, 100, 160)),
 }
 
 
 def tptp(clauses):
-    def atom(name, terms):
-        return f"{name}({','.join(terms)})"
+    def literal(sign, name, terms):
+        if name == "=":
+            return f" {'=' if sign else '!='} ".join(terms)
+        return f"{'' if sign else '~'}{name}({','.join(terms)})"
 
     for number, clause in enumerate(clauses, 1):
-        text = " | ".join(("" if sign else "~") + atom(name, terms) for sign, name, terms in clause)
+        text = " | ".join(literal(*parts) for parts in clause)
         yield f"cnf(c{number},axiom,{text}).\n"
 
 
 def smt(clauses):
-    names = {(name, len(terms)) for clause in clauses for _, name, terms in clause}
+    names = {(name, len(terms)) for clause in clauses for _, name, terms in clause if name != "="}
     terms = {term for clause in clauses for _, _, terms in clause for term in terms}
     yield "(set-logic UF)\n(declare-sort U 0)\n"
     for name, arity in sorted(names):
@@ -145,7 +166,7 @@ def smt(clauses):
     for term in sorted(t for t in terms if not t[0].isupper()):
         yield f"(declare-const {term} U)\n"
     for clause in clauses:
-        atoms = [f"(p_{name} {' '.join(terms)})" for _, name, terms in clause]
+        atoms = [f"({name if name == '=' else 'p_' + name} {' '.join(terms)})" for _, name, terms in clause]
         text = "(or " + " ".join(a if lit[0] else f"(not {a})" for a, lit in zip(atoms, clause)) + ")"
         bound = sorted({t for _, _, terms in clause for t in terms if t[0].isupper()})
         if bound:

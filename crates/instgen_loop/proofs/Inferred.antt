@@ -128,6 +128,7 @@ goes_grown r g e = record {
   entries = ([], sym (append-nil (items r)));
   held = ([], sym (append-nil r.held.items));
   waits = (0, omega arith, sym (append-nil (numbers r.queue.items)));
+  ready = refl;
   selection = refl;
   valuation = refl;
   literals = ([], sym (append-nil r.ground.literals));
@@ -161,6 +162,7 @@ appends_go run new left clause origin h = record {
   entries = ((clause, origin) ∷ [], h.entry);
   held = ([], h.held ∙ sym (append-nil run.held.items));
   waits = (1, let e : length (items new) ≡ length (items run) + 1 = ap length h.entry ∙ length-append (items run) ((clause, origin) ∷ []) in omega arith, h.waits);
+  ready = h.ready;
   selection = h.selection;
   valuation = h.valuation;
   literals = let (c, q) = h.literals in (c ∷ [], q);

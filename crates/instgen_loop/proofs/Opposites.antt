@@ -12,7 +12,7 @@ use Rattle.unify_core.specs.Bindings.{Bound_list}
 use Rattle.unify_core.specs.Sides.{IsResolvedBy, of_side, of_pair}
 use Rattle.unify_core.specs.declared.side.Side.{Side}
 use Rattle.unify_core.specs.declared.side.Side.TheVariants.{Left, Right}
-use Rattle.instgen_select.specs.Queues.{Waiting_list}
+use Rattle.instgen_select.specs.Passives.{Passive_list}
 use Rattle.instgen_loop.proofs.Selected.{same_places}
 use Rattle.instgen_loop.specs.declared.state.Run.{Run}
 use Rattle.instgen_loop.specs.Loops.{items, Goes, IsSelectedLiteral, IsSelectedAtom, IsSigned}
@@ -67,7 +67,7 @@ running_rebound atoms added r b bot cs budget v h = record {
   held = h.held;
 }
 
-pub running_requeued : {S I C : Type 0} (atoms : S → ℕ) (added : S → List (List (Signed ℕ))) (r : Run S I C) (q : Waiting_list) → KeepsRunning atoms added r (record r { queue = q })
+pub running_requeued : {S I C : Type 0} (atoms : S → ℕ) (added : S → List (List (Signed ℕ))) (r : Run S I C) (q : Passive_list) → KeepsRunning atoms added r (record r { queue = q })
 running_requeued atoms added r q bot cs budget v h = record {
   events = h.events;
   replays = h.replays;

@@ -7,14 +7,14 @@ use Rattle.inst_logic.specs.Derivations.{at_number}
 use Rattle.inst_calculus.specs.Entries.{Entry}
 use Rattle.inst_calculus.specs.Models.{Member}
 use Rattle.inst_calculus.proofs.Membership.{◌∈◌, contains_in, in_contains, in_all, all_in, in_left, in_right, in_either, in_map, from_map}
-use Rattle.inst_calculus.proofs.Distinct.{length_map}
 use Rattle.engine_laws.specs.Places.{IsPlaced}
 use Rattle.engine_laws.specs.Pairs.{IsWorked}
 use Rattle.inst_calculus.proofs.Items.{same_item}
 use Rattle.engine_laws.proofs.WorkedPairs.{one_more_is_worked}
 use Rattle.term_bank.specs.Forest.{Forest, tree_at, clause_at}
 use Rattle.term_index.specs.Pairs.{Pair, Adds}
-use Rattle.instgen_select.specs.Queues.{Waiting_list, numbers, Waiting}
+use Rattle.instgen_select.specs.Passives.{Passive_list}
+use Rattle.instgen_select.specs.Queues.{numbers}
 use Rattle.saturation_cert.specs.Values.{origin_of}
 use Rattle.instgen_loop.specs.declared.state.Run.{Run}
 use Rattle.instgen_loop.specs.declared.queue.Partners.{Partners}
@@ -94,7 +94,7 @@ once_joined (x ∷ xs) k n h b = (
 )
 
 -- what was there, and what was taken out and is stored
-pub tended_on : {S I C : Type 0} (pairs : I → List Pair) (old new : Run S I C) (q : Waiting_list) (p s : Partners I C) (n : ℕ) → IsTaken old.queue.items q.items n → Goes (record old { queue = q }) new
+pub tended_on : {S I C : Type 0} (pairs : I → List Pair) (old new : Run S I C) (q : Passive_list) (p s : Partners I C) (n : ℕ) → IsTaken old.queue.items q.items n → Goes (record old { queue = q }) new
     → AreEntries old.entries.bank (items old) → All (λ k. k ≤ length (items old)) (numbers old.queue.items) → ((m : ℕ) → Contains (indexed_of pairs p) m → m ≤ length (items old))
     → ((m : ℕ) → Contains (indexed_of pairs p) m → IsPairWorked new n m) → ((m : ℕ) → Contains (indexed_of pairs s) m ↔ ((m ≡ n) ⊎ Contains (indexed_of pairs p) m)) → AreTended pairs old p → AreTended pairs new s
 tended_on pairs old new q p s n picked goes entries waiting within now stored h = record {
@@ -233,7 +233,3 @@ on_ok_both P Q (Err e) p q = tt
 
 pub within : {X : Type 0} (ps : List ℕ) (xs : List X) (m : ℕ) → m ≤ length ps → length ps ≤ length xs → m ≤ length xs
 within ps xs m a b = omega arith
-
-pub fewer_waits : (old mid new : List Waiting) → length old ≡ length mid + 1 → numbers new ≡ numbers mid → length new < length old
-fewer_waits old mid new e q =
-    let a = length_map (λ (x : Waiting). x.0) new in let b = length_map (λ (x : Waiting). x.0) mid in let c : length (numbers new) ≡ length (numbers mid) = ap length q in omega arith

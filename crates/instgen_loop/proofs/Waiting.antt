@@ -1,14 +1,17 @@
 -- Picks from the queue, and partners as a run goes on.
-use Rattle.std.proofs.Common.{◌≡◌, ◌⊎◌, inl, inr, map, ℕ, ◌+◌, ◌<◌, ◌≤◌, List, ◌∷◌, ◌++◌, refl, sym, ap, ◌∙◌, subst as transport, length, length-append, append-nil, arith, All, Contains, Bool, true, false}
+use Rattle.std.proofs.Common.{◌≡◌, ◌⊎◌, inl, inr, map, ℕ, ◌+◌, ◌<◌, ◌≤◌, List, ◌∷◌, ◌++◌, refl, sym, ap, ◌∙◌, subst as transport, length, length-append, append_assoc, append-nil, arith, All, Contains, Bool, true, false, []}
 use Rattle.inst_calculus.proofs.Membership.{◌∈◌, contains_in, in_contains, in_all, all_in, in_left, in_right, in_either}
-use Rattle.inst_calculus.proofs.Distinct.{map_append}
+use Rattle.inst_calculus.proofs.Distinct.{map_append, length_map}
 use Rattle.term_bank.specs.Forest.{Forest, Extends}
 use Rattle.term_index.specs.Pairs.{Pair}
-use Rattle.instgen_select.specs.Queues.{Waiting_list, Waiting, numbers, IsPicked}
+use Rattle.instgen_select.specs.Queues.{Waiting, numbers, IsTakenOut}
+use Rattle.instgen_select.specs.Passives.{Passive_list, IsLetGo}
 use Rattle.instgen_loop.specs.declared.state.Run.{Run}
 use Rattle.instgen_loop.specs.declared.queue.Partners.{Partners}
+use Rattle.engine_laws.specs.Pairs.{AreQueuedOrIndexed}
 use Rattle.instgen_loop.specs.Clauses.{AreEntries}
-use Rattle.instgen_loop.specs.Loops.{items, IsSafe, IsStored, ArePartners, AreWaiting, Goes, IsSigned, after}
+use Rattle.instgen_loop.specs.Loops.{items, IsSafe, IsStored, ArePartners, AreWaiting, AreReady, Goes, IsSigned, after}
+use Rattle.instgen_loop.specs.Tended.{AreTended, AreOnce, indexed_of}
 use Rattle.instgen_loop.proofs.Works.{selected_stays}
 use Rattle.instgen_loop.proofs.Selected.{same_places}
 use Rattle.instgen_loop.proofs.Opposites.{signed_stays}
@@ -21,8 +24,8 @@ pub record IsTaken (old new : List Waiting) (n : ℕ) : Type 0 where
   pub before : numbers old ≡ front ++ n ∷ back
   pub after : numbers new ≡ front ++ back
 
-pub taken : (even : Bool) (old new : List Waiting) (n : ℕ) → IsPicked even old new n → IsTaken old new n
-taken even old new n h =
+pub taken : (old new : List Waiting) (n : ℕ) → IsTakenOut old new n → IsTaken old new n
+taken old new n h =
     let first : Waiting → ℕ = λ x. x.0 in
     let item : Waiting = (n, h.size) in
     record {
@@ -34,8 +37,37 @@ taken even old new n h =
       after = ap (map first) h.after ∙ map_append first h.front h.back;
     }
 
-pub picked_by : (old new : List Waiting) (n : ℕ) → (even : Bool) × IsPicked even old new n → IsTaken old new n
-picked_by old new n (even, h) = taken even old new n h
+-- a pick takes the number out of all that waits
+pub picked_by : (old new : Passive_list) (n : ℕ) → IsLetGo old new n → IsTaken old.items new.items n
+picked_by old new n h = taken old.items new.items n (record {
+  size = h.ready.size;
+  front = h.ready.front;
+  back = h.ready.back ++ h.apart;
+  before = h.before ∙ ap (λ xs. xs ++ h.apart) h.ready.before ∙ append_assoc h.ready.front ((n, h.ready.size) ∷ h.ready.back) h.apart;
+  after = h.after ∙ ap (λ xs. xs ++ h.apart) h.ready.after ∙ append_assoc h.ready.front h.ready.back h.apart;
+})
+
+nothing : {X : Type 0} (xs : List X) → length xs ≡ 0 → xs ≡ []
+nothing [] e = refl
+nothing (x ∷ xs) e = absurd (omega arith)
+
+pub no_numbers : (xs : List Waiting) → numbers xs ≡ [] → xs ≡ []
+no_numbers [] e = refl
+no_numbers (x ∷ xs) e = absurd cc
+
+-- where nothing waits apart, a pick leaves it so
+pub none_apart : (old new : Passive_list) (n : ℕ) → IsLetGo old new n → numbers old.items ≡ numbers old.ready → numbers new.items ≡ numbers new.ready
+none_apart old new n h same =
+    let a : length old.items ≡ length old.ready + length h.apart = ap length h.before ∙ length-append old.ready h.apart in
+    let b : length old.items ≡ length old.ready = sym (length_map (λ (x : Waiting). x.0) old.items) ∙ ap length same ∙ length_map (λ (x : Waiting). x.0) old.ready in
+    let e : h.apart ≡ [] = nothing h.apart (omega arith) in
+    ap numbers (h.after ∙ ap (λ xs. new.ready ++ xs) e ∙ append-nil new.ready)
+
+-- it takes one
+pub fewer_ready : (old mid new : Passive_list) (n : ℕ) → IsLetGo old mid n → new.ready ≡ mid.ready → length new.ready < length old.ready
+fewer_ready old mid new n h e =
+    let a = (taken old.ready mid.ready n h.ready).count in
+    let b : length new.ready ≡ length mid.ready = ap length e in omega arith
 
 module _ (old new : List Waiting) (n : ℕ) (h : IsTaken old new n) where
   pub there : Contains (numbers old) n
@@ -55,7 +87,7 @@ module _ (old new : List Waiting) (n : ℕ) (h : IsTaken old new n) where
       back j = in_contains m (numbers new) (transport (λ xs. m ∈ xs) (sym h.after) j)
 
 module _ {S I C : Type 0} (pairs : I → List Pair) (fits : Forest → I → Type 0) (r : Run S I C) where
-  module _ (q : Waiting_list) (n : ℕ) (picked : IsTaken r.queue.items q.items n) where
+  module _ (q : Passive_list) (n : ℕ) (picked : IsTaken r.queue.items q.items n) where
     fewer : (P : ℕ → Type 0) → All P (numbers r.queue.items) → All P (numbers q.items)
     fewer P h = in_all P (numbers q.items) (λ m i. all_in P (numbers r.queue.items) h m (contains_in m (numbers r.queue.items) (kept r.queue.items q.items n picked m (in_contains m (numbers q.items) i))))
 
@@ -72,14 +104,20 @@ module _ {S I C : Type 0} (pairs : I → List Pair) (fits : Forest → I → Typ
       placed = h.placed;
     }
 
-    pub still_waiting : AreWaiting r → AreWaiting (record r { queue = q })
-    still_waiting h = fewer (λ k. (0 < k) × (k ≤ length r.selection.places)) h
+  module _ (q : Passive_list) (n : ℕ) (picked : IsLetGo r.queue q n) where
+    pub still_ready : AreReady r → AreReady (record r { queue = q })
+    still_ready h =
+        in_all (λ k. (0 < k) × (k ≤ length r.selection.places)) (numbers q.ready) (λ m i. all_in (λ k. (0 < k) × (k ≤ length r.selection.places)) (numbers r.queue.ready) h m
+        (contains_in m (numbers r.queue.ready) (kept r.queue.ready q.ready n (taken r.queue.ready q.ready n picked.ready) m (in_contains m (numbers q.ready) i))))
 
-    pub picked_waits : AreWaiting r → (0 < n) × (n ≤ length r.selection.places)
-    picked_waits h = all_in (λ k. (0 < k) × (k ≤ length r.selection.places)) (numbers r.queue.items) h n (contains_in n (numbers r.queue.items) (there r.queue.items q.items n picked))
+    pub picked_waits : AreReady r → (0 < n) × (n ≤ length r.selection.places)
+    picked_waits h = all_in (λ k. (0 < k) × (k ≤ length r.selection.places)) (numbers r.queue.ready) h n
+        (contains_in n (numbers r.queue.ready) (there r.queue.ready q.ready n (taken r.queue.ready q.ready n picked.ready)))
 
-    pub partners_picked : (p : Partners I C) → ArePartners pairs fits r p → ArePartners pairs fits (record r { queue = q }) p
-    partners_picked p h = record {
+  -- another queue
+  module _ (q : Passive_list) where
+    pub partners_requeued : (p : Partners I C) → ArePartners pairs fits r p → ArePartners pairs fits (record r { queue = q }) p
+    partners_requeued p h = record {
       positive_fits = h.positive_fits;
       negative_fits = h.negative_fits;
       positive_stored = λ x i. same x (h.positive_stored x i);
@@ -93,6 +131,34 @@ module _ {S I C : Type 0} (pairs : I → List Pair) (fits : Forest → I → Typ
 
         same : (x : Pair) → IsStored r x → IsStored (record r { queue = q }) x
         same x (a, b, k) = (a, b, record { item = k.item; place = k.place; literal = k.literal; item_at = k.item_at; place_at = k.place_at; literal_at = k.literal_at; atom = k.atom })
+
+    -- of the same entries
+    module _ (same : q.items ≡ r.queue.items) where
+      pub safe_requeued : (atoms : S → ℕ) → IsSafe atoms pairs fits r → IsSafe atoms pairs fits (record r { queue = q })
+      safe_requeued atoms h = record {
+        entries = h.entries;
+        firsts = h.firsts;
+        stored = h.stored;
+        numbered = h.numbered;
+        notes = h.notes;
+        count = h.count;
+        waiting = transport (λ (ws : List Waiting). All (λ k. k ≤ length (items r)) (numbers ws)) (sym same) h.waiting;
+        within = h.within;
+        placed = h.placed;
+      }
+
+      pub tended_requeued : (p : Partners I C) → AreTended pairs r p → AreTended pairs (record r { queue = q }) p
+      tended_requeued p h = record {
+        once = transport (λ (ws : List Waiting). AreOnce (numbers ws)) (sym same) h.once;
+        positive = transport (λ (ws : List Waiting). All (λ n. 0 < n) (numbers ws)) (sym same) h.positive;
+        apart = transport (λ (ws : List Waiting). (n : ℕ) → Contains (numbers ws) n → ¬ Contains (indexed_of pairs p) n) (sym same) h.apart;
+        queued = transport (λ (ws : List Waiting). AreQueuedOrIndexed (numbers ws) (indexed_of pairs p) (length (items r))) (sym same) h.queued;
+        worked = h.worked;
+      }
+
+    -- all that waits may be picked
+    pub ready_now : q.ready ≡ r.queue.items → AreWaiting r → AreReady (record r { queue = q })
+    ready_now same h = transport (λ (ws : List Waiting). All (λ n. (0 < n) × (n ≤ length r.selection.places)) (numbers ws)) (sym same) h
 
   pub partners_stay : (new : Run S I C) (p : Partners I C) → Goes r new → AreEntries r.entries.bank (items r) → ((f g : Forest) (s : I) → Extends f g → fits f s → fits g s) → ArePartners pairs fits r p → ArePartners pairs fits new p
   partners_stay new p goes entries grown h = record {

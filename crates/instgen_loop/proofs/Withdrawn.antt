@@ -16,7 +16,8 @@ use Rattle.term_bank.specs.Forest.{Forest, clause_at}
 use Rattle.saturation_cert.specs.Values.{origin_of}
 use Rattle.inst_calculus.proofs.Distinct.{length_map}
 use Rattle.term_index.specs.Pairs.{Pair, Removes}
-use Rattle.instgen_select.specs.Queues.{Waiting_list, numbers}
+use Rattle.instgen_select.specs.Passives.{Passive_list}
+use Rattle.instgen_select.specs.Queues.{numbers}
 use Rattle.instgen_loop.specs.declared.state.Run.{Run}
 use Rattle.instgen_loop.specs.declared.queue.Partners.{Partners}
 use Rattle.instgen_loop.specs.Clauses.{Item}
@@ -193,7 +194,7 @@ module _ {S I C : Type 0} (atoms : S → ℕ) (pairs : I → List Pair) (fits : 
   }
 
   -- it was there, and stands at the end of the queue now
-  module _ (q : Waiting_list) (there : Contains (indexed_of pairs p) n) (put : numbers q.items ≡ numbers r.queue.items ++ n ∷ []) where
+  module _ (q : Passive_list) (there : Contains (indexed_of pairs p) n) (put : numbers q.items ≡ numbers r.queue.items ++ n ∷ []) where
     parts : (m : ℕ) → Contains (numbers q.items) m → Contains (numbers r.queue.items) m ⊎ (m ≡ n)
     parts m i = elim (in_either m (numbers r.queue.items) (n ∷ []) (transport (λ xs. m ∈ xs) put (contains_in m (numbers q.items) i))) [
       | inl a ↦ inl (in_contains m (numbers r.queue.items) a)

@@ -138,6 +138,7 @@ goes_on a b c g h = record {
     q ∙ ap₂ (λ zs n. zs ++ after n y) p (let e : length (items b) ≡ length (items a) + x = omega arith in e) ∙ join (numbers a.queue.items) (after (length (items a)) x) (after (length (items a) + x) y)
         ∙ ap (λ zs. numbers a.queue.items ++ zs) (sym (after_more (length (items a)) x y)),
   );
+  ready = h.ready ∙ g.ready;
   selection = h.selection ∙ g.selection;
   valuation = h.valuation ∙ g.valuation;
   literals = let (x, p) = g.literals in let (y, q) = h.literals in (x ++ y, q ∙ ap (λ zs. zs ++ y) p ∙ simp append_assoc);
@@ -202,6 +203,7 @@ goes_rebound r b = record {
   entries = ([], sym (append-nil (items r)));
   held = ([], sym (append-nil r.held.items));
   waits = (0, omega arith, sym (append-nil (numbers r.queue.items)));
+  ready = refl;
   selection = refl;
   valuation = refl;
   literals = ([], sym (append-nil r.ground.literals));

@@ -13,11 +13,12 @@ use Rattle.instgen_loop.specs.Grounds.{IsLinked}
 use Rattle.instgen_loop.specs.Loops.{items, after}
 use Rattle.instgen_loop.specs.Running.{entries_of}
 
--- one more entry, which waits in the queue; the journal and the rest are as they were
+-- one more entry, which waits in the queue and may not be picked yet; the journal and the rest are as they were
 pub record MakesEntry {S I C : Type 0} (old new : Run S I C) (clause : List (Signed ℕ)) (origin : Origin) : Type 0 where
   pub bank : Extends old.entries.bank new.entries.bank
   pub entry : items new ≡ items old ++ (clause, origin) ∷ []
   pub waits : numbers new.queue.items ≡ numbers old.queue.items ++ suc (length (items old)) ∷ []
+  pub ready : new.queue.ready ≡ old.queue.ready
   pub valuation : new.ground.valuation ≡ old.ground.valuation
   pub bot : new.ground.abstraction.bot ≡ old.ground.abstraction.bot
   pub atoms : Grows old.ground.abstraction.ids new.ground.abstraction.ids

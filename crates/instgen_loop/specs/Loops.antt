@@ -53,12 +53,13 @@ pub record IsSafe {S I C : Type 0} (atoms : S → ℕ) (pairs : I → List Pair)
   pub within : length r.selection.places ≤ length (items r)
   pub placed : (i : ℕ) → i < length r.selection.places → IsLiteralPlace (items r) r.selection.places i
 
--- one more entry, which waits in the queue; the rest is as it was
+-- one more entry, which waits in the queue and may not be picked yet; the rest is as it was
 pub record Appends {S I C : Type 0} (old new : Run S I C) (clause : List (Signed ℕ)) (origin : Origin) : Type 0 where
   pub bank : Extends old.entries.bank new.entries.bank
   pub entry : items new ≡ items old ++ (clause, origin) ∷ []
   pub event : new.journal ≡ old.journal ++ Inferred origin ∷ []
   pub waits : numbers new.queue.items ≡ numbers old.queue.items ++ suc (length (items old)) ∷ []
+  pub ready : new.queue.ready ≡ old.queue.ready
   pub valuation : new.ground.valuation ≡ old.ground.valuation
   pub atoms : Grows old.ground.abstraction.ids new.ground.abstraction.ids
   pub literals : (abstracted : List (Signed ℕ)) × (new.ground.literals ≡ old.ground.literals ++ abstracted ∷ [])
@@ -94,12 +95,13 @@ abbrev pub after : ℕ → ℕ → List ℕ
 after k zero = []
 after k (suc n) = suc k ∷ after (suc k) n
 
--- the run goes on under one valuation: entries, which wait in the queue, and held conclusions are added
+-- the run goes on under one valuation: entries, which wait in the queue and may not be picked yet, and held conclusions are added
 pub record Goes {S I C : Type 0} (old new : Run S I C) : Type 0 where
   pub bank : Extends old.entries.bank new.entries.bank
   pub entries : (more : List Item) × (items new ≡ items old ++ more)
   pub held : (more : List code.Held) × (new.held.items ≡ old.held.items ++ more)
   pub waits : (count : ℕ) × (count + length (items old) ≡ length (items new)) × (numbers new.queue.items ≡ numbers old.queue.items ++ after (length (items old)) count)
+  pub ready : new.queue.ready ≡ old.queue.ready
   pub selection : new.selection ≡ old.selection
   pub valuation : new.ground.valuation ≡ old.ground.valuation
   pub literals : (more : List (List (Signed ℕ))) × (new.ground.literals ≡ old.ground.literals ++ more)
@@ -167,3 +169,7 @@ pub record ArePartners {S I C : Type 0} (pairs : I → List Pair) (fits : Forest
 -- what waits has a number, and a place
 abbrev pub AreWaiting : {S I C : Type 0} → Run S I C → Type 0
 AreWaiting r = All (λ n. (0 < n) × (n ≤ length r.selection.places)) (numbers r.queue.items)
+
+-- what may be picked has a number, and a place
+abbrev pub AreReady : {S I C : Type 0} → Run S I C → Type 0
+AreReady r = All (λ n. (0 < n) × (n ≤ length r.selection.places)) (numbers r.queue.ready)

@@ -18,6 +18,12 @@ use prop_logic::{Derivation, Solver};
 use std::alloc::Global;
 use term_index::PartnerIndex;
 
+// How many picks come before the next solve. What a solve learned by conflicts is worth some work, so that solves which are dear
+// come less often; the factor hardly matters.
+fn picks_after(conflicts: u64) -> u64 {
+    conflicts.saturating_mul(2).saturating_add(1)
+}
+
 /// Solves and works by turns until the abstractions are refuted, or nothing waits any more and each entry has a true literal
 /// selected.
 pub fn cycle<S: Solver, I: PartnerIndex>(
@@ -44,10 +50,12 @@ pub fn cycle<S: Solver, I: PartnerIndex>(
     ensures refuted { IfOk result (λ r. IfSome r (λ d. Refutes (S.atoms run.new.ground.solver) (S.added run.new.ground.solver) [] [] d)) }
 {
     loop {
+        let before = run.ground.solver.conflicts();
         match settle(alloc, run, partners)? {
             Some(derivation) => return Ok(Some(derivation)),
             None => {
-                if !work_queue(alloc, run, partners)? {
+                let conflicts = run.ground.solver.conflicts().saturating_sub(before);
+                if !work_queue(alloc, run, partners, picks_after(conflicts))? {
                     return Ok(None);
                 }
             }

@@ -195,7 +195,7 @@ fn append_uncovered<S: Solver, I: PartnerIndex>(
         return Ok(());
     }
     run.left = taken(run.left, size);
-    append(run, conclusion, origin, size)?;
+    append(run, conclusion, origin)?;
     Ok(())
 }
 

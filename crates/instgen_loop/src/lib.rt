@@ -18,7 +18,6 @@ pub mod ground;
 pub mod hand_over;
 pub mod infer;
 pub mod laws;
-pub mod order;
 pub mod origin;
 pub mod outcome;
 pub mod queue;

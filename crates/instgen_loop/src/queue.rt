@@ -3,12 +3,11 @@ ghost use Rattle.std.specs.Prelude.{◌≡◌, ◌<◌, ◌≤◌, [], ◌⊎◌
 ghost use Rattle.inst_logic.specs.declared.signed.Signed.{Signed};
 ghost use Rattle.term_bank.specs.Forest.{Extends};
 ghost use Rattle.instgen_select.specs.Queues.{numbers};
-ghost use Rattle.instgen_loop.specs.Loops.{IsSafe, Goes, items, ArePartners, AreWaiting, IsSigned, IsPairWorked};
+ghost use Rattle.instgen_loop.specs.Loops.{IsSafe, Goes, items, ArePartners, AreWaiting, AreReady, IsSigned, IsPairWorked};
 ghost use Rattle.instgen_loop.specs.Running.{KeepsRunning};
 ghost use Rattle.instgen_loop.specs.Tended.{AreTended, indexed_of};
 
 use crate::infer::{clause_of, literal_at, place_of};
-use crate::order::pick_next;
 use crate::state::Run;
 use crate::work::{selected_atom, work_with};
 use inst_logic::Memory;
@@ -78,12 +77,67 @@ fn store<S: Solver, I: PartnerIndex>(
     }
 }
 
-/// Works the entries that wait until one is appended, and stores what was worked. False comes where none was and none waits any
-/// more.
+fn has_grown(before: usize, now: usize) -> bool
+    ensures yes { result ≡ true → before < now }
+    ensures no { result ≡ false → now ≤ before }
+{
+    before < now
+}
+
+// Whether the picks are made and an entry was appended.
+fn is_done(left: u64, before: usize, now: usize) -> bool
+    ensures { result ≡ true → before < now }
+{
+    left == 0 && has_grown(before, now)
+}
+
+// Works `picks` entries that wait, or more until one is appended, and stores what was worked. It ends where none is left of those
+// that have a place. False comes where none was appended.
+fn work_ready<S: Solver, I: PartnerIndex>(
+    alloc: Global,
+    run: &mut Run<S, I>,
+    partners: &mut Partners<I>,
+    picks: u64,
+) -> Result<bool, Memory>
+    requires safe { IsSafe S.atoms I.pairs I.fits run.old }
+    requires ready { AreReady run.old }
+    requires all { run.old.queue.ready ≡ run.old.queue.items }
+    requires partners { ArePartners I.pairs I.fits run.old partners.old }
+    requires tended { AreTended I.pairs run.old partners.old }
+    ensures safe { OnOk result (IsSafe S.atoms I.pairs I.fits run.new) }
+    ensures partners { OnOk result (ArePartners I.pairs I.fits run.new partners.new) }
+    ensures tended { OnOk result (AreTended I.pairs run.new partners.new) }
+    ensures running { OnOk result (KeepsRunning S.atoms S.added run.old run.new) }
+    ensures bank { OnOk result (Extends run.old.entries.bank run.new.entries.bank) }
+    ensures appended { IfOk result (λ r. r ≡ true → length (items run.old) < length (items run.new)) }
+    ensures selection { OnOk result (run.new.selection ≡ run.old.selection) }
+    ensures literals { OnOk result ((more : List (List (Signed ℕ))) × (run.new.ground.literals ≡ run.old.ground.literals ++ more)) }
+    ensures none_waits { IfOk result (λ r. r ≡ false → (run.new.queue.items ≡ []) × (length (items run.new) ≡ length (items run.old))) }
+{
+    let before = run.entries.clauses.len();
+    let mut left = picks;
+    loop {
+        match run.queue.pick() {
+            None => return Ok(has_grown(before, run.entries.clauses.len())),
+            Some(n) => {
+                work_entry(alloc, run, partners, n)?;
+                store(run, partners, n)?;
+                left = left.saturating_sub(1);
+                if is_done(left, before, run.entries.clauses.len()) {
+                    return Ok(true);
+                }
+            }
+        }
+    }
+}
+
+/// Lets in what came before the last solve, and works the entries that wait: `picks` of them, or more until one is appended. What is
+/// appended waits for the next solve. What was worked is stored. False comes where none was appended and none waits any more.
 pub fn work_queue<S: Solver, I: PartnerIndex>(
     alloc: Global,
     run: &mut Run<S, I>,
     partners: &mut Partners<I>,
+    picks: u64,
 ) -> Result<bool, Memory>
     requires safe { IsSafe S.atoms I.pairs I.fits run.old }
     requires waiting { AreWaiting run.old }
@@ -99,17 +153,7 @@ pub fn work_queue<S: Solver, I: PartnerIndex>(
     ensures literals { OnOk result ((more : List (List (Signed ℕ))) × (run.new.ground.literals ≡ run.old.ground.literals ++ more)) }
     ensures none_waits { IfOk result (λ r. r ≡ false → (run.new.queue.items ≡ []) × (length (items run.new) ≡ length (items run.old))) }
 {
-    loop {
-        match pick_next(run.left, &mut run.queue) {
-            None => return Ok(false),
-            Some(n) => {
-                let before = run.entries.clauses.len();
-                work_entry(alloc, run, partners, n)?;
-                store(run, partners, n)?;
-                if run.entries.clauses.len() > before {
-                    return Ok(true);
-                }
-            }
-        }
-    }
+    run.queue.admit()?;
+    let appended = work_ready(alloc, run, partners, picks)?;
+    Ok(appended)
 }

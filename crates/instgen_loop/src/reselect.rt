@@ -11,10 +11,9 @@ ghost use Rattle.instgen_loop.specs.Settling.{AreSelectable, IsOrderly, Reselect
 
 use crate::ground::clause_after;
 use crate::infer::clause_of;
-use crate::order::rank;
 use crate::queue::{Partners, is_positive};
 use crate::selection::{Chosen, chosen_literal};
-use crate::state::Run;
+use crate::state::{Run, variable_count};
 use crate::work::selected_atom;
 use clause_form::clause_size;
 use compact_lists::{FlatClauses, PackedLit};
@@ -61,12 +60,12 @@ fn requeue<S: Solver, I: PartnerIndex>(
 ) -> Result<(), Memory>
     requires safe { IsSafe S.atoms I.pairs I.fits run.old }
     requires within { (0 < n) × (n ≤ length (items run.old)) }
-    requires absent { removed ≡ true → ¬ Contains (numbers run.old.queue.items) n }
     ensures { OnOk result (Requeues run.old run.new n removed) }
 {
     if removed {
         let size = clause_size(&run.entries.bank, clause_of(run, n));
-        run.queue.put(n, rank(run.left, n, size))?;
+        let variables = variable_count(&run.entries.bank, clause_of(run, n));
+        run.queue.put(n, size, variables)?;
     }
     Ok(())
 }

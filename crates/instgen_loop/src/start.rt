@@ -20,13 +20,13 @@ use crate::event_log::EventLog;
 use crate::ground::Ground;
 use crate::selection::Selection;
 use crate::state::{Run, make_entry};
-use clause_form::{clause_size, tautology};
+use clause_form::tautology;
 use compact_lists::{FlatClauses, FlatLists};
 use equality_axioms::axioms_of;
 use ground_abs::Abstraction;
 use indexmap::IndexMap;
 use inst_logic::{ClauseList, Memory, Problem, Sym};
-use instgen_select::Queue;
+use instgen_select::Passive;
 use prop_logic::{Solver, Valuation};
 use saturation_cert::Origin;
 use std::alloc::Global;
@@ -60,6 +60,17 @@ fn no_entries<I: PartnerIndex>(alloc: Global, first: I) -> Entries<I>
     }
 }
 
+// Where a budget applies, small ones and old ones come in turn, since a run may have no end. Where none does the entries are
+// bounded, so any order ends.
+fn passive(alloc: Global, left: Option<u64>) -> Passive
+    ensures { result ≡ record { items = []; ready = [] } }
+{
+    match left {
+        Some(_) => Passive::by_age(alloc),
+        None => Passive::by_turns(alloc),
+    }
+}
+
 /// A run without entries, over a solver without atoms and an index without pairs.
 pub fn new_run<S: Solver, I: PartnerIndex>(
     alloc: Global,
@@ -85,7 +96,7 @@ pub fn new_run<S: Solver, I: PartnerIndex>(
             valuation: Valuation::new(alloc),
         },
         selection: Selection::new(alloc),
-        queue: Queue::new(alloc),
+        queue: passive(alloc, left),
         held: Vec::new(alloc),
         journal: EventLog::new(alloc),
         bindings: Bindings::new(alloc),
@@ -160,8 +171,7 @@ fn start_entry<S: Solver, I: PartnerIndex>(
     if run.entries.clauses.contains_key(&clause) {
         return Ok(());
     }
-    let size = clause_size(&run.entries.bank, &clause);
-    make_entry(run, clause, Origin::Input(k), size)?;
+    make_entry(run, clause, Origin::Input(k))?;
     Ok(())
 }
 

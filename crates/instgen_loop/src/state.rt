@@ -2,7 +2,7 @@
 ghost use Rattle.std.specs.Prelude.{◌≡◌, ◌≤◌, ◌++◌, ◌∷◌, [], List, length, Contains, OnOk};
 ghost use Rattle.inst_logic.specs.declared.symbol.Sym.{Sym};
 ghost use Rattle.inst_logic.specs.Clauses.{TreeClause, IsCanonical};
-ghost use Rattle.term_bank.specs.Forest.{clause_at};
+ghost use Rattle.term_bank.specs.Forest.{clause_at, IsClauseOf};
 ghost use Rattle.saturation_cert.specs.Wholes.{IsWholeClause};
 ghost use Rattle.instgen_loop.specs.Clauses.{Item};
 ghost use Rattle.instgen_loop.specs.Loops.{IsSafe, Appends, KeepsLink};
@@ -11,14 +11,14 @@ ghost use Rattle.instgen_loop.specs.FirstEntries.{MakesEntry};
 use crate::entries::{Entries, push_entry};
 use crate::event_log::EventLog;
 use crate::ground::{Ground, add_entry};
-use crate::order::rank;
 use crate::selection::Selection;
+use clause_form::{clause_size, greatest_variable};
 use inst_logic::Memory;
-use instgen_select::Queue;
+use instgen_select::Passive;
 use prop_logic::Solver;
 use saturation_cert::Origin;
 use std::alloc::Global;
-use term_bank::IdClause;
+use term_bank::{Bank, IdClause};
 use term_index::PartnerIndex;
 use unify_core::Bindings;
 
@@ -38,7 +38,7 @@ pub struct Run<S: Solver, I: PartnerIndex> {
     pub entries: Entries<I>,
     pub ground: Ground<S>,
     pub selection: Selection,
-    pub queue: Queue,
+    pub queue: Passive,
     pub held: Vec<Held>,
     pub journal: EventLog,
     pub bindings: Bindings,
@@ -46,12 +46,21 @@ pub struct Run<S: Solver, I: PartnerIndex> {
     pub left: Option<u64>,
 }
 
+/// The number of variables of a clause in canonical form.
+pub fn variable_count(bank: &Bank, clause: &IdClause) -> usize
+    requires { IsClauseOf bank.now clause.now }
+{
+    match greatest_variable(bank, clause) {
+        None => 0,
+        Some(greatest) => greatest.saturating_add(1),
+    }
+}
+
 /// Makes a new clause with its origin an entry, which waits: the one place at which entries are made.
 pub fn make_entry<S: Solver, I: PartnerIndex>(
     run: &mut Run<S, I>,
     clause: IdClause,
     origin: Origin,
-    size: u64,
 ) -> Result<(), Memory>
     requires safe { IsSafe S.atoms I.pairs I.fits run.old }
     requires whole { IsWholeClause run.old.entries.bank clause }
@@ -63,8 +72,10 @@ pub fn make_entry<S: Solver, I: PartnerIndex>(
     ensures linked { OnOk result (KeepsLink S.atoms S.added run.old run.new) }
 {
     let number = run.entries.clauses.len() + 1;
+    let size = clause_size(&run.entries.bank, &clause);
+    let variables = variable_count(&run.entries.bank, &clause);
     add_entry(&mut run.entries.bank, &mut run.ground, &clause)?;
-    run.queue.put(number, rank(run.left, number, size))?;
+    run.queue.put(number, size, variables)?;
     push_entry(&mut run.entries, clause, origin)
 }
 
@@ -73,7 +84,6 @@ pub fn append<S: Solver, I: PartnerIndex>(
     run: &mut Run<S, I>,
     clause: IdClause,
     origin: Origin,
-    size: u64,
 ) -> Result<(), Memory>
     requires safe { IsSafe S.atoms I.pairs I.fits run.old }
     requires whole { IsWholeClause run.old.entries.bank clause }
@@ -84,7 +94,7 @@ pub fn append<S: Solver, I: PartnerIndex>(
     ensures appends { OnOk result (Appends run.old run.new clause origin) }
     ensures linked { OnOk result (KeepsLink S.atoms S.added run.old run.new) }
 {
-    make_entry(run, clause, origin.clone()?, size)?;
+    make_entry(run, clause, origin.clone()?)?;
     run.journal.push_inferred(&origin)?;
     Ok(())
 }

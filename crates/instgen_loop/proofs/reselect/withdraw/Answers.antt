@@ -2,9 +2,6 @@ use Rattle.std.proofs.Common.{refl}
 use Rattle.instgen_loop.proofs.Withdrawn.{withdrawn}
 use Rattle.instgen_loop.proofs.reselect.withdraw.Goals as goal
 
-pub requeue-requires-clause-absent : goal.requeue-requires-clause-absent
-requeue-requires-clause-absent g c = λ e i. c.requires.orderly.tended.apart c.args.n i (c.in_ok-removed.ensures.there e)
-
 pub returns-clause-orderly : goal.returns-clause-orderly
 returns-clause-orderly g c =
     withdrawn g.S.Solver.atoms g.I.PartnerIndex.pairs g.I.PartnerIndex.fits c.args.run.now c.requeue.new.run c.args.partners.now c.remove.new.partners c.args.n c.in_ok-removed.removed c.requires.orderly c.requires.within

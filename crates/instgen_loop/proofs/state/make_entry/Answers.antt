@@ -1,7 +1,7 @@
 use Rattle.std.proofs.Common.{◌≡◌, ◌≤◌, ◌+◌, suc, List, ◌++◌, ◌∷◌, [], length, length-append, arith, refl, ap, sym, ◌∙◌, subst, All, Result, Ok, Err, OnOk}
 use Rattle.term_bank.specs.Forest.{Forest, Extends, clause_at}
 use Rattle.ground_abs.specs.Abstracts.{AreAtomsIn, AreNotesIn}
-use Rattle.instgen_select.specs.Queues.{numbers, Waiting, Waiting_list}
+use Rattle.instgen_select.specs.Queues.{numbers, Waiting}
 use Rattle.inst_calculus.proofs.Distinct.{map_append}
 use Rattle.instgen_loop.specs.Clauses.{Item, AreEntries, clauses_in}
 use Rattle.instgen_loop.specs.Grounds.{IsLinked}
@@ -47,7 +47,7 @@ returns-clause-safe g c =
           let n = c.len-number.result in
           let m : length later.clauses.entries ≡ length es + 1 = ap length pushed ∙ length-append es (item ∷ []) in
           let q : numbers c.put.new.self.items ≡ numbers old.queue.items ++ (length es + 1) ∷ [] =
-          ap (λ (w : Waiting_list). numbers w.items) c.in_ok-put.ensures.ok ∙ map_append (λ (x : Waiting). x.0) old.queue.items ((n + 1, c.rank.result) ∷ [])
+          ap numbers c.in_ok-put.ensures.ok ∙ map_append (λ (x : Waiting). x.0) old.queue.items ((n + 1, c.clause_size-size.result) ∷ [])
           ∙ ap (λ k. numbers old.queue.items ++ (k + 1) ∷ []) c.len-number.ensures.len in
           subst (All (λ k. k ≤ length later.clauses.entries)) (sym q) (subst (λ k. All (λ j. j ≤ k) (numbers old.queue.items ++ (length es + 1) ∷ [])) (sym m)
           (waiting_pushed (numbers old.queue.items) (length es) (length es + 1) refl c.requires.safe.waiting));
@@ -65,8 +65,9 @@ returns-clause-makes g c =
       entry = pushed;
       waits =
           let e : length es + 1 ≡ suc (length es) = omega arith in
-          ap (λ (w : Waiting_list). numbers w.items) c.in_ok-put.ensures.ok ∙ map_append (λ (x : Waiting). x.0) old.queue.items ((c.len-number.result + 1, c.rank.result) ∷ [])
+          ap numbers c.in_ok-put.ensures.ok ∙ map_append (λ (x : Waiting). x.0) old.queue.items ((c.len-number.result + 1, c.clause_size-size.result) ∷ [])
           ∙ ap (λ k. numbers old.queue.items ++ (k + 1) ∷ []) c.len-number.ensures.len ∙ ap (λ k. numbers old.queue.items ++ k ∷ []) e;
+      ready = c.in_ok-put.ensures.ready;
       valuation = add.valuation;
       bot = add.bot;
       atoms = add.grows;
