@@ -1,5 +1,5 @@
 -- Heaps that name slots, as items are put in and taken out.
-use Rattle.std.proofs.Common.{IfSome, IfNone, ◌≡◌, ◌⊎◌, inl, inr, refl, sym, ap, ◌∙◌, subst, ℕ, zero, suc, ◌<◌, List, [], ◌∷◌, ◌++◌, Option, None, Some, Contains, IsPermutation, length, slice_set, arith}
+use Rattle.std.proofs.Common.{IfSome, IfNone, ◌≡◌, ◌⊎◌, inl, inr, refl, sym, ap, ◌∙◌, subst, ℕ, zero, suc, List, [], ◌∷◌, ◌++◌, Option, None, Some, Contains, IsPermutation, length, slice_set, arith}
 use Rattle.std.proofs.lemmas.List.Sorted.{Contains-permutation}
 use Rattle.std.specs.BinaryHeap.{heap_items}
 use Rattle.instgen_select.specs.declared.slots.Item.{Item}

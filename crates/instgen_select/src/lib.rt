@@ -7,6 +7,8 @@ mod passive;
 mod queue;
 mod rounds;
 mod slots;
+#[cfg(test)]
+mod tests;
 mod turns;
 
 pub use choice::{choose, choose_among};

@@ -3,15 +3,12 @@
 ghost use Rattle.std.specs.Prelude.{◌≡◌, [], ◌∷◌, ◌++◌, length, false, true, not, Contains, IfSome, IfNone, OnSome, OnOk, OnErr, IsTrue, IsErr};
 ghost use Rattle.instgen_select.specs.Queues.{numbers, IsPicked};
 
-use crate::slots::{Item, Ranked, take_least, take_oldest};
+use crate::slots::{FEW, Item, Ranked, take_least, take_oldest};
 use inst_logic::Memory;
 use std::alloc::Global;
 use std::cmp::Reverse;
 use std::collections::BinaryHeap;
 use std::marker::Model;
-
-// So many slots are kept for what is put next.
-const FEW: usize = 64;
 
 /// Numbers with their sizes. A pick takes logarithmic time for each put, taken over all of them.
 #[derive(Drop)]

@@ -7,7 +7,7 @@ ghost use Rattle.instgen_select.specs.Naming.{IsNamed, AreNamed, IsNaming, AreNa
 ghost use Rattle.instgen_select.specs.Slots.{AreGaps};
 
 use crate::rounds::{Order, Rounds};
-use crate::slots::{Item, take_at};
+use crate::slots::{FEW, Item, take_at};
 use inst_logic::Memory;
 use std::alloc::Global;
 use std::cmp::Reverse;
@@ -146,7 +146,8 @@ impl Turns {
         }
     }
 
-    // Begins with new slots where nothing waits, since they are all gaps then.
+    // Begins with new slots where nothing waits, since they are all gaps then. Many slots give their memory back, and the heaps,
+    // which had room for as many.
     fn begin_anew(&mut self)
         ensures items { self.new.items ≡ self.old.items }
         ensures spent { self.new.spent ≡ self.old.spent }
@@ -154,8 +155,13 @@ impl Turns {
         if have_more(&self.heaps) {
             return;
         }
-        self.slots = Vec::new(self.alloc);
-        self.heaps = no_heaps(self.alloc);
+        if self.slots.len() > FEW {
+            self.slots = Vec::new(self.alloc);
+            self.heaps = no_heaps(self.alloc);
+        } else {
+            self.slots.clear();
+            clear_all(&mut self.heaps);
+        }
     }
 
     // The slot is made before the heaps name it, and is a gap until then.
@@ -224,6 +230,13 @@ fn no_heaps(alloc: Global) -> Heaps
         newest: BinaryHeap::new(alloc),
         least: BinaryHeap::new(alloc),
     }
+}
+
+// Takes all out, and keeps the room.
+fn clear_all(heaps: &mut Heaps) {
+    heaps.latest.clear();
+    heaps.newest.clear();
+    heaps.least.clear();
 }
 
 fn has_more(heap: &BinaryHeap<Placed>) -> bool
