@@ -1,4 +1,4 @@
-// The outer loop: solve, and work until an entry is appended.
+// The outer loop: solve, and work on entries that wait until enough were picked and one was appended.
 ghost use Rattle.std.specs.Prelude.{◌≡◌, [], length, IfOk, OnOk, IfNone, IfSome};
 ghost use Rattle.inst_logic.specs.declared.symbol.Sym.{Sym};
 ghost use Rattle.term_bank.specs.Forest.{Extends};

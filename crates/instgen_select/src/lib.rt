@@ -14,4 +14,4 @@ mod turns;
 pub use choice::{choose, choose_among};
 pub use passive::Passive;
 pub use queue::Queue;
-pub use turns::Turns;
+pub use turns::{Arrival, Turns};

@@ -66,7 +66,7 @@ loop-run-preserved g c =
           (subst (λ (ws : List Waiting). All (λ n. (0 < n) × (n ≤ length mid.selection.places)) (numbers ws)) (sym w.goes.ready) (still_ready index.pairs index.fits c.loop-run.run c.pick.new.self c.in-Some.n go inv.ready));
       partners = c.in_ok-store-in-Some.ensures.partners;
       tended = tended_on index.pairs c.loop-run.run new c.pick.new.self c.loop-run.partners c.store.new.partners c.in-Some.n picked w.goes inv.safe.entries inv.safe.waiting
-    (λ m i. within c.loop-run.run.selection.places (items c.loop-run.run) m (indexed_within index.pairs index.fits c.loop-run.run c.loop-run.partners inv.partners m i) inv.safe.within) w.worked c.in_ok-store-in-Some.ensures.stored inv.tended;
+          (λ m i. within c.loop-run.run.selection.places (items c.loop-run.run) m (indexed_within index.pairs index.fits c.loop-run.run c.loop-run.partners inv.partners m i) inv.safe.within) w.worked c.in_ok-store-in-Some.ensures.stored inv.tended;
       running = λ bot cs budget v h. w.running bot cs budget v (running_requeued g.S.Solver.atoms g.S.Solver.added c.loop-run.run c.pick.new.self bot cs budget v (inv.running bot cs budget v h));
       bank = extends_trans c.args.run.now.entries.bank c.loop-run.run.entries.bank new.entries.bank inv.bank w.goes.bank;
       selection = w.goes.selection ∙ inv.selection;
