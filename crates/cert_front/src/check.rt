@@ -1,6 +1,7 @@
 // Whether the certificate of a file is valid, and one of the problem of another file.
 ghost use Rattle.std.specs.Prelude.{◌≡◌, ◌≤◌, IfOk, IfErr, IfSome, option_map, option_copied};
 ghost use Rattle.std.specs.Option.{ForSome};
+ghost use Rattle.outside_io.specs.Told.{Follows};
 ghost use Rattle.inst_logic.specs.WellFormed.{AreFormedClauses};
 ghost use Rattle.cert_front.specs.Judgements.{IsJudgement};
 ghost use Rattle.cert_reader.specs.Reads.{IsWholeCertificate, value_of};
@@ -93,11 +94,10 @@ fn load_named<L: Library>(
     problem: Option<&str>,
     root: Option<&str>,
 ) -> Result<Option<Problem>, LoadError>
-    ensures files { L.files files.new ≡ L.files files.old }
-    ensures later { L.faults files.old ≤ L.faults files.new }
+    ensures follows { Follows (L.told files.old) (L.told files.new) }
     ensures formed { IfOk result (λ p. IfSome p (λ q. AreFormedClauses q.clauses)) }
-    ensures loads { IfOk result (IsProblemOf (L.files files.old) (option_map (λ f. f.now) problem.entry) (option_map (λ r. r.now) root.entry)) }
-    ensures refused { IfErr result (IsProblemFault (L.files files.old) (L.faults files.old) (L.faults files.new) (option_map (λ f. f.now) problem.entry) (option_map (λ r. r.now) root.entry)) }
+    ensures loads { IfOk result (IsProblemOf (L.told files.old).files (option_map (λ f. f.now) problem.entry) (option_map (λ r. r.now) root.entry)) }
+    ensures refused { IfErr result (IsProblemFault (L.told files.old).files (L.told files.old).faults (L.told files.new).faults (option_map (λ f. f.now) problem.entry) (option_map (λ r. r.now) root.entry)) }
 {
     match problem {
         Some(file) => {
@@ -117,10 +117,9 @@ fn judge_for<L: Library>(
     root: Option<&str>,
 ) -> Result<(Form, Judgement), CheckFault>
     requires { IsWholeCertificate certificate }
-    ensures files { L.files files.new ≡ L.files files.old }
-    ensures later { L.faults files.old ≤ L.faults files.new }
-    ensures judged { IfOk result (IsJudgedAs (L.files files.old) (option_map (λ f. f.now) problem.entry) (option_map (λ r. r.now) root.entry) (value_of certificate)) }
-    ensures refused { IfErr result (IsUnjudged (L.files files.old) (L.faults files.old) (L.faults files.new) (option_map (λ f. f.now) problem.entry) (option_map (λ r. r.now) root.entry)) }
+    ensures follows { Follows (L.told files.old) (L.told files.new) }
+    ensures judged { IfOk result (IsJudgedAs (L.told files.old).files (option_map (λ f. f.now) problem.entry) (option_map (λ r. r.now) root.entry) (value_of certificate)) }
+    ensures refused { IfErr result (IsUnjudged (L.told files.old).files (L.told files.old).faults (L.told files.new).faults (option_map (λ f. f.now) problem.entry) (option_map (λ r. r.now) root.entry)) }
 {
     let problem = load_named(alloc, files, problem, root)?;
     let found = judge(alloc, certificate, problem.as_ref())?;
@@ -135,10 +134,9 @@ fn judge_file<L: Library>(
     problem: Option<&str>,
     root: Option<&str>,
 ) -> Result<(Form, Judgement), CheckFault>
-    ensures files { L.files files.new ≡ L.files files.old }
-    ensures later { L.faults files.old ≤ L.faults files.new }
-    ensures judged { IfOk result (IsJudged (L.files files.old) name.now (option_map (λ f. f.now) problem.entry) (option_map (λ r. r.now) root.entry)) }
-    ensures refused { IfErr result (IsCheckFault (L.files files.old) (L.faults files.old) (L.faults files.new) name.now (option_map (λ f. f.now) problem.entry) (option_map (λ r. r.now) root.entry)) }
+    ensures follows { Follows (L.told files.old) (L.told files.new) }
+    ensures judged { IfOk result (IsJudged (L.told files.old).files name.now (option_map (λ f. f.now) problem.entry) (option_map (λ r. r.now) root.entry)) }
+    ensures refused { IfErr result (IsCheckFault (L.told files.old).files (L.told files.old).faults (L.told files.new).faults name.now (option_map (λ f. f.now) problem.entry) (option_map (λ r. r.now) root.entry)) }
 {
     match read_file(alloc, files, name) {
         Ok(certificate) => judge_for(alloc, files, certificate, problem, root),
@@ -156,12 +154,11 @@ pub fn check_file<L: Library>(
     problem: Option<&str>,
     root: Option<&str>,
 ) -> Result<(Form, Judgement), CheckFault>
-    ensures files { L.files files.new ≡ L.files files.old }
-    ensures later { L.faults files.old ≤ L.faults files.new }
-    ensures judged { IfOk result (IsJudged (L.files files.old) name.now (option_map (λ f. f.now) problem.entry) (option_map (λ r. r.now) root.entry)) }
-    ensures refused { IfErr result (IsCheckFault (L.files files.old) (L.faults files.old) (L.faults files.new) name.now (option_map (λ f. f.now) problem.entry) (option_map (λ r. r.now) root.entry)) }
+    ensures follows { Follows (L.told files.old) (L.told files.new) }
+    ensures judged { IfOk result (IsJudged (L.told files.old).files name.now (option_map (λ f. f.now) problem.entry) (option_map (λ r. r.now) root.entry)) }
+    ensures refused { IfErr result (IsCheckFault (L.told files.old).files (L.told files.old).faults (L.told files.new).faults name.now (option_map (λ f. f.now) problem.entry) (option_map (λ r. r.now) root.entry)) }
     // Where the files are told, it is the answer that they give, but for faults and want of memory.
-    ensures exact { IfSome (L.files files.old) (λ told. IsExactCheck told (L.faults files.old) (L.faults files.new) name.now (option_map (λ f. f.now) problem.entry) (option_map (λ r. r.now) root.entry) result) }
+    ensures exact { IfSome (L.told files.old).files (λ told. IsExactCheck told (L.told files.old).faults (L.told files.new).faults name.now (option_map (λ f. f.now) problem.entry) (option_map (λ r. r.now) root.entry) result) }
 {
     findings_are_one();
     judge_file(alloc, files, name, problem, root)

@@ -1,5 +1,6 @@
 // The certificate of a file. Its bytes are dropped once it is read.
 ghost use Rattle.std.specs.Prelude.{◌≡◌, ◌≤◌, IfOk, IfErr};
+ghost use Rattle.outside_io.specs.Told.{Follows};
 ghost use Rattle.cert_reader.specs.Reads.{IsTextOf, IsWholeCertificate, value_of};
 ghost use Rattle.cert_front.specs.Certificates.{IsCertFault, IsCertificateOf, IsTextFault, limit};
 
@@ -29,11 +30,10 @@ pub fn read_file<L: Library>(
     files: &mut L,
     name: &str,
 ) -> Result<Certificate, CertFault>
-    ensures files { L.files files.new ≡ L.files files.old }
-    ensures later { L.faults files.old ≤ L.faults files.new }
-    ensures read { IfOk result (λ c. IsCertificateOf (L.files files.old) name.now (value_of c)) }
+    ensures follows { Follows (L.told files.old) (L.told files.new) }
+    ensures read { IfOk result (λ c. IsCertificateOf (L.told files.old).files name.now (value_of c)) }
     ensures whole { IfOk result IsWholeCertificate }
-    ensures refused { IfErr result (IsCertFault (L.files files.old) (L.faults files.old) (L.faults files.new) name.now) }
+    ensures refused { IfErr result (IsCertFault (L.told files.old).files (L.told files.old).faults (L.told files.new).faults name.now) }
 {
     match read_whole(alloc, files, name, LIMIT) {
         Ok(text) => read_text(alloc, text.as_slice()),

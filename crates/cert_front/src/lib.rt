@@ -23,5 +23,4 @@ pub use judgement::{Judgement, judge_refutation, judge_saturation};
 pub use laws::{judgements_are_one, replies_are_one, short_texts_are_light};
 pub use query::ask_file;
 pub use reply::{Reply, ask, reply_of};
-pub use texts::write_fault;
-pub use words::{Form, write_judgement, write_reply};
+pub use words::{Form, judgement_line, reply_line};

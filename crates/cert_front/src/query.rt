@@ -1,5 +1,6 @@
 // What the saturation of a file says of a ground atom.
 ghost use Rattle.std.specs.Prelude.{◌≡◌, ◌≤◌, true, IfOk, IfErr, IfSome};
+ghost use Rattle.outside_io.specs.Told.{Follows};
 ghost use Rattle.inst_logic.specs.LiteralView.{literal};
 ghost use Rattle.inst_logic.specs.WellFormed.{IsAtom};
 ghost use Rattle.term_bank.specs.Forest.{is_ground};
@@ -43,10 +44,9 @@ fn reply_of_file<L: Library>(
 ) -> Result<Reply, CertFault>
     requires atom { IsAtom (literal atom.now).atom }
     requires variable_free { is_ground (literal atom.now).atom ≡ true }
-    ensures files { L.files files.new ≡ L.files files.old }
-    ensures later { L.faults files.old ≤ L.faults files.new }
-    ensures replied { IfOk result (IsReplied (L.files files.old) name.now (literal atom.now).atom) }
-    ensures refused { IfErr result (IsAskFault (L.files files.old) (L.faults files.old) (L.faults files.new) name.now) }
+    ensures follows { Follows (L.told files.old) (L.told files.new) }
+    ensures replied { IfOk result (IsReplied (L.told files.old).files name.now (literal atom.now).atom) }
+    ensures refused { IfErr result (IsAskFault (L.told files.old).files (L.told files.old).faults (L.told files.new).faults name.now) }
 {
     short_texts_are_light();
     match read_file(alloc, files, name) {
@@ -66,12 +66,11 @@ pub fn ask_file<L: Library>(
 ) -> Result<Reply, CertFault>
     requires atom { IsAtom (literal atom.now).atom }
     requires variable_free { is_ground (literal atom.now).atom ≡ true }
-    ensures files { L.files files.new ≡ L.files files.old }
-    ensures later { L.faults files.old ≤ L.faults files.new }
-    ensures replied { IfOk result (IsReplied (L.files files.old) name.now (literal atom.now).atom) }
-    ensures refused { IfErr result (IsAskFault (L.files files.old) (L.faults files.old) (L.faults files.new) name.now) }
+    ensures follows { Follows (L.told files.old) (L.told files.new) }
+    ensures replied { IfOk result (IsReplied (L.told files.old).files name.now (literal atom.now).atom) }
+    ensures refused { IfErr result (IsAskFault (L.told files.old).files (L.told files.old).faults (L.told files.new).faults name.now) }
     // Where the files are told, it is the answer that they give, but for faults and want of memory.
-    ensures exact { IfSome (L.files files.old) (λ told. IsExactReply told (L.faults files.old) (L.faults files.new) name.now (literal atom.now).atom result) }
+    ensures exact { IfSome (L.told files.old).files (λ told. IsExactReply told (L.told files.old).faults (L.told files.new).faults name.now (literal atom.now).atom result) }
 {
     findings_are_one();
     reply_of_file(alloc, files, name, atom)

@@ -1,15 +1,12 @@
-// The line that says what was found. It takes no memory, so it can be written after any check.
-ghost use Rattle.std.specs.Prelude.{◌≡◌, ◌≤◌, [], ◌∷◌, OnOk, OnErr, codes, decimal};
-ghost use Rattle.std.specs.Io.KnownBytes.{Appends};
-ghost use Rattle.outside_io.specs.Causes.{Rose};
-ghost use Rattle.outside_io.specs.Taken.{AppendsProperPrefix};
-ghost use Rattle.cert_front.specs.Words.{complaint_words, form_word, invalid_line, judgement_line, reply_line};
+// The line that says what was found.
+ghost use Rattle.std.specs.Prelude.{◌≡◌, [], ◌∷◌, codes, decimal};
+ghost use Rattle.outside_io.specs.Pieces.{text_of};
+ghost use Rattle.cert_front.specs.Words.{complaint_words, form_word, invalid_line, judgement_line, line_of, reply_line};
 
 use crate::judgement::Judgement;
 use crate::reply::Reply;
 use cert_check::Complaint;
-use itoa::Buffer;
-use outside_io::{Sink, Trouble, write_pieces};
+use outside_io::{Line, Piece};
 
 /// The form of a certificate.
 #[derive(Clone, Copy, Debug, PartialEq, Eq)]
@@ -18,99 +15,98 @@ pub enum Form {
     Saturation,
 }
 
-fn form_word(form: Form) -> &'static [u8]
-    ensures { result.now ≡ form_word form }
+// The line of these words.
+fn line<'a>(first: &'a [u8], second: &'a [u8]) -> Line<'a>
+    ensures { text_of result ≡ line_of (first.now ∷ second.now ∷ []) }
+{
+    let none = Piece::Text(b"");
+    [
+        Piece::Text(first),
+        Piece::Text(second),
+        Piece::Text(b"\n"),
+        none,
+        none,
+        none,
+        none,
+    ]
+}
+
+// The line of a valid certificate of this form.
+fn valid_line<'a>(form: Form) -> Line<'a>
+    ensures { text_of result ≡ line_of (codes "valid " ∷ form_word form ∷ []) }
 {
     match form {
-        Form::Refutation => b"CNFRefutation",
-        Form::Saturation => b"Saturation",
+        Form::Refutation => line(b"valid ", b"CNFRefutation"),
+        Form::Saturation => line(b"valid ", b"Saturation"),
     }
 }
 
-// Writes the line of a complaint that has these words and no number.
-fn write_word<K: Sink>(out: &mut K, word: &[u8]) -> Result<(), Trouble>
-    ensures ok { OnOk result (Appends (K.taken out.old) (K.taken out.new) (invalid_line (word.now ∷ []))) }
-    ensures err { OnErr result (AppendsProperPrefix (K.taken out.old) (K.taken out.new) (invalid_line (word.now ∷ []))) }
-    ensures later { K.faults out.old ≤ K.faults out.new }
-    ensures failed { result ≡ Err Trouble.Failed → Rose (K.faults out.old) (K.faults out.new) }
+// The line of a complaint that has this word and number.
+fn numbered_line(word: &[u8], number: usize) -> Line<'_>
+    ensures { text_of result ≡ invalid_line (word.now ∷ decimal number ∷ []) }
 {
-    write_pieces(out, &[b"invalid: ", word, b"\n"])
+    let none = Piece::Text(b"");
+    [
+        Piece::Text(b"invalid: "),
+        Piece::Text(word),
+        Piece::Number(number as u64),
+        Piece::Text(b"\n"),
+        none,
+        none,
+        none,
+    ]
 }
 
-// The same with a number.
-fn write_numbered<K: Sink>(out: &mut K, word: &[u8], n: usize) -> Result<(), Trouble>
-    ensures ok { OnOk result (Appends (K.taken out.old) (K.taken out.new) (invalid_line (word.now ∷ decimal n ∷ []))) }
-    ensures err { OnErr result (AppendsProperPrefix (K.taken out.old) (K.taken out.new) (invalid_line (word.now ∷ decimal n ∷ []))) }
-    ensures later { K.faults out.old ≤ K.faults out.new }
-    ensures failed { result ≡ Err Trouble.Failed → Rose (K.faults out.old) (K.faults out.new) }
+// The line of a complaint about two members.
+fn pair_line<'a>(left: usize, right: usize) -> Line<'a>
+    ensures { text_of result ≡ invalid_line (codes "pair " ∷ decimal left ∷ codes " " ∷ decimal right ∷ []) }
 {
-    let mut digits = Buffer::new();
-    let number = digits.format(n).as_bytes();
-    write_pieces(out, &[b"invalid: ", word, number, b"\n"])
+    [
+        Piece::Text(b"invalid: "),
+        Piece::Text(b"pair "),
+        Piece::Number(left as u64),
+        Piece::Text(b" "),
+        Piece::Number(right as u64),
+        Piece::Text(b"\n"),
+        Piece::Text(b""),
+    ]
 }
 
-// Writes the line of a complaint about two members.
-fn write_pair<K: Sink>(out: &mut K, left: usize, right: usize) -> Result<(), Trouble>
-    ensures ok { OnOk result (Appends (K.taken out.old) (K.taken out.new) (invalid_line (codes "pair " ∷ decimal left ∷ codes " " ∷ decimal right ∷ []))) }
-    ensures err { OnErr result (AppendsProperPrefix (K.taken out.old) (K.taken out.new) (invalid_line (codes "pair " ∷ decimal left ∷ codes " " ∷ decimal right ∷ []))) }
-    ensures later { K.faults out.old ≤ K.faults out.new }
-    ensures failed { result ≡ Err Trouble.Failed → Rose (K.faults out.old) (K.faults out.new) }
-{
-    let mut left_digits = Buffer::new();
-    let mut right_digits = Buffer::new();
-    let first = left_digits.format(left).as_bytes();
-    let second = right_digits.format(right).as_bytes();
-    write_pieces(out, &[b"invalid: ", b"pair ", first, b" ", second, b"\n"])
-}
-
-// Writes the line of a complaint.
-fn write_complaint<K: Sink>(out: &mut K, complaint: Complaint) -> Result<(), Trouble>
-    ensures ok { OnOk result (Appends (K.taken out.old) (K.taken out.new) (invalid_line (complaint_words complaint))) }
-    ensures err { OnErr result (AppendsProperPrefix (K.taken out.old) (K.taken out.new) (invalid_line (complaint_words complaint))) }
-    ensures later { K.faults out.old ≤ K.faults out.new }
-    ensures failed { result ≡ Err Trouble.Failed → Rose (K.faults out.old) (K.faults out.new) }
+// The line of a complaint.
+fn complaint_line<'a>(complaint: Complaint) -> Line<'a>
+    ensures { text_of result ≡ invalid_line (complaint_words complaint) }
 {
     match complaint {
-        Complaint::Axiom { n } => write_numbered(out, b"axiom ", n),
-        Complaint::Member { n } => write_numbered(out, b"member ", n),
-        Complaint::Bot => write_word(out, b"constant"),
-        Complaint::Ground { n } => write_numbered(out, b"ground ", n),
-        Complaint::Step { n } => write_numbered(out, b"step ", n),
-        Complaint::NotEmpty => write_word(out, b"no empty clause"),
-        Complaint::Place { n } => write_numbered(out, b"place ", n),
-        Complaint::Input { k } => write_numbered(out, b"input ", k),
-        Complaint::Pair { left, right } => write_pair(out, left, right),
+        Complaint::Axiom { n } => numbered_line(b"axiom ", n),
+        Complaint::Member { n } => numbered_line(b"member ", n),
+        Complaint::Bot => line(b"invalid: ", b"constant"),
+        Complaint::Ground { n } => numbered_line(b"ground ", n),
+        Complaint::Step { n } => numbered_line(b"step ", n),
+        Complaint::NotEmpty => line(b"invalid: ", b"no empty clause"),
+        Complaint::Place { n } => numbered_line(b"place ", n),
+        Complaint::Input { k } => numbered_line(b"input ", k),
+        Complaint::Pair { left, right } => pair_line(left, right),
     }
 }
 
-/// Writes the line of the judgement of a certificate of this form, and takes no memory.
-pub fn write_judgement<K: Sink>(
-    out: &mut K,
-    form: Form,
-    judgement: Judgement,
-) -> Result<(), Trouble>
-    ensures ok { OnOk result (Appends (K.taken out.old) (K.taken out.new) (judgement_line form judgement)) }
-    ensures err { OnErr result (AppendsProperPrefix (K.taken out.old) (K.taken out.new) (judgement_line form judgement)) }
-    ensures later { K.faults out.old ≤ K.faults out.new }
-    ensures failed { result ≡ Err Trouble.Failed → Rose (K.faults out.old) (K.faults out.new) }
+/// The line of the judgement of a certificate of this form.
+pub fn judgement_line<'a>(form: Form, judgement: Judgement) -> Line<'a>
+    ensures { text_of result ≡ judgement_line form judgement }
 {
     match judgement {
-        Judgement::Valid => write_pieces(out, &[b"valid ", form_word(form), b"\n"]),
-        Judgement::Problem { n } => write_numbered(out, b"problem ", n),
-        Judgement::Invalid(complaint) => write_complaint(out, complaint),
+        Judgement::Valid => valid_line(form),
+        Judgement::Problem { n } => numbered_line(b"problem ", n),
+        Judgement::Invalid(complaint) => complaint_line(complaint),
     }
 }
 
-/// Writes the line of the reply, and takes no memory.
-pub fn write_reply<K: Sink>(out: &mut K, reply: Reply) -> Result<(), Trouble>
-    ensures ok { OnOk result (Appends (K.taken out.old) (K.taken out.new) (reply_line reply)) }
-    ensures err { OnErr result (AppendsProperPrefix (K.taken out.old) (K.taken out.new) (reply_line reply)) }
-    ensures later { K.faults out.old ≤ K.faults out.new }
-    ensures failed { result ≡ Err Trouble.Failed → Rose (K.faults out.old) (K.faults out.new) }
+/// The line of the reply.
+pub fn reply_line<'a>(reply: Reply) -> Line<'a>
+    ensures { text_of result ≡ reply_line reply }
 {
     match reply {
-        Reply::True => write_pieces(out, &[b"true", b"\n"]),
-        Reply::False => write_pieces(out, &[b"false", b"\n"]),
-        Reply::Invalid(complaint) => write_complaint(out, complaint),
+        Reply::True => line(b"true", b""),
+        Reply::False => line(b"false", b""),
+        Reply::Invalid(complaint) => complaint_line(complaint),
     }
 }

@@ -12,4 +12,4 @@ pub mod Dimacs
 pub mod Refusals
 pub mod Qdimacs
 pub mod FormulaRefusals
-pub mod Command
+pub mod Notices

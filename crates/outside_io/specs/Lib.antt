@@ -2,6 +2,10 @@ pub mod Causes
 pub mod FailingCalls
 pub mod Files
 pub mod InMemory
+pub mod Notices
+pub mod Pieces
 pub mod RealFiles
+pub mod Seen
 pub mod Taken
+pub mod Told
 pub mod WholeFiles

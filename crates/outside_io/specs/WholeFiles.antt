@@ -1,7 +1,8 @@
 -- What a file of a library gives that has at most so many bytes.
-use Rattle.std.specs.Prelude.{ℕ, ◌≡◌, ◌<◌, ◌≤◌, List, Option, None, Some, ⊤, length}
+use Rattle.std.specs.Prelude.{ℕ, ◌≡◌, ◌<◌, ◌≤◌, List, Option, None, Some, IfSome, ⊤, length}
 use Rattle.outside_io.specs.Causes.{Rose}
 use Rattle.outside_io.specs.Files.{bytes_named}
+use Rattle.outside_io.specs.Told.{Told}
 use Rattle.outside_io.specs.declared.library.NamedFile.{NamedFile}
 use Rattle.outside_io.specs.declared.whole.FileError.{FileError}
 use Rattle.outside_io.specs.declared.whole.FileError.TheVariants.{Absent, TooLong, ReadFault, Memory}
@@ -11,24 +12,34 @@ abbrev pub IsWhole : ℕ → Option (List ℕ) → List ℕ → Type 0
 IsWhole limit None bytes = length bytes ≤ limit
 IsWhole limit (Some rest) bytes = (length bytes ≤ limit) × (rest ≡ bytes)
 
--- why the rest of a file was not read whole; the count of faults goes from before to now
-abbrev pub IsCutOff : ℕ → Option (List ℕ) → ℕ → ℕ → FileError → Type 0
-IsCutOff limit rest before now Absent = ⊥
-IsCutOff limit None before now TooLong = ⊤
-IsCutOff limit (Some rest) before now TooLong = limit < length rest
-IsCutOff limit rest before now ReadFault = Rose before now
-IsCutOff limit rest before now Memory = ⊤
+-- the rest is told and has more bytes, or it is not told
+abbrev pub IsLonger : ℕ → Option (List ℕ) → Type 0
+IsLonger limit None = ⊤
+IsLonger limit (Some rest) = limit < length rest
+
+-- why the rest of a file was not read whole
+abbrev pub IsCutOff : ℕ → Told → Told → FileError → Type 0
+IsCutOff limit old new Absent = ⊥
+IsCutOff limit old new TooLong = IsLonger limit old.rest
+IsCutOff limit old new ReadFault = Rose old.faults new.faults
+IsCutOff limit old new Memory = ⊤
 
 -- where the files are told, the file of this name has these bytes; they are not too many
 abbrev pub IsHeld : ℕ → Option (List NamedFile) → List ℕ → List ℕ → Type 0
 IsHeld limit None name bytes = length bytes ≤ limit
 IsHeld limit (Some files) name bytes = (length bytes ≤ limit) × (bytes_named files name ≡ Some bytes)
 
+-- there is no file of this name
+abbrev pub IsAbsent : List ℕ → List NamedFile → Type 0
+IsAbsent name files = bytes_named files name ≡ None
+
+-- the file of this name has more bytes
+abbrev pub IsLong : ℕ → List ℕ → List NamedFile → Type 0
+IsLong limit name files = (bytes : List ℕ) × (bytes_named files name ≡ Some bytes) × (limit < length bytes)
+
 -- why the bytes of the file of this name were not read
-abbrev pub IsUnread : ℕ → Option (List NamedFile) → ℕ → ℕ → List ℕ → FileError → Type 0
-IsUnread limit None before now name Absent = ⊤
-IsUnread limit (Some files) before now name Absent = bytes_named files name ≡ None
-IsUnread limit None before now name TooLong = ⊤
-IsUnread limit (Some files) before now name TooLong = (bytes : List ℕ) × (bytes_named files name ≡ Some bytes) × (limit < length bytes)
-IsUnread limit files before now name ReadFault = Rose before now
-IsUnread limit files before now name Memory = ⊤
+abbrev pub IsUnread : ℕ → Told → Told → List ℕ → FileError → Type 0
+IsUnread limit old new name Absent = IfSome old.files (IsAbsent name)
+IsUnread limit old new name TooLong = IfSome old.files (IsLong limit name)
+IsUnread limit old new name ReadFault = Rose old.faults new.faults
+IsUnread limit old new name Memory = ⊤

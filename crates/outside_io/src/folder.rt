@@ -1,10 +1,12 @@
 // Real files. A missing one is an answer and no fault, so that an include can be looked for in two places; the count of
 // faults tells every other error.
-ghost use Rattle.std.specs.Prelude.{◌≡◌, ◌≢◌, ◌≤◌, ◌↔◌, IsTrue, IfOk, OnOk, OnErr, None, true, false};
+ghost use Rattle.std.specs.Prelude.{◌≡◌, ◌≢◌, ◌↔◌, IsTrue, IfOk, OnOk, OnErr, None, true, false};
 ghost use Rattle.std.specs.Io.{ReadsAtMost};
 ghost use Rattle.std.specs.Io.KnownBytes.{ReadConsumes};
 ghost use Rattle.outside_io.specs.Causes.{Rose, one_more};
 ghost use Rattle.outside_io.specs.Files.{Begins};
+ghost use Rattle.outside_io.specs.RealFiles.{real_told};
+ghost use Rattle.outside_io.specs.Told.{Follows};
 
 use crate::library::{Failed, Library, Trouble};
 use std::alloc::Global;
@@ -45,16 +47,12 @@ impl<'a, R: Files> FolderLibrary<'a, R> {
 }
 
 impl<R: Files> Library for FolderLibrary<'_, R> {
-    ghost files = { λ _. None };
-
-    ghost rest = { λ _. None };
-
-    ghost faults = { λ s. s.faults };
+    ghost told = { real_told };
 
     fn begin(&mut self, name: &str) -> Result<bool, Trouble>
         ensures untold { IfOk result (Begins None name.now None) }
         ensures begun { IsTrue self.new.begun ↔ (result ≡ Ok true) }
-        ensures later { self.old.faults ≤ self.new.faults }
+        ensures follows { Follows (real_told self.old) (real_told self.new) }
         ensures failed { result ≡ Err Trouble.Failed → Rose self.old.faults self.new.faults }
         ensures one { result ≡ Err Trouble.Failed → self.new.faults ≡ one_more self.old.faults }
         ensures same { result ≢ Err Trouble.Failed → self.new.faults ≡ self.old.faults }
@@ -82,7 +80,7 @@ impl<R: Files> Library for FolderLibrary<'_, R> {
         ensures untold { ReadConsumes None None result buf.new }
         ensures begun { self.new.begun ≡ self.old.begun }
         ensures not_begun { self.old.begun ≡ false → result ≡ Ok 0 }
-        ensures later { self.old.faults ≤ self.new.faults }
+        ensures follows { Follows (real_told self.old) (real_told self.new) }
         ensures failed { OnErr result (Rose self.old.faults self.new.faults) }
         ensures one { OnErr result (self.new.faults ≡ one_more self.old.faults) }
         ensures same { OnOk result (self.new.faults ≡ self.old.faults) }
@@ -101,7 +99,7 @@ impl<R: Files> Library for FolderLibrary<'_, R> {
 
     fn finish(&mut self)
         ensures not_begun { self.new.begun ≡ false }
-        ensures later { self.old.faults ≤ self.new.faults }
+        ensures follows { Follows (real_told self.old) (real_told self.new) }
         ensures same { self.new.faults ≡ self.old.faults }
     {
         self.file = None;

@@ -1,11 +1,11 @@
 // Where files are read from: one at a time, in pieces. A call that gave a whole file would have no place for a read that
 // fails in mid-stream, and would take memory of a size that its caller does not know.
-ghost use Rattle.std.specs.Prelude.{◌≡◌, ◌≢◌, ◌≤◌, ℕ, List, Option, true, IfOk, OnErr};
+ghost use Rattle.std.specs.Prelude.{◌≡◌, ◌≢◌, true, IfOk, OnErr};
 ghost use Rattle.std.specs.Io.{ReadsAtMost};
 ghost use Rattle.std.specs.Io.KnownBytes.{ReadConsumes, IsAtEnd};
 ghost use Rattle.outside_io.specs.Causes.{Rose};
 ghost use Rattle.outside_io.specs.Files.{Begins};
-ghost use Rattle.outside_io.specs.declared.library.NamedFile.{NamedFile};
+ghost use Rattle.outside_io.specs.Told.{Told, Follows};
 
 use inst_logic::{ByteList, ListOf, Name};
 
@@ -32,36 +32,29 @@ pub type FileList = ListOf<NamedFile>;
 
 /// Files by their names, of which one at a time is read.
 ///
-/// `files` is what they hold, where that is told. `rest` is what is left of the file that was begun, where that is
-/// told, and is empty where no file is begun. `faults` counts the calls that failed. It never falls, and one that
-/// stands at u64::MAX need not rise.
+/// What a library has `told` is what its files hold and what is left of the one that was begun, where these are told, and the
+/// number of calls that failed. Nothing is left where no file is begun. The number never falls, and one that stands at u64::MAX
+/// need not rise.
 pub trait Library {
-    ghost files: { Self → Option (List NamedFile) };
-
-    ghost rest: { Self → Option (List ℕ) };
-
-    ghost faults: { Self → ℕ };
+    ghost told: { Self → Told };
 
     /// Finishes a file that was begun before, and begins the one of this name. `Ok(false)`: there is none.
     fn begin(&mut self, name: &str) -> Result<bool, Trouble>
-        ensures files { files self.new ≡ files self.old }
-        ensures begun { IfOk result (Begins (files self.old) name.now (rest self.new)) }
-        ensures not_begun { result ≢ Ok true → IsAtEnd (rest self.new) }
-        ensures later { faults self.old ≤ faults self.new }
-        ensures failed { result ≡ Err Trouble.Failed → Rose (faults self.old) (faults self.new) };
+        ensures follows { Follows (told self.old) (told self.new) }
+        ensures begun { IfOk result (Begins (told self.old).files name.now (told self.new).rest) }
+        ensures not_begun { result ≢ Ok true → IsAtEnd (told self.new).rest }
+        ensures failed { result ≡ Err Trouble.Failed → Rose (told self.old).faults (told self.new).faults };
 
     /// Puts the next bytes at the front of `buf`, and answers how many. `Ok(0)` with room: the end of the file, or no
     /// file is begun.
     fn read(&mut self, buf: &mut [u8]) -> Result<usize, Failed>
-        ensures files { files self.new ≡ files self.old }
+        ensures follows { Follows (told self.old) (told self.new) }
         ensures bound { ReadsAtMost result buf.new }
-        ensures bytes { ReadConsumes (rest self.old) (rest self.new) result buf.new }
-        ensures later { faults self.old ≤ faults self.new }
-        ensures failed { OnErr result (Rose (faults self.old) (faults self.new)) };
+        ensures bytes { ReadConsumes (told self.old).rest (told self.new).rest result buf.new }
+        ensures failed { OnErr result (Rose (told self.old).faults (told self.new).faults) };
 
     /// Leaves no file begun.
     fn finish(&mut self)
-        ensures files { files self.new ≡ files self.old }
-        ensures not_begun { IsAtEnd (rest self.new) }
-        ensures later { faults self.old ≤ faults self.new };
+        ensures follows { Follows (told self.old) (told self.new) }
+        ensures not_begun { IsAtEnd (told self.new).rest };
 }

@@ -53,11 +53,7 @@ impl MemLibrary {
 }
 
 impl Library for MemLibrary {
-    ghost files = { λ s. Some s.files };
-
-    ghost rest = { λ s. Some s.rest };
-
-    ghost faults = { λ s. s.failing.faults };
+    ghost told = { λ s. record { files = Some s.files; rest = Some s.rest; faults = s.failing.faults } };
 
     fn begin(&mut self, name: &str) -> Result<bool, Trouble>
         ensures files { self.new.files ≡ self.old.files }

@@ -1,6 +1,6 @@
 // Bytes in memory, of which chosen writes fail and each write is short: what a real output may do at any call is done here at
 // the calls that a test names.
-ghost use Rattle.std.specs.Prelude.{◌≡◌, ◌<◌, ◌↔◌, IsTrue, IfOk, Some, [], length, min};
+ghost use Rattle.std.specs.Prelude.{◌≡◌, ◌<◌, ◌↔◌, IsTrue, IfOk, Some, [], true, length, min};
 ghost use Rattle.std.specs.Io.KnownBytes.{WriteAppends};
 ghost use Rattle.outside_io.specs.FailingCalls.{fails_next, after_call};
 
@@ -56,9 +56,7 @@ impl MemSink {
 }
 
 impl Sink for MemSink {
-    ghost taken = { λ s. Some s.taken };
-
-    ghost faults = { λ s. s.failing.faults };
+    ghost seen = { λ s. record { taken = Some s.taken; faults = s.failing.faults; may_want = true } };
 
     fn write(&mut self, piece: &[u8]) -> Result<usize, Trouble>
         ensures count { IfOk result (λ n. n ≡ min (length piece.now) self.old.most) }

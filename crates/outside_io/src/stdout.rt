@@ -1,8 +1,9 @@
 // Standard output, without a buffer: what is written here is whole before its first byte.
-ghost use Rattle.std.specs.Prelude.{◌≡◌, ◌≢◌, ◌≤◌, ◌<◌, IfOk, OnOk, None, length};
+ghost use Rattle.std.specs.Prelude.{◌≡◌, ◌≢◌, ◌≤◌, ◌<◌, IfOk, IsTrue, OnOk, None, length};
 ghost use Rattle.std.specs.Io.{WritesAtMost};
 ghost use Rattle.std.specs.Io.KnownBytes.{WriteAppends};
 ghost use Rattle.outside_io.specs.Causes.{Rose, one_more};
+ghost use Rattle.outside_io.specs.RealFiles.{real_seen};
 
 use crate::library::Trouble;
 use crate::sink::Sink;
@@ -33,9 +34,7 @@ impl<'a, R: Print> OutSink<'a, R> {
 }
 
 impl<R: Print> Sink for OutSink<'_, R> {
-    ghost taken = { λ _. None };
-
-    ghost faults = { λ s. s };
+    ghost seen = { real_seen };
 
     fn write(&mut self, piece: &[u8]) -> Result<usize, Trouble>
         ensures bound { WritesAtMost result piece.now }
@@ -45,7 +44,8 @@ impl<R: Print> Sink for OutSink<'_, R> {
         ensures failed { result ≡ Err Trouble.Failed → Rose self.old self.new }
         ensures one { result ≡ Err Trouble.Failed → self.new ≡ one_more self.old }
         ensures same { OnOk result (self.new ≡ self.old) }
-        ensures memory { result ≡ Err Trouble.Memory → self.new ≡ self.old }
+        ensures memory { result ≡ Err Trouble.Memory → IsTrue (real_seen self.old).may_want }
+        ensures no_fault { result ≡ Err Trouble.Memory → self.new ≡ self.old }
         ensures no_memory { result ≢ Err Trouble.Memory }
     {
         match self.rt.write_some(piece) {

@@ -37,11 +37,7 @@ impl SureLibrary {
 }
 
 impl Library for SureLibrary {
-    ghost files = { λ s. Some s.files };
-
-    ghost rest = { λ s. Some s.rest };
-
-    ghost faults = { λ _. 0 };
+    ghost told = { λ s. record { files = Some s.files; rest = Some s.rest; faults = 0 } };
 
     fn begin(&mut self, name: &str) -> Result<bool, Trouble>
         ensures files { self.new.files ≡ self.old.files }
@@ -100,9 +96,7 @@ impl SureSink {
 }
 
 impl Sink for SureSink {
-    ghost taken = { λ s. Some s };
-
-    ghost faults = { λ _. 0 };
+    ghost seen = { λ s. record { taken = Some s; faults = 0; may_want = true } };
 
     fn write(&mut self, piece: &[u8]) -> Result<usize, Trouble>
         ensures whole { IfOk result (λ n. n ≡ length piece.now) }

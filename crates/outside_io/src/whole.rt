@@ -1,5 +1,7 @@
 // A file, read whole, in blocks. A short read is not its end; only a read of nothing is.
-ghost use Rattle.std.specs.Prelude.{◌≡◌, ◌≤◌, IfOk, IfErr};
+ghost use Rattle.std.specs.Prelude.{IfOk, IfErr};
+ghost use Rattle.std.specs.Io.KnownBytes.{IsAtEnd};
+ghost use Rattle.outside_io.specs.Told.{Follows};
 ghost use Rattle.outside_io.specs.WholeFiles.{IsCutOff, IsHeld, IsUnread, IsWhole};
 
 use crate::library::{Library, Trouble};
@@ -23,10 +25,9 @@ const ROOM: usize = 65_536;
 
 // Reads the rest of the file that was begun.
 fn read_rest<L: Library>(alloc: Global, files: &mut L, limit: usize) -> Result<Vec<u8>, FileError>
-    ensures files { L.files files.new ≡ L.files files.old }
-    ensures ok { IfOk result (λ bytes. IsWhole limit (L.rest files.old) bytes.items) }
-    ensures err { IfErr result (IsCutOff limit (L.rest files.old) (L.faults files.old) (L.faults files.new)) }
-    ensures later { L.faults files.old ≤ L.faults files.new }
+    ensures follows { Follows (L.told files.old) (L.told files.new) }
+    ensures ok { IfOk result (λ bytes. IsWhole limit (L.told files.old).rest bytes.items) }
+    ensures err { IfErr result (IsCutOff limit (L.told files.old) (L.told files.new)) }
 {
     let mut bytes = Vec::new(alloc);
     let mut room = [0u8; ROOM];
@@ -46,17 +47,17 @@ fn read_rest<L: Library>(alloc: Global, files: &mut L, limit: usize) -> Result<V
     }
 }
 
-/// All bytes of the file of this name, of which there are at most `limit`. The file is finished, whatever the answer.
+/// All bytes of the file of this name, of which there are at most `limit`.
 pub fn read_whole<L: Library>(
     alloc: Global,
     files: &mut L,
     name: &str,
     limit: usize,
 ) -> Result<Vec<u8>, FileError>
-    ensures files { L.files files.new ≡ L.files files.old }
-    ensures ok { IfOk result (λ bytes. IsHeld limit (L.files files.old) name.now bytes.items) }
-    ensures err { IfErr result (IsUnread limit (L.files files.old) (L.faults files.old) (L.faults files.new) name.now) }
-    ensures later { L.faults files.old ≤ L.faults files.new }
+    ensures follows { Follows (L.told files.old) (L.told files.new) }
+    ensures finished { IsAtEnd (L.told files.new).rest }
+    ensures ok { IfOk result (λ bytes. IsHeld limit (L.told files.old).files name.now bytes.items) }
+    ensures err { IfErr result (IsUnread limit (L.told files.old) (L.told files.new) name.now) }
 {
     match files.begin(name) {
         Ok(true) => {

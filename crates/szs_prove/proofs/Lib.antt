@@ -1,13 +1,12 @@
 pub mod AskedAtoms
+pub mod Causes
 pub mod ChainClauses
 pub mod ChainModels
 pub mod CheckedDecisions
 pub mod Decided
+pub mod Ended
 pub mod Endings
-pub mod Judged
 pub mod Loaded
-pub mod Pieces
 pub mod Proved
 pub mod Situated
-pub mod Solved
 pub mod VerdictTexts

@@ -1,5 +1,5 @@
 -- What the parts of the command `prove` say of the whole.
-use Rattle.std.proofs.Common.{◌≡◌, ℕ, List, Option, refl, subst, ◌∙◌}
+use Rattle.std.proofs.Common.{◌≡◌, ℕ, List, Option, refl, subst}
 use Rattle.std.specs.Prelude.{IfOk, IfErr, Result, Ok, Err}
 use Rattle.inst_logic.specs.declared.clause.Problem.{Problem}
 use Rattle.outside_io.specs.declared.library.NamedFile.{NamedFile}
@@ -9,20 +9,14 @@ use Rattle.cert_format.specs.Text.{certificate_text}
 use Rattle.saturation_cert.specs.declared.certificate.Refutation.{Refutation}
 use Rattle.saturation_cert.specs.declared.certificate.Saturation.{Saturation}
 use Rattle.saturation_cert.specs.Values.{refutation_of, saturation_of}
-use Rattle.command_words.specs.Asked.{prove, IsAsked}
 use Rattle.szs_prove.specs.Decisions.{IsDecision, IsRefutedBy, IsSatisfiedBy}
 use Rattle.szs_prove.specs.declared.decision.Decision.{Decision}
 use Rattle.szs_prove.specs.declared.decision.Decision.TheVariants as decision
 use Rattle.szs_prove.specs.declared.decision.Decision.TheVariants.{Unsatisfiable, Satisfiable}
-use Rattle.szs_prove.specs.Answered.{Answered, HasVerdict, Writing}
-use Rattle.szs_prove.specs.Answers.{IsProblemOf, IsRefusal, Reading, verdict, refusal}
+use Rattle.szs_prove.specs.Answers.{HasVerdict, IsProblemOf, IsRefusal, Reading}
 use Rattle.szs_prove.specs.Proving.{HasCertificate, IsUndecided}
-use Rattle.szs_prove.specs.Texts.{exit_of, refusal_text}
-use Rattle.szs_prove.specs.Written.{IsWritten}
-use Rattle.szs_prove.specs.declared.exit.Exit.{Exit}
-use Rattle.szs_prove.specs.declared.exit.Exit.TheVariants.{Decided}
 use Rattle.szs_prove.specs.declared.refusal.Refusal.{Refusal}
-use Rattle.szs_prove.specs.declared.refusal.Refusal.TheVariants.{Usage, Load, OutOfBudget, Memory}
+use Rattle.szs_prove.specs.declared.refusal.Refusal.TheVariants.{Load, OutOfBudget, Memory}
 
 -- ---- what was decided of a problem
 
@@ -49,36 +43,13 @@ all_verdicts files file root p name is (Ok text) h =
     (h.certificate, record { problem = p; is_problem = is; certifies = h.certifies; replayed = h.replayed; name = name }, h.is)
 all_verdicts files file root p name is (Err e) h = tt
 
-refusal_of : (read : Reading) (file : List ℕ) (root : Option (List ℕ)) (budget : ℕ) (p : Problem) (why : Refusal) → IsProblemOf read.files file root p → IsUndecided p budget why
+refusal_of : (read : Reading) (file : List ℕ) (root : Option (List ℕ)) (budget : ℕ) (p : Problem) (why : Refusal) → IsProblemOf read.old.files file root p → IsUndecided p budget why
     → IsRefusal read file root budget why
-refusal_of read file root budget p Usage is h = absurd h
 refusal_of read file root budget p (Load e) is h = absurd h
 refusal_of read file root budget p (OutOfBudget all left wanted) is h = (h.0, record { problem = p; is_problem = is; stopped = h.1 })
 refusal_of read file root budget p Memory is h = tt
 
-pub all_refusals : {T : Type 0} (read : Reading) (file : List ℕ) (root : Option (List ℕ)) (budget : ℕ) (p : Problem) → IsProblemOf read.files file root p
+pub all_refusals : {T : Type 0} (read : Reading) (file : List ℕ) (root : Option (List ℕ)) (budget : ℕ) (p : Problem) → IsProblemOf read.old.files file root p
     → (r : Result T Refusal) → IfErr r (IsUndecided p budget) → IfErr r (IsRefusal read file root budget)
 all_refusals read file root budget p is (Ok text) h = tt
 all_refusals read file root budget p is (Err why) h = refusal_of read file root budget p why is h
-
--- ---- what was written
-
--- the text was written, and the program ends with `exit` where it should end with `wanted`
-abbrev Wrote : Writing → Exit → List ℕ → Exit → Type 0
-Wrote write wanted text exit = IsWritten write.old write.new write.before write.now text wanted exit
-
-pub verdict_told : (words : List (List ℕ)) (read : Reading) (write : Writing) (exit : Exit) (file : List ℕ) (root : Option (List ℕ)) (budget : ℕ) (text written : List ℕ)
-    → HasVerdict read.files file root text → written ≡ text → Wrote write Decided written exit → IsAsked words (prove file root budget) → Answered words read write exit
-verdict_told words read write exit file root budget text written v same w asked = record {
-  answer = verdict file v.0;
-  cause = (root, budget, asked, v.1);
-  written = subst (λ (t : List ℕ). Wrote write Decided t exit) (same ∙ v.2) w;
-}
-
-pub refusal_told : (words : List (List ℕ)) (read : Reading) (write : Writing) (exit : Exit) (file shown : List ℕ) (root : Option (List ℕ)) (budget : ℕ) (why : Refusal)
-    → IsRefusal read file root budget why → shown ≡ file → Wrote write (exit_of why) (refusal_text shown why) exit → IsAsked words (prove file root budget) → Answered words read write exit
-refusal_told words read write exit file shown root budget why h same w asked = record {
-  answer = refusal file why;
-  cause = (root, budget, asked, h);
-  written = subst (λ (n : List ℕ). Wrote write (exit_of why) (refusal_text n why) exit) same w;
-}

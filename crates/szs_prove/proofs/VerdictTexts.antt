@@ -1,13 +1,9 @@
 -- Where the text of a certificate was taken whole, the answer is a verdict.
-use Rattle.std.proofs.Common.{◌≡◌, ◌≢◌, ◌≤◌, ℕ, List, [], ◌∷◌, ◌++◌, All, Bool, true, false, cond, nat_eq, Option, Some, None, inl, inr, sym, ap, refl, ◌∙◌, append-nil, append_assoc, arith}
+use Rattle.std.proofs.Common.{◌≡◌, ◌≢◌, ◌≤◌, ℕ, List, [], ◌∷◌, ◌++◌, All, Bool, true, false, cond, nat_eq, Option, Some, None, inl, inr, sym, ap, refl, ◌∙◌, append-nil, append_assoc, arith, codes}
 use Rattle.std.specs.Prelude.{◌&&◌, ◌||◌, Result, Ok, Err}
 use Rattle.std.specs.Io.KnownBytes.{Appends}
 use Rattle.std.proofs.lemmas.Bool.Decides.{nat_tests}
 use Rattle.std.proofs.lemmas.List.Elements.{All-head, All-tail}
-use Rattle.tptp_read.specs.declared.text.ReadError.{ReadError}
-use Rattle.tptp_read.specs.declared.text.ReadError.TheVariants as text
-use Rattle.tptp_load.specs.declared.error.LoadError.{LoadError}
-use Rattle.tptp_load.specs.declared.error.LoadError.TheVariants as load
 use Rattle.cert_format.specs.Certificate.{Certificate, first_refutation, saturation}
 use Rattle.cert_format.specs.Text.{certificate_text}
 use Rattle.cert_format.specs.ValueLines.{IsCertificateText}
@@ -27,28 +23,24 @@ use Rattle.cert_front.specs.declared.reply.Reply.TheVariants as reply
 use Rattle.cert_front.specs.declared.words.Form.{Form}
 use Rattle.szs_prove.specs.SizeWords.{size_lines}
 use Rattle.szs_prove.specs.declared.sizes.Size.{Size}
-use Rattle.cert_front.specs.Texts.{fault_text, told_text}
-use Rattle.cert_front.specs.declared.check.CheckFault.{CheckFault}
-use Rattle.cert_front.specs.declared.check.CheckFault.TheVariants as unjudged
-use Rattle.cert_front.specs.declared.fault.CertFault.{CertFault}
-use Rattle.cert_front.specs.declared.fault.CertFault.TheVariants as cert
-use Rattle.dimacs_front.specs.Command.{status_line}
-use Rattle.dimacs_front.specs.Command as dimacs
+use Rattle.cert_front.specs.Texts.{fault_reason, fault_status}
+use Rattle.dimacs_front.specs.Notices.{refusal_reason, refusal_status}
 use Rattle.dimacs_front.specs.Files.{IsOutcome}
 use Rattle.dimacs_front.specs.declared.answers.SatAnswer.{SatAnswer}
 use Rattle.dimacs_front.specs.declared.answers.SatAnswer.TheVariants.{Satisfiable, Unsatisfiable}
-use Rattle.dimacs_front.specs.declared.error.DimacsError.{DimacsError}
-use Rattle.dimacs_front.specs.declared.error.DimacsError.TheVariants as fault
 use Rattle.dimacs_front.specs.declared.file.SatError.{SatError}
-use Rattle.dimacs_front.specs.declared.file.SatError.TheVariants as bar
+use Rattle.outside_io.specs.Notices.{notice_text}
 use Rattle.outside_io.specs.Taken.{AppendsProperPrefix}
+use Rattle.outside_io.specs.declared.notices.Status.{Status}
+use Rattle.outside_io.specs.declared.notices.Status.TheVariants as told
+use Rattle.szs_prove.specs.Answers.{IsAnswer, IsProof, Reading}
 use Rattle.szs_prove.specs.Answered.{Answered, Writing, TookCertificate}
-use Rattle.szs_prove.specs.Answers.{Answer, Reading, verdict, refusal, values, judged, replied, measured, usage, no_words, IsAnswer, exit_for, text_for}
-use Rattle.szs_prove.specs.Texts.{refusal_text, unjudged_text}
+use Rattle.szs_prove.specs.Texts.{exit_for, prove_exit, prove_text, reason_of, sat_text, status_of, text_for, unjudged_reason, unjudged_status}
+use Rattle.szs_prove.specs.declared.answer.Answer.{Answer}
+use Rattle.szs_prove.specs.declared.answer.Answer.TheVariants.{Prove, Sat, Check, Ask, Stress, Unread, NoWords}
 use Rattle.szs_prove.specs.declared.exit.Exit.{Exit}
 use Rattle.szs_prove.specs.declared.exit.Exit.TheVariants as exit
 use Rattle.szs_prove.specs.declared.refusal.Refusal.{Refusal}
-use Rattle.szs_prove.specs.declared.refusal.Refusal.TheVariants.{Usage, Load, OutOfBudget, Memory}
 
 -- behind `% SZS status ` stands the first of a verdict's two words, by their first two letters
 abbrev begins_verdict : List ℕ → Bool
@@ -59,65 +51,14 @@ verdict_begins : (format : ℕ) (name : List ℕ) (c : Certificate) (more : List
 verdict_begins format name (first_refutation c) more = refl
 verdict_begins format name (saturation c) more = refl
 
-refused_read : (name file : List ℕ) (e : ReadError) → begins_verdict (refusal_text name (Load (load.Text file e))) ≡ false
-refused_read name file (text.Syntax k) = refl
-refused_read name file (text.Language k w) = refl
-refused_read name file (text.Feature k w) = refl
-refused_read name file (text.Role k w) = refl
-refused_read name file (text.Limit k which) = refl
-refused_read name file text.Memory = refl
-
-refused_load : (name : List ℕ) (e : LoadError) → begins_verdict (refusal_text name (Load e)) ≡ false
-refused_load name (load.Text file e) = refused_read name file e
-refused_load name (load.Absent wanted) = refl
-refused_load name (load.NotSelected file wanted) = refl
-refused_load name (load.IncludeDepth file) = refl
-refused_load name load.TooLong = refl
-refused_load name load.ReadFault = refl
-refused_load name load.Memory = refl
-
-refused : (name : List ℕ) (why : Refusal) → begins_verdict (refusal_text name why) ≡ false
-refused name Usage = refl
-refused name (Load e) = refused_load name e
-refused name (OutOfBudget budget left wanted) = refl
-refused name Memory = refl
-
-barred_text : (name : List ℕ) (e : DimacsError) → begins_verdict (dimacs.refusal_text name (bar.Text e)) ≡ false
-unfolding status_line
-barred_text name (fault.Syntax line) = refl
-barred_text name (fault.Range line) = refl
-barred_text name (fault.Count found) = refl
-barred_text name fault.Limit = refl
-barred_text name (fault.Twice line) = refl
-barred_text name fault.Memory = refl
-
-barred : (name : List ℕ) (e : SatError) → begins_verdict (dimacs.refusal_text name e) ≡ false
-unfolding status_line
-barred name bar.Absent = refl
-barred name bar.TooLong = refl
-barred name bar.ReadFault = refl
-barred name (bar.Text e) = barred_text name e
-barred name bar.Memory = refl
-
-valued : (read : Reading) (name : List ℕ) (o : Result SatAnswer SatError) → IsOutcome read.files read.before read.now name o → begins_verdict (dimacs.outcome_text name o) ≡ false
-valued read name (Ok (Satisfiable t)) h = ap begins_verdict h.4.is
-valued read name (Ok (Unsatisfiable t)) h = ap begins_verdict h.4.is
-valued read name (Err e) h = barred name e
-
-faulty : (name : List ℕ) (f : CertFault) → begins_verdict (fault_text name f) ≡ false
-unfolding told_text
-faulty name cert.Absent = refl
-faulty name cert.TooLong = refl
-faulty name cert.ReadFault = refl
-faulty name (cert.Syntax line) = refl
-faulty name (cert.Version word) = refl
-faulty name cert.NoSaturation = refl
-faulty name cert.Memory = refl
-
-unjudged_is_none : (name : List ℕ) (why : CheckFault) → begins_verdict (unjudged_text name why) ≡ false
-unjudged_is_none name (unjudged.Cert f) = faulty name f
-unjudged_is_none name (unjudged.Problem e) = refused_load name e
-unjudged_is_none name unjudged.Memory = refl
+notice_begins : (s : Status) (name reason : List ℕ) → begins_verdict (notice_text s name reason) ≡ false
+notice_begins told.SyntaxError name reason = refl
+notice_begins told.Inappropriate name reason = refl
+notice_begins told.InputError name reason = refl
+notice_begins told.OsError name reason = refl
+notice_begins told.UsageError name reason = refl
+notice_begins told.ResourceOut name reason = refl
+notice_begins told.MemoryOut name reason = refl
 
 -- no text that does not begin as a verdict has that of a certificate in front
 no_other : (other text more : List ℕ) → begins_verdict other ≡ false → IsCertificateText text → other ≡ text ++ more → ⊥
@@ -211,30 +152,45 @@ one_text None n taken u v told p q = absurd (cc)
 one_text (Some xs) None taken u v told p q = absurd p
 one_text (Some xs) (Some ys) taken u v told p q = behind_front xs u v (sym p ∙ q)
 
-module _ (words : List (List ℕ)) (read : Reading) (write : Writing) (e : Exit) (a : Answered words read write e) (t : TookCertificate write.old write.new) where
-  -- the text of an answer that has the certificate's in front
-  decides : (answer : Answer) → IsAnswer words read answer → (more : List ℕ) → text_for answer ≡ t.text ++ more → (exit_for answer ≡ exit.Decided) × (more ≡ [])
-  decides (verdict file c) h more same =
-      let is : IsCertificateText (t.text ++ more) = record { format = 1; name = file; value = c; name_is = h.3.name; printable = h.3.certifies.printable; is = sym same } in
+module _ (words : List (List ℕ)) (read : Reading) (write : Writing) (e : Exit) (a : Answered words read write e) (t : TookCertificate write.old.taken write.new.taken) where
+  no_notice : (s : Status) (name reason more : List ℕ) → notice_text s name reason ≡ t.text ++ more → ⊥
+  no_notice s name reason more same = no_other (notice_text s name reason) t.text more (notice_begins s name reason) t.is_text same
+
+  prove_decides : (name : List ℕ) (root : Option (List ℕ)) (budget : ℕ) (o : Result (List ℕ) Refusal) → IsProof read name root budget o → (more : List ℕ)
+      → prove_text name o ≡ t.text ++ more → (prove_exit o ≡ exit.Decided) × (more ≡ [])
+  prove_decides name root budget (Ok text) h more same =
+      let is : IsCertificateText (t.text ++ more) = record { format = 1; name = name; value = h.0; name_is = h.1.name; printable = h.1.certifies.printable; is = sym same ∙ h.2 } in
       (refl, no_more t.text more t.is_text is)
-  decides (refusal file why) h more same = absurd (no_other (refusal_text file why) t.text more (refused file why) t.is_text same)
-  decides (values file o) h more same = absurd (no_other (dimacs.outcome_text file o) t.text more (valued read file o h.1) t.is_text same)
-  decides (judged c (Ok found)) h more same = absurd (no_line (judgement_line found.0 found.1) t.text more (judgement_begins found.0 found.1) t.is_text same)
-  decides (judged c (Err why)) h more same = absurd (no_other (unjudged_text c why) t.text more (unjudged_is_none c why) t.is_text same)
-  decides (replied c (Ok r)) h more same = absurd (no_line (reply_line r) t.text more (reply_begins r) t.is_text same)
-  decides (replied c (Err f)) h more same = absurd (no_other (fault_text c f) t.text more (faulty c f) t.is_text same)
-  decides (measured (Ok size)) h more same = absurd (no_chain size t.text more t.is_text same)
-  decides (measured (Err want)) h more same = absurd (no_other (text_for (measured (Err want))) t.text more refl t.is_text same)
-  decides usage h more same = absurd (no_other (text_for usage) t.text more refl t.is_text same)
-  decides no_words h more same = absurd (no_other (text_for no_words) t.text more refl t.is_text same)
+  prove_decides name root budget (Err why) h more same = absurd (no_notice (status_of why) name (reason_of why) more same)
 
-  whole : Appends write.old write.new (text_for a.answer) → exit_for a.answer ≡ exit.Decided
-  whole w = (decides a.answer a.cause [] (one_text write.old write.new t.taken (text_for a.answer) t.text t.told w t.written ∙ sym (append-nil t.text))).0
+  no_values : (name : List ℕ) (o : Result SatAnswer SatError) → IsOutcome read.old read.new name o → (more : List ℕ) → sat_text name o ≡ t.text ++ more → ⊥
+  no_values name (Ok (Satisfiable text)) h more same = no_other text t.text more (ap begins_verdict h.4.is) t.is_text same
+  no_values name (Ok (Unsatisfiable text)) h more same = no_other text t.text more (ap begins_verdict h.4.is) t.is_text same
+  no_values name (Err e) h more same = no_notice (refusal_status e) name (refusal_reason name e) more same
 
-  interrupted : AppendsProperPrefix write.old write.new (text_for a.answer) → ⊥
+  -- the text of an answer that has the certificate's in front
+  decides : (name : List ℕ) (answer : Answer) → IsAnswer words read name answer → (more : List ℕ) → text_for name answer ≡ t.text ++ more → (exit_for answer ≡ exit.Decided) × (more ≡ [])
+  decides name (Prove o) h more same = prove_decides name h.0 h.1 o h.3 more same
+  decides name (Sat o) h more same = absurd (no_values name o h.1 more same)
+  decides name (Check (Ok found)) h more same = absurd (no_line (judgement_line found.0 found.1) t.text more (judgement_begins found.0 found.1) t.is_text same)
+  decides name (Check (Err why)) h more same = absurd (no_notice (unjudged_status why) name (unjudged_reason name why) more same)
+  decides name (Ask (Ok r)) h more same = absurd (no_line (reply_line r) t.text more (reply_begins r) t.is_text same)
+  decides name (Ask (Err f)) h more same = absurd (no_notice (fault_status f) name (fault_reason name f) more same)
+  decides name (Stress (Ok size)) h more same = absurd (no_chain size t.text more t.is_text same)
+  decides name (Stress (Err want)) h more same = absurd (no_notice told.MemoryOut name [] more same)
+  decides name Unread h more same = absurd (no_notice told.UsageError name (codes "% usage\n") more same)
+  decides name NoWords h more same = absurd (no_notice told.MemoryOut name [] more same)
+
+  abbrev said : List ℕ
+  said = text_for a.name a.answer
+
+  whole : Appends write.old.taken write.new.taken said → exit_for a.answer ≡ exit.Decided
+  whole w = (decides a.name a.answer a.cause [] (one_text write.old.taken write.new.taken t.taken said t.text t.told w t.written ∙ sym (append-nil t.text))).0
+
+  interrupted : AppendsProperPrefix write.old.taken write.new.taken said → ⊥
   interrupted (front, rest, same, some, w) =
-      let is : front ≡ t.text = one_text write.old write.new t.taken front t.text t.told w t.written in
-      some (decides a.answer a.cause rest (same ∙ ap (λ (x : List ℕ). x ++ rest) is)).1
+      let is : front ≡ t.text = one_text write.old.taken write.new.taken t.taken front t.text t.told w t.written in
+      some (decides a.name a.answer a.cause rest (same ∙ ap (λ (x : List ℕ). x ++ rest) is)).1
 
   pub took_verdict : e ≡ exit.Decided
   took_verdict = elim a.written [

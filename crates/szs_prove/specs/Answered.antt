@@ -1,8 +1,9 @@
 -- What a run of the program did.
-use Rattle.std.specs.Prelude.{ℕ, ◌≡◌, ◌⊎◌, List, Option, Some, codes}
+use Rattle.std.specs.Prelude.{ℕ, ◌≡◌, ◌⊎◌, List, Option, Some, IsTrue, codes}
 use Rattle.std.specs.Io.KnownBytes.{Appends}
 use Rattle.inst_logic.specs.Tree.{Tree}
 use Rattle.inst_logic.specs.declared.signed.Signed.{Signed}
+use Rattle.outside_io.specs.Seen.{Seen}
 use Rattle.outside_io.specs.Taken.{AppendsProperPrefix}
 use Rattle.outside_io.specs.declared.library.NamedFile.{NamedFile}
 use Rattle.cert_format.specs.Certificate.{Certificate}
@@ -18,35 +19,28 @@ use Rattle.szs_prove.specs.declared.sizes.Size.{Size}
 use Rattle.cert_front.specs.Checks.{IsJudged}
 use Rattle.cert_front.specs.Queries.{IsReplied}
 use Rattle.command_words.specs.Asked.{Asked, prove, check, ask, stress, IsAsked, name_of}
-use Rattle.szs_prove.specs.Answers.{Answer, Reading, IsAnswer, IsVerdict, IsOutOfBudget, exit_for, text_for}
-use Rattle.szs_prove.specs.Texts.{judgement_exit, refusal_text, reply_exit}
+use Rattle.szs_prove.specs.Answers.{Reading, IsAnswer, IsVerdict, IsOutOfBudget, IsUntouched}
+use Rattle.szs_prove.specs.Texts.{exit_for, judgement_exit, refusal_text, reply_exit, text_for, want_text}
 use Rattle.szs_prove.specs.Written.{IsWritten}
+use Rattle.szs_prove.specs.declared.answer.Answer.{Answer}
 use Rattle.szs_prove.specs.declared.exit.Exit.{Exit}
 use Rattle.szs_prove.specs.declared.exit.Exit.TheVariants.{Decided, WriteFault, Memory, CheckFailed}
-use Rattle.szs_prove.specs.declared.refusal.Refusal.TheVariants.{OutOfBudget, Memory as Wanting}
+use Rattle.szs_prove.specs.declared.refusal.Refusal.TheVariants.{OutOfBudget}
 
--- what the sink has before the call and after it, and its count of faults
+-- what the sink has seen before the call and after it
 pub record Writing : Type 0 where
-  pub old : Option (List ℕ)
-  pub new : Option (List ℕ)
-  pub before : ℕ
-  pub now : ℕ
+  pub old : Seen
+  pub new : Seen
 
-abbrev pub reading : Option (List NamedFile) → ℕ → ℕ → Reading
-reading files before now = record { files = files; before = before; now = now }
-
-abbrev pub writing : Option (List ℕ) → Option (List ℕ) → ℕ → ℕ → Writing
-writing old new before now = record { old = old; new = new; before = before; now = now }
-
--- the text is that of a certificate for the problem of the file
-abbrev pub HasVerdict : Option (List NamedFile) → List ℕ → Option (List ℕ) → List ℕ → Type 0
-HasVerdict files file root text = (c : Certificate) × IsVerdict files file root c × (text ≡ certificate_text 1 file c)
+abbrev pub writing : Seen → Seen → Writing
+writing old new = record { old = old; new = new }
 
 -- There is an answer with its cause, and the exit and what was written are that answer's.
 pub record Answered (words : List (List ℕ)) (read : Reading) (write : Writing) (exit : Exit) : Type 0 where
+  pub name : List ℕ
   pub answer : Answer
-  pub cause : IsAnswer words read answer
-  pub written : IsWritten write.old write.new write.before write.now (text_for answer) (exit_for answer) exit
+  pub cause : IsAnswer words read name answer
+  pub written : IsWritten write.old write.new (text_for name answer) (exit_for answer) exit
 
 -- ---- what the words ask
 
@@ -133,20 +127,23 @@ pub record TookCertificate (old new : Option (List ℕ)) : Type 0 where
 
 -- A proper prefix of the text of an answer with its cause was written.
 pub record IsInterrupted (words : List (List ℕ)) (read : Reading) (old new : Option (List ℕ)) : Type 0 where
-  pub answer : Answer
-  pub cause : IsAnswer words read answer
-  pub written : AppendsProperPrefix old new (text_for answer)
-
--- the name of an answer to the words: that of what they ask, or the program's
-abbrev pub IsNamed : List (List ℕ) → List ℕ → Type 0
-IsNamed words name = (name ≡ codes "instgen") ⊎ ((a : Asked) × IsAsked words a × (name ≡ name_of a))
-
--- that memory is wanted was written, under such a name
-pub record WritesWant (words : List (List ℕ)) (old new : Option (List ℕ)) : Type 0 where
   pub name : List ℕ
-  pub named : IsNamed words name
-  pub written : Appends old new (refusal_text name Wanting)
+  pub answer : Answer
+  pub cause : IsAnswer words read name answer
+  pub written : AppendsProperPrefix old new (text_for name answer)
 
--- that memory is wanted was written, or an answer was not written whole
-abbrev pub WantsMemory : List (List ℕ) → Reading → Option (List ℕ) → Option (List ℕ) → Type 0
-WantsMemory words read old new = WritesWant words old new ⊎ IsInterrupted words read old new
+-- The name of an answer to the words: that of what they ask; or the program's, where the library was not called, since it is
+-- called only once the words are read.
+abbrev pub IsNamed : List (List ℕ) → Reading → List ℕ → Type 0
+IsNamed words read name = ((name ≡ codes "instgen") × IsUntouched read) ⊎ ((a : Asked) × IsAsked words a × (name ≡ name_of a))
+
+-- that memory is wanted was written, whole, under such a name
+pub record WritesWant (words : List (List ℕ)) (read : Reading) (old new : Option (List ℕ)) : Type 0 where
+  pub name : List ℕ
+  pub named : IsNamed words read name
+  pub written : Appends old new (want_text name)
+
+-- that memory is wanted was written; or the sink may want memory, and an answer was not written whole
+abbrev pub WantsMemory : List (List ℕ) → Reading → Writing → Type 0
+WantsMemory words read write =
+    WritesWant words read write.old.taken write.new.taken ⊎ (IsTrue write.old.may_want × IsInterrupted words read write.old.taken write.new.taken)

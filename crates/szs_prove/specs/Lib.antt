@@ -2,7 +2,6 @@ pub mod Answered
 pub mod Answers
 pub mod Chains
 pub mod Decisions
-pub mod Piece
 pub mod Problems
 pub mod Proving
 pub mod Situations

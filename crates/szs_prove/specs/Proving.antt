@@ -6,7 +6,7 @@ use Rattle.cert_format.specs.Certifies.{Certifies}
 use Rattle.cert_format.specs.Text.{certificate_text}
 use Rattle.szs_prove.specs.Decisions.{IsReplayed, IsStopped}
 use Rattle.szs_prove.specs.declared.refusal.Refusal.{Refusal}
-use Rattle.szs_prove.specs.declared.refusal.Refusal.TheVariants.{Usage, Load, OutOfBudget, Memory}
+use Rattle.szs_prove.specs.declared.refusal.Refusal.TheVariants.{Load, OutOfBudget, Memory}
 
 -- the text is that of a certificate of the problem, which comes from a run
 pub record HasCertificate (p : Problem) (file text : List ℕ) : Type 0 where
@@ -17,7 +17,6 @@ pub record HasCertificate (p : Problem) (file text : List ℕ) : Type 0 where
 
 -- why there is no certificate of a problem that was loaded
 abbrev pub IsUndecided : Problem → ℕ → Refusal → Type 0
-IsUndecided p budget Usage = ⊥
 IsUndecided p budget (Load e) = ⊥
 IsUndecided p budget (OutOfBudget all left wanted) = (all ≡ budget) × IsStopped p budget left wanted
 IsUndecided p budget Memory = ⊤

@@ -1,13 +1,12 @@
 -- When each exit comes, where the files are told.
-use Rattle.std.specs.Prelude.{ℕ, ◌≡◌, ◌⊎◌, ◌<◌, List, [], ◌∷◌, length, Bool, Option, None, Some, Result, Ok, Err, Contains, IsTrue, IsFalse}
+use Rattle.std.specs.Prelude.{ℕ, ◌≡◌, ◌⊎◌, ◌<◌, List, length, Bool, Option, Some, None, Result, Ok, Err, IsFalse, ⊤}
 use Rattle.outside_io.specs.Causes.{Rose}
+use Rattle.outside_io.specs.Files.{bytes_named}
 use Rattle.outside_io.specs.declared.library.NamedFile.{NamedFile}
 use Rattle.inst_logic.specs.Measure.{is_function_free}
 use Rattle.inst_logic.specs.declared.clause.Problem.{Problem}
 use Rattle.tptp_load.specs.Problems.{Loads, Refuses}
 use Rattle.tptp_load.specs.declared.error.LoadError.{LoadError}
-use Rattle.inst_logic.specs.Tree.{Tree}
-use Rattle.inst_logic.specs.declared.signed.Signed.{Signed}
 use Rattle.cert_front.specs.declared.judgement.Judgement.{Judgement}
 use Rattle.cert_front.specs.declared.reply.Reply.{Reply}
 use Rattle.cert_front.specs.declared.words.Form.{Form}
@@ -15,9 +14,8 @@ use Rattle.cert_front.specs.Checks.{IsFound}
 use Rattle.cert_front.specs.Queries.{IsFoundReply}
 use Rattle.cert_front.specs.declared.check.CheckFault.{CheckFault}
 use Rattle.cert_front.specs.declared.fault.CertFault.{CertFault}
-use Rattle.command_words.specs.Asked.{prove, sat, check, ask, stress, IsAsked, IsUnread}
+use Rattle.command_words.specs.Asked.{Asked, prove, sat, check, ask, stress, IsAsked, IsUnread}
 use Rattle.dimacs_front.specs.Answers.{IsModel}
-use Rattle.outside_io.specs.Files.{bytes_named}
 use Rattle.dimacs_front.specs.Files.{IsHeld, IsRefused, limit}
 use Rattle.dimacs_front.specs.Form.{reading as clauses_of}
 use Rattle.dimacs_front.specs.declared.cnf.Cnf.{Cnf}
@@ -29,30 +27,19 @@ use Rattle.szs_prove.specs.Texts.{judgement_exit, reply_exit}
 use Rattle.szs_prove.specs.declared.exit.Exit.{Exit}
 use Rattle.szs_prove.specs.declared.exit.Exit.TheVariants.{Decided, ResourceOut, Refused, Usage, ReadFault, WriteFault, Memory, Sat, Unsat}
 
--- the words ask for a verdict on a problem that loads
-pub record AsksProblem (words : List (List ℕ)) (files : List NamedFile) (p : Problem) : Type 0 where
-  pub file : List ℕ
-  pub root : Option (List ℕ)
-  pub budget : ℕ
-  pub asked : IsAsked words (prove file root budget)
-  pub loads : Loads files file root p
+-- ---- a problem
 
--- the words ask for a verdict on a file that gives no problem
-pub record AsksRefused (words : List (List ℕ)) (files : List NamedFile) : Type 0 where
-  pub file : List ℕ
-  pub root : Option (List ℕ)
-  pub budget : ℕ
-  pub asked : IsAsked words (prove file root budget)
-  pub error : LoadError
-  pub refuses : Refuses files file root error
+-- the problem of the file, or why it gives none
+abbrev pub IsLoaded : List NamedFile → List ℕ → Option (List ℕ) → Result Problem LoadError → Type 0
+IsLoaded files file root (Ok p) = Loads files file root p
+IsLoaded files file root (Err e) = Refuses files file root e
 
--- the words ask for truth values for the clauses of a file in the DIMACS form
-pub record AsksClauses (words : List (List ℕ)) (files : List NamedFile) (cnf : Cnf) : Type 0 where
-  pub file : List ℕ
-  pub asked : IsAsked words (sat file)
-  pub bytes : List ℕ
-  pub held : IsHeld (Some files) file bytes
-  pub reads : clauses_of bytes ≡ Ok cnf
+-- a problem is decided; or, where it has function symbols with arguments, a budget may run out
+abbrev pub WantsOfProblem : Result Problem LoadError → Exit → Type 0
+WantsOfProblem (Ok p) exit = (exit ≡ Decided) ⊎ ((exit ≡ ResourceOut) × IsFalse (is_function_free p.clauses))
+WantsOfProblem (Err e) exit = exit ≡ Refused
+
+-- ---- clauses in the DIMACS form
 
 -- the file is absent or too long, or its text is refused
 abbrev pub IsBarred : List NamedFile → List ℕ → SatError → Type 0
@@ -62,56 +49,73 @@ IsBarred files file (Text e) = IsRefused (Some files) file e
 IsBarred files file FileFault = ⊥
 IsBarred files file FileMemory = ⊥
 
--- what can stand in the words and the files
+-- the clauses of the file, or why it gives none
+abbrev pub IsRead : List NamedFile → List ℕ → Result Cnf SatError → Type 0
+IsRead files file (Ok cnf) = (bytes : List ℕ) × IsHeld (Some files) file bytes × (clauses_of bytes ≡ Ok cnf)
+IsRead files file (Err e) = IsBarred files file e
+
+-- some truth values make the clauses true, or none do
+abbrev pub WantsOfClauses : Result Cnf SatError → Exit → Type 0
+WantsOfClauses (Ok cnf) exit =
+    ((exit ≡ Sat) × (values : List Bool) × IsModel cnf.vars cnf.clauses values)
+    ⊎ ((exit ≡ Unsat) × ((values : List Bool) → ¬ IsModel cnf.vars cnf.clauses values))
+WantsOfClauses (Err e) exit = exit ≡ Refused
+
+-- ---- certificates
+
+abbrev pub WantsOfCheck : Result (Form × Judgement) CheckFault → Exit → Type 0
+WantsOfCheck (Ok found) exit = exit ≡ judgement_exit found.1
+WantsOfCheck (Err why) exit = exit ≡ Refused
+
+abbrev pub WantsOfReply : Result Reply CertFault → Exit → Type 0
+WantsOfReply (Ok reply) exit = exit ≡ reply_exit reply
+WantsOfReply (Err why) exit = exit ≡ Refused
+
+-- ---- all questions
+
+-- what a question finds
+abbrev pub Finding : Asked → Type 0
+Finding (prove file root budget) = Result Problem LoadError
+Finding (sat file) = Result Cnf SatError
+Finding (check cert problem root) = Result (Form × Judgement) CheckFault
+Finding (ask cert atom) = Result Reply CertFault
+Finding (stress number) = ⊤
+
+-- it finds this in the files
+abbrev pub Finds : List NamedFile → (question : Asked) → Finding question → Type 0
+Finds files (prove file root budget) found = IsLoaded files file root found
+Finds files (sat file) found = IsRead files file found
+Finds files (check cert problem root) found = IsFound files cert problem root found
+Finds files (ask cert atom) found = IsFoundReply files cert atom.atom found
+Finds files (stress number) found = ⊤
+
+-- this exit is wanted then
+abbrev pub Wants : (question : Asked) → Finding question → Exit → Type 0
+Wants (prove file root budget) found exit = WantsOfProblem found exit
+Wants (sat file) found exit = WantsOfClauses found exit
+Wants (check cert problem root) found exit = WantsOfCheck found exit
+Wants (ask cert atom) found exit = WantsOfReply found exit
+Wants (stress number) found exit = exit ≡ Decided
+
+-- what can stand in the words and the files: a question with what it finds, or words that are not read
 pub data Situation : Type 0 where
-  -- a problem whose terms are variables and constants
-  function_free : Situation
-  -- a problem with a function symbol with arguments
-  functions : Situation
-  no_problem : Situation
-  -- clauses in the DIMACS form that some truth values make true
-  satisfiable : Situation
-  unsatisfiable : Situation
-  no_clauses : Situation
-  -- a certificate, which is found to be this, or why there is none that can be judged
-  certificate : Result (Form × Judgement) CheckFault → Situation
-  -- a saturation, which says this of an atom, or why there is none that can be asked
-  saturation : Result Reply CertFault → Situation
-  chain : Situation
+  asks : (question : Asked) → Finding question → Situation
   unread : Situation
 
 abbrev pub Stands : List (List ℕ) → List NamedFile → Situation → Type 0
-Stands words files function_free = (p : Problem) × AsksProblem words files p × IsTrue (is_function_free p.clauses)
-Stands words files functions = (p : Problem) × AsksProblem words files p × IsFalse (is_function_free p.clauses)
-Stands words files no_problem = AsksRefused words files
-Stands words files satisfiable = (cnf : Cnf) × AsksClauses words files cnf × (values : List Bool) × IsModel cnf.vars cnf.clauses values
-Stands words files unsatisfiable = (cnf : Cnf) × AsksClauses words files cnf × ((values : List Bool) → ¬ IsModel cnf.vars cnf.clauses values)
-Stands words files no_clauses = (file : List ℕ) × IsAsked words (sat file) × (e : SatError) × IsBarred files file e
-Stands words files (certificate found) = (cert : List ℕ) × (problem : Option (List ℕ)) × (root : Option (List ℕ)) × IsAsked words (check cert problem root) × IsFound files cert problem root found
-Stands words files (saturation reply) = (cert : List ℕ) × (atom : Signed Tree) × IsAsked words (ask cert atom) × IsFoundReply files cert atom.atom reply
-Stands words files chain = (number : ℕ) × IsAsked words (stress number)
+Stands words files (asks question found) = IsAsked words question × Finds files question found
 Stands words files unread = IsUnread words
 
--- the exits that are wanted there
-abbrev pub wanted : Situation → List Exit
-wanted function_free = Decided ∷ []
-wanted functions = Decided ∷ ResourceOut ∷ []
-wanted no_problem = Refused ∷ []
-wanted satisfiable = Sat ∷ []
-wanted unsatisfiable = Unsat ∷ []
-wanted no_clauses = Refused ∷ []
-wanted (certificate (Ok found)) = judgement_exit found.1 ∷ []
-wanted (certificate (Err why)) = Refused ∷ []
-wanted (saturation (Ok reply)) = reply_exit reply ∷ []
-wanted (saturation (Err why)) = Refused ∷ []
-wanted chain = Decided ∷ []
-wanted unread = Usage ∷ []
+abbrev pub IsWanted : Situation → Exit → Type 0
+IsWanted (asks question found) exit = Wants question found exit
+IsWanted unread exit = exit ≡ Usage
 
 -- the exit is that of a fault that has its cause, or of want of memory
 abbrev pub Yields : Reading → Writing → Exit → Type 0
-Yields read write exit = ((exit ≡ ReadFault) × Rose read.before read.now) ⊎ ((exit ≡ WriteFault) × Rose write.before write.now) ⊎ (exit ≡ Memory)
+Yields read write exit =
+    ((exit ≡ ReadFault) × Rose read.old.faults read.new.faults) ⊎ ((exit ≡ WriteFault) × Rose write.old.faults write.new.faults) ⊎ (exit ≡ Memory)
 
--- The exit is wanted in a situation that stands, or yields; and in each situation that stands it is one that is wanted, or yields.
+-- The exit is wanted in a situation that stands, or yields; and in each situation that stands it is wanted, or yields.
 pub record IsExact (words : List (List ℕ)) (files : List NamedFile) (read : Reading) (write : Writing) (exit : Exit) : Type 0 where
-  pub cause : ((s : Situation) × Stands words files s × Contains (wanted s) exit) ⊎ Yields read write exit
-  pub each : (s : Situation) → Stands words files s → Contains (wanted s) exit ⊎ Yields read write exit
+  pub cause : ((s : Situation) × Stands words files s × IsWanted s exit) ⊎ Yields read write exit
+  pub each : (s : Situation) → Stands words files s → IsWanted s exit ⊎ Yields read write exit

@@ -1,95 +1,71 @@
 // The top call.
-ghost use Rattle.std.specs.Prelude.{◌≡◌, ◌≤◌, ℕ, List, IfNone, IfSome, map, option_map, string_bytes};
+ghost use Rattle.std.specs.Prelude.{◌≡◌, IfNone, IfSome, map, string_bytes};
 ghost use Rattle.outside_io.specs.Causes.{Rose};
-ghost use Rattle.cert_format.specs.Printable.{IsTextName};
-ghost use Rattle.command_words.specs.Asked.{prove as proof, sat as values, IsAsked, IsUnread};
+ghost use Rattle.outside_io.specs.Told.{Follows};
+ghost use Rattle.command_words.specs.Asked.{IsAsked, IsUnread, name_of};
 ghost use Rattle.command_words.specs.Requests.{asked};
-ghost use Rattle.szs_prove.specs.Answered.{Answered, AsksAtom, AsksChain, AsksCheck, AsksProof, EndsChain, IsInterrupted, TookCertificate, WantsMemory, WritesCertificate, WritesComplaint, WritesJudgement, WritesNumbers, WritesReply, WritesSize, reading, writing};
+ghost use Rattle.szs_prove.specs.Answered.{Answered, AsksAtom, AsksChain, AsksCheck, AsksProof, EndsChain, IsInterrupted, TookCertificate, WantsMemory, WritesCertificate, WritesComplaint, WritesJudgement, WritesNumbers, WritesReply, WritesSize, writing};
+ghost use Rattle.szs_prove.specs.Answers.{IsAnswer, reading};
 ghost use Rattle.szs_prove.specs.Situations.{IsExact};
-ghost use Rattle.szs_prove.specs.Written.{IsWritten};
 
-use crate::chain::stress;
-use crate::check::{ask, check};
-use crate::exit::{Exit, exit_of_sat};
+use crate::answer::{Answer, tell};
+use crate::deciding::stress;
+use crate::exit::Exit;
 use crate::prove::prove;
-use crate::refusal::{Refusal, exit_after, write_refusal};
-use cert_front::{atoms_are_variable_free, findings_are_one};
+use cert_front::{ask_file, atoms_are_variable_free, check_file, findings_are_one};
 use command_words::laws::{asked_budget, asked_length, asked_once};
 use command_words::{Request, read_words};
-use dimacs_front::sat_file;
+use dimacs_front::answer_file;
 use inst_logic::Memory;
-use outside_io::{Library, Sink, write_all};
+use outside_io::{Library, Sink};
 use std::alloc::Global;
 use tptp_load::laws::one_loading;
 
-// Writes the text whole, and then ends like that.
-fn write_text<K: Sink>(out: &mut K, text: &[u8], wanted: Exit) -> Exit
-    ensures { IsWritten (K.taken out.old) (K.taken out.new) (K.faults out.old) (K.faults out.new) text.now wanted result }
+// The name that the answer speaks of.
+fn name_of<'a>(request: &Request<'a>) -> &'a str
+    ensures { result.now ≡ name_of (asked request.now) }
 {
-    let written = write_all(out, text);
-    exit_after(written, wanted)
-}
-
-// Answers with a verdict on the problem of a file.
-fn prove_file<L: Library, K: Sink>(
-    alloc: Global,
-    file: &str,
-    root: Option<&str>,
-    budget: u64,
-    files: &mut L,
-    out: &mut K,
-) -> Exit
-    requires name { IsTextName file.now }
-    requires budget { budget ≤ 1000000000000 }
-    ensures files { L.files files.new ≡ L.files files.old }
-    ensures answered { (words : List (List ℕ)) → IsAsked words (proof file.now (option_map (λ r. r.now) root.entry) budget) → Answered words (reading (L.files files.old) (L.faults files.old) (L.faults files.new)) (writing (K.taken out.old) (K.taken out.new) (K.faults out.old) (K.faults out.new)) result }
-{
-    match prove(alloc, file, root, budget, files) {
-        Ok(text) => write_text(out, text.as_slice(), Exit::Decided),
-        Err(refusal) => write_refusal(out, file.as_bytes(), &refusal),
+    match request {
+        Request::Prove { file, .. } => *file,
+        Request::Sat { file } => *file,
+        Request::Check { cert, .. } => *cert,
+        Request::Ask { cert, .. } => *cert,
+        Request::Stress { .. } => "stress",
     }
 }
 
-// Answers with truth values for the clauses of a file in the DIMACS form.
-fn sat<L: Library, K: Sink>(alloc: Global, file: &str, files: &mut L, out: &mut K) -> Exit
-    ensures files { L.files files.new ≡ L.files files.old }
-    ensures answered { (words : List (List ℕ)) → IsAsked words (values file.now) → Answered words (reading (L.files files.old) (L.faults files.old) (L.faults files.new)) (writing (K.taken out.old) (K.taken out.new) (K.faults out.old) (K.faults out.new)) result }
-{
-    let ended = sat_file(alloc, files, out, file);
-    exit_of_sat(ended)
-}
-
-// Answers what the words ask.
-fn answer<L: Library, K: Sink>(
+// What comes of what is asked, each command by its own call.
+fn answer<L: Library>(
     alloc: Global,
     request: Request<'_>,
     _words: &[String],
     files: &mut L,
-    out: &mut K,
-) -> Exit
+) -> Answer
     requires { IsAsked (map string_bytes _words.now) (asked request) }
-    ensures files { L.files files.new ≡ L.files files.old }
-    ensures answered { Answered (map string_bytes _words.now) (reading (L.files files.old) (L.faults files.old) (L.faults files.new)) (writing (K.taken out.old) (K.taken out.new) (K.faults out.old) (K.faults out.new)) result }
+    ensures follows { Follows (L.told files.old) (L.told files.new) }
+    ensures answer { IsAnswer (map string_bytes _words.now) (reading (L.told files.old) (L.told files.new)) (name_of (asked request.entry)) result }
 {
     asked_once();
     asked_budget();
     asked_length();
     atoms_are_variable_free();
     match request {
-        Request::Prove { file, root, budget } => prove_file(alloc, file, root, budget, files, out),
-        Request::Sat { file } => sat(alloc, file, files, out),
+        Request::Prove { file, root, budget } => {
+            Answer::Prove(prove(alloc, file, root, budget, files))
+        }
+        Request::Sat { file } => Answer::Sat(answer_file(alloc, files, file)),
         Request::Check {
             cert,
             problem,
             root,
-        } => check(alloc, cert, problem, root, files, out),
-        Request::Ask { cert, atom } => ask(alloc, cert, &atom, files, out),
-        Request::Stress { number } => stress(alloc, number, out),
+        } => Answer::Check(check_file(alloc, files, cert, problem, root)),
+        Request::Ask { cert, atom } => Answer::Ask(ask_file(alloc, files, cert, &atom)),
+        Request::Stress { number } => Answer::Stress(stress(alloc, number)),
     }
 }
 
-// The same of words that may ask nothing.
-fn answer_if_asked<L: Library, K: Sink>(
+// Answers what the words ask, or tells that they ask nothing.
+fn answer_request<L: Library, K: Sink>(
     alloc: Global,
     request: Option<Request<'_>>,
     words: &[String],
@@ -98,12 +74,16 @@ fn answer_if_asked<L: Library, K: Sink>(
 ) -> Exit
     requires asked { IfSome request (λ q. IsAsked (map string_bytes words.now) (asked q)) }
     requires unread { IfNone request (IsUnread (map string_bytes words.now)) }
-    ensures files { L.files files.new ≡ L.files files.old }
-    ensures answered { Answered (map string_bytes words.now) (reading (L.files files.old) (L.faults files.old) (L.faults files.new)) (writing (K.taken out.old) (K.taken out.new) (K.faults out.old) (K.faults out.new)) result }
+    ensures follows { Follows (L.told files.old) (L.told files.new) }
+    ensures answered { Answered (map string_bytes words.now) (reading (L.told files.old) (L.told files.new)) (writing (K.seen out.old) (K.seen out.new)) result }
 {
     match request {
-        Some(request) => answer(alloc, request, words, files, out),
-        None => write_refusal(out, b"instgen", &Refusal::Usage),
+        Some(request) => {
+            let name = name_of(&request);
+            let answer = answer(alloc, request, words, files);
+            tell(out, name.as_bytes(), &answer)
+        }
+        None => tell(out, b"instgen", &Answer::Unread),
     }
 }
 
@@ -114,47 +94,48 @@ fn answer_words<L: Library, K: Sink>(
     files: &mut L,
     out: &mut K,
 ) -> Exit
-    ensures files { L.files files.new ≡ L.files files.old }
-    ensures answered { Answered (map string_bytes words.now) (reading (L.files files.old) (L.faults files.old) (L.faults files.new)) (writing (K.taken out.old) (K.taken out.new) (K.faults out.old) (K.faults out.new)) result }
+    ensures follows { Follows (L.told files.old) (L.told files.new) }
+    ensures answered { Answered (map string_bytes words.now) (reading (L.told files.old) (L.told files.new)) (writing (K.seen out.old) (K.seen out.new)) result }
 {
     match read_words(alloc, words) {
-        Ok(request) => answer_if_asked(alloc, request, words, files, out),
-        Err(Memory) => write_refusal(out, b"instgen", &Refusal::Memory),
+        Ok(request) => answer_request(alloc, request, words, files, out),
+        Err(Memory) => tell(out, b"instgen", &Answer::NoWords),
     }
 }
 
 /// Reads the words, and the files that they name, does what the words ask, and writes the answer.
 pub fn run<L: Library, K: Sink>(alloc: Global, words: &[String], files: &mut L, out: &mut K) -> Exit
     // The library's files stay.
-    ensures files { L.files files.new ≡ L.files files.old }
+    ensures follows { Follows (L.told files.old) (L.told files.new) }
     // There is an answer with its cause, and the exit and what was taken are that answer's.
-    ensures answered { Answered (map string_bytes words.now) (reading (L.files files.old) (L.faults files.old) (L.faults files.new)) (writing (K.taken out.old) (K.taken out.new) (K.faults out.old) (K.faults out.new)) result }
+    ensures answered { Answered (map string_bytes words.now) (reading (L.told files.old) (L.told files.new)) (writing (K.seen out.old) (K.seen out.new)) result }
     // Where the files are told, the exit is one that is wanted in some situation that stands, and in each that stands it is one
     // that is wanted there, but for faults and memory.
-    ensures exact { IfSome (L.files files.old) (λ all. IsExact (map string_bytes words.now) all (reading (L.files files.old) (L.faults files.old) (L.faults files.new)) (writing (K.taken out.old) (K.taken out.new) (K.faults out.old) (K.faults out.new)) result) }
+    ensures exact { IfSome (L.told files.old).files (λ all. IsExact (map string_bytes words.now) all (reading (L.told files.old) (L.told files.new)) (writing (K.seen out.old) (K.seen out.new)) result) }
     // A verdict is written as the text of a certificate, which shows what its status says, and comes from a run.
-    ensures decided { AsksProof (map string_bytes words.now) → result ≡ Exit.Decided → WritesCertificate (map string_bytes words.now) (L.files files.old) (K.taken out.old) (K.taken out.new) }
+    ensures decided { AsksProof (map string_bytes words.now) → result ≡ Exit.Decided → WritesCertificate (map string_bytes words.now) (L.told files.old).files (K.seen out.old).taken (K.seen out.new).taken }
     // And where the text of a printable certificate was taken whole, the verdict was written.
-    ensures verdict { TookCertificate (K.taken out.old) (K.taken out.new) → result ≡ Exit.Decided }
+    ensures verdict { TookCertificate (K.seen out.old).taken (K.seen out.new).taken → result ≡ Exit.Decided }
     // A budget that ran out is told by the numbers of a run that ended for want of it.
-    ensures resource_out { result ≡ Exit.ResourceOut → WritesNumbers (map string_bytes words.now) (L.files files.old) (K.taken out.old) (K.taken out.new) }
+    ensures resource_out { result ≡ Exit.ResourceOut → WritesNumbers (map string_bytes words.now) (L.told files.old).files (K.seen out.old).taken (K.seen out.new).taken }
     // A certificate that is checked is told to be valid only where it is, and one of the problem where one is named.
-    ensures checked { AsksCheck (map string_bytes words.now) → result ≡ Exit.Decided → WritesJudgement (map string_bytes words.now) (L.files files.old) (K.taken out.old) (K.taken out.new) Exit.Decided }
+    ensures checked { AsksCheck (map string_bytes words.now) → result ≡ Exit.Decided → WritesJudgement (map string_bytes words.now) (L.told files.old).files (K.seen out.old).taken (K.seen out.new).taken Exit.Decided }
     // An atom is told to be true or false by a saturation that is valid.
-    ensures asked { AsksAtom (map string_bytes words.now) → result ≡ Exit.Decided → WritesReply (map string_bytes words.now) (L.files files.old) (K.taken out.old) (K.taken out.new) Exit.Decided }
+    ensures asked { AsksAtom (map string_bytes words.now) → result ≡ Exit.Decided → WritesReply (map string_bytes words.now) (L.told files.old).files (K.seen out.old).taken (K.seen out.new).taken Exit.Decided }
     // What is complained of a certificate is the first that applies.
-    ensures check_failed { result ≡ Exit.CheckFailed → WritesComplaint (map string_bytes words.now) (L.files files.old) (K.taken out.old) (K.taken out.new) }
+    ensures check_failed { result ≡ Exit.CheckFailed → WritesComplaint (map string_bytes words.now) (L.told files.old).files (K.seen out.old).taken (K.seen out.new).taken }
     // Of a chain the size of a valid refutation is told.
-    ensures stressed { AsksChain (map string_bytes words.now) → result ≡ Exit.Decided → WritesSize (map string_bytes words.now) (K.taken out.old) (K.taken out.new) }
+    ensures stressed { AsksChain (map string_bytes words.now) → result ≡ Exit.Decided → WritesSize (map string_bytes words.now) (K.seen out.old).taken (K.seen out.new).taken }
     // A chain ends so whatever the library tells.
     ensures chain { AsksChain (map string_bytes words.now) → EndsChain result }
     ensures usage { result ≡ Exit.Usage → IsUnread (map string_bytes words.now) }
-    ensures read_fault { result ≡ Exit.ReadFault → Rose (L.faults files.old) (L.faults files.new) }
-    ensures write_fault { result ≡ Exit.WriteFault → Rose (K.faults out.old) (K.faults out.new) }
+    ensures read_fault { result ≡ Exit.ReadFault → Rose (L.told files.old).faults (L.told files.new).faults }
+    ensures write_fault { result ≡ Exit.WriteFault → Rose (K.seen out.old).faults (K.seen out.new).faults }
     // Where writing failed, a prefix of the answer's text was taken.
-    ensures interrupted { result ≡ Exit.WriteFault → IsInterrupted (map string_bytes words.now) (reading (L.files files.old) (L.faults files.old) (L.faults files.new)) (K.taken out.old) (K.taken out.new) }
-    // Where memory is wanted, the text that says so was taken, or a prefix of an answer's text.
-    ensures memory { result ≡ Exit.Memory → WantsMemory (map string_bytes words.now) (reading (L.files files.old) (L.faults files.old) (L.faults files.new)) (K.taken out.old) (K.taken out.new) }
+    ensures interrupted { result ≡ Exit.WriteFault → IsInterrupted (map string_bytes words.now) (reading (L.told files.old) (L.told files.new)) (K.seen out.old).taken (K.seen out.new).taken }
+    // Where memory is wanted, the text that says so was taken, whole, under the name of what the words ask, or under the program's
+    // where the library was not called; but where the sink may want memory, that may be a prefix of an answer's text.
+    ensures memory { result ≡ Exit.Memory → WantsMemory (map string_bytes words.now) (reading (L.told files.old) (L.told files.new)) (writing (K.seen out.old) (K.seen out.new)) }
 {
     one_loading();
     asked_once();

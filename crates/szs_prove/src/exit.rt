@@ -1,9 +1,8 @@
 // How the program ends. Only here an end has a number.
 ghost use Rattle.std.specs.Prelude.{◌≡◌};
-ghost use Rattle.szs_prove.specs.Texts.{code_of, fault_exit, judgement_exit, reply_exit, sat_exit};
+ghost use Rattle.szs_prove.specs.Texts.{code_of, exit_of};
 
-use cert_front::{CertFault, Judgement, Reply};
-use dimacs_front::SatExit;
+use outside_io::Status;
 
 /// How the program ends.
 #[derive(Clone, Copy, Debug, PartialEq, Eq)]
@@ -52,51 +51,15 @@ impl Exit {
     }
 }
 
-/// The exit of the program for that of the command on the DIMACS form.
-pub fn exit_of_sat(exit: SatExit) -> Exit
-    ensures { result ≡ sat_exit exit }
+/// The exit where this status is told, whatever the command.
+pub fn exit_of(status: Status) -> Exit
+    ensures { result ≡ exit_of status }
 {
-    match exit {
-        SatExit::Satisfiable => Exit::Sat,
-        SatExit::Unsatisfiable => Exit::Unsat,
-        SatExit::Refused => Exit::Refused,
-        SatExit::ReadFault => Exit::ReadFault,
-        SatExit::WriteFault => Exit::WriteFault,
-        SatExit::Memory => Exit::Memory,
-    }
-}
-
-/// The exit for what a certificate is found to be, once its line is written.
-pub fn exit_of_judgement(judgement: Judgement) -> Exit
-    ensures { result ≡ judgement_exit judgement }
-{
-    match judgement {
-        Judgement::Valid => Exit::Decided,
-        Judgement::Problem { .. } | Judgement::Invalid(_) => Exit::CheckFailed,
-    }
-}
-
-/// The exit for what a saturation says of an atom, once its line is written.
-pub fn exit_of_reply(reply: Reply) -> Exit
-    ensures { result ≡ reply_exit reply }
-{
-    match reply {
-        Reply::True | Reply::False => Exit::Decided,
-        Reply::Invalid(_) => Exit::CheckFailed,
-    }
-}
-
-/// The exit for a file that gives no certificate that is asked for, once its lines are written.
-pub fn exit_of_fault(fault: &CertFault) -> Exit
-    ensures { result ≡ fault_exit fault.now }
-{
-    match fault {
-        CertFault::ReadFault => Exit::ReadFault,
-        CertFault::Memory => Exit::Memory,
-        CertFault::Absent
-        | CertFault::TooLong
-        | CertFault::Syntax { .. }
-        | CertFault::Version { .. }
-        | CertFault::NoSaturation => Exit::Refused,
+    match status {
+        Status::SyntaxError | Status::Inappropriate | Status::InputError => Exit::Refused,
+        Status::OsError => Exit::ReadFault,
+        Status::UsageError => Exit::Usage,
+        Status::ResourceOut => Exit::ResourceOut,
+        Status::MemoryOut => Exit::Memory,
     }
 }

@@ -4,20 +4,17 @@
 //! and sink that keep the laws of their traits.
 #![tactic(auto)]
 
-mod chain;
+mod answer;
 pub mod chain_examples;
 pub mod chain_laws;
 pub mod chain_problem;
-mod check;
 mod command;
 pub mod deciding;
 pub mod decision;
 pub mod decision_laws;
 mod exit;
-mod piece;
 mod prove;
 mod refusal;
-mod size_words;
 pub mod sizes;
 
 pub use command::run;

@@ -5,10 +5,10 @@ ghost use Rattle.cert_format.specs.Certificate.{first_refutation, saturation};
 ghost use Rattle.cert_format.specs.Printable.{IsTextName};
 ghost use Rattle.cert_format.specs.Text.{certificate_text};
 ghost use Rattle.saturation_cert.specs.Values.{refutation_of, saturation_of};
+ghost use Rattle.outside_io.specs.Told.{Follows};
 ghost use Rattle.tptp_load.specs.Problems.{IsGoodProblem};
 ghost use Rattle.szs_prove.specs.Decisions.{IsDecision};
-ghost use Rattle.szs_prove.specs.Answered.{HasVerdict, reading};
-ghost use Rattle.szs_prove.specs.Answers.{IsProblemOf, IsRefusal};
+ghost use Rattle.szs_prove.specs.Answers.{HasVerdict, IsProblemOf, IsRefusal, reading};
 ghost use Rattle.szs_prove.specs.Proving.{HasCertificate, IsUndecided};
 
 use crate::decision::{Decision, decide};
@@ -28,9 +28,9 @@ fn load<L: Library>(
     root: Option<&str>,
     files: &mut L,
 ) -> Result<Problem, Refusal>
-    ensures files { L.files files.new ≡ L.files files.old }
-    ensures ok { IfOk result (IsProblemOf (L.files files.old) file.now (option_map (λ r. r.now) root.entry)) }
-    ensures err { (budget : ℕ) → IfErr result (IsRefusal (reading (L.files files.old) (L.faults files.old) (L.faults files.new)) file.now (option_map (λ r. r.now) root.entry) budget) }
+    ensures follows { Follows (L.told files.old) (L.told files.new) }
+    ensures ok { IfOk result (IsProblemOf (L.told files.old).files file.now (option_map (λ r. r.now) root.entry)) }
+    ensures err { (budget : ℕ) → IfErr result (IsRefusal (reading (L.told files.old) (L.told files.new)) file.now (option_map (λ r. r.now) root.entry) budget) }
 {
     match tptp_load::load(alloc, files, file, root) {
         Ok(problem) => Ok(problem),
@@ -109,9 +109,9 @@ pub fn prove<L: Library>(
 ) -> Result<ByteList, Refusal>
     requires name { IsTextName file.now }
     requires budget { budget ≤ 1000000000000 }
-    ensures files { L.files files.new ≡ L.files files.old }
-    ensures ok { IfOk result (HasVerdict (L.files files.old) file.now (option_map (λ r. r.now) root.entry)) }
-    ensures err { IfErr result (IsRefusal (reading (L.files files.old) (L.faults files.old) (L.faults files.new)) file.now (option_map (λ r. r.now) root.entry) budget) }
+    ensures follows { Follows (L.told files.old) (L.told files.new) }
+    ensures ok { IfOk result (HasVerdict (L.told files.old).files file.now (option_map (λ r. r.now) root.entry)) }
+    ensures err { IfErr result (IsRefusal (reading (L.told files.old) (L.told files.new)) file.now (option_map (λ r. r.now) root.entry) budget) }
 {
     match load(alloc, file, root, files) {
         Ok(problem) => certificate(alloc, file, &problem, budget),

@@ -1,5 +1,6 @@
 // Files, read whole, up to what is left of the bytes of the problem.
 ghost use Rattle.std.specs.Prelude.{◌≡◌, ◌≤◌, IfOk, IfErr};
+ghost use Rattle.outside_io.specs.Told.{Follows};
 ghost use Rattle.tptp_load.specs.Loading.{limit};
 ghost use Rattle.tptp_load.specs.Reading.{IsHeld, IsUnread};
 
@@ -19,10 +20,9 @@ pub(crate) fn read_named<L: Library>(
     files: &mut L,
 ) -> Result<Option<ByteList>, LoadError>
     requires used { used ≤ limit }
-    ensures files { L.files files.new ≡ L.files files.old }
-    ensures ok { IfOk result (IsHeld (L.files files.old) name.now used) }
-    ensures err { IfErr result (λ why. IsUnread (L.files files.old) (L.faults files.old) (L.faults files.new) name.now used why) }
-    ensures later { L.faults files.old ≤ L.faults files.new }
+    ensures follows { Follows (L.told files.old) (L.told files.new) }
+    ensures ok { IfOk result (IsHeld (L.told files.old).files name.now used) }
+    ensures err { IfErr result (λ why. IsUnread (L.told files.old).files (L.told files.old).faults (L.told files.new).faults name.now used why) }
 {
     match read_whole(alloc, files, name, LIMIT - used) {
         Ok(bytes) => Ok(Some(ByteList::from(bytes))),

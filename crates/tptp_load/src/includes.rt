@@ -1,6 +1,7 @@
 // Files with what they include, by recursion over the levels, of which there are few. The bytes of a file are dropped once
 // its statements are read.
 ghost use Rattle.std.specs.Prelude.{◌≡◌, ◌≤◌, ◌+◌, ◌∷◌, ◌++◌, [], None, Some, All, IfOk, IfErr, OnOk, IsTrue, length, option_map};
+ghost use Rattle.outside_io.specs.Told.{Follows};
 ghost use Rattle.inst_logic.specs.Printing.{is_readable_name};
 ghost use Rattle.tptp_read.specs.Names.{HasReadableNames};
 ghost use Rattle.tptp_read.specs.Text.{Readable, IsFormedStatement};
@@ -61,11 +62,10 @@ pub(crate) fn add_file<L: Library>(
 ) -> Result<(), LoadError>
     requires fits { gathered.old.used + length bytes ≤ limit }
     requires good { IsGathered gathered.old.stated.items gathered.old.used }
-    ensures files { L.files files.new ≡ L.files files.old }
-    ensures later { L.faults files.old ≤ L.faults files.new }
+    ensures follows { Follows (L.told files.old) (L.told files.new) }
     ensures good { OnOk result (IsGathered gathered.new.stated.items gathered.new.used) }
-    ensures ok { OnOk result (Adds (L.files files.old) (λ told. Loading told (option_map (λ r. r.now) root.entry) levels gathered.old.used name.now bytes) gathered.old.stated.items gathered.new.stated.items gathered.new.used) }
-    ensures err { IfErr result (IsPartCause (L.files files.old) (λ told. Loading told (option_map (λ r. r.now) root.entry) levels gathered.old.used name.now bytes) (L.faults files.old) (L.faults files.new)) }
+    ensures ok { OnOk result (Adds (L.told files.old).files (λ told. Loading told (option_map (λ r. r.now) root.entry) levels gathered.old.used name.now bytes) gathered.old.stated.items gathered.new.stated.items gathered.new.used) }
+    ensures err { IfErr result (IsPartCause (L.told files.old).files (λ told. Loading told (option_map (λ r. r.now) root.entry) levels gathered.old.used name.now bytes) (L.told files.old).faults (L.told files.new).faults) }
 {
     gathered.used += bytes.len();
     let statements = read_statements(alloc, name, bytes)?;
@@ -86,11 +86,10 @@ fn add_statements<L: Library>(
     requires good { IsGathered gathered.old.stated.items gathered.old.used }
     requires formed { All IsFormedStatement statements }
     requires names { All HasReadableNames statements }
-    ensures files { L.files files.new ≡ L.files files.old }
-    ensures later { L.faults files.old ≤ L.faults files.new }
+    ensures follows { Follows (L.told files.old) (L.told files.new) }
     ensures good { OnOk result (IsGathered gathered.new.stated.items gathered.new.used) }
-    ensures ok { OnOk result (Adds (L.files files.old) (λ told. StatementsGive (Including told (option_map (λ r. r.now) root.entry) levels) from.now gathered.old.used statements) gathered.old.stated.items gathered.new.stated.items gathered.new.used) }
-    ensures err { IfErr result (IsPartCause (L.files files.old) (λ told. StatementsGive (Including told (option_map (λ r. r.now) root.entry) levels) from.now gathered.old.used statements) (L.faults files.old) (L.faults files.new)) }
+    ensures ok { OnOk result (Adds (L.told files.old).files (λ told. StatementsGive (Including told (option_map (λ r. r.now) root.entry) levels) from.now gathered.old.used statements) gathered.old.stated.items gathered.new.stated.items gathered.new.used) }
+    ensures err { IfErr result (IsPartCause (L.told files.old).files (λ told. StatementsGive (Including told (option_map (λ r. r.now) root.entry) levels) from.now gathered.old.used statements) (L.told files.old).faults (L.told files.new).faults) }
 {
     let list: Vec<Statement> = Vec::from(statements);
     for statement in list {
@@ -113,11 +112,10 @@ fn add_statement<L: Library>(
     requires good { IsGathered gathered.old.stated.items gathered.old.used }
     requires formed { IsFormedStatement statement }
     requires names { HasReadableNames statement }
-    ensures files { L.files files.new ≡ L.files files.old }
-    ensures later { L.faults files.old ≤ L.faults files.new }
+    ensures follows { Follows (L.told files.old) (L.told files.new) }
     ensures good { OnOk result (IsGathered gathered.new.stated.items gathered.new.used) }
-    ensures ok { OnOk result (Adds (L.files files.old) (λ told. StatementGives (Including told (option_map (λ r. r.now) root.entry) levels) from.now gathered.old.used statement) gathered.old.stated.items gathered.new.stated.items gathered.new.used) }
-    ensures err { IfErr result (IsPartCause (L.files files.old) (λ told. StatementGives (Including told (option_map (λ r. r.now) root.entry) levels) from.now gathered.old.used statement) (L.faults files.old) (L.faults files.new)) }
+    ensures ok { OnOk result (Adds (L.told files.old).files (λ told. StatementGives (Including told (option_map (λ r. r.now) root.entry) levels) from.now gathered.old.used statement) gathered.old.stated.items gathered.new.stated.items gathered.new.used) }
+    ensures err { IfErr result (IsPartCause (L.told files.old).files (λ told. StatementGives (Including told (option_map (λ r. r.now) root.entry) levels) from.now gathered.old.used statement) (L.told files.old).faults (L.told files.new).faults) }
 {
     match statement {
         Statement::Cnf {
@@ -179,11 +177,10 @@ fn add_included<L: Library>(
 ) -> Result<(), LoadError>
     requires good { IsGathered gathered.old.stated.items gathered.old.used }
     requires name { IsTrue (is_readable_name file.now) }
-    ensures files { L.files files.new ≡ L.files files.old }
-    ensures later { L.faults files.old ≤ L.faults files.new }
+    ensures follows { Follows (L.told files.old) (L.told files.new) }
     ensures good { OnOk result (IsGathered gathered.new.stated.items gathered.new.used) }
-    ensures ok { OnOk result (Adds (L.files files.old) (λ told. Includes told (option_map (λ r. r.now) root.entry) (Loading told (option_map (λ r. r.now) root.entry) levels) gathered.old.used from.now file.now None) gathered.old.stated.items gathered.new.stated.items gathered.new.used) }
-    ensures err { IfErr result (IsPartCause (L.files files.old) (λ told. Includes told (option_map (λ r. r.now) root.entry) (Loading told (option_map (λ r. r.now) root.entry) levels) gathered.old.used from.now file.now None) (L.faults files.old) (L.faults files.new)) }
+    ensures ok { OnOk result (Adds (L.told files.old).files (λ told. Includes told (option_map (λ r. r.now) root.entry) (Loading told (option_map (λ r. r.now) root.entry) levels) gathered.old.used from.now file.now None) gathered.old.stated.items gathered.new.stated.items gathered.new.used) }
+    ensures err { IfErr result (IsPartCause (L.told files.old).files (λ told. Includes told (option_map (λ r. r.now) root.entry) (Loading told (option_map (λ r. r.now) root.entry) levels) gathered.old.used from.now file.now None) (L.told files.old).faults (L.told files.new).faults) }
 {
     let Found { name, bytes } = find(alloc, root, from, file, gathered.used, files)?;
     add_file(alloc, root, levels, name.as_str(), bytes, files, gathered)
@@ -203,11 +200,10 @@ fn add_selected<L: Library>(
 ) -> Result<(), LoadError>
     requires good { IsGathered gathered.old.stated.items gathered.old.used }
     requires name { IsTrue (is_readable_name file.now) }
-    ensures files { L.files files.new ≡ L.files files.old }
-    ensures later { L.faults files.old ≤ L.faults files.new }
+    ensures follows { Follows (L.told files.old) (L.told files.new) }
     ensures good { OnOk result (IsGathered gathered.new.stated.items gathered.new.used) }
-    ensures ok { OnOk result (Adds (L.files files.old) (λ told. Includes told (option_map (λ r. r.now) root.entry) (Loading told (option_map (λ r. r.now) root.entry) levels) gathered.old.used from.now file.now (Some names.now)) gathered.old.stated.items gathered.new.stated.items gathered.new.used) }
-    ensures err { IfErr result (IsPartCause (L.files files.old) (λ told. Includes told (option_map (λ r. r.now) root.entry) (Loading told (option_map (λ r. r.now) root.entry) levels) gathered.old.used from.now file.now (Some names.now)) (L.faults files.old) (L.faults files.new)) }
+    ensures ok { OnOk result (Adds (L.told files.old).files (λ told. Includes told (option_map (λ r. r.now) root.entry) (Loading told (option_map (λ r. r.now) root.entry) levels) gathered.old.used from.now file.now (Some names.now)) gathered.old.stated.items gathered.new.stated.items gathered.new.used) }
+    ensures err { IfErr result (IsPartCause (L.told files.old).files (λ told. Includes told (option_map (λ r. r.now) root.entry) (Loading told (option_map (λ r. r.now) root.entry) levels) gathered.old.used from.now file.now (Some names.now)) (L.told files.old).faults (L.told files.new).faults) }
 {
     let mut part = Gathered {
         stated: Vec::new(alloc),

@@ -2,6 +2,7 @@
 ghost use Rattle.std.specs.Prelude.{◌≡◌, ◌≤◌, ◌∷◌, ◌++◌, [], IfOk, IfErr, IsTrue, Some, length, option_map, take};
 ghost use Rattle.std.specs.Str.{IsCharBoundary, IsUtf8};
 ghost use Rattle.std.specs.String.{string_bytes};
+ghost use Rattle.outside_io.specs.Told.{Follows};
 ghost use Rattle.inst_logic.specs.Printing.{is_readable_name};
 ghost use Rattle.tptp_load.specs.Includes.{directory, begins_with_slash};
 ghost use Rattle.tptp_load.specs.Loading.{limit};
@@ -86,10 +87,9 @@ fn read_one<L: Library>(
     files: &mut L,
 ) -> Result<Option<Found>, LoadError>
     requires used { used ≤ limit }
-    ensures files { L.files files.new ≡ L.files files.old }
-    ensures ok { IfOk result (λ found. IsFirst (L.files files.old) (string_bytes name ∷ []) used (option_map pair_of found)) }
-    ensures err { IfErr result (IsNotRead (L.files files.old) (L.faults files.old) (L.faults files.new) (string_bytes name ∷ []) used) }
-    ensures later { L.faults files.old ≤ L.faults files.new }
+    ensures follows { Follows (L.told files.old) (L.told files.new) }
+    ensures ok { IfOk result (λ found. IsFirst (L.told files.old).files (string_bytes name ∷ []) used (option_map pair_of found)) }
+    ensures err { IfErr result (IsNotRead (L.told files.old).files (L.told files.old).faults (L.told files.new).faults (string_bytes name ∷ []) used) }
 {
     match read_named(alloc, name.as_str(), used, files) {
         Ok(Some(bytes)) => Ok(Some(Found { name, bytes })),
@@ -107,10 +107,9 @@ fn read_below<L: Library>(
     files: &mut L,
 ) -> Result<Option<Found>, LoadError>
     requires used { used ≤ limit }
-    ensures files { L.files files.new ≡ L.files files.old }
-    ensures ok { IfOk result (λ found. IsFirst (L.files files.old) (under_root (option_map (λ r. r.now) root.entry) wanted.now) used (option_map pair_of found)) }
-    ensures err { IfErr result (IsNotRead (L.files files.old) (L.faults files.old) (L.faults files.new) (under_root (option_map (λ r. r.now) root.entry) wanted.now) used) }
-    ensures later { L.faults files.old ≤ L.faults files.new }
+    ensures follows { Follows (L.told files.old) (L.told files.new) }
+    ensures ok { IfOk result (λ found. IsFirst (L.told files.old).files (under_root (option_map (λ r. r.now) root.entry) wanted.now) used (option_map pair_of found)) }
+    ensures err { IfErr result (IsNotRead (L.told files.old).files (L.told files.old).faults (L.told files.new).faults (under_root (option_map (λ r. r.now) root.entry) wanted.now) used) }
 {
     match root {
         Some(root) => match below(alloc, root, wanted) {
@@ -132,10 +131,9 @@ fn read_relative<L: Library>(
     files: &mut L,
 ) -> Result<Option<Found>, LoadError>
     requires used { used ≤ limit }
-    ensures files { L.files files.new ≡ L.files files.old }
-    ensures ok { IfOk result (λ found. IsFirst (L.files files.old) ((directory from.now ++ wanted.now) ∷ under_root (option_map (λ r. r.now) root.entry) wanted.now) used (option_map pair_of found)) }
-    ensures err { IfErr result (IsNotRead (L.files files.old) (L.faults files.old) (L.faults files.new) ((directory from.now ++ wanted.now) ∷ under_root (option_map (λ r. r.now) root.entry) wanted.now) used) }
-    ensures later { L.faults files.old ≤ L.faults files.new }
+    ensures follows { Follows (L.told files.old) (L.told files.new) }
+    ensures ok { IfOk result (λ found. IsFirst (L.told files.old).files ((directory from.now ++ wanted.now) ∷ under_root (option_map (λ r. r.now) root.entry) wanted.now) used (option_map pair_of found)) }
+    ensures err { IfErr result (IsNotRead (L.told files.old).files (L.told files.old).faults (L.told files.new).faults ((directory from.now ++ wanted.now) ∷ under_root (option_map (λ r. r.now) root.entry) wanted.now) used) }
 {
     let name = beside(alloc, from, wanted)?;
     match read_one(alloc, name, used, files) {
@@ -161,10 +159,9 @@ fn read_tries<L: Library>(
     files: &mut L,
 ) -> Result<Option<Found>, LoadError>
     requires used { used ≤ limit }
-    ensures files { L.files files.new ≡ L.files files.old }
-    ensures ok { IfOk result (λ found. IsFirst (L.files files.old) (tries (option_map (λ r. r.now) root.entry) from.now wanted.now) used (option_map pair_of found)) }
-    ensures err { IfErr result (IsNotRead (L.files files.old) (L.faults files.old) (L.faults files.new) (tries (option_map (λ r. r.now) root.entry) from.now wanted.now) used) }
-    ensures later { L.faults files.old ≤ L.faults files.new }
+    ensures follows { Follows (L.told files.old) (L.told files.new) }
+    ensures ok { IfOk result (λ found. IsFirst (L.told files.old).files (tries (option_map (λ r. r.now) root.entry) from.now wanted.now) used (option_map pair_of found)) }
+    ensures err { IfErr result (IsNotRead (L.told files.old).files (L.told files.old).faults (L.told files.new).faults (tries (option_map (λ r. r.now) root.entry) from.now wanted.now) used) }
 {
     if begins_with_slash(wanted) {
         let name = copy(alloc, wanted)?;
@@ -186,10 +183,9 @@ pub(crate) fn find<L: Library>(
 ) -> Result<Found, LoadError>
     requires used { used ≤ limit }
     requires readable { IsTrue (is_readable_name wanted.now) }
-    ensures files { L.files files.new ≡ L.files files.old }
-    ensures ok { IfOk result (λ found. IsFirst (L.files files.old) (tries (option_map (λ r. r.now) root.entry) from.now wanted.now) used (Some (pair_of found))) }
-    ensures err { IfErr result (IsNotFound (L.files files.old) (L.faults files.old) (L.faults files.new) (tries (option_map (λ r. r.now) root.entry) from.now wanted.now) wanted.now used) }
-    ensures later { L.faults files.old ≤ L.faults files.new }
+    ensures follows { Follows (L.told files.old) (L.told files.new) }
+    ensures ok { IfOk result (λ found. IsFirst (L.told files.old).files (tries (option_map (λ r. r.now) root.entry) from.now wanted.now) used (Some (pair_of found))) }
+    ensures err { IfErr result (IsNotFound (L.told files.old).files (L.told files.old).faults (L.told files.new).faults (tries (option_map (λ r. r.now) root.entry) from.now wanted.now) wanted.now used) }
 {
     match read_tries(alloc, root, from, text_of(wanted), used, files) {
         Ok(Some(found)) => Ok(found),

@@ -1,5 +1,5 @@
 // Calls on clauses, axioms, devices and files.
-use crate::{axiom_lists, clauses, devices, loading, sat_files};
+use crate::{axiom_lists, clauses, devices, loading};
 use std::test::Fail;
 
 #[test]
@@ -9,10 +9,9 @@ fn calls_have_these_answers(rt: HostRuntime) -> Result<(), Fail> {
     assert_eq!(rt;
         [
             axiom_lists::clauses_have_axioms(alloc)?,
-            axiom_lists::symbols_have_axioms(alloc)?,
-            sat_files::are_faults_told(alloc)?
+            axiom_lists::symbols_have_axioms(alloc)?
         ],
-        [true; 3]
+        [true; 2]
     );
     assert_eq!(rt; devices::are_memories_right(alloc)?, [true; 6]);
     assert_eq!(rt; devices::are_real_ones_right(&rt, alloc)?, [true; 3]);

@@ -10,13 +10,6 @@ fn add_file(alloc: Global, files: &mut FileList, name: &str, bytes: &[u8]) -> Re
     })
 }
 
-/// One file of this name, with these bytes.
-pub fn file_of(alloc: Global, name: &str, bytes: &[u8]) -> Result<FileList, Memory> {
-    let mut files = FileList::new(alloc);
-    add_file(alloc, &mut files, name, bytes)?;
-    Ok(files)
-}
-
 fn push_files(alloc: Global, files: &mut FileList, text: &str) -> Result<(), Memory> {
     for file in text.split('^') {
         if let Some((name, bytes)) = file.split_once("=") {

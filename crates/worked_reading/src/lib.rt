@@ -23,8 +23,6 @@ mod files;
 #[cfg(test)]
 mod loading;
 #[cfg(test)]
-mod sat_files;
-#[cfg(test)]
 mod statements;
 #[cfg(test)]
 mod tables;

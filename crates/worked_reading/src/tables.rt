@@ -1,6 +1,6 @@
 // Tables of texts and their answers. A table is one text and no array, since a function that uses an array is proved anew for each
 // of its entries.
-use crate::{atoms, certificates, counts, dimacs, sat_files, statements, token_kinds, words};
+use crate::{atoms, certificates, counts, dimacs, statements, token_kinds, words};
 use inst_logic::Memory;
 use std::alloc::Global;
 use std::test::Fail;
@@ -14,7 +14,6 @@ enum Reader {
     Atoms,
     Clauses,
     Solver,
-    SatFiles,
     Certificates,
     Prefixes,
     Middles,
@@ -35,7 +34,6 @@ fn push_answer(
         Reader::Atoms => atoms::push_atom(alloc, answer, text.as_bytes()),
         Reader::Clauses => dimacs::push_clauses(alloc, answer, text.as_bytes()),
         Reader::Solver => dimacs::push_solved(alloc, answer, text.as_bytes()),
-        Reader::SatFiles => sat_files::push_file(alloc, answer, text),
         Reader::Certificates => certificates::push_reading(alloc, answer, text.as_bytes()),
         Reader::Prefixes => certificates::push_prefixes(alloc, answer, text.as_bytes()),
         Reader::Middles => certificates::push_middle(alloc, answer, text.as_bytes()),
@@ -87,7 +85,7 @@ fn first_wrong(alloc: Global, reader: Reader, table: &str) -> Result<Option<usiz
 
 // The place of the first wrong row of each table. In a table a row begins with `#`, and behind the text stands `@` and the answer,
 // or several of which it may be any.
-fn wrong_rows(alloc: Global) -> Result<[Option<usize>; 11], Memory> {
+fn wrong_rows(alloc: Global) -> Result<[Option<usize>; 10], Memory> {
     Ok([
         first_wrong(alloc, Reader::Tokens, token_kinds::ROWS)?,
         first_wrong(alloc, Reader::Counts, counts::ROWS)?,
@@ -95,7 +93,6 @@ fn wrong_rows(alloc: Global) -> Result<[Option<usize>; 11], Memory> {
         first_wrong(alloc, Reader::Atoms, atoms::ROWS)?,
         first_wrong(alloc, Reader::Clauses, dimacs::ROWS)?,
         first_wrong(alloc, Reader::Solver, dimacs::SOLVED)?,
-        first_wrong(alloc, Reader::SatFiles, sat_files::ROWS)?,
         first_wrong(alloc, Reader::Prefixes, certificates::WHOLES)?,
         first_wrong(alloc, Reader::Certificates, certificates::OTHERS)?,
         first_wrong(alloc, Reader::Middles, certificates::MIDDLES)?,
@@ -105,6 +102,6 @@ fn wrong_rows(alloc: Global) -> Result<[Option<usize>; 11], Memory> {
 
 #[test]
 fn texts_have_these_answers(rt: HostRuntime) -> Result<(), Fail> {
-    assert_eq!(rt; wrong_rows(rt.alloc())?, [None; 11]);
+    assert_eq!(rt; wrong_rows(rt.alloc())?, [None; 10]);
     Ok(())
 }

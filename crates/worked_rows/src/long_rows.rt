@@ -19,6 +19,8 @@ enum Shape {
     Variables,
     // Blanks.
     Blank,
+    // No clauses in the DIMACS form, and blanks up to so many bytes.
+    NoClauses,
 }
 
 fn push_times(text: &mut Vec<u8>, bytes: &[u8], count: usize) -> Result<(), Memory> {
@@ -69,12 +71,25 @@ fn push_variables(text: &mut Vec<u8>, last: &[u8]) -> Result<(), Memory> {
     push_bytes(text, b").")
 }
 
+fn push_no_clauses(text: &mut Vec<u8>, length: usize) -> Result<(), Memory> {
+    push_bytes(text, b"p cnf 0 0\n")?;
+    push_times(text, b" ", length.saturating_sub(10))
+}
+
 fn push_text(text: &mut Vec<u8>, shape: Shape, count: usize) -> Result<(), Memory> {
     match shape {
         Shape::Nested => push_nested(text, count),
         Shape::Wide => push_wide(text, count),
         Shape::Variables => push_variables(text, if count > 0 { b"q(Y)" } else { b"q(X0)" }),
         Shape::Blank => push_times(text, b" ", count),
+        Shape::NoClauses => push_no_clauses(text, count),
+    }
+}
+
+fn words_of(shape: Shape) -> &'static str {
+    match shape {
+        Shape::NoClauses => "|sat|n.p",
+        Shape::Nested | Shape::Wide | Shape::Variables | Shape::Blank => "|prove|n.p",
     }
 }
 
@@ -87,7 +102,7 @@ fn begins_by(
 ) -> Result<bool, Memory> {
     push_text(text, shape, count)?;
     let files = file_of(alloc, "n.p", text.as_slice())?;
-    let answer = answer_of(alloc, "|prove|n.p", files)?;
+    let answer = answer_of(alloc, words_of(shape), files)?;
     Ok(answer.starts_with(start.as_bytes()))
 }
 
@@ -121,8 +136,21 @@ fn limits_are_kept(alloc: Global) -> Result<[bool; 8], Memory> {
     ])
 }
 
+fn clauses_are_limited(alloc: Global) -> Result<[bool; 2], Memory> {
+    Ok([
+        begins(alloc, Shape::NoClauses, LIMIT, "10 s SATISFIABLE\nv 0\n")?,
+        begins(alloc, Shape::NoClauses, LIMIT + 1, BYTES)?,
+    ])
+}
+
 #[test]
 fn limits(rt: HostRuntime) -> Result<(), Fail> {
     assert_eq!(rt; limits_are_kept(rt.alloc())?, [true; 8]);
+    Ok(())
+}
+
+#[test]
+fn limit_of_clauses(rt: HostRuntime) -> Result<(), Fail> {
+    assert_eq!(rt; clauses_are_limited(rt.alloc())?, [true; 2]);
     Ok(())
 }

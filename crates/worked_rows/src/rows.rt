@@ -128,6 +128,11 @@ cnf(m1,plain,q,input(1),[selected(1)]).
 pub const DIMACS: &str = "\
 #@|sat|d.cnf@10 s SATISFIABLE\nv -1 2 0\n@d.cnf@p cnf 2 2\n1 2 0\n-1 0\n\
 #@|sat|d.cnf@20 s UNSATISFIABLE\nr 3 0 1 2 0\n@d.cnf@p cnf 1 2\n1 0\n-1 0\n\
+#@|sat|d.cnf@20 s UNSATISFIABLE\nr 2 0 1 0\n@d.cnf@p cnf 0 1\n0\
+#@|sat|d.cnf@10 s SATISFIABLE\nv 0\n@d.cnf@c\np cnf 0 0\n%\nx\
+#@|sat|d.cnf@2 % SZS status SyntaxError for d.cnf\n% syntax: line 1 of d.cnf\n@d.cnf@\
+#@|sat|d.cnf@2 % SZS status InputError for d.cnf\n% clauses 0\n@d.cnf@p cnf 1 1\n\
+#@|sat|d.cnf@2 % SZS status InputError for d.cnf\n% limit variables\n@d.cnf@p cnf 1000001 0\n\
 #@|sat|d.cnf@2 % SZS status InputError for d.cnf\n% literal: line 2 of d.cnf\n@d.cnf@p cnf 1 1\n2 0\n\
 #@|sat|d.cnf@2 % SZS status InputError for d.cnf\n% clauses 1\n@d.cnf@p cnf 1 2\n1 0\n\
 #@|sat|--|-e.cnf@2 % SZS status InputError for -e.cnf\n% absent: -e.cnf\n@d.cnf@\

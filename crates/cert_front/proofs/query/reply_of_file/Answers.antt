@@ -5,4 +5,4 @@ use Rattle.cert_front.proofs.query.reply_of_file.Goals as goal
 pub reply-requires-clause-light : goal.reply-requires-clause-light
 reply-requires-clause-light g c =
     let held = rw c.in-Ok-Saturation.field-0-is at c.in-Ok-Saturation.ensures.read in
-    light_of c.short_texts_are_light.ensures (g.L.Library.files c.args.files.now) c.args.name.now (saturation_of c.in-Ok-Saturation.cert) held
+    light_of c.short_texts_are_light.ensures (g.L.Library.told c.args.files.now).files c.args.name.now (saturation_of c.in-Ok-Saturation.cert) held

@@ -1,56 +1,77 @@
-use Rattle.std.proofs.Common.{subst, map, string_bytes}
-use Rattle.command_words.specs.Asked.{IsAsked}
+use Rattle.std.proofs.Common.{arith, subst, sym, refl, map, string_bytes}
+use Rattle.command_words.specs.Asked.{IsAsked, name_of}
 use Rattle.command_words.specs.Requests.{asked}
 use Rattle.command_words.specs.declared.request.Request.{Request}
+use Rattle.szs_prove.specs.Answers.{IsAnswer, reading}
+use Rattle.szs_prove.specs.declared.answer.Answer.{Answer}
+use Rattle.szs_prove.specs.declared.answer.Answer.TheVariants.{Prove, Sat, Check, Ask, Stress}
 use Rattle.szs_prove.proofs.AskedAtoms.{asked_atom_is_formed, asked_atom_is_free}
+use Rattle.szs_prove.proofs.Causes.{proved, checked, replied, measured}
 use Rattle.szs_prove.proofs.command.answer.Goals as goal
 
-pub prove_file-requires-clause-name : goal.prove_file-requires-clause-name
-prove_file-requires-clause-name g c =
+pub prove-requires-clause-name : goal.prove-requires-clause-name
+prove-requires-clause-name g c =
     let h = subst (λ (q : Request). IsAsked (map string_bytes c.args._words.now) (asked q)) c.in-Prove.is c.requires in
     c.asked_once.ensures.named _ _ h
 
-pub prove_file-requires-clause-budget : goal.prove_file-requires-clause-budget
-prove_file-requires-clause-budget g c =
+pub prove-requires-clause-budget : goal.prove-requires-clause-budget
+prove-requires-clause-budget g c =
     let h = subst (λ (q : Request). IsAsked (map string_bytes c.args._words.now) (asked q)) c.in-Prove.is c.requires in
     c.asked_budget.ensures _ _ _ _ h
 
-pub returns-in-Prove-clause-answered : goal.returns-in-Prove-clause-answered
-returns-in-Prove-clause-answered g c =
+pub returns-in-Prove-clause-answer : goal.returns-in-Prove-clause-answer
+returns-in-Prove-clause-answer g c =
     let h = subst (λ (q : Request). IsAsked (map string_bytes c.args._words.now) (asked q)) c.in-Prove.is c.requires in
-    c.prove_file.ensures.answered _ h
+    let read = reading (g.L.Library.told c.args.files.now) (g.L.Library.told c.prove.new.files) in
+    subst (λ (q : Request). IsAnswer (map string_bytes c.args._words.now) read (name_of (asked q)) (Prove c.prove.result)) (sym c.in-Prove.is)
+    (proved _ read _ _ _ c.prove.result h c.prove.ensures.ok c.prove.ensures.err)
 
-pub returns-in-Sat-clause-answered : goal.returns-in-Sat-clause-answered
-returns-in-Sat-clause-answered g c =
+pub returns-in-Sat-clause-answer : goal.returns-in-Sat-clause-answer
+returns-in-Sat-clause-answer g c =
     let h = subst (λ (q : Request). IsAsked (map string_bytes c.args._words.now) (asked q)) c.in-Sat.is c.requires in
-    c.sat.ensures.answered _ h
+    let read = reading (g.L.Library.told c.args.files.now) (g.L.Library.told c.answer_file.new.files) in
+    subst (λ (q : Request). IsAnswer (map string_bytes c.args._words.now) read (name_of (asked q)) (Sat c.answer_file.result)) (sym c.in-Sat.is)
+    (h, c.answer_file.ensures.outcome)
 
-pub returns-in-Check-clause-answered : goal.returns-in-Check-clause-answered
-returns-in-Check-clause-answered g c =
+pub returns-in-Check-clause-answer : goal.returns-in-Check-clause-answer
+returns-in-Check-clause-answer g c =
     let h = subst (λ (q : Request). IsAsked (map string_bytes c.args._words.now) (asked q)) c.in-Check.is c.requires in
-    c.check.ensures.answered _ h
+    let read = reading (g.L.Library.told c.args.files.now) (g.L.Library.told c.check_file.new.files) in
+    subst (λ (q : Request). IsAnswer (map string_bytes c.args._words.now) read (name_of (asked q)) (Check c.check_file.result)) (sym c.in-Check.is)
+    (checked _ read _ _ _ c.check_file.result h c.check_file.ensures.judged c.check_file.ensures.refused)
 
-pub ask-requires-clause-atom : goal.ask-requires-clause-atom
-ask-requires-clause-atom g c =
+pub ask_file-requires-clause-atom : goal.ask_file-requires-clause-atom
+ask_file-requires-clause-atom g c =
     let h = subst (λ (q : Request). IsAsked (map string_bytes c.args._words.now) (asked q)) c.in-Ask.is c.requires in
     asked_atom_is_formed _ _ _ h
 
-pub ask-requires-clause-variable_free : goal.ask-requires-clause-variable_free
-ask-requires-clause-variable_free g c =
+pub ask_file-requires-clause-variable_free : goal.ask_file-requires-clause-variable_free
+ask_file-requires-clause-variable_free g c =
     let h = subst (λ (q : Request). IsAsked (map string_bytes c.args._words.now) (asked q)) c.in-Ask.is c.requires in
     asked_atom_is_free c.atoms_are_variable_free.ensures _ _ _ h
 
-pub returns-in-Ask-clause-answered : goal.returns-in-Ask-clause-answered
-returns-in-Ask-clause-answered g c =
+pub returns-in-Ask-clause-answer : goal.returns-in-Ask-clause-answer
+returns-in-Ask-clause-answer g c =
     let h = subst (λ (q : Request). IsAsked (map string_bytes c.args._words.now) (asked q)) c.in-Ask.is c.requires in
-    c.ask.ensures.answered _ h
+    let read = reading (g.L.Library.told c.args.files.now) (g.L.Library.told c.ask_file.new.files) in
+    subst (λ (q : Request). IsAnswer (map string_bytes c.args._words.now) read (name_of (asked q)) (Ask c.ask_file.result)) (sym c.in-Ask.is)
+    (replied _ read _ _ c.ask_file.result h c.ask_file.ensures.replied c.ask_file.ensures.refused)
 
-pub stress-requires : goal.stress-requires
-stress-requires g c =
+pub stress-requires-clause-some : goal.stress-requires-clause-some
+stress-requires-clause-some g c =
     let h = subst (λ (q : Request). IsAsked (map string_bytes c.args._words.now) (asked q)) c.in-Stress.is c.requires in
-    c.asked_length.ensures _ _ h
+    let within = c.asked_length.ensures _ _ h in
+    omega (arith, within.0)
 
-pub returns-in-Stress-clause-answered : goal.returns-in-Stress-clause-answered
-returns-in-Stress-clause-answered g c =
+pub stress-requires-clause-fits : goal.stress-requires-clause-fits
+stress-requires-clause-fits g c =
     let h = subst (λ (q : Request). IsAsked (map string_bytes c.args._words.now) (asked q)) c.in-Stress.is c.requires in
-    c.stress.ensures _ _ h
+    let within = c.asked_length.ensures _ _ h in
+    omega (arith, within.1)
+
+pub returns-in-Stress-clause-answer : goal.returns-in-Stress-clause-answer
+returns-in-Stress-clause-answer g c =
+    let h = subst (λ (q : Request). IsAsked (map string_bytes c.args._words.now) (asked q)) c.in-Stress.is c.requires in
+    let read = reading (g.L.Library.told c.args.files.now) (g.L.Library.told c.args.files.now) in
+    subst (λ (q : Request). IsAnswer (map string_bytes c.args._words.now) read (name_of (asked q)) (Stress c.stress.result)) (sym c.in-Stress.is)
+    (measured _ read _ c.stress.result refl h c.stress.ensures)

@@ -1,11 +1,12 @@
-use Rattle.szs_prove.proofs.Solved.{want_told}
+use Rattle.std.proofs.Common.{codes, refl}
+use Rattle.szs_prove.specs.declared.answer.Answer.TheVariants.{NoWords}
 use Rattle.szs_prove.proofs.command.answer_words.Goals as goal
 
-pub answer_if_asked-requires-clause-asked : goal.answer_if_asked-requires-clause-asked
-answer_if_asked-requires-clause-asked g c = c.in-Ok.ensures.asked
+pub answer_request-requires-clause-asked : goal.answer_request-requires-clause-asked
+answer_request-requires-clause-asked g c = c.in-Ok.ensures.asked
 
-pub answer_if_asked-requires-clause-unread : goal.answer_if_asked-requires-clause-unread
-answer_if_asked-requires-clause-unread g c = c.in-Ok.ensures.unread
+pub answer_request-requires-clause-unread : goal.answer_request-requires-clause-unread
+answer_request-requires-clause-unread g c = c.in-Ok.ensures.unread
 
 pub returns-in-Err-clause-answered : goal.returns-in-Err-clause-answered
-returns-in-Err-clause-answered g c = want_told _ _ _ _ c.write_refusal.ensures
+returns-in-Err-clause-answered g c = record { name = codes "instgen"; answer = NoWords; cause = (refl, refl); written = c.tell.ensures }

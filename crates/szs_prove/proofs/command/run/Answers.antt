@@ -1,15 +1,16 @@
 use Rattle.szs_prove.proofs.Endings.{asked_atom, chain, check_failed, checked, decided, interrupted, memory, read_fault, resource_out, stressed, usage_unread, write_fault}
-use Rattle.szs_prove.proofs.Situated.{exact}
+use Rattle.szs_prove.proofs.Situated.{LoadsOne, exact}
 use Rattle.szs_prove.proofs.VerdictTexts.{took_verdict}
 use Rattle.szs_prove.proofs.command.run.Goals as goal
 
 pub returns : goal.returns
 returns g c =
     let a = c.answer_words.ensures.answered in
+    let loads : LoadsOne = record { problems = c.one_loading.ensures.problems; refusals = c.one_loading.ensures.refusals; apart = c.one_loading.ensures.apart } in
     record {
-      files = c.answer_words.ensures.files;
+      follows = c.answer_words.ensures.follows;
       answered = a;
-      exact = exact c.one_loading.ensures.problems c.one_loading.ensures.apart (c.findings_are_one.ensures.checks, c.findings_are_one.ensures.replies) c.asked_once.ensures.once _ _ _ _ a;
+      exact = exact loads (c.findings_are_one.ensures.checks, c.findings_are_one.ensures.replies) c.asked_once.ensures.once _ _ _ _ a;
       decided = decided _ _ _ _ a c.asked_once.ensures.once;
       checked = checked _ _ _ _ a c.asked_once.ensures.once;
       asked = asked_atom _ _ _ _ a c.asked_once.ensures.once;

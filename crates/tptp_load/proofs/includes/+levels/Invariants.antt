@@ -26,10 +26,10 @@ invariant-add_statements-loop-statement g l =
     (goal.iterator-add_statements-loop-statement g).can_next l.statement-iterator ×
     (goal.iterator-add_statements-loop-statement g).is_finite l.statement-iterator ×
     record {
-      same_files : g.L.Library.files l.files ≡ g.L.Library.files l.initial.files;
-      later : g.L.Library.faults l.initial.files ≤ g.L.Library.faults l.files;
+      same_files : (g.L.Library.told l.files).files ≡ (g.L.Library.told l.initial.files).files;
+      later : (g.L.Library.told l.initial.files).faults ≤ (g.L.Library.told l.files).faults;
       good : IsGathered l.gathered.stated.items l.gathered.used;
       formed : All IsFormedStatement (into_iter_items l.statement-iterator);
       names : All HasReadableNames (into_iter_items l.statement-iterator);
-      went : Went (g.L.Library.files l.initial.files) (λ told. Including told (option_map (λ r. r.now) l.root) l.levels) l.from l.initial.gathered.used l.fn.statements l.initial.gathered.stated.items l.gathered.stated.items l.gathered.used (into_iter_items l.statement-iterator);
+      went : Went (g.L.Library.told l.initial.files).files (λ told. Including told (option_map (λ r. r.now) l.root) l.levels) l.from l.initial.gathered.used l.fn.statements l.initial.gathered.stated.items l.gathered.stated.items l.gathered.used (into_iter_items l.statement-iterator);
     }
