@@ -1,10 +1,7 @@
-use Rattle.std.proofs.Common.{◌≡◌, ◌<◌, ◌≤◌, ◌++◌, ◌∙◌, List, ℕ, All, length, map, take, get_or, arith, sym, subst}
+use Rattle.std.proofs.Common.{◌≡◌, ◌<◌, ◌≤◌, ◌++◌, ◌∙◌, length, map, take, get_or, arith, sym, subst}
 use Rattle.std.proofs.lemmas.Option.{get_or_from_slice_get}
-use Rattle.inst_logic.specs.declared.signed.Signed.{Signed}
-use Rattle.inst_logic.specs.Clauses.{IsCanonical}
 use Rattle.term_bank.specs.Forest.{clause_at}
 use Rattle.term_bank.proofs.Growth.{extends_trans}
-use Rattle.saturation_cert.specs.Wholes.{IsWholeClause}
 use Rattle.instgen_loop.specs.FirstEntries.{IsStarted}
 use Rattle.instgen_loop.proofs.Grown.{whole_kept, canonical_kept}
 use Rattle.instgen_loop.proofs.FirstEntries.{next_clause, taken_count, whole_item, bounded_item, canonical_item}
