@@ -7,7 +7,7 @@ use Rattle.instgen_select.specs.declared.turns.Heaps.{Heaps}
 use Rattle.instgen_select.specs.Queues.{IsTakenOut}
 use Rattle.instgen_select.specs.Slots.{waiting_of, IsAt, IsTakenAt, AreGaps}
 use Rattle.instgen_select.specs.Naming.{Placed, IsNamed, AreNamed, IsNaming, AreNaming, IsOneTaken}
-use Rattle.instgen_select.proofs.SlotLaws.{at_gap, at_put, at_taken, split_at, no_items}
+use Rattle.instgen_select.proofs.SlotLaws.{at_gap, at_put, at_taken, split_at}
 
 in_rest : (x y : Placed) (rest : List Placed) → Contains (x ∷ rest) y → (x ≡ y) ⊎ Contains rest y
 in_rest x y rest (zero, l, e) = inl e
@@ -85,6 +85,3 @@ some_taken None old new s = tt
 some_taken (Some x) old new s =
     let (front, back, a, b, r) = split_at old s.0 x s.1.0 in
     record { size = x.size; front = front; back = back; before = a; after = ap waiting_of s.1.1 ∙ b }
-
-pub none_waits : (slots : List (Option Item)) (heaps : Heaps) → AreNaming slots heaps → ((k : ℕ) → ¬ AreNamed heaps k) → waiting_of slots ≡ []
-none_waits slots heaps h n = no_items slots (λ j item at. n j (h j item at))

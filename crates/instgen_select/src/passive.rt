@@ -98,7 +98,7 @@ impl Passive {
         Passive::new(alloc, Ready::ByTurns(Turns::new(alloc)))
     }
 
-    // How many picks were made when the number came first. Numbers come first in order, from 1.
+    // How many picks were made when the number came first.
     fn generation_of(&mut self, number: usize) -> Result<u32, Memory>
         ensures { self.new ≡ self.old }
     {
@@ -109,8 +109,9 @@ impl Passive {
         Ok(self.picks)
     }
 
-    /// Puts the number, with the size and the number of variables of its clause, at the end and apart. After want of memory it is
-    /// not there, and what was there is.
+    /// Puts the number, with the size and the number of variables of its clause, at the end and apart. Numbers come first in order,
+    /// from 1: else picks by turns come in another order, and no clause is broken. After want of memory it is not there, what was
+    /// there is, and a later `put` may be answered.
     pub fn put(&mut self, number: usize, size: u64, variables: usize) -> Result<(), Memory>
         ensures ok { OnOk result (self.new.items ≡ self.old.items ++ (number, size) ∷ []) }
         ensures err { OnErr result (self.new.items ≡ self.old.items) }
@@ -126,7 +127,8 @@ impl Passive {
         Ok(())
     }
 
-    /// Lets in all that waits apart. After want of memory some may still wait so, and nothing is lost.
+    /// Lets in all that waits apart. After want of memory some still wait so, nothing is lost, and every later `admit` is refused;
+    /// picks go on.
     pub fn admit(&mut self) -> Result<(), Memory>
         ensures items { self.new.items ≡ self.old.items }
         ensures ready { OnOk result (self.new.ready ≡ self.old.items) }

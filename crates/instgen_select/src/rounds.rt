@@ -22,7 +22,7 @@ const LATEST_SHARE: u64 = 9;
 const GROWTH: u64 = 5;
 
 // The order whose turn it is, the picks that it has left, and the length of the short turns of this round.
-#[derive(Drop)]
+#[derive(Clone, Copy)]
 pub(crate) struct Rounds {
     pub(crate) order: Order,
     left: u64,

@@ -56,3 +56,38 @@ fn the_latest_come_first_and_of_these_those_with_few_variables(
     assert!(rt; picked == [Some(4), Some(3), Some(2), Some(1), None]);
     Ok(())
 }
+
+// The number picked after so many picks, of three that wait from the start: the first came latest, the second is the least, and the
+// third is the newest. Before them each order takes the entries that are put in between.
+fn picked_after(alloc: Global, picks: u32) -> Result<Option<usize>, Fail> {
+    let mut turns = Turns::new(alloc);
+    turns.put(&Arrival {
+        size: 3,
+        ..arrival(1, 0, 1)
+    })?;
+    turns.put(&Arrival {
+        size: 2,
+        ..arrival(2, 0, 0)
+    })?;
+    turns.put(&Arrival {
+        size: 3,
+        ..arrival(3, 0, 0)
+    })?;
+    for _ in 0..picks {
+        turns.put(&arrival(4, 0, 2))?;
+        turns.pick();
+    }
+    Ok(turns.pick())
+}
+
+#[test]
+fn each_order_takes_its_own_after_the_slots_began_anew(rt: HostRuntime) -> Result<(), Fail> {
+    let picked = [
+        picked_after(rt.alloc(), 0)?,
+        picked_after(rt.alloc(), 899)?,
+        picked_after(rt.alloc(), 900)?,
+        picked_after(rt.alloc(), 1000)?,
+    ];
+    assert!(rt; picked == [Some(1), Some(1), Some(3), Some(2)]);
+    Ok(())
+}

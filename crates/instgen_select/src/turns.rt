@@ -4,7 +4,7 @@ ghost use Rattle.std.specs.Prelude.{◌≡◌, ℕ, [], ◌∷◌, ◌++◌, fal
 ghost use Rattle.std.specs.BinaryHeap.{heap_items};
 ghost use Rattle.instgen_select.specs.Queues.{IsTakenOut};
 ghost use Rattle.instgen_select.specs.Naming.{IsNamed, AreNamed, IsNaming, AreNaming, IsOneTaken};
-ghost use Rattle.instgen_select.specs.Slots.{AreGaps};
+ghost use Rattle.instgen_select.specs.Slots.{AreGaps, waiting_of};
 
 use crate::rounds::{Order, Rounds};
 use crate::slots::{FEW, Item, take_at};
@@ -22,6 +22,16 @@ pub struct Arrival {
     pub size: u64,
     pub variables: usize,
     pub generation: u32,
+}
+
+// More slots than so many for each entry that waits are not kept.
+const SPARSE: usize = 4;
+
+// What the orders go by beside the number and the size, kept for when the entry is put anew.
+#[derive(Clone, Copy)]
+struct Rank {
+    variables: u32,
+    generation: u32,
 }
 
 // Three keys and the place of a slot, the least first.
@@ -94,7 +104,7 @@ fn take_first(slots: &mut Vec<Option<Item>>, heap: &mut BinaryHeap<Placed>) -> O
     None
 }
 
-// The same with the heap of an order.
+// Takes the first item of the order's heap that still waits.
 fn take_of(slots: &mut Vec<Option<Item>>, heaps: &mut Heaps, order: Order) -> Option<Item>
     requires naming { AreNaming slots.old.items heaps.old }
     ensures some { IfSome result (λ item. IsOneTaken slots.old.items slots.new.items item) }
@@ -110,13 +120,16 @@ fn take_of(slots: &mut Vec<Option<Item>>, heaps: &mut Heaps, order: Order) -> Op
 
 /// Entries that wait, picked by three orders in turn: those that came with the latest pick first, of these those with the fewest
 /// variables, and of these the newest; the newest first; the least first. A pick takes logarithmic time for each put, taken over
-/// all of them.
+/// all of them. Memory is in proportion to the most that waited at once. Past 2³² slots `put` answers want of memory with memory at
+/// hand: more than 2³⁰ entries wait then.
 #[derive(Drop)]
 pub struct Turns {
     alloc: Global,
     slots: Vec<Option<Item>>,
+    ranks: Vec<Rank>,
     heaps: Heaps,
     rounds: Rounds,
+    waiting: usize,
     spent: bool,
 }
 
@@ -140,27 +153,11 @@ impl Turns {
         Turns {
             alloc,
             slots: Vec::new(alloc),
+            ranks: Vec::new(alloc),
             heaps: no_heaps(alloc),
             rounds: Rounds::new(),
+            waiting: 0,
             spent: false,
-        }
-    }
-
-    // Begins with new slots where nothing waits, since they are all gaps then. Many slots give their memory back, and the heaps,
-    // which had room for as many.
-    fn begin_anew(&mut self)
-        ensures items { self.new.items ≡ self.old.items }
-        ensures spent { self.new.spent ≡ self.old.spent }
-    {
-        if have_more(&self.heaps) {
-            return;
-        }
-        if self.slots.len() > FEW {
-            self.slots = Vec::new(self.alloc);
-            self.heaps = no_heaps(self.alloc);
-        } else {
-            self.slots.clear();
-            clear_all(&mut self.heaps);
         }
     }
 
@@ -172,13 +169,69 @@ impl Turns {
     {
         let slot = self.slots.len();
         let place = place_of(slot)?;
+        self.ranks.push(rank_of(arrival))?;
         self.slots.push(None)?;
         push_all(&mut self.heaps, arrival, place)?;
         self.slots[slot] = Some(Item {
             number: arrival.number,
             size: arrival.size,
         });
+        self.waiting = self.waiting.saturating_add(1);
         Ok(())
+    }
+
+    fn store_slot(&mut self, slot: Option<Item>, rank: Rank) -> Result<(), Memory>
+        ensures ok { OnOk result (self.new.items ≡ self.old.items ++ waiting_of (slot ∷ [])) }
+        ensures spent { self.new.spent ≡ self.old.spent }
+    {
+        match slot {
+            None => Ok(()),
+            Some(item) => self.store(&arrival_of(item, rank)),
+        }
+    }
+
+    // Puts what waits in the slots, in their order.
+    fn store_all(&mut self, slots: &[Option<Item>], ranks: &[Rank]) -> Result<(), Memory>
+        ensures ok { OnOk result (self.new.items ≡ self.old.items ++ waiting_of slots.now) }
+        ensures spent { self.new.spent ≡ self.old.spent }
+    {
+        for i in 0..slots.len() {
+            self.store_slot(slots[i], rank_at(ranks, i))?;
+        }
+        Ok(())
+    }
+
+    // The same entries in the same turn, without gaps.
+    fn renewed(&self) -> Result<Turns, Memory>
+        ensures { IfOk result (λ turns. turns ≡ self.now) }
+    {
+        let mut turns = Turns::new(self.alloc);
+        turns.rounds = self.rounds;
+        turns.spent = self.spent;
+        turns.store_all(&self.slots, &self.ranks)?;
+        Ok(turns)
+    }
+
+    // Begins anew where most slots are gaps: else each put of a long run would keep one, and a name in each heap.
+    fn begin_anew(&mut self) -> Result<(), Memory>
+        ensures { self.new ≡ self.old }
+    {
+        if self.slots.len() <= FEW {
+            return Ok(());
+        }
+        if self.slots.len() / SPARSE > self.waiting {
+            *self = self.renewed()?;
+        }
+        Ok(())
+    }
+
+    fn append(&mut self, arrival: &Arrival) -> Result<(), Memory>
+        ensures ok { OnOk result (self.new.items ≡ self.old.items ++ (arrival.now.number, arrival.now.size) ∷ []) }
+        ensures err { OnErr result (self.new.items ≡ self.old.items) }
+        ensures spent { self.new.spent ≡ self.old.spent }
+    {
+        self.begin_anew()?;
+        self.store(arrival)
     }
 
     /// Puts the entry at the end. After want of memory it is not there, what was there is, and every later put is refused; picks go
@@ -191,8 +244,7 @@ impl Turns {
         if self.spent {
             return Err(Memory);
         }
-        self.begin_anew();
-        let stored = self.store(arrival);
+        let stored = self.append(arrival);
         self.spent = stored.is_err();
         stored
     }
@@ -215,6 +267,7 @@ impl Turns {
         match self.take() {
             None => None,
             Some(item) => {
+                self.waiting = self.waiting.saturating_sub(1);
                 self.rounds.advance();
                 Some(item.number)
             }
@@ -232,30 +285,34 @@ fn no_heaps(alloc: Global) -> Heaps
     }
 }
 
-// Takes all out, and keeps the room.
-fn clear_all(heaps: &mut Heaps) {
-    heaps.latest.clear();
-    heaps.newest.clear();
-    heaps.least.clear();
+fn rank_of(arrival: &Arrival) -> Rank {
+    Rank {
+        variables: capped(arrival.variables as u64),
+        generation: arrival.generation,
+    }
 }
 
-fn has_more(heap: &BinaryHeap<Placed>) -> bool
-    ensures { result ≡ false → (k : ℕ) → ¬ IsNamed (heap_items heap.now) k }
-{
-    heap.peek().is_some()
+// The rank beside a slot, of which each has one.
+fn rank_at(ranks: &[Rank], place: usize) -> Rank {
+    match ranks.get(place) {
+        Some(rank) => *rank,
+        None => Rank {
+            variables: 0,
+            generation: 0,
+        },
+    }
 }
 
-// Whether each heap has more, so that something may wait.
-fn have_more(heaps: &Heaps) -> bool
-    ensures { result ≡ false → (k : ℕ) → ¬ AreNamed heaps.now k }
+fn arrival_of(item: Item, rank: Rank) -> Arrival
+    ensures number { result.number ≡ item.number }
+    ensures size { result.size ≡ item.size }
 {
-    if !has_more(&heaps.latest) {
-        return false;
+    Arrival {
+        number: item.number,
+        size: item.size,
+        variables: rank.variables as usize,
+        generation: rank.generation,
     }
-    if !has_more(&heaps.newest) {
-        return false;
-    }
-    has_more(&heaps.least)
 }
 
 // The place of a slot; want of memory past the last one.
