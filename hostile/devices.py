@@ -93,7 +93,7 @@ def names(table):
     table.row('a command word that is no text', table.run([b'\xff', b'two.p']), 3, '')
     inside = os.path.join(os.fsencode(table.folder), b'in\xff')
     os.mkdir(inside)
-    shutil.copy(os.path.join(table.folder, 'two.p'), inside)
+    shutil.copy(os.fsencode(os.path.join(table.folder, 'two.p')), inside)
     process = subprocess.run([table.program, 'prove', 'two.p'], cwd=inside, stdin=subprocess.DEVNULL, capture_output=True, check=False)
     table.row('a folder whose name is no text', runs.Ended(process.returncode, process.stdout), 0, told('Unsatisfiable', 'two.p'))
 
