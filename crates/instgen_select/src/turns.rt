@@ -121,7 +121,7 @@ fn take_of(slots: &mut Vec<Option<Item>>, heaps: &mut Heaps, order: Order) -> Op
 /// Entries that wait, picked by three orders in turn: those that came with the latest pick first, of these those with the fewest
 /// variables, and of these the newest; the newest first; the least first. A pick takes logarithmic time for each put, taken over
 /// all of them. Memory is in proportion to the most that waited at once. Past 2³² slots `put` answers want of memory with memory at
-/// hand: more than 2³⁰ entries wait then.
+/// hand: at least 2³⁰ entries wait then.
 #[derive(Drop)]
 pub struct Turns {
     alloc: Global,
