@@ -1,5 +1,5 @@
 // Deletion over whatever decides sub-lists: one run for each clause that is left when its turn comes.
-ghost use Rattle.std.specs.Prelude.{◌≡◌, ◌+◌, ◌-◌, ◌<◌, ◌≤◌, List, length, remove, IfOk, MatchOption, vec_len};
+ghost use Rattle.std.specs.Prelude.{◌≡◌, ◌-◌, ◌<◌, List, length, remove, IfOk, MatchOption, vec_len};
 ghost use Rattle.std.specs.List.{range_with_len};
 ghost use Rattle.inst_logic.specs.Clauses.{TreeClause};
 ghost use Rattle.core_min.specs.Cores.{ArePlaces, HasSelection, IsCore, IsPartlyMinimal};

@@ -6,8 +6,8 @@
 
 mod deletion;
 pub mod examples;
-pub mod laws;
-pub mod sub_lists;
+mod laws;
+mod sub_lists;
 mod verdict;
 
 pub use deletion::{SubListTest, core_places};

@@ -1,8 +1,8 @@
 -- Instances by ground terms, and what makes a canonical form true.
-use Rattle.std.proofs.Common.{◌≡◌, ℕ, List, [], ◌∷◌, refl, sym, ap, ◌∙◌, subst as transport, map}
+use Rattle.std.proofs.Common.{List, sym, ap, ◌∙◌, subst as transport}
 use Rattle.inst_logic.specs.declared.signed.Signed.{Signed}
-use Rattle.inst_logic.specs.Tree.{Tree, of_list, more}
-use Rattle.inst_logic.specs.Substitution.{Substitution, subst, substs, subst_literal, followed_by, tree_vars, clause_vars}
+use Rattle.inst_logic.specs.Tree.{Tree}
+use Rattle.inst_logic.specs.Substitution.{Substitution, subst_literal, followed_by, tree_vars, clause_vars}
 use Rattle.inst_logic.specs.Clauses.{TreeClause, instance, canonical_form, order_of, IsGround}
 use Rattle.inst_logic.specs.Truth.{IsTrueLiteral}
 use Rattle.inst_logic.proofs.Membership.{◌∈◌, any_in, nothing_in}

@@ -1,12 +1,11 @@
 // The cells of one table, read by a truth test.
-ghost use Rattle.std.specs.Prelude.{◌≡◌, ◌↔◌, ◌+◌, ◌<◌, ◌^◌, ◌++◌, ◌∷◌, [], ℕ, List, All, IsTrue, IfOk, length, map};
+ghost use Rattle.std.specs.Prelude.{◌≡◌, ◌↔◌, ◌+◌, ◌<◌, ◌^◌, ◌++◌, ◌∷◌, [], ℕ, List, IsTrue, IfOk, length, map};
 ghost use Rattle.inst_logic.specs.LiteralView.{literal};
 ghost use Rattle.inst_logic.specs.Substitution.{tree_vars};
 ghost use Rattle.inst_logic.specs.WellFormed.{IsAtom};
 ghost use Rattle.inst_calculus.specs.Models.{Member, IsTrueBy};
 ghost use Rattle.finite_model.specs.Flattening.{applied, element};
 ghost use Rattle.finite_model.specs.Reading.{AreFilled, IsRelation, IsValueAt, IsTruthAt, HasValues};
-ghost use Rattle.finite_model.specs.Tables.{IsElement};
 
 use crate::numbering::element_term;
 use crate::rows::{row_at, row_count};

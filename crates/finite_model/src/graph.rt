@@ -1,5 +1,5 @@
 // The clauses that make a predicate the graph of a function: some element is the value, and no two are.
-ghost use Rattle.std.specs.Prelude.{◌≡◌, false, true, map, IfOk};
+ghost use Rattle.std.specs.Prelude.{◌≡◌, map, IfOk};
 ghost use Rattle.std.specs.List.{range_with_len};
 ghost use Rattle.inst_logic.specs.LiteralView.{literal};
 ghost use Rattle.inst_logic.specs.Tree.{var};

@@ -8,13 +8,13 @@
 mod cell_reading;
 mod clauses;
 pub mod examples;
-pub mod flattening;
+mod flattening;
 mod graph;
-pub mod models;
+mod models;
 mod numbering;
 mod places;
 mod problem;
-pub mod reading;
+mod reading;
 mod rows;
 mod table_reading;
 mod tables;

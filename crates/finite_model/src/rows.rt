@@ -1,5 +1,5 @@
 // The lists of arguments, by the places of their cells.
-ghost use Rattle.std.specs.Prelude.{◌≡◌, ◌<◌, ◌^◌, length, IfOk};
+ghost use Rattle.std.specs.Prelude.{◌≡◌, ◌<◌, ◌^◌, IfOk};
 ghost use Rattle.finite_model.specs.Reading.{IsRow};
 
 use inst_logic::Memory;

@@ -1,8 +1,8 @@
 // All tables of a problem, read by a truth test that makes its flattened form true.
-ghost use Rattle.std.specs.Prelude.{◌≡◌, ◌<◌, ◌++◌, ◌∷◌, [], ℕ, List, All, Contains, IfOk, OnOk, length, map, slice_index_or, take};
+ghost use Rattle.std.specs.Prelude.{◌≡◌, ◌<◌, All, Contains, IfOk, length, map, slice_index_or};
 ghost use Rattle.inst_logic.specs.declared.symbol.Sym.{Sym};
 ghost use Rattle.inst_logic.specs.WellFormed.{AreFormedClauses};
-ghost use Rattle.inst_calculus.specs.Models.{Member, Makes};
+ghost use Rattle.inst_calculus.specs.Models.{Makes};
 ghost use Rattle.finite_model.specs.Flattening.{function_predicate, flattened, identity};
 ghost use Rattle.finite_model.specs.Reading.{AreRead, HasValues, IsReadFunction, IsReadPredicate};
 ghost use Rattle.finite_model.specs.Tables.{IsModel};
