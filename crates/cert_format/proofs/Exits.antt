@@ -4,24 +4,24 @@ use Rattle.std.specs.Prelude.{codes}
 use Rattle.inst_logic.specs.Clauses.{TreeClause}
 use Rattle.inst_logic.specs.Printing.{clause_text}
 use Rattle.cert_format.specs.Forms.{form_atom}
-use Rattle.cert_format.specs.LineMachine.{is_number, Note, rank, Item, Header, Line, status, opening, version, constant, item, closing, State, body}
+use Rattle.cert_format.specs.LineMachine.{is_number, fits, Note, rank, Item, Header, Line, status, opening, version, constant, item, closing, State, body}
 use Rattle.cert_format.specs.LineTexts.{letter, role, note_text, line, line_text, note_is_printable}
-use Rattle.cert_format.specs.FirstFormat.{clause_is_printable, may_follow, step}
+use Rattle.cert_format.specs.Formats.{clause_is_printable, may_follow, step}
 use Rattle.cert_format.proofs.Digits.{numbers_once}
 use Rattle.cert_format.proofs.Clauses.{one_clause}
 use Rattle.cert_format.proofs.ClauseForms.{text_of_forms}
-use Rattle.cert_format.proofs.LineNotes.{behind_front, below, line_more, same_rank, note_once, in_form}
-use Rattle.cert_format.proofs.FirstFormat.{test_forms, next_of, first_two, apart_by, guard_is}
+use Rattle.cert_format.proofs.LineNotes.{behind_front, below, line_more, same_rank, note_once}
+use Rattle.cert_format.proofs.Formats.{test_forms, next_of, first_two, apart_by, guard_is}
 
--- an item that can be printed in a form
-pub record IsItem (refutation : Bool) (n : ℕ) (c : TreeClause) (note : Note) : Type 0 where
+-- an item that can be printed under a header
+pub record IsItem (h : Header) (n : ℕ) (c : TreeClause) (note : Note) : Type 0 where
   pub number : is_number n ≡ true
   pub clause : clause_is_printable c ≡ true
   pub note_is : note_is_printable note ≡ true
-  pub form : in_form refutation note ≡ true
+  pub form : fits h note ≡ true
 
 -- an item's line is known by its text alone
-pub item_line_once : (r : Bool) (n k : ℕ) (c d : TreeClause) (a b : Note) (x y : List ℕ) → IsItem r n c a → IsItem r k d b → line (item n c a) x ≡ line (item k d b) y → (item n c a ≡ item k d b) × (x ≡ y)
+pub item_line_once : (r : Header) (n k : ℕ) (c d : TreeClause) (a b : Note) (x y : List ℕ) → IsItem r n c a → IsItem r k d b → line (item n c a) x ≡ line (item k d b) y → (item n c a ≡ item k d b) × (x ≡ y)
 item_line_once r n k c d a b x y p q e =
     let one = first_two (letter a) (letter b) _ _ (behind_front (codes "cnf(") _ _ e) in
     let same = same_rank a b one.0 in
@@ -45,14 +45,14 @@ abbrev pub NoLine : State → List ℕ → Type 0
 NoLine s x = (l : Line) (u : State) (y : List ℕ) → step s l ≡ Some u → x ≢ line_text l ++ y
 
 -- no item's line is at the front of the text
-abbrev pub NoItem : Bool → List ℕ → Type 0
+abbrev pub NoItem : Header → List ℕ → Type 0
 NoItem r x = (n : ℕ) (c : TreeClause) (note : Note) (y : List ℕ) → IsItem r n c note → x ≢ line (item n c note) y
 
-item_of : (h : Header) (is : List Item) (n : ℕ) (c : TreeClause) (note : Note) → may_follow h is n c note ≡ true → IsItem h.refutation n c note
+item_of : (h : Header) (is : List Item) (n : ℕ) (c : TreeClause) (note : Note) → may_follow h is n c note ≡ true → IsItem h n c note
 item_of h is n c note m = let p = next_of h is n c note m in record { number = p.fits_number; clause = p.clause_is; note_is = p.note_is; form = p.form }
 
 -- neither an item nor the last line
-pub no_item : (h : Header) (is : List Item) (x : List ℕ) → NoItem h.refutation x → ((r : Bool) (name y : List ℕ) (u : State) → step (body h is) (closing r name) ≡ Some u → x ≢ line (closing r name) y) → NoLine (body h is) x
+pub no_item : (h : Header) (is : List Item) (x : List ℕ) → NoItem h x → ((r : Bool) (name y : List ℕ) (u : State) → step (body h is) (closing r name) ≡ Some u → x ≢ line (closing r name) y) → NoLine (body h is) x
 no_item h is x bad last (item n c note) u y e q = bad n c note y (item_of h is n c note (guard_is _ _ _ e)) (q ∙ line_more (item n c note) [] y)
 no_item h is x bad last (closing r name) u y e q = last r name y u e (q ∙ line_more (closing r name) [] y)
 no_item h is x bad last (status r name) u y e q = absurd cc
@@ -66,10 +66,10 @@ may_line h is (item n c note) = may_follow h is n c note
 may_line h is _ = false
 
 -- an item that may not follow
-pub wrong_item : (h : Header) (is : List Item) (x rest : List ℕ) (n : ℕ) (c : TreeClause) (note : Note) → x ≡ line (item n c note) rest → IsItem h.refutation n c note → may_follow h is n c note ≡ false → NoLine (body h is) x
+pub wrong_item : (h : Header) (is : List Item) (x rest : List ℕ) (n : ℕ) (c : TreeClause) (note : Note) → x ≡ line (item n c note) rest → IsItem h n c note → may_follow h is n c note ≡ false → NoLine (body h is) x
 wrong_item h is x rest n c note at p bad (item k d other) u y e q =
     let m = guard_is _ _ _ e in
-    let o = item_line_once h.refutation n k c d note other rest y p (item_of h is k d other m) (sym at ∙ q ∙ line_more (item k d other) [] y) in
+    let o = item_line_once h n k c d note other rest y p (item_of h is k d other m) (sym at ∙ q ∙ line_more (item k d other) [] y) in
     let f : may_follow h is k d other ≡ false = sym (ap (may_line h is) o.0) ∙ bad in
     cc
 wrong_item h is x rest n c note at p bad (closing r name) u y e q = apart_by 99 _ _ (sym at ∙ q ∙ line_more (closing r name) [] y) refl refl

@@ -18,7 +18,7 @@ pub mod Machines
 pub mod LineMachine
 pub mod LineNotes
 pub mod WholeLines
-pub mod FirstFormat
+pub mod Formats
 pub mod LineTexts
 pub mod Writables
 pub mod GroupItems

@@ -6,7 +6,7 @@ use Rattle.std.specs.Option.{option_and_then}
 use Rattle.std.proofs.lemmas.Slice.Eq.{bytes_eq-Decides}
 use Rattle.inst_logic.specs.Clauses.{TreeClause}
 use Rattle.inst_logic.specs.Equal.{bool_eq}
-use Rattle.cert_format.specs.LineMachine.{Note, rank, Item, Header, Line, status, opening, version, constant, item, closing, State, nothing, begun, opened, awaits, body, done, count, last_rank_from, guarded}
+use Rattle.cert_format.specs.LineMachine.{Note, rank, Item, Header, Line, status, opening, version, constant, item, closing, State, nothing, begun, opened, awaits, body, done, count, last_rank_from, guarded, is_complete}
 use Rattle.cert_format.specs.LineMachine as machine
 use Rattle.cert_format.specs.Machines.{run, Ends, IsLine, IsExact}
 use Rattle.std.proofs.lemmas.Bool.{and_from}
@@ -23,7 +23,7 @@ count_push k (j ∷ is) i = by (nat_eq (rank j.note) k) (nat_eq (rank i.note) k)
     by false true h = h
     by false false h = h
 
-module _ (is_format : ℕ → Bool) (first_format : is_format 1 ≡ true) (is_name : List ℕ → Bool) (is_clause : TreeClause → Bool) (is_note : Note → Bool)
+module _ (is_format : ℕ → Bool) (some_format : ℕ) (some_format_is : is_format some_format ≡ true) (is_name : List ℕ → Bool) (is_clause : TreeClause → Bool) (is_note : Note → Bool)
     (some_name : List ℕ) (some_name_is : is_name some_name ≡ true) (text_of : Line → List ℕ) where
   abbrev step : State → Line → Option State
   step = machine.step is_format is_name is_clause is_note
@@ -50,10 +50,10 @@ module _ (is_format : ℕ → Bool) (first_format : is_format 1 ≡ true) (is_na
   finished : (h : Header) (is : List Item) → Completes (done h is)
   finished h is = ([], record { last = done h is; runs = refl; ended = refl })
 
-  closes : (h : Header) (is : List Item) → is_name h.name ≡ true → Completes (body h is)
-  closes h is name_is =
+  closes : (h : Header) (is : List Item) → is_name h.name ≡ true → is_complete h is ≡ true → Completes (body h is)
+  closes h is name_is complete =
       one_more (body h is) (done h is) (closing h.refutation h.name)
-      (ap (λ (t : Bool). guarded t (done h is)) (and_from (is_name h.name) _ name_is (and_from (bool_eq h.refutation h.refutation) (bytes_eq h.name h.name) (same_bool h.refutation) (same_bytes h.name))))
+      (ap (λ (t : Bool). guarded t (done h is)) (and_from (is_name h.name) _ name_is (and_from (bool_eq h.refutation h.refutation) _ (same_bool h.refutation) (and_from (bytes_eq h.name h.name) _ (same_bytes h.name) complete))))
       (finished h is)
 
   -- what is said of a state
@@ -65,14 +65,19 @@ module _ (is_format : ℕ → Bool) (first_format : is_format 1 ≡ true) (is_na
   Good (body h is) = is_name h.name ≡ true
   Good (done h is) = Unit {0}
 
+  completes_body : (h : Header) (is : List Item) → Good (body h is) → Completes (body h is)
+  completes_body h is g = closes h is g refl
+
   completes_awaits : (f : ℕ) (name : List ℕ) → is_name name ≡ true → Completes (awaits f name)
-  completes_awaits f name name_is = one_more (awaits f name) (body (record { refutation = true; name = name; format = f; bot = 97 ∷ [] }) []) (constant (97 ∷ [])) refl (closes _ [] name_is)
+  completes_awaits f name name_is =
+      let h : Header = record { refutation = true; name = name; format = f; bot = 97 ∷ [] } in
+      one_more (awaits f name) (body h []) (constant (97 ∷ [])) refl (completes_body h [] name_is)
 
   completes_opened : (r : Bool) (name : List ℕ) → is_name name ≡ true → Completes (opened r name)
-  completes_opened true name name_is = one_more (opened true name) (awaits 1 name) (version 1) (ap (λ (b : Bool). guarded b (awaits 1 name)) first_format) (completes_awaits 1 name name_is)
+  completes_opened true name name_is = one_more (opened true name) (awaits some_format name) (version some_format) (ap (λ (b : Bool). guarded b (awaits some_format name)) some_format_is) (completes_awaits some_format name name_is)
   completes_opened false name name_is =
-      one_more (opened false name) (body (record { refutation = false; name = name; format = 1; bot = [] }) []) (version 1)
-      (ap (λ (b : Bool). guarded b (body (record { refutation = false; name = name; format = 1; bot = [] }) [])) first_format) (closes _ [] name_is)
+      let h : Header = record { refutation = false; name = name; format = some_format; bot = [] } in
+      one_more (opened false name) (body h []) (version some_format) (ap (λ (b : Bool). guarded b (body h [])) some_format_is) (completes_body h [] name_is)
 
   completes_begun : (r : Bool) (name : List ℕ) → is_name name ≡ true → Completes (begun r name)
   completes_begun r name name_is =
@@ -84,7 +89,7 @@ module _ (is_format : ℕ → Bool) (first_format : is_format 1 ≡ true) (is_na
   completes (begun r name) g = completes_begun r name g
   completes (opened r name) g = completes_opened r name g
   completes (awaits f name) g = completes_awaits f name g
-  completes (body h is) g = closes h is g
+  completes (body h is) g = completes_body h is g
   completes (done h is) g = finished h is
 
   -- behind the end no line may follow

@@ -1,13 +1,13 @@
 -- Lines are lines, and are known by their texts.
 use Rattle.std.proofs.Common.{◌≡◌, ℕ, ◌^◌, ◌<◌, Bool, true, false, cond, List, [], ◌∷◌, ◌++◌, refl, sym, ap, ap₂, ◌∙◌, arith, append_assoc}
-use Rattle.std.specs.Prelude.{not, nat_eq, codes, decimal}
+use Rattle.std.specs.Prelude.{◌&&◌, not, nat_eq, codes, decimal}
 use Rattle.std.specs.List.{list_all}
 use Rattle.std.specs.Char.{is_ascii_digit}
 use Rattle.std.proofs.lemmas.Bool.Decides.{nat_tests}
 use Rattle.inst_logic.specs.Printing.{name_text, clause_text}
 use Rattle.inst_calculus.specs.Steps.{Cited, given, earlier}
 use Rattle.inst_calculus.specs.Entries.{Origin, input, inst}
-use Rattle.cert_format.specs.LineMachine.{is_number, Note, named, equality, member, selected, ground_of, shown_by, rank, Line, status, opening, version, constant, item, closing}
+use Rattle.cert_format.specs.LineMachine.{is_number, Header, fits_origin, fits, Note, named, equality, member, selected, ground_of, shown_by, rank, Line, status, opening, version, constant, item, closing}
 use Rattle.cert_format.specs.LineTexts.{status_word, form_word, letter, role, origin_text, hint, more_hints, hints, note_text, line, origin_is_printable, hint_is_printable, hints_are_printable, note_is_printable}
 use Rattle.cert_format.specs.Runs.{begins, Ends}
 use Rattle.std.proofs.lemmas.Bool.{and_parts}
@@ -140,22 +140,13 @@ rank_of_letter (shown_by hs) = refl
 pub same_rank : (j k : Note) → letter j ≡ letter k → rank j ≡ rank k
 same_rank j k h = sym (rank_of_letter j) ∙ ap rank_at h ∙ rank_of_letter k
 
--- the note is known where its group is
-module _ (r : Bool) where
-  -- the form has the note
-  abbrev pub in_form : Note → Bool
-  in_form (member o) = r
-  in_form (selected o p) = not r
-  in_form _ = true
+both_forms : (r x y : Bool) → (r && x) ≡ true → (not r && y) ≡ true → ⊥
+both_forms true x y h g = cc
+both_forms false x y h g = cc
 
-  absurd_form : in_form (member (input 0)) ≡ true → in_form (selected (input 0) 0) ≡ true → ⊥
-  absurd_form h g = by r h g
-    where
-      by : (t : Bool) → t ≡ true → not t ≡ true → ⊥
-      by true p q = cc
-      by false p q = cc
-
-  pub note_once : (n : ℕ) (j k : Note) (x y : List ℕ) → rank j ≡ rank k → in_form j ≡ true → in_form k ≡ true → note_is_printable j ≡ true → note_is_printable k ≡ true → note_text n j x ≡ note_text n k y → (j ≡ k) × (x ≡ y)
+-- the note is known where its group, the form and the format are
+module _ (h : Header) where
+  pub note_once : (n : ℕ) (j k : Note) (x y : List ℕ) → rank j ≡ rank k → fits h j ≡ true → fits h k ≡ true → note_is_printable j ≡ true → note_is_printable k ≡ true → note_text n j x ≡ note_text n k y → (j ≡ k) × (x ≡ y)
   note_once n (named w) (named v) x y a f g p q e = let r = names_once w v (41 ∷ x) (41 ∷ y) p q refl refl (behind_front (codes "named(") _ _ e) in (ap named r.0, behind_front (41 ∷ []) x y r.1)
   note_once n equality equality x y a f g p q e = (refl, behind_front (codes "equality") x y e)
   note_once n (member o) (member s) x y a f g p q e = let r = origin_once o s x y p q e in (ap member r.0, r.1)
@@ -167,6 +158,6 @@ module _ (r : Bool) where
       (ap₂ selected r.0 t.0, behind_front (93 ∷ []) x y t.1)
   note_once n ground_of ground_of x y a f g p q e = (refl, behind_front (41 ∷ []) x y (behind_front (decimal n) _ _ (behind_front (codes "ground(m") _ _ e)))
   note_once n (shown_by hs) (shown_by ks) x y a f g p q e = let r = hints_once hs ks x y p q (behind_front (codes "rup([") _ _ e) in (ap shown_by r.0, r.1)
-  note_once n (member o) (selected s j) x y a f g p q e = absurd (absurd_form f g)
-  note_once n (selected o i) (member s) x y a f g p q e = absurd (absurd_form g f)
+  note_once n (member o) (selected s j) x y a f g p q e = absurd (both_forms h.refutation (fits_origin h.format o) (fits_origin h.format s) f g)
+  note_once n (selected o i) (member s) x y a f g p q e = absurd (both_forms h.refutation (fits_origin h.format s) (fits_origin h.format o) g f)
   note_once n j k x y a f g p q e = absurd (let q0 = ap (λ (m : ℕ). nat_eq (rank j) m) a in cc)

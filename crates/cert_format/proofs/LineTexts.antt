@@ -13,12 +13,12 @@ use Rattle.cert_format.specs.Lines as format
 use Rattle.cert_format.specs.Text.{certificate_text, numbered_lines, paired_lines}
 use Rattle.cert_format.specs.LineMachine.{Note, named, equality, member, selected, ground_of, shown_by, rank, Item, Line, version, item, closing, count, nothing}
 use Rattle.cert_format.specs.LineTexts.{letter, role, line_text, hint, hints, more_hints, origin_text, note_text}
-use Rattle.cert_format.specs.FirstFormat.{step, is_done, text_of_lines}
+use Rattle.cert_format.specs.Formats.{step, is_done, text_of_lines}
 use Rattle.cert_format.specs.ValueLines.{input_items, axiom_items, member_items, selected_items, ground_items, step_items, items_of, item_lines, lines_of}
 use Rattle.inst_logic.proofs.Numbers.{number_is}
 use Rattle.cert_format.proofs.LineMachine.{count_push}
 use Rattle.std.proofs.lemmas.Bool.{and_parts}
-use Rattle.cert_format.proofs.FirstFormat.{exact}
+use Rattle.cert_format.proofs.Formats.{exact}
 use Rattle.cert_format.proofs.Machines.{texts_append}
 
 -- ---- each line
@@ -203,11 +203,11 @@ of_refutation s o f k a b c d e z = simp (append_assoc, append-nil)
 of_saturation : (s o f a b c z : List ℕ) → (((((s ++ o) ++ f) ++ a) ++ b) ++ c) ++ z ≡ s ++ (o ++ (f ++ ((a ++ (b ++ c)) ++ (z ++ []))))
 of_saturation s o f a b c z = simp (append_assoc, append-nil)
 
-version_is : line_text (version 1) ≡ format.format_line 1
-version_is = refl
+version_is : (f : ℕ) → line_text (version f) ≡ format.format_line f
+version_is f = sym (append_assoc (codes "% instgen certificate ") (decimal f) (10 ∷ []))
 
-pub text_is : (name : List ℕ) (v : Certificate) → certificate_text 1 name v ≡ spelled (lines_of 1 name v)
-text_is name (first_refutation c) =
+pub text_is : (f : ℕ) (name : List ℕ) (v : Certificate) → certificate_text f name v ≡ spelled (lines_of f name v)
+text_is f name (first_refutation c) =
     let A = input_items c.base.inputs c.base.names in
     let B = axiom_items c.base.axioms in
     let C = member_items c.base.members in
@@ -223,9 +223,9 @@ text_is name (first_refutation c) =
     (split ((A ++ B) ++ C) D E ∙ ap₂ (λ (x y : List ℕ). x ++ y) (ground_texts ((A ++ B) ++ C) c.grounds 1 cC) (step_texts (((A ++ B) ++ C) ++ D) c.steps 1 cD)))) in
     let tail : spelled (item_lines [] (items_of (first_refutation c)) ++ closing true name ∷ []) ≡ spelled (item_lines [] (items_of (first_refutation c))) ++ (line_text (closing true name) ++ [])
     = texts_append line_text step is_done nothing exact (item_lines [] (items_of (first_refutation c))) (closing true name ∷ []) in
-    of_refutation (format.status_line (codes "Unsatisfiable") name) (format.start_line (codes "CNFRefutation") name) (format.format_line 1) (format.constant_line c.bot) _ _ _ _ _ (format.end_line (codes "CNFRefutation") name)
-    ∙ sym (ap₂ (λ (x y : List ℕ). x ++ y) (status_is (codes "Unsatisfiable") name) (ap₂ (λ (x y : List ℕ). x ++ y) (start_is (codes "CNFRefutation") name) (ap₂ (λ (w x : List ℕ). w ++ (format.constant_line c.bot ++ x)) version_is (tail ∙ ap₂ (λ (x y : List ℕ). x ++ (y ++ [])) items (end_is (codes "CNFRefutation") name)))))
-text_is name (saturation c) =
+    of_refutation (format.status_line (codes "Unsatisfiable") name) (format.start_line (codes "CNFRefutation") name) (format.format_line f) (format.constant_line c.bot) _ _ _ _ _ (format.end_line (codes "CNFRefutation") name)
+    ∙ sym (ap₂ (λ (x y : List ℕ). x ++ y) (status_is (codes "Unsatisfiable") name) (ap₂ (λ (x y : List ℕ). x ++ y) (start_is (codes "CNFRefutation") name) (ap₂ (λ (w x : List ℕ). w ++ (format.constant_line c.bot ++ x)) (version_is f) (tail ∙ ap₂ (λ (x y : List ℕ). x ++ (y ++ [])) items (end_is (codes "CNFRefutation") name)))))
+text_is f name (saturation c) =
     let A = input_items c.base.inputs c.base.names in
     let B = axiom_items c.base.axioms in
     let C = selected_items c.base.members c.places in
@@ -235,5 +235,5 @@ text_is name (saturation c) =
     (split A B C ∙ ap₂ (λ (x y : List ℕ). x ++ y) (axiom_texts A c.base.axioms 1 cA) (selected_texts (A ++ B) c.base.members c.places 1 (base_counts c.base.inputs c.base.names c.base.axioms 2 refl refl))) in
     let tail : spelled (item_lines [] (items_of (saturation c)) ++ closing false name ∷ []) ≡ spelled (item_lines [] (items_of (saturation c))) ++ (line_text (closing false name) ++ [])
     = texts_append line_text step is_done nothing exact (item_lines [] (items_of (saturation c))) (closing false name ∷ []) in
-    of_saturation (format.status_line (codes "Satisfiable") name) (format.start_line (codes "Saturation") name) (format.format_line 1) _ _ _ (format.end_line (codes "Saturation") name)
-    ∙ sym (ap₂ (λ (x y : List ℕ). x ++ y) (status_is (codes "Satisfiable") name) (ap₂ (λ (x y : List ℕ). x ++ y) (start_is (codes "Saturation") name) (ap₂ (λ (w x : List ℕ). w ++ x) version_is (tail ∙ ap₂ (λ (x y : List ℕ). x ++ (y ++ [])) items (end_is (codes "Saturation") name)))))
+    of_saturation (format.status_line (codes "Satisfiable") name) (format.start_line (codes "Saturation") name) (format.format_line f) _ _ _ (format.end_line (codes "Saturation") name)
+    ∙ sym (ap₂ (λ (x y : List ℕ). x ++ y) (status_is (codes "Satisfiable") name) (ap₂ (λ (x y : List ℕ). x ++ y) (start_is (codes "Saturation") name) (ap₂ (λ (w x : List ℕ). w ++ x) (version_is f) (tail ∙ ap₂ (λ (x y : List ℕ). x ++ (y ++ [])) items (end_is (codes "Saturation") name)))))

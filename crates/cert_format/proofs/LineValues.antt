@@ -1,7 +1,8 @@
 -- What the machine takes is the text of a printable value.
-use Rattle.std.proofs.Common.{◌≡◌, ◌≢◌, ℕ, suc, ◌<◌, ◌≤◌, ◌^◌, Bool, true, false, cond, List, [], ◌∷◌, ◌++◌, length, map, Option, Some, refl, sym, ap, ap₂, ◌∙◌, subst, arith, append_assoc}
+use Rattle.std.proofs.Common.{◌≡◌, ◌≢◌, ℕ, suc, ◌<◌, ◌≤◌, ◌^◌, Bool, true, false, cond, List, [], ◌∷◌, ◌++◌, length, map, Some, refl, sym, ap, ap₂, ◌∙◌, subst, arith, append_assoc}
 use Rattle.std.specs.Prelude.{not, nat_eq, nat_le, nat_lt, All, IsTrue}
 use Rattle.std.specs.List.{list_all}
+use Rattle.std.specs.Str.{bytes_eq}
 use Rattle.std.proofs.lemmas.List.{append-nil, length-map}
 use Rattle.std.proofs.lemmas.List.Elements.{All-nil, All-cons}
 use Rattle.std.proofs.lemmas.Bool.Decides.{nat_tests}
@@ -15,21 +16,19 @@ use Rattle.inst_logic.specs.Printing.{is_readable_name}
 use Rattle.inst_calculus.specs.Entries.{Origin, input, Entry}
 use Rattle.inst_calculus.specs.Steps.{Step, Cited}
 use Rattle.cert_format.specs.Certificate.{FirstRefutation, Saturation, Certificate, first_refutation, saturation}
-use Rattle.cert_format.specs.Printable.{IsNumber, HasNumbers, cited_number, IsTextName}
+use Rattle.cert_format.specs.Printable.{IsNumber, HasNumbers, cited_number, HasFormat, IsTextName}
 use Rattle.inst_logic.proofs.Numbers.{number_is, is_less, at_most}
 use Rattle.cert_format.proofs.ClauseForms.{IsWritableClause}
 use Rattle.cert_format.proofs.Writables.{IsWritableEntry, IsWritableStep, IsWritable}
-use Rattle.cert_format.specs.LineMachine.{is_number, Note, named, equality, member, selected, ground_of, shown_by, rank, Item, Header, Line, status, opening, version, constant, item, closing, count, State, nothing, body, done, fits, last_rank, last_rank_from, guarded}
-use Rattle.cert_format.specs.Machines as machines
-use Rattle.cert_format.specs.Machines.{Ends}
+use Rattle.cert_format.specs.LineMachine.{is_number, Note, named, equality, member, selected, ground_of, shown_by, rank, Item, Header, Line, status, opening, version, constant, item, closing, count, State, nothing, body, done, fits, last_rank, last_rank_from, guarded, has_turn, is_complete}
 use Rattle.cert_format.specs.LineTexts.{line_text, is_name_byte, is_text_name, origin_is_printable, note_is_printable}
-use Rattle.cert_format.specs.FirstFormat.{clause_is_printable, may_follow, step, is_done}
+use Rattle.cert_format.specs.Formats.{clause_is_printable, is_known, first_format, may_follow, step, is_done}
 use Rattle.cert_format.specs.ValueLines.{input_items, axiom_items, member_items, selected_items, ground_items, step_items, items_of, item_lines, header_of, lines_of}
 use Rattle.cert_format.proofs.LineMachine.{count_push}
 use Rattle.std.proofs.lemmas.Bool.{and_parts, and_from}
 use Rattle.cert_format.proofs.LineNotes.{below}
 use Rattle.cert_format.proofs.Machines.{first_step}
-use Rattle.cert_format.proofs.FirstFormat.{test_yes, exact}
+use Rattle.cert_format.proofs.Formats.{test_yes, exact}
 use Rattle.cert_format.proofs.LineTexts.{count_append, count_own}
 use Rattle.cert_format.proofs.ValueRuns.{IsSorted, good, Few, run}
 use Rattle.cert_format.proofs.GroupItems.{all_append, parts_good, origin_good, hint_numbers}
@@ -53,12 +52,14 @@ body_push h is n c note m b =
     let l = and_parts (nat_le (last_rank is) (rank note)) _ a.1 in
     let d = and_parts (nat_eq n (suc (count (rank note) is))) _ l.1 in
     let q = and_parts (is_number n) _ d.1 in
+    let v = and_parts (clause_is_printable c) _ q.1 in
+    let t = and_parts (note_is_printable note) (has_turn h is c note) v.1 in
     let at = number_is n (suc (count (rank note) is)) d.0 in
     let small = below n q.0 in (
       at,
       record {
         sorted = sorted_push 0 is i (at_most (last_rank is) (rank note) l.0) b.sorted;
-        all_good = all_append (good h) is (i ∷ []) b.all_good (and_from (good h i) true (and_from (fits h note) _ a.0 q.1) refl);
+        all_good = all_append (good h) is (i ∷ []) b.all_good (and_from (good h i) true (and_from (fits h note) _ a.0 (and_from (clause_is_printable c) (note_is_printable note) v.0 t.0)) refl);
         few = λ k. (let f = b.few k in subst (λ (j : ℕ). j < 2 ^ 64) (sym (count_push k is i)) (by k (nat_eq (rank note) k) refl at small f));
       },
     )
@@ -80,6 +81,7 @@ pub record IsFinished (h : Header) (before : List Item) (ls : List Line) : Type 
   pub items : List Item
   pub are : ls ≡ item_lines before items ++ closing h.refutation h.name ∷ []
   pub is_body : IsBody h (before ++ items)
+  pub complete : is_complete h (before ++ items) ≡ true
 
 -- nothing follows the end
 alone : (h : Header) (is : List Item) (ls : List Line) (t : State) → run (done h is) ls ≡ Some t → ls ≡ []
@@ -98,6 +100,7 @@ finish h before (item n c note ∷ ls) t e d b =
       items = i ∷ f.items;
       are = ap₂ (λ (l : Line) (ms : List Line). l ∷ ms) (ap (λ (k : ℕ). item k c note) p.0) f.are;
       is_body = subst (IsBody h) (append_assoc before (i ∷ []) f.items) f.is_body;
+      complete = subst (λ (is : List Item). is_complete h is ≡ true) (append_assoc before (i ∷ []) f.items) f.complete;
     }
 finish h before (closing r name ∷ ls) t e d b =
     let x = next (body h before) (closing r name) ls t e in
@@ -105,9 +108,15 @@ finish h before (closing r name ∷ ls) t e d b =
     let q = and_parts (is_text_name name) _ g.0 in
     let a = and_parts (bool_eq h.refutation r) _ q.1 in
     let form = (bool_eq_decides h.refutation r).0 a.0 in
-    let same = (bytes_eq-Decides h.name name).0 a.1 in
+    let ended = and_parts (bytes_eq h.name name) _ a.1 in
+    let same = (bytes_eq-Decides h.name name).0 ended.0 in
     let left = alone h before ls t (ap (λ (u : State). run u ls) g.1 ∙ x.2) in
-    record { items = []; are = ap₂ (λ (l : Line) (ms : List Line). l ∷ ms) (sym (ap₂ closing form same)) left; is_body = subst (IsBody h) (sym (append-nil before)) b }
+    record {
+      items = [];
+      are = ap₂ (λ (l : Line) (ms : List Line). l ∷ ms) (sym (ap₂ closing form same)) left;
+      is_body = subst (IsBody h) (sym (append-nil before)) b;
+      complete = subst (λ (is : List Item). is_complete h is ≡ true) (sym (append-nil before)) ended.1;
+    }
 finish h before (status r name ∷ ls) t e d b = absurd cc
 finish h before (opening r name ∷ ls) t e d b = absurd cc
 finish h before (version f ∷ ls) t e d b = absurd cc
@@ -201,38 +210,49 @@ axioms_back (i ∷ is) h = let a = and_parts (nat_eq (rank i.note) 1) _ h in by 
     by c equality e h = ap (λ (xs : List Item). record { clause = c; note = equality } ∷ xs) h
     by c _ e h = absurd cc
 
-module _ (name bot : List ℕ) where
-  abbrev pub of_refutation : Header
-  of_refutation = record { refutation = true; name = name; format = 1; bot = bot }
+-- the header of a form, in a format
+abbrev pub header_for : Bool → ℕ → List ℕ → List ℕ → Header
+header_for r f name bot = record { refutation = r; name = name; format = f; bot = bot }
 
-  abbrev pub of_saturation : Header
-  of_saturation = record { refutation = false; name = name; format = 1; bot = bot }
+-- of a good item: it fits, and its note can be printed
+good_parts : (h : Header) (i : Item) → good h i ≡ true → (fits h i.note ≡ true) × (clause_is_printable i.clause ≡ true) × (note_is_printable i.note ≡ true)
+good_parts h i g = let a = and_parts (fits h i.note) _ g in let b = and_parts (clause_is_printable i.clause) (note_is_printable i.note) a.1 in (a.0, b.0, b.1)
 
-  members_back : (is : List Item) → IsGroup 2 is → list_all (good of_refutation) is ≡ true → member_items (entries_of is) ≡ is
-  members_back [] h g = refl
-  members_back (i ∷ is) h g = let a = and_parts (nat_eq (rank i.note) 2) _ h in let b = and_parts (good of_refutation i) _ g in by i.clause i.note a.0 (and_parts _ _ (and_parts _ _ b.0).1).1 (and_parts _ _ b.0).0 (members_back is a.1 b.1)
-    where
-      by : (c : TreeClause) (note : Note) → nat_eq (rank note) 2 ≡ true → note_is_printable note ≡ true → fits of_refutation note ≡ true → member_items (entries_of is) ≡ is → record { clause = c; note = member (entry_origin note) } ∷ member_items (entries_of is) ≡ record { clause = c; note = note } ∷ is
-      by c (member o) e p f h = ap (λ (xs : List Item). record { clause = c; note = member o } ∷ xs) h
-      by c (selected o k) e p f h = absurd cc
-      by c _ e p f h = absurd cc
-
-  selected_back : (is : List Item) → IsGroup 2 is → list_all (good of_saturation) is ≡ true → selected_items (entries_of is) (places_of is) ≡ is
-  selected_back [] h g = refl
-  selected_back (i ∷ is) h g = let a = and_parts (nat_eq (rank i.note) 2) _ h in let b = and_parts (good of_saturation i) _ g in by i.clause i.note a.0 (and_parts _ _ (and_parts _ _ b.0).1).1 (and_parts _ _ b.0).0 (selected_back is a.1 b.1)
-    where
-      by : (c : TreeClause) (note : Note) → nat_eq (rank note) 2 ≡ true → note_is_printable note ≡ true → fits of_saturation note ≡ true → selected_items (entries_of is) (places_of is) ≡ is → record { clause = c; note = selected (entry_origin note) (place_at note) } ∷ selected_items (entries_of is) (places_of is) ≡ record { clause = c; note = note } ∷ is
-      by c (selected o k) e p f h = ap (λ (xs : List Item). record { clause = c; note = selected o k } ∷ xs) h
-      by c (member o) e p f h = absurd cc
-      by c _ e p f h = absurd cc
-
-grounds_back : (is : List Item) (h : Header) → IsGroup 3 is → list_all (good h) is ≡ true → ground_items (clauses_of is) ≡ is
-grounds_back [] k h g = refl
-grounds_back (i ∷ is) k h g = let a = and_parts (nat_eq (rank i.note) 3) _ h in let b = and_parts (good k i) _ g in by i.clause i.note a.0 (and_parts _ _ (and_parts _ _ b.0).1).1 (grounds_back is k a.1 b.1)
+members_back : (f : ℕ) (name bot : List ℕ) (is : List Item) → IsGroup 2 is → list_all (good (header_for true f name bot)) is ≡ true → member_items (entries_of is) ≡ is
+members_back f name bot [] h g = refl
+members_back f name bot (i ∷ is) h g =
+    let a = and_parts (nat_eq (rank i.note) 2) _ h in
+    let b = and_parts (good (header_for true f name bot) i) _ g in
+    by i.clause i.note a.0 (good_parts (header_for true f name bot) i b.0).0 (members_back f name bot is a.1 b.1)
   where
-    by : (c : TreeClause) (note : Note) → nat_eq (rank note) 3 ≡ true → note_is_printable note ≡ true → ground_items (clauses_of is) ≡ is → record { clause = c; note = ground_of } ∷ ground_items (clauses_of is) ≡ record { clause = c; note = note } ∷ is
-    by c ground_of e p h = ap (λ (xs : List Item). record { clause = c; note = ground_of } ∷ xs) h
-    by c _ e p h = absurd cc
+    by : (c : TreeClause) (note : Note) → nat_eq (rank note) 2 ≡ true → fits (header_for true f name bot) note ≡ true → member_items (entries_of is) ≡ is → record { clause = c; note = member (entry_origin note) } ∷ member_items (entries_of is) ≡ record { clause = c; note = note } ∷ is
+    by c (member o) e k h = ap (λ (xs : List Item). record { clause = c; note = member o } ∷ xs) h
+    by c (selected o p) e k h = absurd cc
+    by c _ e k h = absurd cc
+
+selected_back : (f : ℕ) (name bot : List ℕ) (is : List Item) → IsGroup 2 is → list_all (good (header_for false f name bot)) is ≡ true → selected_items (entries_of is) (places_of is) ≡ is
+selected_back f name bot [] h g = refl
+selected_back f name bot (i ∷ is) h g =
+    let a = and_parts (nat_eq (rank i.note) 2) _ h in
+    let b = and_parts (good (header_for false f name bot) i) _ g in
+    by i.clause i.note a.0 (good_parts (header_for false f name bot) i b.0).0 (selected_back f name bot is a.1 b.1)
+  where
+    by : (c : TreeClause) (note : Note) → nat_eq (rank note) 2 ≡ true → fits (header_for false f name bot) note ≡ true → selected_items (entries_of is) (places_of is) ≡ is
+        → record { clause = c; note = selected (entry_origin note) (place_at note) } ∷ selected_items (entries_of is) (places_of is) ≡ record { clause = c; note = note } ∷ is
+    by c (selected o p) e k h = ap (λ (xs : List Item). record { clause = c; note = selected o p } ∷ xs) h
+    by c (member o) e k h = absurd cc
+    by c _ e k h = absurd cc
+
+grounds_back : (f : ℕ) (name bot : List ℕ) (is : List Item) → IsGroup 3 is → list_all (good (header_for true f name bot)) is ≡ true → ground_items (clauses_of is) ≡ is
+grounds_back f name bot [] h g = refl
+grounds_back f name bot (i ∷ is) h g =
+    let a = and_parts (nat_eq (rank i.note) 3) _ h in
+    let b = and_parts (good (header_for true f name bot) i) _ g in
+    by i.clause i.note a.0 (good_parts (header_for true f name bot) i b.0).0 (grounds_back f name bot is a.1 b.1)
+  where
+    by : (c : TreeClause) (note : Note) → nat_eq (rank note) 3 ≡ true → fits (header_for true f name bot) note ≡ true → ground_items (clauses_of is) ≡ is → record { clause = c; note = ground_of } ∷ ground_items (clauses_of is) ≡ record { clause = c; note = note } ∷ is
+    by c ground_of e k h = ap (λ (xs : List Item). record { clause = c; note = ground_of } ∷ xs) h
+    by c _ e k h = absurd cc
 
 steps_back : (is : List Item) → IsGroup 4 is → step_items (steps_of is) ≡ is
 steps_back [] h = refl
@@ -308,21 +328,21 @@ front_length m k is js g h = let a = count_append k is js in let b = count_own k
 behind_length : (m k : ℕ) (is js : List Item) → count k (is ++ js) < m → count k js < m
 behind_length m k is js h = let a = count_append k is js in omega arith
 
-rank_of_refutation : (name bot : List ℕ) (note : Note) → fits (of_refutation name bot) note ≡ true → rank note ≤ 4
-rank_of_refutation name bot (named w) f = omega arith
-rank_of_refutation name bot equality f = omega arith
-rank_of_refutation name bot (member o) f = omega arith
-rank_of_refutation name bot (selected o p) f = omega arith
-rank_of_refutation name bot ground_of f = omega arith
-rank_of_refutation name bot (shown_by hs) f = omega arith
+rank_of_refutation : (f : ℕ) (name bot : List ℕ) (note : Note) → fits (header_for true f name bot) note ≡ true → rank note ≤ 4
+rank_of_refutation f name bot (named w) e = omega arith
+rank_of_refutation f name bot equality e = omega arith
+rank_of_refutation f name bot (member o) e = omega arith
+rank_of_refutation f name bot (selected o p) e = omega arith
+rank_of_refutation f name bot ground_of e = omega arith
+rank_of_refutation f name bot (shown_by hs) e = omega arith
 
-rank_of_saturation : (name bot : List ℕ) (note : Note) → fits (of_saturation name bot) note ≡ true → rank note ≤ 2
-rank_of_saturation name bot (named w) f = omega arith
-rank_of_saturation name bot equality f = omega arith
-rank_of_saturation name bot (member o) f = omega arith
-rank_of_saturation name bot (selected o p) f = omega arith
-rank_of_saturation name bot ground_of f = absurd cc
-rank_of_saturation name bot (shown_by hs) f = absurd cc
+rank_of_saturation : (f : ℕ) (name bot : List ℕ) (note : Note) → fits (header_for false f name bot) note ≡ true → rank note ≤ 2
+rank_of_saturation f name bot (named w) e = omega arith
+rank_of_saturation f name bot equality e = omega arith
+rank_of_saturation f name bot (member o) e = omega arith
+rank_of_saturation f name bot (selected o p) e = omega arith
+rank_of_saturation f name bot ground_of e = absurd cc
+rank_of_saturation f name bot (shown_by hs) e = absurd cc
 
 none_left : (h : Header) (k : ℕ) → ((note : Note) → fits h note ≡ true → rank note ≤ k) → (is : List Item) → IsSorted (suc k) is → list_all (good h) is ≡ true → is ≡ []
 none_left h k low [] s g = refl
@@ -332,11 +352,12 @@ pub record IsOfValue (h : Header) (is : List Item) : Type 0 where
   pub value : Certificate
   pub header : header_of h.format h.name value ≡ h
   pub items : items_of value ≡ is
+  pub known : HasFormat h.format value
   pub printable : IsWritable value
 
-saturation_value : (name : List ℕ) (is : List Item) → IsBody (of_saturation name []) is → IsOfValue (of_saturation name []) is
-saturation_value name is b =
-    let h = of_saturation name [] in
+saturation_value : (f : ℕ) → f ≡ first_format → (name : List ℕ) (is : List Item) → IsBody (header_for false f name []) is → IsOfValue (header_for false f name []) is
+saturation_value f first name is b =
+    let h = header_for false f name [] in
     let p = front 0 is b.sorted in
     let q = front 1 p.rest p.sorted in
     let r = front 2 q.rest q.sorted in
@@ -345,7 +366,7 @@ saturation_value name is b =
     let gA = parts_good (good h) A p.rest (subst (λ (xs : List Item). list_all (good h) xs ≡ true) p.parts b.all_good) in
     let gB = parts_good (good h) B q.rest (subst (λ (xs : List Item). list_all (good h) xs ≡ true) q.parts gA.1) in
     let gC = parts_good (good h) C r.rest (subst (λ (xs : List Item). list_all (good h) xs ≡ true) r.parts gB.1) in
-    let left = none_left h 2 (rank_of_saturation name []) r.rest r.sorted gC.1 in
+    let left = none_left h 2 (rank_of_saturation f name []) r.rest r.sorted gC.1 in
     let m = 2 ^ 64 in
     let f0 : (k : ℕ) → count k (A ++ p.rest) < m = (λ k. subst (λ (xs : List Item). count k xs < m) p.parts (b.few k)) in
     let f1 : (k : ℕ) → count k (B ++ q.rest) < m = (λ k. subst (λ (xs : List Item). count k xs < m) q.parts (behind_length m k A p.rest (f0 k))) in
@@ -355,7 +376,8 @@ saturation_value name is b =
     record {
       value = saturation v;
       header = refl;
-      items = ap₂ (λ (x y : List Item). x ++ y) (inputs_back A a) (ap₂ (λ (x y : List Item). x ++ y) (axioms_back B bb) (selected_back name [] C c gC.0 ∙ sym (append-nil C) ∙ ap (λ (x : List Item). C ++ x) (sym left) ∙ sym r.parts) ∙ sym q.parts) ∙ sym p.parts;
+      items = ap₂ (λ (x y : List Item). x ++ y) (inputs_back A a) (ap₂ (λ (x y : List Item). x ++ y) (axioms_back B bb) (selected_back f name [] C c gC.0 ∙ sym (append-nil C) ∙ ap (λ (x : List Item). C ++ x) (sym left) ∙ sym r.parts) ∙ sym q.parts) ∙ sym p.parts;
+      known = first;
       printable = record {
         base = record {
           inputs = clauses_printable h A gA.0;
@@ -372,9 +394,9 @@ saturation_value name is b =
       };
     }
 
-refutation_value : (name bot : List ℕ) (is : List Item) → is_readable_name bot ≡ true → IsBody (of_refutation name bot) is → IsOfValue (of_refutation name bot) is
-refutation_value name bot is readable b =
-    let h = of_refutation name bot in
+refutation_value : (f : ℕ) → f ≡ first_format → (name bot : List ℕ) (is : List Item) → is_readable_name bot ≡ true → IsBody (header_for true f name bot) is → IsOfValue (header_for true f name bot) is
+refutation_value f first name bot is readable b =
+    let h = header_for true f name bot in
     let p = front 0 is b.sorted in
     let q = front 1 p.rest p.sorted in
     let r = front 2 q.rest q.sorted in
@@ -387,7 +409,7 @@ refutation_value name bot is readable b =
     let gC = parts_good (good h) C r.rest (subst (λ (xs : List Item). list_all (good h) xs ≡ true) r.parts gB.1) in
     let gD = parts_good (good h) D s.rest (subst (λ (xs : List Item). list_all (good h) xs ≡ true) s.parts gC.1) in
     let gE = parts_good (good h) E t.rest (subst (λ (xs : List Item). list_all (good h) xs ≡ true) t.parts gD.1) in
-    let left = none_left h 4 (rank_of_refutation name bot) t.rest t.sorted gE.1 in
+    let left = none_left h 4 (rank_of_refutation f name bot) t.rest t.sorted gE.1 in
     let m = 2 ^ 64 in
     let f0 : (k : ℕ) → count k (A ++ p.rest) < m = (λ k. subst (λ (xs : List Item). count k xs < m) p.parts (b.few k)) in
     let f1 : (k : ℕ) → count k (B ++ q.rest) < m = (λ k. subst (λ (xs : List Item). count k xs < m) q.parts (behind_length m k A p.rest (f0 k))) in
@@ -404,8 +426,9 @@ refutation_value name bot is readable b =
     record {
       value = first_refutation v;
       header = refl;
-      items = ap₂ (λ (x y : List Item). x ++ y) (inputs_back A a) (ap₂ (λ (x y : List Item). x ++ y) (axioms_back B bb) (ap₂ (λ (x y : List Item). x ++ y) (members_back name bot C c gC.0) (ap₂ (λ (x y : List Item). x ++ y) (grounds_back D h d gD.0)
+      items = ap₂ (λ (x y : List Item). x ++ y) (inputs_back A a) (ap₂ (λ (x y : List Item). x ++ y) (axioms_back B bb) (ap₂ (λ (x y : List Item). x ++ y) (members_back f name bot C c gC.0) (ap₂ (λ (x y : List Item). x ++ y) (grounds_back f name bot D d gD.0)
           (steps_back E e ∙ sym (append-nil E) ∙ ap (λ (x : List Item). E ++ x) (sym left) ∙ sym t.parts) ∙ sym s.parts) ∙ sym r.parts) ∙ sym q.parts) ∙ sym p.parts;
+      known = first;
       printable = record {
         base = record {
           inputs = clauses_printable h A gA.0;
@@ -448,33 +471,37 @@ empty_body h = record { sorted = tt; all_good = refl; few = λ k. omega arith }
 
 -- the lines are those of a printable value
 pub record AreOfValue (ls : List Line) : Type 0 where
+  pub format : ℕ
   pub name : List ℕ
   pub value : Certificate
   pub name_is : IsTextName name
+  pub known : HasFormat format value
   pub printable : IsWritable value
-  pub are : ls ≡ lines_of 1 name value
+  pub are : ls ≡ lines_of format name value
 
-lines_end : (h : Header) (v : Certificate) (is : List Item) → header_of h.format h.name v ≡ h → items_of v ≡ is → item_lines [] is ++ closing h.refutation h.name ∷ [] ≡ item_lines [] (items_of v) ++ closing h.refutation h.name ∷ []
-lines_end h v is e f = ap (λ (xs : List Item). item_lines [] xs ++ closing h.refutation h.name ∷ []) (sym f)
+lines_end : (h : Header) (v : Certificate) (is : List Item) → items_of v ≡ is → item_lines [] is ++ closing h.refutation h.name ∷ [] ≡ item_lines [] (items_of v) ++ closing h.refutation h.name ∷ []
+lines_end h v is f = ap (λ (xs : List Item). item_lines [] xs ++ closing h.refutation h.name ∷ []) (sym f)
 
-pub saturated_lines : (name : List ℕ) (ls : List Line) → is_text_name name ≡ true → IsFinished (of_saturation name []) [] ls → AreOfValue (status false name ∷ opening false name ∷ version 1 ∷ ls)
-saturated_lines name ls n f = by (saturation_value name f.items f.is_body)
+pub saturated_lines : (f : ℕ) → is_known f ≡ true → (name : List ℕ) (ls : List Line) → is_text_name name ≡ true → IsFinished (header_for false f name []) [] ls → AreOfValue (status false name ∷ opening false name ∷ version f ∷ ls)
+saturated_lines f known name ls n w = by (saturation_value f (number_is f first_format known) name w.items w.is_body)
   where
-    by : IsOfValue (of_saturation name []) f.items → AreOfValue (status false name ∷ opening false name ∷ version 1 ∷ ls)
-    by v = go v.value v.header v.items v.printable
-      where
-        go : (w : Certificate) → header_of 1 name w ≡ of_saturation name [] → items_of w ≡ f.items → IsWritable w → AreOfValue (status false name ∷ opening false name ∷ version 1 ∷ ls)
-        go (saturation c) e i p = record { name = name; value = saturation c; name_is = text_name name n; printable = p; are = ap (λ (ms : List Line). status false name ∷ opening false name ∷ version 1 ∷ ms) (f.are ∙ lines_end (of_saturation name []) (saturation c) f.items e i) }
-        go (first_refutation c) e i p = absurd (let k = ap (λ (h : Header). h.refutation) e in cc)
+    go : (v : Certificate) → header_of f name v ≡ header_for false f name [] → items_of v ≡ w.items → HasFormat f v → IsWritable v → AreOfValue (status false name ∷ opening false name ∷ version f ∷ ls)
+    go (saturation c) e i k p = record { format = f; name = name; value = saturation c; name_is = text_name name n; known = k; printable = p; are = ap (λ (ms : List Line). status false name ∷ opening false name ∷ version f ∷ ms) (w.are ∙ lines_end (header_for false f name []) (saturation c) w.items i) }
+    go (first_refutation c) e i k p = absurd (let z = ap (λ (h : Header). h.refutation) e in cc)
 
-pub refuted_lines : (name bot : List ℕ) (ls : List Line) → is_text_name name ≡ true → is_readable_name bot ≡ true → IsFinished (of_refutation name bot) [] ls → AreOfValue (status true name ∷ opening true name ∷ version 1 ∷ constant bot ∷ ls)
-refuted_lines name bot ls n r f = by (refutation_value name bot f.items r f.is_body)
+    by : IsOfValue (header_for false f name []) w.items → AreOfValue (status false name ∷ opening false name ∷ version f ∷ ls)
+    by v = go v.value v.header v.items v.known v.printable
+
+pub refuted_lines : (f : ℕ) → is_known f ≡ true → (name bot : List ℕ) (ls : List Line) → is_text_name name ≡ true → is_readable_name bot ≡ true → IsFinished (header_for true f name bot) [] ls
+    → AreOfValue (status true name ∷ opening true name ∷ version f ∷ constant bot ∷ ls)
+refuted_lines f known name bot ls n r w = by (refutation_value f (number_is f first_format known) name bot w.items r w.is_body)
   where
-    by : IsOfValue (of_refutation name bot) f.items → AreOfValue (status true name ∷ opening true name ∷ version 1 ∷ constant bot ∷ ls)
-    by v = go v.value v.header v.items v.printable
-      where
-        go : (w : Certificate) → header_of 1 name w ≡ of_refutation name bot → items_of w ≡ f.items → IsWritable w → AreOfValue (status true name ∷ opening true name ∷ version 1 ∷ constant bot ∷ ls)
-        go (first_refutation c) e i p =
-            let bots = ap (λ (h : Header). h.bot) e in
-            record { name = name; value = first_refutation c; name_is = text_name name n; printable = p; are = ap₂ (λ (b : List ℕ) (ms : List Line). status true name ∷ opening true name ∷ version 1 ∷ constant b ∷ ms) (sym bots) (f.are ∙ ap (λ (xs : List Item). item_lines [] xs ++ closing true name ∷ []) (sym i)) }
-        go (saturation c) e i p = absurd (let k = ap (λ (h : Header). h.refutation) e in cc)
+    are : (b : List ℕ) (v : Certificate) → b ≡ bot → items_of v ≡ w.items → status true name ∷ opening true name ∷ version f ∷ constant bot ∷ ls ≡ status true name ∷ opening true name ∷ version f ∷ constant b ∷ (item_lines [] (items_of v) ++ closing true name ∷ [])
+    are b v e i = ap₂ (λ (x : List ℕ) (ms : List Line). status true name ∷ opening true name ∷ version f ∷ constant x ∷ ms) (sym e) (w.are ∙ lines_end (header_for true f name bot) v w.items i)
+
+    go : (v : Certificate) → header_of f name v ≡ header_for true f name bot → items_of v ≡ w.items → HasFormat f v → IsWritable v → AreOfValue (status true name ∷ opening true name ∷ version f ∷ constant bot ∷ ls)
+    go (first_refutation c) e i k p = record { format = f; name = name; value = first_refutation c; name_is = text_name name n; known = k; printable = p; are = are c.bot.name (first_refutation c) (ap (λ (h : Header). h.bot) e) i }
+    go (saturation c) e i k p = absurd (let z = ap (λ (h : Header). h.refutation) e in cc)
+
+    by : IsOfValue (header_for true f name bot) w.items → AreOfValue (status true name ∷ opening true name ∷ version f ∷ constant bot ∷ ls)
+    by v = go v.value v.header v.items v.known v.printable

@@ -9,36 +9,33 @@ use Rattle.cert_format.specs.LineMachine.{Line, status, opening, version, consta
 use Rattle.cert_format.specs.LineMachine as machine
 use Rattle.cert_format.specs.Fronts.{IsFront, IsBadLine}
 use Rattle.cert_format.specs.LineTexts.{line_text, is_text_name, note_is_printable}
-use Rattle.cert_format.specs.FirstFormat.{clause_is_printable, is_read, step, is_done, AreLines, IsText, text_of_lines}
+use Rattle.cert_format.specs.Formats.{clause_is_printable, is_known, step, is_done, AreLines, IsText, text_of_lines}
 use Rattle.cert_format.specs.ValueLines.{BeginCertificate, lines_of, IsCertificateText}
-use Rattle.cert_format.specs.Text.{certificate_text}
-use Rattle.inst_logic.proofs.Numbers.{number_is}
-use Rattle.cert_format.proofs.Writables.{writable, printable, only_format}
+use Rattle.cert_format.proofs.Writables.{writable, printable}
 use Rattle.std.proofs.lemmas.Bool.{and_parts}
 use Rattle.cert_format.proofs.Machines as machines
-use Rattle.cert_format.proofs.FirstFormat.{exact}
+use Rattle.cert_format.proofs.Formats.{exact}
 use Rattle.cert_format.proofs.LineTexts.{text_is}
 use Rattle.cert_format.proofs.ValueRuns.{are_lines, run}
-use Rattle.cert_format.proofs.LineValues.{next, guard_both, finish, empty_body, AreOfValue, saturated_lines, refuted_lines, of_refutation, of_saturation}
+use Rattle.cert_format.proofs.LineValues.{next, guard_both, finish, empty_body, AreOfValue, saturated_lines, refuted_lines, header_for}
 
 -- behind the first two lines
-formatted : (r : Bool) (name : List ℕ) (ls : List Line) (t : State) → is_text_name name ≡ true → run (machine.formatted is_read is_text_name clause_is_printable note_is_printable r name 1) ls ≡ Some t → is_done t ≡ true → AreOfValue (status r name ∷ opening r name ∷ version 1 ∷ ls)
-formatted false name ls t n e d = saturated_lines name ls n (finish (of_saturation name []) [] ls t e d (empty_body _))
-formatted true name [] t n e d = absurd (let k : awaits 1 name ≡ t = cc in let j : is_done (awaits 1 name) ≡ true = ap is_done k ∙ d in cc)
-formatted true name (constant c ∷ ls) t n e d =
-    let x = next (awaits 1 name) (constant c) ls t e in
+formatted : (r : Bool) (name : List ℕ) (f : ℕ) (ls : List Line) (t : State) → is_text_name name ≡ true → is_known f ≡ true → run (machine.formatted is_known is_text_name clause_is_printable note_is_printable r name f) ls ≡ Some t → is_done t ≡ true
+    → AreOfValue (status r name ∷ opening r name ∷ version f ∷ ls)
+formatted false name f ls t n known e d = saturated_lines f known name ls n (finish (header_for false f name []) [] ls t e d (empty_body _))
+formatted true name f [] t n known e d = absurd (let k : awaits f name ≡ t = cc in let j : is_done (awaits f name) ≡ true = ap is_done k ∙ d in cc)
+formatted true name f (constant c ∷ ls) t n known e d =
+    let x = next (awaits f name) (constant c) ls t e in
     let g = guard_both _ _ _ x.1 in
-    refuted_lines name c ls n g.0 (finish (of_refutation name c) [] ls t (ap (λ (u : State). run u ls) g.1 ∙ x.2) d (empty_body _))
-formatted true name (l ∷ ls) t n e d = absurd cc
+    refuted_lines f known name c ls n g.0 (finish (header_for true f name c) [] ls t (ap (λ (u : State). run u ls) g.1 ∙ x.2) d (empty_body _))
+formatted true name f (l ∷ ls) t n known e d = absurd cc
 
 behind_opening : (r : Bool) (name : List ℕ) (ls : List Line) (t : State) → is_text_name name ≡ true → run (opened r name) ls ≡ Some t → is_done t ≡ true → AreOfValue (status r name ∷ opening r name ∷ ls)
 behind_opening r name [] t n e d = absurd (let k : opened r name ≡ t = cc in let j : is_done (opened r name) ≡ true = ap is_done k ∙ d in cc)
 behind_opening r name (version f ∷ ls) t n e d =
     let x = next (opened r name) (version f) ls t e in
     let g = guard_both _ _ _ x.1 in
-    let one = number_is f 1 g.0 in
-    let y = formatted r name ls t n (ap (λ (k : ℕ). run (machine.formatted is_read is_text_name clause_is_printable note_is_printable r name k) ls) (sym one) ∙ ap (λ (u : State). run u ls) g.1 ∙ x.2) d in
-    subst (λ (k : ℕ). AreOfValue (status r name ∷ opening r name ∷ version k ∷ ls)) (sym one) y
+    formatted r name f ls t n g.0 (ap (λ (u : State). run u ls) g.1 ∙ x.2) d
 behind_opening r name (l ∷ ls) t n e d = absurd cc
 
 behind_status : (r : Bool) (name : List ℕ) (ls : List Line) (t : State) → is_text_name name ≡ true → run (begun r name) ls ≡ Some t → is_done t ≡ true → AreOfValue (status r name ∷ ls)
@@ -70,12 +67,11 @@ of_lines ls a = by ls a.last a.runs a.ended
 pub text_of_value : (text : List ℕ) → IsText text → IsCertificateText text
 text_of_value text h =
     let v = of_lines h.0 h.1 in
-    record { format = 1; name = v.name; value = v.value; name_is = v.name_is; printable = printable v.value v.printable; is = h.2 ∙ ap text_of_lines v.are ∙ sym (text_is v.name v.value) }
+    record { format = v.format; name = v.name; value = v.value; name_is = v.name_is; printable = printable v.format v.value v.known v.printable; is = h.2 ∙ ap text_of_lines v.are ∙ sym (text_is v.format v.name v.value) }
 
 pub value_is_taken : (text : List ℕ) → IsCertificateText text → IsText text
 value_is_taken text h =
-    let one = only_format h.format h.value h.printable in
-    (lines_of 1 h.name h.value, are_lines h.name h.value h.name_is (writable h.value h.printable.parts h.printable.numbers), h.is ∙ ap (λ k. certificate_text k h.name h.value) one ∙ text_is h.name h.value)
+    (lines_of h.format h.name h.value, are_lines h.format h.name h.value h.name_is h.printable.known (writable h.value h.printable.parts h.printable.numbers), h.is ∙ text_is h.format h.name h.value)
 
 front_of_value : (k : ℕ) (text : List ℕ) → IsFront IsText k text → IsFront IsCertificateText k text
 front_of_value k text f = record { other = f.other; is_text = text_of_value f.other f.is_text; front = f.front; here = f.here; there = f.there }
@@ -103,15 +99,13 @@ begins ls s h =
     let c = exact.completes ls s h in
     let a : AreLines (ls ++ c.0) = record { last = c.1.last; runs = machines.run_more line_text step is_done nothing exact ls c.0 nothing s h ∙ c.1.runs; ended = c.1.ended } in
     let v = of_lines (ls ++ c.0) a in
-    record { format = 1; name = v.name; value = v.value; name_is = v.name_is; printable = printable v.value v.printable; more = c.0; are = sym v.are }
+    record { format = v.format; name = v.name; value = v.value; name_is = v.name_is; printable = printable v.format v.value v.known v.printable; more = c.0; are = sym v.are }
 
 -- and where lines begin a certificate, each may follow those before it
 pub runs_of : (ls : List Line) → BeginCertificate ls → (s : State) × Runs ls s
 runs_of ls b =
-    let one = only_format b.format b.value b.printable in
-    let a = are_lines b.name b.value b.name_is (writable b.value b.printable.parts b.printable.numbers) in
-    let same : lines_of 1 b.name b.value ≡ ls ++ b.more = ap (λ k. lines_of k b.name b.value) (sym one) ∙ b.are in
-    front ls b.more nothing a.last (subst (λ (ms : List Line). run nothing ms ≡ Some a.last) same a.runs)
+    let a = are_lines b.format b.name b.value b.name_is b.printable.known (writable b.value b.printable.parts b.printable.numbers) in
+    front ls b.more nothing a.last (subst (λ (ms : List Line). run nothing ms ≡ Some a.last) b.are a.runs)
   where
     front : (ms more : List Line) (s t : State) → run s (ms ++ more) ≡ Some t → (u : State) × (run s ms ≡ Some u)
     front [] more s t e = (s, refl)

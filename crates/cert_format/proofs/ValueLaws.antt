@@ -1,5 +1,5 @@
 -- Two printable values with one text are equal.
-use Rattle.std.proofs.Common.{◌≡◌, ℕ, Bool, true, false, cond, List, [], ◌∷◌, ◌++◌, length, refl, sym, ap, ap₂, ◌∙◌, arith}
+use Rattle.std.proofs.Common.{◌≡◌, ℕ, Bool, true, false, cond, List, [], ◌∷◌, ◌++◌, length, refl, sym, ap, ap₂, ◌∙◌, subst, arith}
 use Rattle.std.specs.Prelude.{nat_eq}
 use Rattle.std.specs.List.{list_all}
 use Rattle.std.proofs.lemmas.List.{append-nil}
@@ -13,13 +13,13 @@ use Rattle.cert_format.specs.Certificate.{FirstRefutation, Saturation, Certifica
 use Rattle.cert_format.specs.Printable.{IsTextName}
 use Rattle.inst_logic.proofs.Numbers.{number_is}
 use Rattle.inst_logic.proofs.Formed.{function_of}
-use Rattle.cert_format.proofs.Writables.{IsWritableRefutation, IsWritableSaturation, IsWritable, writable, only_format}
-use Rattle.cert_format.specs.LineMachine.{Note, rank, Item, Line, status, constant, item, closing}
-use Rattle.cert_format.specs.Printable.{IsPrintable}
+use Rattle.cert_format.proofs.Writables.{IsWritableRefutation, IsWritableSaturation, IsWritable, writable}
+use Rattle.cert_format.specs.LineMachine.{Note, rank, Item, Line, status, opening, version, constant, item, closing}
+use Rattle.cert_format.specs.Printable.{HasFormat, IsPrintable}
 use Rattle.cert_format.specs.Text.{certificate_text}
 use Rattle.cert_format.specs.ValueLines.{input_items, axiom_items, member_items, selected_items, ground_items, step_items, items_of, item_lines, lines_of}
 use Rattle.std.proofs.lemmas.Bool.{and_parts}
-use Rattle.cert_format.proofs.FirstFormat.{one_list}
+use Rattle.cert_format.proofs.Formats.{one_list}
 use Rattle.cert_format.proofs.LineTexts.{text_is, input_ranks, axiom_ranks, member_ranks, selected_ranks, ground_ranks, step_ranks}
 use Rattle.cert_format.proofs.ValueRuns.{are_lines}
 
@@ -225,30 +225,36 @@ abbrev form_of : List Line → Bool
 form_of (status r name ∷ ls) = r
 form_of _ = false
 
-lines_once : (m n : List ℕ) (v w : Certificate) → IsWritable v → IsWritable w → lines_of 1 m v ≡ lines_of 1 n w → (m ≡ n) × (v ≡ w)
-lines_once m n (first_refutation c) (first_refutation d) p q h =
-    let a = cons_once _ _ _ _ h in
-    let b = cons_once _ _ _ _ a.1 in
-    let e = cons_once _ _ _ _ b.1 in
-    let f = cons_once (constant c.bot.name) (constant d.bot.name) _ _ e.1 in
-    let bots : c.bot.name ≡ d.bot.name = (let k = f.0 in cc) in
-    (let k = a.0 in cc, ap first_refutation (refuted_once c d p q bots (items_once [] (items_of (first_refutation c)) (items_of (first_refutation d)) true true m n f.1)))
-lines_once m n (saturation c) (saturation d) p q h =
-    let a = cons_once _ _ _ _ h in
-    let b = cons_once _ _ _ _ a.1 in
-    let e = cons_once _ _ _ _ b.1 in
-    (let k = a.0 in cc, ap saturation (saturated_once c d p q (items_once [] (items_of (saturation c)) (items_of (saturation d)) false false m n e.1)))
-lines_once m n (first_refutation c) (saturation d) p q h = absurd (let k = ap form_of h in cc)
-lines_once m n (saturation c) (first_refutation d) p q h = absurd (let k = ap form_of h in cc)
+abbrev version_of : List Line → ℕ
+version_of (status r m ∷ opening q n ∷ version f ∷ ls) = f
+version_of _ = 0
 
--- Two certificates with one text in one format are equal, and so are their names.
-first_texts_once : (m n : List ℕ) (v w : Certificate) → IsTextName m → IsTextName n → IsWritable v → IsWritable w → certificate_text 1 m v ≡ certificate_text 1 n w → (m ≡ n) × (v ≡ w)
-first_texts_once m n v w a b p q h = lines_once m n v w p q (one_list (lines_of 1 m v) (lines_of 1 n w) (are_lines m v a p) (are_lines n w b q) (sym (text_is m v) ∙ h ∙ text_is n w))
+abbrev name_in : List Line → List ℕ
+name_in (status r m ∷ ls) = m
+name_in _ = []
+
+lines_once : (f : ℕ) (m n : List ℕ) (v w : Certificate) → HasFormat f v → HasFormat f w → IsWritable v → IsWritable w → lines_of f m v ≡ lines_of f n w → v ≡ w
+lines_once f m n (first_refutation c) (first_refutation d) k l p q h =
+    let a = cons_once _ _ _ _ h in
+    let b = cons_once _ _ _ _ a.1 in
+    let e = cons_once _ _ _ _ b.1 in
+    let g = cons_once (constant c.bot.name) (constant d.bot.name) _ _ e.1 in
+    let bots : c.bot.name ≡ d.bot.name = (let z = g.0 in cc) in
+    ap first_refutation (refuted_once c d p q bots (items_once [] (items_of (first_refutation c)) (items_of (first_refutation d)) true true m n g.1))
+lines_once f m n (saturation c) (saturation d) k l p q h =
+    let a = cons_once _ _ _ _ h in
+    let b = cons_once _ _ _ _ a.1 in
+    let e = cons_once _ _ _ _ b.1 in
+    ap saturation (saturated_once c d p q (items_once [] (items_of (saturation c)) (items_of (saturation d)) false false m n e.1))
+lines_once f m n (first_refutation c) (saturation d) k l p q h = absurd (let z = ap form_of h in cc)
+lines_once f m n (saturation c) (first_refutation d) k l p q h = absurd (let z = ap form_of h in cc)
 
 -- Two printable certificates with one text are equal, and so are their formats and names.
 pub texts_once : (f g : ℕ) (m n : List ℕ) (c d : Certificate) → IsTextName m → IsTextName n → IsPrintable f c → IsPrintable g d → certificate_text f m c ≡ certificate_text g n d → (f ≡ g) × (m ≡ n) × (c ≡ d)
 texts_once f g m n c d a b p q h =
-    let i = only_format f c p in
-    let j = only_format g d q in
-    let one = first_texts_once m n c d a b (writable c p.parts p.numbers) (writable d q.parts q.numbers) (sym (ap (λ k. certificate_text k m c) i) ∙ h ∙ ap (λ k. certificate_text k n d) j) in
-    (i ∙ sym j, one.0, one.1)
+    let v = writable c p.parts p.numbers in
+    let w = writable d q.parts q.numbers in
+    let same = one_list (lines_of f m c) (lines_of g n d) (are_lines f m c a p.known v) (are_lines g n d b q.known w) (sym (text_is f m c) ∙ h ∙ text_is g n d) in
+    let formats : f ≡ g = ap version_of same in
+    let names : m ≡ n = ap name_in same in
+    (formats, names, lines_once g m n c d (subst (λ k. HasFormat k c) formats p.known) q.known v w (ap (λ k. lines_of k m c) (sym formats) ∙ same))

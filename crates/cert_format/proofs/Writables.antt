@@ -1,15 +1,17 @@
 -- Certificates that are printable and whose numbers can be written, part by part.
-use Rattle.std.proofs.Common.{◌≡◌, ◌≢◌, ℕ, List, [], ◌∷◌, length}
+use Rattle.std.proofs.Common.{◌≡◌, ◌≢◌, ℕ, true, refl, ap, List, [], ◌∷◌, length}
 use Rattle.std.specs.Prelude.{All, IsTrue}
 use Rattle.std.proofs.lemmas.List.Elements.{All-nil, All-cons, All-head, All-tail, All-weaker}
 use Rattle.inst_logic.specs.Tree.{Tree}
 use Rattle.inst_logic.specs.Clauses.{TreeClause}
 use Rattle.inst_logic.specs.WellFormed.{is_constant}
 use Rattle.inst_logic.specs.Printing.{is_readable_name}
-use Rattle.inst_calculus.specs.Entries.{Entry}
+use Rattle.inst_calculus.specs.Entries.{Origin, input, inst, Entry}
 use Rattle.inst_calculus.specs.Steps.{Step}
-use Rattle.cert_format.specs.Certificate.{Base, FirstRefutation, Saturation, Certificate, first_refutation, saturation}
-use Rattle.cert_format.specs.Printable.{IsNumber, HasNumbers, cited_number, IsPrintableClause, IsPrintableBase, IsPrintableStep, ClauseFits, EntryFits, StepFits, BaseFits, HasPrintableParts, NumbersFit, IsPrintable}
+use Rattle.cert_format.specs.Certificate.{Base, FirstRefutation, Saturation, Certificate, first_refutation, saturation, base_of}
+use Rattle.cert_format.specs.LineMachine.{fits_origin}
+use Rattle.cert_format.specs.Formats.{is_known}
+use Rattle.cert_format.specs.Printable.{IsNumber, HasNumbers, cited_number, IsPrintableClause, IsPrintableBase, IsPrintableStep, ClauseFits, EntryFits, StepFits, BaseFits, HasFormat, HasPrintableParts, NumbersFit, IsPrintable}
 use Rattle.cert_format.proofs.ClauseForms.{IsWritableClause}
 
 pub record IsWritableEntry (e : Entry) : Type 0 where
@@ -112,9 +114,9 @@ base_fits b w = record {
   member_count = w.member_count;
 }
 
-pub printable : (c : Certificate) → IsWritable c → IsPrintable 1 c
-printable (first_refutation c) w = record {
-  known = λ i. 1;
+pub printable : (f : ℕ) (c : Certificate) → HasFormat f c → IsWritable c → IsPrintable f c
+printable f (first_refutation c) k w = record {
+  known = k;
   parts = record {
     base = base_printable c.base w.base;
     constant = w.constant;
@@ -130,13 +132,31 @@ printable (first_refutation c) w = record {
     step_count = w.step_count;
   };
 }
-printable (saturation c) w = record {
-  known = λ i. 1;
+printable f (saturation c) k w = record {
+  known = k;
   parts = record { base = base_printable c.base w.base; placed = w.placed };
   numbers = record { base = base_fits c.base w.base; places = w.places };
 }
 
--- there is one format
-pub only_format : (f : ℕ) (c : Certificate) → IsPrintable f c → f ≡ 1
-only_format f (first_refutation c) p = p.known
-only_format f (saturation c) p = p.known
+-- ---- formats
+
+abbrev pub OriginsFit : ℕ → List Entry → Type 0
+OriginsFit f es = All (λ e. fits_origin f e.origin ≡ true) es
+
+pub every_origin_fits : (f : ℕ) (o : Origin) → fits_origin f o ≡ true
+every_origin_fits f (input k) = refl
+every_origin_fits f (inst from place partner other) = refl
+
+every_entry_fits : (f : ℕ) (es : List Entry) → OriginsFit f es
+every_entry_fits f [] = All-nil (λ (x : Entry). fits_origin f x.origin ≡ true)
+every_entry_fits f (x ∷ es) = All-cons (λ (x : Entry). fits_origin f x.origin ≡ true) x es (every_origin_fits f x.origin) (every_entry_fits f es)
+
+-- the format has the origins of the members
+pub origins_fit : (f : ℕ) (v : Certificate) → HasFormat f v → OriginsFit f (base_of v).members
+origins_fit f (first_refutation r) k = every_entry_fits f r.base.members
+origins_fit f (saturation s) k = every_entry_fits f s.base.members
+
+-- the formats of certificates are known
+pub format_is_known : (f : ℕ) (v : Certificate) → HasFormat f v → is_known f ≡ true
+format_is_known f (first_refutation r) k = ap is_known k
+format_is_known f (saturation s) k = ap is_known k

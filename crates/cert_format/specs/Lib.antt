@@ -13,6 +13,6 @@ pub mod Fronts
 pub mod Machines
 pub mod LineMachine
 pub mod LineTexts
-pub mod FirstFormat
+pub mod Formats
 pub mod ValueLines
 pub mod Examples

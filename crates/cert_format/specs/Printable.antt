@@ -8,6 +8,7 @@ use Rattle.inst_logic.specs.Readable.{clause_is_readable, clause_fits}
 use Rattle.inst_calculus.specs.Entries.{Origin, input, inst, Entry}
 use Rattle.inst_calculus.specs.Steps.{Cited, given, earlier, Step}
 use Rattle.cert_format.specs.Certificate.{Base, FirstRefutation, Saturation, Certificate, first_refutation, saturation}
+use Rattle.cert_format.specs.Formats.{first_format}
 use Rattle.inst_logic.specs.Codes as byte
 
 -- ---- clauses and names
@@ -96,10 +97,10 @@ NumbersFit (saturation s) = SaturationFits s
 
 -- ---- certificates
 
--- the certificate can be written in the format: today there is the first one alone
+-- the certificate can be written in the format
 abbrev pub HasFormat : ℕ → Certificate → Type 0
-HasFormat format (first_refutation r) = format ≡ 1
-HasFormat format (saturation s) = format ≡ 1
+HasFormat format (first_refutation r) = format ≡ first_format
+HasFormat format (saturation s) = format ≡ first_format
 
 -- its clauses and names are printable
 abbrev pub HasPrintableParts : Certificate → Type 0

@@ -1,6 +1,7 @@
 -- The text of a certificate, in a format, as a list of bytes.
 use Rattle.std.specs.Prelude.{ℕ, ◌+◌, List, [], ◌∷◌, ◌++◌, codes}
 use Rattle.cert_format.specs.Certificate.{Base, FirstRefutation, Saturation, Certificate, first_refutation, saturation}
+use Rattle.cert_format.specs.Formats.{written_format}
 use Rattle.cert_format.specs.Lines.{status_line, start_line, end_line, format_line, constant_line, input_line, axiom_line, member_line, selected_line, ground_line, step_line}
 
 -- the lines of the items, numbered from n on
@@ -40,3 +41,7 @@ saturation_text format name c = head_lines (codes "Satisfiable") (codes "Saturat
 abbrev pub certificate_text : ℕ → List ℕ → Certificate → List ℕ
 certificate_text format name (first_refutation r) = refutation_text format name r
 certificate_text format name (saturation s) = saturation_text format name s
+
+-- what is written of a certificate under a name
+abbrev pub written_text : List ℕ → Certificate → List ℕ
+written_text name c = certificate_text written_format name c

@@ -1,4 +1,4 @@
--- The machine of the first format: which lines follow which, and what is taken.
+-- The formats by their numbers, and the machine of their lines: which lines follow which, and what is taken.
 use Rattle.std.specs.Prelude.{ℕ, List, [], ◌∷◌, Bool, true, false, ◌&&◌, nat_eq, ◌≡◌, Option, Some}
 use Rattle.std.specs.List.{list_all}
 use Rattle.std.specs.Str.{bytes_eq}
@@ -17,6 +17,21 @@ use Rattle.cert_format.specs.Machines as runs
 use Rattle.cert_format.specs.Machines.{Ends, IsTaken, IsExact}
 use Rattle.cert_format.specs.LineTexts.{line_text, is_text_name, note_is_printable}
 use Rattle.inst_logic.specs.Codes as byte
+
+-- ---- numbers
+
+abbrev pub first_format : ℕ
+first_format = 1
+
+-- the format in which certificates are written
+abbrev pub written_format : ℕ
+written_format = first_format
+
+-- the formats that are read
+abbrev pub is_known : ℕ → Bool
+is_known format = nat_eq format first_format
+
+-- ---- clauses that can be printed
 
 abbrev pub clause_eq : TreeClause → TreeClause → Bool
 clause_eq [] [] = true
@@ -37,17 +52,16 @@ atom_is_printable (app s ts) = symbol_is_printable s.kind s.name s.arity (count_
 abbrev pub clause_is_printable : TreeClause → Bool
 clause_is_printable c = list_all (λ (l : Signed Tree). atom_is_printable l.atom) c && clause_eq (canonical_form c) c
 
-abbrev pub is_read : ℕ → Bool
-is_read f = nat_eq f 1
+-- ---- the machine
 
 abbrev pub may_follow : Header → List Item → ℕ → TreeClause → Note → Bool
-may_follow = machine.may_follow is_read is_text_name clause_is_printable note_is_printable
+may_follow = machine.may_follow is_known is_text_name clause_is_printable note_is_printable
 
 abbrev pub step : State → Line → Option State
-step = machine.step is_read is_text_name clause_is_printable note_is_printable
+step = machine.step is_known is_text_name clause_is_printable note_is_printable
 
 abbrev pub is_done : State → Bool
-is_done = machine.is_done is_read is_text_name clause_is_printable note_is_printable
+is_done = machine.is_done is_known is_text_name clause_is_printable note_is_printable
 
 -- the lines lead from nothing to the state, each following those before it
 abbrev pub Leads : List Line → State → Type 0

@@ -1,5 +1,5 @@
--- The machine of the first format is exact: one text, one list of lines.
-use Rattle.std.proofs.Common.{◌≡◌, ℕ, suc, Bool, true, false, List, [], ◌∷◌, ◌++◌, map, Some, refl, sym, ap, ap₂, ◌∙◌, subst, arith}
+-- The machine of the formats is exact: one text, one list of lines.
+use Rattle.std.proofs.Common.{◌≡◌, ℕ, suc, ◌<◌, ◌^◌, Bool, true, false, List, [], ◌∷◌, ◌++◌, map, Some, refl, sym, ap, ap₂, ◌∙◌, subst, arith}
 use Rattle.std.specs.Prelude.{◌&&◌, nat_eq, nat_le, codes, decimal}
 use Rattle.std.specs.List.{list_all}
 use Rattle.std.specs.Str.{bytes_eq}
@@ -16,11 +16,11 @@ use Rattle.inst_logic.specs.EqualLaws.{bool_eq_decides, literal_eq_decides}
 use Rattle.inst_logic.specs.Printing.{is_readable_name, clause_text}
 use Rattle.cert_format.specs.Spelling.{is_printable, are_printable}
 use Rattle.cert_format.specs.Forms.{Form, plain, equal, form_atom, form_is_printable}
-use Rattle.cert_format.specs.LineMachine.{is_number, Note, named, equality, member, selected, ground_of, shown_by, rank, Item, Header, Line, status, opening, version, constant, item, closing, State, nothing, begun, opened, awaits, body, done, fits, count, guarded}
+use Rattle.cert_format.specs.LineMachine.{is_number, Note, named, equality, member, selected, ground_of, shown_by, rank, Item, Header, Line, status, opening, version, constant, item, closing, State, nothing, begun, opened, awaits, body, done, fits, count, guarded, has_turn}
 use Rattle.cert_format.specs.LineMachine as machine
 use Rattle.cert_format.specs.Machines.{no_line_feed, IsLine, IsExact}
 use Rattle.cert_format.specs.LineTexts.{status_word, letter, role, note_text, line, line_text, is_text_name, note_is_printable}
-use Rattle.cert_format.specs.FirstFormat.{clause_eq, symbol_is_printable, atom_is_printable, clause_is_printable, is_read, may_follow, step, is_done, AreLines, text_of_lines}
+use Rattle.cert_format.specs.Formats.{clause_eq, symbol_is_printable, atom_is_printable, clause_is_printable, is_known, first_format, may_follow, step, is_done, AreLines, text_of_lines}
 use Rattle.std.proofs.lemmas.Bool.{and_parts, and_from}
 use Rattle.inst_logic.proofs.Numbers.{number_is}
 use Rattle.cert_format.proofs.Runs.{one_split}
@@ -28,8 +28,10 @@ use Rattle.cert_format.proofs.Names.{names_once}
 use Rattle.cert_format.proofs.Clauses.{one_clause}
 use Rattle.cert_format.proofs.ClauseForms.{IsWritableClause, AreOfForms, IsOfForm, printable_forms, forms_printable, text_of_forms}
 use Rattle.cert_format.proofs.LineMachine.{exact_lines}
+use Rattle.cert_format.proofs.Marked.{marked_once}
+use Rattle.cert_format.proofs.Spelling.{small_number}
 use Rattle.cert_format.proofs.Machines.{one_reading}
-use Rattle.cert_format.proofs.LineNotes.{behind_front, line_more, same_rank, note_once, in_form}
+use Rattle.cert_format.proofs.LineNotes.{behind_front, line_more, same_rank, note_once}
 use Rattle.cert_format.proofs.WholeLines.{clean_text_name, status_is_line, opening_is_line, closing_is_line, version_is_line, constant_is_line, item_is_line}
 
 -- ---- clauses
@@ -131,21 +133,14 @@ test_is c p =
 pub first_two : (a b : ℕ) (x y : List ℕ) → a ∷ x ≡ b ∷ y → (a ≡ b) × (x ≡ y)
 first_two a b x y h = (cc, cc)
 
-fits_form : (h : Header) (note : Note) → fits h note ≡ true → in_form h.refutation note ≡ true
-fits_form h (named w) e = refl
-fits_form h equality e = refl
-fits_form h (member o) e = e
-fits_form h (selected o p) e = e
-fits_form h ground_of e = refl
-fits_form h (shown_by hs) e = refl
-
 -- what is known of an item that may follow
 pub record IsNext (h : Header) (is : List Item) (n : ℕ) (c : TreeClause) (note : Note) : Type 0 where
-  pub form : in_form h.refutation note ≡ true
+  pub form : fits h note ≡ true
   pub at : n ≡ suc (count (rank note) is)
   pub fits_number : is_number n ≡ true
   pub clause_is : clause_is_printable c ≡ true
   pub note_is : note_is_printable note ≡ true
+  pub turn : has_turn h is c note ≡ true
 
 pub next_of : (h : Header) (is : List Item) (n : ℕ) (c : TreeClause) (note : Note) → may_follow h is n c note ≡ true → IsNext h is n c note
 next_of h is n c note m =
@@ -153,8 +148,9 @@ next_of h is n c note m =
     let b = and_parts (nat_le (machine.last_rank is) (rank note)) _ a.1 in
     let d = and_parts (nat_eq n (suc (count (rank note) is))) _ b.1 in
     let q = and_parts (is_number n) _ d.1 in
-    let f = and_parts (clause_is_printable c) (note_is_printable note) q.1 in
-    record { form = fits_form h note a.0; at = number_is n (suc (count (rank note) is)) d.0; fits_number = q.0; clause_is = f.0; note_is = f.1 }
+    let f = and_parts (clause_is_printable c) _ q.1 in
+    let t = and_parts (note_is_printable note) (has_turn h is c note) f.1 in
+    record { form = a.0; at = number_is n (suc (count (rank note) is)) d.0; fits_number = q.0; clause_is = f.0; note_is = t.0; turn = t.1 }
 
 item_once : (h : Header) (is : List Item) (n k : ℕ) (c d : TreeClause) (a b : Note) (x y : List ℕ) → IsNext h is n c a → IsNext h is k d b → line (item n c a) x ≡ line (item k d b) y → (item n c a ≡ item k d b) × (x ≡ y)
 item_once h is n k c d a b x y p q e =
@@ -172,7 +168,7 @@ item_once h is n k c d a b x y p q e =
     let cd : c ≡ d = sym f.are ∙ ap (map form_atom) forms ∙ g.are in
     let five = behind_front (clause_text c) _ _ (four ∙ ap (λ (j : TreeClause). clause_text j ++ 44 ∷ note_text k b Y) (sym cd)) in
     let six = behind_front (44 ∷ []) (note_text n a X) (note_text k b Y) five ∙ ap (λ (j : ℕ). note_text j b Y) (sym nk) in
-    let notes = note_once h.refutation n a b X Y same p.form q.form p.note_is q.note_is six in
+    let notes = note_once h n a b X Y same p.form q.form p.note_is q.note_is six in
     (λ i. item (nk i) (cd i) (notes.0 i), behind_front (41 ∷ 46 ∷ 10 ∷ []) x y notes.1)
 
 -- names up to the line feed
@@ -214,8 +210,9 @@ equal_lines l k m x y a b e =
     let f = ap (λ (j : Line). line j y) (sym same) in
     (same, behind_front (line_text k) x y (line_more k [] x ∙ (e ∙ f) ∙ sym (line_more k [] y)))
 
-only_format : (f : ℕ) → is_read f ≡ true → f ≡ 1
-only_format f h = number_is f 1 h
+-- the number of a known format can be written
+pub small_format : (f : ℕ) → is_known f ≡ true → f < 2 ^ 64
+small_format f h = let e = number_is f first_format h in omega arith
 
 once : (s t u : State) (l m : Line) (x y : List ℕ) → step s l ≡ Some t → step s m ≡ Some u → line l x ≡ line m y → (l ≡ m) × (x ≡ y)
 once nothing t u (status r n) (status q k) x y a b e = status_once r q n k x y (guard_is _ _ _ a) (guard_is _ _ _ b) e
@@ -223,7 +220,9 @@ once (begun r n) t u (opening q k) (opening p j) x y a b e =
     let c = same_header r q n k (and_parts (is_text_name k) _ (guard_is _ _ _ a)).1 in
     let d = same_header r p n j (and_parts (is_text_name j) _ (guard_is _ _ _ b)).1 in
     equal_lines (opening r n) (opening q k) (opening p j) x y (ap₂ opening c.0 c.1) (ap₂ opening d.0 d.1) e
-once (opened r n) t u (version f) (version g) x y a b e = equal_lines (version 1) (version f) (version g) x y (ap version (sym (only_format f (guard_is _ _ _ a)))) (ap version (sym (only_format g (guard_is _ _ _ b)))) e
+once (opened r n) t u (version f) (version g) x y a b e =
+    let k = marked_once f g 10 x y (small_format f (guard_is _ _ _ a)) (small_format g (guard_is _ _ _ b)) refl (behind_front (codes "% instgen certificate ") _ _ e) in
+    (ap version k.0, k.1)
 once (awaits f n) t u (constant c) (constant d) x y a b e =
     let r = names_once c d (10 ∷ x) (10 ∷ y) (guard_is _ _ _ a) (guard_is _ _ _ b) refl refl (behind_front (codes "% ground constant ") _ _ e) in
     (ap constant r.0, behind_front (10 ∷ []) x y r.1)
@@ -233,14 +232,14 @@ once (body h is) t u (closing q k) (item n c note) x y a b e = absurd (apart_by 
 once (body h is) t u (closing q k) (closing p j) x y a b e =
     let c0 = and_parts (bool_eq h.refutation q) _ (and_parts (is_text_name k) _ (guard_is _ _ _ a)).1 in
     let d0 = and_parts (bool_eq h.refutation p) _ (and_parts (is_text_name j) _ (guard_is _ _ _ b)).1 in
-    equal_lines (closing h.refutation h.name) (closing q k) (closing p j) x y (ap₂ closing ((bool_eq_decides h.refutation q).0 c0.0) ((bytes_eq-Decides h.name k).0 c0.1)) (ap₂ closing ((bool_eq_decides h.refutation p).0 d0.0) ((bytes_eq-Decides h.name j).0 d0.1)) e
+    equal_lines (closing h.refutation h.name) (closing q k) (closing p j) x y (ap₂ closing ((bool_eq_decides h.refutation q).0 c0.0) ((bytes_eq-Decides h.name k).0 (and_parts (bytes_eq h.name k) _ c0.1).0)) (ap₂ closing ((bool_eq_decides h.refutation p).0 d0.0) ((bytes_eq-Decides h.name j).0 (and_parts (bytes_eq h.name j) _ d0.1).0)) e
 once s t u l m x y a b e = absurd cc
 
 whole : (s t : State) (l : Line) → step s l ≡ Some t → IsLine (line_text l)
 whole nothing t (status r n) a = status_is_line r n (guard_is _ _ _ a)
 whole (awaits f n) t (constant c) a = constant_is_line c (guard_is _ _ _ a)
 whole (body h is) t (item n c note) a = let p = next_of h is n c note (guard_is _ _ _ a) in item_is_line n c note p.fits_number (test_forms c p.clause_is) p.note_is
-whole (opened r n) t (version f) a = subst (λ (g : ℕ). IsLine (line_text (version g))) (sym (only_format f (guard_is _ _ _ a))) (version_is_line 1 refl)
+whole (opened r n) t (version f) a = version_is_line f (small_number f (small_format f (guard_is _ _ _ a)))
 whole (begun r n) t (opening q k) a = opening_is_line q k (and_parts (is_text_name k) _ (guard_is _ _ _ a)).0
 whole (body h is) t (closing q k) a = closing_is_line q k (and_parts (is_text_name k) _ (guard_is _ _ _ a)).0
 whole s t l a = absurd cc
@@ -249,9 +248,9 @@ whole s t l a = absurd cc
 once_text : (s t u : State) (l m : Line) (x y : List ℕ) → step s l ≡ Some t → step s m ≡ Some u → line_text l ++ x ≡ line_text m ++ y → (l ≡ m) × (x ≡ y)
 once_text s t u l m x y a b e = once s t u l m x y a b (sym (line_more l [] x) ∙ e ∙ line_more m [] y)
 
--- The machine of the first format is exact.
+-- The machine is exact.
 pub exact : IsExact line_text step is_done nothing
-exact = exact_lines is_read refl is_text_name clause_is_printable note_is_printable (97 ∷ []) refl line_text whole once_text
+exact = exact_lines is_known first_format refl is_text_name clause_is_printable note_is_printable (97 ∷ []) refl line_text whole once_text
 
 pub one_list : (ls ms : List Line) → AreLines ls → AreLines ms → text_of_lines ls ≡ text_of_lines ms → ls ≡ ms
 one_list ls ms a b e = one_reading line_text step is_done nothing exact ls ms a b e
