@@ -1,12 +1,13 @@
 -- The certificates of a problem, and what they show.
-use Rattle.std.specs.Prelude.{◌≡◌, ℕ, All, Any}
+use Rattle.std.specs.Prelude.{◌≡◌, ℕ, List, All, Any}
 use Rattle.inst_logic.specs.declared.clause.Problem.{Problem}
-use Rattle.inst_logic.specs.Clauses.{IsGround, IsInstance}
+use Rattle.inst_logic.specs.declared.symbol.Sym.{Sym}
+use Rattle.inst_logic.specs.Clauses.{TreeClause, IsGround, IsInstance}
 use Rattle.inst_logic.specs.Truth.{IsRefuted}
 use Rattle.inst_calculus.specs.Axioms.{equality_axioms, with_axioms}
 use Rattle.inst_calculus.specs.Abstraction.{IsBot}
 use Rattle.inst_calculus.specs.Models.{Makes}
-use Rattle.cert_format.specs.Certificate.{Base, FirstRefutation, Saturation, Certificate, first_refutation, saturation, base_of, selected_members}
+use Rattle.cert_format.specs.Certificate.{Base, Saturation, Certificate, first_refutation, saturation, base_of, selected_members}
 use Rattle.cert_format.specs.Validity.{IsValid}
 use Rattle.cert_format.specs.Printable.{IsPrintable}
 
@@ -23,17 +24,17 @@ HasConstantOf p (saturation s) = Unit {0}
 
 -- the constant is the problem's own, the ground clauses are ground instances of the clauses and axioms, and no valuation
 -- makes them all true
-pub record RefutesProblem (p : Problem) (r : FirstRefutation) : Type 0 where
-  pub is_bot : IsBot p.clauses r.bot
-  pub instances : All (λ g. IsGround g × Any (IsInstance g) (with_axioms p.clauses)) r.grounds
-  pub refuted : IsRefuted r.grounds
+pub record RefutesProblem (p : Problem) (bot : Sym) (grounds : List TreeClause) : Type 0 where
+  pub is_bot : IsBot p.clauses bot
+  pub instances : All (λ g. IsGround g × Any (IsInstance g) (with_axioms p.clauses)) grounds
+  pub refuted : IsRefuted grounds
 
 -- the truth test over the selected literals makes every ground instance of the clauses and axioms true
 abbrev pub SatisfiesProblem : Problem → Saturation → Type 0
 SatisfiesProblem p s = All (Makes (selected_members s)) (with_axioms p.clauses)
 
 abbrev pub Shows : Problem → Certificate → Type 0
-Shows p (first_refutation r) = RefutesProblem p r
+Shows p (first_refutation r) = RefutesProblem p r.bot r.grounds
 Shows p (saturation s) = SatisfiesProblem p s
 
 -- a valid certificate of the problem, printable in the format, which shows what its status says
