@@ -8,11 +8,11 @@ use Rattle.inst_logic.specs.Clauses.{TreeClause, IsCanonical}
 use Rattle.inst_logic.specs.Printing.{clause_text}
 use Rattle.inst_logic.specs.WellFormed.{atom_is_formed, clause_is_formed, IsAtom}
 use Rattle.term_bank.specs.Forest.{Forest, tree_at, clause_at, Extends}
-use Rattle.cert_format.specs.FirstFormat.{clause_is_printable}
+use Rattle.cert_format.specs.Formats.{clause_is_printable}
 use Rattle.cert_format.specs.Forms.{form_atom}
 use Rattle.cert_format.proofs.Clauses.{one_clause}
 use Rattle.cert_format.proofs.ClauseForms.{forms_printable, clause_text_is, text_of_forms}
-use Rattle.cert_format.proofs.FirstFormat.{test_forms, test_yes, test_is}
+use Rattle.cert_format.proofs.Formats.{test_forms, test_yes, test_is}
 use Rattle.saturation_cert.specs.Wholes.{IsWholeClause}
 use Rattle.cert_items.specs.ClauseTexts.{IsClauseText, NoClause}
 use Rattle.cert_items.proofs.Clauses.{grown_clause}

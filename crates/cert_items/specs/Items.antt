@@ -1,15 +1,16 @@
 -- Items at the front of a text.
-use Rattle.std.specs.Prelude.{◌≡◌, ◌≢◌, ℕ, List, ◌∷◌, ◌++◌, map, Bool, codes, decimal, IsTrue}
+use Rattle.std.specs.Prelude.{◌≡◌, ◌≢◌, ℕ, List, ◌∷◌, ◌++◌, map, codes, decimal, IsTrue}
 use Rattle.inst_logic.specs.Clauses.{TreeClause}
 use Rattle.cert_format.specs.LineMachine.{is_number, Note, named, equality, member, selected, ground_of, shown_by, Header, fits, item}
 use Rattle.cert_format.specs.LineTexts.{line, note_text, note_is_printable}
-use Rattle.cert_format.specs.FirstFormat.{clause_is_printable}
+use Rattle.cert_format.specs.Formats.{clause_is_printable}
 use Rattle.saturation_cert.specs.Values.{origin_of, hint_of}
 use Rattle.saturation_cert.specs.declared.certificate.GroundHint.{GroundHint}
 use Rattle.cert_items.specs.declared.group.Group.{Group}
 use Rattle.cert_items.specs.declared.group.Group.TheVariants as groups
 use Rattle.cert_items.specs.declared.note.Note as read
 use Rattle.cert_items.specs.declared.note.Note.TheVariants as notes
+use Rattle.cert_items.specs.declared.shape.Shape.{Shape}
 use Rattle.inst_logic.specs.Codes as byte
 
 -- ---- groups
@@ -62,37 +63,41 @@ note_of (notes.Selected o p) hs = selected (origin_of o) p
 note_of notes.Ground hs = ground_of
 note_of notes.Shown hs = shown_by (map hint_of hs)
 
--- the form, a refutation's or not, has the note
-abbrev pub HasForm : Bool → Note → Type 0
-HasForm refutation note = (h : Header) → h.refutation ≡ refutation → IsTrue (fits h note)
+-- the shape of a text under this header
+abbrev pub shape_of : Header → Shape
+shape_of h = record { refutation = h.refutation; format = h.format }
 
--- a printable note of the form and the group
-pub record IsNote (refutation : Bool) (group : Group) (note : Note) : Type 0 where
+-- texts of the shape have the note
+abbrev pub HasForm : Shape → Note → Type 0
+HasForm shape note = (h : Header) → shape_of h ≡ shape → IsTrue (fits h note)
+
+-- a printable note of the shape and the group
+pub record IsNote (shape : Shape) (group : Group) (note : Note) : Type 0 where
   pub printable : IsTrue (note_is_printable note)
-  pub form : HasForm refutation note
+  pub form : HasForm shape note
   pub group_is : group_of note ≡ group
 
 -- the note of the item with this number is at the front of the text
-abbrev pub IsNoteAt : Bool → Group → ℕ → Note → List ℕ → List ℕ → Type 0
-IsNoteAt refutation group n note bytes rest = IsNote refutation group note × (bytes ≡ note_text n note rest)
+abbrev pub IsNoteAt : Shape → Group → ℕ → Note → List ℕ → List ℕ → Type 0
+IsNoteAt shape group n note bytes rest = IsNote shape group note × (bytes ≡ note_text n note rest)
 
 -- no note is at the front of the text
-abbrev pub NoNote : Bool → Group → ℕ → List ℕ → Type 0
-NoNote refutation group n bytes = (note : Note) (rest : List ℕ) → IsNote refutation group note → bytes ≢ note_text n note rest
+abbrev pub NoNote : Shape → Group → ℕ → List ℕ → Type 0
+NoNote shape group n bytes = (note : Note) (rest : List ℕ) → IsNote shape group note → bytes ≢ note_text n note rest
 
 -- none with the end of its line behind it
-abbrev pub NoLastNote : Bool → Group → ℕ → List ℕ → Type 0
-NoLastNote refutation group n bytes = (note : Note) (rest : List ℕ) → IsNote refutation group note → bytes ≢ note_text n note (byte.closing_parenthesis ∷ byte.full_stop ∷ byte.line_feed ∷ rest)
+abbrev pub NoLastNote : Shape → Group → ℕ → List ℕ → Type 0
+NoLastNote shape group n bytes = (note : Note) (rest : List ℕ) → IsNote shape group note → bytes ≢ note_text n note (byte.closing_parenthesis ∷ byte.full_stop ∷ byte.line_feed ∷ rest)
 
 -- ---- items
 
--- an item with this number, clause and note has a line in a text of the form
-pub record IsItem (refutation : Bool) (n : ℕ) (c : TreeClause) (note : Note) : Type 0 where
+-- an item with this number, clause and note has a line in a text of the shape
+pub record IsItem (shape : Shape) (n : ℕ) (c : TreeClause) (note : Note) : Type 0 where
   pub number : IsTrue (is_number n)
   pub clause : IsTrue (clause_is_printable c)
   pub printable : IsTrue (note_is_printable note)
-  pub form : HasForm refutation note
+  pub form : HasForm shape note
 
 -- no item's line is at the front of the text
-abbrev pub NoItem : Bool → List ℕ → Type 0
-NoItem refutation bytes = (n : ℕ) (c : TreeClause) (note : Note) (rest : List ℕ) → IsItem refutation n c note → bytes ≢ line (item n c note) rest
+abbrev pub NoItem : Shape → List ℕ → Type 0
+NoItem shape bytes = (n : ℕ) (c : TreeClause) (note : Note) (rest : List ℕ) → IsItem shape n c note → bytes ≢ line (item n c note) rest

@@ -9,6 +9,7 @@ ghost use Rattle.cert_items.specs.Items.{IsItem, NoItem, group_of, note_of};
 use crate::group::{Group, head};
 use crate::note::{Note, last_note};
 use crate::printable::printable_clause;
+use crate::shape::Shape;
 use crate::text_bank::TextBank;
 use inst_logic::Memory;
 use saturation_cert::GroundHintList;
@@ -24,7 +25,7 @@ pub struct Item<'a> {
     pub rest: &'a [u8],
 }
 
-/// The item whose line is at the front of the text, in a refutation's text or a saturation's. Its clause and its hints are put
+/// The item whose line is at the front of the text, in a text of the shape. Its clause and its hints are put
 /// into lists that were empty, and `ids` is room to work in. Where there is no item, something may have been put there.
 pub fn read_item<'a>(
     alloc: Global,
@@ -32,16 +33,16 @@ pub fn read_item<'a>(
     ids: &mut Vec<TermId>,
     literals: &mut IdClause,
     hints: &mut GroundHintList,
-    refutation: bool,
+    shape: Shape,
     bytes: &'a [u8],
 ) -> Result<Option<Item<'a>>, Memory>
     requires no_literals { literals.old ≡ [] }
     requires no_hints { hints.old ≡ [] }
-    ensures some { IfOk result (λ r. IfSome r (λ i. IsItem refutation i.number (clause_at bank.new literals.new) (note_of i.note hints.new))) }
+    ensures some { IfOk result (λ r. IfSome r (λ i. IsItem shape i.number (clause_at bank.new literals.new) (note_of i.note hints.new))) }
     ensures text { IfOk result (λ r. IfSome r (λ i. bytes.now ≡ line (item i.number (clause_at bank.new literals.new) (note_of i.note hints.new)) i.rest.now)) }
     ensures group { IfOk result (λ r. IfSome r (λ i. group_of (note_of i.note hints.new) ≡ i.group)) }
     ensures whole { IfOk result (λ r. IfSome r (λ _. IsWholeClause bank.new literals.new)) }
-    ensures none { IfOk result (λ r. IfNone r (NoItem refutation bytes.now)) }
+    ensures none { IfOk result (λ r. IfNone r (NoItem shape bytes.now)) }
     ensures extends { Extends bank.old bank.new }
     ensures formed { AreFormed bank.old → AreFormed bank.new }
 {
@@ -50,7 +51,7 @@ pub fn read_item<'a>(
         Some((group, number, after)) => {
             match printable_clause(alloc, bank, ids, literals, after)? {
                 None => Ok(None),
-                Some(behind) => match last_note(alloc, hints, refutation, group, number, behind) {
+                Some(behind) => match last_note(alloc, hints, shape, group, number, behind) {
                     Err(e) => Err(e),
                     Ok(None) => Ok(None),
                     Ok(Some((note, rest))) => Ok(Some(Item {

@@ -1,5 +1,5 @@
 // What stands behind the clause of an item's line.
-ghost use Rattle.std.specs.Prelude.{◌≡◌, ◌∷◌, ℕ, List, [], Bool, IfOk, IfSome, IfNone};
+ghost use Rattle.std.specs.Prelude.{◌≡◌, ◌∷◌, ℕ, List, [], IfOk, IfSome, IfNone};
 ghost use Rattle.saturation_cert.specs.declared.certificate.GroundHint.{GroundHint};
 ghost use Rattle.cert_items.specs.declared.group.Group.TheVariants.{Input as InInputs, Axiom as InAxioms, Member as InMembers, Ground as InGrounds, Step as InSteps};
 ghost use Rattle.cert_items.specs.Items.{IsNoteAt, NoNote, NoLastNote, note_of};
@@ -11,6 +11,7 @@ use crate::mark::word;
 use crate::notes::{grounded, named};
 use crate::origin::read_origin;
 use crate::place::selected;
+use crate::shape::Shape;
 use crate::symbol::name_of;
 use inst_logic::{Memory, Name};
 use saturation_cert::{GroundHintList, Origin};
@@ -29,8 +30,8 @@ pub enum Note {
 }
 
 fn input_note(alloc: Global, bytes: &[u8]) -> Result<Option<(Note, &[u8])>, Memory>
-    ensures some { (refutation : Bool) (n : ℕ) (hints : List GroundHint) → IfOk result (λ r. IfSome r (λ p. IsNoteAt refutation InInputs n (note_of p.0 hints) bytes.now p.1.now)) }
-    ensures none { (refutation : Bool) (n : ℕ) → IfOk result (λ r. IfNone r (NoNote refutation InInputs n bytes.now)) }
+    ensures some { (shape : Shape) (n : ℕ) (hints : List GroundHint) → IfOk result (λ r. IfSome r (λ p. IsNoteAt shape InInputs n (note_of p.0 hints) bytes.now p.1.now)) }
+    ensures none { (shape : Shape) (n : ℕ) → IfOk result (λ r. IfNone r (NoNote shape InInputs n bytes.now)) }
 {
     match named(bytes) {
         None => Ok(None),
@@ -42,8 +43,8 @@ fn input_note(alloc: Global, bytes: &[u8]) -> Result<Option<(Note, &[u8])>, Memo
 }
 
 fn axiom_note(bytes: &[u8]) -> Option<(Note, &[u8])>
-    ensures some { (refutation : Bool) (n : ℕ) (hints : List GroundHint) → IfSome result (λ p. IsNoteAt refutation InAxioms n (note_of p.0 hints) bytes.now p.1.now) }
-    ensures none { (refutation : Bool) (n : ℕ) → IfNone result (NoNote refutation InAxioms n bytes.now) }
+    ensures some { (shape : Shape) (n : ℕ) (hints : List GroundHint) → IfSome result (λ p. IsNoteAt shape InAxioms n (note_of p.0 hints) bytes.now p.1.now) }
+    ensures none { (shape : Shape) (n : ℕ) → IfNone result (NoNote shape InAxioms n bytes.now) }
 {
     match word(bytes, b"equality") {
         None => None,
@@ -51,11 +52,11 @@ fn axiom_note(bytes: &[u8]) -> Option<(Note, &[u8])>
     }
 }
 
-fn member_note(refutation: bool, bytes: &[u8]) -> Option<(Note, &[u8])>
-    ensures some { (n : ℕ) (hints : List GroundHint) → IfSome result (λ p. IsNoteAt refutation InMembers n (note_of p.0 hints) bytes.now p.1.now) }
-    ensures none { (n : ℕ) → IfNone result (NoNote refutation InMembers n bytes.now) }
+fn member_note(shape: Shape, bytes: &[u8]) -> Option<(Note, &[u8])>
+    ensures some { (n : ℕ) (hints : List GroundHint) → IfSome result (λ p. IsNoteAt shape InMembers n (note_of p.0 hints) bytes.now p.1.now) }
+    ensures none { (n : ℕ) → IfNone result (NoNote shape InMembers n bytes.now) }
 {
-    if refutation {
+    if shape.refutation {
         match read_origin(bytes) {
             None => None,
             Some((o, rest)) => Some((Note::Member(o), rest)),
@@ -68,11 +69,11 @@ fn member_note(refutation: bool, bytes: &[u8]) -> Option<(Note, &[u8])>
     }
 }
 
-fn ground_note(refutation: bool, n: usize, bytes: &[u8]) -> Option<(Note, &[u8])>
-    ensures some { (hints : List GroundHint) → IfSome result (λ p. IsNoteAt refutation InGrounds n (note_of p.0 hints) bytes.now p.1.now) }
-    ensures none { IfNone result (NoNote refutation InGrounds n bytes.now) }
+fn ground_note(shape: Shape, n: usize, bytes: &[u8]) -> Option<(Note, &[u8])>
+    ensures some { (hints : List GroundHint) → IfSome result (λ p. IsNoteAt shape InGrounds n (note_of p.0 hints) bytes.now p.1.now) }
+    ensures none { IfNone result (NoNote shape InGrounds n bytes.now) }
 {
-    if !refutation {
+    if !shape.refutation {
         return None;
     }
     match grounded(bytes) {
@@ -88,14 +89,14 @@ fn ground_note(refutation: bool, n: usize, bytes: &[u8]) -> Option<(Note, &[u8])
 
 fn step_note<'a>(
     hints: &mut GroundHintList,
-    refutation: bool,
+    shape: Shape,
     bytes: &'a [u8],
 ) -> Result<Option<(Note, &'a [u8])>, Memory>
     requires empty { hints.old ≡ [] }
-    ensures some { (n : ℕ) → IfOk result (λ r. IfSome r (λ p. IsNoteAt refutation InSteps n (note_of p.0 hints.new) bytes.now p.1.now)) }
-    ensures none { (n : ℕ) → IfOk result (λ r. IfNone r (NoNote refutation InSteps n bytes.now)) }
+    ensures some { (n : ℕ) → IfOk result (λ r. IfSome r (λ p. IsNoteAt shape InSteps n (note_of p.0 hints.new) bytes.now p.1.now)) }
+    ensures none { (n : ℕ) → IfOk result (λ r. IfNone r (NoNote shape InSteps n bytes.now)) }
 {
-    if !refutation {
+    if !shape.refutation {
         return Ok(None);
     }
     match word(bytes, b"rup([") {
@@ -111,21 +112,21 @@ fn step_note<'a>(
 fn read_note<'a>(
     alloc: Global,
     hints: &mut GroundHintList,
-    refutation: bool,
+    shape: Shape,
     group: Group,
     n: usize,
     bytes: &'a [u8],
 ) -> Result<Option<(Note, &'a [u8])>, Memory>
     requires empty { hints.old ≡ [] }
-    ensures some { IfOk result (λ r. IfSome r (λ p. IsNoteAt refutation group n (note_of p.0 hints.new) bytes.now p.1.now)) }
-    ensures none { IfOk result (λ r. IfNone r (NoNote refutation group n bytes.now)) }
+    ensures some { IfOk result (λ r. IfSome r (λ p. IsNoteAt shape group n (note_of p.0 hints.new) bytes.now p.1.now)) }
+    ensures none { IfOk result (λ r. IfNone r (NoNote shape group n bytes.now)) }
 {
     match group {
         Group::Input => input_note(alloc, bytes),
         Group::Axiom => Ok(axiom_note(bytes)),
-        Group::Member => Ok(member_note(refutation, bytes)),
-        Group::Ground => Ok(ground_note(refutation, n, bytes)),
-        Group::Step => step_note(hints, refutation, bytes),
+        Group::Member => Ok(member_note(shape, bytes)),
+        Group::Ground => Ok(ground_note(shape, n, bytes)),
+        Group::Step => step_note(hints, shape, bytes),
     }
 }
 
@@ -133,16 +134,16 @@ fn read_note<'a>(
 pub fn last_note<'a>(
     alloc: Global,
     hints: &mut GroundHintList,
-    refutation: bool,
+    shape: Shape,
     group: Group,
     n: usize,
     bytes: &'a [u8],
 ) -> Result<Option<(Note, &'a [u8])>, Memory>
     requires empty { hints.old ≡ [] }
-    ensures some { IfOk result (λ r. IfSome r (λ p. IsNoteAt refutation group n (note_of p.0 hints.new) bytes.now (byte.closing_parenthesis ∷ byte.full_stop ∷ byte.line_feed ∷ p.1.now))) }
-    ensures none { IfOk result (λ r. IfNone r (NoLastNote refutation group n bytes.now)) }
+    ensures some { IfOk result (λ r. IfSome r (λ p. IsNoteAt shape group n (note_of p.0 hints.new) bytes.now (byte.closing_parenthesis ∷ byte.full_stop ∷ byte.line_feed ∷ p.1.now))) }
+    ensures none { IfOk result (λ r. IfNone r (NoLastNote shape group n bytes.now)) }
 {
-    match read_note(alloc, hints, refutation, group, n, bytes) {
+    match read_note(alloc, hints, shape, group, n, bytes) {
         Err(e) => Err(e),
         Ok(None) => Ok(None),
         Ok(Some((note, behind))) => match word(behind, b").\n") {

@@ -3,7 +3,7 @@ ghost use Rattle.std.specs.Prelude.{◌≡◌, ◌≢◌, ◌++◌, ◌∷◌, �
 ghost use Rattle.inst_logic.specs.Clauses.{TreeClause};
 ghost use Rattle.inst_logic.specs.Printing.{clause_text};
 ghost use Rattle.term_bank.specs.Forest.{AreFormed, clause_at, Extends};
-ghost use Rattle.cert_format.specs.FirstFormat.{clause_is_printable};
+ghost use Rattle.cert_format.specs.Formats.{clause_is_printable};
 ghost use Rattle.saturation_cert.specs.Wholes.{IsWholeClause};
 ghost use Rattle.inst_logic.specs.Codes as byte;
 

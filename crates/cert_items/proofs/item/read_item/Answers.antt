@@ -3,7 +3,7 @@ use Rattle.std.specs.Prelude.{IsTrue}
 use Rattle.inst_logic.specs.Clauses.{TreeClause}
 use Rattle.inst_logic.specs.Printing.{clause_text}
 use Rattle.term_bank.specs.Forest.{clause_at}
-use Rattle.cert_format.specs.FirstFormat.{clause_is_printable}
+use Rattle.cert_format.specs.Formats.{clause_is_printable}
 use Rattle.saturation_cert.specs.Wholes.{IsWholeClause}
 use Rattle.cert_items.specs.Items.{IsNoteAt, NoLastNote, note_of}
 use Rattle.cert_items.proofs.Reading.{is_none, is_some}
@@ -11,13 +11,13 @@ use Rattle.cert_items.proofs.Items.{no_item_head, no_item_clause, no_item_note, 
 use Rattle.cert_items.proofs.item.read_item.Goals as goal
 
 pub returns-in-None-clause-none : goal.returns-in-None-clause-none
-returns-in-None-clause-none c = no_item_head c.args.refutation c.args.bytes.now c.in-None.ensures.none
+returns-in-None-clause-none c = no_item_head c.args.shape c.args.bytes.now c.in-None.ensures.none
 
 pub returns-in-None-2-clause-none : goal.returns-in-None-2-clause-none
 returns-in-None-2-clause-none c =
     let s = c.in-Some in
     let k = c.in_ok-printable_clause-in-Some in
-    no_item_clause c.args.refutation s.group s.number c.args.bytes.now s.after.now s.ensures.some.0 s.ensures.some.1
+    no_item_clause c.args.shape s.group s.number c.args.bytes.now s.after.now s.ensures.some.0 s.ensures.some.1
     (is_none k.field-0 ((d : TreeClause) (rest : List ℕ) → IsTrue (clause_is_printable d) → s.after.now ≢ clause_text d ++ 44 ∷ rest) c.in-None-2.is k.ensures.none)
 
 pub returns-in-Ok-None-clause-none : goal.returns-in-Ok-None-clause-none
@@ -27,8 +27,8 @@ returns-in-Ok-None-clause-none c =
     let d = clause_at c.printable_clause.new.bank c.printable_clause.new.literals in
     let text = is_some k.field-0 c.in-Some-2.behind (λ (x : Bor (List ℕ)). s.after.now ≡ clause_text d ++ 44 ∷ x.now) c.in-Some-2.is k.ensures.some in
     let test = is_some k.field-0 c.in-Some-2.behind (λ (x : Bor (List ℕ)). IsTrue (clause_is_printable d)) c.in-Some-2.is k.ensures.printable in
-    no_item_note c.args.refutation s.group s.number d c.args.bytes.now s.after.now c.in-Some-2.behind.now s.ensures.some.0 s.ensures.some.1 text test
-    (is_none c.in-Ok-None.field-0 (NoLastNote c.args.refutation s.group s.number c.in-Some-2.behind.now) c.in-Ok-None.field-0-is c.in-Ok-None.ensures.none)
+    no_item_note c.args.shape s.group s.number d c.args.bytes.now s.after.now c.in-Some-2.behind.now s.ensures.some.0 s.ensures.some.1 text test
+    (is_none c.in-Ok-None.field-0 (NoLastNote c.args.shape s.group s.number c.in-Some-2.behind.now) c.in-Ok-None.field-0-is c.in-Ok-None.ensures.none)
 
 pub returns-in-Ok-Some-clause-some : goal.returns-in-Ok-Some-clause-some
 returns-in-Ok-Some-clause-some c =
@@ -37,8 +37,8 @@ returns-in-Ok-Some-clause-some c =
     let n = c.in-Ok-Some in
     let d = clause_at c.printable_clause.new.bank c.printable_clause.new.literals in
     let test = is_some k.field-0 c.in-Some-2.behind (λ (x : Bor (List ℕ)). IsTrue (clause_is_printable d)) c.in-Some-2.is k.ensures.printable in
-    let a = is_some n.field-0 (n.note, n.rest) (λ p. IsNoteAt c.args.refutation s.group s.number (note_of p.0 c.last_note.new.hints) c.in-Some-2.behind.now (41 ∷ 46 ∷ 10 ∷ p.1.now)) n.field-0-is n.ensures.some in
-    whole_item c.args.refutation s.group s.number d (note_of n.note c.last_note.new.hints) c.in-Some-2.behind.now (41 ∷ 46 ∷ 10 ∷ n.rest.now) s.ensures.some.1 test a
+    let a = is_some n.field-0 (n.note, n.rest) (λ p. IsNoteAt c.args.shape s.group s.number (note_of p.0 c.last_note.new.hints) c.in-Some-2.behind.now (41 ∷ 46 ∷ 10 ∷ p.1.now)) n.field-0-is n.ensures.some in
+    whole_item c.args.shape s.group s.number d (note_of n.note c.last_note.new.hints) c.in-Some-2.behind.now (41 ∷ 46 ∷ 10 ∷ n.rest.now) s.ensures.some.1 test a
 
 pub returns-in-Ok-Some-clause-text : goal.returns-in-Ok-Some-clause-text
 returns-in-Ok-Some-clause-text c =
@@ -47,14 +47,14 @@ returns-in-Ok-Some-clause-text c =
     let n = c.in-Ok-Some in
     let d = clause_at c.printable_clause.new.bank c.printable_clause.new.literals in
     let text = is_some k.field-0 c.in-Some-2.behind (λ (x : Bor (List ℕ)). s.after.now ≡ clause_text d ++ 44 ∷ x.now) c.in-Some-2.is k.ensures.some in
-    let a = is_some n.field-0 (n.note, n.rest) (λ p. IsNoteAt c.args.refutation s.group s.number (note_of p.0 c.last_note.new.hints) c.in-Some-2.behind.now (41 ∷ 46 ∷ 10 ∷ p.1.now)) n.field-0-is n.ensures.some in
-    whole_line c.args.refutation s.group s.number d (note_of n.note c.last_note.new.hints) c.args.bytes.now s.after.now c.in-Some-2.behind.now n.rest.now s.ensures.some.0 text a
+    let a = is_some n.field-0 (n.note, n.rest) (λ p. IsNoteAt c.args.shape s.group s.number (note_of p.0 c.last_note.new.hints) c.in-Some-2.behind.now (41 ∷ 46 ∷ 10 ∷ p.1.now)) n.field-0-is n.ensures.some in
+    whole_line c.args.shape s.group s.number d (note_of n.note c.last_note.new.hints) c.args.bytes.now s.after.now c.in-Some-2.behind.now n.rest.now s.ensures.some.0 text a
 
 pub returns-in-Ok-Some-clause-group : goal.returns-in-Ok-Some-clause-group
 returns-in-Ok-Some-clause-group c =
     let s = c.in-Some in
     let n = c.in-Ok-Some in
-    let a = is_some n.field-0 (n.note, n.rest) (λ p. IsNoteAt c.args.refutation s.group s.number (note_of p.0 c.last_note.new.hints) c.in-Some-2.behind.now (41 ∷ 46 ∷ 10 ∷ p.1.now)) n.field-0-is n.ensures.some in
+    let a = is_some n.field-0 (n.note, n.rest) (λ p. IsNoteAt c.args.shape s.group s.number (note_of p.0 c.last_note.new.hints) c.in-Some-2.behind.now (41 ∷ 46 ∷ 10 ∷ p.1.now)) n.field-0-is n.ensures.some in
     a.0.group_is
 
 pub returns-in-Ok-Some-clause-whole : goal.returns-in-Ok-Some-clause-whole

@@ -1,16 +1,16 @@
 use Rattle.cert_items.proofs.note.read_note.Goals as goal
 
 pub returns-in-Input-clause-some : goal.returns-in-Input-clause-some
-returns-in-Input-clause-some c = rw c.in-Input.is (c.input_note.ensures.some c.args.refutation c.args.n _)
+returns-in-Input-clause-some c = rw c.in-Input.is (c.input_note.ensures.some c.args.shape c.args.n _)
 
 pub returns-in-Input-clause-none : goal.returns-in-Input-clause-none
-returns-in-Input-clause-none c = rw c.in-Input.is (c.input_note.ensures.none c.args.refutation c.args.n)
+returns-in-Input-clause-none c = rw c.in-Input.is (c.input_note.ensures.none c.args.shape c.args.n)
 
 pub returns-in-Axiom-clause-some : goal.returns-in-Axiom-clause-some
-returns-in-Axiom-clause-some c = rw c.in-Axiom.is (c.axiom_note.ensures.some c.args.refutation c.args.n _)
+returns-in-Axiom-clause-some c = rw c.in-Axiom.is (c.axiom_note.ensures.some c.args.shape c.args.n _)
 
 pub returns-in-Axiom-clause-none : goal.returns-in-Axiom-clause-none
-returns-in-Axiom-clause-none c = rw c.in-Axiom.is (c.axiom_note.ensures.none c.args.refutation c.args.n)
+returns-in-Axiom-clause-none c = rw c.in-Axiom.is (c.axiom_note.ensures.none c.args.shape c.args.n)
 
 pub returns-in-Member-clause-some : goal.returns-in-Member-clause-some
 returns-in-Member-clause-some c = rw c.in-Member.is (c.member_note.ensures.some c.args.n _)
