@@ -1,7 +1,6 @@
 -- What an error says, read off its cause; and what an ending says.
 use Rattle.std.proofs.Common.{◌≡◌, ℕ, List, [], refl, subst, sym}
 use Rattle.std.specs.Prelude.{Result, Ok, Err, IfErr}
-use Rattle.cert_reader.specs.declared.certificate.Certificate.{Certificate}
 use Rattle.cert_reader.specs.declared.error.CertError.{CertError}
 use Rattle.cert_reader.specs.declared.error.CertError.TheVariants as errors
 use Rattle.cert_format.specs.LineMachine.{Item, Header}
@@ -12,11 +11,11 @@ use Rattle.cert_reader.specs.Reads.{IsCause, IsSyntaxAt, IsVersion, HasVersion}
 use Rattle.cert_format.specs.ValueLines.{IsCertificateText}
 use Rattle.cert_reader.proofs.OneReading.{has_lines, no_certificate}
 
-pub syntax_of : (r : Result Certificate CertError) (text : List ℕ) → IfErr r (IsCause text) → (line : ℕ) → r ≡ Err (errors.Syntax line) → IsSyntaxAt text line
-syntax_of r text h line e = subst (λ (x : Result Certificate CertError). IfErr x (IsCause text)) e h
+pub syntax_of : {A : Type 0} (r : Result A CertError) (text : List ℕ) → IfErr r (IsCause text) → (line : ℕ) → r ≡ Err (errors.Syntax line) → IsSyntaxAt text line
+syntax_of {A} r text h line e = subst (λ (x : Result A CertError). IfErr x (IsCause text)) e h
 
-pub version_of : (r : Result Certificate CertError) (text : List ℕ) → IfErr r (IsCause text) → (word : List ℕ) → r ≡ Err (errors.Version word) → IsVersion text word
-version_of r text h word e = subst (λ (x : Result Certificate CertError). IfErr x (IsCause text)) e h
+pub version_of : {A : Type 0} (r : Result A CertError) (text : List ℕ) → IfErr r (IsCause text) → (word : List ℕ) → r ≡ Err (errors.Version word) → IsVersion text word
+version_of {A} r text h word e = subst (λ (x : Result A CertError). IfErr x (IsCause text)) e h
 
 pub refused_syntax : (text : List ℕ) (n : ℕ) → IsRefusedAt text n → ¬ HasVersion text → IsSyntaxAt text n
 refused_syntax text n r v = record { first = r.first; no_text = r.no_text; no_version = v }
@@ -28,7 +27,7 @@ memory_alone text (errors.Syntax line) h t = absurd (h.no_text t)
 memory_alone text (errors.Version word) h t = absurd (no_certificate has_lines text word h t)
 memory_alone text errors.Memory h t = refl
 
-pub taken_of : (r : Result Certificate CertError) (text : List ℕ) → IfErr r (IsCause text) → IsCertificateText text → IfErr r (λ why. why ≡ errors.Memory)
+pub taken_of : {A : Type 0} (r : Result A CertError) (text : List ℕ) → IfErr r (IsCause text) → IsCertificateText text → IfErr r (λ why. why ≡ errors.Memory)
 taken_of (Ok c) text h t = h
 taken_of (Err why) text h t = memory_alone text why h t
 

@@ -6,16 +6,17 @@ use Rattle.std.proofs.lemmas.List.{length-append}
 use Rattle.inst_logic.specs.declared.signed.Signed.{Signed}
 use Rattle.inst_logic.specs.Clauses.{TreeClause}
 use Rattle.term_bank.specs.Forest.{Forest, AreFormed, Extends, clause_at}
-use Rattle.cert_format.specs.LineMachine.{Note, named, equality, member, selected, ground_of, shown_by, rank, Item, Header, Line, item, count, fits, is_number, last_rank}
+use Rattle.cert_format.specs.LineMachine.{Note, named, equality, member, selected, ground_of, shown_by, rank, Item, Header, Line, item, count, fits, is_number, last_rank, has_turn}
 use Rattle.cert_format.specs.LineTexts.{line, note_is_printable}
-use Rattle.cert_format.specs.FirstFormat.{clause_is_printable, may_follow}
+use Rattle.cert_format.specs.Formats.{clause_is_printable, may_follow}
 use Rattle.cert_format.proofs.Exits as exits
 use Rattle.cert_format.proofs.Exits.{item_line_once}
-use Rattle.cert_format.proofs.FirstFormat.{next_of}
+use Rattle.cert_format.proofs.Formats.{next_of}
 use Rattle.cert_format.proofs.LineNotes.{line_more}
 use Rattle.saturation_cert.specs.declared.certificate.GroundHint.{GroundHint}
 use Rattle.saturation_cert.specs.Wholes.{IsWholeClause}
-use Rattle.cert_items.specs.Items.{IsItem, NoItem, group_of, note_of, rank_of}
+use Rattle.cert_items.specs.declared.shape.Shape.{Shape}
+use Rattle.cert_items.specs.Items.{shape_of, IsItem, NoItem, group_of, note_of, rank_of}
 use Rattle.cert_items.specs.declared.group.Group.{Group}
 use Rattle.cert_items.specs.declared.note.Note as read
 use Rattle.cert_reader.specs.declared.groups.Groups.{Groups}
@@ -23,22 +24,25 @@ use Rattle.cert_reader.specs.Bodies.{header, IsNextItem, NoNextItem}
 use Rattle.cert_reader.specs.Groups.{count_of, pushed, items_of, AreGroups}
 use Rattle.cert_reader.proofs.Pushes.{counts, pushed_items, pushed_groups, grown_items, grown_groups}
 use Rattle.inst_logic.proofs.Numbers.{at_most, less_equal, equal_numbers}
-use Rattle.cert_items.proofs.GroupNotes.{form_in, rank_group}
+use Rattle.cert_items.proofs.GroupNotes.{header as least, form_in, rank_group}
 
 -- ---- forms
 
-same_fits : (h k : Header) (note : Note) → h.refutation ≡ k.refutation → fits h note ≡ fits k note
-same_fits h k (named w) e = refl
-same_fits h k equality e = refl
-same_fits h k (member o) e = e
-same_fits h k (selected o p) e = ap (λ (b : Bool). not b) e
-same_fits h k ground_of e = e
-same_fits h k (shown_by hs) e = e
+by_shape : (h : Header) (note : Note) → fits h note ≡ fits (least (shape_of h)) note
+by_shape h (named w) = refl
+by_shape h equality = refl
+by_shape h (member o) = refl
+by_shape h (selected o p) = refl
+by_shape h ground_of = refl
+by_shape h (shown_by hs) = refl
 
-exits_item : (r : Bool) (n : ℕ) (c : TreeClause) (note : Note) → IsItem r n c note → exits.IsItem r n c note
-exits_item r n c note i = record { number = i.number; clause = i.clause; note_is = i.printable; form = form_in r note i.form }
+same_fits : (h k : Header) (note : Note) → shape_of h ≡ shape_of k → fits h note ≡ fits k note
+same_fits h k note e = by_shape h note ∙ ap (λ (s : Shape). fits (least s) note) e ∙ sym (by_shape k note)
 
-following_item : (h : Header) (is : List Item) (n : ℕ) (c : TreeClause) (note : Note) → may_follow h is n c note ≡ true → IsItem h.refutation n c note
+exits_item : (s : Shape) (n : ℕ) (c : TreeClause) (note : Note) → IsItem s n c note → exits.IsItem (least s) n c note
+exits_item s n c note i = record { number = i.number; clause = i.clause; note_is = i.printable; form = form_in s note i.form }
+
+following_item : (h : Header) (is : List Item) (n : ℕ) (c : TreeClause) (note : Note) → may_follow h is n c note ≡ true → IsItem (shape_of h) n c note
 following_item h is n c note m =
     let p = next_of h is n c note m in
     let f = and_parts (fits h note) _ m in
@@ -46,8 +50,8 @@ following_item h is n c note m =
 
 -- ---- no item that may follow
 
-pub no_item_next : (r : Bool) (is : List Item) (bytes : List ℕ) → NoItem r bytes → NoNextItem r is bytes
-no_item_next r is bytes bad h e n c note rest m at = bad n c note rest (subst (λ (b : Bool). IsItem b n c note) e (following_item h is n c note m)) at
+pub no_item_next : (s : Shape) (is : List Item) (bytes : List ℕ) → NoItem s bytes → NoNextItem s is bytes
+no_item_next s is bytes bad h e n c note rest m at = bad n c note rest (subst (λ (z : Shape). IsItem z n c note) e (following_item h is n c note m)) at
 
 -- what a test of an item that may follow says
 record IsNextIn (is : List Item) (n : ℕ) (note : Note) : Type 0 where
@@ -69,47 +73,47 @@ note_in (item n c note) = note
 note_in _ = equality
 
 -- the item that was read may not follow
-pub wrong_next : (r : Bool) (f : Forest) (g : Groups) (k : Group) (n : ℕ) (c : TreeClause) (note : Note) (bytes rest : List ℕ) → AreGroups r f g → IsItem r n c note → bytes ≡ line (item n c note) rest → group_of note ≡ k → ((rank_of g.last ≤ rank_of k) × (n ≡ suc (count_of k g)) → ⊥) → NoNextItem r (items_of r f g) bytes
-wrong_next r f g k n c note bytes rest p i at group_is bad h e m d other y follows is =
-    let j = subst (λ (b : Bool). IsItem b m d other) e (following_item h (items_of r f g) m d other follows) in
-    let o = item_line_once r n m c d note other rest y (exits_item r n c note i) (exits_item r m d other j) (sym at ∙ is) in
+pub wrong_next : (s : Shape) (f : Forest) (g : Groups) (k : Group) (n : ℕ) (c : TreeClause) (note : Note) (bytes rest : List ℕ) → AreGroups s f g → IsItem s n c note → bytes ≡ line (item n c note) rest → group_of note ≡ k → ((rank_of g.last ≤ rank_of k) × (n ≡ suc (count_of k g)) → ⊥) → NoNextItem s (items_of s f g) bytes
+wrong_next s f g k n c note bytes rest p i at group_is bad h e m d other y follows is =
+    let j = subst (λ (z : Shape). IsItem z m d other) e (following_item h (items_of s f g) m d other follows) in
+    let o = item_line_once (least s) n m c d note other rest y (exits_item s n c note i) (exits_item s m d other j) (sym at ∙ is) in
     let same_n = ap number_in o.0 in
     let same_note = ap note_in o.0 in
-    let q = next_in h (items_of r f g) m d other follows in
+    let q = next_in h (items_of s f g) m d other follows in
     let rank_is : rank other ≡ rank_of k = ap rank (sym same_note) ∙ rank_group note ∙ ap rank_of group_is in
     let low : rank_of g.last ≤ rank_of k = omega (arith, q.low, p.last, rank_is) in
-    let number : n ≡ suc (count_of k g) = same_n ∙ q.at ∙ ap (λ (z : ℕ). suc (count z (items_of r f g))) rank_is ∙ ap suc (counts r f g p k) in
+    let number : n ≡ suc (count_of k g) = same_n ∙ q.at ∙ ap (λ (z : ℕ). suc (count z (items_of s f g))) rank_is ∙ ap suc (counts s.refutation s.format f g p k) in
     bad (low, number)
 
 -- ---- one item that may follow
 
-follows : (r : Bool) (f : Forest) (g : Groups) (k : Group) (n : ℕ) (c : TreeClause) (note : Note) → AreGroups r f g → IsItem r n c note → group_of note ≡ k → rank_of g.last ≤ rank_of k → n ≡ suc (count_of k g) → (h : Header) → h.refutation ≡ r → may_follow h (items_of r f g) n c note ≡ true
-follows r f g k n c note p i group_is low at h e =
-    let is = items_of r f g in
+follows : (s : Shape) (f : Forest) (g : Groups) (k : Group) (n : ℕ) (c : TreeClause) (note : Note) → AreGroups s f g → IsItem s n c note → group_of note ≡ k → rank_of g.last ≤ rank_of k → n ≡ suc (count_of k g) → (h : Header) → shape_of h ≡ s → may_follow h (items_of s f g) n c note ≡ true
+follows s f g k n c note p i group_is low at h e =
+    let is = items_of s f g in
     let rank_is : rank note ≡ rank_of k = rank_group note ∙ ap rank_of group_is in
     let last_low : last_rank is ≤ rank note = omega (arith, low, p.last, rank_is) in
-    let number : n ≡ suc (count (rank note) is) = at ∙ ap suc (sym (counts r f g p k)) ∙ ap (λ (z : ℕ). suc (count z is)) (sym rank_is) in
+    let number : n ≡ suc (count (rank note) is) = at ∙ ap suc (sym (counts s.refutation s.format f g p k)) ∙ ap (λ (z : ℕ). suc (count z is)) (sym rank_is) in
     and_from (fits h note) _ (i.form h e) (and_from (nat_le (last_rank is) (rank note)) _ (less_equal (last_rank is) (rank note) last_low) (and_from (nat_eq n (suc (count (rank note) is))) _ (equal_numbers n (suc (count (rank note) is)) number)
-    (and_from (is_number n) _ i.number (and_from (clause_is_printable c) (note_is_printable note) i.clause i.printable))))
+    (and_from (is_number n) _ i.number (and_from (clause_is_printable c) _ i.clause (and_from (note_is_printable note) (has_turn h is c note) i.printable refl)))))
 
 low_rank : (g : Groups) (k : Group) (note : Note) → group_of note ≡ k → rank_of g.last ≤ rank_of k → rank_of g.last ≤ rank note
 low_rank g k note group_is low = subst (λ (z : ℕ). rank_of g.last ≤ z) (sym (rank_group note ∙ ap rank_of group_is)) low
 
-module _ (r : Bool) (f h : Forest) (g : Groups) (k : Group) (n : ℕ) (note : read.Note) (c : List (Signed ℕ)) (hs : List GroundHint) (grown : Extends f h) (formed : AreFormed h) (p : AreGroups r f g)
-    (i : IsItem r n (clause_at h c) (note_of note hs)) (group_is : group_of (note_of note hs) ≡ k) (low : rank_of g.last ≤ rank_of k) (at : n ≡ suc (count_of k g)) where
-  pub next_groups : IsWholeClause h c → AreGroups r h (pushed note c hs g)
-  next_groups whole = pushed_groups r h g note c hs (grown_groups f h grown r g formed p) (low_rank g k (note_of note hs) group_is low) (i.form (header r [] []) refl) whole
+module _ (s : Shape) (f h : Forest) (g : Groups) (k : Group) (n : ℕ) (note : read.Note) (c : List (Signed ℕ)) (hs : List GroundHint) (grown : Extends f h) (formed : AreFormed h) (p : AreGroups s f g)
+    (i : IsItem s n (clause_at h c) (note_of note hs)) (group_is : group_of (note_of note hs) ≡ k) (low : rank_of g.last ≤ rank_of k) (at : n ≡ suc (count_of k g)) where
+  pub next_groups : IsWholeClause h c → AreGroups s h (pushed note c hs g)
+  next_groups whole = pushed_groups s.refutation s.format h g note c hs (grown_groups f h grown s g formed p) (low_rank g k (note_of note hs) group_is low) (i.form (header s [] []) refl) whole
 
-  pub next_item : (bytes rest : List ℕ) → bytes ≡ line (item n (clause_at h c) (note_of note hs)) rest → IsNextItem r (items_of r f g) (items_of r h (pushed note c hs g)) bytes rest
+  pub next_item : (bytes rest : List ℕ) → bytes ≡ line (item n (clause_at h c) (note_of note hs)) rest → IsNextItem s (items_of s f g) (items_of s h (pushed note c hs g)) bytes rest
   next_item bytes rest text =
-      let q = grown_groups f h grown r g formed p in
-      let same = grown_items f h grown r g p in
+      let q = grown_groups f h grown s g formed p in
+      let same = grown_items f h grown s g p in
       record {
         number = n;
         clause = clause_at h c;
         note = note_of note hs;
-        follows = λ z e. subst (λ (is : List Item). may_follow z is n (clause_at h c) (note_of note hs) ≡ true) same (follows r h g k n (clause_at h c) (note_of note hs) q i group_is low at z e);
-        one_more = pushed_items r h g note c hs q (low_rank g k (note_of note hs) group_is low) (i.form (header r [] []) refl) ∙ ap (λ (is : List Item). is ++ record { clause = clause_at h c; note = note_of note hs } ∷ []) same;
+        follows = λ z e. subst (λ (is : List Item). may_follow z is n (clause_at h c) (note_of note hs) ≡ true) same (follows s h g k n (clause_at h c) (note_of note hs) q i group_is low at z e);
+        one_more = pushed_items s.refutation s.format h g note c hs q (low_rank g k (note_of note hs) group_is low) (i.form (header s [] []) refl) ∙ ap (λ (is : List Item). is ++ record { clause = clause_at h c; note = note_of note hs } ∷ []) same;
         text_is = text;
       }
 

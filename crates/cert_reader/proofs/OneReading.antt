@@ -4,18 +4,18 @@ use Rattle.std.specs.Prelude.{codes, decimal}
 use Rattle.std.specs.Char.{is_ascii_digit}
 use Rattle.std.specs.List.{list_all}
 use Rattle.cert_format.specs.Certificate.{Certificate}
-use Rattle.cert_format.specs.FirstFormat.{text_of_lines}
+use Rattle.cert_format.specs.Formats.{text_of_lines}
 use Rattle.cert_format.specs.LineMachine.{status, opening, version, closing}
 use Rattle.cert_format.specs.LineTexts.{line, line_text}
 use Rattle.cert_format.specs.Printable.{IsPrintable}
 use Rattle.cert_format.specs.Text.{certificate_text}
 use Rattle.cert_format.specs.ValueLines.{IsCertificateText, constant_lines, is_refutation, item_lines, items_of, lines_of}
-use Rattle.std.proofs.lemmas.Fmt.{decimal_digit}
 use Rattle.cert_format.proofs.Digits.{decimal_digits}
 use Rattle.cert_format.proofs.LineNotes.{behind_front, line_more}
 use Rattle.cert_format.proofs.Runs.{one_split}
 use Rattle.cert_format.proofs.ValueRuns.{name_yes}
-use Rattle.cert_format.proofs.Writables.{only_format}
+use Rattle.cert_format.proofs.Formats.{small_format}
+use Rattle.cert_format.proofs.Writables.{format_is_known}
 use Rattle.cert_reader.specs.Reads.{IsVersion}
 use Rattle.cert_reader.specs.Starts.{format_line}
 use Rattle.cert_reader.proofs.FirstLines.{two_front, version_third}
@@ -45,22 +45,16 @@ first_three f n c =
     let second = line_more (opening r n) [] (line_text (version f) ++ behind n c) ∙ ap (line (opening r n)) third in
     line_more (status r n) [] (line_text (opening r n) ++ (line_text (version f) ++ behind n c)) ∙ ap (line (status r n)) second
 
-one_is : decimal 1 ≡ 49 ∷ []
-one_is = decimal_digit 1 (omega arith)
-
 -- that the text of a certificate is that of its lines
 abbrev pub HasLines : Type 0
 HasLines = (f : ℕ) (n : List ℕ) (c : Certificate) → IsPrintable f c → certificate_text f n c ≡ text_of_lines (lines_of f n c)
 
 pub has_lines : HasLines
-has_lines f n c p =
-    let one = only_format f c p in
-    ap (λ k. certificate_text k n c) one ∙ text_is n c ∙ ap (λ k. text_of_lines (lines_of k n c)) (sym one)
+has_lines f n c p = text_is f n c
 
 pub no_certificate : HasLines → (text w : List ℕ) → IsVersion text w → IsCertificateText text → ⊥
 no_certificate lines text w v c =
     let first = c.is ∙ lines c.format c.name c.value c.printable ∙ first_three c.format c.name c.value in
     let third = version_third text (is_refutation c.value) c.name (format_line (decimal c.format) (behind c.name c.value)) (name_yes c.name c.name_is) first w v in
-    let one = only_format c.format c.value c.printable in
-    let is = subst (λ (f : ℕ). format_line (decimal f) (behind c.name c.value) ≡ format_line w v.rest) one third in
-    v.format.other (sym (one_word (decimal 1) w (behind c.name c.value) v.rest (decimal_digits 1 (omega arith)) v.format.digits is) ∙ one_is)
+    let known = format_is_known c.format c.value c.printable.known in
+    v.format.other c.format known (sym (one_word (decimal c.format) w (behind c.name c.value) v.rest (decimal_digits c.format (small_format c.format known)) v.format.digits third))

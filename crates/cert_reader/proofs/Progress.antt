@@ -6,9 +6,9 @@ use Rattle.std.proofs.lemmas.List.{append-nil, length-append, length_push}
 use Rattle.inst_logic.specs.Clauses.{TreeClause}
 use Rattle.cert_format.specs.LineMachine.{Note, rank, Item, Header, Line, status, opening, version, item, closing, nothing, body, done, count, fits, guarded}
 use Rattle.cert_format.specs.LineTexts.{line, line_text, is_text_name}
-use Rattle.cert_format.specs.FirstFormat.{may_follow, step, is_done, text_of_lines, Leads}
+use Rattle.cert_format.specs.Formats.{may_follow, step, is_done, text_of_lines, Leads}
 use Rattle.cert_format.specs.ValueLines.{item_lines}
-use Rattle.cert_format.proofs.FirstFormat.{exact, next_of}
+use Rattle.cert_format.proofs.Formats.{exact, next_of}
 use Rattle.cert_format.proofs.LineMachine.{count_push}
 use Rattle.cert_format.proofs.LineNotes.{below, line_more}
 use Rattle.cert_format.proofs.LineTexts.{lines_append}
@@ -16,6 +16,8 @@ use Rattle.cert_format.proofs.Machines.{behind_end}
 use Rattle.inst_logic.proofs.Numbers.{number_is}
 use Rattle.cert_format.proofs.GroupItems.{all_append}
 use Rattle.cert_format.proofs.ValueRuns.{name_yes}
+use Rattle.cert_items.specs.Items.{shape_of}
+use Rattle.cert_items.specs.declared.shape.Shape.{Shape}
 use Rattle.cert_reader.specs.Bodies.{constant_lines, lines_up_to, is_good, HasRead, IsNextItem, NoNextItem, IsRefusedAt, EndsSo, ending_behind}
 use Rattle.cert_reader.specs.declared.body.Ending.{Ending}
 use Rattle.cert_reader.proofs.Steps.{no_next, one_more, closing_step, behind_all, refused, name_is}
@@ -51,13 +53,13 @@ read_more text h is lines x rest n c note r m at =
       few = few_push is n c note p.at (below n p.fits_number) r.few;
     }
 
-pub progress : (text : List ℕ) (h : Header) (r : Bool) (is js : List Item) (lines : ℕ) (x rest : List ℕ) → h.refutation ≡ r → HasRead text h is lines x → IsNextItem r is js x rest → HasRead text h js (lines + 1) rest
-progress text h r is js lines x rest e p s =
+pub progress : (text : List ℕ) (h : Header) (s : Shape) (is js : List Item) (lines : ℕ) (x rest : List ℕ) → shape_of h ≡ s → HasRead text h is lines x → IsNextItem s is js x rest → HasRead text h js (lines + 1) rest
+progress text h z is js lines x rest e p s =
     subst (λ (ks : List Item). HasRead text h ks (lines + 1) rest) (sym s.one_more) (read_more text h is lines x rest s.number s.clause s.note p (s.follows h e) s.text_is)
 
 -- ---- the ends
 
-pub refused_next : (text : List ℕ) (h : Header) (is : List Item) (lines : ℕ) (x : List ℕ) → HasRead text h is lines x → NoNextItem h.refutation is x → ((y : List ℕ) → x ≢ line (closing h.refutation h.name) y) → IsRefusedAt text (lines + 1)
+pub refused_next : (text : List ℕ) (h : Header) (is : List Item) (lines : ℕ) (x : List ℕ) → HasRead text h is lines x → NoNextItem (shape_of h) is x → ((y : List ℕ) → x ≢ line (closing h.refutation h.name) y) → IsRefusedAt text (lines + 1)
 refused_next text h is lines x p bad last =
     let q = refused (lines_up_to h is) (body h is) text x p.leads p.text_is (no_next h is x bad last) (λ e. (let k = e.0 in cc)) in
     let n : suc (length (lines_up_to h is)) ≡ lines + 1 = omega (arith, p.counted) in
@@ -67,7 +69,7 @@ text_name : (text : List ℕ) (h : Header) (is : List Item) (lines : ℕ) (x : L
 text_name text h is lines x p = name_yes h.name (name_is h.refutation h.name (opening h.refutation h.name ∷ version h.format ∷ (constant_lines h.refutation h.bot ++ item_lines [] is)) (body h is) p.leads)
 
 closed_leads : (text : List ℕ) (h : Header) (is : List Item) (lines : ℕ) (x : List ℕ) → HasRead text h is lines x → Leads (lines_up_to h is ++ closing h.refutation h.name ∷ []) (done h is)
-closed_leads text h is lines x p = one_more (lines_up_to h is) (closing h.refutation h.name) (body h is) (done h is) p.leads (closing_step h is (text_name text h is lines x p))
+closed_leads text h is lines x p = one_more (lines_up_to h is) (closing h.refutation h.name) (body h is) (done h is) p.leads (closing_step h is (text_name text h is lines x p) refl)
 
 closed_text : (text : List ℕ) (h : Header) (is : List Item) (lines : ℕ) (x rest : List ℕ) → HasRead text h is lines x → x ≡ line (closing h.refutation h.name) rest → text ≡ text_of_lines (lines_up_to h is ++ closing h.refutation h.name ∷ []) ++ rest
 closed_text text h is lines x rest p at = p.text_is ∙ ap (λ (xs : List ℕ). text_of_lines (lines_up_to h is) ++ xs) at ∙ sym (behind_all (lines_up_to h is) (closing h.refutation h.name) rest)
@@ -85,15 +87,18 @@ ended text h is lines x (b ∷ bs) p at =
     let n : suc (length ls) ≡ suc (lines + 1) = omega (arith, p.counted, length_push (lines_up_to h is) (closing h.refutation h.name)) in
     subst (IsRefusedAt text) n q
 
--- ---- the same for a reader, which knows the form and the name
+-- ---- the same for a reader, which knows the shape and the name
 
-pub ended_so : (text : List ℕ) (h : Header) (r : Bool) (n : List ℕ) (is : List Item) (lines : ℕ) (x rest : List ℕ) (e : Ending) → h.refutation ≡ r → h.name ≡ n → HasRead text h is lines x → x ≡ line (closing r n) rest → e ≡ ending_behind (lines + 1) rest → EndsSo text h is e
-ended_so text h r n is lines x rest e form same p at q =
-    subst (EndsSo text h is) (sym q) (ended text h is lines x rest p (at ∙ ap (λ (l : Line). line l rest) (sym (ap₂ closing form same))))
+closing_is : (h : Header) (s : Shape) (n : List ℕ) → shape_of h ≡ s → h.name ≡ n → closing h.refutation h.name ≡ closing s.refutation n
+closing_is h s n shape same = ap₂ closing (ap (λ (z : Shape). z.refutation) shape) same
 
-pub refused_so : (text : List ℕ) (h : Header) (r : Bool) (n : List ℕ) (is : List Item) (lines : ℕ) (x : List ℕ) → h.refutation ≡ r → h.name ≡ n → HasRead text h is lines x → NoNextItem r is x → ((y : List ℕ) → x ≢ line (closing r n) y) → IsRefusedAt text (lines + 1)
-refused_so text h r n is lines x form same p bad last =
-    refused_next text h is lines x p (subst (λ (b : Bool). NoNextItem b is x) (sym form) bad) (λ y e. last y (e ∙ ap (λ (l : Line). line l y) (ap₂ closing form same)))
+pub ended_so : (text : List ℕ) (h : Header) (s : Shape) (n : List ℕ) (is : List Item) (lines : ℕ) (x rest : List ℕ) (e : Ending) → shape_of h ≡ s → h.name ≡ n → HasRead text h is lines x → x ≡ line (closing s.refutation n) rest → e ≡ ending_behind (lines + 1) rest → EndsSo text h is e
+ended_so text h s n is lines x rest e shape same p at q =
+    subst (EndsSo text h is) (sym q) (ended text h is lines x rest p (at ∙ ap (λ (l : Line). line l rest) (sym (closing_is h s n shape same))))
+
+pub refused_so : (text : List ℕ) (h : Header) (s : Shape) (n : List ℕ) (is : List Item) (lines : ℕ) (x : List ℕ) → shape_of h ≡ s → h.name ≡ n → HasRead text h is lines x → NoNextItem s is x → ((y : List ℕ) → x ≢ line (closing s.refutation n) y) → IsRefusedAt text (lines + 1)
+refused_so text h s n is lines x shape same p bad last =
+    refused_next text h is lines x p (subst (λ (z : Shape). NoNextItem z is x) (sym shape) bad) (λ y e. last y (e ∙ ap (λ (l : Line). line l y) (closing_is h s n shape same)))
 
 pub closing_longer : (r : Bool) (n bytes rest : List ℕ) → bytes ≡ line (closing r n) rest → length rest < length bytes
 closing_longer r n bytes rest at =

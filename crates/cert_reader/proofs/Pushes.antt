@@ -1,5 +1,5 @@
 -- One item more in the lists of the groups, and in the order of a text.
-use Rattle.std.proofs.Common.{◌≡◌, ℕ, ◌+◌, suc, ◌<◌, ◌≤◌, Bool, true, false, List, [], ◌∷◌, ◌++◌, length, map, refl, sym, ap, ◌∙◌, subst, arith, append_assoc}
+use Rattle.std.proofs.Common.{◌≡◌, ℕ, ◌+◌, suc, ◌<◌, ◌≤◌, Bool, true, false, cond, List, [], ◌∷◌, ◌++◌, length, map, refl, sym, ap, ◌∙◌, subst, arith, append_assoc}
 use Rattle.std.specs.Prelude.{nat_eq, nat_lt}
 use Rattle.std.specs.List.{list_all}
 use Rattle.std.proofs.lemmas.Bool.{and_parts, and_from}
@@ -27,6 +27,7 @@ use Rattle.cert_items.specs.declared.group.Group.TheVariants as kinds
 use Rattle.cert_items.specs.declared.note.Note.{Note}
 use Rattle.cert_items.specs.declared.note.Note.TheVariants as notes
 use Rattle.cert_reader.specs.declared.groups.Groups.{Groups}
+use Rattle.cert_items.specs.declared.shape.Shape.{Shape}
 use Rattle.cert_reader.specs.Bodies.{header}
 use Rattle.cert_reader.specs.Groups.{count_of, pushed, members_by, items_of, HasForm, AreGroups}
 use Rattle.saturation_cert.proofs.Grown.{clauses_grown, members_grown, steps_grown, clauses_same, members_same, steps_same}
@@ -178,17 +179,21 @@ selected_length [] ps h = refl
 selected_length (x ∷ es) [] h = absurd (omega arith)
 selected_length (x ∷ es) (p ∷ ps) h = ap suc (selected_length es ps (omega arith))
 
-member_group : (r : Bool) (es : List Entry) (ps : List ℕ) → IsGroup 2 (members_by r es ps)
-member_group true es ps = member_ranks es
-member_group false es ps = selected_ranks es ps
+-- a shape by its two parts
+abbrev pub shape_for : Bool → ℕ → Shape
+shape_for r v = record { refutation = r; format = v }
 
-member_length : (r : Bool) (f : Forest) (g : Groups) → HasForm r g → length (members_by r (map (entry_of f) g.members) g.places) ≡ length g.members
-member_length true f g h = members_length (map (entry_of f) g.members) ∙ length-map g.members (entry_of f)
-member_length false f g h = selected_length (map (entry_of f) g.members) g.places (h.0 ∙ sym (length-map g.members (entry_of f))) ∙ length-map g.members (entry_of f)
+member_group : (r : Bool) (v : ℕ) (es : List Entry) (ps : List ℕ) → IsGroup 2 (members_by (shape_for r v) es ps)
+member_group true v es ps = member_ranks es
+member_group false v es ps = selected_ranks es ps
+
+member_length : (r : Bool) (v : ℕ) (f : Forest) (g : Groups) → HasForm (shape_for r v) g → length (members_by (shape_for r v) (map (entry_of f) g.members) g.places) ≡ length g.members
+member_length true v f g h = members_length (map (entry_of f) g.members) ∙ length-map g.members (entry_of f)
+member_length false v f g h = selected_length (map (entry_of f) g.members) g.places (h.0 ∙ sym (length-map g.members (entry_of f))) ∙ length-map g.members (entry_of f)
 
 -- ---- the lists
 
-module _ (r : Bool) (f : Forest) (g : Groups) where
+module _ (r : Bool) (v : ℕ) (f : Forest) (g : Groups) where
   abbrev inputs : List Item
   inputs = input_items (map (clause_at f) g.inputs) g.names
 
@@ -196,7 +201,7 @@ module _ (r : Bool) (f : Forest) (g : Groups) where
   axioms = axiom_items (map (clause_at f) g.axioms)
 
   abbrev members : List Item
-  members = members_by r (map (entry_of f) g.members) g.places
+  members = members_by (shape_for r v) (map (entry_of f) g.members) g.places
 
   abbrev grounds : List Item
   grounds = ground_items (map (clause_at f) g.grounds)
@@ -211,7 +216,7 @@ module _ (r : Bool) (f : Forest) (g : Groups) where
   axiom_group = axiom_ranks (map (clause_at f) g.axioms)
 
   own_members : IsGroup 2 members
-  own_members = member_group r (map (entry_of f) g.members) g.places
+  own_members = member_group r v (map (entry_of f) g.members) g.places
 
   ground_group : IsGroup 3 grounds
   ground_group = ground_ranks (map (clause_at f) g.grounds)
@@ -220,29 +225,29 @@ module _ (r : Bool) (f : Forest) (g : Groups) where
   step_group = step_ranks (map (step_of f) g.steps)
 
   -- how many items of each group
-  pub counts : AreGroups r f g → (k : Group) → count (rank_of k) (items_of r f g) ≡ count_of k g
+  pub counts : AreGroups (shape_for r v) f g → (k : Group) → count (rank_of k) (items_of (shape_for r v) f g) ≡ count_of k g
   counts p kinds.Input = count_0 inputs axioms members grounds steps input_group axiom_group own_members ground_group step_group ∙ inputs_length (map (clause_at f) g.inputs) g.names (p.named ∙ sym (length-map g.inputs (clause_at f))) ∙ length-map g.inputs (clause_at f)
   counts p kinds.Axiom = count_1 inputs axioms members grounds steps input_group axiom_group own_members ground_group step_group ∙ axioms_length (map (clause_at f) g.axioms) ∙ length-map g.axioms (clause_at f)
-  counts p kinds.Member = count_2 inputs axioms members grounds steps input_group axiom_group own_members ground_group step_group ∙ member_length r f g p.form
+  counts p kinds.Member = count_2 inputs axioms members grounds steps input_group axiom_group own_members ground_group step_group ∙ member_length r v f g p.form
   counts p kinds.Ground = count_3 inputs axioms members grounds steps input_group axiom_group own_members ground_group step_group ∙ grounds_length (map (clause_at f) g.grounds) ∙ length-map g.grounds (clause_at f)
   counts p kinds.Step = count_4 inputs axioms members grounds steps input_group axiom_group own_members ground_group step_group ∙ steps_length (map (step_of f) g.steps) ∙ length-map g.steps (step_of f)
 
-  more_0 : (i : Item) → last_rank (items_of r f g) ≤ 0 → (inputs ++ i ∷ []) ++ (axioms ++ (members ++ (grounds ++ steps))) ≡ items_of r f g ++ i ∷ []
+  more_0 : (i : Item) → last_rank (items_of (shape_for r v) f g) ≤ 0 → (inputs ++ i ∷ []) ++ (axioms ++ (members ++ (grounds ++ steps))) ≡ items_of (shape_for r v) f g ++ i ∷ []
   more_0 i h = push_0 inputs axioms members grounds steps input_group axiom_group own_members ground_group step_group i h
 
-  more_1 : (i : Item) → last_rank (items_of r f g) ≤ 1 → inputs ++ ((axioms ++ i ∷ []) ++ (members ++ (grounds ++ steps))) ≡ items_of r f g ++ i ∷ []
+  more_1 : (i : Item) → last_rank (items_of (shape_for r v) f g) ≤ 1 → inputs ++ ((axioms ++ i ∷ []) ++ (members ++ (grounds ++ steps))) ≡ items_of (shape_for r v) f g ++ i ∷ []
   more_1 i h = push_1 inputs axioms members grounds steps input_group axiom_group own_members ground_group step_group i h
 
-  more_2 : (i : Item) → last_rank (items_of r f g) ≤ 2 → inputs ++ (axioms ++ ((members ++ i ∷ []) ++ (grounds ++ steps))) ≡ items_of r f g ++ i ∷ []
+  more_2 : (i : Item) → last_rank (items_of (shape_for r v) f g) ≤ 2 → inputs ++ (axioms ++ ((members ++ i ∷ []) ++ (grounds ++ steps))) ≡ items_of (shape_for r v) f g ++ i ∷ []
   more_2 i h = push_2 inputs axioms members grounds steps input_group axiom_group own_members ground_group step_group i h
 
-  more_3 : (i : Item) → last_rank (items_of r f g) ≤ 3 → inputs ++ (axioms ++ (members ++ ((grounds ++ i ∷ []) ++ steps))) ≡ items_of r f g ++ i ∷ []
+  more_3 : (i : Item) → last_rank (items_of (shape_for r v) f g) ≤ 3 → inputs ++ (axioms ++ (members ++ ((grounds ++ i ∷ []) ++ steps))) ≡ items_of (shape_for r v) f g ++ i ∷ []
   more_3 i h = push_3 inputs axioms members grounds steps input_group axiom_group own_members ground_group step_group i h
 
-  more_4 : (i : Item) → inputs ++ (axioms ++ (members ++ (grounds ++ (steps ++ i ∷ [])))) ≡ items_of r f g ++ i ∷ []
+  more_4 : (i : Item) → inputs ++ (axioms ++ (members ++ (grounds ++ (steps ++ i ∷ [])))) ≡ items_of (shape_for r v) f g ++ i ∷ []
   more_4 i = push_4 inputs axioms members grounds steps input_group axiom_group own_members ground_group step_group i
 
-  low : AreGroups r f g → (k : ℕ) → rank_of g.last ≤ k → last_rank (items_of r f g) ≤ k
+  low : AreGroups (shape_for r v) f g → (k : ℕ) → rank_of g.last ≤ k → last_rank (items_of (shape_for r v) f g) ≤ k
   low p k h = subst (λ (j : ℕ). j ≤ k) (sym p.last) h
 
 -- ---- one item more
@@ -250,55 +255,55 @@ module _ (r : Bool) (f : Forest) (g : Groups) where
 abbrev item_of : Forest → Note → List (Signed ℕ) → List GroundHint → Item
 item_of f note c hs = record { clause = clause_at f c; note = note_of note hs }
 
--- the note stands in the form
-abbrev Fits : Bool → Note → List GroundHint → Type 0
-Fits r note hs = fits (header r [] []) (note_of note hs) ≡ true
+-- the note stands in texts of the shape
+abbrev Fits : Shape → Note → List GroundHint → Type 0
+Fits s note hs = fits (header s [] []) (note_of note hs) ≡ true
 
-pub pushed_items : (r : Bool) (f : Forest) (g : Groups) (note : Note) (c : List (Signed ℕ)) (hs : List GroundHint) → AreGroups r f g → rank_of g.last ≤ rank (note_of note hs) → Fits r note hs → items_of r f (pushed note c hs g) ≡ items_of r f g ++ item_of f note c hs ∷ []
-pushed_items r f g (notes.Named w) c hs p l fit =
-    ap (λ (z : List Item). z ++ (axioms r f g ++ (members r f g ++ (grounds r f g ++ steps r f g))))
+pub pushed_items : (r : Bool) (v : ℕ) (f : Forest) (g : Groups) (note : Note) (c : List (Signed ℕ)) (hs : List GroundHint) → AreGroups (shape_for r v) f g → rank_of g.last ≤ rank (note_of note hs) → Fits (shape_for r v) note hs → items_of (shape_for r v) f (pushed note c hs g) ≡ items_of (shape_for r v) f g ++ item_of f note c hs ∷ []
+pushed_items r v f g (notes.Named w) c hs p l fit =
+    ap (λ (z : List Item). z ++ (axioms r v f g ++ (members r v f g ++ (grounds r v f g ++ steps r v f g))))
     (ap (λ (cs : List TreeClause). input_items cs (g.names ++ w ∷ [])) (map_push (clause_at f) g.inputs c) ∙ inputs_push (map (clause_at f) g.inputs) g.names (clause_at f c) w (p.named ∙ sym (length-map g.inputs (clause_at f))))
-    ∙ more_0 r f g (item_of f (notes.Named w) c hs) (low r f g p 0 l)
-pushed_items r f g notes.Equality c hs p l fit =
-    ap (λ (z : List Item). inputs r f g ++ (z ++ (members r f g ++ (grounds r f g ++ steps r f g))))
+    ∙ more_0 r v f g (item_of f (notes.Named w) c hs) (low r v f g p 0 l)
+pushed_items r v f g notes.Equality c hs p l fit =
+    ap (λ (z : List Item). inputs r v f g ++ (z ++ (members r v f g ++ (grounds r v f g ++ steps r v f g))))
     (ap axiom_items (map_push (clause_at f) g.axioms c) ∙ axioms_push (map (clause_at f) g.axioms) (clause_at f c))
-    ∙ more_1 r f g (item_of f notes.Equality c hs) (low r f g p 1 l)
-pushed_items true f g (notes.Member o) c hs p l fit =
-    ap (λ (z : List Item). inputs true f g ++ (axioms true f g ++ (z ++ (grounds true f g ++ steps true f g))))
+    ∙ more_1 r v f g (item_of f notes.Equality c hs) (low r v f g p 1 l)
+pushed_items true v f g (notes.Member o) c hs p l fit =
+    ap (λ (z : List Item). inputs true v f g ++ (axioms true v f g ++ (z ++ (grounds true v f g ++ steps true v f g))))
     (ap member_items (map_push (entry_of f) g.members (record { clause = c; origin = o })) ∙ members_push (map (entry_of f) g.members) (record { clause = clause_at f c; origin = origin_of o }))
-    ∙ more_2 true f g (item_of f (notes.Member o) c hs) (low true f g p 2 l)
-pushed_items false f g (notes.Member o) c hs p l fit = absurd cc
-pushed_items true f g (notes.Selected o k) c hs p l fit = absurd cc
-pushed_items false f g (notes.Selected o k) c hs p l fit =
-    ap (λ (z : List Item). inputs false f g ++ (axioms false f g ++ (z ++ (grounds false f g ++ steps false f g))))
+    ∙ more_2 true v f g (item_of f (notes.Member o) c hs) (low true v f g p 2 l)
+pushed_items false v f g (notes.Member o) c hs p l fit = absurd cc
+pushed_items true v f g (notes.Selected o k) c hs p l fit = absurd cc
+pushed_items false v f g (notes.Selected o k) c hs p l fit =
+    ap (λ (z : List Item). inputs false v f g ++ (axioms false v f g ++ (z ++ (grounds false v f g ++ steps false v f g))))
     (ap (λ (es : List Entry). selected_items es (g.places ++ k ∷ [])) (map_push (entry_of f) g.members (record { clause = c; origin = o }))
     ∙ selected_push (map (entry_of f) g.members) g.places (record { clause = clause_at f c; origin = origin_of o }) k (p.form.0 ∙ sym (length-map g.members (entry_of f))))
-    ∙ more_2 false f g (item_of f (notes.Selected o k) c hs) (low false f g p 2 l)
-pushed_items r f g notes.Ground c hs p l fit =
-    ap (λ (z : List Item). inputs r f g ++ (axioms r f g ++ (members r f g ++ (z ++ steps r f g))))
+    ∙ more_2 false v f g (item_of f (notes.Selected o k) c hs) (low false v f g p 2 l)
+pushed_items r v f g notes.Ground c hs p l fit =
+    ap (λ (z : List Item). inputs r v f g ++ (axioms r v f g ++ (members r v f g ++ (z ++ steps r v f g))))
     (ap ground_items (map_push (clause_at f) g.grounds c) ∙ grounds_push (map (clause_at f) g.grounds) (clause_at f c))
-    ∙ more_3 r f g (item_of f notes.Ground c hs) (low r f g p 3 l)
-pushed_items r f g notes.Shown c hs p l fit =
-    ap (λ (z : List Item). inputs r f g ++ (axioms r f g ++ (members r f g ++ (grounds r f g ++ z))))
+    ∙ more_3 r v f g (item_of f notes.Ground c hs) (low r v f g p 3 l)
+pushed_items r v f g notes.Shown c hs p l fit =
+    ap (λ (z : List Item). inputs r v f g ++ (axioms r v f g ++ (members r v f g ++ (grounds r v f g ++ z))))
     (ap step_items (map_push (step_of f) g.steps (record { clause = c; hints = hs })) ∙ steps_push (map (step_of f) g.steps) (record { clause = clause_at f c; hints = map hint_of hs }))
-    ∙ more_4 r f g (item_of f notes.Shown c hs)
+    ∙ more_4 r v f g (item_of f notes.Shown c hs)
 
-pub last_of : (r : Bool) (f : Forest) (g : Groups) (note : Note) (c : List (Signed ℕ)) (hs : List GroundHint) → items_of r f (pushed note c hs g) ≡ items_of r f g ++ item_of f note c hs ∷ [] → last_rank (items_of r f (pushed note c hs g)) ≡ rank (note_of note hs)
-last_of r f g note c hs e = ap last_rank e ∙ last_push 0 (items_of r f g) (item_of f note c hs)
+pub last_of : (r : Bool) (v : ℕ) (f : Forest) (g : Groups) (note : Note) (c : List (Signed ℕ)) (hs : List GroundHint) → items_of (shape_for r v) f (pushed note c hs g) ≡ items_of (shape_for r v) f g ++ item_of f note c hs ∷ [] → last_rank (items_of (shape_for r v) f (pushed note c hs g)) ≡ rank (note_of note hs)
+last_of r v f g note c hs e = ap last_rank e ∙ last_push 0 (items_of (shape_for r v) f g) (item_of f note c hs)
 
 one_longer : {A B : Type 0} (xs : List A) (ys : List B) (x : A) (y : B) → length xs ≡ length ys → length (xs ++ x ∷ []) ≡ length (ys ++ y ∷ [])
 one_longer xs ys x y h = length_push xs x ∙ ap (λ (n : ℕ). n + 1) h ∙ sym (length_push ys y)
 
-inputs_form : (r : Bool) (g : Groups) (cs : List (List (Signed ℕ))) (ws : List (List ℕ)) (k : Group) → HasForm r g → HasForm r (record g { inputs = cs; names = ws; last = k })
-inputs_form true g cs ws k h = tt
-inputs_form false g cs ws k h = h
+inputs_form : (r : Bool) (v : ℕ) (g : Groups) (cs : List (List (Signed ℕ))) (ws : List (List ℕ)) (k : Group) → HasForm (shape_for r v) g → HasForm (shape_for r v) (record g { inputs = cs; names = ws; last = k })
+inputs_form true v g cs ws k h = tt
+inputs_form false v g cs ws k h = h
 
-axioms_form : (r : Bool) (g : Groups) (cs : List (List (Signed ℕ))) (k : Group) → HasForm r g → HasForm r (record g { axioms = cs; last = k })
-axioms_form true g cs k h = tt
-axioms_form false g cs k h = h
+axioms_form : (r : Bool) (v : ℕ) (g : Groups) (cs : List (List (Signed ℕ))) (k : Group) → HasForm (shape_for r v) g → HasForm (shape_for r v) (record g { axioms = cs; last = k })
+axioms_form true v g cs k h = tt
+axioms_form false v g cs k h = h
 
-pub pushed_groups : (r : Bool) (f : Forest) (g : Groups) (note : Note) (c : List (Signed ℕ)) (hs : List GroundHint) → AreGroups r f g → rank_of g.last ≤ rank (note_of note hs) → Fits r note hs → IsWholeClause f c → AreGroups r f (pushed note c hs g)
-pushed_groups r f g (notes.Named w) c hs p l fit whole = record {
+pub pushed_groups : (r : Bool) (v : ℕ) (f : Forest) (g : Groups) (note : Note) (c : List (Signed ℕ)) (hs : List GroundHint) → AreGroups (shape_for r v) f g → rank_of g.last ≤ rank (note_of note hs) → Fits (shape_for r v) note hs → IsWholeClause f c → AreGroups (shape_for r v) f (pushed note c hs g)
+pushed_groups r v f g (notes.Named w) c hs p l fit whole = record {
   bank = p.bank;
   inputs = All-push (IsWholeClause f) g.inputs c p.inputs whole;
   named = one_longer g.names g.inputs w c p.named;
@@ -306,10 +311,10 @@ pushed_groups r f g (notes.Named w) c hs p l fit whole = record {
   members = p.members;
   grounds = p.grounds;
   steps = p.steps;
-  form = inputs_form r g (g.inputs ++ c ∷ []) (g.names ++ w ∷ []) kinds.Input p.form;
-  last = last_of r f g (notes.Named w) c hs (pushed_items r f g (notes.Named w) c hs p l fit);
+  form = inputs_form r v g (g.inputs ++ c ∷ []) (g.names ++ w ∷ []) kinds.Input p.form;
+  last = last_of r v f g (notes.Named w) c hs (pushed_items r v f g (notes.Named w) c hs p l fit);
 }
-pushed_groups r f g notes.Equality c hs p l fit whole = record {
+pushed_groups r v f g notes.Equality c hs p l fit whole = record {
   bank = p.bank;
   inputs = p.inputs;
   named = p.named;
@@ -317,10 +322,10 @@ pushed_groups r f g notes.Equality c hs p l fit whole = record {
   members = p.members;
   grounds = p.grounds;
   steps = p.steps;
-  form = axioms_form r g (g.axioms ++ c ∷ []) kinds.Axiom p.form;
-  last = last_of r f g notes.Equality c hs (pushed_items r f g notes.Equality c hs p l fit);
+  form = axioms_form r v g (g.axioms ++ c ∷ []) kinds.Axiom p.form;
+  last = last_of r v f g notes.Equality c hs (pushed_items r v f g notes.Equality c hs p l fit);
 }
-pushed_groups true f g (notes.Member o) c hs p l fit whole = record {
+pushed_groups true v f g (notes.Member o) c hs p l fit whole = record {
   bank = p.bank;
   inputs = p.inputs;
   named = p.named;
@@ -329,11 +334,11 @@ pushed_groups true f g (notes.Member o) c hs p l fit whole = record {
   grounds = p.grounds;
   steps = p.steps;
   form = tt;
-  last = last_of true f g (notes.Member o) c hs (pushed_items true f g (notes.Member o) c hs p l fit);
+  last = last_of true v f g (notes.Member o) c hs (pushed_items true v f g (notes.Member o) c hs p l fit);
 }
-pushed_groups false f g (notes.Member o) c hs p l fit whole = absurd cc
-pushed_groups true f g (notes.Selected o k) c hs p l fit whole = absurd cc
-pushed_groups false f g (notes.Selected o k) c hs p l fit whole = record {
+pushed_groups false v f g (notes.Member o) c hs p l fit whole = absurd cc
+pushed_groups true v f g (notes.Selected o k) c hs p l fit whole = absurd cc
+pushed_groups false v f g (notes.Selected o k) c hs p l fit whole = record {
   bank = p.bank;
   inputs = p.inputs;
   named = p.named;
@@ -342,9 +347,9 @@ pushed_groups false f g (notes.Selected o k) c hs p l fit whole = record {
   grounds = p.grounds;
   steps = p.steps;
   form = (one_longer g.places g.members k (record { clause = c; origin = o }) p.form.0, p.form.1, p.form.2);
-  last = last_of false f g (notes.Selected o k) c hs (pushed_items false f g (notes.Selected o k) c hs p l fit);
+  last = last_of false v f g (notes.Selected o k) c hs (pushed_items false v f g (notes.Selected o k) c hs p l fit);
 }
-pushed_groups true f g notes.Ground c hs p l fit whole = record {
+pushed_groups true v f g notes.Ground c hs p l fit whole = record {
   bank = p.bank;
   inputs = p.inputs;
   named = p.named;
@@ -353,10 +358,10 @@ pushed_groups true f g notes.Ground c hs p l fit whole = record {
   grounds = All-push (IsWholeClause f) g.grounds c p.grounds whole;
   steps = p.steps;
   form = tt;
-  last = last_of true f g notes.Ground c hs (pushed_items true f g notes.Ground c hs p l fit);
+  last = last_of true v f g notes.Ground c hs (pushed_items true v f g notes.Ground c hs p l fit);
 }
-pushed_groups false f g notes.Ground c hs p l fit whole = absurd cc
-pushed_groups true f g notes.Shown c hs p l fit whole = record {
+pushed_groups false v f g notes.Ground c hs p l fit whole = absurd cc
+pushed_groups true v f g notes.Shown c hs p l fit whole = record {
   bank = p.bank;
   inputs = p.inputs;
   named = p.named;
@@ -365,24 +370,24 @@ pushed_groups true f g notes.Shown c hs p l fit whole = record {
   grounds = p.grounds;
   steps = All-push (λ (s : GroundStep). IsWholeClause f s.clause) g.steps (record { clause = c; hints = hs }) p.steps whole;
   form = tt;
-  last = last_of true f g notes.Shown c hs (pushed_items true f g notes.Shown c hs p l fit);
+  last = last_of true v f g notes.Shown c hs (pushed_items true v f g notes.Shown c hs p l fit);
 }
-pushed_groups false f g notes.Shown c hs p l fit whole = absurd cc
+pushed_groups false v f g notes.Shown c hs p l fit whole = absurd cc
 
 -- ---- a bank that has grown
 
 module _ (f h : Forest) (grown : Extends f h) where
-  pub grown_items : (r : Bool) (g : Groups) → AreGroups r f g → items_of r h g ≡ items_of r f g
-  grown_items r g p =
+  pub grown_items : (s : Shape) (g : Groups) → AreGroups s f g → items_of s h g ≡ items_of s f g
+  grown_items s g p =
       let i = clauses_same f h grown g.inputs p.inputs in
       let a = clauses_same f h grown g.axioms p.axioms in
       let m = members_same f h grown g.members p.members in
       let k = clauses_same f h grown g.grounds p.grounds in
-      let s = steps_same f h grown g.steps p.steps in
-      λ j. input_items (i j) g.names ++ (axiom_items (a j) ++ (members_by r (m j) g.places ++ (ground_items (k j) ++ step_items (s j))))
+      let z = steps_same f h grown g.steps p.steps in
+      λ j. input_items (i j) g.names ++ (axiom_items (a j) ++ (members_by s (m j) g.places ++ (ground_items (k j) ++ step_items (z j))))
 
-  pub grown_groups : (r : Bool) (g : Groups) → AreFormed h → AreGroups r f g → AreGroups r h g
-  grown_groups r g formed p = record {
+  pub grown_groups : (s : Shape) (g : Groups) → AreFormed h → AreGroups s f g → AreGroups s h g
+  grown_groups s g formed p = record {
     bank = formed;
     inputs = clauses_grown f h grown g.inputs p.inputs;
     named = p.named;
@@ -391,7 +396,7 @@ module _ (f h : Forest) (grown : Extends f h) where
     grounds = clauses_grown f h grown g.grounds p.grounds;
     steps = steps_grown f h grown g.steps p.steps;
     form = p.form;
-    last = ap last_rank (grown_items r g p) ∙ p.last;
+    last = ap last_rank (grown_items s g p) ∙ p.last;
   }
 
 -- ---- no items
@@ -399,6 +404,9 @@ module _ (f h : Forest) (grown : Extends f h) where
 abbrev no_groups : Groups
 no_groups = record { inputs = []; names = []; axioms = []; members = []; places = []; grounds = []; steps = []; last = kinds.Input }
 
-pub empty_items : (r : Bool) (f : Forest) (g : Groups) → g ≡ no_groups → items_of r f g ≡ []
-empty_items true f g e = ap (items_of true f) e
-empty_items false f g e = ap (items_of false f) e
+pub empty_items : (s : Shape) (f : Forest) (g : Groups) → g ≡ no_groups → items_of s f g ≡ []
+empty_items s f g e = ap (items_of s f) e ∙ no_items s.refutation
+  where
+    no_items : (r : Bool) → cond r (member_items []) (selected_items [] []) ++ [] ≡ []
+    no_items true = refl
+    no_items false = refl

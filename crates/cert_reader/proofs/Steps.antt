@@ -8,17 +8,17 @@ use Rattle.std.proofs.lemmas.Slice.Eq.{bytes_eq-Decides}
 use Rattle.inst_logic.specs.Equal.{bool_eq}
 use Rattle.inst_logic.specs.EqualLaws.{bool_eq_decides}
 use Rattle.inst_logic.specs.Printing.{is_readable_name}
-use Rattle.cert_format.specs.LineMachine.{Item, Header, Line, status, opening, version, constant, item, closing, State, nothing, begun, opened, awaits, body, done, guarded}
+use Rattle.cert_format.specs.LineMachine.{Item, Header, Line, status, opening, version, constant, item, closing, State, nothing, begun, opened, awaits, body, done, guarded, is_complete}
 use Rattle.cert_format.specs.LineTexts.{line, line_text, is_text_name}
 use Rattle.cert_format.specs.Printable.{IsTextName}
-use Rattle.cert_format.specs.FirstFormat.{step, is_done, text_of_lines, Leads}
-use Rattle.cert_format.proofs.FirstFormat.{exact, guard_is}
+use Rattle.cert_format.specs.Formats.{is_known, step, is_done, text_of_lines, Leads}
+use Rattle.cert_format.proofs.Formats.{exact, guard_is}
 use Rattle.cert_format.proofs.LineNotes.{line_more}
 use Rattle.cert_format.proofs.Machines.{run_more, texts_append}
-use Rattle.inst_logic.proofs.Numbers.{number_is}
 use Rattle.cert_format.proofs.Exits.{NoLine}
 use Rattle.cert_format.proofs.Taken.{bad_line, not_taken, begins}
-use Rattle.cert_reader.specs.Bodies.{header, IsRefusedAt, NoNextItem}
+use Rattle.cert_items.specs.Items.{shape_of}
+use Rattle.cert_reader.specs.Bodies.{header, refutation_in, saturation_in, IsRefusedAt, NoNextItem}
 
 -- ---- no line
 
@@ -34,22 +34,20 @@ no_opening r n x bad (opening q m) u y e k =
     bad y (k ∙ line_more (opening q m) [] y ∙ ap (λ (l : Line). line l y) (sym (ap₂ opening form same)))
 no_opening r n x bad _ u y e k = absurd cc
 
-pub no_version : (r : Bool) (n x : List ℕ) → ((y : List ℕ) → x ≢ line (version 1) y) → NoLine (opened r n) x
-no_version r n x bad (version f) u y e k =
-    let one = number_is f 1 (guard_is _ _ _ e) in
-    bad y (k ∙ line_more (version f) [] y ∙ ap (λ (j : ℕ). line (version j) y) one)
+pub no_version : (r : Bool) (n x : List ℕ) → ((f : ℕ) (y : List ℕ) → is_known f ≡ true → x ≢ line (version f) y) → NoLine (opened r n) x
+no_version r n x bad (version f) u y e k = bad f y (guard_is _ _ _ e) (k ∙ line_more (version f) [] y)
 no_version r n x bad _ u y e k = absurd cc
 
-pub no_constant : (n x : List ℕ) → ((c y : List ℕ) → is_readable_name c ≡ true → x ≢ line (constant c) y) → NoLine (awaits 1 n) x
-no_constant n x bad (constant c) u y e k = bad c y (guard_is _ _ _ e) (k ∙ line_more (constant c) [] y)
-no_constant n x bad _ u y e k = absurd cc
+pub no_constant : (f : ℕ) (n x : List ℕ) → ((c y : List ℕ) → is_readable_name c ≡ true → x ≢ line (constant c) y) → NoLine (awaits f n) x
+no_constant f n x bad (constant c) u y e k = bad c y (guard_is _ _ _ e) (k ∙ line_more (constant c) [] y)
+no_constant f n x bad _ u y e k = absurd cc
 
-pub no_next : (h : Header) (is : List Item) (x : List ℕ) → NoNextItem h.refutation is x → ((y : List ℕ) → x ≢ line (closing h.refutation h.name) y) → NoLine (body h is) x
+pub no_next : (h : Header) (is : List Item) (x : List ℕ) → NoNextItem (shape_of h) is x → ((y : List ℕ) → x ≢ line (closing h.refutation h.name) y) → NoLine (body h is) x
 no_next h is x bad last (item n c note) u y e k = bad h refl n c note y (guard_is _ _ _ e) (k ∙ line_more (item n c note) [] y)
 no_next h is x bad last (closing r m) u y e k =
-    let a = and_parts (bool_eq h.refutation r) (bytes_eq h.name m) (and_parts (is_text_name m) _ (guard_is _ _ _ e)).1 in
+    let a = and_parts (bool_eq h.refutation r) _ (and_parts (is_text_name m) _ (guard_is _ _ _ e)).1 in
     let form = (bool_eq_decides h.refutation r).0 a.0 in
-    let same = (bytes_eq-Decides h.name m).0 a.1 in
+    let same = (bytes_eq-Decides h.name m).0 (and_parts (bytes_eq h.name m) (is_complete h is) a.1).0 in
     last y (k ∙ line_more (closing r m) [] y ∙ ap (λ (l : Line). line l y) (sym (ap₂ closing form same)))
 no_next h is x bad last _ u y e k = absurd cc
 
@@ -71,17 +69,23 @@ one_line r n h = one_more [] (status r n) nothing (begun r n) refl (ap (λ (b : 
 pub two_leads : (r : Bool) (n : List ℕ) → is_text_name n ≡ true → Leads (status r n ∷ opening r n ∷ []) (opened r n)
 two_leads r n h = one_more (status r n ∷ []) (opening r n) (begun r n) (opened r n) (one_line r n h) (ap (λ (b : Bool). guarded b (opened r n)) (same_header r n h))
 
-pub saturation_leads : (n : List ℕ) → is_text_name n ≡ true → Leads (status false n ∷ opening false n ∷ version 1 ∷ []) (body (header false n []) [])
-saturation_leads n h = one_more (status false n ∷ opening false n ∷ []) (version 1) (opened false n) (body (header false n []) []) (two_leads false n h) refl
+pub saturation_leads : (f : ℕ) (n : List ℕ) → is_known f ≡ true → is_text_name n ≡ true → Leads (status false n ∷ opening false n ∷ version f ∷ []) (body (header (saturation_in f) n []) [])
+saturation_leads f n known h =
+    let s = body (header (saturation_in f) n []) [] in
+    one_more (status false n ∷ opening false n ∷ []) (version f) (opened false n) s (two_leads false n h) (ap (λ (b : Bool). guarded b s) known)
 
-pub refutation_leads : (n : List ℕ) → is_text_name n ≡ true → Leads (status true n ∷ opening true n ∷ version 1 ∷ []) (awaits 1 n)
-refutation_leads n h = one_more (status true n ∷ opening true n ∷ []) (version 1) (opened true n) (awaits 1 n) (two_leads true n h) refl
+pub refutation_leads : (f : ℕ) (n : List ℕ) → is_known f ≡ true → is_text_name n ≡ true → Leads (status true n ∷ opening true n ∷ version f ∷ []) (awaits f n)
+refutation_leads f n known h = one_more (status true n ∷ opening true n ∷ []) (version f) (opened true n) (awaits f n) (two_leads true n h) (ap (λ (b : Bool). guarded b (awaits f n)) known)
 
-pub constant_leads : (n c : List ℕ) → is_text_name n ≡ true → is_readable_name c ≡ true → Leads (status true n ∷ opening true n ∷ version 1 ∷ constant c ∷ []) (body (header true n c) [])
-constant_leads n c h k = one_more (status true n ∷ opening true n ∷ version 1 ∷ []) (constant c) (awaits 1 n) (body (header true n c) []) (refutation_leads n h) (ap (λ (b : Bool). guarded b (body (header true n c) [])) k)
+pub constant_leads : (f : ℕ) (n c : List ℕ) → is_known f ≡ true → is_text_name n ≡ true → is_readable_name c ≡ true → Leads (status true n ∷ opening true n ∷ version f ∷ constant c ∷ []) (body (header (refutation_in f) n c) [])
+constant_leads f n c known h k =
+    let s = body (header (refutation_in f) n c) [] in
+    one_more (status true n ∷ opening true n ∷ version f ∷ []) (constant c) (awaits f n) s (refutation_leads f n known h) (ap (λ (b : Bool). guarded b s) k)
 
-pub closing_step : (h : Header) (is : List Item) → is_text_name h.name ≡ true → step (body h is) (closing h.refutation h.name) ≡ Some (done h is)
-closing_step h is k = ap (λ (b : Bool). guarded b (done h is)) (same_header h.refutation h.name k)
+pub closing_step : (h : Header) (is : List Item) → is_text_name h.name ≡ true → is_complete h is ≡ true → step (body h is) (closing h.refutation h.name) ≡ Some (done h is)
+closing_step h is k complete =
+    ap (λ (b : Bool). guarded b (done h is))
+    (and_from (is_text_name h.name) _ k (and_from (bool_eq h.refutation h.refutation) _ (same_bool h.refutation) (and_from (bytes_eq h.name h.name) (is_complete h is) ((bytes_eq-Decides h.name h.name).1 refl) complete)))
 
 -- ---- texts
 

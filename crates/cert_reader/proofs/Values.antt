@@ -18,10 +18,11 @@ use Rattle.cert_format.specs.Certificate as format
 use Rattle.cert_format.specs.Printable.{IsNumber, cited_number}
 use Rattle.cert_format.specs.LineMachine.{is_number, Note, named, equality, member, selected, ground_of, shown_by, Item, Header, status, opening, version, constant, closing, count, fits, done}
 use Rattle.cert_format.specs.LineTexts.{origin_is_printable, note_is_printable}
-use Rattle.cert_format.specs.FirstFormat.{clause_is_printable, text_of_lines}
+use Rattle.cert_format.specs.Formats.{clause_is_printable, first_format, is_known, text_of_lines}
+use Rattle.inst_logic.proofs.Numbers.{number_is}
 use Rattle.cert_format.specs.ValueLines.{input_items, axiom_items, member_items, selected_items, ground_items, step_items, item_lines, lines_of}
 use Rattle.cert_format.proofs.ClauseForms.{IsWritableClause}
-use Rattle.cert_format.proofs.FirstFormat.{test_yes}
+use Rattle.cert_format.proofs.Formats.{test_yes}
 use Rattle.cert_format.proofs.LineNotes.{below}
 use Rattle.cert_format.proofs.LineTexts.{text_is}
 use Rattle.cert_format.proofs.Writables.{IsWritableEntry, IsWritableStep, IsWritable, printable}
@@ -30,7 +31,7 @@ use Rattle.saturation_cert.specs.Values.{entry_of, step_of, refutation_of, satur
 use Rattle.cert_items.specs.declared.group.Group.TheVariants as kinds
 use Rattle.cert_reader.specs.declared.certificate.Certificate.TheVariants as forms
 use Rattle.cert_reader.specs.declared.groups.Groups.{Groups}
-use Rattle.cert_reader.specs.Bodies.{header, is_good, lines_up_to, IsComplete}
+use Rattle.cert_reader.specs.Bodies.{header, refutation_in, saturation_in, is_good, lines_up_to, IsComplete}
 use Rattle.cert_reader.specs.Groups.{items_of, AreGroups, refutation_by, saturation_by}
 use Rattle.cert_reader.specs.Reads.{IsTextOf, IsWholeCertificate, value_of}
 use Rattle.cert_reader.proofs.Pushes.{counts}
@@ -94,8 +95,8 @@ steps_good h (s ∷ ss) g =
 mapped_length : {A B : Type 0} (f : A → B) (xs : List A) (n : ℕ) → n ≡ length xs → n < 2 ^ 64 → length (map f xs) < 2 ^ 64
 mapped_length f xs n e h = subst (λ (k : ℕ). k < 2 ^ 64) (e ∙ sym (length-map xs f)) h
 
-refuted : (f : Forest) (g : Groups) (bot : Sym) (h : Header) → is_constant bot ≡ true → is_readable_name bot.name ≡ true → AreGroups true f g → list_all (is_good h) (items_of true f g) ≡ true → ((k : ℕ) → count k (items_of true f g) < 2 ^ 64) → IsWritable (format.first_refutation (refutation_of (refutation_by f g bot)))
-refuted f g bot h constant_is readable p good few =
+refuted : (v : ℕ) (f : Forest) (g : Groups) (bot : Sym) (h : Header) → is_constant bot ≡ true → is_readable_name bot.name ≡ true → AreGroups (refutation_in v) f g → list_all (is_good h) (items_of (refutation_in v) f g) ≡ true → ((k : ℕ) → count k (items_of (refutation_in v) f g) < 2 ^ 64) → IsWritable (format.first_refutation (refutation_of (refutation_by f g bot)))
+refuted v f g bot h constant_is readable p good few =
     let A = input_items (map (clause_at f) g.inputs) g.names in
     let B = axiom_items (map (clause_at f) g.axioms) in
     let C = member_items (map (entry_of f) g.members) in
@@ -114,20 +115,20 @@ refuted f g bot h constant_is readable p good few =
         names = i.1;
         axioms = axioms_good h (map (clause_at f) g.axioms) b.0;
         members = members_good h (map (entry_of f) g.members) c.0;
-        input_count = mapped_length (clause_at f) g.inputs (count 0 (items_of true f g)) (counts true f g p kinds.Input) (few 0);
-        axiom_count = mapped_length (clause_at f) g.axioms (count 1 (items_of true f g)) (counts true f g p kinds.Axiom) (few 1);
-        member_count = mapped_length (entry_of f) g.members (count 2 (items_of true f g)) (counts true f g p kinds.Member) (few 2);
+        input_count = mapped_length (clause_at f) g.inputs (count 0 (items_of (refutation_in v) f g)) (counts true v f g p kinds.Input) (few 0);
+        axiom_count = mapped_length (clause_at f) g.axioms (count 1 (items_of (refutation_in v) f g)) (counts true v f g p kinds.Axiom) (few 1);
+        member_count = mapped_length (entry_of f) g.members (count 2 (items_of (refutation_in v) f g)) (counts true v f g p kinds.Member) (few 2);
       };
       constant = constant_is;
       bot_name = readable;
       grounds = grounds_good h (map (clause_at f) g.grounds) d.0;
       steps = steps_good h (map (step_of f) g.steps) d.1;
-      ground_count = mapped_length (clause_at f) g.grounds (count 3 (items_of true f g)) (counts true f g p kinds.Ground) (few 3);
-      step_count = mapped_length (step_of f) g.steps (count 4 (items_of true f g)) (counts true f g p kinds.Step) (few 4);
+      ground_count = mapped_length (clause_at f) g.grounds (count 3 (items_of (refutation_in v) f g)) (counts true v f g p kinds.Ground) (few 3);
+      step_count = mapped_length (step_of f) g.steps (count 4 (items_of (refutation_in v) f g)) (counts true v f g p kinds.Step) (few 4);
     }
 
-saturated : (f : Forest) (g : Groups) (h : Header) → AreGroups false f g → list_all (is_good h) (items_of false f g) ≡ true → ((k : ℕ) → count k (items_of false f g) < 2 ^ 64) → IsWritable (format.saturation (saturation_of (saturation_by f g)))
-saturated f g h p good few =
+saturated : (v : ℕ) (f : Forest) (g : Groups) (h : Header) → AreGroups (saturation_in v) f g → list_all (is_good h) (items_of (saturation_in v) f g) ≡ true → ((k : ℕ) → count k (items_of (saturation_in v) f g) < 2 ^ 64) → IsWritable (format.saturation (saturation_of (saturation_by f g)))
+saturated v f g h p good few =
     let A = input_items (map (clause_at f) g.inputs) g.names in
     let B = axiom_items (map (clause_at f) g.axioms) in
     let C = selected_items (map (entry_of f) g.members) g.places in
@@ -146,9 +147,9 @@ saturated f g h p good few =
         names = i.1;
         axioms = axioms_good h (map (clause_at f) g.axioms) b.0;
         members = m.0;
-        input_count = mapped_length (clause_at f) g.inputs (count 0 (items_of false f g)) (counts false f g p kinds.Input) (few 0);
-        axiom_count = mapped_length (clause_at f) g.axioms (count 1 (items_of false f g)) (counts false f g p kinds.Axiom) (few 1);
-        member_count = mapped_length (entry_of f) g.members (count 2 (items_of false f g)) (counts false f g p kinds.Member) (few 2);
+        input_count = mapped_length (clause_at f) g.inputs (count 0 (items_of (saturation_in v) f g)) (counts false v f g p kinds.Input) (few 0);
+        axiom_count = mapped_length (clause_at f) g.axioms (count 1 (items_of (saturation_in v) f g)) (counts false v f g p kinds.Axiom) (few 1);
+        member_count = mapped_length (entry_of f) g.members (count 2 (items_of (saturation_in v) f g)) (counts false v f g p kinds.Member) (few 2);
       };
       placed = placed_is;
       places = m.1;
@@ -156,40 +157,41 @@ saturated f g h p good few =
 
 -- ---- the text is the certificate's
 
-pub refutation_read : (text : List ℕ) (f : Forest) (g : Groups) (bot : Sym) (name : List ℕ) → is_constant bot ≡ true → is_readable_name bot.name ≡ true → AreGroups true f g → IsComplete text (header true name bot.name) (items_of true f g) → IsTextOf text (value_of (forms.Refutation (refutation_by f g bot)))
-refutation_read text f g bot name constant_is readable p c =
-    let v = format.first_refutation (refutation_of (refutation_by f g bot)) in
-    let h = header true name bot.name in
+first_known : (v : ℕ) → is_known v ≡ true → v ≡ first_format
+first_known v k = number_is v first_format k
+
+pub refutation_read : (text : List ℕ) (v : ℕ) (f : Forest) (g : Groups) (bot : Sym) (name : List ℕ) → is_constant bot ≡ true → is_readable_name bot.name ≡ true → is_known v ≡ true → AreGroups (refutation_in v) f g → IsComplete text (header (refutation_in v) name bot.name) (items_of (refutation_in v) f g) → IsTextOf text v name (value_of (forms.Refutation (refutation_by f g bot)))
+refutation_read text v f g bot name constant_is readable known p c =
+    let w = format.first_refutation (refutation_of (refutation_by f g bot)) in
+    let h = header (refutation_in v) name bot.name in
     record {
-      name = name;
-      name_is = name_is true name (opening true name ∷ version 1 ∷ constant bot.name ∷ (item_lines [] (items_of true f g) ++ closing true name ∷ [])) (done h (items_of true f g)) c.leads;
-      printable = printable v (refuted f g bot h constant_is readable p c.good c.few);
-      is = c.text_is ∙ sym (text_is name v);
+      name_is = name_is true name (opening true name ∷ version v ∷ constant bot.name ∷ (item_lines [] (items_of (refutation_in v) f g) ++ closing true name ∷ [])) (done h (items_of (refutation_in v) f g)) c.leads;
+      printable = printable v w (first_known v known) (refuted v f g bot h constant_is readable p c.good c.few);
+      is = c.text_is ∙ sym (text_is v name w);
     }
 
-saturation_lines : (f : Forest) (g : Groups) (name : List ℕ) → AreGroups false f g → lines_up_to (header false name []) (items_of false f g) ++ closing false name ∷ [] ≡ lines_of 1 name (format.saturation (saturation_of (saturation_by f g)))
-saturation_lines f g name p =
+saturation_lines : (v : ℕ) (f : Forest) (g : Groups) (name : List ℕ) → AreGroups (saturation_in v) f g → lines_up_to (header (saturation_in v) name []) (items_of (saturation_in v) f g) ++ closing false name ∷ [] ≡ lines_of v name (format.saturation (saturation_of (saturation_by f g)))
+saturation_lines v f g name p =
     let A = input_items (map (clause_at f) g.inputs) g.names in
     let B = axiom_items (map (clause_at f) g.axioms) in
     let C = selected_items (map (entry_of f) g.members) g.places in
-    let e : items_of false f g ≡ A ++ (B ++ C) =
+    let e : items_of (saturation_in v) f g ≡ A ++ (B ++ C) =
     ap (λ (z : List Item). A ++ (B ++ (C ++ z))) (ap (λ (cs : List (List (Signed ℕ))). ground_items (map (clause_at f) cs) ++ step_items (map (step_of f) g.steps)) p.form.1 ∙ ap (λ (ss : List GroundStep). step_items (map (step_of f) ss)) p.form.2)
     ∙ ap (λ (z : List Item). A ++ (B ++ z)) (append-nil C) in
-    ap (λ (is : List Item). status false name ∷ opening false name ∷ version 1 ∷ (item_lines [] is ++ closing false name ∷ [])) e
+    ap (λ (is : List Item). status false name ∷ opening false name ∷ version v ∷ (item_lines [] is ++ closing false name ∷ [])) e
 
-pub saturation_read : (text : List ℕ) (f : Forest) (g : Groups) (name : List ℕ) → AreGroups false f g → IsComplete text (header false name []) (items_of false f g) → IsTextOf text (value_of (forms.Saturation (saturation_by f g)))
-saturation_read text f g name p c =
-    let v = format.saturation (saturation_of (saturation_by f g)) in
-    let h = header false name [] in
+pub saturation_read : (text : List ℕ) (v : ℕ) (f : Forest) (g : Groups) (name : List ℕ) → is_known v ≡ true → AreGroups (saturation_in v) f g → IsComplete text (header (saturation_in v) name []) (items_of (saturation_in v) f g) → IsTextOf text v name (value_of (forms.Saturation (saturation_by f g)))
+saturation_read text v f g name known p c =
+    let w = format.saturation (saturation_of (saturation_by f g)) in
+    let h = header (saturation_in v) name [] in
     record {
-      name = name;
-      name_is = name_is false name (opening false name ∷ version 1 ∷ (item_lines [] (items_of false f g) ++ closing false name ∷ [])) (done h (items_of false f g)) c.leads;
-      printable = printable v (saturated f g h p c.good c.few);
-      is = c.text_is ∙ ap text_of_lines (saturation_lines f g name p) ∙ sym (text_is name v);
+      name_is = name_is false name (opening false name ∷ version v ∷ (item_lines [] (items_of (saturation_in v) f g) ++ closing false name ∷ [])) (done h (items_of (saturation_in v) f g)) c.leads;
+      printable = printable v w (first_known v known) (saturated v f g h p c.good c.few);
+      is = c.text_is ∙ ap text_of_lines (saturation_lines v f g name p) ∙ sym (text_is v name w);
     }
 
-pub refutation_whole : (f : Forest) (g : Groups) (bot : Sym) → AreGroups true f g → IsWholeCertificate (forms.Refutation (refutation_by f g bot))
-refutation_whole f g bot p = record { base = record { bank = p.bank; inputs = p.inputs; axioms = p.axioms; members = p.members }; grounds = p.grounds; steps = p.steps }
+pub refutation_whole : (v : ℕ) (f : Forest) (g : Groups) (bot : Sym) → AreGroups (refutation_in v) f g → IsWholeCertificate (forms.Refutation (refutation_by f g bot))
+refutation_whole v f g bot p = record { base = record { bank = p.bank; inputs = p.inputs; axioms = p.axioms; members = p.members }; grounds = p.grounds; steps = p.steps }
 
-pub saturation_whole : (f : Forest) (g : Groups) → AreGroups false f g → IsWholeCertificate (forms.Saturation (saturation_by f g))
-saturation_whole f g p = record { bank = p.bank; inputs = p.inputs; axioms = p.axioms; members = p.members }
+pub saturation_whole : (v : ℕ) (f : Forest) (g : Groups) → AreGroups (saturation_in v) f g → IsWholeCertificate (forms.Saturation (saturation_by f g))
+saturation_whole v f g p = record { bank = p.bank; inputs = p.inputs; axioms = p.axioms; members = p.members }

@@ -5,13 +5,23 @@ use Rattle.inst_logic.specs.Clauses.{TreeClause}
 use Rattle.cert_format.specs.Fronts.{IsBadLine}
 use Rattle.cert_format.specs.LineMachine.{Note, Item, Header, Line, status, opening, version, constant, item, closing, body, done, count, fits}
 use Rattle.cert_format.specs.LineTexts.{line, note_is_printable}
-use Rattle.cert_format.specs.FirstFormat.{clause_is_printable, may_follow, text_of_lines, Leads}
+use Rattle.cert_format.specs.Formats.{clause_is_printable, may_follow, text_of_lines, Leads}
 use Rattle.cert_format.specs.ValueLines.{item_lines, IsCertificateText}
+use Rattle.cert_items.specs.Items.{shape_of}
+use Rattle.cert_items.specs.declared.shape.Shape.{Shape}
 use Rattle.cert_reader.specs.declared.body.Ending.{Ending}
 use Rattle.cert_reader.specs.declared.body.Ending.TheVariants.{Complete, BadLine}
 
-abbrev pub header : Bool → List ℕ → List ℕ → Header
-header refutation name bot = record { refutation = refutation; name = name; format = 1; bot = bot }
+-- the shape of a refutation's text in a format, and of a saturation's
+abbrev pub refutation_in : ℕ → Shape
+refutation_in format = record { refutation = true; format = format }
+
+abbrev pub saturation_in : ℕ → Shape
+saturation_in format = record { refutation = false; format = format }
+
+-- the header of a text of the shape
+abbrev pub header : Shape → List ℕ → List ℕ → Header
+header shape name bot = record { refutation = shape.refutation; name = name; format = shape.format; bot = bot }
 
 -- a refutation has a line for its constant
 abbrev pub constant_lines : Bool → List ℕ → List Line
@@ -22,7 +32,7 @@ constant_lines false bot = []
 abbrev pub lines_up_to : Header → List Item → List Line
 lines_up_to h is = status h.refutation h.name ∷ opening h.refutation h.name ∷ version h.format ∷ (constant_lines h.refutation h.bot ++ item_lines [] is)
 
--- the item can be printed in the form
+-- the item can be printed under the header
 abbrev pub is_good : Header → Item → Bool
 is_good h i = fits h i.note && (clause_is_printable i.clause && note_is_printable i.note)
 
@@ -35,17 +45,17 @@ pub record HasRead (text : List ℕ) (h : Header) (is : List Item) (lines : ℕ)
   pub few : (k : ℕ) → count k is < 2 ^ 64
 
 -- one more item, which may follow, is at the front of the text
-pub record IsNextItem (refutation : Bool) (is js : List Item) (bytes rest : List ℕ) : Type 0 where
+pub record IsNextItem (shape : Shape) (is js : List Item) (bytes rest : List ℕ) : Type 0 where
   pub number : ℕ
   pub clause : TreeClause
   pub note : Note
-  pub follows : (h : Header) → h.refutation ≡ refutation → IsTrue (may_follow h is number clause note)
+  pub follows : (h : Header) → shape_of h ≡ shape → IsTrue (may_follow h is number clause note)
   pub one_more : js ≡ is ++ record { clause = clause; note = note } ∷ []
   pub text_is : bytes ≡ line (item number clause note) rest
 
 -- no item that may follow is at the front of the text
-abbrev pub NoNextItem : Bool → List Item → List ℕ → Type 0
-NoNextItem refutation is bytes = (h : Header) → h.refutation ≡ refutation → (n : ℕ) (c : TreeClause) (note : Note) (rest : List ℕ) → IsTrue (may_follow h is n c note) → bytes ≢ line (item n c note) rest
+abbrev pub NoNextItem : Shape → List Item → List ℕ → Type 0
+NoNextItem shape is bytes = (h : Header) → shape_of h ≡ shape → (n : ℕ) (c : TreeClause) (note : Note) (rest : List ℕ) → IsTrue (may_follow h is n c note) → bytes ≢ line (item n c note) rest
 
 -- the last line ends the text
 pub record IsComplete (text : List ℕ) (h : Header) (is : List Item) : Type 0 where

@@ -1,5 +1,5 @@
 -- The items that have been read, group by group.
-use Rattle.std.specs.Prelude.{◌≡◌, ℕ, List, [], ◌∷◌, ◌++◌, length, map, Bool, true, false, ⊤, All}
+use Rattle.std.specs.Prelude.{◌≡◌, ℕ, List, [], ◌∷◌, ◌++◌, length, map, ⊤, All, MatchBool, if◌then◌else◌}
 use Rattle.inst_calculus.specs.Entries.{Entry}
 use Rattle.inst_logic.specs.declared.signed.Signed.{Signed}
 use Rattle.inst_logic.specs.declared.symbol.Sym.{Sym}
@@ -13,6 +13,7 @@ use Rattle.saturation_cert.specs.declared.certificate.Saturation.{Saturation}
 use Rattle.saturation_cert.specs.Values.{entry_of, step_of}
 use Rattle.saturation_cert.specs.Wholes.{IsWholeClause}
 use Rattle.cert_items.specs.Items.{rank_of}
+use Rattle.cert_items.specs.declared.shape.Shape.{Shape}
 use Rattle.cert_items.specs.declared.group.Group.{Group}
 use Rattle.cert_items.specs.declared.group.Group.TheVariants as kinds
 use Rattle.cert_items.specs.declared.note.Note.{Note}
@@ -37,22 +38,20 @@ pushed notes.Ground c hs g = record g { grounds = g.grounds ++ c ∷ []; last = 
 pushed notes.Shown c hs g = record g { steps = g.steps ++ record { clause = c; hints = hs } ∷ []; last = kinds.Step }
 
 -- members have places in a saturation
-abbrev pub members_by : Bool → List Entry → List ℕ → List Item
-members_by true es ps = member_items es
-members_by false es ps = selected_items es ps
+abbrev pub members_by : Shape → List Entry → List ℕ → List Item
+members_by shape es ps = if shape.refutation then member_items es else selected_items es ps
 
--- the items, in the order of a text, of a refutation or a saturation
-abbrev pub items_of : Bool → Forest → Groups → List Item
-items_of refutation f g = input_items (map (clause_at f) g.inputs) g.names ++ (axiom_items (map (clause_at f) g.axioms) ++ (members_by refutation (map (entry_of f) g.members) g.places
+-- the items, in the order of a text of the shape
+abbrev pub items_of : Shape → Forest → Groups → List Item
+items_of shape f g = input_items (map (clause_at f) g.inputs) g.names ++ (axiom_items (map (clause_at f) g.axioms) ++ (members_by shape (map (entry_of f) g.members) g.places
     ++ (ground_items (map (clause_at f) g.grounds) ++ step_items (map (step_of f) g.steps))))
 
 -- a saturation has a place for each member, and neither ground clauses nor steps
-abbrev pub HasForm : Bool → Groups → Type 0
-HasForm true g = ⊤
-HasForm false g = (length g.places ≡ length g.members) × (g.grounds ≡ []) × (g.steps ≡ [])
+abbrev pub HasForm : Shape → Groups → Type 0
+HasForm shape g = MatchBool shape.refutation ⊤ ((length g.places ≡ length g.members) × (g.grounds ≡ []) × (g.steps ≡ []))
 
 -- the items have clauses of the bank, and the last one is of that group
-pub record AreGroups (refutation : Bool) (f : Forest) (g : Groups) : Type 0 where
+pub record AreGroups (shape : Shape) (f : Forest) (g : Groups) : Type 0 where
   pub bank : AreFormed f
   pub inputs : All (IsWholeClause f) g.inputs
   pub named : length g.names ≡ length g.inputs
@@ -60,8 +59,8 @@ pub record AreGroups (refutation : Bool) (f : Forest) (g : Groups) : Type 0 wher
   pub members : All (λ m. IsWholeClause f m.clause) g.members
   pub grounds : All (IsWholeClause f) g.grounds
   pub steps : All (λ s. IsWholeClause f s.clause) g.steps
-  pub form : HasForm refutation g
-  pub last : last_rank (items_of refutation f g) ≡ rank_of g.last
+  pub form : HasForm shape g
+  pub last : last_rank (items_of shape f g) ≡ rank_of g.last
 
 -- ---- the certificate of the items
 

@@ -1,8 +1,9 @@
 -- What is read of a whole text, and why one is refused.
-use Rattle.std.specs.Prelude.{◌≡◌, ◌≢◌, ◌≤◌, ℕ, List, [], ◌∷◌, ◌++◌, length, codes, ⊤, IsTrue}
+use Rattle.std.specs.Prelude.{◌≡◌, ◌≢◌, ◌≤◌, ℕ, List, [], ◌∷◌, ◌++◌, length, codes, decimal, ⊤, IsTrue}
 use Rattle.std.specs.List.{list_all}
 use Rattle.std.specs.Char.{is_ascii_digit}
 use Rattle.cert_format.specs.Certificate as format
+use Rattle.cert_format.specs.Formats.{is_known}
 use Rattle.cert_format.specs.Fronts.{IsFront, IsBadLine}
 use Rattle.cert_format.specs.Printable.{IsPrintable, IsTextName}
 use Rattle.cert_format.specs.Text.{certificate_text}
@@ -21,12 +22,11 @@ abbrev pub value_of : Certificate → format.Certificate
 value_of (forms.Refutation r) = format.first_refutation (refutation_of r)
 value_of (forms.Saturation s) = format.saturation (saturation_of s)
 
--- the certificate is printable, and the text is its text under some name
-pub record IsTextOf (text : List ℕ) (c : format.Certificate) : Type 0 where
-  pub name : List ℕ
+-- the certificate is printable in this format, and the text is its text in it under this name
+pub record IsTextOf (text : List ℕ) (format : ℕ) (name : List ℕ) (c : format.Certificate) : Type 0 where
   pub name_is : IsTextName name
-  pub printable : IsPrintable 1 c
-  pub is : text ≡ certificate_text 1 name c
+  pub printable : IsPrintable format c
+  pub is : text ≡ certificate_text format name c
 
 -- the ids are those of its bank
 abbrev pub IsWholeCertificate : Certificate → Type 0
@@ -35,13 +35,13 @@ IsWholeCertificate (forms.Saturation s) = IsWholeSaturation s
 
 -- ---- what is refused
 
--- 1 to 18 digits, of which the first is not `0`, and which are not `1` alone
+-- 1 to 18 digits, of which the first is not `0`, and which are the number of no format that is read
 pub record IsOtherFormat (word : List ℕ) : Type 0 where
   pub digits : IsTrue (list_all is_ascii_digit word)
   pub some : word ≢ []
   pub few : length word ≤ 18
   pub plain : (rest : List ℕ) → word ≢ byte.digit_zero ∷ rest
-  pub other : word ≢ codes "1"
+  pub other : (format : ℕ) → IsTrue (is_known format) → word ≢ decimal format
 
 -- The first two lines are those of some certificate text, and the third is `% instgen certificate ` with the number of another
 -- format.

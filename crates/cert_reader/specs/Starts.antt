@@ -1,18 +1,21 @@
 -- How the text of a certificate begins.
-use Rattle.std.specs.Prelude.{◌≡◌, ◌≢◌, ℕ, List, ◌∷◌, ◌++◌, Bool, codes, IsTrue}
+use Rattle.std.specs.Prelude.{◌≡◌, ◌≢◌, ℕ, List, ◌∷◌, ◌++◌, codes, IsTrue}
 use Rattle.std.specs.List.{list_all}
 use Rattle.std.specs.Char.{is_ascii_digit}
 use Rattle.cert_format.specs.LineMachine.{status, opening, version}
 use Rattle.cert_format.specs.LineTexts.{line, is_text_name}
+use Rattle.cert_format.specs.Formats.{is_known}
+use Rattle.cert_items.specs.declared.shape.Shape.{Shape}
 use Rattle.cert_reader.specs.Reads.{IsSyntaxAt, IsVersion}
 use Rattle.cert_reader.specs.declared.start.Start.{Start}
 use Rattle.cert_reader.specs.declared.start.Start.TheVariants.{Begun, Bad, Other}
 use Rattle.inst_logic.specs.Codes as byte
 
--- the first three lines, in a certificate's text of this form under this name
-pub record HasBegun (text : List ℕ) (refutation : Bool) (name rest : List ℕ) : Type 0 where
-  pub is : text ≡ line (status refutation name) (line (opening refutation name) (line (version 1) rest))
+-- the first three lines, in a certificate's text of this shape under this name
+pub record HasBegun (text : List ℕ) (shape : Shape) (name rest : List ℕ) : Type 0 where
+  pub is : text ≡ line (status shape.refutation name) (line (opening shape.refutation name) (line (version shape.format) rest))
   pub name_is : IsTrue (is_text_name name)
+  pub known : IsTrue (is_known shape.format)
 
 -- the third line but for the digits
 abbrev pub format_line : List ℕ → List ℕ → List ℕ
@@ -23,6 +26,6 @@ abbrev pub NoFormat : List ℕ → Type 0
 NoFormat bytes = (word rest : List ℕ) → IsTrue (list_all is_ascii_digit word) → bytes ≢ format_line word rest
 
 abbrev pub IsStart : List ℕ → Start → Type 0
-IsStart text (Begun refutation name rest) = HasBegun text refutation name.now rest.now
+IsStart text (Begun shape name rest) = HasBegun text shape name.now rest.now
 IsStart text (Bad line) = IsSyntaxAt text line
 IsStart text (Other word) = IsVersion text word.now

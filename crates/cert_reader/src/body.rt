@@ -1,13 +1,14 @@
 // The items of a text, up to its end.
 ghost use Rattle.std.specs.Prelude.{◌≡◌, ◌+◌, ◌<◌, ◌^◌, List, ℕ, length, IfOk};
 ghost use Rattle.cert_format.specs.LineMachine.{Header};
+ghost use Rattle.cert_items.specs.Items.{shape_of};
 ghost use Rattle.cert_reader.specs.Bodies.{HasRead, EndsSo, ending_behind};
 ghost use Rattle.cert_reader.specs.Groups.{AreGroups, items_of};
 
 use crate::groups::Groups;
 use crate::lines::closing;
 use crate::next::next_item;
-use cert_items::TextBank;
+use cert_items::{Shape, TextBank};
 use inst_logic::Memory;
 use std::alloc::Global;
 
@@ -32,29 +33,29 @@ fn behind_last(lines: usize, rest: &[u8]) -> Ending
     }
 }
 
-/// Reads the items and the last line of a text under this name, of which so many lines have been read.
+/// Reads the items and the last line of a text of the shape under this name, of which so many lines have been read.
 pub fn read_items(
     alloc: Global,
     bank: &mut TextBank,
     groups: &mut Groups,
-    refutation: bool,
+    shape: Shape,
     name: &[u8],
     lines: usize,
     bytes: &[u8],
 ) -> Result<Ending, Memory>
-    requires groups { AreGroups refutation bank.old groups.old }
+    requires groups { AreGroups shape bank.old groups.old }
     requires counted { lines + length bytes.now < 2 ^ 63 }
-    ensures groups { IfOk result (λ e. e ≡ Ending.Complete → AreGroups refutation bank.new groups.new) }
-    ensures ends { (text : List ℕ) (h : Header) → h.refutation ≡ refutation → h.name ≡ name.now → HasRead text h (items_of refutation bank.old groups.old) lines bytes.now
-        → IfOk result (EndsSo text h (items_of refutation bank.new groups.new)) }
+    ensures groups { IfOk result (λ e. e ≡ Ending.Complete → AreGroups shape bank.new groups.new) }
+    ensures ends { (text : List ℕ) (h : Header) → shape_of h ≡ shape → h.name ≡ name.now → HasRead text h (items_of shape bank.old groups.old) lines bytes.now
+        → IfOk result (EndsSo text h (items_of shape bank.new groups.new)) }
 {
     let mut ids = Vec::new(alloc);
     let mut lines = lines;
     let mut rest = bytes;
     loop {
-        match closing(refutation, name, rest) {
+        match closing(shape.refutation, name, rest) {
             Some(behind) => return Ok(behind_last(lines + 1, behind)),
-            None => match next_item(alloc, bank, &mut ids, groups, refutation, rest) {
+            None => match next_item(alloc, bank, &mut ids, groups, shape, rest) {
                 Err(e) => return Err(e),
                 Ok(None) => return Ok(Ending::BadLine(lines + 1)),
                 Ok(Some(after)) => {

@@ -1,4 +1,5 @@
 // What is read.
+use inst_logic::Name;
 use saturation_cert::{Refutation, Saturation};
 
 /// A certificate of either form, as it was read; nobody has checked it.
@@ -6,4 +7,12 @@ use saturation_cert::{Refutation, Saturation};
 pub enum Certificate {
     Refutation(Refutation),
     Saturation(Saturation),
+}
+
+/// A certificate with the name and the number of the format that its text gives.
+#[derive(Drop)]
+pub struct ReadCert {
+    pub name: Name,
+    pub format: u64,
+    pub cert: Certificate,
 }

@@ -12,7 +12,7 @@ pub enum CertError {
     /// it is the line behind the last whole one.
     #[error("line {line} is not one of a certificate")]
     Syntax { line: usize },
-    /// The text begins as one of a certificate, in another format: these are the digits of its number.
+    /// The text begins as one of a certificate, in a format that is not read: these are the digits of its number.
     #[error("the certificate is of another format")]
     Version { word: Name },
     /// Memory was wanted and not given.

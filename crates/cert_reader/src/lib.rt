@@ -13,7 +13,7 @@ mod next;
 mod read;
 mod start;
 
-pub use certificate::Certificate;
+pub use certificate::{Certificate, ReadCert};
 pub use error::CertError;
 pub use laws::readings_are_one;
 pub use read::read_certificate;

@@ -1,8 +1,9 @@
 // The lines around the items, at the front of what is left of a text.
-ghost use Rattle.std.specs.Prelude.{◌≡◌, ◌≢◌, ◌++◌, ◌∷◌, ◌≤◌, ℕ, List, [], Bool, length, false, IsTrue, IfSome, IfNone, codes};
+ghost use Rattle.std.specs.Prelude.{◌≡◌, ◌≢◌, ◌++◌, ◌∷◌, ◌≤◌, ℕ, List, [], Bool, length, false, IsTrue, IfSome, IfNone, codes, decimal};
 ghost use Rattle.std.specs.List.{list_all};
 ghost use Rattle.std.specs.Char.{is_ascii_digit};
 ghost use Rattle.inst_logic.specs.Printing.{is_readable_name};
+ghost use Rattle.cert_format.specs.Formats.{is_known};
 ghost use Rattle.cert_format.specs.Names.{IsNameText};
 ghost use Rattle.cert_format.specs.Runs.{run};
 ghost use Rattle.cert_format.specs.LineMachine as lines;
@@ -130,18 +131,18 @@ pub fn format(bytes: &[u8]) -> Option<(&[u8], &[u8])>
     }
 }
 
-/// Whether these digits are the number of the first format.
-pub fn is_first_format(digits: &[u8]) -> bool
-    ensures yes { IsTrue result → digits.now ≡ codes "1" }
-    ensures no { result ≡ false → digits.now ≢ codes "1" }
+/// The format of which these digits are the number, where it is one that is read.
+pub fn format_of(digits: &[u8]) -> Option<u64>
+    ensures some { IfSome result (λ format. (digits.now ≡ decimal format) × IsTrue (is_known format)) }
+    ensures none { IfNone result ((format : ℕ) → IsTrue (is_known format) → digits.now ≢ decimal format) }
 {
     match digits {
-        [] => false,
-        [first, rest @ ..] => *first == b'1' && rest.is_empty(),
+        [b'1'] => Some(1),
+        _ => None,
     }
 }
 
-/// Whether these digits are the number of another format than the first.
+/// Whether these digits are the number of a format that is not read.
 pub fn is_other_format(digits: &[u8]) -> bool
     requires digits { IsTrue (list_all is_ascii_digit digits.now) }
     ensures yes { IsTrue result → IsOtherFormat digits.now }
@@ -149,9 +150,7 @@ pub fn is_other_format(digits: &[u8]) -> bool
 {
     match digits {
         [] => false,
-        [first, rest @ ..] => {
-            *first != b'0' && digits.len() <= 18 && !(*first == b'1' && rest.is_empty())
-        }
+        [first, ..] => *first != b'0' && digits.len() <= 18 && format_of(digits).is_none(),
     }
 }
 

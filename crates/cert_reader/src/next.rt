@@ -4,7 +4,7 @@ ghost use Rattle.cert_reader.specs.Bodies.{IsNextItem, NoNextItem};
 ghost use Rattle.cert_reader.specs.Groups.{AreGroups, items_of};
 
 use crate::groups::Groups;
-use cert_items::{Item, TextBank, read_item};
+use cert_items::{Item, Shape, TextBank, read_item};
 use inst_logic::Memory;
 use saturation_cert::GroundHintList;
 use std::alloc::Global;
@@ -17,26 +17,18 @@ pub fn next_item<'a>(
     bank: &mut TextBank,
     ids: &mut Vec<TermId>,
     groups: &mut Groups,
-    refutation: bool,
+    shape: Shape,
     bytes: &'a [u8],
 ) -> Result<Option<&'a [u8]>, Memory>
-    requires groups { AreGroups refutation bank.old groups.old }
-    ensures groups { IfOk result (λ r. IfSome r (λ _. AreGroups refutation bank.new groups.new)) }
-    ensures some { IfOk result (λ r. IfSome r (λ rest. IsNextItem refutation (items_of refutation bank.old groups.old) (items_of refutation bank.new groups.new) bytes.now rest.now)) }
-    ensures none { IfOk result (λ r. IfNone r (NoNextItem refutation (items_of refutation bank.old groups.old) bytes.now)) }
+    requires groups { AreGroups shape bank.old groups.old }
+    ensures groups { IfOk result (λ r. IfSome r (λ _. AreGroups shape bank.new groups.new)) }
+    ensures some { IfOk result (λ r. IfSome r (λ rest. IsNextItem shape (items_of shape bank.old groups.old) (items_of shape bank.new groups.new) bytes.now rest.now)) }
+    ensures none { IfOk result (λ r. IfNone r (NoNextItem shape (items_of shape bank.old groups.old) bytes.now)) }
     ensures shorter { IfOk result (λ r. IfSome r (λ rest. length rest.now < length bytes.now)) }
 {
     let mut literals = IdClause::new(alloc);
     let mut hints = GroundHintList::new(alloc);
-    match read_item(
-        alloc,
-        bank,
-        ids,
-        &mut literals,
-        &mut hints,
-        refutation,
-        bytes,
-    ) {
+    match read_item(alloc, bank, ids, &mut literals, &mut hints, shape, bytes) {
         Err(e) => Err(e),
         Ok(None) => Ok(None),
         Ok(

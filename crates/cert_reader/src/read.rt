@@ -1,24 +1,25 @@
 // Whole texts.
-ghost use Rattle.std.specs.Prelude.{◌≡◌, ◌+◌, ◌<◌, ◌^◌, List, ℕ, [], length, true, false, IfOk, IfErr, IsTrue};
+ghost use Rattle.std.specs.Prelude.{◌≡◌, ◌+◌, ◌<◌, ◌^◌, List, ℕ, [], length, IfOk, IfErr, IsTrue};
 ghost use Rattle.std.specs.Result.{IsErrOf};
 ghost use Rattle.inst_logic.specs.Printing.{is_readable_name, name_text};
 ghost use Rattle.cert_format.specs.Names.{IsNameText};
 ghost use Rattle.cert_format.specs.ValueLines.{IsCertificateText};
 ghost use Rattle.inst_logic.specs.WellFormed.{is_constant};
-ghost use Rattle.cert_reader.specs.Bodies.{header, HasRead};
+ghost use Rattle.cert_format.specs.Formats.{is_known};
+ghost use Rattle.cert_reader.specs.Bodies.{header, refutation_in, saturation_in, HasRead};
 ghost use Rattle.cert_reader.specs.Groups.{refutation_by, saturation_by};
 ghost use Rattle.cert_reader.specs.Reads.{HasVersion, IsCause, IsSyntaxAt, IsTextOf, IsVersion, IsWholeCertificate, value_of};
 ghost use Rattle.cert_reader.specs.Starts.{HasBegun};
 ghost use Rattle.cert_reader.specs.declared.error.CertError.TheVariants.{Syntax, Version};
 
 use crate::body::{Ending, read_items};
-use crate::certificate::Certificate;
+use crate::certificate::{Certificate, ReadCert};
 use crate::error::CertError;
 use crate::groups::Groups;
 use crate::lines::constant;
 use crate::start::{Start, begin};
-use cert_items::TextBank;
 use cert_items::symbol::name_of;
+use cert_items::{Shape, TextBank};
 use inst_logic::{Kind, Memory, Name, Sym};
 use saturation_cert::{Base, Refutation, Saturation};
 use std::alloc::Global;
@@ -75,23 +76,29 @@ fn saturation(bank: Bank, groups: Groups) -> Saturation
     }
 }
 
-// The refutation with this constant under this name, of whose text four lines have been read.
+// The refutation with this constant in this format under this name, of whose text four lines have been read.
 fn read_refutation(
     alloc: Global,
     bot: Sym,
+    format: u64,
     name: &[u8],
     bytes: &[u8],
 ) -> Result<Certificate, CertError>
     requires constant { IsTrue (is_constant bot) }
     requires readable { IsTrue (is_readable_name bot.name) }
+    requires known { IsTrue (is_known format) }
     requires counted { 4 + length bytes.now < 2 ^ 63 }
-    ensures read { (text : List ℕ) → HasRead text (header true name.now bot.name) [] 4 bytes.now → IfOk result (λ c. IsTextOf text (value_of c)) }
+    ensures read { (text : List ℕ) → HasRead text (header (refutation_in format) name.now bot.name) [] 4 bytes.now → IfOk result (λ c. IsTextOf text format name.now (value_of c)) }
     ensures whole { IfOk result IsWholeCertificate }
-    ensures refused { (text : List ℕ) → HasRead text (header true name.now bot.name) [] 4 bytes.now → ¬ HasVersion text → IfErr result (IsCause text) }
+    ensures refused { (text : List ℕ) → HasRead text (header (refutation_in format) name.now bot.name) [] 4 bytes.now → ¬ HasVersion text → IfErr result (IsCause text) }
 {
+    let shape = Shape {
+        refutation: true,
+        format,
+    };
     let mut bank = TextBank::new(alloc);
     let mut groups = Groups::new(alloc);
-    match read_items(alloc, &mut bank, &mut groups, true, name, 4, bytes) {
+    match read_items(alloc, &mut bank, &mut groups, shape, name, 4, bytes) {
         Ok(Ending::Complete) => Ok(Certificate::Refutation(refutation(
             bank.into_bank(),
             groups,
@@ -102,16 +109,26 @@ fn read_refutation(
     }
 }
 
-// The saturation under this name, of whose text three lines have been read.
-fn read_saturation(alloc: Global, name: &[u8], bytes: &[u8]) -> Result<Certificate, CertError>
+// The saturation in this format under this name, of whose text three lines have been read.
+fn read_saturation(
+    alloc: Global,
+    format: u64,
+    name: &[u8],
+    bytes: &[u8],
+) -> Result<Certificate, CertError>
+    requires known { IsTrue (is_known format) }
     requires counted { 3 + length bytes.now < 2 ^ 63 }
-    ensures read { (text : List ℕ) → HasRead text (header false name.now []) [] 3 bytes.now → IfOk result (λ c. IsTextOf text (value_of c)) }
+    ensures read { (text : List ℕ) → HasRead text (header (saturation_in format) name.now []) [] 3 bytes.now → IfOk result (λ c. IsTextOf text format name.now (value_of c)) }
     ensures whole { IfOk result IsWholeCertificate }
-    ensures refused { (text : List ℕ) → HasRead text (header false name.now []) [] 3 bytes.now → ¬ HasVersion text → IfErr result (IsCause text) }
+    ensures refused { (text : List ℕ) → HasRead text (header (saturation_in format) name.now []) [] 3 bytes.now → ¬ HasVersion text → IfErr result (IsCause text) }
 {
+    let shape = Shape {
+        refutation: false,
+        format,
+    };
     let mut bank = TextBank::new(alloc);
     let mut groups = Groups::new(alloc);
-    match read_items(alloc, &mut bank, &mut groups, false, name, 3, bytes) {
+    match read_items(alloc, &mut bank, &mut groups, shape, name, 3, bytes) {
         Ok(Ending::Complete) => Ok(Certificate::Saturation(saturation(bank.into_bank(), groups))),
         Ok(Ending::BadLine(line)) => Err(CertError::Syntax { line }),
         Err(Memory) => Err(CertError::Memory),
@@ -133,27 +150,54 @@ fn constant_named(alloc: Global, text: &[u8]) -> Result<Sym, Memory>
     })
 }
 
-// The refutation under this name, of whose text three lines have been read.
-fn begun_refutation(alloc: Global, name: &[u8], bytes: &[u8]) -> Result<Certificate, CertError>
+// The refutation in this format under this name, of whose text three lines have been read.
+fn begun_refutation(
+    alloc: Global,
+    format: u64,
+    name: &[u8],
+    bytes: &[u8],
+) -> Result<Certificate, CertError>
+    requires known { IsTrue (is_known format) }
     requires counted { 3 + length bytes.now < 2 ^ 63 }
-    ensures read { (text : List ℕ) → HasBegun text true name.now bytes.now → IfOk result (λ c. IsTextOf text (value_of c)) }
+    ensures read { (text : List ℕ) → HasBegun text (refutation_in format) name.now bytes.now → IfOk result (λ c. IsTextOf text format name.now (value_of c)) }
     ensures whole { IfOk result IsWholeCertificate }
-    ensures refused { (text : List ℕ) → HasBegun text true name.now bytes.now → IfErr result (IsCause text) }
+    ensures refused { (text : List ℕ) → HasBegun text (refutation_in format) name.now bytes.now → IfErr result (IsCause text) }
 {
     match constant(bytes) {
         None => Err(CertError::Syntax { line: 4 }),
         Some((text, rest)) => {
             let bot = constant_named(alloc, text)?;
-            read_refutation(alloc, bot, name, rest)
+            read_refutation(alloc, bot, format, name, rest)
         }
     }
 }
 
-/// The certificate whose text this is, over a bank of its own. The text is bytes, and need not be UTF-8. What a certificate says
-/// is not checked here: it can be printed, and no more is known of it. The text of a certificate is refused for want of memory alone.
-pub fn read_certificate(alloc: Global, text: &[u8]) -> Result<Certificate, CertError>
-    ensures read { IfOk result (λ c. IsTextOf text.now (value_of c)) }
+// The certificate of the shape under this name, of whose text three lines have been read.
+fn read_begun(
+    alloc: Global,
+    shape: Shape,
+    name: &[u8],
+    bytes: &[u8],
+) -> Result<Certificate, CertError>
+    requires known { IsTrue (is_known shape.format) }
+    requires counted { 3 + length bytes.now < 2 ^ 63 }
+    ensures read { (text : List ℕ) → HasBegun text shape name.now bytes.now → IfOk result (λ c. IsTextOf text shape.format name.now (value_of c)) }
     ensures whole { IfOk result IsWholeCertificate }
+    ensures refused { (text : List ℕ) → HasBegun text shape name.now bytes.now → IfErr result (IsCause text) }
+{
+    if shape.refutation {
+        begun_refutation(alloc, shape.format, name, bytes)
+    } else {
+        read_saturation(alloc, shape.format, name, bytes)
+    }
+}
+
+/// The certificate whose text this is, over a bank of its own, with the name and the format that the text gives. The text is
+/// bytes, and need not be UTF-8. What a certificate says is not checked here: it can be printed, and no more is known of it. The
+/// text of a certificate is refused for want of memory alone.
+pub fn read_certificate(alloc: Global, text: &[u8]) -> Result<ReadCert, CertError>
+    ensures read { IfOk result (λ r. IsTextOf text.now r.format r.name (value_of r.cert)) }
+    ensures whole { IfOk result (λ r. IsWholeCertificate r.cert) }
     ensures syntax { (line : ℕ) → IsErrOf result (Syntax line) → IsSyntaxAt text.now line }
     ensures version { (word : List ℕ) → IsErrOf result (Version word) → IsVersion text.now word }
     ensures taken { IsCertificateText text.now → IfErr result (λ why. why ≡ CertError.Memory) }
@@ -164,12 +208,14 @@ pub fn read_certificate(alloc: Global, text: &[u8]) -> Result<Certificate, CertE
             let word = Name::of(alloc, digits)?;
             Err(CertError::Version { word })
         }
-        Start::Begun(refutation, name, rest) => {
-            if refutation {
-                begun_refutation(alloc, name, rest)
-            } else {
-                read_saturation(alloc, name, rest)
-            }
+        Start::Begun(shape, bytes, rest) => {
+            let name = Name::of(alloc, bytes)?;
+            let cert = read_begun(alloc, shape, bytes, rest)?;
+            Ok(ReadCert {
+                name,
+                format: shape.format,
+                cert,
+            })
         }
     }
 }

@@ -45,12 +45,12 @@ pub fn push_end(pen: &mut Pen, form: &[u8], name: &[u8]) -> Result<(), Memory>
     push_about(pen, b"% SZS output end ", form, name)
 }
 
-// `% instgen certificate 1`
-pub fn push_format(pen: &mut Pen) -> Result<(), Memory>
-    ensures { OnOk result (pen.new ≡ pen.old ++ format_line 1) }
+// `% instgen certificate F`
+pub fn push_format(pen: &mut Pen, format: usize) -> Result<(), Memory>
+    ensures { OnOk result (pen.new ≡ pen.old ++ format_line format) }
 {
     pen.bytes(b"% instgen certificate ")?;
-    pen.number(1)?;
+    pen.number(format)?;
     pen.bytes(b"\n")?;
     Ok(())
 }

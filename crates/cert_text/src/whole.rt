@@ -1,8 +1,9 @@
 // The whole text of a certificate over bytes: what every certificate begins with, its base, and the lines of its form.
 ghost use Rattle.std.specs.Prelude.{◌≡◌, ◌++◌, OnOk};
 ghost use Rattle.cert_format.specs.Certificate.{first_refutation, saturation};
+ghost use Rattle.cert_format.specs.Formats.{written_format};
 ghost use Rattle.cert_format.specs.Lines.{format_line};
-ghost use Rattle.cert_format.specs.Text.{axiom_lines, certificate_text, head_lines, input_lines};
+ghost use Rattle.cert_format.specs.Text.{axiom_lines, head_lines, input_lines, written_text};
 ghost use Rattle.saturation_cert.specs.Values.{base_of, refutation_of, saturation_of};
 ghost use Rattle.saturation_cert.specs.Wholes.{IsWholeBase, IsWholeRefutation, IsWholeSaturation};
 
@@ -14,13 +15,16 @@ use crate::pen::Pen;
 use inst_logic::Memory;
 use saturation_cert::{Base, Refutation, Saturation};
 
+// The number of the format in which certificates are written.
+const WRITTEN_FORMAT: usize = 1;
+
 // The lines that every certificate begins with.
 fn push_head(pen: &mut Pen, status: &[u8], form: &[u8], name: &[u8]) -> Result<(), Memory>
-    ensures { OnOk result (pen.new ≡ pen.old ++ (head_lines status.now form.now name.now ++ format_line 1)) }
+    ensures { OnOk result (pen.new ≡ pen.old ++ (head_lines status.now form.now name.now ++ format_line written_format)) }
 {
     push_status(pen, status, name)?;
     push_start(pen, form, name)?;
-    push_format(pen)
+    push_format(pen, WRITTEN_FORMAT)
 }
 
 // The input clauses and the axioms.
@@ -40,7 +44,7 @@ fn push_base(pen: &mut Pen, base: &Base) -> Result<(), Memory>
 
 pub fn push_refutation(pen: &mut Pen, name: &[u8], cert: &Refutation) -> Result<(), Memory>
     requires { IsWholeRefutation cert.now }
-    ensures { OnOk result (pen.new ≡ pen.old ++ certificate_text 1 name.now (first_refutation (refutation_of cert.now))) }
+    ensures { OnOk result (pen.new ≡ pen.old ++ written_text name.now (first_refutation (refutation_of cert.now))) }
 {
     let base = &cert.base;
     push_head(pen, b"Unsatisfiable", b"CNFRefutation", name)?;
@@ -55,7 +59,7 @@ pub fn push_refutation(pen: &mut Pen, name: &[u8], cert: &Refutation) -> Result<
 
 pub fn push_saturation(pen: &mut Pen, name: &[u8], cert: &Saturation) -> Result<(), Memory>
     requires { IsWholeSaturation cert.now }
-    ensures { OnOk result (pen.new ≡ pen.old ++ certificate_text 1 name.now (saturation (saturation_of cert.now))) }
+    ensures { OnOk result (pen.new ≡ pen.old ++ written_text name.now (saturation (saturation_of cert.now))) }
 {
     let base = &cert.base;
     push_head(pen, b"Satisfiable", b"Saturation", name)?;

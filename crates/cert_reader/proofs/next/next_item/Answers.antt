@@ -13,8 +13,8 @@ use Rattle.cert_reader.proofs.next.next_item.Goals as goal
 
 pub returns-in-Ok-None-clause-none : goal.returns-in-Ok-None-clause-none
 returns-in-Ok-None-clause-none c =
-    no_item_next c.args.refutation (items_of c.args.refutation c.args.bank.now c.args.groups.now) c.args.bytes.now
-    (is_none c.in-Ok-None.field-0 (NoItem c.args.refutation c.args.bytes.now) c.in-Ok-None.field-0-is c.in-Ok-None.ensures.none)
+    no_item_next c.args.shape (items_of c.args.shape c.args.bank.now c.args.groups.now) c.args.bytes.now
+    (is_none c.in-Ok-None.field-0 (NoItem c.args.shape c.args.bytes.now) c.in-Ok-None.field-0-is c.in-Ok-None.ensures.none)
 
 pub returns-then-not-may_take-clause-none : goal.returns-then-not-may_take-clause-none
 returns-then-not-may_take-clause-none c =
@@ -23,12 +23,12 @@ returns-then-not-may_take-clause-none c =
     let f = c.args.bank.now in
     let h = c.read_item.new.bank in
     let d = clause_at h c.read_item.new.literals in
-    let i = is_some s.field-0 x (λ i. IsItem c.args.refutation i.number d (note_of i.note c.read_item.new.hints)) s.field-0-is s.ensures.some in
+    let i = is_some s.field-0 x (λ i. IsItem c.args.shape i.number d (note_of i.note c.read_item.new.hints)) s.field-0-is s.ensures.some in
     let text = is_some s.field-0 x (λ i. c.args.bytes.now ≡ line (item i.number d (note_of i.note c.read_item.new.hints)) i.rest.now) s.field-0-is s.ensures.text in
     let group = is_some s.field-0 x (λ i. group_of (note_of i.note c.read_item.new.hints) ≡ i.group) s.field-0-is s.ensures.group in
-    let p = grown_groups f h c.read_item.ensures.extends c.args.refutation c.args.groups.now (c.read_item.ensures.formed c.requires.groups.bank) c.requires.groups in
-    subst (λ is. NoNextItem c.args.refutation is c.args.bytes.now) (grown_items f h c.read_item.ensures.extends c.args.refutation c.args.groups.now c.requires.groups)
-    (wrong_next c.args.refutation h c.args.groups.now x.group x.number d (note_of x.note c.read_item.new.hints) c.args.bytes.now x.rest.now p i text group (λ q. (let t = c.may_take.ensures.1 q in cc)))
+    let p = grown_groups f h c.read_item.ensures.extends c.args.shape c.args.groups.now (c.read_item.ensures.formed c.requires.groups.bank) c.requires.groups in
+    subst (λ is. NoNextItem c.args.shape is c.args.bytes.now) (grown_items f h c.read_item.ensures.extends c.args.shape c.args.groups.now c.requires.groups)
+    (wrong_next c.args.shape h c.args.groups.now x.group x.number d (note_of x.note c.read_item.new.hints) c.args.bytes.now x.rest.now p i text group (λ q. (let t = c.may_take.ensures.1 q in cc)))
 
 pub returns-clause-groups : goal.returns-clause-groups
 returns-clause-groups c =
@@ -36,13 +36,13 @@ returns-clause-groups c =
     let x = s.field-0-0 in
     let h = c.read_item.new.bank in
     let d = clause_at h c.read_item.new.literals in
-    let i = is_some s.field-0 x (λ i. IsItem c.args.refutation i.number d (note_of i.note c.read_item.new.hints)) s.field-0-is s.ensures.some in
+    let i = is_some s.field-0 x (λ i. IsItem c.args.shape i.number d (note_of i.note c.read_item.new.hints)) s.field-0-is s.ensures.some in
     let group = is_some s.field-0 x (λ i. group_of (note_of i.note c.read_item.new.hints) ≡ i.group) s.field-0-is s.ensures.group in
     let whole = is_some s.field-0 x (λ i. IsWholeClause h c.read_item.new.literals) s.field-0-is s.ensures.whole in
     let t : c.may_take.result ≡ true = cc in
     let q = c.may_take.ensures.0 t in
-    subst (λ g. AreGroups c.args.refutation h g) (sym c.in_ok-push-in-Ok-Some.ensures)
-    (next_groups c.args.refutation c.args.bank.now h c.args.groups.now x.group x.number x.note c.read_item.new.literals c.read_item.new.hints c.read_item.ensures.extends (c.read_item.ensures.formed c.requires.groups.bank) c.requires.groups i group q.0 q.1 whole)
+    subst (λ g. AreGroups c.args.shape h g) (sym c.in_ok-push-in-Ok-Some.ensures)
+    (next_groups c.args.shape c.args.bank.now h c.args.groups.now x.group x.number x.note c.read_item.new.literals c.read_item.new.hints c.read_item.ensures.extends (c.read_item.ensures.formed c.requires.groups.bank) c.requires.groups i group q.0 q.1 whole)
 
 pub returns-clause-some : goal.returns-clause-some
 returns-clause-some c =
@@ -51,13 +51,13 @@ returns-clause-some c =
     let f = c.args.bank.now in
     let h = c.read_item.new.bank in
     let d = clause_at h c.read_item.new.literals in
-    let i = is_some s.field-0 x (λ i. IsItem c.args.refutation i.number d (note_of i.note c.read_item.new.hints)) s.field-0-is s.ensures.some in
+    let i = is_some s.field-0 x (λ i. IsItem c.args.shape i.number d (note_of i.note c.read_item.new.hints)) s.field-0-is s.ensures.some in
     let text = is_some s.field-0 x (λ i. c.args.bytes.now ≡ line (item i.number d (note_of i.note c.read_item.new.hints)) i.rest.now) s.field-0-is s.ensures.text in
     let group = is_some s.field-0 x (λ i. group_of (note_of i.note c.read_item.new.hints) ≡ i.group) s.field-0-is s.ensures.group in
     let t : c.may_take.result ≡ true = cc in
     let q = c.may_take.ensures.0 t in
-    subst (λ g. IsNextItem c.args.refutation (items_of c.args.refutation f c.args.groups.now) (items_of c.args.refutation h g) c.args.bytes.now x.rest.now) (sym c.in_ok-push-in-Ok-Some.ensures)
-    (next_item c.args.refutation f h c.args.groups.now x.group x.number x.note c.read_item.new.literals c.read_item.new.hints c.read_item.ensures.extends (c.read_item.ensures.formed c.requires.groups.bank) c.requires.groups i group q.0 q.1 c.args.bytes.now x.rest.now text)
+    subst (λ g. IsNextItem c.args.shape (items_of c.args.shape f c.args.groups.now) (items_of c.args.shape h g) c.args.bytes.now x.rest.now) (sym c.in_ok-push-in-Ok-Some.ensures)
+    (next_item c.args.shape f h c.args.groups.now x.group x.number x.note c.read_item.new.literals c.read_item.new.hints c.read_item.ensures.extends (c.read_item.ensures.formed c.requires.groups.bank) c.requires.groups i group q.0 q.1 c.args.bytes.now x.rest.now text)
 
 pub returns-clause-shorter : goal.returns-clause-shorter
 returns-clause-shorter c =

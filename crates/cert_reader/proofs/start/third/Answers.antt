@@ -1,15 +1,15 @@
-use Rattle.std.proofs.Common.{◌∙◌, List, ℕ, ap}
-use Rattle.cert_reader.specs.Starts.{format_line}
-use Rattle.cert_reader.proofs.Beginnings.{no_format, wrong_format, other_format, first_begun}
+use Rattle.cert_items.specs.declared.shape.Shape.{Shape}
+use Rattle.cert_reader.proofs.Beginnings.{no_format, wrong_format, other_format, known_begun}
 use Rattle.cert_reader.proofs.start.third.Goals as goal
 
 pub returns-in-None : goal.returns-in-None
 returns-in-None c text h is = no_format c.args.refutation c.args.name.now text c.args.bytes.now h is c.in-None.ensures.none
 
-pub returns-then-is_first_format : goal.returns-then-is_first_format
-returns-then-is_first_format c text h is =
-    let rest = c.in-Some.rest.now in
-    first_begun c.args.refutation c.args.name.now text c.args.bytes.now rest h is (c.in-Some.ensures.some ∙ ap (λ (w : List ℕ). format_line w rest) (c.is_first_format.ensures.yes c.if-is_first_format.true))
+pub returns-in-Some-format_of : goal.returns-in-Some-format_of
+returns-in-Some-format_of c text h is =
+    let f = c.in-Some-format_of in
+    let s : Shape = record { refutation = c.args.refutation; format = f.format } in
+    known_begun s c.args.name.now text c.args.bytes.now c.in-Some.digits.now c.in-Some.rest.now h f.ensures.some.1 is c.in-Some.ensures.some f.ensures.some.0
 
 pub returns-then-is_other_format : goal.returns-then-is_other_format
 returns-then-is_other_format c text h is =
@@ -17,4 +17,4 @@ returns-then-is_other_format c text h is =
 
 pub returns-else-is_other_format : goal.returns-else-is_other_format
 returns-else-is_other_format c text h is =
-    wrong_format c.args.refutation c.args.name.now text c.args.bytes.now c.in-Some.digits.now c.in-Some.rest.now h is c.in-Some.ensures.digits c.in-Some.ensures.some (c.is_first_format.ensures.no c.if-is_first_format.false) (c.is_other_format.ensures.no c.if-is_other_format.false)
+    wrong_format c.args.refutation c.args.name.now text c.args.bytes.now c.in-Some.digits.now c.in-Some.rest.now h is c.in-Some.ensures.digits c.in-Some.ensures.some c.in-None-format_of.ensures.none (c.is_other_format.ensures.no c.if-is_other_format.false)

@@ -3,4 +3,4 @@ use Rattle.cert_text.proofs.Pieces.{more}
 use Rattle.cert_text.proofs.lines.push_format.Goals as goal
 
 pub returns : goal.returns
-returns c = more _ _ _ (codes "% instgen certificate " ++ decimal 1) (10 ∷ []) (more _ _ _ (codes "% instgen certificate ") (decimal 1) c.in_ok-bytes.ensures c.in_ok-number.ensures) c.in_ok-bytes-2.ensures
+returns c = more _ _ _ (codes "% instgen certificate " ++ decimal c.args.format) (10 ∷ []) (more _ _ _ (codes "% instgen certificate ") (decimal c.args.format) c.in_ok-bytes.ensures c.in_ok-number.ensures) c.in_ok-bytes-2.ensures

@@ -1,15 +1,16 @@
 use Rattle.std.proofs.Common.{◌≡◌, ℕ, List, [], ◌++◌, ◌∙◌, refl, sym, subst}
 use Rattle.cert_format.specs.Certificate.{first_refutation}
+use Rattle.cert_format.specs.Formats.{written_format}
 use Rattle.cert_format.specs.Printable.{NumbersFit}
-use Rattle.cert_format.specs.Text.{certificate_text}
+use Rattle.cert_format.specs.Text.{written_text}
 use Rattle.saturation_cert.specs.declared.certificate.Refutation.{Refutation}
 use Rattle.saturation_cert.specs.Values.{refutation_of}
 use Rattle.saturation_cert.specs.Wholes.{IsWholeRefutation}
 use Rattle.cert_text.proofs.text.refutation_text.Goals as goal
 
 -- the text that was written into nothing, of the certificate and under the name that were passed
-written : (read passed : Refutation) (bytes name t0 t1 t2 : List ℕ) → read ≡ passed → bytes ≡ name → t0 ≡ [] → t1 ≡ t0 ++ certificate_text 1 bytes (first_refutation (refutation_of read)) → t2 ≡ t1 → t2 ≡ certificate_text 1 name (first_refutation (refutation_of passed))
-written read passed bytes name t0 t1 t2 r b e f g = g ∙ f ∙ (λ i. e i ++ certificate_text 1 (b i) (first_refutation (refutation_of (r i))))
+written : (read passed : Refutation) (bytes name t0 t1 t2 : List ℕ) → read ≡ passed → bytes ≡ name → t0 ≡ [] → t1 ≡ t0 ++ written_text bytes (first_refutation (refutation_of read)) → t2 ≡ t1 → t2 ≡ written_text name (first_refutation (refutation_of passed))
+written read passed bytes name t0 t1 t2 r b e f g = g ∙ f ∙ (λ i. e i ++ written_text (b i) (first_refutation (refutation_of (r i))))
 
 pub refutation_numbers-requires : goal.refutation_numbers-requires
 refutation_numbers-requires c = subst IsWholeRefutation (sym c.cert-cert.ensures.is) c.cert-cert.ensures.whole
@@ -22,7 +23,7 @@ returns-clause-text c = written _ _ _ _ _ _ _ c.cert-cert.ensures.is c.as_bytes.
 
 pub returns-clause-taken : goal.returns-clause-taken
 returns-clause-taken c = λ name parts. record {
-  format = 1;
+  format = written_format;
   name = c.args.name.now;
   value = first_refutation (refutation_of c.args.c.now);
   name_is = name;

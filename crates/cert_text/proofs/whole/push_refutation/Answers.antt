@@ -1,4 +1,5 @@
 use Rattle.std.proofs.Common.{◌++◌, codes}
+use Rattle.cert_format.specs.Formats.{written_format}
 use Rattle.cert_format.specs.Lines.{constant_line, end_line, format_line, member_line, step_line}
 use Rattle.cert_format.specs.Text.{axiom_lines, ground_lines, head_lines, input_lines, numbered_lines}
 use Rattle.saturation_cert.specs.Values.{refutation_of}
@@ -8,7 +9,7 @@ use Rattle.cert_text.proofs.whole.push_refutation.Goals as goal
 pub returns : goal.returns
 returns c =
     let cert = refutation_of c.args.cert.now in
-    let head = head_lines (codes "Unsatisfiable") (codes "CNFRefutation") c.args.name.now ++ format_line 1 in
+    let head = head_lines (codes "Unsatisfiable") (codes "CNFRefutation") c.args.name.now ++ format_line written_format in
     let based = head ++ constant_line cert.bot ++ input_lines cert.base ++ axiom_lines cert.base in
     let derived = based ++ numbered_lines member_line 1 cert.base.members in
     let grounded = derived ++ ground_lines cert in

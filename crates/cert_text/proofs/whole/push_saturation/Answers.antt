@@ -1,4 +1,5 @@
 use Rattle.std.proofs.Common.{◌++◌, codes}
+use Rattle.cert_format.specs.Formats.{written_format}
 use Rattle.cert_format.specs.Lines.{end_line, format_line, selected_line}
 use Rattle.cert_format.specs.Text.{axiom_lines, head_lines, input_lines, paired_lines}
 use Rattle.saturation_cert.specs.Values.{saturation_of}
@@ -8,7 +9,7 @@ use Rattle.cert_text.proofs.whole.push_saturation.Goals as goal
 pub returns : goal.returns
 returns c =
     let cert = saturation_of c.args.cert.now in
-    let head = head_lines (codes "Satisfiable") (codes "Saturation") c.args.name.now ++ format_line 1 in
+    let head = head_lines (codes "Satisfiable") (codes "Saturation") c.args.name.now ++ format_line written_format in
     let based = head ++ input_lines cert.base ++ axiom_lines cert.base in
     let selected = paired_lines selected_line 1 cert.base.members cert.places in
     let members = rw (c.as_slice.ensures, c.as_slice-2.ensures) at c.in_ok-push_selected_members.ensures in
