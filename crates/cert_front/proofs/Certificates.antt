@@ -9,8 +9,8 @@ use Rattle.cert_format.specs.Fronts.{IsBadLine}
 use Rattle.cert_format.specs.Printable.{IsPrintable, IsTextName}
 use Rattle.cert_format.specs.Text.{certificate_text}
 use Rattle.cert_format.specs.ValueLines.{IsCertificateText}
-use Rattle.cert_reader.specs.Reads.{IsTextOf, IsVersion}
-use Rattle.cert_front.specs.Certificates.{IsBarred, IsCertificateOf, IsLong, limit}
+use Rattle.cert_reader.specs.Reads.{IsVersion}
+use Rattle.cert_front.specs.Certificates.{HasText, IsBarred, IsCertificateOf, IsLong, limit}
 use Rattle.cert_front.specs.declared.fault.CertFault.{CertFault}
 use Rattle.cert_front.specs.declared.fault.CertFault.TheVariants.{Absent, TooLong, ReadFault, Syntax, Version, NoSaturation, Memory}
 
@@ -27,8 +27,8 @@ some_bytes o a b h k = cc
 not_none : (o : Option (List ℕ)) (a : List ℕ) → o ≡ Some a → o ≡ None → ⊥
 not_none o a h k = cc
 
-text_is : (text : List ℕ) (c : Certificate) → IsTextOf text c → IsCertificateText text
-text_is text c t = record { format = 1; name = t.name; value = c; name_is = t.name_is; printable = t.printable; is = t.is }
+text_is : (text : List ℕ) (c : Certificate) → HasText c text → IsCertificateText text
+text_is text c t = record { format = t.0; name = t.1; value = c; name_is = t.2.name_is; printable = t.2.printable; is = t.2.is }
 
 one_line : (T : List ℕ → Type 0) (text : List ℕ) (l m : ℕ) → IsBadLine T l text → IsBadLine T m text → l ≡ m
 one_line T text l m a b = elim (cases_lt l m) [
@@ -45,8 +45,10 @@ module _ (laws : TextsAreOne) (files : List NamedFile) (name : List ℕ) where
 
   pub one_certificate : (c d : Certificate) → IsCertificateOf (Some files) name c → IsCertificateOf (Some files) name d → c ≡ d
   one_certificate c d h k =
-      let text = sym h.text.is ∙ same_bytes h.bytes k.bytes h.held k.held ∙ k.text.is in
-      (laws.certificates 1 1 h.text.name k.text.name c d h.text.name_is k.text.name_is h.text.printable k.text.printable text).2
+      let a = h.text.2 in
+      let b = k.text.2 in
+      let text = sym a.is ∙ same_bytes h.bytes k.bytes h.held k.held ∙ b.is in
+      (laws.certificates h.text.0 k.text.0 h.text.1 k.text.1 c d a.name_is b.name_is a.printable b.printable text).2
 
   not_long : (a : List ℕ) → IsHeld limit (Some files) name a → IsLong name files → ⊥
   not_long a h k =

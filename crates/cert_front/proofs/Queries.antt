@@ -76,7 +76,7 @@ ShortIsLight = (format : ℕ) (name : List ℕ) (c : Saturation) → length (sat
 pub light_of : ShortIsLight → (files : Option (List NamedFile)) (name : List ℕ) (c : Saturation) → IsCertificateOf files name (saturation c) → AreLight (selected_members c)
 light_of light files name c h =
     let few : length h.bytes ≤ limit = held_short files name h.bytes h.held in
-    light 1 h.text.name c (subst (λ (b : List ℕ). length b < 2 ^ 63) h.text.is (omega (arith, few)))
+    light h.text.0 h.text.1 c (subst (λ (b : List ℕ). length b < 2 ^ 63) h.text.2.is (omega (arith, few)))
 
 -- ---- each answer
 

@@ -13,11 +13,15 @@ use Rattle.cert_front.specs.declared.fault.CertFault.TheVariants.{Absent, TooLon
 abbrev pub limit : ℕ
 limit = 268435456
 
+-- the bytes are the certificate's text in some format, under some name
+abbrev pub HasText : Certificate → List ℕ → Type 0
+HasText c bytes = (format : ℕ) × (name : List ℕ) × IsTextOf bytes format name c
+
 -- The file of this name is not too long and is the text of the certificate.
 pub record IsCertificateOf (files : Option (List NamedFile)) (name : List ℕ) (c : Certificate) : Type 0 where
   pub bytes : List ℕ
   pub held : IsHeld limit files name bytes
-  pub text : IsTextOf bytes c
+  pub text : HasText c bytes
 
 -- ---- why there is none
 

@@ -1,11 +1,11 @@
 // The certificate of a file. Its bytes are dropped once it is read.
 ghost use Rattle.std.specs.Prelude.{◌≡◌, ◌≤◌, IfOk, IfErr};
 ghost use Rattle.outside_io.specs.Told.{Follows};
-ghost use Rattle.cert_reader.specs.Reads.{IsTextOf, IsWholeCertificate, value_of};
-ghost use Rattle.cert_front.specs.Certificates.{IsCertFault, IsCertificateOf, IsTextFault, limit};
+ghost use Rattle.cert_reader.specs.Reads.{IsWholeCertificate, value_of};
+ghost use Rattle.cert_front.specs.Certificates.{HasText, IsCertFault, IsCertificateOf, IsTextFault, limit};
 
 use crate::fault::{CertFault, of_file, of_text};
-use cert_reader::{Certificate, read_certificate};
+use cert_reader::{Certificate, ReadCert, read_certificate};
 use outside_io::{Library, read_whole};
 use std::alloc::Global;
 
@@ -14,12 +14,12 @@ const LIMIT: usize = 268_435_456;
 
 // The certificate whose text this is.
 fn read_text(alloc: Global, text: &[u8]) -> Result<Certificate, CertFault>
-    ensures read { IfOk result (λ c. IsTextOf text.now (value_of c)) }
+    ensures read { IfOk result (λ c. HasText (value_of c) text.now) }
     ensures whole { IfOk result IsWholeCertificate }
     ensures refused { IfErr result (IsTextFault text.now) }
 {
     match read_certificate(alloc, text) {
-        Ok(certificate) => Ok(certificate),
+        Ok(ReadCert { cert, .. }) => Ok(cert),
         Err(error) => Err(of_text(error)),
     }
 }

@@ -10,9 +10,9 @@ use Rattle.cert_format.specs.ValueLines.{IsCertificateText}
 use Rattle.cert_format.proofs.LineNotes.{behind_front}
 use Rattle.cert_format.proofs.Taken.{no_more}
 use Rattle.cert_format.specs.LineMachine.{closing, opening, status, version}
-use Rattle.cert_format.specs.FirstFormat.{text_of_lines}
+use Rattle.cert_format.specs.Formats.{text_of_lines}
 use Rattle.cert_format.specs.LineTexts.{line_text}
-use Rattle.cert_format.specs.Printable.{HasFormat, IsTextName}
+use Rattle.cert_format.specs.Printable.{IsTextName}
 use Rattle.cert_format.specs.ValueLines.{constant_lines, is_refutation, item_lines, items_of}
 use Rattle.cert_format.proofs.LineTexts.{text_is}
 use Rattle.cert_front.specs.Words.{judgement_line, reply_line}
@@ -130,19 +130,14 @@ front_start r name rest more h =
     ap has_start (append_assoc (line_text (status r name)) (line_text (opening r name) ++ rest) more)
     ∙ ap third_is_s (behind_status r name ((line_text (opening r name) ++ rest) ++ more) h)
 
-second_line : (name : List ℕ) (c : Certificate) (more : List ℕ) → IsTextName name → has_start (certificate_text 1 name c ++ more) ≡ true
-second_line name c more h =
-    ap (λ t. has_start (t ++ more)) (text_is name c)
-    ∙ front_start (is_refutation c) name (text_of_lines (version 1 ∷ (constant_lines c ++ (item_lines [] (items_of c) ++ closing (is_refutation c) name ∷ [])))) more h
-
-format_is : (format : ℕ) (c : Certificate) → HasFormat format c → format ≡ 1
-format_is format (first_refutation c) h = h
-format_is format (saturation c) h = h
+second_line : (format : ℕ) (name : List ℕ) (c : Certificate) (more : List ℕ) → IsTextName name → has_start (certificate_text format name c ++ more) ≡ true
+second_line format name c more h =
+    ap (λ t. has_start (t ++ more)) (text_is format name c)
+    ∙ front_start (is_refutation c) name (text_of_lines (version format ∷ (constant_lines c ++ (item_lines [] (items_of c) ++ closing (is_refutation c) name ∷ [])))) more h
 
 no_chain : (size : Size) (text more : List ℕ) → IsCertificateText text → size_lines size ≡ text ++ more → ⊥
 no_chain size text more h e =
-    let is : text ≡ certificate_text 1 h.name h.value = h.is ∙ ap (λ f. certificate_text f h.name h.value) (format_is h.format h.value h.printable.known) in
-    let yes : has_start (text ++ more) ≡ true = ap (λ t. has_start (t ++ more)) is ∙ second_line h.name h.value more h.name_is in
+    let yes : has_start (text ++ more) ≡ true = ap (λ t. has_start (t ++ more)) h.is ∙ second_line h.format h.name h.value more h.name_is in
     let no : has_start (text ++ more) ≡ false = sym (ap has_start e) in
     cc
 

@@ -1,5 +1,5 @@
 // Texts of certificates, and what they are read as.
-use cert_reader::{CertError, Certificate, read_certificate};
+use cert_reader::{CertError, Certificate, ReadCert, read_certificate};
 use inst_logic::Memory;
 use std::alloc::Global;
 use tptp_write::{push_bytes, push_number};
@@ -78,11 +78,13 @@ pub const OTHERS: &str = "\
 
 fn push_outcome(
     answer: &mut Vec<u8>,
-    outcome: &Result<Certificate, CertError>,
+    outcome: &Result<ReadCert, CertError>,
 ) -> Result<(), Memory> {
     match outcome {
-        Ok(Certificate::Refutation(_)) => push_bytes(answer, b"refutation"),
-        Ok(Certificate::Saturation(_)) => push_bytes(answer, b"saturation"),
+        Ok(read) => match &read.cert {
+            Certificate::Refutation(_) => push_bytes(answer, b"refutation"),
+            Certificate::Saturation(_) => push_bytes(answer, b"saturation"),
+        },
         Err(CertError::Syntax { line }) => {
             push_bytes(answer, b"syntax ")?;
             push_number(answer, *line)
