@@ -1,4 +1,5 @@
 mod FirstLines
+mod FormatWords
 mod Steps
 mod Beginnings
 mod Pushes

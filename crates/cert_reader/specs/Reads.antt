@@ -2,7 +2,7 @@
 use Rattle.std.specs.Prelude.{◌≡◌, ◌≢◌, ◌≤◌, ℕ, List, [], ◌∷◌, ◌++◌, length, codes, decimal, ⊤, IsTrue}
 use Rattle.std.specs.List.{list_all}
 use Rattle.std.specs.Char.{is_ascii_digit}
-use Rattle.cert_format.specs.Certificate as format
+use Rattle.cert_format.specs.Certificate as certificates
 use Rattle.cert_format.specs.Formats.{is_known}
 use Rattle.cert_format.specs.Fronts.{IsFront, IsBadLine}
 use Rattle.cert_format.specs.Printable.{IsPrintable, IsTextName}
@@ -18,12 +18,12 @@ use Rattle.inst_logic.specs.Codes as byte
 
 -- ---- what is read
 
-abbrev pub value_of : Certificate → format.Certificate
-value_of (forms.Refutation r) = format.first_refutation (refutation_of r)
-value_of (forms.Saturation s) = format.saturation (saturation_of s)
+abbrev pub value_of : Certificate → certificates.Certificate
+value_of (forms.Refutation r) = certificates.first_refutation (refutation_of r)
+value_of (forms.Saturation s) = certificates.saturation (saturation_of s)
 
 -- the certificate is printable in this format, and the text is its text in it under this name
-pub record IsTextOf (text : List ℕ) (format : ℕ) (name : List ℕ) (c : format.Certificate) : Type 0 where
+pub record IsTextOf (text : List ℕ) (format : ℕ) (name : List ℕ) (c : certificates.Certificate) : Type 0 where
   pub name_is : IsTextName name
   pub printable : IsPrintable format c
   pub is : text ≡ certificate_text format name c

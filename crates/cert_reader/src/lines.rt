@@ -131,14 +131,25 @@ pub fn format(bytes: &[u8]) -> Option<(&[u8], &[u8])>
     }
 }
 
+fn is_first_format(digits: &[u8]) -> bool
+    ensures yes { IsTrue result → digits.now ≡ codes "1" }
+    ensures no { result ≡ false → digits.now ≢ codes "1" }
+{
+    match digits {
+        [] => false,
+        [first, rest @ ..] => *first == b'1' && rest.is_empty(),
+    }
+}
+
 /// The format of which these digits are the number, where it is one that is read.
 pub fn format_of(digits: &[u8]) -> Option<u64>
     ensures some { IfSome result (λ format. (digits.now ≡ decimal format) × IsTrue (is_known format)) }
     ensures none { IfNone result ((format : ℕ) → IsTrue (is_known format) → digits.now ≢ decimal format) }
 {
-    match digits {
-        [b'1'] => Some(1),
-        _ => None,
+    if is_first_format(digits) {
+        Some(1)
+    } else {
+        None
     }
 }
 
