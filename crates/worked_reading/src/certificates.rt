@@ -76,10 +76,7 @@ pub const OTHERS: &str = "\
 #% SZS status Satisfiable for a\n% SZS output start Saturation for a\n% instgen certificate 1\n% SZS output end Saturation for a\n\n@syntax 5\
 ";
 
-fn push_outcome(
-    answer: &mut Vec<u8>,
-    outcome: &Result<ReadCert, CertError>,
-) -> Result<(), Memory> {
+fn push_outcome(answer: &mut Vec<u8>, outcome: &Result<ReadCert, CertError>) -> Result<(), Memory> {
     match outcome {
         Ok(read) => match &read.cert {
             Certificate::Refutation(_) => push_bytes(answer, b"refutation"),
