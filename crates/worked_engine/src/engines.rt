@@ -10,8 +10,7 @@ use instgen_loop::run;
 use prop_logic::{Plain, Solver};
 use std::alloc::Global;
 use std::test::Fail;
-use term_index::{PartnerIndex, Rows};
-use term_index::Tree;
+use term_index::{PartnerIndex, Rows, Tree};
 use worked_index::Refusing;
 
 // What the run on the problem says of the row.
