@@ -1,6 +1,6 @@
 pub mod ExampleSteps
 pub mod RunEntries
-pub mod GroundInstances
+pub mod MadeRuns
 pub mod KeptEntries
 pub mod ClosedRuns
 pub mod FlatClauses
@@ -14,3 +14,4 @@ pub mod BySize
 pub mod OpenConclusions
 pub mod NestedRun
 pub mod NoSolve
+pub mod InstanceRun

@@ -5,6 +5,7 @@ use Rattle.inst_logic.specs.Clauses.{TreeClause}
 use Rattle.inst_logic.specs.Examples.{of_function, p, q, f, constant_bot, constant_c, yes, no}
 use Rattle.inst_calculus.specs.Models.{Member}
 use Rattle.inst_calculus.specs.Entries.{input, inst}
+use Rattle.inst_calculus.specs.Unrolling.{Made, given, instance_of}
 use Rattle.inst_calculus.specs.Examples.{entry, p_always, not_p_c, p_c}
 use Rattle.inst_machine.specs.Machine.{State, Event, solved, inferred}
 
@@ -19,6 +20,10 @@ solved_state = record start_state { valuation = p constant_bot ∷ []; has_solve
 -- p(c) is appended
 abbrev pub last_state : State
 last_state = record solved_state { entries = entry p_always (input 1) ∷ entry not_p_c (input 2) ∷ entry p_c (inst 1 1 2 1) ∷ [] }
+
+-- how the three entries were made
+abbrev pub instance_made : List Made
+instance_made = record { clause = p_always; how = given 1 } ∷ record { clause = not_p_c; how = given 2 } ∷ record { clause = p_c; how = instance_of 1 (constant_c ∷ []) } ∷ []
 
 abbrev pub events : List Event
 events = solved (p constant_bot ∷ []) ∷ inferred (inst 1 1 2 1) ∷ []

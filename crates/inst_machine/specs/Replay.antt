@@ -8,7 +8,7 @@ use Rattle.inst_calculus.specs.Models.{Member, member_clauses}
 use Rattle.inst_calculus.specs.Saturation.{IsCovered}
 use Rattle.inst_calculus.specs.Axioms.{with_axioms}
 use Rattle.inst_calculus.specs.Abstraction.{IsBot}
-use Rattle.inst_calculus.specs.Entries.{Origin, input, inst, Entry, entry_clauses}
+use Rattle.inst_calculus.specs.Entries.{Origin, input, inst, lemma, Entry, entry_clauses}
 use Rattle.inst_machine.specs.Machine.{State, Event, solved, inferred, IsStart, IsRun, IsTrueIn, Concludes}
 
 -- the journal replays from the clauses to the state
@@ -24,6 +24,7 @@ pub record ReplaysFrom (cs : List TreeClause) (bot : Sym) (journal : List Event)
 abbrev pub is_appended : Origin → Bool
 is_appended (input k) = false
 is_appended (inst from place partner other) = true
+is_appended (lemma from place partner other keep premises) = true
 
 -- the origins of the appended entries, in their order
 abbrev pub appended_origins : List Entry → List Origin

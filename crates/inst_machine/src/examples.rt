@@ -1,16 +1,17 @@
 // Worked examples of the definitions, as theorems: each function does nothing, and its clauses are closed facts.
-ghost use Rattle.std.specs.Prelude.{◌∷◌, ◌++◌, [], ℕ, List, map, true};
+ghost use Rattle.std.specs.Prelude.{◌≡◌, ◌∷◌, ◌++◌, [], ℕ, List, map, true};
 ghost use Rattle.inst_logic.specs.Tree.{Tree};
 ghost use Rattle.inst_logic.specs.Truth.{IsRefuted};
 ghost use Rattle.inst_logic.specs.Clauses.{TreeClause};
-ghost use Rattle.inst_logic.specs.Examples.{p, constant_bot};
+ghost use Rattle.inst_logic.specs.Examples.{p, constant_bot, constant_c};
 ghost use Rattle.inst_calculus.specs.Abstraction.{abstraction};
+ghost use Rattle.inst_calculus.specs.Unrolling.{AreRecords, all_unrolled, each_once};
 ghost use Rattle.inst_calculus.specs.Entries.{input, inst, entry_clauses};
 ghost use Rattle.inst_calculus.specs.Examples.{entry, bot, p_always, not_p_c, p_c};
 ghost use Rattle.inst_machine.specs.Machine.{State, IsStart, IsFirst, IsStep, IsSettled, Concludes, solved, inferred};
 ghost use Rattle.inst_machine.specs.Replay.{ReplaysFrom, IsOpenConclusion};
 ghost use Rattle.inst_machine.specs.Budget.{IsLeft, RunsOut};
-ghost use Rattle.inst_machine.specs.Examples.{start_state, solved_state, last_state, selected_members, events, p_third, q_or_not, nested_clauses, nested_valuation, nested_solved, second_state, third_state, two_events, third_event, nested_members};
+ghost use Rattle.inst_machine.specs.Examples.{instance_made, start_state, solved_state, last_state, selected_members, events, p_third, q_or_not, nested_clauses, nested_valuation, nested_solved, second_state, third_state, two_events, third_event, nested_members};
 
 /// The first entries leave out a variant of an earlier one and a tautology. The numbers count all clauses.
 pub fn first_entries()
@@ -30,6 +31,13 @@ pub fn instance_run()
     ensures no_solve { (atoms : List Tree) (t : State) → ¬ IsStep bot last_state (solved atoms) t }
     ensures budget { IsLeft 5 last_state.entries 3 }
     ensures overspent { (left : ℕ) → ¬ IsLeft 1 last_state.entries left }
+{}
+
+/// The records of this run's entries, and their unrolled lists: both clauses with `bot_0` for the variable, and the first with `c`.
+pub fn unrolled_run()
+    ensures records { AreRecords bot last_state.entries instance_made }
+    ensures grounds { each_once (all_unrolled bot instance_made 3)
+        ≡ record { input = 1; terms = constant_bot ∷ [] } ∷ record { input = 2; terms = [] } ∷ record { input = 1; terms = constant_c ∷ [] } ∷ [] }
 {}
 
 /// What is no step: a valuation in which `p(bot_0)` is false, an inference before a solve, one of a literal whose abstraction is false, one whose unifier is proper for the

@@ -9,8 +9,8 @@ pub mod steps;
 
 pub use endings::{one_ending, open_conclusions};
 pub use runs::{
-    contents_of_entries, entries_of_runs, finitely_many_entries, origins_of_entries,
-    refuted_instances, saturated_when_closed,
+    contents_of_entries, contents_of_unrolled, entries_of_runs, finitely_many_entries,
+    origins_of_entries, records_of_runs, refuted_instances, saturated_when_closed,
 };
 pub use steps::{
     changed_atoms, left_of_budget, no_solve_when_refuted, one_more_clause, one_more_step,

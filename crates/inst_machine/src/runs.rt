@@ -1,22 +1,23 @@
 // Laws of runs from the first entries on: what the entries are, where they come from, and what follows where their
 // abstractions are refuted or their conclusions covered. They hold of every journal, so they fix no order in which an engine
 // works.
-ghost use Rattle.std.specs.Prelude.{◌≡◌, ◌≤◌, ◌+◌, ◌++◌, ℕ, List, IsTrue, Some, length, map, All, AllPairs, Contains};
+ghost use Rattle.std.specs.Prelude.{◌≡◌, ◌≤◌, ◌+◌, ◌++◌, ◌∷◌, [], ℕ, suc, List, IsTrue, Some, length, map, All, AllPairs, Contains};
 ghost use Rattle.inst_logic.specs.declared.symbol.Sym.{Sym};
 ghost use Rattle.inst_logic.specs.Clauses.{TreeClause, IsCanonical, IsInstance, IsGround, AreVariants};
 ghost use Rattle.inst_logic.specs.Derivations.{at_number};
 ghost use Rattle.inst_logic.specs.Measure.{is_function_free};
-ghost use Rattle.inst_logic.specs.WellFormed.{AreFormedClauses};
+ghost use Rattle.inst_logic.specs.WellFormed.{AreFormedClauses, IsFormedClause, IsTerm, is_constant};
 ghost use Rattle.inst_logic.specs.Truth.{IsRefuted};
 ghost use Rattle.inst_calculus.specs.Abstraction.{abstraction};
 ghost use Rattle.inst_calculus.specs.Models.{Member};
 ghost use Rattle.inst_calculus.specs.Saturation.{IsSaturated};
-ghost use Rattle.inst_calculus.specs.Axioms.{clause_symbols, occurrences};
+ghost use Rattle.inst_calculus.specs.Axioms.{tree_symbols, clause_symbols, occurrences};
 ghost use Rattle.inst_calculus.specs.Conclusions.{IsGiven};
 ghost use Rattle.inst_calculus.specs.Entries.{Entry, entry_clauses};
-ghost use Rattle.inst_machine.specs.Machine.{State, Event, IsRun};
+ghost use Rattle.inst_calculus.specs.Unrolling.{Made, AreMade, AreRecords, IsGrounded, all_unrolled, each_once, ground_clause};
+ghost use Rattle.inst_machine.specs.Machine.{State, Event, IsStep, IsRun};
 ghost use Rattle.inst_machine.specs.Replay.{Replays, IsSelection, AreConclusionsCovered, appended_origins, inferred_origins};
-ghost use Rattle.inst_machine.specs.Budget.{appended_sizes};
+ghost use Rattle.inst_machine.specs.Budget.{appended_sizes, IsLeft};
 ghost use Rattle.inst_machine.specs.Bound.{longest, possible_entries, entry_bound};
 
 /// The entries of a run on well-formed clauses are instances of them, in canonical form and well formed, and no two are
@@ -51,12 +52,30 @@ pub fn contents_of_entries()
         → (d : TreeClause) → Contains (entry_clauses t.entries) d → length d ≤ longest cs }
 {}
 
-/// Where no valuation makes the abstractions of the entries of a run on well-formed clauses true, ground instances of the
-/// clauses are refuted: the abstractions are ground instances.
+/// Every run has records of how its entries were made, and all such records are right.
+pub fn records_of_runs()
+    ensures right { (bot : Sym) (cs : List TreeClause) (journal : List Event) (t : State) → Replays bot cs journal t
+        → (made : List Made) → AreRecords bot t.entries made → AreMade bot cs made }
+    ensures exist { (bot : Sym) (cs : List TreeClause) (journal : List Event) (t : State) → Replays bot cs journal t
+        → (made : List Made) × AreRecords bot t.entries made × AreMade bot cs made }
+{}
+
+/// The terms and the clauses of the entries' unrolled lists are well formed, and their symbols are symbols of the clauses, and the
+/// constant.
+pub fn contents_of_unrolled()
+    ensures clauses { (bot : Sym) (cs : List TreeClause) (journal : List Event) (t : State) (made : List Made) → AreFormedClauses cs → IsTrue (is_constant bot) → Replays bot cs journal t → AreRecords bot t.entries made
+        → All (λ g. IsFormedClause (ground_clause cs g) × All (Contains (bot ∷ occurrences cs)) (clause_symbols (ground_clause cs g))) (each_once (all_unrolled bot made (length made))) }
+    ensures terms { (bot : Sym) (cs : List TreeClause) (journal : List Event) (t : State) (made : List Made) → AreFormedClauses cs → IsTrue (is_constant bot) → Replays bot cs journal t → AreRecords bot t.entries made
+        → All (λ g. All (λ u. IsTerm u × All (Contains (bot ∷ occurrences cs)) (tree_symbols u)) g.terms) (each_once (all_unrolled bot made (length made))) }
+{}
+
+/// Where no valuation makes the abstractions of the entries of a run true, ground instances of the clauses are refuted: those of the
+/// entries' unrolled lists.
 pub fn refuted_instances()
-    ensures ground_instances { (bot : Sym) (cs : List TreeClause) (journal : List Event) (t : State) → AreFormedClauses cs → Replays bot cs journal t
-        → (g : TreeClause) → Contains (map (abstraction bot) (entry_clauses t.entries)) g → IsGround g × (c : TreeClause) × Contains cs c × IsInstance g c }
-    ensures refuted { (bot : Sym) (cs : List TreeClause) (journal : List Event) (t : State) → AreFormedClauses cs → Replays bot cs journal t
+    ensures unrolled { (bot : Sym) (cs : List TreeClause) (journal : List Event) (t : State) (made : List Made) → Replays bot cs journal t → AreRecords bot t.entries made
+        → IsRefuted (map (abstraction bot) (entry_clauses t.entries))
+        → All (IsGrounded cs) (each_once (all_unrolled bot made (length made))) × IsRefuted (map (ground_clause cs) (each_once (all_unrolled bot made (length made)))) }
+    ensures refuted { (bot : Sym) (cs : List TreeClause) (journal : List Event) (t : State) → Replays bot cs journal t
         → IsRefuted (map (abstraction bot) (entry_clauses t.entries))
         → (gs : List TreeClause) × All (λ g. IsGround g × (c : TreeClause) × Contains cs c × IsInstance g c) gs × IsRefuted gs }
 {}

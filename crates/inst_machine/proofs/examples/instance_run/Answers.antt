@@ -1,23 +1,21 @@
-use Rattle.std.proofs.Common.{◌≡◌, ◌+◌, ◌<◌, zero, suc, List, [], ◌∷◌, length, refl, subst as transport, lit<, inl, inr, ◌⊎◌, true, false, rules, arith}
+use Rattle.std.proofs.Common.{◌≡◌, ◌+◌, zero, suc, List, [], ◌∷◌, refl, subst as transport, lit<, inl, inr, ◌⊎◌, true, false, rules, arith}
 use Rattle.std.specs.Prelude.{All, Contains, Decides, Bool}
 use Rattle.std.specs.Fmt.{digits}
 use Rattle.inst_logic.specs.Tree.{Tree, var}
 use Rattle.inst_logic.specs.Equal.{tree_eq}
 use Rattle.inst_logic.specs.Substitution.{tree_vars}
 use Rattle.inst_logic.specs.WellFormed.{IsAtom}
-use Rattle.inst_logic.specs.Clauses.{TreeClause, AreVariants}
 use Rattle.inst_logic.specs.Truth.{IsTrueLiteral, IsTrueClause}
-use Rattle.inst_logic.specs.Examples.{p, constant_c, constant_bot, yes, no, binding}
+use Rattle.inst_logic.specs.Examples.{p, constant_c, constant_bot, yes, no}
 use Rattle.inst_logic.proofs.SameLemmas.{tree_eq_decides}
 use Rattle.inst_calculus.specs.Abstraction.{abstraction}
 use Rattle.inst_calculus.specs.Entries.{Entry, input, inst}
-use Rattle.inst_calculus.specs.Saturation.{IsCovered, tautology, variant, shorter}
 use Rattle.inst_calculus.specs.Examples.{entry, bot, p_always, not_p_c, p_c}
-use Rattle.inst_calculus.proofs.ShortLists.{each_at, each_all, each_none, contains_one, one_true}
-use Rattle.inst_calculus.proofs.Turns.{instance_unifier}
-use Rattle.inst_machine.specs.Machine.{State, IsStart, IsStep, Concludes, AreChanges, IsSettled, all_read, taken, solve, append, infer, ended, next, solved, inferred, change_all}
+use Rattle.inst_calculus.proofs.ShortLists.{each_all, each_none, contains_one, one_true}
+use Rattle.inst_machine.specs.Machine.{State, IsStart, IsStep, AreChanges, IsSettled, all_read, taken, solve, append, infer, ended, next, solved, inferred, change_all}
 use Rattle.inst_machine.specs.Examples.{start_state, solved_state, last_state}
 use Rattle.inst_machine.proofs.ExampleSteps.{solve_settles, no_tautology}
+use Rattle.inst_machine.proofs.InstanceRun.{not_held, inference}
 use Rattle.inst_machine.proofs.examples.instance_run.Goals as goal
 
 start : IsStart (p_always ∷ not_p_c ∷ []) start_state
@@ -27,11 +25,6 @@ start = record {
   valuation = refl;
   has_solved = refl;
 }
-
--- the valuation does not hold p(c)
-not_held : ¬ Contains (p constant_bot ∷ []) (p constant_c)
-not_held i = let e : p constant_bot ≡ p constant_c = contains_one (p constant_bot) (p constant_c) i in
-    let d : constant_bot ≡ constant_c = cc in search rules
 
 settled : IsSettled bot solved_state
 settled = each_all (λ (e : Entry). IsTrueClause (Contains solved_state.valuation) (abstraction bot e.clause)) solved_state.entries
@@ -46,34 +39,6 @@ changes = record {
 
 solves : IsStep bot start_state (solved (p constant_bot ∷ [])) solved_state
 solves = solve changes refl settled
-
-uncovered : ¬ IsCovered (p_always ∷ not_p_c ∷ []) p_always p_c
-uncovered (tautology t) = no_tautology (yes (p constant_c)) t
-uncovered (variant e i v) = each_at (λ (d : TreeClause). ¬ AreVariants p_c d) (p_always ∷ not_p_c ∷ []) ((λ h. search rules), ((λ h. search rules), tt)) e i v
-uncovered (shorter e i l s) = each_at (λ (d : TreeClause). ¬ (length d < 1)) (p_always ∷ not_p_c ∷ []) ((λ h. omega arith), ((λ h. omega arith), tt)) e i l
-
-inference : Concludes bot solved_state 1 1 2 1 p_c
-inference = record {
-  conclusion = record {
-    entry = entry p_always (input 1);
-    partner_entry = entry not_p_c (input 2);
-    literal = yes (p (var 0));
-    other_literal = no (p constant_c);
-    entry_at = refl;
-    partner_at = refl;
-    literal_at = refl;
-    other_at = refl;
-    opposite = λ e. let d : true ≡ false = e in cc;
-    unifier = binding;
-    most_general = instance_unifier;
-    proper = (0, (0, lit< tt, refl), tt);
-    conclusion = refl;
-  };
-  solved = refl;
-  literal_true = (0, lit< tt, refl);
-  other_true = not_held;
-  uncovered = uncovered;
-}
 
 infers : IsStep bot solved_state (inferred (inst 1 1 2 1)) last_state
 infers = append (infer inference) refl
