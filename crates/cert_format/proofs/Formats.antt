@@ -1,6 +1,6 @@
 -- The machine of the formats is exact: one text, one list of lines.
-use Rattle.std.proofs.Common.{◌≡◌, ℕ, suc, ◌<◌, ◌^◌, Bool, true, false, List, [], ◌∷◌, ◌++◌, map, Some, refl, sym, ap, ap₂, ◌∙◌, subst, arith}
-use Rattle.std.specs.Prelude.{◌&&◌, nat_eq, nat_le, codes, decimal}
+use Rattle.std.proofs.Common.{◌≡◌, ℕ, suc, ◌<◌, ◌^◌, ◌⊎◌, inl, inr, Bool, true, false, List, [], ◌∷◌, ◌++◌, map, Some, refl, sym, ap, ap₂, ◌∙◌, subst, arith}
+use Rattle.std.specs.Prelude.{◌&&◌, ◌||◌, nat_eq, nat_le, codes, decimal}
 use Rattle.std.specs.List.{list_all}
 use Rattle.std.specs.Str.{bytes_eq}
 use Rattle.std.proofs.lemmas.Bool.Decides.{nat_tests}
@@ -11,8 +11,8 @@ use Rattle.inst_logic.specs.declared.signed.Signed.{Signed}
 use Rattle.inst_logic.specs.Tree.{Tree, var, app, Trees, none, more}
 use Rattle.inst_logic.specs.WellFormed.{count_of}
 use Rattle.inst_logic.specs.Clauses.{TreeClause, IsCanonical, canonical_form}
-use Rattle.inst_logic.specs.Equal.{bool_eq, literal_eq}
-use Rattle.inst_logic.specs.EqualLaws.{bool_eq_decides, literal_eq_decides}
+use Rattle.inst_logic.specs.Equal.{bool_eq}
+use Rattle.inst_logic.specs.EqualLaws.{bool_eq_decides}
 use Rattle.inst_logic.specs.Printing.{is_readable_name, clause_text}
 use Rattle.cert_format.specs.Spelling.{is_printable, are_printable}
 use Rattle.cert_format.specs.Forms.{Form, plain, equal, form_atom, form_is_printable}
@@ -20,14 +20,14 @@ use Rattle.cert_format.specs.LineMachine.{is_number, Note, named, equality, memb
 use Rattle.cert_format.specs.LineMachine as machine
 use Rattle.cert_format.specs.Machines.{no_line_feed, IsLine, IsExact}
 use Rattle.cert_format.specs.LineTexts.{status_word, letter, role, note_text, line, line_text, is_text_name, note_is_printable}
-use Rattle.cert_format.specs.Formats.{clause_eq, symbol_is_printable, atom_is_printable, clause_is_printable, is_known, first_format, may_follow, step, is_done, AreLines, text_of_lines}
+use Rattle.cert_format.specs.Formats.{clause_eq, symbol_is_printable, atom_is_printable, clause_is_printable, is_known, may_follow, step, is_done, AreLines, text_of_lines}
 use Rattle.std.proofs.lemmas.Bool.{and_parts, and_from}
 use Rattle.inst_logic.proofs.Numbers.{number_is}
 use Rattle.cert_format.proofs.Runs.{one_split}
 use Rattle.cert_format.proofs.Names.{names_once}
 use Rattle.cert_format.proofs.Clauses.{one_clause}
 use Rattle.cert_format.proofs.ClauseForms.{IsWritableClause, AreOfForms, IsOfForm, printable_forms, forms_printable, text_of_forms}
-use Rattle.cert_format.proofs.LineMachine.{exact_lines}
+use Rattle.cert_format.proofs.LineMachine.{exact_lines, clause_eq_yes, clause_eq_itself}
 use Rattle.cert_format.proofs.Marked.{marked_once}
 use Rattle.cert_format.proofs.Spelling.{small_number}
 use Rattle.cert_format.proofs.Machines.{one_reading}
@@ -35,18 +35,6 @@ use Rattle.cert_format.proofs.LineNotes.{behind_front, line_more, same_rank, not
 use Rattle.cert_format.proofs.WholeLines.{clean_text_name, status_is_line, opening_is_line, closing_is_line, version_is_line, constant_is_line, item_is_line}
 
 -- ---- clauses
-
-clause_eq_yes : (c d : TreeClause) → clause_eq c d ≡ true → c ≡ d
-clause_eq_yes [] [] h = refl
-clause_eq_yes [] (m ∷ d) h = absurd cc
-clause_eq_yes (l ∷ c) [] h = absurd cc
-clause_eq_yes (l ∷ c) (m ∷ d) h =
-    let a = and_parts (literal_eq l m) (clause_eq c d) h in
-    ap₂ (λ (x : Signed Tree) (xs : TreeClause). x ∷ xs) ((literal_eq_decides l m).0 a.0) (clause_eq_yes c d a.1)
-
-pub clause_eq_itself : (c : TreeClause) → clause_eq c c ≡ true
-clause_eq_itself [] = refl
-clause_eq_itself (l ∷ c) = and_from (literal_eq l l) (clause_eq c c) ((literal_eq_decides l l).1 refl) (clause_eq_itself c)
 
 atom_by : (positive : Bool) (kind : Kind) (name : List ℕ) (arity : ℕ) (ts : Trees) → (symbol_is_printable kind name arity (count_of ts) && are_printable ts) ≡ true → IsOfForm (record { positive = positive; atom = app (record { kind = kind; name = name; arity = arity }) ts })
 atom_by positive Predicate name arity ts h =
@@ -210,9 +198,18 @@ equal_lines l k m x y a b e =
     let f = ap (λ (j : Line). line j y) (sym same) in
     (same, behind_front (line_text k) x y (line_more k [] x ∙ (e ∙ f) ∙ sym (line_more k [] y)))
 
--- the number of a known format can be written
+-- the formats
+pub read_format : (f : ℕ) → is_known f ≡ true → (f ≡ 1) ⊎ (f ≡ 2) ⊎ (f ≡ 3)
+read_format f h = by (nat_eq f 1) (nat_eq f 2) (nat_eq f 3) refl refl refl h
+  where
+    by : (a b c : Bool) → nat_eq f 1 ≡ a → nat_eq f 2 ≡ b → nat_eq f 3 ≡ c → (a || (b || c)) ≡ true → (f ≡ 1) ⊎ (f ≡ 2) ⊎ (f ≡ 3)
+    by true b c x y z k = inl (number_is f 1 x)
+    by false true c x y z k = inr (inl (number_is f 2 y))
+    by false false true x y z k = inr (inr (number_is f 3 z))
+    by false false false x y z k = absurd cc
+
 pub small_format : (f : ℕ) → is_known f ≡ true → f < 2 ^ 64
-small_format f h = let e = number_is f first_format h in omega arith
+small_format f h = elim (read_format f h) [ inl e ↦ omega arith | inr (inl e) ↦ omega arith | inr (inr e) ↦ omega arith ]
 
 once : (s t u : State) (l m : Line) (x y : List ℕ) → step s l ≡ Some t → step s m ≡ Some u → line l x ≡ line m y → (l ≡ m) × (x ≡ y)
 once nothing t u (status r n) (status q k) x y a b e = status_once r q n k x y (guard_is _ _ _ a) (guard_is _ _ _ b) e
@@ -250,7 +247,7 @@ once_text s t u l m x y a b e = once s t u l m x y a b (sym (line_more l [] x) �
 
 -- The machine is exact.
 pub exact : IsExact line_text step is_done nothing
-exact = exact_lines is_known first_format refl is_text_name clause_is_printable note_is_printable (97 ∷ []) refl line_text whole once_text
+exact = exact_lines is_known refl is_text_name clause_is_printable note_is_printable refl (97 ∷ []) refl line_text whole once_text
 
 pub one_list : (ls ms : List Line) → AreLines ls → AreLines ms → text_of_lines ls ≡ text_of_lines ms → ls ≡ ms
 one_list ls ms a b e = one_reading line_text step is_done nothing exact ls ms a b e

@@ -28,3 +28,11 @@ pub mod LineValues
 pub mod Taken
 pub mod Exits
 pub mod TieChecks
+pub mod TermInstances
+pub mod LineInstances
+pub mod DueLists
+pub mod NamedCovers
+pub mod TieDues
+pub mod Upgrades
+pub mod UpgradeOnce
+pub mod PrintableNames

@@ -5,16 +5,17 @@ use Rattle.std.specs.List.{list_all}
 use Rattle.std.proofs.lemmas.List.{append-nil}
 use Rattle.inst_logic.specs.Tree.{Tree}
 use Rattle.inst_logic.specs.Clauses.{TreeClause}
-use Rattle.inst_logic.specs.Printing.{clause_text, name_text, joined}
-use Rattle.inst_calculus.specs.Entries.{Origin, input, inst, Entry}
+use Rattle.inst_logic.specs.Printing.{clause_text, tree_text, name_text, joined}
+use Rattle.inst_calculus.specs.Entries.{Origin, input, inst, lemma, Entry}
 use Rattle.inst_calculus.specs.Steps.{Step, Cited, given, earlier}
-use Rattle.cert_format.specs.Certificate.{Certificate, first_refutation, saturation}
+use Rattle.cert_format.specs.Certificate.{GroundLine, By, by_tautology, by_variant, by_part, Side, left_side, right_side, Cover, Certificate, first_refutation, refutation, saturation, covered}
+use Rattle.cert_format.proofs.ClauseForms.{term_is}
 use Rattle.cert_format.specs.Lines as format
 use Rattle.cert_format.specs.Text.{certificate_text, numbered_lines, paired_lines}
-use Rattle.cert_format.specs.LineMachine.{Note, named, equality, member, selected, ground_of, shown_by, rank, Item, Line, version, item, closing, count, nothing}
-use Rattle.cert_format.specs.LineTexts.{letter, role, line_text, hint, hints, more_hints, origin_text, note_text}
+use Rattle.cert_format.specs.LineMachine.{Note, named, equality, member, selected, ground_of, ground_by, shown_by, input_by, side_by, rank, Item, Line, version, item, closing, count, nothing}
+use Rattle.cert_format.specs.LineTexts.{letter, role, line_text, numbers, terms, by_text, side_word, hint, hints, more_hints, origin_text, note_text}
 use Rattle.cert_format.specs.Formats.{step, is_done, text_of_lines}
-use Rattle.cert_format.specs.ValueLines.{input_items, axiom_items, member_items, selected_items, ground_items, step_items, items_of, item_lines, lines_of}
+use Rattle.cert_format.specs.ValueLines.{input_items, axiom_items, member_items, selected_items, ground_items, line_items, shown_items, cover_items, step_items, items_of, item_lines, lines_of}
 use Rattle.inst_logic.proofs.Numbers.{number_is}
 use Rattle.cert_format.proofs.LineMachine.{count_push}
 use Rattle.std.proofs.lemmas.Bool.{and_parts}
@@ -23,9 +24,53 @@ use Rattle.cert_format.proofs.Machines.{texts_append}
 
 -- ---- each line
 
+numbers_are : (mark ns x : List ℕ) → numbers mark ns x ≡ joined (codes ",") (map (λ (p : List ℕ). mark ++ p) (map decimal ns)) ++ 93 ∷ x
+numbers_are mark [] x = refl
+numbers_are mark (n ∷ []) x = sym (append_assoc mark (decimal n) (93 ∷ x))
+numbers_are mark (n ∷ m ∷ ns) x =
+    sym (append_assoc mark (decimal n) (44 ∷ numbers mark (m ∷ ns) x)) ∙ ap (λ (bs : List ℕ). (mark ++ decimal n) ++ 44 ∷ bs) (numbers_are mark (m ∷ ns) x)
+    ∙ joins (mark ++ decimal n) (joined (codes ",") (map (λ (p : List ℕ). mark ++ p) (map decimal (m ∷ ns)))) (93 ∷ x)
+  where
+    joins : (a j r : List ℕ) → a ++ 44 ∷ (j ++ r) ≡ ((a ++ codes ",") ++ j) ++ r
+    joins a j r = sym (append_assoc (a ++ codes ",") j r ∙ append_assoc a (codes ",") (j ++ r))
+
+terms_are : (ts : List Tree) (x : List ℕ) → terms ts x ≡ joined (codes ",") (map (λ (p : List ℕ). [] ++ p) (map tree_text ts)) ++ 93 ∷ x
+terms_are [] x = refl
+terms_are (t ∷ []) x = term_is t (93 ∷ x)
+terms_are (t ∷ u ∷ ts) x =
+    term_is t (44 ∷ terms (u ∷ ts) x) ∙ ap (λ (bs : List ℕ). tree_text t ++ 44 ∷ bs) (terms_are (u ∷ ts) x)
+    ∙ joins (tree_text t) (joined (codes ",") (map (λ (p : List ℕ). [] ++ p) (map tree_text (u ∷ ts)))) (93 ∷ x)
+  where
+    joins : (a j r : List ℕ) → a ++ 44 ∷ (j ++ r) ≡ ((a ++ codes ",") ++ j) ++ r
+    joins a j r = sym (append_assoc (a ++ codes ",") j r ∙ append_assoc a (codes ",") (j ++ r))
+
+in_brackets : (j x : List ℕ) → 91 ∷ (j ++ 93 ∷ x) ≡ ((codes "[" ++ j) ++ codes "]") ++ x
+in_brackets j x = ap (λ (bs : List ℕ). 91 ∷ bs) (sym (append_assoc j (93 ∷ []) x))
+
+listed_is : (mark ns x : List ℕ) → 91 ∷ numbers mark ns x ≡ format.listed mark (map decimal ns) ++ x
+listed_is mark ns x = ap (λ (bs : List ℕ). 91 ∷ bs) (numbers_are mark ns x) ∙ in_brackets (joined (codes ",") (map (λ (p : List ℕ). mark ++ p) (map decimal ns))) x
+
+listed_terms : (ts : List Tree) (x : List ℕ) → 91 ∷ terms ts x ≡ format.listed [] (map tree_text ts) ++ x
+listed_terms ts x = ap (λ (bs : List ℕ). 91 ∷ bs) (terms_are ts x) ∙ in_brackets (joined (codes ",") (map (λ (p : List ℕ). [] ++ p) (map tree_text ts))) x
+
+by_is : (by : By) (x : List ℕ) → by_text by x ≡ format.by_text by ++ x
+by_is by_tautology x = refl
+by_is (by_variant j) x = ap (λ (bs : List ℕ). codes "variant(m" ++ bs) (sym (append_assoc (decimal j) (codes ")") x))
+by_is (by_part j ts) x = ap (λ (bs : List ℕ). codes "part(m" ++ (decimal j ++ 44 ∷ bs)) (listed_terms ts (41 ∷ x)) ∙ joins (decimal j) (format.listed [] (map tree_text ts))
+  where
+    joins : (d l : List ℕ) → codes "part(m" ++ (d ++ 44 ∷ (l ++ 41 ∷ x)) ≡ ((((codes "part(m" ++ d) ++ codes ",") ++ l) ++ codes ")") ++ x
+    joins d l = simp append_assoc
+
 origin_is : (o : Origin) (x : List ℕ) → origin_text o x ≡ format.origin_text o ++ x
 origin_is (input k) x = simp append_assoc
 origin_is (inst a p b q) x = simp append_assoc
+origin_is (lemma a p b q ks ds) x =
+    ap (λ (bs : List ℕ). codes "lemma(m" ++ (decimal a ++ 44 ∷ (decimal p ++ 44 ∷ 109 ∷ (decimal b ++ 44 ∷ (decimal q ++ 44 ∷ bs)))))
+    (listed_is [] ks (44 ∷ 91 ∷ numbers (109 ∷ []) ds (41 ∷ x)) ∙ ap (λ (bs : List ℕ). format.listed [] (map decimal ks) ++ 44 ∷ bs) (listed_is (109 ∷ []) ds (41 ∷ x)))
+    ∙ joins (decimal a) (decimal p) (decimal b) (decimal q) (format.listed [] (map decimal ks)) (format.listed (109 ∷ []) (map decimal ds))
+  where
+    joins : (a p b q l m : List ℕ) → codes "lemma(m" ++ (a ++ 44 ∷ (p ++ 44 ∷ 109 ∷ (b ++ 44 ∷ (q ++ 44 ∷ (l ++ 44 ∷ (m ++ 41 ∷ x)))))) ≡ ((((((((((((codes "lemma(m" ++ a) ++ codes ",") ++ p) ++ codes ",m") ++ b) ++ codes ",") ++ q) ++ codes ",") ++ l) ++ codes ",") ++ m) ++ codes ")") ++ x
+    joins a p b q l m = simp append_assoc
 
 hint_is : (h : Cited) (x : List ℕ) → hint h x ≡ format.hint_text h ++ x
 hint_is (given k) x = refl
@@ -68,6 +113,28 @@ selected_line_is n e p = item_line_is n e.clause (selected e.origin p) _ (origin
 
 ground_line_is : (n : ℕ) (c : TreeClause) → line_text (item n c ground_of) ≡ format.ground_line n c
 ground_line_is n c = item_line_is n c ground_of _ (ap (λ (bs : List ℕ). codes "ground(m" ++ bs) (sym (append_assoc (decimal n) (codes ")") (41 ∷ 46 ∷ 10 ∷ []))))
+
+ground_line_by_is : (n : ℕ) (g : GroundLine) → line_text (item n g.clause (ground_by g.input g.terms)) ≡ format.ground_line_by n g
+ground_line_by_is n g = item_line_is n g.clause (ground_by g.input g.terms) _
+    (ap (λ (bs : List ℕ). codes "ground(" ++ (decimal g.input ++ 44 ∷ bs)) (listed_terms g.terms (41 ∷ 41 ∷ 46 ∷ 10 ∷ [])) ∙ joins (decimal g.input) (format.listed [] (map tree_text g.terms)) (41 ∷ 46 ∷ 10 ∷ []))
+  where
+    joins : (d l r : List ℕ) → codes "ground(" ++ (d ++ 44 ∷ (l ++ 41 ∷ r)) ≡ ((((codes "ground(" ++ d) ++ codes ",") ++ l) ++ codes ")") ++ r
+    joins d l r = simp append_assoc
+
+shown_line_is : (n : ℕ) (c : TreeClause) (by : By) → line_text (item n c (input_by by)) ≡ format.shown_line n c by
+shown_line_is n c by = item_line_is n c (input_by by) _ (by_is by (41 ∷ 46 ∷ 10 ∷ []))
+
+side_is : (s : Side) → side_word s ≡ format.side_text s
+side_is left_side = refl
+side_is right_side = refl
+
+cover_line_is : (n : ℕ) (v : Cover) → line_text (item n v.clause (side_by v.left v.right v.side v.by)) ≡ format.cover_line n v
+cover_line_is n v = item_line_is n v.clause (side_by v.left v.right v.side v.by) _
+    (ap₂ (λ (w bs : List ℕ). codes "cover(m" ++ (decimal v.left ++ 44 ∷ 109 ∷ (decimal v.right ++ 44 ∷ (w ++ (codes "),[" ++ bs))))) (side_is v.side) (by_is v.by (93 ∷ 41 ∷ 46 ∷ 10 ∷ []))
+    ∙ joins (decimal v.left) (decimal v.right) (format.side_text v.side) (format.by_text v.by) (41 ∷ 46 ∷ 10 ∷ []))
+  where
+    joins : (a b w y r : List ℕ) → codes "cover(m" ++ (a ++ 44 ∷ 109 ∷ (b ++ 44 ∷ (w ++ (codes "),[" ++ (y ++ 93 ∷ r))))) ≡ ((((((((codes "cover(m" ++ a) ++ codes ",m") ++ b) ++ codes ",") ++ w) ++ codes "),[") ++ y) ++ codes "]") ++ r
+    joins a b w y r = simp append_assoc
 
 step_line_is : (n : ℕ) (s : Step Tree) → line_text (item n s.clause (shown_by s.hints)) ≡ format.step_line n s
 step_line_is n s = item_line_is n s.clause (shown_by s.hints) _ (ap (λ (bs : List ℕ). codes "rup([" ++ bs) (hints_are s.hints (41 ∷ 46 ∷ 10 ∷ []) ∙ sym (append_assoc (joined (codes ",") (map format.hint_text s.hints)) (codes "])") (41 ∷ 46 ∷ 10 ∷ []))))
@@ -125,6 +192,25 @@ ground_texts before (c ∷ cs) n e =
     let i : Item = record { clause = c; note = ground_of } in
     ap₂ (λ (x y : List ℕ). x ++ y) (ap (λ (k : ℕ). line_text (item k c ground_of)) (sym e) ∙ ground_line_is n c) (ground_texts (before ++ i ∷ []) cs (n + 1) (counts before i n e 3 refl refl))
 
+line_texts : (before : List Item) (gs : List GroundLine) (n : ℕ) → n ≡ suc (count 3 before) → spelled (item_lines before (line_items gs)) ≡ numbered_lines format.ground_line_by n gs
+line_texts before [] n e = refl
+line_texts before (g ∷ gs) n e =
+    let i : Item = record { clause = g.clause; note = ground_by g.input g.terms } in
+    ap₂ (λ (x y : List ℕ). x ++ y) (ap (λ (k : ℕ). line_text (item k g.clause (ground_by g.input g.terms))) (sym e) ∙ ground_line_by_is n g) (line_texts (before ++ i ∷ []) gs (n + 1) (counts before i n e 3 refl refl))
+
+shown_texts : (before : List Item) (cs : List TreeClause) (bys : List By) (n : ℕ) → n ≡ suc (count 5 before) → spelled (item_lines before (shown_items cs bys)) ≡ paired_lines format.shown_line n cs bys
+shown_texts before [] bys n e = refl
+shown_texts before (c ∷ cs) [] n e = refl
+shown_texts before (c ∷ cs) (b ∷ bys) n e =
+    let i : Item = record { clause = c; note = input_by b } in
+    ap₂ (λ (x y : List ℕ). x ++ y) (ap (λ (k : ℕ). line_text (item k c (input_by b))) (sym e) ∙ shown_line_is n c b) (shown_texts (before ++ i ∷ []) cs bys (n + 1) (counts before i n e 5 refl refl))
+
+cover_texts : (before : List Item) (vs : List Cover) (n : ℕ) → n ≡ suc (count 6 before) → spelled (item_lines before (cover_items vs)) ≡ numbered_lines format.cover_line n vs
+cover_texts before [] n e = refl
+cover_texts before (v ∷ vs) n e =
+    let i : Item = record { clause = v.clause; note = side_by v.left v.right v.side v.by } in
+    ap₂ (λ (x y : List ℕ). x ++ y) (ap (λ (k : ℕ). line_text (item k v.clause (side_by v.left v.right v.side v.by))) (sym e) ∙ cover_line_is n v) (cover_texts (before ++ i ∷ []) vs (n + 1) (counts before i n e 6 refl refl))
+
 step_texts : (before : List Item) (ss : List (Step Tree)) (n : ℕ) → n ≡ suc (count 4 before) → spelled (item_lines before (step_items ss)) ≡ numbered_lines format.step_line n ss
 step_texts before [] n e = refl
 step_texts before (s ∷ ss) n e =
@@ -169,6 +255,19 @@ pub ground_ranks : (cs : List TreeClause) → list_all (λ (i : Item). nat_eq (r
 ground_ranks [] = refl
 ground_ranks (c ∷ cs) = ground_ranks cs
 
+pub line_ranks : (gs : List GroundLine) → list_all (λ (i : Item). nat_eq (rank i.note) 3) (line_items gs) ≡ true
+line_ranks [] = refl
+line_ranks (g ∷ gs) = line_ranks gs
+
+pub shown_ranks : (cs : List TreeClause) (bys : List By) → list_all (λ (i : Item). nat_eq (rank i.note) 5) (shown_items cs bys) ≡ true
+shown_ranks [] bys = refl
+shown_ranks (c ∷ cs) [] = refl
+shown_ranks (c ∷ cs) (b ∷ bys) = shown_ranks cs bys
+
+pub cover_ranks : (vs : List Cover) → list_all (λ (i : Item). nat_eq (rank i.note) 6) (cover_items vs) ≡ true
+cover_ranks [] = refl
+cover_ranks (v ∷ vs) = cover_ranks vs
+
 pub step_ranks : (ss : List (Step Tree)) → list_all (λ (i : Item). nat_eq (rank i.note) 4) (step_items ss) ≡ true
 step_ranks [] = refl
 step_ranks (s ∷ ss) = step_ranks ss
@@ -203,6 +302,9 @@ of_refutation s o f k a b c d e z = simp (append_assoc, append-nil)
 of_saturation : (s o f a b c z : List ℕ) → (((((s ++ o) ++ f) ++ a) ++ b) ++ c) ++ z ≡ s ++ (o ++ (f ++ ((a ++ (b ++ c)) ++ (z ++ []))))
 of_saturation s o f a b c z = simp (append_assoc, append-nil)
 
+of_covered : (s o f a b c d e z : List ℕ) → (((((((s ++ o) ++ f) ++ a) ++ b) ++ c) ++ d) ++ e) ++ z ≡ s ++ (o ++ (f ++ ((a ++ (b ++ (c ++ (d ++ e)))) ++ (z ++ []))))
+of_covered s o f a b c d e z = simp (append_assoc, append-nil)
+
 version_is : (f : ℕ) → line_text (version f) ≡ format.format_line f
 version_is f = sym (append_assoc (codes "% instgen certificate ") (decimal f) (10 ∷ []))
 
@@ -225,6 +327,24 @@ text_is f name (first_refutation c) =
     = texts_append line_text step is_done nothing exact (item_lines [] (items_of (first_refutation c))) (closing true name ∷ []) in
     of_refutation (format.status_line (codes "Unsatisfiable") name) (format.start_line (codes "CNFRefutation") name) (format.format_line f) (format.constant_line c.bot) _ _ _ _ _ (format.end_line (codes "CNFRefutation") name)
     ∙ sym (ap₂ (λ (x y : List ℕ). x ++ y) (status_is (codes "Unsatisfiable") name) (ap₂ (λ (x y : List ℕ). x ++ y) (start_is (codes "CNFRefutation") name) (ap₂ (λ (w x : List ℕ). w ++ (format.constant_line c.bot ++ x)) (version_is f) (tail ∙ ap₂ (λ (x y : List ℕ). x ++ (y ++ [])) items (end_is (codes "CNFRefutation") name)))))
+text_is f name (refutation c) =
+    let A = input_items c.base.inputs c.base.names in
+    let B = axiom_items c.base.axioms in
+    let C = member_items c.base.members in
+    let D = line_items c.grounds in
+    let E = step_items c.steps in
+    let cA : 1 ≡ suc (count 1 A) = omega (arith, count_other 0 1 A (input_ranks c.base.inputs c.base.names) refl) in
+    let cC : 1 ≡ suc (count 3 ((A ++ B) ++ C)) = omega (arith, count_append 3 (A ++ B) C, base_counts c.base.inputs c.base.names c.base.axioms 3 refl refl, count_other 2 3 C (member_ranks c.base.members) refl) in
+    let cD : 1 ≡ suc (count 4 (((A ++ B) ++ C) ++ D)) = omega (arith, count_append 4 ((A ++ B) ++ C) D, count_append 4 (A ++ B) C, base_counts c.base.inputs c.base.names c.base.axioms 4 refl refl, count_other 2 4 C (member_ranks c.base.members) refl, count_other 3 4 D (line_ranks c.grounds) refl) in
+    let items : spelled (item_lines [] (items_of (refutation c))) ≡ paired_lines format.input_line 1 c.base.inputs c.base.names ++ (numbered_lines format.axiom_line 1 c.base.axioms ++ (numbered_lines format.member_line 1 c.base.members ++ (numbered_lines format.ground_line_by 1 c.grounds ++ numbered_lines format.step_line 1 c.steps)))
+    = split [] A (B ++ (C ++ (D ++ E))) ∙ ap₂ (λ (x y : List ℕ). x ++ y) (input_texts [] c.base.inputs c.base.names 1 refl)
+    (split A B (C ++ (D ++ E)) ∙ ap₂ (λ (x y : List ℕ). x ++ y) (axiom_texts A c.base.axioms 1 cA)
+    (split (A ++ B) C (D ++ E) ∙ ap₂ (λ (x y : List ℕ). x ++ y) (member_texts (A ++ B) c.base.members 1 (base_counts c.base.inputs c.base.names c.base.axioms 2 refl refl))
+    (split ((A ++ B) ++ C) D E ∙ ap₂ (λ (x y : List ℕ). x ++ y) (line_texts ((A ++ B) ++ C) c.grounds 1 cC) (step_texts (((A ++ B) ++ C) ++ D) c.steps 1 cD)))) in
+    let tail : spelled (item_lines [] (items_of (refutation c)) ++ closing true name ∷ []) ≡ spelled (item_lines [] (items_of (refutation c))) ++ (line_text (closing true name) ++ [])
+    = texts_append line_text step is_done nothing exact (item_lines [] (items_of (refutation c))) (closing true name ∷ []) in
+    of_refutation (format.status_line (codes "Unsatisfiable") name) (format.start_line (codes "CNFRefutation") name) (format.format_line f) (format.constant_line c.bot) _ _ _ _ _ (format.end_line (codes "CNFRefutation") name)
+    ∙ sym (ap₂ (λ (x y : List ℕ). x ++ y) (status_is (codes "Unsatisfiable") name) (ap₂ (λ (x y : List ℕ). x ++ y) (start_is (codes "CNFRefutation") name) (ap₂ (λ (w x : List ℕ). w ++ (format.constant_line c.bot ++ x)) (version_is f) (tail ∙ ap₂ (λ (x y : List ℕ). x ++ (y ++ [])) items (end_is (codes "CNFRefutation") name)))))
 text_is f name (saturation c) =
     let A = input_items c.base.inputs c.base.names in
     let B = axiom_items c.base.axioms in
@@ -236,4 +356,23 @@ text_is f name (saturation c) =
     let tail : spelled (item_lines [] (items_of (saturation c)) ++ closing false name ∷ []) ≡ spelled (item_lines [] (items_of (saturation c))) ++ (line_text (closing false name) ++ [])
     = texts_append line_text step is_done nothing exact (item_lines [] (items_of (saturation c))) (closing false name ∷ []) in
     of_saturation (format.status_line (codes "Satisfiable") name) (format.start_line (codes "Saturation") name) (format.format_line f) _ _ _ (format.end_line (codes "Saturation") name)
+    ∙ sym (ap₂ (λ (x y : List ℕ). x ++ y) (status_is (codes "Satisfiable") name) (ap₂ (λ (x y : List ℕ). x ++ y) (start_is (codes "Saturation") name) (ap₂ (λ (w x : List ℕ). w ++ x) (version_is f) (tail ∙ ap₂ (λ (x y : List ℕ). x ++ (y ++ [])) items (end_is (codes "Saturation") name)))))
+text_is f name (covered c) =
+    let b = c.saturation.base in
+    let A = input_items b.inputs b.names in
+    let B = axiom_items b.axioms in
+    let C = selected_items b.members c.saturation.places in
+    let D = shown_items (b.inputs ++ b.axioms) c.shown in
+    let E = cover_items c.covers in
+    let cA : 1 ≡ suc (count 1 A) = omega (arith, count_other 0 1 A (input_ranks b.inputs b.names) refl) in
+    let cC : 1 ≡ suc (count 5 ((A ++ B) ++ C)) = omega (arith, count_append 5 (A ++ B) C, base_counts b.inputs b.names b.axioms 5 refl refl, count_other 2 5 C (selected_ranks b.members c.saturation.places) refl) in
+    let cD : 1 ≡ suc (count 6 (((A ++ B) ++ C) ++ D)) = omega (arith, count_append 6 ((A ++ B) ++ C) D, count_append 6 (A ++ B) C, base_counts b.inputs b.names b.axioms 6 refl refl, count_other 2 6 C (selected_ranks b.members c.saturation.places) refl, count_other 5 6 D (shown_ranks (b.inputs ++ b.axioms) c.shown) refl) in
+    let items : spelled (item_lines [] (items_of (covered c))) ≡ paired_lines format.input_line 1 b.inputs b.names ++ (numbered_lines format.axiom_line 1 b.axioms ++ (paired_lines format.selected_line 1 b.members c.saturation.places ++ (paired_lines format.shown_line 1 (b.inputs ++ b.axioms) c.shown ++ numbered_lines format.cover_line 1 c.covers)))
+    = split [] A (B ++ (C ++ (D ++ E))) ∙ ap₂ (λ (x y : List ℕ). x ++ y) (input_texts [] b.inputs b.names 1 refl)
+    (split A B (C ++ (D ++ E)) ∙ ap₂ (λ (x y : List ℕ). x ++ y) (axiom_texts A b.axioms 1 cA)
+    (split (A ++ B) C (D ++ E) ∙ ap₂ (λ (x y : List ℕ). x ++ y) (selected_texts (A ++ B) b.members c.saturation.places 1 (base_counts b.inputs b.names b.axioms 2 refl refl))
+    (split ((A ++ B) ++ C) D E ∙ ap₂ (λ (x y : List ℕ). x ++ y) (shown_texts ((A ++ B) ++ C) (b.inputs ++ b.axioms) c.shown 1 cC) (cover_texts (((A ++ B) ++ C) ++ D) c.covers 1 cD)))) in
+    let tail : spelled (item_lines [] (items_of (covered c)) ++ closing false name ∷ []) ≡ spelled (item_lines [] (items_of (covered c))) ++ (line_text (closing false name) ++ [])
+    = texts_append line_text step is_done nothing exact (item_lines [] (items_of (covered c))) (closing false name ∷ []) in
+    of_covered (format.status_line (codes "Satisfiable") name) (format.start_line (codes "Saturation") name) (format.format_line f) _ _ _ _ _ (format.end_line (codes "Saturation") name)
     ∙ sym (ap₂ (λ (x y : List ℕ). x ++ y) (status_is (codes "Satisfiable") name) (ap₂ (λ (x y : List ℕ). x ++ y) (start_is (codes "Saturation") name) (ap₂ (λ (w x : List ℕ). w ++ x) (version_is f) (tail ∙ ap₂ (λ (x y : List ℕ). x ++ (y ++ [])) items (end_is (codes "Saturation") name)))))

@@ -22,13 +22,13 @@ use Rattle.cert_format.proofs.LineValues.{next, guard_both, finish, empty_body, 
 -- behind the first two lines
 formatted : (r : Bool) (name : List ℕ) (f : ℕ) (ls : List Line) (t : State) → is_text_name name ≡ true → is_known f ≡ true → run (machine.formatted is_known is_text_name clause_is_printable note_is_printable r name f) ls ≡ Some t → is_done t ≡ true
     → AreOfValue (status r name ∷ opening r name ∷ version f ∷ ls)
-formatted false name f ls t n known e d = saturated_lines f known name ls n (finish (header_for false f name []) [] ls t e d (empty_body _))
-formatted true name f [] t n known e d = absurd (let k : awaits f name ≡ t = cc in let j : is_done (awaits f name) ≡ true = ap is_done k ∙ d in cc)
-formatted true name f (constant c ∷ ls) t n known e d =
+formatted false name f ls t n read e d = saturated_lines f read name ls n (finish (header_for false f name []) [] ls t e d (empty_body _))
+formatted true name f [] t n read e d = absurd (let k : awaits f name ≡ t = cc in let j : is_done (awaits f name) ≡ true = ap is_done k ∙ d in cc)
+formatted true name f (constant c ∷ ls) t n read e d =
     let x = next (awaits f name) (constant c) ls t e in
     let g = guard_both _ _ _ x.1 in
-    refuted_lines f known name c ls n g.0 (finish (header_for true f name c) [] ls t (ap (λ (u : State). run u ls) g.1 ∙ x.2) d (empty_body _))
-formatted true name f (l ∷ ls) t n known e d = absurd cc
+    refuted_lines f read name c ls n g.0 (finish (header_for true f name c) [] ls t (ap (λ (u : State). run u ls) g.1 ∙ x.2) d (empty_body _))
+formatted true name f (l ∷ ls) t n read e d = absurd cc
 
 behind_opening : (r : Bool) (name : List ℕ) (ls : List Line) (t : State) → is_text_name name ≡ true → run (opened r name) ls ≡ Some t → is_done t ≡ true → AreOfValue (status r name ∷ opening r name ∷ ls)
 behind_opening r name [] t n e d = absurd (let k : opened r name ≡ t = cc in let j : is_done (opened r name) ≡ true = ap is_done k ∙ d in cc)

@@ -1,5 +1,5 @@
 -- Two printable values with one text are equal.
-use Rattle.std.proofs.Common.{◌≡◌, ℕ, Bool, true, false, cond, List, [], ◌∷◌, ◌++◌, length, refl, sym, ap, ap₂, ◌∙◌, subst, arith}
+use Rattle.std.proofs.Common.{◌≡◌, ℕ, Bool, true, false, cond, List, [], ◌∷◌, ◌++◌, length, length-append, inl, inr, refl, sym, ap, ap₂, ◌∙◌, subst, arith}
 use Rattle.std.specs.Prelude.{nat_eq}
 use Rattle.std.specs.List.{list_all}
 use Rattle.std.proofs.lemmas.List.{append-nil}
@@ -9,18 +9,18 @@ use Rattle.inst_logic.specs.WellFormed.{is_constant, is_function_kind}
 use Rattle.inst_logic.specs.Clauses.{TreeClause}
 use Rattle.inst_calculus.specs.Entries.{Entry}
 use Rattle.inst_calculus.specs.Steps.{Step}
-use Rattle.cert_format.specs.Certificate.{FirstRefutation, Saturation, Certificate, first_refutation, saturation}
+use Rattle.cert_format.specs.Certificate.{FirstRefutation, GroundLine, Refutation, Saturation, By, Cover, Covered, Certificate, first_refutation, refutation, saturation, covered}
 use Rattle.cert_format.specs.Printable.{IsTextName}
 use Rattle.inst_logic.proofs.Numbers.{number_is}
 use Rattle.inst_logic.proofs.Formed.{function_of}
-use Rattle.cert_format.proofs.Writables.{IsWritableRefutation, IsWritableSaturation, IsWritable, writable}
+use Rattle.cert_format.proofs.Writables.{IsWritableRefutation, IsWritableByLines, IsWritableSaturation, IsWritableCovered, IsWritable, writable}
 use Rattle.cert_format.specs.LineMachine.{Note, rank, Item, Line, status, opening, version, constant, item, closing}
 use Rattle.cert_format.specs.Printable.{HasFormat, IsPrintable}
 use Rattle.cert_format.specs.Text.{certificate_text}
-use Rattle.cert_format.specs.ValueLines.{input_items, axiom_items, member_items, selected_items, ground_items, step_items, items_of, item_lines, lines_of}
+use Rattle.cert_format.specs.ValueLines.{input_items, axiom_items, member_items, selected_items, ground_items, line_items, shown_items, cover_items, step_items, items_of, item_lines, lines_of}
 use Rattle.std.proofs.lemmas.Bool.{and_parts}
 use Rattle.cert_format.proofs.Formats.{one_list}
-use Rattle.cert_format.proofs.LineTexts.{text_is, input_ranks, axiom_ranks, member_ranks, selected_ranks, ground_ranks, step_ranks}
+use Rattle.cert_format.proofs.LineTexts.{text_is, input_ranks, axiom_ranks, member_ranks, selected_ranks, ground_ranks, line_ranks, shown_ranks, cover_ranks, step_ranks}
 use Rattle.cert_format.proofs.ValueRuns.{are_lines}
 
 cons_once : {A : Type 0} (a b : A) (x y : List A) → a ∷ x ≡ b ∷ y → (a ≡ b) × (x ≡ y)
@@ -142,6 +142,43 @@ steps_once (s ∷ ss) (t ∷ ts) h =
     let c = k.0 in
     ap₂ (λ (x : Step Tree) (xs : List (Step Tree)). x ∷ xs) (λ i. record { clause = c i; hints = hs i }) (steps_once ss ts k.2)
 
+ground_lines_once : (gs hs : List GroundLine) → line_items gs ≡ line_items hs → gs ≡ hs
+ground_lines_once [] [] h = refl
+ground_lines_once [] (t ∷ hs) h = absurd cc
+ground_lines_once (s ∷ gs) [] h = absurd cc
+ground_lines_once (s ∷ gs) (t ∷ hs) h =
+    let k = first_items _ _ _ _ h in
+    let c = k.0 in
+    let i : s.input ≡ t.input = (let q = k.1 in cc) in
+    let ts : s.terms ≡ t.terms = (let q = k.1 in cc) in
+    ap₂ (λ (x : GroundLine) (xs : List GroundLine). x ∷ xs) (λ j. record { clause = c j; input = i j; terms = ts j }) (ground_lines_once gs hs k.2)
+
+shown_once : (cs ds : List TreeClause) (as_ bs : List By) → length as_ ≡ length cs → length bs ≡ length ds → shown_items cs as_ ≡ shown_items ds bs → as_ ≡ bs
+shown_once [] [] [] [] a b h = refl
+shown_once [] ds (w ∷ as_) bs a b h = absurd (omega arith)
+shown_once cs [] as_ (v ∷ bs) a b h = absurd (omega arith)
+shown_once (c ∷ cs) ds [] bs a b h = absurd (omega arith)
+shown_once cs (d ∷ ds) as_ [] a b h = absurd (omega arith)
+shown_once [] (d ∷ ds) [] (v ∷ bs) a b h = absurd cc
+shown_once (c ∷ cs) [] (w ∷ as_) [] a b h = absurd cc
+shown_once (c ∷ cs) (d ∷ ds) (w ∷ as_) (v ∷ bs) a b h =
+    let e = first_items _ _ _ _ h in
+    let n : w ≡ v = (let f = e.1 in cc) in
+    ap₂ (λ (x : By) (xs : List By). x ∷ xs) n (shown_once cs ds as_ bs (omega arith) (omega arith) e.2)
+
+covers_once : (vs ws : List Cover) → cover_items vs ≡ cover_items ws → vs ≡ ws
+covers_once [] [] h = refl
+covers_once [] (t ∷ ws) h = absurd cc
+covers_once (s ∷ vs) [] h = absurd cc
+covers_once (s ∷ vs) (t ∷ ws) h =
+    let k = first_items _ _ _ _ h in
+    let c = k.0 in
+    let l : s.left ≡ t.left = (let q = k.1 in cc) in
+    let r : s.right ≡ t.right = (let q = k.1 in cc) in
+    let d : s.side ≡ t.side = (let q = k.1 in cc) in
+    let b : s.by ≡ t.by = (let q = k.1 in cc) in
+    ap₂ (λ (x : Cover) (xs : List Cover). x ∷ xs) (λ j. record { left = l j; right = r j; side = d j; clause = c j; by = b j }) (covers_once vs ws k.2)
+
 -- ---- values
 
 constants_once : (s r : Sym) → is_constant s ≡ true → is_constant r ≡ true → s.name ≡ r.name → s ≡ r
@@ -175,6 +212,29 @@ module _ (A B C D E : List Item) (a : list_all (λ (i : Item). nat_eq (rank i.no
   group_4 : only 4 all_groups ≡ E
   group_4 = only_behind 0 4 A _ a refl ∙ only_behind 1 4 B _ b refl ∙ only_behind 2 4 C _ c refl ∙ only_behind 3 4 D _ d refl ∙ only_own 4 E e
 
+-- the groups of a saturation that names its covers
+module _ (A B C D E : List Item) (a : list_all (λ (i : Item). nat_eq (rank i.note) 0) A ≡ true) (b : list_all (λ (i : Item). nat_eq (rank i.note) 1) B ≡ true) (c : list_all (λ (i : Item). nat_eq (rank i.note) 2) C ≡ true) (d : list_all (λ (i : Item). nat_eq (rank i.note) 5) D ≡ true) (e : list_all (λ (i : Item). nat_eq (rank i.note) 6) E ≡ true) where
+  abbrev covered_groups : List Item
+  covered_groups = A ++ (B ++ (C ++ (D ++ E)))
+
+  nothing_more : (k : ℕ) → nat_eq 6 k ≡ false → nat_eq 5 k ≡ false → only k (D ++ E) ≡ []
+  nothing_more k p q = only_behind 5 k D E d q ∙ only_other 6 k E e p
+
+  covered_0 : only 0 covered_groups ≡ A
+  covered_0 = only_front 0 A _ a (only_behind 1 0 B _ b refl ∙ only_behind 2 0 C _ c refl ∙ nothing_more 0 refl refl)
+
+  covered_1 : only 1 covered_groups ≡ B
+  covered_1 = only_behind 0 1 A _ a refl ∙ only_front 1 B _ b (only_behind 2 1 C _ c refl ∙ nothing_more 1 refl refl)
+
+  covered_2 : only 2 covered_groups ≡ C
+  covered_2 = only_behind 0 2 A _ a refl ∙ only_behind 1 2 B _ b refl ∙ only_front 2 C _ c (nothing_more 2 refl refl)
+
+  covered_5 : only 5 covered_groups ≡ D
+  covered_5 = only_behind 0 5 A _ a refl ∙ only_behind 1 5 B _ b refl ∙ only_behind 2 5 C _ c refl ∙ only_front 5 D _ d (only_other 6 5 E e refl)
+
+  covered_6 : only 6 covered_groups ≡ E
+  covered_6 = only_behind 0 6 A _ a refl ∙ only_behind 1 6 B _ b refl ∙ only_behind 2 6 C _ c refl ∙ only_behind 5 6 D _ d refl ∙ only_own 6 E e
+
 record AreGroups (is A B C D E : List Item) : Type 0 where
   pub zeroth : only 0 is ≡ A
   pub first : only 1 is ≡ B
@@ -199,6 +259,52 @@ refuted_once c d p q bots h =
     let s = steps_once c.steps d.steps (sym g.fourth ∙ ap (only 4) h ∙ f.fourth) in
     let t = constants_once c.bot d.bot p.constant q.constant bots in
     λ k. record { base = record { inputs = i.0 k; names = i.1 k; axioms = a k; members = m k }; bot = t k; grounds = r k; steps = s k }
+
+line_groups : (c : Refutation) → AreGroups (items_of (refutation c)) (input_items c.base.inputs c.base.names) (axiom_items c.base.axioms) (member_items c.base.members) (line_items c.grounds) (step_items c.steps)
+line_groups c =
+    let A = input_items c.base.inputs c.base.names in let B = axiom_items c.base.axioms in let C = member_items c.base.members in let D = line_items c.grounds in let E = step_items c.steps in
+    let a = input_ranks c.base.inputs c.base.names in let b = axiom_ranks c.base.axioms in let m = member_ranks c.base.members in let d = line_ranks c.grounds in let e = step_ranks c.steps in
+    record { zeroth = group_0 A B C D E a b m d e; first = group_1 A B C D E a b m d e; second = group_2 A B C D E a b m d e; third = group_3 A B C D E a b m d e; fourth = group_4 A B C D E a b m d e }
+
+lined_once : (c d : Refutation) → IsWritableByLines c → IsWritableByLines d → c.bot.name ≡ d.bot.name → items_of (refutation c) ≡ items_of (refutation d) → c ≡ d
+lined_once c d p q bots h =
+    let g = line_groups c in
+    let f = line_groups d in
+    let i = inputs_once c.base.inputs d.base.inputs c.base.names d.base.names p.base.named q.base.named (sym g.zeroth ∙ ap (only 0) h ∙ f.zeroth) in
+    let a = axioms_once c.base.axioms d.base.axioms (sym g.first ∙ ap (only 1) h ∙ f.first) in
+    let m = members_once c.base.members d.base.members (sym g.second ∙ ap (only 2) h ∙ f.second) in
+    let r = ground_lines_once c.grounds d.grounds (sym g.third ∙ ap (only 3) h ∙ f.third) in
+    let s = steps_once c.steps d.steps (sym g.fourth ∙ ap (only 4) h ∙ f.fourth) in
+    let t = constants_once c.bot d.bot p.constant q.constant bots in
+    λ k. record { base = record { inputs = i.0 k; names = i.1 k; axioms = a k; members = m k }; bot = t k; grounds = r k; steps = s k }
+
+record AreCoveredGroups (is A B C D E : List Item) : Type 0 where
+  pub zeroth : only 0 is ≡ A
+  pub first : only 1 is ≡ B
+  pub second : only 2 is ≡ C
+  pub fifth : only 5 is ≡ D
+  pub sixth : only 6 is ≡ E
+
+covered_groups_of : (c : Covered) → AreCoveredGroups (items_of (covered c)) (input_items c.saturation.base.inputs c.saturation.base.names) (axiom_items c.saturation.base.axioms)
+    (selected_items c.saturation.base.members c.saturation.places) (shown_items (c.saturation.base.inputs ++ c.saturation.base.axioms) c.shown) (cover_items c.covers)
+covered_groups_of c =
+    let x = c.saturation.base in
+    let A = input_items x.inputs x.names in let B = axiom_items x.axioms in let C = selected_items x.members c.saturation.places in let D = shown_items (x.inputs ++ x.axioms) c.shown in let E = cover_items c.covers in
+    let a = input_ranks x.inputs x.names in let b = axiom_ranks x.axioms in let m = selected_ranks x.members c.saturation.places in let d = shown_ranks (x.inputs ++ x.axioms) c.shown in let e = cover_ranks c.covers in
+    record { zeroth = covered_0 A B C D E a b m d e; first = covered_1 A B C D E a b m d e; second = covered_2 A B C D E a b m d e; fifth = covered_5 A B C D E a b m d e; sixth = covered_6 A B C D E a b m d e }
+
+covered_once : (c d : Covered) → IsWritableCovered c → IsWritableCovered d → items_of (covered c) ≡ items_of (covered d) → c ≡ d
+covered_once c d p q h =
+    let x = c.saturation.base in
+    let y = d.saturation.base in
+    let g = covered_groups_of c in
+    let f = covered_groups_of d in
+    let i = inputs_once x.inputs y.inputs x.names y.names p.saturation.base.named q.saturation.base.named (sym g.zeroth ∙ ap (only 0) h ∙ f.zeroth) in
+    let a = axioms_once x.axioms y.axioms (sym g.first ∙ ap (only 1) h ∙ f.first) in
+    let m = selected_once x.members y.members c.saturation.places d.saturation.places p.saturation.placed q.saturation.placed (sym g.second ∙ ap (only 2) h ∙ f.second) in
+    let s = shown_once (x.inputs ++ x.axioms) (y.inputs ++ y.axioms) c.shown d.shown (p.each ∙ sym (length-append x.inputs x.axioms)) (q.each ∙ sym (length-append y.inputs y.axioms)) (sym g.fifth ∙ ap (only 5) h ∙ f.fifth) in
+    let v = covers_once c.covers d.covers (sym g.sixth ∙ ap (only 6) h ∙ f.sixth) in
+    λ k. record { saturation = record { base = record { inputs = i.0 k; names = i.1 k; axioms = a k; members = m.0 k }; places = m.1 k }; shown = s k; covers = v k }
 
 saturated_once : (c d : Saturation) → IsWritableSaturation c → IsWritableSaturation d → items_of (saturation c) ≡ items_of (saturation d) → c ≡ d
 saturated_once c d p q h =
@@ -225,6 +331,14 @@ abbrev form_of : List Line → Bool
 form_of (status r name ∷ ls) = r
 form_of _ = false
 
+not_lined : (f : ℕ) (c : FirstRefutation) (d : Refutation) → HasFormat f (first_refutation c) → HasFormat f (refutation d) → ⊥
+not_lined f c d (e, a) (inl h) = omega arith
+not_lined f c d (e, a) (inr h) = omega arith
+
+not_covered : (f : ℕ) (c : Saturation) (d : Covered) → HasFormat f (saturation c) → HasFormat f (covered d) → ⊥
+not_covered f c d (inl (e, a)) h = omega arith
+not_covered f c d (inr e) h = omega arith
+
 abbrev version_of : List Line → ℕ
 version_of (status r m ∷ opening q n ∷ version f ∷ ls) = f
 version_of _ = 0
@@ -241,13 +355,35 @@ lines_once f m n (first_refutation c) (first_refutation d) k l p q h =
     let g = cons_once (constant c.bot.name) (constant d.bot.name) _ _ e.1 in
     let bots : c.bot.name ≡ d.bot.name = (let z = g.0 in cc) in
     ap first_refutation (refuted_once c d p q bots (items_once [] (items_of (first_refutation c)) (items_of (first_refutation d)) true true m n g.1))
+lines_once f m n (refutation c) (refutation d) k l p q h =
+    let a = cons_once _ _ _ _ h in
+    let b = cons_once _ _ _ _ a.1 in
+    let e = cons_once _ _ _ _ b.1 in
+    let g = cons_once (constant c.bot.name) (constant d.bot.name) _ _ e.1 in
+    let bots : c.bot.name ≡ d.bot.name = (let z = g.0 in cc) in
+    ap refutation (lined_once c d p q bots (items_once [] (items_of (refutation c)) (items_of (refutation d)) true true m n g.1))
 lines_once f m n (saturation c) (saturation d) k l p q h =
     let a = cons_once _ _ _ _ h in
     let b = cons_once _ _ _ _ a.1 in
     let e = cons_once _ _ _ _ b.1 in
     ap saturation (saturated_once c d p q (items_once [] (items_of (saturation c)) (items_of (saturation d)) false false m n e.1))
+lines_once f m n (covered c) (covered d) k l p q h =
+    let a = cons_once _ _ _ _ h in
+    let b = cons_once _ _ _ _ a.1 in
+    let e = cons_once _ _ _ _ b.1 in
+    ap covered (covered_once c d p q (items_once [] (items_of (covered c)) (items_of (covered d)) false false m n e.1))
+lines_once f m n (first_refutation c) (refutation d) k l p q h = absurd (not_lined f c d k l)
+lines_once f m n (refutation d) (first_refutation c) k l p q h = absurd (not_lined f c d l k)
+lines_once f m n (saturation c) (covered d) k l p q h = absurd (not_covered f c d k l)
+lines_once f m n (covered d) (saturation c) k l p q h = absurd (not_covered f c d l k)
 lines_once f m n (first_refutation c) (saturation d) k l p q h = absurd (let z = ap form_of h in cc)
+lines_once f m n (first_refutation c) (covered d) k l p q h = absurd (let z = ap form_of h in cc)
+lines_once f m n (refutation c) (saturation d) k l p q h = absurd (let z = ap form_of h in cc)
+lines_once f m n (refutation c) (covered d) k l p q h = absurd (let z = ap form_of h in cc)
 lines_once f m n (saturation c) (first_refutation d) k l p q h = absurd (let z = ap form_of h in cc)
+lines_once f m n (saturation c) (refutation d) k l p q h = absurd (let z = ap form_of h in cc)
+lines_once f m n (covered c) (first_refutation d) k l p q h = absurd (let z = ap form_of h in cc)
+lines_once f m n (covered c) (refutation d) k l p q h = absurd (let z = ap form_of h in cc)
 
 -- Two printable certificates with one text are equal, and so are their formats and names.
 pub texts_once : (f g : ℕ) (m n : List ℕ) (c d : Certificate) → IsTextName m → IsTextName n → IsPrintable f c → IsPrintable g d → certificate_text f m c ≡ certificate_text g n d → (f ≡ g) × (m ≡ n) × (c ≡ d)

@@ -7,7 +7,7 @@ use Rattle.inst_logic.specs.Truth.{IsRefuted}
 use Rattle.inst_calculus.specs.Axioms.{equality_axioms, with_axioms}
 use Rattle.inst_calculus.specs.Abstraction.{IsBot}
 use Rattle.inst_calculus.specs.Models.{Makes}
-use Rattle.cert_format.specs.Certificate.{Base, Saturation, Certificate, first_refutation, saturation, base_of, selected_members}
+use Rattle.cert_format.specs.Certificate.{Base, line_clauses, Saturation, Certificate, first_refutation, refutation, saturation, covered, base_of, selected_members}
 use Rattle.cert_format.specs.Validity.{IsValid}
 use Rattle.cert_format.specs.Printable.{IsPrintable}
 
@@ -20,7 +20,9 @@ pub record IsOf (p : Problem) (b : Base) : Type 0 where
 -- where the certificate has a constant, it is the problem's own
 abbrev pub HasConstantOf : Problem → Certificate → Type 0
 HasConstantOf p (first_refutation r) = IsBot p.clauses r.bot
+HasConstantOf p (refutation r) = IsBot p.clauses r.bot
 HasConstantOf p (saturation s) = Unit {0}
+HasConstantOf p (covered c) = Unit {0}
 
 -- the constant is the problem's own, the ground clauses are ground instances of the clauses and axioms, and no valuation
 -- makes them all true
@@ -35,7 +37,9 @@ SatisfiesProblem p s = All (Makes (selected_members s)) (with_axioms p.clauses)
 
 abbrev pub Shows : Problem → Certificate → Type 0
 Shows p (first_refutation r) = RefutesProblem p r.bot r.grounds
+Shows p (refutation r) = RefutesProblem p r.bot (line_clauses r.grounds)
 Shows p (saturation s) = SatisfiesProblem p s
+Shows p (covered c) = SatisfiesProblem p c.saturation
 
 -- a valid certificate of the problem, printable in the format, which shows what its status says
 pub record Certifies (p : Problem) (format : ℕ) (c : Certificate) : Type 0 where

@@ -1,5 +1,5 @@
 -- The formats by their numbers, and the machine of their lines: which lines follow which, and what is taken.
-use Rattle.std.specs.Prelude.{ℕ, List, [], ◌∷◌, Bool, true, false, ◌&&◌, nat_eq, ◌≡◌, Option, Some}
+use Rattle.std.specs.Prelude.{ℕ, List, [], ◌∷◌, Bool, false, ◌&&◌, ◌||◌, nat_eq, ◌≡◌, Option, Some}
 use Rattle.std.specs.List.{list_all}
 use Rattle.std.specs.Str.{bytes_eq}
 use Rattle.inst_logic.specs.declared.symbol.Kind.{Kind}
@@ -8,10 +8,10 @@ use Rattle.inst_logic.specs.declared.signed.Signed.{Signed}
 use Rattle.inst_logic.specs.Tree.{Tree, var, app}
 use Rattle.inst_logic.specs.WellFormed.{count_of}
 use Rattle.inst_logic.specs.Clauses.{TreeClause, canonical_form}
-use Rattle.inst_logic.specs.Equal.{literal_eq}
 use Rattle.inst_logic.specs.Printing.{is_readable_name}
 use Rattle.cert_format.specs.Spelling.{are_printable}
 use Rattle.cert_format.specs.LineMachine.{Note, Item, Header, Line, State, nothing}
+pub use Rattle.cert_format.specs.LineMachine.{clause_eq}
 use Rattle.cert_format.specs.LineMachine as machine
 use Rattle.cert_format.specs.Machines as runs
 use Rattle.cert_format.specs.Machines.{Ends, IsTaken, IsExact}
@@ -20,24 +20,16 @@ use Rattle.inst_logic.specs.Codes as byte
 
 -- ---- numbers
 
-abbrev pub first_format : ℕ
-first_format = 1
-
 -- the format in which certificates are written
 abbrev pub written_format : ℕ
-written_format = first_format
+written_format = 3
 
--- the formats that are read
+-- The formats that are read. The first has no parts of conclusions, the second names the inputs and terms of ground clauses,
+-- and the third also what covers the clauses of a saturation.
 abbrev pub is_known : ℕ → Bool
-is_known format = nat_eq format first_format
+is_known f = nat_eq f 1 || (nat_eq f 2 || nat_eq f 3)
 
 -- ---- clauses that can be printed
-
-abbrev pub clause_eq : TreeClause → TreeClause → Bool
-clause_eq [] [] = true
-clause_eq [] (m ∷ ms) = false
-clause_eq (l ∷ ls) [] = false
-clause_eq (l ∷ ls) (m ∷ ms) = literal_eq l m && clause_eq ls ms
 
 -- the atom's symbol, with its arguments, can be printed
 abbrev pub symbol_is_printable : Kind → List ℕ → ℕ → ℕ → Bool

@@ -1,5 +1,9 @@
 pub mod Certificate
+pub mod Selected
+pub mod TermLists
+pub mod Dues
 pub mod Validity
+pub mod Upgrades
 pub mod Printable
 pub mod Lines
 pub mod Text
