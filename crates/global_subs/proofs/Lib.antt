@@ -1,0 +1,12 @@
+pub mod ValueLaws
+pub mod MoveLaws
+pub mod KeptLaws
+pub mod CoreLaws
+pub mod PartLaws
+pub mod TreeLaws
+pub mod UnrollLaws
+pub mod TaskLaws
+pub mod KeyLaws
+pub mod WalkLaws
+pub mod LoadLaws
+pub mod TermLaws
