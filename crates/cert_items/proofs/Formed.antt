@@ -16,7 +16,7 @@ use Rattle.inst_logic.proofs.Booleans.{or_left, or_right}
 use Rattle.inst_logic.proofs.Numbers.{equal_numbers}
 
 mutual
-  tree_formed : (t : Tree) → is_printable t ≡ true → tree_is_formed t ≡ true
+  pub tree_formed : (t : Tree) → is_printable t ≡ true → tree_is_formed t ≡ true
   tree_formed (var n) h = refl
   tree_formed (app s ts) h =
       let a = and_parts (is_function_kind s.kind) _ h in

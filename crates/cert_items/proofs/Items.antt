@@ -5,7 +5,7 @@ use Rattle.inst_logic.specs.Clauses.{TreeClause}
 use Rattle.inst_logic.specs.Printing.{clause_text}
 use Rattle.cert_format.specs.Forms.{form_atom}
 use Rattle.cert_format.specs.Formats.{clause_is_printable}
-use Rattle.cert_format.specs.LineMachine.{Note, named, equality, member, selected, ground_of, shown_by, item}
+use Rattle.cert_format.specs.LineMachine.{Note, named, equality, member, selected, ground_of, ground_by, shown_by, input_by, side_by, item}
 use Rattle.cert_format.specs.LineTexts.{note_text, line}
 use Rattle.cert_format.proofs.LineNotes.{behind_front, below}
 use Rattle.cert_format.proofs.Marked.{marked_once}
@@ -21,7 +21,7 @@ use Rattle.cert_items.specs.Items.{group_of, letter_of, role_of, head_text, IsNo
 -- ---- heads
 
 abbrev group_at : ℕ → Group
-group_at b = cond (nat_eq b 105) groups.Input (cond (nat_eq b 101) groups.Axiom (cond (nat_eq b 109) groups.Member (cond (nat_eq b 103) groups.Ground groups.Step)))
+group_at b = cond (nat_eq b 105) groups.Input (cond (nat_eq b 101) groups.Axiom (cond (nat_eq b 109) groups.Member (cond (nat_eq b 103) groups.Ground (cond (nat_eq b 114) groups.Step (cond (nat_eq b 113) groups.Shown groups.Cover)))))
 
 letter_group : (g : Group) → group_at (letter_of g) ≡ g
 letter_group groups.Input = refl
@@ -29,6 +29,8 @@ letter_group groups.Axiom = refl
 letter_group groups.Member = refl
 letter_group groups.Ground = refl
 letter_group groups.Step = refl
+letter_group groups.Shown = refl
+letter_group groups.Cover = refl
 
 pub one_letter : (g h : Group) → letter_of g ≡ letter_of h → g ≡ h
 one_letter g h e = sym (letter_group g) ∙ ap group_at e ∙ letter_group h
@@ -39,6 +41,8 @@ one_role groups.Axiom x y e = behind_front (codes "axiom,") x y e
 one_role groups.Member x y e = behind_front (codes "plain,") x y e
 one_role groups.Ground x y e = behind_front (codes "plain,") x y e
 one_role groups.Step x y e = behind_front (codes "plain,") x y e
+one_role groups.Shown x y e = behind_front (codes "plain,") x y e
+one_role groups.Cover x y e = behind_front (codes "plain,") x y e
 
 -- the letter and the number are one reading
 pub one_number : (g h : Group) (n k : ℕ) (x y : List ℕ) → n < 2 ^ 64 → k < 2 ^ 64 → letter_of g ∷ (decimal n ++ 44 ∷ x) ≡ letter_of h ∷ (decimal k ++ 44 ∷ y) → (g ≡ h) × (n ≡ k) × (x ≡ y)
@@ -70,7 +74,10 @@ line_head n c equality rest = refl
 line_head n c (member o) rest = refl
 line_head n c (selected o p) rest = refl
 line_head n c ground_of rest = refl
+line_head n c (ground_by k ts) rest = refl
 line_head n c (shown_by hs) rest = refl
+line_head n c (input_by by) rest = refl
+line_head n c (side_by left right side by) rest = refl
 
 clause_once : (c d : TreeClause) (x y : List ℕ) → clause_is_printable c ≡ true → clause_is_printable d ≡ true → clause_text c ++ 44 ∷ x ≡ clause_text d ++ 44 ∷ y → (c ≡ d) × (x ≡ y)
 clause_once c d x y p q e =

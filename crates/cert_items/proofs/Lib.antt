@@ -9,5 +9,8 @@ pub mod Known
 pub mod PrintableClauses
 pub mod Marked
 pub mod Hints
+pub mod NumberLists
+pub mod Origins
+pub mod Covering
 pub mod GroupNotes
 pub mod Items

@@ -1,10 +1,12 @@
 -- Items at the front of a text.
-use Rattle.std.specs.Prelude.{◌≡◌, ◌≢◌, ℕ, List, ◌∷◌, ◌++◌, map, codes, decimal, IsTrue}
+use Rattle.std.specs.Prelude.{◌≡◌, ◌≢◌, ℕ, List, ◌∷◌, ◌++◌, map, codes, decimal, All, IsTrue}
 use Rattle.inst_logic.specs.Clauses.{TreeClause}
-use Rattle.cert_format.specs.LineMachine.{is_number, Note, named, equality, member, selected, ground_of, shown_by, Header, fits, item}
-use Rattle.cert_format.specs.LineTexts.{line, note_text, note_is_printable}
+use Rattle.term_bank.specs.Forest.{Forest, tree_at}
+use Rattle.cert_format.specs.LineMachine.{is_number, Note, named, equality, member, selected, ground_of, ground_by, shown_by, input_by, side_by, Header, fits, item}
+use Rattle.cert_format.specs.LineTexts.{letter_q, letter_c, line, note_text, note_is_printable}
 use Rattle.cert_format.specs.Formats.{clause_is_printable}
-use Rattle.saturation_cert.specs.Values.{origin_of, hint_of}
+use Rattle.saturation_cert.specs.Values.{origin_of, hint_of, by_of, side_of}
+use Rattle.saturation_cert.specs.Wholes.{IsWholeTerm, IsWholeBy}
 use Rattle.saturation_cert.specs.declared.certificate.GroundHint.{GroundHint}
 use Rattle.cert_items.specs.declared.group.Group.{Group}
 use Rattle.cert_items.specs.declared.group.Group.TheVariants as groups
@@ -22,7 +24,10 @@ group_of equality = groups.Axiom
 group_of (member o) = groups.Member
 group_of (selected o p) = groups.Member
 group_of ground_of = groups.Ground
+group_of (ground_by k ts) = groups.Ground
 group_of (shown_by hs) = groups.Step
+group_of (input_by by) = groups.Shown
+group_of (side_by left right side by) = groups.Cover
 
 -- the place of the group in a text
 abbrev pub rank_of : Group → ℕ
@@ -31,6 +36,8 @@ rank_of groups.Axiom = 1
 rank_of groups.Member = 2
 rank_of groups.Ground = 3
 rank_of groups.Step = 4
+rank_of groups.Shown = 5
+rank_of groups.Cover = 6
 
 -- the letter before the number
 abbrev pub letter_of : Group → ℕ
@@ -39,6 +46,8 @@ letter_of groups.Axiom = byte.letter_e
 letter_of groups.Member = byte.letter_m
 letter_of groups.Ground = byte.letter_g
 letter_of groups.Step = byte.letter_r
+letter_of groups.Shown = letter_q
+letter_of groups.Cover = letter_c
 
 -- the role and its comma
 abbrev pub role_of : Group → List ℕ → List ℕ
@@ -47,6 +56,8 @@ role_of groups.Axiom rest = codes "axiom," ++ rest
 role_of groups.Member rest = codes "plain," ++ rest
 role_of groups.Ground rest = codes "plain," ++ rest
 role_of groups.Step rest = codes "plain," ++ rest
+role_of groups.Shown rest = codes "plain," ++ rest
+role_of groups.Cover rest = codes "plain," ++ rest
 
 -- the line of an item of the group with this number, up to its clause
 abbrev pub head_text : Group → ℕ → List ℕ → List ℕ
@@ -54,14 +65,29 @@ head_text g n rest = codes "cnf(" ++ (letter_of g ∷ (decimal n ++ byte.comma �
 
 -- ---- notes
 
--- the note that was read, with the hints that were read
-abbrev pub note_of : read.Note → List GroundHint → Note
-note_of (notes.Named w) hs = named w
-note_of notes.Equality hs = equality
-note_of (notes.Member o) hs = member (origin_of o)
-note_of (notes.Selected o p) hs = selected (origin_of o) p
-note_of notes.Ground hs = ground_of
-note_of notes.Shown hs = shown_by (map hint_of hs)
+-- the note that was read over the bank, with the hints that were read
+abbrev pub note_of : Forest → read.Note → List GroundHint → Note
+note_of f (notes.Named w) hs = named w
+note_of f notes.Equality hs = equality
+note_of f (notes.Member o) hs = member (origin_of o)
+note_of f (notes.Selected o p) hs = selected (origin_of o) p
+note_of f notes.Ground hs = ground_of
+note_of f (notes.GroundBy k ts) hs = ground_by k (map (tree_at f) ts)
+note_of f notes.Hinted hs = shown_by (map hint_of hs)
+note_of f (notes.InputBy by) hs = input_by (by_of f by)
+note_of f (notes.SideBy left right side by) hs = side_by left right (side_of side) (by_of f by)
+
+-- its ids are those of terms of the bank
+abbrev pub IsWholeNote : Forest → read.Note → Type 0
+IsWholeNote f (notes.Named w) = Unit {0}
+IsWholeNote f notes.Equality = Unit {0}
+IsWholeNote f (notes.Member o) = Unit {0}
+IsWholeNote f (notes.Selected o p) = Unit {0}
+IsWholeNote f notes.Ground = Unit {0}
+IsWholeNote f (notes.GroundBy k ts) = All (IsWholeTerm f) ts
+IsWholeNote f notes.Hinted = Unit {0}
+IsWholeNote f (notes.InputBy by) = IsWholeBy f by
+IsWholeNote f (notes.SideBy left right side by) = IsWholeBy f by
 
 -- the shape of a text under this header
 abbrev pub shape_of : Header → Shape

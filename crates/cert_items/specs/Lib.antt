@@ -2,6 +2,8 @@ pub mod Reading
 pub mod Roots
 pub mod ClauseTexts
 pub mod HintTexts
+pub mod NumberTexts
+pub mod Notes
 pub mod Items
 pub mod Known
 pub mod Orders

@@ -7,7 +7,8 @@ ghost use Rattle.inst_logic.specs.Codes as byte;
 use crate::mark::word;
 use crate::number::marked;
 
-/// The groups of items, in their order in a text.
+/// The groups of items, in their order in a text: an item of `Shown` says what shows an input or axiom, and one of `Cover` what
+/// covers an instance.
 #[derive(Clone, Copy, Debug, PartialEq, Eq)]
 pub enum Group {
     Input,
@@ -15,6 +16,8 @@ pub enum Group {
     Member,
     Ground,
     Step,
+    Shown,
+    Cover,
 }
 
 // The group of the letter at the front, and what follows it.
@@ -30,6 +33,8 @@ fn letter(bytes: &[u8]) -> Option<(Group, &[u8])>
             b'm' => Some((Group::Member, rest)),
             b'g' => Some((Group::Ground, rest)),
             b'r' => Some((Group::Step, rest)),
+            b'q' => Some((Group::Shown, rest)),
+            b'c' => Some((Group::Cover, rest)),
             _ => None,
         },
     }
@@ -42,7 +47,9 @@ fn role(group: Group, bytes: &[u8]) -> Option<&[u8]>
 {
     match group {
         Group::Input | Group::Axiom => word(bytes, b"axiom,"),
-        Group::Member | Group::Ground | Group::Step => word(bytes, b"plain,"),
+        Group::Member | Group::Ground | Group::Step | Group::Shown | Group::Cover => {
+            word(bytes, b"plain,")
+        }
     }
 }
 

@@ -16,8 +16,8 @@ use saturation_cert::{GroundHint, GroundHintList};
 // What is left of the text, and whether the hints have ended.
 #[derive(Clone, Copy)]
 pub struct Behind<'a> {
-    ended: bool,
-    rest: &'a [u8],
+    pub ended: bool,
+    pub rest: &'a [u8],
 }
 
 // The hint at the front, and what follows its number.

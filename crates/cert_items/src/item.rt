@@ -4,7 +4,7 @@ ghost use Rattle.term_bank.specs.Forest.{AreFormed, clause_at, Extends};
 ghost use Rattle.cert_format.specs.LineMachine.{item};
 ghost use Rattle.cert_format.specs.LineTexts.{line};
 ghost use Rattle.saturation_cert.specs.Wholes.{IsWholeClause};
-ghost use Rattle.cert_items.specs.Items.{IsItem, NoItem, group_of, note_of};
+ghost use Rattle.cert_items.specs.Items.{IsItem, IsWholeNote, NoItem, group_of, note_of};
 
 use crate::group::{Group, head};
 use crate::note::{Note, last_note};
@@ -38,10 +38,11 @@ pub fn read_item<'a>(
 ) -> Result<Option<Item<'a>>, Memory>
     requires no_literals { literals.old ≡ [] }
     requires no_hints { hints.old ≡ [] }
-    ensures some { IfOk result (λ r. IfSome r (λ i. IsItem shape i.number (clause_at bank.new literals.new) (note_of i.note hints.new))) }
-    ensures text { IfOk result (λ r. IfSome r (λ i. bytes.now ≡ line (item i.number (clause_at bank.new literals.new) (note_of i.note hints.new)) i.rest.now)) }
-    ensures group { IfOk result (λ r. IfSome r (λ i. group_of (note_of i.note hints.new) ≡ i.group)) }
+    ensures some { IfOk result (λ r. IfSome r (λ i. IsItem shape i.number (clause_at bank.new literals.new) (note_of bank.new i.note hints.new))) }
+    ensures text { IfOk result (λ r. IfSome r (λ i. bytes.now ≡ line (item i.number (clause_at bank.new literals.new) (note_of bank.new i.note hints.new)) i.rest.now)) }
+    ensures group { IfOk result (λ r. IfSome r (λ i. group_of (note_of bank.new i.note hints.new) ≡ i.group)) }
     ensures whole { IfOk result (λ r. IfSome r (λ _. IsWholeClause bank.new literals.new)) }
+    ensures terms { IfOk result (λ r. IfSome r (λ i. IsWholeNote bank.new i.note)) }
     ensures none { IfOk result (λ r. IfNone r (NoItem shape bytes.now)) }
     ensures extends { Extends bank.old bank.new }
     ensures formed { AreFormed bank.old → AreFormed bank.new }
@@ -51,7 +52,9 @@ pub fn read_item<'a>(
         Some((group, number, after)) => {
             match printable_clause(alloc, bank, ids, literals, after)? {
                 None => Ok(None),
-                Some(behind) => match last_note(alloc, hints, shape, group, number, behind) {
+                Some(behind) => match last_note(
+                    alloc, bank, ids, hints, shape, group, number, behind,
+                ) {
                     Err(e) => Err(e),
                     Ok(None) => Ok(None),
                     Ok(Some((note, rest))) => Ok(Some(Item {

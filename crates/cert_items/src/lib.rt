@@ -2,6 +2,7 @@
 //! front of the text exactly where something printable is there in its one spelling, in one pass and without recursion.
 #![tactic(auto)]
 
+mod by;
 mod canonical;
 mod clause;
 pub mod group;
@@ -13,12 +14,14 @@ pub mod name;
 pub mod note;
 mod notes;
 pub mod number;
+mod number_list;
 mod order;
 mod origin;
 mod place;
 mod printable;
 pub mod shape;
 pub mod symbol;
+mod term_list;
 mod terms;
 pub mod text_bank;
 

@@ -1,24 +1,31 @@
 // What stands behind the clause of an item's line.
-ghost use Rattle.std.specs.Prelude.{◌≡◌, ◌∷◌, ℕ, List, [], IfOk, IfSome, IfNone};
+ghost use Rattle.std.specs.Prelude.{◌≡◌, ◌≢◌, ◌∷◌, ℕ, List, [], IfOk, IfSome, IfNone, IsTrue};
+ghost use Rattle.term_bank.specs.Forest.{Forest, AreFormed, Extends};
 ghost use Rattle.saturation_cert.specs.declared.certificate.GroundHint.{GroundHint};
-ghost use Rattle.cert_items.specs.declared.group.Group.TheVariants.{Input as InInputs, Axiom as InAxioms, Member as InMembers, Ground as InGrounds, Step as InSteps};
-ghost use Rattle.cert_items.specs.Items.{IsNoteAt, NoNote, NoLastNote, note_of};
+ghost use Rattle.cert_items.specs.declared.group.Group.TheVariants.{Input as InInputs, Axiom as InAxioms, Member as InMembers, Ground as InGrounds, Step as InSteps, Shown as InShown, Cover as InCovers};
+ghost use Rattle.cert_items.specs.Items.{IsNoteAt, IsWholeNote, NoNote, NoLastNote, note_of};
 ghost use Rattle.inst_logic.specs.Codes as byte;
 
+use crate::by::read_by;
 use crate::group::Group;
 use crate::hint_list::read_hints;
-use crate::mark::word;
-use crate::notes::{grounded, named};
+use crate::mark::{mark, word};
+use crate::notes::{grounded, named, sides};
 use crate::origin::read_origin;
 use crate::place::selected;
 use crate::shape::Shape;
 use crate::symbol::name_of;
+use crate::term_list::number_and_terms;
+use crate::text_bank::TextBank;
 use inst_logic::{Memory, Name};
-use saturation_cert::{GroundHintList, Origin};
+use saturation_cert::{By, GroundHintList, Origin};
 use std::alloc::Global;
+use term_bank::{TermId, TermIdList};
+use unify_core::Side;
 
 /// What stands behind the clause of an item: the name of an input's statement, an axiom's word, a member's origin, in a
-/// saturation with its place, a ground clause's member, which has its number, or a step's hints, which have a list of their own.
+/// saturation with its place, a ground clause's member, which has its number, or its input and terms, a step's hints, which have a
+/// list of their own, what shows an input or axiom, or of a cover the two members with the side, and what covers its clause.
 #[derive(Drop)]
 pub enum Note {
     Named(Name),
@@ -26,11 +33,20 @@ pub enum Note {
     Member(Origin),
     Selected(Origin, usize),
     Ground,
-    Shown,
+    GroundBy(usize, TermIdList),
+    Hinted,
+    InputBy(By),
+    SideBy {
+        left: usize,
+        right: usize,
+        side: Side,
+        by: By,
+    },
 }
 
 fn input_note(alloc: Global, bytes: &[u8]) -> Result<Option<(Note, &[u8])>, Memory>
-    ensures some { (shape : Shape) (n : ℕ) (hints : List GroundHint) → IfOk result (λ r. IfSome r (λ p. IsNoteAt shape InInputs n (note_of p.0 hints) bytes.now p.1.now)) }
+    ensures some { (shape : Shape) (n : ℕ) (f : Forest) (hints : List GroundHint) → IfOk result (λ r. IfSome r (λ p. IsNoteAt shape InInputs n (note_of f p.0 hints) bytes.now p.1.now)) }
+    ensures whole { (f : Forest) → IfOk result (λ r. IfSome r (λ p. IsWholeNote f p.0)) }
     ensures none { (shape : Shape) (n : ℕ) → IfOk result (λ r. IfNone r (NoNote shape InInputs n bytes.now)) }
 {
     match named(bytes) {
@@ -43,7 +59,8 @@ fn input_note(alloc: Global, bytes: &[u8]) -> Result<Option<(Note, &[u8])>, Memo
 }
 
 fn axiom_note(bytes: &[u8]) -> Option<(Note, &[u8])>
-    ensures some { (shape : Shape) (n : ℕ) (hints : List GroundHint) → IfSome result (λ p. IsNoteAt shape InAxioms n (note_of p.0 hints) bytes.now p.1.now) }
+    ensures some { (shape : Shape) (n : ℕ) (f : Forest) (hints : List GroundHint) → IfSome result (λ p. IsNoteAt shape InAxioms n (note_of f p.0 hints) bytes.now p.1.now) }
+    ensures whole { (f : Forest) → IfSome result (λ p. IsWholeNote f p.0) }
     ensures none { (shape : Shape) (n : ℕ) → IfNone result (NoNote shape InAxioms n bytes.now) }
 {
     match word(bytes, b"equality") {
@@ -52,30 +69,34 @@ fn axiom_note(bytes: &[u8]) -> Option<(Note, &[u8])>
     }
 }
 
-fn member_note(shape: Shape, bytes: &[u8]) -> Option<(Note, &[u8])>
-    ensures some { (n : ℕ) (hints : List GroundHint) → IfSome result (λ p. IsNoteAt shape InMembers n (note_of p.0 hints) bytes.now p.1.now) }
-    ensures none { (n : ℕ) → IfNone result (NoNote shape InMembers n bytes.now) }
+fn member_note(alloc: Global, shape: Shape, bytes: &[u8]) -> Result<Option<(Note, &[u8])>, Memory>
+    ensures some { (n : ℕ) (f : Forest) (hints : List GroundHint) → IfOk result (λ r. IfSome r (λ p. IsNoteAt shape InMembers n (note_of f p.0 hints) bytes.now p.1.now)) }
+    ensures whole { (f : Forest) → IfOk result (λ r. IfSome r (λ p. IsWholeNote f p.0)) }
+    ensures none { (n : ℕ) → IfOk result (λ r. IfNone r (NoNote shape InMembers n bytes.now)) }
 {
     if shape.refutation {
-        match read_origin(bytes) {
-            None => None,
-            Some((o, rest)) => Some((Note::Member(o), rest)),
+        match read_origin(alloc, shape.format, bytes) {
+            Err(e) => Err(e),
+            Ok(None) => Ok(None),
+            Ok(Some((o, rest))) => Ok(Some((Note::Member(o), rest))),
         }
     } else {
-        match selected(bytes) {
-            None => None,
-            Some((o, p, rest)) => Some((Note::Selected(o, p), rest)),
+        match selected(alloc, shape.format, bytes) {
+            Err(e) => Err(e),
+            Ok(None) => Ok(None),
+            Ok(Some((o, p, rest))) => Ok(Some((Note::Selected(o, p), rest))),
         }
     }
 }
 
-fn ground_note(shape: Shape, n: usize, bytes: &[u8]) -> Option<(Note, &[u8])>
-    ensures some { (hints : List GroundHint) → IfSome result (λ p. IsNoteAt shape InGrounds n (note_of p.0 hints) bytes.now p.1.now) }
+// The note of a ground clause in the first format.
+fn first_ground(shape: Shape, n: usize, bytes: &[u8]) -> Option<(Note, &[u8])>
+    requires refutation { IsTrue shape.refutation }
+    requires format { shape.format ≡ 1 }
+    ensures some { (f : Forest) (hints : List GroundHint) → IfSome result (λ p. IsNoteAt shape InGrounds n (note_of f p.0 hints) bytes.now p.1.now) }
+    ensures whole { (f : Forest) → IfSome result (λ p. IsWholeNote f p.0) }
     ensures none { IfNone result (NoNote shape InGrounds n bytes.now) }
 {
-    if !shape.refutation {
-        return None;
-    }
     match grounded(bytes) {
         None => None,
         Some((k, rest)) => {
@@ -87,13 +108,64 @@ fn ground_note(shape: Shape, n: usize, bytes: &[u8]) -> Option<(Note, &[u8])>
     }
 }
 
+// The note of a ground clause that names its input and terms.
+fn ground_by<'a>(
+    alloc: Global,
+    bank: &mut TextBank,
+    ids: &mut Vec<TermId>,
+    shape: Shape,
+    bytes: &'a [u8],
+) -> Result<Option<(Note, &'a [u8])>, Memory>
+    requires refutation { IsTrue shape.refutation }
+    requires format { shape.format ≢ 1 }
+    ensures some { (n : ℕ) (hints : List GroundHint) → IfOk result (λ r. IfSome r (λ p. IsNoteAt shape InGrounds n (note_of bank.new p.0 hints) bytes.now p.1.now)) }
+    ensures whole { IfOk result (λ r. IfSome r (λ p. IsWholeNote bank.new p.0)) }
+    ensures none { (n : ℕ) → IfOk result (λ r. IfNone r (NoNote shape InGrounds n bytes.now)) }
+    ensures extends { Extends bank.old bank.new }
+    ensures formed { AreFormed bank.old → AreFormed bank.new }
+{
+    match word(bytes, b"ground(") {
+        None => Ok(None),
+        Some(after) => match number_and_terms(alloc, bank, ids, after) {
+            Err(e) => Err(e),
+            Ok(None) => Ok(None),
+            Ok(Some((input, terms, rest))) => Ok(Some((Note::GroundBy(input, terms), rest))),
+        },
+    }
+}
+
+fn ground_note<'a>(
+    alloc: Global,
+    bank: &mut TextBank,
+    ids: &mut Vec<TermId>,
+    shape: Shape,
+    n: usize,
+    bytes: &'a [u8],
+) -> Result<Option<(Note, &'a [u8])>, Memory>
+    ensures some { (hints : List GroundHint) → IfOk result (λ r. IfSome r (λ p. IsNoteAt shape InGrounds n (note_of bank.new p.0 hints) bytes.now p.1.now)) }
+    ensures whole { IfOk result (λ r. IfSome r (λ p. IsWholeNote bank.new p.0)) }
+    ensures none { IfOk result (λ r. IfNone r (NoNote shape InGrounds n bytes.now)) }
+    ensures extends { Extends bank.old bank.new }
+    ensures formed { AreFormed bank.old → AreFormed bank.new }
+{
+    if !shape.refutation {
+        return Ok(None);
+    }
+    if shape.format == 1 {
+        Ok(first_ground(shape, n, bytes))
+    } else {
+        ground_by(alloc, bank, ids, shape, bytes)
+    }
+}
+
 fn step_note<'a>(
     hints: &mut GroundHintList,
     shape: Shape,
     bytes: &'a [u8],
 ) -> Result<Option<(Note, &'a [u8])>, Memory>
     requires empty { hints.old ≡ [] }
-    ensures some { (n : ℕ) → IfOk result (λ r. IfSome r (λ p. IsNoteAt shape InSteps n (note_of p.0 hints.new) bytes.now p.1.now)) }
+    ensures some { (n : ℕ) (f : Forest) → IfOk result (λ r. IfSome r (λ p. IsNoteAt shape InSteps n (note_of f p.0 hints.new) bytes.now p.1.now)) }
+    ensures whole { (f : Forest) → IfOk result (λ r. IfSome r (λ p. IsWholeNote f p.0)) }
     ensures none { (n : ℕ) → IfOk result (λ r. IfNone r (NoNote shape InSteps n bytes.now)) }
 {
     if !shape.refutation {
@@ -103,7 +175,67 @@ fn step_note<'a>(
         None => Ok(None),
         Some(after) => match read_hints(hints, after)? {
             None => Ok(None),
-            Some(rest) => Ok(Some((Note::Shown, rest))),
+            Some(rest) => Ok(Some((Note::Hinted, rest))),
+        },
+    }
+}
+
+fn shown_note<'a>(
+    alloc: Global,
+    bank: &mut TextBank,
+    ids: &mut Vec<TermId>,
+    shape: Shape,
+    bytes: &'a [u8],
+) -> Result<Option<(Note, &'a [u8])>, Memory>
+    ensures some { (n : ℕ) (hints : List GroundHint) → IfOk result (λ r. IfSome r (λ p. IsNoteAt shape InShown n (note_of bank.new p.0 hints) bytes.now p.1.now)) }
+    ensures whole { IfOk result (λ r. IfSome r (λ p. IsWholeNote bank.new p.0)) }
+    ensures none { (n : ℕ) → IfOk result (λ r. IfNone r (NoNote shape InShown n bytes.now)) }
+    ensures extends { Extends bank.old bank.new }
+    ensures formed { AreFormed bank.old → AreFormed bank.new }
+{
+    if !shape.names_covers() {
+        return Ok(None);
+    }
+    match read_by(alloc, bank, ids, bytes) {
+        Err(e) => Err(e),
+        Ok(None) => Ok(None),
+        Ok(Some((by, rest))) => Ok(Some((Note::InputBy(by), rest))),
+    }
+}
+
+fn cover_note<'a>(
+    alloc: Global,
+    bank: &mut TextBank,
+    ids: &mut Vec<TermId>,
+    shape: Shape,
+    bytes: &'a [u8],
+) -> Result<Option<(Note, &'a [u8])>, Memory>
+    ensures some { (n : ℕ) (hints : List GroundHint) → IfOk result (λ r. IfSome r (λ p. IsNoteAt shape InCovers n (note_of bank.new p.0 hints) bytes.now p.1.now)) }
+    ensures whole { IfOk result (λ r. IfSome r (λ p. IsWholeNote bank.new p.0)) }
+    ensures none { (n : ℕ) → IfOk result (λ r. IfNone r (NoNote shape InCovers n bytes.now)) }
+    ensures extends { Extends bank.old bank.new }
+    ensures formed { AreFormed bank.old → AreFormed bank.new }
+{
+    if !shape.names_covers() {
+        return Ok(None);
+    }
+    match sides(bytes) {
+        None => Ok(None),
+        Some((left, right, side, after)) => match read_by(alloc, bank, ids, after) {
+            Err(e) => Err(e),
+            Ok(None) => Ok(None),
+            Ok(Some((by, behind))) => match mark(behind, b']') {
+                None => Ok(None),
+                Some(rest) => Ok(Some((
+                    Note::SideBy {
+                        left,
+                        right,
+                        side,
+                        by,
+                    },
+                    rest,
+                ))),
+            },
         },
     }
 }
@@ -111,6 +243,8 @@ fn step_note<'a>(
 // The note of the group at the front, and what follows it.
 fn read_note<'a>(
     alloc: Global,
+    bank: &mut TextBank,
+    ids: &mut Vec<TermId>,
     hints: &mut GroundHintList,
     shape: Shape,
     group: Group,
@@ -118,21 +252,28 @@ fn read_note<'a>(
     bytes: &'a [u8],
 ) -> Result<Option<(Note, &'a [u8])>, Memory>
     requires empty { hints.old ≡ [] }
-    ensures some { IfOk result (λ r. IfSome r (λ p. IsNoteAt shape group n (note_of p.0 hints.new) bytes.now p.1.now)) }
+    ensures some { IfOk result (λ r. IfSome r (λ p. IsNoteAt shape group n (note_of bank.new p.0 hints.new) bytes.now p.1.now)) }
+    ensures whole { IfOk result (λ r. IfSome r (λ p. IsWholeNote bank.new p.0)) }
     ensures none { IfOk result (λ r. IfNone r (NoNote shape group n bytes.now)) }
+    ensures extends { Extends bank.old bank.new }
+    ensures formed { AreFormed bank.old → AreFormed bank.new }
 {
     match group {
         Group::Input => input_note(alloc, bytes),
         Group::Axiom => Ok(axiom_note(bytes)),
-        Group::Member => Ok(member_note(shape, bytes)),
-        Group::Ground => Ok(ground_note(shape, n, bytes)),
+        Group::Member => member_note(alloc, shape, bytes),
+        Group::Ground => ground_note(alloc, bank, ids, shape, n, bytes),
         Group::Step => step_note(hints, shape, bytes),
+        Group::Shown => shown_note(alloc, bank, ids, shape, bytes),
+        Group::Cover => cover_note(alloc, bank, ids, shape, bytes),
     }
 }
 
-/// The note of the group at the front, and what follows the end of its line.
+/// The note of the group at the front, and what follows the end of its line. `ids` is room to work in.
 pub fn last_note<'a>(
     alloc: Global,
+    bank: &mut TextBank,
+    ids: &mut Vec<TermId>,
     hints: &mut GroundHintList,
     shape: Shape,
     group: Group,
@@ -140,10 +281,13 @@ pub fn last_note<'a>(
     bytes: &'a [u8],
 ) -> Result<Option<(Note, &'a [u8])>, Memory>
     requires empty { hints.old ≡ [] }
-    ensures some { IfOk result (λ r. IfSome r (λ p. IsNoteAt shape group n (note_of p.0 hints.new) bytes.now (byte.closing_parenthesis ∷ byte.full_stop ∷ byte.line_feed ∷ p.1.now))) }
+    ensures some { IfOk result (λ r. IfSome r (λ p. IsNoteAt shape group n (note_of bank.new p.0 hints.new) bytes.now (byte.closing_parenthesis ∷ byte.full_stop ∷ byte.line_feed ∷ p.1.now))) }
+    ensures whole { IfOk result (λ r. IfSome r (λ p. IsWholeNote bank.new p.0)) }
     ensures none { IfOk result (λ r. IfNone r (NoLastNote shape group n bytes.now)) }
+    ensures extends { Extends bank.old bank.new }
+    ensures formed { AreFormed bank.old → AreFormed bank.new }
 {
-    match read_note(alloc, hints, shape, group, n, bytes) {
+    match read_note(alloc, bank, ids, hints, shape, group, n, bytes) {
         Err(e) => Err(e),
         Ok(None) => Ok(None),
         Ok(Some((note, behind))) => match word(behind, b").\n") {

@@ -1,12 +1,17 @@
-// The notes of input clauses and of ground clauses.
+// The notes of input clauses, of ground clauses in the first format, and of covers up to what covers them.
 ghost use Rattle.std.specs.Prelude.{◌≡◌, ◌≢◌, ◌++◌, ◌∷◌, ◌<◌, ◌^◌, ℕ, List, IfSome, IfNone, IsTrue, decimal, codes};
 ghost use Rattle.inst_logic.specs.Printing.{is_readable_name, name_text};
+ghost use Rattle.cert_format.specs.Certificate as format;
+ghost use Rattle.cert_format.specs.LineTexts.{side_word};
 ghost use Rattle.cert_format.specs.Names.{IsNameText};
+ghost use Rattle.saturation_cert.specs.Values.{side_of};
+ghost use Rattle.cert_items.specs.Notes.{members_text, side_text};
 ghost use Rattle.inst_logic.specs.Codes as byte;
 
 use crate::mark::{mark, word};
 use crate::name::name;
 use crate::number::marked;
+use unify_core::Side;
 
 /// The name of a statement as it is printed, and what follows the parenthesis behind it.
 pub fn named(bytes: &[u8]) -> Option<(&[u8], &[u8])>
@@ -34,5 +39,58 @@ pub fn grounded(bytes: &[u8]) -> Option<(usize, &[u8])>
     match word(bytes, b"ground(m") {
         None => None,
         Some(after) => marked(after, b')'),
+    }
+}
+
+// The two members of a cover, and what follows the comma behind them.
+fn members(bytes: &[u8]) -> Option<(usize, usize, &[u8])>
+    ensures some { IfSome result (λ r. bytes.now ≡ members_text r.0 r.1 r.2.now) }
+    ensures fits { IfSome result (λ r. (r.0 < 2 ^ 64) × (r.1 < 2 ^ 64)) }
+    ensures none { IfNone result ((m n : ℕ) (rest : List ℕ) → m < 2 ^ 64 → n < 2 ^ 64 → bytes.now ≢ members_text m n rest) }
+{
+    match word(bytes, b"cover(m") {
+        None => None,
+        Some(after) => match marked(after, b',') {
+            None => None,
+            Some((left, behind)) => match mark(behind, b'm') {
+                None => None,
+                Some(second) => match marked(second, b',') {
+                    None => None,
+                    Some((right, rest)) => Some((left, right, rest)),
+                },
+            },
+        },
+    }
+}
+
+// The word of a side, and what follows it.
+fn side(bytes: &[u8]) -> Option<(Side, &[u8])>
+    ensures some { IfSome result (λ r. bytes.now ≡ side_word (side_of r.0) ++ r.1.now) }
+    ensures none { IfNone result ((s : format.Side) (rest : List ℕ) → bytes.now ≢ side_word s ++ rest) }
+{
+    match word(bytes, b"left") {
+        Some(rest) => Some((Side::Left, rest)),
+        None => match word(bytes, b"right") {
+            Some(rest) => Some((Side::Right, rest)),
+            None => None,
+        },
+    }
+}
+
+/// The two members of a cover and the side, and what follows the bracket behind them.
+pub fn sides(bytes: &[u8]) -> Option<(usize, usize, Side, &[u8])>
+    ensures some { IfSome result (λ r. bytes.now ≡ side_text r.0 r.1 (side_of r.2) r.3.now) }
+    ensures fits { IfSome result (λ r. (r.0 < 2 ^ 64) × (r.1 < 2 ^ 64)) }
+    ensures none { IfNone result ((m n : ℕ) (s : format.Side) (rest : List ℕ) → m < 2 ^ 64 → n < 2 ^ 64 → bytes.now ≢ side_text m n s rest) }
+{
+    match members(bytes) {
+        None => None,
+        Some((left, right, after)) => match side(after) {
+            None => None,
+            Some((side, behind)) => match word(behind, b"),[") {
+                None => None,
+                Some(rest) => Some((left, right, side, rest)),
+            },
+        },
     }
 }

@@ -1,14 +1,27 @@
 // Origins of members.
-ghost use Rattle.std.specs.Prelude.{◌≡◌, ◌≢◌, ◌++◌, ◌∷◌, ◌<◌, ◌^◌, ℕ, List, IfSome, IfNone, IsTrue, decimal, false, codes};
+ghost use Rattle.std.specs.Prelude.{◌≡◌, ◌≢◌, ◌++◌, ◌∷◌, ◌<◌, ◌^◌, ℕ, List, [], IfOk, IfSome, IfNone, IsTrue, decimal, false, codes};
 ghost use Rattle.std.specs.Char.{is_ascii_digit};
-ghost use Rattle.inst_calculus.specs.Entries as entries;
-ghost use Rattle.cert_format.specs.LineTexts.{origin_text, origin_is_printable};
+ghost use Rattle.cert_format.specs.LineMachine.{fits_origin};
+ghost use Rattle.cert_format.specs.LineTexts.{numbers, origin_text, origin_is_printable};
 ghost use Rattle.saturation_cert.specs.Values.{origin_of};
+ghost use Rattle.cert_items.specs.Notes.{NoOrigin, instance_text, InstanceFits, lists_text, ListsFit};
 ghost use Rattle.inst_logic.specs.Codes as character;
 
 use crate::mark::{mark, word};
 use crate::number::marked;
+use crate::number_list::number_list;
+use inst_logic::{Memory, NumberList, PlaceList};
 use saturation_cert::Origin;
+use std::alloc::Global;
+
+// The numbers of an instance.
+#[derive(Clone, Copy)]
+pub struct Instance {
+    from: usize,
+    place: usize,
+    partner: usize,
+    other: usize,
+}
 
 // Two numbers with a comma between them, and the mark behind them.
 fn pair(bytes: &[u8], byte: u8) -> Option<(usize, usize, &[u8])>
@@ -26,19 +39,21 @@ fn pair(bytes: &[u8], byte: u8) -> Option<(usize, usize, &[u8])>
     }
 }
 
-// The four numbers of an instance, and what follows the parenthesis behind them.
-fn inst(bytes: &[u8]) -> Option<(Origin, &[u8])>
-    ensures some { IfSome result (λ r. (codes "inst(m" ++ bytes.now ≡ origin_text (origin_of r.0) r.1.now) × IsTrue (origin_is_printable (origin_of r.0))) }
-    ensures none { IfNone result ((a p b q : ℕ) (rest : List ℕ) → IsTrue (origin_is_printable (entries.inst a p b q)) → codes "inst(m" ++ bytes.now ≢ origin_text (entries.inst a p b q) rest) }
+// The four numbers of an instance, and what follows the mark behind them.
+fn read_instance(bytes: &[u8], byte: u8) -> Option<(Instance, &[u8])>
+    requires { is_ascii_digit byte ≡ false }
+    ensures some { IfSome result (λ r. bytes.now ≡ instance_text r.0 (byte ∷ r.1.now)) }
+    ensures fits { IfSome result (λ r. InstanceFits r.0) }
+    ensures none { IfNone result ((i : Instance) (rest : List ℕ) → InstanceFits i → bytes.now ≢ instance_text i (byte ∷ rest)) }
 {
     match pair(bytes, b',') {
         None => None,
         Some((from, place, after)) => match mark(after, b'm') {
             None => None,
-            Some(second) => match pair(second, b')') {
+            Some(second) => match pair(second, byte) {
                 None => None,
                 Some((partner, other, rest)) => Some((
-                    Origin::Inst {
+                    Instance {
                         from,
                         place,
                         partner,
@@ -51,19 +66,115 @@ fn inst(bytes: &[u8]) -> Option<(Origin, &[u8])>
     }
 }
 
-/// The origin at the front, and what follows it.
-pub fn read_origin(bytes: &[u8]) -> Option<(Origin, &[u8])>
-    ensures some { IfSome result (λ r. (bytes.now ≡ origin_text (origin_of r.0) r.1.now) × IsTrue (origin_is_printable (origin_of r.0))) }
-    ensures none { IfNone result ((o : entries.Origin) (rest : List ℕ) → IsTrue (origin_is_printable o) → bytes.now ≢ origin_text o rest) }
+// The number of an input or axiom, and what follows the parenthesis behind it.
+fn input(bytes: &[u8]) -> Option<(Origin, &[u8])>
+    ensures some { IfSome result (λ r. codes "input(" ++ bytes.now ≡ origin_text (origin_of r.0) r.1.now) }
+    ensures printable { IfSome result (λ r. IsTrue (origin_is_printable (origin_of r.0))) }
+    ensures fits { (format : ℕ) → IfSome result (λ r. IsTrue (fits_origin format (origin_of r.0))) }
+    ensures none { (format : ℕ) → IfNone result (NoOrigin format (codes "input(" ++ bytes.now)) }
+{
+    match marked(bytes, b')') {
+        None => None,
+        Some((k, rest)) => Some((Origin::Input(k), rest)),
+    }
+}
+
+// The numbers of an instance, and what follows the parenthesis behind them.
+fn inst(bytes: &[u8]) -> Option<(Origin, &[u8])>
+    ensures some { IfSome result (λ r. codes "inst(m" ++ bytes.now ≡ origin_text (origin_of r.0) r.1.now) }
+    ensures printable { IfSome result (λ r. IsTrue (origin_is_printable (origin_of r.0))) }
+    ensures fits { (format : ℕ) → IfSome result (λ r. IsTrue (fits_origin format (origin_of r.0))) }
+    ensures none { (format : ℕ) → IfNone result (NoOrigin format (codes "inst(m" ++ bytes.now)) }
+{
+    match read_instance(bytes, b')') {
+        None => None,
+        Some((i, rest)) => Some((
+            Origin::Inst {
+                from: i.from,
+                place: i.place,
+                partner: i.partner,
+                other: i.other,
+            },
+            rest,
+        )),
+    }
+}
+
+// The places and the premises of a part, each list in brackets, and what follows the parenthesis behind them.
+fn lists(alloc: Global, bytes: &[u8]) -> Result<Option<(PlaceList, NumberList, &[u8])>, Memory>
+    ensures some { IfOk result (λ r. IfSome r (λ p. bytes.now ≡ lists_text p.0 p.1 p.2.now)) }
+    ensures fit { IfOk result (λ r. IfSome r (λ p. ListsFit p.0 p.1)) }
+    ensures none { IfOk result (λ r. IfNone r ((keep premises rest : List ℕ) → ListsFit keep premises → bytes.now ≢ lists_text keep premises rest)) }
+{
+    match mark(bytes, b'[') {
+        None => Ok(None),
+        Some(first) => match number_list(alloc, b"", first) {
+            Err(e) => Err(e),
+            Ok(None) => Ok(None),
+            Ok(Some((keep, between))) => match word(between, b",[") {
+                None => Ok(None),
+                Some(second) => match number_list(alloc, b"m", second) {
+                    Err(e) => Err(e),
+                    Ok(None) => Ok(None),
+                    Ok(Some((premises, behind))) => match mark(behind, b')') {
+                        None => Ok(None),
+                        Some(rest) => Ok(Some((keep, premises, rest))),
+                    },
+                },
+            },
+        },
+    }
+}
+
+// The numbers of a part of an instance, and what follows the parenthesis behind them. The first format has none.
+fn lemma(alloc: Global, format: u64, bytes: &[u8]) -> Result<Option<(Origin, &[u8])>, Memory>
+    ensures some { IfOk result (λ r. IfSome r (λ p. codes "lemma(m" ++ bytes.now ≡ origin_text (origin_of p.0) p.1.now)) }
+    ensures printable { IfOk result (λ r. IfSome r (λ p. IsTrue (origin_is_printable (origin_of p.0)))) }
+    ensures fits { IfOk result (λ r. IfSome r (λ p. IsTrue (fits_origin format (origin_of p.0)))) }
+    ensures none { IfOk result (λ r. IfNone r (NoOrigin format (codes "lemma(m" ++ bytes.now))) }
+{
+    if format == 1 {
+        return Ok(None);
+    }
+    match read_instance(bytes, b',') {
+        None => Ok(None),
+        Some((i, after)) => match lists(alloc, after) {
+            Err(e) => Err(e),
+            Ok(None) => Ok(None),
+            Ok(Some((keep, premises, rest))) => Ok(Some((
+                Origin::Lemma {
+                    from: i.from,
+                    place: i.place,
+                    partner: i.partner,
+                    other: i.other,
+                    keep,
+                    premises,
+                },
+                rest,
+            ))),
+        },
+    }
+}
+
+/// The origin at the front, of a text in the format, and what follows it.
+pub fn read_origin(
+    alloc: Global,
+    format: u64,
+    bytes: &[u8],
+) -> Result<Option<(Origin, &[u8])>, Memory>
+    ensures some { IfOk result (λ r. IfSome r (λ p. bytes.now ≡ origin_text (origin_of p.0) p.1.now)) }
+    ensures printable { IfOk result (λ r. IfSome r (λ p. IsTrue (origin_is_printable (origin_of p.0)))) }
+    ensures fits { IfOk result (λ r. IfSome r (λ p. IsTrue (fits_origin format (origin_of p.0)))) }
+    ensures none { IfOk result (λ r. IfNone r (NoOrigin format bytes.now)) }
 {
     match word(bytes, b"input(") {
-        Some(after) => match marked(after, b')') {
-            None => None,
-            Some((k, rest)) => Some((Origin::Input(k), rest)),
-        },
+        Some(after) => Ok(input(after)),
         None => match word(bytes, b"inst(m") {
-            None => None,
-            Some(after) => inst(after),
+            Some(after) => Ok(inst(after)),
+            None => match word(bytes, b"lemma(m") {
+                Some(after) => lemma(alloc, format, after),
+                None => Ok(None),
+            },
         },
     }
 }

@@ -1,6 +1,7 @@
 // Origins with the places of selected literals.
-ghost use Rattle.std.specs.Prelude.{◌≡◌, ◌≢◌, ◌++◌, ◌∷◌, ◌<◌, ◌^◌, ℕ, List, IfSome, IfNone, IsTrue, decimal, codes};
+ghost use Rattle.std.specs.Prelude.{◌≡◌, ◌≢◌, ◌++◌, ◌∷◌, ◌<◌, ◌^◌, ℕ, List, IfOk, IfSome, IfNone, IsTrue, decimal, codes};
 ghost use Rattle.inst_calculus.specs.Entries as entries;
+ghost use Rattle.cert_format.specs.LineMachine.{fits_origin};
 ghost use Rattle.cert_format.specs.LineTexts.{origin_text, origin_is_printable};
 ghost use Rattle.saturation_cert.specs.Values.{origin_of};
 ghost use Rattle.inst_logic.specs.Codes as byte;
@@ -8,7 +9,9 @@ ghost use Rattle.inst_logic.specs.Codes as byte;
 use crate::mark::{mark, word};
 use crate::number::marked;
 use crate::origin::read_origin;
+use inst_logic::Memory;
 use saturation_cert::Origin;
+use std::alloc::Global;
 
 // The place behind an origin, and what follows it.
 fn place(bytes: &[u8]) -> Option<(usize, &[u8])>
@@ -28,17 +31,23 @@ fn place(bytes: &[u8]) -> Option<(usize, &[u8])>
     }
 }
 
-/// The origin and the place at the front, and what follows them.
-pub fn selected(bytes: &[u8]) -> Option<(Origin, usize, &[u8])>
-    ensures some { IfSome result (λ r. bytes.now ≡ origin_text (origin_of r.0) (codes ",[selected(" ++ (decimal r.1 ++ byte.closing_parenthesis ∷ byte.closing_bracket ∷ r.2.now))) }
-    ensures fits { IfSome result (λ r. IsTrue (origin_is_printable (origin_of r.0)) × (r.1 < 2 ^ 64)) }
-    ensures none { IfNone result ((o : entries.Origin) (p : ℕ) (rest : List ℕ) → IsTrue (origin_is_printable o) → p < 2 ^ 64 → bytes.now ≢ origin_text o (codes ",[selected(" ++ (decimal p ++ byte.closing_parenthesis ∷ byte.closing_bracket ∷ rest))) }
+/// The origin, of a text in the format, and the place at the front, and what follows them.
+pub fn selected(
+    alloc: Global,
+    format: u64,
+    bytes: &[u8],
+) -> Result<Option<(Origin, usize, &[u8])>, Memory>
+    ensures some { IfOk result (λ r. IfSome r (λ p. bytes.now ≡ origin_text (origin_of p.0) (codes ",[selected(" ++ (decimal p.1 ++ byte.closing_parenthesis ∷ byte.closing_bracket ∷ p.2.now)))) }
+    ensures printable { IfOk result (λ r. IfSome r (λ p. IsTrue (origin_is_printable (origin_of p.0)) × (p.1 < 2 ^ 64))) }
+    ensures fits { IfOk result (λ r. IfSome r (λ p. IsTrue (fits_origin format (origin_of p.0)))) }
+    ensures none { IfOk result (λ r. IfNone r ((o : entries.Origin) (p : ℕ) (rest : List ℕ) → IsTrue (origin_is_printable o) → IsTrue (fits_origin format o) → p < 2 ^ 64 → bytes.now ≢ origin_text o (codes ",[selected(" ++ (decimal p ++ byte.closing_parenthesis ∷ byte.closing_bracket ∷ rest)))) }
 {
-    match read_origin(bytes) {
-        None => None,
-        Some((o, after)) => match place(after) {
-            None => None,
-            Some((p, rest)) => Some((o, p, rest)),
+    match read_origin(alloc, format, bytes) {
+        Err(e) => Err(e),
+        Ok(None) => Ok(None),
+        Ok(Some((o, after))) => match place(after) {
+            None => Ok(None),
+            Some((p, rest)) => Ok(Some((o, p, rest))),
         },
     }
 }

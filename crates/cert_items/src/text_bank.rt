@@ -2,6 +2,7 @@
 // of that name. Nearly every name of a text has been read before, and then neither a name nor a symbol is made of it, and a
 // constant is found by one look-up.
 ghost use Rattle.std.specs.Prelude.{◌≡◌, ℕ, List, [], ◌<◌, length, false, map, None, IsTrue, ◌↔◌, IfOk};
+ghost use Rattle.inst_logic.specs.declared.signed.Signed.{Signed};
 ghost use Rattle.inst_logic.specs.Clauses.{IsCanonical};
 ghost use Rattle.inst_logic.specs.Tree.{var, app, of_list};
 ghost use Rattle.term_bank.specs.Forest.{tree_at, IsAt, AreIds, Extends, AreFormed, IsFormed, IsClauseOf, clause_at};
@@ -164,6 +165,13 @@ impl TextBank {
     {
         let TextBank { bank, .. } = self;
         bank
+    }
+
+    /// Clauses are equal where their trees are.
+    pub fn distinct(&self)
+        ensures { (c d : List (Signed ℕ)) → IsClauseOf self.now c → IsClauseOf self.now d → clause_at self.now c ≡ clause_at self.now d → c ≡ d }
+    {
+        self.bank.distinct();
     }
 
     // The id of the variable of this number.

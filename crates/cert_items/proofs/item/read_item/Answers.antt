@@ -1,11 +1,15 @@
-use Rattle.std.proofs.Common.{◌≡◌, ◌≢◌, ◌∷◌, ◌++◌, Bor, List, ℕ}
+use Rattle.std.proofs.Common.{◌≡◌, ◌≢◌, ◌∷◌, ◌++◌, Bor, List, ℕ, sym, subst}
 use Rattle.std.specs.Prelude.{IsTrue}
 use Rattle.inst_logic.specs.Clauses.{TreeClause}
 use Rattle.inst_logic.specs.Printing.{clause_text}
 use Rattle.term_bank.specs.Forest.{clause_at}
+use Rattle.term_bank.proofs.Clauses.{clause_extends}
+use Rattle.cert_format.specs.LineMachine.{item}
+use Rattle.cert_format.specs.LineTexts.{line}
 use Rattle.cert_format.specs.Formats.{clause_is_printable}
 use Rattle.saturation_cert.specs.Wholes.{IsWholeClause}
-use Rattle.cert_items.specs.Items.{IsNoteAt, NoLastNote, note_of}
+use Rattle.saturation_cert.proofs.Grown.{clause_grown}
+use Rattle.cert_items.specs.Items.{IsItem, IsNoteAt, NoLastNote, note_of}
 use Rattle.cert_items.proofs.Reading.{is_none, is_some}
 use Rattle.cert_items.proofs.Items.{no_item_head, no_item_clause, no_item_note, whole_line, whole_item}
 use Rattle.cert_items.proofs.item.read_item.Goals as goal
@@ -35,29 +39,43 @@ returns-in-Ok-Some-clause-some c =
     let s = c.in-Some in
     let k = c.in_ok-printable_clause-in-Some in
     let n = c.in-Ok-Some in
-    let d = clause_at c.printable_clause.new.bank c.printable_clause.new.literals in
+    let f = c.printable_clause.new.bank in
+    let h = c.last_note.new.bank in
+    let w = c.printable_clause.new.literals in
+    let d = clause_at f w in
+    let note = note_of h n.note c.last_note.new.hints in
     let test = is_some k.field-0 c.in-Some-2.behind (λ (x : Bor (List ℕ)). IsTrue (clause_is_printable d)) c.in-Some-2.is k.ensures.printable in
-    let a = is_some n.field-0 (n.note, n.rest) (λ p. IsNoteAt c.args.shape s.group s.number (note_of p.0 c.last_note.new.hints) c.in-Some-2.behind.now (41 ∷ 46 ∷ 10 ∷ p.1.now)) n.field-0-is n.ensures.some in
-    whole_item c.args.shape s.group s.number d (note_of n.note c.last_note.new.hints) c.in-Some-2.behind.now (41 ∷ 46 ∷ 10 ∷ n.rest.now) s.ensures.some.1 test a
+    let whole = is_some k.field-0 c.in-Some-2.behind (λ (x : Bor (List ℕ)). IsWholeClause f w) c.in-Some-2.is k.ensures.whole in
+    let a = is_some n.field-0 (n.note, n.rest) (λ p. IsNoteAt c.args.shape s.group s.number (note_of h p.0 c.last_note.new.hints) c.in-Some-2.behind.now (41 ∷ 46 ∷ 10 ∷ p.1.now)) n.field-0-is n.ensures.some in
+    subst (λ (x : TreeClause). IsItem c.args.shape s.number x note) (sym (clause_extends f h c.last_note.ensures.extends w whole.ids))
+    (whole_item c.args.shape s.group s.number d note c.in-Some-2.behind.now (41 ∷ 46 ∷ 10 ∷ n.rest.now) s.ensures.some.1 test a)
 
 pub returns-in-Ok-Some-clause-text : goal.returns-in-Ok-Some-clause-text
 returns-in-Ok-Some-clause-text c =
     let s = c.in-Some in
     let k = c.in_ok-printable_clause-in-Some in
     let n = c.in-Ok-Some in
-    let d = clause_at c.printable_clause.new.bank c.printable_clause.new.literals in
+    let f = c.printable_clause.new.bank in
+    let h = c.last_note.new.bank in
+    let w = c.printable_clause.new.literals in
+    let d = clause_at f w in
+    let note = note_of h n.note c.last_note.new.hints in
     let text = is_some k.field-0 c.in-Some-2.behind (λ (x : Bor (List ℕ)). s.after.now ≡ clause_text d ++ 44 ∷ x.now) c.in-Some-2.is k.ensures.some in
-    let a = is_some n.field-0 (n.note, n.rest) (λ p. IsNoteAt c.args.shape s.group s.number (note_of p.0 c.last_note.new.hints) c.in-Some-2.behind.now (41 ∷ 46 ∷ 10 ∷ p.1.now)) n.field-0-is n.ensures.some in
-    whole_line c.args.shape s.group s.number d (note_of n.note c.last_note.new.hints) c.args.bytes.now s.after.now c.in-Some-2.behind.now n.rest.now s.ensures.some.0 text a
+    let whole = is_some k.field-0 c.in-Some-2.behind (λ (x : Bor (List ℕ)). IsWholeClause f w) c.in-Some-2.is k.ensures.whole in
+    let a = is_some n.field-0 (n.note, n.rest) (λ p. IsNoteAt c.args.shape s.group s.number (note_of h p.0 c.last_note.new.hints) c.in-Some-2.behind.now (41 ∷ 46 ∷ 10 ∷ p.1.now)) n.field-0-is n.ensures.some in
+    subst (λ (x : TreeClause). c.args.bytes.now ≡ line (item s.number x note) n.rest.now) (sym (clause_extends f h c.last_note.ensures.extends w whole.ids))
+    (whole_line c.args.shape s.group s.number d note c.args.bytes.now s.after.now c.in-Some-2.behind.now n.rest.now s.ensures.some.0 text a)
 
 pub returns-in-Ok-Some-clause-group : goal.returns-in-Ok-Some-clause-group
 returns-in-Ok-Some-clause-group c =
     let s = c.in-Some in
     let n = c.in-Ok-Some in
-    let a = is_some n.field-0 (n.note, n.rest) (λ p. IsNoteAt c.args.shape s.group s.number (note_of p.0 c.last_note.new.hints) c.in-Some-2.behind.now (41 ∷ 46 ∷ 10 ∷ p.1.now)) n.field-0-is n.ensures.some in
+    let a = is_some n.field-0 (n.note, n.rest) (λ p. IsNoteAt c.args.shape s.group s.number (note_of c.last_note.new.bank p.0 c.last_note.new.hints) c.in-Some-2.behind.now (41 ∷ 46 ∷ 10 ∷ p.1.now)) n.field-0-is n.ensures.some in
     a.0.group_is
 
 pub returns-in-Ok-Some-clause-whole : goal.returns-in-Ok-Some-clause-whole
 returns-in-Ok-Some-clause-whole c =
     let k = c.in_ok-printable_clause-in-Some in
-    is_some k.field-0 c.in-Some-2.behind (λ (x : Bor (List ℕ)). IsWholeClause c.printable_clause.new.bank c.printable_clause.new.literals) c.in-Some-2.is k.ensures.whole
+    let f = c.printable_clause.new.bank in
+    let w = c.printable_clause.new.literals in
+    clause_grown f c.last_note.new.bank c.last_note.ensures.extends w (is_some k.field-0 c.in-Some-2.behind (λ (x : Bor (List ℕ)). IsWholeClause f w) c.in-Some-2.is k.ensures.whole)

@@ -1,5 +1,21 @@
-use Rattle.cert_items.proofs.GroupNotes.{no_selected_note}
+use Rattle.std.proofs.Common.{◌≡◌, ◌≢◌, ℕ, ◌^◌, ◌<◌, true, List, ◌∷◌, ◌++◌}
+use Rattle.std.specs.Prelude.{codes, decimal}
+use Rattle.inst_calculus.specs.Entries.{Origin}
+use Rattle.cert_format.specs.LineMachine.{fits_origin}
+use Rattle.cert_format.specs.LineTexts.{origin_text, origin_is_printable}
+use Rattle.cert_items.specs.Notes.{NoOrigin}
+use Rattle.cert_items.proofs.Reading.{is_none}
+use Rattle.cert_items.proofs.GroupNotes.{no_member_note, no_selected_note}
 use Rattle.cert_items.proofs.note.member_note.Goals as goal
 
-pub returns-in-None-selected-clause-none : goal.returns-in-None-selected-clause-none
-returns-in-None-selected-clause-none c n = no_selected_note c.args.shape n c.args.bytes.now c.if-shape.false c.in-None-selected.ensures.none
+pub returns-in-Ok-None-clause-none : goal.returns-in-Ok-None-clause-none
+returns-in-Ok-None-clause-none c n =
+    let k = c.in-Ok-None in
+    no_member_note c.args.shape n c.args.bytes.now c.if-shape.true (is_none k.field-0 (NoOrigin c.args.shape.format c.args.bytes.now) k.field-0-is k.ensures.none)
+
+pub returns-in-Ok-None-selected-clause-none : goal.returns-in-Ok-None-selected-clause-none
+returns-in-Ok-None-selected-clause-none c n =
+    let k = c.in-Ok-None-selected in
+    no_selected_note c.args.shape n c.args.bytes.now c.if-shape.false
+    (is_none k.field-0
+    ((o : Origin) (p : ℕ) (rest : List ℕ) → origin_is_printable o ≡ true → fits_origin c.args.shape.format o ≡ true → p < 2 ^ 64 → c.args.bytes.now ≢ origin_text o (codes ",[selected(" ++ (decimal p ++ 41 ∷ 93 ∷ rest))) k.field-0-is k.ensures.none)

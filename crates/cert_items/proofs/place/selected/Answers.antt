@@ -1,9 +1,14 @@
-use Rattle.std.proofs.Common.{◌∙◌, sym}
+use Rattle.std.proofs.Common.{◌≡◌, ◌∙◌, sym}
+use Rattle.std.specs.Prelude.{IsTrue}
+use Rattle.cert_format.specs.LineTexts.{origin_text, origin_is_printable}
 use Rattle.saturation_cert.specs.Values.{origin_of}
 use Rattle.cert_format.proofs.LineNotes.{origin_once}
+use Rattle.cert_items.proofs.Reading.{is_some}
 use Rattle.cert_items.proofs.place.selected.Goals as goal
 
-pub returns-in-None-place-clause-none : goal.returns-in-None-place-clause-none
-returns-in-None-place-clause-none c o p rest h k e =
-    let s = c.in-Some in
-    c.in-None-place.ensures.none p rest k (origin_once (origin_of s.o) o s.after.now _ s.ensures.some.1 h (sym s.ensures.some.0 ∙ e)).1
+pub returns-in-None-clause-none : goal.returns-in-None-clause-none
+returns-in-None-clause-none c o p rest h f k e =
+    let s = c.in-Ok-Some in
+    let text = is_some s.field-0 (s.o, s.after) (λ p. c.args.bytes.now ≡ origin_text (origin_of p.0) p.1.now) s.field-0-is s.ensures.some in
+    let good = is_some s.field-0 (s.o, s.after) (λ p. IsTrue (origin_is_printable (origin_of p.0))) s.field-0-is s.ensures.printable in
+    c.in-None.ensures.none p rest k (origin_once (origin_of s.o) o s.after.now _ good h (sym text ∙ e)).1

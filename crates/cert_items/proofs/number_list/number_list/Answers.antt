@@ -1,0 +1,9 @@
+use Rattle.cert_items.specs.NumberTexts.{NoSomeNumbers}
+use Rattle.cert_items.proofs.Reading.{is_none}
+use Rattle.cert_items.proofs.NumberLists.{not_closed}
+use Rattle.cert_items.proofs.number_list.number_list.Goals as goal
+
+pub returns-in-Ok-None-clause-none : goal.returns-in-Ok-None-clause-none
+returns-in-Ok-None-clause-none c =
+    let k = c.in-Ok-None in
+    not_closed c.args.letter.now c.args.bytes.now c.in-None.ensures.none (is_none k.field-0 (NoSomeNumbers c.args.letter.now c.args.bytes.now) k.field-0-is k.ensures.none)

@@ -1,0 +1,76 @@
+// What covers a clause.
+ghost use Rattle.std.specs.Prelude.{◌≡◌, ◌≢◌, ◌++◌, ℕ, List, IfOk, IfSome, IfNone, IsTrue, codes};
+ghost use Rattle.term_bank.specs.Forest.{Forest, AreFormed, Extends};
+ghost use Rattle.cert_format.specs.LineTexts.{by_text, by_is_printable};
+ghost use Rattle.saturation_cert.specs.Values.{by_of};
+ghost use Rattle.saturation_cert.specs.Wholes.{IsWholeBy};
+ghost use Rattle.cert_items.specs.Notes.{NoBy};
+
+use crate::mark::word;
+use crate::number::marked;
+use crate::term_list::number_and_terms;
+use crate::text_bank::TextBank;
+use inst_logic::Memory;
+use saturation_cert::By;
+use std::alloc::Global;
+use term_bank::TermId;
+
+// The number of a variant, and what follows the parenthesis behind it.
+fn variant(bytes: &[u8]) -> Option<(By, &[u8])>
+    ensures some { (f : Forest) → IfSome result (λ p. codes "variant(m" ++ bytes.now ≡ by_text (by_of f p.0) p.1.now) }
+    ensures printable { (f : Forest) → IfSome result (λ p. IsTrue (by_is_printable (by_of f p.0))) }
+    ensures whole { (f : Forest) → IfSome result (λ p. IsWholeBy f p.0) }
+    ensures none { IfNone result (NoBy (codes "variant(m" ++ bytes.now)) }
+{
+    match marked(bytes, b')') {
+        None => None,
+        Some((k, rest)) => Some((By::Variant(k), rest)),
+    }
+}
+
+// The number of a member with its terms, and what follows the parenthesis behind them.
+fn part<'a>(
+    alloc: Global,
+    bank: &mut TextBank,
+    ids: &mut Vec<TermId>,
+    bytes: &'a [u8],
+) -> Result<Option<(By, &'a [u8])>, Memory>
+    ensures some { IfOk result (λ r. IfSome r (λ p. codes "part(m" ++ bytes.now ≡ by_text (by_of bank.new p.0) p.1.now)) }
+    ensures printable { IfOk result (λ r. IfSome r (λ p. IsTrue (by_is_printable (by_of bank.new p.0)))) }
+    ensures whole { IfOk result (λ r. IfSome r (λ p. IsWholeBy bank.new p.0)) }
+    ensures none { IfOk result (λ r. IfNone r (NoBy (codes "part(m" ++ bytes.now))) }
+    ensures extends { Extends bank.old bank.new }
+    ensures formed { AreFormed bank.old → AreFormed bank.new }
+{
+    match number_and_terms(alloc, bank, ids, bytes) {
+        Err(e) => Err(e),
+        Ok(None) => Ok(None),
+        Ok(Some((member, terms, rest))) => Ok(Some((By::Part { member, terms }, rest))),
+    }
+}
+
+/// What covers a clause, at the front, and what follows it. `ids` is room to work in.
+pub fn read_by<'a>(
+    alloc: Global,
+    bank: &mut TextBank,
+    ids: &mut Vec<TermId>,
+    bytes: &'a [u8],
+) -> Result<Option<(By, &'a [u8])>, Memory>
+    ensures some { IfOk result (λ r. IfSome r (λ p. bytes.now ≡ by_text (by_of bank.new p.0) p.1.now)) }
+    ensures printable { IfOk result (λ r. IfSome r (λ p. IsTrue (by_is_printable (by_of bank.new p.0)))) }
+    ensures whole { IfOk result (λ r. IfSome r (λ p. IsWholeBy bank.new p.0)) }
+    ensures none { IfOk result (λ r. IfNone r (NoBy bytes.now)) }
+    ensures extends { Extends bank.old bank.new }
+    ensures formed { AreFormed bank.old → AreFormed bank.new }
+{
+    match word(bytes, b"tautology") {
+        Some(rest) => Ok(Some((By::Tautology, rest))),
+        None => match word(bytes, b"variant(m") {
+            Some(after) => Ok(variant(after)),
+            None => match word(bytes, b"part(m") {
+                Some(after) => part(alloc, bank, ids, after),
+                None => Ok(None),
+            },
+        },
+    }
+}

@@ -1,0 +1,83 @@
+// Terms in brackets.
+ghost use Rattle.std.specs.Prelude.{◌≡◌, ◌≢◌, ◌++◌, ◌∷◌, ◌<◌, ◌^◌, ℕ, List, [], map, All, IfOk, IfSome, IfNone, decimal};
+ghost use Rattle.inst_logic.specs.Tree.{Tree};
+ghost use Rattle.term_bank.specs.Forest.{tree_at, AreFormed, AreIds, Extends};
+ghost use Rattle.cert_format.specs.LineTexts as texts;
+ghost use Rattle.saturation_cert.specs.Wholes.{IsWholeTerm};
+ghost use Rattle.cert_items.specs.Reading.{ArePrintable, NoTerms};
+ghost use Rattle.inst_logic.specs.Codes as byte;
+
+use crate::mark::mark;
+use crate::number::marked;
+use crate::terms::terms;
+use crate::text_bank::TextBank;
+use inst_logic::Memory;
+use std::alloc::Global;
+use term_bank::{TermId, TermIdList};
+
+// The ids as a list.
+fn list_of(alloc: Global, ids: &[TermId]) -> Result<TermIdList, Memory>
+    ensures { IfOk result (λ list. list ≡ ids.now) }
+{
+    let items = Vec::from_slice(alloc, ids)?;
+    Ok(TermIdList::from(items))
+}
+
+/// The terms at the front, and what follows the bracket that ends them. `ids` is room to work in.
+pub fn term_list<'a>(
+    alloc: Global,
+    bank: &mut TextBank,
+    ids: &mut Vec<TermId>,
+    bytes: &'a [u8],
+) -> Result<Option<(TermIdList, &'a [u8])>, Memory>
+    ensures some { IfOk result (λ r. IfSome r (λ p. bytes.now ≡ texts.terms (map (tree_at bank.new) p.0) p.1.now)) }
+    ensures printable { IfOk result (λ r. IfSome r (λ p. ArePrintable (map (tree_at bank.new) p.0))) }
+    ensures whole { IfOk result (λ r. IfSome r (λ p. All (IsWholeTerm bank.new) p.0)) }
+    ensures none { IfOk result (λ r. IfNone r ((ts : List Tree) (rest : List ℕ) → ArePrintable ts → bytes.now ≢ texts.terms ts rest)) }
+    ensures extends { Extends bank.old bank.new }
+    ensures formed { AreFormed bank.old → AreFormed bank.new }
+{
+    ids.clear();
+    match mark(bytes, b']') {
+        Some(rest) => Ok(Some((TermIdList::new(alloc), rest))),
+        None => match terms(alloc, bank, ids, bytes, b']') {
+            Err(e) => Err(e),
+            Ok(None) => Ok(None),
+            Ok(Some(rest)) => {
+                let list = list_of(alloc, ids.as_slice())?;
+                Ok(Some((list, rest)))
+            }
+        },
+    }
+}
+
+/// A number with terms in brackets behind it, and what follows the parenthesis behind them.
+pub fn number_and_terms<'a>(
+    alloc: Global,
+    bank: &mut TextBank,
+    ids: &mut Vec<TermId>,
+    bytes: &'a [u8],
+) -> Result<Option<(usize, TermIdList, &'a [u8])>, Memory>
+    ensures some { IfOk result (λ r. IfSome r (λ p. bytes.now ≡ decimal p.0 ++ byte.comma ∷ byte.opening_bracket ∷ texts.terms (map (tree_at bank.new) p.1) (byte.closing_parenthesis ∷ p.2.now))) }
+    ensures fits { IfOk result (λ r. IfSome r (λ p. p.0 < 2 ^ 64)) }
+    ensures printable { IfOk result (λ r. IfSome r (λ p. ArePrintable (map (tree_at bank.new) p.1))) }
+    ensures whole { IfOk result (λ r. IfSome r (λ p. All (IsWholeTerm bank.new) p.1)) }
+    ensures none { IfOk result (λ r. IfNone r ((n : ℕ) (ts : List Tree) (rest : List ℕ) → n < 2 ^ 64 → ArePrintable ts → bytes.now ≢ decimal n ++ byte.comma ∷ byte.opening_bracket ∷ texts.terms ts (byte.closing_parenthesis ∷ rest))) }
+    ensures extends { Extends bank.old bank.new }
+    ensures formed { AreFormed bank.old → AreFormed bank.new }
+{
+    match marked(bytes, b',') {
+        None => Ok(None),
+        Some((n, after)) => match mark(after, b'[') {
+            None => Ok(None),
+            Some(inner) => match term_list(alloc, bank, ids, inner) {
+                Err(e) => Err(e),
+                Ok(None) => Ok(None),
+                Ok(Some((list, behind))) => match mark(behind, b')') {
+                    None => Ok(None),
+                    Some(rest) => Ok(Some((n, list, rest))),
+                },
+            },
+        },
+    }
+}
