@@ -1,5 +1,5 @@
 -- The first lines of a text.
-use Rattle.std.proofs.Common.{◌≡◌, ◌≢◌, ℕ, Bool, true, false, List, [], ◌∷◌, ◌++◌, refl, sym, ap, ◌∙◌, subst, arith}
+use Rattle.std.proofs.Common.{◌≡◌, ◌≢◌, ℕ, Bool, true, List, [], ◌∷◌, ◌++◌, refl, sym, ap, ◌∙◌, subst, arith}
 use Rattle.std.specs.Prelude.{codes, decimal}
 use Rattle.std.specs.List.{list_all}
 use Rattle.std.specs.Char.{is_ascii_digit}
@@ -16,8 +16,8 @@ use Rattle.cert_format.proofs.LineNotes.{behind_front}
 use Rattle.cert_format.proofs.Runs.{one_split}
 use Rattle.cert_items.specs.declared.shape.Shape.{Shape}
 use Rattle.cert_reader.specs.Bodies.{header, refutation_in, saturation_in, HasRead, IsRefusedAt}
-use Rattle.cert_reader.specs.Reads.{IsOtherFormat, IsVersion, HasVersion, IsSyntaxAt}
-use Rattle.cert_reader.specs.Starts.{format_line, NoFormat, HasBegun}
+use Rattle.cert_reader.specs.Reads.{format_line, IsOtherFormat, IsVersion, HasVersion, IsSyntaxAt}
+use Rattle.cert_reader.specs.Starts.{NoFormat, HasBegun}
 use Rattle.cert_reader.proofs.FirstLines.{two_front, two_lines, two_more, version_third, fewer_front}
 use Rattle.cert_reader.proofs.Steps.{no_status, no_opening, no_version, no_constant, one_line, two_leads, saturation_leads, refutation_leads, constant_leads, in_front, refused}
 

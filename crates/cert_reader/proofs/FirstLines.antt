@@ -8,8 +8,7 @@ use Rattle.cert_format.specs.LineMachine.{Line, status, opening}
 use Rattle.cert_format.specs.LineTexts.{line, line_text, is_text_name}
 use Rattle.cert_format.proofs.LineNotes.{behind_front, line_more}
 use Rattle.cert_format.proofs.WholeLines.{status_is_line, opening_is_line}
-use Rattle.cert_reader.specs.Reads.{IsVersion}
-use Rattle.cert_reader.specs.Starts.{format_line}
+use Rattle.cert_reader.specs.Reads.{format_line, IsVersion}
 use Rattle.cert_format.proofs.FirstLines.{first_line}
 
 -- ---- the two lines before the format's

@@ -2,7 +2,10 @@ mod FirstLines
 mod FormatWords
 mod Steps
 mod Beginnings
+mod BothLists
+mod Layers
 mod Pushes
+mod Turns
 mod NextItems
 mod Progress
 mod Values

@@ -1,5 +1,5 @@
 -- A text names at most one other format, and where it does it is no certificate's.
-use Rattle.std.proofs.Common.{◌≡◌, ℕ, true, List, [], ◌∷◌, ◌++◌, Some, refl, sym, ap, subst, ◌∙◌, arith}
+use Rattle.std.proofs.Common.{◌≡◌, ℕ, true, List, [], ◌∷◌, ◌++◌, Some, refl, sym, ap, ◌∙◌}
 use Rattle.std.specs.Prelude.{codes, decimal}
 use Rattle.std.specs.Char.{is_ascii_digit}
 use Rattle.std.specs.List.{list_all}
@@ -16,8 +16,7 @@ use Rattle.cert_format.proofs.Runs.{one_split}
 use Rattle.cert_format.proofs.ValueRuns.{name_yes}
 use Rattle.cert_format.proofs.Formats.{small_format}
 use Rattle.cert_format.proofs.Writables.{format_is_known}
-use Rattle.cert_reader.specs.Reads.{IsVersion}
-use Rattle.cert_reader.specs.Starts.{format_line}
+use Rattle.cert_reader.specs.Reads.{format_line, IsVersion}
 use Rattle.cert_reader.proofs.FirstLines.{two_front, version_third}
 use Rattle.cert_format.proofs.LineTexts.{text_is}
 

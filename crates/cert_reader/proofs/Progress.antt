@@ -1,14 +1,14 @@
 -- One more line of the body, and the ends.
-use Rattle.std.proofs.Common.{◌≡◌, ◌≢◌, ℕ, ◌+◌, suc, ◌<◌, ◌^◌, Bool, true, false, cond, List, [], ◌∷◌, ◌++◌, length, refl, sym, ap, ap₂, ◌∙◌, subst, arith, append_assoc}
+use Rattle.std.proofs.Common.{◌≡◌, ◌≢◌, inl, inr, ℕ, ◌+◌, suc, ◌<◌, ◌^◌, Bool, true, false, cond, List, [], ◌∷◌, ◌++◌, length, refl, sym, ap, ap₂, ◌∙◌, subst, arith, append_assoc}
 use Rattle.std.specs.Prelude.{nat_eq}
 use Rattle.std.proofs.lemmas.Bool.{and_parts, and_from}
 use Rattle.std.proofs.lemmas.List.{append-nil, length-append, length_push}
 use Rattle.inst_logic.specs.Clauses.{TreeClause}
-use Rattle.cert_format.specs.LineMachine.{Note, rank, Item, Header, Line, status, opening, version, item, closing, nothing, body, done, count, fits, guarded}
+use Rattle.cert_format.specs.LineMachine.{Note, rank, Item, Header, Line, status, opening, version, item, closing, nothing, body, done, count, fits, guarded, is_complete}
 use Rattle.cert_format.specs.LineTexts.{line, line_text, is_text_name}
 use Rattle.cert_format.specs.Formats.{may_follow, step, is_done, text_of_lines, Leads}
 use Rattle.cert_format.specs.ValueLines.{item_lines}
-use Rattle.cert_format.proofs.Formats.{exact, next_of}
+use Rattle.cert_format.proofs.Formats.{apart_by, exact, next_of}
 use Rattle.cert_format.proofs.LineMachine.{count_push}
 use Rattle.cert_format.proofs.LineNotes.{below, line_more}
 use Rattle.cert_format.proofs.LineTexts.{lines_append}
@@ -18,8 +18,12 @@ use Rattle.cert_format.proofs.GroupItems.{all_append}
 use Rattle.cert_format.proofs.ValueRuns.{name_yes}
 use Rattle.cert_items.specs.Items.{shape_of}
 use Rattle.cert_items.specs.declared.shape.Shape.{Shape}
-use Rattle.cert_reader.specs.Bodies.{constant_lines, lines_up_to, is_good, HasRead, IsNextItem, NoNextItem, IsRefusedAt, EndsSo, ending_behind}
+use Rattle.cert_reader.specs.Bodies.{constant_lines, lines_up_to, is_good, HasRead, IsNextItem, NoNextItem, IsRefusedAt, EndsSo, EndsAt, ending_behind}
 use Rattle.cert_reader.specs.declared.body.Ending.{Ending}
+use Rattle.cert_reader.specs.declared.groups.Groups.{Groups}
+use Rattle.cert_reader.specs.Groups.{AreGroups, items_of}
+use Rattle.cert_reader.proofs.Turns.{complete_is, from_complete}
+use Rattle.term_bank.specs.Forest.{Forest}
 use Rattle.cert_reader.proofs.Steps.{no_next, one_more, closing_step, behind_all, refused, name_is}
 
 -- ---- one more item
@@ -59,31 +63,36 @@ progress text h z is js lines x rest e p s =
 
 -- ---- the ends
 
-pub refused_next : (text : List ℕ) (h : Header) (is : List Item) (lines : ℕ) (x : List ℕ) → HasRead text h is lines x → NoNextItem (shape_of h) is x → ((y : List ℕ) → x ≢ line (closing h.refutation h.name) y) → IsRefusedAt text (lines + 1)
+refused_next : (text : List ℕ) (h : Header) (is : List Item) (lines : ℕ) (x : List ℕ) → HasRead text h is lines x → NoNextItem (shape_of h) is x → ((y : List ℕ) → is_complete h is ≡ true → x ≢ line (closing h.refutation h.name) y) → IsRefusedAt text (lines + 1)
 refused_next text h is lines x p bad last =
     let q = refused (lines_up_to h is) (body h is) text x p.leads p.text_is (no_next h is x bad last) (λ e. (let k = e.0 in cc)) in
     let n : suc (length (lines_up_to h is)) ≡ lines + 1 = omega (arith, p.counted) in
     subst (IsRefusedAt text) n q
 
+-- the last line is no item
+no_item_at_end : (s : Shape) (is : List Item) (r : Bool) (n x y : List ℕ) → x ≡ line (closing r n) y → NoNextItem s is x
+no_item_at_end s is r n x y at h e k c note rest m text = apart_by 99 (line (item k c note) rest) (line (closing r n) y) (sym text ∙ at) refl refl
+
 text_name : (text : List ℕ) (h : Header) (is : List Item) (lines : ℕ) (x : List ℕ) → HasRead text h is lines x → is_text_name h.name ≡ true
 text_name text h is lines x p = name_yes h.name (name_is h.refutation h.name (opening h.refutation h.name ∷ version h.format ∷ (constant_lines h.refutation h.bot ++ item_lines [] is)) (body h is) p.leads)
 
-closed_leads : (text : List ℕ) (h : Header) (is : List Item) (lines : ℕ) (x : List ℕ) → HasRead text h is lines x → Leads (lines_up_to h is ++ closing h.refutation h.name ∷ []) (done h is)
-closed_leads text h is lines x p = one_more (lines_up_to h is) (closing h.refutation h.name) (body h is) (done h is) p.leads (closing_step h is (text_name text h is lines x p) refl)
+closed_leads : (text : List ℕ) (h : Header) (is : List Item) (lines : ℕ) (x : List ℕ) → HasRead text h is lines x → is_complete h is ≡ true → Leads (lines_up_to h is ++ closing h.refutation h.name ∷ []) (done h is)
+closed_leads text h is lines x p complete = one_more (lines_up_to h is) (closing h.refutation h.name) (body h is) (done h is) p.leads (closing_step h is (text_name text h is lines x p) complete)
 
 closed_text : (text : List ℕ) (h : Header) (is : List Item) (lines : ℕ) (x rest : List ℕ) → HasRead text h is lines x → x ≡ line (closing h.refutation h.name) rest → text ≡ text_of_lines (lines_up_to h is ++ closing h.refutation h.name ∷ []) ++ rest
 closed_text text h is lines x rest p at = p.text_is ∙ ap (λ (xs : List ℕ). text_of_lines (lines_up_to h is) ++ xs) at ∙ sym (behind_all (lines_up_to h is) (closing h.refutation h.name) rest)
 
-pub ended : (text : List ℕ) (h : Header) (is : List Item) (lines : ℕ) (x rest : List ℕ) → HasRead text h is lines x → x ≡ line (closing h.refutation h.name) rest → EndsSo text h is (ending_behind (lines + 1) rest)
-ended text h is lines x [] p at = record {
-  leads = closed_leads text h is lines x p;
+ended : (text : List ℕ) (h : Header) (is : List Item) (lines : ℕ) (x rest : List ℕ) → HasRead text h is lines x → is_complete h is ≡ true → x ≡ line (closing h.refutation h.name) rest → EndsSo text h is (ending_behind (lines + 1) rest)
+ended text h is lines x [] p complete at = record {
+  leads = closed_leads text h is lines x p complete;
   text_is = closed_text text h is lines x [] p at ∙ append-nil (text_of_lines (lines_up_to h is ++ closing h.refutation h.name ∷ []));
+  complete = complete;
   good = p.good;
   few = p.few;
 }
-ended text h is lines x (b ∷ bs) p at =
+ended text h is lines x (b ∷ bs) p complete at =
     let ls = lines_up_to h is ++ closing h.refutation h.name ∷ [] in
-    let q = refused ls (done h is) text (b ∷ bs) (closed_leads text h is lines x p) (closed_text text h is lines x (b ∷ bs) p at) (behind_end line_text step is_done nothing exact (done h is) (b ∷ bs) refl) (λ e. (let k = e.1 in cc)) in
+    let q = refused ls (done h is) text (b ∷ bs) (closed_leads text h is lines x p complete) (closed_text text h is lines x (b ∷ bs) p at) (behind_end line_text step is_done nothing exact (done h is) (b ∷ bs) refl) (λ e. (let k = e.1 in cc)) in
     let n : suc (length ls) ≡ suc (lines + 1) = omega (arith, p.counted, length_push (lines_up_to h is) (closing h.refutation h.name)) in
     subst (IsRefusedAt text) n q
 
@@ -92,13 +101,18 @@ ended text h is lines x (b ∷ bs) p at =
 closing_is : (h : Header) (s : Shape) (n : List ℕ) → shape_of h ≡ s → h.name ≡ n → closing h.refutation h.name ≡ closing s.refutation n
 closing_is h s n shape same = ap₂ closing (ap (λ (z : Shape). z.refutation) shape) same
 
-pub ended_so : (text : List ℕ) (h : Header) (s : Shape) (n : List ℕ) (is : List Item) (lines : ℕ) (x rest : List ℕ) (e : Ending) → shape_of h ≡ s → h.name ≡ n → HasRead text h is lines x → x ≡ line (closing s.refutation n) rest → e ≡ ending_behind (lines + 1) rest → EndsSo text h is e
-ended_so text h s n is lines x rest e shape same p at q =
-    subst (EndsSo text h is) (sym q) (ended text h is lines x rest p (at ∙ ap (λ (l : Line). line l rest) (sym (closing_is h s n shape same))))
+-- at the last line
+pub ended_so : (text : List ℕ) (h : Header) (s : Shape) (n : List ℕ) (f : Forest) (g : Groups) (lines : ℕ) (x rest : List ℕ) (e : Ending) → shape_of h ≡ s → h.name ≡ n → AreGroups s f g → HasRead text h (items_of s f g) lines x → x ≡ line (closing s.refutation n) rest
+    → EndsAt s g (lines + 1) rest e → EndsSo text h (items_of s f g) e
+ended_so text h s n f g lines x rest e shape same groups p at (inl q) =
+    subst (EndsSo text h (items_of s f g)) (sym q.1) (ended text h (items_of s f g) lines x rest p (complete_is h s f g shape groups q.0) (at ∙ ap (λ (l : Line). line l rest) (sym (closing_is h s n shape same))))
+ended_so text h s n f g lines x rest e shape same groups p at (inr q) =
+    subst (EndsSo text h (items_of s f g)) (sym q.1)
+    (refused_next text h (items_of s f g) lines x p (no_item_at_end (shape_of h) (items_of s f g) s.refutation n x rest at) (λ y c z. q.0 (from_complete h s f g shape groups c)))
 
 pub refused_so : (text : List ℕ) (h : Header) (s : Shape) (n : List ℕ) (is : List Item) (lines : ℕ) (x : List ℕ) → shape_of h ≡ s → h.name ≡ n → HasRead text h is lines x → NoNextItem s is x → ((y : List ℕ) → x ≢ line (closing s.refutation n) y) → IsRefusedAt text (lines + 1)
 refused_so text h s n is lines x shape same p bad last =
-    refused_next text h is lines x p (subst (λ (z : Shape). NoNextItem z is x) (sym shape) bad) (λ y e. last y (e ∙ ap (λ (l : Line). line l y) (closing_is h s n shape same)))
+    refused_next text h is lines x p (subst (λ (z : Shape). NoNextItem z is x) (sym shape) bad) (λ y c e. last y (e ∙ ap (λ (l : Line). line l y) (closing_is h s n shape same)))
 
 pub closing_longer : (r : Bool) (n bytes rest : List ℕ) → bytes ≡ line (closing r n) rest → length rest < length bytes
 closing_longer r n bytes rest at =

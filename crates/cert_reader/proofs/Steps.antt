@@ -42,13 +42,14 @@ pub no_constant : (f : ℕ) (n x : List ℕ) → ((c y : List ℕ) → is_readab
 no_constant f n x bad (constant c) u y e k = bad c y (guard_is _ _ _ e) (k ∙ line_more (constant c) [] y)
 no_constant f n x bad _ u y e k = absurd cc
 
-pub no_next : (h : Header) (is : List Item) (x : List ℕ) → NoNextItem (shape_of h) is x → ((y : List ℕ) → x ≢ line (closing h.refutation h.name) y) → NoLine (body h is) x
+pub no_next : (h : Header) (is : List Item) (x : List ℕ) → NoNextItem (shape_of h) is x → ((y : List ℕ) → is_complete h is ≡ true → x ≢ line (closing h.refutation h.name) y) → NoLine (body h is) x
 no_next h is x bad last (item n c note) u y e k = bad h refl n c note y (guard_is _ _ _ e) (k ∙ line_more (item n c note) [] y)
 no_next h is x bad last (closing r m) u y e k =
     let a = and_parts (bool_eq h.refutation r) _ (and_parts (is_text_name m) _ (guard_is _ _ _ e)).1 in
     let form = (bool_eq_decides h.refutation r).0 a.0 in
-    let same = (bytes_eq-Decides h.name m).0 (and_parts (bytes_eq h.name m) (is_complete h is) a.1).0 in
-    last y (k ∙ line_more (closing r m) [] y ∙ ap (λ (l : Line). line l y) (sym (ap₂ closing form same)))
+    let b = and_parts (bytes_eq h.name m) (is_complete h is) a.1 in
+    let same = (bytes_eq-Decides h.name m).0 b.0 in
+    last y b.1 (k ∙ line_more (closing r m) [] y ∙ ap (λ (l : Line). line l y) (sym (ap₂ closing form same)))
 no_next h is x bad last _ u y e k = absurd cc
 
 -- ---- steps

@@ -1,14 +1,16 @@
 -- What has been read of a text, up to its items and behind them.
-use Rattle.std.specs.Prelude.{◌≡◌, ◌≢◌, ℕ, ◌^◌, ◌<◌, suc, List, [], ◌∷◌, ◌++◌, length, Bool, true, false, ◌&&◌, IsTrue}
+use Rattle.std.specs.Prelude.{◌≡◌, ◌≢◌, ◌⊎◌, ℕ, ◌^◌, ◌<◌, suc, List, [], ◌∷◌, ◌++◌, length, Bool, true, false, ◌&&◌, IsTrue}
 use Rattle.std.specs.List.{list_all}
 use Rattle.inst_logic.specs.Clauses.{TreeClause}
 use Rattle.cert_format.specs.Fronts.{IsBadLine}
-use Rattle.cert_format.specs.LineMachine.{Note, Item, Header, Line, status, opening, version, constant, item, closing, body, done, count, fits}
+use Rattle.cert_format.specs.LineMachine.{Note, Item, Header, Line, status, opening, version, constant, item, closing, body, done, count, fits, is_complete}
 use Rattle.cert_format.specs.LineTexts.{line, note_is_printable}
 use Rattle.cert_format.specs.Formats.{clause_is_printable, may_follow, text_of_lines, Leads}
 use Rattle.cert_format.specs.ValueLines.{item_lines, IsCertificateText}
 use Rattle.cert_items.specs.Items.{shape_of}
 use Rattle.cert_items.specs.declared.shape.Shape.{Shape}
+use Rattle.cert_reader.specs.declared.groups.Groups.{Groups}
+use Rattle.cert_reader.specs.Groups.{names_in, IsAllShown}
 use Rattle.cert_reader.specs.declared.body.Ending.{Ending}
 use Rattle.cert_reader.specs.declared.body.Ending.TheVariants.{Complete, BadLine}
 
@@ -61,6 +63,7 @@ NoNextItem shape is bytes = (h : Header) → shape_of h ≡ shape → (n : ℕ) 
 pub record IsComplete (text : List ℕ) (h : Header) (is : List Item) : Type 0 where
   pub leads : Leads (lines_up_to h is ++ closing h.refutation h.name ∷ []) (done h is)
   pub text_is : text ≡ text_of_lines (lines_up_to h is ++ closing h.refutation h.name ∷ [])
+  pub complete : is_complete h is ≡ true
   pub good : list_all (is_good h) is ≡ true
   pub few : (k : ℕ) → count k is < 2 ^ 64
 
@@ -78,3 +81,11 @@ EndsSo text h is (BadLine n) = IsRefusedAt text n
 abbrev pub ending_behind : ℕ → List ℕ → Ending
 ending_behind lines [] = Complete
 ending_behind lines (b ∷ bs) = BadLine (suc lines)
+
+-- nothing is left to be shown
+abbrev pub IsDone : Shape → Groups → Type 0
+IsDone shape g = IsTrue (names_in shape) → IsAllShown g
+
+-- how a text of the shape with these items ends at its last line, which has this number
+abbrev pub EndsAt : Shape → Groups → ℕ → List ℕ → Ending → Type 0
+EndsAt shape g line rest e = (IsDone shape g × (e ≡ ending_behind line rest)) ⊎ ((¬ IsDone shape g) × (e ≡ BadLine line))

@@ -8,8 +8,8 @@ use Rattle.cert_format.specs.Fronts.{IsFront, IsBadLine}
 use Rattle.cert_format.specs.Printable.{IsPrintable, IsTextName}
 use Rattle.cert_format.specs.Text.{certificate_text}
 use Rattle.cert_format.specs.ValueLines.{IsCertificateText}
-use Rattle.saturation_cert.specs.Values.{refutation_of, saturation_of}
-use Rattle.saturation_cert.specs.Wholes.{IsWholeRefutation, IsWholeSaturation}
+use Rattle.saturation_cert.specs.Values.{first_of, refutation_of, saturation_of, covered_of}
+use Rattle.saturation_cert.specs.Wholes.{IsWholeFirst, IsWholeRefutation, IsWholeSaturation, IsWholeCovered}
 use Rattle.cert_reader.specs.declared.certificate.Certificate.{Certificate}
 use Rattle.cert_reader.specs.declared.certificate.Certificate.TheVariants as forms
 use Rattle.cert_reader.specs.declared.error.CertError.{CertError}
@@ -19,8 +19,10 @@ use Rattle.inst_logic.specs.Codes as byte
 -- ---- what is read
 
 abbrev pub value_of : Certificate → certificates.Certificate
-value_of (forms.Refutation r) = certificates.first_refutation (refutation_of r)
+value_of (forms.First r) = certificates.first_refutation (first_of r)
+value_of (forms.Refutation r) = certificates.refutation (refutation_of r)
 value_of (forms.Saturation s) = certificates.saturation (saturation_of s)
+value_of (forms.Covered c) = certificates.covered (covered_of c)
 
 -- the certificate is printable in this format, and the text is its text in it under this name
 pub record IsTextOf (text : List ℕ) (format : ℕ) (name : List ℕ) (c : certificates.Certificate) : Type 0 where
@@ -30,8 +32,10 @@ pub record IsTextOf (text : List ℕ) (format : ℕ) (name : List ℕ) (c : cert
 
 -- the ids are those of its bank
 abbrev pub IsWholeCertificate : Certificate → Type 0
+IsWholeCertificate (forms.First r) = IsWholeFirst r
 IsWholeCertificate (forms.Refutation r) = IsWholeRefutation r
 IsWholeCertificate (forms.Saturation s) = IsWholeSaturation s
+IsWholeCertificate (forms.Covered c) = IsWholeCovered c
 
 -- ---- what is refused
 
@@ -43,13 +47,17 @@ pub record IsOtherFormat (word : List ℕ) : Type 0 where
   pub plain : (rest : List ℕ) → word ≢ byte.digit_zero ∷ rest
   pub other : (format : ℕ) → IsTrue (is_known format) → word ≢ decimal format
 
+-- the third line of a text but for the digits
+abbrev pub format_line : List ℕ → List ℕ → List ℕ
+format_line word rest = codes "% instgen certificate " ++ (word ++ byte.line_feed ∷ rest)
+
 -- The first two lines are those of some certificate text, and the third is `% instgen certificate ` with the number of another
 -- format.
 pub record IsVersion (text word : List ℕ) : Type 0 where
   pub begun : IsFront IsCertificateText 2 text
   pub format : IsOtherFormat word
   pub rest : List ℕ
-  pub third : text ≡ begun.front ++ (codes "% instgen certificate " ++ (word ++ byte.line_feed ∷ rest))
+  pub third : text ≡ begun.front ++ format_line word rest
 
 abbrev pub HasVersion : List ℕ → Type 0
 HasVersion text = (word : List ℕ) × IsVersion text word

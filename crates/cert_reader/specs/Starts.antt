@@ -1,25 +1,20 @@
 -- How the text of a certificate begins.
-use Rattle.std.specs.Prelude.{◌≡◌, ◌≢◌, ℕ, List, ◌∷◌, ◌++◌, codes, IsTrue}
+use Rattle.std.specs.Prelude.{◌≡◌, ◌≢◌, ℕ, List, IsTrue}
 use Rattle.std.specs.List.{list_all}
 use Rattle.std.specs.Char.{is_ascii_digit}
 use Rattle.cert_format.specs.LineMachine.{status, opening, version}
 use Rattle.cert_format.specs.LineTexts.{line, is_text_name}
 use Rattle.cert_format.specs.Formats.{is_known}
 use Rattle.cert_items.specs.declared.shape.Shape.{Shape}
-use Rattle.cert_reader.specs.Reads.{IsSyntaxAt, IsVersion}
+use Rattle.cert_reader.specs.Reads.{format_line, IsSyntaxAt, IsVersion}
 use Rattle.cert_reader.specs.declared.start.Start.{Start}
 use Rattle.cert_reader.specs.declared.start.Start.TheVariants.{Begun, Bad, Other}
-use Rattle.inst_logic.specs.Codes as byte
 
 -- the first three lines, in a certificate's text of this shape under this name
 pub record HasBegun (text : List ℕ) (shape : Shape) (name rest : List ℕ) : Type 0 where
   pub is : text ≡ line (status shape.refutation name) (line (opening shape.refutation name) (line (version shape.format) rest))
   pub name_is : IsTrue (is_text_name name)
   pub known : IsTrue (is_known shape.format)
-
--- the third line but for the digits
-abbrev pub format_line : List ℕ → List ℕ → List ℕ
-format_line word rest = codes "% instgen certificate " ++ (word ++ byte.line_feed ∷ rest)
 
 -- no line of a format is at the front
 abbrev pub NoFormat : List ℕ → Type 0

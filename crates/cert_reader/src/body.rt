@@ -2,7 +2,7 @@
 ghost use Rattle.std.specs.Prelude.{◌≡◌, ◌+◌, ◌<◌, ◌^◌, List, ℕ, length, IfOk};
 ghost use Rattle.cert_format.specs.LineMachine.{Header};
 ghost use Rattle.cert_items.specs.Items.{shape_of};
-ghost use Rattle.cert_reader.specs.Bodies.{HasRead, EndsSo, ending_behind};
+ghost use Rattle.cert_reader.specs.Bodies.{HasRead, EndsSo, EndsAt, ending_behind};
 ghost use Rattle.cert_reader.specs.Groups.{AreGroups, items_of};
 
 use crate::groups::Groups;
@@ -33,6 +33,18 @@ fn behind_last(lines: usize, rest: &[u8]) -> Ending
     }
 }
 
+// How a text of the shape with these items ends whose last line has this number, with this behind it.
+fn end_of(groups: &Groups, shape: Shape, line: usize, rest: &[u8]) -> Ending
+    requires counted { line + length rest.now < 2 ^ 63 }
+    ensures { EndsAt shape groups.now line rest.now result }
+{
+    if groups.is_complete(shape) {
+        behind_last(line, rest)
+    } else {
+        Ending::BadLine(line)
+    }
+}
+
 /// Reads the items and the last line of a text of the shape under this name, of which so many lines have been read.
 pub fn read_items(
     alloc: Global,
@@ -54,7 +66,7 @@ pub fn read_items(
     let mut rest = bytes;
     loop {
         match closing(shape.refutation, name, rest) {
-            Some(behind) => return Ok(behind_last(lines + 1, behind)),
+            Some(behind) => return Ok(end_of(groups, shape, lines + 1, behind)),
             None => match next_item(alloc, bank, &mut ids, groups, shape, rest) {
                 Err(e) => return Err(e),
                 Ok(None) => return Ok(Ending::BadLine(lines + 1)),

@@ -1,12 +1,18 @@
 // What is read.
 use inst_logic::Name;
-use saturation_cert::{Refutation, Saturation};
+use saturation_cert::{Covered, FirstRefutation, Refutation, Saturation};
 
-/// A certificate of either form, as it was read; nobody has checked it.
+/// A certificate of any kind, as it was read; nobody has checked it.
 #[derive(Drop)]
 pub enum Certificate {
+    /// A refutation of the first format.
+    First(FirstRefutation),
+    /// A refutation of the second or the third format.
     Refutation(Refutation),
+    /// A saturation of the first or the second format.
     Saturation(Saturation),
+    /// A saturation of the third format.
+    Covered(Covered),
 }
 
 /// A certificate with the name and the number of the format that its text gives.

@@ -1,17 +1,20 @@
 // The lists into which items are read, and which of them may come next.
-ghost use Rattle.std.specs.Prelude.{◌≡◌, ◌↔◌, ◌≤◌, [], suc, IsTrue, OnOk};
+ghost use Rattle.std.specs.Prelude.{◌≡◌, ◌↔◌, ◌<◌, ◌≤◌, ◌^◌, ◌++◌, [], suc, length, IsTrue, OnOk, slice_get, option_copied};
 ghost use Rattle.cert_items.specs.declared.group.Group.TheVariants.{Input as FirstGroup};
 ghost use Rattle.cert_items.specs.Items.{rank_of};
-ghost use Rattle.cert_reader.specs.Groups.{count_of, pushed};
+ghost use Rattle.cert_reader.specs.Groups.{base_count, count_of, names_in, IsInTurn, TakesTurn, IsAllShown, IsNextOf, pushed};
 
-use cert_items::{Group, Note};
+use cert_items::{Group, Note, Shape};
 use inst_logic::{Memory, NameList, PlaceList};
-use saturation_cert::{GroundHintList, GroundStep, GroundStepList, Member, MemberList};
+use saturation_cert::{
+    ByList, Cover, CoverList, GroundHintList, GroundLine, GroundLineList, GroundStep,
+    GroundStepList, Member, MemberList,
+};
 use std::alloc::Global;
 use term_bank::{IdClause, IdClauseList};
 
 /// The items that were read, in the lists of a certificate, and the group of the last one; before there is one it is that of the
-/// inputs, which come first.
+/// inputs, which come first. The clauses of items that show an input or axiom are that input or axiom, and have no list.
 #[derive(Drop)]
 pub struct Groups {
     pub inputs: IdClauseList,
@@ -20,7 +23,10 @@ pub struct Groups {
     pub members: MemberList,
     pub places: PlaceList,
     pub grounds: IdClauseList,
+    pub lines: GroundLineList,
     pub steps: GroundStepList,
+    pub shown: ByList,
+    pub covers: CoverList,
     pub last: Group,
 }
 
@@ -33,13 +39,21 @@ fn rank(group: Group) -> usize
         Group::Member => 2,
         Group::Ground => 3,
         Group::Step => 4,
+        Group::Shown => 5,
+        Group::Cover => 6,
     }
+}
+
+fn same_clause(c: &IdClause, d: &IdClause) -> bool
+    ensures { IsTrue result ↔ (c.now ≡ d.now) }
+{
+    c == d
 }
 
 impl Groups {
     /// No items. It takes no memory.
     pub fn new(alloc: Global) -> Groups
-        ensures { result ≡ record { inputs = []; names = []; axioms = []; members = []; places = []; grounds = []; steps = []; last = FirstGroup } }
+        ensures { result ≡ record { inputs = []; names = []; axioms = []; members = []; places = []; grounds = []; lines = []; steps = []; shown = []; covers = []; last = FirstGroup } }
     {
         Groups {
             inputs: IdClauseList::new(alloc),
@@ -48,30 +62,99 @@ impl Groups {
             members: MemberList::new(alloc),
             places: PlaceList::new(alloc),
             grounds: IdClauseList::new(alloc),
+            lines: GroundLineList::new(alloc),
             steps: GroundStepList::new(alloc),
+            shown: ByList::new(alloc),
+            covers: CoverList::new(alloc),
             last: Group::Input,
         }
     }
 
-    // How many items of the group there are.
-    fn count(&self, group: Group) -> usize
-        ensures { result ≡ count_of group self.now }
+    // Whether there are so many items of the group. The sum of two lengths need not be a `usize`.
+    fn has(&self, group: Group, count: usize) -> bool
+        ensures { IsTrue result ↔ (count ≡ count_of group self.now) }
     {
         match group {
-            Group::Input => self.inputs.len(),
-            Group::Axiom => self.axioms.len(),
-            Group::Member => self.members.len(),
-            Group::Ground => self.grounds.len(),
-            Group::Step => self.steps.len(),
+            Group::Input => count == self.inputs.len(),
+            Group::Axiom => count == self.axioms.len(),
+            Group::Member => count == self.members.len(),
+            Group::Ground => {
+                count >= self.grounds.len() && count - self.grounds.len() == self.lines.len()
+            }
+            Group::Step => count == self.steps.len(),
+            Group::Shown => count == self.shown.len(),
+            Group::Cover => count == self.covers.len(),
         }
     }
 
-    /// Whether an item of the group may come next, under this number: its group is not over, and the numbers of a group count
-    /// from 1.
-    pub fn may_take(&self, group: Group, number: usize) -> bool
-        ensures { IsTrue result ↔ ((rank_of self.now.last ≤ rank_of group) × (number ≡ suc (count_of group self.now))) }
+    // Whether every input and axiom is shown.
+    fn is_all_shown(&self) -> bool
+        ensures { IsTrue result ↔ IsAllShown self.now }
     {
-        rank(self.last) <= rank(group) && number != 0 && number - 1 == self.count(group)
+        self.inputs.len().checked_add(self.axioms.len()) == Some(self.shown.len())
+    }
+
+    // Whether there may be one more input or axiom: so many items that show them can have numbers.
+    fn may_grow(&self) -> bool
+        ensures { IsTrue result ↔ (suc (base_count self.now) < 2 ^ 64) }
+    {
+        match self.inputs.len().checked_add(self.axioms.len()) {
+            None => false,
+            Some(count) => count < usize::MAX,
+        }
+    }
+
+    // The clause of the first input or axiom that is not shown.
+    fn next_shown(&self) -> Option<&IdClause>
+        ensures { option_copied result ≡ slice_get (self.now.inputs ++ self.now.axioms) (length self.now.shown) }
+    {
+        let shown = self.shown.len();
+        let inputs = self.inputs.len();
+        if shown < inputs {
+            self.inputs.get(shown)
+        } else {
+            self.axioms.get(shown - inputs)
+        }
+    }
+
+    // Whether the clause is that of the input or axiom that is to be shown next.
+    fn is_next(&self, clause: &IdClause) -> bool
+        ensures { IsTrue result ↔ IsNextOf self.now clause.now }
+    {
+        match self.next_shown() {
+            None => false,
+            Some(other) => same_clause(other, clause),
+        }
+    }
+
+    // Whether an item of the group with this clause is in turn, where covers are named.
+    fn is_in_turn(&self, group: Group, clause: &IdClause) -> bool
+        ensures { IsTrue result ↔ IsInTurn group self.now clause.now }
+    {
+        match group {
+            Group::Input | Group::Axiom => self.may_grow(),
+            Group::Member | Group::Ground | Group::Step => true,
+            Group::Shown => self.is_next(clause),
+            Group::Cover => self.is_all_shown(),
+        }
+    }
+
+    /// Whether the items may be all of a text of the shape: where covers are named, every input and axiom is shown.
+    pub fn is_complete(&self, shape: Shape) -> bool
+        ensures { IsTrue result ↔ (IsTrue (names_in shape) → IsAllShown self.now) }
+    {
+        !shape.names_covers() || self.is_all_shown()
+    }
+
+    /// Whether an item of the group may come next in a text of the shape, under this number and with this clause: its group is not
+    /// over, the numbers of a group count from 1, and it is in turn.
+    pub fn may_take(&self, shape: Shape, group: Group, number: usize, clause: &IdClause) -> bool
+        ensures { IsTrue result ↔ ((rank_of self.now.last ≤ rank_of group) × (number ≡ suc (count_of group self.now)) × TakesTurn shape group self.now clause.now) }
+    {
+        rank(self.last) <= rank(group)
+            && number != 0
+            && self.has(group, number - 1)
+            && (!shape.names_covers() || self.is_in_turn(group, clause))
     }
 
     /// Puts the item behind the others of its group.
@@ -106,9 +189,37 @@ impl Groups {
                 self.last = Group::Ground;
                 self.grounds.push(clause)?;
             }
-            Note::Shown => {
+            Note::GroundBy(input, terms) => {
+                self.last = Group::Ground;
+                self.lines.push(GroundLine {
+                    clause,
+                    input,
+                    terms,
+                })?;
+            }
+            Note::Hinted => {
                 self.last = Group::Step;
                 self.steps.push(GroundStep { clause, hints })?;
+            }
+            Note::InputBy(by) => {
+                self.last = Group::Shown;
+                self.shown.push(by)?;
+            }
+            Note::SideBy {
+                left,
+                right,
+                side,
+                by,
+            } => {
+                self.last = Group::Cover;
+                let cover = Cover {
+                    left,
+                    right,
+                    side,
+                    clause,
+                    by,
+                };
+                self.covers.push(cover)?;
             }
         }
         Ok(())

@@ -9,8 +9,8 @@ ghost use Rattle.cert_format.specs.Runs.{run};
 ghost use Rattle.cert_format.specs.LineMachine as lines;
 ghost use Rattle.cert_format.specs.LineTexts.{line, is_text_name};
 ghost use Rattle.cert_format.specs.LineTexts as texts;
-ghost use Rattle.cert_reader.specs.Reads.{IsOtherFormat};
-ghost use Rattle.cert_reader.specs.Starts.{format_line, NoFormat};
+ghost use Rattle.cert_reader.specs.Reads.{format_line, IsOtherFormat};
+ghost use Rattle.cert_reader.specs.Starts.{NoFormat};
 ghost use Rattle.inst_logic.specs.Codes as byte;
 
 use cert_items::mark::{mark, word};
@@ -131,13 +131,14 @@ pub fn format(bytes: &[u8]) -> Option<(&[u8], &[u8])>
     }
 }
 
-fn is_first_format(digits: &[u8]) -> bool
-    ensures yes { IsTrue result → digits.now ≡ codes "1" }
-    ensures no { result ≡ false → digits.now ≢ codes "1" }
+// Whether this is the digit alone.
+fn is_digit(digits: &[u8], digit: u8) -> bool
+    ensures yes { IsTrue result → digits.now ≡ digit ∷ [] }
+    ensures no { result ≡ false → digits.now ≢ digit ∷ [] }
 {
     match digits {
         [] => false,
-        [first, rest @ ..] => *first == b'1' && rest.is_empty(),
+        [first, rest @ ..] => *first == digit && rest.is_empty(),
     }
 }
 
@@ -146,8 +147,12 @@ pub fn format_of(digits: &[u8]) -> Option<u64>
     ensures some { IfSome result (λ format. (digits.now ≡ decimal format) × IsTrue (is_known format)) }
     ensures none { IfNone result ((format : ℕ) → IsTrue (is_known format) → digits.now ≢ decimal format) }
 {
-    if is_first_format(digits) {
+    if is_digit(digits, b'1') {
         Some(1)
+    } else if is_digit(digits, b'2') {
+        Some(2)
+    } else if is_digit(digits, b'3') {
+        Some(3)
     } else {
         None
     }

@@ -41,7 +41,8 @@ pub fn next_item<'a>(
                 },
             ),
         ) => {
-            if !groups.may_take(group, number) {
+            bank.distinct();
+            if !groups.may_take(shape, group, number, &literals) {
                 return Ok(None);
             }
             groups.push(note, literals, hints)?;

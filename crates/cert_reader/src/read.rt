@@ -7,7 +7,7 @@ ghost use Rattle.cert_format.specs.ValueLines.{IsCertificateText};
 ghost use Rattle.inst_logic.specs.WellFormed.{is_constant};
 ghost use Rattle.cert_format.specs.Formats.{is_known};
 ghost use Rattle.cert_reader.specs.Bodies.{header, refutation_in, saturation_in, HasRead};
-ghost use Rattle.cert_reader.specs.Groups.{refutation_by, saturation_by};
+ghost use Rattle.cert_reader.specs.Groups.{refuted_by, saturated_by};
 ghost use Rattle.cert_reader.specs.Reads.{HasVersion, IsCause, IsSyntaxAt, IsTextOf, IsVersion, IsWholeCertificate, value_of};
 ghost use Rattle.cert_reader.specs.Starts.{HasBegun};
 ghost use Rattle.cert_reader.specs.declared.error.CertError.TheVariants.{Syntax, Version};
@@ -21,13 +21,13 @@ use crate::start::{Start, begin};
 use cert_items::symbol::name_of;
 use cert_items::{Shape, TextBank};
 use inst_logic::{Kind, Memory, Name, Sym};
-use saturation_cert::{Base, Refutation, Saturation};
+use saturation_cert::{Base, Covered, FirstRefutation, Refutation, Saturation};
 use std::alloc::Global;
 use term_bank::Bank;
 
-// The refutation of these items and this constant.
-fn refutation(bank: Bank, groups: Groups, bot: Sym) -> Refutation
-    ensures { result ≡ refutation_by bank groups bot }
+// The refutation of these items and this constant, in this format.
+fn refutation(bank: Bank, groups: Groups, bot: Sym, format: u64) -> Certificate
+    ensures { result ≡ refuted_by format bank groups bot }
 {
     let Groups {
         inputs,
@@ -35,26 +35,37 @@ fn refutation(bank: Bank, groups: Groups, bot: Sym) -> Refutation
         axioms,
         members,
         grounds,
+        lines,
         steps,
         ..
     } = groups;
-    Refutation {
-        base: Base {
-            bank,
-            inputs,
-            names,
-            axioms,
-            members,
-        },
-        bot,
-        grounds,
-        steps,
+    let base = Base {
+        bank,
+        inputs,
+        names,
+        axioms,
+        members,
+    };
+    if format == 1 {
+        Certificate::First(FirstRefutation {
+            base,
+            bot,
+            grounds,
+            steps,
+        })
+    } else {
+        Certificate::Refutation(Refutation {
+            base,
+            bot,
+            grounds: lines,
+            steps,
+        })
     }
 }
 
-// The saturation of these items.
-fn saturation(bank: Bank, groups: Groups) -> Saturation
-    ensures { result ≡ saturation_by bank groups }
+// The saturation of these items, in this format.
+fn saturation(bank: Bank, groups: Groups, format: u64) -> Certificate
+    ensures { result ≡ saturated_by format bank groups }
 {
     let Groups {
         inputs,
@@ -62,17 +73,26 @@ fn saturation(bank: Bank, groups: Groups) -> Saturation
         axioms,
         members,
         places,
+        shown,
+        covers,
         ..
     } = groups;
-    Saturation {
-        base: Base {
-            bank,
-            inputs,
-            names,
-            axioms,
-            members,
-        },
-        places,
+    let base = Base {
+        bank,
+        inputs,
+        names,
+        axioms,
+        members,
+    };
+    let cert = Saturation { base, places };
+    if format == 3 {
+        Certificate::Covered(Covered {
+            cert,
+            shown,
+            covers,
+        })
+    } else {
+        Certificate::Saturation(cert)
     }
 }
 
@@ -99,11 +119,7 @@ fn read_refutation(
     let mut bank = TextBank::new(alloc);
     let mut groups = Groups::new(alloc);
     match read_items(alloc, &mut bank, &mut groups, shape, name, 4, bytes) {
-        Ok(Ending::Complete) => Ok(Certificate::Refutation(refutation(
-            bank.into_bank(),
-            groups,
-            bot,
-        ))),
+        Ok(Ending::Complete) => Ok(refutation(bank.into_bank(), groups, bot, format)),
         Ok(Ending::BadLine(line)) => Err(CertError::Syntax { line }),
         Err(Memory) => Err(CertError::Memory),
     }
@@ -129,7 +145,7 @@ fn read_saturation(
     let mut bank = TextBank::new(alloc);
     let mut groups = Groups::new(alloc);
     match read_items(alloc, &mut bank, &mut groups, shape, name, 3, bytes) {
-        Ok(Ending::Complete) => Ok(Certificate::Saturation(saturation(bank.into_bank(), groups))),
+        Ok(Ending::Complete) => Ok(saturation(bank.into_bank(), groups, format)),
         Ok(Ending::BadLine(line)) => Err(CertError::Syntax { line }),
         Err(Memory) => Err(CertError::Memory),
     }

@@ -5,15 +5,15 @@ use Rattle.cert_items.proofs.Reading.{is_none, is_some}
 use Rattle.cert_reader.proofs.Progress.{progress, ended_so, refused_so, closing_longer}
 use Rattle.cert_reader.proofs.body.read_items.Goals as goal
 
-pub behind_last-requires : goal.behind_last-requires
-behind_last-requires c =
+pub end_of-requires : goal.end_of-requires
+end_of-requires c =
     let l = c.loop-behind in
     omega (arith, l.invariant.counted, c.requires.counted, closing_longer c.args.shape.refutation c.args.name.now l.rest.now c.in-Some.behind.now c.in-Some.ensures.some)
 
 pub returns-in-Some-clause-ends : goal.returns-in-Some-clause-ends
 returns-in-Some-clause-ends c text h form same p =
     let l = c.loop-behind in
-    ended_so text h c.args.shape c.args.name.now (items_of c.args.shape l.bank l.groups) l.lines l.rest.now c.in-Some.behind.now c.behind_last.result form same (l.invariant.read text h form p) c.in-Some.ensures.some c.behind_last.ensures
+    ended_so text h c.args.shape c.args.name.now l.bank l.groups l.lines l.rest.now c.in-Some.behind.now c.end_of.result form same l.invariant.groups (l.invariant.read text h form p) c.in-Some.ensures.some c.end_of.ensures
 
 pub returns-in-Ok-None-clause-ends : goal.returns-in-Ok-None-clause-ends
 returns-in-Ok-None-clause-ends c text h form same p =

@@ -3,7 +3,7 @@ use Rattle.term_bank.specs.Forest.{clause_at}
 use Rattle.cert_format.specs.LineMachine.{item}
 use Rattle.cert_format.specs.LineTexts.{line}
 use Rattle.saturation_cert.specs.Wholes.{IsWholeClause}
-use Rattle.cert_items.specs.Items.{IsItem, NoItem, group_of, note_of}
+use Rattle.cert_items.specs.Items.{IsItem, IsWholeNote, NoItem, group_of, note_of}
 use Rattle.cert_items.proofs.Reading.{is_none, is_some}
 use Rattle.cert_reader.specs.Bodies.{IsNextItem, NoNextItem}
 use Rattle.cert_reader.specs.Groups.{AreGroups, items_of}
@@ -22,13 +22,15 @@ returns-then-not-may_take-clause-none c =
     let x = s.field-0-0 in
     let f = c.args.bank.now in
     let h = c.read_item.new.bank in
-    let d = clause_at h c.read_item.new.literals in
-    let i = is_some s.field-0 x (λ i. IsItem c.args.shape i.number d (note_of i.note c.read_item.new.hints)) s.field-0-is s.ensures.some in
-    let text = is_some s.field-0 x (λ i. c.args.bytes.now ≡ line (item i.number d (note_of i.note c.read_item.new.hints)) i.rest.now) s.field-0-is s.ensures.text in
-    let group = is_some s.field-0 x (λ i. group_of (note_of i.note c.read_item.new.hints) ≡ i.group) s.field-0-is s.ensures.group in
+    let w = c.read_item.new.literals in
+    let d = clause_at h w in
+    let i = is_some s.field-0 x (λ i. IsItem c.args.shape i.number d (note_of h i.note c.read_item.new.hints)) s.field-0-is s.ensures.some in
+    let text = is_some s.field-0 x (λ i. c.args.bytes.now ≡ line (item i.number d (note_of h i.note c.read_item.new.hints)) i.rest.now) s.field-0-is s.ensures.text in
+    let group = is_some s.field-0 x (λ i. group_of (note_of h i.note c.read_item.new.hints) ≡ i.group) s.field-0-is s.ensures.group in
+    let whole = is_some s.field-0 x (λ i. IsWholeClause h w) s.field-0-is s.ensures.whole in
     let p = grown_groups f h c.read_item.ensures.extends c.args.shape c.args.groups.now (c.read_item.ensures.formed c.requires.groups.bank) c.requires.groups in
     subst (λ is. NoNextItem c.args.shape is c.args.bytes.now) (grown_items f h c.read_item.ensures.extends c.args.shape c.args.groups.now c.requires.groups)
-    (wrong_next c.args.shape h c.args.groups.now x.group x.number d (note_of x.note c.read_item.new.hints) c.args.bytes.now x.rest.now p i text group (λ q. (let t = c.may_take.ensures.1 q in cc)))
+    (wrong_next c.args.shape h c.args.groups.now x.group x.number w (note_of h x.note c.read_item.new.hints) c.args.bytes.now x.rest.now p c.distinct.ensures whole i text group (λ q. (let t = c.may_take.ensures.1 q in cc)))
 
 pub returns-clause-groups : goal.returns-clause-groups
 returns-clause-groups c =
@@ -36,13 +38,14 @@ returns-clause-groups c =
     let x = s.field-0-0 in
     let h = c.read_item.new.bank in
     let d = clause_at h c.read_item.new.literals in
-    let i = is_some s.field-0 x (λ i. IsItem c.args.shape i.number d (note_of i.note c.read_item.new.hints)) s.field-0-is s.ensures.some in
-    let group = is_some s.field-0 x (λ i. group_of (note_of i.note c.read_item.new.hints) ≡ i.group) s.field-0-is s.ensures.group in
+    let i = is_some s.field-0 x (λ i. IsItem c.args.shape i.number d (note_of h i.note c.read_item.new.hints)) s.field-0-is s.ensures.some in
+    let group = is_some s.field-0 x (λ i. group_of (note_of h i.note c.read_item.new.hints) ≡ i.group) s.field-0-is s.ensures.group in
     let whole = is_some s.field-0 x (λ i. IsWholeClause h c.read_item.new.literals) s.field-0-is s.ensures.whole in
+    let terms = is_some s.field-0 x (λ i. IsWholeNote h i.note) s.field-0-is s.ensures.terms in
     let t : c.may_take.result ≡ true = cc in
     let q = c.may_take.ensures.0 t in
     subst (λ g. AreGroups c.args.shape h g) (sym c.in_ok-push-in-Ok-Some.ensures)
-    (next_groups c.args.shape c.args.bank.now h c.args.groups.now x.group x.number x.note c.read_item.new.literals c.read_item.new.hints c.read_item.ensures.extends (c.read_item.ensures.formed c.requires.groups.bank) c.requires.groups i group q.0 q.1 whole)
+    (next_groups c.args.shape c.args.bank.now h c.args.groups.now x.group x.number x.note c.read_item.new.literals c.read_item.new.hints c.read_item.ensures.extends (c.read_item.ensures.formed c.requires.groups.bank) c.requires.groups i group q whole terms)
 
 pub returns-clause-some : goal.returns-clause-some
 returns-clause-some c =
@@ -51,18 +54,19 @@ returns-clause-some c =
     let f = c.args.bank.now in
     let h = c.read_item.new.bank in
     let d = clause_at h c.read_item.new.literals in
-    let i = is_some s.field-0 x (λ i. IsItem c.args.shape i.number d (note_of i.note c.read_item.new.hints)) s.field-0-is s.ensures.some in
-    let text = is_some s.field-0 x (λ i. c.args.bytes.now ≡ line (item i.number d (note_of i.note c.read_item.new.hints)) i.rest.now) s.field-0-is s.ensures.text in
-    let group = is_some s.field-0 x (λ i. group_of (note_of i.note c.read_item.new.hints) ≡ i.group) s.field-0-is s.ensures.group in
+    let i = is_some s.field-0 x (λ i. IsItem c.args.shape i.number d (note_of h i.note c.read_item.new.hints)) s.field-0-is s.ensures.some in
+    let text = is_some s.field-0 x (λ i. c.args.bytes.now ≡ line (item i.number d (note_of h i.note c.read_item.new.hints)) i.rest.now) s.field-0-is s.ensures.text in
+    let group = is_some s.field-0 x (λ i. group_of (note_of h i.note c.read_item.new.hints) ≡ i.group) s.field-0-is s.ensures.group in
     let t : c.may_take.result ≡ true = cc in
     let q = c.may_take.ensures.0 t in
     subst (λ g. IsNextItem c.args.shape (items_of c.args.shape f c.args.groups.now) (items_of c.args.shape h g) c.args.bytes.now x.rest.now) (sym c.in_ok-push-in-Ok-Some.ensures)
-    (next_item c.args.shape f h c.args.groups.now x.group x.number x.note c.read_item.new.literals c.read_item.new.hints c.read_item.ensures.extends (c.read_item.ensures.formed c.requires.groups.bank) c.requires.groups i group q.0 q.1 c.args.bytes.now x.rest.now text)
+    (next_item c.args.shape f h c.args.groups.now x.group x.number x.note c.read_item.new.literals c.read_item.new.hints c.read_item.ensures.extends (c.read_item.ensures.formed c.requires.groups.bank) c.requires.groups i group q c.args.bytes.now x.rest.now text)
 
 pub returns-clause-shorter : goal.returns-clause-shorter
 returns-clause-shorter c =
     let s = c.in-Ok-Some in
     let x = s.field-0-0 in
-    let d = clause_at c.read_item.new.bank c.read_item.new.literals in
-    let text = is_some s.field-0 x (λ i. c.args.bytes.now ≡ line (item i.number d (note_of i.note c.read_item.new.hints)) i.rest.now) s.field-0-is s.ensures.text in
-    line_longer x.number d (note_of x.note c.read_item.new.hints) c.args.bytes.now x.rest.now text
+    let h = c.read_item.new.bank in
+    let d = clause_at h c.read_item.new.literals in
+    let text = is_some s.field-0 x (λ i. c.args.bytes.now ≡ line (item i.number d (note_of h i.note c.read_item.new.hints)) i.rest.now) s.field-0-is s.ensures.text in
+    line_longer x.number d (note_of h x.note c.read_item.new.hints) c.args.bytes.now x.rest.now text

@@ -1,6 +1,4 @@
-use Rattle.std.proofs.Common.{Bool, ℕ, true, false, subst}
-use Rattle.cert_reader.specs.Bodies.{refutation_in, saturation_in}
-use Rattle.cert_reader.specs.Starts.{HasBegun}
+use Rattle.std.proofs.Common.{true, false}
 use Rattle.cert_reader.proofs.Beginnings.{saturation_begun, no_other_format, with_form}
 use Rattle.cert_reader.proofs.read.read_begun.Goals as goal
 
