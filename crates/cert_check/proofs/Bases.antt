@@ -2,29 +2,16 @@
 use Rattle.std.proofs.Common.{◌≡◌, ℕ, ◌<◌, ◌≤◌, refl, ap, sym, ◌∙◌, subst, Option, None, Some, arith, ◌⊎◌, inl, inr}
 use Rattle.inst_logic.specs.Clauses.{TreeClause, canonical_form, instance, IsCanonical}
 use Rattle.inst_logic.specs.Derivations.{at_number}
-use Rattle.inst_calculus.specs.Entries.{Origin, input, inst, Entry}
+use Rattle.inst_calculus.specs.Entries.{Origin, input, inst, lemma, Entry}
+use Rattle.inst_calculus.specs.Parts.{chosen}
 use Rattle.inst_calculus.proofs.CanonicalForms.{canonical_of_canonical}
 use Rattle.cert_format.specs.Certificate as format
 use Rattle.cert_format.specs.Validity.{Gives, IsRightAxiom, IsRightMember, IsFirstComplaint, Precedes, rank}
 use Rattle.cert_format.specs.declared.complaint.Complaint.{Complaint}
-use Rattle.cert_format.specs.declared.complaint.Complaint.TheVariants.{Axiom, Member as Derived, Bot, Ground, Step as Shown, NotEmpty, Place, Input, Pair}
-use Rattle.saturation_cert.specs.declared.certificate.Base.{Base}
-use Rattle.saturation_cert.specs.Values.{base_of}
-use Rattle.saturation_cert.specs.Wholes.{IsWholeBase, KeepsBase}
+use Rattle.cert_format.specs.declared.complaint.Complaint.TheVariants.{Axiom, Member as Derived, Bot, Ground, Step as Shown, NotEmpty, Place, Input, Pair, Cover as Named}
 use Rattle.cert_format.specs.Validity.{BasePasses, IsValidBase}
 use Rattle.cert_check.specs.Firsts.{IsFirstWrong, IsFirstWrongOf}
-use Rattle.saturation_cert.proofs.Grown.{clauses_same, members_same}
-
--- the record of trees stays as the bank grows
-pub base_same : (old new : Base) → IsWholeBase old → KeepsBase old new → base_of new ≡ base_of old
-base_same old new whole kept =
-    ap base_of kept.rest
-    ∙ (λ i. record {
-      inputs = clauses_same old.bank new.bank kept.bank old.inputs whole.inputs i;
-      names = old.names;
-      axioms = clauses_same old.bank new.bank kept.bank old.axioms whole.axioms i;
-      members = members_same old.bank new.bank kept.bank old.members whole.members i;
-    })
+pub use Rattle.saturation_cert.proofs.Kept.{base_same}
 
 -- a right member is canonical
 gives_canonical : (b : format.Base) (n : ℕ) (o : Origin) (c : TreeClause) → Gives b n o c → IsCanonical c
@@ -32,6 +19,9 @@ gives_canonical b n (input k) c h = ap canonical_form h.2 ∙ canonical_of_canon
 gives_canonical b n (inst from place partner other) c h =
     let d = instance h.2.unifier.left h.2.entry.clause in
     ap canonical_form h.2.conclusion ∙ canonical_of_canonical d ∙ sym h.2.conclusion
+gives_canonical b n (lemma from place partner other keep premises) c h =
+    let d = chosen h.3.whole keep in
+    ap canonical_form h.3.canonical ∙ canonical_of_canonical d ∙ sym h.3.canonical
 
 pub member_canonical : (b : format.Base) (n : ℕ) → IsRightMember b n → (e : Entry) → at_number b.members n ≡ Some e → IsCanonical e.clause
 member_canonical b n right e at = gives_canonical b n e.origin e.clause (right e at)
@@ -67,6 +57,7 @@ member_first b axioms n h = record { applies = h.applies; first = earlier }
     earlier (Place m) p = tt
     earlier (Input m) p = tt
     earlier (Pair l m) p = tt
+    earlier (Named m) p = tt
 
 pub valid_base : (b : format.Base) → ((n : ℕ) → IsRightAxiom b n) → ((n : ℕ) → IsRightMember b n) → IsValidBase b
 valid_base b axioms members (Axiom n) = axioms n
@@ -78,3 +69,4 @@ valid_base b axioms members NotEmpty = tt
 valid_base b axioms members (Place n) = tt
 valid_base b axioms members (Input k) = tt
 valid_base b axioms members (Pair l m) = tt
+valid_base b axioms members (Named n) = tt

@@ -129,11 +129,11 @@ proper_second f es r none is not s resolved a b g =
     let by : IsTrue r ↔ IsProper s.right b = decided r (λ t. is t a b s resolved g) (λ t. not t a b s resolved g) in
     ((λ t. inr (by.0 t)), (λ h. elim h [ inl p ↦ absurd (none a b s resolved g p) | inr p ↦ by.1 p ]))
 
-proper_there : (f : Forest) (es : List Binding) (x : Side) → ProperOn f es x → (a b : Tree) (s : Sided) → IsResolvedBy f es s → IsGeneralOn x s a b → IsProper (of_side s x) a
+pub proper_there : (f : Forest) (es : List Binding) (x : Side) → ProperOn f es x → (a b : Tree) (s : Sided) → IsResolvedBy f es s → IsGeneralOn x s a b → IsProper (of_side s x) a
 proper_there f es Left h a b s resolved g = h a b s resolved g
 proper_there f es Right h a b s resolved g = h b a s resolved g
 
-not_proper_there : (f : Forest) (es : List Binding) (x : Side) → NotProperOn f es x → (a b : Tree) (s : Sided) → IsResolvedBy f es s → IsGeneralOn x s a b → ¬ (IsProper (of_side s x) a)
+pub not_proper_there : (f : Forest) (es : List Binding) (x : Side) → NotProperOn f es x → (a b : Tree) (s : Sided) → IsResolvedBy f es s → IsGeneralOn x s a b → ¬ (IsProper (of_side s x) a)
 not_proper_there f es Left h a b s resolved g = h a b s resolved g
 not_proper_there f es Right h a b s resolved g = h b a s resolved g
 

@@ -4,10 +4,13 @@ use Rattle.std.specs.Prelude.{All, IfOk, Result, Ok, Err, option_map}
 use Rattle.std.proofs.lemmas.Option.{slice_get-map}
 use Rattle.inst_logic.specs.declared.signed.Signed.{Signed}
 use Rattle.inst_logic.specs.Tree.{Tree}
+use Rattle.inst_logic.specs.Clauses.{TreeClause}
 use Rattle.inst_logic.specs.Derivations.{at_number}
+use Rattle.inst_logic.specs.Substitution.{subst as apply}
 use Rattle.inst_logic.specs.Unifiers.{IsMostGeneral, IsProper}
 use Rattle.inst_logic.specs.WellFormed.{IsAtom}
 use Rattle.inst_logic.proofs.ShownLaws.{at_number_contains}
+use Rattle.inst_calculus.specs.Conclusions.{IsConclusion}
 use Rattle.inst_calculus.specs.Entries.{Entry}
 use Rattle.inst_calculus.proofs.Membership.{all_in, contains_in}
 use Rattle.saturation_cert.specs.declared.member.Member.{Member}
@@ -17,6 +20,7 @@ use Rattle.term_bank.specs.Forest.{Forest, clause_at, tree_at}
 use Rattle.unify_core.specs.Sides.{Binding}
 use Rattle.unify_core.specs.Terms.{AreTerms}
 use Rattle.cert_check.proofs.BoundTerms.{bound_terms}
+use Rattle.cert_check.specs.Sources.{AreConclusionTerms, AreUnifiedTerms, Unify}
 use Rattle.cert_check.specs.Conclusions.{Concludes, IsAtomOf, IsProperlyUnified, MembersConclude, literal_of, placed_in}
 use Rattle.std.proofs.lemmas.Option.{same_Some}
 use Rattle.term_bank.specs.Forest.{literal_tree}
@@ -106,6 +110,40 @@ module _ (f : Forest) where
           conclusion = h.conclusion;
         },
       )
+
+  -- members that conclude something have literals with a unifier
+  pub unify_named : (ms : List Member) (from place partner other : ℕ) (k l : Signed ℕ) → literal_of ms from place ≡ Some k → literal_of ms partner other ≡ Some l
+      → (c : TreeClause) → IsConclusion (map (entry_of f) ms) from place partner other c → Unify (tree_at f k.atom) (tree_at f l.atom)
+  unify_named ms from place partner other k l kat lat c r =
+      let (k2, u, v) = literal_named ms from place r.entry r.literal r.entry_at r.literal_at in
+      let (l2, x, y) = literal_named ms partner other r.partner_entry r.other_literal r.partner_at r.other_at in
+      let ke : literal_tree f k ≡ r.literal = ap (literal_tree f) (same_Some k k2 (sym kat ∙ u)) ∙ v in
+      let le : literal_tree f l ≡ r.other_literal = ap (literal_tree f) (same_Some l l2 (sym lat ∙ x)) ∙ y in (
+        r.unifier,
+        ap (λ (z : Signed Tree). apply r.unifier.left z.atom) ke ∙ r.most_general.unifies ∙ ap (λ (z : Signed Tree). apply r.unifier.right z.atom) (sym le),
+      )
+
+  -- what the literals' unifier makes of the first clause's variables is what the members' does
+  pub terms_concluded : (g : Forest) (ms : List Member) (from place partner other : ℕ) (m : Member) (k l : Signed ℕ)
+      → at_number ms from ≡ Some m → literal_of ms from place ≡ Some k → literal_of ms partner other ≡ Some l
+      → (ids : List ℕ) → AreUnifiedTerms f g m.clause k l ids → AreConclusionTerms g (map (entry_of f) ms) from place partner other ids
+  terms_concluded g ms from place partner other m k l at kat lat ids h =
+      let (m2, p, q) = member_of_literal (at_number ms from) place k kat in
+      let (n, s, t) = member_of_literal (at_number ms partner) other l lat in
+      let same : m2 ≡ m = same_Some m2 m (sym p ∙ at) in
+      record {
+        entry = entry_of f m;
+        partner_entry = entry_of f n;
+        literal = literal_tree f k;
+        other_literal = literal_tree f l;
+        entry_at = entry_there ms from m at;
+        partner_at = entry_there ms partner n s;
+        literal_at = literal_there m.clause place k (ap (λ (x : Member). at_number x.clause place) (sym same) ∙ q);
+        other_at = literal_there n.clause other l t;
+        unifier = h.unifier;
+        most_general = h.most_general;
+        terms = h.terms;
+      }
 
 -- what follows of the value of a result
 pub when_ok : {A E : Type 0} (P Q : A → Type 0) → ((x : A) → P x → Q x) → (r : Result A E) → IfOk r P → IfOk r Q

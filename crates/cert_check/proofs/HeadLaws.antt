@@ -14,8 +14,6 @@ use Rattle.inst_logic.specs.Unifiers.{Sided, IsUnifier}
 use Rattle.inst_logic.specs.WellFormed.{IsAtom}
 use Rattle.inst_logic.specs.Equal.{sym_eq}
 use Rattle.term_bank.specs.Forest.{Forest, Extends, KeepsPlaces, no_symbol, number_of, symbol_at, symbol_of, tree_at}
-use Rattle.cert_format.specs.Certificate as format
-use Rattle.cert_format.specs.Validity.{IsRightPair}
 use Rattle.saturation_cert.specs.declared.certificate.Saturation.{Saturation}
 use Rattle.saturation_cert.specs.Values.{saturation_of}
 use Rattle.clause_form.specs.Literals.{id_eq}
@@ -23,8 +21,9 @@ use Rattle.indexmap.specs.IndexMap.{IndexMap, get}
 use Rattle.std.specs.Map.{lookup}
 use Rattle.clause_form.proofs.Assembly.{id_eq_decides}
 use Rattle.inst_logic.specs.Signed.{complement}
-use Rattle.cert_check.specs.Partners.{Head, head_at, IsHeadOf, AreApart, IsNext, AreChained, LeadThrough}
-use Rattle.cert_check.proofs.PairScans.{same_sign, no_unifier, no_pair}
+use Rattle.cert_check.specs.Partners.{Head, head_at, IsHeadOf, AreApart, IsNext, AreChained}
+use Rattle.cert_check.specs.Meetings.{IsApart}
+use Rattle.cert_check.proofs.PairScans.{same_sign, no_unifier}
 
 -- an atom has a symbol
 pub atom_symbol : (t : Tree) → IsAtom t → ¬ (symbol_of t ≡ None)
@@ -92,9 +91,9 @@ module _ (c : Saturation) (i j : ℕ) (less : i < j) (h k : Head) (left : IsHead
       let same : Some f ≡ Some g = sym (symbol_under u.left (tree_at c.base.bank left.literal.atom) f p) ∙ ap symbol_of e ∙ symbol_under u.right (tree_at c.base.bank right.literal.atom) g q in
       differ (m ∙ ap (number_of c.base.bank.symbols) (same_Some f g same) ∙ sym n)
 
-  pub apart_by_heads : ¬ (k ≡ complement h) → IsRightPair (saturation_of c) (suc i) (suc j)
+  pub apart_by_heads : ¬ (k ≡ complement h) → IsApart (saturation_of c) (suc i) (suc j)
   apart_by_heads other =
-      sign_cases left.literal.positive right.literal.positive (IsRightPair (saturation_of c) (suc i) (suc j))
+      sign_cases left.literal.positive right.literal.positive (IsApart (saturation_of c) (suc i) (suc j))
       (same_sign c i j less left.literal right.literal left.is right.is)
       (λ apart. no_unifier c i j less left.literal right.literal left.is right.is (none_unifies (numbers_differ other apart)))
 
@@ -157,28 +156,3 @@ one_more_head c hs i h len each last =
     below_more (λ k. IsHeadOf c k (head_at (hs ++ h ∷ []) k)) i
     (λ k less. subst (IsHeadOf c k) (sym (get_or-append hs (h ∷ []) _ k (omega arith))) (each k less))
     (subst (λ n. IsHeadOf c n (head_at (hs ++ h ∷ []) n)) len (subst (IsHeadOf c (length hs)) (sym (get_or-append_seam hs h [] _)) (subst (λ n. IsHeadOf c n h) (sym len) last)))
-
--- the scan over the later members of the opposite head
-module _ (c : format.Saturation) (same opposed : List ℕ) (lead : LeadThrough c same opposed) (i : ℕ) (inside : i < length lead.heads) where
-  pub first_partner_at : IsNext lead.heads (complement (head_at lead.heads i)) (suc i) (get_or opposed i 0)
-  first_partner_at = lead.chained.to_opposed i (omega arith) inside
-
-  pub partners_begin : (k : ℕ) → k < get_or opposed i 0 → IsRightPair c (suc i) (suc k)
-  partners_begin k less = elim (cases_lt i k) [
-    | inl later ↦ lead.apart i k later (let w = first_partner_at.within in omega arith) (first_partner_at.before k (omega arith) less)
-    | inr early ↦ no_pair c (suc i) (suc k) (λ l. omega arith)
-  ]
-
-  -- place j has the opposite head, and so has the place that it leads to
-  module _ (j : ℕ) (later : i < j) (within : j < length lead.heads) (at : head_at lead.heads j ≡ complement (head_at lead.heads i)) where
-    pub next_partner : IsNext lead.heads (complement (head_at lead.heads i)) (suc j) (get_or same j 0)
-    next_partner = subst (λ (h : Head). IsNext lead.heads h (suc j) (get_or same j 0)) at (lead.chained.to_same j (omega arith) within)
-
-    pub partners_go_on : ((k : ℕ) → k < j → IsRightPair c (suc i) (suc k)) → IsRightPair c (suc i) (suc j) → (k : ℕ) → k < get_or same j 0 → IsRightPair c (suc i) (suc k)
-    partners_go_on before here k less = elim (cases_lt k j) [
-      | inl early ↦ before k early
-      | inr not_early ↦ elim (cases_lt j k) [
-        | inl past ↦ lead.apart i k (omega arith) (let w = next_partner.within in omega arith) (next_partner.before k (omega arith) less)
-        | inr not_past ↦ let e : j ≡ k = omega arith in subst (λ n. IsRightPair c (suc i) (suc n)) e here
-      ]
-    ]

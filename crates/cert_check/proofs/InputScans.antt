@@ -23,14 +23,14 @@ use Rattle.saturation_cert.specs.Wholes.{IsWholeClause, IsWholeSaturation}
 use Rattle.cert_format.specs.Validity.{IsValidBase}
 use Rattle.cert_check.specs.Firsts.{IsFirstWrong}
 
+pub subsumes_itself : (d : TreeClause) → Subsumes d d
+subsumes_itself d = (var, within_part var d d (λ l j. equal_in l (subst_literal var l) d (sym (literal_var l)) j))
+
 -- a clause that is a member is subsumed by one
 pub member_subsumes : (f : Forest) (ms : List Member) (c : List (Signed ℕ)) → Any (λ (m : Member). m.clause ≡ c) ms → Any (λ (m : Member). Subsumes (clause_at f m.clause) (clause_at f c)) ms
 member_subsumes f ms c any =
     let (m, i, same) = any_in (λ (m : Member). m.clause ≡ c) ms any in
-    in_any (λ (m : Member). Subsumes (clause_at f m.clause) (clause_at f c)) m ms i (subst (λ (d : List (Signed ℕ)). Subsumes (clause_at f m.clause) (clause_at f d)) same (itself (clause_at f m.clause)))
-  where
-    itself : (d : TreeClause) → Subsumes d d
-    itself d = (var, within_part var d d (λ l j. equal_in l (subst_literal var l) d (sym (literal_var l)) j))
+    in_any (λ (m : Member). Subsumes (clause_at f m.clause) (clause_at f c)) m ms i (subst (λ (d : List (Signed ℕ)). Subsumes (clause_at f m.clause) (clause_at f d)) same (subsumes_itself (clause_at f m.clause)))
 
 -- lists with equal items at each place
 same_items : {A : Type 0} (xs ys : List A) → ((k : ℕ) → slice_get xs k ≡ slice_get ys k) → xs ≡ ys
@@ -43,10 +43,10 @@ module _ (c : Saturation) (valid : IsValidBase (base_of c.base)) where
   axioms_same : map (clause_at c.base.bank) c.base.axioms ≡ equality_axioms (map (clause_at c.base.bank) c.base.inputs)
   axioms_same = same_items _ _ (λ k. valid (Axiom (suc k)))
 
-  all_stated : with_axioms (map (clause_at c.base.bank) c.base.inputs) ≡ map (clause_at c.base.bank) (c.base.inputs ++ c.base.axioms)
+  pub all_stated : with_axioms (map (clause_at c.base.bank) c.base.inputs) ≡ map (clause_at c.base.bank) (c.base.inputs ++ c.base.axioms)
   all_stated = ap (λ xs. map (clause_at c.base.bank) c.base.inputs ++ xs) (sym axioms_same) ∙ sym (map-append (clause_at c.base.bank) c.base.inputs c.base.axioms)
 
-  stated_at : (k : ℕ) → at_number (with_axioms (saturation_of c).base.inputs) k ≡ option_map (clause_at c.base.bank) (at_number (c.base.inputs ++ c.base.axioms) k)
+  pub stated_at : (k : ℕ) → at_number (with_axioms (saturation_of c).base.inputs) k ≡ option_map (clause_at c.base.bank) (at_number (c.base.inputs ++ c.base.axioms) k)
   stated_at zero = refl
   stated_at (suc i) = ap (λ (xs : List TreeClause). slice_get xs i) all_stated ∙ slice_get-map (clause_at c.base.bank) (c.base.inputs ++ c.base.axioms) i
 
@@ -109,18 +109,21 @@ module _ (c : Saturation) (valid : IsValidBase (base_of c.base)) where
 pub member_ids : (c : Saturation) → IsWholeSaturation c → All (λ (m : Member). IsClauseOf c.base.bank m.clause) c.base.members
 member_ids c whole k d h = (whole.members k d h).ids
 
-pub stated_ids : (c : Saturation) → IsWholeSaturation c → (k : ℕ) (d : List (Signed ℕ)) → at_number (c.base.inputs ++ c.base.axioms) k ≡ Some d → IsClauseOf c.base.bank d
-stated_ids c whole zero d at = absurd cc
-stated_ids c whole (suc i) d at = go (in_either d c.base.inputs c.base.axioms (slice_get_in i d (c.base.inputs ++ c.base.axioms) at))
+pub stated_whole : (c : Saturation) → IsWholeSaturation c → (k : ℕ) (d : List (Signed ℕ)) → at_number (c.base.inputs ++ c.base.axioms) k ≡ Some d → IsWholeClause c.base.bank d
+stated_whole c whole zero d at = absurd cc
+stated_whole c whole (suc i) d at = go (in_either d c.base.inputs c.base.axioms (slice_get_in i d (c.base.inputs ++ c.base.axioms) at))
   where
     slice_get_in : (k : ℕ) (x : List (Signed ℕ)) (xs : List (List (Signed ℕ))) → slice_get xs k ≡ Some x → x ∈ xs
     slice_get_in k x [] e = absurd cc
     slice_get_in zero x (y ∷ ys) e = inl (sym (same_Some y x e))
     slice_get_in (suc k) x (y ∷ ys) e = inr (slice_get_in k x ys e)
 
-    go : (d ∈ c.base.inputs) ⊎ (d ∈ c.base.axioms) → IsClauseOf c.base.bank d
-    go (inl i) = (all_in (IsWholeClause c.base.bank) c.base.inputs whole.inputs d i).ids
-    go (inr i) = (all_in (IsWholeClause c.base.bank) c.base.axioms whole.axioms d i).ids
+    go : (d ∈ c.base.inputs) ⊎ (d ∈ c.base.axioms) → IsWholeClause c.base.bank d
+    go (inl i) = all_in (IsWholeClause c.base.bank) c.base.inputs whole.inputs d i
+    go (inr i) = all_in (IsWholeClause c.base.bank) c.base.axioms whole.axioms d i
+
+pub stated_ids : (c : Saturation) → IsWholeSaturation c → (k : ℕ) (d : List (Signed ℕ)) → at_number (c.base.inputs ++ c.base.axioms) k ≡ Some d → IsClauseOf c.base.bank d
+stated_ids c whole k d at = (stated_whole c whole k d at).ids
 
 -- none of the items was found
 pub none_any : {A : Type 0} (P : A → Type 0) (xs : List A) (n : ℕ) → ((k : ℕ) → k < n → (d : A) → ¬ P (get_or xs k d)) → length xs ≤ n → ¬ Any P xs

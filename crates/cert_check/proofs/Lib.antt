@@ -4,11 +4,13 @@ pub mod BoundTerms
 pub mod Closings
 pub mod CoverLaws
 pub mod Differences
+pub mod FirstMembers
 pub mod GroundMembers
 pub mod InputScans
 pub mod Interning
 pub mod OriginLemmas
 pub mod PairScans
+pub mod PartLaws
 pub mod Passing
 pub mod Placed
 pub mod Refutations
@@ -16,6 +18,8 @@ pub mod RightSteps
 pub mod Rightness
 pub mod Saturations
 pub mod ShownTrees
+pub mod SourceLaws
+pub mod Sources
 pub mod MemberOrigins
 pub mod SymbolWalk
 pub mod HeadLaws
@@ -25,3 +29,13 @@ pub mod LengthLaws
 pub mod MadeLaws
 pub mod LookupLaws
 pub mod ShorterLaws
+pub mod RowScans
+pub mod DueLaws
+pub mod NameLaws
+pub mod CompareLaws
+pub mod CoveredStages
+pub mod ShownLaws
+pub mod CoverGrowth
+pub mod NamedStages
+pub mod MeetingLaws
+pub mod ShownSteps

@@ -1,13 +1,12 @@
 -- Look-ups of members by their clauses.
-use Rattle.std.proofs.Common.{◌≡◌, ℕ, zero, suc, ◌+◌, ◌<◌, ◌∙◌, List, length, get_or, refl, sym, subst, ap, arith, Bool, true, false, cond, below_more, Some}
-use Rattle.std.specs.Prelude.{All, Any, option_map, slice_get}
+use Rattle.std.proofs.Common.{◌≡◌, ℕ, zero, suc, ◌+◌, ◌<◌, ◌∙◌, List, length, get_or, refl, sym, subst, ap, arith, Bool, true, false, cond, below_more, Option, None, Some}
+use Rattle.std.specs.Prelude.{All, option_map, slice_get}
 use Rattle.std.proofs.lemmas.Option.{same_Some, slice_get-get_or, slice_get_within}
 use Rattle.std.specs.Bool.{Decides}
 use Rattle.std.specs.Cmp.Lexicographic.{pointwise}
 use Rattle.std.proofs.lemmas.List.{get_or_default}
 use Rattle.std.proofs.lemmas.Slice.Eq.{slice_eq-Decides}
 use Rattle.inst_logic.specs.declared.signed.Signed.{Signed}
-use Rattle.inst_calculus.proofs.Membership.{any_in, all_in}
 use Rattle.clause_form.specs.Literals.{id_eq}
 use Rattle.clause_form.proofs.Assembly.{id_eq_decides}
 use Rattle.saturation_cert.specs.declared.member.Member.{Member}
@@ -25,49 +24,60 @@ use Rattle.clause_form.specs.Placements.{literal_at}
 use Rattle.term_bank.specs.Forest.{literal_tree, Forest, Extends, IsClauseOf, clause_at, number_of, symbol_of, tree_at}
 use Rattle.cert_format.specs.Certificate as format
 use Rattle.cert_check.specs.declared.fingerprint.Fingerprint.{Fingerprint}
-use Rattle.cert_check.specs.Fingerprints.{HasFingerprint, IsFingerprintOf, TellApart, fingerprint_at}
-use Rattle.cert_check.specs.Partners.{Head, IsHeadAt, IsHeadOf, LeadThrough, head_at}
+use Rattle.cert_check.specs.Fingerprints.{HasFingerprint, IsFingerprintOf, fingerprint_at}
+use Rattle.cert_check.specs.Chains.{AreMeetings}
+use Rattle.cert_check.specs.Partners.{Head, IsHeadAt, IsHeadOf, head_at}
+use Rattle.cert_check.specs.Places.{IsPlaceOf}
 use Rattle.cert_check.proofs.FingerprintLaws.{fingerprint_later}
 use Rattle.cert_check.proofs.HeadLaws.{number_stays, number_there}
 use Rattle.cert_check.proofs.PairScans.{placed_kept, valid_kept}
 use Rattle.cert_check.proofs.Saturations.{saturation_same}
 use Rattle.cert_check.specs.declared.lookup.Lookup.{Lookup}
-use Rattle.cert_check.specs.Lookups.{AreClausesOf, HasMarked, IsLookup, IsReady, has_clause}
+use Rattle.cert_check.specs.Lookups.{AreClausesOf, HasMarked, IsLookup, IsReady}
 
 pub clause_eq_decides : (c d : List (Signed ℕ)) → Decides (pointwise id_eq c d) (c ≡ d)
 clause_eq_decides c d = slice_eq-Decides id_eq_decides c d (pointwise id_eq c d) refl
 
--- one more member's clause among those found
-module _ (ms : List Member) (old new : List (Signed ℕ) → Bool) (i : ℕ) (m : Member) (within : i < length ms) (is : m ≡ get_or ms i m)
-    (more : (q : List (Signed ℕ)) → new q ≡ cond (pointwise id_eq m.clause q) true (old q)) where
-  pub more_found : ((q : List (Signed ℕ)) → old q ≡ true → Any (λ (n : Member). n.clause ≡ q) ms) → (q : List (Signed ℕ)) → new q ≡ true → Any (λ (n : Member). n.clause ≡ q) ms
-  more_found before q h = by (pointwise id_eq m.clause q) refl
+-- one more member's clause among those whose places are known
+module _ (ms : List Member) (old new : List (Signed ℕ) → Option ℕ) (i : ℕ) (m : Member) (within : i < length ms) (is : m ≡ get_or ms i m)
+    (more : (q : List (Signed ℕ)) → new q ≡ cond (pointwise id_eq m.clause q) (Some i) (old q)) where
+  pub more_found : ((q : List (Signed ℕ)) (k : ℕ) → old q ≡ Some k → IsPlaceOf (λ n. n.clause ≡ q) ms k) → (q : List (Signed ℕ)) (k : ℕ) → new q ≡ Some k → IsPlaceOf (λ n. n.clause ≡ q) ms k
+  more_found before q k h = by (pointwise id_eq m.clause q) refl
     where
-      by : (b : Bool) → pointwise id_eq m.clause q ≡ b → Any (λ (n : Member). n.clause ≡ q) ms
-      by true e = (i, m, within, sym is, (clause_eq_decides m.clause q).0 e)
-      by false e = before q (sym (ap (λ b. cond b true (old q)) e) ∙ sym (more q) ∙ h)
+      by : (b : Bool) → pointwise id_eq m.clause q ≡ b → IsPlaceOf (λ n. n.clause ≡ q) ms k
+      by true e =
+          let place : i ≡ k = same_Some i k (sym (ap (λ b. cond b (Some i) (old q)) e) ∙ sym (more q) ∙ h) in
+          record {
+            within = omega (arith, within, place);
+            holds = λ d. sym (ap (λ n. (get_or ms n d).clause) place) ∙ sym (ap (λ (n : Member). n.clause) (is ∙ get_or_default ms i m d within)) ∙ (clause_eq_decides m.clause q).0 e;
+          }
+      by false e = before q k (sym (ap (λ b. cond b (Some i) (old q)) e) ∙ sym (more q) ∙ h)
 
-  pub more_there : ((k : ℕ) (d : Member) → k < i → old (get_or ms k d).clause ≡ true) → (k : ℕ) (d : Member) → k < i + 1 → new (get_or ms k d).clause ≡ true
-  more_there before k d = below_more (λ k. new (get_or ms k d).clause ≡ true) i (λ k less. kept (get_or ms k d).clause (before k d less)) here k
+  pub more_there : ((k : ℕ) (d : Member) → k < i → ¬ (old (get_or ms k d).clause ≡ None)) → (k : ℕ) (d : Member) → k < i + 1 → ¬ (new (get_or ms k d).clause ≡ None)
+  more_there before k d = below_more (λ k. ¬ (new (get_or ms k d).clause ≡ None)) i (λ k less. kept (get_or ms k d).clause (before k d less)) here k
     where
-      kept : (q : List (Signed ℕ)) → old q ≡ true → new q ≡ true
-      kept q h = more q ∙ by (pointwise id_eq m.clause q)
+      kept : (q : List (Signed ℕ)) → ¬ (old q ≡ None) → ¬ (new q ≡ None)
+      kept q some none = by (pointwise id_eq m.clause q) (sym (more q) ∙ none)
         where
-          by : (b : Bool) → cond b true (old q) ≡ true
-          by true = refl
-          by false = h
+          by : (b : Bool) → cond b (Some i) (old q) ≡ None → ⊥
+          by true e = absurd cc
+          by false e = some e
 
-      here : new (get_or ms i d).clause ≡ true
-      here =
+      here : ¬ (new (get_or ms i d).clause ≡ None)
+      here none =
           let same : m ≡ get_or ms i d = is ∙ get_or_default ms i m d within in
-          subst (λ (n : Member). new n.clause ≡ true) same (more m.clause ∙ ap (λ b. cond b true (old m.clause)) ((clause_eq_decides m.clause m.clause).1 refl))
+          let found : new m.clause ≡ Some i = more m.clause ∙ ap (λ b. cond b (Some i) (old m.clause)) ((clause_eq_decides m.clause m.clause).1 refl) in
+          let e : Some i ≡ None = sym found ∙ ap (λ (n : Member). new n.clause) same ∙ none in
+          absurd cc
 
-pub are_clauses : (ms : List Member) (ks : List (List (Signed ℕ))) → ((q : List (Signed ℕ)) → has_clause ks q ≡ true → Any (λ (n : Member). n.clause ≡ q) ms) → All (λ (n : Member). has_clause ks n.clause ≡ true) ms → AreClausesOf ms ks
-are_clauses ms ks found there q = (
-  found q,
-  λ any. let (m, i, same) = any_in (λ (n : Member). n.clause ≡ q) ms any in
-      subst (λ c. has_clause ks c ≡ true) same (all_in (λ (n : Member). has_clause ks n.clause ≡ true) ms there m i),
-)
+pub are_clauses : (ms : List Member) (place : List (Signed ℕ) → Option ℕ) → ((q : List (Signed ℕ)) (k : ℕ) → place q ≡ Some k → IsPlaceOf (λ n. n.clause ≡ q) ms k)
+    → ((k : ℕ) (d : Member) → k < length ms → ¬ (place (get_or ms k d).clause ≡ None)) → AreClausesOf ms place
+are_clauses ms place found there = record {
+  found = found;
+  none = λ q none any.
+      let (k, m, within, is, same) = any in
+      there k m within (ap (λ (n : Member). place n.clause) is ∙ ap place same ∙ none);
+}
 
 -- a marked literal of the selected one's tree stands in the member's clause
 module _ (c : Saturation) (k : ℕ) (h : Head) (p : Fingerprint) (head : IsHeadOf c k h) (print : IsFingerprintOf c k p) where
@@ -145,6 +155,5 @@ ready_kept old new l h kept whole =
       base = valid_kept old new h.whole kept h.base;
       placed = placed_kept old new h.whole kept h.placed;
       lookup = lookup_kept old new h.whole kept l h.lookup;
-      chains = subst (λ (x : format.Saturation). LeadThrough x l.chains.same.items l.chains.opposed.items) (sym same) h.chains;
-      fingerprints = subst (λ (x : format.Saturation). TellApart x l.fingerprints.items) (sym same) h.fingerprints;
+      meetings = subst (λ (x : format.Saturation). AreMeetings x l.meetings) (sym same) h.meetings;
     }

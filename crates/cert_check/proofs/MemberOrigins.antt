@@ -1,19 +1,21 @@
 -- What an origin from two members gives.
-use Rattle.std.proofs.Common.{◌≡◌, ℕ, ◌+◌, ◌<◌, List, ap, sym, ◌∙◌, map, subst, length, get_or}
-use Rattle.std.specs.Prelude.{◌↔◌, Bool, false, IfOk, IsTrue, Result, Ok, Err}
+use Rattle.std.proofs.Common.{◌≡◌, ℕ, ◌+◌, ◌<◌, List, ap, sym, ◌∙◌, map, subst, arith, length, get_or}
+use Rattle.std.specs.Prelude.{◌↔◌, All, Bool, false, IfOk, IsTrue, Result, Ok, Err}
 use Rattle.inst_logic.specs.declared.signed.Signed.{Signed}
 use Rattle.inst_logic.specs.Clauses.{TreeClause}
+use Rattle.inst_calculus.specs.Conclusions.{IsPartOfConclusion}
 use Rattle.inst_calculus.specs.Entries.{Entry}
+use Rattle.inst_calculus.specs.Parts.{AreWithin}
 use Rattle.inst_calculus.proofs.OneConclusion.{one_conclusion}
 use Rattle.term_bank.specs.Forest.{Forest, AreDistinct, Extends, IsClauseOf, clause_at}
 use Rattle.term_bank.proofs.Clauses.{clause_extends, clause_of_extends}
 use Rattle.cert_format.specs.Validity.{Gives, IsConclusion, IsRightMember}
 use Rattle.saturation_cert.specs.declared.member.Member.{Member}
 use Rattle.saturation_cert.specs.declared.member.Origin.{Origin}
-use Rattle.saturation_cert.specs.declared.member.Origin.TheVariants.{Inst}
+use Rattle.saturation_cert.specs.declared.member.Origin.TheVariants.{Inst, Lemma}
 use Rattle.saturation_cert.specs.declared.certificate.Base.{Base}
 use Rattle.saturation_cert.specs.Values.{base_of, entry_of, origin_of}
-use Rattle.cert_check.specs.Conclusions.{MembersGive}
+use Rattle.cert_check.specs.Conclusions.{MembersGive, IsPartGiven}
 use Rattle.clause_form.proofs.Ids.{same_ids}
 use Rattle.cert_check.proofs.Rightness.{right_by}
 
@@ -45,3 +47,20 @@ pub and_conclusion : {E : Type 0} (es : List Entry) (n from place partner other 
     → IfOk r (λ b. IsTrue b ↔ MembersGive es n from place partner other c)
 and_conclusion es n from place partner other c a b (Ok x) h = ((λ t. (a, b, h.0 t)), (λ k. h.1 k.2))
 and_conclusion es n from place partner other c a b (Err e) h = h
+
+-- a member that is part of what two others conclude is right exactly where they and its premises come before it and it is this part
+module _ (b : Base) (i : ℕ) (m : Member) (from place partner other : ℕ) (keep premises : List ℕ) (within : i < length b.members) (is : m ≡ get_or b.members i m) (origin : m.origin ≡ Lemma from place partner other keep premises) where
+  given : IsRightMember (base_of b) (i + 1)
+      → (from < i + 1) × (partner < i + 1) × All (λ d. (0 < d) × (d < i + 1)) premises × IsPartOfConclusion (map (entry_of b.bank) b.members) from place partner other keep (clause_at b.bank m.clause)
+  given r = subst (λ (o : Origin). Gives (base_of b) (i + 1) (origin_of o) (clause_at b.bank m.clause)) origin ((right_by b i m within is).1 r)
+
+  pub right_part : AreWithin i premises → IsPartGiven (map (entry_of b.bank) b.members) (i + 1) from place partner other keep (clause_at b.bank m.clause) ↔ IsRightMember (base_of b) (i + 1)
+  right_part before = (
+    (λ g. (right_by b i m within is).0 (
+        subst (λ (o : Origin). Gives (base_of b) (i + 1) (origin_of o) (clause_at b.bank m.clause)) (sym origin)
+        (g.0, g.1, (λ k d l. ((before k d l).0, (let h = (before k d l).1 in omega arith))), g.2))),
+    (λ r. let g = given r in (g.0, g.1, g.3)),
+  )
+
+  pub premises_before : IsRightMember (base_of b) (i + 1) → AreWithin i premises
+  premises_before r k d l = (((given r).2 k d l).0, (let h = ((given r).2 k d l).1 in omega arith))

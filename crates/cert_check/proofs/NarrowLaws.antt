@@ -16,7 +16,7 @@ use Rattle.cert_check.specs.declared.fingerprint.Fingerprint.{Fingerprint}
 use Rattle.cert_check.specs.declared.narrow.Class.{Class}
 use Rattle.cert_check.specs.Fingerprints.{Differ, TellApart, fingerprint_at}
 use Rattle.cert_check.specs.Narrow.{AreNarrow, AreUnmarked, IsNarrow, class_eq, class_in, no_class}
-use Rattle.cert_check.specs.Partners.{AreApart, AreChained, Head, LeadThrough, head_at}
+use Rattle.cert_check.specs.Partners.{AreApart, Head, head_at}
 use Rattle.cert_check.proofs.HeadLaws.{first_stays}
 
 pub class_itself : (c : Class) → class_eq c c ≡ true
@@ -120,21 +120,12 @@ module _ (hs : List Head) (ps : List Fingerprint) (ks : List ℕ) (cs : List Cla
       by true e = inr (differ_there i j left right ((id_eq_decides (head_at hs j) (complement (head_at hs i))).0 e) other)
       by false e = inl (λ same. let t : false ≡ true = sym e ∙ (id_eq_decides (head_at hs j) (complement (head_at hs i))).1 same in cc)
 
--- the chains of the classes leave out no more pairs than those that are right
+-- members of different classes are apart
 pub narrow_apart : (c : format.Saturation) (hs : List Head) (ps : List Fingerprint) (ns : List Head) → length ps ≡ length hs → length ns ≡ length hs → AreNarrow hs ps ns → AreApart c hs → TellApart c ps → AreApart c ns
 narrow_apart c hs ps ns prints count narrow apart told i j less within other = elim (narrow i j (omega arith) (omega arith) other) [
   | inl heads ↦ apart i j less (omega arith) heads
   | inr differ ↦ told.apart i j less (omega arith) differ
 ]
-
-pub chains_lead : (c : format.Saturation) (hs : List Head) (ps : List Fingerprint) (ns : List Head) (same opposed : List ℕ) → length ps ≡ length hs → length ns ≡ length hs → AreNarrow hs ps ns
-    → length hs ≡ length c.base.members → AreApart c hs → TellApart c ps → AreChained ns same opposed 0 → LeadThrough c same opposed
-chains_lead c hs ps ns same opposed prints count narrow members apart told chained = record {
-  heads = ns;
-  count = count ∙ members;
-  apart = narrow_apart c hs ps ns prints count narrow apart told;
-  chained = chained;
-}
 
 -- what stands in a set stays there
 pub still_there : (b o : Bool) → o ≡ true → cond b true o ≡ true

@@ -1,25 +1,26 @@
 -- The scan over pairs of members.
-use Rattle.std.proofs.Common.{◌≡◌, ◌↔◌, inl, inr, ℕ, zero, suc, ◌<◌, ◌≤◌, length, refl, ap, sym, ◌∙◌, subst, arith}
+use Rattle.std.proofs.Common.{◌≡◌, ◌≢◌, ◌↔◌, ◌⊎◌, inl, inr, ℕ, zero, suc, ◌<◌, ◌≤◌, length, refl, ap, sym, ◌∙◌, subst, arith}
 use Rattle.std.specs.Prelude.{Bool, IsTrue, true, false}
 use Rattle.std.specs.Bool.{beq}
 use Rattle.std.proofs.lemmas.Bool.{cases_lt}
 use Rattle.std.proofs.lemmas.Option.{slice_get_within}
 use Rattle.inst_logic.specs.declared.signed.Signed.{Signed}
 use Rattle.inst_logic.specs.Tree.{Tree}
-use Rattle.inst_logic.specs.Unifiers.{Sided, IsUnifier, IsMostGeneral}
+use Rattle.inst_logic.specs.Unifiers.{Sided, IsUnifier, IsMostGeneral, IsProper}
 use Rattle.inst_calculus.specs.Models.{Member}
 use Rattle.inst_calculus.specs.Saturation.{IsClosed}
-use Rattle.inst_calculus.proofs.Choice.{closed_of_choice}
+use Rattle.inst_calculus.proofs.Choice.{closed_of_choice, proper_of_choice}
 use Rattle.term_bank.specs.Forest.{Forest, Extends, tree_at}
 use Rattle.cert_format.specs.Certificate as format
 use Rattle.cert_format.specs.Certificate.{selected_members}
-use Rattle.cert_format.specs.Validity.{IsRightPair, SelectsAt}
+use Rattle.cert_format.specs.Validity.{IsProperPair, IsRightPair, SelectsAt}
 use Rattle.cert_format.proofs.SelectedMembers.{selected_once}
 use Rattle.saturation_cert.specs.declared.certificate.Saturation.{Saturation}
 use Rattle.saturation_cert.specs.Truths.{IsSelectedLiteral}
 use Rattle.saturation_cert.specs.Values.{base_of, saturation_of}
 use Rattle.saturation_cert.specs.Wholes.{IsWholeSaturation, HasPlaces, KeepsSaturation}
 use Rattle.cert_format.specs.Validity.{IsValidBase}
+use Rattle.cert_check.specs.Meetings.{IsApart}
 use Rattle.cert_check.specs.Firsts.{IsFirstWrong}
 use Rattle.cert_check.specs.FirstPairs.{IsFirstWrongPair}
 use Rattle.cert_check.proofs.Saturations.{saturation_same}
@@ -37,48 +38,69 @@ module _ (old new : Saturation) (whole : IsWholeSaturation old) (kept : KeepsSat
   pub placed_kept : HasPlaces (saturation_of old) → HasPlaces (saturation_of new)
   placed_kept = subst HasPlaces (sym (saturation_same old new whole kept))
 
--- numbers that name no pair of members
-pub no_pair : (c : format.Saturation) (l r : ℕ) → ¬ (l < r) → IsRightPair c l r
-no_pair c l r none less m n = absurd (none less)
+-- a fact of pairs that those have which are apart, and those that name no pair
+pub record IsOfPairs (c : format.Saturation) (P : ℕ → ℕ → Type 0) : Type 0 where
+  pub apart : (l r : ℕ) → IsApart c l r → P l r
+  pub unordered : (l r : ℕ) → ¬ (l < r) → P l r
 
-pub past_pair : (c : format.Saturation) (l k : ℕ) → length c.base.members ≤ k → IsRightPair c l (suc k)
-past_pair c l k past less m n s t =
+-- numbers that name no members
+no_left : (c : format.Saturation) (r : ℕ) → IsApart c zero r
+no_left c r m n s t = absurd (cc (s.entry_at))
+
+pub past_right : (c : format.Saturation) (l k : ℕ) → length c.base.members ≤ k → IsApart c l (suc k)
+past_right c l k past m n s t =
     let w : k < length c.base.members = slice_get_within c.base.members k t.entry t.entry_at in
     absurd (omega arith)
 
--- the partners of one member
-module _ (c : format.Saturation) (i j : ℕ) (before : (k : ℕ) → k < j → IsRightPair c (suc i) (suc k)) where
-  pub first_partner : ¬ IsRightPair c (suc i) (suc j) → IsFirstWrong (IsRightPair c (suc i)) (suc j)
-  first_partner wrong = record { applies = wrong; before = earlier }
-    where
-      earlier : (m : ℕ) → m < suc j → IsRightPair c (suc i) m
-      earlier zero h = no_pair c (suc i) zero (λ less. omega arith)
-      earlier (suc k) h = before k (omega arith)
+past_left : (c : format.Saturation) (k r : ℕ) → length c.base.members ≤ k → IsApart c (suc k) r
+past_left c k r past m n s t =
+    let w : k < length c.base.members = slice_get_within c.base.members k s.entry s.entry_at in
+    absurd (omega arith)
 
-  pub all_partners : length c.base.members ≤ j → (n : ℕ) → IsRightPair c (suc i) n
-  all_partners past zero = no_pair c (suc i) zero (λ less. omega arith)
-  all_partners past (suc k) = elim (cases_lt k j) [ inl less ↦ before k less | inr more ↦ past_pair c (suc i) k (omega arith) ]
+pub apart_is_right : (c : format.Saturation) (l r : ℕ) → IsApart c l r → IsRightPair c l r
+apart_is_right c l r h less m n s t signs u g = absurd (h m n s t signs u g.unifies)
 
--- all pairs
-module _ (c : format.Saturation) (i : ℕ) (before : (k : ℕ) → k < i → (r : ℕ) → IsRightPair c (suc k) r) where
-  pub first_pair : (right : ℕ) → IsFirstWrong (IsRightPair c (suc i)) right → IsFirstWrongPair (IsRightPair c) (suc i) right
-  first_pair right h = record { applies = h.applies; before = earlier; beside = h.before }
-    where
-      none_left : (r : ℕ) → IsRightPair c zero r
-      none_left r less m n s t = absurd (cc (s.entry_at))
+pub apart_is_proper : (c : format.Saturation) (l r : ℕ) → IsApart c l r → IsProperPair c l r
+apart_is_proper c l r h less m n s t signs u g = absurd (h m n s t signs u g.unifies)
 
-      earlier : (l : ℕ) → l < suc i → (r : ℕ) → IsRightPair c l r
-      earlier zero h = none_left
-      earlier (suc k) h = before k (omega arith)
+pub of_right : (c : format.Saturation) → IsOfPairs c (IsRightPair c)
+of_right c = record { apart = apart_is_right c; unordered = λ l r none less m n. absurd (none less) }
 
-  pub all_pairs : length c.base.members ≤ i → (l r : ℕ) → IsRightPair c l r
-  all_pairs past zero r = λ less m n s t. absurd (cc (s.entry_at))
-  all_pairs past (suc k) r = elim (cases_lt k i) [ inl less ↦ before k less r | inr more ↦ past_left k more r ]
-    where
-      past_left : (k : ℕ) → i ≤ k → (r : ℕ) → IsRightPair c (suc k) r
-      past_left k more r less m n s t =
-          let w : k < length c.base.members = slice_get_within c.base.members k s.entry s.entry_at in
-          absurd (omega arith)
+pub of_proper : (c : format.Saturation) → IsOfPairs c (IsProperPair c)
+of_proper c = record { apart = apart_is_proper c; unordered = λ l r none less m n. absurd (none less) }
+
+module _ (c : format.Saturation) (P : ℕ → ℕ → Type 0) (of : IsOfPairs c P) where
+  -- the partners of one member
+  module _ (i j : ℕ) (before : (k : ℕ) → k < j → P (suc i) (suc k)) where
+    pub first_partner : ¬ P (suc i) (suc j) → IsFirstWrong (P (suc i)) (suc j)
+    first_partner wrong = record { applies = wrong; before = earlier }
+      where
+        earlier : (m : ℕ) → m < suc j → P (suc i) m
+        earlier zero h = of.unordered (suc i) zero (λ less. omega arith)
+        earlier (suc k) h = before k (omega arith)
+
+    pub all_partners : length c.base.members ≤ j → (n : ℕ) → P (suc i) n
+    all_partners past zero = of.unordered (suc i) zero (λ less. omega arith)
+    all_partners past (suc k) = elim (cases_lt k j) [ inl less ↦ before k less | inr more ↦ of.apart (suc i) (suc k) (past_right c (suc i) k (omega arith)) ]
+
+  -- all pairs
+  module _ (i : ℕ) (before : (k : ℕ) → k < i → (r : ℕ) → P (suc k) r) where
+    pub first_pair : (right : ℕ) → IsFirstWrong (P (suc i)) right → IsFirstWrongPair P (suc i) right
+    first_pair right h = record { applies = h.applies; before = earlier; beside = h.before }
+      where
+        earlier : (l : ℕ) → l < suc i → (r : ℕ) → P l r
+        earlier zero h r = of.apart zero r (no_left c r)
+        earlier (suc k) h r = before k (omega arith) r
+
+    pub all_pairs : length c.base.members ≤ i → (l r : ℕ) → P l r
+    all_pairs past zero r = of.apart zero r (no_left c r)
+    all_pairs past (suc k) r = elim (cases_lt k i) [ inl less ↦ before k less r | inr more ↦ of.apart (suc k) r (past_left c k r (omega arith)) ]
+
+pub signs_same : (p q : Bool) → beq p q ≡ true → p ≡ q
+signs_same true true e = refl
+signs_same true false e = absurd (cc)
+signs_same false true e = absurd (cc)
+signs_same false false e = refl
 
 pub signs_differ : (p q : Bool) → beq p q ≡ false → ¬ (p ≡ q)
 signs_differ true true e same = absurd (cc)
@@ -94,8 +116,8 @@ module _ (c : Saturation) (i j : ℕ) (less : i < j) (l r : Signed ℕ) (left : 
   same_right : (m : Member) → SelectsAt (saturation_of c) (suc j) m → m ≡ right.member
   same_right m s = selected_once (saturation_of c).base.members (saturation_of c).places (suc j) m right.member s right.is
 
-  pub same_sign : l.positive ≡ r.positive → IsRightPair (saturation_of c) (suc i) (suc j)
-  same_sign same below m n s t signs =
+  pub same_sign : l.positive ≡ r.positive → IsApart (saturation_of c) (suc i) (suc j)
+  same_sign same m n s t signs =
       absurd (signs (ap (λ (x : Member). x.selected.positive) (same_left m s) ∙ ap (λ (k : Signed Tree). k.positive) left.literal ∙ same
       ∙ sym (ap (λ (k : Signed Tree). k.positive) right.literal) ∙ sym (ap (λ (x : Member). x.selected.positive) (same_right n t))))
 
@@ -105,9 +127,8 @@ module _ (c : Saturation) (i j : ℕ) (less : i < j) (l r : Signed ℕ) (left : 
   right_atom : (m : Member) → SelectsAt (saturation_of c) (suc j) m → m.selected.atom ≡ tree_at c.base.bank r.atom
   right_atom m s = ap (λ (x : Member). x.selected.atom) (same_right m s) ∙ ap (λ (k : Signed Tree). k.atom) right.literal
 
-  pub no_unifier : ((u : Sided) → ¬ IsUnifier u (tree_at c.base.bank l.atom) (tree_at c.base.bank r.atom)) → IsRightPair (saturation_of c) (suc i) (suc j)
-  no_unifier none below m n s t signs u g =
-      let h : IsUnifier u m.selected.atom n.selected.atom = g.unifies in
+  pub no_unifier : ((u : Sided) → ¬ IsUnifier u (tree_at c.base.bank l.atom) (tree_at c.base.bank r.atom)) → IsApart (saturation_of c) (suc i) (suc j)
+  no_unifier none m n s t signs u h =
       let k : IsUnifier u (tree_at c.base.bank l.atom) n.selected.atom = subst (λ (x : Tree). IsUnifier u x n.selected.atom) (left_atom m s) h in
       absurd (none u (subst (λ (x : Tree). IsUnifier u (tree_at c.base.bank l.atom) x) (right_atom n t) k))
 
@@ -115,6 +136,9 @@ module _ (c : Saturation) (i j : ℕ) (less : i < j) (l r : Signed ℕ) (left : 
   general_here s g =
       subst (λ (x : Tree). IsMostGeneral s x right.member.selected.atom) (sym (left_atom left.member left.is))
       (subst (λ (x : Tree). IsMostGeneral s (tree_at c.base.bank l.atom) x) (sym (right_atom right.member right.is)) g)
+
+  pub opposite_members : ¬ (l.positive ≡ r.positive) → left.member.selected.positive ≢ right.member.selected.positive
+  opposite_members other e = other (sym (ap (λ (k : Signed Tree). k.positive) left.literal) ∙ e ∙ ap (λ (k : Signed Tree). k.positive) right.literal)
 
   -- closed for one most general unifier, and so for each
   pub closed_right : (s : Sided) → IsMostGeneral s (tree_at c.base.bank l.atom) (tree_at c.base.bank r.atom) → IsClosed (selected_members (saturation_of c)) left.member right.member s
@@ -136,3 +160,24 @@ module _ (c : Saturation) (i j : ℕ) (less : i < j) (l r : Signed ℕ) (left : 
   pub closed_is_right : ¬ (l.positive ≡ r.positive) → (s : Sided) → IsMostGeneral s (tree_at c.base.bank l.atom) (tree_at c.base.bank r.atom) → (answer : Bool)
       → (IsTrue answer ↔ IsClosed (selected_members (saturation_of c)) left.member right.member s) → IsTrue answer ↔ IsRightPair (saturation_of c) (suc i) (suc j)
   closed_is_right other s g answer h = ((λ t. closed_right s g (h.0 t)), (λ p. h.1 (right_closed other s g p)))
+
+  -- whether the unifier is proper on a side does not depend on the choice of it
+  pub proper_pair : ¬ (l.positive ≡ r.positive) → (s : Sided) → IsMostGeneral s (tree_at c.base.bank l.atom) (tree_at c.base.bank r.atom) → (answer : Bool)
+      → (IsTrue answer ↔ (IsProper s.left (tree_at c.base.bank l.atom) ⊎ IsProper s.right (tree_at c.base.bank r.atom))) → IsTrue answer ↔ IsProperPair (saturation_of c) (suc i) (suc j)
+  proper_pair other s g answer h = (
+    (λ t below m n p q signs u k.
+        let a = tree_at c.base.bank l.atom in
+        let b = tree_at c.base.bank r.atom in
+        let here : IsMostGeneral u a b =
+        subst (λ (x : Tree). IsMostGeneral u x b) (left_atom m p) (subst (λ (x : Tree). IsMostGeneral u m.selected.atom x) (right_atom n q) k) in
+        elim (h.0 t) [
+          | inl x ↦ inl (subst (λ (y : Tree). IsProper u.left y) (sym (left_atom m p)) ((proper_of_choice a b s u g here a).0 x))
+          | inr x ↦ inr (subst (λ (y : Tree). IsProper u.right y) (sym (right_atom n q)) ((proper_of_choice a b s u g here b).1 x))
+        ]),
+    (λ all. h.1 (
+        let k = all (omega arith) left.member right.member left.is right.is (opposite_members other) s (general_here s g) in
+        elim k [
+          | inl x ↦ inl (subst (λ (y : Tree). IsProper s.left y) (left_atom left.member left.is) x)
+          | inr x ↦ inr (subst (λ (y : Tree). IsProper s.right y) (right_atom right.member right.is) x)
+        ])),
+  )

@@ -10,7 +10,7 @@ use Rattle.term_bank.specs.Forest.{literal_tree, Forest, AreFormed, Extends, cla
 use Rattle.cert_format.specs.Certificate as format
 use Rattle.cert_format.specs.Validity.{IsRightPlace, IsRightInput, IsRightPair, SaturationPasses, IsFirstComplaint, IsValidSaturation, Precedes}
 use Rattle.cert_format.specs.declared.complaint.Complaint.{Complaint}
-use Rattle.cert_format.specs.declared.complaint.Complaint.TheVariants.{Axiom, Member as Derived, Bot, Ground, Step as Shown, NotEmpty, Place, Input, Pair}
+use Rattle.cert_format.specs.declared.complaint.Complaint.TheVariants.{Axiom, Member as Derived, Bot, Ground, Step as Shown, NotEmpty, Place, Input, Pair, Cover as Named}
 use Rattle.saturation_cert.specs.declared.member.Member.{Member}
 use Rattle.saturation_cert.specs.declared.certificate.Base.{Base}
 use Rattle.saturation_cert.specs.declared.certificate.Saturation.{Saturation}
@@ -65,6 +65,7 @@ module _ (c : format.Saturation) (base : IsValidBase c.base) where
       earlier (Place n) p = places n p
       earlier (Input n) p = inputs n p
       earlier (Pair l r) p = pairs l r p
+      earlier (Named n) p = tt
 
   pub place_first : (n : ℕ) → IsFirstWrong (IsRightPlace c) n → IsFirstComplaint (SaturationPasses c) (Place n)
   place_first n h =
@@ -95,6 +96,7 @@ module _ (c : format.Saturation) (base : IsValidBase c.base) where
   all_right places inputs pairs (Place n) = places n
   all_right places inputs pairs (Input n) = inputs n
   all_right places inputs pairs (Pair l r) = pairs l r
+  all_right places inputs pairs (Named n) = tt
 
 pub bank_same : (s : Saturation) (g : Forest) → IsWholeSaturation s → Extends s.base.bank g → saturation_of (record s { base = record s.base { bank = g } }) ≡ saturation_of s
 bank_same s g whole grown =

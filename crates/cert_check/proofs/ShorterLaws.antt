@@ -1,6 +1,6 @@
 -- The search for a shorter member that subsumes a clause, by the heads of selected literals.
-use Rattle.std.proofs.Common.{◌≡◌, inl, inr, ℕ, suc, ◌<◌, ◌≤◌, ◌∙◌, List, length, get_or, ap, sym, subst, arith, Some}
-use Rattle.std.specs.Prelude.{Any, option_map}
+use Rattle.std.proofs.Common.{◌≡◌, inl, inr, ℕ, suc, ◌<◌, ◌≤◌, ◌∙◌, List, length, get_or, ap, refl, sym, subst, arith, Option, None, Some}
+use Rattle.std.specs.Prelude.{Any, IfNone, option_map}
 use Rattle.std.proofs.lemmas.Bool.{cases_lt}
 use Rattle.std.proofs.lemmas.List.{get_or-map, get_or_default, length-map}
 use Rattle.inst_logic.specs.declared.signed.Signed.{Signed}
@@ -89,3 +89,8 @@ module _ (f : Forest) (ms : List Member) (hs : List Head) (ps : List Fingerprint
       let (i, inside, goes) = places has.place has.within in
       none i _ inside k within (head_goes f s (literal_at (get_or ms k m).clause has.place) (literal_at d i) (head_at hs k) has.head goes) m
       (s, tree_at f (literal_at (get_or ms k m).clause has.place).atom, has.fingerprint, goes.1) here
+
+-- what holds where there is no item, at an option that is no Some
+pub if_none : {A : Type 0} (Q : Type 0) (o : Option A) → IfNone o Q → ((a : A) → o ≡ Some a → ⊥) → Q
+if_none Q None h other = h
+if_none Q (Some a) h other = absurd (other a refl)

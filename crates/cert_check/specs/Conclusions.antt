@@ -7,6 +7,7 @@ use Rattle.inst_logic.specs.Unifiers.{Sided, IsMostGeneral, IsProper}
 use Rattle.inst_logic.specs.Clauses.{TreeClause, instance, canonical_form}
 use Rattle.inst_logic.specs.WellFormed.{IsAtom}
 use Rattle.inst_calculus.specs.Entries.{Entry}
+use Rattle.inst_calculus.specs.Conclusions.{IsPartOfConclusion}
 use Rattle.cert_format.specs.Validity.{IsConclusion}
 use Rattle.saturation_cert.specs.declared.member.Member.{Member}
 use Rattle.term_bank.specs.Forest.{Forest, IsClauseOf, clause_at, tree_at}
@@ -60,3 +61,7 @@ MembersConclude g es from place partner other (Some d) = IsClauseOf g d × IsCon
 -- both members come before member n, and conclude the clause
 abbrev pub MembersGive : List Entry → (n from place partner other : ℕ) → TreeClause → Type 0
 MembersGive es n from place partner other c = (from < n) × (partner < n) × IsConclusion es from place partner other c
+
+-- both members come before member n, and the clause is a part, by the places, of what they conclude
+abbrev pub IsPartGiven : List Entry → (n from place partner other : ℕ) → List ℕ → TreeClause → Type 0
+IsPartGiven es n from place partner other keep c = (from < n) × (partner < n) × IsPartOfConclusion es from place partner other keep c

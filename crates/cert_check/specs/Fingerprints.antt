@@ -3,11 +3,11 @@ use Rattle.std.specs.Prelude.{◌≡◌, ◌≢◌, ◌⊎◌, ◌+◌, ◌-◌,
 use Rattle.inst_logic.specs.declared.symbol.Sym.{Sym}
 use Rattle.inst_logic.specs.Tree.{Tree}
 use Rattle.cert_format.specs.Certificate as format
-use Rattle.cert_format.specs.Validity.{IsRightPair}
 use Rattle.saturation_cert.specs.declared.certificate.Saturation.{Saturation}
 use Rattle.saturation_cert.specs.Truths.{IsSelectedLiteral}
 use Rattle.term_bank.specs.Forest.{Forest, arguments_of, number_of, symbol_of, tree_at}
 use Rattle.inst_logic.specs.declared.signed.Signed.{Signed}
+use Rattle.cert_check.specs.Meetings.{IsApart}
 use Rattle.cert_check.specs.declared.fingerprint.Fingerprint.{Fingerprint}
 use Rattle.cert_check.specs.declared.fingerprint.Marks.{Marks}
 
@@ -66,7 +66,7 @@ pub record IsFingerprintOf (c : Saturation) (i : ℕ) (p : Fingerprint) : Type 0
   pub is : IsSelectedLiteral c (suc i) literal
   pub has : HasFingerprint c.base.bank (tree_at c.base.bank literal.atom) p
 
--- members whose fingerprints differ are right partners
+-- members whose fingerprints differ are apart
 pub record TellApart (c : format.Saturation) (ps : List Fingerprint) : Type 0 where
   pub count : length ps ≡ length c.base.members
-  pub apart : (i j : ℕ) → i < j → j < length ps → Differ (fingerprint_at ps i) (fingerprint_at ps j) → IsRightPair c (suc i) (suc j)
+  pub apart : (i j : ℕ) → i < j → j < length ps → Differ (fingerprint_at ps i) (fingerprint_at ps j) → IsApart c (suc i) (suc j)

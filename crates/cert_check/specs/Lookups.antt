@@ -1,7 +1,7 @@
 -- What look-ups of members know.
-use Rattle.std.specs.Prelude.{◌≡◌, ◌↔◌, ℕ, ◌<◌, Bool, List, Any, length, slice_index_or, true}
+use Rattle.std.specs.Prelude.{◌≡◌, ℕ, ◌<◌, List, Any, length, Option, None, Some, slice_index_or}
 use Rattle.std.specs.Cmp.Lexicographic.{pointwise}
-use Rattle.std.specs.List.{list_any}
+use Rattle.indexmap.specs.IndexMap.{get}
 use Rattle.inst_logic.specs.declared.signed.Signed.{Signed}
 use Rattle.clause_form.specs.Literals.{id_eq}
 use Rattle.inst_logic.specs.Tree.{Tree}
@@ -13,22 +13,21 @@ use Rattle.saturation_cert.specs.declared.member.Member.{Member}
 use Rattle.saturation_cert.specs.Values.{base_of, saturation_of}
 use Rattle.saturation_cert.specs.Wholes.{HasPlaces, IsWholeSaturation}
 use Rattle.cert_format.specs.Validity.{IsValidBase}
+use Rattle.cert_check.specs.Chains.{AreMeetings}
 use Rattle.cert_check.specs.Covers.{ShorterOf}
 use Rattle.cert_check.specs.declared.fingerprint.Fingerprint.{Fingerprint}
-use Rattle.cert_check.specs.Fingerprints.{HasFingerprint, TellApart, fingerprint_at}
+use Rattle.cert_check.specs.Fingerprints.{HasFingerprint, fingerprint_at}
 use Rattle.cert_check.specs.Lengths.{AreGrouped, heads_by, rank_at}
 use Rattle.cert_check.specs.Origins.{ArePremises}
-use Rattle.cert_check.specs.Partners.{Head, IsHeadAt, LeadThrough, head_at}
+use Rattle.cert_check.specs.Places.{IsPlaceOf}
+use Rattle.cert_check.specs.Partners.{Head, IsHeadAt, head_at}
 use Rattle.cert_check.specs.declared.lengths.Ranked.{Ranked}
 use Rattle.cert_check.specs.declared.lookup.Lookup.{Lookup}
 
--- one of the clauses
-abbrev pub has_clause : List (List (Signed ℕ)) → List (Signed ℕ) → Bool
-has_clause ks c = list_any (pointwise id_eq c) ks
-
--- the clauses are those of the members
-abbrev pub AreClausesOf : List Member → List (List (Signed ℕ)) → Type 0
-AreClausesOf ms ks = (c : List (Signed ℕ)) → (has_clause ks c ≡ true) ↔ Any (λ m. m.clause ≡ c) ms
+-- the places are those of members with the clauses, and each member's clause has one
+pub record AreClausesOf (ms : List Member) (place : List (Signed ℕ) → Option ℕ) : Type 0 where
+  pub found : (c : List (Signed ℕ)) (k : ℕ) → place c ≡ Some k → IsPlaceOf (λ m. m.clause ≡ c) ms k
+  pub none : (c : List (Signed ℕ)) → place c ≡ None → ¬ Any (λ m. m.clause ≡ c) ms
 
 -- a literal of the clause has the head and the fingerprint
 pub record HasMarked (f : Forest) (c : List (Signed ℕ)) (h : Head) (p : Fingerprint) : Type 0 where
@@ -39,7 +38,7 @@ pub record HasMarked (f : Forest) (c : List (Signed ℕ)) (h : Head) (p : Finger
   pub fingerprint : HasFingerprint f (tree_at f (literal_at c place).atom) p
 
 pub record IsLookup (f : Forest) (ms : List Member) (l : Lookup) : Type 0 where
-  pub clauses : AreClausesOf ms l.clauses.keys
+  pub clauses : AreClausesOf ms (get (pointwise id_eq) l.clauses)
   pub count : length l.fingerprints.items ≡ length ms
   pub heads : List Head
   pub marked : (k : ℕ) (m : Member) → k < length ms → HasMarked f (slice_index_or ms k m).clause (head_at heads k) (fingerprint_at l.fingerprints.items k)
@@ -52,8 +51,7 @@ pub record IsReady (c : Saturation) (l : Lookup) : Type 0 where
   pub base : IsValidBase (base_of c.base)
   pub placed : HasPlaces (saturation_of c)
   pub lookup : IsLookup c.base.bank c.base.members l
-  pub chains : LeadThrough (saturation_of c) l.chains.same.items l.chains.opposed.items
-  pub fingerprints : TellApart (saturation_of c) l.fingerprints.items
+  pub meetings : AreMeetings (saturation_of c) l.meetings
 
 -- the fingerprint is that of an atom that has the literal's atom as an instance
 abbrev pub HasInstance : Forest → Fingerprint → Signed ℕ → Type 0

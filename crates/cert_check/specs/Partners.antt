@@ -4,9 +4,9 @@ use Rattle.inst_logic.specs.declared.signed.Signed.{Signed}
 use Rattle.inst_logic.specs.Signed.{complement}
 use Rattle.term_bank.specs.Forest.{Forest, number_of, symbol_of, tree_at}
 use Rattle.cert_format.specs.Certificate as format
-use Rattle.cert_format.specs.Validity.{IsRightPair}
 use Rattle.saturation_cert.specs.declared.certificate.Saturation.{Saturation}
 use Rattle.saturation_cert.specs.Truths.{IsSelectedLiteral}
+use Rattle.cert_check.specs.Meetings.{IsApart}
 
 -- a sign and the number of a symbol
 abbrev pub Head : Type 0
@@ -27,9 +27,9 @@ pub record IsHeadOf (c : Saturation) (i : ℕ) (h : Head) : Type 0 where
   pub head : IsHeadAt c.base.bank literal h
   pub known : h.atom < length c.base.bank.symbols
 
--- members whose heads are not complements are right partners
+-- members whose heads are not complements are apart
 abbrev pub AreApart : format.Saturation → List Head → Type 0
-AreApart c hs = (i j : ℕ) → i < j → j < length hs → ¬ (head_at hs j ≡ complement (head_at hs i)) → IsRightPair c (suc i) (suc j)
+AreApart c hs = (i j : ℕ) → i < j → j < length hs → ¬ (head_at hs j ≡ complement (head_at hs i)) → IsApart c (suc i) (suc j)
 
 -- the first place of the head from one on, or the length where there is none
 pub record IsNext (hs : List Head) (h : Head) (from p : ℕ) : Type 0 where
@@ -44,10 +44,3 @@ pub record AreChained (hs : List Head) (same opposed : List ℕ) (i : ℕ) : Typ
   pub opposed_length : length opposed ≡ length hs
   pub to_same : (k : ℕ) → i ≤ k → k < length hs → IsNext hs (head_at hs k) (suc k) (slice_index_or same k 0)
   pub to_opposed : (k : ℕ) → i ≤ k → k < length hs → IsNext hs (complement (head_at hs k)) (suc k) (slice_index_or opposed k 0)
-
--- the chains leave out no pair that is not right
-pub record LeadThrough (c : format.Saturation) (same opposed : List ℕ) : Type 0 where
-  pub heads : List Head
-  pub count : length heads ≡ length c.base.members
-  pub apart : AreApart c heads
-  pub chained : AreChained heads same opposed 0

@@ -13,6 +13,7 @@ use crate::conclusion::{Premises, members_give};
 use crate::difference::difference;
 use crate::error::CheckError;
 use crate::origin::input_gives;
+use crate::part::{are_within, members_give_part};
 use crate::walk::symbols_in;
 use cert_format::Complaint;
 use equality_axioms::axioms_from;
@@ -22,7 +23,7 @@ use std::alloc::Global;
 use unify_core::Bindings;
 
 // The number of the first axiom that is not the one that the inputs have there.
-fn wrong_axiom(alloc: Global, base: &mut Base) -> Result<Option<usize>, Memory>
+pub fn wrong_axiom(alloc: Global, base: &mut Base) -> Result<Option<usize>, Memory>
     requires { IsWholeBase base.old }
     ensures kept { KeepsBase base.old base.new }
     ensures whole { OnOk result (IsWholeBase base.new) }
@@ -48,36 +49,42 @@ fn is_right(
     ensures whole { OnOk result (IsWholeBase base.new) }
     ensures right { IfOk result (λ r. IsTrue r ↔ IsRightMember (base_of base.old) (i + 1)) }
 {
-    let member = &base.members.as_slice()[i];
+    let members = base.members.as_slice();
+    let member = &members[i];
+    let clause = &member.clause;
+    let bank = &mut base.bank;
     match member.origin {
-        Origin::Input(k) => input_gives(
-            alloc,
-            &mut base.bank,
-            &base.inputs,
-            &base.axioms,
-            k,
-            &member.clause,
-        ),
+        Origin::Input(k) => input_gives(alloc, bank, &base.inputs, &base.axioms, k, clause),
         Origin::Inst {
             from,
             place,
             partner,
             other,
         } => {
-            let premises = Premises {
-                from,
-                place,
-                partner,
-                other,
-            };
-            members_give(
+            let of = Premises::new(from, place, partner, other);
+            members_give(alloc, bank, bindings, members, of, i, clause)
+        }
+        Origin::Lemma {
+            from,
+            place,
+            partner,
+            other,
+            ref keep,
+            ref premises,
+        } => {
+            if !are_within(i, premises.as_slice()) {
+                return Ok(false);
+            }
+            let of = Premises::new(from, place, partner, other);
+            members_give_part(
                 alloc,
-                &mut base.bank,
+                bank,
                 bindings,
-                base.members.as_slice(),
-                premises,
+                members,
+                of,
                 i,
-                &member.clause,
+                keep.as_slice(),
+                clause,
             )
         }
     }
@@ -103,7 +110,8 @@ fn wrong_member_by(
     Ok(None)
 }
 
-fn wrong_member(alloc: Global, base: &mut Base) -> Result<Option<usize>, Memory>
+// The number of the first member that is not what its origin gives.
+pub fn wrong_member(alloc: Global, base: &mut Base) -> Result<Option<usize>, Memory>
     requires whole { IsWholeBase base.old }
     requires axioms { (n : ℕ) → IsRightAxiom (base_of base.old) n }
     ensures kept { KeepsBase base.old base.new }

@@ -25,8 +25,21 @@ pub struct Premises {
     pub other: usize,
 }
 
+impl Premises {
+    pub fn new(from: usize, place: usize, partner: usize, other: usize) -> Premises
+        ensures { result ≡ record { from = from; place = place; partner = partner; other = other } }
+    {
+        Premises {
+            from,
+            place,
+            partner,
+            other,
+        }
+    }
+}
+
 // Item `n`, counted from 1.
-fn numbered_item<T>(items: &[T], n: usize) -> Option<&T>
+pub fn numbered_item<T>(items: &[T], n: usize) -> Option<&T>
     ensures { option_copied result ≡ at_number items.now n }
 {
     if n == 0 {
@@ -36,7 +49,7 @@ fn numbered_item<T>(items: &[T], n: usize) -> Option<&T>
 }
 
 // The literal at the place of the member of this number, both counted from 1.
-fn literal_at(members: &[Member], number: usize, place: usize) -> Option<IdLiteral>
+pub fn literal_at(members: &[Member], number: usize, place: usize) -> Option<IdLiteral>
     ensures { result ≡ literal_of members.now number place }
 {
     match numbered_item(members, number) {
@@ -90,7 +103,7 @@ fn conclude_at(
 }
 
 // What the first member gives with the second, if they conclude something.
-fn conclusion(
+pub fn conclusion(
     alloc: Global,
     bank: &mut Bank,
     bindings: &mut Bindings,

@@ -36,7 +36,7 @@ fn different_ids(xs: &[IdClause], ys: &[IdClause]) -> Option<usize>
     None
 }
 
-// The same for the clauses of trees that they stand for.
+// Whether this holds for the clauses of trees that they stand for.
 pub fn difference(bank: &Bank, xs: &IdClauseList, ys: &IdClauseList) -> Option<usize>
     requires left { All (IsClauseOf bank.now) xs.now }
     requires right { All (IsClauseOf bank.now) ys.now }

@@ -13,13 +13,27 @@ ghost use Rattle.cert_check.specs.Grounds.{AreCanonicalMembers, IsGroundAt};
 
 use crate::difference::same_clause;
 use clause_form::{greatest_variable, under};
-use inst_logic::{Memory, Sym};
+use inst_logic::{Kind, Memory, Sym};
 use saturation_cert::MemberList;
 use std::alloc::Global;
 use term_bank::{Bank, IdClause, IdClauseList, TermId, TermIdList};
 
+pub fn is_constant(s: &Sym) -> bool
+    ensures { result ≡ is_constant s.now }
+{
+    match s.kind {
+        Kind::Function => s.arity == 0,
+        Kind::Predicate | Kind::Equality => false,
+    }
+}
+
 // The id once for each variable of the clause.
-fn repeated(alloc: Global, bank: &Bank, term: TermId, c: &IdClause) -> Result<TermIdList, Memory>
+pub fn repeated(
+    alloc: Global,
+    bank: &Bank,
+    term: TermId,
+    c: &IdClause,
+) -> Result<TermIdList, Memory>
     requires clause { IsClauseOf bank.now c.now }
     requires canonical { IsCanonical (clause_at bank.now c.now) }
     ensures enough { IfOk result (λ ids. length (order_of (clause_at bank.now c.now)) ≤ length ids) }
@@ -85,7 +99,7 @@ fn is_built_under(
     Ok(same_trees(bank, ground, &built))
 }
 
-// The same. A clause without variables, as most members of a refutation are, is its own instance.
+// Whether the ground clause is the instance. A clause without variables, as most members of a refutation are, is its own.
 fn is_under(
     alloc: Global,
     bank: &mut Bank,

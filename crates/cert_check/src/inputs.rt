@@ -1,6 +1,6 @@
 // The check that the members stand for the inputs and axioms. One look-up sees an input that is a member, also where an earlier
 // input is the same; for the others the member that names the input as its origin is tried before all.
-ghost use Rattle.std.specs.Prelude.{◌≡◌, ◌↔◌, ◌⊎◌, ◌+◌, length, All, Any, IfOk, IsTrue};
+ghost use Rattle.std.specs.Prelude.{◌≡◌, ◌↔◌, ◌⊎◌, ◌+◌, length, All, Any, IfNone, IfOk, IfSome, IsTrue};
 ghost use Rattle.inst_logic.specs.Signed.{IsTautology};
 ghost use Rattle.inst_logic.specs.Clauses.{Subsumes};
 ghost use Rattle.cert_format.specs.Validity.{IsRightInput};
@@ -8,6 +8,7 @@ ghost use Rattle.term_bank.specs.Forest.{IsClauseOf, clause_at};
 ghost use Rattle.saturation_cert.specs.Values.{saturation_of};
 ghost use Rattle.cert_check.specs.Firsts.{IsFirstWrongOf};
 ghost use Rattle.cert_check.specs.Lookups.{IsLookup, IsReady};
+ghost use Rattle.cert_check.specs.Places.{IsPlaceOf};
 
 use crate::lookup::Lookup;
 use crate::origin::numbered;
@@ -18,14 +19,15 @@ use saturation_cert::{Base, Member, Origin, Saturation};
 use std::alloc::Global;
 use term_bank::{Bank, IdClause};
 
-fn stated_count(base: &Base) -> usize
+// How many inputs and axioms.
+pub fn stated_count(base: &Base) -> usize
     ensures { result ≡ length base.now.inputs + length base.now.axioms }
 {
     base.inputs.as_slice().len() + base.axioms.as_slice().len()
 }
 
 // For the number of an input the place of a member that it is the origin of, counted from 0.
-fn sources(alloc: Global, members: &[Member]) -> Result<IndexMap<usize, usize>, Memory> {
+pub fn sources(alloc: Global, members: &[Member]) -> Result<IndexMap<usize, usize>, Memory> {
     let mut places = IndexMap::new(alloc);
     for (i, member) in members.iter().enumerate() {
         if let Origin::Input(k) = member.origin {
@@ -35,38 +37,45 @@ fn sources(alloc: Global, members: &[Member]) -> Result<IndexMap<usize, usize>, 
     Ok(places)
 }
 
-// Whether some member subsumes the clause.
-fn is_subsumed(alloc: Global, bank: &Bank, members: &[Member], c: &IdClause) -> Result<bool, Memory>
+// The place of a member that subsumes the clause.
+fn subsuming_place(
+    alloc: Global,
+    bank: &Bank,
+    members: &[Member],
+    c: &IdClause,
+) -> Result<Option<usize>, Memory>
     requires members { All (λ m. IsClauseOf bank.now m.clause) members.now }
     requires clause { IsClauseOf bank.now c.now }
-    ensures { IfOk result (λ r. IsTrue r ↔ Any (λ m. Subsumes (clause_at bank.now m.clause) (clause_at bank.now c.now)) members.now) }
+    ensures some { IfOk result (λ o. IfSome o (IsPlaceOf (λ m. Subsumes (clause_at bank.now m.clause) (clause_at bank.now c.now)) members.now)) }
+    ensures none { IfOk result (λ o. IfNone o (¬ (Any (λ m. Subsumes (clause_at bank.now m.clause) (clause_at bank.now c.now)) members.now))) }
 {
-    for member in members {
-        if subsumes(alloc, bank, &member.clause, c)? {
-            return Ok(true);
+    for i in 0..members.len() {
+        if subsumes(alloc, bank, &members[i].clause, c)? {
+            return Ok(Some(i));
         }
     }
-    Ok(false)
+    Ok(None)
 }
 
-// The same, and the member at this place is tried first.
-fn is_subsumed_first(
+// The place of a member that subsumes the clause; the one at this place is tried first.
+pub fn subsuming_place_from(
     alloc: Global,
     bank: &Bank,
     members: &[Member],
     first: Option<usize>,
     c: &IdClause,
-) -> Result<bool, Memory>
+) -> Result<Option<usize>, Memory>
     requires members { All (λ m. IsClauseOf bank.now m.clause) members.now }
     requires clause { IsClauseOf bank.now c.now }
-    ensures { IfOk result (λ r. IsTrue r ↔ Any (λ m. Subsumes (clause_at bank.now m.clause) (clause_at bank.now c.now)) members.now) }
+    ensures some { IfOk result (λ o. IfSome o (IsPlaceOf (λ m. Subsumes (clause_at bank.now m.clause) (clause_at bank.now c.now)) members.now)) }
+    ensures none { IfOk result (λ o. IfNone o (¬ (Any (λ m. Subsumes (clause_at bank.now m.clause) (clause_at bank.now c.now)) members.now))) }
 {
     if let Some(i) = first {
         if i < members.len() && subsumes(alloc, bank, &members[i].clause, c)? {
-            return Ok(true);
+            return Ok(Some(i));
         }
     }
-    is_subsumed(alloc, bank, members, c)
+    subsuming_place(alloc, bank, members, c)
 }
 
 // Whether the clause is a tautology or some member subsumes it.
@@ -83,14 +92,15 @@ fn is_met(
     requires clause { IsClauseOf bank.now c.now }
     ensures { IfOk result (λ r. IsTrue r ↔ IsTautology (clause_at bank.now c.now) ⊎ Any (λ m. Subsumes (clause_at bank.now m.clause) (clause_at bank.now c.now)) members.now) }
 {
-    if lookup.has(c) {
+    if lookup.place_of(c).is_some() {
         return Ok(true);
     }
     bank.distinct();
     if tautology(c) {
         return Ok(true);
     }
-    is_subsumed_first(alloc, bank, members, first, c)
+    let place = subsuming_place_from(alloc, bank, members, first, c)?;
+    Ok(place.is_some())
 }
 
 // Whether clause `k` of the inputs and then the axioms, counted from 1, is a tautology or subsumed by some member.

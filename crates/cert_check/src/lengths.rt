@@ -46,7 +46,7 @@ fn with_lengths(alloc: Global, members: &[Member]) -> Result<Vec<Ranked>, Memory
     Ok(ranked)
 }
 
-// The same from the shortest on.
+// The members from the shortest on.
 fn by_length(alloc: Global, members: &[Member]) -> Result<Vec<Ranked>, Memory>
     ensures { IfOk result (λ rs. AreRanked members.now rs.items) }
 {

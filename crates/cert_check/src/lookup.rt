@@ -1,33 +1,36 @@
 // Look-ups of members, made once for the check of inputs and pairs. The clauses are copies, since the certificate's bank grows
 // while they are looked up.
 ghost use Rattle.std.specs.Prelude.{◌≡◌, ◌⊎◌, IfOk, OnOk, true};
+ghost use Rattle.std.specs.Cmp.Lexicographic.{pointwise};
+ghost use Rattle.indexmap.specs.IndexMap.{get};
+ghost use Rattle.clause_form.specs.Literals.{id_eq};
 ghost use Rattle.saturation_cert.specs.Values.{base_of, saturation_of};
 ghost use Rattle.saturation_cert.specs.Wholes.{HasPlaces, IsWholeSaturation};
 ghost use Rattle.cert_format.specs.Validity.{IsValidBase};
 ghost use Rattle.cert_check.specs.declared.conclusion.Premises as format;
-ghost use Rattle.cert_check.specs.Lookups.{AreClausesOf, IsReady, has_clause};
+ghost use Rattle.cert_check.specs.Lookups.{AreClausesOf, IsReady};
 ghost use Rattle.cert_check.specs.Origins.{ArePremises, has_premises, origin_from};
 
 use crate::conclusion::Premises;
 use crate::fingerprint::{Fingerprint, find_fingerprints};
 use crate::lengths::{Lengths, find_lengths};
-use crate::narrow::{Chains, find_chains};
+use crate::meetings::{Meetings, find_meetings};
 use crate::partners::find_heads;
-use indexmap::IndexSet;
+use indexmap::{IndexMap, IndexSet};
 use inst_logic::Memory;
 use saturation_cert::{Member, Origin, Saturation};
 use std::alloc::Global;
 use term_bank::IdClause;
 
-/// The members' clauses, the premises of those that are instances, the chains through the members whose selected literals have
-/// one head, from the shortest on, and through those of one class, and the fingerprints of the selected atoms.
+/// The places of the members' clauses, the premises of those that are instances, the chains through the members whose selected
+/// literals have one head, from the shortest on, the fingerprints of the selected atoms, and which members may meet.
 #[derive(Drop)]
 pub struct Lookup {
     pub(crate) lengths: Lengths,
-    pub(crate) chains: Chains,
+    pub(crate) meetings: Meetings,
     pub(crate) fingerprints: Vec<Fingerprint>,
     made: IndexSet<Premises>,
-    clauses: IndexSet<IdClause>,
+    clauses: IndexMap<IdClause, usize>,
 }
 
 pub fn copied(alloc: Global, c: &IdClause) -> Result<IdClause, Memory>
@@ -36,13 +39,14 @@ pub fn copied(alloc: Global, c: &IdClause) -> Result<IdClause, Memory>
     Ok(IdClause::from(Vec::from_slice(alloc, c.as_slice())?))
 }
 
-fn clauses_of(alloc: Global, members: &[Member]) -> Result<IndexSet<IdClause>, Memory>
-    ensures { IfOk result (λ s. AreClausesOf members.now s.keys) }
+// For each clause of a member its place, counted from 0; the last one of those with one clause.
+fn clauses_of(alloc: Global, members: &[Member]) -> Result<IndexMap<IdClause, usize>, Memory>
+    ensures { IfOk result (λ s. AreClausesOf members.now (get (pointwise id_eq) s)) }
 {
-    let mut clauses: IndexSet<IdClause> = IndexSet::new(alloc);
-    for member in members {
-        let clause = copied(alloc, &member.clause)?;
-        clauses.insert(clause)?;
+    let mut clauses: IndexMap<IdClause, usize> = IndexMap::new(alloc);
+    for i in 0..members.len() {
+        let clause = copied(alloc, &members[i].clause)?;
+        clauses.insert(clause, i)?;
     }
     Ok(clauses)
 }
@@ -67,6 +71,8 @@ fn note_origin(made: &mut IndexSet<Premises>, origin: &Origin) -> Result<(), Mem
             })?;
             Ok(())
         }
+        // A lemma may be shorter than the instance
+        Origin::Lemma { .. } => Ok(()),
     }
 }
 
@@ -90,14 +96,14 @@ pub fn find_lookup(alloc: Global, cert: &Saturation) -> Result<Lookup, Memory>
 {
     let fingerprints = find_fingerprints(alloc, cert)?;
     let heads = find_heads(alloc, cert)?;
-    let chains = find_chains(alloc, &heads, &fingerprints)?;
+    let meetings = find_meetings(alloc, &heads, &fingerprints)?;
     let members = cert.base.members.as_slice();
     let lengths = find_lengths(alloc, members, &heads)?;
     let made = premises_of(alloc, members)?;
     let clauses = clauses_of(alloc, members)?;
     Ok(Lookup {
         lengths,
-        chains,
+        meetings,
         fingerprints,
         made,
         clauses,
@@ -105,11 +111,11 @@ pub fn find_lookup(alloc: Global, cert: &Saturation) -> Result<Lookup, Memory>
 }
 
 impl Lookup {
-    /// Whether the clause is one of the members'.
-    pub fn has(&self, c: &IdClause) -> bool
-        ensures { result ≡ has_clause self.now.clauses.keys c.now }
+    /// The place of a member with the clause, counted from 0.
+    pub fn place_of(&self, c: &IdClause) -> Option<usize>
+        ensures { result ≡ get (pointwise id_eq) self.now.clauses c.now }
     {
-        self.clauses.contains(c)
+        self.clauses.get(c).copied()
     }
 
     /// Whether some member was made from these premises.

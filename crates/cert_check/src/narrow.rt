@@ -1,13 +1,13 @@
-// Chains that leave out more of the pairs that do not unify. Where every selected atom of a symbol has a symbol at the top of its
+// Classes that leave out more of the pairs that do not unify than heads. Where every selected atom of a symbol has a symbol at the top of its
 // first argument, two of them with different ones there have no unifier. So members are put into classes by both symbols, and
 // only those of one class are chained: a relation of many facts would else meet each of its rules' instances.
-ghost use Rattle.std.specs.Prelude.{◌≡◌, ◌<◌, ℕ, length, nat_eq, true, IfOk, OnOk};
+ghost use Rattle.std.specs.Prelude.{◌≡◌, ◌<◌, ℕ, length, nat_eq, true, IfOk, OnOk, unwrap_or};
 ghost use Rattle.std.specs.List.{list_any, position_or_len};
-ghost use Rattle.cert_format.specs.Certificate as format;
+ghost use Rattle.indexmap.specs.IndexMap.{get};
+ghost use Rattle.clause_form.specs.Literals.{id_eq};
 ghost use Rattle.term_bank.specs.Forest.{KeepsPlaces};
-ghost use Rattle.cert_check.specs.Fingerprints.{TellApart};
 ghost use Rattle.cert_check.specs.Narrow.{AreNarrow, AreUnmarked, IsNarrow, class_eq, class_in, no_class};
-ghost use Rattle.cert_check.specs.Partners.{AreApart, LeadThrough};
+ghost use Rattle.cert_check.specs.Partners.{AreChained, Head, IsNext};
 
 use crate::fingerprint::Fingerprint;
 use crate::partners::{HeadId, Partners, chained};
@@ -20,14 +20,6 @@ use std::alloc::Global;
 pub struct Class {
     symbol: usize,
     mark: u32,
-}
-
-/// For each member, counted from 0, the places of the next members of its class with its sign and with the opposite one. Where
-/// there is none it is the number of members.
-#[derive(Drop)]
-pub struct Chains {
-    pub(crate) same: Vec<usize>,
-    pub(crate) opposed: Vec<usize>,
 }
 
 // Adds the symbol where the first argument of its atom has no mark.
@@ -126,25 +118,19 @@ fn narrow_heads(
     Ok(narrow)
 }
 
-// What is left of the chains through some heads without these and the places where they begin.
-fn chains_of(partners: Partners) -> Chains
-    ensures { (result.same.items ≡ partners.same.items) × (result.opposed.items ≡ partners.opposed.items) }
-{
-    let Partners { same, opposed, .. } = partners;
-    Chains { same, opposed }
-}
-
-// The chains by the classes of members with these heads.
-pub fn find_chains(
+// The chains through the classes of those with these heads and fingerprints.
+pub fn find_classes(
     alloc: Global,
     heads: &[HeadId],
     fingerprints: &[Fingerprint],
-) -> Result<Chains, Memory>
+) -> Result<Partners, Memory>
     requires { length fingerprints.now ≡ length heads.now }
-    ensures { (c : format.Saturation) → length heads.now ≡ length c.base.members → AreApart c heads.now → TellApart c fingerprints.now → IfOk result (λ n. LeadThrough c n.same.items n.opposed.items) }
+    ensures narrow { IfOk result (λ p. AreNarrow heads.now fingerprints.now p.heads.items) }
+    ensures count { IfOk result (λ p. length p.heads.items ≡ length heads.now) }
+    ensures chained { IfOk result (λ p. AreChained p.heads.items p.same.items p.opposed.items 0) }
+    ensures first { IfOk result (λ p. (h : Head) → IsNext p.heads.items h 0 (unwrap_or (get id_eq p.first h) (length p.heads.items))) }
 {
     let unmarked = unmarked_symbols(alloc, heads, fingerprints)?;
     let narrow = narrow_heads(alloc, &unmarked, heads, fingerprints)?;
-    let chains = chained(alloc, narrow)?;
-    Ok(chains_of(chains))
+    chained(alloc, narrow)
 }

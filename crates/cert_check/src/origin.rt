@@ -76,7 +76,7 @@ fn is_built_form(
 }
 
 // Whether the clause is the canonical form of the other one.
-fn is_canonical_form(
+pub fn is_canonical_form(
     alloc: Global,
     bank: &mut Bank,
     from: &IdClause,

@@ -1,5 +1,4 @@
-// The check of the pairs of selected literals. Only pairs of one class and opposite signs are visited, along chains, and of these
-// only those are unified whose fingerprints allow it: no other pair unifies. The chains keep the order of the numbers, since the
+// The check of the pairs of selected literals. Only those that may meet are visited, in the order of their numbers, since the
 // complaint is about the first pair.
 ghost use Rattle.std.specs.Prelude.{◌≡◌, ◌↔◌, ◌<◌, suc, length, true, IfOk, IsTrue, OnOk};
 ghost use Rattle.cert_format.specs.Validity.{IsRightPair};
@@ -11,10 +10,11 @@ ghost use Rattle.cert_check.specs.Closings.{IsPairClosed, IsProperSomewhere, IsS
 ghost use Rattle.cert_check.specs.FirstPairs.{IsFirstWrongPairOf};
 ghost use Rattle.cert_check.specs.Firsts.{IsFirstWrongOf};
 ghost use Rattle.cert_check.specs.Lookups.{IsReady};
+ghost use Rattle.cert_check.specs.Meetings.{LeadsOn};
 ghost use Rattle.cert_check.specs.Origins.{IsMade};
 
 use crate::conclusion::Premises;
-use crate::cover::is_covered;
+use crate::covers::is_covered;
 use crate::lookup::Lookup;
 use inst_logic::Memory;
 use saturation_cert::{Saturation, selected};
@@ -23,7 +23,7 @@ use term_bank::Bank;
 use unify_core::{Bindings, Side};
 
 // Whether the unifier that the bindings stand for makes a variable on some side a term that is no variable.
-fn is_proper(bank: &Bank, bindings: &Bindings) -> bool
+pub fn is_proper(bank: &Bank, bindings: &Bindings) -> bool
     requires { AreBindings bank.now bindings.now.entries }
     ensures { IsProperSomewhere bank.now bindings.now.entries result }
 {
@@ -168,31 +168,31 @@ fn is_right_pair(
     is_closed(alloc, cert, lookup, bindings, i, j)
 }
 
-// The same, and members are passed whose fingerprints tell that the selected literals do not unify.
-fn is_right_partner(
+// The number of the first of the list with which member `i`, counted from 0, is not closed.
+fn wrong_among(
     alloc: Global,
     cert: &mut Saturation,
     lookup: &Lookup,
     bindings: &mut Bindings,
     i: usize,
-    j: usize,
-) -> Result<bool, Memory>
+    partners: &[usize],
+) -> Result<Option<usize>, Memory>
     requires ready { IsReady cert.old lookup.now }
-    requires left { i < j }
-    requires right { j < length cert.old.base.members }
+    requires within { i < length cert.old.base.members }
+    requires partners { LeadsOn (saturation_of cert.old) i (suc i) partners.now }
     ensures kept { KeepsSaturation cert.old cert.new }
     ensures whole { OnOk result (IsWholeSaturation cert.new) }
-    ensures right { IfOk result (λ r. IsTrue r ↔ IsRightPair (saturation_of cert.old) (suc i) (suc j)) }
+    ensures first { IfOk result (IsFirstWrongOf (IsRightPair (saturation_of cert.old) (suc i))) }
 {
-    let fingerprints = &lookup.fingerprints;
-    if fingerprints[i].differs(&fingerprints[j]) {
-        return Ok(true);
+    for j in partners {
+        if !is_right_pair(alloc, cert, lookup, bindings, i, *j)? {
+            return Ok(Some(*j + 1));
+        }
     }
-    is_right_pair(alloc, cert, lookup, bindings, i, j)
+    Ok(None)
 }
 
-// The number of the first later member that is no right partner of member `i`, counted from 0. Only those are tried whose
-// selected literals have the opposite sign and the same class.
+// The number of the first later member with which member `i`, counted from 0, is not closed.
 fn wrong_partner(
     alloc: Global,
     cert: &mut Saturation,
@@ -206,19 +206,11 @@ fn wrong_partner(
     ensures whole { OnOk result (IsWholeSaturation cert.new) }
     ensures first { IfOk result (IsFirstWrongOf (IsRightPair (saturation_of cert.old) (suc i))) }
 {
-    let count = cert.base.members.len();
-    let partners = &lookup.chains;
-    let mut j = partners.opposed[i];
-    while j < count {
-        if !is_right_partner(alloc, cert, lookup, bindings, i, j)? {
-            return Ok(Some(j + 1));
-        }
-        j = partners.same[j];
-    }
-    Ok(None)
+    let partners = lookup.meetings.later_partners(alloc, cert, i)?;
+    wrong_among(alloc, cert, lookup, bindings, i, &partners)
 }
 
-// The same with room to work in.
+// The first such pair of all members, with room to work in.
 fn wrong_pair_by(
     alloc: Global,
     cert: &mut Saturation,

@@ -1,26 +1,24 @@
-// The check of refutations. Nothing else makes a checked one, so who has one needs no further proof.
-ghost use Rattle.std.specs.Prelude.{◌≡◌, ◌↔◌, IfErr, IfOk, OnOk, IsTrue, All, Any};
+// The check of refutations whose ground clauses name their inputs. Nothing else makes a checked one, so who has one needs no
+// further proof.
+ghost use Rattle.std.specs.Prelude.{◌≡◌, ℕ, IfErr, IfOk, OnOk, All, Any};
 ghost use Rattle.inst_logic.specs.Clauses.{IsGround, IsInstance};
 ghost use Rattle.inst_logic.specs.Truth.{IsRefuted};
 ghost use Rattle.inst_calculus.specs.Axioms.{with_axioms};
-ghost use Rattle.cert_format.specs.Validity.{IsRightGround, IsValidRefutation, RefutationPasses};
-ghost use Rattle.inst_logic.specs.WellFormed.{is_constant};
-ghost use Rattle.inst_calculus.specs.Steps.{EndsEmpty};
-ghost use Rattle.cert_format.specs.Validity.{IsValidBase};
-ghost use Rattle.cert_check.specs.Firsts.{IsFirstWrongOf};
-ghost use Rattle.cert_check.specs.Stages.{IsRightStepNumber};
+ghost use Rattle.cert_format.specs.Certificate.{line_clauses};
+ghost use Rattle.cert_format.specs.Validity.{IsRightAxiom, IsRightGroundLine, IsRightMember, IsValidByLines, LinesPass};
 ghost use Rattle.saturation_cert.specs.Values.{refutation_of};
 ghost use Rattle.saturation_cert.specs.Wholes.{IsWholeRefutation, KeepsRefutation};
 ghost use Rattle.cert_check.specs.Answers.{IsCheckCause};
+ghost use Rattle.cert_check.specs.Firsts.{IsFirstWrongOf};
+ghost use Rattle.cert_check.specs.Stages.{IsRightStepNumber};
 
-use crate::base::check_base;
+use crate::base::{wrong_axiom, wrong_member};
 use crate::error::CheckError;
-use crate::grounds::first_wrong_ground;
-use crate::steps::{first_wrong, numbered_clauses, numbered_steps};
-use cert_format::Complaint;
-use cert_format::laws::valid_refutations_refute;
-use inst_logic::{Kind, Memory, Sym};
-use proof_log::Checker;
+use crate::grounds::is_constant;
+use crate::steps::{ends_empty, numbered_lines, wrong_step};
+use cert_format::{Complaint, valid_lines_refute};
+use cert_names::first_wrong_line;
+use inst_logic::Memory;
 use saturation_cert::Refutation;
 use std::alloc::Global;
 use std::marker::Model;
@@ -35,7 +33,7 @@ impl Model for CheckedRefutation {
     ghost use Rattle.saturation_cert.specs.declared.certificate.Refutation.{Refutation};
     ghost use Rattle.saturation_cert.specs.Values.{refutation_of};
     ghost use Rattle.saturation_cert.specs.Wholes.{IsWholeRefutation};
-    ghost use Rattle.cert_format.specs.Validity.{IsValidRefutation};
+    ghost use Rattle.cert_format.specs.Validity.{IsValidByLines};
     ghost use Rattle.saturation_cert.specs.contracts.certificate.Refutation as value;
     ghost use Rattle.std.specs.Coded.{codes};
 
@@ -45,7 +43,7 @@ impl Model for CheckedRefutation {
 
     ghost view = { λ c. c.cert };
 
-    ghost invariant = { λ c. IsWholeRefutation c.cert × IsValidRefutation (refutation_of c.cert) };
+    ghost invariant = { λ c. IsWholeRefutation c.cert × IsValidByLines (refutation_of c.cert) };
 }
 
 impl CheckedRefutation {
@@ -53,59 +51,55 @@ impl CheckedRefutation {
     pub fn cert(&self) -> &Refutation
         ensures is { result.now ≡ self.now }
         ensures whole { IsWholeRefutation self.now }
-        ensures valid { IsValidRefutation (refutation_of self.now) }
+        ensures valid { IsValidByLines (refutation_of self.now) }
     {
         &self.cert
     }
 }
 
-// The number of the first ground clause that is not its member under the constant.
-fn wrong_ground(alloc: Global, cert: &mut Refutation) -> Result<Option<usize>, Memory>
-    requires whole { IsWholeRefutation cert.old }
-    requires base { IsValidBase (refutation_of cert.old).base }
-    requires bot { IsTrue (is_constant cert.old.bot) }
+// The first complaint about the axioms and then about the members, if there is one.
+fn check_members(alloc: Global, cert: &mut Refutation) -> Result<(), CheckError>
+    requires { IsWholeRefutation cert.old }
     ensures kept { KeepsRefutation cert.old cert.new }
     ensures whole { OnOk result (IsWholeRefutation cert.new) }
-    ensures first { IfOk result (IsFirstWrongOf (IsRightGround (refutation_of cert.old))) }
+    ensures axioms { OnOk result ((n : ℕ) → IsRightAxiom (refutation_of cert.old).base n) }
+    ensures members { OnOk result ((n : ℕ) → IsRightMember (refutation_of cert.old).base n) }
+    ensures complaint { IfErr result (IsCheckCause (LinesPass (refutation_of cert.old))) }
 {
-    first_wrong_ground(
+    if let Some(n) = wrong_axiom(alloc, &mut cert.base)? {
+        return Err(CheckError::Complaint(Complaint::Axiom { n }));
+    }
+    if let Some(n) = wrong_member(alloc, &mut cert.base)? {
+        return Err(CheckError::Complaint(Complaint::Member { n }));
+    }
+    Ok(())
+}
+
+// The number of the first ground line that is not the instance that it names.
+fn wrong_line(alloc: Global, cert: &mut Refutation) -> Result<Option<usize>, Memory>
+    requires whole { IsWholeRefutation cert.old }
+    requires axioms { (n : ℕ) → IsRightAxiom (refutation_of cert.old).base n }
+    ensures kept { KeepsRefutation cert.old cert.new }
+    ensures whole { OnOk result (IsWholeRefutation cert.new) }
+    ensures first { IfOk result (IsFirstWrongOf (IsRightGroundLine (refutation_of cert.old))) }
+{
+    let bank = &mut cert.base.bank;
+    first_wrong_line(
         alloc,
-        &mut cert.base.bank,
-        &cert.bot,
-        &cert.base.members,
+        bank,
+        &cert.base.inputs,
+        &cert.base.axioms,
         &cert.grounds,
     )
 }
 
 // The number of the first step that has no hint or is not shown.
-fn wrong_step(alloc: Global, cert: &Refutation) -> Result<Option<usize>, Memory>
+fn wrong_line_step(alloc: Global, cert: &Refutation) -> Result<Option<usize>, Memory>
     requires { IsWholeRefutation cert.now }
-    ensures { IfOk result (IsFirstWrongOf (IsRightStepNumber (refutation_of cert.now))) }
+    ensures { IfOk result (IsFirstWrongOf (IsRightStepNumber (line_clauses (refutation_of cert.now).grounds) (refutation_of cert.now).steps)) }
 {
-    let given = numbered_clauses(alloc, &cert.grounds)?;
-    let derivation = numbered_steps(alloc, &cert.steps)?;
-    let atoms = cert.base.bank.len();
-    let mut checker = Checker::with_room(alloc, atoms, &given, &derivation)?;
-    Ok(first_wrong(&mut checker, &given, &derivation))
-}
-
-fn is_constant(s: &Sym) -> bool
-    ensures { result ≡ is_constant s.now }
-{
-    match s.kind {
-        Kind::Function => s.arity == 0,
-        Kind::Predicate | Kind::Equality => false,
-    }
-}
-
-// Whether there is a last step and it is the empty clause.
-fn ends_empty(cert: &Refutation) -> bool
-    ensures { IsTrue result ↔ EndsEmpty (refutation_of cert.now).steps }
-{
-    match cert.steps.as_slice().last() {
-        Some(step) => step.clause.is_empty(),
-        None => false,
-    }
+    let given = numbered_lines(alloc, &cert.grounds)?;
+    wrong_step(alloc, &cert.base.bank, &given, &cert.steps)
 }
 
 // The first complaint, if there is one.
@@ -113,38 +107,39 @@ fn check(alloc: Global, cert: &mut Refutation) -> Result<(), CheckError>
     requires { IsWholeRefutation cert.old }
     ensures kept { KeepsRefutation cert.old cert.new }
     ensures whole { OnOk result (IsWholeRefutation cert.new) }
-    ensures valid { OnOk result (IsValidRefutation (refutation_of cert.old)) }
-    ensures complaint { IfErr result (IsCheckCause (RefutationPasses (refutation_of cert.old))) }
+    ensures valid { OnOk result (IsValidByLines (refutation_of cert.old)) }
+    ensures complaint { IfErr result (IsCheckCause (LinesPass (refutation_of cert.old))) }
 {
-    check_base(alloc, &mut cert.base)?;
+    check_members(alloc, cert)?;
     if !is_constant(&cert.bot) {
         return Err(CheckError::Complaint(Complaint::Bot));
     }
-    if let Some(n) = wrong_ground(alloc, cert)? {
+    if let Some(n) = wrong_line(alloc, cert)? {
         return Err(CheckError::Complaint(Complaint::Ground { n }));
     }
-    if let Some(n) = wrong_step(alloc, cert)? {
+    if let Some(n) = wrong_line_step(alloc, cert)? {
         return Err(CheckError::Complaint(Complaint::Step { n }));
     }
-    if !ends_empty(cert) {
+    if !ends_empty(&cert.steps) {
         return Err(CheckError::Complaint(Complaint::NotEmpty));
     }
     Ok(())
 }
 
-/// Checks the certificate and owns it from then on. After a refusal it is dropped. Time: a unification for each member that
-/// is an instance, and for each step its literals and those of the clauses that its hints cite.
+/// Checks the certificate and owns it from then on. After a refusal it is dropped. Time: a unification for each member that is an
+/// instance or a part of one, an instance for each ground line, and for each step its literals and those of the clauses that its
+/// hints cite.
 pub fn check_refutation(alloc: Global, cert: Refutation) -> Result<CheckedRefutation, CheckError>
     requires { IsWholeRefutation cert }
     ensures kept { IfOk result (KeepsRefutation cert) }
     ensures same { IfOk result (λ c. refutation_of c ≡ refutation_of cert) }
-    ensures valid { IfOk result (λ _. IsValidRefutation (refutation_of cert)) }
-    ensures instances { IfOk result (λ _. All (λ g. IsGround g × Any (IsInstance g) (with_axioms (refutation_of cert).base.inputs)) (refutation_of cert).grounds) }
-    ensures refuted { IfOk result (λ _. IsRefuted (refutation_of cert).grounds) }
-    ensures complaint { IfErr result (IsCheckCause (RefutationPasses (refutation_of cert))) }
+    ensures valid { IfOk result (λ _. IsValidByLines (refutation_of cert)) }
+    ensures instances { IfOk result (λ _. All (λ g. IsGround g × Any (IsInstance g) (with_axioms (refutation_of cert).base.inputs)) (line_clauses (refutation_of cert).grounds)) }
+    ensures refuted { IfOk result (λ _. IsRefuted (line_clauses (refutation_of cert).grounds)) }
+    ensures complaint { IfErr result (IsCheckCause (LinesPass (refutation_of cert))) }
 {
     let mut cert = cert;
     check(alloc, &mut cert)?;
-    valid_refutations_refute();
+    valid_lines_refute();
     Ok(CheckedRefutation { cert })
 }

@@ -91,7 +91,7 @@ fn check_with(alloc: Global, cert: &mut Saturation, lookup: &Lookup) -> Result<(
     Ok(())
 }
 
-// The same, with look-ups that serve both.
+// Checks both with look-ups that serve both.
 fn check_selection(alloc: Global, cert: &mut Saturation) -> Result<(), CheckError>
     requires whole { IsWholeSaturation cert.old }
     requires base { IsValidBase (base_of cert.old.base) }

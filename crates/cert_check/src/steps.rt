@@ -1,16 +1,21 @@
 // The steps of a refutation as steps over numbers. An atom's id serves as its number: equal atoms have equal ids, so no
 // table is built.
-ghost use Rattle.std.specs.Prelude.{◌≡◌, ◌↔◌, IfOk, IsTrue, ◌+◌, ◌<◌, length, map};
+ghost use Rattle.std.specs.Prelude.{◌≡◌, ◌↔◌, All, IfOk, IsTrue, ◌+◌, ◌<◌, length, map};
+ghost use Rattle.inst_calculus.specs.Steps.{EndsEmpty};
+ghost use Rattle.term_bank.specs.Forest.{Forest, clause_at};
+ghost use Rattle.saturation_cert.specs.Values.{step_of};
+ghost use Rattle.saturation_cert.specs.Wholes.{IsWholeClause};
 ghost use Rattle.prop_logic.specs.Literal.{AllAtomsBelow, StepsBelow};
 ghost use Rattle.cert_check.specs.Firsts.{IsFirstWrongOf};
 ghost use Rattle.cert_check.specs.Numbered.{IsRightNumber, numbered_hint, numbered_step};
+ghost use Rattle.cert_check.specs.Stages.{IsRightStepNumber};
 
 use inst_logic::{Memory, Signed};
 use proof_log::Checker;
 use prop_logic::{Derivation, Hint, HintList, LitList, LitLists, Step};
-use saturation_cert::{GroundHint, GroundHintList, GroundStepList};
+use saturation_cert::{GroundHint, GroundHintList, GroundLineList, GroundStepList};
 use std::alloc::Global;
-use term_bank::{IdClause, IdClauseList};
+use term_bank::{Bank, IdClause, IdClauseList};
 
 fn numbered_clause(alloc: Global, c: &IdClause) -> Result<LitList, Memory>
     ensures { IfOk result (λ d. d ≡ c.now) }
@@ -36,6 +41,17 @@ pub fn numbered_clauses(alloc: Global, clauses: &IdClauseList) -> Result<LitList
     Ok(lists)
 }
 
+// The clauses of the lines with the number of each atom in its place.
+pub fn numbered_lines(alloc: Global, lines: &GroundLineList) -> Result<LitLists, Memory>
+    ensures { IfOk result (λ ds. ds ≡ map (λ l. l.clause) lines.now) }
+{
+    let mut lists = LitLists::from(Vec::with_capacity(alloc, lines.len())?);
+    for line in lines.as_slice() {
+        lists.push(numbered_clause(alloc, &line.clause)?)?;
+    }
+    Ok(lists)
+}
+
 fn numbered_hint(hint: &GroundHint) -> Hint
     ensures { result ≡ numbered_hint hint.now }
 {
@@ -56,7 +72,7 @@ fn numbered_hints(alloc: Global, hints: &GroundHintList) -> Result<HintList, Mem
 }
 
 // The steps with the number of each atom in its place.
-pub fn numbered_steps(alloc: Global, steps: &GroundStepList) -> Result<Derivation, Memory>
+fn numbered_steps(alloc: Global, steps: &GroundStepList) -> Result<Derivation, Memory>
     ensures { IfOk result (λ ds. ds ≡ map numbered_step steps.now) }
 {
     let mut derivation = Derivation::from(Vec::with_capacity(alloc, steps.len())?);
@@ -83,11 +99,7 @@ fn is_right(checker: &mut Checker, given: &LitLists, derivation: &Derivation, i:
 }
 
 // The number of the first step that has no hint or is not shown.
-pub fn first_wrong(
-    checker: &mut Checker,
-    given: &LitLists,
-    derivation: &Derivation,
-) -> Option<usize>
+fn first_wrong(checker: &mut Checker, given: &LitLists, derivation: &Derivation) -> Option<usize>
     requires given { AllAtomsBelow checker.old given.now }
     requires derivation { StepsBelow checker.old derivation.now }
     ensures { IsFirstWrongOf (IsRightNumber given.now derivation.now) result }
@@ -98,4 +110,30 @@ pub fn first_wrong(
         }
     }
     None
+}
+
+// The number of the first step that has no hint or is not shown from the given clauses and the steps before it.
+pub fn wrong_step(
+    alloc: Global,
+    bank: &Bank,
+    given: &LitLists,
+    steps: &GroundStepList,
+) -> Result<Option<usize>, Memory>
+    requires given { AllAtomsBelow (length bank.now.trees) given.now }
+    requires steps { All (λ s. IsWholeClause bank.now s.clause) steps.now }
+    ensures { IfOk result (IsFirstWrongOf (IsRightStepNumber (map (clause_at bank.now) given.now) (map (step_of bank.now) steps.now))) }
+{
+    let derivation = numbered_steps(alloc, steps)?;
+    let mut checker = Checker::with_room(alloc, bank.len(), given, &derivation)?;
+    Ok(first_wrong(&mut checker, given, &derivation))
+}
+
+// Whether there is a last step and it is the empty clause.
+pub fn ends_empty(steps: &GroundStepList) -> bool
+    ensures { (f : Forest) → IsTrue result ↔ EndsEmpty (map (step_of f) steps.now) }
+{
+    match steps.as_slice().last() {
+        Some(step) => step.clause.is_empty(),
+        None => false,
+    }
 }

@@ -1,32 +1,36 @@
-use Rattle.std.proofs.Common.{◌≡◌, ℕ, ◌<◌, ◌∙◌, List, length, sym, ap, subst, true, false, cond, arith}
+use Rattle.std.proofs.Common.{◌≡◌, ◌<◌, ◌∙◌, List, length, get_or, sym, ap, subst, cond, arith, None, Some, ℕ}
+use Rattle.std.proofs.lemmas.List.{get_or_default}
+use Rattle.std.specs.Map.{lookup}
 use Rattle.std.specs.Cmp.Lexicographic.{pointwise}
+use Rattle.indexmap.specs.IndexMap.{get}
 use Rattle.inst_logic.specs.declared.signed.Signed.{Signed}
 use Rattle.clause_form.specs.Literals.{id_eq}
-use Rattle.cert_check.specs.Lookups.{has_clause}
 use Rattle.cert_check.proofs.LookupLaws.{more_found, more_there, are_clauses}
 use Rattle.cert_check.proofs.lookup.clauses_of.Goals as goal
 
-pub loop-member-init : goal.loop-member-init
-loop-member-init c = record {
-  found = λ q h. absurd (let t : false ≡ true = sym (ap (λ ks. has_clause ks q) c.new-clauses.ensures.empty) ∙ h in cc);
+pub loop-i-init : goal.loop-i-init
+loop-i-init c = record {
+  found = λ q k h. absurd (let e : None ≡ Some k = sym (ap (lookup (pointwise id_eq q)) c.new-clauses.ensures.empty) ∙ h in cc);
   there = λ k d less. absurd (omega arith);
 }
 
-pub loop-member-preserved : goal.loop-member-preserved
-loop-member-preserved c =
+pub loop-i-preserved : goal.loop-i-preserved
+loop-i-preserved c =
     let ms = c.args.members.now in
-    let old = has_clause c.loop-member.clauses.keys in
-    let new = has_clause c.insert.new.self.keys in
-    let m = c.member-item.result in
-    let within : c.loop-member.member-index < length ms = omega (arith, c.loop-member-test.true) in
-    let more : (q : List (Signed ℕ)) → new q ≡ cond (pointwise id_eq m.clause q) true (old q) =
-    subst (λ (x : List (Signed ℕ)). (q : List (Signed ℕ)) → new q ≡ cond (pointwise id_eq x q) true (old q)) c.in_ok-clause.ensures c.in_ok-insert.ensures.updates.0 in
+    let old = get (pointwise id_eq) c.loop-i.clauses in
+    let new = get (pointwise id_eq) c.insert.new.self in
+    let i = c.loop-i.i in
+    let r = c.index-members-i.result in
+    let m = get_or ms i r in
+    let within : i < length ms = omega (arith, c.loop-i-test.true) in
+    let more : (q : List (Signed ℕ)) → new q ≡ cond (pointwise id_eq m.clause q) (Some i) (old q) =
+    subst (λ (x : List (Signed ℕ)). (q : List (Signed ℕ)) → new q ≡ cond (pointwise id_eq x q) (Some i) (old q)) c.in_ok-clause.ensures c.in_ok-insert.ensures.updates.0 in
     record {
-      found = more_found ms old new c.loop-member.member-index m within c.member-item.is more c.loop-member.invariant.found;
-      there = more_there ms old new c.loop-member.member-index m within c.member-item.is more c.loop-member.invariant.there;
+      found = more_found ms old new i m within (get_or_default ms i r m within) more c.loop-i.invariant.found;
+      there = more_there ms old new i m within (get_or_default ms i r m within) more c.loop-i.invariant.there;
     }
 
 pub returns : goal.returns
 returns c =
-    are_clauses c.args.members.now c.loop-member.clauses.keys c.loop-member.invariant.found
-    (λ k d less. c.loop-member.invariant.there k d (omega (arith, less, c.loop-member-test.false)))
+    are_clauses c.args.members.now (get (pointwise id_eq) c.loop-i.clauses) c.loop-i.invariant.found
+    (λ k d less. c.loop-i.invariant.there k d (omega (arith, less, c.loop-i-test.false)))

@@ -7,7 +7,7 @@ use Rattle.cert_check.specs.Firsts.{IsFirstWrong}
 use Rattle.cert_check.proofs.LookupLaws.{ready_kept}
 use Rattle.cert_check.proofs.Bases.{none_wrong, some_wrong}
 use Rattle.cert_check.proofs.Saturations.{saturation_same, keeps_saturation_trans}
-use Rattle.cert_check.proofs.PairScans.{keeps_itself, first_pair, all_pairs}
+use Rattle.cert_check.proofs.PairScans.{keeps_itself, first_pair, all_pairs, of_right}
 use Rattle.cert_check.proofs.pairs.wrong_pair_by.Goals as goal
 
 pub loop-i-init : goal.loop-i-init
@@ -20,7 +20,7 @@ pub returns-in-Some-clause-first : goal.returns-in-Some-clause-first
 returns-in-Some-clause-first c =
     let same = saturation_same c.args.cert.now c.loop-i.cert c.requires.ready.whole c.loop-i.invariant.kept in
     let wrong = subst (λ (x : format.Saturation). IsFirstWrong (IsRightPair x (suc c.loop-i.i)) c.in-Some.right) same (some_wrong _ c.in_ok-right.field-0 c.in-Some.right c.in_ok-right.ensures.first c.in-Some.is) in
-    rw add-one (first_pair (saturation_of c.args.cert.now) c.loop-i.i c.loop-i.invariant.before c.in-Some.right wrong)
+    rw add-one (first_pair (saturation_of c.args.cert.now) (IsRightPair (saturation_of c.args.cert.now)) (of_right (saturation_of c.args.cert.now)) c.loop-i.i c.loop-i.invariant.before c.in-Some.right wrong)
 
 pub loop-i-preserved : goal.loop-i-preserved
 loop-i-preserved c =
@@ -34,4 +34,4 @@ loop-i-preserved c =
 
 pub returns-clause-first : goal.returns-clause-first
 returns-clause-first c =
-    all_pairs (saturation_of c.args.cert.now) c.loop-i.i c.loop-i.invariant.before (omega (arith, length-map c.args.cert.now.base.members (entry_of c.args.cert.now.base.bank)))
+    all_pairs (saturation_of c.args.cert.now) (IsRightPair (saturation_of c.args.cert.now)) (of_right (saturation_of c.args.cert.now)) c.loop-i.i c.loop-i.invariant.before (omega (arith, length-map c.args.cert.now.base.members (entry_of c.args.cert.now.base.bank)))

@@ -1,0 +1,111 @@
+-- Covers that are compared with what is due.
+use Rattle.std.proofs.Common.{◌≡◌, ◌↔◌, ℕ, suc, ◌<◌, List, [], ◌∷◌, length, map, get_or, Bool, true, false, Option, None, Some, refl, ap, sym, ◌∙◌, subst}
+use Rattle.std.specs.Prelude.{IsTrue, slice_get, option_map}
+use Rattle.std.proofs.lemmas.List.{length-map}
+use Rattle.std.proofs.lemmas.List.Elements.{All-cons, All-head, All-nil}
+use Rattle.std.proofs.lemmas.Option.{slice_get-map, slice_get-get_or, slice_get_within, same_Some}
+use Rattle.inst_logic.specs.declared.signed.Signed.{Signed}
+use Rattle.inst_logic.specs.Clauses.{TreeClause, canonical_form, instance}
+use Rattle.inst_logic.specs.Unifiers.{Sided}
+use Rattle.inst_calculus.specs.Entries.{Entry}
+use Rattle.inst_calculus.specs.Models.{Member as Selected}
+use Rattle.cert_format.specs.Certificate as format
+use Rattle.cert_format.specs.TermLists.{HoldsBy}
+use Rattle.cert_format.specs.Validity.{CoversAt, SelectsAt}
+use Rattle.cert_format.proofs.Numbers.{slice_get_of_map}
+use Rattle.term_bank.specs.Forest.{Forest, Extends, clause_at, literal_tree}
+use Rattle.term_bank.proofs.Clauses.{clause_extends}
+use Rattle.saturation_cert.specs.declared.certificate.By.{By}
+use Rattle.saturation_cert.specs.declared.certificate.Cover.{Cover}
+use Rattle.saturation_cert.specs.declared.certificate.Covered.{Covered}
+use Rattle.saturation_cert.specs.declared.certificate.Saturation.{Saturation}
+use Rattle.saturation_cert.specs.declared.member.Member.{Member}
+use Rattle.saturation_cert.specs.Values.{by_of, cover_of, covered_of, entry_of, saturation_of, side_of}
+use Rattle.saturation_cert.specs.Wholes.{IsWholeBy, IsWholeCover, IsWholeCovered, IsWholeSaturation}
+use Rattle.saturation_cert.proofs.Grown.{bys_grown, bys_same, members_same}
+use Rattle.unify_core.specs.Sides.{Binding, IsResolvedBy, of_side}
+use Rattle.unify_core.specs.declared.side.Side.{Side}
+use Rattle.unify_core.specs.declared.side.Side.TheVariants.{Left, Right}
+use Rattle.cert_check.specs.declared.due_side.DueSide.{DueSide}
+use Rattle.cert_check.specs.Compared.{IsCoverRight, IsNamedRight}
+use Rattle.cert_check.specs.DueSteps.{due_of}
+use Rattle.cert_check.specs.Sides.{left_number, right_number}
+use Rattle.cert_check.proofs.CoverLaws.{clause_of}
+
+abbrev first_or : format.By → List format.By → format.By
+first_or d [] = d
+first_or d (b ∷ bs) = b
+
+by_same : (f g : Forest) → Extends f g → (b : By) → IsWholeBy f b → by_of g b ≡ by_of f b
+by_same f g grown b whole = ap (first_or (by_of f b)) (bys_same f g grown (b ∷ []) (All-cons (IsWholeBy f) b [] whole (All-nil (IsWholeBy f))))
+
+pub by_later : (f g : Forest) → Extends f g → (b : By) → IsWholeBy f b → IsWholeBy g b
+by_later f g grown b whole = All-head (IsWholeBy g) b [] (bys_grown f g grown (b ∷ []) (All-cons (IsWholeBy f) b [] whole (All-nil (IsWholeBy f))))
+
+-- the clause of the side's member
+member_clause : (c : Saturation) (i : ℕ) (m : Member) → i < length c.base.members → m ≡ get_or c.base.members i m → (n : Selected) → SelectsAt (saturation_of c) (suc i) n → clause_at c.base.bank m.clause ≡ n.clause
+member_clause c i m within is n sel =
+    let f = c.base.bank in
+    let (k, at, e) = slice_get_of_map (entry_of f) c.base.members i sel.entry sel.entry_at in
+    let same : k ≡ m = same_Some k m (sym at ∙ slice_get-get_or c.base.members i m within ∙ ap Some (sym is)) in
+    ap (clause_of f) (sym same) ∙ ap (λ (y : Entry). y.clause) e ∙ sym sel.clause
+
+module _ (c : Saturation) (g : Forest) (grown : Extends c.base.bank g) (whole : IsWholeSaturation c) (es : List Binding) (x : Side) (i : ℕ) (m : Member) (within : i < length c.base.members) (is : m ≡ get_or c.base.members i m)
+    (d : List (Signed ℕ)) (made : (s : Sided) → IsResolvedBy c.base.bank es s → clause_at g d ≡ canonical_form (instance (of_side s x) (clause_at c.base.bank m.clause))) (v : Cover) (cover : IsWholeCover c.base.bank v) where
+  there : clause_at g v.clause ≡ clause_at c.base.bank v.clause
+  there = clause_extends c.base.bank g grown v.clause cover.clause.ids
+
+  made_of : (s : Sided) → IsResolvedBy c.base.bank es s → (n : Selected) → SelectsAt (saturation_of c) (suc i) n → clause_at g d ≡ canonical_form (instance (of_side s x) n.clause)
+  made_of s resolved n sel = subst (λ (w : TreeClause). clause_at g d ≡ canonical_form (instance (of_side s x) w)) (member_clause c i m within is n sel) (made s resolved)
+
+  pub named_wrong : ¬ (clause_at g d ≡ clause_at g v.clause) → IsNamedRight c es x (suc i) v false
+  named_wrong differ s resolved n sel = (
+    (λ t. absurd (let e : false ≡ true = t in cc)),
+    (λ h. absurd (differ (made_of s resolved n sel ∙ sym h.0 ∙ sym there))),
+  )
+
+  pub named_right : clause_at g d ≡ clause_at g v.clause → (r : Bool) → ((w : TreeClause) → length w ≡ length m.clause → IsTrue r ↔ HoldsBy (map (entry_of g) c.base.members) w (clause_at g d) (by_of g v.by)) → IsNamedRight c es x (suc i) v r
+  named_right same r holds s resolved n sel =
+      let long : length n.clause ≡ length m.clause = ap (λ (w : TreeClause). length w) (sym (member_clause c i m within is n sel)) ∙ length-map m.clause (literal_tree c.base.bank) in
+      let law : IsTrue r ↔ HoldsBy (map (entry_of g) c.base.members) n.clause (clause_at c.base.bank v.clause) (by_of g v.by) =
+      subst (λ (e : TreeClause). IsTrue r ↔ HoldsBy (map (entry_of g) c.base.members) n.clause e (by_of g v.by)) (same ∙ there) (holds n.clause long) in
+      let here : IsTrue r ↔ HoldsBy (saturation_of c).base.members n.clause (clause_at c.base.bank v.clause) (by_of c.base.bank v.by) =
+      subst (λ (b : format.By). IsTrue r ↔ HoldsBy (saturation_of c).base.members n.clause (clause_at c.base.bank v.clause) b) (by_same c.base.bank g grown v.by cover.by)
+      (subst (λ (ms : List Entry). IsTrue r ↔ HoldsBy ms n.clause (clause_at c.base.bank v.clause) (by_of g v.by)) (members_same c.base.bank g grown c.base.members whole.members) law) in (
+        (λ t. (sym (same ∙ there) ∙ made_of s resolved n sel, here.0 t)),
+        (λ h. here.1 h.1),
+      )
+
+pub whole_cover_at : (c : Covered) → IsWholeCovered c → (place : ℕ) (v : Cover) → slice_get c.covers place ≡ Some v → IsWholeCover c.cert.base.bank v
+whole_cover_at c whole place v at =
+    let within = slice_get_within c.covers place v at in
+    let same : get_or c.covers place v ≡ v = same_Some (get_or c.covers place v) v (sym (slice_get-get_or c.covers place v within) ∙ at) in
+    subst (IsWholeCover c.cert.base.bank) same (whole.covers place v within)
+
+side_from : (x y : Side) → side_of x ≡ side_of y → x ≡ y
+side_from Left Left e = refl
+side_from Left Right e = absurd cc
+side_from Right Left e = absurd cc
+side_from Right Right e = refl
+
+cover_there : (c : Covered) (place : ℕ) (o : Option Cover) → slice_get c.covers place ≡ o → slice_get (covered_of c).covers place ≡ option_map (cover_of c.cert.base.bank) o
+cover_there c place o at = slice_get-map (cover_of c.cert.base.bank) c.covers place ∙ ap (option_map (cover_of c.cert.base.bank)) at
+
+module _ (c : Covered) (es : List Binding) (due : DueSide) (place : ℕ) where
+  pub cover_none : slice_get c.covers place ≡ None → IsCoverRight c es due place false
+  cover_none at s resolved m sel =
+      subst (λ (o : Option format.Cover). IsTrue false ↔ CoversAt (saturation_of c.cert).base.members (Some (due_of due.side due.own due.other m s)) o) (sym (cover_there c place None at))
+      ((λ t. absurd (let e : false ≡ true = t in cc)), (λ h. absurd h))
+
+  module _ (v : Cover) (at : slice_get c.covers place ≡ Some v) where
+    pub cover_other : ¬ ((v.left ≡ left_number due.side due.own due.other) × (v.right ≡ right_number due.side due.own due.other) × (v.side ≡ due.side)) → IsCoverRight c es due place false
+    cover_other other s resolved m sel =
+        subst (λ (o : Option format.Cover). IsTrue false ↔ CoversAt (saturation_of c.cert).base.members (Some (due_of due.side due.own due.other m s)) o) (sym (cover_there c place (Some v) at))
+        ((λ t. absurd (let e : false ≡ true = t in cc)), (λ h. absurd (other (h.left, h.right, side_from v.side due.side h.side))))
+
+    pub cover_same : (v.left ≡ left_number due.side due.own due.other) × (v.right ≡ right_number due.side due.own due.other) × (v.side ≡ due.side) → (r : Bool) → IsNamedRight c.cert es due.side (suc due.own) v r → IsCoverRight c es due place r
+    cover_same same r named s resolved m sel =
+        subst (λ (o : Option format.Cover). IsTrue r ↔ CoversAt (saturation_of c.cert).base.members (Some (due_of due.side due.own due.other m s)) o) (sym (cover_there c place (Some v) at)) (
+          (λ t. let h = (named s resolved m sel).0 t in record { left = same.0; right = same.1; side = ap side_of same.2; clause = h.0; holds = h.1 }),
+          (λ h. (named s resolved m sel).1 (h.clause, h.holds)),
+        )

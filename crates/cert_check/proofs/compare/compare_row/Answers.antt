@@ -1,0 +1,8 @@
+use Rattle.std.proofs.Common.{List, ℕ, suc, sym, subst}
+use Rattle.saturation_cert.specs.Values.{saturation_of}
+use Rattle.cert_check.specs.Meetings.{LeadsOn}
+use Rattle.cert_check.proofs.compare.compare_row.Goals as goal
+
+pub compare_among-requires-clause-partners : goal.compare_among-requires-clause-partners
+compare_among-requires-clause-partners c =
+    subst (λ (js : List ℕ). LeadsOn (saturation_of c.args.cert.now.cert) c.args.i (suc c.args.i) js) (sym c.deref.ensures.value) c.in_ok-partners.ensures

@@ -1,0 +1,39 @@
+use Rattle.std.proofs.Common.{ℕ, sym, subst}
+use Rattle.cert_format.specs.Certificate as format
+use Rattle.cert_format.specs.Validity.{IsRightAxiom, IsRightMember, LinesPass}
+use Rattle.saturation_cert.specs.Values.{base_of, refutation_of}
+use Rattle.saturation_cert.proofs.Kept.{base_same, refutation_whole}
+use Rattle.cert_check.specs.Firsts.{IsFirstWrong}
+use Rattle.cert_check.proofs.Bases.{none_wrong, some_wrong}
+use Rattle.cert_check.proofs.Refutations.{line_others, axiom_first, derived_first, keeps_trans}
+use Rattle.cert_check.proofs.refutation.check_members.Goals as goal
+
+pub returns-in-Some-clause-complaint : goal.returns-in-Some-clause-complaint
+returns-in-Some-clause-complaint c =
+    let r = refutation_of c.args.cert.now in
+    axiom_first (LinesPass r) (line_others r) c.in-Some.n (some_wrong (IsRightAxiom r.base) c.in_ok-n.field-0 c.in-Some.n c.in_ok-n.ensures.first c.in-Some.is)
+
+pub wrong_member-requires-clause-axioms : goal.wrong_member-requires-clause-axioms
+wrong_member-requires-clause-axioms c =
+    let same = base_same c.args.cert.now.base c.wrong_axiom.new.base c.requires.base c.wrong_axiom.ensures.kept in
+    subst (λ (b : format.Base). (n : ℕ) → IsRightAxiom b n) (sym same) (none_wrong (IsRightAxiom (base_of c.args.cert.now.base)) c.in_ok-n.field-0 c.in_ok-n.ensures.first c.in_default.not-Some)
+
+pub returns-in-Some-2-clause-complaint : goal.returns-in-Some-2-clause-complaint
+returns-in-Some-2-clause-complaint c =
+    let r = refutation_of c.args.cert.now in
+    let same = base_same c.args.cert.now.base c.wrong_axiom.new.base c.requires.base c.wrong_axiom.ensures.kept in
+    let axioms = none_wrong (IsRightAxiom r.base) c.in_ok-n.field-0 c.in_ok-n.ensures.first c.in_default.not-Some in
+    let wrong = subst (λ (b : format.Base). IsFirstWrong (IsRightMember b) c.in-Some-2.n) same (some_wrong _ c.in_ok-n-2.field-0 c.in-Some-2.n c.in_ok-n-2.ensures.first c.in-Some-2.is) in
+    derived_first (LinesPass r) (line_others r) axioms c.in-Some-2.n wrong
+
+pub returns-clause-axioms : goal.returns-clause-axioms
+returns-clause-axioms c = none_wrong (IsRightAxiom (base_of c.args.cert.now.base)) c.in_ok-n.field-0 c.in_ok-n.ensures.first c.in_default.not-Some
+
+pub returns-clause-members : goal.returns-clause-members
+returns-clause-members c =
+    let same = base_same c.args.cert.now.base c.wrong_axiom.new.base c.requires.base c.wrong_axiom.ensures.kept in
+    subst (λ (b : format.Base). (n : ℕ) → IsRightMember b n) same (none_wrong _ c.in_ok-n-2.field-0 c.in_ok-n-2.ensures.first c.in_default-2.not-Some)
+
+pub returns-clause-whole : goal.returns-clause-whole
+returns-clause-whole c =
+    refutation_whole c.args.cert.now c.wrong_member.new.base c.requires (keeps_trans c.args.cert.now.base c.wrong_axiom.new.base c.wrong_member.new.base c.wrong_axiom.ensures.kept c.wrong_member.ensures.kept) c.in_ok-n-2.ensures.whole

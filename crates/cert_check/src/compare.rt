@@ -1,0 +1,351 @@
+// The comparison of the covers that are named with what is due, one pair after the other. Nothing is searched for. The first wrong
+// cover is kept while the pairs go on, since a pair with a unifier that is proper on neither side comes before it.
+ghost use Rattle.std.specs.Prelude.{◌≡◌, ◌↔◌, ◌+◌, ◌<◌, ◌≤◌, List, [], suc, length, false, true, IfOk, IsTrue, None, OnOk};
+ghost use Rattle.term_bank.specs.Forest.{IsClauseOf, clause_at};
+ghost use Rattle.cert_format.specs.Certificate as format;
+ghost use Rattle.cert_format.specs.Dues.{Due, AreDue};
+ghost use Rattle.cert_format.specs.Validity.{IsProperPair, IsRightCover, IsValidBase};
+ghost use Rattle.unify_core.specs.Chains.{AreBindings};
+ghost use Rattle.unify_core.specs.Terms.{AreTerms};
+ghost use Rattle.saturation_cert.specs.Values.{base_of, covered_of, saturation_of};
+ghost use Rattle.saturation_cert.specs.Wholes.{HasPlaces, IsWholeCover, IsWholeCovered, IsWholeSaturation, KeepsCovered, KeepsSaturation};
+ghost use Rattle.cert_check.specs.Chains.{AreMeetings};
+ghost use Rattle.cert_check.specs.Closings.{IsProperSomewhere};
+ghost use Rattle.cert_check.specs.DueSteps.{AreCompared, GivesMeeting, GivesPair, GivesRow, GivesSide};
+ghost use Rattle.cert_check.specs.FirstPairs.{IsFirstWrongPairOf};
+ghost use Rattle.cert_check.specs.Firsts.{IsFirstWrongOf};
+ghost use Rattle.cert_check.specs.Compared.{IsComparable, IsCoverRight, IsNamedRight};
+ghost use Rattle.cert_check.specs.Meetings.{LeadsOn};
+ghost use Rattle.cert_check.specs.Sides.{left_number, right_number};
+
+use crate::difference::same_clause;
+use crate::due_side::{DueSide, number_at};
+use crate::meetings::Meetings;
+use crate::pairs::is_proper;
+use cert_names::holds_by;
+use clause_form::conclude_clause;
+use inst_logic::Memory;
+use saturation_cert::{Cover, Covered, Member, Saturation, selected};
+use std::alloc::Global;
+use term_bank::{Bank, IdClause};
+use unify_core::{Bindings, Side};
+
+/// How many covers are right from the first on, and whether the next one is known to be wrong.
+#[derive(Clone, Copy)]
+pub struct Progress {
+    pub count: usize,
+    pub wrong: bool,
+}
+
+// Whether the cover has the numbers and the side.
+fn is_of(cover: &Cover, members: &[Member], due: DueSide) -> bool
+    requires own { due.own < length members.now }
+    requires other { due.other < length members.now }
+    ensures { IsTrue result ↔ ((cover.now.left ≡ left_number due.side due.own due.other) × (cover.now.right ≡ right_number due.side due.own due.other) × (cover.now.side ≡ due.side)) }
+{
+    cover.left == due.left_number(members)
+        && cover.right == due.right_number(members)
+        && cover.side == due.side
+}
+
+// Whether the clauses stand for the same trees: equal trees have equal ids.
+fn same_trees(bank: &Bank, c: &IdClause, d: &IdClause) -> bool
+    requires left { IsClauseOf bank.now c.now }
+    requires right { IsClauseOf bank.now d.now }
+    ensures { IsTrue result ↔ (clause_at bank.now c.now ≡ clause_at bank.now d.now) }
+{
+    bank.distinct();
+    same_clause(c, d)
+}
+
+// Whether the cover's clause is the instance of the side's member under the bindings, and what it names covers it.
+fn is_named(
+    alloc: Global,
+    cert: &mut Saturation,
+    bindings: &Bindings,
+    due: DueSide,
+    cover: &Cover,
+) -> Result<bool, Memory>
+    requires whole { IsWholeSaturation cert.old }
+    requires base { IsValidBase (base_of cert.old.base) }
+    requires within { due.own < length cert.old.base.members }
+    requires cover { IsWholeCover cert.old.base.bank cover.now }
+    requires bindings { AreBindings cert.old.base.bank bindings.now.entries }
+    requires terms { AreTerms cert.old.base.bank bindings.now.entries }
+    ensures kept { KeepsSaturation cert.old cert.new }
+    ensures whole { OnOk result (IsWholeSaturation cert.new) }
+    ensures named { IfOk result (IsNamedRight cert.old bindings.now.entries due.side (suc due.own) cover.now) }
+{
+    let members = cert.base.members.as_slice();
+    let member = &members[due.own];
+    let clause = conclude_clause(
+        alloc,
+        &mut cert.base.bank,
+        bindings,
+        due.side,
+        &member.clause,
+    )?;
+    if !same_trees(&cert.base.bank, &clause, &cover.clause) {
+        return Ok(false);
+    }
+    holds_by(
+        alloc,
+        &mut cert.base.bank,
+        &cert.base.members,
+        member.clause.len(),
+        &clause,
+        &cover.by,
+    )
+}
+
+// Whether the cover at the place, counted from 0, is that of the side.
+fn is_right_cover(
+    alloc: Global,
+    cert: &mut Covered,
+    bindings: &Bindings,
+    due: DueSide,
+    place: usize,
+) -> Result<bool, Memory>
+    requires comparable { IsComparable cert.old }
+    requires own { due.own < length cert.old.cert.base.members }
+    requires other { due.other < length cert.old.cert.base.members }
+    requires bindings { AreBindings cert.old.cert.base.bank bindings.now.entries }
+    requires terms { AreTerms cert.old.cert.base.bank bindings.now.entries }
+    ensures kept { KeepsCovered cert.old cert.new }
+    ensures whole { OnOk result (IsWholeCovered cert.new) }
+    ensures right { IfOk result (IsCoverRight cert.old bindings.now.entries due place) }
+    ensures within { IfOk result (λ r. r ≡ true → place < length cert.old.covers) }
+{
+    let Some(cover) = cert.covers.get(place) else {
+        return Ok(false);
+    };
+    if !is_of(cover, cert.cert.base.members.as_slice(), due) {
+        return Ok(false);
+    }
+    is_named(alloc, &mut cert.cert, bindings, due, cover)
+}
+
+// Notes whether the next cover is right.
+fn note(progress: &mut Progress, _covers: &[Cover], right: bool)
+    requires { right ≡ true → progress.old.count < length _covers.now }
+    ensures yes { right ≡ true → progress.new ≡ record { count = progress.old.count + 1; wrong = progress.old.wrong } }
+    ensures no { right ≡ false → progress.new ≡ record { count = progress.old.count; wrong = true } }
+{
+    if right {
+        progress.count += 1;
+    } else {
+        progress.wrong = true;
+    }
+}
+
+// Compares the next cover with the side, where the unifier is proper on it and no cover was wrong.
+fn compare_side(
+    alloc: Global,
+    cert: &mut Covered,
+    bindings: &Bindings,
+    due: DueSide,
+    progress: &mut Progress,
+) -> Result<(), Memory>
+    requires comparable { IsComparable cert.old }
+    requires own { due.own < length cert.old.cert.base.members }
+    requires other { due.other < length cert.old.cert.base.members }
+    requires bindings { AreBindings cert.old.cert.base.bank bindings.now.entries }
+    requires terms { AreTerms cert.old.cert.base.bank bindings.now.entries }
+    requires counted { progress.old.count ≤ length cert.old.covers }
+    ensures kept { KeepsCovered cert.old cert.new }
+    ensures whole { OnOk result (IsWholeCovered cert.new) }
+    ensures counted { progress.new.count ≤ length cert.new.covers }
+    ensures gives { OnOk result (GivesSide (saturation_of cert.old.cert) cert.old.cert.base.bank bindings.now.entries due.side due.own due.other (AreCompared (covered_of cert.old) progress.old) (AreCompared (covered_of cert.old) progress.new)) }
+{
+    if !bindings.proper(&cert.cert.base.bank, due.side) {
+        return Ok(());
+    }
+    if progress.wrong {
+        return Ok(());
+    }
+    let right = is_right_cover(alloc, cert, bindings, due, progress.count)?;
+    note(progress, cert.covers.as_slice(), right);
+    Ok(())
+}
+
+// Compares the covers of members `i` and `j`, counted from 0, for the unifier that the bindings stand for. False comes where it
+// is proper on neither side.
+fn compare_meeting(
+    alloc: Global,
+    cert: &mut Covered,
+    bindings: &Bindings,
+    i: usize,
+    j: usize,
+    progress: &mut Progress,
+) -> Result<bool, Memory>
+    requires comparable { IsComparable cert.old }
+    requires left { i < length cert.old.cert.base.members }
+    requires right { j < length cert.old.cert.base.members }
+    requires bindings { AreBindings cert.old.cert.base.bank bindings.now.entries }
+    requires terms { AreTerms cert.old.cert.base.bank bindings.now.entries }
+    requires counted { progress.old.count ≤ length cert.old.covers }
+    ensures kept { KeepsCovered cert.old cert.new }
+    ensures whole { OnOk result (IsWholeCovered cert.new) }
+    ensures counted { progress.new.count ≤ length cert.new.covers }
+    ensures proper { IfOk result (IsProperSomewhere cert.old.cert.base.bank bindings.now.entries) }
+    ensures gives { IfOk result (λ r. r ≡ true → GivesMeeting (saturation_of cert.old.cert) cert.old.cert.base.bank bindings.now.entries i j (AreCompared (covered_of cert.old) progress.old) (AreCompared (covered_of cert.old) progress.new)) }
+{
+    if !is_proper(&cert.cert.base.bank, bindings) {
+        return Ok(false);
+    }
+    let left = DueSide {
+        side: Side::Left,
+        own: i,
+        other: j,
+    };
+    compare_side(alloc, cert, bindings, left, progress)?;
+    let right = DueSide {
+        side: Side::Right,
+        own: j,
+        other: i,
+    };
+    compare_side(alloc, cert, bindings, right, progress)?;
+    Ok(true)
+}
+
+// Compares the covers of members `i` and `j`, counted from 0. False comes where they meet and the unifier is proper on neither
+// side.
+fn compare_pair(
+    alloc: Global,
+    cert: &mut Covered,
+    bindings: &mut Bindings,
+    i: usize,
+    j: usize,
+    progress: &mut Progress,
+) -> Result<bool, Memory>
+    requires comparable { IsComparable cert.old }
+    requires left { i < j }
+    requires right { j < length cert.old.cert.base.members }
+    requires counted { progress.old.count ≤ length cert.old.covers }
+    ensures kept { KeepsCovered cert.old cert.new }
+    ensures whole { OnOk result (IsWholeCovered cert.new) }
+    ensures counted { progress.new.count ≤ length cert.new.covers }
+    ensures proper { IfOk result (λ r. IsTrue r ↔ IsProperPair (saturation_of cert.old.cert) (suc i) (suc j)) }
+    ensures gives { IfOk result (λ r. r ≡ true → GivesPair (saturation_of cert.old.cert) (suc i) (suc j) (AreCompared (covered_of cert.old) progress.old) (AreCompared (covered_of cert.old) progress.new)) }
+{
+    let l = *selected(&cert.cert, i);
+    let m = *selected(&cert.cert, j);
+    if l.positive == m.positive {
+        return Ok(true);
+    }
+    if !bindings.unify(&cert.cert.base.bank, l.atom, m.atom)? {
+        return Ok(true);
+    }
+    compare_meeting(alloc, cert, bindings, i, j, progress)
+}
+
+// Compares the covers of member `i`, counted from 0, with each of the list, up to the first with which its unifier is proper on
+// neither side, whose number is the answer.
+fn compare_among(
+    alloc: Global,
+    cert: &mut Covered,
+    bindings: &mut Bindings,
+    i: usize,
+    partners: &[usize],
+    progress: &mut Progress,
+) -> Result<Option<usize>, Memory>
+    requires comparable { IsComparable cert.old }
+    requires within { i < length cert.old.cert.base.members }
+    requires partners { LeadsOn (saturation_of cert.old.cert) i (suc i) partners.now }
+    requires counted { progress.old.count ≤ length cert.old.covers }
+    ensures kept { KeepsCovered cert.old cert.new }
+    ensures whole { OnOk result (IsWholeCovered cert.new) }
+    ensures counted { progress.new.count ≤ length cert.new.covers }
+    ensures first { IfOk result (IsFirstWrongOf (IsProperPair (saturation_of cert.old.cert) (suc i))) }
+    ensures gives { IfOk result (λ o. o ≡ None → GivesRow (saturation_of cert.old.cert) i (AreCompared (covered_of cert.old) progress.old) (AreCompared (covered_of cert.old) progress.new)) }
+{
+    for j in partners {
+        if !compare_pair(alloc, cert, bindings, i, *j, progress)? {
+            let members = cert.cert.base.members.as_slice();
+            return Ok(Some(number_at(members, *j)));
+        }
+    }
+    Ok(None)
+}
+
+// Compares the covers of member `i`, counted from 0, with each later member, as far as the unifiers are proper on a side.
+fn compare_row(
+    alloc: Global,
+    cert: &mut Covered,
+    meetings: &Meetings,
+    bindings: &mut Bindings,
+    i: usize,
+    progress: &mut Progress,
+) -> Result<Option<usize>, Memory>
+    requires comparable { IsComparable cert.old }
+    requires meetings { AreMeetings (saturation_of cert.old.cert) meetings.now }
+    requires within { i < length cert.old.cert.base.members }
+    requires counted { progress.old.count ≤ length cert.old.covers }
+    ensures kept { KeepsCovered cert.old cert.new }
+    ensures whole { OnOk result (IsWholeCovered cert.new) }
+    ensures counted { progress.new.count ≤ length cert.new.covers }
+    ensures first { IfOk result (IsFirstWrongOf (IsProperPair (saturation_of cert.old.cert) (suc i))) }
+    ensures gives { IfOk result (λ o. o ≡ None → GivesRow (saturation_of cert.old.cert) i (AreCompared (covered_of cert.old) progress.old) (AreCompared (covered_of cert.old) progress.new)) }
+{
+    let partners = meetings.later_partners(alloc, &cert.cert, i)?;
+    compare_among(alloc, cert, bindings, i, &partners, progress)
+}
+
+// Compares the covers of all members, with room to work in.
+fn compare_rows(
+    alloc: Global,
+    cert: &mut Covered,
+    meetings: &Meetings,
+    bindings: &mut Bindings,
+    progress: &mut Progress,
+) -> Result<Option<(usize, usize)>, Memory>
+    requires comparable { IsComparable cert.old }
+    requires meetings { AreMeetings (saturation_of cert.old.cert) meetings.now }
+    requires start { (progress.old.count ≡ 0) × (progress.old.wrong ≡ false) }
+    ensures kept { KeepsCovered cert.old cert.new }
+    ensures whole { OnOk result (IsWholeCovered cert.new) }
+    ensures counted { progress.new.count ≤ length cert.new.covers }
+    ensures first { IfOk result (IsFirstWrongPairOf (IsProperPair (saturation_of cert.old.cert))) }
+    ensures compared { IfOk result (λ o. o ≡ None → (ds : List Due) × AreDue (saturation_of cert.old.cert) ds × AreCompared (covered_of cert.old) progress.new ds) }
+{
+    for i in 0..cert.cert.base.members.len() {
+        if let Some(right) = compare_row(alloc, cert, meetings, bindings, i, progress)? {
+            return Ok(Some((i + 1, right)));
+        }
+    }
+    Ok(None)
+}
+
+// Compares all covers, up to the first two members whose unifier is proper on neither side, whose numbers are the answer.
+pub fn compare_pairs(
+    alloc: Global,
+    cert: &mut Covered,
+    meetings: &Meetings,
+    progress: &mut Progress,
+) -> Result<Option<(usize, usize)>, Memory>
+    requires comparable { IsComparable cert.old }
+    requires meetings { AreMeetings (saturation_of cert.old.cert) meetings.now }
+    requires start { (progress.old.count ≡ 0) × (progress.old.wrong ≡ false) }
+    ensures kept { KeepsCovered cert.old cert.new }
+    ensures whole { OnOk result (IsWholeCovered cert.new) }
+    ensures counted { progress.new.count ≤ length cert.new.covers }
+    ensures first { IfOk result (IsFirstWrongPairOf (IsProperPair (saturation_of cert.old.cert))) }
+    ensures compared { IfOk result (λ o. o ≡ None → (ds : List Due) × AreDue (saturation_of cert.old.cert) ds × AreCompared (covered_of cert.old) progress.new ds) }
+{
+    let mut bindings = Bindings::new(alloc);
+    compare_rows(alloc, cert, meetings, &mut bindings, progress)
+}
+
+// The number of the first wrong cover, or of the first past what is due, where all pairs were compared.
+pub fn wrong_cover(progress: Progress, covers: &[Cover]) -> Option<usize>
+    requires { progress.count ≤ length covers.now }
+    ensures { (v : format.Covered) → length v.covers ≡ length covers.now → (ds : List Due) → AreDue v.saturation ds → AreCompared v progress ds → IsFirstWrongOf (IsRightCover v) result }
+{
+    if progress.wrong {
+        return Some(progress.count + 1);
+    }
+    if progress.count < covers.len() {
+        return Some(progress.count + 1);
+    }
+    None
+}

@@ -1,0 +1,165 @@
+// Covered instances. A variant is one look-up. Other covers are shorter members, and of these only those are tried whose selected
+// literal has the head of a literal of the instance, and a fingerprint that allows it, since it has to go onto one; trying all
+// members would cost their number at each pair.
+ghost use Rattle.std.specs.Prelude.{◌≡◌, ◌↔◌, ◌<◌, ℕ, List, map, length, All, Any, IfNone, IfOk, IfSome, IsTrue, true, false};
+ghost use Rattle.std.specs.List.{HoldsAt};
+ghost use Rattle.inst_logic.specs.Clauses.{IsCanonical, instance};
+ghost use Rattle.inst_logic.specs.Unifiers.{Sided};
+ghost use Rattle.inst_logic.specs.declared.signed.Signed.{Signed};
+ghost use Rattle.inst_calculus.specs.Saturation.{IsCovered};
+ghost use Rattle.term_bank.specs.Forest.{AreFormed, Extends, IsClauseOf, clause_at, tree_at};
+ghost use Rattle.unify_core.specs.Chains.{AreBindings};
+ghost use Rattle.unify_core.specs.Sides.{IsResolvedBy, of_side};
+ghost use Rattle.unify_core.specs.Terms.{AreTerms};
+ghost use Rattle.saturation_cert.specs.Wholes.{IsWholeClause};
+ghost use Rattle.cert_check.specs.Covers.{IsCoveredIn, ShorterOf};
+ghost use Rattle.cert_check.specs.Grounds.{AreCanonicalMembers};
+ghost use Rattle.cert_check.specs.Fingerprints.{HasFingerprint};
+ghost use Rattle.cert_check.specs.Lengths.{AreGrouped};
+ghost use Rattle.cert_check.specs.Lookups.{HasNoShorter, IsLookup, IsNoShorter};
+ghost use Rattle.cert_check.specs.Places.{IsPlaceOf};
+ghost use Rattle.cert_check.specs.Partners.{Head};
+
+use crate::fingerprint::{Fingerprint, fingerprint_of};
+use crate::lookup::Lookup;
+use clause_form::{conclude_clause, subsumes, tautology};
+use inst_logic::Memory;
+use saturation_cert::Member;
+use std::alloc::Global;
+use term_bank::{Bank, IdClause, IdLiteral};
+use unify_core::{Bindings, Side};
+
+// Whether the member at the place, counted from 0, subsumes the clause with fewer literals than this many. It is not tried where
+// the fingerprint of its selected literal excludes that one with this fingerprint is an instance.
+fn is_shorter_at(
+    alloc: Global,
+    bank: &Bank,
+    members: &[Member],
+    lookup: &Lookup,
+    len: usize,
+    c: &IdClause,
+    fingerprint: &Fingerprint,
+    k: usize,
+) -> Result<bool, Memory>
+    requires members { All (λ m. IsClauseOf bank.now m.clause) members.now }
+    requires lookup { IsLookup bank.now members.now lookup.now }
+    requires clause { IsClauseOf bank.now c.now }
+    requires within { k < length members.now }
+    requires shorter { HoldsAt (λ m. length m.clause < len) members.now k }
+    ensures yes { IfOk result (λ r. r ≡ true → IsPlaceOf (ShorterOf bank.now len c.now) members.now k) }
+    ensures no { IfOk result (λ r. r ≡ false → (l : Signed ℕ) → HasFingerprint bank.now (tree_at bank.now l.atom) fingerprint.now → IsNoShorter bank.now members.now lookup.now.fingerprints.items len c.now l k) }
+{
+    if lookup.fingerprints[k].differs(fingerprint) {
+        return Ok(false);
+    }
+    subsumes(alloc, bank, &members[k].clause, c)
+}
+
+// The place of a member that is so whose selected literal has the head of this one. The shortest come first.
+fn shorter_by(
+    alloc: Global,
+    bank: &Bank,
+    members: &[Member],
+    lookup: &Lookup,
+    len: usize,
+    c: &IdClause,
+    literal: &IdLiteral,
+) -> Result<Option<usize>, Memory>
+    requires members { All (λ m. IsClauseOf bank.now m.clause) members.now }
+    requires lookup { IsLookup bank.now members.now lookup.now }
+    requires clause { IsClauseOf bank.now c.now }
+    requires literal { literal.now.atom < length bank.now.trees }
+    ensures some { IfOk result (λ o. IfSome o (IsPlaceOf (ShorterOf bank.now len c.now) members.now)) }
+    ensures none { IfOk result (λ o. IfNone o ((hs : List Head) → AreGrouped members.now hs lookup.now.lengths → HasNoShorter bank.now members.now hs lookup.now.fingerprints.items len c.now literal.now)) }
+{
+    let lengths = &lookup.lengths;
+    let mut j = lengths.first_place(bank, literal);
+    if !lengths.is_below(j, len) {
+        return Ok(None);
+    }
+    let fingerprint = fingerprint_of(bank, literal.atom);
+    while lengths.is_below(j, len) {
+        let k = lengths.ranked[j].place;
+        if is_shorter_at(alloc, bank, members, lookup, len, c, &fingerprint, k)? {
+            return Ok(Some(k));
+        }
+        j = lengths.same[j];
+    }
+    Ok(None)
+}
+
+// The place of a member that is so. Its selected literal has an instance in the clause, so only those with the head of one of the
+// clause's literals are tried.
+pub fn shorter_place(
+    alloc: Global,
+    bank: &Bank,
+    members: &[Member],
+    lookup: &Lookup,
+    len: usize,
+    c: &IdClause,
+) -> Result<Option<usize>, Memory>
+    requires members { All (λ m. IsClauseOf bank.now m.clause) members.now }
+    requires lookup { IsLookup bank.now members.now lookup.now }
+    requires clause { IsClauseOf bank.now c.now }
+    ensures some { IfOk result (λ o. IfSome o (IsPlaceOf (ShorterOf bank.now len c.now) members.now)) }
+    ensures none { IfOk result (λ o. IfNone o (¬ (Any (ShorterOf bank.now len c.now) members.now))) }
+{
+    let literals = c.as_slice();
+    for literal in literals {
+        if let Some(k) = shorter_by(alloc, bank, members, lookup, len, c, literal)? {
+            return Ok(Some(k));
+        }
+    }
+    Ok(None)
+}
+
+// Whether the clause, an instance of one with this many literals, is covered by the members. A variant is looked up.
+fn has_cover(
+    alloc: Global,
+    bank: &Bank,
+    members: &[Member],
+    lookup: &Lookup,
+    len: usize,
+    c: &IdClause,
+) -> Result<bool, Memory>
+    requires members { All (λ m. IsClauseOf bank.now m.clause) members.now }
+    requires members_canonical { AreCanonicalMembers bank.now members.now }
+    requires lookup { IsLookup bank.now members.now lookup.now }
+    requires clause { IsClauseOf bank.now c.now }
+    requires canonical { IsCanonical (clause_at bank.now c.now) }
+    ensures { IfOk result (λ r. IsTrue r ↔ IsCoveredIn bank.now members.now len c.now) }
+{
+    bank.distinct();
+    if tautology(c) {
+        return Ok(true);
+    }
+    if lookup.place_of(c).is_some() {
+        return Ok(true);
+    }
+    let place = shorter_place(alloc, bank, members, lookup, len, c)?;
+    Ok(place.is_some())
+}
+
+// Whether the instance of the side's clause under the bindings is covered by the members.
+pub fn is_covered(
+    alloc: Global,
+    bank: &mut Bank,
+    members: &[Member],
+    lookup: &Lookup,
+    bindings: &Bindings,
+    side: Side,
+    c: &IdClause,
+) -> Result<bool, Memory>
+    requires members { All (λ m. IsWholeClause bank.old m.clause) members.now }
+    requires members_canonical { AreCanonicalMembers bank.old members.now }
+    requires lookup { IsLookup bank.old members.now lookup.now }
+    requires clause { IsWholeClause bank.old c.now }
+    requires canonical { IsCanonical (clause_at bank.old c.now) }
+    requires bindings { AreBindings bank.old bindings.now.entries }
+    ensures extends { Extends bank.old bank.new }
+    ensures formed { AreFormed bank.old → AreTerms bank.old bindings.now.entries → AreFormed bank.new }
+    ensures covered { IfOk result (λ r. (s : Sided) → IsResolvedBy bank.old bindings.now.entries s → IsTrue r ↔ IsCovered (map (λ m. clause_at bank.old m.clause) members.now) (clause_at bank.old c.now) (instance (of_side s side) (clause_at bank.old c.now))) }
+{
+    let conclusion = conclude_clause(alloc, bank, bindings, side, c)?;
+    has_cover(alloc, bank, members, lookup, c.len(), &conclusion)
+}

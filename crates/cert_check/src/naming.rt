@@ -1,0 +1,133 @@
+// What covers a clause, with its name: that it is a tautology, a member that it is a variant of, or a shorter member with terms under
+// which its literals are among those of the clause.
+ghost use Rattle.std.specs.Prelude.{◌≡◌, ◌+◌, ◌<◌, map, length, All, IfNone, IfOk, IfSome};
+ghost use Rattle.inst_logic.specs.Clauses.{IsCanonical, Subsumes, instance};
+ghost use Rattle.inst_logic.specs.Unifiers.{Sided};
+ghost use Rattle.inst_calculus.specs.Saturation.{IsCovered};
+ghost use Rattle.term_bank.specs.Forest.{AreFormed, Extends, IsClauseOf, clause_at};
+ghost use Rattle.unify_core.specs.Chains.{AreBindings};
+ghost use Rattle.unify_core.specs.Sides.{IsResolvedBy, of_side};
+ghost use Rattle.unify_core.specs.Terms.{AreTerms};
+ghost use Rattle.saturation_cert.specs.declared.certificate.By.TheVariants.{Variant};
+ghost use Rattle.saturation_cert.specs.Wholes.{IsWholeClause};
+ghost use Rattle.cert_check.specs.Covers.{IsCoveredIn};
+ghost use Rattle.cert_check.specs.Grounds.{AreCanonicalMembers};
+ghost use Rattle.cert_check.specs.Lookups.{IsLookup};
+ghost use Rattle.cert_check.specs.Names.{IsCoverBy, IsPartOf, NamesInstance};
+ghost use Rattle.cert_check.specs.Places.{IsPlaceOf};
+
+use crate::covers::shorter_place;
+use crate::lookup::Lookup;
+use cert_names::part_terms;
+use clause_form::{conclude_clause, tautology};
+use inst_logic::Memory;
+use saturation_cert::{By, Member};
+use std::alloc::Global;
+use term_bank::{Bank, IdClause};
+use unify_core::{Bindings, Side};
+
+/// A clause, and what covers it.
+#[derive(Drop)]
+pub struct Named {
+    pub clause: IdClause,
+    pub by: By,
+}
+
+// The member at the place, counted from 0, with the terms by which it subsumes the clause.
+pub fn part_of(
+    alloc: Global,
+    bank: &mut Bank,
+    members: &[Member],
+    k: usize,
+    c: &IdClause,
+) -> Result<By, Memory>
+    requires members { All (λ m. IsWholeClause bank.old m.clause) members.now }
+    requires members_canonical { AreCanonicalMembers bank.old members.now }
+    requires clause { IsWholeClause bank.old c.now }
+    requires place { IsPlaceOf (λ m. Subsumes (clause_at bank.old m.clause) (clause_at bank.old c.now)) members.now k }
+    ensures part { IfOk result (IsPartOf bank.old bank.new members.now k c.now) }
+    ensures extends { Extends bank.old bank.new }
+    ensures formed { AreFormed bank.old → AreFormed bank.new }
+{
+    match part_terms(alloc, bank, &members[k].clause, c)? {
+        Some(terms) => Ok(By::Part {
+            member: k + 1,
+            terms,
+        }),
+        None => unreachable!(),
+    }
+}
+
+// The member at the place, counted from 0, as one that the clause is a variant of.
+fn variant_of(_members: &[Member], k: usize) -> By
+    requires { k < length _members.now }
+    ensures { result ≡ Variant (k + 1) }
+{
+    By::Variant(k + 1)
+}
+
+// What covers the clause, an instance of one with this many literals. A variant is looked up.
+fn find_by(
+    alloc: Global,
+    bank: &mut Bank,
+    members: &[Member],
+    lookup: &Lookup,
+    len: usize,
+    c: &IdClause,
+) -> Result<Option<By>, Memory>
+    requires members { All (λ m. IsWholeClause bank.old m.clause) members.now }
+    requires members_canonical { AreCanonicalMembers bank.old members.now }
+    requires lookup { IsLookup bank.old members.now lookup.now }
+    requires clause { IsWholeClause bank.old c.now }
+    requires canonical { IsCanonical (clause_at bank.old c.now) }
+    ensures some { IfOk result (λ o. IfSome o (IsCoverBy bank.old bank.new members.now len c.now)) }
+    ensures none { IfOk result (λ o. IfNone o (¬ (IsCoveredIn bank.old members.now len c.now))) }
+    ensures extends { Extends bank.old bank.new }
+    ensures formed { AreFormed bank.old → AreFormed bank.new }
+{
+    bank.distinct();
+    if tautology(c) {
+        return Ok(Some(By::Tautology));
+    }
+    if let Some(k) = lookup.place_of(c) {
+        return Ok(Some(variant_of(members, k)));
+    }
+    match shorter_place(alloc, bank, members, lookup, len, c)? {
+        None => Ok(None),
+        Some(k) => {
+            let by = part_of(alloc, bank, members, k, c)?;
+            Ok(Some(by))
+        }
+    }
+}
+
+// The instance of the side's clause under the bindings, and what covers it.
+pub fn named_instance(
+    alloc: Global,
+    bank: &mut Bank,
+    members: &[Member],
+    lookup: &Lookup,
+    bindings: &Bindings,
+    side: Side,
+    c: &IdClause,
+) -> Result<Option<Named>, Memory>
+    requires members { All (λ m. IsWholeClause bank.old m.clause) members.now }
+    requires members_canonical { AreCanonicalMembers bank.old members.now }
+    requires lookup { IsLookup bank.old members.now lookup.now }
+    requires clause { IsWholeClause bank.old c.now }
+    requires canonical { IsCanonical (clause_at bank.old c.now) }
+    requires bindings { AreBindings bank.old bindings.now.entries }
+    requires terms { AreTerms bank.old bindings.now.entries }
+    requires formed { AreFormed bank.old }
+    ensures some { IfOk result (λ o. IfSome o (NamesInstance bank.old bank.new bindings.now.entries side members.now c.now)) }
+    ensures covered { IfOk result (λ o. IfSome o (λ _. (s : Sided) → IsResolvedBy bank.old bindings.now.entries s → IsCovered (map (λ m. clause_at bank.old m.clause) members.now) (clause_at bank.old c.now) (instance (of_side s side) (clause_at bank.old c.now)))) }
+    ensures none { IfOk result (λ o. IfNone o ((s : Sided) → IsResolvedBy bank.old bindings.now.entries s → ¬ (IsCovered (map (λ m. clause_at bank.old m.clause) members.now) (clause_at bank.old c.now) (instance (of_side s side) (clause_at bank.old c.now))))) }
+    ensures extends { Extends bank.old bank.new }
+    ensures formed { AreFormed bank.new }
+{
+    let clause = conclude_clause(alloc, bank, bindings, side, c)?;
+    match find_by(alloc, bank, members, lookup, c.len(), &clause)? {
+        None => Ok(None),
+        Some(by) => Ok(Some(Named { clause, by })),
+    }
+}
