@@ -5,9 +5,10 @@
 mod clauses;
 mod lines;
 mod listing;
+mod lists;
 mod pen;
 mod text;
 mod walk;
 mod whole;
 
-pub use text::{refutation_text, saturation_text};
+pub use text::{covered_text, refutation_text};

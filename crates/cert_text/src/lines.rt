@@ -1,17 +1,20 @@
 // The lines of a certificate. Each is a comment or a `cnf` statement of the TPTP language, and what a line says beside its
 // clause stands there as an annotation.
-ghost use Rattle.std.specs.Prelude.{◌≡◌, ◌++◌, [], ◌∷◌, OnOk, decimal, map, codes};
-ghost use Rattle.inst_logic.specs.Printing.{joined, name_text};
-ghost use Rattle.term_bank.specs.Forest.{clause_at, IsClauseOf};
-ghost use Rattle.cert_format.specs.Lines.{text_line, status_line, start_line, end_line, format_line, input_line, axiom_line, origin_text, member_line, selected_line, ground_line, hint_text, step_line};
-ghost use Rattle.saturation_cert.specs.Values.{entry_of, origin_of, hint_of, step_of};
+ghost use Rattle.std.specs.Prelude.{◌≡◌, ◌++◌, [], ◌∷◌, OnOk, All, decimal, map, codes};
+ghost use Rattle.inst_logic.specs.Printing.{joined, name_text, tree_text};
+ghost use Rattle.term_bank.specs.Forest.{clause_at, tree_at, IsClauseOf};
+ghost use Rattle.cert_format.specs.Lines.{text_line, status_line, start_line, end_line, format_line, input_line, axiom_line, listed, origin_text, member_line, selected_line, ground_line_by, by_text, side_text, shown_line, cover_line, hint_text, step_line};
+ghost use Rattle.saturation_cert.specs.Values.{by_of, cover_of, entry_of, line_of, origin_of, hint_of, side_of, step_of};
+ghost use Rattle.saturation_cert.specs.Wholes.{IsWholeBy, IsWholeCover, IsWholeLine, IsWholeTerm};
 ghost use Rattle.cert_text.specs.Pieces.{line_front};
 
 use crate::clauses::push_clause;
+use crate::lists::{push_numbers, push_terms};
 use crate::pen::Pen;
-use inst_logic::Memory;
-use saturation_cert::{GroundHint, GroundStep, Member, Origin};
-use term_bank::{Bank, IdClause};
+use inst_logic::{Memory, NumberList, PlaceList};
+use saturation_cert::{By, Cover, GroundHint, GroundLine, GroundStep, Member, Origin};
+use term_bank::{Bank, IdClause, TermIdList};
+use unify_core::Side;
 
 // A lead, a word, and the name that the certificate speaks of.
 fn push_about(pen: &mut Pen, lead: &[u8], word: &[u8], name: &[u8]) -> Result<(), Memory>
@@ -143,7 +146,34 @@ fn push_premise(pen: &mut Pen, member: usize, place: usize) -> Result<(), Memory
     pen.number(place)
 }
 
-// `input(K)`, or `inst(mA,P,mB,Q)`.
+// `mA,P,mB,Q`: the premises of a conclusion, each with the place of its literal.
+fn push_premises(
+    pen: &mut Pen,
+    from: usize,
+    place: usize,
+    partner: usize,
+    other: usize,
+) -> Result<(), Memory>
+    ensures { OnOk result (pen.new ≡ pen.old ++ (codes "m" ++ decimal from ++ codes "," ++ decimal place ++ codes ",m" ++ decimal partner ++ codes "," ++ decimal other)) }
+{
+    push_premise(pen, from, place)?;
+    pen.bytes(b",")?;
+    push_premise(pen, partner, other)?;
+    Ok(())
+}
+
+// `,[L,..],[mD,..]`: what is kept of a conclusion, and the members that imply it.
+fn push_kept(pen: &mut Pen, keep: &PlaceList, premises: &NumberList) -> Result<(), Memory>
+    ensures { OnOk result (pen.new ≡ pen.old ++ (codes "," ++ listed [] (map decimal keep.now) ++ codes "," ++ listed (codes "m") (map decimal premises.now))) }
+{
+    pen.bytes(b",")?;
+    push_numbers(pen, b"", keep.as_slice())?;
+    pen.bytes(b",")?;
+    push_numbers(pen, b"m", premises.as_slice())?;
+    Ok(())
+}
+
+// `input(K)`, `inst(mA,P,mB,Q)`, or `lemma(mA,P,mB,Q,[L,..],[mD,..])`.
 fn push_origin(pen: &mut Pen, origin: &Origin) -> Result<(), Memory>
     ensures { OnOk result (pen.new ≡ pen.old ++ origin_text (origin_of origin.now)) }
 {
@@ -156,9 +186,20 @@ fn push_origin(pen: &mut Pen, origin: &Origin) -> Result<(), Memory>
             other,
         } => {
             pen.bytes(b"inst(")?;
-            push_premise(pen, *from, *place)?;
-            pen.bytes(b",")?;
-            push_premise(pen, *partner, *other)?;
+            push_premises(pen, *from, *place, *partner, *other)?;
+            pen.bytes(b")")
+        }
+        Origin::Lemma {
+            from,
+            place,
+            partner,
+            other,
+            keep,
+            premises,
+        } => {
+            pen.bytes(b"lemma(")?;
+            push_premises(pen, *from, *place, *partner, *other)?;
+            push_kept(pen, keep, premises)?;
             pen.bytes(b")")
         }
     }
@@ -203,22 +244,123 @@ pub fn push_selected(
     Ok(())
 }
 
-// `ground(mN)`
-fn push_of_member(pen: &mut Pen, n: usize) -> Result<(), Memory>
-    ensures { OnOk result (pen.new ≡ pen.old ++ (codes "ground(m" ++ decimal n ++ codes ")")) }
+// `ground(K,[T,..])`
+fn push_instance(pen: &mut Pen, bank: &Bank, input: usize, terms: &TermIdList) -> Result<(), Memory>
+    requires { All (IsWholeTerm bank.now) terms.now }
+    ensures { OnOk result (pen.new ≡ pen.old ++ (codes "ground(" ++ decimal input ++ codes "," ++ listed [] (map tree_text (map (tree_at bank.now) terms.now)) ++ codes ")")) }
 {
-    pen.bytes(b"ground(m")?;
-    pen.number(n)?;
+    pen.bytes(b"ground(")?;
+    pen.number(input)?;
+    pen.bytes(b",")?;
+    push_terms(pen, bank, terms.as_slice())?;
+    pen.bytes(b")")?;
+    Ok(())
+}
+
+// The line of ground clause `n`.
+pub fn push_ground(pen: &mut Pen, bank: &Bank, n: usize, line: &GroundLine) -> Result<(), Memory>
+    requires { IsWholeLine bank.now line.now }
+    ensures { OnOk result (pen.new ≡ pen.old ++ ground_line_by n (line_of bank.now line.now)) }
+{
+    push_front(pen, bank, b"g", n, b"plain", &line.clause)?;
+    push_instance(pen, bank, line.input, &line.terms)?;
+    pen.bytes(b").\n")?;
+    Ok(())
+}
+
+// `variant(mJ)`
+fn push_variant(pen: &mut Pen, member: usize) -> Result<(), Memory>
+    ensures { OnOk result (pen.new ≡ pen.old ++ (codes "variant(m" ++ decimal member ++ codes ")")) }
+{
+    pen.bytes(b"variant(m")?;
+    pen.number(member)?;
     pen.bytes(b")")
 }
 
-// The line of the ground clause of member `n`.
-pub fn push_ground(pen: &mut Pen, bank: &Bank, n: usize, clause: &IdClause) -> Result<(), Memory>
-    requires { IsClauseOf bank.now clause.now }
-    ensures { OnOk result (pen.new ≡ pen.old ++ ground_line n (clause_at bank.now clause.now)) }
+// `part(mJ,[T,..])`
+fn push_part(pen: &mut Pen, bank: &Bank, member: usize, terms: &TermIdList) -> Result<(), Memory>
+    requires { All (IsWholeTerm bank.now) terms.now }
+    ensures { OnOk result (pen.new ≡ pen.old ++ (codes "part(m" ++ decimal member ++ codes "," ++ listed [] (map tree_text (map (tree_at bank.now) terms.now)) ++ codes ")")) }
 {
-    push_front(pen, bank, b"g", n, b"plain", clause)?;
-    push_of_member(pen, n)?;
+    pen.bytes(b"part(m")?;
+    pen.number(member)?;
+    pen.bytes(b",")?;
+    push_terms(pen, bank, terms.as_slice())?;
+    pen.bytes(b")")?;
+    Ok(())
+}
+
+// What covers a clause.
+fn push_by(pen: &mut Pen, bank: &Bank, by: &By) -> Result<(), Memory>
+    requires { IsWholeBy bank.now by.now }
+    ensures { OnOk result (pen.new ≡ pen.old ++ by_text (by_of bank.now by.now)) }
+{
+    match by {
+        By::Tautology => pen.bytes(b"tautology"),
+        By::Variant(member) => push_variant(pen, *member),
+        By::Part { member, terms } => push_part(pen, bank, *member, terms),
+    }
+}
+
+// The line of what shows clause `n` of the inputs and axioms.
+pub fn push_shown(
+    pen: &mut Pen,
+    bank: &Bank,
+    n: usize,
+    clause: &IdClause,
+    by: &By,
+) -> Result<(), Memory>
+    requires clause { IsClauseOf bank.now clause.now }
+    requires by { IsWholeBy bank.now by.now }
+    ensures { OnOk result (pen.new ≡ pen.old ++ shown_line n (clause_at bank.now clause.now) (by_of bank.now by.now)) }
+{
+    push_front(pen, bank, b"q", n, b"plain", clause)?;
+    push_by(pen, bank, by)?;
+    pen.bytes(b").\n")?;
+    Ok(())
+}
+
+fn push_side(pen: &mut Pen, side: Side) -> Result<(), Memory>
+    ensures { OnOk result (pen.new ≡ pen.old ++ side_text (side_of side)) }
+{
+    match side {
+        Side::Left => pen.bytes(b"left"),
+        Side::Right => pen.bytes(b"right"),
+    }
+}
+
+// `cover(mL,mR,SIDE),[`
+fn push_due(pen: &mut Pen, left: usize, right: usize, side: Side) -> Result<(), Memory>
+    ensures { OnOk result (pen.new ≡ pen.old ++ (codes "cover(m" ++ decimal left ++ codes ",m" ++ decimal right ++ codes "," ++ side_text (side_of side) ++ codes "),[")) }
+{
+    pen.bytes(b"cover(m")?;
+    pen.number(left)?;
+    pen.bytes(b",m")?;
+    pen.number(right)?;
+    pen.bytes(b",")?;
+    push_side(pen, side)?;
+    pen.bytes(b"),[")?;
+    Ok(())
+}
+
+// `cover(mL,mR,SIDE),[BY]`
+fn push_cover_note(pen: &mut Pen, bank: &Bank, cover: &Cover) -> Result<(), Memory>
+    requires { IsWholeBy bank.now cover.now.by }
+    ensures { OnOk result (pen.new ≡ pen.old ++ (codes "cover(m" ++ decimal cover.now.left ++ codes ",m" ++ decimal cover.now.right ++ codes "," ++ side_text (side_of cover.now.side) ++ codes "),[" ++ by_text (by_of bank.now cover.now.by) ++ codes "]")) }
+{
+    push_due(pen, cover.left, cover.right, cover.side)?;
+    push_by(pen, bank, &cover.by)?;
+    pen.bytes(b"]")?;
+    Ok(())
+}
+
+// The line of cover `n`.
+pub fn push_cover(pen: &mut Pen, bank: &Bank, n: usize, cover: &Cover) -> Result<(), Memory>
+    requires { IsWholeCover bank.now cover.now }
+    ensures { OnOk result (pen.new ≡ pen.old ++ cover_line n (cover_of bank.now cover.now)) }
+{
+    push_front(pen, bank, b"c", n, b"plain", &cover.clause)?;
+    push_cover_note(pen, bank, cover)?;
     pen.bytes(b").\n")?;
     Ok(())
 }
@@ -266,7 +408,7 @@ fn push_hints(pen: &mut Pen, hints: &[GroundHint]) -> Result<(), Memory>
 }
 
 // `rup([H,..])`
-fn push_shown(pen: &mut Pen, hints: &[GroundHint]) -> Result<(), Memory>
+fn push_rup(pen: &mut Pen, hints: &[GroundHint]) -> Result<(), Memory>
     ensures { OnOk result (pen.new ≡ pen.old ++ (codes "rup([" ++ joined (codes ",") (map hint_text (map hint_of hints.now)) ++ codes "])")) }
 {
     pen.bytes(b"rup([")?;
@@ -280,7 +422,7 @@ pub fn push_step(pen: &mut Pen, bank: &Bank, n: usize, step: &GroundStep) -> Res
     ensures { OnOk result (pen.new ≡ pen.old ++ step_line n (step_of bank.now step.now)) }
 {
     push_front(pen, bank, b"r", n, b"plain", &step.clause)?;
-    push_shown(pen, step.hints.as_slice())?;
+    push_rup(pen, step.hints.as_slice())?;
     pen.bytes(b").\n")?;
     Ok(())
 }

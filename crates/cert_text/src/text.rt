@@ -1,39 +1,43 @@
 // The texts of checked certificates. Each is made whole in memory before its first byte is written anywhere: where memory is
 // refused there is no text that breaks off.
 ghost use Rattle.std.specs.Prelude.{◌≡◌, IfOk};
-ghost use Rattle.cert_format.specs.Certificate.{first_refutation, saturation};
+ghost use Rattle.cert_format.specs.Certificate.{covered, refutation};
 ghost use Rattle.cert_format.specs.Printable.{HasPrintableParts, IsTextName};
 ghost use Rattle.cert_format.specs.Text.{written_text};
 ghost use Rattle.cert_format.specs.ValueLines.{IsCertificateText};
-ghost use Rattle.saturation_cert.specs.Values.{refutation_of, saturation_of};
+ghost use Rattle.saturation_cert.specs.Values.{covered_of, refutation_of};
 
 use crate::pen::Pen;
-use crate::whole::{push_refutation, push_saturation};
-use cert_check::{CheckedRefutation, CheckedSaturation};
+use crate::whole::{push_covered, push_refutation};
+use cert_check::{CheckedCovered, CheckedRefutation};
 use inst_logic::{ByteList, Memory};
-use saturation_cert::{refutation_numbers, saturation_numbers};
+use saturation_cert::{covered_numbers, refutation_numbers};
 use std::alloc::Global;
 
 /// The text of the refutation under this name, in the format in which certificates are written.
-pub fn refutation_text(alloc: Global, name: &str, c: &CheckedRefutation) -> Result<ByteList, Memory>
-    ensures text { IfOk result (λ text. text ≡ written_text name.now (first_refutation (refutation_of c.now))) }
-    ensures taken { IsTextName name.now → HasPrintableParts (first_refutation (refutation_of c.now)) → IfOk result IsCertificateText }
+pub fn refutation_text(
+    alloc: Global,
+    name: &[u8],
+    c: &CheckedRefutation,
+) -> Result<ByteList, Memory>
+    ensures text { IfOk result (λ text. text ≡ written_text name.now (refutation (refutation_of c.now))) }
+    ensures taken { IsTextName name.now → HasPrintableParts (refutation (refutation_of c.now)) → IfOk result IsCertificateText }
 {
     let cert = c.cert();
     refutation_numbers(cert);
     let mut pen = Pen::new(alloc);
-    push_refutation(&mut pen, name.as_bytes(), cert)?;
+    push_refutation(&mut pen, name, cert)?;
     Ok(pen.into_text())
 }
 
-/// The text of the saturation under this name, in the format in which certificates are written.
-pub fn saturation_text(alloc: Global, name: &str, c: &CheckedSaturation) -> Result<ByteList, Memory>
-    ensures text { IfOk result (λ text. text ≡ written_text name.now (saturation (saturation_of c.now))) }
-    ensures taken { IsTextName name.now → HasPrintableParts (saturation (saturation_of c.now)) → IfOk result IsCertificateText }
+/// The text of the saturation with its covers under this name, in the format in which certificates are written.
+pub fn covered_text(alloc: Global, name: &[u8], c: &CheckedCovered) -> Result<ByteList, Memory>
+    ensures text { IfOk result (λ text. text ≡ written_text name.now (covered (covered_of c.now))) }
+    ensures taken { IsTextName name.now → HasPrintableParts (covered (covered_of c.now)) → IfOk result IsCertificateText }
 {
     let cert = c.cert();
-    saturation_numbers(cert);
+    covered_numbers(cert);
     let mut pen = Pen::new(alloc);
-    push_saturation(&mut pen, name.as_bytes(), cert)?;
+    push_covered(&mut pen, name, cert)?;
     Ok(pen.into_text())
 }

@@ -9,5 +9,5 @@ use Rattle.cert_text.proofs.lines.push_step.Goals as goal
 
 pub returns : goal.returns
 returns c =
-    let shown = rw c.as_slice.ensures at c.in_ok-push_shown.ensures in
+    let shown = rw c.as_slice.ensures at c.in_ok-push_rup.ensures in
     line_written _ _ _ _ (line_front (codes "r") c.args.n (codes "plain") (clause_at c.args.bank.now c.args.step.now.clause)) (codes "rup([" ++ joined (codes ",") (map hint_text (map hint_of c.args.step.now.hints)) ++ codes "])") c.in_ok-push_front.ensures shown c.in_ok-bytes.ensures

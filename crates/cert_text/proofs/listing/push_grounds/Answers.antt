@@ -1,7 +1,7 @@
 use Rattle.std.proofs.Common.{refl, arith}
-use Rattle.saturation_cert.specs.Wholes.{IsWholeClause}
+use Rattle.saturation_cert.specs.Wholes.{IsWholeLine}
 use Rattle.saturation_cert.proofs.EachItem.{each_item}
 use Rattle.cert_text.proofs.listing.push_grounds.Goals as goal
 
 pub push_ground-requires : goal.push_ground-requires
-push_ground-requires c = (each_item (IsWholeClause c.args.bank.now) c.args.clauses.now c.args.clauses.now c.loop-i.i c.index-clauses-i.result c.requires refl (omega arith) c.index-clauses-i.is).ids
+push_ground-requires c = each_item (IsWholeLine c.args.bank.now) c.args.lines.now c.args.lines.now c.loop-i.i c.index-lines-i.result c.requires refl (omega arith) c.index-lines-i.is
