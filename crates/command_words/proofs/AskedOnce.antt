@@ -5,7 +5,7 @@ use Rattle.std.proofs.lemmas.Option.{same_Some}
 use Rattle.inst_logic.specs.Tree.{Tree}
 use Rattle.inst_logic.specs.declared.signed.Signed.{Signed}
 use Rattle.cert_format.specs.Printable.{IsTextName}
-use Rattle.command_words.specs.Asked.{Asked, IsAsked, SaysAtom, SaysBudget, SaysLength, name_of, prove, sat, check, ask, stress, word_of}
+use Rattle.command_words.specs.Asked.{Asked, IsAsked, SaysAtom, SaysBudget, SaysLength, name_of, prove, sat, check, rewrite, ask, stress, word_of}
 use Rattle.command_words.proofs.AtomTexts.{same_reading}
 use Rattle.command_words.proofs.FirstWords.{differ, second}
 
@@ -31,6 +31,9 @@ same_prove f g r s m n a b c = cc
 same_check : (c d : List ℕ) (p q r s : Option (List ℕ)) → c ≡ d → p ≡ q → r ≡ s → check c p r ≡ check d q s
 same_check c d p q r s e f g = cc
 
+same_rewrite : (c d : List ℕ) (p q r s : Option (List ℕ)) → c ≡ d → p ≡ q → r ≡ s → rewrite c p r ≡ rewrite d q s
+same_rewrite c d p q r s e f g = cc
+
 same_ask : (c d : List ℕ) (a b : Signed Tree) → c ≡ d → a ≡ b → ask c a ≡ ask d b
 same_ask c d a b e f = cc
 
@@ -43,31 +46,16 @@ other_word words a b h k apart = absurd (differ (word_of a) (word_of b) apart (s
 pub once : (words : List (List ℕ)) (a b : Asked) → IsAsked words a → IsAsked words b → a ≡ b
 once words (prove f r m) (prove g s n) h k = same_prove f g r s m n
     (same_Some f g (sym h.says.0.0 ∙ k.says.0.0)) (sym h.says.1.0 ∙ k.says.1.0) (same_budget _ m n h.says.2 k.says.2)
-once words (prove f r m) (sat g) h k = other_word words (prove f r m) (sat g) h k refl
-once words (prove f r m) (check d q s) h k = other_word words (prove f r m) (check d q s) h k refl
-once words (prove f r m) (ask d b) h k = other_word words (prove f r m) (ask d b) h k refl
-once words (prove f r m) (stress n) h k = other_word words (prove f r m) (stress n) h k refl
-once words (sat f) (prove g s n) h k = other_word words (sat f) (prove g s n) h k refl
 once words (sat f) (sat g) h k = ap sat (same_Some f g (sym h.says.0 ∙ k.says.0))
-once words (sat f) (check d q s) h k = other_word words (sat f) (check d q s) h k refl
-once words (sat f) (ask d b) h k = other_word words (sat f) (ask d b) h k refl
-once words (sat f) (stress n) h k = other_word words (sat f) (stress n) h k refl
-once words (check c p r) (prove g s n) h k = other_word words (check c p r) (prove g s n) h k refl
-once words (check c p r) (sat g) h k = other_word words (check c p r) (sat g) h k refl
 once words (check c p r) (check d q s) h k = same_check c d p q r s
     (same_Some c d (sym h.says.0.0 ∙ k.says.0.0)) (sym h.says.1.0 ∙ k.says.1.0) (sym h.says.2.0 ∙ k.says.2.0)
-once words (check c p r) (ask d b) h k = other_word words (check c p r) (ask d b) h k refl
-once words (check c p r) (stress n) h k = other_word words (check c p r) (stress n) h k refl
-once words (ask c a) (prove g s n) h k = other_word words (ask c a) (prove g s n) h k refl
-once words (ask c a) (sat g) h k = other_word words (ask c a) (sat g) h k refl
-once words (ask c a) (check d q s) h k = other_word words (ask c a) (check d q s) h k refl
+once words (check c p r) (rewrite d q s) h k = absurd (h.says.3 k.says.3)
+once words (rewrite c p r) (check d q s) h k = absurd (k.says.3 h.says.3)
+once words (rewrite c p r) (rewrite d q s) h k = same_rewrite c d p q r s
+    (same_Some c d (sym h.says.0.0 ∙ k.says.0.0)) (sym h.says.1.0 ∙ k.says.1.0) (sym h.says.2.0 ∙ k.says.2.0)
 once words (ask c a) (ask d b) h k = same_ask c d a b (same_Some c d (sym h.says.0.0 ∙ k.says.0.0)) (same_atom _ a b h.says.1 k.says.1)
-once words (ask c a) (stress n) h k = other_word words (ask c a) (stress n) h k refl
-once words (stress m) (prove g s n) h k = other_word words (stress m) (prove g s n) h k refl
-once words (stress m) (sat g) h k = other_word words (stress m) (sat g) h k refl
-once words (stress m) (check d q s) h k = other_word words (stress m) (check d q s) h k refl
-once words (stress m) (ask d b) h k = other_word words (stress m) (ask d b) h k refl
 once words (stress m) (stress n) h k = ap stress (same_length _ m n h.says k.says)
+once words a b h k = other_word words a b h k refl
 
 stress_name : IsTextName (codes "stress")
 stress_name = search rules
@@ -76,6 +64,7 @@ pub named : (words : List (List ℕ)) (a : Asked) → IsAsked words a → IsText
 named words (prove f r m) h = h.says.0.1
 named words (sat f) h = h.says.1
 named words (check c p r) h = h.says.0.1
+named words (rewrite c p r) h = h.says.0.1
 named words (ask c a) h = h.says.0.1
 named words (stress m) h = stress_name
 

@@ -1,12 +1,13 @@
 -- Words that are written out: what the parser makes of them is computed.
 use Rattle.std.proofs.Common.{◌≡◌, ◌∙◌, ℕ, List, [], ◌∷◌, Some, None, false, rules, refl, sym, arith, codes}
 use Rattle.std.proofs.Math.Dec.{eqb}
+use Rattle.std.proofs.lemmas.Option.{same_Some}
 use Rattle.cert_format.specs.Printable.{IsTextName}
 use Rattle.clap.specs.Words.{Text, fault_of}
 use Rattle.clap.specs.declared.error.kind.ErrorKind.{ErrorKind}
-use Rattle.clap.specs.declared.error.kind.ErrorKind.TheVariants.{ArgumentConflict, DisplayHelp, MissingRequiredArgument, UnknownArgument}
+use Rattle.clap.specs.declared.error.kind.ErrorKind.TheVariants.{ArgumentConflict, DisplayHelp, MissingRequiredArgument, TooManyValues, UnknownArgument}
 use Rattle.clap.proofs.OnLiterals.{clap_on_literals}
-use Rattle.command_words.specs.Asked.{Asked, IsAsked, IsUnread, SaysBudget, SaysLength, prove, sat, check, ask, stress, word_of}
+use Rattle.command_words.specs.Asked.{Asked, IsAsked, IsSet, IsUnread, SaysBudget, SaysLength, prove, sat, check, rewrite, ask, stress, word_of}
 use Rattle.command_words.specs.Commands.{IsTaken, ask_command, check_command, prove_command, sat_command, stress_command, value_of}
 use Rattle.command_words.specs.Numbers.{IsNumber}
 use Rattle.command_words.proofs.FirstWords.{differ, second}
@@ -61,13 +62,21 @@ name_c = search rules
 three_hundred : IsNumber 6 (codes "300") 300
 three_hundred = record { some = omega arith; few = omega arith; digits = refl; value = refl }
 
+-- a flag that is not given
+not_set : IsSet (Some (codes "false")) → ⊥
+not_set e = let same : codes "false" ≡ codes "true" = same_Some (codes "false") (codes "true") e in differ (codes "false") (codes "true") refl same
+
 pub alone : IsAsked (codes "check" ∷ codes "c" ∷ []) (check (codes "c") None None)
 unfolding check_command IsTaken value_of clap_on_literals
-alone = record { command = refl; taken = refl; says = ((refl, name_c), (refl, tt), (refl, tt)) }
+alone = record { command = refl; taken = refl; says = ((refl, name_c), (refl, tt), (refl, tt), not_set) }
 
 pub of_problem : IsAsked (codes "check" ∷ codes "--problem" ∷ codes "f.p" ∷ codes "c" ∷ codes "--root=d" ∷ []) (check (codes "c") (Some (codes "f.p")) (Some (codes "d")))
 unfolding check_command IsTaken value_of clap_on_literals
-of_problem = record { command = refl; taken = refl; says = ((refl, name_c), (refl, name_fp), (refl, name_d)) }
+of_problem = record { command = refl; taken = refl; says = ((refl, name_c), (refl, name_fp), (refl, name_d), not_set) }
+
+pub rewritten : IsAsked (codes "check" ∷ codes "c" ∷ codes "--rewrite" ∷ []) (rewrite (codes "c") None None)
+unfolding check_command IsTaken value_of clap_on_literals
+rewritten = record { command = refl; taken = refl; says = ((refl, name_c), (refl, tt), (refl, tt), refl) }
 
 pub chain : IsAsked (codes "stress" ∷ codes "300" ∷ []) (stress 300)
 unfolding stress_command IsTaken value_of clap_on_literals
@@ -83,52 +92,42 @@ pub empty : IsUnread []
 empty a h = let e = h.command in absurd cc
 
 pub help : IsUnread (codes "--help" ∷ [])
-help (prove f r n) h = other_word (codes "--help") [] (prove f r n) h refl
-help (sat f) h = other_word (codes "--help") [] (sat f) h refl
-help (check c p r) h = other_word (codes "--help") [] (check c p r) h refl
-help (ask c a) h = other_word (codes "--help") [] (ask c a) h refl
-help (stress n) h = other_word (codes "--help") [] (stress n) h refl
+help a h = other_word (codes "--help") [] a h (not_help a)
+  where
+    not_help : (b : Asked) → eqb (second (codes "--help")) (second (word_of b)) ≡ false
+    not_help (prove f r n) = refl
+    not_help (sat f) = refl
+    not_help (check c p r) = refl
+    not_help (rewrite c p r) = refl
+    not_help (ask c b) = refl
+    not_help (stress n) = refl
 
 -- the parser refuses the words behind the command
 refused_prove : (rest : List Text) (k : ErrorKind) → fault_of prove_command (codes "prove" ∷ rest) ≡ k ∷ [] → IsUnread (codes "prove" ∷ rest)
 unfolding IsTaken
 refused_prove rest k e (prove f r n) h = let none : k ∷ [] ≡ [] = sym e ∙ h.taken in absurd cc
-refused_prove rest k e (sat f) h = other_word (codes "prove") rest (sat f) h refl
-refused_prove rest k e (check c p r) h = other_word (codes "prove") rest (check c p r) h refl
-refused_prove rest k e (ask c a) h = other_word (codes "prove") rest (ask c a) h refl
-refused_prove rest k e (stress n) h = other_word (codes "prove") rest (stress n) h refl
+refused_prove rest k e a h = other_word (codes "prove") rest a h refl
 
 refused_sat : (rest : List Text) (k : ErrorKind) → fault_of sat_command (codes "sat" ∷ rest) ≡ k ∷ [] → IsUnread (codes "sat" ∷ rest)
 unfolding IsTaken
-refused_sat rest k e (prove f r n) h = other_word (codes "sat") rest (prove f r n) h refl
 refused_sat rest k e (sat f) h = let none : k ∷ [] ≡ [] = sym e ∙ h.taken in absurd cc
-refused_sat rest k e (check c p r) h = other_word (codes "sat") rest (check c p r) h refl
-refused_sat rest k e (ask c a) h = other_word (codes "sat") rest (ask c a) h refl
-refused_sat rest k e (stress n) h = other_word (codes "sat") rest (stress n) h refl
+refused_sat rest k e a h = other_word (codes "sat") rest a h refl
 
 refused_check : (rest : List Text) (k : ErrorKind) → fault_of check_command (codes "check" ∷ rest) ≡ k ∷ [] → IsUnread (codes "check" ∷ rest)
 unfolding IsTaken
-refused_check rest k e (prove f r n) h = other_word (codes "check") rest (prove f r n) h refl
-refused_check rest k e (sat f) h = other_word (codes "check") rest (sat f) h refl
 refused_check rest k e (check c p r) h = let none : k ∷ [] ≡ [] = sym e ∙ h.taken in absurd cc
-refused_check rest k e (ask c a) h = other_word (codes "check") rest (ask c a) h refl
-refused_check rest k e (stress n) h = other_word (codes "check") rest (stress n) h refl
+refused_check rest k e (rewrite c p r) h = let none : k ∷ [] ≡ [] = sym e ∙ h.taken in absurd cc
+refused_check rest k e a h = other_word (codes "check") rest a h refl
 
 refused_ask : (rest : List Text) (k : ErrorKind) → fault_of ask_command (codes "ask" ∷ rest) ≡ k ∷ [] → IsUnread (codes "ask" ∷ rest)
 unfolding IsTaken
-refused_ask rest k e (prove f r n) h = other_word (codes "ask") rest (prove f r n) h refl
-refused_ask rest k e (sat f) h = other_word (codes "ask") rest (sat f) h refl
-refused_ask rest k e (check c p r) h = other_word (codes "ask") rest (check c p r) h refl
 refused_ask rest k e (ask c a) h = let none : k ∷ [] ≡ [] = sym e ∙ h.taken in absurd cc
-refused_ask rest k e (stress n) h = other_word (codes "ask") rest (stress n) h refl
+refused_ask rest k e a h = other_word (codes "ask") rest a h refl
 
 refused_stress : (rest : List Text) (k : ErrorKind) → fault_of stress_command (codes "stress" ∷ rest) ≡ k ∷ [] → IsUnread (codes "stress" ∷ rest)
 unfolding IsTaken
-refused_stress rest k e (prove f r n) h = other_word (codes "stress") rest (prove f r n) h refl
-refused_stress rest k e (sat f) h = other_word (codes "stress") rest (sat f) h refl
-refused_stress rest k e (check c p r) h = other_word (codes "stress") rest (check c p r) h refl
-refused_stress rest k e (ask c a) h = other_word (codes "stress") rest (ask c a) h refl
 refused_stress rest k e (stress n) h = let none : k ∷ [] ≡ [] = sym e ∙ h.taken in absurd cc
+refused_stress rest k e a h = other_word (codes "stress") rest a h refl
 
 pub no_file : IsUnread (codes "prove" ∷ [])
 unfolding prove_command clap_on_literals
@@ -159,10 +158,7 @@ too_large n (number, small) = let value : 1000000000001 ≡ n = number.value in 
 
 pub large_budget : IsUnread (codes "prove" ∷ codes "f.p" ∷ codes "--budget" ∷ codes "1000000000001" ∷ [])
 large_budget (prove f r n) h = too_large n (rw large_value at h.says.2)
-large_budget (sat f) h = other_word (codes "prove") _ (sat f) h refl
-large_budget (check c p r) h = other_word (codes "prove") _ (check c p r) h refl
-large_budget (ask c a) h = other_word (codes "prove") _ (ask c a) h refl
-large_budget (stress n) h = other_word (codes "prove") _ (stress n) h refl
+large_budget a h = other_word (codes "prove") _ a h refl
 
 pub no_cert : IsUnread (codes "check" ∷ [])
 unfolding check_command clap_on_literals
@@ -171,6 +167,14 @@ no_cert = refused_check [] MissingRequiredArgument refl
 pub two_certs : IsUnread (codes "check" ∷ codes "a" ∷ codes "b" ∷ [])
 unfolding check_command clap_on_literals
 two_certs = refused_check (codes "a" ∷ codes "b" ∷ []) UnknownArgument refl
+
+pub flag_value : IsUnread (codes "check" ∷ codes "c" ∷ codes "--rewrite=true" ∷ [])
+unfolding check_command clap_on_literals
+flag_value = refused_check (codes "c" ∷ codes "--rewrite=true" ∷ []) TooManyValues refl
+
+pub two_flags : IsUnread (codes "check" ∷ codes "c" ∷ codes "--rewrite" ∷ codes "--rewrite" ∷ [])
+unfolding check_command clap_on_literals
+two_flags = refused_check (codes "c" ∷ codes "--rewrite" ∷ codes "--rewrite" ∷ []) ArgumentConflict refl
 
 pub no_atom : IsUnread (codes "ask" ∷ codes "a" ∷ [])
 unfolding ask_command clap_on_literals
@@ -188,8 +192,5 @@ too_short : (n : ℕ) → SaysLength (Some (codes "1")) n → ⊥
 too_short n (number, large, small) = let value : 1 ≡ n = number.value in absurd (omega arith)
 
 pub short_chain : IsUnread (codes "stress" ∷ codes "1" ∷ [])
-short_chain (prove f r n) h = other_word (codes "stress") _ (prove f r n) h refl
-short_chain (sat f) h = other_word (codes "stress") _ (sat f) h refl
-short_chain (check c p r) h = other_word (codes "stress") _ (check c p r) h refl
-short_chain (ask c a) h = other_word (codes "stress") _ (ask c a) h refl
 short_chain (stress n) h = too_short n (rw one_value at h.says)
+short_chain a h = other_word (codes "stress") _ a h refl

@@ -10,11 +10,13 @@ use Rattle.command_words.specs.Numbers.{IsNumber}
 
 -- to prove the problem of a file, with or without a folder under which included files are tried too, in a budget of symbols; to
 -- solve the propositional problem of a file; to check the certificate of a file, as one of the problem of another or of none; to
--- ask a certificate for the truth of a ground atom; to prove the chain of a length
+-- write it in the newest format once it is checked so; to ask a certificate for the truth of a ground atom; to prove the chain of
+-- a length
 pub data Asked : Type 0 where
   prove : (file : List ℕ) → (root : Option (List ℕ)) → (budget : ℕ) → Asked
   sat : (file : List ℕ) → Asked
   check : (cert : List ℕ) → (problem : Option (List ℕ)) → (root : Option (List ℕ)) → Asked
+  rewrite : (cert : List ℕ) → (problem : Option (List ℕ)) → (root : Option (List ℕ)) → Asked
   ask : (cert : List ℕ) → (atom : Signed Tree) → Asked
   stress : (number : ℕ) → Asked
 
@@ -23,6 +25,7 @@ abbrev pub name_of : Asked → List ℕ
 name_of (prove file root budget) = file
 name_of (sat file) = file
 name_of (check cert problem root) = cert
+name_of (rewrite cert problem root) = cert
 name_of (ask cert atom) = cert
 name_of (stress number) = codes "stress"
 
@@ -31,6 +34,7 @@ abbrev pub word_of : Asked → List ℕ
 word_of (prove file root budget) = codes "prove"
 word_of (sat file) = codes "sat"
 word_of (check cert problem root) = codes "check"
+word_of (rewrite cert problem root) = codes "check"
 word_of (ask cert atom) = codes "ask"
 word_of (stress number) = codes "stress"
 
@@ -38,6 +42,7 @@ abbrev pub command_of : Asked → App
 command_of (prove file root budget) = prove_command
 command_of (sat file) = sat_command
 command_of (check cert problem root) = check_command
+command_of (rewrite cert problem root) = check_command
 command_of (ask cert atom) = ask_command
 command_of (stress number) = stress_command
 
@@ -50,6 +55,10 @@ SaysFile given file = (given ≡ Some file) × IsTextName file
 -- the name of a file or a folder may be given
 abbrev pub SaysOther : Option (List ℕ) → Option (List ℕ) → Type 0
 SaysOther given name = (given ≡ name) × IfSome name IsTextName
+
+-- a flag is set
+abbrev pub IsSet : Option (List ℕ) → Type 0
+IsSet given = given ≡ Some (codes "true")
 
 -- a budget may be given, and is 10,000,000 else
 abbrev pub SaysBudget : Option (List ℕ) → ℕ → Type 0
@@ -72,7 +81,9 @@ Says given (prove file root budget) =
     SaysFile (given (codes "file")) file × SaysOther (given (codes "root")) root × SaysBudget (given (codes "budget")) budget
 Says given (sat file) = SaysFile (given (codes "file")) file
 Says given (check cert problem root) =
-    SaysFile (given (codes "cert")) cert × SaysOther (given (codes "problem")) problem × SaysOther (given (codes "root")) root
+    SaysFile (given (codes "cert")) cert × SaysOther (given (codes "problem")) problem × SaysOther (given (codes "root")) root × ¬ IsSet (given (codes "rewrite"))
+Says given (rewrite cert problem root) =
+    SaysFile (given (codes "cert")) cert × SaysOther (given (codes "problem")) problem × SaysOther (given (codes "root")) root × IsSet (given (codes "rewrite"))
 Says given (ask cert atom) = SaysFile (given (codes "cert")) cert × SaysAtom (given (codes "atom")) atom
 Says given (stress number) = SaysLength (given (codes "number")) number
 

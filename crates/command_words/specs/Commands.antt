@@ -2,6 +2,7 @@
 -- first word, which is the command's own.
 use Rattle.std.specs.Prelude.{◌≡◌, List, [], Option, Some, true, codes}
 use Rattle.clap.specs.Words.{App, Rule, Text, fault_of, first_of, matches_of, new_app, new_rule, with_rule}
+use Rattle.clap.specs.declared.builder.action.ArgAction.TheVariants.{SetTrue}
 
 -- a word that has to be there
 abbrev pub wanted : Text → Rule
@@ -11,6 +12,10 @@ wanted id = record (new_rule id) { required = true }
 abbrev pub optional : Text → Rule
 optional id = record (new_rule id) { long = Some id }
 
+-- an option without a value
+abbrev pub flag : Text → Rule
+flag id = record (new_rule id) { long = Some id; action = Some SetTrue }
+
 -- `prove FILE`, with `--root DIR` and `--budget N` or without
 unfoldable pub prove_command : App
 prove_command = with_rule (with_rule (with_rule (new_app (codes "prove")) (wanted (codes "file"))) (optional (codes "root"))) (optional (codes "budget"))
@@ -19,9 +24,9 @@ prove_command = with_rule (with_rule (with_rule (new_app (codes "prove")) (wante
 unfoldable pub sat_command : App
 sat_command = with_rule (new_app (codes "sat")) (wanted (codes "file"))
 
--- `check CERT`, with `--problem FILE` and `--root DIR` or without
+-- `check CERT`, with `--problem FILE`, `--root DIR` and `--rewrite` or without
 unfoldable pub check_command : App
-check_command = with_rule (with_rule (with_rule (new_app (codes "check")) (wanted (codes "cert"))) (optional (codes "problem"))) (optional (codes "root"))
+check_command = with_rule (with_rule (with_rule (with_rule (new_app (codes "check")) (wanted (codes "cert"))) (optional (codes "problem"))) (optional (codes "root"))) (flag (codes "rewrite"))
 
 -- `ask CERT ATOM`
 unfoldable pub ask_command : App

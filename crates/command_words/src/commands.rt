@@ -2,9 +2,9 @@
 // ways out, and an argument and a command have many fields.
 ghost use Rattle.std.specs.Prelude.{◌≡◌, IfOk};
 ghost use Rattle.clap.specs.Words.{app_of, with_rule};
-ghost use Rattle.command_words.specs.Commands.{ask_command, check_command, optional, prove_command, sat_command, stress_command, wanted};
+ghost use Rattle.command_words.specs.Commands.{ask_command, check_command, flag, optional, prove_command, sat_command, stress_command, wanted};
 
-use clap::{Arg, Command};
+use clap::{Arg, ArgAction, Command};
 use inst_logic::Memory;
 use std::alloc::Global;
 
@@ -22,6 +22,15 @@ fn with_option<'a>(alloc: Global, command: Command<'a>, id: &'a str) -> Result<C
     ensures { IfOk result (λ c. app_of c ≡ with_rule (app_of command.entry) (optional id.now)) }
 {
     let option = Arg::new(alloc, id).long(id);
+    let command = command.arg(option)?;
+    Ok(command)
+}
+
+// The command with one more option, which has no value.
+fn with_flag<'a>(alloc: Global, command: Command<'a>, id: &'a str) -> Result<Command<'a>, Memory>
+    ensures { IfOk result (λ c. app_of c ≡ with_rule (app_of command.entry) (flag id.now)) }
+{
+    let option = Arg::new(alloc, id).long(id).action(ArgAction::SetTrue);
     let command = command.arg(option)?;
     Ok(command)
 }
@@ -45,7 +54,8 @@ pub(crate) fn make_check<'a>(alloc: Global) -> Result<Command<'a>, Memory>
 {
     let command = with_word(alloc, Command::new(alloc, "check"), "cert")?;
     let command = with_option(alloc, command, "problem")?;
-    with_option(alloc, command, "root")
+    let command = with_option(alloc, command, "root")?;
+    with_flag(alloc, command, "rewrite")
 }
 
 pub(crate) fn make_ask<'a>(alloc: Global) -> Result<Command<'a>, Memory>

@@ -1,6 +1,6 @@
 // Worked examples of the definitions, as theorems: each function does nothing, and its clauses are closed facts.
 ghost use Rattle.std.specs.Prelude.{[], ◌∷◌, Some, None, codes};
-ghost use Rattle.command_words.specs.Asked.{IsAsked, IsUnread, prove, sat, check, stress};
+ghost use Rattle.command_words.specs.Asked.{IsAsked, IsUnread, prove, sat, check, rewrite, stress};
 
 /// Options stand on either side of the file, with `=` or as a word of their own; zeros may stand in front; behind `--` a file may
 /// begin with `-`.
@@ -13,11 +13,12 @@ pub fn asking()
     ensures sat { IsAsked (codes "sat" ∷ codes "x" ∷ []) (sat (codes "x")) }
     ensures alone { IsAsked (codes "check" ∷ codes "c" ∷ []) (check (codes "c") None None) }
     ensures of_problem { IsAsked (codes "check" ∷ codes "--problem" ∷ codes "f.p" ∷ codes "c" ∷ codes "--root=d" ∷ []) (check (codes "c") (Some (codes "f.p")) (Some (codes "d"))) }
+    ensures rewritten { IsAsked (codes "check" ∷ codes "c" ∷ codes "--rewrite" ∷ []) (rewrite (codes "c") None None) }
     ensures chain { IsAsked (codes "stress" ∷ codes "300" ∷ []) (stress 300) }
 {}
 
-/// No command, no file or two, an option of another command or one given twice, a budget past the limit, a certificate without an
-/// atom, a chain without a length or of one constant, and what `clap` would answer by help.
+/// No command, no file or two, an option of another command or one given twice, a flag with a value or twice, a budget past the
+/// limit, a certificate without an atom, a chain without a length or of one constant, and what `clap` would answer by help.
 pub fn asking_nothing()
     ensures empty { IsUnread [] }
     ensures help { IsUnread (codes "--help" ∷ []) }
@@ -29,6 +30,8 @@ pub fn asking_nothing()
     ensures no_root { IsUnread (codes "sat" ∷ codes "x" ∷ codes "--root" ∷ codes "d" ∷ []) }
     ensures no_cert { IsUnread (codes "check" ∷ []) }
     ensures two_certs { IsUnread (codes "check" ∷ codes "a" ∷ codes "b" ∷ []) }
+    ensures flag_value { IsUnread (codes "check" ∷ codes "c" ∷ codes "--rewrite=true" ∷ []) }
+    ensures two_flags { IsUnread (codes "check" ∷ codes "c" ∷ codes "--rewrite" ∷ codes "--rewrite" ∷ []) }
     ensures no_atom { IsUnread (codes "ask" ∷ codes "a" ∷ []) }
     ensures no_length { IsUnread (codes "stress" ∷ []) }
     ensures short_chain { IsUnread (codes "stress" ∷ codes "1" ∷ []) }

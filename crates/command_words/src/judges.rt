@@ -7,7 +7,7 @@ ghost use Rattle.inst_logic.specs.Tree.{Tree};
 ghost use Rattle.inst_logic.specs.declared.signed.Signed.{Signed};
 ghost use Rattle.cert_format.specs.Printable.{IsTextName};
 ghost use Rattle.tptp_read.specs.Atoms.{ReadsAtom};
-ghost use Rattle.command_words.specs.Asked.{SaysAtom, SaysBudget, SaysFile, SaysLength, SaysOther};
+ghost use Rattle.command_words.specs.Asked.{IsSet, SaysAtom, SaysBudget, SaysFile, SaysLength, SaysOther};
 ghost use Rattle.command_words.specs.Errors as wanting;
 ghost use Rattle.command_words.specs.Numbers.{IsNumber};
 
@@ -77,6 +77,16 @@ pub(crate) fn other_in<'a>(word: Option<&'a str>) -> Option<Option<&'a str>>
             }
         }
         None => Some(None),
+    }
+}
+
+// Whether the flag is set, of which the parser gives a word in either case.
+pub(crate) fn is_set(word: Option<&str>) -> bool
+    ensures { IsTrue result ↔ IsSet (option_map (λ w. w.now) word.entry) }
+{
+    match word {
+        Some(text) => text == "true",
+        None => false,
     }
 }
 

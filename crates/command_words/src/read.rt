@@ -5,7 +5,7 @@ ghost use Rattle.command_words.specs.Asked.{Asked, IsAsked, IsUnread, Says, Says
 ghost use Rattle.command_words.specs.Requests.{asked};
 
 use crate::commands::{make_ask, make_check, make_prove, make_sat, make_stress};
-use crate::judges::{atom_in, budget_in, file_in, length_in, other_in};
+use crate::judges::{atom_in, budget_in, file_in, is_set, length_in, other_in};
 use crate::matched::matched;
 use crate::request::Request;
 use clap::ArgMatches;
@@ -37,6 +37,13 @@ fn check_request<'a>(matches: &ArgMatches<'a>) -> Option<Request<'a>>
     let cert = file_in(matches.get_str("cert"))?;
     let problem = other_in(matches.get_str("problem"))?;
     let root = other_in(matches.get_str("root"))?;
+    if is_set(matches.get_str("rewrite")) {
+        return Some(Request::Rewrite {
+            cert,
+            problem,
+            root,
+        });
+    }
     Some(Request::Check {
         cert,
         problem,

@@ -19,6 +19,12 @@ pub enum Request<'a> {
         problem: Option<&'a str>,
         root: Option<&'a str>,
     },
+    /// Checked like that, and then written in the newest format.
+    Rewrite {
+        cert: &'a str,
+        problem: Option<&'a str>,
+        root: Option<&'a str>,
+    },
     Ask {
         cert: &'a str,
         atom: Literal,
