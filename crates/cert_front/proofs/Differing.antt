@@ -22,6 +22,9 @@ use Rattle.inst_logic.proofs.Items.{lists_equal}
 abbrev pub Ids : Type 0
 Ids = List (Signed ℕ)
 
+pub not_true : (b x : Bool) → b ≡ x → b ≡ false → ¬ IsTrue x
+not_true b x e n t = absurd (cc)
+
 -- ids stand for a clause exactly where they are the clause's own ids
 pub stands : (f g : Forest) → Extends f g → AreDistinct g.trees → (c own : Ids) (d : TreeClause) → IsClauseOf f c → IsClauseAt g own d → (b : Bool) → IsTrue b ↔ (c ≡ own) → IsTrue b ↔ (clause_at f c ≡ d)
 stands f g grown once c own d ids at b same = (

@@ -1,31 +1,89 @@
--- A certificate whose bank has grown.
-use Rattle.std.proofs.Common.{◌≡◌, sym, subst, ap}
-use Rattle.std.specs.Prelude.{Option, None, IfOk, Result, All}
+-- A certificate whose bank has grown, and what is handed back of it.
+use Rattle.std.proofs.Common.{◌≡◌, refl, sym, subst, ap}
+use Rattle.std.specs.Prelude.{Option, None, IfOk, MatchResult, Result, Ok, Err}
+use Rattle.std.proofs.lemmas.Result.{IfOk-weaker}
 use Rattle.inst_logic.specs.declared.memory.Memory.{Memory}
 use Rattle.inst_logic.specs.declared.clause.Problem.{Problem}
 use Rattle.cert_format.specs.Certificate as format
+use Rattle.cert_format.specs.Certificate.{Certificate, base_of}
 use Rattle.saturation_cert.specs.declared.certificate.Base.{Base}
+use Rattle.saturation_cert.specs.declared.certificate.FirstRefutation.{FirstRefutation}
 use Rattle.saturation_cert.specs.declared.certificate.Refutation.{Refutation}
 use Rattle.saturation_cert.specs.declared.certificate.Saturation.{Saturation}
-use Rattle.saturation_cert.specs.Values.{base_of, refutation_of, saturation_of}
-use Rattle.saturation_cert.specs.Wholes.{IsWholeRefutation, IsWholeSaturation, KeepsBase}
-use Rattle.cert_check.proofs.Refutations.{grown_same}
-use Rattle.cert_check.proofs.Saturations.{saturation_same, keeps_saturation}
-use Rattle.std.proofs.lemmas.Result.{IfOk-weaker}
-use Rattle.cert_front.specs.Judgements.{HasInputsOf, IsJudgement}
+use Rattle.saturation_cert.specs.declared.certificate.Covered.{Covered}
+use Rattle.saturation_cert.specs.Wholes.{IsWholeBase, IsWholeCovered, IsWholeFirst, IsWholeRefutation, IsWholeSaturation, KeepsBase}
+use Rattle.term_bank.specs.Forest.{AreFormed, Extends, Forest}
+use Rattle.saturation_cert.proofs.Grown.{clauses_grown, members_grown, steps_grown}
+use Rattle.saturation_cert.proofs.Kept.{covered_same, covered_whole, first_same, refutation_same, saturation_same}
+use Rattle.cert_front.specs.Judgements.{HasInputsOf, IsChecked, IsJudgement}
+use Rattle.cert_front.specs.Kinds.{covered_value, first_value, refutation_value, saturation_value, uncovered_value}
 use Rattle.cert_front.specs.declared.judgement.Judgement.{Judgement}
+use Rattle.cert_front.specs.declared.judgement.Judgement.TheVariants.{Valid}
 use Rattle.cert_front.proofs.OneJudgement.{with_problem}
 
--- the judgement of a certificate alone is that for the problem whose clauses its inputs are
-judged : (p : Option Problem) (c d : format.Certificate) → d ≡ c → HasInputsOf p (format.base_of c) → (r : Result Judgement Memory) → IfOk r (IsJudgement None d) → IfOk r (IsJudgement p c)
-judged p c d same h r alone = IfOk-weaker r _ _ (λ j a. with_problem p c j h a) (subst (λ (x : format.Certificate). IfOk r (IsJudgement None x)) same alone)
+-- ---- what is handed back
 
-pub refutation_judged : (p : Option Problem) (r : Refutation) (b : Base) → IsWholeRefutation r → KeepsBase r.base b → HasInputsOf p (base_of r.base) → (o : Result Judgement Memory)
-    → IfOk o (IsJudgement None (format.first_refutation (refutation_of (record r { base = b })))) → IfOk o (IsJudgement p (format.first_refutation (refutation_of r)))
-refutation_judged p r b whole kept h o alone =
-    judged p (format.first_refutation (refutation_of r)) (format.first_refutation (refutation_of (record r { base = b }))) (ap format.first_refutation (grown_same r b whole kept)) h o alone
+-- of a certificate alone, and for the problem whose clauses its inputs are
+checked_too : {C : Type 0} (value : C → Certificate) (p : Option Problem) (c : Certificate) → HasInputsOf p (base_of c) → (r : Result C Judgement) → IsChecked value None c r → IsChecked value p c r
+checked_too value p c h (Ok k) a = (with_problem p c Valid h a.0, a.1)
+checked_too value p c h (Err j) a = (a.0, with_problem p c j h a.1)
 
-pub saturation_judged : (p : Option Problem) (s : Saturation) (b : Base) → IsWholeSaturation s → KeepsBase s.base b → HasInputsOf p (base_of s.base) → (o : Result Judgement Memory)
-    → IfOk o (IsJudgement None (format.saturation (saturation_of (record s { base = b })))) → IfOk o (IsJudgement p (format.saturation (saturation_of s)))
-saturation_judged p s b whole kept h o alone =
-    judged p (format.saturation (saturation_of s)) (format.saturation (saturation_of (record s { base = b }))) (ap format.saturation (saturation_same s (record s { base = b }) whole (keeps_saturation s b kept))) h o alone
+checked_for : {C : Type 0} (value : C → Certificate) (p : Option Problem) (c d : Certificate) → d ≡ c → HasInputsOf p (base_of c) → (r : Result (Result C Judgement) Memory)
+    → IfOk r (IsChecked value None d) → IfOk r (IsChecked value p c)
+checked_for value p c d same h r alone = IfOk-weaker r _ _ (λ k a. checked_too value p c h k a) (subst (λ (x : Certificate). IfOk r (IsChecked value None x)) same alone)
+
+-- the judgement where this is handed back
+pub judged_by : {C : Type 0} (value : C → Certificate) (p : Option Problem) (c : Certificate) (r : Result C Judgement) (j : Judgement) → MatchResult r (λ _. j ≡ Valid) (λ e. j ≡ e) → IsChecked value p c r
+    → IsJudgement p c j
+judged_by value p c (Ok k) j is h = subst (IsJudgement p c) (sym is) h.0
+judged_by value p c (Err e) j is h = subst (IsJudgement p c) (sym is) h.1
+
+module _ (p : Option Problem) (b : Base) where
+  pub first_judged : (r : FirstRefutation) → IsWholeFirst r → KeepsBase r.base b → HasInputsOf p (base_of (first_value r)) → (o : Result (Result FirstRefutation Judgement) Memory)
+      → IfOk o (IsChecked first_value None (first_value (record r { base = b }))) → IfOk o (IsChecked first_value p (first_value r))
+  first_judged r whole kept h o alone =
+      checked_for first_value p (first_value r) (first_value (record r { base = b })) (ap format.first_refutation (first_same r (record r { base = b }) whole (record { base = kept; rest = refl }))) h o alone
+
+  pub refutation_judged : (r : Refutation) → IsWholeRefutation r → KeepsBase r.base b → HasInputsOf p (base_of (refutation_value r)) → (o : Result (Result Refutation Judgement) Memory)
+      → IfOk o (IsChecked refutation_value None (refutation_value (record r { base = b }))) → IfOk o (IsChecked refutation_value p (refutation_value r))
+  refutation_judged r whole kept h o alone =
+      checked_for refutation_value p (refutation_value r) (refutation_value (record r { base = b })) (ap format.refutation (refutation_same r (record r { base = b }) whole (record { base = kept; rest = refl }))) h o alone
+
+  pub saturation_judged : (s : Saturation) → IsWholeSaturation s → KeepsBase s.base b → HasInputsOf p (base_of (saturation_value s)) → (o : Result (Result Saturation Judgement) Memory)
+      → IfOk o (IsChecked saturation_value None (saturation_value (record s { base = b }))) → IfOk o (IsChecked saturation_value p (saturation_value s))
+  saturation_judged s whole kept h o alone =
+      checked_for saturation_value p (saturation_value s) (saturation_value (record s { base = b })) (ap format.saturation (saturation_same s (record s { base = b }) whole (record { base = kept; rest = refl }))) h o alone
+
+  pub uncovered_judged : (s : Saturation) → IsWholeSaturation s → KeepsBase s.base b → HasInputsOf p (base_of (saturation_value s)) → (o : Result (Result Covered Judgement) Memory)
+      → IfOk o (IsChecked uncovered_value None (saturation_value (record s { base = b }))) → IfOk o (IsChecked uncovered_value p (saturation_value s))
+  uncovered_judged s whole kept h o alone =
+      checked_for uncovered_value p (saturation_value s) (saturation_value (record s { base = b })) (ap format.saturation (saturation_same s (record s { base = b }) whole (record { base = kept; rest = refl }))) h o alone
+
+  pub covered_judged : (c : Covered) → IsWholeCovered c → KeepsBase c.cert.base b → HasInputsOf p (base_of (covered_value c)) → (o : Result (Result Covered Judgement) Memory)
+      → IfOk o (IsChecked covered_value None (covered_value (record c { cert = record c.cert { base = b } }))) → IfOk o (IsChecked covered_value p (covered_value c))
+  covered_judged c whole kept h o alone =
+      let new = record c { cert = record c.cert { base = b } } in
+      checked_for covered_value p (covered_value c) (covered_value new) (ap format.covered (covered_same c new whole (record { cert = record { base = kept; rest = refl }; rest = refl }))) h o alone
+
+-- ---- whole where the base with the grown bank is
+
+pub keeps_grown : (b : Base) (g : Forest) → Extends b.bank g → KeepsBase b (record b { bank = g })
+keeps_grown b g grown = record { bank = grown; rest = refl }
+
+pub base_whole : (b : Base) (g : Forest) → IsWholeBase b → Extends b.bank g → AreFormed g → IsWholeBase (record b { bank = g })
+base_whole b g h grown formed = record {
+  bank = formed;
+  inputs = clauses_grown b.bank g grown b.inputs h.inputs;
+  axioms = clauses_grown b.bank g grown b.axioms h.axioms;
+  members = members_grown b.bank g grown b.members h.members;
+}
+
+pub first_whole : (r : FirstRefutation) (b : Base) → IsWholeFirst r → KeepsBase r.base b → IsWholeBase b → IsWholeFirst (record r { base = b })
+first_whole r b h kept whole = record {
+  base = whole;
+  grounds = clauses_grown r.base.bank b.bank kept.bank r.grounds h.grounds;
+  steps = steps_grown r.base.bank b.bank kept.bank r.steps h.steps;
+}
+
+pub covered_base_whole : (c : Covered) (b : Base) → IsWholeCovered c → KeepsBase c.cert.base b → IsWholeBase b → IsWholeCovered (record c { cert = record c.cert { base = b } })
+covered_base_whole c b h kept whole = covered_whole c (record c.cert { base = b }) h (record { base = kept; rest = refl }) whole

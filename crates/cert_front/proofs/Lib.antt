@@ -1,9 +1,12 @@
 pub mod Certificates
 pub mod Checks
 pub mod Differing
+pub mod Followed
 pub mod Grown
 pub mod Light
+pub mod NoComplaint
 pub mod OneJudgement
 pub mod Queries
 pub mod Reading
+pub mod Rewritings
 pub mod VariableFree

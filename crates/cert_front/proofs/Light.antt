@@ -13,9 +13,10 @@ use Rattle.inst_logic.specs.Measure.{tree_weight, trees_weight, function_count}
 use Rattle.inst_logic.specs.Printing.{is_lower_word, escaped_all, name_text, tree_text, arguments_text, more_text, sides_text, equality_sign, sign_text, atom_text, signed_text, literal_text, joined, clause_text}
 use Rattle.inst_calculus.specs.Entries.{Entry}
 use Rattle.inst_calculus.specs.Models.{Member}
-use Rattle.cert_format.specs.Certificate.{Saturation, with_selected, selected_at, selected_members}
-use Rattle.cert_format.specs.Lines.{clause_line, selected_line, origin_text, end_line, format_line}
-use Rattle.cert_format.specs.Text.{paired_lines, input_lines, axiom_lines, head_lines, saturation_text}
+use Rattle.cert_format.specs.Certificate.{Saturation, Certificate, first_refutation, refutation, saturation, covered, with_selected, selected_at, selected_members}
+use Rattle.cert_format.specs.Lines.{clause_line, selected_line, shown_line, cover_line, origin_text, end_line, format_line}
+use Rattle.cert_format.specs.Text.{numbered_lines, paired_lines, input_lines, axiom_lines, head_lines, certificate_text}
+use Rattle.cert_front.specs.Kinds.{selected_of}
 
 not_empty_if : (x : Bool) (a b : List ℕ) → 1 ≤ length a → 1 ≤ length b → 1 ≤ length (if x then a else b)
 not_empty_if true a b p q = p
@@ -125,11 +126,25 @@ module _ (bound : ℕ) where
           let d = clause_within (codes "m") n (codes "plain") e.clause (origin_text e.origin ++ codes ",[selected(" ++ decimal p ++ codes ")]") in
           omega (arith, length-append (selected_line n e p) (paired_lines selected_line (n + 1) es ps))
 
-pub text_light : (bound format : ℕ) (name : List ℕ) (c : Saturation) → length (saturation_text format name c) < bound → All (IsBelow bound) (selected_members c)
-text_light bound format name c h = members_light bound 1 c.base.members c.places (omega (arith, within))
-  where
-    within : length (paired_lines selected_line 1 c.base.members c.places) ≤ length (saturation_text format name c)
-    within = parts (head_lines (codes "Satisfiable") (codes "Saturation") name ++ format_line format ++ input_lines c.base ++ axiom_lines c.base) (paired_lines selected_line 1 c.base.members c.places) (end_line (codes "Saturation") name)
-      where
-        parts : (a b d : List ℕ) → length b ≤ length (a ++ b ++ d)
-        parts a b d = omega (arith, length-append (a ++ b) d, length-append a b)
+  parts_light : (before after : List ℕ) (c : Saturation) → length (before ++ paired_lines selected_line 1 c.base.members c.places ++ after) < bound → All IsBelow (selected_members c)
+  parts_light before after c h =
+      let lines = paired_lines selected_line 1 c.base.members c.places in
+      members_light 1 c.base.members c.places (omega (arith, length-append (before ++ lines) after, length-append before lines))
+
+  pub text_light : (format : ℕ) (name : List ℕ) (c : Certificate) → length (certificate_text format name c) < bound → All IsBelow (selected_of c)
+  text_light format name (first_refutation r) h = All-nil IsBelow
+  text_light format name (refutation r) h = All-nil IsBelow
+  text_light format name (saturation s) h =
+      parts_light (head_lines (codes "Satisfiable") (codes "Saturation") name ++ format_line format ++ input_lines s.base ++ axiom_lines s.base) (end_line (codes "Saturation") name) s h
+  text_light format name (covered c) h =
+      let s = c.saturation in
+      let shown = paired_lines shown_line 1 (s.base.inputs ++ s.base.axioms) c.shown in
+      let before = head_lines (codes "Satisfiable") (codes "Saturation") name ++ format_line format ++ input_lines s.base ++ axiom_lines s.base in
+      let members = before ++ paired_lines selected_line 1 s.base.members s.places in
+      let covers = numbered_lines cover_line 1 c.covers in
+      let end = end_line (codes "Saturation") name in
+      parts_light before [] s (shorter members shown covers end h)
+    where
+      -- what stands behind the members does not make them longer
+      shorter : (a b d e : List ℕ) → length (a ++ b ++ d ++ e) < bound → length (a ++ []) < bound
+      shorter a b d e l = omega (arith, length-append (a ++ b ++ d) e, length-append (a ++ b) d, length-append a b, length-append a [])

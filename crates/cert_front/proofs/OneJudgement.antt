@@ -5,11 +5,10 @@ use Rattle.inst_logic.specs.Tree.{Tree}
 use Rattle.inst_logic.specs.Clauses.{TreeClause}
 use Rattle.inst_logic.specs.Derivations.{at_number}
 use Rattle.inst_logic.specs.declared.clause.Problem.{Problem}
-use Rattle.cert_format.specs.Certificate.{Base, Certificate, first_refutation, saturation, base_of}
-use Rattle.cert_format.specs.Certificate as format
-use Rattle.cert_format.specs.Validity.{IsFirstComplaint, IsValid, Precedes, SaturationPasses, rank, first_number, second_number}
+use Rattle.cert_format.specs.Certificate.{Base, Certificate, first_refutation, refutation, saturation, covered, base_of}
+use Rattle.cert_format.specs.Validity.{IsFirstComplaint, IsValid, Precedes, rank, first_number, second_number}
 use Rattle.cert_format.specs.declared.complaint.Complaint.{Complaint}
-use Rattle.cert_format.specs.declared.complaint.Complaint.TheVariants.{Axiom, Member, Bot, Ground, Step, NotEmpty, Place, Input, Pair}
+use Rattle.cert_format.specs.declared.complaint.Complaint.TheVariants.{Axiom, Member, Bot, Ground, Step, NotEmpty, Place, Input, Pair, Cover}
 use Rattle.cert_check.specs.Firsts.{IsFirstWrong}
 use Rattle.cert_front.specs.Judgements.{Passes, HasInputsOf, DiffersFirstAt, IsJudgement}
 use Rattle.cert_front.specs.Replies.{IsReply}
@@ -36,6 +35,7 @@ by_numbers NotEmpty NotEmpty r f s = refl
 by_numbers (Place m) (Place n) r f s = ap Place f
 by_numbers (Input m) (Input n) r f s = ap Input f
 by_numbers (Pair k m) (Pair l n) r f s = ap₂ Pair f s
+by_numbers (Cover m) (Cover n) r f s = ap Cover f
 by_numbers j k r f s = absurd (omega arith)
 
 ordered : (j k : Complaint) → (j ≡ k) ⊎ (Precedes j k ⊎ Precedes k j)
@@ -68,7 +68,9 @@ same_number (Some p) b m n x y = one_number (λ k. at_number b.inputs k ≡ at_n
 
 passes_all : (c : Certificate) → IsValid c → (k : Complaint) → Passes c k
 passes_all (first_refutation r) v k = v k
+passes_all (refutation r) v k = v k
 passes_all (saturation s) v k = v k
+passes_all (covered c) v k = v k
 
 pub one_judgement : (p : Option Problem) (c : Certificate) (i j : Judgement) → IsJudgement p c i → IsJudgement p c j → i ≡ j
 one_judgement p c judgement.Valid judgement.Valid a b = refl
@@ -81,16 +83,16 @@ one_judgement p c (judgement.Invalid k) judgement.Valid a b = absurd (a.1.applie
 one_judgement p c (judgement.Invalid k) (judgement.Problem n) a b = absurd (not_both p (base_of c) n a.0 b)
 one_judgement p c (judgement.Invalid j) (judgement.Invalid k) a b = ap judgement.Invalid (one_complaint (Passes c) j k a.1 b.1)
 
-pub one_reply : (c : format.Saturation) (t : Tree) (i j : Reply) → IsReply c t i → IsReply c t j → i ≡ j
+pub one_reply : (c : Certificate) (t : Tree) (i j : Reply) → IsReply c t i → IsReply c t j → i ≡ j
 one_reply c t reply.True reply.True a b = refl
 one_reply c t reply.True reply.False a b = absurd (b.1 a.1)
-one_reply c t reply.True (reply.Invalid k) a b = absurd (b.applies (a.0 k))
+one_reply c t reply.True (reply.Invalid k) a b = absurd (b.applies (passes_all c a.0 k))
 one_reply c t reply.False reply.True a b = absurd (a.1 b.1)
 one_reply c t reply.False reply.False a b = refl
-one_reply c t reply.False (reply.Invalid k) a b = absurd (b.applies (a.0 k))
-one_reply c t (reply.Invalid k) reply.True a b = absurd (a.applies (b.0 k))
-one_reply c t (reply.Invalid k) reply.False a b = absurd (a.applies (b.0 k))
-one_reply c t (reply.Invalid j) (reply.Invalid k) a b = ap reply.Invalid (one_complaint (SaturationPasses c) j k a b)
+one_reply c t reply.False (reply.Invalid k) a b = absurd (b.applies (passes_all c a.0 k))
+one_reply c t (reply.Invalid k) reply.True a b = absurd (a.applies (passes_all c b.0 k))
+one_reply c t (reply.Invalid k) reply.False a b = absurd (a.applies (passes_all c b.0 k))
+one_reply c t (reply.Invalid j) (reply.Invalid k) a b = ap reply.Invalid (one_complaint (Passes c) j k a b)
 
 -- a judgement without a problem is one for a problem whose clauses the inputs are
 pub with_problem : (p : Option Problem) (c : Certificate) (j : Judgement) → HasInputsOf p (base_of c) → IsJudgement None c j → IsJudgement p c j

@@ -1,11 +1,13 @@
 -- What files that are told say of a saturation and an atom is one thing, and each answer to a question is that or yields.
-use Rattle.std.proofs.Common.{◌≡◌, ℕ, ◌^◌, ◌<◌, ◌≤◌, List, Option, Some, None, Result, Ok, Err, IfSome, IfOk, IfErr, length, ◌⊎◌, inl, inr, refl, sym, ap, subst, ◌∙◌, arith}
+use Rattle.std.proofs.Common.{◌≡◌, ℕ, ◌^◌, ◌<◌, ◌≤◌, true, false, List, Option, Some, None, Result, Ok, Err, IfSome, IfOk, IfErr, length, ◌⊎◌, inl, inr, refl, sym, ap, subst, ◌∙◌, arith}
 use Rattle.outside_io.specs.declared.library.NamedFile.{NamedFile}
 use Rattle.inst_logic.specs.Tree.{Tree}
 use Rattle.outside_io.specs.WholeFiles.{IsHeld}
-use Rattle.cert_format.specs.Certificate.{FirstRefutation, Saturation, first_refutation, saturation, selected_members}
-use Rattle.cert_format.specs.Text.{saturation_text}
+use Rattle.cert_format.specs.Certificate.{Certificate}
+use Rattle.cert_format.specs.Text.{certificate_text}
+use Rattle.cert_format.specs.ValueLines.{is_refutation}
 use Rattle.saturation_cert.specs.Wholes.{AreLight}
+use Rattle.cert_front.specs.Kinds.{selected_of}
 use Rattle.cert_front.specs.Replies.{IsReply}
 use Rattle.cert_front.specs.declared.reply.Reply.{Reply}
 use Rattle.cert_front.specs.Certificates.{IsBarred, IsCertificateOf, limit}
@@ -18,13 +20,10 @@ use Rattle.cert_front.proofs.Certificates.{TextsAreOne, not_barred, one_bar, one
 
 -- that a saturation says one thing of an atom
 abbrev pub RepliesAreOne : Type 0
-RepliesAreOne = (c : Saturation) (t : Tree) (i j : Reply) → IsReply c t i → IsReply c t j → i ≡ j
+RepliesAreOne = (c : Certificate) (t : Tree) (i j : Reply) → IsReply c t i → IsReply c t j → i ≡ j
 
-one_saturation : (c d : Saturation) → saturation c ≡ saturation d → c ≡ d
-one_saturation c d e = cc
-
-other_form : (c : Saturation) (r : FirstRefutation) → saturation c ≡ first_refutation r → ⊥
-other_form c r e = cc
+other_form : (c d : Certificate) → is_refutation c ≡ false → is_refutation d ≡ true → c ≡ d → ⊥
+other_form c d h k e = let same = ap is_refutation e in cc
 
 -- there is a refutation, or the file is barred
 either : (files : Option (List NamedFile)) (name : List ℕ) (f : CertFault) → IsNoSaturation files name f → ((f ≡ NoSaturation) × HasRefutation files name) ⊎ IsBarred files name f
@@ -37,30 +36,30 @@ either files name NoSaturation h = inl (refl, h)
 either files name Memory h = absurd h
 
 module _ (texts : TextsAreOne) (replies : RepliesAreOne) (files : List NamedFile) (name : List ℕ) where
-  not_dumb : (c : Saturation) (f : CertFault) → IsCertificateOf (Some files) name (saturation c) → IsNoSaturation (Some files) name f → ⊥
-  not_dumb c f h k = elim (either (Some files) name f k) [
-    | inl r ↦ other_form c r.1.0 (one_certificate texts files name (saturation c) (first_refutation r.1.0) h r.1.1)
-    | inr b ↦ not_barred texts files name (saturation c) f h b
+  not_dumb : (c : Certificate) (f : CertFault) → is_refutation c ≡ false → IsCertificateOf (Some files) name c → IsNoSaturation (Some files) name f → ⊥
+  not_dumb c f plain h k = elim (either (Some files) name f k) [
+    | inl r ↦ other_form c r.1.0 plain r.1.1 (one_certificate texts files name c r.1.0 h r.1.2)
+    | inr b ↦ not_barred texts files name c f h b
   ]
 
   one_cause : (e f : CertFault) → IsNoSaturation (Some files) name e → IsNoSaturation (Some files) name f → e ≡ f
   one_cause e f h k = elim (either (Some files) name e h) [
     | inl r ↦ elim (either (Some files) name f k) [
       | inl s ↦ r.0 ∙ sym s.0
-      | inr b ↦ absurd (not_barred texts files name (first_refutation r.1.0) f r.1.1 b)
+      | inr b ↦ absurd (not_barred texts files name r.1.0 f r.1.2 b)
     ]
     | inr a ↦ elim (either (Some files) name f k) [
-      | inl s ↦ absurd (not_barred texts files name (first_refutation s.1.0) e s.1.1 a)
+      | inl s ↦ absurd (not_barred texts files name s.1.0 e s.1.2 a)
       | inr b ↦ one_bar texts files name e f a b
     ]
   ]
 
   pub one_answer : (t : Tree) (a b : Result Reply CertFault) → IsFoundReply files name t a → IsFoundReply files name t b → a ≡ b
   one_answer t (Ok a) (Ok b) h k =
-      let same = one_saturation k.certificate h.certificate (one_certificate texts files name (saturation k.certificate) (saturation h.certificate) k.held h.held) in
-      ap Ok (replies h.certificate t a b h.replied (subst (λ (c : Saturation). IsReply c t b) same k.replied))
-  one_answer t (Ok a) (Err f) h k = absurd (not_dumb h.certificate f h.held k)
-  one_answer t (Err e) (Ok b) h k = absurd (not_dumb k.certificate e k.held h)
+      let same = one_certificate texts files name k.certificate h.certificate k.held h.held in
+      ap Ok (replies h.certificate t a b h.replied (subst (λ (c : Certificate). IsReply c t b) same k.replied))
+  one_answer t (Ok a) (Err f) h k = absurd (not_dumb h.certificate f h.no_refutation h.held k)
+  one_answer t (Err e) (Ok b) h k = absurd (not_dumb k.certificate e k.no_refutation k.held h)
   one_answer t (Err e) (Err f) h k = ap Err (one_cause e f h k)
 
 -- ---- short texts
@@ -71,9 +70,9 @@ held_short (Some told) name bytes h = h.0
 
 -- that the selected literals of a saturation with a short text are light
 abbrev pub ShortIsLight : Type 0
-ShortIsLight = (format : ℕ) (name : List ℕ) (c : Saturation) → length (saturation_text format name c) < 2 ^ 63 → AreLight (selected_members c)
+ShortIsLight = (format : ℕ) (name : List ℕ) (c : Certificate) → length (certificate_text format name c) < 2 ^ 63 → AreLight (selected_of c)
 
-pub light_of : ShortIsLight → (files : Option (List NamedFile)) (name : List ℕ) (c : Saturation) → IsCertificateOf files name (saturation c) → AreLight (selected_members c)
+pub light_of : ShortIsLight → (files : Option (List NamedFile)) (name : List ℕ) (c : Certificate) → IsCertificateOf files name c → AreLight (selected_of c)
 light_of light files name c h =
     let few : length h.bytes ≤ limit = held_short files name h.bytes h.held in
     light h.text.0 h.text.1 c (subst (λ (b : List ℕ). length b < 2 ^ 63) h.text.2.is (omega (arith, few)))

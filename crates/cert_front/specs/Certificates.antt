@@ -23,6 +23,12 @@ pub record IsCertificateOf (files : Option (List NamedFile)) (name : List ℕ) (
   pub held : IsHeld limit files name bytes
   pub text : HasText c bytes
 
+-- The file of this name is not too long and is the text of the certificate in this format and under this name.
+pub record IsTextIn (files : Option (List NamedFile)) (file : List ℕ) (format : ℕ) (name : List ℕ) (c : Certificate) : Type 0 where
+  pub bytes : List ℕ
+  pub held : IsHeld limit files file bytes
+  pub text : IsTextOf bytes format name c
+
 -- ---- why there is none
 
 -- why a text is that of no certificate

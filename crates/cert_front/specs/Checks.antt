@@ -3,7 +3,7 @@ use Rattle.std.specs.Prelude.{ℕ, ◌≡◌, ◌≢◌, ◌⊎◌, List, Option
 use Rattle.outside_io.specs.Causes.{Rose}
 use Rattle.outside_io.specs.declared.library.NamedFile.{NamedFile}
 use Rattle.inst_logic.specs.declared.clause.Problem.{Problem}
-use Rattle.cert_format.specs.Certificate.{Certificate, first_refutation, saturation}
+use Rattle.cert_format.specs.Certificate.{Certificate, first_refutation, refutation, saturation, covered}
 use Rattle.tptp_load.specs.Problems.{IsLoadCause, Loads, Refuses, Told}
 use Rattle.tptp_load.specs.declared.error.LoadError.{LoadError}
 use Rattle.tptp_load.specs.declared.error.LoadError.TheVariants as load
@@ -19,7 +19,9 @@ use Rattle.cert_front.specs.declared.fault.CertFault.TheVariants as cert
 
 abbrev pub form_of : Certificate → Form
 form_of (first_refutation r) = form.Refutation
+form_of (refutation r) = form.Refutation
 form_of (saturation s) = form.Saturation
+form_of (covered c) = form.Saturation
 
 -- want of memory is no fault of a file
 abbrev pub of_cert : CertFault → CheckFault

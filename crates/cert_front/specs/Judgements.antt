@@ -1,9 +1,9 @@
 -- What a certificate is found to be.
-use Rattle.std.specs.Prelude.{ℕ, ◌≡◌, ⊤, Option, None, Some}
+use Rattle.std.specs.Prelude.{ℕ, ◌≡◌, ◌≢◌, ⊤, Option, None, Some, Result, Ok, Err}
 use Rattle.inst_logic.specs.declared.clause.Problem.{Problem}
 use Rattle.inst_logic.specs.Derivations.{at_number}
-use Rattle.cert_format.specs.Certificate.{Base, Certificate, first_refutation, saturation, base_of}
-use Rattle.cert_format.specs.Validity.{RefutationPasses, SaturationPasses, IsFirstComplaint, IsValid}
+use Rattle.cert_format.specs.Certificate.{Base, Certificate, first_refutation, refutation, saturation, covered, base_of}
+use Rattle.cert_format.specs.Validity.{RefutationPasses, LinesPass, SaturationPasses, CoversPass, IsFirstComplaint, IsValid}
 use Rattle.cert_format.specs.declared.complaint.Complaint.{Complaint}
 use Rattle.cert_check.specs.Firsts.{IsFirstWrong}
 use Rattle.cert_front.specs.declared.judgement.Judgement.{Judgement}
@@ -12,7 +12,9 @@ use Rattle.cert_front.specs.declared.judgement.Judgement.TheVariants as judgemen
 -- the certificate passes the check that the complaint names
 abbrev pub Passes : Certificate → Complaint → Type 0
 Passes (first_refutation r) = RefutationPasses r
+Passes (refutation r) = LinesPass r
 Passes (saturation s) = SaturationPasses s
+Passes (covered c) = CoversPass c
 
 -- the input clauses are the problem's, where a problem is given
 abbrev pub HasInputsOf : Option Problem → Base → Type 0
@@ -34,3 +36,8 @@ abbrev pub IsJudgement : Option Problem → Certificate → Judgement → Type 0
 IsJudgement p c judgement.Valid = HasInputsOf p (base_of c) × IsValid c
 IsJudgement p c (judgement.Problem n) = DiffersFirstAt p (base_of c) n
 IsJudgement p c (judgement.Invalid complaint) = HasInputsOf p (base_of c) × IsFirstComplaint (Passes c) complaint
+
+-- what the check of a certificate hands back: the checked value, where it is valid and of the problem; or else its judgement
+abbrev pub IsChecked : {C : Type 0} → (C → Certificate) → Option Problem → Certificate → Result C Judgement → Type 0
+IsChecked value p c (Ok checked) = IsJudgement p c judgement.Valid × (value checked ≡ c)
+IsChecked value p c (Err j) = (j ≢ judgement.Valid) × IsJudgement p c j

@@ -2,7 +2,9 @@ pub mod Certificates
 pub mod Checks
 pub mod Faults
 pub mod Judgements
+pub mod Kinds
 pub mod Queries
 pub mod Replies
+pub mod Rewritings
 pub mod Texts
 pub mod Words

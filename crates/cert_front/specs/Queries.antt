@@ -1,9 +1,10 @@
 -- What the saturation of a file says of an atom.
-use Rattle.std.specs.Prelude.{ℕ, ◌≡◌, ◌⊎◌, List, Option, Some, Result, Ok, Err, ⊤}
+use Rattle.std.specs.Prelude.{ℕ, ◌≡◌, ◌⊎◌, true, false, List, Option, Some, Result, Ok, Err, ⊤}
 use Rattle.outside_io.specs.Causes.{Rose}
 use Rattle.outside_io.specs.declared.library.NamedFile.{NamedFile}
 use Rattle.inst_logic.specs.Tree.{Tree}
-use Rattle.cert_format.specs.Certificate.{FirstRefutation, Saturation, first_refutation, saturation}
+use Rattle.cert_format.specs.Certificate.{Certificate}
+use Rattle.cert_format.specs.ValueLines.{is_refutation}
 use Rattle.cert_front.specs.Replies.{IsReply}
 use Rattle.cert_front.specs.declared.reply.Reply.{Reply}
 use Rattle.cert_front.specs.Certificates.{IsBarred, IsCertificateOf}
@@ -12,13 +13,14 @@ use Rattle.cert_front.specs.declared.fault.CertFault.TheVariants.{Absent, TooLon
 
 -- the reply of the saturation of the file of this name
 pub record IsReplied (files : Option (List NamedFile)) (name : List ℕ) (a : Tree) (reply : Reply) : Type 0 where
-  pub certificate : Saturation
-  pub held : IsCertificateOf files name (saturation certificate)
+  pub certificate : Certificate
+  pub no_refutation : is_refutation certificate ≡ false
+  pub held : IsCertificateOf files name certificate
   pub replied : IsReply certificate a reply
 
 -- the file of this name has a refutation
 abbrev pub HasRefutation : Option (List NamedFile) → List ℕ → Type 0
-HasRefutation files name = (r : FirstRefutation) × IsCertificateOf files name (first_refutation r)
+HasRefutation files name = (c : Certificate) × (is_refutation c ≡ true) × IsCertificateOf files name c
 
 -- Why there is no reply; the count of faults goes from before to now.
 abbrev pub IsAskFault : Option (List NamedFile) → ℕ → ℕ → List ℕ → CertFault → Type 0

@@ -24,6 +24,7 @@ complaint_words (complaint.Step n) = codes "step " ∷ decimal n ∷ []
 complaint_words complaint.NotEmpty = codes "no empty clause" ∷ []
 complaint_words (complaint.Place n) = codes "place " ∷ decimal n ∷ []
 complaint_words (complaint.Input k) = codes "input " ∷ decimal k ∷ []
+complaint_words (complaint.Cover n) = codes "cover " ∷ decimal n ∷ []
 complaint_words (complaint.Pair left right) = codes "pair " ∷ decimal left ∷ codes " " ∷ decimal right ∷ []
 
 -- the words with a line feed behind them

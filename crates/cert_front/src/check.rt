@@ -11,7 +11,9 @@ ghost use Rattle.cert_front.specs.declared.check.CheckFault.TheVariants as fault
 use crate::fault::CertFault;
 use crate::file::read_file;
 use crate::file_laws::findings_are_one;
-use crate::judgement::{Judgement, judge_refutation, judge_saturation};
+use crate::judgement::{
+    Judgement, judge_covered, judge_first, judge_refutation, judge_saturation, judgement_of,
+};
 use crate::words::Form;
 use cert_reader::Certificate;
 use inst_logic::{Memory, Problem};
@@ -76,19 +78,27 @@ fn judge(
     ensures judgement { IfOk result (λ found. IsJudgement (option_copied problem.entry) (value_of certificate) found.1) }
 {
     match certificate {
+        Certificate::First(cert) => {
+            let checked = judge_first(alloc, cert, problem)?;
+            Ok((Form::Refutation, judgement_of(checked)))
+        }
         Certificate::Refutation(cert) => {
-            let judgement = judge_refutation(alloc, cert, problem)?;
-            Ok((Form::Refutation, judgement))
+            let checked = judge_refutation(alloc, cert, problem)?;
+            Ok((Form::Refutation, judgement_of(checked)))
         }
         Certificate::Saturation(cert) => {
-            let judgement = judge_saturation(alloc, cert, problem)?;
-            Ok((Form::Saturation, judgement))
+            let checked = judge_saturation(alloc, cert, problem)?;
+            Ok((Form::Saturation, judgement_of(checked)))
+        }
+        Certificate::Covered(cert) => {
+            let checked = judge_covered(alloc, cert, problem)?;
+            Ok((Form::Saturation, judgement_of(checked)))
         }
     }
 }
 
 // The problem of the file, where one is named.
-fn load_named<L: Library>(
+pub(crate) fn load_named<L: Library>(
     alloc: Global,
     files: &mut L,
     problem: Option<&str>,

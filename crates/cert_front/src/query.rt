@@ -4,9 +4,8 @@ ghost use Rattle.outside_io.specs.Told.{Follows};
 ghost use Rattle.inst_logic.specs.LiteralView.{literal};
 ghost use Rattle.inst_logic.specs.WellFormed.{IsAtom};
 ghost use Rattle.term_bank.specs.Forest.{is_ground};
-ghost use Rattle.cert_format.specs.Certificate.{selected_members};
-ghost use Rattle.saturation_cert.specs.Values.{saturation_of};
-ghost use Rattle.saturation_cert.specs.Wholes.{AreLight, IsWholeSaturation};
+ghost use Rattle.saturation_cert.specs.Wholes.{AreLight, IsWholeCovered, IsWholeSaturation};
+ghost use Rattle.cert_front.specs.Kinds.{covered_value, saturation_value, selected_of};
 ghost use Rattle.cert_front.specs.Replies.{IsReply};
 ghost use Rattle.cert_front.specs.Queries.{IsAskFault, IsExactReply, IsReplied};
 ghost use Rattle.cert_front.specs.declared.fault.CertFault.TheVariants as faults;
@@ -15,23 +14,36 @@ use crate::fault::CertFault;
 use crate::file::read_file;
 use crate::file_laws::findings_are_one;
 use crate::laws::short_texts_are_light;
-use crate::reply::{Reply, ask};
+use crate::reply::{Reply, ask_covered, ask_saturation};
 use cert_reader::Certificate;
 use inst_logic::Literal;
 use outside_io::Library;
-use saturation_cert::Saturation;
+use saturation_cert::{Covered, Saturation};
 use std::alloc::Global;
 
 // The reply of a saturation, which is dropped.
 fn reply(alloc: Global, cert: Saturation, atom: &Literal) -> Result<Reply, CertFault>
     requires whole { IsWholeSaturation cert }
-    requires light { AreLight (selected_members (saturation_of cert)) }
+    requires light { AreLight (selected_of (saturation_value cert)) }
     requires atom { IsAtom (literal atom.now).atom }
     requires variable_free { is_ground (literal atom.now).atom ≡ true }
-    ensures replied { IfOk result (IsReply (saturation_of cert) (literal atom.now).atom) }
+    ensures replied { IfOk result (IsReply (saturation_value cert) (literal atom.now).atom) }
     ensures refused { IfErr result (λ e. e ≡ faults.Memory) }
 {
-    let reply = ask(alloc, cert, atom)?;
+    let reply = ask_saturation(alloc, cert, atom)?;
+    Ok(reply)
+}
+
+// The reply of a saturation with its covers, which is dropped.
+fn covered_reply(alloc: Global, cert: Covered, atom: &Literal) -> Result<Reply, CertFault>
+    requires whole { IsWholeCovered cert }
+    requires light { AreLight (selected_of (covered_value cert)) }
+    requires atom { IsAtom (literal atom.now).atom }
+    requires variable_free { is_ground (literal atom.now).atom ≡ true }
+    ensures replied { IfOk result (IsReply (covered_value cert) (literal atom.now).atom) }
+    ensures refused { IfErr result (λ e. e ≡ faults.Memory) }
+{
+    let reply = ask_covered(alloc, cert, atom)?;
     Ok(reply)
 }
 
@@ -51,6 +63,8 @@ fn reply_of_file<L: Library>(
     short_texts_are_light();
     match read_file(alloc, files, name) {
         Ok(Certificate::Saturation(cert)) => reply(alloc, cert, atom),
+        Ok(Certificate::Covered(cert)) => covered_reply(alloc, cert, atom),
+        Ok(Certificate::First(_)) => Err(CertFault::NoSaturation),
         Ok(Certificate::Refutation(_)) => Err(CertFault::NoSaturation),
         Err(fault) => Err(fault),
     }

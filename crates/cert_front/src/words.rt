@@ -86,6 +86,7 @@ fn complaint_line<'a>(complaint: Complaint) -> Line<'a>
         Complaint::Place { n } => numbered_line(b"place ", n),
         Complaint::Input { k } => numbered_line(b"input ", k),
         Complaint::Pair { left, right } => pair_line(left, right),
+        Complaint::Cover { n } => numbered_line(b"cover ", n),
     }
 }
 

@@ -4,10 +4,9 @@ use Rattle.std.proofs.lemmas.Result.{IfOk-weaker}
 use Rattle.inst_logic.specs.declared.clause.Problem.{Problem}
 use Rattle.term_bank.proofs.Growth.{extends_itself}
 use Rattle.saturation_cert.specs.Values.{base_of}
-use Rattle.cert_check.proofs.Refutations.{whole_base}
-use Rattle.cert_check.proofs.Saturations.{keeps_grown}
 use Rattle.cert_front.specs.Judgements.{IsDifference}
 use Rattle.cert_front.proofs.Differing.{whole_ids, difference_of}
+use Rattle.cert_front.proofs.Grown.{base_whole, keeps_grown}
 use Rattle.cert_front.proofs.difference.difference.Goals as goal
 
 pub first_difference-requires-clause-inputs : goal.first_difference-requires-clause-inputs
@@ -21,7 +20,7 @@ returns-in-Some-clause-kept c = keeps_grown c.args.base.now c.first_difference.n
 
 pub returns-in-Some-clause-whole : goal.returns-in-Some-clause-whole
 returns-in-Some-clause-whole c =
-    let whole = whole_base c.args.base.now c.first_difference.new.bank c.requires.whole c.first_difference.ensures.extends c.first_difference.ensures.formed in
+    let whole = base_whole c.args.base.now c.first_difference.new.bank c.requires.whole c.first_difference.ensures.extends c.first_difference.ensures.formed in
     IfOk-weaker c.first_difference.result _ _ (λ _ _. whole) c.first_difference.ensures.first
 
 pub returns-in-Some-clause-first : goal.returns-in-Some-clause-first

@@ -1,7 +1,6 @@
 use Rattle.std.proofs.Common.{◌≤◌, length, refl, arith, sym, ◌∙◌, below_more}
 use Rattle.term_bank.proofs.Growth.{extends_trans}
-use Rattle.cert_check.proofs.Refutations.{not_true}
-use Rattle.cert_front.proofs.Differing.{all_grown, same_there, first_at, none_differs}
+use Rattle.cert_front.proofs.Differing.{all_grown, same_there, first_at, none_differs, not_true}
 use Rattle.cert_front.proofs.difference.first_difference.Goals as goal
 
 pub same_at-requires-clause-inputs : goal.same_at-requires-clause-inputs

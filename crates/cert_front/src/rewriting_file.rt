@@ -1,0 +1,73 @@
+// The certificate of a file in the format in which certificates are written.
+ghost use Rattle.std.specs.Prelude.{◌≡◌, ◌≤◌, ℕ, IfOk, IfErr, IfSome, option_map};
+ghost use Rattle.outside_io.specs.Told.{Follows};
+ghost use Rattle.cert_format.specs.Printable.{IsPrintable};
+ghost use Rattle.cert_reader.specs.Reads.{IsWholeCertificate, value_of};
+ghost use Rattle.cert_front.specs.Checks.{IsCheckFault, IsUnjudged};
+ghost use Rattle.cert_front.specs.Rewritings.{IsExactRewriting, IsRewritten, IsRewrittenAs};
+
+use crate::check::{CheckFault, load_named};
+use crate::file::read_named;
+use crate::file_laws::findings_are_one;
+use crate::rewriting::{Rewriting, rewrite};
+use cert_reader::ReadCert;
+use outside_io::Library;
+use std::alloc::Global;
+
+// The rewriting of a certificate for the problem of the file, where one is named.
+fn rewrite_for<L: Library>(
+    alloc: Global,
+    files: &mut L,
+    read: ReadCert,
+    problem: Option<&str>,
+    root: Option<&str>,
+) -> Result<Rewriting, CheckFault>
+    requires whole { IsWholeCertificate read.cert }
+    requires printable { (format : ℕ) × IsPrintable format (value_of read.cert) }
+    ensures follows { Follows (L.told files.old) (L.told files.new) }
+    ensures rewritten { IfOk result (IsRewrittenAs (L.told files.old).files (option_map (λ f. f.now) problem.entry) (option_map (λ r. r.now) root.entry) read.name (value_of read.cert)) }
+    ensures refused { IfErr result (IsUnjudged (L.told files.old).files (L.told files.old).faults (L.told files.new).faults (option_map (λ f. f.now) problem.entry) (option_map (λ r. r.now) root.entry)) }
+{
+    let ReadCert { name, cert, .. } = read;
+    let problem = load_named(alloc, files, problem, root)?;
+    let rewriting = rewrite(alloc, name.bytes(), cert, problem.as_ref())?;
+    Ok(rewriting)
+}
+
+// The same of the certificate of the file of this name.
+fn rewrite_named<L: Library>(
+    alloc: Global,
+    files: &mut L,
+    file: &str,
+    problem: Option<&str>,
+    root: Option<&str>,
+) -> Result<Rewriting, CheckFault>
+    ensures follows { Follows (L.told files.old) (L.told files.new) }
+    ensures rewritten { IfOk result (IsRewritten (L.told files.old).files file.now (option_map (λ f. f.now) problem.entry) (option_map (λ r. r.now) root.entry)) }
+    ensures refused { IfErr result (IsCheckFault (L.told files.old).files (L.told files.old).faults (L.told files.new).faults file.now (option_map (λ f. f.now) problem.entry) (option_map (λ r. r.now) root.entry)) }
+{
+    match read_named(alloc, files, file) {
+        Ok(read) => rewrite_for(alloc, files, read, problem, root),
+        Err(fault) => Err(CheckFault::from(fault)),
+    }
+}
+
+/// The certificate of a file in the format in which certificates are written, under its own name, where it is valid; and the first
+/// reason why it is not. Where a problem is named, its file is loaded, with the root for its includes, and the certificate has to be
+/// one of it. The file of the certificate is read first.
+pub fn rewrite_file<L: Library>(
+    alloc: Global,
+    files: &mut L,
+    file: &str,
+    problem: Option<&str>,
+    root: Option<&str>,
+) -> Result<Rewriting, CheckFault>
+    ensures follows { Follows (L.told files.old) (L.told files.new) }
+    ensures rewritten { IfOk result (IsRewritten (L.told files.old).files file.now (option_map (λ f. f.now) problem.entry) (option_map (λ r. r.now) root.entry)) }
+    ensures refused { IfErr result (IsCheckFault (L.told files.old).files (L.told files.old).faults (L.told files.new).faults file.now (option_map (λ f. f.now) problem.entry) (option_map (λ r. r.now) root.entry)) }
+    // Where the files are told, it says what a check finds in them, but for faults and want of memory.
+    ensures exact { IfSome (L.told files.old).files (λ told. IsExactRewriting told (L.told files.old).faults (L.told files.new).faults file.now (option_map (λ f. f.now) problem.entry) (option_map (λ r. r.now) root.entry) result) }
+{
+    findings_are_one();
+    rewrite_named(alloc, files, file, problem, root)
+}
