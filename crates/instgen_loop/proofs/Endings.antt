@@ -39,10 +39,10 @@ use Rattle.instgen_loop.specs.Ending.{IsAtRest, settled_from, saturation_from}
 use Rattle.instgen_loop.specs.Loops.{items, held_of}
 use Rattle.instgen_loop.specs.Outcomes.{IsSelectedRun, IsSaturatedRun}
 use Rattle.instgen_loop.specs.Refuting.{member_of}
-use Rattle.instgen_loop.specs.Running.{entries_of, state_of, IsRunning, IsSolvedFor, saturation_at}
+use Rattle.instgen_loop.specs.Running.{entries_of, state_of, event_in, IsRunning, IsSolvedFor, saturation_at}
 use Rattle.instgen_loop.specs.Starting.{IsOfProblem}
 use Rattle.instgen_loop.proofs.PrintedEntries.{entries_printable}
-use Rattle.instgen_loop.proofs.Printed.{all_formed, axiom_printable}
+use Rattle.engine_laws.proofs.Printed.{all_formed, axiom_printable}
 use Rattle.instgen_loop.proofs.Refuting.{whole_items}
 use Rattle.instgen_loop.proofs.Saturated.{saturated_is_valid}
 
@@ -116,7 +116,7 @@ module _ {S I C : Type 0} (atoms : S → ℕ) (added : S → List (List (Signed 
         named = count;
         names = readable;
         axioms = in_all IsPrintableClause (equality_axioms clauses) (axiom_printable clauses printable);
-        members = entries_printable atoms added r bot clauses budget v true rest.safe.entries h printable;
+        members = entries_printable f (items r) bot clauses (map (event_in f) r.journal) t rest.safe.entries h.replays refl printable;
       };
       placed = long;
     }

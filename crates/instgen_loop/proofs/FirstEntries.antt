@@ -44,7 +44,7 @@ given_grown f g grown ids cs h = record {
 }
 
 -- the ids of a well-formed clause are whole
-whole_at : (f : Forest) (c : List (Signed ℕ)) (trees : TreeClause) → IsClauseAt f c trees → IsFormedClause trees → IsWholeClause f c
+pub whole_at : (f : Forest) (c : List (Signed ℕ)) (trees : TreeClause) → IsClauseAt f c trees → IsFormedClause trees → IsWholeClause f c
 whole_at f c trees at formed = record {
   ids = at.0;
   atoms = in_all (λ (l : Signed ℕ). IsAtom (tree_at f l.atom)) c (λ l i.

@@ -24,9 +24,13 @@ pub mod Saturated
 pub mod Kept
 pub mod Started
 pub mod Grounding
-pub mod Printed
 pub mod PrintedEntries
+pub mod RecordLaws
+pub mod LineLaws
+pub mod LineNumbers
+pub mod TreeSteps
 pub mod Refuting
+pub mod Refutations
 pub mod Ended
 pub mod Endings
 pub mod Stopped

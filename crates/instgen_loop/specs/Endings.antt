@@ -1,30 +1,49 @@
--- An ending with its journal.
-use Rattle.std.specs.Prelude.{ℕ, List, length}
+-- What an ending leaves to its outcome.
+use Rattle.std.specs.Prelude.{◌≡◌, ℕ, List, [], length, map, IsTrue, All}
 use Rattle.inst_logic.specs.Clauses.{TreeClause}
-use Rattle.inst_calculus.specs.Abstraction.{IsBot}
-use Rattle.prop_logic.specs.Literal.{AllAtomsBelow, StepsBelow}
+use Rattle.inst_logic.specs.Printing.{is_readable_name}
+use Rattle.inst_logic.specs.WellFormed.{is_constant}
+use Rattle.inst_calculus.specs.Abstraction.{IsBot, AreAbstracted}
+use Rattle.inst_calculus.specs.Axioms.{equality_axioms, with_axioms}
+use Rattle.inst_machine.specs.Machine.{State}
+use Rattle.inst_machine.specs.Replay.{Replays}
+use Rattle.cert_format.specs.Printable.{IsPrintableClause}
+use Rattle.prop_logic.specs.Solving.{Refutes}
+use Rattle.ground_abs.specs.Abstracts.{atoms_in, AreAtomsIn}
 use Rattle.instgen_loop.specs.declared.event.Event.{Event}
 use Rattle.instgen_loop.specs.declared.ending.Ending.{Ending}
-use Rattle.instgen_loop.specs.declared.ending.Ending.TheVariants as endings
-use Rattle.instgen_loop.specs.declared.outcome.Outcome.{Outcome}
-use Rattle.instgen_loop.specs.declared.outcome.Outcome.TheVariants.{Refuted, Saturated, OutOfBudget}
+use Rattle.instgen_loop.specs.declared.ending.Ending.TheVariants.{Refuted, Saturated, OutOfBudget}
 use Rattle.instgen_loop.specs.declared.refuted.RefutedRun.{RefutedRun}
-use Rattle.instgen_loop.specs.Refuting.{refutation_from}
+use Rattle.instgen_loop.specs.Clauses.{AreEntries, entries_in, clauses_in}
 use Rattle.instgen_loop.specs.Ending.{saturation_from}
+use Rattle.instgen_loop.specs.Grounds.{IsUsed}
+use Rattle.instgen_loop.specs.Outcomes.{IsSaturatedRun, IsStoppedRun}
+use Rattle.instgen_loop.specs.Running.{event_in, IsEventOf}
+use Rattle.instgen_loop.specs.Starting.{AreGiven}
 
--- the constant is that of the clauses, and the abstractions and the derivation are over numbered atoms
-pub record IsRefuted (clauses : List TreeClause) (r : RefutedRun) : Type 0 where
+-- The journal replays to the entries, of which the numbered clauses are the abstractions, and the derivation refutes these. The
+-- clauses and their axioms are in the bank, and all can be printed.
+pub record IsRefuted (clauses : List TreeClause) (names : List (List ℕ)) (r : RefutedRun) (journal : List Event) : Type 0 where
+  pub state : State
+  pub replays : Replays r.abstraction.bot (with_axioms clauses) (map (event_in r.remains.bank) journal) state
+  pub members : state.entries ≡ entries_in r.remains.bank r.remains.clauses.entries
+  pub events : All (IsEventOf r.remains.bank) journal
+  pub entries : AreEntries r.remains.bank r.remains.clauses.entries
+  pub inputs : AreGiven r.remains.bank r.remains.given.inputs clauses
+  pub axioms : AreGiven r.remains.bank r.remains.given.axioms (equality_axioms clauses)
   pub bot : IsBot clauses r.abstraction.bot
-  pub literals : AllAtomsBelow (length r.abstraction.ids) r.literals
-  pub steps : StepsBelow (length r.abstraction.ids) r.derivation
+  pub constant : IsTrue (is_constant r.abstraction.bot)
+  pub bot_name : IsTrue (is_readable_name r.abstraction.bot.name)
+  pub fits : AreAtomsIn r.remains.bank r.abstraction.ids
+  pub same : AreAbstracted r.abstraction.bot (atoms_in r.remains.bank r.abstraction.ids) r.literals (clauses_in r.remains.bank r.remains.clauses.entries)
+  pub used : All (IsUsed r.abstraction.bot (clauses_in r.remains.bank r.remains.clauses.entries)) (atoms_in r.remains.bank r.abstraction.ids)
+  pub refutes : Refutes (length r.abstraction.ids) r.literals [] [] r.derivation
+  pub printable : All IsPrintableClause clauses
+  pub named : length names ≡ length clauses
+  pub readable : All (λ n. IsTrue (is_readable_name n)) names
 
--- a refutation can be made of what was refuted
-abbrev pub IsEnding : List TreeClause → Ending → Type 0
-IsEnding clauses (endings.Refuted r) = IsRefuted clauses r
-IsEnding clauses (endings.Saturated r) = Unit {0}
-IsEnding clauses (endings.OutOfBudget left wanted r) = Unit {0}
-
-abbrev pub outcome_from : List (List ℕ) → Ending → List Event → Outcome
-outcome_from names (endings.Refuted r) journal = Refuted (refutation_from names r) journal
-outcome_from names (endings.Saturated r) journal = Saturated (saturation_from names r) journal
-outcome_from names (endings.OutOfBudget left wanted r) journal = OutOfBudget left wanted (saturation_from names r) journal
+-- the outcome that is made of the ending holds what it says
+abbrev pub IsEnding : List TreeClause → List (List ℕ) → ℕ → Ending → List Event → Type 0
+IsEnding clauses names budget (Refuted r) journal = IsRefuted clauses names r journal
+IsEnding clauses names budget (Saturated r) journal = IsSaturatedRun clauses names (saturation_from names r) journal
+IsEnding clauses names budget (OutOfBudget left wanted r) journal = IsStoppedRun clauses names budget left wanted (saturation_from names r) journal

@@ -12,9 +12,13 @@ pub mod Choosing
 pub mod Settling
 pub mod Starting
 pub mod Refuting
+pub mod Records
+pub mod Lines
+pub mod LineNumbers
 pub mod Deciding
 pub mod Ending
 pub mod Endings
 pub mod Marks
 pub mod EventLogs
 pub mod Origins
+pub mod ShownRuns

@@ -4,7 +4,7 @@ use Rattle.std.specs.Bool.{Decides}
 use Rattle.std.proofs.Common.{refl, sym}
 use Rattle.std.proofs.lemmas.Bool.Decides.{Decides-eqb}
 use Rattle.saturation_cert.specs.declared.member.Origin.{Origin}
-use Rattle.saturation_cert.specs.declared.member.Origin.TheVariants.{Input, Inst}
+use Rattle.saturation_cert.specs.declared.member.Origin.TheVariants.{Input, Inst, Lemma}
 use Rattle.instgen_loop.specs.declared.origin.PackedOrigin.TheInside.{Inside}
 
 -- that of an input where the place is none
@@ -14,6 +14,7 @@ origin_in a = if a.place == 4294967295 then Input a.from else Inst a.from a.plac
 abbrev pub numbers_of : Origin → Inside
 numbers_of (Input k) = record { from = k; place = 4294967295; partner = 0; other = 0 }
 numbers_of (Inst from place partner other) = record { from = from; place = place; partner = partner; other = other }
+numbers_of (Lemma from place partner other keep premises) = record { from = from; place = place; partner = partner; other = other }
 
 -- an input has no more numbers
 abbrev pub IsPlain : Inside → Type 0

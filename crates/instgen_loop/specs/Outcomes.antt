@@ -2,10 +2,12 @@
 use Rattle.std.specs.Prelude.{◌≡◌, ℕ, zero, suc, List, [], ◌∷◌, length, map}
 use Rattle.inst_logic.specs.declared.symbol.Sym.{Sym}
 use Rattle.inst_logic.specs.Clauses.{TreeClause}
-use Rattle.inst_calculus.specs.Axioms.{equality_axioms}
+use Rattle.inst_calculus.specs.Axioms.{equality_axioms, with_axioms}
 use Rattle.cert_format.specs.Certificate.{selected_members}
-use Rattle.cert_format.specs.Validity.{IsValidRefutation, IsValidSaturation}
-use Rattle.cert_format.specs.Printable.{IsPrintableRefutation, IsPrintableSaturation}
+use Rattle.cert_format.specs.Validity.{IsValidByLines, IsValidSaturation}
+use Rattle.cert_format.specs.Printable.{IsPrintableByLines, IsPrintableSaturation}
+use Rattle.inst_calculus.specs.Unrolling.{Made, AreRecords}
+use Rattle.engine_laws.specs.GroundLines.{ground_lines}
 use Rattle.inst_machine.specs.Machine.{State, IsSettled}
 use Rattle.inst_machine.specs.Replay.{ReplaysFrom, IsSelection}
 use Rattle.inst_machine.specs.Budget.{RunsOut}
@@ -36,14 +38,17 @@ pub record IsSelectedRun (clauses : List TreeClause) (names : List (List ℕ)) (
   pub selection : IsSelection bot t (selected_members (saturation_of cert))
   pub whole : IsWholeSaturation cert
 
--- a valid refutation that can be printed, with a ground clause for each member
+-- A valid refutation that can be printed. Its ground lines are those of the unrolled lists of its members, with the constant for
+-- every variable, one list after the other, each line once.
 pub record IsRefutedRun (clauses : List TreeClause) (names : List (List ℕ)) (cert : Refutation) (journal : List Event) : Type 0 where
   pub state : State
   pub run : IsRunOf clauses names cert.base cert.bot journal state
   pub whole : IsWholeRefutation cert
-  pub valid : IsValidRefutation (refutation_of cert)
-  pub printable : IsPrintableRefutation (refutation_of cert)
-  pub one_each : length cert.grounds ≡ length cert.base.members
+  pub made : List Made
+  pub records : AreRecords cert.bot state.entries made
+  pub lines : (refutation_of cert).grounds ≡ ground_lines cert.bot (with_axioms clauses) made
+  pub valid : IsValidByLines (refutation_of cert)
+  pub printable : IsPrintableByLines (refutation_of cert)
 
 -- a valid saturation that can be printed
 pub record IsSaturatedRun (clauses : List TreeClause) (names : List (List ℕ)) (cert : Saturation) (journal : List Event) : Type 0 where

@@ -1,6 +1,7 @@
 // How a run ends. The certificate and the journal are made only once the run is gone, so that its memory serves for them.
 ghost use Rattle.std.specs.Prelude.{◌≡◌, IfOk};
-ghost use Rattle.instgen_loop.specs.Endings.{IsEnding, outcome_from};
+ghost use Rattle.instgen_loop.specs.Endings.{IsEnding};
+ghost use Rattle.instgen_loop.specs.Outcomes.{IsOutcome, journal_of};
 
 use crate::event_log::EventLog;
 use crate::finish::{SettledRun, saturation_of};
@@ -22,18 +23,20 @@ pub enum Ending {
 }
 
 /// The outcome that ends so after these events.
-pub fn outcome_from(
+pub fn outcome_of(
     alloc: Global,
     p: &Problem,
     ending: Ending,
     log: &EventLog,
+    _budget: u64,
 ) -> Result<Outcome, Memory>
-    requires ending { IsEnding p.now.clauses ending }
-    ensures { IfOk result (λ o. o ≡ outcome_from p.now.names ending log.now) }
+    requires { IsEnding p.now.clauses p.now.names _budget ending log.now }
+    ensures outcome { IfOk result (IsOutcome p.now.clauses p.now.names _budget) }
+    ensures journal { IfOk result (λ o. journal_of o ≡ log.now) }
 {
     match ending {
         Ending::Refuted(run) => {
-            let cert = refutation_of(alloc, p, run)?;
+            let cert = refutation_of(alloc, p, run, log)?;
             let journal = log.journal(alloc)?;
             Ok(Outcome::Refuted { cert, journal })
         }

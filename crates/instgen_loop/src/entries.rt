@@ -11,7 +11,6 @@ use crate::origin::PackedOrigin;
 use clause_form::{subsumes, tautology};
 use indexmap::IndexMap;
 use inst_logic::Memory;
-use saturation_cert::Origin;
 use std::alloc::Global;
 use std::mem::replace;
 use term_bank::{Bank, IdClause, IdLiteral};
@@ -109,7 +108,7 @@ fn add_first<I: PartnerIndex>(
 pub fn push_entry<I: PartnerIndex>(
     entries: &mut Entries<I>,
     clause: IdClause,
-    origin: Origin,
+    origin: PackedOrigin,
 ) -> Result<(), Memory>
     requires clause { IsClauseOf entries.old.bank clause }
     requires fits { I.fits entries.old.bank entries.old.first }
@@ -122,10 +121,9 @@ pub fn push_entry<I: PartnerIndex>(
     ensures bank { OnOk result (entries.new.bank ≡ entries.old.bank) }
     ensures pushed { OnOk result (entries.new.clauses.entries ≡ entries.old.clauses.entries ++ (clause, origin) ∷ []) }
 {
-    let packed = PackedOrigin::of(&origin)?;
     let number = entries.clauses.len() + 1;
     add_first(entries, &clause, number)?;
-    entries.clauses.insert(clause, packed)?;
+    entries.clauses.insert(clause, origin)?;
     Ok(())
 }
 

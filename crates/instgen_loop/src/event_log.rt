@@ -9,7 +9,6 @@ use crate::event::{Event, FlipList, Journal};
 use crate::origin::PackedOrigin;
 use crate::small::small;
 use inst_logic::Memory;
-use saturation_cert::Origin;
 use std::alloc::Global;
 use std::marker::Model;
 use term_bank::TermId;
@@ -114,12 +113,11 @@ impl EventLog {
         Ok(())
     }
 
-    /// Adds an entry that was appended. It lacks memory where a number of the origin has no room.
-    pub fn push_inferred(&mut self, origin: &Origin) -> Result<(), Memory>
-        ensures { OnOk result (self.new ≡ self.old ++ Inferred origin.now ∷ []) }
+    /// Adds an entry that was appended.
+    pub fn push_inferred(&mut self, origin: PackedOrigin) -> Result<(), Memory>
+        ensures { OnOk result (self.new ≡ self.old ++ Inferred origin ∷ []) }
     {
-        let packed = PackedOrigin::of(origin)?;
-        self.appended.push(packed)?;
+        self.appended.push(origin)?;
         Ok(())
     }
 

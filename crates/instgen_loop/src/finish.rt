@@ -4,10 +4,9 @@ ghost use Rattle.inst_logic.specs.Printing.{is_readable_name};
 ghost use Rattle.inst_calculus.specs.Axioms.{with_axioms};
 ghost use Rattle.cert_format.specs.Printable.{IsPrintableClause};
 ghost use Rattle.instgen_loop.specs.Loops.{IsSafe, items};
-ghost use Rattle.instgen_loop.specs.Outcomes.{IsOutcome};
 ghost use Rattle.instgen_loop.specs.Deciding.{IsDecision, IsLeastOpen};
 ghost use Rattle.instgen_loop.specs.Ending.{IsAtRest, settled_from, saturation_from};
-ghost use Rattle.instgen_loop.specs.Endings.{IsEnding, outcome_from};
+ghost use Rattle.instgen_loop.specs.Endings.{IsEnding};
 ghost use Rattle.instgen_loop.specs.Running.{IsSolvedFor};
 ghost use Rattle.instgen_loop.specs.Starting.{IsOfProblem};
 ghost use Rattle.instgen_loop.specs.Tended.{AreTended};
@@ -70,8 +69,7 @@ fn saturated<S: Solver, I: PartnerIndex>(
     requires named { length _p.now.names ≡ length _p.now.clauses }
     requires readable { All (λ n. IsTrue (is_readable_name n)) _p.now.names }
     requires decided { IsDecision run.old None }
-    ensures ending { IsEnding _p.now.clauses result }
-    ensures outcome { IsOutcome _p.now.clauses _p.now.names _budget (outcome_from _p.now.names result run.new.journal) }
+    ensures ending { IsEnding _p.now.clauses _p.now.names _budget result run.new.journal }
     ensures journal { run.new.journal ≡ run.old.journal }
 {
     Ending::Saturated(taken(alloc, run, given))
@@ -102,8 +100,7 @@ fn stopped<S: Solver, I: PartnerIndex>(
     requires running { IsSolvedFor S.atoms S.added run.old (with_axioms _p.now.clauses) _budget }
     requires problem { IsOfProblem run.old given _p.now.clauses }
     requires open { IsLeastOpen run.old wanted }
-    ensures ending { IsEnding _p.now.clauses result }
-    ensures outcome { IsOutcome _p.now.clauses _p.now.names _budget (outcome_from _p.now.names result run.new.journal) }
+    ensures ending { IsEnding _p.now.clauses _p.now.names _budget result run.new.journal }
     ensures journal { run.new.journal ≡ run.old.journal }
 {
     let left = left_of(run);
@@ -133,8 +130,7 @@ pub fn finish<S: Solver, I: PartnerIndex>(
     requires clauses { All IsPrintableClause p.now.clauses }
     requires named { length p.now.names ≡ length p.now.clauses }
     requires readable { All (λ n. IsTrue (is_readable_name n)) p.now.names }
-    ensures ending { IfOk result (IsEnding p.now.clauses) }
-    ensures outcome { IfOk result (λ e. IsOutcome p.now.clauses p.now.names budget (outcome_from p.now.names e run.new.journal)) }
+    ensures ending { IfOk result (λ e. IsEnding p.now.clauses p.now.names budget e run.new.journal) }
     ensures journal { OnOk result (run.new.journal ≡ run.old.journal) }
 {
     match decide(alloc, run)? {

@@ -13,11 +13,11 @@ ghost use Rattle.instgen_loop.specs.Loops.{IsSafe, Goes, items, IsUnified, IsSid
 ghost use Rattle.instgen_loop.specs.Running.{Reads, Holds, AppendsUncovered, MayInfer, KeepsRunning};
 
 use crate::entries::is_covered;
+use crate::origin::PackedOrigin;
 use crate::state::{Held, Run, append};
 use clause_form::conclude_clause;
 use inst_logic::Memory;
 use prop_logic::Solver;
-use saturation_cert::Origin;
 use std::alloc::Global;
 use term_bank::{IdClause, IdLiteral};
 use term_index::PartnerIndex;
@@ -173,7 +173,7 @@ fn append_uncovered<S: Solver, I: PartnerIndex>(
     alloc: Global,
     run: &mut Run<S, I>,
     conclusion: IdClause,
-    origin: Origin,
+    origin: PackedOrigin,
     len: usize,
     size: u64,
 ) -> Result<(), Memory>
@@ -224,12 +224,9 @@ pub fn infer<S: Solver, I: PartnerIndex>(
     }
     let conclusion = conclusion_of(alloc, run, side, from)?;
     let len = clause_of(run, from).len();
-    let origin = Origin::Inst {
-        from,
-        place: place_of(run, from),
-        partner,
-        other: place_of(run, partner),
-    };
+    let place = place_of(run, from);
+    let other = place_of(run, partner);
+    let origin = PackedOrigin::inst(from, place, partner, other)?;
     append_uncovered(alloc, run, conclusion, origin, len, size)?;
     Ok(())
 }

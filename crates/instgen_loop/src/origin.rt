@@ -1,5 +1,8 @@
 // Origins of entries in few bytes.
 ghost use Rattle.std.specs.Prelude.{◌≡◌, IfOk};
+ghost use Rattle.cert_format.specs.Validity.{IsFirstOrigin};
+ghost use Rattle.saturation_cert.specs.declared.member.Origin.TheVariants.{Input, Inst};
+ghost use Rattle.saturation_cert.specs.Values.{origin_of};
 
 use crate::small::small;
 use inst_logic::Memory;
@@ -37,40 +40,43 @@ impl Model for PackedOrigin {
 const _: () = prove!(size_of::<PackedOrigin>() == 16);
 
 impl PackedOrigin {
-    /// The origin in sixteen bytes. It lacks memory where a number needs more than four, or the place is 2^32 - 1.
-    pub fn of(origin: &Origin) -> Result<PackedOrigin, Memory>
-        ensures { IfOk result (λ o. o ≡ origin.now) }
+    /// That of input clause `k`. It lacks memory where the number needs more than four bytes.
+    pub fn input(k: usize) -> Result<PackedOrigin, Memory>
+        ensures { IfOk result (λ o. o ≡ Input k) }
     {
-        match origin {
-            Origin::Input(k) => Ok(PackedOrigin {
-                from: small(*k)?,
-                place: INPUT,
-                partner: 0,
-                other: 0,
-            }),
-            Origin::Inst {
-                from,
-                place,
-                partner,
-                other,
-            } => {
-                let place = small(*place)?;
-                if place == INPUT {
-                    return Err(Memory);
-                }
-                Ok(PackedOrigin {
-                    from: small(*from)?,
-                    place,
-                    partner: small(*partner)?,
-                    other: small(*other)?,
-                })
-            }
+        Ok(PackedOrigin {
+            from: small(k)?,
+            place: INPUT,
+            partner: 0,
+            other: 0,
+        })
+    }
+
+    /// That of a conclusion. It lacks memory where a number needs more than four bytes, or the place is 2^32 - 1.
+    pub fn inst(
+        from: usize,
+        place: usize,
+        partner: usize,
+        other: usize,
+    ) -> Result<PackedOrigin, Memory>
+        ensures { IfOk result (λ o. o ≡ Inst from place partner other) }
+    {
+        let place = small(place)?;
+        if place == INPUT {
+            return Err(Memory);
         }
+        Ok(PackedOrigin {
+            from: small(from)?,
+            place,
+            partner: small(partner)?,
+            other: small(other)?,
+        })
     }
 
     /// The origin.
     pub fn origin(self) -> Origin
-        ensures { result ≡ self }
+        ensures origin { result ≡ self }
+        ensures own { IsFirstOrigin (origin_of result) }
     {
         if self.place == INPUT {
             return Origin::Input(self.from as usize);

@@ -5,12 +5,12 @@ ghost use Rattle.inst_logic.specs.Printing.{is_readable_name};
 ghost use Rattle.cert_format.specs.Printable.{IsPrintableClause};
 ghost use Rattle.inst_logic.specs.WellFormed.{is_constant};
 ghost use Rattle.inst_calculus.specs.Abstraction.{IsBot};
-ghost use Rattle.instgen_loop.specs.Endings.{IsEnding, outcome_from};
+ghost use Rattle.instgen_loop.specs.Endings.{IsEnding};
 ghost use Rattle.instgen_loop.specs.Starting.{IsFresh, IsAllowed};
 ghost use Rattle.instgen_loop.specs.Outcomes.{IsOutcome, IsDecided, appended_count, journal_of};
 
 use crate::cycle::cycle;
-use crate::ending::{Ending, outcome_from};
+use crate::ending::{Ending, outcome_of};
 use crate::event::Journal;
 use crate::event_log::EventLog;
 use crate::finish::finish;
@@ -65,8 +65,7 @@ fn drive<S: Solver, I: PartnerIndex>(
     requires clauses { All IsPrintableClause p.now.clauses }
     requires named { length p.now.names ≡ length p.now.clauses }
     requires readable { All (λ n. IsTrue (is_readable_name n)) p.now.names }
-    ensures ending { IfOk result (IsEnding p.now.clauses) }
-    ensures outcome { IfOk result (λ e. IsOutcome p.now.clauses p.now.names budget (outcome_from p.now.names e run.new.journal)) }
+    ensures ending { IfOk result (λ e. IsEnding p.now.clauses p.now.names budget e run.new.journal) }
     ensures appended { OnOk result (IsFalse (is_function_free p.now.clauses) → appended_count run.new.journal ≤ budget) }
 {
     let given = start(alloc, p, run, budget)?;
@@ -103,8 +102,7 @@ fn drive_with<S: Solver, I: PartnerIndex>(
     requires clauses { All IsPrintableClause p.now.clauses }
     requires named { length p.now.names ≡ length p.now.clauses }
     requires readable { All (λ n. IsTrue (is_readable_name n)) p.now.names }
-    ensures ending { IfOk result (IsEnding p.now.clauses) }
-    ensures outcome { IfOk result (λ e. IsOutcome p.now.clauses p.now.names budget (outcome_from p.now.names e run.new.journal)) }
+    ensures ending { IfOk result (λ e. IsEnding p.now.clauses p.now.names budget e run.new.journal) }
     ensures appended { OnOk result (IsFalse (is_function_free p.now.clauses) → appended_count run.new.journal ≤ budget) }
 {
     drive(alloc, p, run, Partners { positive, negative }, budget)
@@ -144,7 +142,7 @@ fn run_with<S: Solver, I: PartnerIndex>(
     let ending = drive_with(alloc, p, &mut run, positive, negative, budget)?;
     let log = replace(&mut run.journal, EventLog::new(alloc));
     drop(run);
-    outcome_from(alloc, p, ending, &log)
+    outcome_of(alloc, p, ending, &log, budget)
 }
 
 /// Runs the engine on the problem's clauses and their axioms of equality. The budget counts the symbols and variables of the

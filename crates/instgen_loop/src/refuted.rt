@@ -5,23 +5,29 @@ ghost use Rattle.inst_calculus.specs.Abstraction.{IsBot};
 ghost use Rattle.inst_calculus.specs.Axioms.{with_axioms};
 ghost use Rattle.cert_format.specs.Printable.{IsPrintableClause};
 ghost use Rattle.prop_logic.specs.Solving.{Refutes};
-ghost use Rattle.instgen_loop.specs.Endings.{IsEnding, IsRefuted, outcome_from};
+ghost use Rattle.instgen_loop.specs.Endings.{IsEnding, IsRefuted};
+ghost use Rattle.instgen_loop.specs.Lines.{AreLinesOf};
 ghost use Rattle.instgen_loop.specs.Loops.{IsSafe};
-ghost use Rattle.instgen_loop.specs.Outcomes.{IsOutcome};
-ghost use Rattle.instgen_loop.specs.Refuting.{refuted_from, refutation_from};
+ghost use Rattle.instgen_loop.specs.Outcomes.{IsRefutedRun};
+ghost use Rattle.instgen_loop.specs.Refuting.{refuted_from};
+ghost use Rattle.instgen_loop.specs.ShownRuns.{IsMadeOf, IsShownOf};
 ghost use Rattle.instgen_loop.specs.Running.{IsRunningFor};
 ghost use Rattle.instgen_loop.specs.Starting.{IsOfProblem};
 
 use crate::ending::Ending;
+use crate::event_log::EventLog;
 use crate::hand_over::{Remains, base_of, hand_over};
+use crate::line_numbers::line_numbers;
+use crate::lines::ground_lines;
+use crate::records::records_of;
 use crate::start::Given;
 use crate::state::Run;
-use crate::steps::{ground_clauses, ground_steps};
+use crate::steps::ground_steps;
 use compact_lists::FlatClauses;
 use ground_abs::{Abstraction, bot_of};
 use inst_logic::{Memory, Problem};
 use prop_logic::{Derivation, Solver};
-use saturation_cert::Refutation;
+use saturation_cert::{GroundLineList, GroundStepList, Refutation};
 use std::alloc::Global;
 use std::mem::replace;
 use term_index::PartnerIndex;
@@ -35,23 +41,83 @@ pub struct RefutedRun {
     pub derivation: Derivation,
 }
 
-/// The refutation that the derivation gives: for each entry its abstraction for ground clause, and the steps over the atoms.
-pub fn refutation_of(alloc: Global, p: &Problem, run: RefutedRun) -> Result<Refutation, Memory>
-    requires refuted { IsRefuted p.now.clauses run }
-    ensures { IfOk result (λ r. r ≡ refutation_from p.now.names run) }
+// The ground lines of the run. Its bank has grown by their terms.
+fn lines_of(
+    alloc: Global,
+    p: &Problem,
+    run: &mut RefutedRun,
+    _log: &EventLog,
+) -> Result<GroundLineList, Memory>
+    requires refuted { IsRefuted p.now.clauses p.now.names run.old _log.now }
+    ensures refuted { OnOk result (IsRefuted p.now.clauses p.now.names run.new _log.now) }
+    ensures lines { IfOk result (AreLinesOf p.now.clauses run.new) }
 {
-    let base = base_of(alloc, p, run.remains)?;
+    let made = records_of(alloc, &mut run.remains.bank, &run.remains.clauses)?;
     let bot = bot_of(alloc, p)?;
-    let grounds = ground_clauses(alloc, &run.abstraction, &run.literals)?;
-    // Their memory serves for the steps.
-    drop(run.literals);
-    let steps = ground_steps(alloc, &run.abstraction, &run.derivation)?;
+    let lines = ground_lines(
+        alloc,
+        &mut run.remains.bank,
+        &bot,
+        &run.remains.given,
+        &made,
+    )?;
+    Ok(lines)
+}
+
+// The lines and the steps over them.
+#[derive(Drop)]
+struct Shown {
+    grounds: GroundLineList,
+    steps: GroundStepList,
+}
+
+// What is shown by the derivation of the run. Its bank has grown by the terms of the lines.
+fn shown_of(
+    alloc: Global,
+    p: &Problem,
+    run: &mut RefutedRun,
+    log: &EventLog,
+) -> Result<Shown, Memory>
+    requires refuted { IsRefuted p.now.clauses p.now.names run.old log.now }
+    ensures shown { IfOk result (IsShownOf p.now.clauses p.now.names run.new log.now) }
+{
+    let grounds = lines_of(alloc, p, run, log)?;
+    // So clauses of equal trees are equal.
+    run.remains.bank.distinct();
+    let numbers = line_numbers(alloc, &run.abstraction, &run.literals, &grounds)?;
+    let steps = ground_steps(alloc, &run.abstraction, &numbers, &run.derivation)?;
+    Ok(Shown { grounds, steps })
+}
+
+// The refutation of what remains of the run.
+fn made_of(alloc: Global, p: &Problem, remains: Remains, shown: Shown) -> Result<Refutation, Memory>
+    ensures { IfOk result (IsMadeOf p.now.clauses p.now.names remains shown) }
+{
+    let bot = bot_of(alloc, p)?;
+    let base = base_of(alloc, p, remains)?;
     Ok(Refutation {
         base,
         bot,
-        grounds,
-        steps,
+        grounds: shown.grounds,
+        steps: shown.steps,
     })
+}
+
+/// The refutation that the derivation gives. Its ground lines are those of the unrolled lists of the entries, with the constant for
+/// every variable, each once.
+pub fn refutation_of(
+    alloc: Global,
+    p: &Problem,
+    mut run: RefutedRun,
+    log: &EventLog,
+) -> Result<Refutation, Memory>
+    requires refuted { IsRefuted p.now.clauses p.now.names run log.now }
+    ensures refutation { IfOk result (λ r. IsRefutedRun p.now.clauses p.now.names r log.now) }
+{
+    match shown_of(alloc, p, &mut run, log) {
+        Ok(shown) => made_of(alloc, p, run.remains, shown),
+        Err(Memory) => Err(Memory),
+    }
 }
 
 // Takes of the run what a refutation is made of.
@@ -94,12 +160,9 @@ pub fn refuted<S: Solver, I: PartnerIndex>(
     requires clauses { All IsPrintableClause p.now.clauses }
     requires named { length p.now.names ≡ length p.now.clauses }
     requires readable { All (λ n. IsTrue (is_readable_name n)) p.now.names }
-    ensures ending { IfOk result (IsEnding p.now.clauses) }
-    ensures outcome { IfOk result (λ e. IsOutcome p.now.clauses p.now.names _budget (outcome_from p.now.names e run.new.journal)) }
+    ensures ending { IfOk result (λ e. IsEnding p.now.clauses p.now.names _budget e run.new.journal) }
     ensures journal { OnOk result (run.new.journal ≡ run.old.journal) }
 {
-    // So equal atoms have equal ids.
-    run.entries.bank.distinct();
     let refuted = taken(alloc, p, run, given, derivation)?;
     Ok(Ending::Refuted(refuted))
 }

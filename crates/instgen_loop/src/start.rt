@@ -18,6 +18,7 @@ ghost use Rattle.instgen_loop.specs.FirstEntries.{Continues, IsStarted};
 use crate::entries::Entries;
 use crate::event_log::EventLog;
 use crate::ground::Ground;
+use crate::origin::PackedOrigin;
 use crate::selection::Selection;
 use crate::state::{Run, make_entry};
 use clause_form::tautology;
@@ -28,7 +29,6 @@ use indexmap::IndexMap;
 use inst_logic::{ClauseList, Memory, Problem, Sym};
 use instgen_select::Passive;
 use prop_logic::{Solver, Valuation};
-use saturation_cert::Origin;
 use std::alloc::Global;
 use term_bank::{Bank, IdClause, IdLiteral};
 use term_index::PartnerIndex;
@@ -171,7 +171,8 @@ fn start_entry<S: Solver, I: PartnerIndex>(
     if run.entries.clauses.contains_key(&clause) {
         return Ok(());
     }
-    make_entry(run, clause, Origin::Input(k))?;
+    let origin = PackedOrigin::input(k)?;
+    make_entry(run, clause, origin)?;
     Ok(())
 }
 

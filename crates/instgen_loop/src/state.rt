@@ -11,12 +11,12 @@ ghost use Rattle.instgen_loop.specs.FirstEntries.{MakesEntry};
 use crate::entries::{Entries, push_entry};
 use crate::event_log::EventLog;
 use crate::ground::{Ground, add_entry};
+use crate::origin::PackedOrigin;
 use crate::selection::Selection;
 use clause_form::{clause_size, greatest_variable};
 use inst_logic::Memory;
 use instgen_select::Passive;
 use prop_logic::Solver;
-use saturation_cert::Origin;
 use std::alloc::Global;
 use term_bank::{Bank, IdClause};
 use term_index::PartnerIndex;
@@ -60,7 +60,7 @@ pub fn variable_count(bank: &Bank, clause: &IdClause) -> usize
 pub fn make_entry<S: Solver, I: PartnerIndex>(
     run: &mut Run<S, I>,
     clause: IdClause,
-    origin: Origin,
+    origin: PackedOrigin,
 ) -> Result<(), Memory>
     requires safe { IsSafe S.atoms I.pairs I.fits run.old }
     requires whole { IsWholeClause run.old.entries.bank clause }
@@ -83,7 +83,7 @@ pub fn make_entry<S: Solver, I: PartnerIndex>(
 pub fn append<S: Solver, I: PartnerIndex>(
     run: &mut Run<S, I>,
     clause: IdClause,
-    origin: Origin,
+    origin: PackedOrigin,
 ) -> Result<(), Memory>
     requires safe { IsSafe S.atoms I.pairs I.fits run.old }
     requires whole { IsWholeClause run.old.entries.bank clause }
@@ -94,7 +94,7 @@ pub fn append<S: Solver, I: PartnerIndex>(
     ensures appends { OnOk result (Appends run.old run.new clause origin) }
     ensures linked { OnOk result (KeepsLink S.atoms S.added run.old run.new) }
 {
-    make_entry(run, clause, origin.clone()?)?;
-    run.journal.push_inferred(&origin)?;
+    make_entry(run, clause, origin)?;
+    run.journal.push_inferred(origin)?;
     Ok(())
 }

@@ -8,8 +8,8 @@ left_of-left-requires g c =
     has_left g.S.Solver.atoms g.S.Solver.added g.I.PartnerIndex.pairs g.I.PartnerIndex.fits c.args.run.now c.args._partners.now c.args.given c.args._p.now.clauses c.args._p.now.names c.args._budget c.args.wanted
     c.requires.rest c.requires.problem c.requires.open c.requires.running
 
-pub returns-clause-outcome : goal.returns-clause-outcome
-returns-clause-outcome g c =
+pub returns-clause-ending : goal.returns-clause-ending
+returns-clause-ending g c =
     let S = g.S.Solver in
     let I = g.I.PartnerIndex in
     stopped_outcome S.atoms S.added I.pairs I.fits c.args.run.now c.args._partners.now c.args.given c.args._p.now.clauses c.args._p.now.names c.args._budget c.args.wanted c.requires.rest c.requires.problem c.requires.open

@@ -7,8 +7,10 @@ use Rattle.inst_logic.specs.Clauses.{canonical_form}
 use Rattle.term_bank.specs.Forest.{clause_at}
 use Rattle.unify_core.specs.Sides.{Binding, IsResolvedBy, of_side}
 use Rattle.inst_calculus.proofs.Items.{same_item}
+use Rattle.saturation_cert.specs.declared.member.Origin.{Origin}
 use Rattle.instgen_loop.specs.Clauses.{Item}
 use Rattle.instgen_loop.specs.Loops.{items, IsUnified}
+use Rattle.instgen_loop.specs.Running.{AppendsUncovered}
 use Rattle.instgen_loop.proofs.Selected.{literal_of, place_positive}
 use Rattle.instgen_loop.proofs.Works.{goes_on}
 use Rattle.instgen_loop.proofs.Inferred.{unified_stays, made_shorter, premise_bounded, item_later, side_by_cover, clause_of_placed, length_at}
@@ -36,8 +38,8 @@ pub append_uncovered-requires-clause-literal : goal.append_uncovered-requires-cl
 append_uncovered-requires-clause-literal g c =
     let r2 = c.conclusion_of.new.run in
     let (item, at, same) = c.clause_of.ensures in
-    let (l, here) = literal_of (items r2) r2.selection.places c.in_ok-conclusion.ensures.safe.placed c.args.from c.place_of.result item c.place_of.ensures at in
-    let p = place_positive item.0 c.place_of.result l here in
+    let (l, here) = literal_of (items r2) r2.selection.places c.in_ok-conclusion.ensures.safe.placed c.args.from c.place_of-place.result item c.place_of-place.ensures at in
+    let p = place_positive item.0 c.place_of-place.result l here in
     omega (arith, p.0, p.1, ap length same, c.len-len.ensures)
 
 pub append_uncovered-requires-clause-bounded : goal.append_uncovered-requires-clause-bounded
@@ -110,10 +112,11 @@ returns-clause-running g c = λ may bot cs budget v h.
     let later : IsUnified r1.entries.bank r1.bindings.entries =
     subst (IsUnified r1.entries.bank) (sym c.in_ok-size.ensures.bindings) (unified_stays run.entries.bank r1.entries.bank run.bindings.entries c.in_ok-size.ensures.goes.bank c.requires.unified) in
     let (n, p) = may_read r1 r2 c.args.side c.args.from c.args.partner c.in_ok-conclusion.ensures.reads c.in_ok-conclusion.ensures.bindings later.bindings c.in_ok-size.ensures.safe.entries m in
-    running_inferred S.atoms S.added r2 c.append_uncovered.new.run c.args.side c.args.from c.args.partner c.in_ok-size.size c.place_of.result c.place_of-2.result c.len-len.result c.in_ok-conclusion.conclusion entry n
-    c.in_ok-conclusion.ensures.safe.entries c.in_ok-conclusion.ensures.whole.ids c.in_ok-append_uncovered.ensures.step c.in_ok-append_uncovered.ensures.linked
+    running_inferred S.atoms S.added r2 c.append_uncovered.new.run c.args.side c.args.from c.args.partner c.in_ok-size.size c.place_of-place.result c.place_of-other.result c.len-len.result c.in_ok-conclusion.conclusion entry n
+    c.in_ok-conclusion.ensures.safe.entries c.in_ok-conclusion.ensures.whole.ids
+    (subst (λ (o : Origin). AppendsUncovered r2 c.append_uncovered.new.run c.in_ok-conclusion.conclusion o c.len-len.result c.in_ok-size.size) c.in_ok-origin.ensures c.in_ok-append_uncovered.ensures.step) c.in_ok-append_uncovered.ensures.linked
     (made_concluded r1 r2 c.args.side c.args.from c.args.partner c.in_ok-conclusion.conclusion m c.in_ok-conclusion.ensures.made ∙ ap canonical_form (sym p)) here
-    (ap length same ∙ sym c.len-len.ensures) c.place_of.ensures c.place_of-2.ensures
+    (ap length same ∙ sym c.len-len.ensures) c.place_of-place.ensures c.place_of-other.ensures
     (λ k e.
     let (item, at, sized) = c.in_ok-size.ensures.size k (sym c.in_ok-conclusion.ensures.left ∙ e) in
     size_concluded r1 c.args.side c.args.from c.args.partner c.in_ok-size.size m item at sized ∙ ap (λ (x : TreeClause). min (clause_size (canonical_form x)) (2 ^ 64 - 1)) (sym p))

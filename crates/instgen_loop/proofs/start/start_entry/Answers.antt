@@ -1,7 +1,8 @@
-use Rattle.std.proofs.Common.{◌≡◌, inl, inr, true, false, nat_eq}
+use Rattle.std.proofs.Common.{◌≡◌, inl, inr, subst, true, false, nat_eq}
 use Rattle.std.proofs.lemmas.Bool.Decides.{Decides-eqb}
 use Rattle.inst_logic.specs.EqualLaws.{signed_eq_decides}
 use Rattle.term_bank.specs.Forest.{clause_at}
+use Rattle.instgen_loop.specs.FirstEntries.{MakesEntry}
 use Rattle.instgen_loop.proofs.Covers.{has_key}
 use Rattle.instgen_loop.proofs.FirstEntries.{known_clause, new_clause, passes_over, takes}
 use Rattle.instgen_loop.proofs.start.start_entry.Goals as goal
@@ -28,7 +29,7 @@ returns-clause-started g c = λ cs n h.
     let run = c.args.run.now in
     let f = run.entries.bank in
     let d = c.args.clause in
-    takes g.S.Solver.atoms g.S.Solver.added run c.make_entry.new.run d c.args.k cs c.in_ok-make_entry.ensures.makes c.in_ok-make_entry.ensures.linked c.requires.safe.entries c.requires.whole.ids c.requires.canonical
+    takes g.S.Solver.atoms g.S.Solver.added run c.make_entry.new.run d c.args.k cs (subst (MakesEntry run c.make_entry.new.run d) c.in_ok-origin.ensures c.in_ok-make_entry.ensures.makes) c.in_ok-make_entry.ensures.linked c.requires.safe.entries c.requires.whole.ids c.requires.canonical
     (λ t. let u : c.tautology.result ≡ true = (c.tautology.ensures.trees f c.distinct.ensures c.requires.whole.ids).1 t in let w : c.tautology.result ≡ false = c.if-tautology.false in cc)
     (new_clause f run.entries.clauses.entries d c.distinct.ensures c.requires.safe.entries c.requires.whole.ids c.requires.canonical
     ((has_key _ (signed_eq_decides nat_eq Decides-eqb) run.entries.clauses.entries d c.contains_key.result c.contains_key.ensures).1 c.if-contains_key.false)) n h

@@ -1,0 +1,29 @@
+-- A refuted run with its ground lines and the steps over them, and the refutation that is made of these.
+use Rattle.std.specs.Prelude.{◌≡◌, ℕ, List, map}
+use Rattle.inst_logic.specs.Clauses.{TreeClause}
+use Rattle.inst_calculus.specs.Abstraction.{IsBot}
+use Rattle.term_bank.specs.Forest.{AreDistinct}
+use Rattle.saturation_cert.specs.declared.certificate.Refutation.{Refutation}
+use Rattle.instgen_loop.specs.declared.event.Event.{Event}
+use Rattle.instgen_loop.specs.declared.hand_over.Remains.{Remains}
+use Rattle.instgen_loop.specs.declared.refuted.RefutedRun.{RefutedRun}
+use Rattle.instgen_loop.specs.declared.refuted.Shown.{Shown}
+use Rattle.instgen_loop.specs.Endings.{IsRefuted}
+use Rattle.instgen_loop.specs.LineNumbers.{AreLineNumbers}
+use Rattle.instgen_loop.specs.Lines.{AreLinesOf}
+use Rattle.instgen_loop.specs.Refuting.{base_from, ground_step}
+
+pub record IsShownOf (clauses : List TreeClause) (names : List (List ℕ)) (r : RefutedRun) (journal : List Event) (s : Shown) : Type 0 where
+  pub refuted : IsRefuted clauses names r journal
+  pub distinct : AreDistinct r.remains.bank.trees
+  pub lines : AreLinesOf clauses r s.grounds
+  pub numbers : List ℕ
+  pub numbered : AreLineNumbers s.grounds r.abstraction.ids r.literals numbers
+  pub steps : s.steps ≡ map (ground_step r.abstraction.ids numbers) r.derivation
+
+-- with a constant that is the problem's own
+pub record IsMadeOf (clauses : List TreeClause) (names : List (List ℕ)) (remains : Remains) (s : Shown) (r : Refutation) : Type 0 where
+  pub base : r.base ≡ base_from names remains
+  pub bot : IsBot clauses r.bot
+  pub grounds : r.grounds ≡ s.grounds
+  pub steps : r.steps ≡ s.steps
