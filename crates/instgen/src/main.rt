@@ -1,5 +1,5 @@
 // `instgen prove FILE` decides the clauses of FILE, and writes a certificate of its answer; `instgen sat FILE` answers propositional
-// clauses; `instgen check CERT` judges a certificate, `instgen ask CERT ATOM` asks it for an atom, and `instgen stress N` refutes a
+// clauses; `instgen check CERT` judges a certificate, or writes it in the newest format, `instgen ask CERT ATOM` asks it for an atom, and `instgen stress N` refutes a
 // chain.
 #![tactic(auto)]
 

@@ -6,15 +6,17 @@ use Rattle.inst_logic.specs.declared.signed.Signed.{Signed}
 use Rattle.inst_logic.specs.Tree.{Tree}
 use Rattle.cert_front.specs.Checks.{IsCheckFault, IsJudged}
 use Rattle.cert_front.specs.Queries.{IsAskFault, IsReplied}
+use Rattle.cert_front.specs.Rewritings.{IsRewritten}
 use Rattle.cert_front.specs.declared.check.CheckFault.{CheckFault}
 use Rattle.cert_front.specs.declared.fault.CertFault.{CertFault}
 use Rattle.cert_front.specs.declared.judgement.Judgement.{Judgement}
 use Rattle.cert_front.specs.declared.reply.Reply.{Reply}
+use Rattle.cert_front.specs.declared.rewriting.Rewriting.{Rewriting}
 use Rattle.cert_front.specs.declared.words.Form.{Form}
-use Rattle.command_words.specs.Asked.{prove, check, ask, stress, IsAsked}
+use Rattle.command_words.specs.Asked.{prove, check, rewrite, ask, stress, IsAsked}
 use Rattle.szs_prove.specs.Answers.{HasVerdict, IsAnswer, IsRefusal, IsUntouched, Reading}
 use Rattle.szs_prove.specs.Sizes.{IsRefutedIn}
-use Rattle.szs_prove.specs.declared.answer.Answer.TheVariants.{Prove, Check, Ask, Stress}
+use Rattle.szs_prove.specs.declared.answer.Answer.TheVariants.{Prove, Check, Rewrite, Ask, Stress}
 use Rattle.szs_prove.specs.declared.refusal.Refusal.{Refusal}
 use Rattle.szs_prove.specs.declared.sizes.Size.{Size}
 
@@ -29,6 +31,12 @@ module _ (words : List (List ℕ)) (read : Reading) where
       → IsAnswer words read cert (Check o)
   checked cert problem root (Ok found) asked ok err = (problem, root, asked, ok)
   checked cert problem root (Err why) asked ok err = (problem, root, asked, err)
+
+  pub rewritten : (cert : List ℕ) (problem root : Option (List ℕ)) (o : Result Rewriting CheckFault) → IsAsked words (rewrite cert problem root)
+      → IfOk o (IsRewritten read.old.files cert problem root) → IfErr o (IsCheckFault read.old.files read.old.faults read.new.faults cert problem root)
+      → IsAnswer words read cert (Rewrite o)
+  rewritten cert problem root (Ok rewriting) asked ok err = (problem, root, asked, ok)
+  rewritten cert problem root (Err why) asked ok err = (problem, root, asked, err)
 
   pub replied : (cert : List ℕ) (atom : Signed Tree) (o : Result Reply CertFault) → IsAsked words (ask cert atom)
       → IfOk o (IsReplied read.old.files cert atom.atom) → IfErr o (IsAskFault read.old.files read.old.faults read.new.faults cert)

@@ -1,22 +1,20 @@
 -- What the engine's certificates show of the problem, once they are checked.
-use Rattle.std.proofs.Common.{◌≡◌, ℕ, refl, sym, ap, ◌∙◌, subst, map, length, List, Bool, true, false}
+use Rattle.std.proofs.Common.{◌≡◌, ℕ, inr, refl, sym, ap, ◌∙◌, subst, map, List, Bool, true, false}
 use Rattle.std.specs.Prelude.{IfOk, Result, Ok, Err, IsTrue, IsFalse}
 use Rattle.inst_logic.specs.declared.clause.Problem.{Problem}
 use Rattle.inst_logic.specs.Measure.{is_function_free}
 use Rattle.inst_logic.specs.WellFormed.{AreFormedClauses}
 use Rattle.cert_format.specs.Certificate as format
-use Rattle.cert_format.specs.Certificate.{Certificate, first_refutation, saturation, base_of}
+use Rattle.cert_format.specs.Certificate.{Certificate, refutation, saturation, covered, base_of}
 use Rattle.cert_format.specs.Certifies.{IsOf, HasConstantOf, Certifies}
-use Rattle.cert_format.specs.Printable.{IsPrintable, NumbersFit}
-use Rattle.cert_format.specs.Validity.{IsValid}
+use Rattle.cert_format.specs.Formats.{written_format}
+use Rattle.cert_format.specs.Printable.{CoveredFits, IsPrintable, NumbersFit}
+use Rattle.cert_format.specs.Validity.{IsNamed, IsValid}
 use Rattle.saturation_cert.specs.declared.certificate.Refutation.{Refutation}
 use Rattle.saturation_cert.specs.declared.certificate.Saturation.{Saturation}
-use Rattle.saturation_cert.specs.Values.{refutation_of, saturation_of}
-use Rattle.saturation_cert.specs.Wholes.{KeepsRefutation}
-use Rattle.cert_format.specs.declared.complaint.Complaint.{Complaint}
-use Rattle.cert_check.specs.Answers.{IsCheckCause}
-use Rattle.cert_check.specs.declared.error.CheckError.{CheckError}
-use Rattle.cert_check.specs.declared.error.CheckError.TheVariants as errors
+use Rattle.saturation_cert.specs.declared.certificate.Covered.{Covered}
+use Rattle.saturation_cert.specs.Values.{covered_of, refutation_of, saturation_of}
+use Rattle.cert_front.specs.Kinds.{covered_value, refutation_value, saturation_value}
 use Rattle.instgen_loop.specs.declared.event.Event.{Event}
 use Rattle.instgen_loop.specs.declared.outcome.Outcome.{Outcome}
 use Rattle.instgen_loop.specs.declared.outcome.Outcome.TheVariants as outcome
@@ -26,59 +24,58 @@ use Rattle.instgen_loop.proofs.Started.{printable_formed}
 use Rattle.szs_prove.specs.declared.decision.Decision.{Decision}
 use Rattle.szs_prove.specs.declared.decision.Decision.TheVariants.{Unsatisfiable, Satisfiable, OutOfBudget}
 use Rattle.szs_prove.specs.Problems.{IsPrintableProblem}
-use Rattle.szs_prove.specs.Decisions.{IsDecision, IsRefutedBy, IsSatisfiedBy, IsStopped, IsVerdict}
-
--- where every check is passed there is no complaint
-pub only_memory : (Passes : Complaint → Type 0) (e : CheckError) → ((k : Complaint) → Passes k) → IsCheckCause Passes e → e ≡ errors.Memory
-only_memory Passes (errors.Complaint k) all h = absurd (h.applies (all k))
-only_memory Passes errors.Memory all h = refl
+use Rattle.szs_prove.specs.Decisions.{IsDecision, IsShownBy, IsStopped, IsVerdict}
 
 -- that valid and printable certificates of a problem certify it
 abbrev pub Certify : Type 0
 Certify = (p : Problem) (format : ℕ) (c : Certificate) → AreFormedClauses p.clauses → IsOf p (base_of c) → HasConstantOf p c → IsValid c → IsPrintable format c → Certifies p format c
 
+-- that covers can be printed where the saturation without them can
+abbrev pub CoversArePrintable : Type 0
+CoversArePrintable = (f : ℕ) (c : format.Covered) → IsNamed c → IsPrintable f (saturation c.saturation) → CoveredFits c → IsPrintable 3 (covered c)
+
 module _ (certify : Certify) (p : Problem) (can_print : IsPrintableProblem p) where
-  refuted_by : (cert c : Refutation) (journal : List Event) → IsRefutedRun p.clauses p.names cert journal → NumbersFit (first_refutation (refutation_of cert))
-      → KeepsRefutation cert c → refutation_of c ≡ refutation_of cert → IsRefutedBy p c
-  refuted_by cert c journal run numbers kept same = record {
-    certifies = subst (λ (r : format.FirstRefutation). Certifies p 1 (first_refutation r)) (sym same)
-        (certify p 1 (first_refutation (refutation_of cert)) (printable_formed p.clauses can_print.clauses) (record { inputs = run.run.inputs; names = run.run.named; axioms = run.run.axioms })
-        run.run.replays.constant run.valid (record { known = refl; parts = run.printable; numbers = numbers }));
+  refuted_by : (cert c : Refutation) (journal : List Event) → IsRefutedRun p.clauses p.names cert journal → NumbersFit (refutation_value cert) → refutation_of c ≡ refutation_of cert → IsShownBy p (refutation_value c)
+  refuted_by cert c journal run numbers same = subst (λ (r : format.Refutation). IsShownBy p (refutation r)) (sym same) (record {
+    certifies = certify p written_format (refutation_value cert) (printable_formed p.clauses can_print.clauses) (record { inputs = run.run.inputs; names = run.run.named; axioms = run.run.axioms })
+        run.run.replays.constant run.valid (record { known = inr refl; parts = run.printable; numbers = numbers });
     replayed = record {
       constant = cert.bot;
       journal = map (event_in cert.base.bank) journal;
       state = run.state;
       replays = run.run.replays;
-      members = ap (λ (r : format.FirstRefutation). r.base.members) same ∙ sym run.run.members;
+      members = sym run.run.members;
     };
-    one_each = ap (λ (r : Refutation). length r.grounds) kept.rest ∙ run.one_each ∙ sym (ap (λ b. length b.members) kept.base.rest);
-  }
+  })
 
-  satisfied_by : (cert c : Saturation) (journal : List Event) → IsSaturatedRun p.clauses p.names cert journal → NumbersFit (saturation (saturation_of cert))
-      → saturation_of c ≡ saturation_of cert → IsSatisfiedBy p c
-  satisfied_by cert c journal run numbers same = record {
-    certifies = subst (λ (s : format.Saturation). Certifies p 1 (saturation s)) (sym same)
-        (certify p 1 (saturation (saturation_of cert)) (printable_formed p.clauses can_print.clauses)
-        (record { inputs = run.run.run.inputs; names = run.run.run.named; axioms = run.run.run.axioms })
-        tt run.valid (record { known = refl; parts = run.printable; numbers = numbers }));
-    replayed = record {
-      constant = run.bot;
-      journal = map (event_in cert.base.bank) journal;
-      state = run.state;
-      replays = run.run.run.replays;
-      members = ap (λ (s : format.Saturation). s.base.members) same ∙ sym run.run.run.members;
-    };
-  }
+  pub always_refuted : {E : Type 0} (cert : Refutation) (journal : List Event) → IsRefutedRun p.clauses p.names cert journal → NumbersFit (refutation_value cert)
+      → (r : Result Refutation E) → IfOk r (λ c. refutation_of c ≡ refutation_of cert) → IfOk r (λ c. IsShownBy p (refutation_value c))
+  always_refuted cert journal run numbers (Ok c) same = refuted_by cert c journal run numbers same
+  always_refuted cert journal run numbers (Err e) same = tt
 
-  pub always_refuted : {E : Type 0} (cert : Refutation) (journal : List Event) → IsRefutedRun p.clauses p.names cert journal → NumbersFit (first_refutation (refutation_of cert))
-      → (r : Result Refutation E) → IfOk r (KeepsRefutation cert) → IfOk r (λ c. refutation_of c ≡ refutation_of cert) → IfOk r (IsRefutedBy p)
-  always_refuted cert journal run numbers (Ok c) kept same = refuted_by cert c journal run numbers kept same
-  always_refuted cert journal run numbers (Err e) kept same = tt
+  module _ (printable : CoversArePrintable) where
+    satisfied_by : (cert : Saturation) (c : Covered) (journal : List Event) → IsSaturatedRun p.clauses p.names cert journal → NumbersFit (saturation_value cert)
+        → (covered_of c).saturation ≡ saturation_of cert → IsNamed (covered_of c) → CoveredFits (covered_of c) → IsShownBy p (covered_value c)
+    satisfied_by cert c journal run numbers same named fits =
+        let of_problem : IsOf p (saturation_of cert).base = record { inputs = run.run.run.inputs; names = run.run.run.named; axioms = run.run.run.axioms } in
+        let plain : IsPrintable 2 (saturation_value cert) = record { known = inr refl; parts = run.printable; numbers = numbers } in
+        record {
+          certifies = certify p written_format (covered_value c) (printable_formed p.clauses can_print.clauses) (subst (λ (s : format.Saturation). IsOf p s.base) (sym same) of_problem)
+              tt named (printable 2 (covered_of c) named (subst (λ (s : format.Saturation). IsPrintable 2 (saturation s)) (sym same) plain) fits);
+          replayed = record {
+            constant = run.bot;
+            journal = map (event_in cert.base.bank) journal;
+            state = run.state;
+            replays = run.run.run.replays;
+            members = ap (λ (s : format.Saturation). s.base.members) same ∙ sym run.run.run.members;
+          };
+        }
 
-  pub always_satisfied : {E : Type 0} (cert : Saturation) (journal : List Event) → IsSaturatedRun p.clauses p.names cert journal → NumbersFit (saturation (saturation_of cert))
-      → (r : Result Saturation E) → IfOk r (λ c. saturation_of c ≡ saturation_of cert) → IfOk r (IsSatisfiedBy p)
-  always_satisfied cert journal run numbers (Ok c) same = satisfied_by cert c journal run numbers same
-  always_satisfied cert journal run numbers (Err e) same = tt
+    pub always_satisfied : {E : Type 0} (cert : Saturation) (journal : List Event) → IsSaturatedRun p.clauses p.names cert journal → NumbersFit (saturation_value cert)
+        → (r : Result Covered E) → IfOk r (λ c. (covered_of c).saturation ≡ saturation_of cert) → IfOk r (λ c. IsNamed (covered_of c)) → IfOk r (λ c. CoveredFits (covered_of c))
+        → IfOk r (λ c. IsShownBy p (covered_value c))
+    always_satisfied cert journal run numbers (Ok c) same named fits = satisfied_by cert c journal run numbers same named fits
+    always_satisfied cert journal run numbers (Err e) same named fits = tt
 
 -- what an outcome of each kind says
 pub refuted_run : (p : Problem) (budget : ℕ) (cert : Refutation) (journal : List Event) (o : Outcome) → IsOutcome p.clauses p.names budget o → o ≡ outcome.Refuted cert journal

@@ -8,7 +8,7 @@ use Rattle.outside_io.specs.Notices.{notice_text}
 use Rattle.outside_io.specs.declared.notices.Status.{Status}
 use Rattle.outside_io.specs.declared.notices.Status.TheVariants as status
 use Rattle.cert_format.specs.Certificate.{Certificate}
-use Rattle.cert_format.specs.Text.{certificate_text}
+use Rattle.cert_format.specs.Text.{written_text}
 use Rattle.tptp_read.specs.declared.text.ReadError.{ReadError}
 use Rattle.tptp_read.specs.declared.text.ReadError.TheVariants as text
 use Rattle.tptp_load.specs.Problems.{IsLoadCause}
@@ -22,16 +22,19 @@ use Rattle.cert_front.specs.declared.judgement.Judgement.{Judgement}
 use Rattle.cert_front.specs.declared.judgement.Judgement.TheVariants as judgement
 use Rattle.cert_front.specs.declared.reply.Reply.{Reply}
 use Rattle.cert_front.specs.declared.reply.Reply.TheVariants as reply
+use Rattle.cert_front.specs.declared.rewriting.Rewriting.{Rewriting}
+use Rattle.cert_front.specs.declared.rewriting.Rewriting.TheVariants as rewriting
 use Rattle.cert_front.specs.declared.words.Form.{Form}
 use Rattle.cert_front.specs.Certificates.{IsCertFault}
 use Rattle.cert_front.specs.Checks.{IsCheckFault, IsJudged}
 use Rattle.cert_front.specs.Queries.{IsAskFault, IsReplied}
+use Rattle.cert_front.specs.Rewritings.{IsRewritten}
 use Rattle.cert_front.specs.Texts.{fault_reason, fault_status}
 use Rattle.cert_front.specs.declared.check.CheckFault.{CheckFault}
 use Rattle.cert_front.specs.declared.check.CheckFault.TheVariants as unjudged
 use Rattle.cert_front.specs.declared.fault.CertFault.{CertFault}
 use Rattle.cert_front.specs.declared.fault.CertFault.TheVariants as cert
-use Rattle.command_words.specs.Asked.{Asked, prove, sat, check, ask, stress, IsAsked, IsUnread, name_of}
+use Rattle.command_words.specs.Asked.{Asked, prove, sat, check, rewrite, ask, stress, IsAsked, IsUnread, name_of}
 use Rattle.dimacs_front.specs.Files.{IsOutcome, IsRefused}
 use Rattle.dimacs_front.specs.Notices.{fault_reason as line_of_text, fault_status as status_of_text, refusal_reason, refusal_status}
 use Rattle.dimacs_front.specs.declared.answers.SatAnswer.{SatAnswer}
@@ -42,16 +45,17 @@ use Rattle.dimacs_front.specs.declared.file.SatError.{SatError}
 use Rattle.dimacs_front.specs.declared.file.SatError.TheVariants as bar
 use Rattle.szs_prove.specs.Sizes.{IsRefutedIn}
 use Rattle.szs_prove.specs.SizeWords.{size_lines}
-use Rattle.szs_prove.specs.Answers.{IsAnswer, IsFinding, IsMeasured, IsOutOfBudget, IsProof, IsRefusal, IsReplyOf, IsVerdict, Reading}
-use Rattle.szs_prove.specs.Answered.{Answered, AsksAtom, AsksChain, AsksCheck, AsksProof, EndsChain, Writing, IsInterrupted, WantsMemory, WritesCertificate, WritesComplaint, WritesJudgement, WritesNumbers, WritesReply, WritesSize, IsNamed}
-use Rattle.szs_prove.specs.Texts.{ask_exit, ask_text, budget_line, check_exit, check_text, exit_for, exit_of, judgement_exit, load_reason, load_status, prove_exit, prove_text, refusal_text, reply_exit, sat_exit, sat_text, stress_exit, stress_text, text_for, text_reason, text_status, unjudged_reason, unjudged_status, want_text}
+use Rattle.szs_prove.specs.Answers.{IsAnswer, IsFinding, IsMeasured, IsOutOfBudget, IsProof, IsRefusal, IsReplyOf, IsRewritingOf, IsVerdict, Reading}
+use Rattle.szs_prove.specs.Answered.{Answered, AsksAtom, AsksChain, AsksCheck, AsksProof, AsksRewriting, EndsChain, OfCertificate, Writing, IsInterrupted, WantsMemory, WritesCertificate, WritesComplaint, WritesJudgement, WritesNumbers, WritesReply, WritesRewriting, WritesSize, IsNamed}
+use Rattle.szs_prove.specs.Texts.{ask_exit, ask_text, budget_line, check_exit, check_text, exit_for, exit_of, judgement_exit, load_reason, load_status, prove_exit, prove_text, refusal_text, reply_exit, rewriting_exit, rewriting_text, sat_exit, sat_text, stress_exit, stress_text, text_for, text_reason, text_status, unjudged_reason, unjudged_status, want_text}
 use Rattle.szs_prove.specs.declared.answer.Answer.{Answer}
-use Rattle.szs_prove.specs.declared.answer.Answer.TheVariants.{Prove, Sat, Check, Ask, Stress, Unread, NoWords}
+use Rattle.szs_prove.specs.declared.answer.Answer.TheVariants.{Prove, Sat, Check, Rewrite, Ask, Stress, Unread, NoWords}
 use Rattle.szs_prove.specs.declared.exit.Exit.{Exit}
 use Rattle.szs_prove.specs.declared.exit.Exit.TheVariants as exit
 use Rattle.szs_prove.specs.declared.refusal.Refusal.{Refusal}
 use Rattle.szs_prove.specs.declared.refusal.Refusal.TheVariants.{Load, OutOfBudget, Memory}
 use Rattle.szs_prove.specs.declared.sizes.Size.{Size}
+use Rattle.cert_front.proofs.Rewritings.{judged}
 
 -- the text is that of a verdict on what is asked
 record SaysVerdict (words : List (List ℕ)) (read : Reading) (text : List ℕ) : Type 0 where
@@ -61,7 +65,7 @@ record SaysVerdict (words : List (List ℕ)) (read : Reading) (text : List ℕ) 
   asked : IsAsked words (prove file root budget)
   certificate : Certificate
   is_verdict : IsVerdict read.old.files file root certificate
-  is : text ≡ certificate_text 1 file certificate
+  is : text ≡ written_text file certificate
 
 -- the text is that of the numbers of a run on what is asked
 record SaysNumbers (words : List (List ℕ)) (read : Reading) (text : List ℕ) : Type 0 where
@@ -75,16 +79,24 @@ record SaysNumbers (words : List (List ℕ)) (read : Reading) (text : List ℕ) 
   is : text ≡ refusal_text file (OutOfBudget budget left wanted)
 
 -- the text is the line of what the certificate is found to be, with the exit that goes with it
-record SaysJudgement (words : List (List ℕ)) (read : Reading) (text : List ℕ) (e : Exit) : Type 0 where
+record SaysJudgement (question : OfCertificate) (words : List (List ℕ)) (read : Reading) (text : List ℕ) (e : Exit) : Type 0 where
   cert : List ℕ
   problem : Option (List ℕ)
   root : Option (List ℕ)
-  asked : IsAsked words (check cert problem root)
+  asked : IsAsked words (question cert problem root)
   form : Form
   judgement : Judgement
   found : IsJudged read.old.files cert problem root (form, judgement)
   ends : e ≡ judgement_exit judgement
   is : text ≡ judgement_line form judgement
+
+-- the text is that of the certificate in the newest format
+record SaysRewriting (words : List (List ℕ)) (read : Reading) (text : List ℕ) : Type 0 where
+  cert : List ℕ
+  problem : Option (List ℕ)
+  root : Option (List ℕ)
+  asked : IsAsked words (rewrite cert problem root)
+  rewritten : IsRewritten read.old.files cert problem root (rewriting.Text text)
 
 -- the text is the line of what the saturation says of the atom, with the exit that goes with it
 record SaysReply (words : List (List ℕ)) (read : Reading) (text : List ℕ) (e : Exit) : Type 0 where
@@ -106,11 +118,11 @@ record SaysSize (words : List (List ℕ)) (text : List ℕ) : Type 0 where
 
 -- what is complained of a certificate
 abbrev SaysComplaint : List (List ℕ) → Reading → List ℕ → Type 0
-SaysComplaint words read text = SaysJudgement words read text exit.CheckFailed ⊎ SaysReply words read text exit.CheckFailed
+SaysComplaint words read text = SaysJudgement check words read text exit.CheckFailed ⊎ SaysJudgement rewrite words read text exit.CheckFailed ⊎ SaysReply words read text exit.CheckFailed
 
 -- what is decided
 abbrev SaysDecided : List (List ℕ) → Reading → List ℕ → Type 0
-SaysDecided words read text = SaysVerdict words read text ⊎ SaysJudgement words read text exit.Decided ⊎ SaysReply words read text exit.Decided ⊎ SaysSize words text
+SaysDecided words read text = SaysVerdict words read text ⊎ SaysJudgement check words read text exit.Decided ⊎ SaysRewriting words read text ⊎ SaysReply words read text exit.Decided ⊎ SaysSize words text
 
 -- the text says that memory is wanted
 record SaysWant (words : List (List ℕ)) (read : Reading) (text : List ℕ) : Type 0 where
@@ -130,6 +142,7 @@ kind (sat file) = 1
 kind (check cert problem root) = 2
 kind (ask cert atom) = 3
 kind (stress number) = 4
+kind (rewrite cert problem root) = 5
 
 apart_from_itself : (n : ℕ) → nat_eq n n ≡ false → ⊥
 apart_from_itself n h = grind (arith, nat_tests)
@@ -262,7 +275,7 @@ module _ (words : List (List ℕ)) (read : Reading) where
   sat_tells file asked (Err e) h = notice_tells file (refusal_reason file e) (named_by (sat file) asked) (refusal_status e) (sat_caused file e h)
 
   judgement_says : (c : List ℕ) (problem root : Option (List ℕ)) → IsAsked words (check c problem root) → (form : Form) (j : Judgement) → IsJudged read.old.files c problem root (form, j)
-      → SaysJudgement words read (judgement_line form j) (judgement_exit j)
+      → SaysJudgement check words read (judgement_line form j) (judgement_exit j)
   judgement_says c problem root asked form j h = record { cert = c; problem = problem; root = root; asked = asked; form = form; judgement = j; found = h; ends = refl; is = refl }
 
   judgement_tells : (c : List ℕ) (problem root : Option (List ℕ)) → IsAsked words (check c problem root) → (form : Form) (j : Judgement) → IsJudged read.old.files c problem root (form, j)
@@ -276,26 +289,46 @@ module _ (words : List (List ℕ)) (read : Reading) where
   check_tells c problem root asked (Ok found) h = judgement_tells c problem root asked found.0 found.1 h
   check_tells c problem root asked (Err why) h = notice_tells c (unjudged_reason c why) (named_by (check c problem root) asked) (unjudged_status why) (check_caused c problem root why h)
 
+  -- what is found where a certificate is not rewritten
+  refusal_says : (c : List ℕ) (problem root : Option (List ℕ)) → IsAsked words (rewrite c problem root) → (form : Form) (j : Judgement) → IsRewritten read.old.files c problem root (rewriting.Refused form j)
+      → SaysJudgement rewrite words read (judgement_line form j) (judgement_exit j)
+  refusal_says c problem root asked form j h =
+      let found = judged read.old.files c problem root (rewriting.Refused form j) h in
+      record { cert = c; problem = problem; root = root; asked = asked; form = form; judgement = j; found = found; ends = refl; is = refl }
+
+  refused_tells : (c : List ℕ) (problem root : Option (List ℕ)) → IsAsked words (rewrite c problem root) → (form : Form) (j : Judgement) → IsRewritten read.old.files c problem root (rewriting.Refused form j)
+      → Tells (judgement_line form j) (judgement_exit j)
+  refused_tells c problem root asked form judgement.Valid h = absurd (h.rewritten.so.1 refl)
+  refused_tells c problem root asked form (judgement.Problem n) h = inr (inl (refusal_says c problem root asked form (judgement.Problem n) h))
+  refused_tells c problem root asked form (judgement.Invalid why) h = inr (inl (refusal_says c problem root asked form (judgement.Invalid why) h))
+
+  rewriting_tells : (c : List ℕ) (problem root : Option (List ℕ)) → IsAsked words (rewrite c problem root) → (o : Result Rewriting CheckFault) → IsRewritingOf read c problem root o
+      → Tells (rewriting_text c o) (rewriting_exit o)
+  rewriting_tells c problem root asked (Ok (rewriting.Text text)) h = inr (inr (inl (record { cert = c; problem = problem; root = root; asked = asked; rewritten = h })))
+  rewriting_tells c problem root asked (Ok (rewriting.Refused form j)) h = refused_tells c problem root asked form j h
+  rewriting_tells c problem root asked (Err why) h = notice_tells c (unjudged_reason c why) (named_by (rewrite c problem root) asked) (unjudged_status why) (check_caused c problem root why h)
+
   reply_says : (c : List ℕ) (atom : Signed Tree) → IsAsked words (ask c atom) → (r : Reply) → IsReplied read.old.files c atom.atom r → SaysReply words read (reply_line r) (reply_exit r)
   reply_says c atom asked r h = record { cert = c; atom = atom; asked = asked; reply = r; said = h; ends = refl; is = refl }
 
   reply_tells : (c : List ℕ) (atom : Signed Tree) → IsAsked words (ask c atom) → (r : Reply) → IsReplied read.old.files c atom.atom r → Tells (reply_line r) (reply_exit r)
-  reply_tells c atom asked reply.True h = inr (inr (inl (reply_says c atom asked reply.True h)))
-  reply_tells c atom asked reply.False h = inr (inr (inl (reply_says c atom asked reply.False h)))
-  reply_tells c atom asked (reply.Invalid why) h = inr (reply_says c atom asked (reply.Invalid why) h)
+  reply_tells c atom asked reply.True h = inr (inr (inr (inl (reply_says c atom asked reply.True h))))
+  reply_tells c atom asked reply.False h = inr (inr (inr (inl (reply_says c atom asked reply.False h))))
+  reply_tells c atom asked (reply.Invalid why) h = inr (inr (reply_says c atom asked (reply.Invalid why) h))
 
   ask_tells : (c : List ℕ) (atom : Signed Tree) → IsAsked words (ask c atom) → (o : Result Reply CertFault) → IsReplyOf read c atom.atom o → Tells (ask_text c o) (ask_exit o)
   ask_tells c atom asked (Ok r) h = reply_tells c atom asked r h
   ask_tells c atom asked (Err f) h = notice_tells c (fault_reason c f) (named_by (ask c atom) asked) (fault_status f) (ask_caused c f h)
 
   stress_tells : (name : List ℕ) (n : ℕ) → name ≡ codes "stress" → IsAsked words (stress n) → (o : Result Size OutOfMemory) → IsMeasured n o → Tells (stress_text name o) (stress_exit o)
-  stress_tells name n named asked (Ok size) h = inr (inr (inr (record { number = n; asked = asked; size = size; refuted = h; is = refl })))
+  stress_tells name n named asked (Ok size) h = inr (inr (inr (inr (record { number = n; asked = asked; size = size; refuted = h; is = refl }))))
   stress_tells name n named asked (Err want) h = record { name = name; named = inr (stress n, asked, named); is = refl }
 
   tells : (name : List ℕ) (a : Answer) → IsAnswer words read name a → Tells (text_for name a) (exit_for a)
   tells name (Prove o) h = prove_tells name h.0 h.1 h.2 o h.3
   tells name (Sat o) h = sat_tells name h.0 o h.1
   tells name (Check o) h = check_tells name h.0 h.1 h.2 o h.3
+  tells name (Rewrite o) h = rewriting_tells name h.0 h.1 h.2 o h.3
   tells name (Ask o) h = ask_tells name h.0 h.1 o h.2
   tells name (Stress o) h = stress_tells name h.2 h.0 h.3 o h.4
   tells name Unread h = h.2
@@ -357,8 +390,9 @@ module _ (words : List (List ℕ)) (read : Reading) (write : Writing) (e : Exit)
     written = subst (Appends write.old.taken write.new.taken) s.is w;
   }
 
-  writes_judgement : (x : Exit) → SaysJudgement words read said x → Appends write.old.taken write.new.taken said → WritesJudgement words read.old.files write.old.taken write.new.taken x
-  writes_judgement x s w = record {
+  writes_judgement : (question : OfCertificate) (x : Exit) → SaysJudgement question words read said x → Appends write.old.taken write.new.taken said
+      → WritesJudgement question words read.old.files write.old.taken write.new.taken x
+  writes_judgement question x s w = record {
     cert = s.cert;
     problem = s.problem;
     root = s.root;
@@ -370,6 +404,9 @@ module _ (words : List (List ℕ)) (read : Reading) (write : Writing) (e : Exit)
     written = subst (Appends write.old.taken write.new.taken) s.is w;
   }
 
+  writes_rewriting : SaysRewriting words read said → Appends write.old.taken write.new.taken said → WritesRewriting words read.old.files write.old.taken write.new.taken
+  writes_rewriting s w = record { cert = s.cert; problem = s.problem; root = s.root; asked = s.asked; text = said; rewritten = s.rewritten; written = w }
+
   writes_reply : (x : Exit) → SaysReply words read said x → Appends write.old.taken write.new.taken said → WritesReply words read.old.files write.old.taken write.new.taken x
   writes_reply x s w = record { cert = s.cert; atom = s.atom; asked = s.asked; reply = s.reply; said = s.said; ends = s.ends; written = subst (Appends write.old.taken write.new.taken) s.is w }
 
@@ -380,14 +417,16 @@ module _ (words : List (List ℕ)) (read : Reading) (write : Writing) (e : Exit)
   check_failed is = by (whole exit.CheckFailed is (λ x. cc) (λ x. cc))
     where
       by : SaysComplaint words read said × Appends write.old.taken write.new.taken said → WritesComplaint words read.old.files write.old.taken write.new.taken
-      by (inl s, w) = inl (writes_judgement exit.CheckFailed s w)
-      by (inr s, w) = inr (writes_reply exit.CheckFailed s w)
+      by (inl s, w) = inl (writes_judgement check exit.CheckFailed s w)
+      by (inr (inl s), w) = inr (inl (writes_judgement rewrite exit.CheckFailed s w))
+      by (inr (inr s), w) = inr (inr (writes_reply exit.CheckFailed s w))
 
   module _ (once : AsksOne) where
     ends_chain : (answer : Answer) → IsAnswer words read a.name answer → AsksChain words → (exit_for answer ≡ exit.Decided) ⊎ (exit_for answer ≡ exit.Memory)
     ends_chain (Prove o) h asks = absurd (other_kind _ _ refl (once words _ _ h.2 asks.1))
     ends_chain (Sat o) h asks = absurd (other_kind _ _ refl (once words _ _ h.0 asks.1))
     ends_chain (Check o) h asks = absurd (other_kind _ _ refl (once words _ _ h.2 asks.1))
+    ends_chain (Rewrite o) h asks = absurd (other_kind _ _ refl (once words _ _ h.2 asks.1))
     ends_chain (Ask o) h asks = absurd (other_kind _ _ refl (once words _ _ h.1 asks.1))
     ends_chain (Stress (Ok size)) h asks = inl refl
     ends_chain (Stress (Err want)) h asks = inr refl
@@ -407,34 +446,48 @@ module _ (words : List (List ℕ)) (read : Reading) (write : Writing) (e : Exit)
         by (inl s, w) = writes_verdict s w
         by (inr (inl s), w) = absurd (other_kind _ _ refl (once words _ _ asks.3 s.asked))
         by (inr (inr (inl s)), w) = absurd (other_kind _ _ refl (once words _ _ asks.3 s.asked))
-        by (inr (inr (inr s)), w) = absurd (other_kind _ _ refl (once words _ _ asks.3 s.asked))
+        by (inr (inr (inr (inl s))), w) = absurd (other_kind _ _ refl (once words _ _ asks.3 s.asked))
+        by (inr (inr (inr (inr s))), w) = absurd (other_kind _ _ refl (once words _ _ asks.3 s.asked))
 
-    pub checked : AsksCheck words → e ≡ exit.Decided → WritesJudgement words read.old.files write.old.taken write.new.taken exit.Decided
+    pub checked : AsksCheck words → e ≡ exit.Decided → WritesJudgement check words read.old.files write.old.taken write.new.taken exit.Decided
     checked asks is = by (says_decided is)
       where
-        by : SaysDecided words read said × Appends write.old.taken write.new.taken said → WritesJudgement words read.old.files write.old.taken write.new.taken exit.Decided
-        by (inl s, w) = absurd (other_kind _ _ refl (once words _ _ s.asked asks.3))
-        by (inr (inl s), w) = writes_judgement exit.Decided s w
+        by : SaysDecided words read said × Appends write.old.taken write.new.taken said → WritesJudgement check words read.old.files write.old.taken write.new.taken exit.Decided
+        by (inl s, w) = absurd (other_kind _ _ refl (once words _ _ asks.3 s.asked))
+        by (inr (inl s), w) = writes_judgement check exit.Decided s w
         by (inr (inr (inl s)), w) = absurd (other_kind _ _ refl (once words _ _ asks.3 s.asked))
-        by (inr (inr (inr s)), w) = absurd (other_kind _ _ refl (once words _ _ asks.3 s.asked))
+        by (inr (inr (inr (inl s))), w) = absurd (other_kind _ _ refl (once words _ _ asks.3 s.asked))
+        by (inr (inr (inr (inr s))), w) = absurd (other_kind _ _ refl (once words _ _ asks.3 s.asked))
+
+    pub rewritten : AsksRewriting words → e ≡ exit.Decided → WritesRewriting words read.old.files write.old.taken write.new.taken
+    rewritten asks is = by (says_decided is)
+      where
+        by : SaysDecided words read said × Appends write.old.taken write.new.taken said → WritesRewriting words read.old.files write.old.taken write.new.taken
+        by (inl s, w) = absurd (other_kind _ _ refl (once words _ _ asks.3 s.asked))
+        by (inr (inl s), w) = absurd (other_kind _ _ refl (once words _ _ asks.3 s.asked))
+        by (inr (inr (inl s)), w) = writes_rewriting s w
+        by (inr (inr (inr (inl s))), w) = absurd (other_kind _ _ refl (once words _ _ asks.3 s.asked))
+        by (inr (inr (inr (inr s))), w) = absurd (other_kind _ _ refl (once words _ _ asks.3 s.asked))
 
     pub asked_atom : AsksAtom words → e ≡ exit.Decided → WritesReply words read.old.files write.old.taken write.new.taken exit.Decided
     asked_atom asks is = by (says_decided is)
       where
         by : SaysDecided words read said × Appends write.old.taken write.new.taken said → WritesReply words read.old.files write.old.taken write.new.taken exit.Decided
-        by (inl s, w) = absurd (other_kind _ _ refl (once words _ _ s.asked asks.2))
-        by (inr (inl s), w) = absurd (other_kind _ _ refl (once words _ _ s.asked asks.2))
-        by (inr (inr (inl s)), w) = writes_reply exit.Decided s w
-        by (inr (inr (inr s)), w) = absurd (other_kind _ _ refl (once words _ _ asks.2 s.asked))
+        by (inl s, w) = absurd (other_kind _ _ refl (once words _ _ asks.2 s.asked))
+        by (inr (inl s), w) = absurd (other_kind _ _ refl (once words _ _ asks.2 s.asked))
+        by (inr (inr (inl s)), w) = absurd (other_kind _ _ refl (once words _ _ asks.2 s.asked))
+        by (inr (inr (inr (inl s))), w) = writes_reply exit.Decided s w
+        by (inr (inr (inr (inr s))), w) = absurd (other_kind _ _ refl (once words _ _ asks.2 s.asked))
 
     pub stressed : AsksChain words → e ≡ exit.Decided → WritesSize words write.old.taken write.new.taken
     stressed asks is = by (says_decided is)
       where
         by : SaysDecided words read said × Appends write.old.taken write.new.taken said → WritesSize words write.old.taken write.new.taken
-        by (inl s, w) = absurd (other_kind _ _ refl (once words _ _ s.asked asks.1))
-        by (inr (inl s), w) = absurd (other_kind _ _ refl (once words _ _ s.asked asks.1))
-        by (inr (inr (inl s)), w) = absurd (other_kind _ _ refl (once words _ _ s.asked asks.1))
-        by (inr (inr (inr s)), w) = writes_size s w
+        by (inl s, w) = absurd (other_kind _ _ refl (once words _ _ asks.1 s.asked))
+        by (inr (inl s), w) = absurd (other_kind _ _ refl (once words _ _ asks.1 s.asked))
+        by (inr (inr (inl s)), w) = absurd (other_kind _ _ refl (once words _ _ asks.1 s.asked))
+        by (inr (inr (inr (inl s))), w) = absurd (other_kind _ _ refl (once words _ _ asks.1 s.asked))
+        by (inr (inr (inr (inr s))), w) = writes_size s w
 
   pub resource_out : e ≡ exit.ResourceOut → WritesNumbers words read.old.files write.old.taken write.new.taken
   resource_out is = by (whole exit.ResourceOut is (λ x. cc) (λ x. cc))

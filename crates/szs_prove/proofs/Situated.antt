@@ -16,15 +16,20 @@ use Rattle.inst_logic.specs.Tree.{Tree}
 use Rattle.inst_logic.specs.declared.memory.Memory.{Memory as OutOfMemory}
 use Rattle.inst_logic.specs.declared.signed.Signed.{Signed}
 use Rattle.cert_front.specs.declared.judgement.Judgement.{Judgement}
+use Rattle.cert_front.specs.declared.judgement.Judgement.TheVariants as found
 use Rattle.cert_front.specs.declared.reply.Reply.{Reply}
+use Rattle.cert_front.specs.declared.rewriting.Rewriting.{Rewriting}
+use Rattle.cert_front.specs.declared.rewriting.Rewriting.TheVariants as rewriting
+use Rattle.cert_front.specs.Rewritings.{IsRewritten}
+use Rattle.cert_front.proofs.Rewritings.{judged}
 use Rattle.cert_front.specs.declared.words.Form.{Form}
-use Rattle.cert_front.specs.Checks.{HasCertificate, IsCheckFault, IsFound, IsJudged, IsProblemFault}
+use Rattle.cert_front.specs.Checks.{HasCertificate, IsCheckFault, IsFound, IsJudged, IsProblemFault, form_of}
 use Rattle.cert_front.specs.Queries.{IsAskFault, IsFoundReply, IsReplied}
 use Rattle.cert_front.specs.declared.check.CheckFault.{CheckFault}
 use Rattle.cert_front.specs.declared.check.CheckFault.TheVariants as unjudged
 use Rattle.cert_front.specs.declared.fault.CertFault.{CertFault}
 use Rattle.cert_front.specs.declared.fault.CertFault.TheVariants as bad
-use Rattle.command_words.specs.Asked.{Asked, prove, sat, check, ask, stress, IsAsked, IsUnread}
+use Rattle.command_words.specs.Asked.{Asked, prove, sat, check, rewrite, ask, stress, IsAsked, IsUnread}
 use Rattle.dimacs_front.specs.Answers.{IsModel}
 use Rattle.dimacs_front.specs.Files.{IsHeld, IsOutcome, IsRefused, limit}
 use Rattle.dimacs_front.specs.Form.{reading as clauses_of}
@@ -35,15 +40,15 @@ use Rattle.dimacs_front.specs.declared.error.DimacsError.{DimacsError}
 use Rattle.dimacs_front.specs.declared.error.DimacsError.TheVariants as fault
 use Rattle.dimacs_front.specs.declared.file.SatError.{SatError}
 use Rattle.dimacs_front.specs.declared.file.SatError.TheVariants as bar
-use Rattle.szs_prove.specs.Answers.{HasVerdict, IsAnswer, IsFinding, IsOutOfBudget, IsProof, IsRefusal, IsReplyOf, Reading}
+use Rattle.szs_prove.specs.Answers.{HasVerdict, IsAnswer, IsFinding, IsOutOfBudget, IsProof, IsRefusal, IsReplyOf, IsRewritingOf, Reading}
 use Rattle.szs_prove.specs.Answered.{Answered, Writing}
 use Rattle.szs_prove.specs.Situations.{Finding, Finds, IsBarred, IsExact, IsLoaded, IsRead, IsWanted, Situation, Stands, Wants, WantsOfCheck, WantsOfClauses, WantsOfProblem, WantsOfReply, Yields, asks, unread}
-use Rattle.szs_prove.specs.Texts.{ask_exit, check_exit, exit_for, exit_of, judgement_exit, load_status, prove_exit, reply_exit, sat_exit, stress_exit, text_status, unjudged_status}
+use Rattle.szs_prove.specs.Texts.{ask_exit, check_exit, exit_for, exit_of, judgement_exit, load_status, prove_exit, reply_exit, rewriting_exit, sat_exit, stress_exit, text_status, unjudged_status}
 use Rattle.cert_front.specs.Texts.{fault_status}
 use Rattle.dimacs_front.specs.Notices.{fault_status as status_of_text, refusal_status}
 use Rattle.szs_prove.proofs.Endings.{AsksOne}
 use Rattle.szs_prove.specs.declared.answer.Answer.{Answer}
-use Rattle.szs_prove.specs.declared.answer.Answer.TheVariants.{Prove, Sat, Check, Ask, Stress, Unread, NoWords}
+use Rattle.szs_prove.specs.declared.answer.Answer.TheVariants.{Prove, Sat, Check, Rewrite, Ask, Stress, Unread, NoWords}
 use Rattle.szs_prove.specs.declared.exit.Exit.{Exit}
 use Rattle.szs_prove.specs.declared.exit.Exit.TheVariants as exit
 use Rattle.szs_prove.specs.declared.refusal.Refusal.{Refusal}
@@ -149,6 +154,7 @@ one_found : LoadsOne → FindsOne → (files : List NamedFile) (a : Asked) (x y 
 one_found loads found files (prove file root budget) x y h k = one_loaded loads files file root x y h k
 one_found loads found files (sat file) x y h k = one_read files file x y h k
 one_found loads found files (check cert problem root) x y h k = found.0 files cert problem root x y h k
+one_found loads found files (rewrite cert problem root) x y h k = found.0 files cert problem root x y h k
 one_found loads found files (ask cert atom) x y h k = found.1 files cert atom.atom x y h k
 one_found loads found files (stress number) x y h k = refl
 
@@ -232,32 +238,46 @@ module _ (words : List (List ℕ)) (files : List NamedFile) (read : Reading) (wr
   outcome_here : (file : List ℕ) (o : Result SatAnswer SatError) → IsOutcome read.old read.new file o → IsOutcome here read.new file o
   outcome_here file o h = subst (λ (fs : Option (List NamedFile)). IsOutcome (record { files = fs; rest = read.old.rest; faults = read.old.faults }) read.new file o) told h
 
-  check_refused : (cert : List ℕ) (problem root : Option (List ℕ)) → IsAsked words (check cert problem root) → (why : CheckFault) → IsFound files cert problem root (Err why) → IsDue exit.Refused
-  check_refused cert problem root asked why h = due (check cert problem root) (Err why) exit.Refused asked h refl
+  -- why a certificate is not judged, where what the files give makes the exit due
+  module _ (cert : List ℕ) (root : Option (List ℕ)) where
+    problem_due : (problem : Option (List ℕ)) → HasCertificate (Some files) cert → (e : LoadError) → IsProblemFault (Some files) read.old.faults read.new.faults problem root e
+        → ((why : CheckFault) → IsFound files cert problem root (Err why) → IsDue exit.Refused) → IsDue (exit_of (load_status e))
+    problem_due None c e h refused = absurd h
+    problem_due (Some file) c e h refused = load_due file root e h (λ refuses. refused (unjudged.Problem e) (c, refuses))
 
-  problem_due : (cert : List ℕ) (problem root : Option (List ℕ)) → IsAsked words (check cert problem root) → HasCertificate (Some files) cert → (e : LoadError)
-      → IsProblemFault (Some files) read.old.faults read.new.faults problem root e → IsDue (exit_of (load_status e))
-  problem_due cert None root asked c e h = absurd h
-  problem_due cert (Some file) root asked c e h = load_due file root e h (λ refuses. check_refused cert (Some file) root asked (unjudged.Problem e) (c, refuses))
+    unjudged_due : (problem : Option (List ℕ)) (why : CheckFault) → IsCheckFault (Some files) read.old.faults read.new.faults cert problem root why
+        → ((w : CheckFault) → IsFound files cert problem root (Err w) → IsDue exit.Refused) → IsDue (exit_of (unjudged_status why))
+    unjudged_due problem (unjudged.Cert bad.Absent) h refused = refused (unjudged.Cert bad.Absent) h.1
+    unjudged_due problem (unjudged.Cert bad.TooLong) h refused = refused (unjudged.Cert bad.TooLong) h.1
+    unjudged_due problem (unjudged.Cert bad.ReadFault) h refused = fault_due h.1
+    unjudged_due problem (unjudged.Cert (bad.Syntax line)) h refused = refused (unjudged.Cert (bad.Syntax line)) h.1
+    unjudged_due problem (unjudged.Cert (bad.Version word)) h refused = refused (unjudged.Cert (bad.Version word)) h.1
+    unjudged_due problem (unjudged.Cert bad.NoSaturation) h refused = absurd h.1
+    unjudged_due problem (unjudged.Cert bad.Memory) h refused = absurd (h.0 refl)
+    unjudged_due problem (unjudged.Problem e) h refused = problem_due problem h.0 e h.2 refused
+    unjudged_due problem unjudged.Memory h refused = want_due
 
-  unjudged_due : (cert : List ℕ) (problem root : Option (List ℕ)) → IsAsked words (check cert problem root) → (why : CheckFault)
-      → IsCheckFault (Some files) read.old.faults read.new.faults cert problem root why → IsDue (check_exit (Err why))
-  unjudged_due cert problem root asked (unjudged.Cert bad.Absent) h = check_refused cert problem root asked (unjudged.Cert bad.Absent) h.1
-  unjudged_due cert problem root asked (unjudged.Cert bad.TooLong) h = check_refused cert problem root asked (unjudged.Cert bad.TooLong) h.1
-  unjudged_due cert problem root asked (unjudged.Cert bad.ReadFault) h = fault_due h.1
-  unjudged_due cert problem root asked (unjudged.Cert (bad.Syntax line)) h = check_refused cert problem root asked (unjudged.Cert (bad.Syntax line)) h.1
-  unjudged_due cert problem root asked (unjudged.Cert (bad.Version word)) h = check_refused cert problem root asked (unjudged.Cert (bad.Version word)) h.1
-  unjudged_due cert problem root asked (unjudged.Cert bad.NoSaturation) h = absurd h.1
-  unjudged_due cert problem root asked (unjudged.Cert bad.Memory) h = absurd (h.0 refl)
-  unjudged_due cert problem root asked (unjudged.Problem e) h = problem_due cert problem root asked h.0 e h.2
-  unjudged_due cert problem root asked unjudged.Memory h = want_due
+    fault_here : (problem : Option (List ℕ)) (why : CheckFault) → IsCheckFault read.old.files read.old.faults read.new.faults cert problem root why
+        → IsCheckFault (Some files) read.old.faults read.new.faults cert problem root why
+    fault_here problem why h = subst (λ (fs : Option (List NamedFile)). IsCheckFault fs read.old.faults read.new.faults cert problem root why) told h
 
   check_due : (cert : List ℕ) (problem root : Option (List ℕ)) → IsAsked words (check cert problem root) → (o : Result (Form × Judgement) CheckFault) → IsFinding read cert problem root o
       → IsDue (check_exit o)
   check_due cert problem root asked (Ok found) h =
       due (check cert problem root) (Ok found) (judgement_exit found.1) asked (subst (λ (fs : Option (List NamedFile)). IsJudged fs cert problem root found) told h) refl
   check_due cert problem root asked (Err why) h =
-      unjudged_due cert problem root asked why (subst (λ (fs : Option (List NamedFile)). IsCheckFault fs read.old.faults read.new.faults cert problem root why) told h)
+      unjudged_due cert root problem why (fault_here cert root problem why h) (λ w finds. due (check cert problem root) (Err w) exit.Refused asked finds refl)
+
+  rewriting_due : (cert : List ℕ) (problem root : Option (List ℕ)) → IsAsked words (rewrite cert problem root) → (o : Result Rewriting CheckFault) → IsRewritingOf read cert problem root o
+      → IsDue (rewriting_exit o)
+  rewriting_due cert problem root asked (Ok (rewriting.Text text)) h =
+      let here = subst (λ (fs : Option (List NamedFile)). IsRewritten fs cert problem root (rewriting.Text text)) told h in
+      due (rewrite cert problem root) (Ok (form_of here.certificate, found.Valid)) exit.Decided asked (judged (Some files) cert problem root (rewriting.Text text) here) refl
+  rewriting_due cert problem root asked (Ok (rewriting.Refused own j)) h =
+      let here = subst (λ (fs : Option (List NamedFile)). IsRewritten fs cert problem root (rewriting.Refused own j)) told h in
+      due (rewrite cert problem root) (Ok (own, j)) (judgement_exit j) asked (judged (Some files) cert problem root (rewriting.Refused own j) here) refl
+  rewriting_due cert problem root asked (Err why) h =
+      unjudged_due cert root problem why (fault_here cert root problem why h) (λ w finds. due (rewrite cert problem root) (Err w) exit.Refused asked finds refl)
 
   ask_refused : (cert : List ℕ) (atom : Signed Tree) → IsAsked words (ask cert atom) → (f : CertFault) → IsFoundReply files cert atom.atom (Err f) → IsDue exit.Refused
   ask_refused cert atom asked f h = due (ask cert atom) (Err f) exit.Refused asked h refl
@@ -285,6 +305,7 @@ module _ (words : List (List ℕ)) (files : List NamedFile) (read : Reading) (wr
   answer_due name (Prove o) h = prove_due name h.0 h.1 h.2 o h.3
   answer_due name (Sat o) h = sat_due name h.0 o (outcome_here name o h.1)
   answer_due name (Check o) h = check_due name h.0 h.1 h.2 o h.3
+  answer_due name (Rewrite o) h = rewriting_due name h.0 h.1 h.2 o h.3
   answer_due name (Ask o) h = ask_due name h.0 h.1 o h.2
   answer_due name (Stress o) h = stress_due h.2 h.3 o
   answer_due name Unread h = inl (unread, h.2, refl)

@@ -4,13 +4,13 @@ use Rattle.std.specs.Prelude.{◌&&◌, ◌||◌, Result, Ok, Err}
 use Rattle.std.specs.Io.KnownBytes.{Appends}
 use Rattle.std.proofs.lemmas.Bool.Decides.{nat_tests}
 use Rattle.std.proofs.lemmas.List.Elements.{All-head, All-tail}
-use Rattle.cert_format.specs.Certificate.{Certificate, first_refutation, saturation}
+use Rattle.cert_format.specs.Certificate.{Certificate, first_refutation, refutation, saturation, covered}
 use Rattle.cert_format.specs.Text.{certificate_text}
 use Rattle.cert_format.specs.ValueLines.{IsCertificateText}
 use Rattle.cert_format.proofs.LineNotes.{behind_front}
 use Rattle.cert_format.proofs.Taken.{no_more}
 use Rattle.cert_format.specs.LineMachine.{closing, opening, status, version}
-use Rattle.cert_format.specs.Formats.{text_of_lines}
+use Rattle.cert_format.specs.Formats.{text_of_lines, written_format}
 use Rattle.cert_format.specs.LineTexts.{line_text}
 use Rattle.cert_format.specs.Printable.{IsTextName}
 use Rattle.cert_format.specs.ValueLines.{constant_lines, is_refutation, item_lines, items_of}
@@ -21,6 +21,9 @@ use Rattle.cert_front.specs.declared.judgement.Judgement.TheVariants as judgemen
 use Rattle.cert_front.specs.declared.reply.Reply.{Reply}
 use Rattle.cert_front.specs.declared.reply.Reply.TheVariants as reply
 use Rattle.cert_front.specs.declared.words.Form.{Form}
+use Rattle.cert_front.specs.declared.check.CheckFault.{CheckFault}
+use Rattle.cert_front.specs.declared.rewriting.Rewriting.{Rewriting}
+use Rattle.cert_front.specs.declared.rewriting.Rewriting.TheVariants as rewriting
 use Rattle.szs_prove.specs.SizeWords.{size_lines}
 use Rattle.szs_prove.specs.declared.sizes.Size.{Size}
 use Rattle.cert_front.specs.Texts.{fault_reason, fault_status}
@@ -33,11 +36,11 @@ use Rattle.outside_io.specs.Notices.{notice_text}
 use Rattle.outside_io.specs.Taken.{AppendsProperPrefix}
 use Rattle.outside_io.specs.declared.notices.Status.{Status}
 use Rattle.outside_io.specs.declared.notices.Status.TheVariants as told
-use Rattle.szs_prove.specs.Answers.{IsAnswer, IsProof, Reading}
+use Rattle.szs_prove.specs.Answers.{IsAnswer, IsProof, IsRewritingOf, Reading}
 use Rattle.szs_prove.specs.Answered.{Answered, Writing, TookCertificate}
-use Rattle.szs_prove.specs.Texts.{exit_for, prove_exit, prove_text, reason_of, sat_text, status_of, text_for, unjudged_reason, unjudged_status}
+use Rattle.szs_prove.specs.Texts.{exit_for, prove_exit, prove_text, reason_of, rewriting_exit, rewriting_text, sat_text, status_of, text_for, unjudged_reason, unjudged_status}
 use Rattle.szs_prove.specs.declared.answer.Answer.{Answer}
-use Rattle.szs_prove.specs.declared.answer.Answer.TheVariants.{Prove, Sat, Check, Ask, Stress, Unread, NoWords}
+use Rattle.szs_prove.specs.declared.answer.Answer.TheVariants.{Prove, Sat, Check, Rewrite, Ask, Stress, Unread, NoWords}
 use Rattle.szs_prove.specs.declared.exit.Exit.{Exit}
 use Rattle.szs_prove.specs.declared.exit.Exit.TheVariants as exit
 use Rattle.szs_prove.specs.declared.refusal.Refusal.{Refusal}
@@ -49,7 +52,9 @@ begins_verdict _ = false
 
 verdict_begins : (format : ℕ) (name : List ℕ) (c : Certificate) (more : List ℕ) → begins_verdict (certificate_text format name c ++ more) ≡ true
 verdict_begins format name (first_refutation c) more = refl
+verdict_begins format name (refutation c) more = refl
 verdict_begins format name (saturation c) more = refl
+verdict_begins format name (covered c) more = refl
 
 notice_begins : (s : Status) (name reason : List ℕ) → begins_verdict (notice_text s name reason) ≡ false
 notice_begins told.SyntaxError name reason = refl
@@ -75,7 +80,9 @@ begins_comment [] = false
 
 certificate_begins : (format : ℕ) (name : List ℕ) (c : Certificate) (more : List ℕ) → begins_comment (certificate_text format name c ++ more) ≡ true
 certificate_begins format name (first_refutation c) more = refl
+certificate_begins format name (refutation c) more = refl
 certificate_begins format name (saturation c) more = refl
+certificate_begins format name (covered c) more = refl
 
 no_line : (other text more : List ℕ) → begins_comment other ≡ false → IsCertificateText text → other ≡ text ++ more → ⊥
 no_line other text more is h e =
@@ -154,9 +161,18 @@ module _ (words : List (List ℕ)) (read : Reading) (write : Writing) (e : Exit)
   prove_decides : (name : List ℕ) (root : Option (List ℕ)) (budget : ℕ) (o : Result (List ℕ) Refusal) → IsProof read name root budget o → (more : List ℕ)
       → prove_text name o ≡ t.text ++ more → (prove_exit o ≡ exit.Decided) × (more ≡ [])
   prove_decides name root budget (Ok text) h more same =
-      let is : IsCertificateText (t.text ++ more) = record { format = 1; name = name; value = h.0; name_is = h.1.name; printable = h.1.certifies.printable; is = sym same ∙ h.2 } in
+      let is : IsCertificateText (t.text ++ more) = record { format = written_format; name = name; value = h.0; name_is = h.1.name; printable = h.1.certifies.printable; is = sym same ∙ h.2 } in
       (refl, no_more t.text more t.is_text is)
   prove_decides name root budget (Err why) h more same = absurd (no_notice (status_of why) name (reason_of why) more same)
+
+  rewriting_decides : (name : List ℕ) (problem root : Option (List ℕ)) (o : Result Rewriting CheckFault) → IsRewritingOf read name problem root o → (more : List ℕ)
+      → rewriting_text name o ≡ t.text ++ more → (rewriting_exit o ≡ exit.Decided) × (more ≡ [])
+  rewriting_decides name problem root (Ok (rewriting.Text text)) h more same =
+      let new = h.rewritten.so.1 in
+      let is : IsCertificateText (t.text ++ more) = record { format = written_format; name = h.held.text.1; value = new.value; name_is = h.held.text.2.name_is; printable = new.printable; is = sym same ∙ new.is } in
+      (refl, no_more t.text more t.is_text is)
+  rewriting_decides name problem root (Ok (rewriting.Refused form j)) h more same = absurd (no_line (judgement_line form j) t.text more (judgement_begins form j) t.is_text same)
+  rewriting_decides name problem root (Err why) h more same = absurd (no_notice (unjudged_status why) name (unjudged_reason name why) more same)
 
   no_values : (name : List ℕ) (o : Result SatAnswer SatError) → IsOutcome read.old read.new name o → (more : List ℕ) → sat_text name o ≡ t.text ++ more → ⊥
   no_values name (Ok (Satisfiable text)) h more same = no_other text t.text more (ap begins_verdict h.4.is) t.is_text same
@@ -169,6 +185,7 @@ module _ (words : List (List ℕ)) (read : Reading) (write : Writing) (e : Exit)
   decides name (Sat o) h more same = absurd (no_values name o h.1 more same)
   decides name (Check (Ok found)) h more same = absurd (no_line (judgement_line found.0 found.1) t.text more (judgement_begins found.0 found.1) t.is_text same)
   decides name (Check (Err why)) h more same = absurd (no_notice (unjudged_status why) name (unjudged_reason name why) more same)
+  decides name (Rewrite o) h more same = rewriting_decides name h.0 h.1 o h.3 more same
   decides name (Ask (Ok r)) h more same = absurd (no_line (reply_line r) t.text more (reply_begins r) t.is_text same)
   decides name (Ask (Err f)) h more same = absurd (no_notice (fault_status f) name (fault_reason name f) more same)
   decides name (Stress (Ok size)) h more same = absurd (no_chain size t.text more t.is_text same)

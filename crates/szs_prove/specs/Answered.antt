@@ -7,18 +7,20 @@ use Rattle.outside_io.specs.Seen.{Seen}
 use Rattle.outside_io.specs.Taken.{AppendsProperPrefix}
 use Rattle.outside_io.specs.declared.library.NamedFile.{NamedFile}
 use Rattle.cert_format.specs.Certificate.{Certificate}
-use Rattle.cert_format.specs.Text.{certificate_text}
+use Rattle.cert_format.specs.Text.{written_text}
 use Rattle.cert_format.specs.ValueLines.{IsCertificateText}
 use Rattle.cert_front.specs.Words.{judgement_line, reply_line}
 use Rattle.cert_front.specs.declared.judgement.Judgement.{Judgement}
 use Rattle.cert_front.specs.declared.reply.Reply.{Reply}
+use Rattle.cert_front.specs.declared.rewriting.Rewriting.TheVariants.{Text}
 use Rattle.cert_front.specs.declared.words.Form.{Form}
 use Rattle.szs_prove.specs.Sizes.{IsRefutedIn}
 use Rattle.szs_prove.specs.SizeWords.{size_lines}
 use Rattle.szs_prove.specs.declared.sizes.Size.{Size}
 use Rattle.cert_front.specs.Checks.{IsJudged}
 use Rattle.cert_front.specs.Queries.{IsReplied}
-use Rattle.command_words.specs.Asked.{Asked, prove, check, ask, stress, IsAsked, name_of}
+use Rattle.cert_front.specs.Rewritings.{IsRewritten}
+use Rattle.command_words.specs.Asked.{Asked, prove, check, rewrite, ask, stress, IsAsked, name_of}
 use Rattle.szs_prove.specs.Answers.{Reading, IsAnswer, IsVerdict, IsOutOfBudget, IsUntouched}
 use Rattle.szs_prove.specs.Texts.{exit_for, judgement_exit, refusal_text, reply_exit, text_for, want_text}
 use Rattle.szs_prove.specs.Written.{IsWritten}
@@ -50,6 +52,9 @@ AsksProof words = (file : List ℕ) × (root : Option (List ℕ)) × (budget : �
 abbrev pub AsksCheck : List (List ℕ) → Type 0
 AsksCheck words = (cert : List ℕ) × (problem : Option (List ℕ)) × (root : Option (List ℕ)) × IsAsked words (check cert problem root)
 
+abbrev pub AsksRewriting : List (List ℕ) → Type 0
+AsksRewriting words = (cert : List ℕ) × (problem : Option (List ℕ)) × (root : Option (List ℕ)) × IsAsked words (rewrite cert problem root)
+
 abbrev pub AsksAtom : List (List ℕ) → Type 0
 AsksAtom words = (cert : List ℕ) × (atom : Signed Tree) × IsAsked words (ask cert atom)
 
@@ -66,7 +71,7 @@ pub record WritesCertificate (words : List (List ℕ)) (files : Option (List Nam
   pub asked : IsAsked words (prove file root budget)
   pub certificate : Certificate
   pub is_verdict : IsVerdict files file root certificate
-  pub written : Appends old new (certificate_text 1 file certificate)
+  pub written : Appends old new (written_text file certificate)
 
 -- The numbers of a run on the problem of the file that ends for want of budget were written, whole.
 pub record WritesNumbers (words : List (List ℕ)) (files : Option (List NamedFile)) (old new : Option (List ℕ)) : Type 0 where
@@ -79,17 +84,31 @@ pub record WritesNumbers (words : List (List ℕ)) (files : Option (List NamedFi
   pub stopped : IsOutOfBudget files file root budget left wanted
   pub written : Appends old new (refusal_text file (OutOfBudget budget left wanted))
 
--- The line of what the certificate is found to be was written, whole, and the program ends as it should with that.
-pub record WritesJudgement (words : List (List ℕ)) (files : Option (List NamedFile)) (old new : Option (List ℕ)) (exit : Exit) : Type 0 where
+-- a question about a certificate, and the problem of another file
+abbrev pub OfCertificate : Type 0
+OfCertificate = List ℕ → Option (List ℕ) → Option (List ℕ) → Asked
+
+-- The line of what the certificate is found to be was written, whole, to this question, and the program ends as it should with that.
+pub record WritesJudgement (question : OfCertificate) (words : List (List ℕ)) (files : Option (List NamedFile)) (old new : Option (List ℕ)) (exit : Exit) : Type 0 where
   pub cert : List ℕ
   pub problem : Option (List ℕ)
   pub root : Option (List ℕ)
-  pub asked : IsAsked words (check cert problem root)
+  pub asked : IsAsked words (question cert problem root)
   pub form : Form
   pub judgement : Judgement
   pub found : IsJudged files cert problem root (form, judgement)
   pub ends : exit ≡ judgement_exit judgement
   pub written : Appends old new (judgement_line form judgement)
+
+-- The text of the certificate in the format in which certificates are written, under its own name, was written, whole.
+pub record WritesRewriting (words : List (List ℕ)) (files : Option (List NamedFile)) (old new : Option (List ℕ)) : Type 0 where
+  pub cert : List ℕ
+  pub problem : Option (List ℕ)
+  pub root : Option (List ℕ)
+  pub asked : IsAsked words (rewrite cert problem root)
+  pub text : List ℕ
+  pub rewritten : IsRewritten files cert problem root (Text text)
+  pub written : Appends old new text
 
 -- The line of what the saturation says of the atom was written, whole, and the program ends as it should with that.
 pub record WritesReply (words : List (List ℕ)) (files : Option (List NamedFile)) (old new : Option (List ℕ)) (exit : Exit) : Type 0 where
@@ -113,9 +132,10 @@ pub record WritesSize (words : List (List ℕ)) (old new : Option (List ℕ)) : 
 abbrev pub EndsChain : Exit → Type 0
 EndsChain exit = (exit ≡ Decided) ⊎ (exit ≡ WriteFault) ⊎ (exit ≡ Memory)
 
--- what is complained of a certificate, whether it is checked or asked
+-- what is complained of a certificate, whether it is checked, with or without its rewriting, or asked
 abbrev pub WritesComplaint : List (List ℕ) → Option (List NamedFile) → Option (List ℕ) → Option (List ℕ) → Type 0
-WritesComplaint words files old new = WritesJudgement words files old new CheckFailed ⊎ WritesReply words files old new CheckFailed
+WritesComplaint words files old new =
+    WritesJudgement check words files old new CheckFailed ⊎ WritesJudgement rewrite words files old new CheckFailed ⊎ WritesReply words files old new CheckFailed
 
 -- The sink tells what it took, and that is the text of a printable certificate, whole.
 pub record TookCertificate (old new : Option (List ℕ)) : Type 0 where

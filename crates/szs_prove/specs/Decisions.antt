@@ -1,16 +1,15 @@
 -- What each decision says of the problem.
-use Rattle.std.specs.Prelude.{◌≡◌, ℕ, List, length, ⊤}
+use Rattle.std.specs.Prelude.{◌≡◌, ℕ, List, ⊤}
 use Rattle.inst_logic.specs.declared.clause.Problem.{Problem}
 use Rattle.inst_logic.specs.declared.symbol.Sym.{Sym}
 use Rattle.inst_calculus.specs.Models.{Member}
 use Rattle.inst_machine.specs.Machine.{Event, State}
 use Rattle.inst_machine.specs.Replay.{ReplaysFrom}
 use Rattle.inst_machine.specs.Budget.{RunsOut}
-use Rattle.cert_format.specs.Certificate.{Certificate, first_refutation, saturation, base_of}
+use Rattle.cert_format.specs.Certificate.{Certificate, base_of}
 use Rattle.cert_format.specs.Certifies.{Certifies}
-use Rattle.saturation_cert.specs.declared.certificate.Refutation.{Refutation}
-use Rattle.saturation_cert.specs.declared.certificate.Saturation.{Saturation}
-use Rattle.saturation_cert.specs.Values.{refutation_of, saturation_of}
+use Rattle.cert_format.specs.Formats.{written_format}
+use Rattle.cert_front.specs.Kinds.{covered_value, refutation_value}
 use Rattle.szs_prove.specs.declared.decision.Decision.{Decision}
 use Rattle.szs_prove.specs.declared.decision.Decision.TheVariants.{Unsatisfiable, Satisfiable, OutOfBudget}
 
@@ -30,20 +29,14 @@ pub record IsStopped (p : Problem) (budget left wanted : ℕ) : Type 0 where
   pub members : List Member
   pub ends : RunsOut p.clauses budget left wanted constant journal state members
 
--- the refutation is one of the problem, comes from a run, and has a ground clause for each member
-pub record IsRefutedBy (p : Problem) (c : Refutation) : Type 0 where
-  pub certifies : Certifies p 1 (first_refutation (refutation_of c))
-  pub replayed : IsReplayed p (first_refutation (refutation_of c))
-  pub one_each : length c.grounds ≡ length c.base.members
-
--- the saturation is one of the problem, and comes from a run
-pub record IsSatisfiedBy (p : Problem) (c : Saturation) : Type 0 where
-  pub certifies : Certifies p 1 (saturation (saturation_of c))
-  pub replayed : IsReplayed p (saturation (saturation_of c))
+-- the certificate is one of the problem, and comes from a run
+pub record IsShownBy (p : Problem) (c : Certificate) : Type 0 where
+  pub certifies : Certifies p written_format c
+  pub replayed : IsReplayed p c
 
 abbrev pub IsDecision : Problem → ℕ → Decision → Type 0
-IsDecision p budget (Unsatisfiable c) = IsRefutedBy p c
-IsDecision p budget (Satisfiable c) = IsSatisfiedBy p c
+IsDecision p budget (Unsatisfiable c) = IsShownBy p (refutation_value c)
+IsDecision p budget (Satisfiable c) = IsShownBy p (covered_value c)
 IsDecision p budget (OutOfBudget left wanted) = IsStopped p budget left wanted
 
 -- the problem has no model, or has one

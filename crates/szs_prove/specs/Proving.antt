@@ -2,18 +2,16 @@
 use Rattle.std.specs.Prelude.{ℕ, ◌≡◌, ⊤, List}
 use Rattle.inst_logic.specs.declared.clause.Problem.{Problem}
 use Rattle.cert_format.specs.Certificate.{Certificate}
-use Rattle.cert_format.specs.Certifies.{Certifies}
-use Rattle.cert_format.specs.Text.{certificate_text}
-use Rattle.szs_prove.specs.Decisions.{IsReplayed, IsStopped}
+use Rattle.cert_format.specs.Text.{written_text}
+use Rattle.szs_prove.specs.Decisions.{IsShownBy, IsStopped}
 use Rattle.szs_prove.specs.declared.refusal.Refusal.{Refusal}
 use Rattle.szs_prove.specs.declared.refusal.Refusal.TheVariants.{Load, OutOfBudget, Memory}
 
 -- the text is that of a certificate of the problem, which comes from a run
 pub record HasCertificate (p : Problem) (file text : List ℕ) : Type 0 where
   pub certificate : Certificate
-  pub certifies : Certifies p 1 certificate
-  pub replayed : IsReplayed p certificate
-  pub is : text ≡ certificate_text 1 file certificate
+  pub shown : IsShownBy p certificate
+  pub is : text ≡ written_text file certificate
 
 -- why there is no certificate of a problem that was loaded
 abbrev pub IsUndecided : Problem → ℕ → Refusal → Type 0

@@ -14,7 +14,7 @@ use Rattle.cert_front.specs.Checks.{IsFound}
 use Rattle.cert_front.specs.Queries.{IsFoundReply}
 use Rattle.cert_front.specs.declared.check.CheckFault.{CheckFault}
 use Rattle.cert_front.specs.declared.fault.CertFault.{CertFault}
-use Rattle.command_words.specs.Asked.{Asked, prove, sat, check, ask, stress, IsAsked, IsUnread}
+use Rattle.command_words.specs.Asked.{Asked, prove, sat, check, rewrite, ask, stress, IsAsked, IsUnread}
 use Rattle.dimacs_front.specs.Answers.{IsModel}
 use Rattle.dimacs_front.specs.Files.{IsHeld, IsRefused, limit}
 use Rattle.dimacs_front.specs.Form.{reading as clauses_of}
@@ -78,6 +78,7 @@ abbrev pub Finding : Asked → Type 0
 Finding (prove file root budget) = Result Problem LoadError
 Finding (sat file) = Result Cnf SatError
 Finding (check cert problem root) = Result (Form × Judgement) CheckFault
+Finding (rewrite cert problem root) = Result (Form × Judgement) CheckFault
 Finding (ask cert atom) = Result Reply CertFault
 Finding (stress number) = ⊤
 
@@ -86,6 +87,7 @@ abbrev pub Finds : List NamedFile → (question : Asked) → Finding question �
 Finds files (prove file root budget) found = IsLoaded files file root found
 Finds files (sat file) found = IsRead files file found
 Finds files (check cert problem root) found = IsFound files cert problem root found
+Finds files (rewrite cert problem root) found = IsFound files cert problem root found
 Finds files (ask cert atom) found = IsFoundReply files cert atom.atom found
 Finds files (stress number) found = ⊤
 
@@ -94,6 +96,7 @@ abbrev pub Wants : (question : Asked) → Finding question → Exit → Type 0
 Wants (prove file root budget) found exit = WantsOfProblem found exit
 Wants (sat file) found exit = WantsOfClauses found exit
 Wants (check cert problem root) found exit = WantsOfCheck found exit
+Wants (rewrite cert problem root) found exit = WantsOfCheck found exit
 Wants (ask cert atom) found exit = WantsOfReply found exit
 Wants (stress number) found exit = exit ≡ Decided
 

@@ -1,18 +1,18 @@
 -- How large refutations are.
 use Rattle.std.specs.Prelude.{◌≡◌, ℕ, ◌+◌, List, length}
 use Rattle.inst_logic.specs.Clauses.{TreeClause}
-use Rattle.cert_format.specs.Certificate.{FirstRefutation}
-use Rattle.cert_format.specs.Validity.{IsValidRefutation}
+use Rattle.cert_format.specs.Certificate.{Refutation}
+use Rattle.cert_format.specs.Validity.{IsValidByLines}
 use Rattle.szs_prove.specs.declared.sizes.Size.{Size}
 use Rattle.szs_prove.specs.Chains.{chain_clauses}
 
-abbrev pub size_of : FirstRefutation → Size
+abbrev pub size_of : Refutation → Size
 size_of r = record { clauses = length r.base.inputs; members = length r.base.members; steps = length r.steps }
 
 -- a valid refutation of the clauses, in their order, has this size
 pub record AreRefutedIn (clauses : List TreeClause) (size : Size) : Type 0 where
-  pub refutation : FirstRefutation
-  pub valid : IsValidRefutation refutation
+  pub refutation : Refutation
+  pub valid : IsValidByLines refutation
   pub inputs : refutation.base.inputs ≡ clauses
   pub measured : size ≡ size_of refutation
 

@@ -20,6 +20,8 @@ use Rattle.cert_front.specs.declared.judgement.Judgement.{Judgement}
 use Rattle.cert_front.specs.declared.judgement.Judgement.TheVariants as judgement
 use Rattle.cert_front.specs.declared.reply.Reply.{Reply}
 use Rattle.cert_front.specs.declared.reply.Reply.TheVariants as reply
+use Rattle.cert_front.specs.declared.rewriting.Rewriting.{Rewriting}
+use Rattle.cert_front.specs.declared.rewriting.Rewriting.TheVariants as rewriting
 use Rattle.cert_front.specs.declared.words.Form.{Form}
 use Rattle.dimacs_front.specs.Notices.{refusal_reason, refusal_status}
 use Rattle.dimacs_front.specs.declared.answers.SatAnswer.{SatAnswer}
@@ -27,7 +29,7 @@ use Rattle.dimacs_front.specs.declared.answers.SatAnswer.TheVariants as values
 use Rattle.dimacs_front.specs.declared.file.SatError.{SatError}
 use Rattle.szs_prove.specs.SizeWords.{size_lines}
 use Rattle.szs_prove.specs.declared.answer.Answer.{Answer}
-use Rattle.szs_prove.specs.declared.answer.Answer.TheVariants.{Prove, Sat, Check, Ask, Stress, Unread, NoWords}
+use Rattle.szs_prove.specs.declared.answer.Answer.TheVariants.{Prove, Sat, Check, Rewrite, Ask, Stress, Unread, NoWords}
 use Rattle.szs_prove.specs.declared.exit.Exit.{Exit}
 use Rattle.szs_prove.specs.declared.exit.Exit.TheVariants as exit
 use Rattle.szs_prove.specs.declared.refusal.Refusal.{Refusal}
@@ -169,6 +171,17 @@ abbrev pub check_exit : Result (Form × Judgement) CheckFault → Exit
 check_exit (Ok found) = judgement_exit found.1
 check_exit (Err fault) = exit_of (unjudged_status fault)
 
+-- the new text of the certificate, or what is found of it
+abbrev pub rewriting_text : List ℕ → Result Rewriting CheckFault → List ℕ
+rewriting_text cert (Ok (rewriting.Text text)) = text
+rewriting_text cert (Ok (rewriting.Refused form found)) = judgement_line form found
+rewriting_text cert (Err fault) = notice_text (unjudged_status fault) cert (unjudged_reason cert fault)
+
+abbrev pub rewriting_exit : Result Rewriting CheckFault → Exit
+rewriting_exit (Ok (rewriting.Text text)) = exit.Decided
+rewriting_exit (Ok (rewriting.Refused form found)) = judgement_exit found
+rewriting_exit (Err fault) = exit_of (unjudged_status fault)
+
 abbrev pub ask_text : List ℕ → Result Reply CertFault → List ℕ
 ask_text cert (Ok found) = reply_line found
 ask_text cert (Err fault) = notice_text (fault_status fault) cert (fault_reason cert fault)
@@ -194,6 +207,7 @@ abbrev pub text_for : List ℕ → Answer → List ℕ
 text_for name (Prove outcome) = prove_text name outcome
 text_for name (Sat outcome) = sat_text name outcome
 text_for name (Check outcome) = check_text name outcome
+text_for name (Rewrite outcome) = rewriting_text name outcome
 text_for name (Ask outcome) = ask_text name outcome
 text_for name (Stress outcome) = stress_text name outcome
 text_for name Unread = notice_text status.UsageError name (codes "% usage\n")
@@ -203,6 +217,7 @@ abbrev pub exit_for : Answer → Exit
 exit_for (Prove outcome) = prove_exit outcome
 exit_for (Sat outcome) = sat_exit outcome
 exit_for (Check outcome) = check_exit outcome
+exit_for (Rewrite outcome) = rewriting_exit outcome
 exit_for (Ask outcome) = ask_exit outcome
 exit_for (Stress outcome) = stress_exit outcome
 exit_for Unread = exit.Usage

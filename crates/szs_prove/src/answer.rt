@@ -4,26 +4,30 @@ ghost use Rattle.std.specs.Prelude.{◌≡◌, codes};
 ghost use Rattle.outside_io.specs.Notices.{notice_text};
 ghost use Rattle.outside_io.specs.Pieces.{text_of};
 ghost use Rattle.outside_io.specs.declared.notices.Status.TheVariants as status;
-ghost use Rattle.szs_prove.specs.Texts.{ask_exit, ask_text, check_exit, check_text, exit_for, judgement_exit, prove_exit, prove_text, reply_exit, sat_exit, sat_text, stress_exit, stress_text, text_for, unjudged_reason, unjudged_status, want_text};
+ghost use Rattle.szs_prove.specs.Texts.{ask_exit, ask_text, check_exit, check_text, exit_for, judgement_exit, prove_exit, prove_text, reply_exit, rewriting_exit, rewriting_text, sat_exit, sat_text, stress_exit, stress_text, text_for, unjudged_reason, unjudged_status, want_text};
 ghost use Rattle.szs_prove.specs.Written.{IsWritten, exit_after};
 
 use crate::exit::{Exit, exit_of};
 use crate::refusal::{Refusal, load_reason, load_status};
 use crate::sizes::{Size, size_lines};
-use cert_front::{CertFault, CheckFault, Form, Judgement, Reply, judgement_line, reply_line};
+use cert_front::{
+    CertFault, CheckFault, Form, Judgement, Reply, Rewriting, judgement_line, reply_line,
+};
 use dimacs_front::{SatAnswer, SatError};
 use inst_logic::{ByteList, Memory};
 use outside_io::{
     Line, Pieces, Sink, Status, Trouble, notice, one_line, text_line, whole_text, write_pieces,
 };
 
-/// What comes of what the words ask. Each but the last two is that of the command of its name.
+/// What comes of what the words ask. Each but the last two and `Rewrite` is that of the command of its name.
 #[derive(Drop)]
 pub enum Answer {
     /// The text of a verdict.
     Prove(Result<ByteList, Refusal>),
     Sat(Result<SatAnswer, SatError>),
     Check(Result<(Form, Judgement), CheckFault>),
+    /// That of `check` with the flag that asks for the certificate in the newest format.
+    Rewrite(Result<Rewriting, CheckFault>),
     Ask(Result<Reply, CertFault>),
     Stress(Result<Size, Memory>),
     /// The words ask nothing.
@@ -128,6 +132,26 @@ fn check_exit(outcome: &Result<(Form, Judgement), CheckFault>) -> Exit
     }
 }
 
+fn rewriting_pieces<'a>(name: &'a [u8], outcome: &'a Result<Rewriting, CheckFault>) -> Pieces<'a>
+    ensures { text_of result ≡ rewriting_text name.now outcome.now }
+{
+    match outcome {
+        Ok(Rewriting::Text(text)) => whole_text(text.as_slice()),
+        Ok(Rewriting::Refused(form, judgement)) => one_line(judgement_line(*form, *judgement)),
+        Err(why) => notice(unjudged_status(why), name, unjudged_reason(name, why)),
+    }
+}
+
+fn rewriting_exit(outcome: &Result<Rewriting, CheckFault>) -> Exit
+    ensures { result ≡ rewriting_exit outcome.now }
+{
+    match outcome {
+        Ok(Rewriting::Text(_)) => Exit::Decided,
+        Ok(Rewriting::Refused(_, judgement)) => judgement_exit(*judgement),
+        Err(why) => exit_of(unjudged_status(why)),
+    }
+}
+
 fn ask_pieces<'a>(name: &'a [u8], outcome: &'a Result<Reply, CertFault>) -> Pieces<'a>
     ensures { text_of result ≡ ask_text name.now outcome.now }
 {
@@ -189,6 +213,7 @@ impl Answer {
             Answer::Prove(outcome) => prove_pieces(name, outcome),
             Answer::Sat(outcome) => sat_pieces(name, outcome),
             Answer::Check(outcome) => check_pieces(name, outcome),
+            Answer::Rewrite(outcome) => rewriting_pieces(name, outcome),
             Answer::Ask(outcome) => ask_pieces(name, outcome),
             Answer::Stress(outcome) => stress_pieces(name, outcome),
             Answer::Unread => usage(name),
@@ -204,6 +229,7 @@ impl Answer {
             Answer::Prove(outcome) => prove_exit(outcome),
             Answer::Sat(outcome) => sat_exit(outcome),
             Answer::Check(outcome) => check_exit(outcome),
+            Answer::Rewrite(outcome) => rewriting_exit(outcome),
             Answer::Ask(outcome) => ask_exit(outcome),
             Answer::Stress(outcome) => stress_exit(outcome),
             Answer::Unread => Exit::Usage,

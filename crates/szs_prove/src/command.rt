@@ -2,9 +2,9 @@
 ghost use Rattle.std.specs.Prelude.{◌≡◌, IfNone, IfSome, map, string_bytes};
 ghost use Rattle.outside_io.specs.Causes.{Rose};
 ghost use Rattle.outside_io.specs.Told.{Follows};
-ghost use Rattle.command_words.specs.Asked.{IsAsked, IsUnread, name_of};
+ghost use Rattle.command_words.specs.Asked.{IsAsked, IsUnread, check, name_of};
 ghost use Rattle.command_words.specs.Requests.{asked};
-ghost use Rattle.szs_prove.specs.Answered.{Answered, AsksAtom, AsksChain, AsksCheck, AsksProof, EndsChain, IsInterrupted, TookCertificate, WantsMemory, WritesCertificate, WritesComplaint, WritesJudgement, WritesNumbers, WritesReply, WritesSize, writing};
+ghost use Rattle.szs_prove.specs.Answered.{Answered, AsksAtom, AsksChain, AsksCheck, AsksProof, AsksRewriting, EndsChain, IsInterrupted, TookCertificate, WantsMemory, WritesCertificate, WritesComplaint, WritesJudgement, WritesNumbers, WritesReply, WritesRewriting, WritesSize, writing};
 ghost use Rattle.szs_prove.specs.Answers.{IsAnswer, reading};
 ghost use Rattle.szs_prove.specs.Situations.{IsExact};
 
@@ -12,7 +12,7 @@ use crate::answer::{Answer, tell};
 use crate::deciding::stress;
 use crate::exit::Exit;
 use crate::prove::prove;
-use cert_front::{ask_file, atoms_are_variable_free, check_file, findings_are_one};
+use cert_front::{ask_file, atoms_are_variable_free, check_file, findings_are_one, rewrite_file};
 use command_words::laws::{asked_budget, asked_length, asked_once};
 use command_words::{Request, read_words};
 use dimacs_front::answer_file;
@@ -29,6 +29,7 @@ fn name_of<'a>(request: &Request<'a>) -> &'a str
         Request::Prove { file, .. } => *file,
         Request::Sat { file } => *file,
         Request::Check { cert, .. } => *cert,
+        Request::Rewrite { cert, .. } => *cert,
         Request::Ask { cert, .. } => *cert,
         Request::Stress { .. } => "stress",
     }
@@ -59,6 +60,11 @@ fn answer<L: Library>(
             problem,
             root,
         } => Answer::Check(check_file(alloc, files, cert, problem, root)),
+        Request::Rewrite {
+            cert,
+            problem,
+            root,
+        } => Answer::Rewrite(rewrite_file(alloc, files, cert, problem, root)),
         Request::Ask { cert, atom } => Answer::Ask(ask_file(alloc, files, cert, &atom)),
         Request::Stress { number } => Answer::Stress(stress(alloc, number)),
     }
@@ -114,12 +120,14 @@ pub fn run<L: Library, K: Sink>(alloc: Global, words: &[String], files: &mut L, 
     ensures exact { IfSome (L.told files.old).files (λ all. IsExact (map string_bytes words.now) all (reading (L.told files.old) (L.told files.new)) (writing (K.seen out.old) (K.seen out.new)) result) }
     // A verdict is written as the text of a certificate, which shows what its status says, and comes from a run.
     ensures decided { AsksProof (map string_bytes words.now) → result ≡ Exit.Decided → WritesCertificate (map string_bytes words.now) (L.told files.old).files (K.seen out.old).taken (K.seen out.new).taken }
-    // And where the text of a printable certificate was taken whole, the verdict was written.
+    // And where the text of a printable certificate was taken whole, the answer was written whole.
     ensures verdict { TookCertificate (K.seen out.old).taken (K.seen out.new).taken → result ≡ Exit.Decided }
     // A budget that ran out is told by the numbers of a run that ended for want of it.
     ensures resource_out { result ≡ Exit.ResourceOut → WritesNumbers (map string_bytes words.now) (L.told files.old).files (K.seen out.old).taken (K.seen out.new).taken }
     // A certificate that is checked is told to be valid only where it is, and one of the problem where one is named.
-    ensures checked { AsksCheck (map string_bytes words.now) → result ≡ Exit.Decided → WritesJudgement (map string_bytes words.now) (L.told files.old).files (K.seen out.old).taken (K.seen out.new).taken Exit.Decided }
+    ensures checked { AsksCheck (map string_bytes words.now) → result ≡ Exit.Decided → WritesJudgement check (map string_bytes words.now) (L.told files.old).files (K.seen out.old).taken (K.seen out.new).taken Exit.Decided }
+    // And a certificate is written in the newest format, under its own name, only where it is.
+    ensures rewritten { AsksRewriting (map string_bytes words.now) → result ≡ Exit.Decided → WritesRewriting (map string_bytes words.now) (L.told files.old).files (K.seen out.old).taken (K.seen out.new).taken }
     // An atom is told to be true or false by a saturation that is valid.
     ensures asked { AsksAtom (map string_bytes words.now) → result ≡ Exit.Decided → WritesReply (map string_bytes words.now) (L.told files.old).files (K.seen out.old).taken (K.seen out.new).taken Exit.Decided }
     // What is complained of a certificate is the first that applies.

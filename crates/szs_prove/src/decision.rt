@@ -1,19 +1,16 @@
 // What is decided of a problem.
 ghost use Rattle.std.specs.Prelude.{◌≡◌, ◌≤◌, IsTrue, IfOk};
 ghost use Rattle.inst_logic.specs.Measure.{is_function_free};
-ghost use Rattle.cert_format.specs.Validity.{IsValidRefutation, IsValidSaturation};
-ghost use Rattle.saturation_cert.specs.Values.{refutation_of, saturation_of};
-ghost use Rattle.saturation_cert.specs.Wholes.{IsWholeRefutation, IsWholeSaturation, KeepsRefutation};
-ghost use Rattle.cert_check.specs.declared.error.CheckError.TheVariants as errors;
+ghost use Rattle.cert_front.specs.Kinds.{covered_value, refutation_value};
 ghost use Rattle.instgen_loop.specs.Outcomes.{IsOutcome, IsRefutedRun, IsSaturatedRun};
 ghost use Rattle.szs_prove.specs.Problems.{IsPrintableProblem};
-ghost use Rattle.szs_prove.specs.Decisions.{IsDecision, IsVerdict, IsRefutedBy, IsSatisfiedBy};
+ghost use Rattle.szs_prove.specs.Decisions.{IsDecision, IsShownBy, IsVerdict};
 
 use cdcl_core::Cdcl;
-use cert_check::{
-    CheckError, CheckedRefutation, CheckedSaturation, check_refutation, check_saturation,
-};
+use cert_check::{CheckedCovered, CheckedRefutation};
+use cert_format::covers::names_are_printable;
 use cert_format::laws::valid_certificates_certify;
+use cert_front::{accept_refutation, accept_saturation};
 use inst_logic::{Memory, Problem};
 use instgen_loop::{Journal, Outcome, run};
 use saturation_cert::{Refutation, Saturation, refutation_numbers, saturation_numbers};
@@ -24,45 +21,10 @@ use term_index::Tree;
 #[derive(Drop)]
 pub enum Decision {
     Unsatisfiable(CheckedRefutation),
-    Satisfiable(CheckedSaturation),
+    Satisfiable(CheckedCovered),
     /// What is left of the budget, and the size of the least conclusion that did not fit, in symbols; `u64::MAX` where it is
     /// larger.
     OutOfBudget { left: u64, wanted: u64 },
-}
-
-// What is left of the checker's errors where it has no complaint.
-fn want(error: CheckError) -> Memory
-    requires { error ≡ errors.Memory }
-{
-    match error {
-        CheckError::Memory => Memory,
-        CheckError::Complaint(_) => unreachable!(),
-    }
-}
-
-// The checker has no complaint about a valid refutation.
-fn checked_refutation(alloc: Global, cert: Refutation) -> Result<CheckedRefutation, Memory>
-    requires whole { IsWholeRefutation cert }
-    requires valid { IsValidRefutation (refutation_of cert) }
-    ensures kept { IfOk result (KeepsRefutation cert) }
-    ensures same { IfOk result (λ c. refutation_of c ≡ refutation_of cert) }
-{
-    match check_refutation(alloc, cert) {
-        Ok(checked) => Ok(checked),
-        Err(error) => Err(want(error)),
-    }
-}
-
-// Nor about a valid saturation.
-fn checked_saturation(alloc: Global, cert: Saturation) -> Result<CheckedSaturation, Memory>
-    requires whole { IsWholeSaturation cert }
-    requires valid { IsValidSaturation (saturation_of cert) }
-    ensures { IfOk result (λ c. saturation_of c ≡ saturation_of cert) }
-{
-    match check_saturation(alloc, cert) {
-        Ok(checked) => Ok(checked),
-        Err(error) => Err(want(error)),
-    }
 }
 
 // The journal is let go here: it shows that the members come from a run, and no certificate has it.
@@ -74,28 +36,30 @@ fn refuted(
 ) -> Result<CheckedRefutation, Memory>
     requires problem { IsPrintableProblem p.now }
     requires outcome { IsRefutedRun p.now.clauses p.now.names cert journal }
-    ensures { IfOk result (IsRefutedBy p.now) }
+    ensures { IfOk result (λ c. IsShownBy p.now (refutation_value c)) }
 {
     refutation_numbers(&cert);
     valid_certificates_certify();
     drop(journal);
-    checked_refutation(alloc, cert)
+    accept_refutation(alloc, cert)
 }
 
+// What covers its clauses is found once, and checked once.
 fn satisfied(
     alloc: Global,
     p: &Problem,
     cert: Saturation,
     journal: Journal,
-) -> Result<CheckedSaturation, Memory>
+) -> Result<CheckedCovered, Memory>
     requires problem { IsPrintableProblem p.now }
     requires outcome { IsSaturatedRun p.now.clauses p.now.names cert journal }
-    ensures { IfOk result (IsSatisfiedBy p.now) }
+    ensures { IfOk result (λ c. IsShownBy p.now (covered_value c)) }
 {
     saturation_numbers(&cert);
     valid_certificates_certify();
+    names_are_printable();
     drop(journal);
-    checked_saturation(alloc, cert)
+    accept_saturation(alloc, cert)
 }
 
 // Has the checker judge what the engine answered in this budget.

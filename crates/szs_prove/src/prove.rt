@@ -1,10 +1,9 @@
 // The verdict on the problem of a file: it is loaded, decided, and the text of its certificate is made whole before anything
 // is written, so that where memory is refused there is no verdict that breaks off.
 ghost use Rattle.std.specs.Prelude.{◌≡◌, ◌≤◌, ℕ, IfOk, IfErr, option_map};
-ghost use Rattle.cert_format.specs.Certificate.{first_refutation, saturation};
 ghost use Rattle.cert_format.specs.Printable.{IsTextName};
-ghost use Rattle.cert_format.specs.Text.{certificate_text};
-ghost use Rattle.saturation_cert.specs.Values.{refutation_of, saturation_of};
+ghost use Rattle.cert_format.specs.Text.{written_text};
+ghost use Rattle.cert_front.specs.Kinds.{covered_value, refutation_value};
 ghost use Rattle.outside_io.specs.Told.{Follows};
 ghost use Rattle.tptp_load.specs.Problems.{IsGoodProblem};
 ghost use Rattle.szs_prove.specs.Decisions.{IsDecision};
@@ -14,8 +13,8 @@ ghost use Rattle.szs_prove.specs.Proving.{HasCertificate, IsUndecided};
 use crate::decision::{Decision, decide};
 use crate::decision_laws::loaded_problems_are_printable;
 use crate::refusal::Refusal;
-use cert_check::{CheckedRefutation, CheckedSaturation};
-use cert_text::{refutation_text, saturation_text};
+use cert_check::{CheckedCovered, CheckedRefutation};
+use cert_text::{covered_text, refutation_text};
 use inst_logic::{ByteList, Memory, Problem};
 use outside_io::Library;
 use std::alloc::Global;
@@ -41,15 +40,15 @@ fn load<L: Library>(
 
 // The certificate is let go where its text is made, so that one function owns it.
 fn refuted(alloc: Global, file: &str, cert: CheckedRefutation) -> Result<ByteList, Memory>
-    ensures { IfOk result (λ text. text ≡ certificate_text 1 file.now (first_refutation (refutation_of cert))) }
+    ensures { IfOk result (λ text. text ≡ written_text file.now (refutation_value cert)) }
 {
-    refutation_text(alloc, file, &cert)
+    refutation_text(alloc, file.as_bytes(), &cert)
 }
 
-fn satisfied(alloc: Global, file: &str, cert: CheckedSaturation) -> Result<ByteList, Memory>
-    ensures { IfOk result (λ text. text ≡ certificate_text 1 file.now (saturation (saturation_of cert))) }
+fn satisfied(alloc: Global, file: &str, cert: CheckedCovered) -> Result<ByteList, Memory>
+    ensures { IfOk result (λ text. text ≡ written_text file.now (covered_value cert)) }
 {
-    saturation_text(alloc, file, &cert)
+    covered_text(alloc, file.as_bytes(), &cert)
 }
 
 // The text of what was decided of the problem in this budget.

@@ -16,7 +16,7 @@ pub struct Size {
     pub steps: usize,
 }
 
-/// The size of the refutation.
+/// The size of a refutation.
 pub fn size_of(r: &Refutation) -> Size
     ensures { result ≡ size_of (refutation_of r.now) }
 {

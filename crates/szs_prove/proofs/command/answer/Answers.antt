@@ -4,9 +4,9 @@ use Rattle.command_words.specs.Requests.{asked}
 use Rattle.command_words.specs.declared.request.Request.{Request}
 use Rattle.szs_prove.specs.Answers.{IsAnswer, reading}
 use Rattle.szs_prove.specs.declared.answer.Answer.{Answer}
-use Rattle.szs_prove.specs.declared.answer.Answer.TheVariants.{Prove, Sat, Check, Ask, Stress}
+use Rattle.szs_prove.specs.declared.answer.Answer.TheVariants.{Prove, Sat, Check, Rewrite, Ask, Stress}
 use Rattle.szs_prove.proofs.AskedAtoms.{asked_atom_is_formed, asked_atom_is_free}
-use Rattle.szs_prove.proofs.Causes.{proved, checked, replied, measured}
+use Rattle.szs_prove.proofs.Causes.{proved, checked, rewritten, replied, measured}
 use Rattle.szs_prove.proofs.command.answer.Goals as goal
 
 pub prove-requires-clause-name : goal.prove-requires-clause-name
@@ -39,6 +39,13 @@ returns-in-Check-clause-answer g c =
     let read = reading (g.L.Library.told c.args.files.now) (g.L.Library.told c.check_file.new.files) in
     subst (λ (q : Request). IsAnswer (map string_bytes c.args._words.now) read (name_of (asked q)) (Check c.check_file.result)) (sym c.in-Check.is)
     (checked _ read _ _ _ c.check_file.result h c.check_file.ensures.judged c.check_file.ensures.refused)
+
+pub returns-in-Rewrite-clause-answer : goal.returns-in-Rewrite-clause-answer
+returns-in-Rewrite-clause-answer g c =
+    let h = subst (λ (q : Request). IsAsked (map string_bytes c.args._words.now) (asked q)) c.in-Rewrite.is c.requires in
+    let read = reading (g.L.Library.told c.args.files.now) (g.L.Library.told c.rewrite_file.new.files) in
+    subst (λ (q : Request). IsAnswer (map string_bytes c.args._words.now) read (name_of (asked q)) (Rewrite c.rewrite_file.result)) (sym c.in-Rewrite.is)
+    (rewritten _ read _ _ _ c.rewrite_file.result h c.rewrite_file.ensures.rewritten c.rewrite_file.ensures.refused)
 
 pub ask_file-requires-clause-atom : goal.ask_file-requires-clause-atom
 ask_file-requires-clause-atom g c =

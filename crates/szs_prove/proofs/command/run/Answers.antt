@@ -1,4 +1,4 @@
-use Rattle.szs_prove.proofs.Endings.{asked_atom, chain, check_failed, checked, decided, interrupted, memory, read_fault, resource_out, stressed, usage_unread, write_fault}
+use Rattle.szs_prove.proofs.Endings.{asked_atom, chain, check_failed, checked, decided, interrupted, memory, read_fault, resource_out, rewritten, stressed, usage_unread, write_fault}
 use Rattle.szs_prove.proofs.Situated.{LoadsOne, exact}
 use Rattle.szs_prove.proofs.VerdictTexts.{took_verdict}
 use Rattle.szs_prove.proofs.command.run.Goals as goal
@@ -13,6 +13,7 @@ returns g c =
       exact = exact loads (c.findings_are_one.ensures.checks, c.findings_are_one.ensures.replies) c.asked_once.ensures.once _ _ _ _ a;
       decided = decided _ _ _ _ a c.asked_once.ensures.once;
       checked = checked _ _ _ _ a c.asked_once.ensures.once;
+      rewritten = rewritten _ _ _ _ a c.asked_once.ensures.once;
       asked = asked_atom _ _ _ _ a c.asked_once.ensures.once;
       check_failed = check_failed _ _ _ _ a;
       stressed = stressed _ _ _ _ a c.asked_once.ensures.once;

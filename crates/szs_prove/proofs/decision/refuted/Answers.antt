@@ -4,4 +4,4 @@ use Rattle.szs_prove.proofs.decision.refuted.Goals as goal
 pub returns : goal.returns
 returns c =
     always_refuted c.valid_certificates_certify.ensures c.args.p.now c.requires.problem c.args.cert c.args.journal c.requires.outcome c.refutation_numbers.ensures
-    c.checked_refutation.result c.checked_refutation.ensures.kept c.checked_refutation.ensures.same
+    c.accept_refutation.result c.accept_refutation.ensures

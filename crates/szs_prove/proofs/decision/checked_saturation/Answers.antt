@@ -1,7 +1,0 @@
-use Rattle.cert_format.specs.Validity.{SaturationPasses}
-use Rattle.saturation_cert.specs.Values.{saturation_of}
-use Rattle.szs_prove.proofs.CheckedDecisions.{only_memory}
-use Rattle.szs_prove.proofs.decision.checked_saturation.Goals as goal
-
-pub want-requires : goal.want-requires
-want-requires c = only_memory (SaturationPasses (saturation_of c.args.cert)) c.in-Err.error c.requires.valid c.in-Err.ensures.complaint
