@@ -3,12 +3,14 @@
 ghost use Rattle.std.specs.Prelude.{◌≡◌, []};
 ghost use Rattle.cert_format.specs.Certificate.{selected_members};
 ghost use Rattle.saturation_cert.specs.Values.{saturation_of};
-ghost use Rattle.saturation_cert.specs.Wholes.{AreLight, HasPlaces, IsGroundAtom, IsWholeRefutation, IsWholeSaturation};
+ghost use Rattle.saturation_cert.specs.Wholes.{AreLight, HasPlaces, IsGroundAtom, IsWholeFirst, IsWholeSaturation};
 
 use crate::building::{Worked, base_lists, refutation_lists};
-use cert_check::{CheckError, CheckedSaturation, Complaint, check_refutation, check_saturation};
+use cert_check::{CheckError, CheckedSaturation, Complaint, check_first, check_saturation};
 use inst_logic::{Kind, Memory, Name, NameList, PlaceList, Sym};
-use saturation_cert::{Base, Refutation, Saturation, is_light, store_selected, truth, truth_in};
+use saturation_cert::{
+    Base, FirstRefutation, Saturation, is_light, store_selected, truth, truth_in,
+};
 use std::alloc::Global;
 use std::test::Fail;
 use term_bank::{Bank, TermId};
@@ -55,16 +57,16 @@ pub fn saturation_complaint(
     }
 }
 
-fn refusal_of(alloc: Global, cert: Refutation) -> Result<Option<Complaint>, Fail>
-    requires { IsWholeRefutation cert }
+fn refusal_of(alloc: Global, cert: FirstRefutation) -> Result<Option<Complaint>, Fail>
+    requires { IsWholeFirst cert }
 {
-    match check_refutation(alloc, cert) {
+    match check_first(alloc, cert) {
         Ok(_) => Ok(None),
         Err(e) => complaint_in(e),
     }
 }
 
-// The same for the refutation of these texts with the function `bot_0` of this many arguments.
+// The first complaint about the refutation of these texts with the function `bot_0` of this many arguments.
 pub fn refutation_complaint(
     alloc: Global,
     worked: &Worked,
@@ -88,7 +90,7 @@ pub fn refutation_complaint(
             };
             let grounds = lists.proof.grounds;
             let steps = lists.proof.steps;
-            let cert = Refutation {
+            let cert = FirstRefutation {
                 base,
                 bot,
                 grounds,

@@ -4,7 +4,7 @@ ghost use Rattle.term_bank.specs.Forest.{AreFormed, Extends};
 ghost use Rattle.tptp_read.specs.Text.{IsFormedStatement};
 ghost use Rattle.saturation_cert.specs.Wholes.{IsWholeClause};
 
-use inst_logic::Memory;
+use inst_logic::{Memory, NumberList, PlaceList};
 use saturation_cert::{
     GroundHint, GroundHintList, GroundStep, GroundStepList, Member, MemberList, Origin,
 };
@@ -66,12 +66,86 @@ fn add_member(
     Ok(())
 }
 
+// Where a member comes from, with borrowed lists.
+#[derive(Clone, Copy)]
+pub enum Source<'a> {
+    Input(usize),
+    Inst(Conclusion),
+    Lemma {
+        conclusion: Conclusion,
+        keep: &'a [usize],
+        premises: &'a [usize],
+    },
+}
+
+// A member and a literal, and their partners.
+#[derive(Clone, Copy)]
+pub struct Conclusion {
+    pub from: usize,
+    pub place: usize,
+    pub partner: usize,
+    pub other: usize,
+}
+
+fn lemma_of(
+    alloc: Global,
+    conclusion: Conclusion,
+    keep: &[usize],
+    premises: &[usize],
+) -> Result<Origin, Memory> {
+    let Conclusion {
+        from,
+        place,
+        partner,
+        other,
+    } = conclusion;
+    Ok(Origin::Lemma {
+        from,
+        place,
+        partner,
+        other,
+        keep: PlaceList::from(keep.to_vec(alloc)?),
+        premises: NumberList::from(premises.to_vec(alloc)?),
+    })
+}
+
+fn inst_of(conclusion: Conclusion) -> Origin {
+    let Conclusion {
+        from,
+        place,
+        partner,
+        other,
+    } = conclusion;
+    Origin::Inst {
+        from,
+        place,
+        partner,
+        other,
+    }
+}
+
+// The origin of the member at place `i`, from 0, or `input` with its own number where there are no more.
+fn origin_of(alloc: Global, sources: &[Source], i: usize) -> Result<Origin, Memory> {
+    match sources.get(i) {
+        None => Ok(Origin::Input(i.saturating_add(1))),
+        Some(Source::Input(k)) => Ok(Origin::Input(*k)),
+        Some(Source::Inst(conclusion)) => Ok(inst_of(*conclusion)),
+        Some(
+            Source::Lemma {
+                conclusion,
+                keep,
+                premises,
+            },
+        ) => lemma_of(alloc, *conclusion, keep, premises),
+    }
+}
+
 // The clauses of the text as members with these origins, or `input` with their own number where there are no more.
 fn members_in(
     alloc: Global,
     bank: &mut Bank,
     text: &str,
-    origins: &[Origin],
+    sources: &[Source],
 ) -> Result<MemberList, Fail>
     requires bank { AreFormed bank.old }
     ensures formed { AreFormed bank.new }
@@ -81,10 +155,7 @@ fn members_in(
     let statements = read_text(alloc, text.as_bytes())?;
     let mut members = MemberList::new(alloc);
     for (i, statement) in statements.as_slice().iter().enumerate() {
-        let origin = match origins.get(i) {
-            Some(origin) => origin.clone()?,
-            None => Origin::Input(i + 1),
-        };
+        let origin = origin_of(alloc, sources, i)?;
         add_member(bank, &mut members, statement, origin)?;
     }
     Ok(members)
@@ -142,7 +213,7 @@ pub struct Worked<'a> {
     pub inputs: &'a str,
     pub axioms: &'a str,
     pub members: &'a str,
-    pub origins: &'a [Origin],
+    pub origins: &'a [Source<'a>],
     pub grounds: &'a str,
     pub steps: &'a str,
     pub hints: &'a [GroundHint],

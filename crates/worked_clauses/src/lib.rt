@@ -7,6 +7,12 @@ mod answers;
 #[cfg(test)]
 mod building;
 #[cfg(test)]
+mod judging;
+#[cfg(test)]
+mod reading;
+#[cfg(test)]
 mod shared;
+#[cfg(test)]
+mod tables;
 #[cfg(test)]
 mod tests;

@@ -1,8 +1,8 @@
 // A saturation whose selected literals tie at an atom, a refutation of two clauses, and changes of them.
 use crate::answers::{refutation_complaint, saturation_complaint, truths};
-use crate::building::Worked;
+use crate::building::{Conclusion, Source, Worked};
 use cert_check::Complaint;
-use saturation_cert::{GroundHint, Origin};
+use saturation_cert::GroundHint;
 use std::test::Fail;
 
 const INPUTS: &str = "cnf(one,axiom,p(X,a)|q(X)). cnf(two,axiom,~p(b,X)|s(X)).";
@@ -10,21 +10,21 @@ const INPUTS: &str = "cnf(one,axiom,p(X,a)|q(X)). cnf(two,axiom,~p(b,X)|s(X)).";
 const MEMBERS: &str =
     "cnf(m1,plain,p(X,a)|q(X)). cnf(m2,plain,~p(b,X)|s(X)). cnf(m3,plain,p(b,a)|q(b)). cnf(m4,plain,~p(b,a)|s(a)).";
 
-const ORIGINS: [Origin; 4] = [
-    Origin::Input(1),
-    Origin::Input(2),
-    Origin::Inst {
+const ORIGINS: [Source<'static>; 4] = [
+    Source::Input(1),
+    Source::Input(2),
+    Source::Inst(Conclusion {
         from: 1,
         place: 1,
         partner: 2,
         other: 1,
-    },
-    Origin::Inst {
+    }),
+    Source::Inst(Conclusion {
         from: 2,
         place: 1,
         partner: 1,
         other: 1,
-    },
+    }),
 ];
 
 // The saturation of the two inputs with these members.
@@ -94,14 +94,14 @@ fn refutation<'a>(grounds: &'a str, steps: &'a str, hints: &'a [GroundHint]) -> 
         axioms: "",
         members: "cnf(m1,plain,p(X)). cnf(m2,plain,~p(c)). cnf(m3,plain,p(c)).",
         origins: &[
-            Origin::Input(1),
-            Origin::Input(2),
-            Origin::Inst {
+            Source::Input(1),
+            Source::Input(2),
+            Source::Inst(Conclusion {
                 from: 1,
                 place: 1,
                 partner: 2,
                 other: 1,
-            },
+            }),
         ],
         grounds,
         steps,
@@ -141,16 +141,16 @@ fn with_equality(axioms: &str) -> Worked {
         axioms,
         members: "cnf(m1,plain,a=b). cnf(m2,plain,p(a)). cnf(m3,plain,~p(b)). cnf(m4,plain,X!=Y|~p(X)|p(Y)). cnf(m5,plain,a!=b|~p(a)|p(b)).",
         origins: &[
-            Origin::Input(1),
-            Origin::Input(2),
-            Origin::Input(3),
-            Origin::Input(7),
-            Origin::Inst {
+            Source::Input(1),
+            Source::Input(2),
+            Source::Input(3),
+            Source::Input(7),
+            Source::Inst(Conclusion {
                 from: 4,
                 place: 1,
                 partner: 1,
                 other: 1,
-            },
+            }),
         ],
         grounds: "cnf(g1,plain,a=b). cnf(g2,plain,p(a)). cnf(g3,plain,~p(b)). cnf(g4,plain,bot_0!=bot_0|~p(bot_0)|p(bot_0)). cnf(g5,plain,a!=b|~p(a)|p(b)).",
         steps: STEP,
@@ -165,6 +165,39 @@ fn with_equality(axioms: &str) -> Worked {
 
 const AXIOMS: &str =
     "cnf(e1,axiom,X=X). cnf(e2,axiom,X!=Y|Y=X). cnf(e3,axiom,X!=Y|Y!=Z|X=Z). cnf(e4,axiom,X!=Y|~p(X)|p(Y)).";
+
+// `p(X) | q(X)` and `~p(c)` have a model. A lemma that leaves out a literal is no member of the first format, where its ground
+// clause would be taken for that of an input.
+#[test]
+fn lemmas_of_the_first_format(rt: HostRuntime) -> Result<(), Fail> {
+    let worked = Worked {
+        inputs: "cnf(one,axiom,p(X)|q(X)). cnf(two,axiom,~p(c)).",
+        axioms: "",
+        members: "cnf(m1,plain,p(X)|q(X)). cnf(m2,plain,~p(c)). cnf(m3,plain,$false).",
+        origins: &[
+            Source::Input(1),
+            Source::Input(2),
+            Source::Lemma {
+                conclusion: Conclusion {
+                    from: 1,
+                    place: 1,
+                    partner: 2,
+                    other: 1,
+                },
+                keep: &[],
+                premises: &[1, 2],
+            },
+        ],
+        grounds: "cnf(g1,plain,p(bot_0)|q(bot_0)). cnf(g2,plain,~p(c)). cnf(g3,plain,$false).",
+        steps: STEP,
+        hints: &[GroundHint::Ground(3)],
+    };
+    assert_eq!(rt;
+        refutation_complaint(rt.alloc(), &worked, 0)?,
+        Some(Complaint::Member { n: 3 })
+    );
+    Ok(())
+}
 
 #[test]
 fn refutations_with_equality(rt: HostRuntime) -> Result<(), Fail> {

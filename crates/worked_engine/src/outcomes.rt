@@ -2,10 +2,10 @@
 use crate::problems::problem_of;
 use inst_logic::{ClauseList, Memory};
 use instgen_loop::{Journal, Outcome};
-use saturation_cert::{Base, MemberList, Refutation, Saturation};
+use saturation_cert::{Base, GroundLineList, MemberList, Refutation, Saturation};
 use std::alloc::Global;
 use std::test::Fail;
-use term_bank::{Bank, IdClause, IdClauseList};
+use term_bank::{Bank, IdClause};
 
 // How a run ends.
 #[derive(Clone, Copy, Debug, PartialEq, Eq)]
@@ -17,7 +17,8 @@ pub enum Ending {
 }
 
 // A problem, the budget, how the run ends, and how many members there are where that is fixed. The clauses of the two texts are
-// among the members and among the ground clauses, and the places are those of the first members.
+// among the members and among the ground lines, the sources are the inputs and axioms of all ground lines where these are fixed,
+// and the places are those of the first members.
 #[derive(Clone, Copy)]
 pub struct Row<'a> {
     pub text: &'a str,
@@ -26,10 +27,11 @@ pub struct Row<'a> {
     pub count: Option<usize>,
     pub members: &'a str,
     pub grounds: &'a str,
+    pub sources: Option<&'a [usize]>,
     pub places: &'a [usize],
 }
 
-// How a run ended, and whether the members, the ground clauses and the places are as they are wanted.
+// How a run ended, and whether the members, the ground lines and the places are as they are wanted.
 #[derive(Clone, Copy, Debug, PartialEq, Eq)]
 pub struct Told {
     pub ending: Ending,
@@ -57,27 +59,40 @@ fn are_members(bank: &mut Bank, members: &MemberList, wanted: &ClauseList) -> Re
     Ok(all)
 }
 
-fn is_listed(clauses: &IdClauseList, clause: &IdClause) -> bool {
-    for c in clauses.as_slice() {
-        if c.as_slice() == clause.as_slice() {
+fn is_listed(lines: &GroundLineList, clause: &IdClause) -> bool {
+    for line in lines.as_slice() {
+        if line.clause.as_slice() == clause.as_slice() {
             return true;
         }
     }
     false
 }
 
-// Whether all the clauses are in the list.
+// Whether each of the clauses is that of a ground line.
 fn are_listed(
     bank: &mut Bank,
-    clauses: &IdClauseList,
+    lines: &GroundLineList,
     wanted: &ClauseList,
 ) -> Result<bool, Memory> {
     let mut all = true;
     for clause in wanted.as_slice() {
         let ids = bank.clause(clause)?;
-        all &= is_listed(clauses, &ids);
+        all &= is_listed(lines, &ids);
     }
     Ok(all)
+}
+
+// Whether the ground lines are of these inputs and axioms, one for each number.
+fn are_from(lines: &GroundLineList, sources: &[usize]) -> bool {
+    if lines.len() != sources.len() {
+        return false;
+    }
+    for (line, source) in lines.as_slice().iter().zip(sources) {
+        if line.input != *source {
+            return false;
+        }
+    }
+    true
 }
 
 // Whether the base has the members of the row, and as many as are wanted.
@@ -89,7 +104,13 @@ fn has_members(alloc: Global, base: &mut Base, row: &Row) -> Result<bool, Fail> 
 
 fn has_grounds(alloc: Global, cert: &mut Refutation, row: &Row) -> Result<bool, Fail> {
     let wanted = problem_of(alloc, row.grounds)?;
-    Ok(are_listed(&mut cert.base.bank, &cert.grounds, &wanted.clauses)?)
+    let listed = are_listed(&mut cert.base.bank, &cert.grounds, &wanted.clauses)?;
+    Ok(
+        listed
+            && row
+                .sources
+                .is_none_or(|sources| are_from(&cert.grounds, sources)),
+    )
 }
 
 fn has_places(cert: &Saturation, row: &Row) -> bool {

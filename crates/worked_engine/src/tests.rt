@@ -33,7 +33,7 @@ fn refuted<'a>(
     budget: u32,
     count: Option<usize>,
     members: &'a str,
-    grounds: &'a str,
+    (grounds, sources): (&'a str, Option<&'a [usize]>),
 ) -> Row<'a> {
     Row {
         text,
@@ -42,6 +42,7 @@ fn refuted<'a>(
         count,
         members,
         grounds,
+        sources,
         places: &[],
     }
 }
@@ -60,6 +61,7 @@ fn saturated<'a>(
         count,
         members,
         grounds: "",
+        sources: None,
         places,
     }
 }
@@ -73,6 +75,7 @@ fn stopped(text: &str, count: usize) -> Row {
         count: Some(count),
         members: text,
         grounds: "",
+        sources: None,
         places: &[],
     }
 }
@@ -86,7 +89,7 @@ fn rows() -> [Row<'static>; 14] {
             BUDGET,
             Some(1),
             "cnf(m1,plain,$false).",
-            "cnf(g1,plain,$false).",
+            ("cnf(g1,plain,$false).", Some(&[1])),
         ),
         // An instance of one clause is appended, with or without a budget.
         refuted(
@@ -94,14 +97,20 @@ fn rows() -> [Row<'static>; 14] {
             BUDGET,
             Some(3),
             "cnf(m1,plain,p(X)). cnf(m2,plain,~p(c)). cnf(m3,plain,p(c)).",
-            "cnf(g1,plain,p(bot_0)). cnf(g2,plain,~p(c)). cnf(g3,plain,p(c)).",
+            (
+                "cnf(g1,plain,p(bot_0)). cnf(g2,plain,~p(c)). cnf(g3,plain,p(c)).",
+                Some(&[1, 2, 1]),
+            ),
         ),
         refuted(
             INSTANCE,
             0,
             Some(3),
             "cnf(m1,plain,p(X)). cnf(m2,plain,~p(c)). cnf(m3,plain,p(c)).",
-            "cnf(g1,plain,p(bot_0)). cnf(g2,plain,~p(c)). cnf(g3,plain,p(c)).",
+            (
+                "cnf(g1,plain,p(bot_0)). cnf(g2,plain,~p(c)). cnf(g3,plain,p(c)).",
+                Some(&[1, 2, 1]),
+            ),
         ),
         // The abstractions are refuted at once.
         refuted(
@@ -109,7 +118,10 @@ fn rows() -> [Row<'static>; 14] {
             BUDGET,
             Some(2),
             "cnf(m1,plain,p(X,X)). cnf(m2,plain,~p(X,Y)).",
-            "cnf(g1,plain,p(bot_0,bot_0)). cnf(g2,plain,~p(bot_0,bot_0)).",
+            (
+                "cnf(g1,plain,p(bot_0,bot_0)). cnf(g2,plain,~p(bot_0,bot_0)).",
+                Some(&[1, 2]),
+            ),
         ),
         // The name of the constant is that of no symbol.
         refuted(
@@ -117,7 +129,10 @@ fn rows() -> [Row<'static>; 14] {
             BUDGET,
             Some(2),
             "cnf(m1,plain,bot_0(X)). cnf(m2,plain,~bot_0(X)).",
-            "cnf(g1,plain,bot_0(bot_1)). cnf(g2,plain,~bot_0(bot_1)).",
+            (
+                "cnf(g1,plain,bot_0(bot_1)). cnf(g2,plain,~bot_0(bot_1)).",
+                Some(&[1, 2]),
+            ),
         ),
         saturated("cnf(a,axiom,p(X)|q(X)). cnf(b,axiom,~p(a)).", None, "", &[]),
         // Instances of instances.
@@ -126,10 +141,19 @@ fn rows() -> [Row<'static>; 14] {
             BUDGET,
             None,
             "cnf(m,plain,~p(a)|p(f(a))). cnf(m,plain,~p(f(a))|p(f(f(a)))).",
-            "",
+            (
+                "cnf(g,plain,~p(a)|p(f(a))). cnf(g,plain,~p(f(a))|p(f(f(a)))).",
+                None,
+            ),
         ),
         // A conclusion that fits exactly, and that does not fit.
-        refuted(NESTED, 4, Some(3), "cnf(m3,plain,p(f(f(c)))).", ""),
+        refuted(
+            NESTED,
+            4,
+            Some(3),
+            "cnf(m3,plain,p(f(f(c)))).",
+            ("cnf(g,plain,p(f(f(c)))).", Some(&[1, 2, 1])),
+        ),
         stopped(NESTED, 2),
         stopped(
             "cnf(a,axiom,p(f(X))). cnf(b,axiom,~p(f(f(c)))). cnf(d,axiom,~p(f(g(c)))).",
@@ -141,7 +165,7 @@ fn rows() -> [Row<'static>; 14] {
             BUDGET,
             None,
             "cnf(m,plain,X!=Y|~p(X)|p(Y)). cnf(m,plain,a!=b|~p(a)|p(b)).",
-            "cnf(g,plain,a!=b|~p(a)|p(b)).",
+            ("cnf(g,plain,a!=b|~p(a)|p(b)).", None),
         ),
         // The selected literals are the only ones that can be true.
         saturated(
@@ -150,7 +174,7 @@ fn rows() -> [Row<'static>; 14] {
             "cnf(m1,plain,p(X)|~q(X)). cnf(m2,plain,q(X)).",
             &[1, 1],
         ),
-        refuted(MANSION, 0, None, "", ""),
+        refuted(MANSION, 0, None, "", ("", None)),
     ]
 }
 
@@ -190,7 +214,7 @@ fn learning_solver_and_trees(rt: HostRuntime) -> Result<(), Fail> {
 // An engine that scans its entries in place of asking an index does not meet it.
 #[test]
 fn indexes_are_asked(rt: HostRuntime) -> Result<(), Fail> {
-    let row = refuted(CHAIN, BUDGET, None, "", "");
+    let row = refuted(CHAIN, BUDGET, None, "", ("", None));
     let expected = [
         (false, false, Ending::Refuted),
         (true, false, Ending::Memory),

@@ -17,6 +17,7 @@ enum Reader {
     Certificates,
     Prefixes,
     Middles,
+    Refutations,
     Words,
 }
 
@@ -37,6 +38,7 @@ fn push_answer(
         Reader::Certificates => certificates::push_reading(alloc, answer, text.as_bytes()),
         Reader::Prefixes => certificates::push_prefixes(alloc, answer, text.as_bytes()),
         Reader::Middles => certificates::push_middle(alloc, answer, text.as_bytes()),
+        Reader::Refutations => certificates::push_refutation(alloc, answer, text.as_bytes()),
         Reader::Words => words::push_words(alloc, answer, text),
     }
 }
@@ -85,7 +87,7 @@ fn first_wrong(alloc: Global, reader: Reader, table: &str) -> Result<Option<usiz
 
 // The place of the first wrong row of each table. In a table a row begins with `#`, and behind the text stands `@` and the answer,
 // or several of which it may be any.
-fn wrong_rows(alloc: Global) -> Result<[Option<usize>; 10], Memory> {
+fn wrong_rows(alloc: Global) -> Result<[Option<usize>; 11], Memory> {
     Ok([
         first_wrong(alloc, Reader::Tokens, token_kinds::ROWS)?,
         first_wrong(alloc, Reader::Counts, counts::ROWS)?,
@@ -96,12 +98,13 @@ fn wrong_rows(alloc: Global) -> Result<[Option<usize>; 10], Memory> {
         first_wrong(alloc, Reader::Prefixes, certificates::WHOLES)?,
         first_wrong(alloc, Reader::Certificates, certificates::OTHERS)?,
         first_wrong(alloc, Reader::Middles, certificates::MIDDLES)?,
+        first_wrong(alloc, Reader::Refutations, certificates::REFUTATIONS)?,
         first_wrong(alloc, Reader::Words, words::ROWS)?,
     ])
 }
 
 #[test]
 fn texts_have_these_answers(rt: HostRuntime) -> Result<(), Fail> {
-    assert_eq!(rt; wrong_rows(rt.alloc())?, [None; 10]);
+    assert_eq!(rt; wrong_rows(rt.alloc())?, [None; 11]);
     Ok(())
 }

@@ -21,6 +21,10 @@ pub const ROWS: &str = "\
 #|check|--root|d|c@check c root d\
 #|check|--root=d|c|--problem|f.p@check c problem f.p root d\
 #|check|--|--problem@check --problem\
+#|check|c|--rewrite@rewrite c\
+#|check|--rewrite|c@rewrite c\
+#|check|--root|d|--rewrite|c|--problem|f.p@rewrite c problem f.p root d\
+#|check|--|--rewrite@check --rewrite\
 #|ask|c|p@ask c p\
 #|ask|c|p(a,f(b))@ask c p(a,f(b))\
 #|ask|c| 'P' ( a ) % a comment@ask c 'P'(a)\
@@ -60,6 +64,12 @@ pub const ROWS: &str = "\
 #|check|a|--problem|b|--problem|b@nothing\
 #|check|a|--root|@nothing\
 #|check|a|--budget|4@nothing\
+#|check|--rewrite@nothing\
+#|check|a|--rewrite|--rewrite@nothing\
+#|check|a|--rewrite=true@nothing\
+#|check|a|--rewrite|true@nothing\
+#|prove|a|--rewrite@nothing\
+#|ask|a|p|--rewrite@nothing\
 #|check|--problem|a@nothing\
 #|check|--help@nothing\
 #|ask@nothing\
@@ -116,6 +126,18 @@ fn push_ask(answer: &mut Vec<u8>, cert: &str, atom: &Literal) -> Result<(), Memo
     push_literal(answer, atom)
 }
 
+fn push_check(
+    answer: &mut Vec<u8>,
+    label: &[u8],
+    cert: &str,
+    problem: Option<&str>,
+    root: Option<&str>,
+) -> Result<(), Memory> {
+    push_word(answer, label, cert)?;
+    push_given(answer, b" problem ", problem)?;
+    push_given(answer, b" root ", root)
+}
+
 fn push_request(answer: &mut Vec<u8>, request: &Request<'_>) -> Result<(), Memory> {
     match request {
         Request::Prove { file, root, budget } => {
@@ -128,11 +150,12 @@ fn push_request(answer: &mut Vec<u8>, request: &Request<'_>) -> Result<(), Memor
             cert,
             problem,
             root,
-        } => {
-            push_word(answer, b"check ", cert)?;
-            push_given(answer, b" problem ", *problem)?;
-            push_given(answer, b" root ", *root)
-        }
+        } => push_check(answer, b"check ", cert, *problem, *root),
+        Request::Rewrite {
+            cert,
+            problem,
+            root,
+        } => push_check(answer, b"rewrite ", cert, *problem, *root),
         Request::Ask { cert, atom } => push_ask(answer, cert, atom),
         Request::Stress { number } => push_counted(answer, b"stress ", *number),
     }

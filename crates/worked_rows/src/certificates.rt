@@ -7,9 +7,9 @@ use std::str;
 // What the row is about, the words, the status with the first line and parts that the text has, parts that it lacks, and the
 // files.
 pub const ROWS: &str = "\
-#an instance is needed@|prove|r3.p@0 % SZS status Unsatisfiable for r3.p\n^% ground constant bot_0\n^cnf(m3,plain,p(c),inst(m1,1,m2,1)).\ncnf(g1,plain,p(bot_0),ground(m1)).\ncnf(g2,plain,~p(c),ground(m2)).\ncnf(g3,plain,p(c),ground(m3)).\ncnf(r1,plain,$false,rup([@cnf(m4^cnf(r2@r3.p@cnf(one,axiom,p(X)). cnf(two,axiom,~p(c)).\
+#an instance is needed@|prove|r3.p@0 % SZS status Unsatisfiable for r3.p\n^% ground constant bot_0\n^cnf(m3,plain,p(c),inst(m1,1,m2,1)).\ncnf(g1,plain,p(bot_0),ground(1,[bot_0])).\ncnf(g2,plain,~p(c),ground(2,[])).\ncnf(g3,plain,p(c),ground(1,[c])).\ncnf(r1,plain,$false,rup([@cnf(m4^cnf(r2@r3.p@cnf(one,axiom,p(X)). cnf(two,axiom,~p(c)).\
 #and is found without a budget@|prove|r3.p|--budget|0@0 % SZS status Unsatisfiable for r3.p\n^cnf(m3,plain,p(c),inst(m1,1,m2,1)).\n@cnf(m4@r3.p@cnf(one,axiom,p(X)). cnf(two,axiom,~p(c)).\
-#the abstractions are refuted as they are@|prove|r4.p@0 % SZS status Unsatisfiable for r4.p\n^cnf(g1,plain,p(bot_0,bot_0),ground(m1)).\ncnf(g2,plain,~p(bot_0,bot_0),ground(m2)).\n@inst(^cnf(m3@r4.p@cnf(a,axiom,p(X,X)). cnf(b,axiom,~p(Y,Z)).\
+#the abstractions are refuted as they are@|prove|r4.p@0 % SZS status Unsatisfiable for r4.p\n^cnf(g1,plain,p(bot_0,bot_0),ground(1,[bot_0])).\ncnf(g2,plain,~p(bot_0,bot_0),ground(2,[bot_0,bot_0])).\n@inst(^cnf(m3@r4.p@cnf(a,axiom,p(X,X)). cnf(b,axiom,~p(Y,Z)).\
 #@|prove|r5.p@0 % SZS status Satisfiable for r5.p\n^cnf(m2,plain,~p(a),input(2),[selected(1)]).\n@ground@r5.p@cnf(a,axiom,p(X)|q(X)). cnf(b,axiom,~p(a)).\
 #a function symbol@|prove|r6.p@0 % SZS status Unsatisfiable for r6.p\n^,plain,~p(a) | p(f(a)),inst(^,plain,~p(f(a)) | p(f(f(a))),inst(@@r6.p@cnf(a,axiom,p(a)). cnf(b,axiom,~p(X) | p(f(X))). cnf(c,axiom,~p(f(f(a)))).\
 #a budget that suffices@|prove|r7.p|--budget=4@0 % SZS status Unsatisfiable for r7.p\n^,plain,p(f(f(c))),inst(@@r7.p@cnf(a,axiom,p(f(X))). cnf(b,axiom,~p(f(f(c)))).\

@@ -35,6 +35,21 @@ cnf(g3,plain,p(c),ground(m3)).
 \
 #STEP@cnf(r1,plain,$false,rup([g2,g3])).\n\
 #END@% SZS output end CNFRefutation for r3.p\n\
+#NAMED@% SZS status Satisfiable for tie.p
+% SZS output start Saturation for tie.p
+% instgen certificate 3
+cnf(i1,axiom,p(X0,a) | q(X0),named(one)).
+cnf(i2,axiom,~p(b,X0) | s(X0),named(two)).
+\
+#Q1@cnf(q1,plain,p(X0,a) | q(X0),part(m1,[X0])).\n\
+#Q2@cnf(q2,plain,~p(b,X0) | s(X0),part(m2,[X0])).\n\
+#C1@cnf(c1,plain,p(b,a) | q(b),cover(m1,m2,left),[variant(m3)]).\n\
+#C2@cnf(c2,plain,~p(b,a) | s(a),cover(m1,m2,right),[variant(m4)]).\n\
+#SECOND@% instgen certificate 2\n\
+#LINES@cnf(g1,plain,p(bot_0),ground(1,[bot_0])).
+cnf(g2,plain,~p(c),ground(2,[])).
+cnf(g3,plain,p(c),ground(1,[c])).
+\
 ";
 
 // The files that a certificate stands beside.
@@ -84,6 +99,102 @@ pub const ROWS: &str = "\
 #@|ask|no.c|p(c,a)@2 % SZS status InputError for no.c\n% absent: no.c\n@TIE+M1+M2+M3+M4+TIE_END\
 #a refutation says nothing of an atom, valid or not@|ask|c|p(c)@2 % SZS status InputError for c\n% no saturation: c\n@START+FORMAT+MEMBERS+G1+GROUNDS+STEP+END\
 #@|ask|c|p(c)@2 % SZS status InputError for c\n% no saturation: c\n@START+FORMAT+MEMBERS+G1+GROUNDS+END\
+#named covers@|check|c@0 valid Saturation\n@NAMED+M1+M2+M3+M4+Q1+Q2+C1+C2+TIE_END\
+#@|check|c@7 invalid: cover 2\n@NAMED+M1+M2+M3+M4+Q1+Q2+C1+cnf(c2,plain,~p(b,a) | s(a),cover(m2,m1,left),[variant(m4)]).\n+TIE_END\
+#@|check|c@7 invalid: cover 2\n@NAMED+M1+M2+M3+M4+Q1+Q2+C1+TIE_END\
+#@|check|c@7 invalid: cover 1\n@NAMED+M1+M2+M3+M4+Q1+Q2+cnf(c1,plain,p(b,a) | q(b),cover(m1,m2,left),[variant(m4)]).\n+C2+TIE_END\
+#@|check|c@7 invalid: input 1\n@NAMED+M1+M2+M3+M4+cnf(q1,plain,p(X0,a) | q(X0),part(m1,[a])).\n+Q2+C1+C2+TIE_END\
+#@|check|c@7 invalid: input 2\n@NAMED+M1+M2+M3+M4+Q1+cnf(q2,plain,~p(b,X0) | s(X0),tautology).\n+C1+C2+TIE_END\
+#@|check|c@2 % SZS status SyntaxError for c\n% syntax: line 11 of c\n@NAMED+M1+M2+M3+M4+Q1+TIE_END\
+#@|check|c|--problem|tie.p@0 valid Saturation\n@NAMED+M1+M2+M3+M4+Q1+Q2+C1+C2+TIE_END\
+#@|ask|c|p(b,a)@0 false\n@NAMED+M1+M2+M3+M4+Q1+Q2+C1+C2+TIE_END\
+#@|ask|c|p(c,a)@0 true\n@NAMED+M1+M2+M3+M4+Q1+Q2+C1+C2+TIE_END\
+#@|ask|c|p(c,a)@7 invalid: cover 2\n@NAMED+M1+M2+M3+M4+Q1+Q2+C1+TIE_END\
+#lines that name their inputs@|check|c@0 valid CNFRefutation\n@START+SECOND+MEMBERS+LINES+STEP+END\
+#@|check|c@0 valid CNFRefutation\n@START+% instgen certificate 3\n+MEMBERS+LINES+STEP+END\
+#@|check|c@2 % SZS status SyntaxError for c\n% syntax: line 10 of c\n@START+SECOND+MEMBERS+G1+GROUNDS+STEP+END\
+#@|ask|c|p(c)@2 % SZS status InputError for c\n% no saturation: c\n@START+SECOND+MEMBERS+LINES+STEP+END\
+#rewritten under its own name@|check|c|--rewrite@0 % SZS status Satisfiable for tie.p
+% SZS output start Saturation for tie.p
+% instgen certificate 3
+cnf(i1,axiom,p(X0,a) | q(X0),named(one)).
+cnf(i2,axiom,~p(b,X0) | s(X0),named(two)).
+cnf(m1,plain,p(X0,a) | q(X0),input(1),[selected(1)]).
+cnf(m2,plain,~p(b,X0) | s(X0),input(2),[selected(1)]).
+cnf(m3,plain,p(b,a) | q(b),inst(m1,1,m2,1),[selected(2)]).
+cnf(m4,plain,~p(b,a) | s(a),inst(m2,1,m1,1),[selected(2)]).
+cnf(q1,plain,p(X0,a) | q(X0),part(m1,[X0])).
+cnf(q2,plain,~p(b,X0) | s(X0),part(m2,[X0])).
+cnf(c1,plain,p(b,a) | q(b),cover(m1,m2,left),[variant(m3)]).
+cnf(c2,plain,~p(b,a) | s(a),cover(m1,m2,right),[variant(m4)]).
+% SZS output end Saturation for tie.p
+@TIE+M1+M2+M3+M4+TIE_END\
+#@|check|--rewrite|c|--problem|tie.p@0 % SZS status Satisfiable for tie.p
+% SZS output start Saturation for tie.p
+% instgen certificate 3
+cnf(i1,axiom,p(X0,a) | q(X0),named(one)).
+cnf(i2,axiom,~p(b,X0) | s(X0),named(two)).
+cnf(m1,plain,p(X0,a) | q(X0),input(1),[selected(1)]).
+cnf(m2,plain,~p(b,X0) | s(X0),input(2),[selected(1)]).
+cnf(m3,plain,p(b,a) | q(b),inst(m1,1,m2,1),[selected(2)]).
+cnf(m4,plain,~p(b,a) | s(a),inst(m2,1,m1,1),[selected(2)]).
+cnf(q1,plain,p(X0,a) | q(X0),part(m1,[X0])).
+cnf(q2,plain,~p(b,X0) | s(X0),part(m2,[X0])).
+cnf(c1,plain,p(b,a) | q(b),cover(m1,m2,left),[variant(m3)]).
+cnf(c2,plain,~p(b,a) | s(a),cover(m1,m2,right),[variant(m4)]).
+% SZS output end Saturation for tie.p
+@TIE+M1+M2+M3+M4+TIE_END\
+#@|check|c|--rewrite@0 % SZS status Satisfiable for tie.p
+% SZS output start Saturation for tie.p
+% instgen certificate 3
+cnf(i1,axiom,p(X0,a) | q(X0),named(one)).
+cnf(i2,axiom,~p(b,X0) | s(X0),named(two)).
+cnf(m1,plain,p(X0,a) | q(X0),input(1),[selected(1)]).
+cnf(m2,plain,~p(b,X0) | s(X0),input(2),[selected(1)]).
+cnf(m3,plain,p(b,a) | q(b),inst(m1,1,m2,1),[selected(2)]).
+cnf(m4,plain,~p(b,a) | s(a),inst(m2,1,m1,1),[selected(2)]).
+cnf(q1,plain,p(X0,a) | q(X0),part(m1,[X0])).
+cnf(q2,plain,~p(b,X0) | s(X0),part(m2,[X0])).
+cnf(c1,plain,p(b,a) | q(b),cover(m1,m2,left),[variant(m3)]).
+cnf(c2,plain,~p(b,a) | s(a),cover(m1,m2,right),[variant(m4)]).
+% SZS output end Saturation for tie.p
+@NAMED+M1+M2+M3+M4+Q1+Q2+C1+C2+TIE_END\
+#@|check|c|--rewrite@0 % SZS status Unsatisfiable for r3.p
+% SZS output start CNFRefutation for r3.p
+% instgen certificate 3
+% ground constant bot_0
+cnf(i1,axiom,p(X0),named(one)).
+cnf(i2,axiom,~p(c),named(two)).
+cnf(m1,plain,p(X0),input(1)).
+cnf(m2,plain,~p(c),input(2)).
+cnf(m3,plain,p(c),inst(m1,1,m2,1)).
+cnf(g1,plain,p(bot_0),ground(1,[bot_0])).
+cnf(g2,plain,~p(c),ground(2,[])).
+cnf(g3,plain,p(c),ground(1,[c])).
+cnf(r1,plain,$false,rup([g2,g3])).
+% SZS output end CNFRefutation for r3.p
+@START+FORMAT+MEMBERS+G1+GROUNDS+STEP+END\
+#@|check|c|--rewrite@0 % SZS status Unsatisfiable for r3.p
+% SZS output start CNFRefutation for r3.p
+% instgen certificate 3
+% ground constant bot_0
+cnf(i1,axiom,p(X0),named(one)).
+cnf(i2,axiom,~p(c),named(two)).
+cnf(m1,plain,p(X0),input(1)).
+cnf(m2,plain,~p(c),input(2)).
+cnf(m3,plain,p(c),inst(m1,1,m2,1)).
+cnf(g1,plain,p(bot_0),ground(1,[bot_0])).
+cnf(g2,plain,~p(c),ground(2,[])).
+cnf(g3,plain,p(c),ground(1,[c])).
+cnf(r1,plain,$false,rup([g2,g3])).
+% SZS output end CNFRefutation for r3.p
+@START+SECOND+MEMBERS+LINES+STEP+END\
+#but not where it is not valid@|check|c|--rewrite@7 invalid: pair 1 2\n@TIE+M1+M2+TIE_END\
+#@|check|c|--rewrite@7 invalid: step 1\n@START+FORMAT+MEMBERS+G1+GROUNDS+cnf(r1,plain,$false,rup([g1,g2])).\n+END\
+#@|check|c|--rewrite|--problem=half.p@7 invalid: problem 2\n@TIE+M1+M2+M3+M4+TIE_END\
+#@|check|c|--rewrite@2 % SZS status InputError for c\n% version: 9\n@START+% instgen certificate 9\n+MEMBERS+G1+GROUNDS+STEP+END\
+#@|check|no.c|--rewrite|--problem|no.p@2 % SZS status InputError for no.c\n% absent: no.c\n@TIE+M1+M2+M3+M4+TIE_END\
+#@|check|c|--rewrite|--problem|no.p@2 % SZS status InputError for c\n% absent: no.p\n@TIE+M1+M2+M3+M4+TIE_END\
 #words that are not read@|check|c|c@3 % SZS status UsageError for instgen\n% usage\n@TIE+M1+M2+M3+M4+TIE_END\
 #@|ask|c@3 % SZS status UsageError for instgen\n% usage\n@TIE+M1+M2+M3+M4+TIE_END\
 #@|ask|c|p(X)@3 % SZS status UsageError for instgen\n% usage\n@TIE+M1+M2+M3+M4+TIE_END\

@@ -8,7 +8,7 @@ use std::str;
 pub const ROWS: &str = "\
 #@cnf(a,axiom,p(c)|q). cnf(b,axiom,~p(c)). cnf(d,axiom,~q).@0 % SZS status Unsatisfiable for r.p
 % SZS output start CNFRefutation for r.p
-% instgen certificate 1
+% instgen certificate 3
 % ground constant bot_0
 cnf(i1,axiom,p(c) | q,named(a)).
 cnf(i2,axiom,~p(c),named(b)).
@@ -16,13 +16,13 @@ cnf(i3,axiom,~q,named(d)).
 cnf(m1,plain,p(c) | q,input(1)).
 cnf(m2,plain,~p(c),input(2)).
 cnf(m3,plain,~q,input(3)).
-cnf(g1,plain,p(c) | q,ground(m1)).
-cnf(g2,plain,~p(c),ground(m2)).
-cnf(g3,plain,~q,ground(m3)).
+cnf(g1,plain,p(c) | q,ground(1,[])).
+cnf(g2,plain,~p(c),ground(2,[])).
+cnf(g3,plain,~q,ground(3,[])).
 @bot_0\
 #@cnf(one,axiom,p('A')). cnf('it\\'s',axiom,~ 'p'('A')). cnf(own,axiom,bot_0).@0 % SZS status Unsatisfiable for r.p
 % SZS output start CNFRefutation for r.p
-% instgen certificate 1
+% instgen certificate 3
 % ground constant bot_1
 cnf(i1,axiom,p('A'),named(one)).
 cnf(i2,axiom,~p('A'),named('it\\'s')).
@@ -30,13 +30,13 @@ cnf(i3,axiom,bot_0,named(own)).
 cnf(m1,plain,p('A'),input(1)).
 cnf(m2,plain,~p('A'),input(2)).
 cnf(m3,plain,bot_0,input(3)).
-cnf(g1,plain,p('A'),ground(m1)).
-cnf(g2,plain,~p('A'),ground(m2)).
-cnf(g3,plain,bot_0,ground(m3)).
+cnf(g1,plain,p('A'),ground(1,[])).
+cnf(g2,plain,~p('A'),ground(2,[])).
+cnf(g3,plain,bot_0,ground(3,[])).
 @bot_1\
 #a derivation has what its last step needs@cnf(a,axiom,spare|more). cnf(b,axiom,spare|~more). cnf(c,axiom,p|q). cnf(d,axiom,p|~q). cnf(e,axiom,~p|q). cnf(f,axiom,~p|~q).@0 % SZS status Unsatisfiable for r.p
 % SZS output start CNFRefutation for r.p
-% instgen certificate 1
+% instgen certificate 3
 % ground constant bot_0
 cnf(i1,axiom,spare | more,named(a)).
 cnf(i2,axiom,spare | ~more,named(b)).
@@ -50,12 +50,12 @@ cnf(m3,plain,p | q,input(3)).
 cnf(m4,plain,p | ~q,input(4)).
 cnf(m5,plain,~p | q,input(5)).
 cnf(m6,plain,~p | ~q,input(6)).
-cnf(g1,plain,spare | more,ground(m1)).
-cnf(g2,plain,spare | ~more,ground(m2)).
-cnf(g3,plain,p | q,ground(m3)).
-cnf(g4,plain,p | ~q,ground(m4)).
-cnf(g5,plain,~p | q,ground(m5)).
-cnf(g6,plain,~p | ~q,ground(m6)).
+cnf(g1,plain,spare | more,ground(1,[])).
+cnf(g2,plain,spare | ~more,ground(2,[])).
+cnf(g3,plain,p | q,ground(3,[])).
+cnf(g4,plain,p | ~q,ground(4,[])).
+cnf(g5,plain,~p | q,ground(5,[])).
+cnf(g6,plain,~p | ~q,ground(6,[])).
 @spare\
 ";
 

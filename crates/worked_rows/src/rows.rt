@@ -7,34 +7,41 @@ use std::alloc::Global;
 pub const ROWS: &str = "\
 #an empty file@|prove|r.p@0 % SZS status Satisfiable for r.p
 % SZS output start Saturation for r.p
-% instgen certificate 1
+% instgen certificate 3
 % SZS output end Saturation for r.p
 @r.p@\
 #satisfiable clauses@|prove|r.p@0 % SZS status Satisfiable for r.p
 % SZS output start Saturation for r.p
-% instgen certificate 1
+% instgen certificate 3
 cnf(i1,axiom,p | q,named(a)).
 cnf(i2,axiom,~p,named(b)).
 cnf(m1,plain,p | q,input(1),[selected(2)]).
 cnf(m2,plain,~p,input(2),[selected(1)]).
+cnf(q1,plain,p | q,part(m1,[])).
+cnf(q2,plain,~p,part(m2,[])).
 % SZS output end Saturation for r.p
 @r.p@cnf(a,axiom,p | q). cnf(b,axiom,~p).\
 #tautologies and repeats are no members@|prove|r.p@0 % SZS status Satisfiable for r.p
 % SZS output start Saturation for r.p
-% instgen certificate 1
+% instgen certificate 3
 cnf(i1,axiom,p,named(a)).
 cnf(i2,axiom,p,named(b)).
 cnf(i3,axiom,q | ~q,named(c)).
 cnf(m1,plain,p,input(1),[selected(1)]).
+cnf(q1,plain,p,part(m1,[])).
+cnf(q2,plain,p,part(m1,[])).
+cnf(q3,plain,q | ~q,tautology).
 % SZS output end Saturation for r.p
 @r.p@cnf(a,axiom,p). cnf(b,axiom,p). cnf(c,axiom,q|~q).\
 #names in quotes@|prove|t.p@0 % SZS status Satisfiable for t.p
 % SZS output start Saturation for t.p
-% instgen certificate 1
+% instgen certificate 3
 cnf(i1,axiom,p('A') | ~q(b),named(one)).
 cnf(i2,axiom,~p('A') | 'P',named('it\\'s')).
 cnf(m1,plain,p('A') | ~q(b),input(1),[selected(2)]).
 cnf(m2,plain,~p('A') | 'P',input(2),[selected(1)]).
+cnf(q1,plain,p('A') | ~q(b),part(m1,[])).
+cnf(q2,plain,~p('A') | 'P',part(m2,[])).
 % SZS output end Saturation for t.p
 @t.p@cnf(one,axiom,p('A')|~q('b')). cnf('it\\'s',axiom,~p('A')|'P').\
 #a file that is absent@|prove|s.p@2 % SZS status InputError for s.p
@@ -42,30 +49,34 @@ cnf(m2,plain,~p('A') | 'P',input(2),[selected(1)]).
 @r.p@\
 #a variable@|prove|r.p@0 % SZS status Satisfiable for r.p
 % SZS output start Saturation for r.p
-% instgen certificate 1
+% instgen certificate 3
 cnf(i1,axiom,p,named(a)).
 cnf(i2,axiom,p(X0),named(b)).
 cnf(m1,plain,p,input(1),[selected(1)]).
 cnf(m2,plain,p(X0),input(2),[selected(1)]).
+cnf(q1,plain,p,part(m1,[])).
+cnf(q2,plain,p(X0),part(m2,[X0])).
 % SZS output end Saturation for r.p
 @r.p@cnf(a,axiom,p). cnf(b,axiom,p(X)).\
 #the empty clause@|prove|empty.p@0 % SZS status Unsatisfiable for empty.p
 % SZS output start CNFRefutation for empty.p
-% instgen certificate 1
+% instgen certificate 3
 % ground constant bot_0
 cnf(i1,axiom,$false,named(a)).
 cnf(m1,plain,$false,input(1)).
-cnf(g1,plain,$false,ground(m1)).
+cnf(g1,plain,$false,ground(1,[])).
 cnf(r1,plain,$false,rup([g1])).
 % SZS output end CNFRefutation for empty.p
 @empty.p@cnf(a,axiom,$false).\
 #no constant but the one for abstractions@|prove|r9.p@0 % SZS status Satisfiable for r9.p
 % SZS output start Saturation for r9.p
-% instgen certificate 1
+% instgen certificate 3
 cnf(i1,axiom,p(X0) | ~q(X0),named(a)).
 cnf(i2,axiom,q(X0),named(b)).
 cnf(m1,plain,p(X0) | ~q(X0),input(1),[selected(1)]).
 cnf(m2,plain,q(X0),input(2),[selected(1)]).
+cnf(q1,plain,p(X0) | ~q(X0),part(m1,[X0])).
+cnf(q2,plain,q(X0),part(m2,[X0])).
 % SZS output end Saturation for r9.p
 @r9.p@cnf(a,axiom,p(X) | ~q(X)). cnf(b,axiom,q(Y)).\
 #a budget that the one conclusion does not fit@|prove|r7.p|--budget|3@1 % SZS status ResourceOut for r7.p
@@ -76,9 +87,10 @@ cnf(m2,plain,q(X0),input(2),[selected(1)]).
 @r.p@cnf(a,axiom,p(f(X))). cnf(b,axiom,~p(f(f(c)))). cnf(d,axiom,~p(f(g(c)))).\
 #a selection reaches nested includes@|prove|m.p@0 % SZS status Satisfiable for m.p
 % SZS output start Saturation for m.p
-% instgen certificate 1
+% instgen certificate 3
 cnf(i1,axiom,p,named(b)).
 cnf(m1,plain,p,input(1),[selected(1)]).
+cnf(q1,plain,p,part(m1,[])).
 % SZS output end Saturation for m.p
 @m.p@include('a.p',[b]).@a.p@include('b.p'). cnf(x,axiom,q).@b.p@cnf(b,axiom,p). cnf(c,axiom,r).\
 #a selected statement that is absent@|prove|m.p@2 % SZS status InputError for m.p
@@ -92,16 +104,18 @@ cnf(m1,plain,p,input(1),[selected(1)]).
 @loop.p@include('loop.p').\
 #an include under the root@|prove|d/m.p|--root|t@0 % SZS status Satisfiable for d/m.p
 % SZS output start Saturation for d/m.p
-% instgen certificate 1
+% instgen certificate 3
 cnf(i1,axiom,p,named(a)).
 cnf(m1,plain,p,input(1),[selected(1)]).
+cnf(q1,plain,p,part(m1,[])).
 % SZS output end Saturation for d/m.p
 @d/m.p@include('A/x.ax').@t/A/x.ax@cnf(a,axiom,p).\
 #an include beside its file comes first@|prove|d/m.p|--root|t@0 % SZS status Satisfiable for d/m.p
 % SZS output start Saturation for d/m.p
-% instgen certificate 1
+% instgen certificate 3
 cnf(i1,axiom,q,named(b)).
 cnf(m1,plain,q,input(1),[selected(1)]).
+cnf(q1,plain,q,part(m1,[])).
 % SZS output end Saturation for d/m.p
 @d/m.p@include('A/x.ax').@t/A/x.ax@cnf(a,axiom,p).@d/A/x.ax@cnf(b,axiom,q).\
 #another language@|prove|r.p@2 % SZS status Inappropriate for r.p
