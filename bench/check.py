@@ -128,6 +128,19 @@ def own(program, folder, limit, kind):
          f"{sum(it for _, it in whole) / max(sum(it for it, _ in whole), 0.001):.2f}")
 
 
+def made_here(program, name, path):
+    """A certificate of format 1, checked, rewritten in format 3, and checked so."""
+    taken = measured([program, "check", path], None, path + ".out")
+    with open(path + ".out", "rb") as said:
+        text = said.read().split(b"\n", 1)[0].decode()
+    again = measured([program, "check", path, "--rewrite"], None, path + ".3")
+    much = os.path.getsize(path)
+    line(name + ("" if text.startswith("valid") else f" ({text})"), much, f"{taken:.2f}", f"{again:.2f}", f"{much / taken / 1e6:.0f}")
+    judged = measured([program, "check", path + ".3"], None, path + ".out")
+    more = os.path.getsize(path + ".3")
+    line("  the same, rewritten", more, f"{judged:.2f}", "", f"{more / max(judged, 0.001) / 1e6:.0f}")
+
+
 def main():
     parser = argparse.ArgumentParser(description=__doc__)
     parser.add_argument("kinds", nargs="*", help="epr, ground, pairs, covers, hints, stress; all if none")
@@ -143,16 +156,12 @@ def main():
         if kind in kinds:
             own(given.program, folder, given.limit, kind)
     if set(kinds) & set(MADE):
-        line("made here", "bytes", "check", "", "check MB/s")
+        line("made here, format 1, then rewritten", "bytes", "check", "--rewrite", "check MB/s")
     for name, make in itertools.chain.from_iterable(MADE.get(kind, []) for kind in kinds):
         path = os.path.join(folder, "made.txt")
         with open(path, "w", encoding="ascii") as out:
             out.writelines(make())
-        taken = measured([given.program, "check", path], None, path + ".out")
-        with open(path + ".out", "rb") as said:
-            text = said.read().split(b"\n", 1)[0].decode()
-        much = os.path.getsize(path)
-        line(name + ("" if text.startswith("valid") else f" ({text})"), much, f"{taken:.2f}", "", f"{much / taken / 1e6:.0f}")
+        made_here(given.program, name, path)
     if "stress" in kinds:
         line("stress", "seconds")
         for size in (1000, 10000, 100000):

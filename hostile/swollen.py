@@ -1,7 +1,8 @@
 #!/usr/bin/env python3
 """Runs the program on inputs as long as it reads, in a quarter of the length, a half, and the whole, and on large jobs in little
 memory. Prints the seconds and the memory of each: the time is to grow with the bytes, memory is to stay below 2 GiB, and in little
-memory each run is to end with its answer or with MemoryOut, and none by a signal. Words choose tables: long, little."""
+memory each run is to end with its answer or with MemoryOut, and none by a signal. A certificate of one term of many levels is
+checked. Words choose tables: long, deep, little."""
 
 import os
 import sys
@@ -97,6 +98,31 @@ def table_of_lengths(program, limit):
     return bad
 
 
+def deep_certificate(levels):
+    """A saturation with one member, whose atom has so many levels."""
+    clause = b'p(' + b'f(' * levels + b'c' + b')' * levels + b')'
+    head = b'% SZS status Satisfiable for deep.p\n% SZS output start Saturation for deep.p\n% instgen certificate '
+    end = b'% SZS output end Saturation for deep.p\n'
+    i, m, q = (b'cnf(i1,axiom,' + clause + b',named(a)).\n', b'cnf(m1,plain,' + clause + b',input(1),[selected(1)]).\n',
+               b'cnf(q1,plain,' + clause + b',part(m1,[])).\n')
+    return {1: head + b'1\n' + i + m + end, 3: head + b'3\n' + i + m + q + end}
+
+
+def table_of_levels(program, limit):
+    bad = 0
+    print('%-42s %10s %8s %9s %8s  %s' % ('certificate', 'levels', 'ended', 'seconds', 'MB', 'first line'))
+    for levels in (25000, 50000, 100000, 1000000):
+        for form, text in deep_certificate(levels).items():
+            with tempfile.TemporaryDirectory() as folder:
+                runs.write(folder, 'deep.c', text)
+                found = runs.ended([program, 'check', 'deep.c'], folder, limit)
+            wrong = found.status != 0 or found.first_line() != 'valid Saturation'
+            bad += wrong
+            print('%-42s %10d %8s %9.2f %8.0f  %s%s' % (
+                'check, format %d' % form, levels, found.how(), found.seconds, found.bytes_held / 1e6, found.first_line()[:40], '   WRONG' if wrong else ''), flush=True)
+    return bad
+
+
 def table_of_memory(program, limit):
     """Large jobs under a limit of memory, from 64 MiB on, until each has its answer."""
     bad = 0
@@ -118,12 +144,14 @@ def table_of_memory(program, limit):
 
 def main():
     parser = runs.words_of(__doc__)
-    parser.add_argument('tables', nargs='*', help='long, little; both if none')
+    parser.add_argument('tables', nargs='*', help='long, deep, little; all if none')
     parser.add_argument('--limit', type=int, default=120, help='seconds of a processor for each run')
     given = parser.parse_args()
     program, bad = runs.built(given), 0
     if not given.tables or 'long' in given.tables:
         bad += table_of_lengths(program, given.limit)
+    if not given.tables or 'deep' in given.tables:
+        bad += table_of_levels(program, given.limit)
     if not given.tables or 'little' in given.tables:
         bad += table_of_memory(program, given.limit)
     print('%d wrong' % bad)
