@@ -111,6 +111,49 @@ pub const ROWS: &str = "\
 #@|ask|c|p(c,a)@0 true\n@NAMED+M1+M2+M3+M4+Q1+Q2+C1+C2+TIE_END\
 #@|ask|c|p(c,a)@7 invalid: cover 2\n@NAMED+M1+M2+M3+M4+Q1+Q2+C1+TIE_END\
 #lines that name their inputs@|check|c@0 valid CNFRefutation\n@START+SECOND+MEMBERS+LINES+STEP+END\
+#a ground line of no clause@|check|c@7 invalid: ground 1\n@START+SECOND+MEMBERS+cnf(g1,plain,p(bot_0),ground(9,[bot_0])).\n+cnf(g2,plain,~p(c),ground(2,[])).\n+cnf(g3,plain,p(c),ground(1,[c])).\n+STEP+END\
+#too few terms@|check|c@7 invalid: ground 1\n@START+SECOND+MEMBERS+cnf(g1,plain,p(bot_0),ground(1,[])).\n+cnf(g2,plain,~p(c),ground(2,[])).\n+cnf(g3,plain,p(c),ground(1,[c])).\n+STEP+END\
+#a term with a variable@|check|c@7 invalid: ground 1\n@START+SECOND+MEMBERS+cnf(g1,plain,p(X0),ground(1,[X0])).\n+cnf(g2,plain,~p(c),ground(2,[])).\n+cnf(g3,plain,p(c),ground(1,[c])).\n+STEP+END\
+#another clause@|check|c@7 invalid: ground 1\n@START+SECOND+MEMBERS+cnf(g1,plain,p(c),ground(1,[bot_0])).\n+cnf(g2,plain,~p(c),ground(2,[])).\n+cnf(g3,plain,p(c),ground(1,[c])).\n+STEP+END\
+#a part that members imply@|check|c@0 valid CNFRefutation\n@START+SECOND+MEMBERS+cnf(m4,plain,$false,lemma(m1,1,m2,1,[],[m2,m3])).\n+LINES+STEP+END\
+#a premise that is not there before@|check|c@7 invalid: member 4\n@START+SECOND+MEMBERS+cnf(m4,plain,$false,lemma(m1,1,m2,1,[],[m4])).\n+LINES+STEP+END\
+#a premise without a number@|check|c@7 invalid: member 4\n@START+SECOND+MEMBERS+cnf(m4,plain,$false,lemma(m1,1,m2,1,[],[m0])).\n+LINES+STEP+END\
+#all literals are kept@|check|c@7 invalid: member 4\n@START+SECOND+MEMBERS+cnf(m4,plain,p(c),lemma(m1,1,m2,1,[1],[])).\n+LINES+STEP+END\
+#a place that is none@|check|c@7 invalid: member 4\n@START+SECOND+MEMBERS+cnf(m4,plain,p(c),lemma(m1,1,m2,1,[2],[])).\n+LINES+STEP+END\
+#more than the part@|check|c@7 invalid: member 4\n@START+SECOND+MEMBERS+cnf(m4,plain,p(c),lemma(m1,1,m2,1,[],[])).\n+LINES+STEP+END\
+#a side that is not proper@|check|c@7 invalid: member 4\n@START+SECOND+MEMBERS+cnf(m4,plain,$false,lemma(m2,1,m1,1,[],[])).\n+LINES+STEP+END\
+#the first format has no parts@|check|c@2 % SZS status SyntaxError for c\n% syntax: line 10 of c\n@START+FORMAT+MEMBERS+cnf(m4,plain,$false,lemma(m1,1,m2,1,[],[m2])).\n+G1+GROUNDS+STEP+END\
+#a part of a saturation@|check|c@0 valid Saturation\n@NAMED+M1+M2+M3+M4+cnf(m5,plain,q(b),lemma(m1,1,m2,1,[2],[m3]),[selected(1)]).\n+Q1+Q2+C1+C2+TIE_END\
+#places that do not rise@|check|c@7 invalid: member 5\n@NAMED+M1+M2+M3+M4+cnf(m5,plain,p(b,a),lemma(m1,1,m2,1,[1,1],[]),[selected(1)]).\n+Q1+Q2+C1+C2+TIE_END\
+#an input shown by a variant@|check|c@7 invalid: input 1\n@NAMED+M1+M2+M3+M4+cnf(q1,plain,p(X0,a) | q(X0),variant(m1)).\n+Q2+C1+C2+TIE_END\
+#an input shown by no member@|check|c@7 invalid: input 1\n@NAMED+M1+M2+M3+M4+cnf(q1,plain,p(X0,a) | q(X0),part(m9,[X0])).\n+Q2+C1+C2+TIE_END\
+#an input shown with too few terms@|check|c@7 invalid: input 1\n@NAMED+M1+M2+M3+M4+cnf(q1,plain,p(X0,a) | q(X0),part(m1,[])).\n+Q2+C1+C2+TIE_END\
+#a cover of another clause@|check|c@7 invalid: cover 1\n@NAMED+M1+M2+M3+M4+Q1+Q2+cnf(c1,plain,p(b,a) | q(a),cover(m1,m2,left),[variant(m3)]).\n+C2+TIE_END\
+#a cover by as many literals@|check|c@7 invalid: cover 1\n@NAMED+M1+M2+M3+M4+Q1+Q2+cnf(c1,plain,p(b,a) | q(b),cover(m1,m2,left),[part(m3,[])]).\n+C2+TIE_END\
+#a cover by a tautology that is none@|check|c@7 invalid: cover 1\n@NAMED+M1+M2+M3+M4+Q1+Q2+cnf(c1,plain,p(b,a) | q(b),cover(m1,m2,left),[tautology]).\n+C2+TIE_END\
+#a cover by no member@|check|c@7 invalid: cover 1\n@NAMED+M1+M2+M3+M4+Q1+Q2+cnf(c1,plain,p(b,a) | q(b),cover(m1,m2,left),[variant(m9)]).\n+C2+TIE_END\
+#a place that is none@|check|c@7 invalid: place 3\n@NAMED+M1+M2+cnf(m3,plain,p(b,a) | q(b),inst(m1,1,m2,1),[selected(3)]).\n+M4+Q1+Q2+C1+C2+TIE_END\
+#a pair that is proper on neither side@|check|c@7 invalid: pair 1 2
+@% SZS status Satisfiable for t
+% SZS output start Saturation for t
+% instgen certificate 3
+cnf(i1,axiom,p,named(a)).
+cnf(i2,axiom,~p,named(b)).
+cnf(m1,plain,p,input(1),[selected(1)]).
+cnf(m2,plain,~p,input(2),[selected(1)]).
+cnf(q1,plain,p,part(m1,[])).
+cnf(q2,plain,~p,part(m2,[])).
+% SZS output end Saturation for t
+\
+#an axiom that is not there@|check|c@7 invalid: axiom 1
+@% SZS status Satisfiable for t
+% SZS output start Saturation for t
+% instgen certificate 3
+cnf(i1,axiom,a = b,named(a)).
+cnf(m1,plain,a = b,input(1),[selected(1)]).
+cnf(q1,plain,a = b,part(m1,[])).
+% SZS output end Saturation for t
+\
 #@|check|c@0 valid CNFRefutation\n@START+% instgen certificate 3\n+MEMBERS+LINES+STEP+END\
 #@|check|c@2 % SZS status SyntaxError for c\n% syntax: line 10 of c\n@START+SECOND+MEMBERS+G1+GROUNDS+STEP+END\
 #@|ask|c|p(c)@2 % SZS status InputError for c\n% no saturation: c\n@START+SECOND+MEMBERS+LINES+STEP+END\
