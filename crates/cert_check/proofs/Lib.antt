@@ -37,5 +37,7 @@ pub mod CoveredStages
 pub mod ShownLaws
 pub mod CoverGrowth
 pub mod NamedStages
+pub mod BucketLaws
+pub mod LinkLaws
 pub mod MeetingLaws
 pub mod ShownSteps

@@ -1,60 +1,262 @@
--- Lists that lead through the members that may meet one, made along chains.
-use Rattle.std.proofs.Common.{◌≡◌, inl, inr, ℕ, suc, ◌<◌, ◌≤◌, List, [], ◌∷◌, ◌++◌, length, get_or, subst, arith}
+-- Which items may meet: places that heads and fingerprints do not tell apart, found by buckets, and lists that lead through them.
+use Rattle.std.proofs.Common.{◌≡◌, ◌⊎◌, inl, inr, ℕ, zero, suc, ◌+◌, ◌<◌, ◌≤◌, Bool, true, false, List, [], ◌∷◌, ◌++◌, length, get_or, take, refl, ap, sym, ◌∙◌, subst, arith, below_more}
+use Rattle.std.specs.Prelude.{map, slice_index_or}
+use Rattle.std.specs.Global.{Vec}
+use Rattle.std.specs.List.{All, AllPairs, Contains}
 use Rattle.std.proofs.lemmas.Bool.{cases_lt}
+use Rattle.std.proofs.lemmas.List.{get_or-map, get_or_push, length-append, map_push, length-map, take_all, take_more}
+use Rattle.std.proofs.lemmas.List.Elements.{All-contains, All-contains_itself, All-weaker, Contains-append_left, Contains-push, Contains-push_cases}
+use Rattle.std.proofs.Math.ListN.{get_or-append}
 use Rattle.inst_logic.specs.Signed.{complement}
+use Rattle.clause_form.specs.Literals.{id_eq}
+use Rattle.clause_form.proofs.Assembly.{id_eq_decides}
 use Rattle.cert_format.specs.Certificate.{Saturation}
-use Rattle.cert_check.specs.Chains.{AreMeetings}
-use Rattle.cert_check.specs.Meetings.{IsApart, LeadsOn, LeadsTo}
-use Rattle.cert_check.specs.Partners.{Head, IsNext, head_at}
+use Rattle.cert_check.specs.declared.buckets.Buckets.{Buckets}
+use Rattle.cert_check.specs.declared.fingerprint.Fingerprint.{Fingerprint}
 use Rattle.cert_check.specs.declared.meetings.Meetings.{Meetings}
+use Rattle.cert_check.specs.Buckets.{AreInBuckets, number_at}
+use Rattle.cert_check.specs.Chains.{AreAlike, AreGathered, AreMeetings, AreOpposite, AreOpposites, AreToldApart, HaveOpposite, IsAddedAlike, MayMeet, TellsApart, list_at}
+use Rattle.cert_check.specs.Fingerprints.{Differ, DifferInMarks, TellApart, fingerprint_at, no_marks, top_marks}
+use Rattle.cert_check.specs.Links.{AreAdded, IsLinked}
+use Rattle.cert_check.specs.Meetings.{IsApart, LeadsOn}
+use Rattle.cert_check.specs.Narrow.{AreNarrow}
+use Rattle.cert_check.specs.Partners.{AreApart, Head, IsNext, head_at}
 
+contains_none : (k : ℕ) → ¬ Contains [] k
+contains_none k h = let l = h.1 in absurd (omega arith)
+
+-- lists that rise and list all that may meet member i lead through these
 module _ (c : Saturation) (i : ℕ) where
-  pub leads_low : (js : List ℕ) (from to : ℕ) → LeadsTo c i from js to → from ≤ to
-  leads_low [] from to h = h.0
-  leads_low (j ∷ js) from to h = let low = h.0 in let more = leads_low js (suc j) to h.3 in omega (arith, low, more)
+  contains_cases : (j : ℕ) (js : List ℕ) (k : ℕ) → Contains (j ∷ js) k → (j ≡ k) ⊎ Contains js k
+  contains_cases j js k h = by h.0 h.1 h.2
+    where
+      by : (n : ℕ) → n < length (j ∷ js) → slice_index_or (j ∷ js) n k ≡ k → (j ≡ k) ⊎ Contains js k
+      by zero less is = inl is
+      by (suc n) less is = inr (n, omega arith, is)
 
-  -- what follows is apart
-  pub leads_past : (js : List ℕ) (from to next : ℕ) → to ≤ next → ((k : ℕ) → to ≤ k → k < next → IsApart c (suc i) (suc k)) → LeadsTo c i from js to → LeadsTo c i from js next
-  leads_past [] from to next low all h = (let l = h.0 in omega (arith, l, low), λ k more less. elim (cases_lt k to) [ inl early ↦ h.1 k more early | inr late ↦ all k late less ])
-  leads_past (j ∷ js) from to next low all h = (h.0, h.1, h.2, leads_past js (suc j) to next low all h.3)
+  contains_more : (j : ℕ) (js : List ℕ) (k : ℕ) → Contains js k → Contains (j ∷ js) k
+  contains_more j js k h = (suc h.0, (let l = h.1 in omega arith), h.2)
 
-  pub leads_more : (js : List ℕ) (from j : ℕ) → j < length c.base.members → LeadsTo c i from js j → LeadsTo c i from (js ++ j ∷ []) (suc j)
-  leads_more [] from j within h = (h.0, within, h.1, (omega arith, λ k more less. absurd (omega (arith, more, less))))
-  leads_more (k ∷ js) from j within h = (h.0, h.1, h.2, leads_more js (suc k) j within h.3)
+  first_below : (j : ℕ) (js : List ℕ) → AllPairs (λ x y. x < y) (j ∷ js) → (k : ℕ) → Contains js k → j < k
+  first_below j js rising k h = subst (λ n. j < n) h.2 (rising 0 (suc h.0) k (omega arith) (let l = h.1 in omega arith))
 
-  -- to the end
-  pub leads_all : (js : List ℕ) (from to : ℕ) → length c.base.members ≤ to → LeadsTo c i from js to → LeadsOn c i from js
-  leads_all [] from to past h = λ k more less. h.1 k more (omega (arith, less, past))
-  leads_all (j ∷ js) from to past h = (h.0, h.1, h.2, leads_all js (suc j) to past h.3)
+  pub leads_rising : (js : List ℕ) (from : ℕ) → AllPairs (λ x y. x < y) js → ((k : ℕ) → Contains js k → (from ≤ k) × (k < length c.base.members))
+      → ((k : ℕ) → from ≤ k → k < length c.base.members → Contains js k ⊎ IsApart c (suc i) (suc k)) → LeadsOn c i from js
+  leads_rising [] from rising within all = λ k low less. elim (all k low less) [ inl h ↦ absurd (contains_none k h) | inr apart ↦ apart ]
+  leads_rising (j ∷ js) from rising within all =
+      let here = within j (0, omega arith, refl) in (
+        here.0,
+        here.1,
+        (λ k low less. elim (all k low (let w = here.1 in omega arith)) [
+          | inl h ↦ absurd (elim (contains_cases j js k h) [ inl same ↦ omega arith | inr later ↦ (let l = first_below j js rising k later in omega arith) ])
+          | inr apart ↦ apart
+        ]),
+        leads_rising js (suc j) (λ m n d less inside. rising (suc m) (suc n) d (omega arith) (omega arith))
+            (λ k h. (first_below j js rising k h, (within k (contains_more j js k h)).1))
+            (λ k low less. elim (all k (let h = here.0 in omega arith) less) [
+              | inl h ↦ elim (contains_cases j js k h) [ inl same ↦ absurd (omega arith) | inr later ↦ inl later ]
+              | inr apart ↦ inr apart
+            ]),
+      )
 
--- a walk along the chain of the opposite class
-module _ (c : Saturation) (b : Meetings) (m : AreMeetings c b) (i : ℕ) (inside : i < length m.heads) where
-  first_at : IsNext m.heads (complement (head_at m.heads i)) (suc i) (get_or b.opposed.items i 0)
-  first_at = m.chained.to_opposed i (omega arith) inside
+  pub leads_meeting : (m : Meetings) → AreMeetings c m → (js sorted : List ℕ) → MayMeet m i (i + 1) js → AllPairs (λ x y. x < y) sorted → ((k : ℕ) → Contains js k → Contains sorted k)
+      → All (λ k. (i + 1 ≤ k) × (k < length m.links.numbers.items)) sorted → LeadsOn c i (suc i) sorted
+  leads_meeting m meetings js sorted gathered rising kept within =
+      leads_rising sorted (suc i) rising
+      (λ k h. let g : (i + 1 ≤ k) × (k < length m.links.numbers.items) = All-contains (λ n. (i + 1 ≤ n) × (n < length m.links.numbers.items)) sorted k within h in (let low = g.0 in omega arith, subst (λ n. k < n) meetings.count g.1))
+      (λ k low less. elim (meetings.apart i k low less) [ inl meet ↦ inl (kept k (gathered.all k (omega arith) (subst (λ n. k < n) (sym meetings.count) less) meet)) | inr apart ↦ inr apart ])
 
-  pub walk_begins : LeadsTo c i (suc i) [] (get_or b.opposed.items i 0)
-  walk_begins = (
-    first_at.from_there,
-    λ k more less. m.apart i k (omega (arith, more)) (let w = first_at.within in omega (arith, w, less)) (first_at.before k more less),
-  )
+  pub all_within : (m : Meetings) (js : List ℕ) → MayMeet m i (i + 1) js → All (λ k. (i + 1 ≤ k) × (k < length m.links.numbers.items)) js
+  all_within m js gathered = All-weaker (Contains js) (λ k. (i + 1 ≤ k) × (k < length m.links.numbers.items)) gathered.only js (All-contains_itself js)
 
-  pub begins_at : get_or b.opposed.items i 0 < length m.heads → head_at m.heads (get_or b.opposed.items i 0) ≡ complement (head_at m.heads i)
-  begins_at = first_at.at
+-- places with other fingerprints are left out
+module _ (ps : List Fingerprint) (p : ℕ) where
+  pub alike_pushed : (q : ℕ) (old : List ℕ) → IsAddedAlike ps p q old (old ++ q ∷ [])
+  alike_pushed q old = record {
+    kept = λ k h. Contains-append_left old (q ∷ []) k h;
+    added = inl (Contains-push old q);
+    only = λ k h. elim (Contains-push_cases old q k h) [ inl there ↦ inl there | inr same ↦ inr (sym same) ];
+  }
 
-  module _ (j : ℕ) (later : i < j) (within : j < length m.heads) (at : head_at m.heads j ≡ complement (head_at m.heads i)) where
-    next_at : IsNext m.heads (complement (head_at m.heads i)) (suc j) (get_or b.same.items j 0)
-    next_at = subst (λ (h : Head). IsNext m.heads h (suc j) (get_or b.same.items j 0)) at (m.chained.to_same j (omega arith) within)
+  pub alike_none : (qs : List ℕ) → AreAlike ps p (take 0 qs) []
+  alike_none qs = record { only = λ q h. absurd (contains_none q h); rest = λ q h. absurd (contains_none q h) }
 
-    pub next_later : j < get_or b.same.items j 0
-    next_later = let l = next_at.from_there in omega (arith, l)
+  pub alike_more : (qs : List ℕ) (i : ℕ) (old new : List ℕ) → i < length qs → AreAlike ps p (take i qs) old → IsAddedAlike ps p (get_or qs i 0) old new → AreAlike ps p (take (i + 1) qs) new
+  alike_more qs i old new inside before here =
+      let q = get_or qs i 0 in
+      let next : take (i + 1) qs ≡ take i qs ++ q ∷ [] = take_more qs i 0 inside in
+      subst (λ rs. AreAlike ps p rs new) (sym next) (record {
+        only = λ k h. elim (here.only k h) [
+          | inl there ↦ Contains-append_left (take i qs) (q ∷ []) k (before.only k there)
+          | inr same ↦ subst (Contains (take i qs ++ q ∷ [])) (sym same) (Contains-push (take i qs) q)
+        ];
+        rest = λ k h. elim (Contains-push_cases (take i qs) q k h) [
+          | inl there ↦ elim (before.rest k there) [ inl left ↦ inl (here.kept k left) | inr differ ↦ inr differ ]
+          | inr same ↦ subst (λ r. Contains new r ⊎ Differ (fingerprint_at ps p) (fingerprint_at ps r)) same here.added
+        ];
+      })
 
-    pub next_within : get_or b.same.items j 0 ≤ length m.heads
-    next_within = next_at.within
+  pub alike_all : (qs : List ℕ) (i : ℕ) (left : List ℕ) → length qs ≤ i → AreAlike ps p (take i qs) left → AreAlike ps p qs left
+  alike_all qs i left past h = subst (λ rs. AreAlike ps p rs left) (take_all i qs past) h
 
-    pub next_head : get_or b.same.items j 0 < length m.heads → head_at m.heads (get_or b.same.items j 0) ≡ complement (head_at m.heads i)
-    next_head = next_at.at
+-- places with the opposite head are found along their chain
+module _ (hs : List Head) (p : ℕ) where
+  pub opposite_none : (q : ℕ) → IsNext hs (complement (head_at hs p)) 0 q → HaveOpposite hs p q []
+  opposite_none q next = record { within = λ k h. absurd (contains_none k h); all = λ k less inside e. absurd (next.before k (omega arith) less e) }
 
-    pub walk_more : (js : List ℕ) → LeadsTo c i (suc i) js (suc j) → LeadsTo c i (suc i) js (get_or b.same.items j 0)
-    walk_more js h =
-        leads_past c i js (suc i) (suc j) (get_or b.same.items j 0) next_at.from_there
-        (λ k more less. m.apart i k (omega (arith, later, more)) (let w = next_at.within in omega (arith, w, less)) (next_at.before k more less)) h
+  pub opposite_more : (q r : ℕ) (qs : List ℕ) → q < length hs → IsNext hs (complement (head_at hs p)) (suc q) r → HaveOpposite hs p q qs → HaveOpposite hs p r (qs ++ q ∷ [])
+  opposite_more q r qs inside next before = record {
+    within = λ k h. elim (Contains-push_cases qs q k h) [ inl there ↦ before.within k there | inr same ↦ subst (λ n. n < length hs) same inside ];
+    all = λ k less within e. elim (cases_lt k q) [
+      | inl early ↦ Contains-append_left qs (q ∷ []) k (before.all k early within e)
+      | inr late ↦ elim (cases_lt q k) [
+        | inl after ↦ absurd (next.before k (omega arith) less e)
+        | inr here ↦ let same : q ≡ k = omega arith in subst (Contains (qs ++ q ∷ [])) same (Contains-push qs q)
+      ]
+    ];
+  }
+
+  pub opposite_all : (q : ℕ) (qs : List ℕ) → length hs ≤ q → HaveOpposite hs p q qs → HaveOpposite hs p (length hs) qs
+  opposite_all q qs past h = record { within = h.within; all = λ k less within e. h.all k (omega arith) within e }
+
+  head_cases : (q : ℕ) → (head_at hs q ≡ complement (head_at hs p)) ⊎ ¬ (head_at hs q ≡ complement (head_at hs p))
+  head_cases q = by (id_eq (head_at hs q) (complement (head_at hs p))) refl
+    where
+      by : (b : Bool) → id_eq (head_at hs q) (complement (head_at hs p)) ≡ b → (head_at hs q ≡ complement (head_at hs p)) ⊎ ¬ (head_at hs q ≡ complement (head_at hs p))
+      by true e = inl ((id_eq_decides (head_at hs q) (complement (head_at hs p))).0 e)
+      by false e = inr (λ same. let t : false ≡ true = sym e ∙ (id_eq_decides (head_at hs q) (complement (head_at hs p))).1 same in absurd (cc))
+
+  pub opposite_alike : (ps : List Fingerprint) (qs alike : List ℕ) → HaveOpposite hs p (length hs) qs → AreAlike ps p qs alike → AreOpposite hs ps p alike
+  opposite_alike ps qs alike h a = record {
+    within = λ q k. h.within q (a.only q k);
+    rest = λ q less. elim (head_cases q) [
+      | inl same ↦ elim (a.rest q (h.all q less less same)) [ inl left ↦ inl left | inr differ ↦ inr (inr differ) ]
+      | inr other ↦ inr (inl other)
+    ];
+  }
+
+-- one more list
+pub opposites_none : (hs : List Head) (ps : List Fingerprint) → AreOpposites hs ps 0 []
+opposites_none hs ps = record { count = refl; each = λ p less. absurd (omega arith) }
+
+pub list_before : (vs : List (Vec ℕ)) (v : Vec ℕ) (k : ℕ) → k < length vs → list_at (vs ++ v ∷ []) k ≡ list_at vs k
+list_before vs v k less =
+    ap (λ (xs : List (List ℕ)). get_or xs k []) (map_push (λ (w : Vec ℕ). w.items) vs v) ∙ get_or-append (map (λ (w : Vec ℕ). w.items) vs) (v.items ∷ []) [] k (let l = length-map vs (λ (w : Vec ℕ). w.items) in omega arith)
+
+pub list_last : (vs : List (Vec ℕ)) (v : Vec ℕ) (k : ℕ) → length vs ≡ k → list_at (vs ++ v ∷ []) k ≡ v.items
+list_last vs v k e =
+    ap (λ (xs : List (List ℕ)). get_or xs k []) (map_push (λ (w : Vec ℕ). w.items) vs v) ∙ get_or_push (map (λ (w : Vec ℕ). w.items) vs) v.items [] k (length-map vs (λ (w : Vec ℕ). w.items) ∙ e)
+
+pub list_read : (vs : List (Vec ℕ)) (v : Vec ℕ) (k : ℕ) → k < length vs → v ≡ get_or vs k v → v.items ≡ list_at vs k
+list_read vs v k less at = ap (λ (w : Vec ℕ). w.items) at ∙ sym (get_or-map (λ (w : Vec ℕ). w.items) vs k v [] less)
+
+pub opposites_more : (hs : List Head) (ps : List Fingerprint) (n : ℕ) (vs : List (Vec ℕ)) (v : Vec ℕ) → AreOpposites hs ps n vs → AreOpposite hs ps n v.items → AreOpposites hs ps (n + 1) (vs ++ v ∷ [])
+opposites_more hs ps n vs v before last = record {
+  count = length-append vs (v ∷ []) ∙ ap (λ m. m + 1) before.count;
+  each = below_more (λ p. AreOpposite hs ps p (list_at (vs ++ v ∷ []) p)) n
+      (λ p less. subst (AreOpposite hs ps p) (sym (list_before vs v p (let c = before.count in omega arith))) (before.each p less))
+      (subst (AreOpposite hs ps n) (sym (list_last vs v n before.count)) last);
+}
+
+-- by classes
+pub opposites_narrow : (hs : List Head) (ps : List Fingerprint) (ns : List Head) (vs : List (Vec ℕ)) → length ns ≡ length hs → AreNarrow hs ps ns → AreOpposites ns ps (length ns) vs → AreOpposites hs ps (length hs) vs
+opposites_narrow hs ps ns vs count narrow os = record {
+  count = os.count ∙ count;
+  each = λ p less. let o = os.each p (omega arith) in record {
+    within = λ q h. let w = o.within q h in omega arith;
+    rest = λ q inside. elim (o.rest q (omega arith)) [
+      | inl there ↦ inl there
+      | inr (inl other) ↦ inr (narrow p q less inside other)
+      | inr (inr differ) ↦ inr (inr differ)
+    ];
+  };
+}
+
+-- by what is told apart already
+pub opposite_within : (hs : List Head) (ps : List Fingerprint) (m : Meetings) → TellsApart hs ps m → (p : ℕ) → p < length hs → (js alike : List ℕ) → MayMeet m p 0 js → AreAlike ps p js alike → AreOpposite hs ps p alike
+opposite_within hs ps m tells p here js alike gathered a = record {
+  within = λ q h. subst (λ n. q < n) tells.count (gathered.only q (a.only q h)).1;
+  rest = λ q less. elim (tells.told p q here less) [
+    | inl meet ↦ elim (a.rest q (gathered.all q (omega arith) (subst (λ n. q < n) (sym tells.count) less) meet)) [ inl left ↦ inl left | inr differ ↦ inr (inr differ) ]
+    | inr told ↦ inr told
+  ];
+}
+
+-- items of buckets
+pub told_by_buckets : (hs : List Head) (ps : List Fingerprint) (b : Buckets) (m : Meetings) → AreInBuckets hs ps b → m.links.numbers.items ≡ b.numbers.items → length m.links.first.items ≡ length b.heads.items → IsLinked m.links
+    → AreOpposites b.heads.items b.fingerprints.items (length b.heads.items) m.opposites.items → TellsApart hs ps m
+told_by_buckets hs ps b m inside numbers count linked os =
+    let each : (i : ℕ) → i < length hs → number_at m.links.numbers.items i < length b.heads.items = λ i less. subst (λ (ns : List ℕ). number_at ns i < length b.heads.items) (sym numbers) (inside.each i less).within in
+    let items : length m.links.numbers.items ≡ length hs = ap (λ (ns : List ℕ). length ns) numbers ∙ inside.count in
+    record {
+      grouped = record {
+        linked = linked;
+        numbered = λ i less. subst (λ n. number_at m.links.numbers.items i < n) (sym os.count) (each i (subst (λ n. i < n) items less));
+        known = λ n q less h. subst (λ k. q < k) (sym count) ((os.each n (subst (λ k. n < k) os.count less)).within q h);
+      };
+      count = items;
+      told = λ p q left right. subst (λ (ns : List ℕ). Contains (list_at m.opposites.items (number_at ns p)) (number_at ns q) ⊎ AreToldApart hs ps p q) (sym numbers)
+          (let i = inside.each p left in let j = inside.each q right in
+          elim ((os.each (number_at b.numbers.items p) i.within).rest (number_at b.numbers.items q) j.within) [
+            | inl there ↦ inl there
+            | inr (inl other) ↦ inr (inl (λ e. other (j.head ∙ e ∙ ap complement (sym i.head))))
+            | inr (inr differ) ↦ inr (inr (subst (λ (x : Fingerprint). Differ x (fingerprint_at ps q)) i.fingerprint (subst (λ (x : Fingerprint). Differ (fingerprint_at b.fingerprints.items (number_at b.numbers.items p)) x) j.fingerprint differ)))
+          ]);
+    }
+
+-- marks that differ at the top differ
+no_difference : ¬ DifferInMarks no_marks no_marks
+no_difference (inl d) = d.left refl
+no_difference (inr (inl d)) = d.left refl
+no_difference (inr (inr (inl d))) = d.left refl
+no_difference (inr (inr (inr d))) = d.left refl
+
+differ_by_tops : (p q : Fingerprint) → Differ (top_marks p) (top_marks q) → Differ p q
+differ_by_tops p q (inl d) = inl d
+differ_by_tops p q (inr (inl d)) = absurd (no_difference d)
+differ_by_tops p q (inr (inr d)) = absurd (no_difference d)
+
+pub told_by_tops : (hs : List Head) (ps : List Fingerprint) (m : Meetings) → length ps ≡ length hs → TellsApart hs (map top_marks ps) m → TellsApart hs ps m
+told_by_tops hs ps m count tells = record {
+  grouped = tells.grouped;
+  count = tells.count;
+  told = λ p q left right. elim (tells.told p q left right) [
+    | inl meet ↦ inl meet
+    | inr (inl other) ↦ inr (inl other)
+    | inr (inr differ) ↦ inr (inr (differ_by_tops (fingerprint_at ps p) (fingerprint_at ps q) (subst (λ (x : Fingerprint). Differ x (top_marks (fingerprint_at ps q))) (top_at p left) (subst (λ (x : Fingerprint). Differ (fingerprint_at (map top_marks ps) p) x) (top_at q right) differ))))
+  ];
+}
+  where
+    top_at : (k : ℕ) → k < length hs → fingerprint_at (map top_marks ps) k ≡ top_marks (fingerprint_at ps k)
+    top_at k less = get_or-map top_marks ps k _ _ (omega arith)
+
+pub meetings_told : (c : Saturation) (hs : List Head) (ps : List Fingerprint) (m : Meetings) → length hs ≡ length c.base.members → AreApart c hs → TellApart c ps → TellsApart hs ps m → AreMeetings c m
+meetings_told c hs ps m count apart told tells = record {
+  grouped = tells.grouped;
+  count = tells.count ∙ count;
+  apart = λ i j less within. elim (tells.told i j (omega arith) (omega arith)) [
+    | inl meet ↦ inl meet
+    | inr (inl other) ↦ inr (apart i j less (omega arith) other)
+    | inr (inr differ) ↦ inr (told.apart i j less (let n = told.count in omega arith) differ)
+  ];
+}
+
+-- items are gathered bucket by bucket
+module _ (ns xs : List ℕ) (from : ℕ) where
+  pub gathered_none : AreGathered ns (take 0 xs) from []
+  gathered_none = record { only = λ k h. absurd (contains_none k h); all = λ k low less h. absurd (contains_none (number_at ns k) h) }
+
+  pub gathered_more : (i : ℕ) (old new : List ℕ) → i < length xs → AreGathered ns (take i xs) from old → AreAdded ns (get_or xs i 0) from (length ns) old new → AreGathered ns (take (i + 1) xs) from new
+  gathered_more i old new inside before here =
+      let x = get_or xs i 0 in
+      let next : take (i + 1) xs ≡ take i xs ++ x ∷ [] = take_more xs i 0 inside in
+      subst (λ rs. AreGathered ns rs from new) (sym next) (record {
+        only = λ k h. elim (here.only k h) [ inl there ↦ before.only k there | inr late ↦ late ];
+        all = λ k low less h. elim (Contains-push_cases (take i xs) x (number_at ns k) h) [
+          | inl there ↦ here.kept k (before.all k low less there)
+          | inr same ↦ here.added k low less less (sym same)
+        ];
+      })
+
+  pub gathered_all : (i : ℕ) (js : List ℕ) → length xs ≤ i → AreGathered ns (take i xs) from js → AreGathered ns xs from js
+  gathered_all i js past h = subst (λ rs. AreGathered ns rs from js) (take_all i xs past) h

@@ -57,6 +57,10 @@ Differ p q = DifferInMarks p.own q.own ⊎ (DifferInMarks p.first q.first ⊎ Di
 abbrev pub no_marks : Marks
 no_marks = record { first = 0; second = 0; third = 0; fourth = 0 }
 
+-- the marks of the atom itself alone
+abbrev pub top_marks : Fingerprint → Fingerprint
+top_marks p = record { own = p.own; first = no_marks; second = no_marks }
+
 abbrev pub fingerprint_at : List Fingerprint → ℕ → Fingerprint
 fingerprint_at ps i = slice_index_or ps i (record { own = no_marks; first = no_marks; second = no_marks })
 

@@ -1,11 +1,14 @@
 -- Which members can be partners by the heads of their selected literals, and chains through the members of one head.
-use Rattle.std.specs.Prelude.{◌≡◌, ℕ, suc, ◌<◌, ◌≤◌, List, length, false, Some, option_map, slice_index_or}
+use Rattle.std.specs.Prelude.{◌≡◌, ℕ, suc, ◌<◌, ◌≤◌, List, length, false, Some, option_map, slice_index_or, unwrap_or}
+use Rattle.indexmap.specs.IndexMap.{get}
 use Rattle.inst_logic.specs.declared.signed.Signed.{Signed}
 use Rattle.inst_logic.specs.Signed.{complement}
+use Rattle.clause_form.specs.Literals.{id_eq}
 use Rattle.term_bank.specs.Forest.{Forest, number_of, symbol_of, tree_at}
 use Rattle.cert_format.specs.Certificate as format
 use Rattle.saturation_cert.specs.declared.certificate.Saturation.{Saturation}
 use Rattle.saturation_cert.specs.Truths.{IsSelectedLiteral}
+use Rattle.cert_check.specs.declared.partners.Partners.{Partners}
 use Rattle.cert_check.specs.Meetings.{IsApart}
 
 -- a sign and the number of a symbol
@@ -44,3 +47,8 @@ pub record AreChained (hs : List Head) (same opposed : List ℕ) (i : ℕ) : Typ
   pub opposed_length : length opposed ≡ length hs
   pub to_same : (k : ℕ) → i ≤ k → k < length hs → IsNext hs (head_at hs k) (suc k) (slice_index_or same k 0)
   pub to_opposed : (k : ℕ) → i ≤ k → k < length hs → IsNext hs (complement (head_at hs k)) (suc k) (slice_index_or opposed k 0)
+
+-- through all places, from the first one of each head
+pub record HasChains (p : Partners) : Type 0 where
+  pub chained : AreChained p.heads.items p.same.items p.opposed.items 0
+  pub first : (h : Head) → IsNext p.heads.items h 0 (unwrap_or (get id_eq p.first h) (length p.heads.items))

@@ -1,11 +1,11 @@
 // Fingerprints of atoms (Schulz, Fingerprint indexing for paramodulation and rewriting, 2012): the symbols at a few places. Two
 // atoms with different symbols at one place have no unifier, whatever stands elsewhere, so most pairs of members cost a few
 // comparisons. A variable says nothing of its place and of those below it.
-ghost use Rattle.std.specs.Prelude.{◌≡◌, ◌<◌, ℕ, length, true, IfOk, IfSome, Some, option_map};
+ghost use Rattle.std.specs.Prelude.{◌≡◌, ◌<◌, ℕ, length, map, true, IfOk, IfSome, Some, option_map};
 ghost use Rattle.saturation_cert.specs.Values.{saturation_of};
 ghost use Rattle.saturation_cert.specs.Wholes.{HasPlaces, IsWholeSaturation};
 ghost use Rattle.term_bank.specs.Forest.{tree_at};
-ghost use Rattle.cert_check.specs.Fingerprints.{AreDifferent, Differ, DifferInMarks, HasFingerprint, HasMarks, IsFingerprintOf, IsMark, TellApart, argument_of, fingerprint_at, mark_of};
+ghost use Rattle.cert_check.specs.Fingerprints.{AreDifferent, Differ, DifferInMarks, HasFingerprint, HasMarks, IsFingerprintOf, IsMark, TellApart, argument_of, fingerprint_at, mark_of, top_marks};
 
 use inst_logic::Memory;
 use saturation_cert::{Saturation, selected};
@@ -13,7 +13,7 @@ use std::alloc::Global;
 use term_bank::{Bank, TermId};
 
 // The marks of the symbols at the tops of a tree's first four arguments; 0 for a variable, and where there is no argument.
-#[derive(Clone, Copy)]
+#[derive(Clone, Copy, Debug, PartialEq, Eq, Hash)]
 pub struct Marks {
     first: u32,
     second: u32,
@@ -21,8 +21,15 @@ pub struct Marks {
     fourth: u32,
 }
 
+const UNMARKED: Marks = Marks {
+    first: 0,
+    second: 0,
+    third: 0,
+    fourth: 0,
+};
+
 // The marks of an atom and of its first two arguments.
-#[derive(Clone, Copy)]
+#[derive(Clone, Copy, Debug, PartialEq, Eq, Hash)]
 pub struct Fingerprint {
     own: Marks,
     first: Marks,
@@ -80,12 +87,7 @@ fn marks_below(bank: &Bank, tree: TermId, place: usize) -> Marks
     ensures { HasMarks bank.now (argument_of (Some (tree_at bank.now tree)) place) result }
 {
     match argument(bank, tree, place) {
-        None => Marks {
-            first: 0,
-            second: 0,
-            third: 0,
-            fourth: 0,
-        },
+        None => UNMARKED,
         Some(id) => marks_in(bank, id),
     }
 }
@@ -127,6 +129,18 @@ pub fn find_fingerprints(alloc: Global, cert: &Saturation) -> Result<Vec<Fingerp
     Ok(fingerprints)
 }
 
+// The marks of the atoms themselves alone.
+pub fn tops_of(alloc: Global, fingerprints: &[Fingerprint]) -> Result<Vec<Fingerprint>, Memory>
+    ensures { IfOk result (λ ps. ps.items ≡ map top_marks fingerprints.now) }
+{
+    let mut tops = Vec::with_capacity(alloc, fingerprints.len())?;
+    for fingerprint in fingerprints {
+        let top = fingerprint.top();
+        tops.push(top)?;
+    }
+    Ok(tops)
+}
+
 fn are_different(m: u32, n: u32) -> bool
     ensures { result ≡ true → AreDifferent m n }
 {
@@ -150,6 +164,17 @@ impl Fingerprint {
         ensures { result ≡ self.now.own.first }
     {
         self.own.first
+    }
+
+    // The marks of the atom itself alone.
+    fn top(&self) -> Fingerprint
+        ensures { result ≡ top_marks self.now }
+    {
+        Fingerprint {
+            own: self.own,
+            first: UNMARKED,
+            second: UNMARKED,
+        }
     }
 
     /// Whether the fingerprints have different symbols at one place.

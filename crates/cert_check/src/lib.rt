@@ -5,6 +5,7 @@
 
 mod axioms;
 mod base;
+mod buckets;
 mod compare;
 mod conclusion;
 pub mod covered;
@@ -18,6 +19,7 @@ pub mod first;
 mod grounds;
 mod inputs;
 mod lengths;
+mod links;
 mod lookup;
 mod meetings;
 mod naming;

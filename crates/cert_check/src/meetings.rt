@@ -1,43 +1,205 @@
-// Which members may meet. Those of one class and opposite signs are on one chain, and of these the ones are left out whose
-// fingerprints exclude a unifier. So the later partners of a member come in the order of their numbers.
-ghost use Rattle.std.specs.Prelude.{◌≡◌, ◌<◌, ℕ, suc, length, IfOk, OnOk};
+// Which members may meet. Members are put into buckets by the heads and the fingerprints of their selected literals, and for
+// each bucket the opposite ones that do not differ from it are found once: first by classes those that agree in the marks of
+// the atom itself, and of these the ones that agree in all marks. So the work is in proportion to the members that may meet.
+ghost use Rattle.std.specs.Prelude.{◌≡◌, ◌<◌, ℕ, suc, List, length, IfOk, OnOk};
+ghost use Rattle.std.specs.List.{Contains};
 ghost use Rattle.cert_format.specs.Certificate as format;
 ghost use Rattle.saturation_cert.specs.Values.{saturation_of};
 ghost use Rattle.saturation_cert.specs.Wholes.{HasPlaces, IsWholeSaturation};
-ghost use Rattle.cert_check.specs.Chains.{AreMeetings};
+ghost use Rattle.cert_check.specs.declared.fingerprint.Fingerprint as declared;
+ghost use Rattle.cert_check.specs.Buckets.{AreInBuckets, AreKnown};
+ghost use Rattle.cert_check.specs.Chains.{AreAlike, AreGrouped, AreMeetings, AreOpposite, AreOpposites, HaveOpposite, IsAddedAlike, MayMeet, TellsApart};
 ghost use Rattle.cert_check.specs.Fingerprints.{TellApart};
-ghost use Rattle.cert_check.specs.Meetings.{LeadsOn, LeadsTo};
-ghost use Rattle.cert_check.specs.Partners.{AreApart};
+ghost use Rattle.cert_check.specs.Meetings.{LeadsOn};
+ghost use Rattle.cert_check.specs.Partners.{AreApart, HasChains, Head};
 
-use crate::fingerprint::{Fingerprint, find_fingerprints};
+use crate::buckets::{Buckets, find_buckets};
+use crate::fingerprint::{Fingerprint, find_fingerprints, tops_of};
+use crate::links::{Links, find_links};
 use crate::narrow::find_classes;
-use crate::partners::{HeadId, Partners, find_heads};
+use crate::partners::{HeadId, Partners, find_heads, place_of};
 use inst_logic::Memory;
+use prop_logic::complement;
 use saturation_cert::Saturation;
 use std::alloc::Global;
 
-/// For each member, counted from 0, the places of the next members of its class with its sign and with the opposite one, which
-/// are the number of members where there is none; and its fingerprint.
+/// The items of each bucket, and for each bucket, counted from 0, the buckets that it may meet, in no order.
 #[derive(Drop)]
 pub struct Meetings {
-    same: Vec<usize>,
-    opposed: Vec<usize>,
-    fingerprints: Vec<Fingerprint>,
+    links: Links,
+    opposites: Vec<Vec<usize>>,
 }
 
-// What is left of the chains without the heads and the places where they begin.
-fn meetings_from(partners: Partners, fingerprints: Vec<Fingerprint>) -> Meetings
-    ensures { (result.same.items ≡ partners.same.items) × (result.opposed.items ≡ partners.opposed.items) × (result.fingerprints.items ≡ fingerprints.items) }
+// Adds place `q`, unless its fingerprint differs from that of place `p`.
+fn add_alike(
+    alike: &mut Vec<usize>,
+    fingerprints: &[Fingerprint],
+    p: usize,
+    q: usize,
+) -> Result<(), Memory>
+    requires here { p < length fingerprints.now }
+    requires there { q < length fingerprints.now }
+    ensures { OnOk result (IsAddedAlike fingerprints.now p q alike.old.items alike.new.items) }
 {
-    let Partners { same, opposed, .. } = partners;
-    Meetings {
-        same,
-        opposed,
-        fingerprints,
+    if fingerprints[p].differs(&fingerprints[q]) {
+        return Ok(());
     }
+    alike.push(q)?;
+    Ok(())
 }
 
-// The chains of members with these heads and fingerprints.
+// Those of the places whose fingerprints do not differ from that of place `p`.
+fn find_alike(
+    alloc: Global,
+    fingerprints: &[Fingerprint],
+    p: usize,
+    places: &[usize],
+) -> Result<Vec<usize>, Memory>
+    requires here { p < length fingerprints.now }
+    requires there { (q : ℕ) → Contains places.now q → q < length fingerprints.now }
+    ensures { IfOk result (λ qs. AreAlike fingerprints.now p places.now qs.items) }
+{
+    let mut alike = Vec::new(alloc);
+    for q in places {
+        add_alike(&mut alike, fingerprints, p, *q)?;
+    }
+    Ok(alike)
+}
+
+// The places of the head that is opposite to that of place `p`.
+fn find_opposite_heads(
+    alloc: Global,
+    classes: &Partners,
+    p: usize,
+) -> Result<Vec<usize>, Memory>
+    requires chains { HasChains classes.now }
+    requires within { p < length classes.now.heads.items }
+    ensures { IfOk result (λ qs. HaveOpposite classes.now.heads.items p (length classes.now.heads.items) qs.items) }
+{
+    let count = classes.heads.len();
+    let head = classes.heads[p];
+    let other = complement(head);
+    let mut opposite = Vec::new(alloc);
+    let mut q = place_of(&classes.first, other, count);
+    while q < count {
+        opposite.push(q)?;
+        q = classes.same[q];
+    }
+    Ok(opposite)
+}
+
+// The places that neither their classes nor their fingerprints tell apart from place `p`.
+fn find_opposite(
+    alloc: Global,
+    classes: &Partners,
+    fingerprints: &[Fingerprint],
+    p: usize,
+) -> Result<Vec<usize>, Memory>
+    requires chains { HasChains classes.now }
+    requires count { length fingerprints.now ≡ length classes.now.heads.items }
+    requires within { p < length classes.now.heads.items }
+    ensures { IfOk result (λ qs. AreOpposite classes.now.heads.items fingerprints.now p qs.items) }
+{
+    let opposite = find_opposite_heads(alloc, classes, p)?;
+    find_alike(alloc, fingerprints, p, &opposite)
+}
+
+// The same for each place.
+fn find_opposites(
+    alloc: Global,
+    classes: &Partners,
+    fingerprints: &[Fingerprint],
+) -> Result<Vec<Vec<usize>>, Memory>
+    requires chains { HasChains classes.now }
+    requires count { length fingerprints.now ≡ length classes.now.heads.items }
+    ensures { IfOk result (λ vs. AreOpposites classes.now.heads.items fingerprints.now (length fingerprints.now) vs.items) }
+{
+    let mut opposites = Vec::with_capacity(alloc, fingerprints.len())?;
+    for p in 0..fingerprints.len() {
+        let opposite = find_opposite(alloc, classes, fingerprints, p)?;
+        opposites.push(opposite)?;
+    }
+    Ok(opposites)
+}
+
+// For each of the places with these heads and fingerprints those that are not told apart from it.
+fn opposites_by_classes(
+    alloc: Global,
+    heads: &[HeadId],
+    fingerprints: &[Fingerprint],
+) -> Result<Vec<Vec<usize>>, Memory>
+    requires { length fingerprints.now ≡ length heads.now }
+    ensures { IfOk result (λ vs. AreOpposites heads.now fingerprints.now (length heads.now) vs.items) }
+{
+    let classes = find_classes(alloc, heads, fingerprints)?;
+    find_opposites(alloc, &classes, fingerprints)
+}
+
+// The same, where places that cannot meet are told apart already.
+fn opposites_within(
+    alloc: Global,
+    meetings: &Meetings,
+    fingerprints: &[Fingerprint],
+) -> Result<Vec<Vec<usize>>, Memory>
+    requires grouped { AreGrouped meetings.now }
+    requires count { length meetings.now.links.numbers.items ≡ length fingerprints.now }
+    ensures { (hs : List Head) → TellsApart hs fingerprints.now meetings.now → IfOk result (λ vs. AreOpposites hs fingerprints.now (length hs) vs.items) }
+{
+    let mut opposites = Vec::with_capacity(alloc, fingerprints.len())?;
+    for p in 0..fingerprints.len() {
+        let places = meetings.gather(alloc, p, 0)?;
+        let alike = find_alike(alloc, fingerprints, p, &places)?;
+        opposites.push(alike)?;
+    }
+    Ok(opposites)
+}
+
+// The items of buckets that these buckets are opposite to.
+fn meetings_by(
+    alloc: Global,
+    buckets: Buckets,
+    opposites: Vec<Vec<usize>>,
+) -> Result<Meetings, Memory>
+    requires { AreKnown buckets }
+    ensures { (hs : List Head) → (ps : List declared.Fingerprint) → AreInBuckets hs ps buckets → AreOpposites buckets.heads.items buckets.fingerprints.items (length buckets.heads.items) opposites.items → IfOk result (TellsApart hs ps) }
+{
+    let Buckets { numbers, heads, .. } = buckets;
+    let count = heads.len();
+    let links = find_links(alloc, numbers, count)?;
+    Ok(Meetings { links, opposites })
+}
+
+// Which items with these heads and fingerprints agree in the marks of the atoms themselves.
+fn meetings_of_tops(
+    alloc: Global,
+    heads: &[HeadId],
+    fingerprints: &[Fingerprint],
+) -> Result<Meetings, Memory>
+    requires { length fingerprints.now ≡ length heads.now }
+    ensures { IfOk result (TellsApart heads.now fingerprints.now) }
+{
+    let tops = tops_of(alloc, fingerprints)?;
+    let buckets = find_buckets(alloc, heads, &tops)?;
+    let opposites = opposites_by_classes(alloc, &buckets.heads, &buckets.fingerprints)?;
+    meetings_by(alloc, buckets, opposites)
+}
+
+// Which items with these heads and fingerprints may meet.
+fn meetings_of_all(
+    alloc: Global,
+    heads: &[HeadId],
+    fingerprints: &[Fingerprint],
+) -> Result<Meetings, Memory>
+    requires { length fingerprints.now ≡ length heads.now }
+    ensures { IfOk result (TellsApart heads.now fingerprints.now) }
+{
+    let buckets = find_buckets(alloc, heads, fingerprints)?;
+    let tops = meetings_of_tops(alloc, &buckets.heads, &buckets.fingerprints)?;
+    let opposites = opposites_within(alloc, &tops, &buckets.fingerprints)?;
+    meetings_by(alloc, buckets, opposites)
+}
+
+// Which members with these heads and fingerprints may meet.
 pub fn find_meetings(
     alloc: Global,
     heads: &[HeadId],
@@ -46,12 +208,10 @@ pub fn find_meetings(
     requires { length fingerprints.now ≡ length heads.now }
     ensures { (c : format.Saturation) → length heads.now ≡ length c.base.members → AreApart c heads.now → TellApart c fingerprints.now → IfOk result (AreMeetings c) }
 {
-    let classes = find_classes(alloc, heads, fingerprints)?;
-    let kept = Vec::from_slice(alloc, fingerprints)?;
-    Ok(meetings_from(classes, kept))
+    meetings_of_all(alloc, heads, fingerprints)
 }
 
-// The chains of the members of a certificate.
+// Which members of a certificate may meet.
 pub fn meetings_of(alloc: Global, cert: &Saturation) -> Result<Meetings, Memory>
     requires whole { IsWholeSaturation cert.now }
     requires placed { HasPlaces (saturation_of cert.now) }
@@ -62,25 +222,23 @@ pub fn meetings_of(alloc: Global, cert: &Saturation) -> Result<Meetings, Memory>
     find_meetings(alloc, &heads, &fingerprints)
 }
 
-// Adds the place of a later member, unless the fingerprints exclude that it meets member `i`.
-fn add_partner(
-    partners: &mut Vec<usize>,
-    fingerprints: &[Fingerprint],
-    i: usize,
-    j: usize,
-) -> Result<(), Memory>
-    requires left { i < j }
-    requires right { j < length fingerprints.now }
-    ensures { OnOk result ((c : format.Saturation) → TellApart c fingerprints.now → LeadsTo c i (suc i) partners.old.items j → LeadsTo c i (suc i) partners.new.items (suc j)) }
-{
-    if fingerprints[i].differs(&fingerprints[j]) {
-        return Ok(());
-    }
-    partners.push(j)?;
-    Ok(())
-}
-
 impl Meetings {
+    // The items from `from` on that may meet item `i`, in no order.
+    fn gather(&self, alloc: Global, i: usize, from: usize) -> Result<Vec<usize>, Memory>
+        requires grouped { AreGrouped self.now }
+        requires within { i < length self.now.links.numbers.items }
+        ensures { IfOk result (λ js. MayMeet self.now i from js.items) }
+    {
+        let mut items = Vec::new(alloc);
+        let bucket = self.links.numbers[i];
+        let list = &self.opposites[bucket];
+        let opposite = list.as_slice();
+        for number in opposite {
+            self.links.add_items(&mut items, *number, from)?;
+        }
+        Ok(items)
+    }
+
     /// The later members that may meet member `i`, counted from 0, in rising order.
     pub fn later_partners(
         &self,
@@ -92,14 +250,9 @@ impl Meetings {
         requires within { i < length cert.now.base.members }
         ensures { IfOk result (λ js. LeadsOn (saturation_of cert.now) i (suc i) js.items) }
     {
-        let count = cert.base.members.len();
-        let fingerprints = self.fingerprints.as_slice();
-        let mut partners = Vec::new(alloc);
-        let mut j = self.opposed[i];
-        while j < count {
-            add_partner(&mut partners, fingerprints, i, j)?;
-            j = self.same[j];
-        }
+        let mut partners = self.gather(alloc, i, i + 1)?;
+        partners.sort_unstable();
+        partners.dedup();
         Ok(partners)
     }
 }
