@@ -82,7 +82,7 @@ one_more_number old new kept hs ps ns i n before last = record {
   count = length-append ns (n ∷ []) ∙ ap (λ m. m + 1) before.count;
   each = below_more (λ k. IsNumbered new (record { head = head_at hs k; fingerprint = fingerprint_at ps k }) (number_at (ns ++ n ∷ []) k)) i
       (λ k less. subst (IsNumbered new (record { head = head_at hs k; fingerprint = fingerprint_at ps k })) (sym (get_or-append ns (n ∷ []) 0 k (let c = before.count in omega arith)))
-          (numbered_later old new kept (record { head = head_at hs k; fingerprint = fingerprint_at ps k }) (number_at ns k) (before.each k less)))
+      (numbered_later old new kept (record { head = head_at hs k; fingerprint = fingerprint_at ps k }) (number_at ns k) (before.each k less)))
       (subst (IsNumbered new (record { head = head_at hs i; fingerprint = fingerprint_at ps i })) (sym (get_or_push ns n 0 i before.count)) last);
 }
 

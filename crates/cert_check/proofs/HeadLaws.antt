@@ -123,27 +123,19 @@ module _ (hs : List Head) where
       by false e = next_before h i (unwrap_or (f h) (length hs)) (λ same. let t : false ≡ true = sym e ∙ (id_eq_decides (head_at hs i) h).1 same in cc) (old h)
 
   -- the chains after place j, which follows it
-  pub more_chained : (same other : List ℕ) (i j a b : ℕ) → i ≡ suc j → i ≤ length hs → AreChained hs same other i → IsNext hs (head_at hs j) (suc j) a → IsNext hs (complement (head_at hs j)) (suc j) b
-      → AreChained hs (set same j a) (set other j b) j
-  more_chained same other i j a b e within old n m = record {
+  pub more_chained : (same : List ℕ) (i j a : ℕ) → i ≡ suc j → i ≤ length hs → AreChained hs same i → IsNext hs (head_at hs j) (suc j) a → AreChained hs (set same j a) j
+  more_chained same i j a e within old n = record {
     same_length = length-set same j a ∙ old.same_length;
-    opposed_length = length-set other j b ∙ old.opposed_length;
     to_same = λ k from less. elim (cases_lt j k) [
       | inl later ↦ subst (IsNext hs (head_at hs k) (suc k)) (sym (get_or-set_other same j k a 0 (omega arith))) (old.to_same k (omega arith) less)
       | inr here ↦ let same_place : j ≡ k = omega arith in
           subst (λ q. IsNext hs (head_at hs q) (suc q) (get_or (set same j a) q 0)) same_place
           (subst (IsNext hs (head_at hs j) (suc j)) (sym (get_or-set_same same j a 0 (let l = old.same_length in omega arith))) n)
     ];
-    to_opposed = λ k from less. elim (cases_lt j k) [
-      | inl later ↦ subst (IsNext hs (complement (head_at hs k)) (suc k)) (sym (get_or-set_other other j k b 0 (omega arith))) (old.to_opposed k (omega arith) less)
-      | inr here ↦ let same_place : j ≡ k = omega arith in
-          subst (λ q. IsNext hs (complement (head_at hs q)) (suc q) (get_or (set other j b) q 0)) same_place
-          (subst (IsNext hs (complement (head_at hs j)) (suc j)) (sym (get_or-set_same other j b 0 (let l = old.opposed_length in omega arith))) m)
-    ];
   }
 
-  pub none_chained : (same other : List ℕ) → length same ≡ length hs → length other ≡ length hs → AreChained hs same other (length hs)
-  none_chained same other e f = record { same_length = e; opposed_length = f; to_same = λ k from less. absurd (omega arith); to_opposed = λ k from less. absurd (omega arith) }
+  pub none_chained : (same : List ℕ) → length same ≡ length hs → AreChained hs same (length hs)
+  none_chained same e = record { same_length = e; to_same = λ k from less. absurd (omega arith) }
 
 -- the map at the start
 pub empty_first : (hs : List Head) (n : ℕ) → n ≡ length hs → {S : Type 0} (m : IndexMap Head ℕ S) → m.entries ≡ [] → (h : Head) → IsNext hs h n (unwrap_or (get id_eq m h) (length hs))

@@ -27,12 +27,12 @@ any_moved P xs ys moved any =
     in_any P x ys (contains_in x ys (Contains-permutation xs ys x moved (in_contains x xs there))) p
 
 -- chains through the heads in the order of the ranks
-pub grouped : (ms : List Member) (hs os : List Head) (l : Lengths) (opposed : List ℕ) → AreRanked ms l.ranked.items → os ≡ heads_by hs l.ranked.items → AreChained os l.same.items opposed 0
+pub grouped : (ms : List Member) (hs os : List Head) (l : Lengths) → AreRanked ms l.ranked.items → os ≡ heads_by hs l.ranked.items → AreChained os l.same.items 0
     → ((h : Head) → IsNext os h 0 (unwrap_or (get id_eq l.first h) (length os))) → AreGrouped ms hs l
-grouped ms hs os l opposed ranked is chained first =
+grouped ms hs os l ranked is chained first =
     let rs = l.ranked.items in
     let count : length (heads_by hs rs) ≡ length rs = length-map rs (λ (r : Ranked). head_at hs r.place) in
-    let here : AreChained (heads_by hs rs) l.same.items opposed 0 = subst (λ xs. AreChained xs l.same.items opposed 0) is chained in
+    let here : AreChained (heads_by hs rs) l.same.items 0 = subst (λ xs. AreChained xs l.same.items 0) is chained in
     let start : (h : Head) → IsNext (heads_by hs rs) h 0 (unwrap_or (get id_eq l.first h) (length (heads_by hs rs))) = subst (λ xs. (h : Head) → IsNext xs h 0 (unwrap_or (get id_eq l.first h) (length xs))) is first in
     record {
       ranked = ranked;

@@ -14,8 +14,3 @@ IsApart c left right = (m n : Member) → SelectsAt c left m → SelectsAt c rig
 abbrev pub LeadsOn : Saturation → ℕ → ℕ → List ℕ → Type 0
 LeadsOn c i from [] = (k : ℕ) → from ≤ k → k < length c.base.members → IsApart c (suc i) (suc k)
 LeadsOn c i from (j ∷ js) = (from ≤ j) × (j < length c.base.members) × ((k : ℕ) → from ≤ k → k < j → IsApart c (suc i) (suc k)) × LeadsOn c i (suc j) js
-
--- up to place `to`
-abbrev pub LeadsTo : Saturation → ℕ → ℕ → List ℕ → ℕ → Type 0
-LeadsTo c i from [] to = (from ≤ to) × ((k : ℕ) → from ≤ k → k < to → IsApart c (suc i) (suc k))
-LeadsTo c i from (j ∷ js) to = (from ≤ j) × (j < length c.base.members) × ((k : ℕ) → from ≤ k → k < j → IsApart c (suc i) (suc k)) × LeadsTo c i (suc j) js to

@@ -41,14 +41,12 @@ pub record IsNext (hs : List Head) (h : Head) (from p : ℕ) : Type 0 where
   pub at : p < length hs → head_at hs p ≡ h
   pub before : (k : ℕ) → from ≤ k → k < p → ¬ (head_at hs k ≡ h)
 
--- from place i on: the next place of the same head, and the next one of its complement
-pub record AreChained (hs : List Head) (same opposed : List ℕ) (i : ℕ) : Type 0 where
+-- from place i on: the next place of the same head
+pub record AreChained (hs : List Head) (same : List ℕ) (i : ℕ) : Type 0 where
   pub same_length : length same ≡ length hs
-  pub opposed_length : length opposed ≡ length hs
   pub to_same : (k : ℕ) → i ≤ k → k < length hs → IsNext hs (head_at hs k) (suc k) (slice_index_or same k 0)
-  pub to_opposed : (k : ℕ) → i ≤ k → k < length hs → IsNext hs (complement (head_at hs k)) (suc k) (slice_index_or opposed k 0)
 
 -- through all places, from the first one of each head
 pub record HasChains (p : Partners) : Type 0 where
-  pub chained : AreChained p.heads.items p.same.items p.opposed.items 0
+  pub chained : AreChained p.heads.items p.same.items 0
   pub first : (h : Head) → IsNext p.heads.items h 0 (unwrap_or (get id_eq p.first h) (length p.heads.items))

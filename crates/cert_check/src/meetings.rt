@@ -67,11 +67,7 @@ fn find_alike(
 }
 
 // The places of the head that is opposite to that of place `p`.
-fn find_opposite_heads(
-    alloc: Global,
-    classes: &Partners,
-    p: usize,
-) -> Result<Vec<usize>, Memory>
+fn find_opposite_heads(alloc: Global, classes: &Partners, p: usize) -> Result<Vec<usize>, Memory>
     requires chains { HasChains classes.now }
     requires within { p < length classes.now.heads.items }
     ensures { IfOk result (λ qs. HaveOpposite classes.now.heads.items p (length classes.now.heads.items) qs.items) }

@@ -127,7 +127,7 @@ pub fn find_classes(
     requires { length fingerprints.now ≡ length heads.now }
     ensures narrow { IfOk result (λ p. AreNarrow heads.now fingerprints.now p.heads.items) }
     ensures count { IfOk result (λ p. length p.heads.items ≡ length heads.now) }
-    ensures chained { IfOk result (λ p. AreChained p.heads.items p.same.items p.opposed.items 0) }
+    ensures chained { IfOk result (λ p. AreChained p.heads.items p.same.items 0) }
     ensures first { IfOk result (λ p. (h : Head) → IsNext p.heads.items h 0 (unwrap_or (get id_eq p.first h) (length p.heads.items))) }
 {
     let unmarked = unmarked_symbols(alloc, heads, fingerprints)?;

@@ -1,5 +1,4 @@
-// The heads of the members' selected literals, and chains by heads: each place leads on to the next one of the same head, and to
-// the next one of the opposite head.
+// The heads of the members' selected literals, and chains by heads: each place leads on to the next one of the same head.
 ghost use Rattle.std.specs.Prelude.{◌≡◌, ◌<◌, ℕ, length, IfOk, IfSome, Some, option_map, unwrap_or};
 ghost use Rattle.indexmap.specs.IndexMap.{get};
 ghost use Rattle.clause_form.specs.Literals.{id_eq};
@@ -10,7 +9,6 @@ ghost use Rattle.cert_check.specs.Partners.{AreApart, AreChained, Head, IsHeadAt
 
 use indexmap::IndexMap;
 use inst_logic::{Memory, Signed};
-use prop_logic::complement;
 use saturation_cert::{Saturation, selected};
 use std::alloc::Global;
 use term_bank::{Bank, IdLiteral};
@@ -18,14 +16,13 @@ use term_bank::{Bank, IdLiteral};
 // A sign and the number of a symbol.
 pub type HeadId = Signed<usize>;
 
-// For each place, counted from 0, its head, and the next place with that head and the next one with the opposite head. Where
-// there is none it is the number of places. And for each head its first place.
+// For each place, counted from 0, its head, and the next place with that head; where there is none it is the number of places.
+// And for each head its first place.
 #[derive(Drop)]
 pub struct Partners {
     pub(crate) heads: Vec<HeadId>,
     pub(crate) first: IndexMap<HeadId, usize>,
     pub(crate) same: Vec<usize>,
-    pub(crate) opposed: Vec<usize>,
 }
 
 // The head of the literal, unless its atom is a variable.
@@ -80,24 +77,17 @@ pub fn place_of(first: &IndexMap<HeadId, usize>, head: HeadId, count: usize) -> 
 
 // The chains through these heads.
 pub fn chained(alloc: Global, heads: Vec<HeadId>) -> Result<Partners, Memory>
-    ensures { IfOk result (λ p. (p.heads.items ≡ heads.items) × AreChained p.heads.items p.same.items p.opposed.items 0 × ((h : Head) → IsNext p.heads.items h 0 (unwrap_or (get id_eq p.first h) (length p.heads.items)))) }
+    ensures { IfOk result (λ p. (p.heads.items ≡ heads.items) × AreChained p.heads.items p.same.items 0 × ((h : Head) → IsNext p.heads.items h 0 (unwrap_or (get id_eq p.first h) (length p.heads.items)))) }
 {
     let count = heads.len();
     let mut same = vec![in alloc; count; count]?;
-    let mut other = vec![in alloc; count; count]?;
     let mut first: IndexMap<HeadId, usize> = IndexMap::new(alloc);
     let mut i = count;
     while 0 < i {
         i -= 1;
         let head = heads[i];
         same[i] = place_of(&first, head, count);
-        other[i] = place_of(&first, complement(head), count);
         first.insert(head, i)?;
     }
-    Ok(Partners {
-        heads,
-        first,
-        same,
-        opposed: other,
-    })
+    Ok(Partners { heads, first, same })
 }

@@ -120,10 +120,10 @@ fn check(alloc: Global, cert: &mut Saturation) -> Result<(), CheckError>
     check_selection(alloc, cert)
 }
 
-/// Checks the certificate and owns it from then on. After a refusal it is dropped. Time: a few comparisons for any two members
-/// whose selected literals have one symbol and opposite signs, but where each such literal has a symbol at the top of its first
-/// argument only for those that have the same one there; a unification where the symbols at a few places allow it; and where they
-/// unify, look-ups of the instances, and tests of subsumption by shorter members where these do not suffice.
+/// Checks the certificate and owns it from then on. After a refusal it is dropped. Time: a few look-ups for each member; a
+/// comparison for any two fingerprints of opposite signs that agree in the symbols at the tops of the arguments; a unification
+/// where the whole fingerprints of two members allow it; and where they unify, look-ups of the instances, and tests of subsumption
+/// by shorter members where these do not suffice.
 pub fn check_saturation(alloc: Global, cert: Saturation) -> Result<CheckedSaturation, CheckError>
     requires { IsWholeSaturation cert }
     ensures kept { IfOk result (KeepsSaturation cert) }

@@ -11,4 +11,4 @@ returns c =
     let h = c.in_ok-partners.ensures in
     let is = h.0 ∙ c.in_ok-ordered.ensures ∙ ap (heads_by hs) c.deref.ensures.value in
     subst (AreGrouped ms hs) (sym c.lengths_of.ensures)
-    (grouped ms hs p.heads.items (record { ranked = c.in_ok-ranked.ranked; first = p.first; same = p.same }) p.opposed.items c.in_ok-ranked.ensures is h.1 h.2)
+    (grouped ms hs p.heads.items (record { ranked = c.in_ok-ranked.ranked; first = p.first; same = p.same }) c.in_ok-ranked.ensures is h.1 h.2)

@@ -8,7 +8,7 @@ use Rattle.cert_check.proofs.partners.chained.Given as goal
 abbrev pub invariant-loop-i : goal.invariant-loop-i
 invariant-loop-i l = record {
   within : l.i ≤ length l.heads.items;
-  chained : AreChained l.heads.items l.same.items l.other.items l.i;
+  chained : AreChained l.heads.items l.same.items l.i;
   first : (h : Head) → IsNext l.heads.items h l.i (unwrap_or (get id_eq l.first h) (length l.heads.items));
 }
 
