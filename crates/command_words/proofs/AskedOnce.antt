@@ -1,11 +1,11 @@
 -- Words ask at most one thing.
-use Rattle.std.proofs.Common.{◌≡◌, ◌∙◌, ℕ, ◌≤◌, List, Option, Some, None, false, sym, ap, arith, rules, codes, refl}
+use Rattle.std.proofs.Common.{◌≡◌, ◌∙◌, ℕ, ◌<◌, ◌≤◌, List, Option, Some, None, false, sym, ap, arith, rules, codes, refl}
 use Rattle.std.proofs.Math.Dec.{eqb}
 use Rattle.std.proofs.lemmas.Option.{same_Some}
 use Rattle.inst_logic.specs.Tree.{Tree}
 use Rattle.inst_logic.specs.declared.signed.Signed.{Signed}
 use Rattle.cert_format.specs.Printable.{IsTextName}
-use Rattle.command_words.specs.Asked.{Asked, IsAsked, SaysAtom, SaysBudget, SaysLength, name_of, prove, sat, check, rewrite, ask, stress, word_of}
+use Rattle.command_words.specs.Asked.{Asked, IsAsked, SaysAtom, SaysBudget, SaysElements, SaysLength, name_of, prove, sat, check, rewrite, ask, stress, qbf, fmodel, core, word_of}
 use Rattle.command_words.proofs.AtomTexts.{same_reading}
 use Rattle.command_words.proofs.FirstWords.{differ, second}
 
@@ -25,6 +25,10 @@ same_length : (given : Option (List ℕ)) (m n : ℕ) → SaysLength given m →
 same_length None m n h k = absurd h
 same_length (Some text) m n h k = sym h.0.value ∙ k.0.value
 
+same_elements : (given : Option (List ℕ)) (m n : ℕ) → SaysElements given m → SaysElements given n → m ≡ n
+same_elements None m n h k = absurd h
+same_elements (Some text) m n h k = sym h.0.value ∙ k.0.value
+
 same_prove : (f g : List ℕ) (r s : Option (List ℕ)) (m n : ℕ) → f ≡ g → r ≡ s → m ≡ n → prove f r m ≡ prove g s n
 same_prove f g r s m n a b c = cc
 
@@ -36,6 +40,12 @@ same_rewrite c d p q r s e f g = cc
 
 same_ask : (c d : List ℕ) (a b : Signed Tree) → c ≡ d → a ≡ b → ask c a ≡ ask d b
 same_ask c d a b e f = cc
+
+same_fmodel : (m n : ℕ) (f g : List ℕ) (r s : Option (List ℕ)) → m ≡ n → f ≡ g → r ≡ s → fmodel m f r ≡ fmodel n g s
+same_fmodel m n f g r s a b c = cc
+
+same_core : (f g : List ℕ) (r s : Option (List ℕ)) → f ≡ g → r ≡ s → core f r ≡ core g s
+same_core f g r s a b = cc
 
 same_words : (words : List (List ℕ)) (a b : Asked) → IsAsked words a → IsAsked words b → word_of a ≡ word_of b
 same_words words a b h k = same_Some (word_of a) (word_of b) (sym h.command ∙ k.command)
@@ -55,6 +65,10 @@ once words (rewrite c p r) (rewrite d q s) h k = same_rewrite c d p q r s
     (same_Some c d (sym h.says.0.0 ∙ k.says.0.0)) (sym h.says.1.0 ∙ k.says.1.0) (sym h.says.2.0 ∙ k.says.2.0)
 once words (ask c a) (ask d b) h k = same_ask c d a b (same_Some c d (sym h.says.0.0 ∙ k.says.0.0)) (same_atom _ a b h.says.1 k.says.1)
 once words (stress m) (stress n) h k = ap stress (same_length _ m n h.says k.says)
+once words (qbf f) (qbf g) h k = ap qbf (same_Some f g (sym h.says.0 ∙ k.says.0))
+once words (fmodel m f r) (fmodel n g s) h k = same_fmodel m n f g r s
+    (same_elements _ m n h.says.0 k.says.0) (same_Some f g (sym h.says.1.0 ∙ k.says.1.0)) (sym h.says.2.0 ∙ k.says.2.0)
+once words (core f r) (core g s) h k = same_core f g r s (same_Some f g (sym h.says.0.0 ∙ k.says.0.0)) (sym h.says.1.0 ∙ k.says.1.0)
 once words a b h k = other_word words a b h k refl
 
 stress_name : IsTextName (codes "stress")
@@ -67,6 +81,9 @@ named words (check c p r) h = h.says.0.1
 named words (rewrite c p r) h = h.says.0.1
 named words (ask c a) h = h.says.0.1
 named words (stress m) h = stress_name
+named words (qbf f) h = h.says.1
+named words (fmodel m f r) h = h.says.1.1
+named words (core f r) h = h.says.0.1
 
 pub budget_limit : (words : List (List ℕ)) (file : List ℕ) (root : Option (List ℕ)) (budget : ℕ) → IsAsked words (prove file root budget) → budget ≤ 1000000000000
 budget_limit words file root budget h = small_budget _ budget h.says.2
@@ -77,3 +94,10 @@ range_of (Some text) n h = (h.1, h.2)
 
 pub length_range : (words : List (List ℕ)) (n : ℕ) → IsAsked words (stress n) → (2 ≤ n) × (n ≤ 100000)
 length_range words n h = range_of _ n h.says
+
+elements_within : (given : Option (List ℕ)) (n : ℕ) → SaysElements given n → (0 < n) × (n ≤ 64)
+elements_within None n h = absurd h
+elements_within (Some text) n h = (h.1, h.2)
+
+pub elements_range : (words : List (List ℕ)) (elements : ℕ) (file : List ℕ) (root : Option (List ℕ)) → IsAsked words (fmodel elements file root) → (0 < elements) × (elements ≤ 64)
+elements_range words elements file root h = elements_within _ elements h.says.0

@@ -7,8 +7,8 @@ use Rattle.clap.specs.Words.{Text, fault_of}
 use Rattle.clap.specs.declared.error.kind.ErrorKind.{ErrorKind}
 use Rattle.clap.specs.declared.error.kind.ErrorKind.TheVariants.{ArgumentConflict, DisplayHelp, MissingRequiredArgument, TooManyValues, UnknownArgument}
 use Rattle.clap.proofs.OnLiterals.{clap_on_literals}
-use Rattle.command_words.specs.Asked.{Asked, IsAsked, IsSet, IsUnread, SaysBudget, SaysLength, prove, sat, check, rewrite, ask, stress, word_of}
-use Rattle.command_words.specs.Commands.{IsTaken, ask_command, check_command, prove_command, sat_command, stress_command, value_of}
+use Rattle.command_words.specs.Asked.{Asked, IsAsked, IsSet, IsUnread, SaysBudget, SaysElements, SaysLength, prove, sat, check, rewrite, ask, stress, qbf, fmodel, core, word_of}
+use Rattle.command_words.specs.Commands.{IsTaken, ask_command, check_command, file_command, fmodel_command, problem_command, prove_command, stress_command, value_of}
 use Rattle.command_words.specs.Numbers.{IsNumber}
 use Rattle.command_words.proofs.FirstWords.{differ, second}
 
@@ -33,27 +33,27 @@ seven : IsNumber 13 (codes "007") 7
 seven = record { some = omega arith; few = omega arith; digits = refl; value = refl }
 
 pub file : IsAsked (codes "prove" ∷ codes "f.p" ∷ []) (prove (codes "f.p") None 10000000)
-unfolding prove_command IsTaken value_of clap_on_literals
+unfolding prove_command problem_command file_command IsTaken value_of clap_on_literals
 file = record { command = refl; taken = refl; says = ((refl, name_fp), (refl, tt), refl) }
 
 pub root : IsAsked (codes "prove" ∷ codes "--root" ∷ codes "d" ∷ codes "f.p" ∷ []) (prove (codes "f.p") (Some (codes "d")) 10000000)
-unfolding prove_command IsTaken value_of clap_on_literals
+unfolding prove_command problem_command file_command IsTaken value_of clap_on_literals
 root = record { command = refl; taken = refl; says = ((refl, name_fp), (refl, name_d), refl) }
 
 pub attached : IsAsked (codes "prove" ∷ codes "f.p" ∷ codes "--budget=4" ∷ []) (prove (codes "f.p") None 4)
-unfolding prove_command IsTaken value_of clap_on_literals
+unfolding prove_command problem_command file_command IsTaken value_of clap_on_literals
 attached = record { command = refl; taken = refl; says = ((refl, name_fp), (refl, tt), (four, omega arith)) }
 
 pub zeros : IsAsked (codes "prove" ∷ codes "f.p" ∷ codes "--budget" ∷ codes "007" ∷ []) (prove (codes "f.p") None 7)
-unfolding prove_command IsTaken value_of clap_on_literals
+unfolding prove_command problem_command file_command IsTaken value_of clap_on_literals
 zeros = record { command = refl; taken = refl; says = ((refl, name_fp), (refl, tt), (seven, omega arith)) }
 
 pub dash : IsAsked (codes "prove" ∷ codes "--" ∷ codes "-f" ∷ []) (prove (codes "-f") None 10000000)
-unfolding prove_command IsTaken value_of clap_on_literals
+unfolding prove_command problem_command file_command IsTaken value_of clap_on_literals
 dash = record { command = refl; taken = refl; says = ((refl, name_dash), (refl, tt), refl) }
 
 pub sat_file : IsAsked (codes "sat" ∷ codes "x" ∷ []) (sat (codes "x"))
-unfolding sat_command IsTaken value_of clap_on_literals
+unfolding file_command IsTaken value_of clap_on_literals
 sat_file = record { command = refl; taken = refl; says = (refl, name_x) }
 
 name_c : IsTextName (codes "c")
@@ -82,6 +82,21 @@ pub chain : IsAsked (codes "stress" ∷ codes "300" ∷ []) (stress 300)
 unfolding stress_command IsTaken value_of clap_on_literals
 chain = record { command = refl; taken = refl; says = (three_hundred, omega arith, omega arith) }
 
+pub formula : IsAsked (codes "qbf" ∷ codes "x" ∷ []) (qbf (codes "x"))
+unfolding file_command IsTaken value_of clap_on_literals
+formula = record { command = refl; taken = refl; says = (refl, name_x) }
+
+four_elements : IsNumber 2 (codes "04") 4
+four_elements = record { some = omega arith; few = omega arith; digits = refl; value = refl }
+
+pub model : IsAsked (codes "fmodel" ∷ codes "04" ∷ codes "--root=d" ∷ codes "f.p" ∷ []) (fmodel 4 (codes "f.p") (Some (codes "d")))
+unfolding fmodel_command IsTaken value_of clap_on_literals
+model = record { command = refl; taken = refl; says = ((four_elements, omega arith, omega arith), (refl, name_fp), (refl, name_d)) }
+
+pub core_of : IsAsked (codes "core" ∷ codes "f.p" ∷ []) (core (codes "f.p") None)
+unfolding problem_command file_command IsTaken value_of clap_on_literals
+core_of = record { command = refl; taken = refl; says = ((refl, name_fp), (refl, tt)) }
+
 -- ---- words that ask nothing
 
 -- the first word is another command's
@@ -101,6 +116,9 @@ help a h = other_word (codes "--help") [] a h (not_help a)
     not_help (rewrite c p r) = refl
     not_help (ask c b) = refl
     not_help (stress n) = refl
+    not_help (qbf f) = refl
+    not_help (fmodel n f r) = refl
+    not_help (core f r) = refl
 
 -- the parser refuses the words behind the command
 refused_prove : (rest : List Text) (k : ErrorKind) → fault_of prove_command (codes "prove" ∷ rest) ≡ k ∷ [] → IsUnread (codes "prove" ∷ rest)
@@ -108,7 +126,7 @@ unfolding IsTaken
 refused_prove rest k e (prove f r n) h = let none : k ∷ [] ≡ [] = sym e ∙ h.taken in absurd cc
 refused_prove rest k e a h = other_word (codes "prove") rest a h refl
 
-refused_sat : (rest : List Text) (k : ErrorKind) → fault_of sat_command (codes "sat" ∷ rest) ≡ k ∷ [] → IsUnread (codes "sat" ∷ rest)
+refused_sat : (rest : List Text) (k : ErrorKind) → fault_of (file_command (codes "sat")) (codes "sat" ∷ rest) ≡ k ∷ [] → IsUnread (codes "sat" ∷ rest)
 unfolding IsTaken
 refused_sat rest k e (sat f) h = let none : k ∷ [] ≡ [] = sym e ∙ h.taken in absurd cc
 refused_sat rest k e a h = other_word (codes "sat") rest a h refl
@@ -129,28 +147,38 @@ unfolding IsTaken
 refused_stress rest k e (stress n) h = let none : k ∷ [] ≡ [] = sym e ∙ h.taken in absurd cc
 refused_stress rest k e a h = other_word (codes "stress") rest a h refl
 
+refused_fmodel : (rest : List Text) (k : ErrorKind) → fault_of fmodel_command (codes "fmodel" ∷ rest) ≡ k ∷ [] → IsUnread (codes "fmodel" ∷ rest)
+unfolding IsTaken
+refused_fmodel rest k e (fmodel n f r) h = let none : k ∷ [] ≡ [] = sym e ∙ h.taken in absurd cc
+refused_fmodel rest k e a h = other_word (codes "fmodel") rest a h refl
+
+refused_core : (rest : List Text) (k : ErrorKind) → fault_of (problem_command (codes "core")) (codes "core" ∷ rest) ≡ k ∷ [] → IsUnread (codes "core" ∷ rest)
+unfolding IsTaken
+refused_core rest k e (core f r) h = let none : k ∷ [] ≡ [] = sym e ∙ h.taken in absurd cc
+refused_core rest k e a h = other_word (codes "core") rest a h refl
+
 pub no_file : IsUnread (codes "prove" ∷ [])
-unfolding prove_command clap_on_literals
+unfolding prove_command problem_command file_command clap_on_literals
 no_file = refused_prove [] MissingRequiredArgument refl
 
 pub two_files : IsUnread (codes "prove" ∷ codes "a" ∷ codes "b" ∷ [])
-unfolding prove_command clap_on_literals
+unfolding prove_command problem_command file_command clap_on_literals
 two_files = refused_prove (codes "a" ∷ codes "b" ∷ []) UnknownArgument refl
 
 pub prove_help : IsUnread (codes "prove" ∷ codes "--help" ∷ [])
-unfolding prove_command clap_on_literals
+unfolding prove_command problem_command file_command clap_on_literals
 prove_help = refused_prove (codes "--help" ∷ []) DisplayHelp refl
 
 pub two_roots : IsUnread (codes "prove" ∷ codes "f.p" ∷ codes "--root" ∷ codes "a" ∷ codes "--root" ∷ codes "b" ∷ [])
-unfolding prove_command clap_on_literals
+unfolding prove_command problem_command file_command clap_on_literals
 two_roots = refused_prove (codes "f.p" ∷ codes "--root" ∷ codes "a" ∷ codes "--root" ∷ codes "b" ∷ []) ArgumentConflict refl
 
 pub no_root : IsUnread (codes "sat" ∷ codes "x" ∷ codes "--root" ∷ codes "d" ∷ [])
-unfolding sat_command clap_on_literals
+unfolding file_command clap_on_literals
 no_root = refused_sat (codes "x" ∷ codes "--root" ∷ codes "d" ∷ []) UnknownArgument refl
 
 large_value : value_of prove_command (codes "prove" ∷ codes "f.p" ∷ codes "--budget" ∷ codes "1000000000001" ∷ []) (codes "budget") ≡ Some (codes "1000000000001")
-unfolding prove_command value_of clap_on_literals
+unfolding prove_command problem_command file_command value_of clap_on_literals
 large_value = refl
 
 too_large : (n : ℕ) → SaysBudget (Some (codes "1000000000001")) n → ⊥
@@ -194,3 +222,33 @@ too_short n (number, large, small) = let value : 1 ≡ n = number.value in absur
 pub short_chain : IsUnread (codes "stress" ∷ codes "1" ∷ [])
 short_chain (stress n) h = too_short n (rw one_value at h.says)
 short_chain a h = other_word (codes "stress") _ a h refl
+
+pub no_model_file : IsUnread (codes "fmodel" ∷ codes "4" ∷ [])
+unfolding fmodel_command clap_on_literals
+no_model_file = refused_fmodel (codes "4" ∷ []) MissingRequiredArgument refl
+
+zero_value : value_of fmodel_command (codes "fmodel" ∷ codes "0" ∷ codes "f.p" ∷ []) (codes "number") ≡ Some (codes "0")
+unfolding fmodel_command value_of clap_on_literals
+zero_value = refl
+
+too_few : (n : ℕ) → SaysElements (Some (codes "0")) n → ⊥
+too_few n (number, large, small) = let value : 0 ≡ n = number.value in absurd (omega arith)
+
+pub no_element : IsUnread (codes "fmodel" ∷ codes "0" ∷ codes "f.p" ∷ [])
+no_element (fmodel n f r) h = too_few n (rw zero_value at h.says.0)
+no_element a h = other_word (codes "fmodel") _ a h refl
+
+many_value : value_of fmodel_command (codes "fmodel" ∷ codes "65" ∷ codes "f.p" ∷ []) (codes "number") ≡ Some (codes "65")
+unfolding fmodel_command value_of clap_on_literals
+many_value = refl
+
+too_many : (n : ℕ) → SaysElements (Some (codes "65")) n → ⊥
+too_many n (number, large, small) = let value : 65 ≡ n = number.value in absurd (omega arith)
+
+pub many_elements : IsUnread (codes "fmodel" ∷ codes "65" ∷ codes "f.p" ∷ [])
+many_elements (fmodel n f r) h = too_many n (rw many_value at h.says.0)
+many_elements a h = other_word (codes "fmodel") _ a h refl
+
+pub no_core_file : IsUnread (codes "core" ∷ [])
+unfolding problem_command file_command clap_on_literals
+no_core_file = refused_core [] MissingRequiredArgument refl

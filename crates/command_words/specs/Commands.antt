@@ -16,13 +16,17 @@ optional id = record (new_rule id) { long = Some id }
 abbrev pub flag : Text → Rule
 flag id = record (new_rule id) { long = Some id; action = Some SetTrue }
 
+-- a command that takes a file
+unfoldable pub file_command : Text → App
+file_command word = with_rule (new_app word) (wanted (codes "file"))
+
+-- a command that takes a file, with `--root DIR` or without
+unfoldable pub problem_command : Text → App
+problem_command word = with_rule (file_command word) (optional (codes "root"))
+
 -- `prove FILE`, with `--root DIR` and `--budget N` or without
 unfoldable pub prove_command : App
-prove_command = with_rule (with_rule (with_rule (new_app (codes "prove")) (wanted (codes "file"))) (optional (codes "root"))) (optional (codes "budget"))
-
--- `sat FILE`
-unfoldable pub sat_command : App
-sat_command = with_rule (new_app (codes "sat")) (wanted (codes "file"))
+prove_command = with_rule (problem_command (codes "prove")) (optional (codes "budget"))
 
 -- `check CERT`, with `--problem FILE`, `--root DIR` and `--rewrite` or without
 unfoldable pub check_command : App
@@ -35,6 +39,10 @@ ask_command = with_rule (with_rule (new_app (codes "ask")) (wanted (codes "cert"
 -- `stress N`
 unfoldable pub stress_command : App
 stress_command = with_rule (new_app (codes "stress")) (wanted (codes "number"))
+
+-- `fmodel K FILE`, with `--root DIR` or without
+unfoldable pub fmodel_command : App
+fmodel_command = with_rule (with_rule (with_rule (new_app (codes "fmodel")) (wanted (codes "number"))) (wanted (codes "file"))) (optional (codes "root"))
 
 -- the parser finds no fault in the words
 unfoldable pub IsTaken : App → List Text → Type 0

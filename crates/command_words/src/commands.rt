@@ -2,7 +2,7 @@
 // ways out, and an argument and a command have many fields.
 ghost use Rattle.std.specs.Prelude.{◌≡◌, IfOk};
 ghost use Rattle.clap.specs.Words.{app_of, with_rule};
-ghost use Rattle.command_words.specs.Commands.{ask_command, check_command, flag, optional, prove_command, sat_command, stress_command, wanted};
+ghost use Rattle.command_words.specs.Commands.{ask_command, check_command, file_command, flag, fmodel_command, optional, problem_command, prove_command, stress_command, wanted};
 
 use clap::{Arg, ArgAction, Command};
 use inst_logic::Memory;
@@ -35,18 +35,24 @@ fn with_flag<'a>(alloc: Global, command: Command<'a>, id: &'a str) -> Result<Com
     Ok(command)
 }
 
+pub(crate) fn make_of_file<'a>(alloc: Global, word: &'a str) -> Result<Command<'a>, Memory>
+    ensures { IfOk result (λ c. app_of c ≡ file_command word.now) }
+{
+    with_word(alloc, Command::new(alloc, word), "file")
+}
+
+pub(crate) fn make_of_problem<'a>(alloc: Global, word: &'a str) -> Result<Command<'a>, Memory>
+    ensures { IfOk result (λ c. app_of c ≡ problem_command word.now) }
+{
+    let command = make_of_file(alloc, word)?;
+    with_option(alloc, command, "root")
+}
+
 pub(crate) fn make_prove<'a>(alloc: Global) -> Result<Command<'a>, Memory>
     ensures { IfOk result (λ c. app_of c ≡ prove_command) }
 {
-    let command = with_word(alloc, Command::new(alloc, "prove"), "file")?;
-    let command = with_option(alloc, command, "root")?;
+    let command = make_of_problem(alloc, "prove")?;
     with_option(alloc, command, "budget")
-}
-
-pub(crate) fn make_sat<'a>(alloc: Global) -> Result<Command<'a>, Memory>
-    ensures { IfOk result (λ c. app_of c ≡ sat_command) }
-{
-    with_word(alloc, Command::new(alloc, "sat"), "file")
 }
 
 pub(crate) fn make_check<'a>(alloc: Global) -> Result<Command<'a>, Memory>
@@ -69,4 +75,12 @@ pub(crate) fn make_stress<'a>(alloc: Global) -> Result<Command<'a>, Memory>
     ensures { IfOk result (λ c. app_of c ≡ stress_command) }
 {
     with_word(alloc, Command::new(alloc, "stress"), "number")
+}
+
+pub(crate) fn make_fmodel<'a>(alloc: Global) -> Result<Command<'a>, Memory>
+    ensures { IfOk result (λ c. app_of c ≡ fmodel_command) }
+{
+    let command = with_word(alloc, Command::new(alloc, "fmodel"), "number")?;
+    let command = with_word(alloc, command, "file")?;
+    with_option(alloc, command, "root")
 }

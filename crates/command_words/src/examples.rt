@@ -1,6 +1,6 @@
 // Worked examples of the definitions, as theorems: each function does nothing, and its clauses are closed facts.
 ghost use Rattle.std.specs.Prelude.{[], ◌∷◌, Some, None, codes};
-ghost use Rattle.command_words.specs.Asked.{IsAsked, IsUnread, prove, sat, check, rewrite, stress};
+ghost use Rattle.command_words.specs.Asked.{IsAsked, IsUnread, prove, sat, check, rewrite, stress, qbf, fmodel, core};
 
 /// Options stand on either side of the file, with `=` or as a word of their own; zeros may stand in front; behind `--` a file may
 /// begin with `-`.
@@ -15,10 +15,14 @@ pub fn asking()
     ensures of_problem { IsAsked (codes "check" ∷ codes "--problem" ∷ codes "f.p" ∷ codes "c" ∷ codes "--root=d" ∷ []) (check (codes "c") (Some (codes "f.p")) (Some (codes "d"))) }
     ensures rewritten { IsAsked (codes "check" ∷ codes "c" ∷ codes "--rewrite" ∷ []) (rewrite (codes "c") None None) }
     ensures chain { IsAsked (codes "stress" ∷ codes "300" ∷ []) (stress 300) }
+    ensures formula { IsAsked (codes "qbf" ∷ codes "x" ∷ []) (qbf (codes "x")) }
+    ensures model { IsAsked (codes "fmodel" ∷ codes "04" ∷ codes "--root=d" ∷ codes "f.p" ∷ []) (fmodel 4 (codes "f.p") (Some (codes "d"))) }
+    ensures core { IsAsked (codes "core" ∷ codes "f.p" ∷ []) (core (codes "f.p") None) }
 {}
 
 /// No command, no file or two, an option of another command or one given twice, a flag with a value or twice, a budget past the
-/// limit, a certificate without an atom, a chain without a length or of one constant, and what `clap` would answer by help.
+/// limit, a certificate without an atom, a chain without a length or of one constant, a model without a file, without an element or
+/// with too many, and what `clap` would answer by help.
 pub fn asking_nothing()
     ensures empty { IsUnread [] }
     ensures help { IsUnread (codes "--help" ∷ []) }
@@ -35,4 +39,8 @@ pub fn asking_nothing()
     ensures no_atom { IsUnread (codes "ask" ∷ codes "a" ∷ []) }
     ensures no_length { IsUnread (codes "stress" ∷ []) }
     ensures short_chain { IsUnread (codes "stress" ∷ codes "1" ∷ []) }
+    ensures no_model_file { IsUnread (codes "fmodel" ∷ codes "4" ∷ []) }
+    ensures no_element { IsUnread (codes "fmodel" ∷ codes "0" ∷ codes "f.p" ∷ []) }
+    ensures many_elements { IsUnread (codes "fmodel" ∷ codes "65" ∷ codes "f.p" ∷ []) }
+    ensures no_core_file { IsUnread (codes "core" ∷ []) }
 {}

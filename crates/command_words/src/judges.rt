@@ -7,7 +7,7 @@ ghost use Rattle.inst_logic.specs.Tree.{Tree};
 ghost use Rattle.inst_logic.specs.declared.signed.Signed.{Signed};
 ghost use Rattle.cert_format.specs.Printable.{IsTextName};
 ghost use Rattle.tptp_read.specs.Atoms.{ReadsAtom};
-ghost use Rattle.command_words.specs.Asked.{IsSet, SaysAtom, SaysBudget, SaysFile, SaysLength, SaysOther};
+ghost use Rattle.command_words.specs.Asked.{IsSet, SaysAtom, SaysBudget, SaysElements, SaysFile, SaysLength, SaysOther};
 ghost use Rattle.command_words.specs.Errors as wanting;
 ghost use Rattle.command_words.specs.Numbers.{IsNumber};
 
@@ -140,14 +140,14 @@ pub(crate) fn atom_in(alloc: Global, word: Option<&str>) -> Result<Option<Litera
     }
 }
 
-// The length of a chain that the text is.
-fn length_of(text: &str) -> Option<usize>
-    ensures { MatchOption result ((n : ℕ) → ¬ (IsNumber 6 text.now n × (2 ≤ n) × (n ≤ 100000)))
-        (λ n. IsNumber 6 text.now n × (2 ≤ n) × (n ≤ 100000)) }
+// The number within these bounds that the word is, in 1 to `most` digits.
+fn number_within(least: u64, greatest: u64, most: usize, word: &str) -> Option<usize>
+    ensures { MatchOption result ((n : ℕ) → ¬ (IsNumber most word.now n × (least ≤ n) × (n ≤ greatest)))
+        (λ n. IsNumber most word.now n × (least ≤ n) × (n ≤ greatest)) }
 {
-    match number_up_to(100_000, 6, text) {
+    match number_up_to(greatest, most, word) {
         Some(number) => {
-            if number < 2 {
+            if number < least {
                 None
             } else {
                 Some(number as usize)
@@ -163,7 +163,18 @@ pub(crate) fn length_in(word: Option<&str>) -> Option<usize>
         (SaysLength (option_map (λ w. w.now) word.entry)) }
 {
     match word {
-        Some(text) => length_of(text),
+        Some(text) => number_within(2, 100_000, 6, text),
+        None => None,
+    }
+}
+
+// The number of a model's elements that is given, which has to be.
+pub(crate) fn elements_in(word: Option<&str>) -> Option<usize>
+    ensures { MatchOption result ((n : ℕ) → ¬ SaysElements (option_map (λ w. w.now) word.entry) n)
+        (SaysElements (option_map (λ w. w.now) word.entry)) }
+{
+    match word {
+        Some(text) => number_within(1, 64, 2, text),
         None => None,
     }
 }

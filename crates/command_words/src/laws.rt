@@ -1,7 +1,7 @@
 // What holds of what words ask.
-ghost use Rattle.std.specs.Prelude.{◌≡◌, ◌≤◌, ℕ, List, Option};
+ghost use Rattle.std.specs.Prelude.{◌≡◌, ◌<◌, ◌≤◌, ℕ, List, Option};
 ghost use Rattle.cert_format.specs.Printable.{IsTextName};
-ghost use Rattle.command_words.specs.Asked.{Asked, IsAsked, name_of, prove, stress};
+ghost use Rattle.command_words.specs.Asked.{Asked, IsAsked, fmodel, name_of, prove, stress};
 
 /// Words ask at most one thing, and the name of its answers can stand in a text.
 pub fn asked_once()
@@ -18,4 +18,10 @@ pub fn asked_budget()
 /// A chain that words ask for has a least and a greatest length.
 pub fn asked_length()
     ensures { (words : List (List ℕ)) (number : ℕ) → IsAsked words (stress number) → (2 ≤ number) × (number ≤ 100000) }
+{}
+
+/// A model that words ask for has an element, and not too many.
+pub fn asked_elements()
+    ensures { (words : List (List ℕ)) (elements : ℕ) (file : List ℕ) (root : Option (List ℕ))
+        → IsAsked words (fmodel elements file root) → (0 < elements) × (elements ≤ 64) }
 {}

@@ -1,11 +1,14 @@
 // The words, command by command.
-ghost use Rattle.std.specs.Prelude.{◌≡◌, Some, IfOk, IfSome, IfNone, codes, map, slice_get, string_bytes};
-ghost use Rattle.clap.specs.Words.{first_value, found_of};
-ghost use Rattle.command_words.specs.Asked.{Asked, IsAsked, IsUnread, Says, SaysFile, word_of};
+ghost use Rattle.std.specs.Prelude.{◌≡◌, ℕ, List, true, Some, IfOk, IfSome, IfNone, MatchOption, codes, map, slice_get, string_bytes};
+ghost use Rattle.clap.specs.Words.{first_value, found_of, is_simple_and_free};
+ghost use Rattle.command_words.specs.Asked.{Asked, GivesFile, IsAsked, IsUnread, Says, SaysFile, word_of};
+ghost use Rattle.command_words.specs.Commands.{file_command};
 ghost use Rattle.command_words.specs.Requests.{asked};
 
-use crate::commands::{make_ask, make_check, make_prove, make_sat, make_stress};
-use crate::judges::{atom_in, budget_in, file_in, is_set, length_in, other_in};
+use crate::commands::{
+    make_ask, make_check, make_fmodel, make_of_file, make_of_problem, make_prove, make_stress,
+};
+use crate::judges::{atom_in, budget_in, elements_in, file_in, is_set, length_in, other_in};
 use crate::matched::matched;
 use crate::request::Request;
 use clap::ArgMatches;
@@ -22,12 +25,27 @@ fn prove_request<'a>(matches: &ArgMatches<'a>) -> Option<Request<'a>>
     Some(Request::Prove { file, root, budget })
 }
 
-fn sat_request<'a>(matches: &ArgMatches<'a>) -> Option<Request<'a>>
-    ensures says { IfSome result (λ q. Says (first_value (found_of matches.now)) (asked q) × (word_of (asked q) ≡ codes "sat")) }
-    ensures none { IfNone result ((a : Asked) → word_of a ≡ codes "sat" → ¬ Says (first_value (found_of matches.now)) a) }
+fn fmodel_request<'a>(matches: &ArgMatches<'a>) -> Option<Request<'a>>
+    ensures says { IfSome result (λ q. Says (first_value (found_of matches.now)) (asked q) × (word_of (asked q) ≡ codes "fmodel")) }
+    ensures none { IfNone result ((a : Asked) → word_of a ≡ codes "fmodel" → ¬ Says (first_value (found_of matches.now)) a) }
+{
+    let elements = elements_in(matches.get_str("number"))?;
+    let file = file_in(matches.get_str("file"))?;
+    let root = other_in(matches.get_str("root"))?;
+    Some(Request::Fmodel {
+        elements,
+        file,
+        root,
+    })
+}
+
+fn core_request<'a>(matches: &ArgMatches<'a>) -> Option<Request<'a>>
+    ensures says { IfSome result (λ q. Says (first_value (found_of matches.now)) (asked q) × (word_of (asked q) ≡ codes "core")) }
+    ensures none { IfNone result ((a : Asked) → word_of a ≡ codes "core" → ¬ Says (first_value (found_of matches.now)) a) }
 {
     let file = file_in(matches.get_str("file"))?;
-    Some(Request::Sat { file })
+    let root = other_in(matches.get_str("root"))?;
+    Some(Request::Core { file, root })
 }
 
 fn check_request<'a>(matches: &ArgMatches<'a>) -> Option<Request<'a>>
@@ -98,14 +116,65 @@ fn read_prove<'a>(alloc: Global, words: &'a [String]) -> Result<Option<Request<'
     }
 }
 
+// The file that the words name by this command, which takes nothing else.
+fn file_given<'a>(
+    alloc: Global,
+    word: &'a str,
+    words: &'a [String],
+) -> Result<Option<&'a str>, Memory>
+    requires { is_simple_and_free (file_command word.now) ≡ true }
+    ensures { IfOk result (λ r. MatchOption r ((f : List ℕ) → ¬ GivesFile word.now (map string_bytes words.now) f)
+        (λ f. GivesFile word.now (map string_bytes words.now) f.now)) }
+{
+    let command = make_of_file(alloc, word)?;
+    match matched(command, words)? {
+        Some(matches) => Ok(file_in(matches.get_str("file"))),
+        None => Ok(None),
+    }
+}
+
 fn read_sat<'a>(alloc: Global, words: &'a [String]) -> Result<Option<Request<'a>>, Memory>
     requires { slice_get (map string_bytes words.now) 0 ≡ Some (codes "sat") }
     ensures asked { IfOk result (λ r. IfSome r (λ q. IsAsked (map string_bytes words.now) (asked q))) }
     ensures unread { IfOk result (λ r. IfNone r (IsUnread (map string_bytes words.now))) }
 {
-    let command = make_sat(alloc)?;
+    match file_given(alloc, "sat", words)? {
+        Some(file) => Ok(Some(Request::Sat { file })),
+        None => Ok(None),
+    }
+}
+
+fn read_qbf<'a>(alloc: Global, words: &'a [String]) -> Result<Option<Request<'a>>, Memory>
+    requires { slice_get (map string_bytes words.now) 0 ≡ Some (codes "qbf") }
+    ensures asked { IfOk result (λ r. IfSome r (λ q. IsAsked (map string_bytes words.now) (asked q))) }
+    ensures unread { IfOk result (λ r. IfNone r (IsUnread (map string_bytes words.now))) }
+{
+    match file_given(alloc, "qbf", words)? {
+        Some(file) => Ok(Some(Request::Qbf { file })),
+        None => Ok(None),
+    }
+}
+
+fn read_fmodel<'a>(alloc: Global, words: &'a [String]) -> Result<Option<Request<'a>>, Memory>
+    requires { slice_get (map string_bytes words.now) 0 ≡ Some (codes "fmodel") }
+    ensures asked { IfOk result (λ r. IfSome r (λ q. IsAsked (map string_bytes words.now) (asked q))) }
+    ensures unread { IfOk result (λ r. IfNone r (IsUnread (map string_bytes words.now))) }
+{
+    let command = make_fmodel(alloc)?;
     match matched(command, words)? {
-        Some(matches) => Ok(sat_request(&matches)),
+        Some(matches) => Ok(fmodel_request(&matches)),
+        None => Ok(None),
+    }
+}
+
+fn read_core<'a>(alloc: Global, words: &'a [String]) -> Result<Option<Request<'a>>, Memory>
+    requires { slice_get (map string_bytes words.now) 0 ≡ Some (codes "core") }
+    ensures asked { IfOk result (λ r. IfSome r (λ q. IsAsked (map string_bytes words.now) (asked q))) }
+    ensures unread { IfOk result (λ r. IfNone r (IsUnread (map string_bytes words.now))) }
+{
+    let command = make_of_problem(alloc, "core")?;
+    match matched(command, words)? {
+        Some(matches) => Ok(core_request(&matches)),
         None => Ok(None),
     }
 }
@@ -167,6 +236,15 @@ pub fn read_words(alloc: Global, words: &[String]) -> Result<Option<Request<'_>>
             }
             if word.as_str() == "stress" {
                 return read_stress(alloc, words);
+            }
+            if word.as_str() == "qbf" {
+                return read_qbf(alloc, words);
+            }
+            if word.as_str() == "fmodel" {
+                return read_fmodel(alloc, words);
+            }
+            if word.as_str() == "core" {
+                return read_core(alloc, words);
             }
             Ok(None)
         }

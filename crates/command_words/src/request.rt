@@ -3,7 +3,7 @@
 use inst_logic::Literal;
 
 /// What the words ask. Names are as they were given; a budget counts symbols; an atom is a positive literal without variables; the
-/// number of a chain is that of its constants.
+/// number of a chain is that of its constants; elements are those of a model.
 #[derive(Drop)]
 pub enum Request<'a> {
     Prove {
@@ -31,5 +31,17 @@ pub enum Request<'a> {
     },
     Stress {
         number: usize,
+    },
+    Qbf {
+        file: &'a str,
+    },
+    Fmodel {
+        elements: usize,
+        file: &'a str,
+        root: Option<&'a str>,
+    },
+    Core {
+        file: &'a str,
+        root: Option<&'a str>,
     },
 }

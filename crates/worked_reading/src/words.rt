@@ -35,6 +35,14 @@ pub const ROWS: &str = "\
 #|stress|0002@stress 2\
 #|stress|000002@stress 2\
 #|stress|100000@stress 100000\
+#|qbf|x@qbf x\
+#|qbf|--|-f@qbf -f\
+#|fmodel|2|m.p@fmodel 2 m.p\
+#|fmodel|01|m.p@fmodel 1 m.p\
+#|fmodel|64|m.p|--root|d@fmodel 64 m.p root d\
+#|fmodel|--root=d|3|m.p@fmodel 3 m.p root d\
+#|core|f.p@core f.p\
+#|core|--root|d|f.p@core f.p root d\
 #@nothing\
 #|--help@nothing\
 #|help@nothing\
@@ -92,6 +100,24 @@ pub const ROWS: &str = "\
 #|stress|+2@nothing\
 #|stress|2|3@nothing\
 #|stress|--help@nothing\
+#|qbf@nothing\
+#|qbf|@nothing\
+#|qbf|x|y@nothing\
+#|qbf|x|--root|d@nothing\
+#|fmodel@nothing\
+#|fmodel|2@nothing\
+#|fmodel|m.p|2@nothing\
+#|fmodel|0|m.p@nothing\
+#|fmodel|65|m.p@nothing\
+#|fmodel|002|m.p@nothing\
+#|fmodel|+2|m.p@nothing\
+#|fmodel|2|m.p|--budget|4@nothing\
+#|fmodel|--help@nothing\
+#|core@nothing\
+#|core|a|b@nothing\
+#|core|a|--root|@nothing\
+#|core|a|--budget|4@nothing\
+#|core|--help@nothing\
 ";
 
 fn push_owned(alloc: Global, words: &mut Vec<String>, text: &str) -> Result<(), Memory> {
@@ -158,6 +184,20 @@ fn push_request(answer: &mut Vec<u8>, request: &Request<'_>) -> Result<(), Memor
         } => push_check(answer, b"rewrite ", cert, *problem, *root),
         Request::Ask { cert, atom } => push_ask(answer, cert, atom),
         Request::Stress { number } => push_counted(answer, b"stress ", *number),
+        Request::Qbf { file } => push_word(answer, b"qbf ", file),
+        Request::Fmodel {
+            elements,
+            file,
+            root,
+        } => {
+            push_counted(answer, b"fmodel ", *elements)?;
+            push_word(answer, b" ", file)?;
+            push_given(answer, b" root ", *root)
+        }
+        Request::Core { file, root } => {
+            push_word(answer, b"core ", file)?;
+            push_given(answer, b" root ", *root)
+        }
     }
 }
 

@@ -1,4 +1,4 @@
-use Rattle.command_words.proofs.ExampleWords.{empty, help, no_file, two_files, prove_help, large_budget, two_roots, no_root, no_cert, two_certs, flag_value, two_flags, no_atom, no_length, short_chain}
+use Rattle.command_words.proofs.ExampleWords.{empty, help, no_file, two_files, prove_help, large_budget, two_roots, no_root, no_cert, two_certs, flag_value, two_flags, no_atom, no_length, short_chain, no_model_file, no_element, many_elements, no_core_file}
 use Rattle.command_words.proofs.examples.asking_nothing.Goals as goal
 
 pub returns : goal.returns
@@ -18,4 +18,8 @@ returns c = record {
   no_atom = no_atom;
   no_length = no_length;
   short_chain = short_chain;
+  no_model_file = no_model_file;
+  no_element = no_element;
+  many_elements = many_elements;
+  no_core_file = no_core_file;
 }

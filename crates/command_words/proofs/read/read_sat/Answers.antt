@@ -1,7 +1,5 @@
-use Rattle.std.proofs.Common.{◌∙◌, ap}
-use Rattle.clap.specs.Words.{is_simple_and_free}
 use Rattle.command_words.proofs.SimpleCommands.{sat_is_simple}
 use Rattle.command_words.proofs.read.read_sat.Goals as goal
 
-pub matched-requires : goal.matched-requires
-matched-requires c = ap is_simple_and_free c.in_ok-command.ensures ∙ sat_is_simple
+pub file_given-requires : goal.file_given-requires
+file_given-requires c = sat_is_simple

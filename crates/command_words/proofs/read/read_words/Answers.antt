@@ -27,3 +27,18 @@ pub read_stress-requires : goal.read_stress-requires
 read_stress-requires c =
     let same : bytes_eq (string_bytes c.in-Some.word.now) (codes "stress") ≡ true = search rules in
     first_word string_bytes c.args.words.now c.in-Some.word.now (codes "stress") c.in-Some.ensures.value same
+
+pub read_qbf-requires : goal.read_qbf-requires
+read_qbf-requires c =
+    let same : bytes_eq (string_bytes c.in-Some.word.now) (codes "qbf") ≡ true = search rules in
+    first_word string_bytes c.args.words.now c.in-Some.word.now (codes "qbf") c.in-Some.ensures.value same
+
+pub read_fmodel-requires : goal.read_fmodel-requires
+read_fmodel-requires c =
+    let same : bytes_eq (string_bytes c.in-Some.word.now) (codes "fmodel") ≡ true = search rules in
+    first_word string_bytes c.args.words.now c.in-Some.word.now (codes "fmodel") c.in-Some.ensures.value same
+
+pub read_core-requires : goal.read_core-requires
+read_core-requires c =
+    let same : bytes_eq (string_bytes c.in-Some.word.now) (codes "core") ≡ true = search rules in
+    first_word string_bytes c.args.words.now c.in-Some.word.now (codes "core") c.in-Some.ensures.value same
