@@ -1,5 +1,5 @@
 -- The causes of what the calls of the commands answer.
-use Rattle.std.proofs.Common.{◌≡◌, ℕ, List, Option, refl, codes}
+use Rattle.std.proofs.Common.{ℕ, List, Option, refl, codes}
 use Rattle.std.specs.Prelude.{IfOk, IfErr, Result, Ok, Err}
 use Rattle.inst_logic.specs.declared.memory.Memory.{Memory as OutOfMemory}
 use Rattle.inst_logic.specs.declared.signed.Signed.{Signed}
@@ -14,7 +14,8 @@ use Rattle.cert_front.specs.declared.reply.Reply.{Reply}
 use Rattle.cert_front.specs.declared.rewriting.Rewriting.{Rewriting}
 use Rattle.cert_front.specs.declared.words.Form.{Form}
 use Rattle.command_words.specs.Asked.{prove, check, rewrite, ask, stress, IsAsked}
-use Rattle.szs_prove.specs.Answers.{HasVerdict, IsAnswer, IsRefusal, IsUntouched, Reading}
+use Rattle.szs_prove.specs.Answers.{HasVerdict, IsRefusal, IsUntouched, Reading}
+use Rattle.szs_prove.specs.Causes.{IsAnswer}
 use Rattle.szs_prove.specs.Sizes.{IsRefutedIn}
 use Rattle.szs_prove.specs.declared.answer.Answer.TheVariants.{Prove, Check, Rewrite, Ask, Stress}
 use Rattle.szs_prove.specs.declared.refusal.Refusal.{Refusal}

@@ -34,24 +34,30 @@ use Rattle.cert_front.specs.declared.check.CheckFault.{CheckFault}
 use Rattle.cert_front.specs.declared.check.CheckFault.TheVariants as unjudged
 use Rattle.cert_front.specs.declared.fault.CertFault.{CertFault}
 use Rattle.cert_front.specs.declared.fault.CertFault.TheVariants as cert
-use Rattle.command_words.specs.Asked.{Asked, prove, sat, check, rewrite, ask, stress, IsAsked, IsUnread, name_of}
-use Rattle.dimacs_front.specs.Files.{IsOutcome, IsRefused}
+use Rattle.command_words.specs.Asked.{Asked, prove, sat, check, rewrite, ask, stress, qbf, IsAsked, IsUnread, name_of}
+use Rattle.dimacs_front.specs.Files.{IsHeld, IsOutcome, IsRefused}
 use Rattle.dimacs_front.specs.Notices.{fault_reason as line_of_text, fault_status as status_of_text, refusal_reason, refusal_status}
+use Rattle.dimacs_front.specs.Quantified.{formula_in}
 use Rattle.dimacs_front.specs.declared.answers.SatAnswer.{SatAnswer}
 use Rattle.dimacs_front.specs.declared.answers.SatAnswer.TheVariants.{Satisfiable, Unsatisfiable}
+use Rattle.dimacs_front.specs.declared.cnf.Qbf.{Qbf as Formula}
 use Rattle.dimacs_front.specs.declared.error.DimacsError.{DimacsError}
 use Rattle.dimacs_front.specs.declared.error.DimacsError.TheVariants as fault
 use Rattle.dimacs_front.specs.declared.file.SatError.{SatError}
 use Rattle.dimacs_front.specs.declared.file.SatError.TheVariants as bar
 use Rattle.szs_prove.specs.Sizes.{IsRefutedIn}
 use Rattle.szs_prove.specs.SizeWords.{size_lines}
-use Rattle.szs_prove.specs.Answers.{IsAnswer, IsFinding, IsMeasured, IsOutOfBudget, IsProof, IsRefusal, IsReplyOf, IsRewritingOf, IsVerdict, Reading}
-use Rattle.szs_prove.specs.Answered.{Answered, AsksAtom, AsksChain, AsksCheck, AsksProof, AsksRewriting, EndsChain, OfCertificate, Writing, IsInterrupted, WantsMemory, WritesCertificate, WritesComplaint, WritesJudgement, WritesNumbers, WritesReply, WritesRewriting, WritesSize, IsNamed}
-use Rattle.szs_prove.specs.Texts.{ask_exit, ask_text, budget_line, check_exit, check_text, exit_for, exit_of, judgement_exit, load_reason, load_status, prove_exit, prove_text, refusal_text, reply_exit, rewriting_exit, rewriting_text, sat_exit, sat_text, stress_exit, stress_text, text_for, text_reason, text_status, unjudged_reason, unjudged_status, want_text}
+use Rattle.szs_prove.specs.Answers.{IsOutOfBudget, IsProof, IsRefusal, IsVerdict, Reading}
+use Rattle.szs_prove.specs.Causes.{IsAnswer, IsFinding, IsMeasured, IsReplyOf, IsRewritingOf}
+use Rattle.szs_prove.specs.Formulas.{IsFormulaAnswer, IsFormulaOutcome, IsFormulaRefused}
+use Rattle.szs_prove.specs.Answered.{Answered, AsksAtom, AsksChain, AsksCheck, AsksFormula, AsksProof, AsksRewriting, EndsChain, OfCertificate, TellsValue, Writing, IsInterrupted, WantsMemory, WritesCertificate, WritesComplaint, WritesFormula, WritesJudgement, WritesNumbers, WritesReply, WritesRewriting, WritesSize, IsNamed}
+use Rattle.szs_prove.specs.Texts.{ask_exit, ask_text, check_exit, check_text, exit_for, exit_of, judgement_exit, load_reason, load_status, prove_exit, prove_text, qbf_exit, qbf_text, refusal_text, reply_exit, rewriting_exit, rewriting_text, sat_exit, sat_text, stress_exit, stress_text, text_for, text_reason, text_status, unjudged_reason, unjudged_status, value_exit, value_text, want_text}
 use Rattle.szs_prove.specs.declared.answer.Answer.{Answer}
-use Rattle.szs_prove.specs.declared.answer.Answer.TheVariants.{Prove, Sat, Check, Rewrite, Ask, Stress, Unread, NoWords}
+use Rattle.szs_prove.specs.declared.answer.Answer.TheVariants.{Prove, Sat, Check, Rewrite, Ask, Stress, Qbf, Unread, NoWords}
 use Rattle.szs_prove.specs.declared.exit.Exit.{Exit}
 use Rattle.szs_prove.specs.declared.exit.Exit.TheVariants as exit
+use Rattle.szs_prove.specs.declared.formula.FormulaAnswer.{FormulaAnswer}
+use Rattle.szs_prove.specs.declared.formula.FormulaAnswer.TheVariants.{True, False}
 use Rattle.szs_prove.specs.declared.refusal.Refusal.{Refusal}
 use Rattle.szs_prove.specs.declared.refusal.Refusal.TheVariants.{Load, OutOfBudget, Memory}
 use Rattle.szs_prove.specs.declared.sizes.Size.{Size}
@@ -116,13 +122,46 @@ record SaysSize (words : List (List ℕ)) (text : List ℕ) : Type 0 where
   refuted : IsRefutedIn number size
   is : text ≡ size_lines size
 
+-- the text tells the value of a formula, with the exit that goes with it
+record SaysFormula (words : List (List ℕ)) (read : Reading) (text : List ℕ) (e : Exit) : Type 0 where
+  file : List ℕ
+  asked : IsAsked words (qbf file)
+  bytes : List ℕ
+  held : IsHeld read.old.files file bytes
+  formula : Formula
+  reads : formula_in bytes ≡ Ok formula
+  answer : FormulaAnswer
+  shown : IsFormulaAnswer file formula answer
+  ends : e ≡ value_exit answer
+  is : text ≡ value_text answer
+
 -- what is complained of a certificate
 abbrev SaysComplaint : List (List ℕ) → Reading → List ℕ → Type 0
 SaysComplaint words read text = SaysJudgement check words read text exit.CheckFailed ⊎ SaysJudgement rewrite words read text exit.CheckFailed ⊎ SaysReply words read text exit.CheckFailed
 
--- what is decided
+-- what is decided of a question
+abbrev DecidedOf : List (List ℕ) → Reading → List ℕ → Asked → Type 0
+DecidedOf words read text (prove file root budget) = SaysVerdict words read text
+DecidedOf words read text (sat file) = ⊥
+DecidedOf words read text (check cert problem root) = SaysJudgement check words read text exit.Decided
+DecidedOf words read text (rewrite cert problem root) = SaysRewriting words read text
+DecidedOf words read text (ask cert atom) = SaysReply words read text exit.Decided
+DecidedOf words read text (stress number) = SaysSize words text
+DecidedOf words read text (qbf file) = ⊥
+
+-- what is decided of what is asked
 abbrev SaysDecided : List (List ℕ) → Reading → List ℕ → Type 0
-SaysDecided words read text = SaysVerdict words read text ⊎ SaysJudgement check words read text exit.Decided ⊎ SaysRewriting words read text ⊎ SaysReply words read text exit.Decided ⊎ SaysSize words text
+SaysDecided words read text = (a : Asked) × IsAsked words a × DecidedOf words read text a
+
+-- what the value is that a question found
+abbrev ValueOf : List (List ℕ) → Reading → List ℕ → Exit → Asked → Type 0
+ValueOf words read text e (sat file) = ⊤
+ValueOf words read text e (qbf file) = SaysFormula words read text e
+ValueOf words read text e a = ⊥
+
+-- what the value is that was asked for
+abbrev SaysValue : List (List ℕ) → Reading → List ℕ → Exit → Type 0
+SaysValue words read text e = (a : Asked) × IsAsked words a × ValueOf words read text e a
 
 -- the text says that memory is wanted
 record SaysWant (words : List (List ℕ)) (read : Reading) (text : List ℕ) : Type 0 where
@@ -143,6 +182,7 @@ kind (check cert problem root) = 2
 kind (ask cert atom) = 3
 kind (stress number) = 4
 kind (rewrite cert problem root) = 5
+kind (qbf file) = 6
 
 apart_from_itself : (n : ℕ) → nat_eq n n ≡ false → ⊥
 apart_from_itself n h = grind (arith, nat_tests)
@@ -165,8 +205,8 @@ module _ (words : List (List ℕ)) (read : Reading) where
   Tells text exit.ReadFault = Rose read.old.faults read.new.faults
   Tells text exit.WriteFault = ⊥
   Tells text exit.Memory = SaysWant words read text
-  Tells text exit.Sat = ⊤
-  Tells text exit.Unsat = ⊤
+  Tells text exit.Sat = SaysValue words read text exit.Sat
+  Tells text exit.Unsat = SaysValue words read text exit.Unsat
   Tells text exit.CheckFailed = SaysComplaint words read text
 
   -- ---- answers without a result
@@ -247,6 +287,21 @@ module _ (words : List (List ℕ)) (read : Reading) where
   sat_caused file (bar.Text e) h = lines_caused file e h
   sat_caused file bar.Memory h = refl
 
+  formula_caused : (file : List ℕ) (e : DimacsError) → IsFormulaRefused read.old.files file e → HasCause (status_of_text e) (line_of_text file e)
+  formula_caused file (fault.Syntax line) h = tt
+  formula_caused file (fault.Range line) h = tt
+  formula_caused file (fault.Count found) h = tt
+  formula_caused file fault.Limit h = tt
+  formula_caused file (fault.Twice line) h = tt
+  formula_caused file fault.Memory h = absurd h
+
+  qbf_caused : (file : List ℕ) (e : SatError) → IsFormulaOutcome read.old read.new file (Err e) → HasCause (refusal_status e) (refusal_reason file e)
+  qbf_caused file bar.Absent h = tt
+  qbf_caused file bar.TooLong h = tt
+  qbf_caused file bar.ReadFault h = h
+  qbf_caused file (bar.Text e) h = formula_caused file e h
+  qbf_caused file bar.Memory h = refl
+
   -- ---- each command
 
   refusal_tells : (file : List ℕ) (root : Option (List ℕ)) (budget : ℕ) → IsAsked words (prove file root budget) → (why : Refusal) → IsRefusal read file root budget why
@@ -266,12 +321,13 @@ module _ (words : List (List ℕ)) (read : Reading) where
 
   prove_tells : (file : List ℕ) (root : Option (List ℕ)) (budget : ℕ) → IsAsked words (prove file root budget) → (o : Result (List ℕ) Refusal) → IsProof read file root budget o
       → Tells (prove_text file o) (prove_exit o)
-  prove_tells file root budget asked (Ok text) h = inl (record { file = file; root = root; budget = budget; asked = asked; certificate = h.0; is_verdict = h.1; is = h.2 })
+  prove_tells file root budget asked (Ok text) h =
+      (prove file root budget, asked, record { file = file; root = root; budget = budget; asked = asked; certificate = h.0; is_verdict = h.1; is = h.2 })
   prove_tells file root budget asked (Err why) h = refusal_tells file root budget asked why h
 
   sat_tells : (file : List ℕ) → IsAsked words (sat file) → (o : Result SatAnswer SatError) → IsOutcome read.old read.new file o → Tells (sat_text file o) (sat_exit o)
-  sat_tells file asked (Ok (Satisfiable text)) h = tt
-  sat_tells file asked (Ok (Unsatisfiable text)) h = tt
+  sat_tells file asked (Ok (Satisfiable text)) h = (sat file, asked, tt)
+  sat_tells file asked (Ok (Unsatisfiable text)) h = (sat file, asked, tt)
   sat_tells file asked (Err e) h = notice_tells file (refusal_reason file e) (named_by (sat file) asked) (refusal_status e) (sat_caused file e h)
 
   judgement_says : (c : List ℕ) (problem root : Option (List ℕ)) → IsAsked words (check c problem root) → (form : Form) (j : Judgement) → IsJudged read.old.files c problem root (form, j)
@@ -280,7 +336,7 @@ module _ (words : List (List ℕ)) (read : Reading) where
 
   judgement_tells : (c : List ℕ) (problem root : Option (List ℕ)) → IsAsked words (check c problem root) → (form : Form) (j : Judgement) → IsJudged read.old.files c problem root (form, j)
       → Tells (judgement_line form j) (judgement_exit j)
-  judgement_tells c problem root asked form judgement.Valid h = inr (inl (judgement_says c problem root asked form judgement.Valid h))
+  judgement_tells c problem root asked form judgement.Valid h = (check c problem root, asked, judgement_says c problem root asked form judgement.Valid h)
   judgement_tells c problem root asked form (judgement.Problem n) h = inl (judgement_says c problem root asked form (judgement.Problem n) h)
   judgement_tells c problem root asked form (judgement.Invalid why) h = inl (judgement_says c problem root asked form (judgement.Invalid why) h)
 
@@ -304,7 +360,7 @@ module _ (words : List (List ℕ)) (read : Reading) where
 
   rewriting_tells : (c : List ℕ) (problem root : Option (List ℕ)) → IsAsked words (rewrite c problem root) → (o : Result Rewriting CheckFault) → IsRewritingOf read c problem root o
       → Tells (rewriting_text c o) (rewriting_exit o)
-  rewriting_tells c problem root asked (Ok (rewriting.Text text)) h = inr (inr (inl (record { cert = c; problem = problem; root = root; asked = asked; rewritten = h })))
+  rewriting_tells c problem root asked (Ok (rewriting.Text text)) h = (rewrite c problem root, asked, record { cert = c; problem = problem; root = root; asked = asked; rewritten = h })
   rewriting_tells c problem root asked (Ok (rewriting.Refused form j)) h = refused_tells c problem root asked form j h
   rewriting_tells c problem root asked (Err why) h = notice_tells c (unjudged_reason c why) (named_by (rewrite c problem root) asked) (unjudged_status why) (check_caused c problem root why h)
 
@@ -312,8 +368,8 @@ module _ (words : List (List ℕ)) (read : Reading) where
   reply_says c atom asked r h = record { cert = c; atom = atom; asked = asked; reply = r; said = h; ends = refl; is = refl }
 
   reply_tells : (c : List ℕ) (atom : Signed Tree) → IsAsked words (ask c atom) → (r : Reply) → IsReplied read.old.files c atom.atom r → Tells (reply_line r) (reply_exit r)
-  reply_tells c atom asked reply.True h = inr (inr (inr (inl (reply_says c atom asked reply.True h))))
-  reply_tells c atom asked reply.False h = inr (inr (inr (inl (reply_says c atom asked reply.False h))))
+  reply_tells c atom asked reply.True h = (ask c atom, asked, reply_says c atom asked reply.True h)
+  reply_tells c atom asked reply.False h = (ask c atom, asked, reply_says c atom asked reply.False h)
   reply_tells c atom asked (reply.Invalid why) h = inr (inr (reply_says c atom asked (reply.Invalid why) h))
 
   ask_tells : (c : List ℕ) (atom : Signed Tree) → IsAsked words (ask c atom) → (o : Result Reply CertFault) → IsReplyOf read c atom.atom o → Tells (ask_text c o) (ask_exit o)
@@ -321,8 +377,27 @@ module _ (words : List (List ℕ)) (read : Reading) where
   ask_tells c atom asked (Err f) h = notice_tells c (fault_reason c f) (named_by (ask c atom) asked) (fault_status f) (ask_caused c f h)
 
   stress_tells : (name : List ℕ) (n : ℕ) → name ≡ codes "stress" → IsAsked words (stress n) → (o : Result Size OutOfMemory) → IsMeasured n o → Tells (stress_text name o) (stress_exit o)
-  stress_tells name n named asked (Ok size) h = inr (inr (inr (inr (record { number = n; asked = asked; size = size; refuted = h; is = refl }))))
+  stress_tells name n named asked (Ok size) h = (stress n, asked, record { number = n; asked = asked; size = size; refuted = h; is = refl })
   stress_tells name n named asked (Err want) h = record { name = name; named = inr (stress n, asked, named); is = refl }
+
+  formula_says : (file : List ℕ) → IsAsked words (qbf file) → (a : FormulaAnswer) → IsFormulaOutcome read.old read.new file (Ok a) → SaysFormula words read (value_text a) (value_exit a)
+  formula_says file asked a h = record {
+    file = file;
+    asked = asked;
+    bytes = h.0;
+    held = h.2;
+    formula = h.1;
+    reads = h.3;
+    answer = a;
+    shown = h.4;
+    ends = refl;
+    is = refl;
+  }
+
+  qbf_tells : (file : List ℕ) → IsAsked words (qbf file) → (o : Result FormulaAnswer SatError) → IsFormulaOutcome read.old read.new file o → Tells (qbf_text file o) (qbf_exit o)
+  qbf_tells file asked (Ok (True text)) h = (qbf file, asked, formula_says file asked (True text) h)
+  qbf_tells file asked (Ok (False text)) h = (qbf file, asked, formula_says file asked (False text) h)
+  qbf_tells file asked (Err e) h = notice_tells file (refusal_reason file e) (named_by (qbf file) asked) (refusal_status e) (qbf_caused file e h)
 
   tells : (name : List ℕ) (a : Answer) → IsAnswer words read name a → Tells (text_for name a) (exit_for a)
   tells name (Prove o) h = prove_tells name h.0 h.1 h.2 o h.3
@@ -331,6 +406,7 @@ module _ (words : List (List ℕ)) (read : Reading) where
   tells name (Rewrite o) h = rewriting_tells name h.0 h.1 h.2 o h.3
   tells name (Ask o) h = ask_tells name h.0 h.1 o h.2
   tells name (Stress o) h = stress_tells name h.2 h.0 h.3 o h.4
+  tells name (Qbf o) h = qbf_tells name h.0 o h.1
   tells name Unread h = h.2
   tells name NoWords h = record { name = name; named = inl h; is = refl }
 
@@ -430,6 +506,7 @@ module _ (words : List (List ℕ)) (read : Reading) (write : Writing) (e : Exit)
     ends_chain (Ask o) h asks = absurd (other_kind _ _ refl (once words _ _ h.1 asks.1))
     ends_chain (Stress (Ok size)) h asks = inl refl
     ends_chain (Stress (Err want)) h asks = inr refl
+    ends_chain (Qbf o) h asks = absurd (other_kind _ _ refl (once words _ _ h.0 asks.1))
     ends_chain Unread h asks = absurd (h.2 (stress asks.0) asks.1)
     ends_chain NoWords h asks = inr refl
 
@@ -439,55 +516,47 @@ module _ (words : List (List ℕ)) (read : Reading) (write : Writing) (e : Exit)
       | inr v ↦ elim v [ inl w ↦ inr (inl w.0) | inr w ↦ inr (inr w.0) ]
     ]
 
+    -- what is decided of what is asked
+    decides : (q : Asked) → IsAsked words q → e ≡ exit.Decided → DecidedOf words read said q × Appends write.old.taken write.new.taken said
+    decides q asked is =
+        let d = says_decided is in
+        (subst (DecidedOf words read said) (once words d.0.0 q d.0.1 asked) d.0.2, d.1)
+
     pub decided : AsksProof words → e ≡ exit.Decided → WritesCertificate words read.old.files write.old.taken write.new.taken
-    decided asks is = by (says_decided is)
-      where
-        by : SaysDecided words read said × Appends write.old.taken write.new.taken said → WritesCertificate words read.old.files write.old.taken write.new.taken
-        by (inl s, w) = writes_verdict s w
-        by (inr (inl s), w) = absurd (other_kind _ _ refl (once words _ _ asks.3 s.asked))
-        by (inr (inr (inl s)), w) = absurd (other_kind _ _ refl (once words _ _ asks.3 s.asked))
-        by (inr (inr (inr (inl s))), w) = absurd (other_kind _ _ refl (once words _ _ asks.3 s.asked))
-        by (inr (inr (inr (inr s))), w) = absurd (other_kind _ _ refl (once words _ _ asks.3 s.asked))
+    decided asks is = let d = decides (prove asks.0 asks.1 asks.2) asks.3 is in writes_verdict d.0 d.1
 
     pub checked : AsksCheck words → e ≡ exit.Decided → WritesJudgement check words read.old.files write.old.taken write.new.taken exit.Decided
-    checked asks is = by (says_decided is)
-      where
-        by : SaysDecided words read said × Appends write.old.taken write.new.taken said → WritesJudgement check words read.old.files write.old.taken write.new.taken exit.Decided
-        by (inl s, w) = absurd (other_kind _ _ refl (once words _ _ asks.3 s.asked))
-        by (inr (inl s), w) = writes_judgement check exit.Decided s w
-        by (inr (inr (inl s)), w) = absurd (other_kind _ _ refl (once words _ _ asks.3 s.asked))
-        by (inr (inr (inr (inl s))), w) = absurd (other_kind _ _ refl (once words _ _ asks.3 s.asked))
-        by (inr (inr (inr (inr s))), w) = absurd (other_kind _ _ refl (once words _ _ asks.3 s.asked))
+    checked asks is = let d = decides (check asks.0 asks.1 asks.2) asks.3 is in writes_judgement check exit.Decided d.0 d.1
 
     pub rewritten : AsksRewriting words → e ≡ exit.Decided → WritesRewriting words read.old.files write.old.taken write.new.taken
-    rewritten asks is = by (says_decided is)
-      where
-        by : SaysDecided words read said × Appends write.old.taken write.new.taken said → WritesRewriting words read.old.files write.old.taken write.new.taken
-        by (inl s, w) = absurd (other_kind _ _ refl (once words _ _ asks.3 s.asked))
-        by (inr (inl s), w) = absurd (other_kind _ _ refl (once words _ _ asks.3 s.asked))
-        by (inr (inr (inl s)), w) = writes_rewriting s w
-        by (inr (inr (inr (inl s))), w) = absurd (other_kind _ _ refl (once words _ _ asks.3 s.asked))
-        by (inr (inr (inr (inr s))), w) = absurd (other_kind _ _ refl (once words _ _ asks.3 s.asked))
+    rewritten asks is = let d = decides (rewrite asks.0 asks.1 asks.2) asks.3 is in writes_rewriting d.0 d.1
 
     pub asked_atom : AsksAtom words → e ≡ exit.Decided → WritesReply words read.old.files write.old.taken write.new.taken exit.Decided
-    asked_atom asks is = by (says_decided is)
-      where
-        by : SaysDecided words read said × Appends write.old.taken write.new.taken said → WritesReply words read.old.files write.old.taken write.new.taken exit.Decided
-        by (inl s, w) = absurd (other_kind _ _ refl (once words _ _ asks.2 s.asked))
-        by (inr (inl s), w) = absurd (other_kind _ _ refl (once words _ _ asks.2 s.asked))
-        by (inr (inr (inl s)), w) = absurd (other_kind _ _ refl (once words _ _ asks.2 s.asked))
-        by (inr (inr (inr (inl s))), w) = writes_reply exit.Decided s w
-        by (inr (inr (inr (inr s))), w) = absurd (other_kind _ _ refl (once words _ _ asks.2 s.asked))
+    asked_atom asks is = let d = decides (ask asks.0 asks.1) asks.2 is in writes_reply exit.Decided d.0 d.1
 
     pub stressed : AsksChain words → e ≡ exit.Decided → WritesSize words write.old.taken write.new.taken
-    stressed asks is = by (says_decided is)
-      where
-        by : SaysDecided words read said × Appends write.old.taken write.new.taken said → WritesSize words write.old.taken write.new.taken
-        by (inl s, w) = absurd (other_kind _ _ refl (once words _ _ asks.1 s.asked))
-        by (inr (inl s), w) = absurd (other_kind _ _ refl (once words _ _ asks.1 s.asked))
-        by (inr (inr (inl s)), w) = absurd (other_kind _ _ refl (once words _ _ asks.1 s.asked))
-        by (inr (inr (inr (inl s))), w) = absurd (other_kind _ _ refl (once words _ _ asks.1 s.asked))
-        by (inr (inr (inr (inr s))), w) = writes_size s w
+    stressed asks is = let d = decides (stress asks.0) asks.1 is in writes_size d.0 d.1
+
+    writes_formula : (x : Exit) → SaysFormula words read said x → Appends write.old.taken write.new.taken said → WritesFormula words read.old.files write.old.taken write.new.taken x
+    writes_formula x s w = record {
+      file = s.file;
+      asked = s.asked;
+      bytes = s.bytes;
+      held = s.held;
+      formula = s.formula;
+      read = s.reads;
+      answer = s.answer;
+      shown = s.shown;
+      ends = s.ends;
+      written = subst (Appends write.old.taken write.new.taken) s.is w;
+    }
+
+    values : (x : Exit) → SaysValue words read said x × Appends write.old.taken write.new.taken said → AsksFormula words → WritesFormula words read.old.files write.old.taken write.new.taken x
+    values x v asks = writes_formula x (subst (ValueOf words read said x) (once words v.0.0 (qbf asks.0) v.0.1 asks.1) v.0.2) v.1
+
+    pub formula_value : AsksFormula words → TellsValue e → WritesFormula words read.old.files write.old.taken write.new.taken e
+    formula_value asks (inl is) = subst (WritesFormula words read.old.files write.old.taken write.new.taken) (sym is) (values exit.Sat (whole exit.Sat is (λ x. cc) (λ x. cc)) asks)
+    formula_value asks (inr is) = subst (WritesFormula words read.old.files write.old.taken write.new.taken) (sym is) (values exit.Unsat (whole exit.Unsat is (λ x. cc) (λ x. cc)) asks)
 
   pub resource_out : e ≡ exit.ResourceOut → WritesNumbers words read.old.files write.old.taken write.new.taken
   resource_out is = by (whole exit.ResourceOut is (λ x. cc) (λ x. cc))

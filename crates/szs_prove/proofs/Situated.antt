@@ -1,6 +1,6 @@
 -- A question finds one thing in the files, and each exit is wanted there, or yields.
-use Rattle.std.proofs.Common.{◌≡◌, ◌≢◌, ℕ, ◌<◌, ◌≤◌, List, Bool, true, false, Option, Some, None, IfSome, length, inl, inr, refl, sym, ap, subst, arith}
-use Rattle.std.specs.Prelude.{◌⊎◌, ⊤, Result, Ok, Err, IsFalse}
+use Rattle.std.proofs.Common.{◌≡◌, ◌≢◌, ℕ, ◌<◌, ◌≤◌, List, Option, Some, None, IfSome, length, inl, inr, refl, sym, ap, subst, arith}
+use Rattle.std.specs.Prelude.{◌⊎◌, Result, Ok, Err}
 use Rattle.inst_logic.specs.Measure.{is_function_free}
 use Rattle.inst_logic.specs.declared.clause.Problem.{Problem}
 use Rattle.outside_io.specs.Causes.{Rose}
@@ -29,28 +29,32 @@ use Rattle.cert_front.specs.declared.check.CheckFault.{CheckFault}
 use Rattle.cert_front.specs.declared.check.CheckFault.TheVariants as unjudged
 use Rattle.cert_front.specs.declared.fault.CertFault.{CertFault}
 use Rattle.cert_front.specs.declared.fault.CertFault.TheVariants as bad
-use Rattle.command_words.specs.Asked.{Asked, prove, sat, check, rewrite, ask, stress, IsAsked, IsUnread}
-use Rattle.dimacs_front.specs.Answers.{IsModel}
+use Rattle.command_words.specs.Asked.{Asked, prove, sat, check, rewrite, ask, stress, qbf, IsAsked}
 use Rattle.dimacs_front.specs.Files.{IsHeld, IsOutcome, IsRefused, limit}
 use Rattle.dimacs_front.specs.Form.{reading as clauses_of}
 use Rattle.dimacs_front.specs.declared.answers.SatAnswer.{SatAnswer}
 use Rattle.dimacs_front.specs.declared.answers.SatAnswer.TheVariants.{Satisfiable, Unsatisfiable}
+use Rattle.dimacs_front.specs.Quantified.{formula_in}
 use Rattle.dimacs_front.specs.declared.cnf.Cnf.{Cnf}
+use Rattle.dimacs_front.specs.declared.cnf.Qbf.{Qbf as Formula}
 use Rattle.dimacs_front.specs.declared.error.DimacsError.{DimacsError}
 use Rattle.dimacs_front.specs.declared.error.DimacsError.TheVariants as fault
 use Rattle.dimacs_front.specs.declared.file.SatError.{SatError}
 use Rattle.dimacs_front.specs.declared.file.SatError.TheVariants as bar
-use Rattle.szs_prove.specs.Answers.{HasVerdict, IsAnswer, IsFinding, IsOutOfBudget, IsProof, IsRefusal, IsReplyOf, IsRewritingOf, Reading}
+use Rattle.szs_prove.specs.Answers.{HasVerdict, IsOutOfBudget, IsProof, IsRefusal, Reading}
+use Rattle.szs_prove.specs.Causes.{IsAnswer, IsFinding, IsReplyOf, IsRewritingOf}
+use Rattle.szs_prove.specs.Formulas.{IsFormulaOutcome, IsFormulaRefused}
 use Rattle.szs_prove.specs.Answered.{Answered, Writing}
-use Rattle.szs_prove.specs.Situations.{Finding, Finds, IsBarred, IsExact, IsLoaded, IsRead, IsWanted, Situation, Stands, Wants, WantsOfCheck, WantsOfClauses, WantsOfProblem, WantsOfReply, Yields, asks, unread}
-use Rattle.szs_prove.specs.Texts.{ask_exit, check_exit, exit_for, exit_of, judgement_exit, load_status, prove_exit, reply_exit, rewriting_exit, sat_exit, stress_exit, text_status, unjudged_status}
-use Rattle.cert_front.specs.Texts.{fault_status}
-use Rattle.dimacs_front.specs.Notices.{fault_status as status_of_text, refusal_status}
+use Rattle.szs_prove.specs.Situations.{Finding, Finds, IsBarred, IsExact, IsLoaded, IsRead, IsRefusedBy, IsWanted, Reader, Situation, Stands, Wants, Yields, asks, unread}
+use Rattle.szs_prove.specs.Texts.{ask_exit, check_exit, exit_for, exit_of, judgement_exit, load_status, prove_exit, qbf_exit, reply_exit, rewriting_exit, sat_exit, stress_exit, text_status, unjudged_status}
+use Rattle.dimacs_front.specs.Notices.{fault_status as status_of_text}
 use Rattle.szs_prove.proofs.Endings.{AsksOne}
 use Rattle.szs_prove.specs.declared.answer.Answer.{Answer}
-use Rattle.szs_prove.specs.declared.answer.Answer.TheVariants.{Prove, Sat, Check, Rewrite, Ask, Stress, Unread, NoWords}
+use Rattle.szs_prove.specs.declared.answer.Answer.TheVariants.{Prove, Sat, Check, Rewrite, Ask, Stress, Qbf, Unread, NoWords}
 use Rattle.szs_prove.specs.declared.exit.Exit.{Exit}
 use Rattle.szs_prove.specs.declared.exit.Exit.TheVariants as exit
+use Rattle.szs_prove.specs.declared.formula.FormulaAnswer.{FormulaAnswer}
+use Rattle.szs_prove.specs.declared.formula.FormulaAnswer.TheVariants.{True, False}
 use Rattle.szs_prove.specs.declared.refusal.Refusal.{Refusal}
 use Rattle.szs_prove.specs.declared.refusal.Refusal.TheVariants.{Load, OutOfBudget, Memory}
 use Rattle.szs_prove.specs.declared.sizes.Size.{Size}
@@ -63,71 +67,72 @@ some_bytes files file a b p q = cc
 not_none : (files : List NamedFile) (file a : List ℕ) → bytes_named files file ≡ Some a → bytes_named files file ≡ None → ⊥
 not_none files file a p q = cc
 
-read_both : (a b : List ℕ) (c d : Cnf) → a ≡ b → clauses_of a ≡ Ok c → clauses_of b ≡ Ok d → c ≡ d
-read_both a b c d same p q = cc
+module _ (A : Type 0) (reads : Reader A) where
+  read_both : (a b : List ℕ) (c d : A) → a ≡ b → reads a ≡ Ok c → reads b ≡ Ok d → c ≡ d
+  read_both a b c d same p q = cc
 
-read_or_not : (a b : List ℕ) (c : Cnf) (e : DimacsError) → a ≡ b → clauses_of a ≡ Ok c → clauses_of b ≡ Err e → ⊥
-read_or_not a b c e same p q = cc
+  read_or_not : (a b : List ℕ) (c : A) (e : DimacsError) → a ≡ b → reads a ≡ Ok c → reads b ≡ Err e → ⊥
+  read_or_not a b c e same p q = cc
 
-refused_both : (a b : List ℕ) (d e : DimacsError) → a ≡ b → clauses_of a ≡ Err d → clauses_of b ≡ Err e → d ≡ e
-refused_both a b d e same p q = cc
+  refused_both : (a b : List ℕ) (d e : DimacsError) → a ≡ b → reads a ≡ Err d → reads b ≡ Err e → d ≡ e
+  refused_both a b d e same p q = cc
 
--- the bytes of the file are refused for this
-abbrev RefusesBytes : List NamedFile → List ℕ → DimacsError → Type 0
-RefusesBytes files file e = (b : List ℕ) × IsHeld (Some files) file b × (clauses_of b ≡ Err e)
+  -- the bytes of the file are refused for this
+  abbrev RefusesBytes : List NamedFile → List ℕ → DimacsError → Type 0
+  RefusesBytes files file e = (b : List ℕ) × IsHeld (Some files) file b × (reads b ≡ Err e)
 
-refused_bytes : (files : List NamedFile) (file : List ℕ) (e : DimacsError) → IsRefused (Some files) file e → RefusesBytes files file e
-refused_bytes files file (fault.Syntax line) h = h
-refused_bytes files file (fault.Range line) h = h
-refused_bytes files file (fault.Count found) h = h
-refused_bytes files file fault.Limit h = h
-refused_bytes files file (fault.Twice line) h = h
-refused_bytes files file fault.Memory h = absurd h
+  refused_bytes : (files : List NamedFile) (file : List ℕ) (e : DimacsError) → IsRefusedBy reads files file e → RefusesBytes files file e
+  refused_bytes files file (fault.Syntax line) h = h
+  refused_bytes files file (fault.Range line) h = h
+  refused_bytes files file (fault.Count found) h = h
+  refused_bytes files file fault.Limit h = h
+  refused_bytes files file (fault.Twice line) h = h
+  refused_bytes files file fault.Memory h = absurd h
 
-module _ (files : List NamedFile) (file : List ℕ) where
-  one_form : (c d : Cnf) → IsRead files file (Ok c) → IsRead files file (Ok d) → c ≡ d
-  one_form c d h k = read_both h.0 k.0 c d (some_bytes files file h.0 k.0 h.1.1 k.1.1) h.2 k.2
+  module _ (files : List NamedFile) (file : List ℕ) where
+    one_form : (c d : A) → IsRead reads files file (Ok c) → IsRead reads files file (Ok d) → c ≡ d
+    one_form c d h k = read_both h.0 k.0 c d (some_bytes files file h.0 k.0 h.1.1 k.1.1) h.2 k.2
 
-  not_refused : (c : Cnf) (e : DimacsError) → IsRead files file (Ok c) → RefusesBytes files file e → ⊥
-  not_refused c e h k = read_or_not h.0 k.0 c e (some_bytes files file h.0 k.0 h.1.1 k.1.1) h.2 k.2
+    not_refused : (c : A) (e : DimacsError) → IsRead reads files file (Ok c) → RefusesBytes files file e → ⊥
+    not_refused c e h k = read_or_not h.0 k.0 c e (some_bytes files file h.0 k.0 h.1.1 k.1.1) h.2 k.2
 
-  too_many : (a b : List ℕ) → IsHeld (Some files) file a → bytes_named files file ≡ Some b → limit < length b → ⊥
-  too_many a b h named long =
-      let same = some_bytes files file b a named h.1 in
-      let more : limit < length a = subst (λ (x : List ℕ). limit < length x) same long in
-      let few : length a ≤ limit = h.0 in
-      omega (arith, more, few)
+    too_many : (a b : List ℕ) → IsHeld (Some files) file a → bytes_named files file ≡ Some b → limit < length b → ⊥
+    too_many a b h named long =
+        let same = some_bytes files file b a named h.1 in
+        let more : limit < length a = subst (λ (x : List ℕ). limit < length x) same long in
+        let few : length a ≤ limit = h.0 in
+        omega (arith, more, few)
 
-  not_barred : (c : Cnf) (e : SatError) → IsRead files file (Ok c) → IsBarred files file e → ⊥
-  not_barred c bar.Absent h k = not_none files file h.0 h.1.1 k
-  not_barred c bar.TooLong h k = too_many h.0 k.0 h.1 k.1 k.2
-  not_barred c (bar.Text e) h k = not_refused c e h (refused_bytes files file e k)
-  not_barred c bar.ReadFault h k = k
-  not_barred c bar.Memory h k = k
+    not_barred : (c : A) (e : SatError) → IsRead reads files file (Ok c) → IsBarred reads files file e → ⊥
+    not_barred c bar.Absent h k = not_none files file h.0 h.1.1 k
+    not_barred c bar.TooLong h k = too_many h.0 k.0 h.1 k.1 k.2
+    not_barred c (bar.Text e) h k = not_refused c e h (refused_bytes files file e k)
+    not_barred c bar.ReadFault h k = k
+    not_barred c bar.Memory h k = k
 
-  one_bar : (d e : SatError) → IsBarred files file d → IsBarred files file e → d ≡ e
-  one_bar bar.Absent bar.Absent h k = refl
-  one_bar bar.Absent bar.TooLong h k = absurd (not_none files file k.0 k.1 h)
-  one_bar bar.Absent (bar.Text e) h k = let r = refused_bytes files file e k in absurd (not_none files file r.0 r.1.1 h)
-  one_bar bar.TooLong bar.Absent h k = absurd (not_none files file h.0 h.1 k)
-  one_bar bar.TooLong bar.TooLong h k = refl
-  one_bar bar.TooLong (bar.Text e) h k = let r = refused_bytes files file e k in absurd (too_many r.0 h.0 r.1 h.1 h.2)
-  one_bar (bar.Text d) bar.Absent h k = let r = refused_bytes files file d h in absurd (not_none files file r.0 r.1.1 k)
-  one_bar (bar.Text d) bar.TooLong h k = let r = refused_bytes files file d h in absurd (too_many r.0 k.0 r.1 k.1 k.2)
-  one_bar (bar.Text d) (bar.Text e) h k =
-      let g = refused_bytes files file d h in
-      let r = refused_bytes files file e k in
-      ap bar.Text (refused_both g.0 r.0 d e (some_bytes files file g.0 r.0 g.1.1 r.1.1) g.2 r.2)
-  one_bar bar.ReadFault e h k = absurd h
-  one_bar bar.Memory e h k = absurd h
-  one_bar d bar.ReadFault h k = absurd k
-  one_bar d bar.Memory h k = absurd k
+    one_bar : (d e : SatError) → IsBarred reads files file d → IsBarred reads files file e → d ≡ e
+    one_bar bar.Absent bar.Absent h k = refl
+    one_bar bar.Absent bar.TooLong h k = absurd (not_none files file k.0 k.1 h)
+    one_bar bar.Absent (bar.Text e) h k = let r = refused_bytes files file e k in absurd (not_none files file r.0 r.1.1 h)
+    one_bar bar.TooLong bar.Absent h k = absurd (not_none files file h.0 h.1 k)
+    one_bar bar.TooLong bar.TooLong h k = refl
+    one_bar bar.TooLong (bar.Text e) h k = let r = refused_bytes files file e k in absurd (too_many r.0 h.0 r.1 h.1 h.2)
+    one_bar (bar.Text d) bar.Absent h k = let r = refused_bytes files file d h in absurd (not_none files file r.0 r.1.1 k)
+    one_bar (bar.Text d) bar.TooLong h k = let r = refused_bytes files file d h in absurd (too_many r.0 k.0 r.1 k.1 k.2)
+    one_bar (bar.Text d) (bar.Text e) h k =
+        let g = refused_bytes files file d h in
+        let r = refused_bytes files file e k in
+        ap bar.Text (refused_both g.0 r.0 d e (some_bytes files file g.0 r.0 g.1.1 r.1.1) g.2 r.2)
+    one_bar bar.ReadFault e h k = absurd h
+    one_bar bar.Memory e h k = absurd h
+    one_bar d bar.ReadFault h k = absurd k
+    one_bar d bar.Memory h k = absurd k
 
-  one_read : (s t : Result Cnf SatError) → IsRead files file s → IsRead files file t → s ≡ t
-  one_read (Ok c) (Ok d) h k = ap Ok (one_form c d h k)
-  one_read (Ok c) (Err e) h k = absurd (not_barred c e h k)
-  one_read (Err e) (Ok d) h k = absurd (not_barred d e k h)
-  one_read (Err d) (Err e) h k = ap Err (one_bar d e h k)
+    one_read : (s t : Result A SatError) → IsRead reads files file s → IsRead reads files file t → s ≡ t
+    one_read (Ok c) (Ok d) h k = ap Ok (one_form c d h k)
+    one_read (Ok c) (Err e) h k = absurd (not_barred c e h k)
+    one_read (Err e) (Ok d) h k = absurd (not_barred d e k h)
+    one_read (Err d) (Err e) h k = ap Err (one_bar d e h k)
 
 -- ---- one finding
 
@@ -152,11 +157,12 @@ one_loaded one files file root (Err e) (Err f) h k = ap Err (one.refusals files 
 -- what a question finds, by the law of its command
 one_found : LoadsOne → FindsOne → (files : List NamedFile) (a : Asked) (x y : Finding a) → Finds files a x → Finds files a y → x ≡ y
 one_found loads found files (prove file root budget) x y h k = one_loaded loads files file root x y h k
-one_found loads found files (sat file) x y h k = one_read files file x y h k
+one_found loads found files (sat file) x y h k = one_read Cnf clauses_of files file x y h k
 one_found loads found files (check cert problem root) x y h k = found.0 files cert problem root x y h k
 one_found loads found files (rewrite cert problem root) x y h k = found.0 files cert problem root x y h k
 one_found loads found files (ask cert atom) x y h k = found.1 files cert atom.atom x y h k
 one_found loads found files (stress number) x y h k = refl
+one_found loads found files (qbf file) x y h k = one_read Formula formula_in files file x y h k
 
 -- ---- the exit of each answer
 
@@ -211,32 +217,65 @@ module _ (words : List (List ℕ)) (files : List NamedFile) (read : Reading) (wr
       due (prove file root budget) (Ok v.1.problem) exit.Decided asked v.1.is_problem.loads (inl refl)
   prove_due file root budget asked (Err why) h = refusal_due file root budget asked why h
 
-  barred_due : (file : List ℕ) → IsAsked words (sat file) → (e : SatError) → IsBarred files file e → IsDue exit.Refused
-  barred_due file asked e h = due (sat file) (Err e) exit.Refused asked h refl
+  -- why a text is refused, where that makes the exit due
+  lines_due : (A : Type 0) (reads : Reader A) (file : List ℕ) → ((e : SatError) → IsBarred reads files file e → IsDue exit.Refused)
+      → (e : DimacsError) → IsRefusedBy reads files file e → IsDue (exit_of (status_of_text e))
+  lines_due A reads file refused (fault.Syntax line) h = refused (bar.Text (fault.Syntax line)) h
+  lines_due A reads file refused (fault.Range line) h = refused (bar.Text (fault.Range line)) h
+  lines_due A reads file refused (fault.Count found) h = refused (bar.Text (fault.Count found)) h
+  lines_due A reads file refused fault.Limit h = refused (bar.Text fault.Limit) h
+  lines_due A reads file refused (fault.Twice line) h = refused (bar.Text (fault.Twice line)) h
+  lines_due A reads file refused fault.Memory h = absurd h
 
-  lines_due : (file : List ℕ) → IsAsked words (sat file) → (e : DimacsError) → IsRefused (Some files) file e → IsDue (exit_of (status_of_text e))
-  lines_due file asked (fault.Syntax line) h = barred_due file asked (bar.Text (fault.Syntax line)) h
-  lines_due file asked (fault.Range line) h = barred_due file asked (bar.Text (fault.Range line)) h
-  lines_due file asked (fault.Count found) h = barred_due file asked (bar.Text (fault.Count found)) h
-  lines_due file asked fault.Limit h = barred_due file asked (bar.Text fault.Limit) h
-  lines_due file asked (fault.Twice line) h = barred_due file asked (bar.Text (fault.Twice line)) h
-  lines_due file asked fault.Memory h = absurd h
+  refused_clauses : (file : List ℕ) (e : DimacsError) → IsRefused (Some files) file e → IsRefusedBy clauses_of files file e
+  refused_clauses file (fault.Syntax line) h = h
+  refused_clauses file (fault.Range line) h = h
+  refused_clauses file (fault.Count found) h = h
+  refused_clauses file fault.Limit h = h
+  refused_clauses file (fault.Twice line) h = h
+  refused_clauses file fault.Memory h = h
+
+  refused_formula : (file : List ℕ) (e : DimacsError) → IsFormulaRefused (Some files) file e → IsRefusedBy formula_in files file e
+  refused_formula file (fault.Syntax line) h = h
+  refused_formula file (fault.Range line) h = h
+  refused_formula file (fault.Count found) h = h
+  refused_formula file fault.Limit h = h
+  refused_formula file (fault.Twice line) h = h
+  refused_formula file fault.Memory h = h
 
   -- where the files are told, as a fact of the files
   abbrev here : Told
   here = record { files = Some files; rest = read.old.rest; faults = read.old.faults }
+
+  barred_due : (file : List ℕ) → IsAsked words (sat file) → (e : SatError) → IsBarred clauses_of files file e → IsDue exit.Refused
+  barred_due file asked e h = due (sat file) (Err e) exit.Refused asked h refl
 
   sat_due : (file : List ℕ) → IsAsked words (sat file) → (o : Result SatAnswer SatError) → IsOutcome here read.new file o → IsDue (sat_exit o)
   sat_due file asked (Ok (Satisfiable text)) h = due (sat file) (Ok h.1) exit.Sat asked (h.0, h.2, h.3) (inl (refl, h.4.values, h.4.model))
   sat_due file asked (Ok (Unsatisfiable text)) h = due (sat file) (Ok h.1) exit.Unsat asked (h.0, h.2, h.3) (inr (refl, h.4.none))
   sat_due file asked (Err bar.Absent) h = barred_due file asked bar.Absent h
   sat_due file asked (Err bar.TooLong) h = barred_due file asked bar.TooLong h
-  sat_due file asked (Err (bar.Text e)) h = lines_due file asked e h
+  sat_due file asked (Err (bar.Text e)) h = lines_due Cnf clauses_of file (barred_due file asked) e (refused_clauses file e h)
   sat_due file asked (Err bar.ReadFault) h = fault_due h
   sat_due file asked (Err bar.Memory) h = want_due
 
+  formula_due : (file : List ℕ) → IsAsked words (qbf file) → (e : SatError) → IsBarred formula_in files file e → IsDue exit.Refused
+  formula_due file asked e h = due (qbf file) (Err e) exit.Refused asked h refl
+
+  qbf_due : (file : List ℕ) → IsAsked words (qbf file) → (o : Result FormulaAnswer SatError) → IsFormulaOutcome here read.new file o → IsDue (qbf_exit o)
+  qbf_due file asked (Ok (True text)) h = due (qbf file) (Ok h.1) exit.Sat asked (h.0, h.2, h.3) (inl (refl, h.4.0))
+  qbf_due file asked (Ok (False text)) h = due (qbf file) (Ok h.1) exit.Unsat asked (h.0, h.2, h.3) (inr (refl, h.4.0))
+  qbf_due file asked (Err bar.Absent) h = formula_due file asked bar.Absent h
+  qbf_due file asked (Err bar.TooLong) h = formula_due file asked bar.TooLong h
+  qbf_due file asked (Err (bar.Text e)) h = lines_due Formula formula_in file (formula_due file asked) e (refused_formula file e h)
+  qbf_due file asked (Err bar.ReadFault) h = fault_due h
+  qbf_due file asked (Err bar.Memory) h = want_due
+
   outcome_here : (file : List ℕ) (o : Result SatAnswer SatError) → IsOutcome read.old read.new file o → IsOutcome here read.new file o
   outcome_here file o h = subst (λ (fs : Option (List NamedFile)). IsOutcome (record { files = fs; rest = read.old.rest; faults = read.old.faults }) read.new file o) told h
+
+  formula_here : (file : List ℕ) (o : Result FormulaAnswer SatError) → IsFormulaOutcome read.old read.new file o → IsFormulaOutcome here read.new file o
+  formula_here file o h = subst (λ (fs : Option (List NamedFile)). IsFormulaOutcome (record { files = fs; rest = read.old.rest; faults = read.old.faults }) read.new file o) told h
 
   -- why a certificate is not judged, where what the files give makes the exit due
   module _ (cert : List ℕ) (root : Option (List ℕ)) where
@@ -308,6 +347,7 @@ module _ (words : List (List ℕ)) (files : List NamedFile) (read : Reading) (wr
   answer_due name (Rewrite o) h = rewriting_due name h.0 h.1 h.2 o h.3
   answer_due name (Ask o) h = ask_due name h.0 h.1 o h.2
   answer_due name (Stress o) h = stress_due h.2 h.3 o
+  answer_due name (Qbf o) h = qbf_due name h.0 o (formula_here name o h.1)
   answer_due name Unread h = inl (unread, h.2, refl)
   answer_due name NoWords h = want_due
 

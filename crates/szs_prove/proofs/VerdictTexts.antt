@@ -36,13 +36,17 @@ use Rattle.outside_io.specs.Notices.{notice_text}
 use Rattle.outside_io.specs.Taken.{AppendsProperPrefix}
 use Rattle.outside_io.specs.declared.notices.Status.{Status}
 use Rattle.outside_io.specs.declared.notices.Status.TheVariants as told
-use Rattle.szs_prove.specs.Answers.{IsAnswer, IsProof, IsRewritingOf, Reading}
+use Rattle.szs_prove.specs.Answers.{IsProof, Reading}
+use Rattle.szs_prove.specs.Causes.{IsAnswer, IsRewritingOf}
+use Rattle.szs_prove.specs.Formulas.{IsFormulaOutcome}
 use Rattle.szs_prove.specs.Answered.{Answered, Writing, TookCertificate}
-use Rattle.szs_prove.specs.Texts.{exit_for, prove_exit, prove_text, reason_of, rewriting_exit, rewriting_text, sat_text, status_of, text_for, unjudged_reason, unjudged_status}
+use Rattle.szs_prove.specs.Texts.{exit_for, prove_exit, prove_text, qbf_text, reason_of, rewriting_exit, rewriting_text, sat_text, status_of, text_for, unjudged_reason, unjudged_status}
 use Rattle.szs_prove.specs.declared.answer.Answer.{Answer}
-use Rattle.szs_prove.specs.declared.answer.Answer.TheVariants.{Prove, Sat, Check, Rewrite, Ask, Stress, Unread, NoWords}
+use Rattle.szs_prove.specs.declared.answer.Answer.TheVariants.{Prove, Sat, Check, Rewrite, Ask, Stress, Qbf, Unread, NoWords}
 use Rattle.szs_prove.specs.declared.exit.Exit.{Exit}
 use Rattle.szs_prove.specs.declared.exit.Exit.TheVariants as exit
+use Rattle.szs_prove.specs.declared.formula.FormulaAnswer.{FormulaAnswer}
+use Rattle.szs_prove.specs.declared.formula.FormulaAnswer.TheVariants.{True, False}
 use Rattle.szs_prove.specs.declared.refusal.Refusal.{Refusal}
 
 -- behind `% SZS status ` stands the first of a verdict's two words, by their first two letters
@@ -179,6 +183,11 @@ module _ (words : List (List ℕ)) (read : Reading) (write : Writing) (e : Exit)
   no_values name (Ok (Unsatisfiable text)) h more same = no_other text t.text more (ap begins_verdict h.4.is) t.is_text same
   no_values name (Err e) h more same = no_notice (refusal_status e) name (refusal_reason name e) more same
 
+  no_formula : (name : List ℕ) (o : Result FormulaAnswer SatError) → IsFormulaOutcome read.old read.new name o → (more : List ℕ) → qbf_text name o ≡ t.text ++ more → ⊥
+  no_formula name (Ok (True text)) h more same = no_line text t.text more (ap begins_comment h.4.1.is) t.is_text same
+  no_formula name (Ok (False text)) h more same = no_line text t.text more (ap begins_comment h.4.1.is) t.is_text same
+  no_formula name (Err e) h more same = no_notice (refusal_status e) name (refusal_reason name e) more same
+
   -- the text of an answer that has the certificate's in front
   decides : (name : List ℕ) (answer : Answer) → IsAnswer words read name answer → (more : List ℕ) → text_for name answer ≡ t.text ++ more → (exit_for answer ≡ exit.Decided) × (more ≡ [])
   decides name (Prove o) h more same = prove_decides name h.0 h.1 o h.3 more same
@@ -190,6 +199,7 @@ module _ (words : List (List ℕ)) (read : Reading) (write : Writing) (e : Exit)
   decides name (Ask (Err f)) h more same = absurd (no_notice (fault_status f) name (fault_reason name f) more same)
   decides name (Stress (Ok size)) h more same = absurd (no_chain size t.text more t.is_text same)
   decides name (Stress (Err want)) h more same = absurd (no_notice told.MemoryOut name [] more same)
+  decides name (Qbf o) h more same = absurd (no_formula name o h.1 more same)
   decides name Unread h more same = absurd (no_notice told.UsageError name (codes "% usage\n") more same)
   decides name NoWords h more same = absurd (no_notice told.MemoryOut name [] more same)
 

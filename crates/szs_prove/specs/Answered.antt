@@ -1,5 +1,5 @@
 -- What a run of the program did.
-use Rattle.std.specs.Prelude.{ℕ, ◌≡◌, ◌⊎◌, List, Option, Some, IsTrue, codes}
+use Rattle.std.specs.Prelude.{ℕ, ◌≡◌, ◌⊎◌, List, Option, Some, Ok, IsTrue, codes}
 use Rattle.std.specs.Io.KnownBytes.{Appends}
 use Rattle.inst_logic.specs.Tree.{Tree}
 use Rattle.inst_logic.specs.declared.signed.Signed.{Signed}
@@ -20,13 +20,19 @@ use Rattle.szs_prove.specs.declared.sizes.Size.{Size}
 use Rattle.cert_front.specs.Checks.{IsJudged}
 use Rattle.cert_front.specs.Queries.{IsReplied}
 use Rattle.cert_front.specs.Rewritings.{IsRewritten}
-use Rattle.command_words.specs.Asked.{Asked, prove, check, rewrite, ask, stress, IsAsked, name_of}
-use Rattle.szs_prove.specs.Answers.{Reading, IsAnswer, IsVerdict, IsOutOfBudget, IsUntouched}
-use Rattle.szs_prove.specs.Texts.{exit_for, judgement_exit, refusal_text, reply_exit, text_for, want_text}
+use Rattle.command_words.specs.Asked.{Asked, prove, check, rewrite, ask, stress, qbf, IsAsked, name_of}
+use Rattle.dimacs_front.specs.Files.{IsHeld}
+use Rattle.dimacs_front.specs.Quantified.{formula_in}
+use Rattle.dimacs_front.specs.declared.cnf.Qbf.{Qbf}
+use Rattle.szs_prove.specs.Answers.{Reading, IsVerdict, IsOutOfBudget, IsUntouched}
+use Rattle.szs_prove.specs.Causes.{IsAnswer}
+use Rattle.szs_prove.specs.Formulas.{IsFormulaAnswer}
+use Rattle.szs_prove.specs.Texts.{exit_for, judgement_exit, refusal_text, reply_exit, text_for, value_exit, value_text, want_text}
 use Rattle.szs_prove.specs.Written.{IsWritten}
 use Rattle.szs_prove.specs.declared.answer.Answer.{Answer}
 use Rattle.szs_prove.specs.declared.exit.Exit.{Exit}
-use Rattle.szs_prove.specs.declared.exit.Exit.TheVariants.{Decided, WriteFault, Memory, CheckFailed}
+use Rattle.szs_prove.specs.declared.exit.Exit.TheVariants.{Decided, WriteFault, Memory, Sat, Unsat, CheckFailed}
+use Rattle.szs_prove.specs.declared.formula.FormulaAnswer.{FormulaAnswer}
 use Rattle.szs_prove.specs.declared.refusal.Refusal.TheVariants.{OutOfBudget}
 
 -- what the sink has seen before the call and after it
@@ -60,6 +66,9 @@ AsksAtom words = (cert : List ℕ) × (atom : Signed Tree) × IsAsked words (ask
 
 abbrev pub AsksChain : List (List ℕ) → Type 0
 AsksChain words = (number : ℕ) × IsAsked words (stress number)
+
+abbrev pub AsksFormula : List (List ℕ) → Type 0
+AsksFormula words = (file : List ℕ) × IsAsked words (qbf file)
 
 -- ---- what was written
 
@@ -127,6 +136,24 @@ pub record WritesSize (words : List (List ℕ)) (old new : Option (List ℕ)) : 
   pub size : Size
   pub refuted : IsRefutedIn number size
   pub written : Appends old new (size_lines size)
+
+-- how the program ends where it tells that truth values are found, or a formula is true, or that there are none, or it is false
+abbrev pub TellsValue : Exit → Type 0
+TellsValue exit = (exit ≡ Sat) ⊎ (exit ≡ Unsat)
+
+-- The value of the formula of the file that the words name was written, whole, with the certificate that shows it, and the program
+-- ends as it should with that.
+pub record WritesFormula (words : List (List ℕ)) (files : Option (List NamedFile)) (old new : Option (List ℕ)) (exit : Exit) : Type 0 where
+  pub file : List ℕ
+  pub asked : IsAsked words (qbf file)
+  pub bytes : List ℕ
+  pub held : IsHeld files file bytes
+  pub formula : Qbf
+  pub read : formula_in bytes ≡ Ok formula
+  pub answer : FormulaAnswer
+  pub shown : IsFormulaAnswer file formula answer
+  pub ends : exit ≡ value_exit answer
+  pub written : Appends old new (value_text answer)
 
 -- how the program ends where the words ask for a chain
 abbrev pub EndsChain : Exit → Type 0

@@ -1,7 +1,9 @@
 pub mod Answered
 pub mod Answers
+pub mod Causes
 pub mod Chains
 pub mod Decisions
+pub mod Formulas
 pub mod Problems
 pub mod Proving
 pub mod Situations

@@ -14,15 +14,20 @@ use Rattle.cert_front.specs.Checks.{IsFound}
 use Rattle.cert_front.specs.Queries.{IsFoundReply}
 use Rattle.cert_front.specs.declared.check.CheckFault.{CheckFault}
 use Rattle.cert_front.specs.declared.fault.CertFault.{CertFault}
-use Rattle.command_words.specs.Asked.{Asked, prove, sat, check, rewrite, ask, stress, IsAsked, IsUnread}
+use Rattle.command_words.specs.Asked.{Asked, prove, sat, check, rewrite, ask, stress, qbf, IsAsked, IsUnread}
 use Rattle.dimacs_front.specs.Answers.{IsModel}
-use Rattle.dimacs_front.specs.Files.{IsHeld, IsRefused, limit}
+use Rattle.dimacs_front.specs.Files.{IsHeld, limit}
 use Rattle.dimacs_front.specs.Form.{reading as clauses_of}
+use Rattle.dimacs_front.specs.Quantified.{formula_in}
 use Rattle.dimacs_front.specs.declared.cnf.Cnf.{Cnf}
+use Rattle.dimacs_front.specs.declared.cnf.Qbf.{Qbf}
+use Rattle.dimacs_front.specs.declared.error.DimacsError.{DimacsError}
+use Rattle.dimacs_front.specs.declared.error.DimacsError.TheVariants as fault
 use Rattle.dimacs_front.specs.declared.file.SatError.{SatError}
 use Rattle.dimacs_front.specs.declared.file.SatError.TheVariants.{Absent, TooLong, Text, ReadFault as FileFault, Memory as FileMemory}
 use Rattle.szs_prove.specs.Answers.{Reading}
 use Rattle.szs_prove.specs.Answered.{Writing}
+use Rattle.szs_prove.specs.Formulas.{IsFalseFormula, IsTrueFormula}
 use Rattle.szs_prove.specs.Texts.{judgement_exit, reply_exit}
 use Rattle.szs_prove.specs.declared.exit.Exit.{Exit}
 use Rattle.szs_prove.specs.declared.exit.Exit.TheVariants.{Decided, ResourceOut, Refused, Usage, ReadFault, WriteFault, Memory, Sat, Unsat}
@@ -39,20 +44,29 @@ abbrev pub WantsOfProblem : Result Problem LoadError → Exit → Type 0
 WantsOfProblem (Ok p) exit = (exit ≡ Decided) ⊎ ((exit ≡ ResourceOut) × IsFalse (is_function_free p.clauses))
 WantsOfProblem (Err e) exit = exit ≡ Refused
 
--- ---- clauses in the DIMACS form
+-- ---- clauses in the DIMACS form, and formulas
+
+-- a reader of these forms
+abbrev pub Reader : Type 0 → Type 0
+Reader A = List ℕ → Result A DimacsError
+
+-- the file's text is refused for this, which is not want of memory
+abbrev pub IsRefusedBy : {A : Type 0} → Reader A → List NamedFile → List ℕ → DimacsError → Type 0
+IsRefusedBy reads files file fault.Memory = ⊥
+IsRefusedBy reads files file e = (bytes : List ℕ) × IsHeld (Some files) file bytes × (reads bytes ≡ Err e)
 
 -- the file is absent or too long, or its text is refused
-abbrev pub IsBarred : List NamedFile → List ℕ → SatError → Type 0
-IsBarred files file Absent = bytes_named files file ≡ None
-IsBarred files file TooLong = (bytes : List ℕ) × (bytes_named files file ≡ Some bytes) × (limit < length bytes)
-IsBarred files file (Text e) = IsRefused (Some files) file e
-IsBarred files file FileFault = ⊥
-IsBarred files file FileMemory = ⊥
+abbrev pub IsBarred : {A : Type 0} → Reader A → List NamedFile → List ℕ → SatError → Type 0
+IsBarred reads files file Absent = bytes_named files file ≡ None
+IsBarred reads files file TooLong = (bytes : List ℕ) × (bytes_named files file ≡ Some bytes) × (limit < length bytes)
+IsBarred reads files file (Text e) = IsRefusedBy reads files file e
+IsBarred reads files file FileFault = ⊥
+IsBarred reads files file FileMemory = ⊥
 
--- the clauses of the file, or why it gives none
-abbrev pub IsRead : List NamedFile → List ℕ → Result Cnf SatError → Type 0
-IsRead files file (Ok cnf) = (bytes : List ℕ) × IsHeld (Some files) file bytes × (clauses_of bytes ≡ Ok cnf)
-IsRead files file (Err e) = IsBarred files file e
+-- what is read of the file, or why nothing is
+abbrev pub IsRead : {A : Type 0} → Reader A → List NamedFile → List ℕ → Result A SatError → Type 0
+IsRead reads files file (Ok found) = (bytes : List ℕ) × IsHeld (Some files) file bytes × (reads bytes ≡ Ok found)
+IsRead reads files file (Err e) = IsBarred reads files file e
 
 -- some truth values make the clauses true, or none do
 abbrev pub WantsOfClauses : Result Cnf SatError → Exit → Type 0
@@ -60,6 +74,11 @@ WantsOfClauses (Ok cnf) exit =
     ((exit ≡ Sat) × (values : List Bool) × IsModel cnf.vars cnf.clauses values)
     ⊎ ((exit ≡ Unsat) × ((values : List Bool) → ¬ IsModel cnf.vars cnf.clauses values))
 WantsOfClauses (Err e) exit = exit ≡ Refused
+
+-- some truth values of the variables without a quantifier make the formula true, or all make it false
+abbrev pub WantsOfFormula : Result Qbf SatError → Exit → Type 0
+WantsOfFormula (Ok q) exit = ((exit ≡ Sat) × IsTrueFormula q) ⊎ ((exit ≡ Unsat) × IsFalseFormula q)
+WantsOfFormula (Err e) exit = exit ≡ Refused
 
 -- ---- certificates
 
@@ -81,15 +100,17 @@ Finding (check cert problem root) = Result (Form × Judgement) CheckFault
 Finding (rewrite cert problem root) = Result (Form × Judgement) CheckFault
 Finding (ask cert atom) = Result Reply CertFault
 Finding (stress number) = ⊤
+Finding (qbf file) = Result Qbf SatError
 
 -- it finds this in the files
 abbrev pub Finds : List NamedFile → (question : Asked) → Finding question → Type 0
 Finds files (prove file root budget) found = IsLoaded files file root found
-Finds files (sat file) found = IsRead files file found
+Finds files (sat file) found = IsRead clauses_of files file found
 Finds files (check cert problem root) found = IsFound files cert problem root found
 Finds files (rewrite cert problem root) found = IsFound files cert problem root found
 Finds files (ask cert atom) found = IsFoundReply files cert atom.atom found
 Finds files (stress number) found = ⊤
+Finds files (qbf file) found = IsRead formula_in files file found
 
 -- this exit is wanted then
 abbrev pub Wants : (question : Asked) → Finding question → Exit → Type 0
@@ -99,6 +120,7 @@ Wants (check cert problem root) found exit = WantsOfCheck found exit
 Wants (rewrite cert problem root) found exit = WantsOfCheck found exit
 Wants (ask cert atom) found exit = WantsOfReply found exit
 Wants (stress number) found exit = exit ≡ Decided
+Wants (qbf file) found exit = WantsOfFormula found exit
 
 -- what can stand in the words and the files: a question with what it finds, or words that are not read
 pub data Situation : Type 0 where

@@ -29,9 +29,11 @@ use Rattle.dimacs_front.specs.declared.answers.SatAnswer.TheVariants as values
 use Rattle.dimacs_front.specs.declared.file.SatError.{SatError}
 use Rattle.szs_prove.specs.SizeWords.{size_lines}
 use Rattle.szs_prove.specs.declared.answer.Answer.{Answer}
-use Rattle.szs_prove.specs.declared.answer.Answer.TheVariants.{Prove, Sat, Check, Rewrite, Ask, Stress, Unread, NoWords}
+use Rattle.szs_prove.specs.declared.answer.Answer.TheVariants.{Prove, Sat, Check, Rewrite, Ask, Stress, Qbf, Unread, NoWords}
 use Rattle.szs_prove.specs.declared.exit.Exit.{Exit}
 use Rattle.szs_prove.specs.declared.exit.Exit.TheVariants as exit
+use Rattle.szs_prove.specs.declared.formula.FormulaAnswer.{FormulaAnswer}
+use Rattle.szs_prove.specs.declared.formula.FormulaAnswer.TheVariants.{True, False}
 use Rattle.szs_prove.specs.declared.refusal.Refusal.{Refusal}
 use Rattle.szs_prove.specs.declared.refusal.Refusal.TheVariants as why
 use Rattle.szs_prove.specs.declared.sizes.Size.{Size}
@@ -203,6 +205,23 @@ abbrev pub stress_exit : Result Size OutOfMemory → Exit
 stress_exit (Ok size) = exit.Decided
 stress_exit (Err want) = exit.Memory
 
+-- the value of a formula, with its certificate
+abbrev pub value_text : FormulaAnswer → List ℕ
+value_text (True text) = text
+value_text (False text) = text
+
+abbrev pub value_exit : FormulaAnswer → Exit
+value_exit (True text) = exit.Sat
+value_exit (False text) = exit.Unsat
+
+abbrev pub qbf_text : List ℕ → Result FormulaAnswer SatError → List ℕ
+qbf_text name (Ok found) = value_text found
+qbf_text name (Err error) = notice_text (refusal_status error) name (refusal_reason name error)
+
+abbrev pub qbf_exit : Result FormulaAnswer SatError → Exit
+qbf_exit (Ok found) = value_exit found
+qbf_exit (Err error) = exit_of (refusal_status error)
+
 abbrev pub text_for : List ℕ → Answer → List ℕ
 text_for name (Prove outcome) = prove_text name outcome
 text_for name (Sat outcome) = sat_text name outcome
@@ -210,6 +229,7 @@ text_for name (Check outcome) = check_text name outcome
 text_for name (Rewrite outcome) = rewriting_text name outcome
 text_for name (Ask outcome) = ask_text name outcome
 text_for name (Stress outcome) = stress_text name outcome
+text_for name (Qbf outcome) = qbf_text name outcome
 text_for name Unread = notice_text status.UsageError name (codes "% usage\n")
 text_for name NoWords = want_text name
 
@@ -220,5 +240,6 @@ exit_for (Check outcome) = check_exit outcome
 exit_for (Rewrite outcome) = rewriting_exit outcome
 exit_for (Ask outcome) = ask_exit outcome
 exit_for (Stress outcome) = stress_exit outcome
+exit_for (Qbf outcome) = qbf_exit outcome
 exit_for Unread = exit.Usage
 exit_for NoWords = exit.Memory

@@ -4,10 +4,11 @@ ghost use Rattle.std.specs.Prelude.{◌≡◌, codes};
 ghost use Rattle.outside_io.specs.Notices.{notice_text};
 ghost use Rattle.outside_io.specs.Pieces.{text_of};
 ghost use Rattle.outside_io.specs.declared.notices.Status.TheVariants as status;
-ghost use Rattle.szs_prove.specs.Texts.{ask_exit, ask_text, check_exit, check_text, exit_for, judgement_exit, prove_exit, prove_text, reply_exit, rewriting_exit, rewriting_text, sat_exit, sat_text, stress_exit, stress_text, text_for, unjudged_reason, unjudged_status, want_text};
+ghost use Rattle.szs_prove.specs.Texts.{ask_exit, ask_text, check_exit, check_text, exit_for, judgement_exit, prove_exit, prove_text, qbf_exit, qbf_text, reply_exit, rewriting_exit, rewriting_text, sat_exit, sat_text, stress_exit, stress_text, text_for, unjudged_reason, unjudged_status, value_exit, value_text, want_text};
 ghost use Rattle.szs_prove.specs.Written.{IsWritten, exit_after};
 
 use crate::exit::{Exit, exit_of};
+use crate::formula::FormulaAnswer;
 use crate::refusal::{Refusal, load_reason, load_status};
 use crate::sizes::{Size, size_lines};
 use cert_front::{
@@ -30,6 +31,7 @@ pub enum Answer {
     Rewrite(Result<Rewriting, CheckFault>),
     Ask(Result<Reply, CertFault>),
     Stress(Result<Size, Memory>),
+    Qbf(Result<FormulaAnswer, SatError>),
     /// The words ask nothing.
     Unread,
     /// Memory was wanted before the words were read.
@@ -197,6 +199,42 @@ fn stress_exit(outcome: &Result<Size, Memory>) -> Exit
     }
 }
 
+fn value_text(found: &FormulaAnswer) -> &[u8]
+    ensures { result.now ≡ value_text found.now }
+{
+    match found {
+        FormulaAnswer::True(text) => text.as_slice(),
+        FormulaAnswer::False(text) => text.as_slice(),
+    }
+}
+
+fn qbf_pieces<'a>(name: &'a [u8], outcome: &'a Result<FormulaAnswer, SatError>) -> Pieces<'a>
+    ensures { text_of result ≡ qbf_text name.now outcome.now }
+{
+    match outcome {
+        Ok(found) => whole_text(value_text(found)),
+        Err(error) => notice(error.status(), name, error.reason(name)),
+    }
+}
+
+fn value_exit(found: &FormulaAnswer) -> Exit
+    ensures { result ≡ value_exit found.now }
+{
+    match found {
+        FormulaAnswer::True(_) => Exit::Sat,
+        FormulaAnswer::False(_) => Exit::Unsat,
+    }
+}
+
+fn qbf_exit(outcome: &Result<FormulaAnswer, SatError>) -> Exit
+    ensures { result ≡ qbf_exit outcome.now }
+{
+    match outcome {
+        Ok(found) => value_exit(found),
+        Err(error) => exit_of(error.status()),
+    }
+}
+
 // The line that tells that the words are not read.
 fn usage(name: &[u8]) -> Pieces<'_>
     ensures { text_of result ≡ notice_text status.UsageError name.now (codes "% usage\n") }
@@ -216,6 +254,7 @@ impl Answer {
             Answer::Rewrite(outcome) => rewriting_pieces(name, outcome),
             Answer::Ask(outcome) => ask_pieces(name, outcome),
             Answer::Stress(outcome) => stress_pieces(name, outcome),
+            Answer::Qbf(outcome) => qbf_pieces(name, outcome),
             Answer::Unread => usage(name),
             Answer::NoWords => want(name),
         }
@@ -232,6 +271,7 @@ impl Answer {
             Answer::Rewrite(outcome) => rewriting_exit(outcome),
             Answer::Ask(outcome) => ask_exit(outcome),
             Answer::Stress(outcome) => stress_exit(outcome),
+            Answer::Qbf(outcome) => qbf_exit(outcome),
             Answer::Unread => Exit::Usage,
             Answer::NoWords => Exit::Memory,
         }

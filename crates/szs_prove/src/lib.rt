@@ -13,6 +13,7 @@ pub mod deciding;
 pub mod decision;
 pub mod decision_laws;
 mod exit;
+mod formula;
 mod prove;
 mod refusal;
 pub mod sizes;

@@ -2,9 +2,10 @@ use Rattle.std.proofs.Common.{arith, subst, sym, refl, map, string_bytes}
 use Rattle.command_words.specs.Asked.{IsAsked, name_of}
 use Rattle.command_words.specs.Requests.{asked}
 use Rattle.command_words.specs.declared.request.Request.{Request}
-use Rattle.szs_prove.specs.Answers.{IsAnswer, reading}
+use Rattle.szs_prove.specs.Answers.{reading}
+use Rattle.szs_prove.specs.Causes.{IsAnswer}
 use Rattle.szs_prove.specs.declared.answer.Answer.{Answer}
-use Rattle.szs_prove.specs.declared.answer.Answer.TheVariants.{Prove, Sat, Check, Rewrite, Ask, Stress}
+use Rattle.szs_prove.specs.declared.answer.Answer.TheVariants.{Prove, Sat, Check, Rewrite, Ask, Stress, Qbf}
 use Rattle.szs_prove.proofs.AskedAtoms.{asked_atom_is_formed, asked_atom_is_free}
 use Rattle.szs_prove.proofs.Causes.{proved, checked, rewritten, replied, measured}
 use Rattle.szs_prove.proofs.command.answer.Goals as goal
@@ -82,3 +83,15 @@ returns-in-Stress-clause-answer g c =
     let read = reading (g.L.Library.told c.args.files.now) (g.L.Library.told c.args.files.now) in
     subst (λ (q : Request). IsAnswer (map string_bytes c.args._words.now) read (name_of (asked q)) (Stress c.stress.result)) (sym c.in-Stress.is)
     (measured _ read _ c.stress.result refl h c.stress.ensures)
+
+pub answer_formula_file-requires : goal.answer_formula_file-requires
+answer_formula_file-requires g c =
+    let h = subst (λ (q : Request). IsAsked (map string_bytes c.args._words.now) (asked q)) c.in-Qbf.is c.requires in
+    record { name = c.asked_once.ensures.named _ _ h }
+
+pub returns-in-Qbf-clause-answer : goal.returns-in-Qbf-clause-answer
+returns-in-Qbf-clause-answer g c =
+    let h = subst (λ (q : Request). IsAsked (map string_bytes c.args._words.now) (asked q)) c.in-Qbf.is c.requires in
+    let read = reading (g.L.Library.told c.args.files.now) (g.L.Library.told c.answer_formula_file.new.files) in
+    subst (λ (q : Request). IsAnswer (map string_bytes c.args._words.now) read (name_of (asked q)) (Qbf c.answer_formula_file.result)) (sym c.in-Qbf.is)
+    (h, c.answer_formula_file.ensures.outcome)
