@@ -13,11 +13,13 @@ use Rattle.cert_front.specs.declared.judgement.Judgement.{Judgement}
 use Rattle.cert_front.specs.declared.reply.Reply.{Reply}
 use Rattle.cert_front.specs.declared.rewriting.Rewriting.{Rewriting}
 use Rattle.cert_front.specs.declared.words.Form.{Form}
-use Rattle.command_words.specs.Asked.{prove, check, rewrite, ask, stress, IsAsked}
+use Rattle.command_words.specs.Asked.{prove, check, rewrite, ask, stress, fmodel, IsAsked}
 use Rattle.szs_prove.specs.Answers.{HasVerdict, IsRefusal, IsUntouched, Reading}
 use Rattle.szs_prove.specs.Causes.{IsAnswer}
+use Rattle.szs_prove.specs.ModelAnswers.{HasModelAnswer, IsModelRefusal}
 use Rattle.szs_prove.specs.Sizes.{IsRefutedIn}
-use Rattle.szs_prove.specs.declared.answer.Answer.TheVariants.{Prove, Check, Rewrite, Ask, Stress}
+use Rattle.szs_prove.specs.declared.answer.Answer.TheVariants.{Prove, Check, Rewrite, Ask, Stress, Fmodel}
+use Rattle.szs_prove.specs.declared.model.ModelRefusal.{ModelRefusal}
 use Rattle.szs_prove.specs.declared.refusal.Refusal.{Refusal}
 use Rattle.szs_prove.specs.declared.sizes.Size.{Size}
 
@@ -49,3 +51,8 @@ module _ (words : List (List ℕ)) (read : Reading) where
       → IsAnswer words read (codes "stress") (Stress o)
   measured number (Ok size) untouched asked ok = (refl, untouched, number, asked, ok)
   measured number (Err want) untouched asked ok = (refl, untouched, number, asked, tt)
+
+  pub modelled : (elements : ℕ) (file : List ℕ) (root : Option (List ℕ)) (o : Result (List ℕ) ModelRefusal) → IsAsked words (fmodel elements file root)
+      → IfOk o (HasModelAnswer read.old.files elements file root) → IfErr o (IsModelRefusal read elements file root) → IsAnswer words read file (Fmodel o)
+  modelled elements file root (Ok text) asked ok err = (elements, root, asked, ok)
+  modelled elements file root (Err why) asked ok err = (elements, root, asked, err)

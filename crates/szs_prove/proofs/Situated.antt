@@ -1,6 +1,7 @@
 -- A question finds one thing in the files, and each exit is wanted there, or yields.
 use Rattle.std.proofs.Common.{◌≡◌, ◌≢◌, ℕ, ◌<◌, ◌≤◌, List, Option, Some, None, IfSome, length, inl, inr, refl, sym, ap, subst, arith}
 use Rattle.std.specs.Prelude.{◌⊎◌, Result, Ok, Err}
+use Rattle.finite_model.specs.Tables.{IsTooWide}
 use Rattle.inst_logic.specs.Measure.{is_function_free}
 use Rattle.inst_logic.specs.declared.clause.Problem.{Problem}
 use Rattle.outside_io.specs.Causes.{Rose}
@@ -29,7 +30,7 @@ use Rattle.cert_front.specs.declared.check.CheckFault.{CheckFault}
 use Rattle.cert_front.specs.declared.check.CheckFault.TheVariants as unjudged
 use Rattle.cert_front.specs.declared.fault.CertFault.{CertFault}
 use Rattle.cert_front.specs.declared.fault.CertFault.TheVariants as bad
-use Rattle.command_words.specs.Asked.{Asked, prove, sat, check, rewrite, ask, stress, qbf, IsAsked}
+use Rattle.command_words.specs.Asked.{Asked, prove, sat, check, rewrite, ask, stress, qbf, fmodel, IsAsked}
 use Rattle.dimacs_front.specs.Files.{IsHeld, IsOutcome, IsRefused, limit}
 use Rattle.dimacs_front.specs.Form.{reading as clauses_of}
 use Rattle.dimacs_front.specs.declared.answers.SatAnswer.{SatAnswer}
@@ -41,20 +42,23 @@ use Rattle.dimacs_front.specs.declared.error.DimacsError.{DimacsError}
 use Rattle.dimacs_front.specs.declared.error.DimacsError.TheVariants as fault
 use Rattle.dimacs_front.specs.declared.file.SatError.{SatError}
 use Rattle.dimacs_front.specs.declared.file.SatError.TheVariants as bar
-use Rattle.szs_prove.specs.Answers.{HasVerdict, IsOutOfBudget, IsProof, IsRefusal, Reading}
-use Rattle.szs_prove.specs.Causes.{IsAnswer, IsFinding, IsReplyOf, IsRewritingOf}
+use Rattle.szs_prove.specs.Answers.{HasVerdict, IsOutOfBudget, IsProblemOf, IsProof, IsRefusal, Reading}
+use Rattle.szs_prove.specs.Causes.{IsAnswer, IsFinding, IsModelOutcome, IsReplyOf, IsRewritingOf}
 use Rattle.szs_prove.specs.Formulas.{IsFormulaOutcome, IsFormulaRefused}
+use Rattle.szs_prove.specs.ModelAnswers.{HasModelAnswer}
 use Rattle.szs_prove.specs.Answered.{Answered, Writing}
-use Rattle.szs_prove.specs.Situations.{Finding, Finds, IsBarred, IsExact, IsLoaded, IsRead, IsRefusedBy, IsWanted, Reader, Situation, Stands, Wants, Yields, asks, unread}
-use Rattle.szs_prove.specs.Texts.{ask_exit, check_exit, exit_for, exit_of, judgement_exit, load_status, prove_exit, qbf_exit, reply_exit, rewriting_exit, sat_exit, stress_exit, text_status, unjudged_status}
+use Rattle.szs_prove.specs.Situations.{Finding, Finds, IsBarred, IsExact, IsLoaded, IsRead, IsRefusedBy, IsTabled, IsWanted, Reader, Situation, Stands, Wants, Yields, asks, unread}
+use Rattle.szs_prove.specs.Texts.{ask_exit, check_exit, exit_for, exit_of, fmodel_exit, judgement_exit, load_status, prove_exit, qbf_exit, reply_exit, rewriting_exit, sat_exit, stress_exit, text_status, unjudged_status}
 use Rattle.dimacs_front.specs.Notices.{fault_status as status_of_text}
 use Rattle.szs_prove.proofs.Endings.{AsksOne}
 use Rattle.szs_prove.specs.declared.answer.Answer.{Answer}
-use Rattle.szs_prove.specs.declared.answer.Answer.TheVariants.{Prove, Sat, Check, Rewrite, Ask, Stress, Qbf, Unread, NoWords}
+use Rattle.szs_prove.specs.declared.answer.Answer.TheVariants.{Prove, Sat, Check, Rewrite, Ask, Stress, Qbf, Fmodel, Unread, NoWords}
 use Rattle.szs_prove.specs.declared.exit.Exit.{Exit}
 use Rattle.szs_prove.specs.declared.exit.Exit.TheVariants as exit
 use Rattle.szs_prove.specs.declared.formula.FormulaAnswer.{FormulaAnswer}
 use Rattle.szs_prove.specs.declared.formula.FormulaAnswer.TheVariants.{True, False}
+use Rattle.szs_prove.specs.declared.model.ModelRefusal.{ModelRefusal}
+use Rattle.szs_prove.specs.declared.model.ModelRefusal.TheVariants as no_model
 use Rattle.szs_prove.specs.declared.refusal.Refusal.{Refusal}
 use Rattle.szs_prove.specs.declared.refusal.Refusal.TheVariants.{Load, OutOfBudget, Memory}
 use Rattle.szs_prove.specs.declared.sizes.Size.{Size}
@@ -154,6 +158,23 @@ one_loaded one files file root (Ok p) (Err e) h k = absurd (one.apart files file
 one_loaded one files file root (Err e) (Ok p) h k = absurd (one.apart files file root p e k h)
 one_loaded one files file root (Err e) (Err f) h k = ap Err (one.refusals files file root e f h k)
 
+module _ (one : LoadsOne) (files : List NamedFile) (elements : ℕ) (file : List ℕ) (root : Option (List ℕ)) where
+  not_wide : (p q : Problem) → Loads files file root p → ¬ IsTooWide elements p.clauses → Loads files file root q → IsTooWide elements q.clauses → ⊥
+  not_wide p q h small k wide = small (subst (λ (r : Problem). IsTooWide elements r.clauses) (one.problems files file root q p k h) wide)
+
+  one_tabled : (s t : Result Problem ModelRefusal) → IsTabled files elements file root s → IsTabled files elements file root t → s ≡ t
+  one_tabled (Ok p) (Ok q) h k = ap Ok (one.problems files file root p q h.0 k.0)
+  one_tabled (Ok p) (Err (no_model.Load e)) h k = absurd (one.apart files file root p e h.0 k)
+  one_tabled (Ok p) (Err no_model.TooWide) h k = absurd (not_wide p k.0 h.0 h.1 k.1 k.2)
+  one_tabled (Err (no_model.Load e)) (Ok p) h k = absurd (one.apart files file root p e k.0 h)
+  one_tabled (Err no_model.TooWide) (Ok p) h k = absurd (not_wide p h.0 k.0 k.1 h.1 h.2)
+  one_tabled (Err (no_model.Load e)) (Err (no_model.Load f)) h k = ap (λ (x : LoadError). Err (no_model.Load x)) (one.refusals files file root e f h k)
+  one_tabled (Err (no_model.Load e)) (Err no_model.TooWide) h k = absurd (one.apart files file root k.0 e k.1 h)
+  one_tabled (Err no_model.TooWide) (Err (no_model.Load e)) h k = absurd (one.apart files file root h.0 e h.1 k)
+  one_tabled (Err no_model.TooWide) (Err no_model.TooWide) h k = refl
+  one_tabled (Err no_model.Memory) t h k = absurd h
+  one_tabled s (Err no_model.Memory) h k = absurd k
+
 -- what a question finds, by the law of its command
 one_found : LoadsOne → FindsOne → (files : List NamedFile) (a : Asked) (x y : Finding a) → Finds files a x → Finds files a y → x ≡ y
 one_found loads found files (prove file root budget) x y h k = one_loaded loads files file root x y h k
@@ -163,6 +184,7 @@ one_found loads found files (rewrite cert problem root) x y h k = found.0 files 
 one_found loads found files (ask cert atom) x y h k = found.1 files cert atom.atom x y h k
 one_found loads found files (stress number) x y h k = refl
 one_found loads found files (qbf file) x y h k = one_read Formula formula_in files file x y h k
+one_found loads found files (fmodel elements file root) x y h k = one_tabled loads files elements file root x y h k
 
 -- ---- the exit of each answer
 
@@ -216,6 +238,23 @@ module _ (words : List (List ℕ)) (files : List NamedFile) (read : Reading) (wr
       let v = subst (λ (fs : Option (List NamedFile)). HasVerdict fs file root text) told h in
       due (prove file root budget) (Ok v.1.problem) exit.Decided asked v.1.is_problem.loads (inl refl)
   prove_due file root budget asked (Err why) h = refusal_due file root budget asked why h
+
+  -- the cause of a load, where the files are told
+  load_here : (file : List ℕ) (root : Option (List ℕ)) (e : LoadError) → IsLoadCause read.old.files read.old.faults read.new.faults file root e
+      → IsLoadCause (Some files) read.old.faults read.new.faults file root e
+  load_here file root e h = subst (λ (o : Option (List NamedFile)). IsLoadCause o read.old.faults read.new.faults file root e) told h
+
+  fmodel_due : (elements : ℕ) (file : List ℕ) (root : Option (List ℕ)) → IsAsked words (fmodel elements file root) → (o : Result (List ℕ) ModelRefusal) → IsModelOutcome read elements file root o
+      → IsDue (fmodel_exit o)
+  fmodel_due elements file root asked (Ok text) h =
+      let a = subst (λ (fs : Option (List NamedFile)). HasModelAnswer fs elements file root text) told h in
+      due (fmodel elements file root) (Ok a.0) exit.Decided asked (a.1.loads, a.2.narrow) refl
+  fmodel_due elements file root asked (Err (no_model.Load e)) h =
+      load_due file root e (load_here file root e h) (λ refuses. due (fmodel elements file root) (Err (no_model.Load e)) exit.Refused asked refuses refl)
+  fmodel_due elements file root asked (Err no_model.TooWide) h =
+      let w = subst (λ (fs : Option (List NamedFile)). (p : Problem) × IsProblemOf fs file root p × IsTooWide elements p.clauses) told h in
+      due (fmodel elements file root) (Err no_model.TooWide) exit.Refused asked (w.0, w.1.loads, w.2) refl
+  fmodel_due elements file root asked (Err no_model.Memory) h = want_due
 
   -- why a text is refused, where that makes the exit due
   lines_due : (A : Type 0) (reads : Reader A) (file : List ℕ) → ((e : SatError) → IsBarred reads files file e → IsDue exit.Refused)
@@ -348,6 +387,7 @@ module _ (words : List (List ℕ)) (files : List NamedFile) (read : Reading) (wr
   answer_due name (Ask o) h = ask_due name h.0 h.1 o h.2
   answer_due name (Stress o) h = stress_due h.2 h.3 o
   answer_due name (Qbf o) h = qbf_due name h.0 o (formula_here name o h.1)
+  answer_due name (Fmodel o) h = fmodel_due h.0 name h.1 h.2 o h.3
   answer_due name Unread h = inl (unread, h.2, refl)
   answer_due name NoWords h = want_due
 

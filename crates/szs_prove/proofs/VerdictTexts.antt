@@ -1,6 +1,6 @@
 -- Where the text of a certificate was taken whole, the answer is a verdict.
 use Rattle.std.proofs.Common.{◌≡◌, ◌≢◌, ◌≤◌, ℕ, List, [], ◌∷◌, ◌++◌, All, Bool, true, false, cond, nat_eq, Option, Some, None, inl, inr, sym, ap, refl, ◌∙◌, append-nil, append_assoc, arith, codes}
-use Rattle.std.specs.Prelude.{◌&&◌, ◌||◌, Result, Ok, Err}
+use Rattle.std.specs.Prelude.{◌&&◌, ◌||◌, ◌⊎◌, Result, Ok, Err}
 use Rattle.std.specs.Io.KnownBytes.{Appends}
 use Rattle.std.proofs.lemmas.Bool.Decides.{nat_tests}
 use Rattle.std.proofs.lemmas.List.Elements.{All-head, All-tail}
@@ -37,17 +37,20 @@ use Rattle.outside_io.specs.Taken.{AppendsProperPrefix}
 use Rattle.outside_io.specs.declared.notices.Status.{Status}
 use Rattle.outside_io.specs.declared.notices.Status.TheVariants as told
 use Rattle.szs_prove.specs.Answers.{IsProof, Reading}
-use Rattle.szs_prove.specs.Causes.{IsAnswer, IsRewritingOf}
+use Rattle.szs_prove.specs.Causes.{IsAnswer, IsModelOutcome, IsRewritingOf}
 use Rattle.szs_prove.specs.Formulas.{IsFormulaOutcome}
+use Rattle.szs_prove.specs.ModelAnswers.{IsNoTablesText, IsTablesText}
 use Rattle.szs_prove.specs.Answered.{Answered, Writing, TookCertificate}
-use Rattle.szs_prove.specs.Texts.{exit_for, prove_exit, prove_text, qbf_text, reason_of, rewriting_exit, rewriting_text, sat_text, status_of, text_for, unjudged_reason, unjudged_status}
+use Rattle.szs_prove.specs.Texts.{exit_for, fmodel_text, model_reason, model_status, prove_exit, prove_text, qbf_text, reason_of, rewriting_exit, rewriting_text, sat_text, status_of, text_for, unjudged_reason, unjudged_status}
 use Rattle.szs_prove.specs.declared.answer.Answer.{Answer}
-use Rattle.szs_prove.specs.declared.answer.Answer.TheVariants.{Prove, Sat, Check, Rewrite, Ask, Stress, Qbf, Unread, NoWords}
+use Rattle.szs_prove.specs.declared.answer.Answer.TheVariants.{Prove, Sat, Check, Rewrite, Ask, Stress, Qbf, Fmodel, Unread, NoWords}
 use Rattle.szs_prove.specs.declared.exit.Exit.{Exit}
 use Rattle.szs_prove.specs.declared.exit.Exit.TheVariants as exit
 use Rattle.szs_prove.specs.declared.formula.FormulaAnswer.{FormulaAnswer}
 use Rattle.szs_prove.specs.declared.formula.FormulaAnswer.TheVariants.{True, False}
+use Rattle.szs_prove.specs.declared.model.ModelRefusal.{ModelRefusal}
 use Rattle.szs_prove.specs.declared.refusal.Refusal.{Refusal}
+use Rattle.inst_logic.specs.declared.clause.Problem.{Problem}
 
 -- behind `% SZS status ` stands the first of a verdict's two words, by their first two letters
 abbrev begins_verdict : List ℕ → Bool
@@ -104,16 +107,34 @@ reply_begins reply.True = refl
 reply_begins reply.False = refl
 reply_begins (reply.Invalid why) = refl
 
+-- ---- comments of another kind
+
+abbrev third_is_s : List ℕ → Bool
+third_is_s (a ∷ b ∷ c ∷ more) = nat_eq c 83
+third_is_s _ = false
+
+certificate_third : (format : ℕ) (name : List ℕ) (c : Certificate) (more : List ℕ) → third_is_s (certificate_text format name c ++ more) ≡ true
+certificate_third format name (first_refutation c) more = refl
+certificate_third format name (refutation c) more = refl
+certificate_third format name (saturation c) more = refl
+certificate_third format name (covered c) more = refl
+
+no_comment : (other text more : List ℕ) → third_is_s other ≡ false → IsCertificateText text → other ≡ text ++ more → ⊥
+no_comment other text more is h e =
+    let yes : third_is_s (text ++ more) ≡ true = ap (λ t. third_is_s (t ++ more)) h.is ∙ certificate_third h.format h.name h.value more in
+    let no : third_is_s (text ++ more) ≡ false = sym (ap third_is_s e) ∙ is in
+    cc
+
+tables_third : (k : ℕ) (file : List ℕ) (p : Problem) (text : List ℕ) → IsTablesText k file p text ⊎ IsNoTablesText k file p text → third_is_s text ≡ false
+tables_third k file p text (inl h) = ap third_is_s h.is
+tables_third k file p text (inr h) = ap third_is_s h.is
+
 -- ---- the lines of a chain, which have another second line
 
 -- what stands behind the first line
 abbrev behind_line : List ℕ → List ℕ
 behind_line [] = []
 behind_line (b ∷ bs) = cond (nat_eq b 10) bs (behind_line bs)
-
-abbrev third_is_s : List ℕ → Bool
-third_is_s (a ∷ b ∷ c ∷ more) = nat_eq c 83
-third_is_s _ = false
 
 -- whether the second line begins with `% S`
 abbrev has_start : List ℕ → Bool
@@ -188,6 +209,10 @@ module _ (words : List (List ℕ)) (read : Reading) (write : Writing) (e : Exit)
   no_formula name (Ok (False text)) h more same = no_line text t.text more (ap begins_comment h.4.1.is) t.is_text same
   no_formula name (Err e) h more same = no_notice (refusal_status e) name (refusal_reason name e) more same
 
+  no_model : (elements : ℕ) (name : List ℕ) (root : Option (List ℕ)) (o : Result (List ℕ) ModelRefusal) → IsModelOutcome read elements name root o → (more : List ℕ) → fmodel_text name o ≡ t.text ++ more → ⊥
+  no_model elements name root (Ok text) h more same = no_comment text t.text more (tables_third elements name h.0 text h.2.said) t.is_text same
+  no_model elements name root (Err why) h more same = no_notice (model_status why) name (model_reason why) more same
+
   -- the text of an answer that has the certificate's in front
   decides : (name : List ℕ) (answer : Answer) → IsAnswer words read name answer → (more : List ℕ) → text_for name answer ≡ t.text ++ more → (exit_for answer ≡ exit.Decided) × (more ≡ [])
   decides name (Prove o) h more same = prove_decides name h.0 h.1 o h.3 more same
@@ -200,6 +225,7 @@ module _ (words : List (List ℕ)) (read : Reading) (write : Writing) (e : Exit)
   decides name (Stress (Ok size)) h more same = absurd (no_chain size t.text more t.is_text same)
   decides name (Stress (Err want)) h more same = absurd (no_notice told.MemoryOut name [] more same)
   decides name (Qbf o) h more same = absurd (no_formula name o h.1 more same)
+  decides name (Fmodel o) h more same = absurd (no_model h.0 name h.1 o h.3 more same)
   decides name Unread h more same = absurd (no_notice told.UsageError name (codes "% usage\n") more same)
   decides name NoWords h more same = absurd (no_notice told.MemoryOut name [] more same)
 

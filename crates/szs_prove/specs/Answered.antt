@@ -20,13 +20,14 @@ use Rattle.szs_prove.specs.declared.sizes.Size.{Size}
 use Rattle.cert_front.specs.Checks.{IsJudged}
 use Rattle.cert_front.specs.Queries.{IsReplied}
 use Rattle.cert_front.specs.Rewritings.{IsRewritten}
-use Rattle.command_words.specs.Asked.{Asked, prove, check, rewrite, ask, stress, qbf, IsAsked, name_of}
+use Rattle.command_words.specs.Asked.{Asked, prove, check, rewrite, ask, stress, qbf, fmodel, IsAsked, name_of}
 use Rattle.dimacs_front.specs.Files.{IsHeld}
 use Rattle.dimacs_front.specs.Quantified.{formula_in}
 use Rattle.dimacs_front.specs.declared.cnf.Qbf.{Qbf}
 use Rattle.szs_prove.specs.Answers.{Reading, IsVerdict, IsOutOfBudget, IsUntouched}
 use Rattle.szs_prove.specs.Causes.{IsAnswer}
 use Rattle.szs_prove.specs.Formulas.{IsFormulaAnswer}
+use Rattle.szs_prove.specs.ModelAnswers.{HasModelAnswer}
 use Rattle.szs_prove.specs.Texts.{exit_for, judgement_exit, refusal_text, reply_exit, text_for, value_exit, value_text, want_text}
 use Rattle.szs_prove.specs.Written.{IsWritten}
 use Rattle.szs_prove.specs.declared.answer.Answer.{Answer}
@@ -69,6 +70,9 @@ AsksChain words = (number : ℕ) × IsAsked words (stress number)
 
 abbrev pub AsksFormula : List (List ℕ) → Type 0
 AsksFormula words = (file : List ℕ) × IsAsked words (qbf file)
+
+abbrev pub AsksModel : List (List ℕ) → Type 0
+AsksModel words = (elements : ℕ) × (file : List ℕ) × (root : Option (List ℕ)) × IsAsked words (fmodel elements file root)
 
 -- ---- what was written
 
@@ -154,6 +158,16 @@ pub record WritesFormula (words : List (List ℕ)) (files : Option (List NamedFi
   pub shown : IsFormulaAnswer file formula answer
   pub ends : exit ≡ value_exit answer
   pub written : Appends old new (value_text answer)
+
+-- Tables that make the clauses of the problem of the file true were written, whole, or the refutation that shows that there are none.
+pub record WritesModel (words : List (List ℕ)) (files : Option (List NamedFile)) (old new : Option (List ℕ)) : Type 0 where
+  pub elements : ℕ
+  pub file : List ℕ
+  pub root : Option (List ℕ)
+  pub asked : IsAsked words (fmodel elements file root)
+  pub text : List ℕ
+  pub shown : HasModelAnswer files elements file root text
+  pub written : Appends old new text
 
 -- how the program ends where the words ask for a chain
 abbrev pub EndsChain : Exit → Type 0

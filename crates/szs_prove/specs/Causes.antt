@@ -12,16 +12,18 @@ use Rattle.cert_front.specs.declared.judgement.Judgement.{Judgement}
 use Rattle.cert_front.specs.declared.reply.Reply.{Reply}
 use Rattle.cert_front.specs.declared.rewriting.Rewriting.{Rewriting}
 use Rattle.cert_front.specs.declared.words.Form.{Form}
-use Rattle.command_words.specs.Asked.{prove, sat, check, rewrite, ask, stress, qbf, IsAsked, IsUnread}
+use Rattle.command_words.specs.Asked.{prove, sat, check, rewrite, ask, stress, qbf, fmodel, IsAsked, IsUnread}
 use Rattle.dimacs_front.specs.Files.{IsOutcome}
 use Rattle.szs_prove.specs.Answers.{IsProof, IsUntouched, Reading}
 use Rattle.szs_prove.specs.Formulas.{IsFormulaOutcome}
+use Rattle.szs_prove.specs.ModelAnswers.{HasModelAnswer, IsModelRefusal}
 use Rattle.szs_prove.specs.Sizes.{IsRefutedIn}
 use Rattle.szs_prove.specs.declared.answer.Answer.{Answer}
-use Rattle.szs_prove.specs.declared.answer.Answer.TheVariants.{Prove, Sat, Check, Rewrite, Ask, Stress, Qbf, Unread, NoWords}
+use Rattle.szs_prove.specs.declared.answer.Answer.TheVariants.{Prove, Sat, Check, Rewrite, Ask, Stress, Qbf, Fmodel, Unread, NoWords}
+use Rattle.szs_prove.specs.declared.model.ModelRefusal.{ModelRefusal}
 use Rattle.szs_prove.specs.declared.sizes.Size.{Size}
 
--- ---- check, its rewriting, ask and stress
+-- ---- check, its rewriting, ask, stress and fmodel
 
 -- what is found of the certificate of a file and the problem of another, or why nothing is
 abbrev pub IsFinding : Reading → List ℕ → Option (List ℕ) → Option (List ℕ) → Result (Form × Judgement) CheckFault → Type 0
@@ -43,6 +45,11 @@ abbrev pub IsMeasured : ℕ → Result Size OutOfMemory → Type 0
 IsMeasured number (Ok size) = IsRefutedIn number size
 IsMeasured number (Err want) = ⊤
 
+-- tables over so many elements for the problem of the file, or that there are none, or why there is no answer
+abbrev pub IsModelOutcome : Reading → ℕ → List ℕ → Option (List ℕ) → Result (List ℕ) ModelRefusal → Type 0
+IsModelOutcome read elements file root (Ok text) = HasModelAnswer read.old.files elements file root text
+IsModelOutcome read elements file root (Err why) = IsModelRefusal read elements file root why
+
 -- ---- all answers
 
 -- the cause of an answer under this name to the words
@@ -54,5 +61,6 @@ IsAnswer words read name (Rewrite outcome) = (problem : Option (List ℕ)) × (r
 IsAnswer words read name (Ask outcome) = (atom : Signed Tree) × IsAsked words (ask name atom) × IsReplyOf read name atom.atom outcome
 IsAnswer words read name (Stress outcome) = (name ≡ codes "stress") × IsUntouched read × (number : ℕ) × IsAsked words (stress number) × IsMeasured number outcome
 IsAnswer words read name (Qbf outcome) = IsAsked words (qbf name) × IsFormulaOutcome read.old read.new name outcome
+IsAnswer words read name (Fmodel outcome) = (elements : ℕ) × (root : Option (List ℕ)) × IsAsked words (fmodel elements name root) × IsModelOutcome read elements name root outcome
 IsAnswer words read name Unread = (name ≡ codes "instgen") × IsUntouched read × IsUnread words
 IsAnswer words read name NoWords = (name ≡ codes "instgen") × IsUntouched read

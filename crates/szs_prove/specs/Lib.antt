@@ -4,10 +4,12 @@ pub mod Causes
 pub mod Chains
 pub mod Decisions
 pub mod Formulas
+pub mod ModelAnswers
 pub mod Problems
 pub mod Proving
 pub mod Situations
 pub mod SizeWords
 pub mod Sizes
+pub mod TableTexts
 pub mod Texts
 pub mod Written

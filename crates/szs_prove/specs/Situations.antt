@@ -3,6 +3,7 @@ use Rattle.std.specs.Prelude.{ℕ, ◌≡◌, ◌⊎◌, ◌<◌, List, length, 
 use Rattle.outside_io.specs.Causes.{Rose}
 use Rattle.outside_io.specs.Files.{bytes_named}
 use Rattle.outside_io.specs.declared.library.NamedFile.{NamedFile}
+use Rattle.finite_model.specs.Tables.{IsTooWide}
 use Rattle.inst_logic.specs.Measure.{is_function_free}
 use Rattle.inst_logic.specs.declared.clause.Problem.{Problem}
 use Rattle.tptp_load.specs.Problems.{Loads, Refuses}
@@ -14,7 +15,7 @@ use Rattle.cert_front.specs.Checks.{IsFound}
 use Rattle.cert_front.specs.Queries.{IsFoundReply}
 use Rattle.cert_front.specs.declared.check.CheckFault.{CheckFault}
 use Rattle.cert_front.specs.declared.fault.CertFault.{CertFault}
-use Rattle.command_words.specs.Asked.{Asked, prove, sat, check, rewrite, ask, stress, qbf, IsAsked, IsUnread}
+use Rattle.command_words.specs.Asked.{Asked, prove, sat, check, rewrite, ask, stress, qbf, fmodel, IsAsked, IsUnread}
 use Rattle.dimacs_front.specs.Answers.{IsModel}
 use Rattle.dimacs_front.specs.Files.{IsHeld, limit}
 use Rattle.dimacs_front.specs.Form.{reading as clauses_of}
@@ -29,6 +30,8 @@ use Rattle.szs_prove.specs.Answers.{Reading}
 use Rattle.szs_prove.specs.Answered.{Writing}
 use Rattle.szs_prove.specs.Formulas.{IsFalseFormula, IsTrueFormula}
 use Rattle.szs_prove.specs.Texts.{judgement_exit, reply_exit}
+use Rattle.szs_prove.specs.declared.model.ModelRefusal.{ModelRefusal}
+use Rattle.szs_prove.specs.declared.model.ModelRefusal.TheVariants as no_model
 use Rattle.szs_prove.specs.declared.exit.Exit.{Exit}
 use Rattle.szs_prove.specs.declared.exit.Exit.TheVariants.{Decided, ResourceOut, Refused, Usage, ReadFault, WriteFault, Memory, Sat, Unsat}
 
@@ -43,6 +46,18 @@ IsLoaded files file root (Err e) = Refuses files file root e
 abbrev pub WantsOfProblem : Result Problem LoadError → Exit → Type 0
 WantsOfProblem (Ok p) exit = (exit ≡ Decided) ⊎ ((exit ≡ ResourceOut) × IsFalse (is_function_free p.clauses))
 WantsOfProblem (Err e) exit = exit ≡ Refused
+
+-- the problem of the file, whose tables over so many elements are not too large, or why there is none
+abbrev pub IsTabled : List NamedFile → ℕ → List ℕ → Option (List ℕ) → Result Problem ModelRefusal → Type 0
+IsTabled files elements file root (Ok p) = Loads files file root p × ¬ IsTooWide elements p.clauses
+IsTabled files elements file root (Err (no_model.Load e)) = Refuses files file root e
+IsTabled files elements file root (Err no_model.TooWide) = (p : Problem) × Loads files file root p × IsTooWide elements p.clauses
+IsTabled files elements file root (Err no_model.Memory) = ⊥
+
+-- such a problem is always decided
+abbrev pub WantsDecision : {E : Type 0} → Result Problem E → Exit → Type 0
+WantsDecision (Ok p) exit = exit ≡ Decided
+WantsDecision (Err e) exit = exit ≡ Refused
 
 -- ---- clauses in the DIMACS form, and formulas
 
@@ -101,6 +116,7 @@ Finding (rewrite cert problem root) = Result (Form × Judgement) CheckFault
 Finding (ask cert atom) = Result Reply CertFault
 Finding (stress number) = ⊤
 Finding (qbf file) = Result Qbf SatError
+Finding (fmodel elements file root) = Result Problem ModelRefusal
 
 -- it finds this in the files
 abbrev pub Finds : List NamedFile → (question : Asked) → Finding question → Type 0
@@ -111,6 +127,7 @@ Finds files (rewrite cert problem root) found = IsFound files cert problem root 
 Finds files (ask cert atom) found = IsFoundReply files cert atom.atom found
 Finds files (stress number) found = ⊤
 Finds files (qbf file) found = IsRead formula_in files file found
+Finds files (fmodel elements file root) found = IsTabled files elements file root found
 
 -- this exit is wanted then
 abbrev pub Wants : (question : Asked) → Finding question → Exit → Type 0
@@ -121,6 +138,7 @@ Wants (rewrite cert problem root) found exit = WantsOfCheck found exit
 Wants (ask cert atom) found exit = WantsOfReply found exit
 Wants (stress number) found exit = exit ≡ Decided
 Wants (qbf file) found exit = WantsOfFormula found exit
+Wants (fmodel elements file root) found exit = WantsDecision found exit
 
 -- what can stand in the words and the files: a question with what it finds, or words that are not read
 pub data Situation : Type 0 where

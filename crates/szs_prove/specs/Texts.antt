@@ -29,11 +29,13 @@ use Rattle.dimacs_front.specs.declared.answers.SatAnswer.TheVariants as values
 use Rattle.dimacs_front.specs.declared.file.SatError.{SatError}
 use Rattle.szs_prove.specs.SizeWords.{size_lines}
 use Rattle.szs_prove.specs.declared.answer.Answer.{Answer}
-use Rattle.szs_prove.specs.declared.answer.Answer.TheVariants.{Prove, Sat, Check, Rewrite, Ask, Stress, Qbf, Unread, NoWords}
+use Rattle.szs_prove.specs.declared.answer.Answer.TheVariants.{Prove, Sat, Check, Rewrite, Ask, Stress, Qbf, Fmodel, Unread, NoWords}
 use Rattle.szs_prove.specs.declared.exit.Exit.{Exit}
 use Rattle.szs_prove.specs.declared.exit.Exit.TheVariants as exit
 use Rattle.szs_prove.specs.declared.formula.FormulaAnswer.{FormulaAnswer}
 use Rattle.szs_prove.specs.declared.formula.FormulaAnswer.TheVariants.{True, False}
+use Rattle.szs_prove.specs.declared.model.ModelRefusal.{ModelRefusal}
+use Rattle.szs_prove.specs.declared.model.ModelRefusal.TheVariants as no_model
 use Rattle.szs_prove.specs.declared.refusal.Refusal.{Refusal}
 use Rattle.szs_prove.specs.declared.refusal.Refusal.TheVariants as why
 use Rattle.szs_prove.specs.declared.sizes.Size.{Size}
@@ -129,6 +131,18 @@ reason_of why.Memory = []
 abbrev pub refusal_text : List ℕ → Refusal → List ℕ
 refusal_text name refusal = notice_text (status_of refusal) name (reason_of refusal)
 
+-- ---- why there are neither tables nor a refutation
+
+abbrev pub model_status : ModelRefusal → Status
+model_status (no_model.Load e) = load_status e
+model_status no_model.TooWide = status.InputError
+model_status no_model.Memory = status.MemoryOut
+
+abbrev pub model_reason : ModelRefusal → List ℕ
+model_reason (no_model.Load e) = load_reason e
+model_reason no_model.TooWide = codes "% limit tables\n"
+model_reason no_model.Memory = []
+
 -- ---- what is told of each answer, and how the program ends with it
 
 abbrev pub prove_text : List ℕ → Result (List ℕ) Refusal → List ℕ
@@ -222,6 +236,14 @@ abbrev pub qbf_exit : Result FormulaAnswer SatError → Exit
 qbf_exit (Ok found) = value_exit found
 qbf_exit (Err error) = exit_of (refusal_status error)
 
+abbrev pub fmodel_text : List ℕ → Result (List ℕ) ModelRefusal → List ℕ
+fmodel_text name (Ok text) = text
+fmodel_text name (Err why) = notice_text (model_status why) name (model_reason why)
+
+abbrev pub fmodel_exit : Result (List ℕ) ModelRefusal → Exit
+fmodel_exit (Ok text) = exit.Decided
+fmodel_exit (Err why) = exit_of (model_status why)
+
 abbrev pub text_for : List ℕ → Answer → List ℕ
 text_for name (Prove outcome) = prove_text name outcome
 text_for name (Sat outcome) = sat_text name outcome
@@ -230,6 +252,7 @@ text_for name (Rewrite outcome) = rewriting_text name outcome
 text_for name (Ask outcome) = ask_text name outcome
 text_for name (Stress outcome) = stress_text name outcome
 text_for name (Qbf outcome) = qbf_text name outcome
+text_for name (Fmodel outcome) = fmodel_text name outcome
 text_for name Unread = notice_text status.UsageError name (codes "% usage\n")
 text_for name NoWords = want_text name
 
@@ -241,5 +264,6 @@ exit_for (Rewrite outcome) = rewriting_exit outcome
 exit_for (Ask outcome) = ask_exit outcome
 exit_for (Stress outcome) = stress_exit outcome
 exit_for (Qbf outcome) = qbf_exit outcome
+exit_for (Fmodel outcome) = fmodel_exit outcome
 exit_for Unread = exit.Usage
 exit_for NoWords = exit.Memory

@@ -4,11 +4,12 @@ ghost use Rattle.std.specs.Prelude.{◌≡◌, codes};
 ghost use Rattle.outside_io.specs.Notices.{notice_text};
 ghost use Rattle.outside_io.specs.Pieces.{text_of};
 ghost use Rattle.outside_io.specs.declared.notices.Status.TheVariants as status;
-ghost use Rattle.szs_prove.specs.Texts.{ask_exit, ask_text, check_exit, check_text, exit_for, judgement_exit, prove_exit, prove_text, qbf_exit, qbf_text, reply_exit, rewriting_exit, rewriting_text, sat_exit, sat_text, stress_exit, stress_text, text_for, unjudged_reason, unjudged_status, value_exit, value_text, want_text};
+ghost use Rattle.szs_prove.specs.Texts.{ask_exit, ask_text, check_exit, check_text, exit_for, fmodel_exit, fmodel_text, judgement_exit, model_reason, model_status, prove_exit, prove_text, qbf_exit, qbf_text, reply_exit, rewriting_exit, rewriting_text, sat_exit, sat_text, stress_exit, stress_text, text_for, unjudged_reason, unjudged_status, value_exit, value_text, want_text};
 ghost use Rattle.szs_prove.specs.Written.{IsWritten, exit_after};
 
 use crate::exit::{Exit, exit_of};
 use crate::formula::FormulaAnswer;
+use crate::model::ModelRefusal;
 use crate::refusal::{Refusal, load_reason, load_status};
 use crate::sizes::{Size, size_lines};
 use cert_front::{
@@ -32,6 +33,8 @@ pub enum Answer {
     Ask(Result<Reply, CertFault>),
     Stress(Result<Size, Memory>),
     Qbf(Result<FormulaAnswer, SatError>),
+    /// The text of tables, or of that there are none.
+    Fmodel(Result<ByteList, ModelRefusal>),
     /// The words ask nothing.
     Unread,
     /// Memory was wanted before the words were read.
@@ -235,6 +238,44 @@ fn qbf_exit(outcome: &Result<FormulaAnswer, SatError>) -> Exit
     }
 }
 
+fn model_status(why: &ModelRefusal) -> Status
+    ensures { result ≡ model_status why.now }
+{
+    match why {
+        ModelRefusal::Load(error) => load_status(error),
+        ModelRefusal::TooWide => Status::InputError,
+        ModelRefusal::Memory => Status::MemoryOut,
+    }
+}
+
+fn model_reason(why: &ModelRefusal) -> Line<'_>
+    ensures { text_of result ≡ model_reason why.now }
+{
+    match why {
+        ModelRefusal::Load(error) => load_reason(error),
+        ModelRefusal::TooWide => text_line(b"% limit tables\n"),
+        ModelRefusal::Memory => text_line(b""),
+    }
+}
+
+fn fmodel_pieces<'a>(name: &'a [u8], outcome: &'a Result<ByteList, ModelRefusal>) -> Pieces<'a>
+    ensures { text_of result ≡ fmodel_text name.now outcome.now }
+{
+    match outcome {
+        Ok(text) => whole_text(text.as_slice()),
+        Err(why) => notice(model_status(why), name, model_reason(why)),
+    }
+}
+
+fn fmodel_exit(outcome: &Result<ByteList, ModelRefusal>) -> Exit
+    ensures { result ≡ fmodel_exit outcome.now }
+{
+    match outcome {
+        Ok(_) => Exit::Decided,
+        Err(why) => exit_of(model_status(why)),
+    }
+}
+
 // The line that tells that the words are not read.
 fn usage(name: &[u8]) -> Pieces<'_>
     ensures { text_of result ≡ notice_text status.UsageError name.now (codes "% usage\n") }
@@ -255,6 +296,7 @@ impl Answer {
             Answer::Ask(outcome) => ask_pieces(name, outcome),
             Answer::Stress(outcome) => stress_pieces(name, outcome),
             Answer::Qbf(outcome) => qbf_pieces(name, outcome),
+            Answer::Fmodel(outcome) => fmodel_pieces(name, outcome),
             Answer::Unread => usage(name),
             Answer::NoWords => want(name),
         }
@@ -272,6 +314,7 @@ impl Answer {
             Answer::Ask(outcome) => ask_exit(outcome),
             Answer::Stress(outcome) => stress_exit(outcome),
             Answer::Qbf(outcome) => qbf_exit(outcome),
+            Answer::Fmodel(outcome) => fmodel_exit(outcome),
             Answer::Unread => Exit::Usage,
             Answer::NoWords => Exit::Memory,
         }

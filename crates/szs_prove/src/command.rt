@@ -4,7 +4,7 @@ ghost use Rattle.outside_io.specs.Causes.{Rose};
 ghost use Rattle.outside_io.specs.Told.{Follows};
 ghost use Rattle.command_words.specs.Asked.{IsAsked, IsUnread, check, name_of};
 ghost use Rattle.command_words.specs.Requests.{asked};
-ghost use Rattle.szs_prove.specs.Answered.{Answered, AsksAtom, AsksChain, AsksCheck, AsksFormula, AsksProof, AsksRewriting, EndsChain, IsInterrupted, TellsValue, TookCertificate, WantsMemory, WritesCertificate, WritesComplaint, WritesFormula, WritesJudgement, WritesNumbers, WritesReply, WritesRewriting, WritesSize, writing};
+ghost use Rattle.szs_prove.specs.Answered.{Answered, AsksAtom, AsksChain, AsksCheck, AsksFormula, AsksModel, AsksProof, AsksRewriting, EndsChain, IsInterrupted, TellsValue, TookCertificate, WantsMemory, WritesCertificate, WritesComplaint, WritesFormula, WritesJudgement, WritesModel, WritesNumbers, WritesReply, WritesRewriting, WritesSize, writing};
 ghost use Rattle.szs_prove.specs.Answers.{reading};
 ghost use Rattle.szs_prove.specs.Causes.{IsAnswer};
 ghost use Rattle.szs_prove.specs.Situations.{IsExact};
@@ -13,9 +13,10 @@ use crate::answer::{Answer, tell};
 use crate::deciding::stress;
 use crate::exit::Exit;
 use crate::formula::answer_formula_file;
+use crate::model::model_file;
 use crate::prove::prove;
 use cert_front::{ask_file, atoms_are_variable_free, check_file, findings_are_one, rewrite_file};
-use command_words::laws::{asked_budget, asked_length, asked_once};
+use command_words::laws::{asked_budget, asked_elements, asked_length, asked_once};
 use command_words::{Request, read_words};
 use dimacs_front::answer_file;
 use inst_logic::Memory;
@@ -35,6 +36,7 @@ fn name_of<'a>(request: &Request<'a>) -> &'a str
         Request::Ask { cert, .. } => *cert,
         Request::Stress { .. } => "stress",
         Request::Qbf { file } => *file,
+        Request::Fmodel { file, .. } => *file,
     }
 }
 
@@ -52,6 +54,7 @@ fn answer<L: Library>(
     asked_once();
     asked_budget();
     asked_length();
+    asked_elements();
     atoms_are_variable_free();
     match request {
         Request::Prove { file, root, budget } => {
@@ -71,6 +74,11 @@ fn answer<L: Library>(
         Request::Ask { cert, atom } => Answer::Ask(ask_file(alloc, files, cert, &atom)),
         Request::Stress { number } => Answer::Stress(stress(alloc, number)),
         Request::Qbf { file } => Answer::Qbf(answer_formula_file(alloc, files, file)),
+        Request::Fmodel {
+            elements,
+            file,
+            root,
+        } => Answer::Fmodel(model_file(alloc, elements, file, root, files)),
     }
 }
 
@@ -142,6 +150,8 @@ pub fn run<L: Library, K: Sink>(alloc: Global, words: &[String], files: &mut L, 
     ensures chain { AsksChain (map string_bytes words.now) → EndsChain result }
     // Of a formula its value is told, with the certificate that shows it.
     ensures formula { AsksFormula (map string_bytes words.now) → TellsValue result → WritesFormula (map string_bytes words.now) (L.told files.old).files (K.seen out.old).taken (K.seen out.new).taken result }
+    // Of models with so many elements one is written, or the refutation that shows that there are none.
+    ensures model { AsksModel (map string_bytes words.now) → result ≡ Exit.Decided → WritesModel (map string_bytes words.now) (L.told files.old).files (K.seen out.old).taken (K.seen out.new).taken }
     ensures usage { result ≡ Exit.Usage → IsUnread (map string_bytes words.now) }
     ensures read_fault { result ≡ Exit.ReadFault → Rose (L.told files.old).faults (L.told files.new).faults }
     ensures write_fault { result ≡ Exit.WriteFault → Rose (K.seen out.old).faults (K.seen out.new).faults }

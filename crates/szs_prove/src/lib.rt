@@ -14,6 +14,7 @@ pub mod decision;
 pub mod decision_laws;
 mod exit;
 mod formula;
+mod model;
 mod prove;
 mod refusal;
 pub mod sizes;

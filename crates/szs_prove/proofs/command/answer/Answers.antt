@@ -5,9 +5,9 @@ use Rattle.command_words.specs.declared.request.Request.{Request}
 use Rattle.szs_prove.specs.Answers.{reading}
 use Rattle.szs_prove.specs.Causes.{IsAnswer}
 use Rattle.szs_prove.specs.declared.answer.Answer.{Answer}
-use Rattle.szs_prove.specs.declared.answer.Answer.TheVariants.{Prove, Sat, Check, Rewrite, Ask, Stress, Qbf}
+use Rattle.szs_prove.specs.declared.answer.Answer.TheVariants.{Prove, Sat, Check, Rewrite, Ask, Stress, Qbf, Fmodel}
 use Rattle.szs_prove.proofs.AskedAtoms.{asked_atom_is_formed, asked_atom_is_free}
-use Rattle.szs_prove.proofs.Causes.{proved, checked, rewritten, replied, measured}
+use Rattle.szs_prove.proofs.Causes.{proved, checked, rewritten, replied, measured, modelled}
 use Rattle.szs_prove.proofs.command.answer.Goals as goal
 
 pub prove-requires-clause-name : goal.prove-requires-clause-name
@@ -95,3 +95,25 @@ returns-in-Qbf-clause-answer g c =
     let read = reading (g.L.Library.told c.args.files.now) (g.L.Library.told c.answer_formula_file.new.files) in
     subst (λ (q : Request). IsAnswer (map string_bytes c.args._words.now) read (name_of (asked q)) (Qbf c.answer_formula_file.result)) (sym c.in-Qbf.is)
     (h, c.answer_formula_file.ensures.outcome)
+
+pub model_file-requires-clause-name : goal.model_file-requires-clause-name
+model_file-requires-clause-name g c =
+    let h = subst (λ (q : Request). IsAsked (map string_bytes c.args._words.now) (asked q)) c.in-Fmodel.is c.requires in
+    c.asked_once.ensures.named _ _ h
+
+pub model_file-requires-clause-some : goal.model_file-requires-clause-some
+model_file-requires-clause-some g c =
+    let h = subst (λ (q : Request). IsAsked (map string_bytes c.args._words.now) (asked q)) c.in-Fmodel.is c.requires in
+    (c.asked_elements.ensures _ _ _ _ h).0
+
+pub model_file-requires-clause-few : goal.model_file-requires-clause-few
+model_file-requires-clause-few g c =
+    let h = subst (λ (q : Request). IsAsked (map string_bytes c.args._words.now) (asked q)) c.in-Fmodel.is c.requires in
+    (c.asked_elements.ensures _ _ _ _ h).1
+
+pub returns-in-Fmodel-clause-answer : goal.returns-in-Fmodel-clause-answer
+returns-in-Fmodel-clause-answer g c =
+    let h = subst (λ (q : Request). IsAsked (map string_bytes c.args._words.now) (asked q)) c.in-Fmodel.is c.requires in
+    let read = reading (g.L.Library.told c.args.files.now) (g.L.Library.told c.model_file.new.files) in
+    subst (λ (q : Request). IsAnswer (map string_bytes c.args._words.now) read (name_of (asked q)) (Fmodel c.model_file.result)) (sym c.in-Fmodel.is)
+    (modelled _ read _ _ _ c.model_file.result h c.model_file.ensures.ok c.model_file.ensures.err)
