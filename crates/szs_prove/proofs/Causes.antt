@@ -13,12 +13,14 @@ use Rattle.cert_front.specs.declared.judgement.Judgement.{Judgement}
 use Rattle.cert_front.specs.declared.reply.Reply.{Reply}
 use Rattle.cert_front.specs.declared.rewriting.Rewriting.{Rewriting}
 use Rattle.cert_front.specs.declared.words.Form.{Form}
-use Rattle.command_words.specs.Asked.{prove, check, rewrite, ask, stress, fmodel, IsAsked}
+use Rattle.command_words.specs.Asked.{prove, check, rewrite, ask, stress, fmodel, core, IsAsked}
 use Rattle.szs_prove.specs.Answers.{HasVerdict, IsRefusal, IsUntouched, Reading}
 use Rattle.szs_prove.specs.Causes.{IsAnswer}
+use Rattle.szs_prove.specs.CoreAnswers.{HasCoreAnswer, IsCoreRefusal}
 use Rattle.szs_prove.specs.ModelAnswers.{HasModelAnswer, IsModelRefusal}
 use Rattle.szs_prove.specs.Sizes.{IsRefutedIn}
-use Rattle.szs_prove.specs.declared.answer.Answer.TheVariants.{Prove, Check, Rewrite, Ask, Stress, Fmodel}
+use Rattle.szs_prove.specs.declared.answer.Answer.TheVariants.{Prove, Check, Rewrite, Ask, Stress, Fmodel, Core}
+use Rattle.szs_prove.specs.declared.cores.CoreRefusal.{CoreRefusal}
 use Rattle.szs_prove.specs.declared.model.ModelRefusal.{ModelRefusal}
 use Rattle.szs_prove.specs.declared.refusal.Refusal.{Refusal}
 use Rattle.szs_prove.specs.declared.sizes.Size.{Size}
@@ -56,3 +58,8 @@ module _ (words : List (List ℕ)) (read : Reading) where
       → IfOk o (HasModelAnswer read.old.files elements file root) → IfErr o (IsModelRefusal read elements file root) → IsAnswer words read file (Fmodel o)
   modelled elements file root (Ok text) asked ok err = (elements, root, asked, ok)
   modelled elements file root (Err why) asked ok err = (elements, root, asked, err)
+
+  pub has_core : (file : List ℕ) (root : Option (List ℕ)) (o : Result (List ℕ) CoreRefusal) → IsAsked words (core file root)
+      → IfOk o (HasCoreAnswer read.old.files file root) → IfErr o (IsCoreRefusal read file root) → IsAnswer words read file (Core o)
+  has_core file root (Ok text) asked ok err = (root, asked, ok)
+  has_core file root (Err why) asked ok err = (root, asked, err)

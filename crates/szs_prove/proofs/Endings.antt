@@ -34,7 +34,7 @@ use Rattle.cert_front.specs.declared.check.CheckFault.{CheckFault}
 use Rattle.cert_front.specs.declared.check.CheckFault.TheVariants as unjudged
 use Rattle.cert_front.specs.declared.fault.CertFault.{CertFault}
 use Rattle.cert_front.specs.declared.fault.CertFault.TheVariants as cert
-use Rattle.command_words.specs.Asked.{Asked, prove, sat, check, rewrite, ask, stress, qbf, fmodel, IsAsked, IsUnread, name_of}
+use Rattle.command_words.specs.Asked.{Asked, prove, sat, check, rewrite, ask, stress, qbf, fmodel, core, IsAsked, IsUnread, name_of}
 use Rattle.dimacs_front.specs.Files.{IsHeld, IsOutcome, IsRefused}
 use Rattle.dimacs_front.specs.Notices.{fault_reason as line_of_text, fault_status as status_of_text, refusal_reason, refusal_status}
 use Rattle.dimacs_front.specs.Quantified.{formula_in}
@@ -48,13 +48,16 @@ use Rattle.dimacs_front.specs.declared.file.SatError.TheVariants as bar
 use Rattle.szs_prove.specs.Sizes.{IsRefutedIn}
 use Rattle.szs_prove.specs.SizeWords.{size_lines}
 use Rattle.szs_prove.specs.Answers.{IsOutOfBudget, IsProof, IsRefusal, IsVerdict, Reading}
-use Rattle.szs_prove.specs.Causes.{IsAnswer, IsFinding, IsMeasured, IsModelOutcome, IsReplyOf, IsRewritingOf}
+use Rattle.szs_prove.specs.Causes.{IsAnswer, IsCoreOutcome, IsFinding, IsMeasured, IsModelOutcome, IsReplyOf, IsRewritingOf}
+use Rattle.szs_prove.specs.CoreAnswers.{HasCoreAnswer, IsCoreRefusal}
 use Rattle.szs_prove.specs.Formulas.{IsFormulaAnswer, IsFormulaOutcome, IsFormulaRefused}
 use Rattle.szs_prove.specs.ModelAnswers.{HasModelAnswer, IsModelRefusal}
-use Rattle.szs_prove.specs.Answered.{Answered, AsksAtom, AsksChain, AsksCheck, AsksFormula, AsksModel, AsksProof, AsksRewriting, EndsChain, OfCertificate, TellsValue, Writing, IsInterrupted, WantsMemory, WritesCertificate, WritesComplaint, WritesFormula, WritesJudgement, WritesModel, WritesNumbers, WritesReply, WritesRewriting, WritesSize, IsNamed}
-use Rattle.szs_prove.specs.Texts.{ask_exit, ask_text, check_exit, check_text, exit_for, exit_of, fmodel_exit, fmodel_text, judgement_exit, load_reason, load_status, model_reason, model_status, prove_exit, prove_text, qbf_exit, qbf_text, refusal_text, reply_exit, rewriting_exit, rewriting_text, sat_exit, sat_text, stress_exit, stress_text, text_for, text_reason, text_status, unjudged_reason, unjudged_status, value_exit, value_text, want_text}
+use Rattle.szs_prove.specs.Answered.{Answered, AsksAtom, AsksChain, AsksCheck, AsksCore, AsksFormula, AsksModel, AsksProof, AsksRewriting, EndsChain, OfCertificate, TellsValue, Writing, IsInterrupted, WantsMemory, WritesCertificate, WritesComplaint, WritesCore, WritesFormula, WritesJudgement, WritesModel, WritesNumbers, WritesReply, WritesRewriting, WritesSize, IsNamed}
+use Rattle.szs_prove.specs.Texts.{ask_exit, ask_text, check_exit, check_text, core_exit, core_reason, core_status, core_text, exit_for, exit_of, fmodel_exit, fmodel_text, judgement_exit, load_reason, load_status, model_reason, model_status, prove_exit, prove_text, qbf_exit, qbf_text, refusal_text, reply_exit, rewriting_exit, rewriting_text, sat_exit, sat_text, stress_exit, stress_text, text_for, text_reason, text_status, unjudged_reason, unjudged_status, value_exit, value_text, want_text}
 use Rattle.szs_prove.specs.declared.answer.Answer.{Answer}
-use Rattle.szs_prove.specs.declared.answer.Answer.TheVariants.{Prove, Sat, Check, Rewrite, Ask, Stress, Qbf, Fmodel, Unread, NoWords}
+use Rattle.szs_prove.specs.declared.answer.Answer.TheVariants.{Prove, Sat, Check, Rewrite, Ask, Stress, Qbf, Fmodel, Core, Unread, NoWords}
+use Rattle.szs_prove.specs.declared.cores.CoreRefusal.{CoreRefusal}
+use Rattle.szs_prove.specs.declared.cores.CoreRefusal.TheVariants as no_core
 use Rattle.szs_prove.specs.declared.exit.Exit.{Exit}
 use Rattle.szs_prove.specs.declared.exit.Exit.TheVariants as exit
 use Rattle.szs_prove.specs.declared.formula.FormulaAnswer.{FormulaAnswer}
@@ -146,6 +149,13 @@ record SaysModel (words : List (List ℕ)) (read : Reading) (text : List ℕ) : 
   asked : IsAsked words (fmodel elements file root)
   shown : HasModelAnswer read.old.files elements file root text
 
+-- the text is that of a core of what is asked, or of that there is none
+record SaysCore (words : List (List ℕ)) (read : Reading) (text : List ℕ) : Type 0 where
+  file : List ℕ
+  root : Option (List ℕ)
+  asked : IsAsked words (core file root)
+  shown : HasCoreAnswer read.old.files file root text
+
 -- what is complained of a certificate
 abbrev SaysComplaint : List (List ℕ) → Reading → List ℕ → Type 0
 SaysComplaint words read text = SaysJudgement check words read text exit.CheckFailed ⊎ SaysJudgement rewrite words read text exit.CheckFailed ⊎ SaysReply words read text exit.CheckFailed
@@ -160,6 +170,7 @@ DecidedOf words read text (ask cert atom) = SaysReply words read text exit.Decid
 DecidedOf words read text (stress number) = SaysSize words text
 DecidedOf words read text (qbf file) = ⊥
 DecidedOf words read text (fmodel elements file root) = SaysModel words read text
+DecidedOf words read text (core file root) = SaysCore words read text
 
 -- what is decided of what is asked
 abbrev SaysDecided : List (List ℕ) → Reading → List ℕ → Type 0
@@ -196,6 +207,7 @@ kind (stress number) = 4
 kind (rewrite cert problem root) = 5
 kind (qbf file) = 6
 kind (fmodel elements file root) = 7
+kind (core file root) = 8
 
 apart_from_itself : (n : ℕ) → nat_eq n n ≡ false → ⊥
 apart_from_itself n h = grind (arith, nat_tests)
@@ -320,6 +332,11 @@ module _ (words : List (List ℕ)) (read : Reading) where
   model_caused elements file root no_model.TooWide h = tt
   model_caused elements file root no_model.Memory h = refl
 
+  core_caused : (file : List ℕ) (root : Option (List ℕ)) (why : CoreRefusal) → IsCoreRefusal read file root why → HasCause (core_status why) (core_reason why)
+  core_caused file root (no_core.Load e) h = load_caused file root e h
+  core_caused file root (no_core.Functions clause) h = tt
+  core_caused file root no_core.Memory h = refl
+
   -- ---- each command
 
   refusal_tells : (file : List ℕ) (root : Option (List ℕ)) (budget : ℕ) → IsAsked words (prove file root budget) → (why : Refusal) → IsRefusal read file root budget why
@@ -422,6 +439,10 @@ module _ (words : List (List ℕ)) (read : Reading) where
   fmodel_tells elements file root asked (Ok text) h = (fmodel elements file root, asked, record { elements = elements; file = file; root = root; asked = asked; shown = h })
   fmodel_tells elements file root asked (Err why) h = notice_tells file (model_reason why) (named_by (fmodel elements file root) asked) (model_status why) (model_caused elements file root why h)
 
+  core_tells : (file : List ℕ) (root : Option (List ℕ)) → IsAsked words (core file root) → (o : Result (List ℕ) CoreRefusal) → IsCoreOutcome read file root o → Tells (core_text file o) (core_exit o)
+  core_tells file root asked (Ok text) h = (core file root, asked, record { file = file; root = root; asked = asked; shown = h })
+  core_tells file root asked (Err why) h = notice_tells file (core_reason why) (named_by (core file root) asked) (core_status why) (core_caused file root why h)
+
   tells : (name : List ℕ) (a : Answer) → IsAnswer words read name a → Tells (text_for name a) (exit_for a)
   tells name (Prove o) h = prove_tells name h.0 h.1 h.2 o h.3
   tells name (Sat o) h = sat_tells name h.0 o h.1
@@ -431,6 +452,7 @@ module _ (words : List (List ℕ)) (read : Reading) where
   tells name (Stress o) h = stress_tells name h.2 h.0 h.3 o h.4
   tells name (Qbf o) h = qbf_tells name h.0 o h.1
   tells name (Fmodel o) h = fmodel_tells h.0 name h.1 h.2 o h.3
+  tells name (Core o) h = core_tells name h.0 h.1 o h.2
   tells name Unread h = h.2
   tells name NoWords h = record { name = name; named = inl h; is = refl }
 
@@ -532,6 +554,7 @@ module _ (words : List (List ℕ)) (read : Reading) (write : Writing) (e : Exit)
     ends_chain (Stress (Err want)) h asks = inr refl
     ends_chain (Qbf o) h asks = absurd (other_kind _ _ refl (once words _ _ h.0 asks.1))
     ends_chain (Fmodel o) h asks = absurd (other_kind _ _ refl (once words _ _ h.2 asks.1))
+    ends_chain (Core o) h asks = absurd (other_kind _ _ refl (once words _ _ h.1 asks.1))
     ends_chain Unread h asks = absurd (h.2 (stress asks.0) asks.1)
     ends_chain NoWords h asks = inr refl
 
@@ -567,6 +590,12 @@ module _ (words : List (List ℕ)) (read : Reading) (write : Writing) (e : Exit)
         let d = decides (fmodel asks.0 asks.1 asks.2) asks.3 is in
         let s = d.0 in
         record { elements = s.elements; file = s.file; root = s.root; asked = s.asked; text = said; shown = s.shown; written = d.1 }
+
+    pub has_core : AsksCore words → e ≡ exit.Decided → WritesCore words read.old.files write.old.taken write.new.taken
+    has_core asks is =
+        let d = decides (core asks.0 asks.1) asks.2 is in
+        let s = d.0 in
+        record { file = s.file; root = s.root; asked = s.asked; text = said; shown = s.shown; written = d.1 }
 
     writes_formula : (x : Exit) → SaysFormula words read said x → Appends write.old.taken write.new.taken said → WritesFormula words read.old.files write.old.taken write.new.taken x
     writes_formula x s w = record {

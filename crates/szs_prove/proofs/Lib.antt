@@ -6,6 +6,7 @@ pub mod CheckedDecisions
 pub mod Decided
 pub mod Ended
 pub mod Endings
+pub mod FirstFunctions
 pub mod Loaded
 pub mod Proved
 pub mod Situated

@@ -1,6 +1,6 @@
 -- A question finds one thing in the files, and each exit is wanted there, or yields.
 use Rattle.std.proofs.Common.{◌≡◌, ◌≢◌, ℕ, ◌<◌, ◌≤◌, List, Option, Some, None, IfSome, length, inl, inr, refl, sym, ap, subst, arith}
-use Rattle.std.specs.Prelude.{◌⊎◌, Result, Ok, Err}
+use Rattle.std.specs.Prelude.{◌⊎◌, Result, Ok, Err, IsTrue}
 use Rattle.finite_model.specs.Tables.{IsTooWide}
 use Rattle.inst_logic.specs.Measure.{is_function_free}
 use Rattle.inst_logic.specs.declared.clause.Problem.{Problem}
@@ -30,7 +30,7 @@ use Rattle.cert_front.specs.declared.check.CheckFault.{CheckFault}
 use Rattle.cert_front.specs.declared.check.CheckFault.TheVariants as unjudged
 use Rattle.cert_front.specs.declared.fault.CertFault.{CertFault}
 use Rattle.cert_front.specs.declared.fault.CertFault.TheVariants as bad
-use Rattle.command_words.specs.Asked.{Asked, prove, sat, check, rewrite, ask, stress, qbf, fmodel, IsAsked}
+use Rattle.command_words.specs.Asked.{Asked, prove, sat, check, rewrite, ask, stress, qbf, fmodel, core, IsAsked}
 use Rattle.dimacs_front.specs.Files.{IsHeld, IsOutcome, IsRefused, limit}
 use Rattle.dimacs_front.specs.Form.{reading as clauses_of}
 use Rattle.dimacs_front.specs.declared.answers.SatAnswer.{SatAnswer}
@@ -43,16 +43,21 @@ use Rattle.dimacs_front.specs.declared.error.DimacsError.TheVariants as fault
 use Rattle.dimacs_front.specs.declared.file.SatError.{SatError}
 use Rattle.dimacs_front.specs.declared.file.SatError.TheVariants as bar
 use Rattle.szs_prove.specs.Answers.{HasVerdict, IsOutOfBudget, IsProblemOf, IsProof, IsRefusal, Reading}
-use Rattle.szs_prove.specs.Causes.{IsAnswer, IsFinding, IsModelOutcome, IsReplyOf, IsRewritingOf}
+use Rattle.szs_prove.specs.Causes.{IsAnswer, IsCoreOutcome, IsFinding, IsModelOutcome, IsReplyOf, IsRewritingOf}
+use Rattle.szs_prove.specs.Applications.{IsFirstWithFunctions}
+use Rattle.szs_prove.specs.CoreAnswers.{HasCoreAnswer}
 use Rattle.szs_prove.specs.Formulas.{IsFormulaOutcome, IsFormulaRefused}
 use Rattle.szs_prove.specs.ModelAnswers.{HasModelAnswer}
 use Rattle.szs_prove.specs.Answered.{Answered, Writing}
-use Rattle.szs_prove.specs.Situations.{Finding, Finds, IsBarred, IsExact, IsLoaded, IsRead, IsRefusedBy, IsTabled, IsWanted, Reader, Situation, Stands, Wants, Yields, asks, unread}
-use Rattle.szs_prove.specs.Texts.{ask_exit, check_exit, exit_for, exit_of, fmodel_exit, judgement_exit, load_status, prove_exit, qbf_exit, reply_exit, rewriting_exit, sat_exit, stress_exit, text_status, unjudged_status}
+use Rattle.szs_prove.specs.Situations.{Finding, Finds, IsBarred, IsExact, IsFlat, IsLoaded, IsRead, IsRefusedBy, IsTabled, IsWanted, Reader, Situation, Stands, Wants, Yields, asks, unread}
+use Rattle.szs_prove.specs.Texts.{ask_exit, check_exit, core_exit, exit_for, exit_of, fmodel_exit, judgement_exit, load_status, prove_exit, qbf_exit, reply_exit, rewriting_exit, sat_exit, stress_exit, text_status, unjudged_status}
 use Rattle.dimacs_front.specs.Notices.{fault_status as status_of_text}
 use Rattle.szs_prove.proofs.Endings.{AsksOne}
+use Rattle.szs_prove.proofs.FirstFunctions.{not_free, one_first}
 use Rattle.szs_prove.specs.declared.answer.Answer.{Answer}
-use Rattle.szs_prove.specs.declared.answer.Answer.TheVariants.{Prove, Sat, Check, Rewrite, Ask, Stress, Qbf, Fmodel, Unread, NoWords}
+use Rattle.szs_prove.specs.declared.answer.Answer.TheVariants.{Prove, Sat, Check, Rewrite, Ask, Stress, Qbf, Fmodel, Core, Unread, NoWords}
+use Rattle.szs_prove.specs.declared.cores.CoreRefusal.{CoreRefusal}
+use Rattle.szs_prove.specs.declared.cores.CoreRefusal.TheVariants as no_core
 use Rattle.szs_prove.specs.declared.exit.Exit.{Exit}
 use Rattle.szs_prove.specs.declared.exit.Exit.TheVariants as exit
 use Rattle.szs_prove.specs.declared.formula.FormulaAnswer.{FormulaAnswer}
@@ -175,6 +180,26 @@ module _ (one : LoadsOne) (files : List NamedFile) (elements : ℕ) (file : List
   one_tabled (Err no_model.Memory) t h k = absurd h
   one_tabled s (Err no_model.Memory) h k = absurd k
 
+module _ (one : LoadsOne) (files : List NamedFile) (file : List ℕ) (root : Option (List ℕ)) where
+  not_flat : (p q : Problem) (n : ℕ) → Loads files file root p → IsTrue (is_function_free p.clauses) → Loads files file root q → IsFirstWithFunctions q.clauses n → ⊥
+  not_flat p q n h free k first = not_free p.clauses n (subst (λ (r : Problem). IsFirstWithFunctions r.clauses n) (one.problems files file root q p k h) first) free
+
+  same_first : (p q : Problem) (m n : ℕ) → Loads files file root p → IsFirstWithFunctions p.clauses m → Loads files file root q → IsFirstWithFunctions q.clauses n → m ≡ n
+  same_first p q m n h first k other = one_first p.clauses m n first (subst (λ (r : Problem). IsFirstWithFunctions r.clauses n) (one.problems files file root q p k h) other)
+
+  one_flat : (s t : Result Problem CoreRefusal) → IsFlat files file root s → IsFlat files file root t → s ≡ t
+  one_flat (Ok p) (Ok q) h k = ap Ok (one.problems files file root p q h.0 k.0)
+  one_flat (Ok p) (Err (no_core.Load e)) h k = absurd (one.apart files file root p e h.0 k)
+  one_flat (Ok p) (Err (no_core.Functions n)) h k = absurd (not_flat p k.0 n h.0 h.1 k.1 k.2)
+  one_flat (Err (no_core.Load e)) (Ok p) h k = absurd (one.apart files file root p e k.0 h)
+  one_flat (Err (no_core.Functions n)) (Ok p) h k = absurd (not_flat p h.0 n k.0 k.1 h.1 h.2)
+  one_flat (Err (no_core.Load e)) (Err (no_core.Load f)) h k = ap (λ (x : LoadError). Err (no_core.Load x)) (one.refusals files file root e f h k)
+  one_flat (Err (no_core.Load e)) (Err (no_core.Functions n)) h k = absurd (one.apart files file root k.0 e k.1 h)
+  one_flat (Err (no_core.Functions n)) (Err (no_core.Load e)) h k = absurd (one.apart files file root h.0 e h.1 k)
+  one_flat (Err (no_core.Functions m)) (Err (no_core.Functions n)) h k = ap (λ (x : ℕ). Err (no_core.Functions x)) (same_first h.0 k.0 m n h.1 h.2 k.1 k.2)
+  one_flat (Err no_core.Memory) t h k = absurd h
+  one_flat s (Err no_core.Memory) h k = absurd k
+
 -- what a question finds, by the law of its command
 one_found : LoadsOne → FindsOne → (files : List NamedFile) (a : Asked) (x y : Finding a) → Finds files a x → Finds files a y → x ≡ y
 one_found loads found files (prove file root budget) x y h k = one_loaded loads files file root x y h k
@@ -185,6 +210,7 @@ one_found loads found files (ask cert atom) x y h k = found.1 files cert atom.at
 one_found loads found files (stress number) x y h k = refl
 one_found loads found files (qbf file) x y h k = one_read Formula formula_in files file x y h k
 one_found loads found files (fmodel elements file root) x y h k = one_tabled loads files elements file root x y h k
+one_found loads found files (core file root) x y h k = one_flat loads files file root x y h k
 
 -- ---- the exit of each answer
 
@@ -255,6 +281,17 @@ module _ (words : List (List ℕ)) (files : List NamedFile) (read : Reading) (wr
       let w = subst (λ (fs : Option (List NamedFile)). (p : Problem) × IsProblemOf fs file root p × IsTooWide elements p.clauses) told h in
       due (fmodel elements file root) (Err no_model.TooWide) exit.Refused asked (w.0, w.1.loads, w.2) refl
   fmodel_due elements file root asked (Err no_model.Memory) h = want_due
+
+  core_due : (file : List ℕ) (root : Option (List ℕ)) → IsAsked words (core file root) → (o : Result (List ℕ) CoreRefusal) → IsCoreOutcome read file root o → IsDue (core_exit o)
+  core_due file root asked (Ok text) h =
+      let a = subst (λ (fs : Option (List NamedFile)). HasCoreAnswer fs file root text) told h in
+      due (core file root) (Ok a.0) exit.Decided asked (a.1.loads, a.2) refl
+  core_due file root asked (Err (no_core.Load e)) h =
+      load_due file root e (load_here file root e h) (λ refuses. due (core file root) (Err (no_core.Load e)) exit.Refused asked refuses refl)
+  core_due file root asked (Err (no_core.Functions n)) h =
+      let f = subst (λ (fs : Option (List NamedFile)). (p : Problem) × IsProblemOf fs file root p × IsFirstWithFunctions p.clauses n) told h in
+      due (core file root) (Err (no_core.Functions n)) exit.Refused asked (f.0, f.1.loads, f.2) refl
+  core_due file root asked (Err no_core.Memory) h = want_due
 
   -- why a text is refused, where that makes the exit due
   lines_due : (A : Type 0) (reads : Reader A) (file : List ℕ) → ((e : SatError) → IsBarred reads files file e → IsDue exit.Refused)
@@ -388,6 +425,7 @@ module _ (words : List (List ℕ)) (files : List NamedFile) (read : Reading) (wr
   answer_due name (Stress o) h = stress_due h.2 h.3 o
   answer_due name (Qbf o) h = qbf_due name h.0 o (formula_here name o h.1)
   answer_due name (Fmodel o) h = fmodel_due h.0 name h.1 h.2 o h.3
+  answer_due name (Core o) h = core_due name h.0 h.1 o h.2
   answer_due name Unread h = inl (unread, h.2, refl)
   answer_due name NoWords h = want_due
 

@@ -37,13 +37,15 @@ use Rattle.outside_io.specs.Taken.{AppendsProperPrefix}
 use Rattle.outside_io.specs.declared.notices.Status.{Status}
 use Rattle.outside_io.specs.declared.notices.Status.TheVariants as told
 use Rattle.szs_prove.specs.Answers.{IsProof, Reading}
-use Rattle.szs_prove.specs.Causes.{IsAnswer, IsModelOutcome, IsRewritingOf}
+use Rattle.szs_prove.specs.Causes.{IsAnswer, IsCoreOutcome, IsModelOutcome, IsRewritingOf}
+use Rattle.szs_prove.specs.CoreTexts.{IsCoreText, IsNoCoreText}
 use Rattle.szs_prove.specs.Formulas.{IsFormulaOutcome}
 use Rattle.szs_prove.specs.ModelAnswers.{IsNoTablesText, IsTablesText}
 use Rattle.szs_prove.specs.Answered.{Answered, Writing, TookCertificate}
-use Rattle.szs_prove.specs.Texts.{exit_for, fmodel_text, model_reason, model_status, prove_exit, prove_text, qbf_text, reason_of, rewriting_exit, rewriting_text, sat_text, status_of, text_for, unjudged_reason, unjudged_status}
+use Rattle.szs_prove.specs.Texts.{core_reason, core_status, core_text, exit_for, fmodel_text, model_reason, model_status, prove_exit, prove_text, qbf_text, reason_of, rewriting_exit, rewriting_text, sat_text, status_of, text_for, unjudged_reason, unjudged_status}
 use Rattle.szs_prove.specs.declared.answer.Answer.{Answer}
-use Rattle.szs_prove.specs.declared.answer.Answer.TheVariants.{Prove, Sat, Check, Rewrite, Ask, Stress, Qbf, Fmodel, Unread, NoWords}
+use Rattle.szs_prove.specs.declared.answer.Answer.TheVariants.{Prove, Sat, Check, Rewrite, Ask, Stress, Qbf, Fmodel, Core, Unread, NoWords}
+use Rattle.szs_prove.specs.declared.cores.CoreRefusal.{CoreRefusal}
 use Rattle.szs_prove.specs.declared.exit.Exit.{Exit}
 use Rattle.szs_prove.specs.declared.exit.Exit.TheVariants as exit
 use Rattle.szs_prove.specs.declared.formula.FormulaAnswer.{FormulaAnswer}
@@ -129,6 +131,10 @@ tables_third : (k : ℕ) (file : List ℕ) (p : Problem) (text : List ℕ) → I
 tables_third k file p text (inl h) = ap third_is_s h.is
 tables_third k file p text (inr h) = ap third_is_s h.is
 
+core_third : (p : Problem) (file text : List ℕ) → IsCoreText p file text ⊎ IsNoCoreText p file text → third_is_s text ≡ false
+core_third p file text (inl h) = ap third_is_s h.is
+core_third p file text (inr h) = ap third_is_s h.is
+
 -- ---- the lines of a chain, which have another second line
 
 -- what stands behind the first line
@@ -213,6 +219,10 @@ module _ (words : List (List ℕ)) (read : Reading) (write : Writing) (e : Exit)
   no_model elements name root (Ok text) h more same = no_comment text t.text more (tables_third elements name h.0 text h.2.said) t.is_text same
   no_model elements name root (Err why) h more same = no_notice (model_status why) name (model_reason why) more same
 
+  no_core : (name : List ℕ) (root : Option (List ℕ)) (o : Result (List ℕ) CoreRefusal) → IsCoreOutcome read name root o → (more : List ℕ) → core_text name o ≡ t.text ++ more → ⊥
+  no_core name root (Ok text) h more same = no_comment text t.text more (core_third h.0 name text h.3) t.is_text same
+  no_core name root (Err why) h more same = no_notice (core_status why) name (core_reason why) more same
+
   -- the text of an answer that has the certificate's in front
   decides : (name : List ℕ) (answer : Answer) → IsAnswer words read name answer → (more : List ℕ) → text_for name answer ≡ t.text ++ more → (exit_for answer ≡ exit.Decided) × (more ≡ [])
   decides name (Prove o) h more same = prove_decides name h.0 h.1 o h.3 more same
@@ -226,6 +236,7 @@ module _ (words : List (List ℕ)) (read : Reading) (write : Writing) (e : Exit)
   decides name (Stress (Err want)) h more same = absurd (no_notice told.MemoryOut name [] more same)
   decides name (Qbf o) h more same = absurd (no_formula name o h.1 more same)
   decides name (Fmodel o) h more same = absurd (no_model h.0 name h.1 o h.3 more same)
+  decides name (Core o) h more same = absurd (no_core name h.0 o h.2 more same)
   decides name Unread h more same = absurd (no_notice told.UsageError name (codes "% usage\n") more same)
   decides name NoWords h more same = absurd (no_notice told.MemoryOut name [] more same)
 

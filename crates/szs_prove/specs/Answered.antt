@@ -20,12 +20,13 @@ use Rattle.szs_prove.specs.declared.sizes.Size.{Size}
 use Rattle.cert_front.specs.Checks.{IsJudged}
 use Rattle.cert_front.specs.Queries.{IsReplied}
 use Rattle.cert_front.specs.Rewritings.{IsRewritten}
-use Rattle.command_words.specs.Asked.{Asked, prove, check, rewrite, ask, stress, qbf, fmodel, IsAsked, name_of}
+use Rattle.command_words.specs.Asked.{Asked, prove, check, rewrite, ask, stress, qbf, fmodel, core, IsAsked, name_of}
 use Rattle.dimacs_front.specs.Files.{IsHeld}
 use Rattle.dimacs_front.specs.Quantified.{formula_in}
 use Rattle.dimacs_front.specs.declared.cnf.Qbf.{Qbf}
 use Rattle.szs_prove.specs.Answers.{Reading, IsVerdict, IsOutOfBudget, IsUntouched}
 use Rattle.szs_prove.specs.Causes.{IsAnswer}
+use Rattle.szs_prove.specs.CoreAnswers.{HasCoreAnswer}
 use Rattle.szs_prove.specs.Formulas.{IsFormulaAnswer}
 use Rattle.szs_prove.specs.ModelAnswers.{HasModelAnswer}
 use Rattle.szs_prove.specs.Texts.{exit_for, judgement_exit, refusal_text, reply_exit, text_for, value_exit, value_text, want_text}
@@ -73,6 +74,9 @@ AsksFormula words = (file : List ℕ) × IsAsked words (qbf file)
 
 abbrev pub AsksModel : List (List ℕ) → Type 0
 AsksModel words = (elements : ℕ) × (file : List ℕ) × (root : Option (List ℕ)) × IsAsked words (fmodel elements file root)
+
+abbrev pub AsksCore : List (List ℕ) → Type 0
+AsksCore words = (file : List ℕ) × (root : Option (List ℕ)) × IsAsked words (core file root)
 
 -- ---- what was written
 
@@ -167,6 +171,16 @@ pub record WritesModel (words : List (List ℕ)) (files : Option (List NamedFile
   pub asked : IsAsked words (fmodel elements file root)
   pub text : List ℕ
   pub shown : HasModelAnswer files elements file root text
+  pub written : Appends old new text
+
+-- A core of the problem of the file was written, whole, with the certificates that show that it is one, or the saturation that shows
+-- that there is none.
+pub record WritesCore (words : List (List ℕ)) (files : Option (List NamedFile)) (old new : Option (List ℕ)) : Type 0 where
+  pub file : List ℕ
+  pub root : Option (List ℕ)
+  pub asked : IsAsked words (core file root)
+  pub text : List ℕ
+  pub shown : HasCoreAnswer files file root text
   pub written : Appends old new text
 
 -- how the program ends where the words ask for a chain

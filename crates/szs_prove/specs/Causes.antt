@@ -12,18 +12,20 @@ use Rattle.cert_front.specs.declared.judgement.Judgement.{Judgement}
 use Rattle.cert_front.specs.declared.reply.Reply.{Reply}
 use Rattle.cert_front.specs.declared.rewriting.Rewriting.{Rewriting}
 use Rattle.cert_front.specs.declared.words.Form.{Form}
-use Rattle.command_words.specs.Asked.{prove, sat, check, rewrite, ask, stress, qbf, fmodel, IsAsked, IsUnread}
+use Rattle.command_words.specs.Asked.{prove, sat, check, rewrite, ask, stress, qbf, fmodel, core, IsAsked, IsUnread}
 use Rattle.dimacs_front.specs.Files.{IsOutcome}
 use Rattle.szs_prove.specs.Answers.{IsProof, IsUntouched, Reading}
+use Rattle.szs_prove.specs.CoreAnswers.{HasCoreAnswer, IsCoreRefusal}
 use Rattle.szs_prove.specs.Formulas.{IsFormulaOutcome}
 use Rattle.szs_prove.specs.ModelAnswers.{HasModelAnswer, IsModelRefusal}
 use Rattle.szs_prove.specs.Sizes.{IsRefutedIn}
 use Rattle.szs_prove.specs.declared.answer.Answer.{Answer}
-use Rattle.szs_prove.specs.declared.answer.Answer.TheVariants.{Prove, Sat, Check, Rewrite, Ask, Stress, Qbf, Fmodel, Unread, NoWords}
+use Rattle.szs_prove.specs.declared.answer.Answer.TheVariants.{Prove, Sat, Check, Rewrite, Ask, Stress, Qbf, Fmodel, Core, Unread, NoWords}
+use Rattle.szs_prove.specs.declared.cores.CoreRefusal.{CoreRefusal}
 use Rattle.szs_prove.specs.declared.model.ModelRefusal.{ModelRefusal}
 use Rattle.szs_prove.specs.declared.sizes.Size.{Size}
 
--- ---- check, its rewriting, ask, stress and fmodel
+-- ---- check, its rewriting, ask, stress, fmodel and core
 
 -- what is found of the certificate of a file and the problem of another, or why nothing is
 abbrev pub IsFinding : Reading → List ℕ → Option (List ℕ) → Option (List ℕ) → Result (Form × Judgement) CheckFault → Type 0
@@ -50,6 +52,11 @@ abbrev pub IsModelOutcome : Reading → ℕ → List ℕ → Option (List ℕ) �
 IsModelOutcome read elements file root (Ok text) = HasModelAnswer read.old.files elements file root text
 IsModelOutcome read elements file root (Err why) = IsModelRefusal read elements file root why
 
+-- a core of the problem of the file, or that there is none, or why there is no answer
+abbrev pub IsCoreOutcome : Reading → List ℕ → Option (List ℕ) → Result (List ℕ) CoreRefusal → Type 0
+IsCoreOutcome read file root (Ok text) = HasCoreAnswer read.old.files file root text
+IsCoreOutcome read file root (Err why) = IsCoreRefusal read file root why
+
 -- ---- all answers
 
 -- the cause of an answer under this name to the words
@@ -62,5 +69,6 @@ IsAnswer words read name (Ask outcome) = (atom : Signed Tree) × IsAsked words (
 IsAnswer words read name (Stress outcome) = (name ≡ codes "stress") × IsUntouched read × (number : ℕ) × IsAsked words (stress number) × IsMeasured number outcome
 IsAnswer words read name (Qbf outcome) = IsAsked words (qbf name) × IsFormulaOutcome read.old read.new name outcome
 IsAnswer words read name (Fmodel outcome) = (elements : ℕ) × (root : Option (List ℕ)) × IsAsked words (fmodel elements name root) × IsModelOutcome read elements name root outcome
+IsAnswer words read name (Core outcome) = (root : Option (List ℕ)) × IsAsked words (core name root) × IsCoreOutcome read name root outcome
 IsAnswer words read name Unread = (name ≡ codes "instgen") × IsUntouched read × IsUnread words
 IsAnswer words read name NoWords = (name ≡ codes "instgen") × IsUntouched read

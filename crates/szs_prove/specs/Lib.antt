@@ -1,7 +1,10 @@
 pub mod Answered
 pub mod Answers
+pub mod Applications
 pub mod Causes
 pub mod Chains
+pub mod CoreAnswers
+pub mod CoreTexts
 pub mod Decisions
 pub mod Formulas
 pub mod ModelAnswers
@@ -10,6 +13,7 @@ pub mod Proving
 pub mod Situations
 pub mod SizeWords
 pub mod Sizes
+pub mod SubProblems
 pub mod TableTexts
 pub mod Texts
 pub mod Written

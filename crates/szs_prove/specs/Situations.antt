@@ -1,5 +1,5 @@
 -- When each exit comes, where the files are told.
-use Rattle.std.specs.Prelude.{ℕ, ◌≡◌, ◌⊎◌, ◌<◌, List, length, Bool, Option, Some, None, Result, Ok, Err, IsFalse, ⊤}
+use Rattle.std.specs.Prelude.{ℕ, ◌≡◌, ◌⊎◌, ◌<◌, List, length, Bool, Option, Some, None, Result, Ok, Err, IsFalse, IsTrue, ⊤}
 use Rattle.outside_io.specs.Causes.{Rose}
 use Rattle.outside_io.specs.Files.{bytes_named}
 use Rattle.outside_io.specs.declared.library.NamedFile.{NamedFile}
@@ -15,7 +15,7 @@ use Rattle.cert_front.specs.Checks.{IsFound}
 use Rattle.cert_front.specs.Queries.{IsFoundReply}
 use Rattle.cert_front.specs.declared.check.CheckFault.{CheckFault}
 use Rattle.cert_front.specs.declared.fault.CertFault.{CertFault}
-use Rattle.command_words.specs.Asked.{Asked, prove, sat, check, rewrite, ask, stress, qbf, fmodel, IsAsked, IsUnread}
+use Rattle.command_words.specs.Asked.{Asked, prove, sat, check, rewrite, ask, stress, qbf, fmodel, core, IsAsked, IsUnread}
 use Rattle.dimacs_front.specs.Answers.{IsModel}
 use Rattle.dimacs_front.specs.Files.{IsHeld, limit}
 use Rattle.dimacs_front.specs.Form.{reading as clauses_of}
@@ -28,8 +28,11 @@ use Rattle.dimacs_front.specs.declared.file.SatError.{SatError}
 use Rattle.dimacs_front.specs.declared.file.SatError.TheVariants.{Absent, TooLong, Text, ReadFault as FileFault, Memory as FileMemory}
 use Rattle.szs_prove.specs.Answers.{Reading}
 use Rattle.szs_prove.specs.Answered.{Writing}
+use Rattle.szs_prove.specs.Applications.{IsFirstWithFunctions}
 use Rattle.szs_prove.specs.Formulas.{IsFalseFormula, IsTrueFormula}
 use Rattle.szs_prove.specs.Texts.{judgement_exit, reply_exit}
+use Rattle.szs_prove.specs.declared.cores.CoreRefusal.{CoreRefusal}
+use Rattle.szs_prove.specs.declared.cores.CoreRefusal.TheVariants as no_core
 use Rattle.szs_prove.specs.declared.model.ModelRefusal.{ModelRefusal}
 use Rattle.szs_prove.specs.declared.model.ModelRefusal.TheVariants as no_model
 use Rattle.szs_prove.specs.declared.exit.Exit.{Exit}
@@ -53,6 +56,13 @@ IsTabled files elements file root (Ok p) = Loads files file root p × ¬ IsTooWi
 IsTabled files elements file root (Err (no_model.Load e)) = Refuses files file root e
 IsTabled files elements file root (Err no_model.TooWide) = (p : Problem) × Loads files file root p × IsTooWide elements p.clauses
 IsTabled files elements file root (Err no_model.Memory) = ⊥
+
+-- the problem of the file, without function symbols that have arguments, or why there is none
+abbrev pub IsFlat : List NamedFile → List ℕ → Option (List ℕ) → Result Problem CoreRefusal → Type 0
+IsFlat files file root (Ok p) = Loads files file root p × IsTrue (is_function_free p.clauses)
+IsFlat files file root (Err (no_core.Load e)) = Refuses files file root e
+IsFlat files file root (Err (no_core.Functions clause)) = (p : Problem) × Loads files file root p × IsFirstWithFunctions p.clauses clause
+IsFlat files file root (Err no_core.Memory) = ⊥
 
 -- such a problem is always decided
 abbrev pub WantsDecision : {E : Type 0} → Result Problem E → Exit → Type 0
@@ -117,6 +127,7 @@ Finding (ask cert atom) = Result Reply CertFault
 Finding (stress number) = ⊤
 Finding (qbf file) = Result Qbf SatError
 Finding (fmodel elements file root) = Result Problem ModelRefusal
+Finding (core file root) = Result Problem CoreRefusal
 
 -- it finds this in the files
 abbrev pub Finds : List NamedFile → (question : Asked) → Finding question → Type 0
@@ -128,6 +139,7 @@ Finds files (ask cert atom) found = IsFoundReply files cert atom.atom found
 Finds files (stress number) found = ⊤
 Finds files (qbf file) found = IsRead formula_in files file found
 Finds files (fmodel elements file root) found = IsTabled files elements file root found
+Finds files (core file root) found = IsFlat files file root found
 
 -- this exit is wanted then
 abbrev pub Wants : (question : Asked) → Finding question → Exit → Type 0
@@ -139,6 +151,7 @@ Wants (ask cert atom) found exit = WantsOfReply found exit
 Wants (stress number) found exit = exit ≡ Decided
 Wants (qbf file) found exit = WantsOfFormula found exit
 Wants (fmodel elements file root) found exit = WantsDecision found exit
+Wants (core file root) found exit = WantsDecision found exit
 
 -- what can stand in the words and the files: a question with what it finds, or words that are not read
 pub data Situation : Type 0 where

@@ -29,7 +29,9 @@ use Rattle.dimacs_front.specs.declared.answers.SatAnswer.TheVariants as values
 use Rattle.dimacs_front.specs.declared.file.SatError.{SatError}
 use Rattle.szs_prove.specs.SizeWords.{size_lines}
 use Rattle.szs_prove.specs.declared.answer.Answer.{Answer}
-use Rattle.szs_prove.specs.declared.answer.Answer.TheVariants.{Prove, Sat, Check, Rewrite, Ask, Stress, Qbf, Fmodel, Unread, NoWords}
+use Rattle.szs_prove.specs.declared.answer.Answer.TheVariants.{Prove, Sat, Check, Rewrite, Ask, Stress, Qbf, Fmodel, Core, Unread, NoWords}
+use Rattle.szs_prove.specs.declared.cores.CoreRefusal.{CoreRefusal}
+use Rattle.szs_prove.specs.declared.cores.CoreRefusal.TheVariants as no_core
 use Rattle.szs_prove.specs.declared.exit.Exit.{Exit}
 use Rattle.szs_prove.specs.declared.exit.Exit.TheVariants as exit
 use Rattle.szs_prove.specs.declared.formula.FormulaAnswer.{FormulaAnswer}
@@ -143,6 +145,18 @@ model_reason (no_model.Load e) = load_reason e
 model_reason no_model.TooWide = codes "% limit tables\n"
 model_reason no_model.Memory = []
 
+-- ---- why no core is searched for
+
+abbrev pub core_status : CoreRefusal → Status
+core_status (no_core.Load e) = load_status e
+core_status (no_core.Functions clause) = status.Inappropriate
+core_status no_core.Memory = status.MemoryOut
+
+abbrev pub core_reason : CoreRefusal → List ℕ
+core_reason (no_core.Load e) = load_reason e
+core_reason (no_core.Functions clause) = concat (codes "% functions: clause " ∷ decimal clause ∷ codes "\n" ∷ [])
+core_reason no_core.Memory = []
+
 -- ---- what is told of each answer, and how the program ends with it
 
 abbrev pub prove_text : List ℕ → Result (List ℕ) Refusal → List ℕ
@@ -244,6 +258,14 @@ abbrev pub fmodel_exit : Result (List ℕ) ModelRefusal → Exit
 fmodel_exit (Ok text) = exit.Decided
 fmodel_exit (Err why) = exit_of (model_status why)
 
+abbrev pub core_text : List ℕ → Result (List ℕ) CoreRefusal → List ℕ
+core_text name (Ok text) = text
+core_text name (Err why) = notice_text (core_status why) name (core_reason why)
+
+abbrev pub core_exit : Result (List ℕ) CoreRefusal → Exit
+core_exit (Ok text) = exit.Decided
+core_exit (Err why) = exit_of (core_status why)
+
 abbrev pub text_for : List ℕ → Answer → List ℕ
 text_for name (Prove outcome) = prove_text name outcome
 text_for name (Sat outcome) = sat_text name outcome
@@ -253,6 +275,7 @@ text_for name (Ask outcome) = ask_text name outcome
 text_for name (Stress outcome) = stress_text name outcome
 text_for name (Qbf outcome) = qbf_text name outcome
 text_for name (Fmodel outcome) = fmodel_text name outcome
+text_for name (Core outcome) = core_text name outcome
 text_for name Unread = notice_text status.UsageError name (codes "% usage\n")
 text_for name NoWords = want_text name
 
@@ -265,5 +288,6 @@ exit_for (Ask outcome) = ask_exit outcome
 exit_for (Stress outcome) = stress_exit outcome
 exit_for (Qbf outcome) = qbf_exit outcome
 exit_for (Fmodel outcome) = fmodel_exit outcome
+exit_for (Core outcome) = core_exit outcome
 exit_for Unread = exit.Usage
 exit_for NoWords = exit.Memory

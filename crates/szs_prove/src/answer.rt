@@ -1,12 +1,14 @@
 // What comes of what the words ask, what is told of it, and how the program ends with it. Only here an answer meets the sink. A
 // text is whole before its first byte is written, or is told in pieces that take no memory.
-ghost use Rattle.std.specs.Prelude.{◌≡◌, codes};
+ghost use Rattle.std.specs.Prelude.{◌≡◌, ◌∷◌, [], codes, decimal};
+ghost use Rattle.std.specs.List.{concat};
 ghost use Rattle.outside_io.specs.Notices.{notice_text};
 ghost use Rattle.outside_io.specs.Pieces.{text_of};
 ghost use Rattle.outside_io.specs.declared.notices.Status.TheVariants as status;
-ghost use Rattle.szs_prove.specs.Texts.{ask_exit, ask_text, check_exit, check_text, exit_for, fmodel_exit, fmodel_text, judgement_exit, model_reason, model_status, prove_exit, prove_text, qbf_exit, qbf_text, reply_exit, rewriting_exit, rewriting_text, sat_exit, sat_text, stress_exit, stress_text, text_for, unjudged_reason, unjudged_status, value_exit, value_text, want_text};
+ghost use Rattle.szs_prove.specs.Texts.{ask_exit, ask_text, check_exit, check_text, core_exit, core_reason, core_status, core_text, exit_for, fmodel_exit, fmodel_text, judgement_exit, model_reason, model_status, prove_exit, prove_text, qbf_exit, qbf_text, reply_exit, rewriting_exit, rewriting_text, sat_exit, sat_text, stress_exit, stress_text, text_for, unjudged_reason, unjudged_status, value_exit, value_text, want_text};
 ghost use Rattle.szs_prove.specs.Written.{IsWritten, exit_after};
 
+use crate::cores::CoreRefusal;
 use crate::exit::{Exit, exit_of};
 use crate::formula::FormulaAnswer;
 use crate::model::ModelRefusal;
@@ -18,7 +20,7 @@ use cert_front::{
 use dimacs_front::{SatAnswer, SatError};
 use inst_logic::{ByteList, Memory};
 use outside_io::{
-    Line, Pieces, Sink, Status, Trouble, notice, one_line, text_line, whole_text, write_pieces,
+    Line, Piece, Pieces, Sink, Status, Trouble, notice, one_line, text_line, whole_text, write_pieces,
 };
 
 /// What comes of what the words ask. Each but the last two and `Rewrite` is that of the command of its name.
@@ -35,6 +37,8 @@ pub enum Answer {
     Qbf(Result<FormulaAnswer, SatError>),
     /// The text of tables, or of that there are none.
     Fmodel(Result<ByteList, ModelRefusal>),
+    /// The text of a core, or of that there is none.
+    Core(Result<ByteList, CoreRefusal>),
     /// The words ask nothing.
     Unread,
     /// Memory was wanted before the words were read.
@@ -276,6 +280,60 @@ fn fmodel_exit(outcome: &Result<ByteList, ModelRefusal>) -> Exit
     }
 }
 
+fn core_status(why: &CoreRefusal) -> Status
+    ensures { result ≡ core_status why.now }
+{
+    match why {
+        CoreRefusal::Load(error) => load_status(error),
+        CoreRefusal::Functions { .. } => Status::Inappropriate,
+        CoreRefusal::Memory => Status::MemoryOut,
+    }
+}
+
+// The number of the first clause that has functions.
+fn functions_line<'a>(clause: usize) -> Line<'a>
+    ensures { text_of result ≡ concat (codes "% functions: clause " ∷ decimal clause ∷ codes "\n" ∷ []) }
+{
+    let none = Piece::Text(b"");
+    [
+        Piece::Text(b"% functions: clause "),
+        Piece::Number(clause as u64),
+        Piece::Text(b"\n"),
+        none,
+        none,
+        none,
+        none,
+    ]
+}
+
+fn core_reason(why: &CoreRefusal) -> Line<'_>
+    ensures { text_of result ≡ core_reason why.now }
+{
+    match why {
+        CoreRefusal::Load(error) => load_reason(error),
+        CoreRefusal::Functions { clause } => functions_line(*clause),
+        CoreRefusal::Memory => text_line(b""),
+    }
+}
+
+fn core_pieces<'a>(name: &'a [u8], outcome: &'a Result<ByteList, CoreRefusal>) -> Pieces<'a>
+    ensures { text_of result ≡ core_text name.now outcome.now }
+{
+    match outcome {
+        Ok(text) => whole_text(text.as_slice()),
+        Err(why) => notice(core_status(why), name, core_reason(why)),
+    }
+}
+
+fn core_exit(outcome: &Result<ByteList, CoreRefusal>) -> Exit
+    ensures { result ≡ core_exit outcome.now }
+{
+    match outcome {
+        Ok(_) => Exit::Decided,
+        Err(why) => exit_of(core_status(why)),
+    }
+}
+
 // The line that tells that the words are not read.
 fn usage(name: &[u8]) -> Pieces<'_>
     ensures { text_of result ≡ notice_text status.UsageError name.now (codes "% usage\n") }
@@ -297,6 +355,7 @@ impl Answer {
             Answer::Stress(outcome) => stress_pieces(name, outcome),
             Answer::Qbf(outcome) => qbf_pieces(name, outcome),
             Answer::Fmodel(outcome) => fmodel_pieces(name, outcome),
+            Answer::Core(outcome) => core_pieces(name, outcome),
             Answer::Unread => usage(name),
             Answer::NoWords => want(name),
         }
@@ -315,6 +374,7 @@ impl Answer {
             Answer::Stress(outcome) => stress_exit(outcome),
             Answer::Qbf(outcome) => qbf_exit(outcome),
             Answer::Fmodel(outcome) => fmodel_exit(outcome),
+            Answer::Core(outcome) => core_exit(outcome),
             Answer::Unread => Exit::Usage,
             Answer::NoWords => Exit::Memory,
         }

@@ -4,12 +4,13 @@ ghost use Rattle.outside_io.specs.Causes.{Rose};
 ghost use Rattle.outside_io.specs.Told.{Follows};
 ghost use Rattle.command_words.specs.Asked.{IsAsked, IsUnread, check, name_of};
 ghost use Rattle.command_words.specs.Requests.{asked};
-ghost use Rattle.szs_prove.specs.Answered.{Answered, AsksAtom, AsksChain, AsksCheck, AsksFormula, AsksModel, AsksProof, AsksRewriting, EndsChain, IsInterrupted, TellsValue, TookCertificate, WantsMemory, WritesCertificate, WritesComplaint, WritesFormula, WritesJudgement, WritesModel, WritesNumbers, WritesReply, WritesRewriting, WritesSize, writing};
+ghost use Rattle.szs_prove.specs.Answered.{Answered, AsksAtom, AsksChain, AsksCheck, AsksCore, AsksFormula, AsksModel, AsksProof, AsksRewriting, EndsChain, IsInterrupted, TellsValue, TookCertificate, WantsMemory, WritesCertificate, WritesComplaint, WritesCore, WritesFormula, WritesJudgement, WritesModel, WritesNumbers, WritesReply, WritesRewriting, WritesSize, writing};
 ghost use Rattle.szs_prove.specs.Answers.{reading};
 ghost use Rattle.szs_prove.specs.Causes.{IsAnswer};
 ghost use Rattle.szs_prove.specs.Situations.{IsExact};
 
 use crate::answer::{Answer, tell};
+use crate::cores::core_file;
 use crate::deciding::stress;
 use crate::exit::Exit;
 use crate::formula::answer_formula_file;
@@ -37,6 +38,7 @@ fn name_of<'a>(request: &Request<'a>) -> &'a str
         Request::Stress { .. } => "stress",
         Request::Qbf { file } => *file,
         Request::Fmodel { file, .. } => *file,
+        Request::Core { file, .. } => *file,
     }
 }
 
@@ -79,6 +81,7 @@ fn answer<L: Library>(
             file,
             root,
         } => Answer::Fmodel(model_file(alloc, elements, file, root, files)),
+        Request::Core { file, root } => Answer::Core(core_file(alloc, file, root, files)),
     }
 }
 
@@ -152,6 +155,8 @@ pub fn run<L: Library, K: Sink>(alloc: Global, words: &[String], files: &mut L, 
     ensures formula { AsksFormula (map string_bytes words.now) → TellsValue result → WritesFormula (map string_bytes words.now) (L.told files.old).files (K.seen out.old).taken (K.seen out.new).taken result }
     // Of models with so many elements one is written, or the refutation that shows that there are none.
     ensures model { AsksModel (map string_bytes words.now) → result ≡ Exit.Decided → WritesModel (map string_bytes words.now) (L.told files.old).files (K.seen out.old).taken (K.seen out.new).taken }
+    // A core is told with the certificates that show that it is one, or that there is none.
+    ensures core { AsksCore (map string_bytes words.now) → result ≡ Exit.Decided → WritesCore (map string_bytes words.now) (L.told files.old).files (K.seen out.old).taken (K.seen out.new).taken }
     ensures usage { result ≡ Exit.Usage → IsUnread (map string_bytes words.now) }
     ensures read_fault { result ≡ Exit.ReadFault → Rose (L.told files.old).faults (L.told files.new).faults }
     ensures write_fault { result ≡ Exit.WriteFault → Rose (K.seen out.old).faults (K.seen out.new).faults }

@@ -9,6 +9,7 @@ pub mod chain_examples;
 pub mod chain_laws;
 pub mod chain_problem;
 mod command;
+mod cores;
 pub mod deciding;
 pub mod decision;
 pub mod decision_laws;

@@ -5,9 +5,9 @@ use Rattle.command_words.specs.declared.request.Request.{Request}
 use Rattle.szs_prove.specs.Answers.{reading}
 use Rattle.szs_prove.specs.Causes.{IsAnswer}
 use Rattle.szs_prove.specs.declared.answer.Answer.{Answer}
-use Rattle.szs_prove.specs.declared.answer.Answer.TheVariants.{Prove, Sat, Check, Rewrite, Ask, Stress, Qbf, Fmodel}
+use Rattle.szs_prove.specs.declared.answer.Answer.TheVariants.{Prove, Sat, Check, Rewrite, Ask, Stress, Qbf, Fmodel, Core}
 use Rattle.szs_prove.proofs.AskedAtoms.{asked_atom_is_formed, asked_atom_is_free}
-use Rattle.szs_prove.proofs.Causes.{proved, checked, rewritten, replied, measured, modelled}
+use Rattle.szs_prove.proofs.Causes.{proved, checked, rewritten, replied, measured, modelled, has_core}
 use Rattle.szs_prove.proofs.command.answer.Goals as goal
 
 pub prove-requires-clause-name : goal.prove-requires-clause-name
@@ -117,3 +117,15 @@ returns-in-Fmodel-clause-answer g c =
     let read = reading (g.L.Library.told c.args.files.now) (g.L.Library.told c.model_file.new.files) in
     subst (λ (q : Request). IsAnswer (map string_bytes c.args._words.now) read (name_of (asked q)) (Fmodel c.model_file.result)) (sym c.in-Fmodel.is)
     (modelled _ read _ _ _ c.model_file.result h c.model_file.ensures.ok c.model_file.ensures.err)
+
+pub core_file-requires : goal.core_file-requires
+core_file-requires g c =
+    let h = subst (λ (q : Request). IsAsked (map string_bytes c.args._words.now) (asked q)) c.in-Core.is c.requires in
+    record { name = c.asked_once.ensures.named _ _ h }
+
+pub returns-in-Core-clause-answer : goal.returns-in-Core-clause-answer
+returns-in-Core-clause-answer g c =
+    let h = subst (λ (q : Request). IsAsked (map string_bytes c.args._words.now) (asked q)) c.in-Core.is c.requires in
+    let read = reading (g.L.Library.told c.args.files.now) (g.L.Library.told c.core_file.new.files) in
+    subst (λ (q : Request). IsAnswer (map string_bytes c.args._words.now) read (name_of (asked q)) (Core c.core_file.result)) (sym c.in-Core.is)
+    (has_core _ read _ _ c.core_file.result h c.core_file.ensures.ok c.core_file.ensures.err)

@@ -1,4 +1,4 @@
-use Rattle.szs_prove.proofs.Endings.{asked_atom, chain, check_failed, checked, decided, formula_value, interrupted, memory, modelled, read_fault, resource_out, rewritten, stressed, usage_unread, write_fault}
+use Rattle.szs_prove.proofs.Endings.{asked_atom, chain, check_failed, checked, decided, formula_value, has_core, interrupted, memory, modelled, read_fault, resource_out, rewritten, stressed, usage_unread, write_fault}
 use Rattle.szs_prove.proofs.Situated.{LoadsOne, exact}
 use Rattle.szs_prove.proofs.VerdictTexts.{took_verdict}
 use Rattle.szs_prove.proofs.command.run.Goals as goal
@@ -20,6 +20,7 @@ returns g c =
       chain = chain _ _ _ _ a c.asked_once.ensures.once;
       formula = formula_value _ _ _ _ a c.asked_once.ensures.once;
       model = modelled _ _ _ _ a c.asked_once.ensures.once;
+      core = has_core _ _ _ _ a c.asked_once.ensures.once;
       usage = usage_unread _ _ _ _ a;
       verdict = took_verdict _ _ _ _ a;
       resource_out = resource_out _ _ _ _ a;
