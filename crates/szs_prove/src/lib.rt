@@ -5,6 +5,8 @@
 #![tactic(auto)]
 
 mod answer;
+mod answer_exits;
+mod answer_texts;
 pub mod chain_examples;
 pub mod chain_laws;
 pub mod chain_problem;
@@ -17,6 +19,7 @@ mod exit;
 mod formula;
 mod model;
 mod prove;
+mod reasons;
 mod refusal;
 pub mod sizes;
 
