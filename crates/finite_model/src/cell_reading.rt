@@ -17,12 +17,17 @@ pub trait TruthTest {
     /// The clauses, each with its selected literal.
     ghost members: { Self → List Member };
 
+    /// What the test needs to answer.
+    ghost ready: { Self → Type 0 };
+
     /// Whether the atom of the literal, which has no variables, is true; its sign doesn't count.
     fn is_true(&mut self, l: &Literal) -> Result<bool, Memory>
         requires formed { IsAtom (literal l.now).atom }
         requires variable_free { tree_vars (literal l.now).atom ≡ [] }
+        requires ready { ready self.old }
         ensures truth { IfOk result (λ b. IsTrue b ↔ IsTrueBy (members self.old) (literal l.now).atom) }
-        ensures same { members self.new ≡ members self.old };
+        ensures same { members self.new ≡ members self.old }
+        ensures ready { ready self.new };
 }
 
 // The constants for the elements.
@@ -68,9 +73,11 @@ fn is_value<T: TruthTest>(
     es: &[usize],
     e: usize,
 ) -> Result<bool, Memory>
-    requires { IsRelation sym.now (length es.now + 1) }
+    requires relation { IsRelation sym.now (length es.now + 1) }
+    requires ready { T.ready test.old }
     ensures truth { IfOk result (λ b. IsTrue b ↔ IsTrueBy (T.members test.old) (applied sym.now (map element es.now ++ element e ∷ []))) }
     ensures same { T.members test.new ≡ T.members test.old }
+    ensures ready { T.ready test.new }
 {
     let atom = value_atom(alloc, sym, es, e)?;
     test.is_true(&atom)
@@ -86,8 +93,10 @@ fn value_at<T: TruthTest>(
 ) -> Result<usize, Memory>
     requires relation { IsRelation sym.now (length es.now + 1) }
     requires some { (e : ℕ) × IsValueAt (T.members test.old) k sym.now es.now e }
+    requires ready { T.ready test.old }
     ensures value { IfOk result (λ e. IsValueAt (T.members test.old) k sym.now es.now e) }
     ensures same { T.members test.new ≡ T.members test.old }
+    ensures ready { T.ready test.new }
 {
     for i in 0..k {
         let found = is_value(alloc, test, sym, es, i + 1)?;
@@ -105,9 +114,11 @@ fn truth_at<T: TruthTest>(
     sym: &Sym,
     es: &[usize],
 ) -> Result<usize, Memory>
-    requires { IsRelation sym.now (length es.now) }
+    requires relation { IsRelation sym.now (length es.now) }
+    requires ready { T.ready test.old }
     ensures truth { IfOk result (λ n. IsTruthAt (T.members test.old) sym.now es.now n) }
     ensures same { T.members test.new ≡ T.members test.old }
+    ensures ready { T.ready test.new }
 {
     let atom = relation_atom(alloc, sym, es)?;
     let holds = test.is_true(&atom)?;
@@ -125,8 +136,10 @@ pub(crate) fn function_cells<T: TruthTest>(
     requires some { 0 < k }
     requires relation { IsRelation sym.now (n + 1) }
     requires values { HasValues (T.members test.old) k n sym.now }
+    requires ready { T.ready test.old }
     ensures cells { IfOk result (λ cells. AreFilled k n (IsValueAt (T.members test.old) k sym.now) (k ^ n) cells) }
     ensures same { T.members test.new ≡ T.members test.old }
+    ensures ready { T.ready test.new }
 {
     let count = row_count(k, n)?;
     let mut cells = PlaceList::new(alloc);
@@ -148,8 +161,10 @@ pub(crate) fn predicate_cells<T: TruthTest>(
 ) -> Result<PlaceList, Memory>
     requires some { 0 < k }
     requires relation { IsRelation sym.now n }
+    requires ready { T.ready test.old }
     ensures cells { IfOk result (λ cells. AreFilled k n (IsTruthAt (T.members test.old) sym.now) (k ^ n) cells) }
     ensures same { T.members test.new ≡ T.members test.old }
+    ensures ready { T.ready test.new }
 {
     let count = row_count(k, n)?;
     let mut cells = PlaceList::new(alloc);

@@ -27,6 +27,7 @@ pub use models::{
 };
 pub use problem::flatten;
 pub use reading::{cells_in_order, filled_is_read, model_exists};
+pub use rows::row_at;
 pub use table_reading::read_tables;
 pub use tables::{Table, TableList, Tables};
 pub use width::is_too_wide;

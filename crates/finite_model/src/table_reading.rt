@@ -22,9 +22,11 @@ fn function_table<T: TruthTest>(
 ) -> Result<Table, Memory>
     requires some { 0 < k }
     requires values { HasValues (T.members test.old) k f.now.arity (function_predicate numbering.now f.now) }
+    requires ready { T.ready test.old }
     ensures read { IfOk result (λ t. IsReadFunction (T.members test.old) k numbering.now t) }
     ensures symbol { IfOk result (λ t. t.sym ≡ f.now) }
     ensures same { T.members test.new ≡ T.members test.old }
+    ensures ready { T.ready test.new }
 {
     let sym = numbering.of_function(alloc, f)?;
     let cells = function_cells(alloc, test, &sym, f.arity, k)?;
@@ -41,10 +43,12 @@ fn predicate_table<T: TruthTest>(
     p: &Sym,
     k: usize,
 ) -> Result<Table, Memory>
-    requires { 0 < k }
+    requires some { 0 < k }
+    requires ready { T.ready test.old }
     ensures read { IfOk result (λ t. IsReadPredicate (T.members test.old) k numbering.now t) }
     ensures symbol { IfOk result (λ t. t.sym ≡ p.now) }
     ensures same { T.members test.new ≡ T.members test.old }
+    ensures ready { T.ready test.new }
 {
     let sym = numbering.of_predicate(alloc, p)?;
     let cells = predicate_cells(alloc, test, &sym, p.arity, k)?;
@@ -65,9 +69,11 @@ fn function_table_at<T: TruthTest>(
     requires some { 0 < k }
     requires within { i < length numbering.now.functions }
     requires values { HasValues (T.members test.old) k (slice_index_or numbering.now.functions i identity).arity (function_predicate numbering.now (slice_index_or numbering.now.functions i identity)) }
+    requires ready { T.ready test.old }
     ensures read { IfOk result (λ t. IsReadFunction (T.members test.old) k numbering.now t) }
     ensures symbol { IfOk result (λ t. t.sym ≡ slice_index_or numbering.now.functions i identity) }
     ensures same { T.members test.new ≡ T.members test.old }
+    ensures ready { T.ready test.new }
 {
     match numbering.functions.get_index(i) {
         Some(f) => function_table(alloc, numbering, test, f, k),
@@ -83,9 +89,11 @@ fn function_tables<T: TruthTest>(
 ) -> Result<TableList, Memory>
     requires some { 0 < k }
     requires values { (f : Sym) → Contains numbering.now.functions f → HasValues (T.members test.old) k f.arity (function_predicate numbering.now f) }
+    requires ready { T.ready test.old }
     ensures symbols { IfOk result (λ ts. map (λ t. t.sym) ts ≡ numbering.now.functions) }
     ensures read { IfOk result (λ ts. All (IsReadFunction (T.members test.old) k numbering.now) ts) }
     ensures same { T.members test.new ≡ T.members test.old }
+    ensures ready { T.ready test.new }
 {
     let mut tables = TableList::new(alloc);
     for i in 0..numbering.functions.len() {
@@ -105,9 +113,11 @@ fn predicate_table_at<T: TruthTest>(
 ) -> Result<Table, Memory>
     requires some { 0 < k }
     requires within { i < length numbering.now.predicates }
+    requires ready { T.ready test.old }
     ensures read { IfOk result (λ t. IsReadPredicate (T.members test.old) k numbering.now t) }
     ensures symbol { IfOk result (λ t. t.sym ≡ slice_index_or numbering.now.predicates i identity) }
     ensures same { T.members test.new ≡ T.members test.old }
+    ensures ready { T.ready test.new }
 {
     match numbering.predicates.get_index(i) {
         Some(p) => predicate_table(alloc, numbering, test, p, k),
@@ -121,10 +131,12 @@ fn predicate_tables<T: TruthTest>(
     test: &mut T,
     k: usize,
 ) -> Result<TableList, Memory>
-    requires { 0 < k }
+    requires some { 0 < k }
+    requires ready { T.ready test.old }
     ensures symbols { IfOk result (λ ts. map (λ t. t.sym) ts ≡ numbering.now.predicates) }
     ensures read { IfOk result (λ ts. All (IsReadPredicate (T.members test.old) k numbering.now) ts) }
     ensures same { T.members test.new ≡ T.members test.old }
+    ensures ready { T.ready test.new }
 {
     let mut tables = TableList::new(alloc);
     for i in 0..numbering.predicates.len() {
@@ -145,9 +157,11 @@ pub fn read_tables<T: TruthTest>(
     requires some { 0 < k }
     requires formed { AreFormedClauses p.now.clauses }
     requires makes { All (Makes (T.members test.old)) (flattened k p.now.clauses) }
+    requires ready { T.ready test.old }
     ensures model { IfOk result (λ ts. IsModel k p.now.clauses ts) }
     ensures read { IfOk result (λ ts. AreRead k p.now.clauses (T.members test.old) ts) }
     ensures same { T.members test.new ≡ T.members test.old }
+    ensures ready { T.ready test.new }
 {
     let numbering = Numbering::of(alloc, &p.clauses)?;
     let functions = function_tables(alloc, &numbering, test, k)?;

@@ -5,7 +5,7 @@ use Rattle.finite_model.proofs.GroundAtoms.{value_formed, value_variable_free}
 use Rattle.finite_model.proofs.cell_reading.is_value.Goals as goal
 
 pub is_true-requires-clause-formed : goal.is_true-requires-clause-formed
-is_true-requires-clause-formed g c = subst IsAtom (sym c.in_ok-atom.ensures) (value_formed c.args.sym.now c.args.es.now c.args.e c.requires)
+is_true-requires-clause-formed g c = subst IsAtom (sym c.in_ok-atom.ensures) (value_formed c.args.sym.now c.args.es.now c.args.e c.requires.relation)
 
 pub is_true-requires-clause-variable_free : goal.is_true-requires-clause-variable_free
 is_true-requires-clause-variable_free g c = ap tree_vars c.in_ok-atom.ensures ∙ value_variable_free c.args.sym.now c.args.es.now c.args.e
