@@ -104,7 +104,8 @@ def certificates(program, text, core, path):
 
 
 def row(name, given, words, places, much, small):
-    """One problem's line, and the ratios to `prove` and to picomus. A `!` says that a core is not the planted one."""
+    """One problem's line, and the ratios to `prove` and to picomus. A `!` says that a core is not the planted one, or that `prove` says
+    otherwise."""
     def sized(core):
         return "?" if core is None else f"{len(core)}{'' if core == places else ' !'}"
 
@@ -112,11 +113,12 @@ def row(name, given, words, places, much, small):
     for solver, command in words.items():
         times[solver], texts[solver] = timed(command, given.limit)
     core, other = own_core(texts["core"]), other_core(texts.get("picomus", b""))
-    refuted = b"status Unsatisfiable" in texts["prove"].split(b"\n", 1)[0]
+    first = texts["prove"].split(b"\n", 1)[0]
+    refuted, mark = b"status Unsatisfiable" in first, " !" if b"status Satisfiable" in first else ""
     ours, prove, theirs = (times.get(it) if known else None for it, known in (("core", core), ("prove", refuted), ("picomus", other)))
     ratios = [max(ours, 0.001) / max(it, 0.001) if ours and it else None for it in (prove, theirs)]
     seen = certificates(given.program, texts["core"], core, os.path.join(given.folder, "core.txt")) if core and small else ""
-    line(name, much, len(places), sized(core), sized(other) if "picomus" in words else "-", *map(shown, (ours, prove, theirs)),
+    line(name + mark, much, len(places), sized(core), sized(other) if "picomus" in words else "-", *map(shown, (ours, prove, theirs)),
          *(f"{it:.2f}" if it else "-" for it in ratios), seen)
     return ratios
 
