@@ -38,14 +38,15 @@ fn load<L: Library>(
     }
 }
 
-// The certificate is let go where its text is made, so that one function owns it.
-fn refuted(alloc: Global, file: &str, cert: CheckedRefutation) -> Result<ByteList, Memory>
+/// The text of a refutation under the file's name. The certificate is let go where its text is made, so that one function owns it.
+pub fn refuted(alloc: Global, file: &str, cert: CheckedRefutation) -> Result<ByteList, Memory>
     ensures { IfOk result (λ text. text ≡ written_text file.now (refutation_value cert)) }
 {
     refutation_text(alloc, file.as_bytes(), &cert)
 }
 
-fn satisfied(alloc: Global, file: &str, cert: CheckedCovered) -> Result<ByteList, Memory>
+/// That of a saturation.
+pub fn satisfied(alloc: Global, file: &str, cert: CheckedCovered) -> Result<ByteList, Memory>
     ensures { IfOk result (λ text. text ≡ written_text file.now (covered_value cert)) }
 {
     covered_text(alloc, file.as_bytes(), &cert)
