@@ -1,28 +1,179 @@
-// The models of the problem of a file that have so many elements.
-ghost use Rattle.std.specs.Prelude.{◌<◌, ◌≤◌, IfOk, IfErr, option_map};
-ghost use Rattle.cert_format.specs.Printable.{IsTextName};
+// The model with so many elements of the problem of a file: its tables, or the refutation of the problem's flattened form. That form
+// has no function symbols with arguments, so the engine decides it. A text is made whole before it is told.
+ghost use Rattle.std.specs.Prelude.{◌≡◌, ◌≤◌, ◌<◌, ℕ, IfErr, IfOk, option_map};
 ghost use Rattle.outside_io.specs.Told.{Follows};
-ghost use Rattle.szs_prove.specs.Answers.{reading};
-ghost use Rattle.szs_prove.specs.ModelAnswers.{HasModelAnswer, IsModelRefusal};
+ghost use Rattle.tptp_load.specs.Problems.{IsGoodProblem};
+ghost use Rattle.cert_format.specs.Printable.{IsTextName};
+ghost use Rattle.cert_format.specs.Text.{written_text};
+ghost use Rattle.cert_front.specs.Kinds.{covered_value, refutation_value};
+ghost use Rattle.finite_model.specs.Tables.{IsTooWide};
+ghost use Rattle.szs_prove.specs.Answers.{IsProblemOf, reading};
+ghost use Rattle.szs_prove.specs.Decisions.{IsDecision, IsShownBy, IsVerdict};
+ghost use Rattle.szs_prove.specs.ModelAnswers.{HasModelAnswer, IsModelRefusal, IsModelText, IsNoTablesText, IsTablesText, IsUnmodelled, flattened_problem};
+ghost use Rattle.szs_prove.specs.declared.model.ModelRefusal.TheVariants as why;
 
-use inst_logic::ByteList;
+use crate::decision::{Decision, decide};
+use crate::saturation_test::tables_of;
+use crate::table_texts::{no_tables_text, tables_text};
+use cert_check::{CheckedCovered, CheckedRefutation};
+use cert_text::refutation_text;
+use finite_model::{flatten, is_too_wide};
+use inst_logic::{ByteList, Memory, Problem};
 use outside_io::Library;
 use std::alloc::Global;
-use tptp_load::LoadError;
+use tptp_load::{LoadError, load};
 
-/// Why there is neither a model nor a refutation.
+/// Why there are neither tables nor a refutation.
 #[derive(Debug, Drop)]
 pub enum ModelRefusal {
     /// The file gives no problem. The error is never want of memory.
     Load(LoadError),
-    /// Tables have too many cells.
+    /// The tables have more than a million cells.
     TooWide,
     Memory,
 }
 
-/// Tables over `k` elements that make the clauses of the file's problem true, or the refutation that shows that there are none.
+impl From<Memory> for ModelRefusal {
+    ghost from_gives = { λ _ r. r ≡ why.Memory };
+
+    fn from(_e: Memory) -> ModelRefusal {
+        ModelRefusal::Memory
+    }
+}
+
+// The problem of the file.
+fn problem_of<L: Library>(
+    alloc: Global,
+    file: &str,
+    root: Option<&str>,
+    files: &mut L,
+) -> Result<Problem, ModelRefusal>
+    ensures follows { Follows (L.told files.old) (L.told files.new) }
+    ensures ok { IfOk result (IsProblemOf (L.told files.old).files file.now (option_map (λ r. r.now) root.entry)) }
+    ensures err { (k : ℕ) → IfErr result (IsModelRefusal (reading (L.told files.old) (L.told files.new)) k file.now (option_map (λ r. r.now) root.entry)) }
+{
+    match load(alloc, files, file, root) {
+        Ok(problem) => Ok(problem),
+        Err(LoadError::Memory) => Err(ModelRefusal::Memory),
+        Err(error) => Err(ModelRefusal::Load(error)),
+    }
+}
+
+// The text of the tables that the saturation gives.
+fn tables_told(
+    alloc: Global,
+    k: usize,
+    file: &str,
+    p: &Problem,
+    cert: &mut CheckedCovered,
+) -> Result<ByteList, Memory>
+    requires some { 0 < k }
+    requires good { IsGoodProblem p.now }
+    requires shown { IsShownBy (flattened_problem k p.now) (covered_value cert.old) }
+    ensures { IfOk result (IsTablesText k file.now p.now) }
+{
+    let tables = tables_of(alloc, cert, p, k)?;
+    tables_text(alloc, k, file.as_bytes(), &tables)
+}
+
+// The saturation is let go where its tables are told.
+fn satisfied(
+    alloc: Global,
+    k: usize,
+    file: &str,
+    p: &Problem,
+    cert: CheckedCovered,
+) -> Result<ByteList, Memory>
+    requires some { 0 < k }
+    requires good { IsGoodProblem p.now }
+    requires shown { IsShownBy (flattened_problem k p.now) (covered_value cert) }
+    ensures { IfOk result (IsTablesText k file.now p.now) }
+{
+    let mut cert = cert;
+    tables_told(alloc, k, file, p, &mut cert)
+}
+
+// The refutation is let go where its text is made.
+fn written(alloc: Global, file: &str, cert: CheckedRefutation) -> Result<ByteList, Memory>
+    ensures { IfOk result (λ text. text ≡ written_text file.now (refutation_value cert)) }
+{
+    refutation_text(alloc, file.as_bytes(), &cert)
+}
+
+// The text that tells that there are no tables.
+fn refuted(
+    alloc: Global,
+    k: usize,
+    file: &str,
+    _p: &Problem,
+    cert: CheckedRefutation,
+) -> Result<ByteList, Memory>
+    requires some { 0 < k }
+    requires few { k ≤ 64 }
+    requires good { IsGoodProblem _p.now }
+    requires narrow { ¬ IsTooWide k _p.now.clauses }
+    requires shown { IsShownBy (flattened_problem k _p.now) (refutation_value cert) }
+    ensures { IfOk result (IsNoTablesText k file.now _p.now) }
+{
+    let refutation = written(alloc, file, cert)?;
+    no_tables_text(alloc, k, file.as_bytes(), &refutation)
+}
+
+// The text of what was decided of the flattened form.
+fn text_of(
+    alloc: Global,
+    k: usize,
+    file: &str,
+    p: &Problem,
+    decision: Decision,
+) -> Result<ByteList, Memory>
+    requires some { 0 < k }
+    requires few { k ≤ 64 }
+    requires good { IsGoodProblem p.now }
+    requires narrow { ¬ IsTooWide k p.now.clauses }
+    requires decision { IsDecision (flattened_problem k p.now) 0 decision }
+    requires verdict { IsVerdict decision }
+    ensures { IfOk result (IsModelText k file.now p.now) }
+{
+    match decision {
+        Decision::Unsatisfiable(cert) => refuted(alloc, k, file, p, cert),
+        Decision::Satisfiable(cert) => satisfied(alloc, k, file, p, cert),
+        Decision::OutOfBudget { .. } => unreachable!(),
+    }
+}
+
+// The text for a problem whose tables are not too wide. The flattened form wants no budget.
+fn narrow_text(alloc: Global, k: usize, file: &str, p: &Problem) -> Result<ByteList, Memory>
+    requires some { 0 < k }
+    requires few { k ≤ 64 }
+    requires good { IsGoodProblem p.now }
+    requires narrow { ¬ IsTooWide k p.now.clauses }
+    ensures { IfOk result (IsModelText k file.now p.now) }
+{
+    let flat = flatten(alloc, p, k)?;
+    let decision = decide(alloc, &flat, 0)?;
+    text_of(alloc, k, file, p, decision)
+}
+
+// The text for a problem, or that its tables are too wide.
+fn model_text(alloc: Global, k: usize, file: &str, p: &Problem) -> Result<ByteList, ModelRefusal>
+    requires some { 0 < k }
+    requires few { k ≤ 64 }
+    requires good { IsGoodProblem p.now }
+    ensures ok { IfOk result (IsModelText k file.now p.now) }
+    ensures err { IfErr result (IsUnmodelled k p.now) }
+{
+    if is_too_wide(alloc, p, k)? {
+        return Err(ModelRefusal::TooWide);
+    }
+    let text = narrow_text(alloc, k, file, p)?;
+    Ok(text)
+}
+
+/// Tables over `k` elements that make every clause of the file's problem true, as text; or the refutation of the problem's flattened form,
+/// where there are none. The root is where includes are tried too.
 pub fn model_file<L: Library>(
-    _alloc: Global,
+    alloc: Global,
     k: usize,
     file: &str,
     root: Option<&str>,
@@ -35,5 +186,8 @@ pub fn model_file<L: Library>(
     ensures ok { IfOk result (HasModelAnswer (L.told files.old).files k file.now (option_map (λ r. r.now) root.entry)) }
     ensures err { IfErr result (IsModelRefusal (reading (L.told files.old) (L.told files.new)) k file.now (option_map (λ r. r.now) root.entry)) }
 {
-    Err(ModelRefusal::Memory)
+    match problem_of(alloc, file, root, files) {
+        Ok(problem) => model_text(alloc, k, file, &problem),
+        Err(refusal) => Err(refusal),
+    }
 }

@@ -1,0 +1,121 @@
+// Tables read off a checked saturation of the flattened form, by its truth test over trees of the selected literals.
+ghost use Rattle.std.specs.Prelude.{◌≡◌, ◌+◌, ◌<◌, ◌≤◌, ◌^◌, [], ℕ, length, All, IfOk, OnOk, IsTrue};
+ghost use Rattle.inst_logic.specs.Measure.{is_function_free};
+ghost use Rattle.inst_logic.specs.WellFormed.{AreFormedClauses};
+ghost use Rattle.inst_calculus.specs.Axioms.{with_axioms};
+ghost use Rattle.inst_calculus.specs.Models.{Makes, Member};
+ghost use Rattle.cert_format.specs.Certificate.{selected_members};
+ghost use Rattle.cert_format.specs.Validity.{SelectsAt};
+ghost use Rattle.term_bank.specs.Forest.{arguments_of};
+ghost use Rattle.term_index.specs.State.{pairs_of};
+ghost use Rattle.saturation_cert.specs.Values.{covered_of, saturation_of};
+ghost use Rattle.saturation_cert.specs.Wholes.{HasPlaces, IsWholeSaturation};
+ghost use Rattle.finite_model.specs.Tables.{IsModel};
+ghost use Rattle.finite_model.specs.Flattening.{flattened};
+ghost use Rattle.szs_prove.specs.SaturationTests.{IsReady};
+
+use cert_check::CheckedCovered;
+use cert_format::covers::named_is_valid;
+use cert_format::laws::selected_by_number;
+use finite_model::{Tables, TruthTest, flattened_form, read_tables};
+use inst_logic::{Literal, Memory, Problem};
+use saturation_cert::{Saturation, selected, store_selected, truth_in};
+use std::alloc::Global;
+use term_index::Tree;
+
+// A checked saturation with trees of its selected literals, one for each sign.
+#[derive(Drop)]
+struct SaturationTest<'a> {
+    alloc: Global,
+    cert: &'a mut CheckedCovered,
+    positive: &'a mut Tree,
+    negative: &'a mut Tree,
+}
+
+impl TruthTest for SaturationTest<'_> {
+    ghost members = { λ t. selected_members (saturation_of t.cert.now.cert) };
+
+    ghost ready = { λ t. IsReady t.cert.now t.positive.now t.negative.now };
+
+    fn is_true(&mut self, l: &Literal) -> Result<bool, Memory> {
+        let id = self.cert.atom(l);
+        let cert = &self.cert.cert().cert;
+        cert.base.bank.distinct();
+        truth_in(self.alloc, cert, self.positive, self.negative, id?)
+    }
+}
+
+// The selected literal of member `i`, counted from 0, has no more arguments than memory holds.
+fn is_short(cert: &Saturation, i: usize)
+    requires whole { IsWholeSaturation cert.now }
+    requires placed { HasPlaces (saturation_of cert.now) }
+    requires within { i < length cert.now.base.members }
+    ensures { (m : Member) → SelectsAt (saturation_of cert.now) (i + 1) m → length (arguments_of m.selected.atom) < 2 ^ 63 }
+{
+    let l = selected(cert, i);
+    let _args = cert.base.bank.args(l.atom);
+}
+
+// No selected literal has more arguments than memory holds.
+fn are_short(cert: &Saturation)
+    requires whole { IsWholeSaturation cert.now }
+    requires placed { HasPlaces (saturation_of cert.now) }
+    ensures { (n : ℕ) (m : Member) → SelectsAt (saturation_of cert.now) n m → length (arguments_of m.selected.atom) < 2 ^ 63 }
+{
+    for i in 0..cert.base.members.len() {
+        is_short(cert, i);
+    }
+}
+
+// Fills the trees with the selected literals.
+fn fill(cert: &CheckedCovered, positive: &mut Tree, negative: &mut Tree) -> Result<(), Memory>
+    requires formed { AreFormedClauses (covered_of cert.now).saturation.base.inputs }
+    requires function_free { IsTrue (is_function_free (covered_of cert.now).saturation.base.inputs) }
+    requires positive { pairs_of positive.old.nodes ≡ [] }
+    requires negative { pairs_of negative.old.nodes ≡ [] }
+    ensures ready { OnOk result (IsReady cert.now positive.new negative.new) }
+    ensures makes { All (Makes (selected_members (covered_of cert.now).saturation)) (with_axioms (covered_of cert.now).saturation.base.inputs) }
+{
+    named_is_valid();
+    selected_by_number();
+    let cert = &cert.cert().cert;
+    are_short(cert);
+    store_selected(cert, positive, negative)
+}
+
+fn tables_by(test: &mut SaturationTest<'_>, p: &Problem, k: usize) -> Result<Tables, Memory>
+    requires some { 0 < k }
+    requires formed { AreFormedClauses p.now.clauses }
+    requires inputs { (covered_of test.old.cert.now).saturation.base.inputs ≡ flattened k p.now.clauses }
+    requires positive { pairs_of test.old.positive.now.nodes ≡ [] }
+    requires negative { pairs_of test.old.negative.now.nodes ≡ [] }
+    ensures { IfOk result (IsModel k p.now.clauses) }
+{
+    flattened_form();
+    fill(test.cert, test.positive, test.negative)?;
+    read_tables(test.alloc, p, test, k)
+}
+
+/// The tables over `k` elements that are read off the saturation's truth test. They make the problem's clauses true. The
+/// certificate's inputs are the clauses of the problem's flattened form.
+pub fn tables_of(
+    alloc: Global,
+    cert: &mut CheckedCovered,
+    p: &Problem,
+    k: usize,
+) -> Result<Tables, Memory>
+    requires some { 0 < k }
+    requires formed { AreFormedClauses p.now.clauses }
+    requires inputs { (covered_of cert.old).saturation.base.inputs ≡ flattened k p.now.clauses }
+    ensures { IfOk result (IsModel k p.now.clauses) }
+{
+    let mut positive = Tree::new(alloc);
+    let mut negative = Tree::new(alloc);
+    let mut test = SaturationTest {
+        alloc,
+        cert,
+        positive: &mut positive,
+        negative: &mut negative,
+    };
+    tables_by(&mut test, p, k)
+}
