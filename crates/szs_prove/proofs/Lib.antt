@@ -11,3 +11,13 @@ pub mod Loaded
 pub mod Proved
 pub mod Situated
 pub mod VerdictTexts
+pub mod CellLines
+pub mod CoreAnswered
+pub mod CoreParts
+pub mod GrownTests
+pub mod LightMembers
+pub mod Marked
+pub mod ModelTexts
+pub mod OutermostFunctions
+pub mod Settled
+pub mod SubProblems

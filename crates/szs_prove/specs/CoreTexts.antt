@@ -40,8 +40,8 @@ AreRestTexts p file places (suc n) text =
     (before last : List ℕ) × AreRestTexts p file places n before × IsSaturationText (problem_at p (remove places n)) file last × (text ≡ before ++ last)
 
 -- the new text is the old one, and behind it one of which this holds
-abbrev pub Appends : List ℕ → List ℕ → (List ℕ → Type 0) → Type 0
-Appends old new Holds = (part : List ℕ) × Holds part × (new ≡ old ++ part)
+abbrev pub IsContinued : List ℕ → List ℕ → (List ℕ → Type 0) → Type 0
+IsContinued old new Holds = (part : List ℕ) × Holds part × (new ≡ old ++ part)
 
 -- the places of a core, the refutation of its clauses, and for each of them the saturation of the others
 pub record IsCoreText (p : Problem) (file text : List ℕ) : Type 0 where

@@ -17,3 +17,4 @@ pub mod SubProblems
 pub mod TableTexts
 pub mod Texts
 pub mod Written
+pub mod SaturationTests

@@ -1,11 +1,22 @@
-// A core of the problem of a file.
-ghost use Rattle.std.specs.Prelude.{IfOk, IfErr, option_map};
+// A core of the problem of a file: it is loaded, and the text is made whole before anything is written.
+ghost use Rattle.std.specs.Prelude.{◌≡◌, ◌⊎◌, IsTrue, IfOk, IfErr, MatchOption, option_map};
+ghost use Rattle.inst_logic.specs.Measure.{is_function_free};
 ghost use Rattle.cert_format.specs.Printable.{IsTextName};
 ghost use Rattle.outside_io.specs.Told.{Follows};
-ghost use Rattle.szs_prove.specs.Answers.{reading};
-ghost use Rattle.szs_prove.specs.CoreAnswers.{HasCoreAnswer, IsCoreRefusal};
+ghost use Rattle.tptp_load.specs.Problems.{IsGoodProblem};
+ghost use Rattle.core_min.specs.Cores.{HasSelection, IsCore};
+ghost use Rattle.szs_prove.specs.Answers.{IsProblemOf, reading};
+ghost use Rattle.szs_prove.specs.CoreAnswers.{HasCoreAnswer, IsCoreRefusal, IsUncored};
+ghost use Rattle.szs_prove.specs.CoreTexts.{IsCoreText, IsNoCoreText};
+ghost use Rattle.szs_prove.specs.SubProblems.{IsDecidable};
+ghost use Rattle.szs_prove.specs.declared.cores.CoreRefusal.TheVariants as why;
 
-use inst_logic::ByteList;
+use crate::application::first_with_functions;
+use crate::core_text::{text_of_core, text_of_no_core};
+use crate::decision_laws::loaded_problems_are_printable;
+use crate::sub_lists::SubLists;
+use core_min::core_places;
+use inst_logic::{ByteList, Memory, Problem};
 use outside_io::Library;
 use std::alloc::Global;
 use tptp_load::LoadError;
@@ -20,10 +31,73 @@ pub enum CoreRefusal {
     Memory,
 }
 
-/// A refuted sub-list of the clauses of the file's problem of which no clause can be spared, or the saturation that shows that
-/// there is none.
+impl From<Memory> for CoreRefusal {
+    ghost from_gives = { λ _ r. r ≡ why.Memory };
+
+    fn from(_e: Memory) -> CoreRefusal {
+        CoreRefusal::Memory
+    }
+}
+
+// The problem of the file.
+fn load<L: Library>(
+    alloc: Global,
+    file: &str,
+    root: Option<&str>,
+    files: &mut L,
+) -> Result<Problem, CoreRefusal>
+    ensures follows { Follows (L.told files.old) (L.told files.new) }
+    ensures ok { IfOk result (IsProblemOf (L.told files.old).files file.now (option_map (λ r. r.now) root.entry)) }
+    ensures err { IfErr result (IsCoreRefusal (reading (L.told files.old) (L.told files.new)) file.now (option_map (λ r. r.now) root.entry)) }
+{
+    match tptp_load::load(alloc, files, file, root) {
+        Ok(problem) => Ok(problem),
+        Err(LoadError::Memory) => Err(CoreRefusal::Memory),
+        Err(error) => Err(CoreRefusal::Load(error)),
+    }
+}
+
+// The places of a core.
+fn places_of(alloc: Global, p: &Problem) -> Result<Option<Vec<usize>>, Memory>
+    requires { IsDecidable p.now }
+    ensures { IfOk result (λ core. MatchOption core (HasSelection p.now.clauses) (λ places. IsCore p.now.clauses places.items)) }
+{
+    let mut lists = SubLists::new(alloc, p);
+    core_places(alloc, &mut lists, p.clauses.len())
+}
+
+// The text of a core, or that there is none.
+fn text_of(alloc: Global, file: &str, p: &Problem) -> Result<ByteList, Memory>
+    requires { IsDecidable p.now }
+    ensures { IfOk result (λ text. IsCoreText p.now file.now text ⊎ IsNoCoreText p.now file.now text) }
+{
+    let lists = SubLists::new(alloc, p);
+    match places_of(alloc, p)? {
+        Some(places) => text_of_core(alloc, &lists, file, places.as_slice()),
+        None => text_of_no_core(alloc, &lists, file),
+    }
+}
+
+// That of a problem that was loaded, or why no core is searched for.
+fn answer(alloc: Global, file: &str, p: &Problem) -> Result<ByteList, CoreRefusal>
+    requires { IsGoodProblem p.now }
+    ensures ok { IfOk result (λ text. IsTrue (is_function_free p.now.clauses) × (IsCoreText p.now file.now text ⊎ IsNoCoreText p.now file.now text)) }
+    ensures err { IfErr result (IsUncored p.now) }
+{
+    loaded_problems_are_printable();
+    match first_with_functions(p) {
+        Some(clause) => Err(CoreRefusal::Functions { clause }),
+        None => {
+            let text = text_of(alloc, file, p)?;
+            Ok(text)
+        }
+    }
+}
+
+/// A refuted sub-list of the clauses of the file's problem of which no clause can be spared, with certificates that show it, or the
+/// saturation of the problem. The root is where includes are tried too.
 pub fn core_file<L: Library>(
-    _alloc: Global,
+    alloc: Global,
     file: &str,
     root: Option<&str>,
     files: &mut L,
@@ -33,5 +107,8 @@ pub fn core_file<L: Library>(
     ensures ok { IfOk result (HasCoreAnswer (L.told files.old).files file.now (option_map (λ r. r.now) root.entry)) }
     ensures err { IfErr result (IsCoreRefusal (reading (L.told files.old) (L.told files.new)) file.now (option_map (λ r. r.now) root.entry)) }
 {
-    Err(CoreRefusal::Memory)
+    match load(alloc, file, root, files) {
+        Ok(problem) => answer(alloc, file, &problem),
+        Err(refusal) => Err(refusal),
+    }
 }

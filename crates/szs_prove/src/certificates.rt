@@ -1,0 +1,74 @@
+// What comes of a run on a problem that is always decided: the text of its certificate, or which clauses its refutation cites. What
+// the run found is let go at once.
+ghost use Rattle.std.specs.Prelude.{◌≡◌, IfOk};
+ghost use Rattle.cert_format.specs.Text.{written_text};
+ghost use Rattle.cert_front.specs.Kinds.{covered_value, refutation_value};
+ghost use Rattle.szs_prove.specs.Decisions.{IsDecision, IsVerdict};
+ghost use Rattle.szs_prove.specs.Proving.{HasCertificate};
+ghost use Rattle.szs_prove.specs.SubProblems.{IsDecidable, IsSettled};
+
+use crate::citations::cited_by;
+use crate::decision::{Decision, decide};
+use cert_check::{CheckedCovered, CheckedRefutation};
+use cert_text::{covered_text, refutation_text};
+use inst_logic::{ByteList, ListOf, Memory, Problem};
+use std::alloc::Global;
+
+fn refuted(alloc: Global, file: &str, cert: &CheckedRefutation) -> Result<ByteList, Memory>
+    ensures { IfOk result (λ text. text ≡ written_text file.now (refutation_value cert.now)) }
+{
+    refutation_text(alloc, file.as_bytes(), cert)
+}
+
+fn satisfied(alloc: Global, file: &str, cert: &CheckedCovered) -> Result<ByteList, Memory>
+    ensures { IfOk result (λ text. text ≡ written_text file.now (covered_value cert.now)) }
+{
+    covered_text(alloc, file.as_bytes(), cert)
+}
+
+// The text of what was decided.
+fn text_of(alloc: Global, file: &str, _p: &Problem, decision: &Decision) -> Result<ByteList, Memory>
+    requires decision { IsDecision _p.now 0 decision.now }
+    requires verdict { IsVerdict decision.now }
+    ensures { IfOk result (HasCertificate _p.now file.now) }
+{
+    match decision {
+        Decision::Unsatisfiable(cert) => refuted(alloc, file, cert),
+        Decision::Satisfiable(cert) => satisfied(alloc, file, cert),
+        Decision::OutOfBudget { .. } => unreachable!(),
+    }
+}
+
+/// The text of a certificate of the problem, under the file's name.
+pub fn certificate_of(alloc: Global, file: &str, p: &Problem) -> Result<ByteList, Memory>
+    requires { IsDecidable p.now }
+    ensures { IfOk result (HasCertificate p.now file.now) }
+{
+    let decision = decide(alloc, p, 0)?;
+    text_of(alloc, file, p, &decision)
+}
+
+// What was decided, as marks.
+fn marks_of(alloc: Global, p: &Problem, decision: &Decision) -> Result<Option<ListOf<bool>>, Memory>
+    requires decision { IsDecision p.now 0 decision.now }
+    requires verdict { IsVerdict decision.now }
+    ensures { IfOk result (IsSettled p.now.clauses) }
+{
+    match decision {
+        Decision::Unsatisfiable(checked) => {
+            let marks = cited_by(alloc, checked.cert(), p.clauses.len())?;
+            Ok(Some(marks))
+        }
+        Decision::Satisfiable(_) => Ok(None),
+        Decision::OutOfBudget { .. } => unreachable!(),
+    }
+}
+
+/// For each clause of the problem whether its refutation cites it; `None` where the problem is satisfiable.
+pub fn cited_clauses(alloc: Global, p: &Problem) -> Result<Option<ListOf<bool>>, Memory>
+    requires { IsDecidable p.now }
+    ensures { IfOk result (IsSettled p.now.clauses) }
+{
+    let decision = decide(alloc, p, 0)?;
+    marks_of(alloc, p, &decision)
+}
