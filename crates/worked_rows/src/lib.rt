@@ -13,6 +13,8 @@ mod cuts;
 #[cfg(test)]
 mod faults;
 #[cfg(test)]
+mod further_rows;
+#[cfg(test)]
 mod long_rows;
 #[cfg(test)]
 mod refused_texts;

@@ -1,6 +1,6 @@
 // The tables of all files. A table is one text and no array, since a function that uses an array is proved anew for each of its
 // entries.
-use crate::{certificates, checks, refused_texts, refutations, rows};
+use crate::{certificates, checks, further_rows, refused_texts, refutations, rows};
 use inst_logic::Memory;
 use std::alloc::Global;
 use std::test::Fail;
@@ -14,6 +14,7 @@ enum Kind {
     Refutations,
     Refusals,
     Checks,
+    Beginnings,
 }
 
 fn is_right(alloc: Global, kind: Kind, row: &str) -> Result<bool, Memory> {
@@ -24,6 +25,7 @@ fn is_right(alloc: Global, kind: Kind, row: &str) -> Result<bool, Memory> {
         Kind::Refutations => refutations::is_right(alloc, row),
         Kind::Refusals => refused_texts::is_right(alloc, row),
         Kind::Checks => checks::is_right(alloc, row),
+        Kind::Beginnings => further_rows::is_right(alloc, row),
     }
 }
 
@@ -38,7 +40,7 @@ fn first_wrong(alloc: Global, kind: Kind, table: &str) -> Result<Option<usize>, 
 }
 
 // The place of the first wrong row of each table. In a table a row begins with `#`, and `@` stands between its parts.
-fn wrong_rows(alloc: Global) -> Result<[Option<usize>; 7], Memory> {
+fn wrong_rows(alloc: Global) -> Result<[Option<usize>; 10], Memory> {
     Ok([
         first_wrong(alloc, Kind::Answers, rows::ROWS)?,
         first_wrong(alloc, Kind::Answers, rows::DIMACS)?,
@@ -47,11 +49,14 @@ fn wrong_rows(alloc: Global) -> Result<[Option<usize>; 7], Memory> {
         first_wrong(alloc, Kind::Refutations, refutations::ROWS)?,
         first_wrong(alloc, Kind::Refusals, refused_texts::ROWS)?,
         first_wrong(alloc, Kind::Checks, checks::ROWS)?,
+        first_wrong(alloc, Kind::Beginnings, further_rows::FORMULAS)?,
+        first_wrong(alloc, Kind::Beginnings, further_rows::MODELS)?,
+        first_wrong(alloc, Kind::Beginnings, further_rows::CORES)?,
     ])
 }
 
 #[test]
 fn words_have_these_answers(rt: HostRuntime) -> Result<(), Fail> {
-    assert_eq!(rt; wrong_rows(rt.alloc())?, [None; 7]);
+    assert_eq!(rt; wrong_rows(rt.alloc())?, [None; 10]);
     Ok(())
 }
