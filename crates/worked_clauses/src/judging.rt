@@ -5,8 +5,8 @@ ghost use Rattle.saturation_cert.specs.Wholes.{IsWholeCovered, IsWholeFirst, IsW
 ghost use Rattle.cert_reader.specs.Reads.{IsWholeCertificate};
 
 use cert_check::{
-    CheckError, Complaint, check_covered, check_first, check_refutation, check_saturation, cover,
-    upgrade,
+    CheckError, CheckedFirst, Complaint, check_covered, check_first, check_refutation,
+    check_saturation, cover, upgrade,
 };
 use cert_reader::{Certificate, ReadCert, read_certificate};
 use inst_logic::Memory;
@@ -102,23 +102,40 @@ fn push_refutation(alloc: Global, answer: &mut Vec<u8>, cert: Refutation) -> Res
     }
 }
 
-// The refutation as it is upgraded, and whether it is valid then.
+fn push_grounds(answer: &mut Vec<u8>, cert: &Refutation) -> Result<(), Memory> {
+    push_bytes(answer, b"valid")?;
+    push_lines(answer, &cert.grounds)?;
+    push_bytes(answer, b" ")
+}
+
+// The refutation as it is upgraded, and whether it is valid then. It has one way out, since a certificate is dear to let go.
 fn push_upgraded(alloc: Global, answer: &mut Vec<u8>, cert: Refutation) -> Result<(), Memory>
     requires { IsWholeRefutation cert }
 {
-    push_lines(answer, &cert.grounds)?;
-    push_bytes(answer, b" ")?;
-    push_refutation(alloc, answer, cert)
+    let told = push_grounds(answer, &cert);
+    let judged = push_refutation(alloc, answer, cert);
+    match told {
+        Ok(()) => judged,
+        Err(Memory) => Err(Memory),
+    }
+}
+
+fn push_upgrade_of(
+    alloc: Global,
+    answer: &mut Vec<u8>,
+    checked: CheckedFirst,
+) -> Result<(), Memory> {
+    match upgrade(alloc, checked) {
+        Ok(cert) => push_upgraded(alloc, answer, cert),
+        Err(Memory) => Err(Memory),
+    }
 }
 
 fn push_first(alloc: Global, answer: &mut Vec<u8>, cert: FirstRefutation) -> Result<(), Memory>
     requires { IsWholeFirst cert }
 {
     match check_first(alloc, cert) {
-        Ok(checked) => {
-            push_bytes(answer, b"valid")?;
-            push_upgraded(alloc, answer, upgrade(alloc, checked)?)
-        }
+        Ok(checked) => push_upgrade_of(alloc, answer, checked),
         Err(e) => push_refusal(answer, e),
     }
 }
@@ -141,15 +158,23 @@ fn push_covered(alloc: Global, answer: &mut Vec<u8>, cert: Covered) -> Result<()
     }
 }
 
+fn push_names(answer: &mut Vec<u8>, cert: &Covered) -> Result<(), Memory> {
+    push_bytes(answer, b"covered")?;
+    push_shown(answer, &cert.shown)?;
+    push_covers(answer, &cert.covers)?;
+    push_bytes(answer, b" ")
+}
+
 // What covers the saturation, and whether that is accepted.
 fn push_named(alloc: Global, answer: &mut Vec<u8>, cert: Covered) -> Result<(), Memory>
     requires { IsWholeCovered cert }
 {
-    push_bytes(answer, b"covered")?;
-    push_shown(answer, &cert.shown)?;
-    push_covers(answer, &cert.covers)?;
-    push_bytes(answer, b" ")?;
-    push_covered(alloc, answer, cert)
+    let told = push_names(answer, &cert);
+    let judged = push_covered(alloc, answer, cert);
+    match told {
+        Ok(()) => judged,
+        Err(Memory) => Err(Memory),
+    }
 }
 
 fn push_cover_of(alloc: Global, answer: &mut Vec<u8>, cert: Saturation) -> Result<(), Memory>
@@ -216,11 +241,12 @@ fn push_read(
 ) -> Result<(), Memory>
     requires { IsWholeCertificate read.cert }
 {
-    match read.cert {
+    let ReadCert { cert, format, .. } = read;
+    match cert {
         Certificate::First(cert) => push_first(alloc, answer, cert),
         Certificate::Refutation(cert) => push_refutation(alloc, answer, cert),
         Certificate::Saturation(cert) => {
-            if read.format == 1 {
+            if format == 1 {
                 push_saturation(alloc, answer, cert)
             } else {
                 push_cover_of(alloc, answer, cert)
