@@ -1,4 +1,4 @@
-// Deletion over whatever decides sub-lists: one run for each clause that is left when its turn comes.
+// Deletion over whatever decides sub-lists: one call for each clause that is left when its turn comes.
 ghost use Rattle.std.specs.Prelude.{◌≡◌, ◌-◌, ◌<◌, List, length, remove, IfOk, MatchOption, vec_len};
 ghost use Rattle.std.specs.List.{range_with_len};
 ghost use Rattle.inst_logic.specs.Clauses.{TreeClause};
@@ -14,7 +14,7 @@ pub trait SubListTest {
     /// The clauses.
     ghost clauses: { Self → List TreeClause };
 
-    /// Whether the clauses at these places, which count from 1 and rise, are refuted. Each call is a run of its own.
+    /// Whether the clauses at these places, which count from 1 and rise, are refuted. Nothing is kept from one call to the next.
     fn decide(&mut self, places: &[usize]) -> Result<Verdict, Memory>
         requires { ArePlaces (clauses self.old) places.now }
         ensures verdict { IfOk result (λ v. IsVerdict (clauses self.old) places.now v) }
@@ -81,8 +81,8 @@ fn minimal_places<T: SubListTest>(
     Ok(places)
 }
 
-/// The places of a core of the `count` clauses, counted from 1 and rising, and `None` where the clauses are satisfiable. One run
-/// decides the whole list. After it there is at most one run for each clause that its refutation cites.
+/// The places of a core of the `count` clauses, counted from 1 and rising, and `None` where the clauses are satisfiable. One call
+/// of `decide` is for the whole list. After it there is at most one for each clause that its refutation cites.
 pub fn core_places<T: SubListTest>(
     alloc: Global,
     test: &mut T,

@@ -17,15 +17,12 @@ use Rattle.inst_logic.proofs.Items.{at_number_in}
 use Rattle.inst_logic.proofs.Membership.{get_or_in, passes}
 use Rattle.inst_logic.proofs.SameLemmas.{and_left, and_right}
 use Rattle.inst_logic.proofs.Sums.{list_any_none, list_any_found}
+use Rattle.inst_logic.proofs.Booleans.{not_true}
 use Rattle.szs_prove.specs.Applications.{atom_has_application, is_application, IsFirstWithFunctions}
 
 or_false : (b : Bool) → (b || false) ≡ b
 or_false true = refl
 or_false false = refl
-
-opposite : (b : Bool) → not b ≡ true → b ≡ false
-opposite true h = cc
-opposite false h = refl
 
 some_arguments : (count arity : ℕ) → nat_eq (count + 1) arity ≡ true → not (nat_eq arity 0) ≡ true
 some_arguments count arity h = grind (arith, nat_tests)
@@ -49,7 +46,7 @@ atom_applies : (a : Tree) → atom_is_formed a ≡ true → tree_applies a ≡ a
 atom_applies (var n) h = cc
 atom_applies (app s ts) h =
     let f = not (is_function_kind s.kind) in
-    let none : is_function_kind s.kind ≡ false = opposite (is_function_kind s.kind) (and_left f _ h) in
+    let none : is_function_kind s.kind ≡ false = not_true (is_function_kind s.kind) (and_left f _ h) in
     let formed : trees_are_formed ts ≡ true = and_right (nat_eq (count_of ts) s.arity) _ (and_right (symbol_is_formed s) _ (and_right f _ h)) in
     ap (λ b. (b && not (nat_eq s.arity 0)) || trees_apply ts) none ∙ terms_apply ts formed
 
@@ -79,7 +76,7 @@ module _ (cs : List TreeClause) (i : ℕ) (c : TreeClause) (formed : AreFormedCl
 
   -- one more clause without
   pub free_so_far : list_any (λ l. atom_has_application l.atom) c ≡ false → IsTrue (is_function_free (take (i + 1) cs))
-  free_so_far nothing = ap not (none_so_far clause_applies cs i c within (opposite (list_any clause_applies (take i cs)) before) (here ∙ nothing))
+  free_so_far nothing = ap not (none_so_far clause_applies cs i c within (not_true (list_any clause_applies (take i cs)) before) (here ∙ nothing))
 
   pub first_found : list_any (λ l. atom_has_application l.atom) c ≡ true → IsFirstWithFunctions cs (i + 1)
   first_found some =

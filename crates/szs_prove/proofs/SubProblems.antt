@@ -12,6 +12,7 @@ use Rattle.inst_logic.specs.Measure.{clause_applies, is_function_free}
 use Rattle.inst_logic.specs.Printing.{is_readable_name}
 use Rattle.inst_logic.proofs.Items.{at_number_contains, at_number_in}
 use Rattle.inst_logic.proofs.Membership.{◌∈◌, contains_in, in_contains, all_in, in_all, any_true, any_from}
+use Rattle.inst_logic.proofs.Booleans.{not_true}
 use Rattle.cert_format.specs.Printable.{IsPrintableClause}
 use Rattle.core_min.specs.Cores.{clauses_at, ArePlaces, HasRefutation, HasSelection}
 use Rattle.core_min.specs.Verdicts.{IsCited}
@@ -47,10 +48,6 @@ added_so_far p before after places i d place within there e clauses names =
     names ∙ ap (λ (q : Problem). q.names ++ filter_map (at_number p.names) (place ∷ [])) e ∙ sym (filter_map-append (at_number p.names) (take i places) (place ∷ [])) ∙ ap (filter_map (at_number p.names)) (sym more) in
     ap₂ (λ cs ns. record { clauses = cs; names = ns }) all_clauses all_names
 
-opposite : (b : Bool) → not b ≡ true → b ≡ false
-opposite true h = cc
-opposite false h = refl
-
 function_free_at : (cs : List TreeClause) (places : List ℕ) → IsTrue (is_function_free cs) → IsTrue (is_function_free (clauses_at cs places))
 function_free_at cs places free = go (list_any clause_applies (clauses_at cs places)) refl
   where
@@ -59,7 +56,7 @@ function_free_at cs places free = go (list_any clause_applies (clauses_at cs pla
     go true e =
         let (c, i, applies) = any_true clause_applies (clauses_at cs places) e in
         let some : list_any clause_applies cs ≡ true = any_from clause_applies cs c (from_places cs c places i) applies in
-        let none : list_any clause_applies cs ≡ false = opposite (list_any clause_applies cs) free in
+        let none : list_any clause_applies cs ≡ false = not_true (list_any clause_applies cs) free in
         cc
 
 module _ (p : Problem) (places : List ℕ) (decidable : IsDecidable p) (h : ArePlaces p.clauses places) where

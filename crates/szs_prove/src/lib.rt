@@ -34,3 +34,4 @@ mod table_texts;
 
 pub use command::run;
 pub use exit::Exit;
+pub use saturation_test::tables_of;
