@@ -50,23 +50,23 @@ both_empty is js h k = base_append is js ∙ ap₂ (λ (xs ys : List TreeClause)
 
 pub base_is : (s : Shape) (f : Forest) (g : Groups) → AreGroups s f g → base_clauses (items_of s f g) ≡ map (clause_at f) (g.inputs ++ g.axioms)
 base_is s f g p =
-    let A = input_items (map (clause_at f) g.inputs) g.names in
-    let B = axiom_items (map (clause_at f) g.axioms) in
-    let C = members_by s (map (entry_of f) g.members) g.places in
-    let D1 = ground_items (map (clause_at f) g.grounds) in
-    let D2 = line_items (map (line_of f) g.lines) in
-    let E = step_items (map (step_of f) g.steps) in
-    let F = shown_items (map (clause_at f) g.inputs ++ map (clause_at f) g.axioms) (map (by_of f) g.shown) in
-    let G = cover_items (map (cover_of f) g.covers) in
+    let as_inputs = input_items (map (clause_at f) g.inputs) g.names in
+    let as_axioms = axiom_items (map (clause_at f) g.axioms) in
+    let as_members = members_by s (map (entry_of f) g.members) g.places in
+    let as_grounds = ground_items (map (clause_at f) g.grounds) in
+    let as_lines = line_items (map (line_of f) g.lines) in
+    let as_steps = step_items (map (step_of f) g.steps) in
+    let as_shown = shown_items (map (clause_at f) g.inputs ++ map (clause_at f) g.axioms) (map (by_of f) g.shown) in
+    let as_covers = cover_items (map (cover_of f) g.covers) in
     let rest =
-    both_empty C ((D1 ++ D2) ++ (E ++ (F ++ G))) (base_later 2 refl C (member_group s.refutation s.format (map (entry_of f) g.members) g.places))
-    (both_empty (D1 ++ D2) (E ++ (F ++ G)) (both_empty D1 D2 (base_later 3 refl D1 (ground_ranks (map (clause_at f) g.grounds))) (base_later 3 refl D2 (line_ranks (map (line_of f) g.lines))))
-    (both_empty E (F ++ G) (base_later 4 refl E (step_ranks (map (step_of f) g.steps)))
-    (both_empty F G (base_later 5 refl F (shown_ranks (map (clause_at f) g.inputs ++ map (clause_at f) g.axioms) (map (by_of f) g.shown))) (base_later 6 refl G (cover_ranks (map (cover_of f) g.covers)))))) in
+    both_empty as_members ((as_grounds ++ as_lines) ++ (as_steps ++ (as_shown ++ as_covers))) (base_later 2 refl as_members (member_group s.refutation s.format (map (entry_of f) g.members) g.places))
+    (both_empty (as_grounds ++ as_lines) (as_steps ++ (as_shown ++ as_covers)) (both_empty as_grounds as_lines (base_later 3 refl as_grounds (ground_ranks (map (clause_at f) g.grounds))) (base_later 3 refl as_lines (line_ranks (map (line_of f) g.lines))))
+    (both_empty as_steps (as_shown ++ as_covers) (base_later 4 refl as_steps (step_ranks (map (step_of f) g.steps)))
+    (both_empty as_shown as_covers (base_later 5 refl as_shown (shown_ranks (map (clause_at f) g.inputs ++ map (clause_at f) g.axioms) (map (by_of f) g.shown))) (base_later 6 refl as_covers (cover_ranks (map (cover_of f) g.covers)))))) in
     let first = base_inputs (map (clause_at f) g.inputs) g.names (p.named ∙ sym (length-map g.inputs (clause_at f))) in
     let second = base_axioms (map (clause_at f) g.axioms) in
-    base_append A (B ++ (C ++ ((D1 ++ D2) ++ (E ++ (F ++ G)))))
-    ∙ ap₂ (λ (xs ys : List TreeClause). xs ++ ys) first (base_append B (C ++ ((D1 ++ D2) ++ (E ++ (F ++ G)))) ∙ ap₂ (λ (xs ys : List TreeClause). xs ++ ys) second rest ∙ append-nil (map (clause_at f) g.axioms))
+    base_append as_inputs (as_axioms ++ (as_members ++ ((as_grounds ++ as_lines) ++ (as_steps ++ (as_shown ++ as_covers)))))
+    ∙ ap₂ (λ (xs ys : List TreeClause). xs ++ ys) first (base_append as_axioms (as_members ++ ((as_grounds ++ as_lines) ++ (as_steps ++ (as_shown ++ as_covers)))) ∙ ap₂ (λ (xs ys : List TreeClause). xs ++ ys) second rest ∙ append-nil (map (clause_at f) g.axioms))
     ∙ sym (map-append (clause_at f) g.inputs g.axioms)
 
 -- ---- how many
