@@ -2,16 +2,12 @@
 use Rattle.std.proofs.Common.{◌≡◌, ℕ, ◌+◌, ◌-◌, ◌^◌, ◌<◌, ◌≤◌, zero, suc, true, false, List, [], ◌∷◌, ◌++◌, length, refl, sym, ap, ◌∙◌, subst, arith, inl, inr, ◌⊎◌, length-append, lit<}
 use Rattle.std.specs.Prelude.{IsTrue, All, IfOk, Result, Ok, Err, decimal}
 use Rattle.std.specs.List.{list_all}
-use Rattle.std.specs.Char.{is_ascii_digit}
-use Rattle.std.proofs.lemmas.Bool.Decides.{nat_tests}
 use Rattle.std.proofs.lemmas.Fmt.{decimal_nonempty}
 use Rattle.inst_logic.specs.Clauses.{TreeClause}
 use Rattle.inst_logic.specs.Measure.{clause_applies, is_function_free}
 use Rattle.inst_logic.specs.Printing.{is_readable_name, is_between}
-use Rattle.inst_logic.proofs.Booleans.{and_left, and_right, and_both}
 use Rattle.inst_logic.proofs.Membership.{◌∈◌, in_left, in_either, in_last, in_push, in_all, none_passes}
 use Rattle.cert_format.specs.Printable.{IsPrintableClause}
-use Rattle.cert_format.proofs.Digits.{decimal_digits}
 use Rattle.szs_prove.specs.Chains.{edge_clause, edge_clauses, first_clause, rule_clause, last_clause, chain_clauses}
 use Rattle.inst_logic.proofs.Printed.{decimal_readable}
 

@@ -1,5 +1,5 @@
 -- What the parts of the command `core` say of the whole.
-use Rattle.std.proofs.Common.{◌≡◌, ◌⊎◌, inl, inr, ℕ, List, Option}
+use Rattle.std.proofs.Common.{◌⊎◌, inl, inr, ℕ, List, Option}
 use Rattle.std.specs.Prelude.{IfOk, IfErr, IsTrue, Result, Ok, Err}
 use Rattle.inst_logic.specs.declared.clause.Problem.{Problem}
 use Rattle.inst_logic.specs.Measure.{is_function_free}

@@ -1,5 +1,5 @@
 -- The trees of selected literals serve a certificate whose bank has grown.
-use Rattle.std.proofs.Common.{◌≡◌, ◌↔◌, ℕ, zero, suc, ◌<◌, ◌≤◌, ◌^◌, List, [], length, Bool, true, false, refl, sym, ap, ◌∙◌, subst as transport, arith, Contains}
+use Rattle.std.proofs.Common.{◌≡◌, ◌↔◌, ℕ, zero, suc, ◌<◌, ◌^◌, List, [], length, Bool, true, false, refl, sym, ap, ◌∙◌, subst as transport, arith, Contains}
 use Rattle.std.specs.Prelude.{IfOk, IsTrue, OnOk, Result, Ok, Err}
 use Rattle.inst_logic.specs.declared.signed.Signed.{Signed}
 use Rattle.inst_logic.specs.Tree.{Tree}

@@ -1,17 +1,16 @@
 -- What the parts of the command for models say of the whole.
-use Rattle.std.proofs.Common.{◌≡◌, ◌++◌, ◌<◌, ◌≤◌, ◌^◌, ◌⊎◌, inl, inr, ℕ, List, Option, length, refl, sym, ap, ◌∙◌, subst as transport, arith}
+use Rattle.std.proofs.Common.{◌≡◌, ◌++◌, ◌<◌, ◌≤◌, ◌^◌, inl, inr, ℕ, List, Option, length, ap, ◌∙◌, subst as transport, arith}
 use Rattle.std.specs.Prelude.{All, Any, IfOk, IfErr, IsTrue, Result, Ok, Err}
 use Rattle.std.proofs.lemmas.List.Elements.{All-weaker}
 use Rattle.inst_logic.specs.declared.clause.Problem.{Problem}
 use Rattle.inst_logic.specs.Clauses.{TreeClause, IsCanonical, IsGround, IsInstance}
-use Rattle.inst_logic.specs.Measure.{is_function_free}
 use Rattle.inst_logic.specs.Printing.{is_readable_name}
 use Rattle.inst_logic.specs.Readable.{clause_is_readable}
-use Rattle.inst_logic.specs.WellFormed.{AreFormedClauses, clause_is_formed}
+use Rattle.inst_logic.specs.WellFormed.{clause_is_formed}
 use Rattle.inst_logic.proofs.Membership.{all_in, in_all, passes}
 use Rattle.outside_io.specs.declared.library.NamedFile.{NamedFile}
 use Rattle.tptp_load.specs.Problems.{IsGoodProblem}
-use Rattle.cert_format.specs.Certificate.{line_clauses, refutation}
+use Rattle.cert_format.specs.Certificate.{line_clauses}
 use Rattle.cert_format.specs.Printable.{IsPrintableClause}
 use Rattle.cert_format.specs.Text.{written_text}
 use Rattle.saturation_cert.specs.declared.certificate.Refutation.{Refutation}
@@ -20,13 +19,13 @@ use Rattle.saturation_cert.specs.Values.{refutation_of}
 use Rattle.cert_front.specs.Kinds.{covered_value, refutation_value}
 use Rattle.finite_model.specs.declared.tables.Table.{Table}
 use Rattle.finite_model.specs.declared.tables.Tables.{Tables}
-use Rattle.finite_model.specs.Tables.{IsElement, IsModel, IsTable, IsTooWide, functions_of, predicates_of}
+use Rattle.finite_model.specs.Tables.{IsModel, IsTable, IsTooWide}
 use Rattle.finite_model.specs.Flattening.{flattened, flattened_names}
 use Rattle.finite_model.proofs.CellCounts.{few_symbols}
 use Rattle.finite_model.proofs.FlatForm.{flattened_canonical, flattened_formed, flattened_readable, flattened_without_axioms, names_count, names_readable}
 use Rattle.finite_model.proofs.NoModel.{not_refuted}
 use Rattle.szs_prove.specs.Answers.{IsProblemOf, Reading}
-use Rattle.szs_prove.specs.Decisions.{IsDecision, IsShownBy, IsVerdict}
+use Rattle.szs_prove.specs.Decisions.{IsDecision, IsShownBy}
 use Rattle.szs_prove.specs.ModelAnswers.{HasModelAnswer, IsModelRefusal, IsModelText, IsNoTablesText, IsTablesText, IsUnmodelled, flattened_problem}
 use Rattle.szs_prove.specs.Problems.{IsPrintableProblem}
 use Rattle.szs_prove.specs.TableTexts.{no_tables_line, tables_text}

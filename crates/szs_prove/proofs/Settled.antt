@@ -1,5 +1,5 @@
 -- What a run on a problem that is always decided leaves.
-use Rattle.std.proofs.Common.{◌≡◌, ℕ, List, Bool, subst as transport, length}
+use Rattle.std.proofs.Common.{◌≡◌, ℕ, List, subst as transport}
 use Rattle.std.specs.Prelude.{IfOk, Result, Ok, Err}
 use Rattle.inst_logic.specs.declared.clause.Problem.{Problem}
 use Rattle.cert_format.specs.Certificate.{line_clauses, selected_members}

@@ -4,7 +4,6 @@ use Rattle.command_words.specs.Requests.{asked}
 use Rattle.command_words.specs.declared.request.Request.{Request}
 use Rattle.szs_prove.specs.Answers.{reading}
 use Rattle.szs_prove.specs.Causes.{IsAnswer}
-use Rattle.szs_prove.specs.declared.answer.Answer.{Answer}
 use Rattle.szs_prove.specs.declared.answer.Answer.TheVariants.{Prove, Sat, Check, Rewrite, Ask, Stress, Qbf, Fmodel, Core}
 use Rattle.szs_prove.proofs.AskedAtoms.{asked_atom_is_formed, asked_atom_is_free}
 use Rattle.szs_prove.proofs.Causes.{proved, checked, rewritten, replied, measured, modelled, has_core}
