@@ -8,7 +8,7 @@ use Rattle.cert_format.specs.Certificate as format
 use Rattle.cert_format.specs.Certificate.{Certificate, refutation, saturation, covered, base_of}
 use Rattle.cert_format.specs.Certifies.{IsOf, HasConstantOf, Certifies}
 use Rattle.cert_format.specs.Formats.{written_format}
-use Rattle.cert_format.specs.Printable.{CoveredFits, IsPrintable, NumbersFit}
+use Rattle.cert_format.specs.Printable.{CoveredFits, IsPrintable, IsPrintableProblem, NumbersFit}
 use Rattle.cert_format.specs.Validity.{IsNamed, IsValid}
 use Rattle.saturation_cert.specs.declared.certificate.Refutation.{Refutation}
 use Rattle.saturation_cert.specs.declared.certificate.Saturation.{Saturation}
@@ -23,7 +23,6 @@ use Rattle.instgen_loop.specs.Outcomes.{IsOutcome, IsRefutedRun, IsSaturatedRun}
 use Rattle.instgen_loop.proofs.Started.{printable_formed}
 use Rattle.szs_prove.specs.declared.decision.Decision.{Decision}
 use Rattle.szs_prove.specs.declared.decision.Decision.TheVariants.{Unsatisfiable, Satisfiable, OutOfBudget}
-use Rattle.szs_prove.specs.Problems.{IsPrintableProblem}
 use Rattle.szs_prove.specs.Decisions.{IsDecision, IsShownBy, IsStopped, IsVerdict}
 
 -- that valid and printable certificates of a problem certify it

@@ -6,9 +6,8 @@ use Rattle.inst_logic.specs.Printing.{is_readable_name}
 use Rattle.inst_logic.specs.Readable.{clause_is_readable}
 use Rattle.inst_logic.proofs.Membership.{all_in, in_all, passes}
 use Rattle.std.specs.Prelude.{IsTrue}
-use Rattle.cert_format.specs.Printable.{IsPrintableClause}
+use Rattle.cert_format.specs.Printable.{IsPrintableClause, IsPrintableProblem}
 use Rattle.tptp_load.specs.Problems.{IsGoodProblem}
-use Rattle.szs_prove.specs.Problems.{IsPrintableProblem}
 
 pub printable_problem : (p : Problem) → IsGoodProblem p → IsPrintableProblem p
 printable_problem p good = record {

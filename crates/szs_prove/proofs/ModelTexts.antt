@@ -11,7 +11,7 @@ use Rattle.inst_logic.proofs.Membership.{all_in, in_all, passes}
 use Rattle.outside_io.specs.declared.library.NamedFile.{NamedFile}
 use Rattle.tptp_load.specs.Problems.{IsGoodProblem}
 use Rattle.cert_format.specs.Certificate.{line_clauses}
-use Rattle.cert_format.specs.Printable.{IsPrintableClause}
+use Rattle.cert_format.specs.Printable.{IsPrintableClause, IsPrintableProblem}
 use Rattle.cert_format.specs.Text.{written_text}
 use Rattle.saturation_cert.specs.declared.certificate.Refutation.{Refutation}
 use Rattle.saturation_cert.specs.declared.certificate.Covered.{Covered}
@@ -27,7 +27,6 @@ use Rattle.finite_model.proofs.NoModel.{not_refuted}
 use Rattle.szs_prove.specs.Answers.{IsProblemOf, Reading}
 use Rattle.szs_prove.specs.Decisions.{IsDecision, IsShownBy}
 use Rattle.szs_prove.specs.ModelAnswers.{HasModelAnswer, IsModelRefusal, IsModelText, IsNoTablesText, IsTablesText, IsUnmodelled, flattened_problem}
-use Rattle.szs_prove.specs.Problems.{IsPrintableProblem}
 use Rattle.szs_prove.specs.TableTexts.{no_tables_line, tables_text}
 use Rattle.szs_prove.specs.declared.decision.Decision.{Decision}
 use Rattle.szs_prove.specs.declared.decision.Decision.TheVariants.{Unsatisfiable, Satisfiable}

@@ -8,7 +8,6 @@ pub mod CoreTexts
 pub mod Decisions
 pub mod Formulas
 pub mod ModelAnswers
-pub mod Problems
 pub mod Proving
 pub mod Situations
 pub mod SizeWords

@@ -5,7 +5,7 @@ use Rattle.inst_logic.specs.Clauses.{TreeClause}
 use Rattle.inst_logic.specs.Derivations.{at_number}
 use Rattle.inst_logic.specs.Measure.{is_function_free}
 use Rattle.core_min.specs.Cores.{clauses_at, HasRefutation, HasSelection}
-use Rattle.szs_prove.specs.Problems.{IsPrintableProblem}
+use Rattle.cert_format.specs.Printable.{IsPrintableProblem}
 
 -- the problem of the clauses at these places, with their names
 abbrev pub problem_at : Problem → List ℕ → Problem

@@ -3,7 +3,7 @@ ghost use Rattle.std.specs.Prelude.{◌≡◌, ◌+◌, ◌<◌, ◌∷◌, [], 
 ghost use Rattle.inst_logic.specs.LiteralView.{literal};
 ghost use Rattle.inst_logic.specs.View.{tree};
 ghost use Rattle.inst_logic.specs.Printing.{is_readable_name};
-ghost use Rattle.szs_prove.specs.Problems.{IsPrintableProblem};
+ghost use Rattle.cert_format.specs.Printable.{IsPrintableProblem};
 ghost use Rattle.szs_prove.specs.Chains.{constant, edge, reached, edge_clause, first_clause, rule_clause, last_clause, chain_clauses};
 
 use inst_logic::{

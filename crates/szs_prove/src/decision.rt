@@ -3,7 +3,7 @@ ghost use Rattle.std.specs.Prelude.{◌≡◌, ◌≤◌, IsTrue, IfOk};
 ghost use Rattle.inst_logic.specs.Measure.{is_function_free};
 ghost use Rattle.cert_front.specs.Kinds.{covered_value, refutation_value};
 ghost use Rattle.instgen_loop.specs.Outcomes.{IsOutcome, IsRefutedRun, IsSaturatedRun};
-ghost use Rattle.szs_prove.specs.Problems.{IsPrintableProblem};
+ghost use Rattle.cert_format.specs.Printable.{IsPrintableProblem};
 ghost use Rattle.szs_prove.specs.Decisions.{IsDecision, IsShownBy, IsVerdict};
 
 use cdcl_core::Cdcl;

@@ -93,6 +93,10 @@ AreFormedTrees ts = (i : ℕ) → i < length ts → IsFormed (nth ts i)
 abbrev pub AreFormed : Forest → Type 0
 AreFormed f = AreFormedTrees f.trees
 
+-- the second extends the first, and its trees are terms and atoms where those of the first are
+abbrev pub Grows : Forest → Forest → Type 0
+Grows f g = Extends f g × (AreFormed f → AreFormed g)
+
 abbrev pub symbol_of : Tree → Option Sym
 symbol_of (var v) = None
 symbol_of (app s ts) = Some s

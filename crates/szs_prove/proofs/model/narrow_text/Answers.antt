@@ -4,7 +4,7 @@ use Rattle.inst_logic.specs.Measure.{is_function_free}
 use Rattle.finite_model.proofs.FlatForm.{flattened_function_free}
 use Rattle.inst_logic.specs.declared.clause.Problem.{Problem}
 use Rattle.szs_prove.specs.Decisions.{IsDecision}
-use Rattle.szs_prove.specs.Problems.{IsPrintableProblem}
+use Rattle.cert_format.specs.Printable.{IsPrintableProblem}
 use Rattle.szs_prove.proofs.ModelTexts.{flattened_printable, is_flattened}
 use Rattle.szs_prove.proofs.model.narrow_text.Goals as goal
 
