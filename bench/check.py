@@ -106,10 +106,32 @@ def own_problems(kind):
             yield f"{name} {size} {'unsat' if refuted else 'sat'}", lambda path, them=(make, size, refuted): write(path, *them)
 
 
+def in_first_format(text, path):
+    """Writes the same saturation in format 1, which names no covers, and returns whether the text is one of a saturation."""
+    with open(text, "rb") as it:
+        lines = it.read().split(b"\n")
+    if not any(line.startswith(b"% SZS output start Saturation") for line in lines[:3]):
+        return False
+    with open(path, "wb") as out:
+        out.write(b"\n".join(line.replace(b"certificate 3", b"certificate 1") for line in lines if not line.startswith((b"cnf(q", b"cnf(c"))))
+    return True
+
+
+def first_format(program, folder, text):
+    """The seconds of `check` on the saturation in format 1, and how many more it takes to find, name and write the covers."""
+    path, said = os.path.join(folder, "first.txt"), os.path.join(folder, "first.out")
+    if not in_first_format(text, path):
+        return None
+    judged = measured([program, "check", path], None, said)
+    rewritten = measured([program, "check", path, "--rewrite"], None, said)
+    return judged, max(rewritten - judged, 0)
+
+
 def own(program, folder, limit, kind):
     """The program's own certificates."""
-    line(kind, "bytes", "prove", "check", "check MB/s", "of prove")
+    line(kind, "bytes", "prove", "check", "check MB/s", "of prove", "format 1", "to name")
     whole = []
+    named = []
     problem, text, said = (os.path.join(folder, f"own.{it}") for it in ("p", "txt", "out"))
     for name, write in own_problems(kind):
         write(problem)
@@ -122,10 +144,18 @@ def own(program, folder, limit, kind):
             mark = "" if it.read().startswith(b"valid") else " !"
         much = os.path.getsize(text)
         whole.append((found, judged))
-        line(name + mark, much, f"{found:.3f}", f"{judged:.3f}", f"{much / max(judged, 0.001) / 1e6:.0f}", f"{judged / max(found, 0.001):.2f}")
+        first = first_format(program, folder, text)
+        if first:
+            named.append((found, judged, *first))
+        line(name + mark, much, f"{found:.3f}", f"{judged:.3f}", f"{much / max(judged, 0.001) / 1e6:.0f}", f"{judged / max(found, 0.001):.2f}",
+             *(f"{it:.3f}" for it in first or ()))
     line("mean (geometric) where prove takes 0.05 s", "", "", "", "", mean([judged / found for found, judged in whole if found >= 0.05]))
     line("all together", "", f"{sum(it for it, _ in whole):.2f}", f"{sum(it for _, it in whole):.2f}", "",
          f"{sum(it for _, it in whole) / max(sum(it for it, _ in whole), 0.001):.2f}")
+    long = [it for it in named if it[0] >= 0.05]
+    if long:
+        line("check in format 3 of that in format 1", "", "", "", "", mean([judged / max(first, 0.001) for _, judged, first, _ in long]))
+        line("prove of prove without naming, at most", "", "", "", "", mean([found / max(found - more, 0.001) for found, _, _, more in long]))
 
 
 def made_here(program, name, path):
