@@ -24,6 +24,10 @@ pub mod Writables
 pub mod GroupItems
 pub mod ValueRuns
 pub mod ValueLaws
+pub mod BodyItems
+pub mod ItemGroups
+pub mod GroupValues
+pub mod PrintableGroups
 pub mod LineValues
 pub mod Taken
 pub mod Exits

@@ -8,12 +8,13 @@ use Rattle.inst_logic.specs.Clauses.{TreeClause}
 use Rattle.inst_logic.specs.Printing.{clause_text, tree_text, name_text, joined}
 use Rattle.inst_calculus.specs.Entries.{Origin, input, inst, lemma, Entry}
 use Rattle.inst_calculus.specs.Steps.{Step, Cited, given, earlier}
-use Rattle.cert_format.specs.Certificate.{GroundLine, By, by_tautology, by_variant, by_part, Side, left_side, right_side, Cover, Certificate, first_refutation, refutation, saturation, covered}
+use Rattle.cert_format.specs.Certificate.{GroundLine, By, by_tautology, by_variant, by_part, Cover, Certificate, first_refutation, refutation, saturation, covered}
 use Rattle.cert_format.proofs.ClauseForms.{term_is}
 use Rattle.cert_format.specs.Lines as format
 use Rattle.cert_format.specs.Text.{certificate_text, numbered_lines, paired_lines}
 use Rattle.cert_format.specs.LineMachine.{Note, named, equality, member, selected, ground_of, ground_by, shown_by, input_by, side_by, rank, Item, Line, version, item, closing, count, nothing}
-use Rattle.cert_format.specs.LineTexts.{letter, role, line_text, numbers, terms, by_text, side_word, hint, hints, more_hints, origin_text, note_text}
+use Rattle.cert_format.specs.LineTexts.{letter, role, line_text, numbers, terms, by_text, hint, hints, more_hints, origin_text, note_text}
+use Rattle.cert_format.specs.Lines.{side_word}
 use Rattle.cert_format.specs.Formats.{step, is_done, text_of_lines}
 use Rattle.cert_format.specs.ValueLines.{input_items, axiom_items, member_items, selected_items, ground_items, line_items, shown_items, cover_items, step_items, items_of, item_lines, lines_of}
 use Rattle.inst_logic.proofs.Numbers.{number_is}
@@ -124,14 +125,10 @@ ground_line_by_is n g = item_line_is n g.clause (ground_by g.input g.terms) _
 shown_line_is : (n : ℕ) (c : TreeClause) (by : By) → line_text (item n c (input_by by)) ≡ format.shown_line n c by
 shown_line_is n c by = item_line_is n c (input_by by) _ (by_is by (41 ∷ 46 ∷ 10 ∷ []))
 
-side_is : (s : Side) → side_word s ≡ format.side_text s
-side_is left_side = refl
-side_is right_side = refl
-
 cover_line_is : (n : ℕ) (v : Cover) → line_text (item n v.clause (side_by v.left v.right v.side v.by)) ≡ format.cover_line n v
 cover_line_is n v = item_line_is n v.clause (side_by v.left v.right v.side v.by) _
-    (ap₂ (λ (w bs : List ℕ). codes "cover(m" ++ (decimal v.left ++ 44 ∷ 109 ∷ (decimal v.right ++ 44 ∷ (w ++ (codes "),[" ++ bs))))) (side_is v.side) (by_is v.by (93 ∷ 41 ∷ 46 ∷ 10 ∷ []))
-    ∙ joins (decimal v.left) (decimal v.right) (format.side_text v.side) (format.by_text v.by) (41 ∷ 46 ∷ 10 ∷ []))
+    (ap (λ (bs : List ℕ). codes "cover(m" ++ (decimal v.left ++ 44 ∷ 109 ∷ (decimal v.right ++ 44 ∷ (side_word v.side ++ (codes "),[" ++ bs))))) (by_is v.by (93 ∷ 41 ∷ 46 ∷ 10 ∷ []))
+    ∙ joins (decimal v.left) (decimal v.right) (side_word v.side) (format.by_text v.by) (41 ∷ 46 ∷ 10 ∷ []))
   where
     joins : (a b w y r : List ℕ) → codes "cover(m" ++ (a ++ 44 ∷ 109 ∷ (b ++ 44 ∷ (w ++ (codes "),[" ++ (y ++ 93 ∷ r))))) ≡ ((((((((codes "cover(m" ++ a) ++ codes ",m") ++ b) ++ codes ",") ++ w) ++ codes "),[") ++ y) ++ codes "]") ++ r
     joins a b w y r = simp append_assoc

@@ -17,7 +17,9 @@ use Rattle.cert_format.proofs.Machines as machines
 use Rattle.cert_format.proofs.Formats.{exact}
 use Rattle.cert_format.proofs.LineTexts.{text_is}
 use Rattle.cert_format.proofs.ValueRuns.{are_lines, run}
-use Rattle.cert_format.proofs.LineValues.{next, guard_both, finish, empty_body, AreOfValue, saturated_lines, refuted_lines, header_for}
+use Rattle.cert_format.proofs.BodyItems.{next, guard_both, finish, empty_body}
+use Rattle.cert_format.proofs.GroupValues.{header_for}
+use Rattle.cert_format.proofs.LineValues.{AreOfValue, saturated_lines, refuted_lines}
 
 -- behind the first two lines
 formatted : (r : Bool) (name : List ℕ) (f : ℕ) (ls : List Line) (t : State) → is_text_name name ≡ true → is_known f ≡ true → run (machine.formatted is_known is_text_name clause_is_printable note_is_printable r name f) ls ≡ Some t → is_done t ≡ true

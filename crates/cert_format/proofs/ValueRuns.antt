@@ -296,12 +296,12 @@ shown_append (i ∷ is) js = by (nat_eq (rank i.note) 5) (shown_append is js)
     by false h = h
 
 -- the clauses of groups
-base_inputs : (cs : List TreeClause) (ws : List (List ℕ)) → length ws ≡ length cs → base_clauses (input_items cs ws) ≡ cs
+pub base_inputs : (cs : List TreeClause) (ws : List (List ℕ)) → length ws ≡ length cs → base_clauses (input_items cs ws) ≡ cs
 base_inputs [] ws e = refl
 base_inputs (c ∷ cs) [] e = absurd (omega arith)
 base_inputs (c ∷ cs) (w ∷ ws) e = ap (λ (xs : List TreeClause). c ∷ xs) (base_inputs cs ws (omega arith))
 
-base_axioms : (cs : List TreeClause) → base_clauses (axiom_items cs) ≡ cs
+pub base_axioms : (cs : List TreeClause) → base_clauses (axiom_items cs) ≡ cs
 base_axioms [] = refl
 base_axioms (c ∷ cs) = ap (λ (xs : List TreeClause). c ∷ xs) (base_axioms cs)
 
