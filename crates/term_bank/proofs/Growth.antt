@@ -3,19 +3,21 @@ use Rattle.std.proofs.Common.{◌≡◌, ◌≢◌, ℕ, ◌<◌, List, [], ◌�
 use Rattle.std.specs.List.{list_all}
 use Rattle.std.proofs.lemmas.List.{take_all, take-map, drop-map, length-map}
 use Rattle.inst_logic.specs.declared.symbol.Sym.{Sym}
-use Rattle.term_bank.specs.Forest.{is_formed}
 use Rattle.term_bank.specs.Steps.{applied}
 use Rattle.term_bank.proofs.Walks.{applied_formed}
 use Rattle.std.proofs.lemmas.List.{map_push}
 use Rattle.inst_logic.specs.Tree.{Tree, app, of_list}
 use Rattle.std.proofs.lemmas.List.Elements.{All-head, All-tail, All-push, All-take, All-weaker}
-use Rattle.term_bank.specs.Forest.{Forest, tree_at, KeepsPlaces, IsAt, AreIds, Extends}
+use Rattle.term_bank.specs.Forest.{Forest, tree_at, KeepsPlaces, IsAt, AreIds, Extends, Grows, is_formed}
 
 keeps_trans : {A : Type 0} (d : A) (xs ys zs : List A) → KeepsPlaces d xs ys → KeepsPlaces d ys zs → KeepsPlaces d xs zs
 keeps_trans d xs ys zs p q = (omega (arith, p.0, q.0), λ i h. q.1 i (omega (arith, p.0)) ∙ p.1 i h)
 
 pub extends_trans : (f g h : Forest) → Extends f g → Extends g h → Extends f h
 extends_trans f g h p q = record { trees = keeps_trans _ f.trees g.trees h.trees p.trees q.trees; symbols = keeps_trans _ f.symbols g.symbols h.symbols p.symbols q.symbols }
+
+pub grows_trans : (f g h : Forest) → Grows f g → Grows g h → Grows f h
+grows_trans f g h p q = (extends_trans f g h p.0 q.0, λ old. q.1 (p.1 old))
 
 pub extends_itself : (f : Forest) → Extends f f
 extends_itself f = record { trees = (omega arith, λ _ _. refl); symbols = (omega arith, λ _ _. refl) }

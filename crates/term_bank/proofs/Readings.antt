@@ -10,7 +10,7 @@ use Rattle.std.proofs.lemmas.Option.{slice_get-get_or}
 use Rattle.inst_logic.proofs.SameLemmas.{and_left, and_right}
 use Rattle.inst_logic.proofs.Applications.{same_list}
 use Rattle.inst_logic.specs.declared.symbol.Sym.{Sym}
-use Rattle.inst_logic.specs.Tree.{Tree, var, app, of_list, to_list}
+use Rattle.inst_logic.specs.Tree.{Tree, var, app, of_list}
 use Rattle.inst_logic.specs.Unifiers.{IsApplication}
 use Rattle.term_bank.specs.declared.node.Node.{Node}
 use Rattle.term_bank.specs.declared.node.Measures.{Measures}

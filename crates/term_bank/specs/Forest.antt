@@ -8,7 +8,7 @@ use Rattle.inst_logic.specs.Tree.{Tree, var, app, Trees, none, more, to_list, of
 use Rattle.inst_logic.specs.TreeCode.{tree_code, sym_code}
 use Rattle.inst_logic.specs.declared.signed.Signed.{Signed}
 use Rattle.inst_logic.specs.Equal.{sym_eq}
-use Rattle.inst_logic.specs.WellFormed.{tree_is_formed, atom_is_formed}
+use Rattle.inst_logic.specs.WellFormed.{IsTerm, tree_is_formed, atom_is_formed}
 
 -- the tree of each id, the symbol of each number, and whether some call was refused memory
 pub record Forest : Type 0 where
@@ -31,6 +31,10 @@ tree_at f id = nth f.trees id
 -- the id is in the bank, and its tree is this one
 abbrev pub IsAt : Forest → ℕ → Tree → Type 0
 IsAt f id t = (id < length f.trees) × (tree_at f id ≡ t)
+
+-- the id is that of a term of the bank
+abbrev pub IsTermIn : Forest → ℕ → Type 0
+IsTermIn f id = (id < length f.trees) × IsTerm (tree_at f id)
 
 -- each id is in the bank
 abbrev pub AreIds : Forest → List ℕ → Type 0

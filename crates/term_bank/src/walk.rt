@@ -4,7 +4,7 @@ ghost use Rattle.std.specs.List.{list_all};
 ghost use Rattle.inst_logic.specs.Tree.{Tree, of_list};
 ghost use Rattle.inst_logic.specs.View.{tree};
 ghost use Rattle.inst_logic.specs.Measure.{tree_size, trees_size};
-ghost use Rattle.term_bank.specs.Forest.{tree_at, IsAt, AreIds, Extends, AreFormed, is_formed};
+ghost use Rattle.term_bank.specs.Forest.{tree_at, IsAt, AreIds, Extends, AreFormed, Grows, is_formed};
 ghost use Rattle.term_bank.specs.Steps.{applied, all_done, steps_size};
 
 use crate::bank::Bank;
@@ -40,8 +40,7 @@ fn visit<'a>(
     requires { AreIds bank.old ids.old.items }
     ensures done { OnOk result (all_done steps.new.items (map (tree_at bank.new) ids.new.items) ≡ all_done steps.old.items (map (tree_at bank.old) ids.old.items ++ tree t.now ∷ [])) }
     ensures within { OnOk result (AreIds bank.new ids.new.items) }
-    ensures extends { Extends bank.old bank.new }
-    ensures formed { AreFormed bank.old → AreFormed bank.new }
+    ensures grows { Grows bank.old bank.new }
     ensures unspent { OnOk result (bank.old.spent ≡ false → bank.new.spent ≡ false) }
     ensures size { OnOk result (steps_size steps.new.items + 1 ≤ steps_size steps.old.items + 2 * tree_size (tree t.now)) }
 {

@@ -11,8 +11,8 @@ loop-step-preserved-in-Continue-1 c =
     record {
       done = c.in_ok-visit-in-Visit.ensures.done ∙ sym (first_step c.loop-step.steps.items c.pop.new.self.items c.in-Some.step _ ts c.in-Some.ensures.items c.in-Visit.is) ∙ c.loop-step.invariant.done;
       within = c.in_ok-visit-in-Visit.ensures.within;
-      extends = extends_trans c.args.bank.now c.loop-step.bank c.visit.new.bank c.loop-step.invariant.extends c.visit.ensures.extends;
-      formed = λ old out. c.visit.ensures.formed (c.loop-step.invariant.formed old out);
+      extends = extends_trans c.args.bank.now c.loop-step.bank c.visit.new.bank c.loop-step.invariant.extends c.visit.ensures.grows.0;
+      formed = λ old out. c.visit.ensures.grows.1 (c.loop-step.invariant.formed old out);
       unspent = c.in_ok-visit-in-Visit.ensures.unspent c.loop-step.invariant.unspent;
     }
 
