@@ -3,6 +3,7 @@
 #![tactic(auto)]
 
 pub mod compare;
+mod complements;
 pub mod conclusion;
 pub mod laws;
 mod literals;
