@@ -2,6 +2,7 @@
 //! of their atoms, since equal trees have equal ids; only subsumption and conclusions look into terms.
 #![tactic(auto)]
 
+mod clashes;
 pub mod compare;
 mod complements;
 pub mod conclusion;

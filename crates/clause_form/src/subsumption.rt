@@ -1,6 +1,6 @@
 // Subsumption (Robinson, A machine-oriented logic based on the resolution principle, 1965): a search for a place of each
-// literal, depth first and with a stack of its own. The problem is NP-complete, so what can fail early comes first: signs
-// and symbols before any matching, then literals without variables, then large ones.
+// literal, depth first and with a stack of its own. The problem is NP-complete, so what can fail early comes first: signs,
+// symbols and arguments without variables before any matching, then literals without variables, then large ones.
 ghost use Rattle.std.specs.Prelude.{◌≡◌, ◌↔◌, ◌++◌, ◌∷◌, ◌<◌, ◌≤◌, ℕ, [], true, false, length, map, IfOk, IfSome, IfNone, OnOk, IsTrue, slice_index_or};
 ghost use Rattle.std.specs.List.Sorted.{IsPermutation};
 ghost use Rattle.inst_logic.specs.Clauses.{Subsumes};
@@ -10,6 +10,7 @@ ghost use Rattle.unify_core.specs.Matching.{AreMatches};
 ghost use Rattle.clause_form.specs.Placements.{Goes, IsPlacedIn, HasPlaces, ArePlacedBy, IsPut, IsMissed, IsPlacing, no_literal, steps_of};
 ghost use Rattle.clause_form.specs.declared.subsumption.Ranked.{Ranked};
 
+use crate::clashes::may_become;
 use inst_logic::Memory;
 use std::alloc::Global;
 use term_bank::{Bank, IdClause, IdLiteral};
@@ -23,7 +24,7 @@ struct Choice {
     kept: usize,
 }
 
-// Whether the sign and the symbol of the literal allow that it is put onto the other one.
+// Whether nothing tells at a glance that the literal can't be put onto the other one.
 fn may_go(bank: &Bank, l: &IdLiteral, m: &IdLiteral) -> bool
     requires left { l.now.atom < length bank.now.trees }
     requires right { m.now.atom < length bank.now.trees }
@@ -33,10 +34,7 @@ fn may_go(bank: &Bank, l: &IdLiteral, m: &IdLiteral) -> bool
     if l.positive != m.positive {
         return false;
     }
-    match bank.symbol_number(l.atom) {
-        None => true,
-        Some(number) => bank.symbol_number(m.atom) == Some(number),
-    }
+    may_become(bank, l.atom, m.atom)
 }
 
 fn has_candidate(bank: &Bank, l: &IdLiteral, c: &[IdLiteral]) -> bool
