@@ -1,18 +1,44 @@
 // The nodes of the tree. Node 0 is the root, and edge k leads to node k + 1.
 ghost use Rattle.std.specs.Prelude.{◌≡◌, ◌<◌, ◌++◌, ◌∷◌, [], length, IfOk, OnOk, OnErr};
 ghost use Rattle.std.specs.List.{swap_remove};
+ghost use Rattle.std.proofs.Common.{rules};
+ghost use Rattle.std.specs.Cmp.Rules.{hashing};
+ghost use Rattle.std.specs.Hash as fed;
+ghost use Rattle.term_index.specs.EdgeNumbers.{edge_number};
 
 use crate::label::Label;
 use inst_logic::Memory;
 use std::alloc::Global;
+use std::hash::{Hash, Hasher};
 use std::marker::Model;
 use term_bank::TermId;
 
 /// From a node by a label. No two are the same, so the labels from the root tell a node.
-#[derive(Clone, Copy, Debug, PartialEq, Eq, Hash)]
+#[derive(Clone, Copy, Debug, PartialEq, Eq)]
 pub struct Edge {
     pub from: u32,
     pub label: Label,
+}
+
+// A walk hashes an edge at each step: one number is hashed several times as fast as the parts one after the other.
+fn number_of(edge: &Edge) -> u64
+    ensures { result ≡ edge_number edge.now }
+{
+    let from = edge.from as u64;
+    match edge.label {
+        Label::Variable => from,
+        Label::Symbol(symbol, _) => from + (symbol as u64) * 4294967296,
+    }
+}
+
+impl Hash for Edge {
+    ghost hash_input = { λ e. fed.u64 (edge_number e) };
+
+    ghost respects_eq = { Prim.search (hashing, rules) };
+
+    fn hash<H: Hasher>(&self, state: &mut H) {
+        state.write_u64(number_of(self));
+    }
 }
 
 const _: () = prove!(size_of::<Edge>() == 16);
