@@ -6,3 +6,5 @@ pub mod Nodes
 pub mod Shapes
 pub mod ShortMeasures
 pub mod Steps
+pub mod NodeHashes
+pub mod NodeLaws

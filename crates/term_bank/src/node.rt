@@ -1,14 +1,18 @@
 // What a bank stores of each tree: the node, whose arguments are ids, and in a list beside it the measures, found once from
 // those of the arguments. So a measure costs one look-up, however large the tree is.
+ghost use Rattle.std.specs.Prelude.{◌≡◌};
+ghost use Rattle.term_bank.specs.NodeHashes.{joined, node_fed};
+ghost use Rattle.term_bank.specs.NodeLaws.{node_alike};
 ghost use Rattle.term_bank.specs.Nodes.{AreParts};
 
 use crate::boxed_list::BoxedList;
 use crate::id::TermId;
+use std::hash::{Hash, Hasher};
 
 // A variable by its number, or the number of a symbol with the ids of its arguments. Up to two of them stand in the node
 // itself: most trees take no list, and are compared without one. Numbers have four bytes each, and a longer list stands
 // behind one pointer: so no node takes more than one of two arguments.
-#[derive(Debug, Drop, PartialEq, Eq, Hash)]
+#[derive(Debug, Drop, PartialEq, Eq)]
 pub enum Node {
     Var(u32),
     Constant(u32),
@@ -19,6 +23,36 @@ pub enum Node {
 }
 
 const _: () = prove!(size_of::<Node>() == 16);
+
+// A symbol's number and an argument as one number.
+fn joined(number: u32, arg: TermId) -> u64
+    ensures { result ≡ joined number arg }
+{
+    number as u64 + (arg.0 as u64) * 4294967296
+}
+
+// A symbol's number is hashed together with the first argument: each number by itself takes as long.
+impl Hash for Node {
+    ghost hash_input = { node_fed };
+
+    ghost respects_eq = { node_alike };
+
+    fn hash<H: Hasher>(&self, state: &mut H) {
+        match self {
+            Node::Var(v) => state.write_u64(*v as u64),
+            Node::Constant(number) => state.write_u32(*number),
+            Node::Unary(number, args) => state.write_u64(joined(*number, args[0])),
+            Node::Binary(number, args) => {
+                state.write_u64(joined(*number, args[0]));
+                args[1].hash(state);
+            }
+            Node::Many(number, args) => {
+                state.write_u32(*number);
+                args.hash(state);
+            }
+        }
+    }
+}
 
 // A node as a variable, or as a symbol's number with a list of arguments.
 #[derive(Clone, Copy)]
