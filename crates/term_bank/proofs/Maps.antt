@@ -1,11 +1,11 @@
 -- The entries of a map after an insertion, and the nodes of a set.
-use Rattle.std.proofs.Common.{◌≡◌, ℕ, zero, suc, ◌+◌, ◌<◌, List, [], ◌∷◌, length, Bool, true, false, ◌++◌, refl, ap, ap₂, sym, nat_eq, ◌||◌, ◌∙◌, arith, Result, Ok, Err, IfOk, inl, inr, get_or, Some, not, if◌then◌else◌}
+use Rattle.std.proofs.Common.{◌≡◌, ℕ, zero, suc, ◌+◌, ◌<◌, List, [], ◌∷◌, length, Bool, true, false, ◌++◌, refl, ap, sym, ◌||◌, ◌∙◌, arith, Result, Ok, Err, IfOk, inl, inr, get_or, Some, not, if◌then◌else◌}
 use Rattle.std.specs.Map.{keys_of}
 use Rattle.std.specs.List.{position_or_len, position, list_any}
 use Rattle.std.proofs.lemmas.List.Quantifiers.{position-Some}
 use Rattle.std.proofs.lemmas.Slice.Eq.{bytes_eq-Decides}
 use Rattle.std.proofs.lemmas.Bool.Decides.{Decides-eqb}
-use Rattle.inst_logic.proofs.SameLemmas.{and_left, and_right, and_both}
+use Rattle.inst_logic.proofs.SameLemmas.{and_both}
 use Rattle.std.proofs.lemmas.List.{length_push, get_or_push}
 use Rattle.indexmap.specs.IndexMap.{insert_entry}
 use Rattle.indexmap.specs.IndexSet.{insert_key}

@@ -1,6 +1,6 @@
 -- The derived test of equality of nodes decides equality, so equal nodes are hashed alike.
 use Rattle.std.specs.Prelude.{◌≡◌, Bool, true, nat_eq}
-use Rattle.std.proofs.Common.{refl, ap, ap₂}
+use Rattle.std.proofs.Common.{ap, ap₂}
 use Rattle.std.proofs.lemmas.Slice.Eq.{bytes_eq-Decides}
 use Rattle.std.proofs.lemmas.Bool.Decides.{Decides-eqb}
 use Rattle.inst_logic.specs.EqualLaws.{and_left, and_right}
