@@ -8,11 +8,12 @@ use Rattle.inst_logic.specs.Tree.{Tree}
 use Rattle.term_bank.specs.Forest.{Forest, tree_at, AreIds}
 use Rattle.cert_format.specs.Certificate.{by_tautology, by_variant, by_part, Side, left_side, right_side}
 use Rattle.cert_format.specs.LineMachine.{is_number}
-use Rattle.cert_format.specs.LineTexts.{by_text, by_is_printable, side_word}
+use Rattle.cert_format.specs.LineTexts.{by_text, by_is_printable}
+use Rattle.cert_format.specs.Lines.{side_word}
 use Rattle.cert_format.specs.LineTexts as texts
 use Rattle.cert_format.specs.Runs.{begins}
 use Rattle.cert_format.specs.Spelling.{is_printable}
-use Rattle.cert_format.proofs.LineNotes.{behind_front, below, terms_once}
+use Rattle.cert_format.proofs.LineNotes.{behind_front, below, terms_once, side_once}
 use Rattle.cert_format.proofs.Marked.{marked_once}
 use Rattle.cert_format.proofs.Spelling.{small_number}
 use Rattle.saturation_cert.specs.Wholes.{IsWholeTerm}
@@ -84,12 +85,6 @@ pub part_printable : (n : ℕ) (ts : List Tree) → n < 2 ^ 64 → ArePrintable 
 part_printable n ts h p = and_from (is_number n) (list_all is_printable ts) (small_number n h) p
 
 -- ---- sides
-
-side_once : (s r : Side) (x y : List ℕ) → side_word s ++ x ≡ side_word r ++ y → (s ≡ r) × (x ≡ y)
-side_once left_side left_side x y e = (refl, behind_front (codes "left") x y e)
-side_once right_side right_side x y e = (refl, behind_front (codes "right") x y e)
-side_once left_side right_side x y e = absurd (let q = ap (begins (λ (z : ℕ). nat_eq z 108)) e in cc)
-side_once right_side left_side x y e = absurd (let q = ap (begins (λ (z : ℕ). nat_eq z 108)) e in cc)
 
 pub no_side : (bytes : List ℕ) → ((x : List ℕ) → bytes ≢ codes "left" ++ x) → ((x : List ℕ) → bytes ≢ codes "right" ++ x) → (s : Side) (rest : List ℕ) → bytes ≢ side_word s ++ rest
 no_side bytes l r left_side rest e = l rest e

@@ -1,16 +1,15 @@
 -- Numbers are read one by one.
-use Rattle.std.proofs.Common.{◌≡◌, ◌≢◌, ℕ, ◌^◌, ◌<◌, Bool, true, false, length, List, [], ◌∷◌, ◌++◌, refl, sym, ap, ap₂, ◌∙◌, length-append, arith}
+use Rattle.std.proofs.Common.{◌≡◌, ◌≢◌, ℕ, ◌^◌, ◌<◌, Bool, true, false, length, List, [], ◌∷◌, ◌++◌, refl, sym, ap, ◌∙◌, length-append, arith}
 use Rattle.std.specs.Prelude.{nat_eq, decimal}
 use Rattle.std.specs.List.{list_all}
 use Rattle.std.specs.Char.{is_ascii_digit}
 use Rattle.std.proofs.lemmas.Bool.{and_parts, and_from}
-use Rattle.std.proofs.lemmas.Fmt.{decimal_nonempty}
 use Rattle.std.proofs.lemmas.List.Folds.{list_all-append}
 use Rattle.cert_format.specs.Runs.{begins, Ends}
 use Rattle.cert_format.specs.LineMachine.{is_number}
 use Rattle.cert_format.specs.LineTexts.{more_numbers, numbers}
-use Rattle.cert_format.proofs.Digits.{numbers_once, decimal_digits}
-use Rattle.cert_format.proofs.LineNotes.{behind_front, below}
+use Rattle.cert_format.proofs.Digits.{numbers_once}
+use Rattle.cert_format.proofs.LineNotes.{behind_front, below, more_numbers_end}
 use Rattle.cert_items.specs.NumberTexts.{number_end, before_numbers, read_numbers, HasNumbers, NoNumberHead, NoSomeNumbers, NoNumbers}
 
 -- ---- one number
@@ -19,19 +18,15 @@ more_ended : (mark ns rest : List ℕ) → (e : Bool) × (x : List ℕ) × (more
 more_ended mark [] rest = (true, rest, refl)
 more_ended mark (n ∷ ns) rest = (false, mark ++ (decimal n ++ more_numbers mark ns rest), refl)
 
-more_ends : (mark ns rest : List ℕ) → Ends is_ascii_digit (more_numbers mark ns rest)
-more_ends mark [] rest = refl
-more_ends mark (n ∷ ns) rest = refl
-
 pub no_mark : (mark bytes : List ℕ) → ((x : List ℕ) → bytes ≢ mark ++ x) → NoNumberHead mark bytes
 no_mark mark bytes bad n ns after h g e = bad (decimal n ++ more_numbers mark ns after) e
 
 pub no_number : (mark bytes after : List ℕ) → bytes ≡ mark ++ after → ((n : ℕ) (rest : List ℕ) → n < 2 ^ 64 → Ends is_ascii_digit rest → after ≢ decimal n ++ rest) → NoNumberHead mark bytes
-no_number mark bytes after is bad n ns x h g e = bad n (more_numbers mark ns x) (below n h) (more_ends mark ns x) (behind_front mark _ _ (sym is ∙ e))
+no_number mark bytes after is bad n ns x h g e = bad n (more_numbers mark ns x) (below n h) (more_numbers_end mark ns x) (behind_front mark _ _ (sym is ∙ e))
 
 pub no_end : (mark bytes digits after : List ℕ) (m : ℕ) → bytes ≡ mark ++ digits → digits ≡ decimal m ++ after → m < 2 ^ 64 → Ends is_ascii_digit after → ((e : Bool) (x : List ℕ) → after ≢ number_end e x) → NoNumberHead mark bytes
 no_end mark bytes digits after m is at fits ends bad n ns y h g e =
-    let k = numbers_once m n after (more_numbers mark ns y) fits (below n h) ends (more_ends mark ns y) (sym at ∙ behind_front mark _ _ (sym is ∙ e)) in
+    let k = numbers_once m n after (more_numbers mark ns y) fits (below n h) ends (more_numbers_end mark ns y) (sym at ∙ behind_front mark _ _ (sym is ∙ e)) in
     let z = more_ended mark ns y in
     bad z.0 z.1 (k.1 ∙ z.2)
 
@@ -64,7 +59,7 @@ head_by : (mark done rest : List ℕ) → list_all is_number done ≡ true → N
 head_by mark [] rest g bad n ns after p q e = bad n ns after p q e
 head_by mark (d ∷ done) rest g bad n ns after p q e =
     let a = and_parts (is_number d) (list_all is_number done) g in
-    let k = numbers_once d n (44 ∷ before_numbers mark done rest) (more_numbers mark ns after) (below d a.0) (below n p) refl (more_ends mark ns after) (behind_front mark _ _ e) in
+    let k = numbers_once d n (44 ∷ before_numbers mark done rest) (more_numbers mark ns after) (below d a.0) (below n p) refl (more_numbers_end mark ns after) (behind_front mark _ _ e) in
     by ns q k.1 (head_by mark done rest a.1 bad)
   where
     by : (ks : List ℕ) → list_all is_number ks ≡ true → 44 ∷ before_numbers mark done rest ≡ more_numbers mark ks after → ((i : ℕ) (is x : List ℕ) → is_number i ≡ true → list_all is_number is ≡ true → before_numbers mark done rest ≢ mark ++ (decimal i ++ more_numbers mark is x)) → ⊥
@@ -77,46 +72,6 @@ no_numbers mark list bytes rest r bad n ns after p e = let a = and_parts (is_num
 pub not_closed : (mark bytes : List ℕ) → ((x : List ℕ) → bytes ≢ 93 ∷ x) → NoSomeNumbers mark bytes → NoNumbers mark bytes
 not_closed mark bytes bad none [] rest h e = bad rest e
 not_closed mark bytes bad none (n ∷ ns) rest h e = none n ns rest h e
-
--- ---- one text, one list of numbers
-
-more_once : (mark ns ms x y : List ℕ) → list_all is_number ns ≡ true → list_all is_number ms ≡ true → more_numbers mark ns x ≡ more_numbers mark ms y → (ns ≡ ms) × (x ≡ y)
-more_once mark [] [] x y h g e = (refl, behind_front (93 ∷ []) x y e)
-more_once mark [] (m ∷ ms) x y h g e = absurd (let q = ap (begins (λ (z : ℕ). nat_eq z 93)) e in cc)
-more_once mark (n ∷ ns) [] x y h g e = absurd (let q = ap (begins (λ (z : ℕ). nat_eq z 93)) e in cc)
-more_once mark (n ∷ ns) (m ∷ ms) x y h g e =
-    let a = and_parts (is_number n) (list_all is_number ns) h in
-    let b = and_parts (is_number m) (list_all is_number ms) g in
-    let c = numbers_once n m (more_numbers mark ns x) (more_numbers mark ms y) (below n a.0) (below m b.0) (more_ends mark ns x) (more_ends mark ms y) (behind_front mark _ _ (behind_front (44 ∷ []) _ _ e)) in
-    let d = more_once mark ns ms x y a.1 b.1 c.1 in
-    (ap₂ (λ (u : ℕ) (us : List ℕ). u ∷ us) c.0 d.0, d.1)
-
--- what no mark and no digit begins
-digit_first : (n : ℕ) (x y : List ℕ) → n < 2 ^ 64 → decimal n ++ x ≢ 93 ∷ y
-digit_first n x y h e = go (decimal n) (decimal_nonempty n h) (decimal_digits n h) e
-  where
-    go : (ds : List ℕ) → 0 < length ds → list_all is_ascii_digit ds ≡ true → ds ++ x ≡ 93 ∷ y → ⊥
-    go [] some d f = absurd (omega arith)
-    go (b ∷ ds) some d f =
-        let a = and_parts (is_ascii_digit b) (list_all is_ascii_digit ds) d in
-        let same : b ≡ 93 = cc in
-        let q : is_ascii_digit 93 ≡ true = ap is_ascii_digit (sym same) ∙ a.0 in
-        cc
-
-mark_first : (mark : List ℕ) → begins (λ (z : ℕ). nat_eq z 93) mark ≡ false → (n : ℕ) (x y : List ℕ) → is_number n ≡ true → mark ++ (decimal n ++ x) ≢ 93 ∷ y
-mark_first [] o n x y h e = digit_first n x y (below n h) e
-mark_first (m ∷ mark) o n x y h e = let q = ap (begins (λ (z : ℕ). nat_eq z 93)) e in cc
-
-pub lists_once : (mark : List ℕ) → begins (λ (z : ℕ). nat_eq z 93) mark ≡ false → (ns ms x y : List ℕ) → list_all is_number ns ≡ true → list_all is_number ms ≡ true → numbers mark ns x ≡ numbers mark ms y → (ns ≡ ms) × (x ≡ y)
-lists_once mark o [] [] x y h g e = (refl, behind_front (93 ∷ []) x y e)
-lists_once mark o [] (m ∷ ms) x y h g e = absurd (mark_first mark o m (more_numbers mark ms y) x (and_parts (is_number m) (list_all is_number ms) g).0 (sym e))
-lists_once mark o (n ∷ ns) [] x y h g e = absurd (mark_first mark o n (more_numbers mark ns x) y (and_parts (is_number n) (list_all is_number ns) h).0 e)
-lists_once mark o (n ∷ ns) (m ∷ ms) x y h g e =
-    let a = and_parts (is_number n) (list_all is_number ns) h in
-    let b = and_parts (is_number m) (list_all is_number ms) g in
-    let c = numbers_once n m (more_numbers mark ns x) (more_numbers mark ms y) (below n a.0) (below m b.0) (more_ends mark ns x) (more_ends mark ms y) (behind_front mark _ _ e) in
-    let d = more_once mark ns ms x y a.1 b.1 c.1 in
-    (ap₂ (λ (u : ℕ) (us : List ℕ). u ∷ us) c.0 d.0, d.1)
 
 -- a number is longer than what follows it
 pub number_longer : (mark digits after x bytes : List ℕ) (e : Bool) → bytes ≡ mark ++ digits → length after < length digits → after ≡ number_end e x → length x < length bytes

@@ -7,13 +7,12 @@ use Rattle.std.proofs.lemmas.Bool.{and_parts, and_from}
 use Rattle.inst_calculus.specs.Entries.{input, inst, lemma}
 use Rattle.cert_format.specs.LineMachine.{is_number, fits_origin}
 use Rattle.cert_format.specs.LineTexts.{numbers, origin_is_printable}
-use Rattle.cert_format.proofs.LineNotes.{behind_front, below, at_two}
+use Rattle.cert_format.proofs.LineNotes.{behind_front, below, at_two, number_lists_once}
 use Rattle.cert_format.proofs.Spelling.{small_number}
 use Rattle.cert_items.specs.declared.origin.Instance.{Instance}
 use Rattle.cert_items.specs.Notes.{NoOrigin, instance_text, InstanceFits, lists_text, ListsFit}
 use Rattle.cert_items.specs.NumberTexts.{HasNumbers, NoNumbers}
 use Rattle.cert_items.proofs.Marked.{pair_once}
-use Rattle.cert_items.proofs.NumberLists.{lists_once}
 
 -- ---- the numbers of an instance
 
@@ -42,7 +41,7 @@ no_keep bytes first is bad keep premises rest g e = bad keep _ g.keep (behind_fr
 
 keep_once : (bytes first ks between : List ℕ) → bytes ≡ 91 ∷ first → HasNumbers [] ks true first between → (keep premises rest : List ℕ) → ListsFit keep premises → bytes ≡ lists_text keep premises rest
     → between ≡ 44 ∷ 91 ∷ numbers (109 ∷ []) premises (41 ∷ rest)
-keep_once bytes first ks between is h keep premises rest g e = (lists_once [] refl ks keep between _ h.fit g.keep (sym h.is ∙ behind_front (91 ∷ []) _ _ (sym is ∙ e))).1
+keep_once bytes first ks between is h keep premises rest g e = (number_lists_once [] refl ks keep between _ h.fit g.keep (sym h.is ∙ behind_front (91 ∷ []) _ _ (sym is ∙ e))).1
 
 pub no_between : (bytes first ks between : List ℕ) → bytes ≡ 91 ∷ first → HasNumbers [] ks true first between → ((x : List ℕ) → between ≢ 44 ∷ 91 ∷ x) → (keep premises rest : List ℕ) → ListsFit keep premises → bytes ≢ lists_text keep premises rest
 no_between bytes first ks between is h bad keep premises rest g e = bad _ (keep_once bytes first ks between is h keep premises rest g e)
@@ -54,7 +53,7 @@ no_premises bytes first ks between second is h at bad keep premises rest g e = b
 pub no_close : (bytes first ks between second ps behind : List ℕ) → bytes ≡ 91 ∷ first → HasNumbers [] ks true first between → between ≡ 44 ∷ 91 ∷ second → HasNumbers (109 ∷ []) ps true second behind → ((x : List ℕ) → behind ≢ 41 ∷ x)
     → (keep premises rest : List ℕ) → ListsFit keep premises → bytes ≢ lists_text keep premises rest
 no_close bytes first ks between second ps behind is h at k bad keep premises rest g e =
-    bad rest (lists_once (109 ∷ []) refl ps premises behind (41 ∷ rest) k.fit g.premises (sym k.is ∙ behind_front (44 ∷ 91 ∷ []) _ _ (sym at ∙ keep_once bytes first ks between is h keep premises rest g e))).1
+    bad rest (number_lists_once (109 ∷ []) refl ps premises behind (41 ∷ rest) k.fit g.premises (sym k.is ∙ behind_front (44 ∷ 91 ∷ []) _ _ (sym at ∙ keep_once bytes first ks between is h keep premises rest g e))).1
 
 pub lists_are : (bytes first ks between second ps behind rest : List ℕ) → bytes ≡ 91 ∷ first → HasNumbers [] ks true first between → between ≡ 44 ∷ 91 ∷ second → HasNumbers (109 ∷ []) ps true second behind → behind ≡ 41 ∷ rest → bytes ≡ lists_text ks ps rest
 lists_are bytes first ks between second ps behind rest is h at k end =

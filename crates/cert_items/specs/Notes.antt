@@ -4,7 +4,8 @@ use Rattle.std.specs.List.{list_all}
 use Rattle.inst_calculus.specs.Entries.{Origin}
 use Rattle.cert_format.specs.Certificate.{By, Side}
 use Rattle.cert_format.specs.LineMachine.{is_number, fits_origin}
-use Rattle.cert_format.specs.LineTexts.{numbers, origin_text, origin_is_printable, by_text, by_is_printable, side_word}
+use Rattle.cert_format.specs.LineTexts.{numbers, origin_text, origin_is_printable, by_text, by_is_printable}
+use Rattle.cert_format.specs.Lines.{side_word}
 use Rattle.cert_items.specs.declared.origin.Instance.{Instance}
 use Rattle.inst_logic.specs.Codes as byte
 

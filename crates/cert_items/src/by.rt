@@ -1,6 +1,6 @@
 // What covers a clause.
 ghost use Rattle.std.specs.Prelude.{◌≡◌, ◌≢◌, ◌++◌, ℕ, List, IfOk, IfSome, IfNone, IsTrue, codes};
-ghost use Rattle.term_bank.specs.Forest.{Forest, AreFormed, Extends};
+ghost use Rattle.term_bank.specs.Forest.{Forest, Grows};
 ghost use Rattle.cert_format.specs.LineTexts.{by_text, by_is_printable};
 ghost use Rattle.saturation_cert.specs.Values.{by_of};
 ghost use Rattle.saturation_cert.specs.Wholes.{IsWholeBy};
@@ -39,8 +39,7 @@ fn part<'a>(
     ensures printable { IfOk result (λ r. IfSome r (λ p. IsTrue (by_is_printable (by_of bank.new p.0)))) }
     ensures whole { IfOk result (λ r. IfSome r (λ p. IsWholeBy bank.new p.0)) }
     ensures none { IfOk result (λ r. IfNone r (NoBy (codes "part(m" ++ bytes.now))) }
-    ensures extends { Extends bank.old bank.new }
-    ensures formed { AreFormed bank.old → AreFormed bank.new }
+    ensures grows { Grows bank.old bank.new }
 {
     match number_and_terms(alloc, bank, ids, bytes) {
         Err(e) => Err(e),
@@ -60,8 +59,7 @@ pub fn read_by<'a>(
     ensures printable { IfOk result (λ r. IfSome r (λ p. IsTrue (by_is_printable (by_of bank.new p.0)))) }
     ensures whole { IfOk result (λ r. IfSome r (λ p. IsWholeBy bank.new p.0)) }
     ensures none { IfOk result (λ r. IfNone r (NoBy bytes.now)) }
-    ensures extends { Extends bank.old bank.new }
-    ensures formed { AreFormed bank.old → AreFormed bank.new }
+    ensures grows { Grows bank.old bank.new }
 {
     match word(bytes, b"tautology") {
         Some(rest) => Ok(Some((By::Tautology, rest))),

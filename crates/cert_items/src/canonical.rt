@@ -4,7 +4,7 @@ ghost use Rattle.std.specs.Prelude.{◌≡◌, ◌↔◌, true, IsTrue, IfOk};
 ghost use Rattle.inst_logic.specs.Clauses.{IsCanonical};
 ghost use Rattle.inst_logic.specs.Lists.{distinct};
 ghost use Rattle.inst_logic.specs.Substitution.{clause_vars};
-ghost use Rattle.term_bank.specs.Forest.{AreFormed, IsClauseOf, clause_at, Extends};
+ghost use Rattle.term_bank.specs.Forest.{IsClauseOf, clause_at, Grows};
 ghost use Rattle.clause_form.specs.Literals.{id_eq};
 ghost use Rattle.cert_items.specs.Orders.{in_order};
 
@@ -55,8 +55,7 @@ fn is_seen(alloc: Global, bank: &Bank, c: &IdClause) -> Result<bool, Memory>
 // Whether the clause is the canonical form that is built of it.
 fn is_built(alloc: Global, bank: &mut Bank, c: &IdClause) -> Result<bool, Memory>
     requires { IsClauseOf bank.old c.now }
-    ensures extends { Extends bank.old bank.new }
-    ensures formed { AreFormed bank.old → AreFormed bank.new }
+    ensures grows { Grows bank.old bank.new }
     ensures is { IfOk result (λ r. IsTrue r ↔ IsCanonical (clause_at bank.old c.now)) }
 {
     let d = canonical(alloc, bank, c)?;
@@ -68,8 +67,7 @@ fn is_built(alloc: Global, bank: &mut Bank, c: &IdClause) -> Result<bool, Memory
 /// Whether the clause has its variables 0, 1, 2 by first occurrence, and no repeats. The bank may grow where it has not.
 pub fn is_canonical(alloc: Global, bank: &mut Bank, c: &IdClause) -> Result<bool, Memory>
     requires { IsClauseOf bank.old c.now }
-    ensures extends { Extends bank.old bank.new }
-    ensures formed { AreFormed bank.old → AreFormed bank.new }
+    ensures grows { Grows bank.old bank.new }
     ensures is { IfOk result (λ r. IsTrue r ↔ IsCanonical (clause_at bank.old c.now)) }
 {
     if is_seen(alloc, bank, c)? {

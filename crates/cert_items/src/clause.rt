@@ -1,7 +1,7 @@
 // Clauses of a text, read into a bank.
 ghost use Rattle.std.specs.Prelude.{◌≡◌, ◌≢◌, ◌++◌, ◌<◌, ◌∷◌, ℕ, List, [], length, false, true, IfOk, IfSome, IfNone, None, Bool};
 ghost use Rattle.inst_logic.specs.declared.signed.Signed.{Signed};
-ghost use Rattle.term_bank.specs.Forest.{AreFormed, Extends};
+ghost use Rattle.term_bank.specs.Forest.{Grows};
 ghost use Rattle.cert_items.specs.Roots.{IsLiteralAt, NoFormHead};
 ghost use Rattle.cert_items.specs.ClauseTexts.{ended_by, IsClauseText, NoClause};
 
@@ -47,8 +47,7 @@ fn item<'a>(
     literals: &mut IdClause,
     rest: &'a [u8],
 ) -> Result<Option<Rest<'a>>, Memory>
-    ensures extends { Extends bank.old bank.new }
-    ensures formed { AreFormed bank.old → AreFormed bank.new }
+    ensures grows { Grows bank.old bank.new }
     ensures some { IfOk result (λ r. IfSome r (λ next. (l : Signed ℕ) × (literals.new ≡ literals.old ++ l ∷ []) × IsLiteralAt bank.new l rest.now (ended_by next.ended next.rest.now))) }
     ensures shorter { IfOk result (λ r. IfSome r (λ next. length next.rest.now < length rest.now)) }
     ensures none { IfOk result (λ r. IfNone r (NoFormHead rest.now)) }
@@ -75,8 +74,7 @@ pub fn clause<'a>(
     bytes: &'a [u8],
 ) -> Result<Option<&'a [u8]>, Memory>
     requires empty { literals.old ≡ [] }
-    ensures extends { Extends bank.old bank.new }
-    ensures formed { AreFormed bank.old → AreFormed bank.new }
+    ensures grows { Grows bank.old bank.new }
     ensures some { IfOk result (λ r. IfSome r (λ rest. IsClauseText bank.new literals.new bytes.now rest.now)) }
     ensures none { IfOk result (λ r. IfNone r (NoClause bytes.now)) }
 {

@@ -1,6 +1,6 @@
 // A whole line of an item.
 ghost use Rattle.std.specs.Prelude.{◌≡◌, ◌<◌, [], IfOk, IfSome, IfNone};
-ghost use Rattle.term_bank.specs.Forest.{AreFormed, clause_at, Extends};
+ghost use Rattle.term_bank.specs.Forest.{clause_at, Grows};
 ghost use Rattle.cert_format.specs.LineMachine.{item};
 ghost use Rattle.cert_format.specs.LineTexts.{line};
 ghost use Rattle.saturation_cert.specs.Wholes.{IsWholeClause};
@@ -44,8 +44,7 @@ pub fn read_item<'a>(
     ensures whole { IfOk result (λ r. IfSome r (λ _. IsWholeClause bank.new literals.new)) }
     ensures terms { IfOk result (λ r. IfSome r (λ i. IsWholeNote bank.new i.note)) }
     ensures none { IfOk result (λ r. IfNone r (NoItem shape bytes.now)) }
-    ensures extends { Extends bank.old bank.new }
-    ensures formed { AreFormed bank.old → AreFormed bank.new }
+    ensures grows { Grows bank.old bank.new }
 {
     match head(bytes) {
         None => Ok(None),

@@ -2,7 +2,7 @@
 ghost use Rattle.std.specs.Prelude.{◌≡◌, ◌≢◌, ◌++◌, ◌<◌, ◌∷◌, ℕ, List, length, false, true, map, IsTrue, IfOk, IfSome, IfNone, None};
 ghost use Rattle.inst_logic.specs.declared.symbol.Kind.{Kind};
 ghost use Rattle.inst_logic.specs.declared.symbol.Kind.TheVariants.{Predicate, Equality, Function};
-ghost use Rattle.term_bank.specs.Forest.{tree_at, AreFormed, AreIds, IsAt, Extends};
+ghost use Rattle.term_bank.specs.Forest.{tree_at, AreIds, IsAt, Grows};
 ghost use Rattle.inst_logic.specs.Printing.{equality_sign, sign_text};
 ghost use Rattle.cert_format.specs.Names.{IsNameText};
 ghost use Rattle.cert_format.specs.Spelling.{is_printable, goes_on, IsEqualitySign};
@@ -33,8 +33,7 @@ fn head<'a>(
     ids: &mut Vec<TermId>,
     bytes: &'a [u8],
 ) -> Result<Option<(Root<'a>, &'a [u8])>, Memory>
-    ensures extends { Extends bank.old bank.new }
-    ensures formed { AreFormed bank.old → AreFormed bank.new }
+    ensures grows { Grows bank.old bank.new }
     ensures some { IfOk result (λ r. IfSome r (λ p. IsRootAt bank.new p.0 ids.new.items bytes.now p.1.now)) }
     ensures none { IfOk result (λ r. IfNone r (NoTerm bytes.now)) }
 {
@@ -70,8 +69,7 @@ fn whole(
     ids: &[TermId],
 ) -> Result<TermId, Memory>
     requires { IsRoot bank.old root.now ids.now }
-    ensures extends { Extends bank.old bank.new }
-    ensures formed { AreFormed bank.old → AreFormed bank.new }
+    ensures grows { Grows bank.old bank.new }
     ensures at { (bytes rest : List ℕ) → IsRootAt bank.old root.now ids.now bytes rest → IfOk result (λ id. IsTermAt bank.new id bytes rest) }
 {
     match root {
@@ -87,8 +85,7 @@ fn term<'a>(
     ids: &mut Vec<TermId>,
     bytes: &'a [u8],
 ) -> Result<Option<(TermId, &'a [u8])>, Memory>
-    ensures extends { Extends bank.old bank.new }
-    ensures formed { AreFormed bank.old → AreFormed bank.new }
+    ensures grows { Grows bank.old bank.new }
     ensures some { IfOk result (λ r. IfSome r (λ p. IsTermAt bank.new p.0 bytes.now p.1.now)) }
     ensures none { IfOk result (λ r. IfNone r (NoTerm bytes.now)) }
 {
@@ -126,8 +123,7 @@ fn predicate(
     requires name { IsNameText name.now }
     requires within { AreIds bank.old ids.now }
     requires printable { ArePrintable (map (tree_at bank.old) ids.now) }
-    ensures extends { Extends bank.old bank.new }
-    ensures formed { AreFormed bank.old → AreFormed bank.new }
+    ensures grows { Grows bank.old bank.new }
     ensures at { (bytes rest : List ℕ) → IsApplicationAt bank.old name.now ids.now bytes rest → ¬ IsEqualitySign rest → IfOk result (λ l. IsLiteralAt bank.new l (sign_text positive ++ bytes) rest) }
 {
     let atom = apply(alloc, bank, Kind::Predicate, name, ids)?;
@@ -145,8 +141,7 @@ fn equation(
     requires left { left < length bank.old.trees }
     requires right { right < length bank.old.trees }
     requires terms { IsTrue (is_printable (tree_at bank.old left)) × IsTrue (is_printable (tree_at bank.old right)) }
-    ensures extends { Extends bank.old bank.new }
-    ensures formed { AreFormed bank.old → AreFormed bank.new }
+    ensures grows { Grows bank.old bank.new }
     ensures at { IfOk result (λ l. (l.positive ≡ positive) × IsAt bank.new l.atom (equality_atom (tree_at bank.old left) (tree_at bank.old right))) }
 {
     let name = Name::of(alloc, b"=")?;
@@ -170,8 +165,7 @@ fn equal<'a>(
     after: &'a [u8],
 ) -> Result<Option<(IdLiteral, &'a [u8])>, Memory>
     requires { IsTermAt bank.old left bytes.now (equality_sign positive ++ after.now) }
-    ensures extends { Extends bank.old bank.new }
-    ensures formed { AreFormed bank.old → AreFormed bank.new }
+    ensures grows { Grows bank.old bank.new }
     ensures some { IfOk result (λ r. IfSome r (λ p. IsLiteralAt bank.new p.0 bytes.now p.1.now)) }
     ensures none { ((rest : List ℕ) → bytes.now ≢ byte.tilde ∷ rest) → IfOk result (λ r. IfNone r (NoForm bytes.now)) }
 {
@@ -192,8 +186,7 @@ fn unsigned<'a>(
     ids: &mut Vec<TermId>,
     bytes: &'a [u8],
 ) -> Result<Option<(IdLiteral, &'a [u8])>, Memory>
-    ensures extends { Extends bank.old bank.new }
-    ensures formed { AreFormed bank.old → AreFormed bank.new }
+    ensures grows { Grows bank.old bank.new }
     ensures some { IfOk result (λ r. IfSome r (λ p. IsLiteralAt bank.new p.0 bytes.now p.1.now)) }
     ensures none { ((rest : List ℕ) → bytes.now ≢ byte.tilde ∷ rest) → IfOk result (λ r. IfNone r (NoForm bytes.now)) }
 {
@@ -222,8 +215,7 @@ fn negated<'a>(
     ids: &mut Vec<TermId>,
     bytes: &'a [u8],
 ) -> Result<Option<(IdLiteral, &'a [u8])>, Memory>
-    ensures extends { Extends bank.old bank.new }
-    ensures formed { AreFormed bank.old → AreFormed bank.new }
+    ensures grows { Grows bank.old bank.new }
     ensures some { IfOk result (λ r. IfSome r (λ p. IsLiteralAt bank.new p.0 (byte.tilde ∷ bytes.now) p.1.now)) }
     ensures none { IfOk result (λ r. IfNone r (NoForm (byte.tilde ∷ bytes.now))) }
 {
@@ -249,8 +241,7 @@ pub fn literal<'a>(
     ids: &mut Vec<TermId>,
     bytes: &'a [u8],
 ) -> Result<Option<(IdLiteral, &'a [u8])>, Memory>
-    ensures extends { Extends bank.old bank.new }
-    ensures formed { AreFormed bank.old → AreFormed bank.new }
+    ensures grows { Grows bank.old bank.new }
     ensures some { IfOk result (λ r. IfSome r (λ p. IsLiteralAt bank.new p.0 bytes.now p.1.now)) }
     ensures none { IfOk result (λ r. IfNone r (NoForm bytes.now)) }
 {

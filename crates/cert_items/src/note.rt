@@ -1,6 +1,6 @@
 // What stands behind the clause of an item's line.
 ghost use Rattle.std.specs.Prelude.{◌≡◌, ◌≢◌, ◌∷◌, ℕ, List, [], IfOk, IfSome, IfNone, IsTrue};
-ghost use Rattle.term_bank.specs.Forest.{Forest, AreFormed, Extends};
+ghost use Rattle.term_bank.specs.Forest.{Forest, Grows};
 ghost use Rattle.saturation_cert.specs.declared.certificate.GroundHint.{GroundHint};
 ghost use Rattle.cert_items.specs.declared.group.Group.TheVariants.{Input as InInputs, Axiom as InAxioms, Member as InMembers, Ground as InGrounds, Step as InSteps, Shown as InShown, Cover as InCovers};
 ghost use Rattle.cert_items.specs.Items.{IsNoteAt, IsWholeNote, NoNote, NoLastNote, note_of};
@@ -121,8 +121,7 @@ fn ground_by<'a>(
     ensures some { (n : ℕ) (hints : List GroundHint) → IfOk result (λ r. IfSome r (λ p. IsNoteAt shape InGrounds n (note_of bank.new p.0 hints) bytes.now p.1.now)) }
     ensures whole { IfOk result (λ r. IfSome r (λ p. IsWholeNote bank.new p.0)) }
     ensures none { (n : ℕ) → IfOk result (λ r. IfNone r (NoNote shape InGrounds n bytes.now)) }
-    ensures extends { Extends bank.old bank.new }
-    ensures formed { AreFormed bank.old → AreFormed bank.new }
+    ensures grows { Grows bank.old bank.new }
 {
     match word(bytes, b"ground(") {
         None => Ok(None),
@@ -145,8 +144,7 @@ fn ground_note<'a>(
     ensures some { (hints : List GroundHint) → IfOk result (λ r. IfSome r (λ p. IsNoteAt shape InGrounds n (note_of bank.new p.0 hints) bytes.now p.1.now)) }
     ensures whole { IfOk result (λ r. IfSome r (λ p. IsWholeNote bank.new p.0)) }
     ensures none { IfOk result (λ r. IfNone r (NoNote shape InGrounds n bytes.now)) }
-    ensures extends { Extends bank.old bank.new }
-    ensures formed { AreFormed bank.old → AreFormed bank.new }
+    ensures grows { Grows bank.old bank.new }
 {
     if !shape.refutation {
         return Ok(None);
@@ -190,8 +188,7 @@ fn shown_note<'a>(
     ensures some { (n : ℕ) (hints : List GroundHint) → IfOk result (λ r. IfSome r (λ p. IsNoteAt shape InShown n (note_of bank.new p.0 hints) bytes.now p.1.now)) }
     ensures whole { IfOk result (λ r. IfSome r (λ p. IsWholeNote bank.new p.0)) }
     ensures none { (n : ℕ) → IfOk result (λ r. IfNone r (NoNote shape InShown n bytes.now)) }
-    ensures extends { Extends bank.old bank.new }
-    ensures formed { AreFormed bank.old → AreFormed bank.new }
+    ensures grows { Grows bank.old bank.new }
 {
     if !shape.names_covers() {
         return Ok(None);
@@ -213,8 +210,7 @@ fn cover_note<'a>(
     ensures some { (n : ℕ) (hints : List GroundHint) → IfOk result (λ r. IfSome r (λ p. IsNoteAt shape InCovers n (note_of bank.new p.0 hints) bytes.now p.1.now)) }
     ensures whole { IfOk result (λ r. IfSome r (λ p. IsWholeNote bank.new p.0)) }
     ensures none { (n : ℕ) → IfOk result (λ r. IfNone r (NoNote shape InCovers n bytes.now)) }
-    ensures extends { Extends bank.old bank.new }
-    ensures formed { AreFormed bank.old → AreFormed bank.new }
+    ensures grows { Grows bank.old bank.new }
 {
     if !shape.names_covers() {
         return Ok(None);
@@ -255,8 +251,7 @@ fn read_note<'a>(
     ensures some { IfOk result (λ r. IfSome r (λ p. IsNoteAt shape group n (note_of bank.new p.0 hints.new) bytes.now p.1.now)) }
     ensures whole { IfOk result (λ r. IfSome r (λ p. IsWholeNote bank.new p.0)) }
     ensures none { IfOk result (λ r. IfNone r (NoNote shape group n bytes.now)) }
-    ensures extends { Extends bank.old bank.new }
-    ensures formed { AreFormed bank.old → AreFormed bank.new }
+    ensures grows { Grows bank.old bank.new }
 {
     match group {
         Group::Input => input_note(alloc, bytes),
@@ -284,8 +279,7 @@ pub fn last_note<'a>(
     ensures some { IfOk result (λ r. IfSome r (λ p. IsNoteAt shape group n (note_of bank.new p.0 hints.new) bytes.now (byte.closing_parenthesis ∷ byte.full_stop ∷ byte.line_feed ∷ p.1.now))) }
     ensures whole { IfOk result (λ r. IfSome r (λ p. IsWholeNote bank.new p.0)) }
     ensures none { IfOk result (λ r. IfNone r (NoLastNote shape group n bytes.now)) }
-    ensures extends { Extends bank.old bank.new }
-    ensures formed { AreFormed bank.old → AreFormed bank.new }
+    ensures grows { Grows bank.old bank.new }
 {
     match read_note(alloc, bank, ids, hints, shape, group, n, bytes) {
         Err(e) => Err(e),

@@ -2,7 +2,7 @@
 ghost use Rattle.std.specs.Prelude.{◌≡◌, ◌≢◌, ◌++◌, ◌∷◌, ℕ, List, [], IfOk, IfSome, IfNone, IsTrue};
 ghost use Rattle.inst_logic.specs.Clauses.{TreeClause};
 ghost use Rattle.inst_logic.specs.Printing.{clause_text};
-ghost use Rattle.term_bank.specs.Forest.{AreFormed, clause_at, Extends};
+ghost use Rattle.term_bank.specs.Forest.{clause_at, Grows};
 ghost use Rattle.cert_format.specs.Formats.{clause_is_printable};
 ghost use Rattle.saturation_cert.specs.Wholes.{IsWholeClause};
 ghost use Rattle.inst_logic.specs.Codes as byte;
@@ -27,8 +27,7 @@ pub fn printable_clause<'a>(
     ensures printable { IfOk result (λ r. IfSome r (λ _. IsTrue (clause_is_printable (clause_at bank.new literals.new)))) }
     ensures whole { IfOk result (λ r. IfSome r (λ _. IsWholeClause bank.new literals.new)) }
     ensures none { IfOk result (λ r. IfNone r ((c : TreeClause) (rest : List ℕ) → IsTrue (clause_is_printable c) → bytes.now ≢ clause_text c ++ byte.comma ∷ rest)) }
-    ensures extends { Extends bank.old bank.new }
-    ensures formed { AreFormed bank.old → AreFormed bank.new }
+    ensures grows { Grows bank.old bank.new }
 {
     match clause(alloc, bank, ids, literals, bytes)? {
         None => Ok(None),

@@ -1,7 +1,7 @@
 // Terms in brackets.
 ghost use Rattle.std.specs.Prelude.{◌≡◌, ◌≢◌, ◌++◌, ◌∷◌, ◌<◌, ◌^◌, ℕ, List, [], map, All, IfOk, IfSome, IfNone, decimal};
 ghost use Rattle.inst_logic.specs.Tree.{Tree};
-ghost use Rattle.term_bank.specs.Forest.{tree_at, AreFormed, AreIds, Extends};
+ghost use Rattle.term_bank.specs.Forest.{tree_at, AreIds, Grows};
 ghost use Rattle.cert_format.specs.LineTexts as texts;
 ghost use Rattle.saturation_cert.specs.Wholes.{IsWholeTerm};
 ghost use Rattle.cert_items.specs.Reading.{ArePrintable, NoTerms};
@@ -34,8 +34,7 @@ pub fn term_list<'a>(
     ensures printable { IfOk result (λ r. IfSome r (λ p. ArePrintable (map (tree_at bank.new) p.0))) }
     ensures whole { IfOk result (λ r. IfSome r (λ p. All (IsWholeTerm bank.new) p.0)) }
     ensures none { IfOk result (λ r. IfNone r ((ts : List Tree) (rest : List ℕ) → ArePrintable ts → bytes.now ≢ texts.terms ts rest)) }
-    ensures extends { Extends bank.old bank.new }
-    ensures formed { AreFormed bank.old → AreFormed bank.new }
+    ensures grows { Grows bank.old bank.new }
 {
     ids.clear();
     match mark(bytes, b']') {
@@ -63,8 +62,7 @@ pub fn number_and_terms<'a>(
     ensures printable { IfOk result (λ r. IfSome r (λ p. ArePrintable (map (tree_at bank.new) p.1))) }
     ensures whole { IfOk result (λ r. IfSome r (λ p. All (IsWholeTerm bank.new) p.1)) }
     ensures none { IfOk result (λ r. IfNone r ((n : ℕ) (ts : List Tree) (rest : List ℕ) → n < 2 ^ 64 → ArePrintable ts → bytes.now ≢ decimal n ++ byte.comma ∷ byte.opening_bracket ∷ texts.terms ts (byte.closing_parenthesis ∷ rest))) }
-    ensures extends { Extends bank.old bank.new }
-    ensures formed { AreFormed bank.old → AreFormed bank.new }
+    ensures grows { Grows bank.old bank.new }
 {
     match marked(bytes, b',') {
         None => Ok(None),

@@ -2,7 +2,7 @@
 // exhausts a stack.
 ghost use Rattle.std.specs.Prelude.{◌≡◌, ◌≢◌, ◌++◌, ◌<◌, ◌≤◌, ◌∷◌, ℕ, List, [], length, false, true, IfOk, IfSome, IfNone, None, nat_eq};
 ghost use Rattle.inst_logic.specs.Printing.{is_word_byte};
-ghost use Rattle.term_bank.specs.Forest.{AreFormed, Extends};
+ghost use Rattle.term_bank.specs.Forest.{Grows};
 ghost use Rattle.cert_format.specs.Names.{IsNameText};
 ghost use Rattle.cert_format.specs.Runs.{begins, Ends};
 ghost use Rattle.cert_format.specs.Spelling.{goes_on, IsClose};
@@ -47,8 +47,7 @@ fn begin_variable<'a>(
     ids: &mut Vec<TermId>,
     digits: &'a [u8],
 ) -> Result<Option<Left<'a>>, Memory>
-    ensures extends { Extends bank.old bank.new }
-    ensures formed { AreFormed bank.old → AreFormed bank.new }
+    ensures grows { Grows bank.old bank.new }
     ensures some { (bytes : List ℕ) → IsDue bank.old bytes opens.now ids.old.items (88 ∷ digits.now) → IfOk result (λ r. IfSome r (λ left. IsState bank.new bytes opens.now ids.new.items left)) }
     ensures shorter { IfOk result (λ r. IfSome r (λ left. length left.rest.now ≤ length digits.now)) }
     ensures none { IfOk result (λ r. IfNone r (NoTerm (88 ∷ digits.now))) }
@@ -77,8 +76,7 @@ fn begin_application<'a>(
 ) -> Result<Option<Left<'a>>, Memory>
     requires name { IsNameText name.now }
     requires ends { Ends is_word_byte after.now }
-    ensures extends { Extends bank.old bank.new }
-    ensures formed { AreFormed bank.old → AreFormed bank.new }
+    ensures grows { Grows bank.old bank.new }
     ensures state { (bytes : List ℕ) → IsDue bank.old bytes opens.old.items ids.old.items (name.now ++ after.now) → IfOk result (λ r. IfSome r (λ left. IsState bank.new bytes opens.new.items ids.new.items left)) }
     ensures some { IfOk result (λ r. IfSome r (λ left. length left.rest.now ≤ length after.now)) }
     ensures none { IfOk result (λ r. r ≢ None) }
@@ -108,8 +106,7 @@ fn begin<'a>(
     ids: &mut Vec<TermId>,
     rest: &'a [u8],
 ) -> Result<Option<Left<'a>>, Memory>
-    ensures extends { Extends bank.old bank.new }
-    ensures formed { AreFormed bank.old → AreFormed bank.new }
+    ensures grows { Grows bank.old bank.new }
     ensures some { (bytes : List ℕ) → IsDue bank.old bytes opens.old.items ids.old.items rest.now → IfOk result (λ r. IfSome r (λ left. IsState bank.new bytes opens.new.items ids.new.items left)) }
     ensures shorter { IfOk result (λ r. IfSome r (λ left. length left.rest.now < length rest.now)) }
     ensures none { IfOk result (λ r. IfNone r (NoTerm rest.now)) }
@@ -133,8 +130,7 @@ fn close<'a>(
     rest: &'a [u8],
 ) -> Result<Option<Left<'a>>, Memory>
     requires { IsRead bank.old text.now opens.old.items ids.old.items (byte.closing_parenthesis ∷ rest.now) }
-    ensures extends { Extends bank.old bank.new }
-    ensures formed { AreFormed bank.old → AreFormed bank.new }
+    ensures grows { Grows bank.old bank.new }
     ensures some { IfOk result (λ r. IfSome r (IsState bank.new text.now opens.new.items ids.new.items)) }
     ensures rest { IfOk result (λ r. IfSome r (λ left. left.rest.now ≡ rest.now)) }
     ensures none { IfOk result (λ r. IfNone r (opens.old.items ≡ [])) }
@@ -170,8 +166,7 @@ fn go_on<'a>(
     rest: &'a [u8],
 ) -> Result<Option<Left<'a>>, Memory>
     requires { IsRead bank.old text.now opens.old.items ids.old.items rest.now }
-    ensures extends { Extends bank.old bank.new }
-    ensures formed { AreFormed bank.old → AreFormed bank.new }
+    ensures grows { Grows bank.old bank.new }
     ensures some { IfOk result (λ r. IfSome r (IsState bank.new text.now opens.new.items ids.new.items)) }
     ensures shorter { IfOk result (λ r. IfSome r (λ left. length left.rest.now < length rest.now)) }
     ensures none { IfOk result (λ r. IfNone r (IsStuck opens.old.items rest.now)) }
@@ -201,8 +196,7 @@ fn step<'a>(
     requires close { IsClose close }
     requires state { IsState bank.old text.now opens.old.items ids.old.items left }
     requires goes_on { left.due ≡ false → opens.old.items ≡ [] → begins (nat_eq close) left.rest.now ≡ false }
-    ensures extends { Extends bank.old bank.new }
-    ensures formed { AreFormed bank.old → AreFormed bank.new }
+    ensures grows { Grows bank.old bank.new }
     ensures some { IfOk result (λ r. IfSome r (IsState bank.new text.now opens.new.items ids.new.items)) }
     ensures shorter { IfOk result (λ r. IfSome r (λ next. length next.rest.now < length left.entry.rest.now)) }
     ensures none { IfOk result (λ r. IfNone r (NoTerms text.now close)) }
@@ -224,8 +218,7 @@ pub fn terms<'a>(
 ) -> Result<Option<&'a [u8]>, Memory>
     requires close { IsClose close }
     requires empty { ids.old.items ≡ [] }
-    ensures extends { Extends bank.old bank.new }
-    ensures formed { AreFormed bank.old → AreFormed bank.new }
+    ensures grows { Grows bank.old bank.new }
     ensures some { IfOk result (λ r. IfSome r (λ rest. AreTerms bank.new text.now close ids.new.items rest.now)) }
     ensures none { IfOk result (λ r. IfNone r (NoTerms text.now close)) }
 {

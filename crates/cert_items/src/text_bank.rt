@@ -5,7 +5,7 @@ ghost use Rattle.std.specs.Prelude.{◌≡◌, ℕ, List, [], ◌<◌, length, f
 ghost use Rattle.inst_logic.specs.declared.signed.Signed.{Signed};
 ghost use Rattle.inst_logic.specs.Clauses.{IsCanonical};
 ghost use Rattle.inst_logic.specs.Tree.{var, app, of_list};
-ghost use Rattle.term_bank.specs.Forest.{tree_at, IsAt, AreIds, Extends, AreFormed, IsFormed, IsClauseOf, clause_at};
+ghost use Rattle.term_bank.specs.Forest.{tree_at, IsAt, AreIds, Extends, AreFormed, IsFormed, IsClauseOf, clause_at, Grows};
 ghost use Rattle.cert_format.specs.Names.{IsNameText};
 ghost use Rattle.cert_items.specs.Known.{IsKnown, AreKnown, remembered};
 ghost use Rattle.cert_items.specs.Reading.{IsApplied};
@@ -177,8 +177,7 @@ impl TextBank {
     // The id of the variable of this number.
     pub(crate) fn var(&mut self, v: usize) -> Result<TermId, Memory>
         ensures at { IfOk result (λ id. IsAt self.new id (var v)) }
-        ensures extends { Extends self.old self.new }
-        ensures formed { AreFormed self.old → AreFormed self.new }
+        ensures grows { Grows self.old self.new }
     {
         self.bank.var(v)
     }
@@ -214,8 +213,7 @@ pub fn apply(
 // Whether the clause has its variables 0, 1, 2 by first occurrence, and no repeats.
 pub fn is_canonical(alloc: Global, bank: &mut TextBank, c: &IdClause) -> Result<bool, Memory>
     requires { IsClauseOf bank.old c.now }
-    ensures extends { Extends bank.old bank.new }
-    ensures formed { AreFormed bank.old → AreFormed bank.new }
+    ensures grows { Grows bank.old bank.new }
     ensures is { IfOk result (λ r. IsTrue r ↔ IsCanonical (clause_at bank.old c.now)) }
 {
     is_canonical_in(alloc, &mut bank.bank, c)

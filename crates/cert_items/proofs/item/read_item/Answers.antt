@@ -4,6 +4,7 @@ use Rattle.inst_logic.specs.Clauses.{TreeClause}
 use Rattle.inst_logic.specs.Printing.{clause_text}
 use Rattle.term_bank.specs.Forest.{clause_at}
 use Rattle.term_bank.proofs.Clauses.{clause_extends}
+use Rattle.term_bank.proofs.Growth.{grows_trans}
 use Rattle.cert_format.specs.LineMachine.{item}
 use Rattle.cert_format.specs.LineTexts.{line}
 use Rattle.cert_format.specs.Formats.{clause_is_printable}
@@ -47,7 +48,7 @@ returns-in-Ok-Some-clause-some c =
     let test = is_some k.field-0 c.in-Some-2.behind (λ (x : Bor (List ℕ)). IsTrue (clause_is_printable d)) c.in-Some-2.is k.ensures.printable in
     let whole = is_some k.field-0 c.in-Some-2.behind (λ (x : Bor (List ℕ)). IsWholeClause f w) c.in-Some-2.is k.ensures.whole in
     let a = is_some n.field-0 (n.note, n.rest) (λ p. IsNoteAt c.args.shape s.group s.number (note_of h p.0 c.last_note.new.hints) c.in-Some-2.behind.now (41 ∷ 46 ∷ 10 ∷ p.1.now)) n.field-0-is n.ensures.some in
-    subst (λ (x : TreeClause). IsItem c.args.shape s.number x note) (sym (clause_extends f h c.last_note.ensures.extends w whole.ids))
+    subst (λ (x : TreeClause). IsItem c.args.shape s.number x note) (sym (clause_extends f h c.last_note.ensures.grows.0 w whole.ids))
     (whole_item c.args.shape s.group s.number d note c.in-Some-2.behind.now (41 ∷ 46 ∷ 10 ∷ n.rest.now) s.ensures.some.1 test a)
 
 pub returns-in-Ok-Some-clause-text : goal.returns-in-Ok-Some-clause-text
@@ -63,7 +64,7 @@ returns-in-Ok-Some-clause-text c =
     let text = is_some k.field-0 c.in-Some-2.behind (λ (x : Bor (List ℕ)). s.after.now ≡ clause_text d ++ 44 ∷ x.now) c.in-Some-2.is k.ensures.some in
     let whole = is_some k.field-0 c.in-Some-2.behind (λ (x : Bor (List ℕ)). IsWholeClause f w) c.in-Some-2.is k.ensures.whole in
     let a = is_some n.field-0 (n.note, n.rest) (λ p. IsNoteAt c.args.shape s.group s.number (note_of h p.0 c.last_note.new.hints) c.in-Some-2.behind.now (41 ∷ 46 ∷ 10 ∷ p.1.now)) n.field-0-is n.ensures.some in
-    subst (λ (x : TreeClause). c.args.bytes.now ≡ line (item s.number x note) n.rest.now) (sym (clause_extends f h c.last_note.ensures.extends w whole.ids))
+    subst (λ (x : TreeClause). c.args.bytes.now ≡ line (item s.number x note) n.rest.now) (sym (clause_extends f h c.last_note.ensures.grows.0 w whole.ids))
     (whole_line c.args.shape s.group s.number d note c.args.bytes.now s.after.now c.in-Some-2.behind.now n.rest.now s.ensures.some.0 text a)
 
 pub returns-in-Ok-Some-clause-group : goal.returns-in-Ok-Some-clause-group
@@ -78,4 +79,7 @@ returns-in-Ok-Some-clause-whole c =
     let k = c.in_ok-printable_clause-in-Some in
     let f = c.printable_clause.new.bank in
     let w = c.printable_clause.new.literals in
-    clause_grown f c.last_note.new.bank c.last_note.ensures.extends w (is_some k.field-0 c.in-Some-2.behind (λ (x : Bor (List ℕ)). IsWholeClause f w) c.in-Some-2.is k.ensures.whole)
+    clause_grown f c.last_note.new.bank c.last_note.ensures.grows.0 w (is_some k.field-0 c.in-Some-2.behind (λ (x : Bor (List ℕ)). IsWholeClause f w) c.in-Some-2.is k.ensures.whole)
+
+pub returns-in-Ok-Some-clause-grows : goal.returns-in-Ok-Some-clause-grows
+returns-in-Ok-Some-clause-grows c = grows_trans c.args.bank.now c.printable_clause.new.bank c.last_note.new.bank c.printable_clause.ensures.grows c.last_note.ensures.grows

@@ -16,7 +16,7 @@ returns-in-Variable-clause-at c bytes rest a =
     let b = subst (λ (r : Root). IsRootAt c.args.bank.now r c.args.ids.now bytes rest) c.in-Variable.is a in
     IfOk-weaker c.var.result _ _ (λ id made. variable_term c.var.new.self id _ bytes rest b made) c.var.ensures.at
 
-pub returns-in-Application-clause-formed : goal.returns-in-Application-clause-formed
-returns-in-Application-clause-formed c old =
+pub returns-in-Application-clause-grows : goal.returns-in-Application-clause-grows
+returns-in-Application-clause-grows c =
     let b = subst (λ (r : Root). IsRoot c.args.bank.now r c.args.ids.now) c.in-Application.is c.requires in
-    c.apply.ensures.formed old (λ n. applied_formed c.args.bank.now c.args.ids.now n b.2)
+    (c.apply.ensures.extends, λ old. c.apply.ensures.formed old (λ n. applied_formed c.args.bank.now c.args.ids.now n b.2))

@@ -10,17 +10,17 @@ returns-in-None-clause-none c = no_printable c.args.bytes.now (is_none c.in_ok-c
 pub returns-then-branch-clause-some : goal.returns-then-branch-clause-some
 returns-then-branch-clause-some c =
     let h = is_some c.in_ok-clause.field-0 c.in-Some.rest (λ (x : Bor (List ℕ)). IsClauseText c.clause.new.bank c.clause.new.literals c.args.bytes.now x.now) c.in-Some.is c.in_ok-clause.ensures.some in
-    (read_printable c.clause.new.bank c.is_canonical.new.bank c.clause.new.literals c.args.bytes.now c.in-Some.rest.now c.is_canonical.ensures.extends h (c.in_ok-is_canonical-in-Some.ensures.is.0 c.if-branch.true)).text
+    (read_printable c.clause.new.bank c.is_canonical.new.bank c.clause.new.literals c.args.bytes.now c.in-Some.rest.now c.is_canonical.ensures.grows.0 h (c.in_ok-is_canonical-in-Some.ensures.is.0 c.if-branch.true)).text
 
 pub returns-then-branch-clause-printable : goal.returns-then-branch-clause-printable
 returns-then-branch-clause-printable c =
     let h = is_some c.in_ok-clause.field-0 c.in-Some.rest (λ (x : Bor (List ℕ)). IsClauseText c.clause.new.bank c.clause.new.literals c.args.bytes.now x.now) c.in-Some.is c.in_ok-clause.ensures.some in
-    (read_printable c.clause.new.bank c.is_canonical.new.bank c.clause.new.literals c.args.bytes.now c.in-Some.rest.now c.is_canonical.ensures.extends h (c.in_ok-is_canonical-in-Some.ensures.is.0 c.if-branch.true)).test
+    (read_printable c.clause.new.bank c.is_canonical.new.bank c.clause.new.literals c.args.bytes.now c.in-Some.rest.now c.is_canonical.ensures.grows.0 h (c.in_ok-is_canonical-in-Some.ensures.is.0 c.if-branch.true)).test
 
 pub returns-then-branch-clause-whole : goal.returns-then-branch-clause-whole
 returns-then-branch-clause-whole c =
     let h = is_some c.in_ok-clause.field-0 c.in-Some.rest (λ (x : Bor (List ℕ)). IsClauseText c.clause.new.bank c.clause.new.literals c.args.bytes.now x.now) c.in-Some.is c.in_ok-clause.ensures.some in
-    (read_printable c.clause.new.bank c.is_canonical.new.bank c.clause.new.literals c.args.bytes.now c.in-Some.rest.now c.is_canonical.ensures.extends h (c.in_ok-is_canonical-in-Some.ensures.is.0 c.if-branch.true)).whole
+    (read_printable c.clause.new.bank c.is_canonical.new.bank c.clause.new.literals c.args.bytes.now c.in-Some.rest.now c.is_canonical.ensures.grows.0 h (c.in_ok-is_canonical-in-Some.ensures.is.0 c.if-branch.true)).whole
 
 pub returns-else-branch-clause-none : goal.returns-else-branch-clause-none
 returns-else-branch-clause-none c d rest p e =

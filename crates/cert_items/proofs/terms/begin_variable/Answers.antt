@@ -19,4 +19,4 @@ returns-in_ok-push-in-Some-clause-some c bytes d =
     let small : is_printable (var c.in-Some.n) ≡ true = small_number c.in-Some.n c.in-Some.ensures.fits in
     let ends : Ends goes_on c.in-Some.rest.now = cc in
     subst (λ (ids : List ℕ). IsRead c.var.new.self bytes c.args.opens.now ids c.in-Some.rest.now) (sym c.in_ok-push-in-Some.ensures.items)
-    (done_term c.args.bank.now c.var.new.self bytes c.args.opens.now c.args.ids.now.items c.in_ok-id-in-Some.id (var c.in-Some.n) _ c.in-Some.rest.now d text ends small c.var.ensures.extends c.in_ok-id-in-Some.ensures.at)
+    (done_term c.args.bank.now c.var.new.self bytes c.args.opens.now c.args.ids.now.items c.in_ok-id-in-Some.id (var c.in-Some.n) _ c.in-Some.rest.now d text ends small c.var.ensures.grows.0 c.in_ok-id-in-Some.ensures.at)
