@@ -8,9 +8,7 @@ use Rattle.inst_logic.proofs.Numbers.{number_is, is_less, less_yes}
 use Rattle.cert_format.specs.LineMachine.{rank, Item, count, last_rank, last_rank_from}
 use Rattle.cert_format.proofs.LineTexts.{count_append, count_own, count_other}
 use Rattle.cert_format.proofs.GroupItems.{all_append}
-
-abbrev pub IsGroup : ℕ → List Item → Type 0
-IsGroup r is = list_all (λ (i : Item). nat_eq (rank i.note) r) is ≡ true
+use Rattle.cert_format.proofs.ItemGroups.{IsGroup}
 
 abbrev Above : ℕ → List Item → Type 0
 Above k is = list_all (λ (i : Item). nat_lt k (rank i.note)) is ≡ true

@@ -2,7 +2,6 @@ mod FirstLines
 mod FormatWords
 mod Steps
 mod Beginnings
-mod BothLists
 mod Layers
 mod Pushes
 mod Turns

@@ -32,7 +32,8 @@ use Rattle.cert_reader.specs.declared.groups.Groups.{Groups}
 use Rattle.cert_items.specs.declared.shape.Shape.{Shape}
 use Rattle.cert_reader.specs.Bodies.{header}
 use Rattle.cert_reader.specs.Groups.{base_count, count_of, IsNextOf, pushed, members_by, items_of, HasForm, AreGroups}
-use Rattle.cert_reader.proofs.Layers.{IsGroup, push_0, push_1, push_2, push_3, push_4, push_5, push_6, none_shown, count_0, count_1, count_2, count_3, count_4, count_5, count_6}
+use Rattle.cert_format.proofs.ItemGroups.{IsGroup}
+use Rattle.cert_reader.proofs.Layers.{push_0, push_1, push_2, push_3, push_4, push_5, push_6, none_shown, count_0, count_1, count_2, count_3, count_4, count_5, count_6}
 use Rattle.saturation_cert.proofs.Grown.{clauses_grown, members_grown, steps_grown, clauses_same, members_same, steps_same, lines_grown, lines_same, bys_grown, bys_same, covers_grown, covers_same}
 
 -- ---- each group with one item more, and how many there are

@@ -15,7 +15,8 @@ use Rattle.cert_format.specs.ValueLines.{input_items, axiom_items, ground_items,
 use Rattle.cert_format.proofs.LineMachine.{clause_eq_yes, clause_eq_itself, count_shown, met, asked}
 use Rattle.cert_format.proofs.LineTexts.{ground_ranks, line_ranks, step_ranks, shown_ranks, cover_ranks}
 use Rattle.cert_format.proofs.Spelling.{small_number}
-use Rattle.cert_format.proofs.ValueRuns.{base_append}
+use Rattle.cert_format.proofs.ItemGroups.{IsGroup, base_other}
+use Rattle.cert_format.proofs.ValueRuns.{base_append, base_inputs, base_axioms}
 use Rattle.saturation_cert.specs.Values.{entry_of, line_of, step_of, by_of, cover_of}
 use Rattle.saturation_cert.specs.Wholes.{IsWholeClause}
 use Rattle.cert_items.specs.Items.{shape_of, group_of}
@@ -24,26 +25,9 @@ use Rattle.cert_items.specs.declared.group.Group.TheVariants as kinds
 use Rattle.cert_items.specs.declared.shape.Shape.{Shape}
 use Rattle.cert_reader.specs.declared.groups.Groups.{Groups}
 use Rattle.cert_reader.specs.Groups.{base_count, names_in, items_of, members_by, IsAllShown, IsNextOf, IsInTurn, TakesTurn, AreGroups}
-use Rattle.cert_reader.proofs.Layers.{IsGroup}
 use Rattle.cert_reader.proofs.Pushes.{counts, member_group}
 
 -- ---- the inputs and axioms among the items
-
-base_inputs : (cs : List TreeClause) (ws : List (List ℕ)) → length ws ≡ length cs → base_clauses (input_items cs ws) ≡ cs
-base_inputs [] ws h = refl
-base_inputs (c ∷ cs) [] h = absurd (omega arith)
-base_inputs (c ∷ cs) (w ∷ ws) h = ap (λ (xs : List TreeClause). c ∷ xs) (base_inputs cs ws (omega arith))
-
-base_axioms : (cs : List TreeClause) → base_clauses (axiom_items cs) ≡ cs
-base_axioms [] = refl
-base_axioms (c ∷ cs) = ap (λ (xs : List TreeClause). c ∷ xs) (base_axioms cs)
-
--- a later group has none
-base_later : (k : ℕ) → nat_le k 1 ≡ false → (is : List Item) → IsGroup k is → base_clauses is ≡ []
-base_later k e [] h = refl
-base_later k e (i ∷ is) h =
-    let a = and_parts (nat_eq (rank i.note) k) _ h in
-    ap (λ (t : Bool). clauses_if t i.clause (base_clauses is)) (ap (λ (j : ℕ). nat_le j 1) (number_is (rank i.note) k a.0) ∙ e) ∙ base_later k e is a.1
 
 both_empty : (is js : List Item) → base_clauses is ≡ [] → base_clauses js ≡ [] → base_clauses (is ++ js) ≡ []
 both_empty is js h k = base_append is js ∙ ap₂ (λ (xs ys : List TreeClause). xs ++ ys) h k
@@ -59,10 +43,10 @@ base_is s f g p =
     let as_shown = shown_items (map (clause_at f) g.inputs ++ map (clause_at f) g.axioms) (map (by_of f) g.shown) in
     let as_covers = cover_items (map (cover_of f) g.covers) in
     let rest =
-    both_empty as_members ((as_grounds ++ as_lines) ++ (as_steps ++ (as_shown ++ as_covers))) (base_later 2 refl as_members (member_group s.refutation s.format (map (entry_of f) g.members) g.places))
-    (both_empty (as_grounds ++ as_lines) (as_steps ++ (as_shown ++ as_covers)) (both_empty as_grounds as_lines (base_later 3 refl as_grounds (ground_ranks (map (clause_at f) g.grounds))) (base_later 3 refl as_lines (line_ranks (map (line_of f) g.lines))))
-    (both_empty as_steps (as_shown ++ as_covers) (base_later 4 refl as_steps (step_ranks (map (step_of f) g.steps)))
-    (both_empty as_shown as_covers (base_later 5 refl as_shown (shown_ranks (map (clause_at f) g.inputs ++ map (clause_at f) g.axioms) (map (by_of f) g.shown))) (base_later 6 refl as_covers (cover_ranks (map (cover_of f) g.covers)))))) in
+    both_empty as_members ((as_grounds ++ as_lines) ++ (as_steps ++ (as_shown ++ as_covers))) (base_other 2 refl as_members (member_group s.refutation s.format (map (entry_of f) g.members) g.places))
+    (both_empty (as_grounds ++ as_lines) (as_steps ++ (as_shown ++ as_covers)) (both_empty as_grounds as_lines (base_other 3 refl as_grounds (ground_ranks (map (clause_at f) g.grounds))) (base_other 3 refl as_lines (line_ranks (map (line_of f) g.lines))))
+    (both_empty as_steps (as_shown ++ as_covers) (base_other 4 refl as_steps (step_ranks (map (step_of f) g.steps)))
+    (both_empty as_shown as_covers (base_other 5 refl as_shown (shown_ranks (map (clause_at f) g.inputs ++ map (clause_at f) g.axioms) (map (by_of f) g.shown))) (base_other 6 refl as_covers (cover_ranks (map (cover_of f) g.covers)))))) in
     let first = base_inputs (map (clause_at f) g.inputs) g.names (p.named ∙ sym (length-map g.inputs (clause_at f))) in
     let second = base_axioms (map (clause_at f) g.axioms) in
     base_append as_inputs (as_axioms ++ (as_members ++ ((as_grounds ++ as_lines) ++ (as_steps ++ (as_shown ++ as_covers)))))

@@ -28,6 +28,7 @@ use Rattle.cert_format.specs.ValueLines as values
 use Rattle.cert_format.proofs.ClauseForms.{IsWritableClause}
 use Rattle.cert_format.proofs.Formats.{read_format, test_yes}
 use Rattle.cert_format.proofs.LineNotes.{below}
+use Rattle.cert_format.proofs.PrintableGroups.{terms_printable, by_printable, first_kind}
 use Rattle.cert_format.proofs.LineTexts.{text_is}
 use Rattle.cert_format.proofs.Writables.{IsWritableBase, IsWritableEntry, IsWritableLine, IsWritableStep, IsWritableBy, IsWritableCover, IsWritableSaturation, IsWritable, printable}
 use Rattle.saturation_cert.specs.declared.certificate.GroundLine.{GroundLine}
@@ -58,28 +59,14 @@ clause_good h c note g = test_yes c (and_parts (clause_is_printable c) (note_is_
 note_good : (h : Header) (c : TreeClause) (note : Note) → is_good h (record { clause = c; note = note }) ≡ true → note_is_printable note ≡ true
 note_good h c note g = (and_parts (clause_is_printable c) (note_is_printable note) (and_parts (fits h note) _ g).1).1
 
-terms_good : (ts : List Tree) → list_all is_printable ts ≡ true → ArePrintableTerms ts
-terms_good [] g = All-nil (λ (t : Tree). IsTrue (is_printable t))
-terms_good (t ∷ ts) g = let a = and_parts (is_printable t) (list_all is_printable ts) g in All-cons (λ (u : Tree). IsTrue (is_printable u)) t ts a.0 (terms_good ts a.1)
-
-by_good : (b : By) → by_is_printable b ≡ true → IsWritableBy b
-by_good by_tautology g = record { printable = tt; numbers = tt }
-by_good (by_variant j) g = record { printable = tt; numbers = below j g }
-by_good (by_part j ts) g = let a = and_parts (is_number j) (list_all is_printable ts) g in record { printable = terms_good ts a.1; numbers = below j a.0 }
-
 -- in the first format no member is a part of a conclusion
-first_origin : (o : Origin) → fits_origin 1 o ≡ true → IsFirstOrigin o
-first_origin (input k) h = tt
-first_origin (inst from place partner other) h = tt
-first_origin (lemma from place partner other keep premises) h = absurd cc
-
 first_members : (h : Header) → h.format ≡ 1 → (es : List Entry) → list_all (is_good h) (member_items es) ≡ true → All (λ e. IsFirstOrigin e.origin) es
 first_members h v [] g = All-nil (λ (e : Entry). IsFirstOrigin e.origin)
 first_members h v (x ∷ es) g =
     let a = and_parts (is_good h (record { clause = x.clause; note = member x.origin })) _ g in
     let b = and_parts (fits h (member x.origin)) _ a.0 in
     let c = and_parts h.refutation (fits_origin h.format x.origin) b.0 in
-    All-cons (λ (e : Entry). IsFirstOrigin e.origin) x es (first_origin x.origin (ap (λ (w : ℕ). fits_origin w x.origin) (sym v) ∙ c.1)) (first_members h v es a.1)
+    All-cons (λ (e : Entry). IsFirstOrigin e.origin) x es (first_kind x.origin (ap (λ (w : ℕ). fits_origin w x.origin) (sym v) ∙ c.1)) (first_members h v es a.1)
 
 first_selected : (h : Header) → h.format ≡ 1 → (es : List Entry) (ps : List ℕ) → length ps ≡ length es → list_all (is_good h) (selected_items es ps) ≡ true → All (λ e. IsFirstOrigin e.origin) es
 first_selected h v [] ps e g = All-nil (λ (e : Entry). IsFirstOrigin e.origin)
@@ -88,7 +75,7 @@ first_selected h v (x ∷ es) (p ∷ ps) e g =
     let a = and_parts (is_good h (record { clause = x.clause; note = selected x.origin p })) _ g in
     let b = and_parts (fits h (selected x.origin p)) _ a.0 in
     let c = and_parts (not h.refutation) (fits_origin h.format x.origin) b.0 in
-    All-cons (λ (e : Entry). IsFirstOrigin e.origin) x es (first_origin x.origin (ap (λ (w : ℕ). fits_origin w x.origin) (sym v) ∙ c.1)) (first_selected h v es ps (omega arith) a.1)
+    All-cons (λ (e : Entry). IsFirstOrigin e.origin) x es (first_kind x.origin (ap (λ (w : ℕ). fits_origin w x.origin) (sym v) ∙ c.1)) (first_selected h v es ps (omega arith) a.1)
 
 inputs_good : (h : Header) (cs : List TreeClause) (ws : List (List ℕ)) → length ws ≡ length cs → list_all (is_good h) (input_items cs ws) ≡ true → All IsWritableClause cs × All (λ n. IsTrue (is_readable_name n)) ws
 inputs_good h [] [] e g = (All-nil IsWritableClause, All-nil (λ (n : List ℕ). IsTrue (is_readable_name n)))
@@ -112,7 +99,7 @@ lines_good h [] g = All-nil IsWritableLine
 lines_good h (x ∷ gs) g =
     let a = and_parts (is_good h (record { clause = x.clause; note = ground_by x.input x.terms })) _ g in
     let n = and_parts (is_number x.input) (list_all is_printable x.terms) (note_good h x.clause (ground_by x.input x.terms) a.0) in
-    All-cons IsWritableLine x gs (record { clause = clause_good h x.clause (ground_by x.input x.terms) a.0; input = below x.input n.0; terms = terms_good x.terms n.1 }) (lines_good h gs a.1)
+    All-cons IsWritableLine x gs (record { clause = clause_good h x.clause (ground_by x.input x.terms) a.0; input = below x.input n.0; terms = terms_printable x.terms n.1 }) (lines_good h gs a.1)
 
 shown_good : (h : Header) (cs : List TreeClause) (bs : List By) → length bs ≤ length cs → list_all (is_good h) (shown_items cs bs) ≡ true → All IsWritableBy bs
 shown_good h [] [] e g = All-nil IsWritableBy
@@ -120,7 +107,7 @@ shown_good h (c ∷ cs) [] e g = All-nil IsWritableBy
 shown_good h [] (b ∷ bs) e g = absurd (omega arith)
 shown_good h (c ∷ cs) (b ∷ bs) e g =
     let a = and_parts (is_good h (record { clause = c; note = input_by b })) _ g in
-    All-cons IsWritableBy b bs (by_good b (note_good h c (input_by b) a.0)) (shown_good h cs bs (omega arith) a.1)
+    All-cons IsWritableBy b bs (by_printable b (note_good h c (input_by b) a.0)) (shown_good h cs bs (omega arith) a.1)
 
 covers_good : (h : Header) (vs : List format.Cover) → list_all (is_good h) (cover_items vs) ≡ true → All IsWritableCover vs
 covers_good h [] g = All-nil IsWritableCover
@@ -129,7 +116,7 @@ covers_good h (v ∷ vs) g =
     let a = and_parts (is_good h (record { clause = v.clause; note = note })) _ g in
     let l = and_parts (is_number v.left) _ (note_good h v.clause note a.0) in
     let r = and_parts (is_number v.right) (by_is_printable v.by) l.1 in
-    All-cons IsWritableCover v vs (record { left = below v.left l.0; right = below v.right r.0; clause = clause_good h v.clause note a.0; by = by_good v.by r.1 }) (covers_good h vs a.1)
+    All-cons IsWritableCover v vs (record { left = below v.left l.0; right = below v.right r.0; clause = clause_good h v.clause note a.0; by = by_printable v.by r.1 }) (covers_good h vs a.1)
 
 members_good : (h : Header) (es : List Entry) → list_all (is_good h) (member_items es) ≡ true → All IsWritableEntry es
 members_good h [] g = All-nil IsWritableEntry

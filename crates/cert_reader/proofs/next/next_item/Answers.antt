@@ -28,8 +28,8 @@ returns-then-not-may_take-clause-none c =
     let text = is_some s.field-0 x (λ i. c.args.bytes.now ≡ line (item i.number d (note_of h i.note c.read_item.new.hints)) i.rest.now) s.field-0-is s.ensures.text in
     let group = is_some s.field-0 x (λ i. group_of (note_of h i.note c.read_item.new.hints) ≡ i.group) s.field-0-is s.ensures.group in
     let whole = is_some s.field-0 x (λ i. IsWholeClause h w) s.field-0-is s.ensures.whole in
-    let p = grown_groups f h c.read_item.ensures.extends c.args.shape c.args.groups.now (c.read_item.ensures.formed c.requires.groups.bank) c.requires.groups in
-    subst (λ is. NoNextItem c.args.shape is c.args.bytes.now) (grown_items f h c.read_item.ensures.extends c.args.shape c.args.groups.now c.requires.groups)
+    let p = grown_groups f h c.read_item.ensures.grows.0 c.args.shape c.args.groups.now (c.read_item.ensures.grows.1 c.requires.groups.bank) c.requires.groups in
+    subst (λ is. NoNextItem c.args.shape is c.args.bytes.now) (grown_items f h c.read_item.ensures.grows.0 c.args.shape c.args.groups.now c.requires.groups)
     (wrong_next c.args.shape h c.args.groups.now x.group x.number w (note_of h x.note c.read_item.new.hints) c.args.bytes.now x.rest.now p c.distinct.ensures whole i text group (λ q. (let t = c.may_take.ensures.1 q in cc)))
 
 pub returns-clause-groups : goal.returns-clause-groups
@@ -45,7 +45,7 @@ returns-clause-groups c =
     let t : c.may_take.result ≡ true = cc in
     let q = c.may_take.ensures.0 t in
     subst (λ g. AreGroups c.args.shape h g) (sym c.in_ok-push-in-Ok-Some.ensures)
-    (next_groups c.args.shape c.args.bank.now h c.args.groups.now x.group x.number x.note c.read_item.new.literals c.read_item.new.hints c.read_item.ensures.extends (c.read_item.ensures.formed c.requires.groups.bank) c.requires.groups i group q whole terms)
+    (next_groups c.args.shape c.args.bank.now h c.args.groups.now x.group x.number x.note c.read_item.new.literals c.read_item.new.hints c.read_item.ensures.grows.0 (c.read_item.ensures.grows.1 c.requires.groups.bank) c.requires.groups i group q whole terms)
 
 pub returns-clause-some : goal.returns-clause-some
 returns-clause-some c =
@@ -60,7 +60,7 @@ returns-clause-some c =
     let t : c.may_take.result ≡ true = cc in
     let q = c.may_take.ensures.0 t in
     subst (λ g. IsNextItem c.args.shape (items_of c.args.shape f c.args.groups.now) (items_of c.args.shape h g) c.args.bytes.now x.rest.now) (sym c.in_ok-push-in-Ok-Some.ensures)
-    (next_item c.args.shape f h c.args.groups.now x.group x.number x.note c.read_item.new.literals c.read_item.new.hints c.read_item.ensures.extends (c.read_item.ensures.formed c.requires.groups.bank) c.requires.groups i group q c.args.bytes.now x.rest.now text)
+    (next_item c.args.shape f h c.args.groups.now x.group x.number x.note c.read_item.new.literals c.read_item.new.hints c.read_item.ensures.grows.0 (c.read_item.ensures.grows.1 c.requires.groups.bank) c.requires.groups i group q c.args.bytes.now x.rest.now text)
 
 pub returns-clause-shorter : goal.returns-clause-shorter
 returns-clause-shorter c =
