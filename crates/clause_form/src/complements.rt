@@ -1,10 +1,12 @@
-// Whether a clause has complementary literals: by comparing each with each, or by a set.
+// Complementary literals of a clause that may be long: a set of the literals tells in one pass whether there are any.
 ghost use Rattle.std.specs.Prelude.{◌≡◌, ◌↔◌, IsTrue, IfOk, OnOk};
 ghost use Rattle.std.specs.List.{list_any};
 ghost use Rattle.inst_logic.specs.Lists.{distinct, with_item};
 ghost use Rattle.inst_logic.specs.Signed.{IsTautology, complement};
+ghost use Rattle.term_bank.specs.Forest.{Forest, AreDistinct, IsClauseOf, clause_at};
 ghost use Rattle.clause_form.specs.Literals.{id_eq};
 
+use crate::compare::tautology;
 use indexmap::IndexSet;
 use inst_logic::Memory;
 use std::alloc::Global;
@@ -12,15 +14,6 @@ use term_bank::{IdClause, IdLiteral};
 
 // A clause with at most so many literals is compared literal by literal: for it a set would cost more than it saves.
 const SHORT: usize = 32;
-
-// Time is quadratic, and no memory is taken.
-fn have_complements(literals: &[IdLiteral]) -> bool
-    ensures { IsTrue result ↔ IsTautology literals.now }
-{
-    literals.iter().any(|l| literals
-        .iter()
-        .any(|m| m.atom == l.atom && m.positive != l.positive))
-}
 
 // One more literal, where it is not there.
 fn add(all: &mut IndexSet<IdLiteral>, literal: IdLiteral) -> Result<(), Memory>
@@ -53,32 +46,23 @@ fn meets(all: &IndexSet<IdLiteral>, l: &IdLiteral) -> bool
 }
 
 // Whether some literal's complement is in the set of them all.
-fn some_meets(all: &IndexSet<IdLiteral>, literals: &[IdLiteral]) -> bool
-    requires { all.now.keys ≡ distinct id_eq literals.now }
-    ensures { IsTrue result ↔ IsTautology literals.now }
+fn some_meets(all: &IndexSet<IdLiteral>, c: &IdClause) -> bool
+    requires { all.now.keys ≡ distinct id_eq c.now }
+    ensures ids { IsTrue result ↔ IsTautology c.now }
+    ensures trees { (f : Forest) → AreDistinct f.trees → IsClauseOf f c.now → IsTrue result ↔ IsTautology (clause_at f c.now) }
 {
-    literals.iter().any(|l| meets(all, l))
+    c.as_slice().iter().any(|l| meets(all, l))
 }
 
-// Time is linear. The memory for the set comes from where the clause's own does, which a copy of the clause tells.
-fn find_complements(c: &IdClause) -> Result<bool, Memory>
-    ensures { IfOk result (λ r. IsTrue r ↔ IsTautology c.now) }
-{
-    let copy = Vec::from(c.clone()?);
-    let alloc = *copy.allocator();
-    let all = set_of(alloc, c.as_slice())?;
-    Ok(some_meets(&all, c.as_slice()))
-}
-
-// Whether the clause has a literal and its complement, without a set where it is short or memory for one is wanted.
-pub fn has_complements(c: &IdClause) -> bool
-    ensures { IsTrue result ↔ IsTautology c.now }
+/// What `tautology` tells, in time linear in the number of literals. A clause of more than 32 literals takes memory for a set of
+/// them.
+pub fn long_tautology(alloc: Global, c: &IdClause) -> Result<bool, Memory>
+    ensures ids { IfOk result (λ r. IsTrue r ↔ IsTautology c.now) }
+    ensures trees { IfOk result (λ r. (f : Forest) → AreDistinct f.trees → IsClauseOf f c.now → IsTrue r ↔ IsTautology (clause_at f c.now)) }
 {
     if c.len() <= SHORT {
-        return have_complements(c.as_slice());
+        return Ok(tautology(c));
     }
-    match find_complements(c) {
-        Ok(found) => found,
-        Err(_) => have_complements(c.as_slice()),
-    }
+    let all = set_of(alloc, c.as_slice())?;
+    Ok(some_meets(&all, c))
 }

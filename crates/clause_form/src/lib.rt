@@ -4,7 +4,7 @@
 
 mod clashes;
 pub mod compare;
-mod complements;
+pub mod complements;
 pub mod conclusion;
 pub mod laws;
 mod literals;
@@ -15,6 +15,7 @@ mod terms;
 mod walk;
 
 pub use compare::{clause_size, greatest_variable, tautology, variant};
+pub use complements::long_tautology;
 pub use conclusion::{Conclusion, conclude, conclude_clause, under};
 pub use renumber::canonical;
 pub use subsuming::subsuming_terms;
