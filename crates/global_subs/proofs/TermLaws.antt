@@ -5,11 +5,11 @@ use Rattle.std.proofs.lemmas.List.Elements.{All-nil, All-push, All-weaker}
 use Rattle.inst_logic.specs.Derivations.{at_number}
 use Rattle.inst_logic.specs.WellFormed.{IsTerm}
 use Rattle.inst_logic.proofs.Membership.{◌∈◌, in_right, in_left, all_in, in_all}
-use Rattle.term_bank.specs.Forest.{Forest, AreFormed, AreIds, Extends, tree_at}
+use Rattle.term_bank.specs.Forest.{Forest, AreFormed, AreIds, Extends, tree_at, IsTermIn}
 use Rattle.clause_form.specs.Conclusions.{AreTermIds}
 use Rattle.global_subs.specs.declared.made.Made.{Made}
 use Rattle.global_subs.specs.declared.unrolling.Task.{Task}
-use Rattle.global_subs.specs.Terms.{IsTermIn, HasTerms}
+use Rattle.global_subs.specs.Terms.{HasTerms}
 use Rattle.global_subs.specs.Unrolls.{AreEntriesOf, terms_of}
 use Rattle.global_subs.proofs.TaskLaws.{entry_of}
 

@@ -1,13 +1,9 @@
 -- What keeps a bank formed while entries are unrolled over it: all ids that are put for variables are those of terms.
-use Rattle.std.specs.Prelude.{ℕ, ◌<◌, List, length, All}
-use Rattle.inst_logic.specs.WellFormed.{IsTerm}
-use Rattle.term_bank.specs.Forest.{Forest, AreFormed, tree_at}
+use Rattle.std.specs.Prelude.{List, All}
+use Rattle.term_bank.specs.Forest.{Forest, IsTermIn, AreFormed}
 use Rattle.global_subs.specs.declared.made.Made.{Made}
 use Rattle.global_subs.specs.declared.unrolling.Task.{Task}
 use Rattle.global_subs.specs.Unrolls.{terms_of}
-
-abbrev pub IsTermIn : Forest → ℕ → Type 0
-IsTermIn f id = (id < length f.trees) × IsTerm (tree_at f id)
 
 -- the bank is formed, and the terms of the entries and of the tasks are terms of it
 pub record HasTerms (f : Forest) (made : List Made) (tasks : List Task) : Type 0 where

@@ -12,9 +12,9 @@ ghost use Rattle.inst_logic.specs.Truth.{IsTrueClause, IsRefuted};
 ghost use Rattle.inst_calculus.specs.Abstraction.{abstraction, grounding};
 ghost use Rattle.inst_calculus.specs.Unrolling.{Grounded as TreeGrounded, unrolled, under_terms, all_unrolled, each_once, ground_clause, made_clauses, AreMade, IsGrounded};
 ghost use Rattle.global_subs.specs.declared.made.How.TheVariants as how;
-ghost use Rattle.term_bank.specs.Forest.{Forest, AreFormed, AreIds, Extends, IsClauseOf, clause_at, tree_at};
+ghost use Rattle.term_bank.specs.Forest.{Forest, AreFormed, AreIds, Extends, IsClauseOf, clause_at, tree_at, IsTermIn};
 ghost use Rattle.clause_form.specs.Conclusions.{AreTermIds};
-ghost use Rattle.global_subs.specs.Terms.{HasTerms, IsTermIn};
+ghost use Rattle.global_subs.specs.Terms.{HasTerms};
 ghost use Rattle.global_subs.specs.Unrolls.{AreEntriesOf, entries_at, grounded_at, waiting_at, list_of, IsTask, IsWalk, AreOpened, IsOpened, item_eq, breadth, load, terms_of};
 
 use crate::made::{Grounded, GroundedList, How, Made, MadeList};

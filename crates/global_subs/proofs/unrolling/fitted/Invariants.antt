@@ -1,7 +1,6 @@
 use Rattle.std.proofs.Common.{◌≡◌, ℕ, ◌<◌, length}
 use Rattle.std.specs.Prelude.{slice_index_or, All}
-use Rattle.term_bank.specs.Forest.{Forest, AreIds}
-use Rattle.global_subs.specs.Terms.{IsTermIn}
+use Rattle.term_bank.specs.Forest.{Forest, AreIds, IsTermIn}
 use Rattle.global_subs.proofs.unrolling.fitted.Given as goal
 
 abbrev pub invariant-loop-i : goal.invariant-loop-i

@@ -1,9 +1,10 @@
 use Rattle.std.proofs.Common.{[], ◌∷◌, ◌++◌, sym, ap, ◌∙◌, subst}
 use Rattle.std.proofs.lemmas.List.Elements.{All-nil}
 use Rattle.std.proofs.lemmas.Result.{on_ok_weaker}
-use Rattle.global_subs.specs.Terms.{HasTerms, IsTermIn}
+use Rattle.global_subs.specs.Terms.{HasTerms}
 use Rattle.global_subs.proofs.TermLaws.{no_tasks, one_more_task}
 use Rattle.global_subs.proofs.unrolling.items_of.Goals as goal
+use Rattle.term_bank.specs.Forest.{IsTermIn}
 
 pub returns-clause-formed : goal.returns-clause-formed
 returns-clause-formed c =

@@ -1,7 +1,7 @@
 use Rattle.std.proofs.Common.{◌≡◌, ℕ, List, [], ◌∷◌, ◌++◌, map, reverse, sym, subst, ap, ◌∙◌}
 use Rattle.inst_logic.specs.Substitution.{subst as apply}
 use Rattle.std.specs.Prelude.{All}
-use Rattle.term_bank.specs.Forest.{AreIds, no_symbol, tree_at}
+use Rattle.term_bank.specs.Forest.{AreIds, no_symbol, tree_at, IsTermIn}
 use Rattle.clause_form.specs.Conclusions.{AreTermIds}
 use Rattle.global_subs.specs.declared.made.How.{How}
 use Rattle.global_subs.specs.Unrolls.{terms_of}
@@ -10,7 +10,7 @@ use Rattle.clause_form.proofs.Stacks.{reverse_push}
 use Rattle.global_subs.specs.declared.unrolling.Task.{Task}
 use Rattle.global_subs.proofs.TaskLaws.{opened_from, terms_in}
 use Rattle.global_subs.specs.declared.made.How.TheVariants.{From}
-use Rattle.global_subs.specs.Terms.{HasTerms, IsTermIn}
+use Rattle.global_subs.specs.Terms.{HasTerms}
 use Rattle.global_subs.proofs.TermLaws.{but_last, entry_terms, has_terms_later, last_task, one_more_task, term_ids, terms_in as plain_terms}
 use Rattle.global_subs.proofs.unrolling.open_from.Goals as goal
 

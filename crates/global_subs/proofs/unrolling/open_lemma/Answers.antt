@@ -5,7 +5,7 @@ use Rattle.inst_logic.specs.Tree.{app, none}
 use Rattle.inst_logic.specs.Substitution.{subst as apply}
 use Rattle.inst_calculus.proofs.Items.{at_number_within}
 use Rattle.inst_calculus.specs.Unrolling.{Made as TreeMade, unrolled, under_terms}
-use Rattle.term_bank.specs.Forest.{AreIds, no_symbol, tree_at}
+use Rattle.term_bank.specs.Forest.{AreIds, no_symbol, tree_at, IsTermIn}
 use Rattle.term_bank.proofs.Growth.{at_extends}
 use Rattle.clause_form.specs.Conclusions.{AreTermIds}
 use Rattle.clause_form.specs.Walks.{listed}
@@ -13,7 +13,6 @@ use Rattle.global_subs.specs.declared.made.How.{How}
 use Rattle.global_subs.specs.declared.made.How.TheVariants.{Lemma}
 use Rattle.global_subs.specs.Unrolls.{AreOpened, entries_at, terms_of}
 use Rattle.global_subs.proofs.TaskLaws.{opened_lemma, entries_same, entries_stay, premises_below, terms_in}
-use Rattle.global_subs.specs.Terms.{IsTermIn}
 use Rattle.global_subs.proofs.TermLaws.{but_last, entry_terms, has_terms_later, last_task, term_ids, term_stays, terms_in as plain_terms, with_tasks}
 use Rattle.global_subs.proofs.unrolling.open_lemma.Goals as goal
 

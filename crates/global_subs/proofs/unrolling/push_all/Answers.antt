@@ -7,9 +7,9 @@ use Rattle.inst_calculus.specs.Abstraction.{grounding}
 use Rattle.inst_calculus.specs.Unrolling.{Grounded, all_unrolled, unrolled}
 use Rattle.clause_form.proofs.Stacks.{reverse_push}
 use Rattle.global_subs.specs.declared.unrolling.Task.{Task}
-use Rattle.global_subs.specs.Terms.{IsTermIn}
 use Rattle.global_subs.specs.Unrolls.{IsTask, entries_at, list_of, waiting_at}
 use Rattle.global_subs.proofs.unrolling.push_all.Goals as goal
+use Rattle.term_bank.specs.Forest.{IsTermIn}
 
 pub loop-i-init : goal.loop-i-init
 loop-i-init c =

@@ -4,8 +4,7 @@ use Rattle.std.specs.List.{flat_map}
 use Rattle.inst_logic.specs.declared.symbol.Sym.{Sym}
 use Rattle.inst_logic.specs.Tree.{app, none}
 use Rattle.inst_calculus.specs.Unrolling.{all_unrolled}
-use Rattle.term_bank.specs.Forest.{Forest, tree_at}
-use Rattle.global_subs.specs.Terms.{IsTermIn}
+use Rattle.term_bank.specs.Forest.{Forest, tree_at, IsTermIn}
 use Rattle.global_subs.specs.declared.unrolling.Task.{Task}
 use Rattle.global_subs.specs.Unrolls.{IsTask, entries_at, list_of, waiting_at}
 use Rattle.global_subs.proofs.unrolling.push_all.Given as goal

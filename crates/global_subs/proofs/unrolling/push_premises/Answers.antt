@@ -5,10 +5,9 @@ use Rattle.std.specs.Prelude.{All}
 use Rattle.std.proofs.lemmas.List.Elements.{All-get_or, All-push}
 use Rattle.global_subs.specs.declared.unrolling.Task.{Task}
 use Rattle.inst_calculus.specs.Unrolling.{Grounded, unrolled, under_terms}
-use Rattle.term_bank.specs.Forest.{tree_at}
+use Rattle.term_bank.specs.Forest.{tree_at, IsTermIn}
 use Rattle.clause_form.proofs.Stacks.{reverse_push}
 use Rattle.global_subs.specs.Unrolls.{AreOpened, entries_at}
-use Rattle.global_subs.specs.Terms.{IsTermIn}
 use Rattle.global_subs.proofs.TaskLaws.{opened_none, opened_premise}
 use Rattle.global_subs.proofs.unrolling.push_premises.Goals as goal
 

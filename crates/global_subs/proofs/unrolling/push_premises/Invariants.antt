@@ -4,8 +4,7 @@ use Rattle.std.specs.List.{flat_map}
 use Rattle.inst_logic.specs.declared.symbol.Sym.{Sym}
 use Rattle.inst_logic.specs.Tree.{app, none}
 use Rattle.inst_calculus.specs.Unrolling.{unrolled, under_terms}
-use Rattle.term_bank.specs.Forest.{Forest, tree_at}
-use Rattle.global_subs.specs.Terms.{IsTermIn}
+use Rattle.term_bank.specs.Forest.{Forest, tree_at, IsTermIn}
 use Rattle.global_subs.specs.declared.unrolling.Task.{Task}
 use Rattle.global_subs.specs.Unrolls.{AreOpened, entries_at}
 use Rattle.global_subs.proofs.unrolling.push_premises.Given as goal
