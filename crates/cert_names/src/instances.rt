@@ -5,7 +5,7 @@ ghost use Rattle.inst_logic.specs.Clauses.{IsCanonical, IsPart};
 ghost use Rattle.clause_form.specs.Literals.{id_eq};
 ghost use Rattle.cert_format.specs.TermLists.{AreTermsFor, IsPartBy};
 ghost use Rattle.saturation_cert.specs.Wholes.{IsWholeTerm};
-ghost use Rattle.term_bank.specs.Forest.{AreFormed, Extends, IsClauseOf, clause_at, tree_at};
+ghost use Rattle.term_bank.specs.Forest.{IsClauseOf, clause_at, tree_at, Grows};
 
 use clause_form::{greatest_variable, under};
 use inst_logic::Memory;
@@ -54,8 +54,7 @@ pub fn is_part_by(
     requires whole { IsClauseOf bank.old d.now }
     requires terms { All (IsWholeTerm bank.old) terms.now }
     ensures is { IfOk result (λ r. IsTrue r ↔ IsPartBy (clause_at bank.old e.now) (clause_at bank.old d.now) (map (tree_at bank.old) terms.now)) }
-    ensures extends { Extends bank.old bank.new }
-    ensures formed { AreFormed bank.old → AreFormed bank.new }
+    ensures grows { Grows bank.old bank.new }
 {
     if !are_terms_for(bank, e, terms) {
         return Ok(false);

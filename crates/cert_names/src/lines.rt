@@ -5,7 +5,7 @@ ghost use Rattle.inst_logic.specs.Derivations.{at_number};
 ghost use Rattle.cert_format.specs.TermLists.{IsGroundLineOf};
 ghost use Rattle.saturation_cert.specs.Values.{line_of};
 ghost use Rattle.saturation_cert.specs.Wholes.{IsWholeLine, IsWholeTerm};
-ghost use Rattle.term_bank.specs.Forest.{AreFormed, Extends, IsClauseOf, clause_at};
+ghost use Rattle.term_bank.specs.Forest.{IsClauseOf, clause_at, Grows};
 ghost use Rattle.cert_names.specs.Under.{AreGround, IsFirstWrongLine, IsUnder};
 
 use crate::instances::are_terms_for;
@@ -68,8 +68,7 @@ fn is_under(
     requires instance { IsClauseOf bank.old d.now }
     requires terms { All (IsWholeTerm bank.old) terms.now }
     ensures is { IfOk result (λ r. IsTrue r ↔ IsUnder bank.old c.now d.now terms.now) }
-    ensures extends { Extends bank.old bank.new }
-    ensures formed { AreFormed bank.old → AreFormed bank.new }
+    ensures grows { Grows bank.old bank.new }
 {
     if !are_terms_for(bank, c, terms) {
         return Ok(false);
@@ -90,8 +89,7 @@ fn is_form_under(
     requires instance { IsClauseOf bank.old d.now }
     requires terms { All (IsWholeTerm bank.old) terms.now }
     ensures is { IfOk result (λ r. IsTrue r ↔ IsUnder bank.old c.now d.now terms.now) }
-    ensures extends { Extends bank.old bank.new }
-    ensures formed { AreFormed bank.old → AreFormed bank.new }
+    ensures grows { Grows bank.old bank.new }
 {
     let form = canonical(alloc, bank, c)?;
     is_under(alloc, bank, &form, d, terms)
@@ -110,8 +108,7 @@ pub fn is_ground_line(
     requires axioms { All (IsClauseOf bank.old) axioms.now }
     requires line { IsWholeLine bank.old line.now }
     ensures is { IfOk result (λ r. IsTrue r ↔ IsGroundLineOf (map (clause_at bank.old) (inputs.now ++ axioms.now)) (line_of bank.old line.now)) }
-    ensures extends { Extends bank.old bank.new }
-    ensures formed { AreFormed bank.old → AreFormed bank.new }
+    ensures grows { Grows bank.old bank.new }
 {
     match numbered(inputs, axioms, line.input) {
         None => Ok(false),
@@ -137,8 +134,7 @@ pub fn first_wrong_line(
     requires axioms { All (IsClauseOf bank.old) axioms.now }
     requires lines { All (IsWholeLine bank.old) lines.now }
     ensures first { IfOk result (IsFirstWrongLine bank.old (inputs.now ++ axioms.now) lines.now) }
-    ensures extends { Extends bank.old bank.new }
-    ensures formed { AreFormed bank.old → AreFormed bank.new }
+    ensures grows { Grows bank.old bank.new }
 {
     let slice = lines.as_slice();
     for i in 0..slice.len() {
