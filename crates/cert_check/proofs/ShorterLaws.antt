@@ -1,15 +1,19 @@
 -- The search for a shorter member that subsumes a clause, by the heads of selected literals.
-use Rattle.std.proofs.Common.{◌≡◌, inl, inr, ℕ, suc, ◌<◌, ◌≤◌, ◌∙◌, List, length, get_or, ap, refl, sym, subst, arith, Option, None, Some}
+use Rattle.std.proofs.Common.{◌≡◌, inl, inr, ℕ, suc, ◌<◌, ◌≤◌, ◌∙◌, List, [], ◌∷◌, length, get_or, ap, refl, sym, subst, arith, Option, None, Some}
 use Rattle.std.specs.Prelude.{Any, IfNone, option_map}
 use Rattle.std.proofs.lemmas.Bool.{cases_lt}
 use Rattle.std.proofs.lemmas.List.{get_or-map, get_or_default, length-map}
 use Rattle.inst_logic.specs.declared.signed.Signed.{Signed}
-use Rattle.inst_logic.specs.Substitution.{Substitution}
+use Rattle.inst_logic.specs.Tree.{var}
+use Rattle.inst_logic.specs.Substitution.{Substitution, subst_literal}
+use Rattle.inst_logic.specs.Clauses.{Subsumes}
+use Rattle.inst_calculus.proofs.Clauses.{literal_var, within_part}
+use Rattle.inst_calculus.proofs.Membership.{any_in, equal_in, in_map}
 use Rattle.clause_form.specs.Placements.{Goes, literal_at}
 use Rattle.clause_form.proofs.Placing.{placed_subsumes}
-use Rattle.term_bank.specs.Forest.{Forest, literal_tree, number_of, symbol_of, tree_at}
+use Rattle.term_bank.specs.Forest.{Forest, clause_at, literal_tree, number_of, symbol_of, tree_at}
 use Rattle.saturation_cert.specs.declared.member.Member.{Member}
-use Rattle.cert_check.specs.Covers.{ShorterOf}
+use Rattle.cert_check.specs.Covers.{IsShorter, IsUnitOf, ShorterOf}
 use Rattle.cert_check.specs.declared.fingerprint.Fingerprint.{Fingerprint}
 use Rattle.cert_check.specs.Fingerprints.{fingerprint_at}
 use Rattle.cert_check.specs.Lookups.{HasMarked, HasNoShorter, IsNoShorter, IsPastShorter}
@@ -17,6 +21,7 @@ use Rattle.cert_check.specs.declared.lengths.Lengths.{Lengths}
 use Rattle.cert_check.specs.declared.lengths.Ranked.{Ranked}
 use Rattle.cert_check.specs.Lengths.{AreGrouped, IsBelow, heads_by, no_rank, rank_at}
 use Rattle.cert_check.specs.Partners.{Head, head_at, IsHeadAt, IsNext}
+use Rattle.cert_check.specs.Places.{IsPlaceOf}
 use Rattle.cert_check.proofs.HeadLaws.{symbol_under, number_there}
 
 -- an instance of a literal has its head
@@ -89,6 +94,26 @@ module _ (f : Forest) (ms : List Member) (hs : List Head) (ps : List Fingerprint
       let (i, inside, goes) = places has.place has.within in
       none i _ inside k within (head_goes f s (literal_at (get_or ms k m).clause has.place) (literal_at d i) (head_at hs k) has.head goes) m
       (s, tree_at f (literal_at (get_or ms k m).clause has.place).atom, has.fingerprint, goes.1) here
+
+-- a member that is one literal of a clause subsumes it, and has fewer literals than two
+unit_shorter : (f : Forest) (n : ℕ) (c : List (Signed ℕ)) (m : Member) → 1 < n → IsUnitOf c m → ShorterOf f n c m
+unit_shorter f n c m more unit =
+    let (l, i, is) = any_in (λ (l : Signed ℕ). m.clause ≡ l ∷ []) c unit in
+    let one : Subsumes (clause_at f (l ∷ [])) (clause_at f c) = (
+      var,
+      within_part var (clause_at f (l ∷ [])) (clause_at f c) (λ x j. elim j [
+        | inl e ↦ equal_in (literal_tree f l) (subst_literal var x) (clause_at f c) (sym e ∙ sym (literal_var x)) (in_map (literal_tree f) l c i)
+        | inr none ↦ absurd none
+      ]),
+    ) in
+    subst (λ (d : List (Signed ℕ)). IsShorter n (clause_at f c) (clause_at f d)) (sym is) (more, one)
+
+pub unit_is_shorter : (f : Forest) (ms : List Member) (n : ℕ) (c : List (Signed ℕ)) (k : ℕ) → 1 < n → IsPlaceOf (IsUnitOf c) ms k → IsPlaceOf (ShorterOf f n c) ms k
+unit_is_shorter f ms n c k more place = record { within = place.within; holds = λ m. unit_shorter f n c (get_or ms k m) more (place.holds m) }
+
+-- a member at the place has this clause, whose literal is the clause's
+pub unit_at : (ms : List Member) (c : List (Signed ℕ)) (k i : ℕ) (l : Signed ℕ) → i < length c → get_or c i l ≡ l → IsPlaceOf (λ m. m.clause ≡ l ∷ []) ms k → IsPlaceOf (IsUnitOf c) ms k
+unit_at ms c k i l within is place = record { within = place.within; holds = λ m. (i, l, within, is, place.holds m) }
 
 -- what holds where there is no item, at an option that is no Some
 pub if_none : {A : Type 0} (Q : Type 0) (o : Option A) → IfNone o Q → ((a : A) → o ≡ Some a → ⊥) → Q

@@ -1,8 +1,11 @@
-// Covered instances. A variant is one look-up. Other covers are shorter members, and of these only those are tried whose selected
-// literal has the head of a literal of the instance, and a fingerprint that allows it, since it has to go onto one; trying all
-// members would cost their number at each pair.
-ghost use Rattle.std.specs.Prelude.{◌≡◌, ◌↔◌, ◌<◌, ℕ, List, map, length, All, Any, IfNone, IfOk, IfSome, IsTrue, true, false};
+// Covered instances. A variant is one look-up, and a unit clause of a literal as it stands one for each literal. Other covers are
+// shorter members, and of these only those are tried whose selected literal has the head of a literal of the instance, and a
+// fingerprint that allows it, since it has to go onto one; trying all members would cost their number at each pair.
+ghost use Rattle.std.specs.Prelude.{◌≡◌, ◌↔◌, ◌<◌, ◌∷◌, ℕ, List, [], map, length, All, Any, IfNone, IfOk, IfSome, IsTrue, true, false};
+ghost use Rattle.std.specs.Cmp.Lexicographic.{pointwise};
 ghost use Rattle.std.specs.List.{HoldsAt};
+ghost use Rattle.indexmap.specs.IndexMap.{get};
+ghost use Rattle.clause_form.specs.Literals.{id_eq};
 ghost use Rattle.inst_logic.specs.Clauses.{IsCanonical, instance};
 ghost use Rattle.inst_logic.specs.Unifiers.{Sided};
 ghost use Rattle.inst_logic.specs.declared.signed.Signed.{Signed};
@@ -12,11 +15,11 @@ ghost use Rattle.unify_core.specs.Chains.{AreBindings};
 ghost use Rattle.unify_core.specs.Sides.{IsResolvedBy, of_side};
 ghost use Rattle.unify_core.specs.Terms.{AreTerms};
 ghost use Rattle.saturation_cert.specs.Wholes.{IsWholeClause};
-ghost use Rattle.cert_check.specs.Covers.{IsCoveredIn, ShorterOf};
+ghost use Rattle.cert_check.specs.Covers.{IsCoveredIn, IsUnitOf, ShorterOf};
 ghost use Rattle.cert_check.specs.Grounds.{AreCanonicalMembers};
 ghost use Rattle.cert_check.specs.Fingerprints.{HasFingerprint};
 ghost use Rattle.cert_check.specs.Lengths.{AreGrouped};
-ghost use Rattle.cert_check.specs.Lookups.{HasNoShorter, IsLookup, IsNoShorter};
+ghost use Rattle.cert_check.specs.Lookups.{AreClausesOf, HasNoShorter, IsLookup, IsNoShorter};
 ghost use Rattle.cert_check.specs.Places.{IsPlaceOf};
 ghost use Rattle.cert_check.specs.Partners.{Head};
 
@@ -88,9 +91,9 @@ fn shorter_by(
     Ok(None)
 }
 
-// The place of a member that is so. Its selected literal has an instance in the clause, so only those with the head of one of the
-// clause's literals are tried.
-pub fn shorter_place(
+// The place of a member that is so, found by its selected literal. This one has an instance in the clause, so only those with the
+// head of one of the clause's literals are tried.
+fn shorter_by_heads(
     alloc: Global,
     bank: &Bank,
     members: &[Member],
@@ -111,6 +114,55 @@ pub fn shorter_place(
         }
     }
     Ok(None)
+}
+
+fn unit_clause(alloc: Global, literal: &IdLiteral) -> Result<IdClause, Memory>
+    ensures { IfOk result (λ c. c ≡ literal.now ∷ []) }
+{
+    Ok(IdClause::from(vec![in alloc; *literal]?))
+}
+
+// The place of a member whose clause is one literal of the clause as it stands.
+fn unit_place(
+    alloc: Global,
+    _members: &[Member],
+    lookup: &Lookup,
+    c: &IdClause,
+) -> Result<Option<usize>, Memory>
+    requires { AreClausesOf _members.now (get (pointwise id_eq) lookup.now.clauses) }
+    ensures { IfOk result (λ o. IfSome o (IsPlaceOf (IsUnitOf c.now) _members.now)) }
+{
+    let literals = c.as_slice();
+    for literal in literals {
+        let unit = unit_clause(alloc, literal)?;
+        if let Some(k) = lookup.place_of(&unit) {
+            return Ok(Some(k));
+        }
+    }
+    Ok(None)
+}
+
+// The place of a member that is so. One literal is fewer than two, so unit clauses are looked up before others are tried.
+pub fn shorter_place(
+    alloc: Global,
+    bank: &Bank,
+    members: &[Member],
+    lookup: &Lookup,
+    len: usize,
+    c: &IdClause,
+) -> Result<Option<usize>, Memory>
+    requires members { All (λ m. IsClauseOf bank.now m.clause) members.now }
+    requires lookup { IsLookup bank.now members.now lookup.now }
+    requires clause { IsClauseOf bank.now c.now }
+    ensures some { IfOk result (λ o. IfSome o (IsPlaceOf (ShorterOf bank.now len c.now) members.now)) }
+    ensures none { IfOk result (λ o. IfNone o (¬ (Any (ShorterOf bank.now len c.now) members.now))) }
+{
+    if len > 1 {
+        if let Some(k) = unit_place(alloc, members, lookup, c)? {
+            return Ok(Some(k));
+        }
+    }
+    shorter_by_heads(alloc, bank, members, lookup, len, c)
 }
 
 // Whether the clause, an instance of one with this many literals, is covered by the members. A variant is looked up.

@@ -3,7 +3,7 @@ use Rattle.inst_logic.specs.declared.signed.Signed.{Signed}
 use Rattle.cert_check.specs.Lengths.{AreGrouped}
 use Rattle.cert_check.specs.Lookups.{HasNoShorter}
 use Rattle.cert_check.specs.Partners.{Head}
-use Rattle.cert_check.proofs.covers.shorter_place.Given as goal
+use Rattle.cert_check.proofs.covers.shorter_by_heads.Given as goal
 
 abbrev pub invariant-loop-literal : goal.invariant-loop-literal
 invariant-loop-literal l = (i : ℕ) (x : Signed ℕ) → i < l.literal-index → (hs : List Head) → AreGrouped l.members hs l.lookup.lengths → HasNoShorter l.bank l.members hs l.lookup.fingerprints.items l.len l.c (get_or l.literals i x)
