@@ -35,7 +35,8 @@ fn bound_terms(alloc: Global, bindings: &Bindings, others: &[TermId]) -> Result<
     Ok(ids)
 }
 
-// The terms for the variables of the canonical clause `f`, whose ids are given, by which it subsumes `c`.
+// The terms for the variables of the canonical clause `f`, whose ids are given, by which it subsumes `c`: the variables themselves
+// where the two are one clause, so that a long one needs no search.
 fn find_terms(
     alloc: Global,
     bank: &Bank,
@@ -50,6 +51,10 @@ fn find_terms(
     ensures some { IfOk result (λ o. IfSome o (ArePartTerms bank.now f.now c.now)) }
     ensures none { IfOk result (λ o. IfNone o (¬ (Subsumes (clause_at bank.now f.now) (clause_at bank.now c.now)))) }
 {
+    if f == c {
+        let own = variables.to_vec(alloc)?;
+        return Ok(Some(TermIdList::from(own)));
+    }
     if !have_candidates(bank, f, c) {
         return Ok(None);
     }
