@@ -25,7 +25,7 @@ ghost use Rattle.cert_check.specs.Partners.{Head};
 
 use crate::fingerprint::{Fingerprint, fingerprint_of};
 use crate::lookup::Lookup;
-use clause_form::{conclude_clause, subsumes, tautology};
+use clause_form::{conclude_clause, long_tautology, subsumes};
 use inst_logic::Memory;
 use saturation_cert::Member;
 use std::alloc::Global;
@@ -182,7 +182,7 @@ fn has_cover(
     ensures { IfOk result (λ r. IsTrue r ↔ IsCoveredIn bank.now members.now len c.now) }
 {
     bank.distinct();
-    if tautology(c) {
+    if long_tautology(alloc, c)? {
         return Ok(true);
     }
     if lookup.place_of(c).is_some() {

@@ -12,7 +12,7 @@ ghost use Rattle.cert_check.specs.Places.{IsPlaceOf};
 
 use crate::lookup::Lookup;
 use crate::origin::numbered;
-use clause_form::{subsumes, tautology};
+use clause_form::{long_tautology, subsumes};
 use indexmap::IndexMap;
 use inst_logic::Memory;
 use saturation_cert::{Base, Member, Origin, Saturation};
@@ -96,7 +96,7 @@ fn is_met(
         return Ok(true);
     }
     bank.distinct();
-    if tautology(c) {
+    if long_tautology(alloc, c)? {
         return Ok(true);
     }
     let place = subsuming_place_from(alloc, bank, members, first, c)?;

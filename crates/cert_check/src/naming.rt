@@ -19,7 +19,7 @@ ghost use Rattle.cert_check.specs.Places.{IsPlaceOf};
 use crate::covers::shorter_place;
 use crate::lookup::Lookup;
 use cert_names::part_terms;
-use clause_form::{conclude_clause, tautology};
+use clause_form::{conclude_clause, long_tautology};
 use inst_logic::Memory;
 use saturation_cert::{By, Member};
 use std::alloc::Global;
@@ -86,7 +86,7 @@ fn find_by(
     ensures formed { AreFormed bank.old → AreFormed bank.new }
 {
     bank.distinct();
-    if tautology(c) {
+    if long_tautology(alloc, c)? {
         return Ok(Some(By::Tautology));
     }
     if let Some(k) = lookup.place_of(c) {

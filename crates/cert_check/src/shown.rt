@@ -19,7 +19,7 @@ use crate::lookup::Lookup;
 use crate::naming::part_of;
 use crate::origin::numbered;
 use cert_names::shows;
-use clause_form::tautology;
+use clause_form::long_tautology;
 use inst_logic::Memory;
 use saturation_cert::{By, ByList, Covered, Member, Saturation};
 use std::alloc::Global;
@@ -48,7 +48,7 @@ fn find_shown(
         return Ok(Some(by));
     }
     bank.distinct();
-    if tautology(c) {
+    if long_tautology(alloc, c)? {
         return Ok(Some(By::Tautology));
     }
     match subsuming_place_from(alloc, bank, members, first, c)? {

@@ -18,7 +18,7 @@ returns-in-Some-clause-some c =
 
 pub returns-then-tautology-clause-some : goal.returns-then-tautology-clause-some
 returns-then-tautology-clause-some c =
-    tautology_shows c.args.bank.now c.args.bank.now c.args.members.now c.args.c.now ((c.tautology.ensures.trees c.args.bank.now c.distinct.ensures c.requires.clause.ids).0 c.if-tautology.true)
+    tautology_shows c.args.bank.now c.args.bank.now c.args.members.now c.args.c.now ((c.in_ok-long_tautology.ensures.trees c.args.bank.now c.distinct.ensures c.requires.clause.ids).0 c.if-long_tautology.true)
 
 pub subsuming_place_from-requires-clause-members : goal.subsuming_place_from-requires-clause-members
 subsuming_place_from-requires-clause-members c = member_ids c.args.bank.now c.args.members.now c.requires.members
@@ -29,7 +29,7 @@ returns-in-None-clause-none c =
     let ms = c.args.members.now in
     let longer = subst (λ (o : Option ℕ). IfNone o (¬ (Any (λ (m : Member). Subsumes (clause_at f m.clause) (clause_at f c.args.c.now)) ms))) c.in-None.is c.in_ok-subsuming_place_from.ensures.none in
     λ met. elim met [
-      | inl t ↦ let e : false ≡ true = sym c.if-tautology.false ∙ (c.tautology.ensures.trees f c.distinct.ensures c.requires.clause.ids).1 t in cc
+      | inl t ↦ let e : false ≡ true = sym c.if-long_tautology.false ∙ (c.in_ok-long_tautology.ensures.trees f c.distinct.ensures c.requires.clause.ids).1 t in cc
       | inr any ↦ longer any
     ]
 
