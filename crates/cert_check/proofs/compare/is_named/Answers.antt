@@ -45,7 +45,7 @@ pub returns-clause-kept : goal.returns-clause-kept
 returns-clause-kept c =
     let cert = c.args.cert.now in
     let h = c.holds_by.new.bank in
-    keeps_saturation cert (record cert.base { bank = h }) (keeps_grown cert.base h (extends_trans cert.base.bank c.conclude_clause.new.bank h c.conclude_clause.ensures.extends c.holds_by.ensures.extends))
+    keeps_saturation cert (record cert.base { bank = h }) (keeps_grown cert.base h (extends_trans cert.base.bank c.conclude_clause.new.bank h c.conclude_clause.ensures.extends c.holds_by.ensures.grows.0))
 
 pub returns-clause-whole : goal.returns-clause-whole
 returns-clause-whole c =
@@ -53,8 +53,8 @@ returns-clause-whole c =
     let g = c.conclude_clause.new.bank in
     let h = c.holds_by.new.bank in
     IfOk-weaker c.holds_by.result _ _ (λ r k.
-    whole_base cert.base h c.requires.whole (extends_trans cert.base.bank g h c.conclude_clause.ensures.extends c.holds_by.ensures.extends)
-    (c.holds_by.ensures.formed (c.conclude_clause.ensures.formed c.requires.whole.bank c.requires.terms))) c.holds_by.ensures.holds
+    whole_base cert.base h c.requires.whole (extends_trans cert.base.bank g h c.conclude_clause.ensures.extends c.holds_by.ensures.grows.0)
+    (c.holds_by.ensures.grows.1 (c.conclude_clause.ensures.formed c.requires.whole.bank c.requires.terms))) c.holds_by.ensures.holds
 
 pub returns-clause-named : goal.returns-clause-named
 returns-clause-named c =

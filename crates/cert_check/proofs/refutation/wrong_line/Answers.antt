@@ -15,8 +15,8 @@ pub returns-clause-whole : goal.returns-clause-whole
 returns-clause-whole c =
     let r = c.args.cert.now in
     let g = c.first_wrong_line.new.bank in
-    let whole = refutation_whole r (record r.base { bank = g }) c.requires.whole (record { bank = c.first_wrong_line.ensures.extends; rest = refl })
-    (whole_base r.base g c.requires.whole.base c.first_wrong_line.ensures.extends (c.first_wrong_line.ensures.formed c.requires.whole.base.bank)) in
+    let whole = refutation_whole r (record r.base { bank = g }) c.requires.whole (record { bank = c.first_wrong_line.ensures.grows.0; rest = refl })
+    (whole_base r.base g c.requires.whole.base c.first_wrong_line.ensures.grows.0 (c.first_wrong_line.ensures.grows.1 c.requires.whole.base.bank)) in
     IfOk-weaker c.first_wrong_line.result _ _ (λ _ _. whole) c.first_wrong_line.ensures.first
 
 pub returns-clause-first : goal.returns-clause-first

@@ -42,8 +42,8 @@ returns-in-Some-get-clause-whole c =
     let cert = c.args.cert.now in
     let g = c.shows.new.bank in
     IfOk-weaker c.shows.result _ _ (λ r h.
-    covered_whole cert (record cert.cert { base = record cert.cert.base { bank = g } }) c.requires.comparable.whole (keeps_saturation cert.cert (record cert.cert.base { bank = g }) (keeps_grown cert.cert.base g c.shows.ensures.extends))
-    (whole_base cert.cert.base g c.requires.comparable.whole.cert c.shows.ensures.extends (c.shows.ensures.formed c.requires.comparable.whole.cert.bank))) c.shows.ensures.shows
+    covered_whole cert (record cert.cert { base = record cert.cert.base { bank = g } }) c.requires.comparable.whole (keeps_saturation cert.cert (record cert.cert.base { bank = g }) (keeps_grown cert.cert.base g c.shows.ensures.grows.0))
+    (whole_base cert.cert.base g c.requires.comparable.whole.cert c.shows.ensures.grows.0 (c.shows.ensures.grows.1 c.requires.comparable.whole.cert.bank))) c.shows.ensures.shows
 
 pub returns-in-Some-get-clause-shown : goal.returns-in-Some-get-clause-shown
 returns-in-Some-get-clause-shown c =
