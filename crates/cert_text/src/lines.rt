@@ -3,7 +3,7 @@
 ghost use Rattle.std.specs.Prelude.{◌≡◌, ◌++◌, [], ◌∷◌, OnOk, All, decimal, map, codes};
 ghost use Rattle.inst_logic.specs.Printing.{joined, name_text, tree_text};
 ghost use Rattle.term_bank.specs.Forest.{clause_at, tree_at, IsClauseOf};
-ghost use Rattle.cert_format.specs.Lines.{text_line, status_line, start_line, end_line, format_line, input_line, axiom_line, listed, origin_text, member_line, selected_line, ground_line_by, by_text, side_text, shown_line, cover_line, hint_text, step_line};
+ghost use Rattle.cert_format.specs.Lines.{text_line, status_line, start_line, end_line, format_line, input_line, axiom_line, listed, origin_text, member_line, selected_line, ground_line_by, by_text, side_word, shown_line, cover_line, hint_text, step_line};
 ghost use Rattle.saturation_cert.specs.Values.{by_of, cover_of, entry_of, line_of, origin_of, hint_of, side_of, step_of};
 ghost use Rattle.saturation_cert.specs.Wholes.{IsWholeBy, IsWholeCover, IsWholeLine, IsWholeTerm};
 ghost use Rattle.cert_text.specs.Pieces.{line_front};
@@ -321,7 +321,7 @@ pub fn push_shown(
 }
 
 fn push_side(pen: &mut Pen, side: Side) -> Result<(), Memory>
-    ensures { OnOk result (pen.new ≡ pen.old ++ side_text (side_of side)) }
+    ensures { OnOk result (pen.new ≡ pen.old ++ side_word (side_of side)) }
 {
     match side {
         Side::Left => pen.bytes(b"left"),
@@ -331,7 +331,7 @@ fn push_side(pen: &mut Pen, side: Side) -> Result<(), Memory>
 
 // `cover(mL,mR,SIDE),[`
 fn push_due(pen: &mut Pen, left: usize, right: usize, side: Side) -> Result<(), Memory>
-    ensures { OnOk result (pen.new ≡ pen.old ++ (codes "cover(m" ++ decimal left ++ codes ",m" ++ decimal right ++ codes "," ++ side_text (side_of side) ++ codes "),[")) }
+    ensures { OnOk result (pen.new ≡ pen.old ++ (codes "cover(m" ++ decimal left ++ codes ",m" ++ decimal right ++ codes "," ++ side_word (side_of side) ++ codes "),[")) }
 {
     pen.bytes(b"cover(m")?;
     pen.number(left)?;
@@ -346,7 +346,7 @@ fn push_due(pen: &mut Pen, left: usize, right: usize, side: Side) -> Result<(), 
 // `cover(mL,mR,SIDE),[BY]`
 fn push_cover_note(pen: &mut Pen, bank: &Bank, cover: &Cover) -> Result<(), Memory>
     requires { IsWholeBy bank.now cover.now.by }
-    ensures { OnOk result (pen.new ≡ pen.old ++ (codes "cover(m" ++ decimal cover.now.left ++ codes ",m" ++ decimal cover.now.right ++ codes "," ++ side_text (side_of cover.now.side) ++ codes "),[" ++ by_text (by_of bank.now cover.now.by) ++ codes "]")) }
+    ensures { OnOk result (pen.new ≡ pen.old ++ (codes "cover(m" ++ decimal cover.now.left ++ codes ",m" ++ decimal cover.now.right ++ codes "," ++ side_word (side_of cover.now.side) ++ codes "),[" ++ by_text (by_of bank.now cover.now.by) ++ codes "]")) }
 {
     push_due(pen, cover.left, cover.right, cover.side)?;
     push_by(pen, bank, &cover.by)?;

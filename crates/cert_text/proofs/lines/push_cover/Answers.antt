@@ -1,6 +1,6 @@
 use Rattle.std.proofs.Common.{◌++◌, codes, decimal}
 use Rattle.term_bank.specs.Forest.{clause_at}
-use Rattle.cert_format.specs.Lines.{by_text, side_text}
+use Rattle.cert_format.specs.Lines.{by_text, side_word}
 use Rattle.saturation_cert.specs.Values.{by_of, side_of}
 use Rattle.cert_text.specs.Pieces.{line_front}
 use Rattle.cert_text.proofs.Pieces.{line_written}
@@ -15,6 +15,6 @@ push_cover_note-requires c = c.requires.by
 pub returns : goal.returns
 returns c =
     let cover = c.args.cover.now in
-    let note = codes "cover(m" ++ decimal cover.left ++ codes ",m" ++ decimal cover.right ++ codes "," ++ side_text (side_of cover.side) ++ codes "),[" ++ by_text (by_of c.args.bank.now cover.by) ++ codes "]" in
+    let note = codes "cover(m" ++ decimal cover.left ++ codes ",m" ++ decimal cover.right ++ codes "," ++ side_word (side_of cover.side) ++ codes "),[" ++ by_text (by_of c.args.bank.now cover.by) ++ codes "]" in
     line_written _ _ _ _ (line_front (codes "c") c.args.n (codes "plain") (clause_at c.args.bank.now cover.clause)) note
     c.in_ok-push_front.ensures c.in_ok-push_cover_note.ensures c.in_ok-bytes.ensures
