@@ -1,5 +1,6 @@
 -- Where the file of an include is looked for, and what a selection keeps.
 use Rattle.std.specs.Prelude.{◌≡◌, ℕ, List, [], ◌∷◌, ◌++◌, Bool, true, false, nat_eq, if◌then◌else◌, Option, Some, None, filter, option_map}
+use Rattle.std.specs.Borrow.{Bor}
 use Rattle.std.specs.List.{list_any}
 use Rattle.std.specs.Str.{bytes_eq}
 use Rattle.outside_io.specs.Files.{bytes_named}
@@ -15,6 +16,10 @@ directory (b ∷ bs) = if list_any (nat_eq byte.slash) (b ∷ bs) then b ∷ dir
 abbrev pub begins_with_slash : List ℕ → Bool
 begins_with_slash [] = false
 begins_with_slash (b ∷ bs) = nat_eq b byte.slash
+
+-- the path that an argument gives, where it is given
+abbrev pub path_of : Option (Bor (List ℕ)) → Option (List ℕ)
+path_of path = option_map (λ p. p.now) path
 
 -- under the root, where there is one
 abbrev pub under_root : Option (List ℕ) → List ℕ → List (List ℕ)

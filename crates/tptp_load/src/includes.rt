@@ -1,6 +1,6 @@
 // Files with what they include, by recursion over the levels, of which there are few. The bytes of a file are dropped once
 // its statements are read.
-ghost use Rattle.std.specs.Prelude.{◌≡◌, ◌≤◌, ◌+◌, ◌∷◌, ◌++◌, [], None, Some, All, IfOk, IfErr, OnOk, IsTrue, length, option_map};
+ghost use Rattle.std.specs.Prelude.{◌≡◌, ◌≤◌, ◌+◌, ◌∷◌, ◌++◌, [], None, Some, All, IfOk, IfErr, OnOk, IsTrue, length};
 ghost use Rattle.outside_io.specs.Told.{Follows};
 ghost use Rattle.inst_logic.specs.Printing.{is_readable_name};
 ghost use Rattle.tptp_read.specs.Names.{HasReadableNames};
@@ -8,6 +8,7 @@ ghost use Rattle.tptp_read.specs.Text.{Readable, IsFormedStatement};
 ghost use Rattle.tptp_load.specs.Loading.{Includes, Loading, StatementsGive, limit};
 ghost use Rattle.tptp_load.specs.declared.error.LoadError.TheVariants as errors;
 ghost use Rattle.tptp_load.specs.Parts.{Adds, Including, IsGathered, IsMisread, IsPartCause, StatementGives};
+ghost use Rattle.tptp_load.specs.Includes.{path_of};
 
 use crate::error::LoadError;
 use crate::paths::{Found, find};
@@ -64,8 +65,8 @@ pub(crate) fn add_file<L: Library>(
     requires good { IsGathered gathered.old.stated.items gathered.old.used }
     ensures follows { Follows (L.told files.old) (L.told files.new) }
     ensures good { OnOk result (IsGathered gathered.new.stated.items gathered.new.used) }
-    ensures ok { OnOk result (Adds (L.told files.old).files (λ told. Loading told (option_map (λ r. r.now) root.entry) levels gathered.old.used name.now bytes) gathered.old.stated.items gathered.new.stated.items gathered.new.used) }
-    ensures err { IfErr result (IsPartCause (L.told files.old).files (λ told. Loading told (option_map (λ r. r.now) root.entry) levels gathered.old.used name.now bytes) (L.told files.old).faults (L.told files.new).faults) }
+    ensures ok { OnOk result (Adds (L.told files.old).files (λ told. Loading told (path_of root.entry) levels gathered.old.used name.now bytes) gathered.old.stated.items gathered.new.stated.items gathered.new.used) }
+    ensures err { IfErr result (IsPartCause (L.told files.old).files (λ told. Loading told (path_of root.entry) levels gathered.old.used name.now bytes) (L.told files.old).faults (L.told files.new).faults) }
 {
     gathered.used += bytes.len();
     let statements = read_statements(alloc, name, bytes)?;
@@ -88,8 +89,8 @@ fn add_statements<L: Library>(
     requires names { All HasReadableNames statements }
     ensures follows { Follows (L.told files.old) (L.told files.new) }
     ensures good { OnOk result (IsGathered gathered.new.stated.items gathered.new.used) }
-    ensures ok { OnOk result (Adds (L.told files.old).files (λ told. StatementsGive (Including told (option_map (λ r. r.now) root.entry) levels) from.now gathered.old.used statements) gathered.old.stated.items gathered.new.stated.items gathered.new.used) }
-    ensures err { IfErr result (IsPartCause (L.told files.old).files (λ told. StatementsGive (Including told (option_map (λ r. r.now) root.entry) levels) from.now gathered.old.used statements) (L.told files.old).faults (L.told files.new).faults) }
+    ensures ok { OnOk result (Adds (L.told files.old).files (λ told. StatementsGive (Including told (path_of root.entry) levels) from.now gathered.old.used statements) gathered.old.stated.items gathered.new.stated.items gathered.new.used) }
+    ensures err { IfErr result (IsPartCause (L.told files.old).files (λ told. StatementsGive (Including told (path_of root.entry) levels) from.now gathered.old.used statements) (L.told files.old).faults (L.told files.new).faults) }
 {
     let list: Vec<Statement> = Vec::from(statements);
     for statement in list {
@@ -114,8 +115,8 @@ fn add_statement<L: Library>(
     requires names { HasReadableNames statement }
     ensures follows { Follows (L.told files.old) (L.told files.new) }
     ensures good { OnOk result (IsGathered gathered.new.stated.items gathered.new.used) }
-    ensures ok { OnOk result (Adds (L.told files.old).files (λ told. StatementGives (Including told (option_map (λ r. r.now) root.entry) levels) from.now gathered.old.used statement) gathered.old.stated.items gathered.new.stated.items gathered.new.used) }
-    ensures err { IfErr result (IsPartCause (L.told files.old).files (λ told. StatementGives (Including told (option_map (λ r. r.now) root.entry) levels) from.now gathered.old.used statement) (L.told files.old).faults (L.told files.new).faults) }
+    ensures ok { OnOk result (Adds (L.told files.old).files (λ told. StatementGives (Including told (path_of root.entry) levels) from.now gathered.old.used statement) gathered.old.stated.items gathered.new.stated.items gathered.new.used) }
+    ensures err { IfErr result (IsPartCause (L.told files.old).files (λ told. StatementGives (Including told (path_of root.entry) levels) from.now gathered.old.used statement) (L.told files.old).faults (L.told files.new).faults) }
 {
     match statement {
         Statement::Cnf {
@@ -179,8 +180,8 @@ fn add_included<L: Library>(
     requires name { IsTrue (is_readable_name file.now) }
     ensures follows { Follows (L.told files.old) (L.told files.new) }
     ensures good { OnOk result (IsGathered gathered.new.stated.items gathered.new.used) }
-    ensures ok { OnOk result (Adds (L.told files.old).files (λ told. Includes told (option_map (λ r. r.now) root.entry) (Loading told (option_map (λ r. r.now) root.entry) levels) gathered.old.used from.now file.now None) gathered.old.stated.items gathered.new.stated.items gathered.new.used) }
-    ensures err { IfErr result (IsPartCause (L.told files.old).files (λ told. Includes told (option_map (λ r. r.now) root.entry) (Loading told (option_map (λ r. r.now) root.entry) levels) gathered.old.used from.now file.now None) (L.told files.old).faults (L.told files.new).faults) }
+    ensures ok { OnOk result (Adds (L.told files.old).files (λ told. Includes told (path_of root.entry) (Loading told (path_of root.entry) levels) gathered.old.used from.now file.now None) gathered.old.stated.items gathered.new.stated.items gathered.new.used) }
+    ensures err { IfErr result (IsPartCause (L.told files.old).files (λ told. Includes told (path_of root.entry) (Loading told (path_of root.entry) levels) gathered.old.used from.now file.now None) (L.told files.old).faults (L.told files.new).faults) }
 {
     let Found { name, bytes } = find(alloc, root, from, file, gathered.used, files)?;
     add_file(alloc, root, levels, name.as_str(), bytes, files, gathered)
@@ -202,8 +203,8 @@ fn add_selected<L: Library>(
     requires name { IsTrue (is_readable_name file.now) }
     ensures follows { Follows (L.told files.old) (L.told files.new) }
     ensures good { OnOk result (IsGathered gathered.new.stated.items gathered.new.used) }
-    ensures ok { OnOk result (Adds (L.told files.old).files (λ told. Includes told (option_map (λ r. r.now) root.entry) (Loading told (option_map (λ r. r.now) root.entry) levels) gathered.old.used from.now file.now (Some names.now)) gathered.old.stated.items gathered.new.stated.items gathered.new.used) }
-    ensures err { IfErr result (IsPartCause (L.told files.old).files (λ told. Includes told (option_map (λ r. r.now) root.entry) (Loading told (option_map (λ r. r.now) root.entry) levels) gathered.old.used from.now file.now (Some names.now)) (L.told files.old).faults (L.told files.new).faults) }
+    ensures ok { OnOk result (Adds (L.told files.old).files (λ told. Includes told (path_of root.entry) (Loading told (path_of root.entry) levels) gathered.old.used from.now file.now (Some names.now)) gathered.old.stated.items gathered.new.stated.items gathered.new.used) }
+    ensures err { IfErr result (IsPartCause (L.told files.old).files (λ told. Includes told (path_of root.entry) (Loading told (path_of root.entry) levels) gathered.old.used from.now file.now (Some names.now)) (L.told files.old).faults (L.told files.new).faults) }
 {
     let mut part = Gathered {
         stated: Vec::new(alloc),

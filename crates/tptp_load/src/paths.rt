@@ -4,7 +4,7 @@ ghost use Rattle.std.specs.Str.{IsCharBoundary, IsUtf8};
 ghost use Rattle.std.specs.String.{string_bytes};
 ghost use Rattle.outside_io.specs.Told.{Follows};
 ghost use Rattle.inst_logic.specs.Printing.{is_readable_name};
-ghost use Rattle.tptp_load.specs.Includes.{directory, begins_with_slash};
+ghost use Rattle.tptp_load.specs.Includes.{directory, begins_with_slash, path_of};
 ghost use Rattle.tptp_load.specs.Loading.{limit};
 ghost use Rattle.tptp_load.specs.Includes.{tries, under_root};
 ghost use Rattle.tptp_load.specs.Finding.{IsFirst, IsNotFound, IsNotRead};
@@ -108,8 +108,8 @@ fn read_below<L: Library>(
 ) -> Result<Option<Found>, LoadError>
     requires used { used ≤ limit }
     ensures follows { Follows (L.told files.old) (L.told files.new) }
-    ensures ok { IfOk result (λ found. IsFirst (L.told files.old).files (under_root (option_map (λ r. r.now) root.entry) wanted.now) used (option_map pair_of found)) }
-    ensures err { IfErr result (IsNotRead (L.told files.old).files (L.told files.old).faults (L.told files.new).faults (under_root (option_map (λ r. r.now) root.entry) wanted.now) used) }
+    ensures ok { IfOk result (λ found. IsFirst (L.told files.old).files (under_root (path_of root.entry) wanted.now) used (option_map pair_of found)) }
+    ensures err { IfErr result (IsNotRead (L.told files.old).files (L.told files.old).faults (L.told files.new).faults (under_root (path_of root.entry) wanted.now) used) }
 {
     match root {
         Some(root) => match below(alloc, root, wanted) {
@@ -132,8 +132,8 @@ fn read_relative<L: Library>(
 ) -> Result<Option<Found>, LoadError>
     requires used { used ≤ limit }
     ensures follows { Follows (L.told files.old) (L.told files.new) }
-    ensures ok { IfOk result (λ found. IsFirst (L.told files.old).files ((directory from.now ++ wanted.now) ∷ under_root (option_map (λ r. r.now) root.entry) wanted.now) used (option_map pair_of found)) }
-    ensures err { IfErr result (IsNotRead (L.told files.old).files (L.told files.old).faults (L.told files.new).faults ((directory from.now ++ wanted.now) ∷ under_root (option_map (λ r. r.now) root.entry) wanted.now) used) }
+    ensures ok { IfOk result (λ found. IsFirst (L.told files.old).files ((directory from.now ++ wanted.now) ∷ under_root (path_of root.entry) wanted.now) used (option_map pair_of found)) }
+    ensures err { IfErr result (IsNotRead (L.told files.old).files (L.told files.old).faults (L.told files.new).faults ((directory from.now ++ wanted.now) ∷ under_root (path_of root.entry) wanted.now) used) }
 {
     let name = beside(alloc, from, wanted)?;
     match read_one(alloc, name, used, files) {
@@ -160,8 +160,8 @@ fn read_tries<L: Library>(
 ) -> Result<Option<Found>, LoadError>
     requires used { used ≤ limit }
     ensures follows { Follows (L.told files.old) (L.told files.new) }
-    ensures ok { IfOk result (λ found. IsFirst (L.told files.old).files (tries (option_map (λ r. r.now) root.entry) from.now wanted.now) used (option_map pair_of found)) }
-    ensures err { IfErr result (IsNotRead (L.told files.old).files (L.told files.old).faults (L.told files.new).faults (tries (option_map (λ r. r.now) root.entry) from.now wanted.now) used) }
+    ensures ok { IfOk result (λ found. IsFirst (L.told files.old).files (tries (path_of root.entry) from.now wanted.now) used (option_map pair_of found)) }
+    ensures err { IfErr result (IsNotRead (L.told files.old).files (L.told files.old).faults (L.told files.new).faults (tries (path_of root.entry) from.now wanted.now) used) }
 {
     if begins_with_slash(wanted) {
         let name = copy(alloc, wanted)?;
@@ -184,8 +184,8 @@ pub(crate) fn find<L: Library>(
     requires used { used ≤ limit }
     requires readable { IsTrue (is_readable_name wanted.now) }
     ensures follows { Follows (L.told files.old) (L.told files.new) }
-    ensures ok { IfOk result (λ found. IsFirst (L.told files.old).files (tries (option_map (λ r. r.now) root.entry) from.now wanted.now) used (Some (pair_of found))) }
-    ensures err { IfErr result (IsNotFound (L.told files.old).files (L.told files.old).faults (L.told files.new).faults (tries (option_map (λ r. r.now) root.entry) from.now wanted.now) wanted.now used) }
+    ensures ok { IfOk result (λ found. IsFirst (L.told files.old).files (tries (path_of root.entry) from.now wanted.now) used (Some (pair_of found))) }
+    ensures err { IfErr result (IsNotFound (L.told files.old).files (L.told files.old).faults (L.told files.new).faults (tries (path_of root.entry) from.now wanted.now) wanted.now used) }
 {
     match read_tries(alloc, root, from, text_of(wanted), used, files) {
         Ok(Some(found)) => Ok(found),

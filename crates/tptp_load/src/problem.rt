@@ -1,9 +1,10 @@
 // The problem of a file with its includes. Canonical forms are made at the end, so none is made of a clause that a selection
 // drops; clauses that hold always are left out then too.
-ghost use Rattle.std.specs.Prelude.{◌≡◌, ◌≤◌, ◌++◌, ◌∷◌, [], IfOk, IfErr, OnOk, map, option_map};
+ghost use Rattle.std.specs.Prelude.{◌≡◌, ◌≤◌, ◌++◌, ◌∷◌, [], IfOk, IfErr, OnOk, map};
 ghost use Rattle.outside_io.specs.Told.{Follows};
 ghost use Rattle.inst_logic.specs.Clauses.{canonical_form};
 ghost use Rattle.tptp_load.specs.Problems.{IsGoodProblem, IsLoadCause, Loads, Told, giving, problem_of};
+ghost use Rattle.tptp_load.specs.Includes.{path_of};
 
 use crate::error::LoadError;
 use crate::file::read_named;
@@ -54,9 +55,9 @@ pub fn load<L: Library>(
     root: Option<&str>,
 ) -> Result<Problem, LoadError>
     ensures follows { Follows (L.told files.old) (L.told files.new) }
-    ensures loads { IfOk result (λ p. Told (L.told files.old).files (λ told. Loads told name.now (option_map (λ r. r.now) root.entry) p)) }
+    ensures loads { IfOk result (λ p. Told (L.told files.old).files (λ told. Loads told name.now (path_of root.entry) p)) }
     ensures good { IfOk result IsGoodProblem }
-    ensures refused { IfErr result (IsLoadCause (L.told files.old).files (L.told files.old).faults (L.told files.new).faults name.now (option_map (λ r. r.now) root.entry)) }
+    ensures refused { IfErr result (IsLoadCause (L.told files.old).files (L.told files.old).faults (L.told files.new).faults name.now (path_of root.entry)) }
 {
     let Some(bytes) = read_named(alloc, name, 0, files)? else {
         return Err(LoadError::Absent {

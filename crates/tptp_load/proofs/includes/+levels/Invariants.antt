@@ -1,10 +1,11 @@
-use Rattle.std.proofs.Common.{◌≡◌, ◌≤◌, ◌+◌, ◌*◌, All, option_map}
+use Rattle.std.proofs.Common.{◌≡◌, ◌≤◌, ◌+◌, ◌*◌, All}
 use Rattle.std.specs.Vec.Iter.{into_iter_items}
 use Rattle.tptp_read.specs.Names.{HasReadableNames}
 use Rattle.tptp_read.specs.Text.{IsFormedStatement}
 use Rattle.tptp_load.specs.Parts.{Including, IsGathered}
 use Rattle.tptp_load.proofs.Parts.{Went}
 use Rattle.tptp_load.proofs.includes.+levels.Given as goal
+use Rattle.tptp_load.specs.Includes.{path_of}
 
 abbrev pub decreases-add_file : goal.decreases-add_file
 decreases-add_file g l = l.levels * 5 + 2
@@ -31,5 +32,5 @@ invariant-add_statements-loop-statement g l =
       good : IsGathered l.gathered.stated.items l.gathered.used;
       formed : All IsFormedStatement (into_iter_items l.statement-iterator);
       names : All HasReadableNames (into_iter_items l.statement-iterator);
-      went : Went (g.L.Library.told l.initial.files).files (λ told. Including told (option_map (λ r. r.now) l.root) l.levels) l.from l.initial.gathered.used l.fn.statements l.initial.gathered.stated.items l.gathered.stated.items l.gathered.used (into_iter_items l.statement-iterator);
+      went : Went (g.L.Library.told l.initial.files).files (λ told. Including told (path_of l.root) l.levels) l.from l.initial.gathered.used l.fn.statements l.initial.gathered.stated.items l.gathered.stated.items l.gathered.used (into_iter_items l.statement-iterator);
     }
