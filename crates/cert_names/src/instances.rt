@@ -7,7 +7,7 @@ ghost use Rattle.cert_format.specs.TermLists.{AreTermsFor, IsPartBy};
 ghost use Rattle.saturation_cert.specs.Wholes.{IsWholeTerm};
 ghost use Rattle.term_bank.specs.Forest.{IsClauseOf, clause_at, tree_at, Grows};
 
-use clause_form::{greatest_variable, under};
+use clause_form::{greatest_variable, under, variant};
 use inst_logic::Memory;
 use std::alloc::Global;
 use term_bank::{Bank, IdClause, IdLiteral, TermIdList};
@@ -37,7 +37,7 @@ fn is_part(bank: &Bank, c: &IdClause, d: &IdClause) -> bool
     requires whole { IsClauseOf bank.now d.now }
     ensures { IsTrue result ↔ IsPart (clause_at bank.now c.now) (clause_at bank.now d.now) }
 {
-    if c == d {
+    if variant(c, d) {
         return true;
     }
     bank.distinct();

@@ -1,5 +1,5 @@
 -- The variables of a canonical clause as terms: under them it stays what it is.
-use Rattle.std.proofs.Common.{◌≡◌, ℕ, ◌<◌, List, length, refl, sym, ◌∙◌, subst as transport}
+use Rattle.std.proofs.Common.{◌≡◌, ℕ, ◌<◌, List, length, sym, subst as transport}
 use Rattle.inst_logic.specs.declared.signed.Signed.{Signed}
 use Rattle.inst_logic.specs.Tree.{var}
 use Rattle.inst_logic.specs.Substitution.{clause_vars}

@@ -5,7 +5,7 @@ ghost use Rattle.term_bank.specs.Forest.{AreFormed, AreIds, Extends, IsClauseOf,
 ghost use Rattle.clause_form.specs.Conclusions.{AreVariables, by_terms, up_to};
 ghost use Rattle.clause_form.specs.Placements.{AreBoundTo, ArePartTerms, IsBoundTo};
 
-use crate::compare::greatest_variable;
+use crate::compare::{greatest_variable, variant};
 use crate::conclusion::variables_up_to;
 use crate::subsumption::{by_rank, have_candidates, place_all};
 use inst_logic::Memory;
@@ -35,8 +35,22 @@ fn bound_terms(alloc: Global, bindings: &Bindings, others: &[TermId]) -> Result<
     Ok(ids)
 }
 
-// The terms for the variables of the canonical clause `f`, whose ids are given, by which it subsumes `c`: the variables themselves
-// where the two are one clause, so that a long one needs no search.
+// The variables of the canonical clause `f`, whose ids are given, as the terms by which it subsumes itself.
+fn own_terms(
+    alloc: Global,
+    _bank: &Bank,
+    _f: &IdClause,
+    variables: &[TermId],
+) -> Result<TermIdList, Memory>
+    requires canonical { IsCanonical (clause_at _bank.now _f.now) }
+    requires variables { AreVariables _bank.now (length (order_of (clause_at _bank.now _f.now))) variables.now }
+    ensures { IfOk result (ArePartTerms _bank.now _f.now _f.now) }
+{
+    let own = Vec::from_slice(alloc, variables)?;
+    Ok(TermIdList::from(own))
+}
+
+// The terms for the variables of the canonical clause `f`, whose ids are given, by which it subsumes `c`.
 fn find_terms(
     alloc: Global,
     bank: &Bank,
@@ -51,10 +65,6 @@ fn find_terms(
     ensures some { IfOk result (λ o. IfSome o (ArePartTerms bank.now f.now c.now)) }
     ensures none { IfOk result (λ o. IfNone o (¬ (Subsumes (clause_at bank.now f.now) (clause_at bank.now c.now)))) }
 {
-    if f == c {
-        let own = variables.to_vec(alloc)?;
-        return Ok(Some(TermIdList::from(own)));
-    }
     if !have_candidates(bank, f, c) {
         return Ok(None);
     }
@@ -69,7 +79,7 @@ fn find_terms(
 }
 
 /// The terms for the variables of the canonical clause `f`, in their order, under which all its literals are among those of `c`.
-/// `None` comes where `f` doesn't subsume `c`. The bank keeps its trees and may have grown, also where memory was wanted.
+/// `None` comes where `f` doesn't subsume `c`. Where the two are one clause nothing is searched. The bank keeps its trees and may have grown, also where memory was wanted.
 pub fn subsuming_terms(
     alloc: Global,
     bank: &mut Bank,
@@ -86,5 +96,9 @@ pub fn subsuming_terms(
 {
     let greatest = greatest_variable(bank, f);
     let variables = variables_up_to(alloc, bank, greatest)?;
+    if variant(f, c) {
+        let own = own_terms(alloc, bank, f, &variables)?;
+        return Ok(Some(own));
+    }
     find_terms(alloc, bank, f.as_slice(), c.as_slice(), &variables)
 }
