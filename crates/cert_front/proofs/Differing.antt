@@ -1,5 +1,5 @@
 -- The input clauses as ids, beside the clauses of a problem.
-use Rattle.std.proofs.Common.{◌≡◌, ℕ, zero, suc, ◌+◌, ◌<◌, ◌≤◌, List, [], ◌∷◌, refl, ap, ap₂, sym, ◌∙◌, map, subst, arith, length, Bool, true, false, get_or}
+use Rattle.std.proofs.Common.{◌≡◌, ℕ, zero, suc, ◌+◌, ◌<◌, ◌≤◌, List, [], ◌∷◌, refl, ap, sym, ◌∙◌, map, subst, arith, length, Bool, false, get_or}
 use Rattle.std.specs.Prelude.{All, IsTrue, ◌↔◌, Option, None, Some, slice_get, option_map}
 use Rattle.std.proofs.lemmas.List.{length-map}
 use Rattle.std.proofs.lemmas.Option.{slice_get-map}
@@ -9,7 +9,7 @@ use Rattle.inst_logic.specs.Clauses.{TreeClause}
 use Rattle.inst_logic.specs.Derivations.{at_number}
 use Rattle.inst_logic.specs.WellFormed.{AreFormedClauses, IsFormedClause}
 use Rattle.inst_logic.proofs.ShownLaws.{at_number_contains}
-use Rattle.inst_calculus.proofs.Membership.{◌∈◌, all_in, in_all, contains_in}
+use Rattle.inst_calculus.proofs.Membership.{all_in, in_all, contains_in}
 use Rattle.term_bank.specs.Forest.{Forest, Extends, AreDistinct, IsClauseAt, IsClauseOf, clause_at}
 use Rattle.term_bank.proofs.Clauses.{clause_extends, clause_of_extends, formed_at}
 use Rattle.cert_format.specs.Certificate as format

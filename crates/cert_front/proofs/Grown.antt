@@ -16,7 +16,7 @@ use Rattle.term_bank.specs.Forest.{AreFormed, Extends, Forest}
 use Rattle.saturation_cert.proofs.Grown.{clauses_grown, members_grown, steps_grown}
 use Rattle.saturation_cert.proofs.Kept.{covered_same, covered_whole, first_same, refutation_same, saturation_same}
 use Rattle.cert_front.specs.Judgements.{HasInputsOf, IsChecked, IsJudgement}
-use Rattle.cert_front.specs.Kinds.{covered_value, first_value, refutation_value, saturation_value, uncovered_value}
+use Rattle.cert_front.specs.Kinds.{covered_value, first_value, refutation_value, saturation_value}
 use Rattle.cert_front.specs.declared.judgement.Judgement.{Judgement}
 use Rattle.cert_front.specs.declared.judgement.Judgement.TheVariants.{Valid}
 use Rattle.cert_front.proofs.OneJudgement.{with_problem}
@@ -28,7 +28,7 @@ checked_too : {C : Type 0} (value : C → Certificate) (p : Option Problem) (c :
 checked_too value p c h (Ok k) a = (with_problem p c Valid h a.0, a.1)
 checked_too value p c h (Err j) a = (a.0, with_problem p c j h a.1)
 
-checked_for : {C : Type 0} (value : C → Certificate) (p : Option Problem) (c d : Certificate) → d ≡ c → HasInputsOf p (base_of c) → (r : Result (Result C Judgement) Memory)
+pub checked_for : {C : Type 0} (value : C → Certificate) (p : Option Problem) (c d : Certificate) → d ≡ c → HasInputsOf p (base_of c) → (r : Result (Result C Judgement) Memory)
     → IfOk r (IsChecked value None d) → IfOk r (IsChecked value p c)
 checked_for value p c d same h r alone = IfOk-weaker r _ _ (λ k a. checked_too value p c h k a) (subst (λ (x : Certificate). IfOk r (IsChecked value None x)) same alone)
 
@@ -38,32 +38,20 @@ pub judged_by : {C : Type 0} (value : C → Certificate) (p : Option Problem) (c
 judged_by value p c (Ok k) j is h = subst (IsJudgement p c) (sym is) h.0
 judged_by value p c (Err e) j is h = subst (IsJudgement p c) (sym is) h.1
 
-module _ (p : Option Problem) (b : Base) where
-  pub first_judged : (r : FirstRefutation) → IsWholeFirst r → KeepsBase r.base b → HasInputsOf p (base_of (first_value r)) → (o : Result (Result FirstRefutation Judgement) Memory)
-      → IfOk o (IsChecked first_value None (first_value (record r { base = b }))) → IfOk o (IsChecked first_value p (first_value r))
-  first_judged r whole kept h o alone =
-      checked_for first_value p (first_value r) (first_value (record r { base = b })) (ap format.first_refutation (first_same r (record r { base = b }) whole (record { base = kept; rest = refl }))) h o alone
+-- ---- the value is that of the certificate before
 
-  pub refutation_judged : (r : Refutation) → IsWholeRefutation r → KeepsBase r.base b → HasInputsOf p (base_of (refutation_value r)) → (o : Result (Result Refutation Judgement) Memory)
-      → IfOk o (IsChecked refutation_value None (refutation_value (record r { base = b }))) → IfOk o (IsChecked refutation_value p (refutation_value r))
-  refutation_judged r whole kept h o alone =
-      checked_for refutation_value p (refutation_value r) (refutation_value (record r { base = b })) (ap format.refutation (refutation_same r (record r { base = b }) whole (record { base = kept; rest = refl }))) h o alone
+module _ (b : Base) where
+  pub first_kept : (r : FirstRefutation) → IsWholeFirst r → KeepsBase r.base b → first_value (record r { base = b }) ≡ first_value r
+  first_kept r whole kept = ap format.first_refutation (first_same r (record r { base = b }) whole (record { base = kept; rest = refl }))
 
-  pub saturation_judged : (s : Saturation) → IsWholeSaturation s → KeepsBase s.base b → HasInputsOf p (base_of (saturation_value s)) → (o : Result (Result Saturation Judgement) Memory)
-      → IfOk o (IsChecked saturation_value None (saturation_value (record s { base = b }))) → IfOk o (IsChecked saturation_value p (saturation_value s))
-  saturation_judged s whole kept h o alone =
-      checked_for saturation_value p (saturation_value s) (saturation_value (record s { base = b })) (ap format.saturation (saturation_same s (record s { base = b }) whole (record { base = kept; rest = refl }))) h o alone
+  pub refutation_kept : (r : Refutation) → IsWholeRefutation r → KeepsBase r.base b → refutation_value (record r { base = b }) ≡ refutation_value r
+  refutation_kept r whole kept = ap format.refutation (refutation_same r (record r { base = b }) whole (record { base = kept; rest = refl }))
 
-  pub uncovered_judged : (s : Saturation) → IsWholeSaturation s → KeepsBase s.base b → HasInputsOf p (base_of (saturation_value s)) → (o : Result (Result Covered Judgement) Memory)
-      → IfOk o (IsChecked uncovered_value None (saturation_value (record s { base = b }))) → IfOk o (IsChecked uncovered_value p (saturation_value s))
-  uncovered_judged s whole kept h o alone =
-      checked_for uncovered_value p (saturation_value s) (saturation_value (record s { base = b })) (ap format.saturation (saturation_same s (record s { base = b }) whole (record { base = kept; rest = refl }))) h o alone
+  pub saturation_kept : (s : Saturation) → IsWholeSaturation s → KeepsBase s.base b → saturation_value (record s { base = b }) ≡ saturation_value s
+  saturation_kept s whole kept = ap format.saturation (saturation_same s (record s { base = b }) whole (record { base = kept; rest = refl }))
 
-  pub covered_judged : (c : Covered) → IsWholeCovered c → KeepsBase c.cert.base b → HasInputsOf p (base_of (covered_value c)) → (o : Result (Result Covered Judgement) Memory)
-      → IfOk o (IsChecked covered_value None (covered_value (record c { cert = record c.cert { base = b } }))) → IfOk o (IsChecked covered_value p (covered_value c))
-  covered_judged c whole kept h o alone =
-      let new = record c { cert = record c.cert { base = b } } in
-      checked_for covered_value p (covered_value c) (covered_value new) (ap format.covered (covered_same c new whole (record { cert = record { base = kept; rest = refl }; rest = refl }))) h o alone
+  pub covered_kept : (c : Covered) → IsWholeCovered c → KeepsBase c.cert.base b → covered_value (record c { cert = record c.cert { base = b } }) ≡ covered_value c
+  covered_kept c whole kept = ap format.covered (covered_same c (record c { cert = record c.cert { base = b } }) whole (record { cert = record { base = kept; rest = refl }; rest = refl }))
 
 -- ---- whole where the base with the grown bank is
 

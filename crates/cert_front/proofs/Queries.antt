@@ -1,5 +1,6 @@
 -- What files that are told say of a saturation and an atom is one thing, and each answer to a question is that or yields.
 use Rattle.std.proofs.Common.{◌≡◌, ℕ, ◌^◌, ◌<◌, ◌≤◌, true, false, List, Option, Some, None, Result, Ok, Err, IfSome, IfOk, IfErr, length, ◌⊎◌, inl, inr, refl, sym, ap, subst, ◌∙◌, arith}
+use Rattle.std.specs.Prelude.{OnOk}
 use Rattle.outside_io.specs.declared.library.NamedFile.{NamedFile}
 use Rattle.inst_logic.specs.Tree.{Tree}
 use Rattle.outside_io.specs.WholeFiles.{IsHeld}
@@ -11,10 +12,26 @@ use Rattle.cert_front.specs.Kinds.{selected_of}
 use Rattle.cert_front.specs.Replies.{IsReply}
 use Rattle.cert_front.specs.declared.reply.Reply.{Reply}
 use Rattle.cert_front.specs.Certificates.{IsBarred, IsCertificateOf, limit}
-use Rattle.cert_front.specs.Queries.{HasRefutation, IsAskFault, IsExactReply, IsFoundReply, IsNoSaturation, IsReplied, YieldsReply}
+use Rattle.cert_front.specs.Queries.{HasRefutation, IsAskFault, IsExactReply, IsFoundReply, IsNoSaturation, IsReplied, IsUnasked, YieldsReply}
 use Rattle.cert_front.specs.declared.fault.CertFault.{CertFault}
 use Rattle.cert_front.specs.declared.fault.CertFault.TheVariants.{Absent, TooLong, ReadFault, Syntax, Version, NoSaturation, Memory}
 use Rattle.cert_front.proofs.Certificates.{TextsAreOne, not_barred, one_bar, one_certificate}
+
+-- ---- the certificate of a file
+
+pub replied_of : (files : Option (List NamedFile)) (name : List ℕ) (a : Tree) (c : Certificate) → IsCertificateOf files name c → (r : Result Reply CertFault) → OnOk r (is_refutation c ≡ false) → IfOk r (IsReply c a)
+    → IfOk r (IsReplied files name a)
+replied_of files name a c held (Ok reply) plain is = record { certificate = c; no_refutation = plain; held = held; replied = is }
+replied_of files name a c held (Err fault) plain is = tt
+
+pub unasked : (files : Option (List NamedFile)) (before now : ℕ) (name : List ℕ) (c : Certificate) → IsCertificateOf files name c → (f : CertFault) → IsUnasked c f → IsAskFault files before now name f
+unasked files before now name c held Absent h = absurd h
+unasked files before now name c held TooLong h = absurd h
+unasked files before now name c held ReadFault h = absurd h
+unasked files before now name c held (Syntax line) h = absurd h
+unasked files before now name c held (Version word) h = absurd h
+unasked files before now name c held NoSaturation h = (c, h, held)
+unasked files before now name c held Memory h = tt
 
 -- ---- one thing
 

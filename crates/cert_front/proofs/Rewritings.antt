@@ -6,14 +6,14 @@ use Rattle.cert_format.specs.Certificate as format
 use Rattle.cert_format.specs.Certificate.{Certificate, first_refutation, refutation, saturation, covered}
 use Rattle.cert_format.specs.Formats.{written_format}
 use Rattle.cert_format.specs.Printable.{CoveredFits, HasFormat, IsPrintable, LinesFit}
-use Rattle.cert_format.specs.Text.{certificate_text, written_text}
+use Rattle.cert_format.specs.Text.{written_text}
 use Rattle.cert_format.specs.Upgrades.{IsUpgrade}
 use Rattle.cert_format.specs.Validity.{IsNamed, IsValid, IsValidRefutation, IsValidSaturation}
 use Rattle.cert_reader.specs.Reads.{IsTextOf}
 use Rattle.cert_front.specs.Certificates.{IsCertificateOf, IsTextIn}
-use Rattle.cert_front.specs.Checks.{IsCheckFault, IsFound, IsJudged, form_of}
+use Rattle.cert_front.specs.Checks.{IsCheckFault, IsJudged, form_of}
 use Rattle.cert_front.specs.Judgements.{IsChecked, IsJudgement}
-use Rattle.cert_front.specs.Rewritings.{IsExactRewriting, IsNewText, IsRewriting, IsRewrittenAs, IsRewritten, IsRewritingOf, found_by}
+use Rattle.cert_front.specs.Rewritings.{IsExactRewriting, IsNewText, IsRewriting, IsRewrittenAs, IsRewritten, found_by}
 use Rattle.cert_front.specs.declared.check.CheckFault.{CheckFault}
 use Rattle.cert_front.specs.declared.judgement.Judgement.{Judgement}
 use Rattle.cert_front.specs.declared.judgement.Judgement.TheVariants.{Valid}

@@ -1,7 +1,6 @@
 -- Certificates of each kind, by their values over a bank.
 use Rattle.std.specs.Prelude.{List, []}
 use Rattle.inst_calculus.specs.Models.{Member}
-use Rattle.cert_format.specs.Certificate as format
 use Rattle.cert_format.specs.Certificate.{Certificate, first_refutation, refutation, saturation, covered, selected_members}
 use Rattle.saturation_cert.specs.declared.certificate.FirstRefutation.{FirstRefutation}
 use Rattle.saturation_cert.specs.declared.certificate.Refutation.{Refutation}

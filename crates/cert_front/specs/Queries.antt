@@ -22,6 +22,16 @@ pub record IsReplied (files : Option (List NamedFile)) (name : List ℕ) (a : Tr
 abbrev pub HasRefutation : Option (List NamedFile) → List ℕ → Type 0
 HasRefutation files name = (c : Certificate) × (is_refutation c ≡ true) × IsCertificateOf files name c
 
+-- why a certificate that was read gives no reply
+abbrev pub IsUnasked : Certificate → CertFault → Type 0
+IsUnasked c Absent = ⊥
+IsUnasked c TooLong = ⊥
+IsUnasked c ReadFault = ⊥
+IsUnasked c (Syntax line) = ⊥
+IsUnasked c (Version word) = ⊥
+IsUnasked c NoSaturation = is_refutation c ≡ true
+IsUnasked c Memory = ⊤
+
 -- Why there is no reply; the count of faults goes from before to now.
 abbrev pub IsAskFault : Option (List NamedFile) → ℕ → ℕ → List ℕ → CertFault → Type 0
 IsAskFault files before now name Absent = IsBarred files name Absent

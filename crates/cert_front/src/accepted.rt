@@ -1,5 +1,5 @@
 // What is known to be valid is accepted by the checker: it has no complaint, and only memory can be wanted.
-ghost use Rattle.std.specs.Prelude.{◌≡◌, IfOk};
+ghost use Rattle.std.specs.Prelude.{◌≡◌, IfErr, IfOk, IsErr, MatchResult};
 ghost use Rattle.cert_format.specs.Printable.{CoveredFits};
 ghost use Rattle.cert_format.specs.Validity.{IsNamed, IsValidByLines, IsValidSaturation};
 ghost use Rattle.cert_check.specs.declared.error.CheckError.TheVariants as errors;
@@ -13,13 +13,15 @@ use inst_logic::Memory;
 use saturation_cert::{Covered, Refutation, Saturation, covered_numbers};
 use std::alloc::Global;
 
-// What is left of the checker's errors where it has no complaint.
-fn want(error: CheckError) -> Memory
-    requires { error ≡ errors.Memory }
+// What the checker says, where it has no complaint.
+fn accepted<T: Drop>(checked: Result<T, CheckError>) -> Result<T, Memory>
+    requires { IfErr checked (λ e. e ≡ errors.Memory) }
+    ensures { MatchResult checked (λ t. IfOk result (λ u. u ≡ t)) (λ _. IsErr result) }
 {
-    match error {
-        CheckError::Memory => Memory,
-        CheckError::Complaint(_) => unreachable!(),
+    match checked {
+        Ok(t) => Ok(t),
+        Err(CheckError::Memory) => Err(Memory),
+        Err(CheckError::Complaint(_)) => unreachable!(),
     }
 }
 
@@ -29,10 +31,7 @@ pub fn accept_refutation(alloc: Global, cert: Refutation) -> Result<CheckedRefut
     requires valid { IsValidByLines (refutation_of cert) }
     ensures { IfOk result (λ c. refutation_of c ≡ refutation_of cert) }
 {
-    match check_refutation(alloc, cert) {
-        Ok(checked) => Ok(checked),
-        Err(error) => Err(want(error)),
-    }
+    accepted(check_refutation(alloc, cert))
 }
 
 /// A saturation with right covers, checked.
@@ -41,10 +40,7 @@ pub fn accept_covered(alloc: Global, cert: Covered) -> Result<CheckedCovered, Me
     requires named { IsNamed (covered_of cert) }
     ensures { IfOk result (λ c. covered_of c ≡ covered_of cert) }
 {
-    match check_covered(alloc, cert) {
-        Ok(checked) => Ok(checked),
-        Err(error) => Err(want(error)),
-    }
+    accepted(check_covered(alloc, cert))
 }
 
 // What covers the clauses of a valid saturation.
@@ -55,10 +51,7 @@ fn covers_of(alloc: Global, cert: Saturation) -> Result<Covered, Memory>
     ensures named { IfOk result (λ c. IsNamed (covered_of c)) }
     ensures same { IfOk result (λ c. (covered_of c).saturation ≡ saturation_of cert) }
 {
-    match cover(alloc, cert) {
-        Ok(covered) => Ok(covered),
-        Err(error) => Err(want(error)),
-    }
+    accepted(cover(alloc, cert))
 }
 
 /// A valid saturation, checked with its covers, which are found here.

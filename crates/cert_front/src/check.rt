@@ -11,9 +11,8 @@ ghost use Rattle.cert_front.specs.declared.check.CheckFault.TheVariants as fault
 use crate::fault::CertFault;
 use crate::file::read_file;
 use crate::file_laws::findings_are_one;
-use crate::judgement::{
-    Judgement, judge_covered, judge_first, judge_refutation, judge_saturation, judgement_of,
-};
+use crate::judgement::{Judgement, judge};
+use crate::kind::Kind;
 use crate::words::Form;
 use cert_reader::Certificate;
 use inst_logic::{Memory, Problem};
@@ -66,34 +65,20 @@ impl From<Memory> for CheckFault {
     }
 }
 
-// The form of the certificate, with what it is found to be. The certificate is dropped.
-fn judge(
+// What the certificate is found to be. It is dropped.
+fn judgement<C: Kind>(
     alloc: Global,
-    certificate: Certificate,
+    cert: C,
     problem: Option<&Problem>,
-) -> Result<(Form, Judgement), Memory>
-    requires whole { IsWholeCertificate certificate }
+) -> Result<Judgement, Memory>
+    requires whole { C.whole cert }
     requires problem { ForSome problem (λ p. AreFormedClauses p.now.clauses) }
-    ensures form { IfOk result (λ found. found.0 ≡ form_of (value_of certificate)) }
-    ensures judgement { IfOk result (λ found. IsJudgement (option_copied problem.entry) (value_of certificate) found.1) }
+    ensures { IfOk result (IsJudgement (option_copied problem.entry) (C.value cert)) }
 {
-    match certificate {
-        Certificate::First(cert) => {
-            let checked = judge_first(alloc, cert, problem)?;
-            Ok((Form::Refutation, judgement_of(checked)))
-        }
-        Certificate::Refutation(cert) => {
-            let checked = judge_refutation(alloc, cert, problem)?;
-            Ok((Form::Refutation, judgement_of(checked)))
-        }
-        Certificate::Saturation(cert) => {
-            let checked = judge_saturation(alloc, cert, problem)?;
-            Ok((Form::Saturation, judgement_of(checked)))
-        }
-        Certificate::Covered(cert) => {
-            let checked = judge_covered(alloc, cert, problem)?;
-            Ok((Form::Saturation, judgement_of(checked)))
-        }
+    match judge(alloc, cert, problem) {
+        Ok(Ok(_)) => Ok(Judgement::Valid),
+        Ok(Err(judgement)) => Ok(judgement),
+        Err(Memory) => Err(Memory),
     }
 }
 
@@ -118,7 +103,26 @@ pub(crate) fn load_named<L: Library>(
     }
 }
 
-// What a certificate is found to be for the problem of the file, where one is named.
+// What a certificate is found to be for the problem of the file, where one is named, with its form.
+fn judge_against<L: Library, C: Kind>(
+    alloc: Global,
+    files: &mut L,
+    cert: C,
+    problem: Option<&str>,
+    root: Option<&str>,
+) -> Result<(Form, Judgement), CheckFault>
+    requires { C.whole cert }
+    ensures follows { Follows (L.told files.old) (L.told files.new) }
+    ensures judged { IfOk result (IsJudgedAs (L.told files.old).files (option_map (λ f. f.now) problem.entry) (option_map (λ r. r.now) root.entry) (C.value cert)) }
+    ensures refused { IfErr result (IsUnjudged (L.told files.old).files (L.told files.old).faults (L.told files.new).faults (option_map (λ f. f.now) problem.entry) (option_map (λ r. r.now) root.entry)) }
+{
+    let form = cert.form();
+    let problem = load_named(alloc, files, problem, root)?;
+    let judgement = judgement(alloc, cert, problem.as_ref())?;
+    Ok((form, judgement))
+}
+
+// So of a certificate of any kind.
 fn judge_for<L: Library>(
     alloc: Global,
     files: &mut L,
@@ -131,12 +135,15 @@ fn judge_for<L: Library>(
     ensures judged { IfOk result (IsJudgedAs (L.told files.old).files (option_map (λ f. f.now) problem.entry) (option_map (λ r. r.now) root.entry) (value_of certificate)) }
     ensures refused { IfErr result (IsUnjudged (L.told files.old).files (L.told files.old).faults (L.told files.new).faults (option_map (λ f. f.now) problem.entry) (option_map (λ r. r.now) root.entry)) }
 {
-    let problem = load_named(alloc, files, problem, root)?;
-    let found = judge(alloc, certificate, problem.as_ref())?;
-    Ok(found)
+    match certificate {
+        Certificate::First(cert) => judge_against(alloc, files, cert, problem, root),
+        Certificate::Refutation(cert) => judge_against(alloc, files, cert, problem, root),
+        Certificate::Saturation(cert) => judge_against(alloc, files, cert, problem, root),
+        Certificate::Covered(cert) => judge_against(alloc, files, cert, problem, root),
+    }
 }
 
-// The same of the certificate of the file of this name.
+// So of the certificate of the file of this name.
 fn judge_file<L: Library>(
     alloc: Global,
     files: &mut L,

@@ -11,6 +11,7 @@ pub mod fault;
 pub mod file;
 pub mod file_laws;
 pub mod judgement;
+mod kind;
 pub mod laws;
 pub mod query;
 pub mod reply;

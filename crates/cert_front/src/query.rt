@@ -1,53 +1,66 @@
 // What the saturation of a file says of a ground atom.
-ghost use Rattle.std.specs.Prelude.{◌≡◌, ◌≤◌, true, IfOk, IfErr, IfSome};
+ghost use Rattle.std.specs.Prelude.{◌≡◌, ◌≤◌, false, true, Err, IfOk, IfErr, IfSome, OnOk};
 ghost use Rattle.outside_io.specs.Told.{Follows};
 ghost use Rattle.inst_logic.specs.LiteralView.{literal};
 ghost use Rattle.inst_logic.specs.WellFormed.{IsAtom};
 ghost use Rattle.term_bank.specs.Forest.{is_ground};
-ghost use Rattle.saturation_cert.specs.Wholes.{AreLight, IsWholeCovered, IsWholeSaturation};
-ghost use Rattle.cert_front.specs.Kinds.{covered_value, saturation_value, selected_of};
+ghost use Rattle.cert_format.specs.ValueLines.{is_refutation};
+ghost use Rattle.cert_reader.specs.Reads.{IsWholeCertificate, value_of};
+ghost use Rattle.saturation_cert.specs.Wholes.{AreLight};
+ghost use Rattle.cert_front.specs.Kinds.{selected_of};
 ghost use Rattle.cert_front.specs.Replies.{IsReply};
-ghost use Rattle.cert_front.specs.Queries.{IsAskFault, IsExactReply, IsReplied};
+ghost use Rattle.cert_front.specs.Queries.{IsAskFault, IsExactReply, IsReplied, IsUnasked};
 ghost use Rattle.cert_front.specs.declared.fault.CertFault.TheVariants as faults;
 
 use crate::fault::CertFault;
 use crate::file::read_file;
 use crate::file_laws::findings_are_one;
 use crate::laws::short_texts_are_light;
-use crate::reply::{Reply, ask_covered, ask_saturation};
+use crate::reply::{Reply, Truthful, ask};
 use cert_reader::Certificate;
 use inst_logic::Literal;
 use outside_io::Library;
-use saturation_cert::{Covered, Saturation};
 use std::alloc::Global;
 
 // The reply of a saturation, which is dropped.
-fn reply(alloc: Global, cert: Saturation, atom: &Literal) -> Result<Reply, CertFault>
-    requires whole { IsWholeSaturation cert }
-    requires light { AreLight (selected_of (saturation_value cert)) }
+fn reply<C: Truthful>(alloc: Global, cert: C, atom: &Literal) -> Result<Reply, CertFault>
+    requires whole { C.whole cert }
+    requires light { AreLight (selected_of (C.value cert)) }
     requires atom { IsAtom (literal atom.now).atom }
     requires variable_free { is_ground (literal atom.now).atom ≡ true }
-    ensures replied { IfOk result (IsReply (saturation_value cert) (literal atom.now).atom) }
+    ensures replied { IfOk result (IsReply (C.value cert) (literal atom.now).atom) }
     ensures refused { IfErr result (λ e. e ≡ faults.Memory) }
 {
-    let reply = ask_saturation(alloc, cert, atom)?;
+    let reply = ask(alloc, cert, atom)?;
     Ok(reply)
 }
 
-// The reply of a saturation with its covers, which is dropped.
-fn covered_reply(alloc: Global, cert: Covered, atom: &Literal) -> Result<Reply, CertFault>
-    requires whole { IsWholeCovered cert }
-    requires light { AreLight (selected_of (covered_value cert)) }
-    requires atom { IsAtom (literal atom.now).atom }
-    requires variable_free { is_ground (literal atom.now).atom ≡ true }
-    ensures replied { IfOk result (IsReply (covered_value cert) (literal atom.now).atom) }
-    ensures refused { IfErr result (λ e. e ≡ faults.Memory) }
+// A refutation gives no reply. It is dropped.
+fn no_reply<C: Drop>(_cert: C) -> Result<Reply, CertFault>
+    ensures { result ≡ Err faults.NoSaturation }
 {
-    let reply = ask_covered(alloc, cert, atom)?;
-    Ok(reply)
+    Err(CertFault::NoSaturation)
 }
 
-// The same of the saturation of the file of this name.
+// The reply of a certificate, which is dropped. A refutation has none.
+fn reply_of(alloc: Global, certificate: Certificate, atom: &Literal) -> Result<Reply, CertFault>
+    requires whole { IsWholeCertificate certificate }
+    requires light { AreLight (selected_of (value_of certificate)) }
+    requires atom { IsAtom (literal atom.now).atom }
+    requires variable_free { is_ground (literal atom.now).atom ≡ true }
+    ensures saturation { OnOk result (is_refutation (value_of certificate) ≡ false) }
+    ensures replied { IfOk result (IsReply (value_of certificate) (literal atom.now).atom) }
+    ensures refused { IfErr result (IsUnasked (value_of certificate)) }
+{
+    match certificate {
+        Certificate::Saturation(cert) => reply(alloc, cert, atom),
+        Certificate::Covered(cert) => reply(alloc, cert, atom),
+        Certificate::First(cert) => no_reply(cert),
+        Certificate::Refutation(cert) => no_reply(cert),
+    }
+}
+
+// So of the certificate of the file of this name.
 fn reply_of_file<L: Library>(
     alloc: Global,
     files: &mut L,
@@ -62,10 +75,7 @@ fn reply_of_file<L: Library>(
 {
     short_texts_are_light();
     match read_file(alloc, files, name) {
-        Ok(Certificate::Saturation(cert)) => reply(alloc, cert, atom),
-        Ok(Certificate::Covered(cert)) => covered_reply(alloc, cert, atom),
-        Ok(Certificate::First(_)) => Err(CertFault::NoSaturation),
-        Ok(Certificate::Refutation(_)) => Err(CertFault::NoSaturation),
+        Ok(certificate) => reply_of(alloc, certificate, atom),
         Err(fault) => Err(fault),
     }
 }

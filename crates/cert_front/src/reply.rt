@@ -9,9 +9,8 @@ ghost use Rattle.saturation_cert.specs.Wholes.{AreLight, IsWholeCovered, IsWhole
 ghost use Rattle.cert_front.specs.Kinds.{covered_value, saturation_value, selected_of};
 ghost use Rattle.cert_front.specs.Replies.{IsReply};
 
-use cert_check::{
-    CheckError, CheckedCovered, CheckedSaturation, Complaint, check_covered, check_saturation,
-};
+use crate::kind::Kind;
+use cert_check::{CheckError, CheckedCovered, CheckedSaturation, Complaint};
 use inst_logic::{Literal, Memory};
 use saturation_cert::{Covered, Saturation, truth};
 use std::alloc::Global;
@@ -27,53 +26,80 @@ pub enum Reply {
     Invalid(Complaint),
 }
 
-// Whether the atom is true by the members of the checked saturation, which is valid.
-fn truth_by_saturation(
-    alloc: Global,
-    checked: &mut CheckedSaturation,
-    atom: &Literal,
-) -> Result<bool, Memory>
-    requires light { AreLight (selected_of (saturation_value checked.old)) }
-    requires atom { IsAtom (literal atom.now).atom }
-    requires variable_free { is_ground (literal atom.now).atom ≡ true }
-    ensures valid { IfOk result (λ _. IsValid (saturation_value checked.old)) }
-    ensures truth { IfOk result (λ r. IsTrue r ↔ IsTrueBy (selected_of (saturation_value checked.old)) (literal atom.now).atom) }
-{
-    let id = checked.atom(atom)?;
-    truth(alloc, checked.cert(), id)
+// A kind of certificates that say what is true.
+pub(crate) trait Truthful: Kind {
+    /// Whether the atom is true by the members of the checked certificate, which is valid.
+    fn truth(alloc: Global, checked: &mut Self::Checked, atom: &Literal) -> Result<bool, Memory>
+        requires light { AreLight (selected_of (Self.checked_value checked.old)) }
+        requires atom { IsAtom (literal atom.now).atom }
+        requires variable_free { is_ground (literal atom.now).atom ≡ true }
+        ensures valid { IfOk result (λ _. IsValid (Self.checked_value checked.old)) }
+        ensures truth { IfOk result (λ r. IsTrue r ↔ IsTrueBy (selected_of (Self.checked_value checked.old)) (literal atom.now).atom) };
 }
 
-// Whether the atom is true by the members of the checked saturation with its covers, which is valid.
-fn truth_by_covered(
-    alloc: Global,
-    checked: &mut CheckedCovered,
-    atom: &Literal,
-) -> Result<bool, Memory>
-    requires light { AreLight (selected_of (covered_value checked.old)) }
-    requires atom { IsAtom (literal atom.now).atom }
-    requires variable_free { is_ground (literal atom.now).atom ≡ true }
-    ensures valid { IfOk result (λ _. IsValid (covered_value checked.old)) }
-    ensures truth { IfOk result (λ r. IsTrue r ↔ IsTrueBy (selected_of (covered_value checked.old)) (literal atom.now).atom) }
-{
-    let id = checked.atom(atom)?;
-    truth(alloc, &checked.cert().cert, id)
+impl Truthful for Saturation {
+    fn truth(
+        alloc: Global,
+        checked: &mut CheckedSaturation,
+        atom: &Literal,
+    ) -> Result<bool, Memory> {
+        let id = checked.atom(atom)?;
+        truth(alloc, checked.cert(), id)
+    }
 }
 
-// What the checked saturation says of the ground atom.
-fn reply_by_saturation(
+impl Truthful for Covered {
+    fn truth(alloc: Global, checked: &mut CheckedCovered, atom: &Literal) -> Result<bool, Memory> {
+        let id = checked.atom(atom)?;
+        truth(alloc, &checked.cert().cert, id)
+    }
+}
+
+// What the checked certificate says of the ground atom.
+fn reply_by<C: Truthful>(
     alloc: Global,
-    checked: &mut CheckedSaturation,
+    checked: &mut C::Checked,
     atom: &Literal,
 ) -> Result<Reply, Memory>
-    requires light { AreLight (selected_of (saturation_value checked.old)) }
+    requires light { AreLight (selected_of (C.checked_value checked.old)) }
     requires atom { IsAtom (literal atom.now).atom }
     requires variable_free { is_ground (literal atom.now).atom ≡ true }
-    ensures { IfOk result (IsReply (saturation_value checked.old) (literal atom.now).atom) }
+    ensures { IfOk result (IsReply (C.checked_value checked.old) (literal atom.now).atom) }
 {
-    match truth_by_saturation(alloc, checked, atom) {
+    match C::truth(alloc, checked, atom) {
         Ok(true) => Ok(Reply::True),
         Ok(false) => Ok(Reply::False),
         Err(Memory) => Err(Memory),
+    }
+}
+
+// So of one that is dropped.
+fn reply_of<C: Truthful>(
+    alloc: Global,
+    checked: C::Checked,
+    atom: &Literal,
+) -> Result<Reply, Memory>
+    requires light { AreLight (selected_of (C.checked_value checked)) }
+    requires atom { IsAtom (literal atom.now).atom }
+    requires variable_free { is_ground (literal atom.now).atom ≡ true }
+    ensures { IfOk result (IsReply (C.checked_value checked) (literal atom.now).atom) }
+{
+    let mut checked = checked;
+    reply_by::<C>(alloc, &mut checked, atom)
+}
+
+// What the certificate says of the ground atom, once it is checked.
+pub(crate) fn ask<C: Truthful>(alloc: Global, cert: C, atom: &Literal) -> Result<Reply, Memory>
+    requires whole { C.whole cert }
+    requires light { AreLight (selected_of (C.value cert)) }
+    requires atom { IsAtom (literal atom.now).atom }
+    requires variable_free { is_ground (literal atom.now).atom ≡ true }
+    ensures { IfOk result (IsReply (C.value cert) (literal atom.now).atom) }
+{
+    match cert.check(alloc) {
+        Ok(checked) => reply_of::<C>(alloc, checked, atom),
+        Err(CheckError::Complaint(complaint)) => Ok(Reply::Invalid(complaint)),
+        Err(CheckError::Memory) => Err(Memory),
     }
 }
 
@@ -89,30 +115,11 @@ pub fn reply_of_saturation(
     requires variable_free { is_ground (literal atom.now).atom ≡ true }
     ensures { IfOk result (IsReply (saturation_value checked) (literal atom.now).atom) }
 {
-    let mut checked = checked;
-    reply_by_saturation(alloc, &mut checked, atom)
+    reply_of::<Saturation>(alloc, checked, atom)
 }
 
-// What the checked saturation with its covers says of the ground atom.
-fn reply_by_covered(
-    alloc: Global,
-    checked: &mut CheckedCovered,
-    atom: &Literal,
-) -> Result<Reply, Memory>
-    requires light { AreLight (selected_of (covered_value checked.old)) }
-    requires atom { IsAtom (literal atom.now).atom }
-    requires variable_free { is_ground (literal atom.now).atom ≡ true }
-    ensures { IfOk result (IsReply (covered_value checked.old) (literal atom.now).atom) }
-{
-    match truth_by_covered(alloc, checked, atom) {
-        Ok(true) => Ok(Reply::True),
-        Ok(false) => Ok(Reply::False),
-        Err(Memory) => Err(Memory),
-    }
-}
-
-/// What the checked saturation with its covers says of the ground atom, for who has checked it; the literal's sign is not asked for. The value
-/// is dropped.
+/// What the checked saturation with its covers says of the ground atom, for who has checked it; the literal's sign is not asked
+/// for. The value is dropped.
 pub fn reply_of_covered(
     alloc: Global,
     checked: CheckedCovered,
@@ -123,8 +130,7 @@ pub fn reply_of_covered(
     requires variable_free { is_ground (literal atom.now).atom ≡ true }
     ensures { IfOk result (IsReply (covered_value checked) (literal atom.now).atom) }
 {
-    let mut checked = checked;
-    reply_by_covered(alloc, &mut checked, atom)
+    reply_of::<Covered>(alloc, checked, atom)
 }
 
 /// What the saturation says of the ground atom, once it is checked.
@@ -135,11 +141,7 @@ pub fn ask_saturation(alloc: Global, cert: Saturation, atom: &Literal) -> Result
     requires variable_free { is_ground (literal atom.now).atom ≡ true }
     ensures { IfOk result (IsReply (saturation_value cert) (literal atom.now).atom) }
 {
-    match check_saturation(alloc, cert) {
-        Ok(checked) => reply_of_saturation(alloc, checked, atom),
-        Err(CheckError::Complaint(complaint)) => Ok(Reply::Invalid(complaint)),
-        Err(CheckError::Memory) => Err(Memory),
-    }
+    ask(alloc, cert, atom)
 }
 
 /// What the saturation with its covers says of the ground atom, once it is checked.
@@ -150,9 +152,5 @@ pub fn ask_covered(alloc: Global, cert: Covered, atom: &Literal) -> Result<Reply
     requires variable_free { is_ground (literal atom.now).atom ≡ true }
     ensures { IfOk result (IsReply (covered_value cert) (literal atom.now).atom) }
 {
-    match check_covered(alloc, cert) {
-        Ok(checked) => reply_of_covered(alloc, checked, atom),
-        Err(CheckError::Complaint(complaint)) => Ok(Reply::Invalid(complaint)),
-        Err(CheckError::Memory) => Err(Memory),
-    }
+    ask(alloc, cert, atom)
 }

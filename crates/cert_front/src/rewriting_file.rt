@@ -9,12 +9,33 @@ ghost use Rattle.cert_front.specs.Rewritings.{IsExactRewriting, IsRewritten, IsR
 use crate::check::{CheckFault, load_named};
 use crate::file::read_named;
 use crate::file_laws::findings_are_one;
-use crate::rewriting::{Rewriting, rewrite};
-use cert_reader::ReadCert;
+use crate::kind::Uncovered;
+use crate::rewriting::{Rewritable, Rewriting, rewrite_as};
+use cert_reader::{Certificate, ReadCert};
 use outside_io::Library;
 use std::alloc::Global;
 
-// The rewriting of a certificate for the problem of the file, where one is named.
+// The rewriting of a certificate, under this name, for the problem of the file, where one is named.
+fn rewrite_against<L: Library, C: Rewritable>(
+    alloc: Global,
+    files: &mut L,
+    name: &[u8],
+    cert: C,
+    problem: Option<&str>,
+    root: Option<&str>,
+) -> Result<Rewriting, CheckFault>
+    requires whole { C.whole cert }
+    requires printable { (format : ℕ) × IsPrintable format (C.value cert) }
+    ensures follows { Follows (L.told files.old) (L.told files.new) }
+    ensures rewritten { IfOk result (IsRewrittenAs (L.told files.old).files (option_map (λ f. f.now) problem.entry) (option_map (λ r. r.now) root.entry) name.now (C.value cert)) }
+    ensures refused { IfErr result (IsUnjudged (L.told files.old).files (L.told files.old).faults (L.told files.new).faults (option_map (λ f. f.now) problem.entry) (option_map (λ r. r.now) root.entry)) }
+{
+    let problem = load_named(alloc, files, problem, root)?;
+    let rewriting = rewrite_as(alloc, name, cert, problem.as_ref())?;
+    Ok(rewriting)
+}
+
+// So of a certificate of any kind, under the name that was read with it.
 fn rewrite_for<L: Library>(
     alloc: Global,
     files: &mut L,
@@ -29,12 +50,18 @@ fn rewrite_for<L: Library>(
     ensures refused { IfErr result (IsUnjudged (L.told files.old).files (L.told files.old).faults (L.told files.new).faults (option_map (λ f. f.now) problem.entry) (option_map (λ r. r.now) root.entry)) }
 {
     let ReadCert { name, cert, .. } = read;
-    let problem = load_named(alloc, files, problem, root)?;
-    let rewriting = rewrite(alloc, name.bytes(), cert, problem.as_ref())?;
-    Ok(rewriting)
+    let name = name.bytes();
+    match cert {
+        Certificate::First(cert) => rewrite_against(alloc, files, name, cert, problem, root),
+        Certificate::Refutation(cert) => rewrite_against(alloc, files, name, cert, problem, root),
+        Certificate::Saturation(cert) => {
+            rewrite_against(alloc, files, name, Uncovered(cert), problem, root)
+        }
+        Certificate::Covered(cert) => rewrite_against(alloc, files, name, cert, problem, root),
+    }
 }
 
-// The same of the certificate of the file of this name.
+// So of the certificate of the file of this name.
 fn rewrite_named<L: Library>(
     alloc: Global,
     files: &mut L,

@@ -1,7 +1,13 @@
+use Rattle.std.proofs.Common.{◌≡◌}
+use Rattle.std.proofs.lemmas.Result.{IfErr-weaker}
 use Rattle.cert_format.specs.Validity.{CoversPass}
+use Rattle.saturation_cert.specs.declared.certificate.Covered.{Covered}
 use Rattle.saturation_cert.specs.Values.{covered_of}
-use Rattle.cert_front.proofs.NoComplaint.{only_memory}
+use Rattle.cert_front.proofs.NoComplaint.{accepted_too, only_memory}
 use Rattle.cert_front.proofs.accepted.accept_covered.Goals as goal
 
-pub want-requires : goal.want-requires
-want-requires c = only_memory (CoversPass (covered_of c.args.cert)) c.in-Err.error c.requires.named c.in-Err.ensures.complaint
+pub accepted-requires : goal.accepted-requires
+accepted-requires c = IfErr-weaker c.check_covered.result _ _ (λ e cause. only_memory (CoversPass (covered_of c.args.cert)) e c.requires.named cause) c.check_covered.ensures.complaint
+
+pub returns : goal.returns
+returns c = accepted_too (λ (k : Covered). covered_of k ≡ covered_of c.args.cert) c.check_covered.result c.accepted.result c.accepted.ensures c.check_covered.ensures.same

@@ -1,7 +1,13 @@
+use Rattle.std.proofs.Common.{◌≡◌}
+use Rattle.std.proofs.lemmas.Result.{IfErr-weaker}
 use Rattle.cert_format.specs.Validity.{LinesPass}
+use Rattle.saturation_cert.specs.declared.certificate.Refutation.{Refutation}
 use Rattle.saturation_cert.specs.Values.{refutation_of}
-use Rattle.cert_front.proofs.NoComplaint.{only_memory}
+use Rattle.cert_front.proofs.NoComplaint.{accepted_too, only_memory}
 use Rattle.cert_front.proofs.accepted.accept_refutation.Goals as goal
 
-pub want-requires : goal.want-requires
-want-requires c = only_memory (LinesPass (refutation_of c.args.cert)) c.in-Err.error c.requires.valid c.in-Err.ensures.complaint
+pub accepted-requires : goal.accepted-requires
+accepted-requires c = IfErr-weaker c.check_refutation.result _ _ (λ e cause. only_memory (LinesPass (refutation_of c.args.cert)) e c.requires.valid cause) c.check_refutation.ensures.complaint
+
+pub returns : goal.returns
+returns c = accepted_too (λ (r : Refutation). refutation_of r ≡ refutation_of c.args.cert) c.check_refutation.result c.accepted.result c.accepted.ensures c.check_refutation.ensures.same

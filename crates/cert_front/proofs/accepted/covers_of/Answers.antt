@@ -1,7 +1,20 @@
-use Rattle.cert_format.specs.Validity.{SaturationPasses}
-use Rattle.saturation_cert.specs.Values.{saturation_of}
-use Rattle.cert_front.proofs.NoComplaint.{only_memory}
+use Rattle.std.proofs.Common.{◌≡◌}
+use Rattle.std.proofs.lemmas.Result.{IfErr-weaker}
+use Rattle.cert_format.specs.Validity.{IsNamed, SaturationPasses}
+use Rattle.saturation_cert.specs.declared.certificate.Covered.{Covered}
+use Rattle.saturation_cert.specs.Values.{covered_of, saturation_of}
+use Rattle.saturation_cert.specs.Wholes.{IsWholeCovered}
+use Rattle.cert_front.proofs.NoComplaint.{accepted_too, only_memory}
 use Rattle.cert_front.proofs.accepted.covers_of.Goals as goal
 
-pub want-requires : goal.want-requires
-want-requires c = only_memory (SaturationPasses (saturation_of c.args.cert)) c.in-Err.error c.requires.valid c.in-Err.ensures.complaint
+pub accepted-requires : goal.accepted-requires
+accepted-requires c = IfErr-weaker c.cover.result _ _ (λ e cause. only_memory (SaturationPasses (saturation_of c.args.cert)) e c.requires.valid cause) c.cover.ensures.complaint
+
+pub returns-clause-whole : goal.returns-clause-whole
+returns-clause-whole c = accepted_too IsWholeCovered c.cover.result c.accepted.result c.accepted.ensures c.cover.ensures.whole
+
+pub returns-clause-named : goal.returns-clause-named
+returns-clause-named c = accepted_too (λ (k : Covered). IsNamed (covered_of k)) c.cover.result c.accepted.result c.accepted.ensures c.cover.ensures.named
+
+pub returns-clause-same : goal.returns-clause-same
+returns-clause-same c = accepted_too (λ (k : Covered). saturation_of k.cert ≡ saturation_of c.args.cert) c.cover.result c.accepted.result c.accepted.ensures c.cover.ensures.same

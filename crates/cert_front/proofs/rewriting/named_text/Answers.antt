@@ -1,8 +1,0 @@
-use Rattle.std.proofs.lemmas.Result.{IfOk-weaker}
-use Rattle.saturation_cert.specs.Values.{covered_of}
-use Rattle.cert_front.proofs.Rewritings.{named_text}
-use Rattle.cert_front.proofs.rewriting.named_text.Goals as goal
-
-pub returns : goal.returns
-returns c =
-    IfOk-weaker c.covered_text.result _ _ (λ text is. named_text c.args.name.now text (covered_of c.args.checked) c.requires.0 c.requires.1 is) c.covered_text.ensures.text

@@ -1,8 +1,0 @@
-use Rattle.std.proofs.lemmas.Result.{IfOk-weaker}
-use Rattle.saturation_cert.specs.Values.{refutation_of}
-use Rattle.cert_front.proofs.Rewritings.{own_text}
-use Rattle.cert_front.proofs.rewriting.own_text.Goals as goal
-
-pub returns : goal.returns
-returns c =
-    IfOk-weaker c.refutation_text.result _ _ (λ text is. own_text c.args.name.now text (refutation_of c.args.checked) c.requires.0 c.requires.1 is) c.refutation_text.ensures.text
