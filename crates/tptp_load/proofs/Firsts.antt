@@ -1,18 +1,16 @@
 -- The first of several names that a file has.
-use Rattle.std.proofs.Common.{◌≡◌, ℕ, zero, suc, ◌+◌, ◌<◌, ◌≤◌, List, [], ◌∷◌, refl, ap, sym, subst, ◌∙◌, Option, Some, None, length, arith, min, ◌^◌, ◌-◌}
-use Rattle.std.specs.Prelude.{IsTrue, Bool, true, false}
+use Rattle.std.proofs.Common.{◌≡◌, ℕ, zero, suc, ◌<◌, ◌≤◌, List, [], ◌∷◌, refl, ap, sym, ◌∙◌, Option, Some, None, arith}
+use Rattle.std.specs.Prelude.{IsTrue, true}
 use Rattle.std.specs.List.{list_all}
 use Rattle.std.specs.Str.{IsUtf8, IsAscii}
-use Rattle.std.proofs.Common.{get_or, true≢false}
+use Rattle.std.proofs.Common.{true≢false}
 use Rattle.std.proofs.lemmas.Str.{IsUtf8-from_ascii}
 use Rattle.std.proofs.lemmas.Bool.Decides.{nat_tests}
 use Rattle.inst_logic.specs.Printing.{is_between, is_readable_name}
 use Rattle.inst_logic.specs.EqualLaws.{and_left, and_right}
-use Rattle.outside_io.specs.Causes.{Rose}
 use Rattle.outside_io.specs.Files.{bytes_named}
 use Rattle.outside_io.specs.declared.library.NamedFile.{NamedFile}
 use Rattle.tptp_load.specs.Includes.{first_found, or_found}
-use Rattle.tptp_load.specs.Loading.{limit}
 use Rattle.tptp_load.specs.Reading.{IsHeld, IsUnread}
 use Rattle.tptp_load.specs.Finding.{IsFirst, IsNotRead, IsNotFound}
 use Rattle.tptp_load.specs.declared.error.LoadError.{LoadError}

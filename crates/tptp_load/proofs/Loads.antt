@@ -1,11 +1,10 @@
 -- What loading says of the whole.
-use Rattle.std.proofs.Common.{◌≡◌, ℕ, ◌+◌, ◌≤◌, List, [], ◌∷◌, ◌++◌, refl, ap, sym, subst, ◌∙◌, Bool, true, false, cond, map, length, Option, Some, None, arith}
-use Rattle.std.specs.Prelude.{All, IsTrue, not, ◌&&◌, IfErr, Result, Ok, Err}
+use Rattle.std.proofs.Common.{◌≡◌, ℕ, ◌≤◌, List, [], ◌∷◌, refl, ap, sym, subst, Bool, true, false, cond, map, Option, Some, None, arith}
+use Rattle.std.specs.Prelude.{All, IsTrue, not}
 use Rattle.std.specs.List.{list_all}
 use Rattle.std.proofs.lemmas.List.Elements.{All-nil, All-cons, All-head, All-tail}
 use Rattle.inst_logic.specs.declared.clause.Problem.{Problem}
 use Rattle.inst_logic.specs.Tree.{Tree, var, app, Trees, none, more}
-use Rattle.inst_logic.specs.declared.signed.Signed.{Signed}
 use Rattle.inst_logic.specs.Equal.{literal_eq}
 use Rattle.inst_logic.specs.EqualLaws.{and_left, and_right, and_both}
 use Rattle.inst_logic.specs.Substitution.{subst as put, substs, subst_literal}

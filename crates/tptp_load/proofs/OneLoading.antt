@@ -1,16 +1,16 @@
 -- A file gives one outcome, where each text is readable or offends in one way.
-use Rattle.std.proofs.Common.{◌≡◌, ℕ, zero, suc, ◌+◌, ◌<◌, ◌≤◌, List, [], ◌∷◌, refl, ap, sym, subst, ◌∙◌, Option, Some, None, length, arith}
+use Rattle.std.proofs.Common.{◌≡◌, ℕ, zero, suc, ◌+◌, List, [], ◌∷◌, refl, ap, sym, subst, ◌∙◌, Option, Some, None, length, arith}
 use Rattle.outside_io.specs.Files.{bytes_named}
 use Rattle.outside_io.specs.declared.library.NamedFile.{NamedFile}
 use Rattle.tptp_read.specs.Meaning.{Fault, syntax_fault, language, feature, role_fault}
 use Rattle.tptp_read.specs.Meaning.{limit as limit_fault}
-use Rattle.tptp_read.specs.Text.{Readable, IsCause, IsDecided, Outcome, readable, offends, Has}
+use Rattle.tptp_read.specs.Text.{Readable, IsDecided, Outcome, readable, offends, Has}
 use Rattle.tptp_read.specs.declared.statement.Statement.{Statement}
 use Rattle.tptp_read.specs.declared.statement.Statement.TheVariants.{Cnf, Include}
 use Rattle.tptp_read.specs.declared.text.ReadError.{ReadError}
 use Rattle.tptp_read.specs.declared.text.ReadError.TheVariants as text
-use Rattle.tptp_load.specs.Includes.{Stated, tries, first_found}
-use Rattle.tptp_load.specs.Loading.{Loaded, gives, refuses, limit, after, selected, Includer, Loader, NoneIncluded, Includes, FoundGives, Loading, FileGives, too_long, misread, read, StatementsGive, HasFault, Then, StartGives, Gives, last_level}
+use Rattle.tptp_load.specs.Includes.{tries, first_found}
+use Rattle.tptp_load.specs.Loading.{Loaded, gives, refuses, after, selected, Includer, Loader, NoneIncluded, Includes, FoundGives, Loading, FileGives, too_long, misread, read, StatementsGive, HasFault, Then, StartGives, Gives, last_level}
 use Rattle.inst_logic.specs.declared.clause.Problem.{Problem}
 use Rattle.tptp_load.specs.Problems.{Loads, Refuses, problem_of}
 use Rattle.tptp_load.specs.declared.error.LoadError.{LoadError}

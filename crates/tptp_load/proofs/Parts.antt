@@ -1,8 +1,7 @@
 -- How the parts of loading go together.
-use Rattle.std.proofs.Common.{◌≡◌, ℕ, zero, suc, ◌+◌, ◌-◌, ◌<◌, ◌≤◌, List, [], ◌∷◌, ◌++◌, refl, ap, sym, subst, ◌∙◌, Option, Some, None, length, arith, append_assoc, ◌≢◌}
-use Rattle.std.specs.Prelude.{All, IsTrue, Result, Ok, Err, OnOk, IfErr}
+use Rattle.std.proofs.Common.{◌≡◌, ℕ, zero, suc, ◌+◌, ◌-◌, ◌≤◌, List, [], ◌∷◌, ◌++◌, refl, ap, sym, subst, ◌∙◌, Option, Some, None, length, arith, append_assoc, ◌≢◌}
+use Rattle.std.specs.Prelude.{All, Result, Ok, Err, OnOk, IfErr}
 use Rattle.std.proofs.lemmas.List.Elements.{All-append, All-filter, All-nil, All-cons}
-use Rattle.outside_io.specs.Causes.{Rose}
 use Rattle.outside_io.specs.declared.library.NamedFile.{NamedFile}
 use Rattle.tptp_read.specs.Text.{IsCause, Readable}
 use Rattle.tptp_read.specs.declared.statement.Statement.{Statement}
@@ -10,10 +9,10 @@ use Rattle.tptp_read.specs.declared.statement.Statement.TheVariants.{Cnf, Includ
 use Rattle.tptp_read.specs.declared.text.ReadError.{ReadError}
 use Rattle.tptp_read.specs.declared.text.ReadError.TheVariants as text
 use Rattle.tptp_load.specs.Includes.{Stated, tries, first_found, first_missing, listed, is_listed}
-use Rattle.tptp_load.specs.Loading.{Loaded, gives, refuses, limit, after, selected, selected_or, Includer, Loader, NoneIncluded, Includes, FoundGives, Loading, FileGives, too_long, misread, read, StatementsGive, HasFault}
+use Rattle.tptp_load.specs.Loading.{Loaded, gives, refuses, limit, after, selected, selected_or, Includer, Loader, Includes, FoundGives, Loading, FileGives, too_long, misread, read, StatementsGive, HasFault}
 use Rattle.tptp_load.specs.Problems.{Told}
 use Rattle.tptp_load.specs.Finding.{IsFirst, IsNotFound}
-use Rattle.tptp_load.specs.Selecting.{Tells, IsUnselected}
+use Rattle.tptp_load.specs.Selecting.{IsUnselected}
 use Rattle.tptp_load.specs.Parts.{IsGoodStated, IsGathered, Saying, Adds, IsPartCause, Including, StatementGives, IsMisread}
 use Rattle.tptp_load.specs.declared.error.LoadError.{LoadError}
 use Rattle.tptp_load.specs.declared.error.LoadError.TheVariants.{Text, Absent, NotSelected, IncludeDepth, TooLong, ReadFault, Memory}

@@ -1,5 +1,5 @@
 -- Sets of names, and what a selection keeps.
-use Rattle.std.proofs.Common.{◌≡◌, ℕ, ◌+◌, ◌<◌, List, [], ◌∷◌, ◌++◌, refl, ap, sym, subst, ◌∙◌, map, Bool, true, false, cond, take, drop, drop-cons, add-one, get_or, length, true≢false, Option, Some, None}
+use Rattle.std.proofs.Common.{◌≡◌, ℕ, ◌+◌, ◌<◌, List, [], ◌∷◌, ◌++◌, refl, ap, sym, subst, ◌∙◌, Bool, true, false, cond, take, drop, drop-cons, add-one, get_or, length, true≢false, Some, None}
 use Rattle.std.specs.Prelude.{◌||◌, filter}
 use Rattle.std.specs.List.{list_any}
 use Rattle.std.specs.Str.{bytes_eq}

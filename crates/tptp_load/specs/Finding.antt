@@ -2,10 +2,8 @@
 use Rattle.std.specs.Prelude.{ℕ, ◌≡◌, ◌+◌, ◌<◌, ◌≤◌, List, Option, None, Some, ⊤, length}
 use Rattle.outside_io.specs.Causes.{Rose}
 use Rattle.outside_io.specs.declared.library.NamedFile.{NamedFile}
-use Rattle.tptp_read.specs.declared.text.ReadError.{ReadError}
 use Rattle.tptp_load.specs.Includes.{first_found}
 use Rattle.tptp_load.specs.Loading.{limit}
-use Rattle.tptp_load.specs.Reading.{IsHeld, IsUnread}
 use Rattle.tptp_load.specs.declared.error.LoadError.{LoadError}
 use Rattle.tptp_load.specs.declared.error.LoadError.TheVariants.{Text, Absent, NotSelected, IncludeDepth, TooLong, ReadFault, Memory}
 

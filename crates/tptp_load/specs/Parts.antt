@@ -1,5 +1,5 @@
 -- What the parts of loading say of what they add, where the files are told.
-use Rattle.std.specs.Prelude.{ℕ, zero, suc, ◌≡◌, ◌≢◌, ◌≤◌, List, [], ◌∷◌, ◌++◌, Option, None, Some, All, IsTrue, ⊤}
+use Rattle.std.specs.Prelude.{ℕ, zero, suc, ◌≡◌, ◌≢◌, ◌≤◌, List, [], ◌∷◌, ◌++◌, Option, All, IsTrue, ⊤}
 use Rattle.inst_logic.specs.Printing.{is_readable_name}
 use Rattle.inst_logic.specs.WellFormed.{IsFormedClause}
 use Rattle.outside_io.specs.Causes.{Rose}
@@ -7,7 +7,6 @@ use Rattle.outside_io.specs.declared.library.NamedFile.{NamedFile}
 use Rattle.tptp_read.specs.Names.{clause_is_readable}
 use Rattle.tptp_read.specs.declared.statement.Statement.{Statement}
 use Rattle.tptp_read.specs.declared.statement.Statement.TheVariants.{Cnf, Include}
-use Rattle.tptp_read.specs.declared.text.ReadError.{ReadError}
 use Rattle.tptp_read.specs.declared.text.ReadError.TheVariants as text
 use Rattle.tptp_load.specs.Includes.{Stated}
 use Rattle.tptp_load.specs.Loading.{Loaded, gives, refuses, limit, Includer, NoneIncluded, Includes, Loading, HasFault}

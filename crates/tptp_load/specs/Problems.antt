@@ -1,5 +1,5 @@
 -- The problem of a file, and why there is none.
-use Rattle.std.specs.Prelude.{◌≡◌, ◌≢◌, ℕ, List, [], ◌∷◌, Bool, true, false, not, ◌&&◌, Option, Some, None, length, map, filter, All, IsTrue, ⊤}
+use Rattle.std.specs.Prelude.{◌≡◌, ◌≢◌, ℕ, List, not, Option, Some, None, length, map, filter, All, IsTrue, ⊤}
 use Rattle.std.specs.List.{list_all}
 use Rattle.inst_logic.specs.declared.clause.Problem.{Problem}
 use Rattle.inst_logic.specs.WellFormed.{AreFormedClauses}
@@ -10,7 +10,7 @@ use Rattle.outside_io.specs.declared.library.NamedFile.{NamedFile}
 use Rattle.tptp_read.specs.Names.{clause_is_readable}
 use Rattle.tptp_read.specs.declared.text.ReadError.TheVariants as text
 use Rattle.tptp_load.specs.Includes.{Stated}
-use Rattle.tptp_load.specs.Loading.{Loaded, gives, refuses, Gives}
+use Rattle.tptp_load.specs.Loading.{gives, refuses, Gives}
 use Rattle.tptp_load.specs.declared.error.LoadError.{LoadError}
 use Rattle.tptp_load.specs.declared.error.LoadError.TheVariants.{Text, ReadFault, Memory}
 

@@ -1,7 +1,7 @@
-use Rattle.std.proofs.Common.{subst, sym, ◌≡◌, ◌+◌, false, nat_eq, get_or}
+use Rattle.std.proofs.Common.{◌≡◌, false, nat_eq, get_or}
 use Rattle.std.proofs.lemmas.Bool.Decides.{nat_tests}
 use Rattle.std.proofs.Common.{arith}
-use Rattle.tptp_load.proofs.Directories.{EndsAt, ends_first, ends_here, ends_before}
+use Rattle.tptp_load.proofs.Directories.{ends_first, ends_here, ends_before}
 use Rattle.tptp_load.proofs.paths.directory_end.Goals as goal
 use Rattle.tptp_load.proofs.paths.directory_end.Goals.{then-byte-eq47, else-byte-eq47}
 

@@ -1,4 +1,4 @@
-use Rattle.std.proofs.Common.{◌≡◌, [], Some, sym, subst}
+use Rattle.std.proofs.Common.{[], Some, sym, subst}
 use Rattle.tptp_load.specs.Loading.{Loading, last_level}
 use Rattle.tptp_load.specs.Problems.{IsGoodProblem}
 use Rattle.tptp_load.specs.Reading.{IsHeld}

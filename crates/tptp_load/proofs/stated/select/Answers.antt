@@ -1,8 +1,7 @@
 use Rattle.std.proofs.lemmas.Result.{err_from_is_err_and}
 use Rattle.std.proofs.Common.{◌≡◌, sym, subst, ◌∙◌, ap, ◌++◌}
-use Rattle.std.specs.Prelude.{None}
 use Rattle.tptp_load.specs.Includes.{listed, first_missing}
-use Rattle.tptp_load.specs.Selecting.{HasSame, first_outside, names_of, Tells}
+use Rattle.tptp_load.specs.Selecting.{HasSame, names_of, Tells}
 use Rattle.tptp_load.proofs.Selections.{kept_listed, outside_missing}
 use Rattle.tptp_load.proofs.stated.select.Goals as goal
 
