@@ -11,7 +11,7 @@ ghost use Rattle.tptp_load.specs.Parts.{Adds, Including, IsGathered, IsMisread, 
 ghost use Rattle.tptp_load.specs.Includes.{path_of};
 
 use crate::error::LoadError;
-use crate::paths::{Found, find};
+use crate::paths::{Found, Site, find};
 use crate::stated::{StatedClause, select};
 use inst_logic::{ByteList, Memory, Name, NameList};
 use outside_io::Library;
@@ -50,13 +50,11 @@ fn read_statements(alloc: Global, name: &str, bytes: ByteList) -> Result<Stateme
     }
 }
 
-/// Adds the file of this name with these bytes. So many levels of includes may stand below it.
+/// Adds the file at this site with these bytes.
 #[cycle(levels)]
 pub(crate) fn add_file<L: Library>(
     alloc: Global,
-    root: Option<&str>,
-    levels: usize,
-    name: &str,
+    site: &Site,
     bytes: ByteList,
     files: &mut L,
     gathered: &mut Gathered,
@@ -65,21 +63,19 @@ pub(crate) fn add_file<L: Library>(
     requires good { IsGathered gathered.old.stated.items gathered.old.used }
     ensures follows { Follows (L.told files.old) (L.told files.new) }
     ensures good { OnOk result (IsGathered gathered.new.stated.items gathered.new.used) }
-    ensures ok { OnOk result (Adds (L.told files.old).files (λ told. Loading told (path_of root.entry) levels gathered.old.used name.now bytes) gathered.old.stated.items gathered.new.stated.items gathered.new.used) }
-    ensures err { IfErr result (IsPartCause (L.told files.old).files (λ told. Loading told (path_of root.entry) levels gathered.old.used name.now bytes) (L.told files.old).faults (L.told files.new).faults) }
+    ensures ok { OnOk result (Adds (L.told files.old).files (λ told. Loading told (path_of site.now.root) site.now.levels gathered.old.used site.now.name.now bytes) gathered.old.stated.items gathered.new.stated.items gathered.new.used) }
+    ensures err { IfErr result (IsPartCause (L.told files.old).files (λ told. Loading told (path_of site.now.root) site.now.levels gathered.old.used site.now.name.now bytes) (L.told files.old).faults (L.told files.new).faults) }
 {
     gathered.used += bytes.len();
-    let statements = read_statements(alloc, name, bytes)?;
-    add_statements(alloc, root, levels, name, statements, files, gathered)
+    let statements = read_statements(alloc, site.name, bytes)?;
+    add_statements(alloc, site, statements, files, gathered)
 }
 
-// Adds the statements of the file `from` in order.
+// Adds the statements of the file at the site in order.
 #[cycle(levels)]
 fn add_statements<L: Library>(
     alloc: Global,
-    root: Option<&str>,
-    levels: usize,
-    from: &str,
+    site: &Site,
     statements: StatementList,
     files: &mut L,
     gathered: &mut Gathered,
@@ -89,23 +85,21 @@ fn add_statements<L: Library>(
     requires names { All HasReadableNames statements }
     ensures follows { Follows (L.told files.old) (L.told files.new) }
     ensures good { OnOk result (IsGathered gathered.new.stated.items gathered.new.used) }
-    ensures ok { OnOk result (Adds (L.told files.old).files (λ told. StatementsGive (Including told (path_of root.entry) levels) from.now gathered.old.used statements) gathered.old.stated.items gathered.new.stated.items gathered.new.used) }
-    ensures err { IfErr result (IsPartCause (L.told files.old).files (λ told. StatementsGive (Including told (path_of root.entry) levels) from.now gathered.old.used statements) (L.told files.old).faults (L.told files.new).faults) }
+    ensures ok { OnOk result (Adds (L.told files.old).files (λ told. StatementsGive (Including told (path_of site.now.root) site.now.levels) site.now.name.now gathered.old.used statements) gathered.old.stated.items gathered.new.stated.items gathered.new.used) }
+    ensures err { IfErr result (IsPartCause (L.told files.old).files (λ told. StatementsGive (Including told (path_of site.now.root) site.now.levels) site.now.name.now gathered.old.used statements) (L.told files.old).faults (L.told files.new).faults) }
 {
     let list: Vec<Statement> = Vec::from(statements);
     for statement in list {
-        add_statement(alloc, root, levels, from, statement, files, gathered)?;
+        add_statement(alloc, site, statement, files, gathered)?;
     }
     Ok(())
 }
 
-// Adds what one statement of the file `from` gives.
+// Adds what one statement of the file at the site gives.
 #[cycle(levels)]
 fn add_statement<L: Library>(
     alloc: Global,
-    root: Option<&str>,
-    levels: usize,
-    from: &str,
+    site: &Site,
     statement: Statement,
     files: &mut L,
     gathered: &mut Gathered,
@@ -115,8 +109,8 @@ fn add_statement<L: Library>(
     requires names { HasReadableNames statement }
     ensures follows { Follows (L.told files.old) (L.told files.new) }
     ensures good { OnOk result (IsGathered gathered.new.stated.items gathered.new.used) }
-    ensures ok { OnOk result (Adds (L.told files.old).files (λ told. StatementGives (Including told (path_of root.entry) levels) from.now gathered.old.used statement) gathered.old.stated.items gathered.new.stated.items gathered.new.used) }
-    ensures err { IfErr result (IsPartCause (L.told files.old).files (λ told. StatementGives (Including told (path_of root.entry) levels) from.now gathered.old.used statement) (L.told files.old).faults (L.told files.new).faults) }
+    ensures ok { OnOk result (Adds (L.told files.old).files (λ told. StatementGives (Including told (path_of site.now.root) site.now.levels) site.now.name.now gathered.old.used statement) gathered.old.stated.items gathered.new.stated.items gathered.new.used) }
+    ensures err { IfErr result (IsPartCause (L.told files.old).files (λ told. StatementGives (Including told (path_of site.now.root) site.now.levels) site.now.name.now gathered.old.used statement) (L.told files.old).faults (L.told files.new).faults) }
 {
     match statement {
         Statement::Cnf {
@@ -133,21 +127,17 @@ fn add_statement<L: Library>(
             },
         ),
         Statement::Include { file, selection } => {
-            if levels == 0 {
+            if site.levels == 0 {
                 return Err(LoadError::IncludeDepth { file });
             }
+            let below = Site {
+                root: site.root,
+                levels: site.levels - 1,
+                name: site.name,
+            };
             match selection {
-                None => add_included(alloc, root, levels - 1, from, &file, files, gathered),
-                Some(names) => add_selected(
-                    alloc,
-                    root,
-                    levels - 1,
-                    from,
-                    &file,
-                    &names,
-                    files,
-                    gathered,
-                ),
+                None => add_included(alloc, &below, &file, files, gathered),
+                Some(names) => add_selected(alloc, &below, &file, &names, files, gathered),
             }
         }
     }
@@ -165,13 +155,11 @@ fn add_clause(gathered: &mut Gathered, stated: StatedClause) -> Result<(), LoadE
     }
 }
 
-// Adds the whole file of an include, in the file `from`.
+// Adds the whole file of an include, in the file at the site.
 #[cycle(levels)]
 fn add_included<L: Library>(
     alloc: Global,
-    root: Option<&str>,
-    levels: usize,
-    from: &str,
+    site: &Site,
     file: &Name,
     files: &mut L,
     gathered: &mut Gathered,
@@ -180,20 +168,23 @@ fn add_included<L: Library>(
     requires name { IsTrue (is_readable_name file.now) }
     ensures follows { Follows (L.told files.old) (L.told files.new) }
     ensures good { OnOk result (IsGathered gathered.new.stated.items gathered.new.used) }
-    ensures ok { OnOk result (Adds (L.told files.old).files (λ told. Includes told (path_of root.entry) (Loading told (path_of root.entry) levels) gathered.old.used from.now file.now None) gathered.old.stated.items gathered.new.stated.items gathered.new.used) }
-    ensures err { IfErr result (IsPartCause (L.told files.old).files (λ told. Includes told (path_of root.entry) (Loading told (path_of root.entry) levels) gathered.old.used from.now file.now None) (L.told files.old).faults (L.told files.new).faults) }
+    ensures ok { OnOk result (Adds (L.told files.old).files (λ told. Includes told (path_of site.now.root) (Loading told (path_of site.now.root) site.now.levels) gathered.old.used site.now.name.now file.now None) gathered.old.stated.items gathered.new.stated.items gathered.new.used) }
+    ensures err { IfErr result (IsPartCause (L.told files.old).files (λ told. Includes told (path_of site.now.root) (Loading told (path_of site.now.root) site.now.levels) gathered.old.used site.now.name.now file.now None) (L.told files.old).faults (L.told files.new).faults) }
 {
-    let Found { name, bytes } = find(alloc, root, from, file, gathered.used, files)?;
-    add_file(alloc, root, levels, name.as_str(), bytes, files, gathered)
+    let Found { name, bytes } = find(alloc, site, file, gathered.used, files)?;
+    let found = Site {
+        root: site.root,
+        levels: site.levels,
+        name: name.as_str(),
+    };
+    add_file(alloc, &found, bytes, files, gathered)
 }
 
-// Adds the selected clauses of an include, in the file `from`.
+// Adds the selected clauses of an include, in the file at the site.
 #[cycle(levels)]
 fn add_selected<L: Library>(
     alloc: Global,
-    root: Option<&str>,
-    levels: usize,
-    from: &str,
+    site: &Site,
     file: &Name,
     names: &NameList,
     files: &mut L,
@@ -203,14 +194,14 @@ fn add_selected<L: Library>(
     requires name { IsTrue (is_readable_name file.now) }
     ensures follows { Follows (L.told files.old) (L.told files.new) }
     ensures good { OnOk result (IsGathered gathered.new.stated.items gathered.new.used) }
-    ensures ok { OnOk result (Adds (L.told files.old).files (λ told. Includes told (path_of root.entry) (Loading told (path_of root.entry) levels) gathered.old.used from.now file.now (Some names.now)) gathered.old.stated.items gathered.new.stated.items gathered.new.used) }
-    ensures err { IfErr result (IsPartCause (L.told files.old).files (λ told. Includes told (path_of root.entry) (Loading told (path_of root.entry) levels) gathered.old.used from.now file.now (Some names.now)) (L.told files.old).faults (L.told files.new).faults) }
+    ensures ok { OnOk result (Adds (L.told files.old).files (λ told. Includes told (path_of site.now.root) (Loading told (path_of site.now.root) site.now.levels) gathered.old.used site.now.name.now file.now (Some names.now)) gathered.old.stated.items gathered.new.stated.items gathered.new.used) }
+    ensures err { IfErr result (IsPartCause (L.told files.old).files (λ told. Includes told (path_of site.now.root) (Loading told (path_of site.now.root) site.now.levels) gathered.old.used site.now.name.now file.now (Some names.now)) (L.told files.old).faults (L.told files.new).faults) }
 {
     let mut part = Gathered {
         stated: Vec::new(alloc),
         used: gathered.used,
     };
-    add_included(alloc, root, levels, from, file, files, &mut part)?;
+    add_included(alloc, site, file, files, &mut part)?;
     gathered.used = part.used;
     select(alloc, file, names, part.stated, &mut gathered.stated)
 }

@@ -17,6 +17,14 @@ use inst_logic::{ByteList, Memory, Name};
 use outside_io::Library;
 use std::alloc::Global;
 
+/// Where a file stands: the root for what it includes, how many levels of includes may stand below it, and its name.
+#[derive(Clone, Copy)]
+pub(crate) struct Site<'a> {
+    pub(crate) root: Option<&'a str>,
+    pub(crate) levels: usize,
+    pub(crate) name: &'a str,
+}
+
 /// A file that an include means.
 #[derive(Drop)]
 pub(crate) struct Found {
@@ -123,21 +131,20 @@ fn read_below<L: Library>(
 #[tactic(auto, using(std::proofs::lemmas::Grind::common_steps, crate::proofs::Firsts::here_first, crate::proofs::Firsts::later_first, crate::proofs::Firsts::here_not_read, crate::proofs::Firsts::later_not_read))]
 fn read_relative<L: Library>(
     alloc: Global,
-    root: Option<&str>,
-    from: &str,
+    site: &Site,
     wanted: &str,
     used: usize,
     files: &mut L,
 ) -> Result<Option<Found>, LoadError>
     requires used { used ≤ limit }
     ensures follows { Follows (L.told files.old) (L.told files.new) }
-    ensures ok { IfOk result (λ found. IsFirst (L.told files.old).files ((directory from.now ++ wanted.now) ∷ under_root (path_of root.entry) wanted.now) used (option_map pair_of found)) }
-    ensures err { IfErr result (IsNotRead (L.told files.old).files (L.told files.old).faults (L.told files.new).faults ((directory from.now ++ wanted.now) ∷ under_root (path_of root.entry) wanted.now) used) }
+    ensures ok { IfOk result (λ found. IsFirst (L.told files.old).files ((directory site.now.name.now ++ wanted.now) ∷ under_root (path_of site.now.root) wanted.now) used (option_map pair_of found)) }
+    ensures err { IfErr result (IsNotRead (L.told files.old).files (L.told files.old).faults (L.told files.new).faults ((directory site.now.name.now ++ wanted.now) ∷ under_root (path_of site.now.root) wanted.now) used) }
 {
-    let name = beside(alloc, from, wanted)?;
+    let name = beside(alloc, site.name, wanted)?;
     match read_one(alloc, name, used, files) {
         Ok(Some(found)) => Ok(Some(found)),
-        Ok(None) => read_below(alloc, root, wanted, used, files),
+        Ok(None) => read_below(alloc, site.root, wanted, used, files),
         Err(why) => Err(why),
     }
 }
@@ -151,31 +158,29 @@ fn begins_with_slash(wanted: &str) -> bool
 // The file of a name, tried in each place.
 fn read_tries<L: Library>(
     alloc: Global,
-    root: Option<&str>,
-    from: &str,
+    site: &Site,
     wanted: &str,
     used: usize,
     files: &mut L,
 ) -> Result<Option<Found>, LoadError>
     requires used { used ≤ limit }
     ensures follows { Follows (L.told files.old) (L.told files.new) }
-    ensures ok { IfOk result (λ found. IsFirst (L.told files.old).files (tries (path_of root.entry) from.now wanted.now) used (option_map pair_of found)) }
-    ensures err { IfErr result (IsNotRead (L.told files.old).files (L.told files.old).faults (L.told files.new).faults (tries (path_of root.entry) from.now wanted.now) used) }
+    ensures ok { IfOk result (λ found. IsFirst (L.told files.old).files (tries (path_of site.now.root) site.now.name.now wanted.now) used (option_map pair_of found)) }
+    ensures err { IfErr result (IsNotRead (L.told files.old).files (L.told files.old).faults (L.told files.new).faults (tries (path_of site.now.root) site.now.name.now wanted.now) used) }
 {
     if begins_with_slash(wanted) {
         let name = copy(alloc, wanted)?;
         read_one(alloc, name, used, files)
     } else {
-        read_relative(alloc, root, from, wanted, used, files)
+        read_relative(alloc, site, wanted, used, files)
     }
 }
 
-/// The file that an include of the file `from` means. So many bytes were read before it.
+/// The file that an include of the file at the site means. So many bytes were read before it.
 #[tactic(auto, using(std::proofs::lemmas::Grind::common_steps, crate::proofs::Firsts::found_or_absent, crate::proofs::Firsts::none_is_absent))]
 pub(crate) fn find<L: Library>(
     alloc: Global,
-    root: Option<&str>,
-    from: &str,
+    site: &Site,
     wanted: &Name,
     used: usize,
     files: &mut L,
@@ -183,10 +188,10 @@ pub(crate) fn find<L: Library>(
     requires used { used ≤ limit }
     requires readable { IsTrue (is_readable_name wanted.now) }
     ensures follows { Follows (L.told files.old) (L.told files.new) }
-    ensures ok { IfOk result (λ found. IsFirst (L.told files.old).files (tries (path_of root.entry) from.now wanted.now) used (Some (pair_of found))) }
-    ensures err { IfErr result (IsNotFound (L.told files.old).files (L.told files.old).faults (L.told files.new).faults (tries (path_of root.entry) from.now wanted.now) wanted.now used) }
+    ensures ok { IfOk result (λ found. IsFirst (L.told files.old).files (tries (path_of site.now.root) site.now.name.now wanted.now) used (Some (pair_of found))) }
+    ensures err { IfErr result (IsNotFound (L.told files.old).files (L.told files.old).faults (L.told files.new).faults (tries (path_of site.now.root) site.now.name.now wanted.now) wanted.now used) }
 {
-    match read_tries(alloc, root, from, text_of(wanted), used, files) {
+    match read_tries(alloc, site, text_of(wanted), used, files) {
         Ok(Some(found)) => Ok(found),
         Ok(None) => Err(LoadError::Absent {
             wanted: copy_of(wanted)?,

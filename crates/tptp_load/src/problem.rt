@@ -9,6 +9,7 @@ ghost use Rattle.tptp_load.specs.Includes.{path_of};
 use crate::error::LoadError;
 use crate::file::read_named;
 use crate::includes::{Gathered, add_file, name_of};
+use crate::paths::Site;
 use crate::stated::StatedClause;
 use inst_logic::{ClauseList, Memory, NameList, Problem, canonical};
 use outside_io::Library;
@@ -68,6 +69,11 @@ pub fn load<L: Library>(
         stated: Vec::new(alloc),
         used: 0,
     };
-    add_file(alloc, root, LAST_LEVEL, name, bytes, files, &mut gathered)?;
+    let first = Site {
+        root,
+        levels: LAST_LEVEL,
+        name,
+    };
+    add_file(alloc, &first, bytes, files, &mut gathered)?;
     Ok(problem_of(alloc, gathered.stated)?)
 }

@@ -8,19 +8,19 @@ use Rattle.tptp_load.proofs.includes.+levels.Given as goal
 use Rattle.tptp_load.specs.Includes.{path_of}
 
 abbrev pub decreases-add_file : goal.decreases-add_file
-decreases-add_file g l = l.levels * 5 + 2
+decreases-add_file g l = l.site.now.levels * 5 + 2
 
 abbrev pub decreases-add_included : goal.decreases-add_included
-decreases-add_included g l = l.levels * 5 + 3
+decreases-add_included g l = l.site.now.levels * 5 + 3
 
 abbrev pub decreases-add_selected : goal.decreases-add_selected
-decreases-add_selected g l = l.levels * 5 + 4
+decreases-add_selected g l = l.site.now.levels * 5 + 4
 
 abbrev pub decreases-add_statement : goal.decreases-add_statement
-decreases-add_statement g l = l.levels * 5
+decreases-add_statement g l = l.site.now.levels * 5
 
 abbrev pub decreases-add_statements : goal.decreases-add_statements
-decreases-add_statements g l = l.levels * 5 + 1
+decreases-add_statements g l = l.site.now.levels * 5 + 1
 
 abbrev pub invariant-add_statements-loop-statement : goal.invariant-add_statements-loop-statement
 invariant-add_statements-loop-statement g l =
@@ -32,5 +32,5 @@ invariant-add_statements-loop-statement g l =
       good : IsGathered l.gathered.stated.items l.gathered.used;
       formed : All IsFormedStatement (into_iter_items l.statement-iterator);
       names : All HasReadableNames (into_iter_items l.statement-iterator);
-      went : Went (g.L.Library.told l.initial.files).files (λ told. Including told (path_of l.root) l.levels) l.from l.initial.gathered.used l.fn.statements l.initial.gathered.stated.items l.gathered.stated.items l.gathered.used (into_iter_items l.statement-iterator);
+      went : Went (g.L.Library.told l.initial.files).files (λ told. Including told (path_of l.site.root) l.site.levels) l.site.name.now l.initial.gathered.used l.fn.statements l.initial.gathered.stated.items l.gathered.stated.items l.gathered.used (into_iter_items l.statement-iterator);
     }
