@@ -1,9 +1,9 @@
 // An input whose atom, as a tree, has 2^64 leaves. What its terms share is opened once.
 ghost use Rattle.std.specs.Prelude.{◌≡◌, All, IfOk};
 ghost use Rattle.inst_logic.specs.declared.symbol.Kind.TheVariants.{Function};
-ghost use Rattle.term_bank.specs.Forest.{AreFormed};
+ghost use Rattle.term_bank.specs.Forest.{AreFormed, IsTermIn};
 ghost use Rattle.saturation_cert.specs.Wholes.{IsWholeClause};
-ghost use Rattle.worked_clauses.specs.Shared.{IsTermOf, IsAtomOf};
+ghost use Rattle.worked_clauses.specs.Shared.{IsAtomOf};
 
 use crate::answers::complaint_of;
 use cert_check::Complaint;
@@ -29,9 +29,9 @@ fn twice(bank: &mut Bank, f: &Sym, t: TermId) -> Result<TermId, Memory>
     requires kind { f.now.kind ≡ Function }
     requires arity { f.now.arity ≡ 2 }
     requires formed { AreFormed bank.old }
-    requires term { IsTermOf bank.old t }
+    requires term { IsTermIn bank.old t }
     ensures formed { AreFormed bank.new }
-    ensures term { IfOk result (IsTermOf bank.new) }
+    ensures term { IfOk result (IsTermIn bank.new) }
 {
     bank.app(f, &[t, t])
 }
@@ -41,9 +41,9 @@ fn doubled(bank: &mut Bank, f: &Sym, t: TermId) -> Result<TermId, Memory>
     requires kind { f.now.kind ≡ Function }
     requires arity { f.now.arity ≡ 2 }
     requires formed { AreFormed bank.old }
-    requires term { IsTermOf bank.old t }
+    requires term { IsTermIn bank.old t }
     ensures formed { AreFormed bank.new }
-    ensures term { IfOk result (IsTermOf bank.new) }
+    ensures term { IfOk result (IsTermIn bank.new) }
 {
     let mut term = t;
     for _ in 0..64 {
@@ -56,7 +56,7 @@ fn doubled(bank: &mut Bank, f: &Sym, t: TermId) -> Result<TermId, Memory>
 fn constant(alloc: Global, bank: &mut Bank) -> Result<TermId, Memory>
     requires { AreFormed bank.old }
     ensures formed { AreFormed bank.new }
-    ensures term { IfOk result (IsTermOf bank.new) }
+    ensures term { IfOk result (IsTermIn bank.new) }
 {
     let a = symbol(alloc, Kind::Function, b"a", 0)?;
     bank.app(&a, &[])

@@ -1,6 +1,5 @@
-use Rattle.term_bank.specs.Forest.{AreFormed}
-use Rattle.worked_clauses.specs.Shared.{IsTermOf}
+use Rattle.term_bank.specs.Forest.{AreFormed, IsTermIn}
 use Rattle.worked_clauses.proofs.shared.doubled.Given as goal
 
 abbrev pub invariant-loop : goal.invariant-loop
-invariant-loop l = record { formed : AreFormed l.bank; term : IsTermOf l.bank l.term }
+invariant-loop l = record { formed : AreFormed l.bank; term : IsTermIn l.bank l.term }
