@@ -1,5 +1,5 @@
 // Whether the certificate of a file is valid, and one of the problem of another file.
-ghost use Rattle.std.specs.Prelude.{◌≡◌, ◌≤◌, IfOk, IfErr, IfSome, option_map, option_copied};
+ghost use Rattle.std.specs.Prelude.{◌≡◌, ◌≤◌, IfOk, IfErr, IfSome, option_copied};
 ghost use Rattle.std.specs.Option.{ForSome};
 ghost use Rattle.outside_io.specs.Told.{Follows};
 ghost use Rattle.inst_logic.specs.WellFormed.{AreFormedClauses};
@@ -7,6 +7,7 @@ ghost use Rattle.cert_front.specs.Judgements.{IsJudgement};
 ghost use Rattle.cert_reader.specs.Reads.{IsWholeCertificate, value_of};
 ghost use Rattle.cert_front.specs.Checks.{IsCheckFault, IsExactCheck, IsJudged, IsJudgedAs, IsProblemFault, IsProblemOf, IsUnjudged, form_of, of_cert, of_load};
 ghost use Rattle.cert_front.specs.declared.check.CheckFault.TheVariants as faults;
+ghost use Rattle.tptp_load.specs.Includes.{path_of};
 
 use crate::fault::CertFault;
 use crate::file::read_file;
@@ -91,8 +92,8 @@ pub(crate) fn load_named<L: Library>(
 ) -> Result<Option<Problem>, LoadError>
     ensures follows { Follows (L.told files.old) (L.told files.new) }
     ensures formed { IfOk result (λ p. IfSome p (λ q. AreFormedClauses q.clauses)) }
-    ensures loads { IfOk result (IsProblemOf (L.told files.old).files (option_map (λ f. f.now) problem.entry) (option_map (λ r. r.now) root.entry)) }
-    ensures refused { IfErr result (IsProblemFault (L.told files.old).files (L.told files.old).faults (L.told files.new).faults (option_map (λ f. f.now) problem.entry) (option_map (λ r. r.now) root.entry)) }
+    ensures loads { IfOk result (IsProblemOf (L.told files.old).files (path_of problem.entry) (path_of root.entry)) }
+    ensures refused { IfErr result (IsProblemFault (L.told files.old).files (L.told files.old).faults (L.told files.new).faults (path_of problem.entry) (path_of root.entry)) }
 {
     match problem {
         Some(file) => {
@@ -113,8 +114,8 @@ fn judge_against<L: Library, C: Kind>(
 ) -> Result<(Form, Judgement), CheckFault>
     requires { C.whole cert }
     ensures follows { Follows (L.told files.old) (L.told files.new) }
-    ensures judged { IfOk result (IsJudgedAs (L.told files.old).files (option_map (λ f. f.now) problem.entry) (option_map (λ r. r.now) root.entry) (C.value cert)) }
-    ensures refused { IfErr result (IsUnjudged (L.told files.old).files (L.told files.old).faults (L.told files.new).faults (option_map (λ f. f.now) problem.entry) (option_map (λ r. r.now) root.entry)) }
+    ensures judged { IfOk result (IsJudgedAs (L.told files.old).files (path_of problem.entry) (path_of root.entry) (C.value cert)) }
+    ensures refused { IfErr result (IsUnjudged (L.told files.old).files (L.told files.old).faults (L.told files.new).faults (path_of problem.entry) (path_of root.entry)) }
 {
     let form = cert.form();
     let problem = load_named(alloc, files, problem, root)?;
@@ -132,8 +133,8 @@ fn judge_for<L: Library>(
 ) -> Result<(Form, Judgement), CheckFault>
     requires { IsWholeCertificate certificate }
     ensures follows { Follows (L.told files.old) (L.told files.new) }
-    ensures judged { IfOk result (IsJudgedAs (L.told files.old).files (option_map (λ f. f.now) problem.entry) (option_map (λ r. r.now) root.entry) (value_of certificate)) }
-    ensures refused { IfErr result (IsUnjudged (L.told files.old).files (L.told files.old).faults (L.told files.new).faults (option_map (λ f. f.now) problem.entry) (option_map (λ r. r.now) root.entry)) }
+    ensures judged { IfOk result (IsJudgedAs (L.told files.old).files (path_of problem.entry) (path_of root.entry) (value_of certificate)) }
+    ensures refused { IfErr result (IsUnjudged (L.told files.old).files (L.told files.old).faults (L.told files.new).faults (path_of problem.entry) (path_of root.entry)) }
 {
     match certificate {
         Certificate::First(cert) => judge_against(alloc, files, cert, problem, root),
@@ -152,8 +153,8 @@ fn judge_file<L: Library>(
     root: Option<&str>,
 ) -> Result<(Form, Judgement), CheckFault>
     ensures follows { Follows (L.told files.old) (L.told files.new) }
-    ensures judged { IfOk result (IsJudged (L.told files.old).files name.now (option_map (λ f. f.now) problem.entry) (option_map (λ r. r.now) root.entry)) }
-    ensures refused { IfErr result (IsCheckFault (L.told files.old).files (L.told files.old).faults (L.told files.new).faults name.now (option_map (λ f. f.now) problem.entry) (option_map (λ r. r.now) root.entry)) }
+    ensures judged { IfOk result (IsJudged (L.told files.old).files name.now (path_of problem.entry) (path_of root.entry)) }
+    ensures refused { IfErr result (IsCheckFault (L.told files.old).files (L.told files.old).faults (L.told files.new).faults name.now (path_of problem.entry) (path_of root.entry)) }
 {
     match read_file(alloc, files, name) {
         Ok(certificate) => judge_for(alloc, files, certificate, problem, root),
@@ -172,10 +173,10 @@ pub fn check_file<L: Library>(
     root: Option<&str>,
 ) -> Result<(Form, Judgement), CheckFault>
     ensures follows { Follows (L.told files.old) (L.told files.new) }
-    ensures judged { IfOk result (IsJudged (L.told files.old).files name.now (option_map (λ f. f.now) problem.entry) (option_map (λ r. r.now) root.entry)) }
-    ensures refused { IfErr result (IsCheckFault (L.told files.old).files (L.told files.old).faults (L.told files.new).faults name.now (option_map (λ f. f.now) problem.entry) (option_map (λ r. r.now) root.entry)) }
+    ensures judged { IfOk result (IsJudged (L.told files.old).files name.now (path_of problem.entry) (path_of root.entry)) }
+    ensures refused { IfErr result (IsCheckFault (L.told files.old).files (L.told files.old).faults (L.told files.new).faults name.now (path_of problem.entry) (path_of root.entry)) }
     // Where the files are told, it is the answer that they give, but for faults and want of memory.
-    ensures exact { IfSome (L.told files.old).files (λ told. IsExactCheck told (L.told files.old).faults (L.told files.new).faults name.now (option_map (λ f. f.now) problem.entry) (option_map (λ r. r.now) root.entry) result) }
+    ensures exact { IfSome (L.told files.old).files (λ told. IsExactCheck told (L.told files.old).faults (L.told files.new).faults name.now (path_of problem.entry) (path_of root.entry) result) }
 {
     findings_are_one();
     judge_file(alloc, files, name, problem, root)

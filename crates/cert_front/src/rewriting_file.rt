@@ -1,10 +1,11 @@
 // The certificate of a file in the format in which certificates are written.
-ghost use Rattle.std.specs.Prelude.{◌≡◌, ◌≤◌, ℕ, IfOk, IfErr, IfSome, option_map};
+ghost use Rattle.std.specs.Prelude.{◌≡◌, ◌≤◌, ℕ, IfOk, IfErr, IfSome};
 ghost use Rattle.outside_io.specs.Told.{Follows};
 ghost use Rattle.cert_format.specs.Printable.{IsPrintable};
 ghost use Rattle.cert_reader.specs.Reads.{IsWholeCertificate, value_of};
 ghost use Rattle.cert_front.specs.Checks.{IsCheckFault, IsUnjudged};
 ghost use Rattle.cert_front.specs.Rewritings.{IsExactRewriting, IsRewritten, IsRewrittenAs};
+ghost use Rattle.tptp_load.specs.Includes.{path_of};
 
 use crate::check::{CheckFault, load_named};
 use crate::file::read_named;
@@ -27,8 +28,8 @@ fn rewrite_against<L: Library, C: Rewritable>(
     requires whole { C.whole cert }
     requires printable { (format : ℕ) × IsPrintable format (C.value cert) }
     ensures follows { Follows (L.told files.old) (L.told files.new) }
-    ensures rewritten { IfOk result (IsRewrittenAs (L.told files.old).files (option_map (λ f. f.now) problem.entry) (option_map (λ r. r.now) root.entry) name.now (C.value cert)) }
-    ensures refused { IfErr result (IsUnjudged (L.told files.old).files (L.told files.old).faults (L.told files.new).faults (option_map (λ f. f.now) problem.entry) (option_map (λ r. r.now) root.entry)) }
+    ensures rewritten { IfOk result (IsRewrittenAs (L.told files.old).files (path_of problem.entry) (path_of root.entry) name.now (C.value cert)) }
+    ensures refused { IfErr result (IsUnjudged (L.told files.old).files (L.told files.old).faults (L.told files.new).faults (path_of problem.entry) (path_of root.entry)) }
 {
     let problem = load_named(alloc, files, problem, root)?;
     let rewriting = rewrite_as(alloc, name, cert, problem.as_ref())?;
@@ -46,8 +47,8 @@ fn rewrite_for<L: Library>(
     requires whole { IsWholeCertificate read.cert }
     requires printable { (format : ℕ) × IsPrintable format (value_of read.cert) }
     ensures follows { Follows (L.told files.old) (L.told files.new) }
-    ensures rewritten { IfOk result (IsRewrittenAs (L.told files.old).files (option_map (λ f. f.now) problem.entry) (option_map (λ r. r.now) root.entry) read.name (value_of read.cert)) }
-    ensures refused { IfErr result (IsUnjudged (L.told files.old).files (L.told files.old).faults (L.told files.new).faults (option_map (λ f. f.now) problem.entry) (option_map (λ r. r.now) root.entry)) }
+    ensures rewritten { IfOk result (IsRewrittenAs (L.told files.old).files (path_of problem.entry) (path_of root.entry) read.name (value_of read.cert)) }
+    ensures refused { IfErr result (IsUnjudged (L.told files.old).files (L.told files.old).faults (L.told files.new).faults (path_of problem.entry) (path_of root.entry)) }
 {
     let ReadCert { name, cert, .. } = read;
     let name = name.bytes();
@@ -70,8 +71,8 @@ fn rewrite_named<L: Library>(
     root: Option<&str>,
 ) -> Result<Rewriting, CheckFault>
     ensures follows { Follows (L.told files.old) (L.told files.new) }
-    ensures rewritten { IfOk result (IsRewritten (L.told files.old).files file.now (option_map (λ f. f.now) problem.entry) (option_map (λ r. r.now) root.entry)) }
-    ensures refused { IfErr result (IsCheckFault (L.told files.old).files (L.told files.old).faults (L.told files.new).faults file.now (option_map (λ f. f.now) problem.entry) (option_map (λ r. r.now) root.entry)) }
+    ensures rewritten { IfOk result (IsRewritten (L.told files.old).files file.now (path_of problem.entry) (path_of root.entry)) }
+    ensures refused { IfErr result (IsCheckFault (L.told files.old).files (L.told files.old).faults (L.told files.new).faults file.now (path_of problem.entry) (path_of root.entry)) }
 {
     match read_named(alloc, files, file) {
         Ok(read) => rewrite_for(alloc, files, read, problem, root),
@@ -90,10 +91,10 @@ pub fn rewrite_file<L: Library>(
     root: Option<&str>,
 ) -> Result<Rewriting, CheckFault>
     ensures follows { Follows (L.told files.old) (L.told files.new) }
-    ensures rewritten { IfOk result (IsRewritten (L.told files.old).files file.now (option_map (λ f. f.now) problem.entry) (option_map (λ r. r.now) root.entry)) }
-    ensures refused { IfErr result (IsCheckFault (L.told files.old).files (L.told files.old).faults (L.told files.new).faults file.now (option_map (λ f. f.now) problem.entry) (option_map (λ r. r.now) root.entry)) }
+    ensures rewritten { IfOk result (IsRewritten (L.told files.old).files file.now (path_of problem.entry) (path_of root.entry)) }
+    ensures refused { IfErr result (IsCheckFault (L.told files.old).files (L.told files.old).faults (L.told files.new).faults file.now (path_of problem.entry) (path_of root.entry)) }
     // Where the files are told, it says what a check finds in them, but for faults and want of memory.
-    ensures exact { IfSome (L.told files.old).files (λ told. IsExactRewriting told (L.told files.old).faults (L.told files.new).faults file.now (option_map (λ f. f.now) problem.entry) (option_map (λ r. r.now) root.entry) result) }
+    ensures exact { IfSome (L.told files.old).files (λ told. IsExactRewriting told (L.told files.old).faults (L.told files.new).faults file.now (path_of problem.entry) (path_of root.entry) result) }
 {
     findings_are_one();
     rewrite_named(alloc, files, file, problem, root)

@@ -1,9 +1,10 @@
 // A core of the problem of a file: it is loaded, and the text is made whole before anything is written.
-ghost use Rattle.std.specs.Prelude.{◌≡◌, ◌⊎◌, IsTrue, IfOk, IfErr, MatchOption, option_map};
+ghost use Rattle.std.specs.Prelude.{◌≡◌, ◌⊎◌, IsTrue, IfOk, IfErr, MatchOption};
 ghost use Rattle.inst_logic.specs.Measure.{is_function_free};
 ghost use Rattle.cert_format.specs.Printable.{IsTextName};
 ghost use Rattle.outside_io.specs.Told.{Follows};
 ghost use Rattle.tptp_load.specs.Problems.{IsGoodProblem};
+ghost use Rattle.tptp_load.specs.Includes.{path_of};
 ghost use Rattle.core_min.specs.Cores.{HasSelection, IsCore};
 ghost use Rattle.szs_prove.specs.Answers.{IsProblemOf, reading};
 ghost use Rattle.szs_prove.specs.CoreAnswers.{HasCoreAnswer, IsCoreRefusal, IsUncored};
@@ -47,8 +48,8 @@ fn load<L: Library>(
     files: &mut L,
 ) -> Result<Problem, CoreRefusal>
     ensures follows { Follows (L.told files.old) (L.told files.new) }
-    ensures ok { IfOk result (IsProblemOf (L.told files.old).files file.now (option_map (λ r. r.now) root.entry)) }
-    ensures err { IfErr result (IsCoreRefusal (reading (L.told files.old) (L.told files.new)) file.now (option_map (λ r. r.now) root.entry)) }
+    ensures ok { IfOk result (IsProblemOf (L.told files.old).files file.now (path_of root.entry)) }
+    ensures err { IfErr result (IsCoreRefusal (reading (L.told files.old) (L.told files.new)) file.now (path_of root.entry)) }
 {
     match tptp_load::load(alloc, files, file, root) {
         Ok(problem) => Ok(problem),
@@ -104,8 +105,8 @@ pub fn core_file<L: Library>(
 ) -> Result<ByteList, CoreRefusal>
     requires name { IsTextName file.now }
     ensures follows { Follows (L.told files.old) (L.told files.new) }
-    ensures ok { IfOk result (HasCoreAnswer (L.told files.old).files file.now (option_map (λ r. r.now) root.entry)) }
-    ensures err { IfErr result (IsCoreRefusal (reading (L.told files.old) (L.told files.new)) file.now (option_map (λ r. r.now) root.entry)) }
+    ensures ok { IfOk result (HasCoreAnswer (L.told files.old).files file.now (path_of root.entry)) }
+    ensures err { IfErr result (IsCoreRefusal (reading (L.told files.old) (L.told files.new)) file.now (path_of root.entry)) }
 {
     match load(alloc, file, root, files) {
         Ok(problem) => answer(alloc, file, &problem),

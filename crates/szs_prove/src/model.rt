@@ -1,8 +1,9 @@
 // The model with so many elements of the problem of a file: its tables, or the refutation of the problem's flattened form. That form
 // has no function symbols with arguments, so the engine decides it. A text is made whole before it is told.
-ghost use Rattle.std.specs.Prelude.{◌≡◌, ◌≤◌, ◌<◌, ℕ, IfErr, IfOk, option_map};
+ghost use Rattle.std.specs.Prelude.{◌≡◌, ◌≤◌, ◌<◌, ℕ, IfErr, IfOk};
 ghost use Rattle.outside_io.specs.Told.{Follows};
 ghost use Rattle.tptp_load.specs.Problems.{IsGoodProblem};
+ghost use Rattle.tptp_load.specs.Includes.{path_of};
 ghost use Rattle.cert_format.specs.Printable.{IsTextName};
 ghost use Rattle.cert_format.specs.Text.{written_text};
 ghost use Rattle.cert_front.specs.Kinds.{covered_value, refutation_value};
@@ -49,8 +50,8 @@ fn problem_of<L: Library>(
     files: &mut L,
 ) -> Result<Problem, ModelRefusal>
     ensures follows { Follows (L.told files.old) (L.told files.new) }
-    ensures ok { IfOk result (IsProblemOf (L.told files.old).files file.now (option_map (λ r. r.now) root.entry)) }
-    ensures err { (k : ℕ) → IfErr result (IsModelRefusal (reading (L.told files.old) (L.told files.new)) k file.now (option_map (λ r. r.now) root.entry)) }
+    ensures ok { IfOk result (IsProblemOf (L.told files.old).files file.now (path_of root.entry)) }
+    ensures err { (k : ℕ) → IfErr result (IsModelRefusal (reading (L.told files.old) (L.told files.new)) k file.now (path_of root.entry)) }
 {
     match load(alloc, files, file, root) {
         Ok(problem) => Ok(problem),
@@ -183,8 +184,8 @@ pub fn model_file<L: Library>(
     requires some { 0 < k }
     requires few { k ≤ 64 }
     ensures follows { Follows (L.told files.old) (L.told files.new) }
-    ensures ok { IfOk result (HasModelAnswer (L.told files.old).files k file.now (option_map (λ r. r.now) root.entry)) }
-    ensures err { IfErr result (IsModelRefusal (reading (L.told files.old) (L.told files.new)) k file.now (option_map (λ r. r.now) root.entry)) }
+    ensures ok { IfOk result (HasModelAnswer (L.told files.old).files k file.now (path_of root.entry)) }
+    ensures err { IfErr result (IsModelRefusal (reading (L.told files.old) (L.told files.new)) k file.now (path_of root.entry)) }
 {
     match problem_of(alloc, file, root, files) {
         Ok(problem) => model_text(alloc, k, file, &problem),

@@ -1,11 +1,12 @@
 // The verdict on the problem of a file: it is loaded, decided, and the text of its certificate is made whole before anything
 // is written, so that where memory is refused there is no verdict that breaks off.
-ghost use Rattle.std.specs.Prelude.{◌≡◌, ◌≤◌, ℕ, IfOk, IfErr, option_map};
+ghost use Rattle.std.specs.Prelude.{◌≡◌, ◌≤◌, ℕ, IfOk, IfErr};
 ghost use Rattle.cert_format.specs.Printable.{IsTextName};
 ghost use Rattle.cert_format.specs.Text.{written_text};
 ghost use Rattle.cert_front.specs.Kinds.{covered_value, refutation_value};
 ghost use Rattle.outside_io.specs.Told.{Follows};
 ghost use Rattle.tptp_load.specs.Problems.{IsGoodProblem};
+ghost use Rattle.tptp_load.specs.Includes.{path_of};
 ghost use Rattle.szs_prove.specs.Decisions.{IsDecision};
 ghost use Rattle.szs_prove.specs.Answers.{HasVerdict, IsProblemOf, IsRefusal, reading};
 ghost use Rattle.szs_prove.specs.Proving.{HasCertificate, IsUndecided};
@@ -28,8 +29,8 @@ fn load<L: Library>(
     files: &mut L,
 ) -> Result<Problem, Refusal>
     ensures follows { Follows (L.told files.old) (L.told files.new) }
-    ensures ok { IfOk result (IsProblemOf (L.told files.old).files file.now (option_map (λ r. r.now) root.entry)) }
-    ensures err { (budget : ℕ) → IfErr result (IsRefusal (reading (L.told files.old) (L.told files.new)) file.now (option_map (λ r. r.now) root.entry) budget) }
+    ensures ok { IfOk result (IsProblemOf (L.told files.old).files file.now (path_of root.entry)) }
+    ensures err { (budget : ℕ) → IfErr result (IsRefusal (reading (L.told files.old) (L.told files.new)) file.now (path_of root.entry) budget) }
 {
     match tptp_load::load(alloc, files, file, root) {
         Ok(problem) => Ok(problem),
@@ -110,8 +111,8 @@ pub fn prove<L: Library>(
     requires name { IsTextName file.now }
     requires budget { budget ≤ 1000000000000 }
     ensures follows { Follows (L.told files.old) (L.told files.new) }
-    ensures ok { IfOk result (HasVerdict (L.told files.old).files file.now (option_map (λ r. r.now) root.entry)) }
-    ensures err { IfErr result (IsRefusal (reading (L.told files.old) (L.told files.new)) file.now (option_map (λ r. r.now) root.entry) budget) }
+    ensures ok { IfOk result (HasVerdict (L.told files.old).files file.now (path_of root.entry)) }
+    ensures err { IfErr result (IsRefusal (reading (L.told files.old) (L.told files.new)) file.now (path_of root.entry) budget) }
 {
     match load(alloc, file, root, files) {
         Ok(problem) => certificate(alloc, file, &problem, budget),

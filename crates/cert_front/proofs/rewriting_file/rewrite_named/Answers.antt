@@ -1,5 +1,4 @@
 use Rattle.std.proofs.Common.{List, Option, subst}
-use Rattle.std.specs.Prelude.{option_map}
 use Rattle.std.proofs.lemmas.Result.{IfOk-weaker}
 use Rattle.outside_io.specs.declared.library.NamedFile.{NamedFile}
 use Rattle.cert_reader.specs.Reads.{value_of}
@@ -7,14 +6,15 @@ use Rattle.cert_front.specs.Rewritings.{IsRewrittenAs}
 use Rattle.cert_front.proofs.Followed.{unjudged}
 use Rattle.cert_front.proofs.Rewritings.{certificate_in, of_file}
 use Rattle.cert_front.proofs.rewriting_file.rewrite_named.Goals as goal
+use Rattle.tptp_load.specs.Includes.{path_of}
 
 pub rewrite_for-requires-clause-printable : goal.rewrite_for-requires-clause-printable
 rewrite_for-requires-clause-printable g c = (c.in-Ok.read.format, c.in-Ok.ensures.read.text.printable)
 
 pub returns-in-Ok-clause-rewritten : goal.returns-in-Ok-clause-rewritten
 returns-in-Ok-clause-rewritten g c =
-    let problem = option_map (λ f. f.now) c.args.problem in
-    let root = option_map (λ r. r.now) c.args.root in
+    let problem = path_of c.args.problem in
+    let root = path_of c.args.root in
     let read = c.in-Ok.read in
     let old = (g.L.Library.told c.args.files.now).files in
     IfOk-weaker c.rewrite_for.result _ _
@@ -25,5 +25,5 @@ pub returns-in-Ok-clause-refused : goal.returns-in-Ok-clause-refused
 returns-in-Ok-clause-refused g c =
     let read = c.in-Ok.read in
     unjudged (g.L.Library.told c.args.files.now) (g.L.Library.told c.read_named.new.files) c.read_named.ensures.follows (g.L.Library.told c.rewrite_for.new.files).faults c.args.file.now
-    (option_map (λ f. f.now) c.args.problem) (option_map (λ r. r.now) c.args.root) (value_of read.cert)
+    (path_of c.args.problem) (path_of c.args.root) (value_of read.cert)
     (certificate_in (g.L.Library.told c.args.files.now).files c.args.file.now read.format read.name (value_of read.cert) c.in-Ok.ensures.read) c.rewrite_for.result c.rewrite_for.ensures.refused
