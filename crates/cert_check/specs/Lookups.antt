@@ -1,5 +1,5 @@
 -- What look-ups of members know.
-use Rattle.std.specs.Prelude.{◌≡◌, ℕ, ◌<◌, List, Any, length, Option, None, Some, slice_index_or}
+use Rattle.std.specs.Prelude.{◌≡◌, ℕ, ◌<◌, List, All, Any, length, Option, None, Some, slice_index_or}
 use Rattle.std.specs.Cmp.Lexicographic.{pointwise}
 use Rattle.indexmap.specs.IndexMap.{get}
 use Rattle.inst_logic.specs.declared.signed.Signed.{Signed}
@@ -7,7 +7,7 @@ use Rattle.clause_form.specs.Literals.{id_eq}
 use Rattle.inst_logic.specs.Tree.{Tree}
 use Rattle.inst_logic.specs.Substitution.{Substitution, subst as apply}
 use Rattle.clause_form.specs.Placements.{literal_at}
-use Rattle.term_bank.specs.Forest.{Forest, tree_at}
+use Rattle.term_bank.specs.Forest.{Forest, IsClauseOf, tree_at}
 use Rattle.saturation_cert.specs.declared.certificate.Saturation.{Saturation}
 use Rattle.saturation_cert.specs.declared.member.Member.{Member}
 use Rattle.saturation_cert.specs.Values.{base_of, saturation_of}
@@ -15,6 +15,7 @@ use Rattle.saturation_cert.specs.Wholes.{HasPlaces, IsWholeSaturation}
 use Rattle.cert_format.specs.Validity.{IsValidBase}
 use Rattle.cert_check.specs.Chains.{AreMeetings}
 use Rattle.cert_check.specs.Covers.{ShorterOf}
+use Rattle.cert_check.specs.declared.covers.Sought.{Sought}
 use Rattle.cert_check.specs.declared.fingerprint.Fingerprint.{Fingerprint}
 use Rattle.cert_check.specs.Fingerprints.{HasFingerprint, fingerprint_at}
 use Rattle.cert_check.specs.Lengths.{AreGrouped, heads_by, rank_at}
@@ -69,3 +70,23 @@ HasNoShorter f ms hs ps n d l = (k : ℕ) → k < length ms → IsHeadAt f l (he
 pub record IsPastShorter (f : Forest) (ms : List Member) (hs : List Head) (rs : List Ranked) (ps : List Fingerprint) (n : ℕ) (d : List (Signed ℕ)) (l : Signed ℕ) (h : Head) (j : ℕ) : Type 0 where
   pub at : j < length rs → head_at (heads_by hs rs) j ≡ h
   pub before : (i : ℕ) → i < j → head_at (heads_by hs rs) i ≡ h → IsNoShorter f ms ps n d l (rank_at rs i).place
+
+-- ---- the search for a shorter member
+
+-- what is sought is a clause of the bank, and the look-ups are of the members
+pub record IsSearch (s : Sought) : Type 0 where
+  pub members : All (λ m. IsClauseOf s.bank.now m.clause) s.members.now
+  pub lookup : IsLookup s.bank.now s.members.now s.lookup.now
+  pub clause : IsClauseOf s.bank.now s.clause.now
+
+-- the member is one that is sought
+abbrev pub IsSought : Sought → Member → Type 0
+IsSought s m = ShorterOf s.bank.now s.len s.clause.now m
+
+-- the member at the place is not, where the literal may be the instance of its selected one
+abbrev pub IsUnsoughtAt : Sought → Signed ℕ → ℕ → Type 0
+IsUnsoughtAt s l k = IsNoShorter s.bank.now s.members.now s.lookup.now.fingerprints.items s.len s.clause.now l k
+
+-- no member whose head is that of the literal is
+abbrev pub AreUnsoughtBy : Sought → Signed ℕ → Type 0
+AreUnsoughtBy s l = (hs : List Head) → AreGrouped s.members.now hs s.lookup.now.lengths → HasNoShorter s.bank.now s.members.now hs s.lookup.now.fingerprints.items s.len s.clause.now l

@@ -18,10 +18,8 @@ ghost use Rattle.saturation_cert.specs.Wholes.{IsWholeClause};
 ghost use Rattle.cert_check.specs.Covers.{IsCoveredIn, IsUnitOf, ShorterOf};
 ghost use Rattle.cert_check.specs.Grounds.{AreCanonicalMembers};
 ghost use Rattle.cert_check.specs.Fingerprints.{HasFingerprint};
-ghost use Rattle.cert_check.specs.Lengths.{AreGrouped};
-ghost use Rattle.cert_check.specs.Lookups.{AreClausesOf, HasNoShorter, IsLookup, IsNoShorter};
+ghost use Rattle.cert_check.specs.Lookups.{AreClausesOf, AreUnsoughtBy, IsLookup, IsSearch, IsSought, IsUnsoughtAt};
 ghost use Rattle.cert_check.specs.Places.{IsPlaceOf};
-ghost use Rattle.cert_check.specs.Partners.{Head};
 
 use crate::fingerprint::{Fingerprint, fingerprint_of};
 use crate::lookup::Lookup;
@@ -32,58 +30,56 @@ use std::alloc::Global;
 use term_bank::{Bank, IdClause, IdLiteral};
 use unify_core::{Bindings, Side};
 
-// Whether the member at the place, counted from 0, subsumes the clause with fewer literals than this many. It is not tried where
-// the fingerprint of its selected literal excludes that one with this fingerprint is an instance.
+// A clause that is an instance of one with `len` literals, and the members among which one with fewer that subsumes it is sought.
+#[derive(Clone, Copy)]
+struct Sought<'a> {
+    bank: &'a Bank,
+    members: &'a [Member],
+    lookup: &'a Lookup,
+    len: usize,
+    clause: &'a IdClause,
+}
+
+// Whether the member at the place, counted from 0, which has fewer literals, is sought. It is not tried where the fingerprint of
+// its selected literal excludes that one with this fingerprint is an instance.
 fn is_shorter_at(
     alloc: Global,
-    bank: &Bank,
-    members: &[Member],
-    lookup: &Lookup,
-    len: usize,
-    c: &IdClause,
+    sought: &Sought<'_>,
     fingerprint: &Fingerprint,
     k: usize,
 ) -> Result<bool, Memory>
-    requires members { All (λ m. IsClauseOf bank.now m.clause) members.now }
-    requires lookup { IsLookup bank.now members.now lookup.now }
-    requires clause { IsClauseOf bank.now c.now }
-    requires within { k < length members.now }
-    requires shorter { HoldsAt (λ m. length m.clause < len) members.now k }
-    ensures yes { IfOk result (λ r. r ≡ true → IsPlaceOf (ShorterOf bank.now len c.now) members.now k) }
-    ensures no { IfOk result (λ r. r ≡ false → (l : Signed ℕ) → HasFingerprint bank.now (tree_at bank.now l.atom) fingerprint.now → IsNoShorter bank.now members.now lookup.now.fingerprints.items len c.now l k) }
+    requires ready { IsSearch sought.now }
+    requires within { k < length sought.now.members.now }
+    requires shorter { HoldsAt (λ m. length m.clause < sought.now.len) sought.now.members.now k }
+    ensures yes { IfOk result (λ r. r ≡ true → IsPlaceOf (IsSought sought.now) sought.now.members.now k) }
+    ensures no { IfOk result (λ r. r ≡ false → (l : Signed ℕ) → HasFingerprint sought.now.bank.now (tree_at sought.now.bank.now l.atom) fingerprint.now → IsUnsoughtAt sought.now l k) }
 {
-    if lookup.fingerprints[k].differs(fingerprint) {
+    if sought.lookup.fingerprints[k].differs(fingerprint) {
         return Ok(false);
     }
-    subsumes(alloc, bank, &members[k].clause, c)
+    subsumes(alloc, sought.bank, &sought.members[k].clause, sought.clause)
 }
 
-// The place of a member that is so whose selected literal has the head of this one. The shortest come first.
+// The place of a member that is sought whose selected literal has the head of this one. The shortest come first.
 fn shorter_by(
     alloc: Global,
-    bank: &Bank,
-    members: &[Member],
-    lookup: &Lookup,
-    len: usize,
-    c: &IdClause,
+    sought: &Sought<'_>,
     literal: &IdLiteral,
 ) -> Result<Option<usize>, Memory>
-    requires members { All (λ m. IsClauseOf bank.now m.clause) members.now }
-    requires lookup { IsLookup bank.now members.now lookup.now }
-    requires clause { IsClauseOf bank.now c.now }
-    requires literal { literal.now.atom < length bank.now.trees }
-    ensures some { IfOk result (λ o. IfSome o (IsPlaceOf (ShorterOf bank.now len c.now) members.now)) }
-    ensures none { IfOk result (λ o. IfNone o ((hs : List Head) → AreGrouped members.now hs lookup.now.lengths → HasNoShorter bank.now members.now hs lookup.now.fingerprints.items len c.now literal.now)) }
+    requires ready { IsSearch sought.now }
+    requires literal { literal.now.atom < length sought.now.bank.now.trees }
+    ensures some { IfOk result (λ o. IfSome o (IsPlaceOf (IsSought sought.now) sought.now.members.now)) }
+    ensures none { IfOk result (λ o. IfNone o (AreUnsoughtBy sought.now literal.now)) }
 {
-    let lengths = &lookup.lengths;
-    let mut j = lengths.first_place(bank, literal);
-    if !lengths.is_below(j, len) {
+    let lengths = &sought.lookup.lengths;
+    let mut j = lengths.first_place(sought.bank, literal);
+    if !lengths.is_below(j, sought.len) {
         return Ok(None);
     }
-    let fingerprint = fingerprint_of(bank, literal.atom);
-    while lengths.is_below(j, len) {
+    let fingerprint = fingerprint_of(sought.bank, literal.atom);
+    while lengths.is_below(j, sought.len) {
         let k = lengths.ranked[j].place;
-        if is_shorter_at(alloc, bank, members, lookup, len, c, &fingerprint, k)? {
+        if is_shorter_at(alloc, sought, &fingerprint, k)? {
             return Ok(Some(k));
         }
         j = lengths.same[j];
@@ -91,25 +87,16 @@ fn shorter_by(
     Ok(None)
 }
 
-// The place of a member that is so, found by its selected literal. This one has an instance in the clause, so only those with the
-// head of one of the clause's literals are tried.
-fn shorter_by_heads(
-    alloc: Global,
-    bank: &Bank,
-    members: &[Member],
-    lookup: &Lookup,
-    len: usize,
-    c: &IdClause,
-) -> Result<Option<usize>, Memory>
-    requires members { All (λ m. IsClauseOf bank.now m.clause) members.now }
-    requires lookup { IsLookup bank.now members.now lookup.now }
-    requires clause { IsClauseOf bank.now c.now }
-    ensures some { IfOk result (λ o. IfSome o (IsPlaceOf (ShorterOf bank.now len c.now) members.now)) }
-    ensures none { IfOk result (λ o. IfNone o (¬ (Any (ShorterOf bank.now len c.now) members.now))) }
+// The place of a member that is sought, found by its selected literal. This one has an instance in the clause, so only those with
+// the head of one of the clause's literals are tried.
+fn shorter_by_heads(alloc: Global, sought: &Sought<'_>) -> Result<Option<usize>, Memory>
+    requires { IsSearch sought.now }
+    ensures some { IfOk result (λ o. IfSome o (IsPlaceOf (IsSought sought.now) sought.now.members.now)) }
+    ensures none { IfOk result (λ o. IfNone o (¬ (Any (IsSought sought.now) sought.now.members.now))) }
 {
-    let literals = c.as_slice();
+    let literals = sought.clause.as_slice();
     for literal in literals {
-        if let Some(k) = shorter_by(alloc, bank, members, lookup, len, c, literal)? {
+        if let Some(k) = shorter_by(alloc, sought, literal)? {
             return Ok(Some(k));
         }
     }
@@ -162,7 +149,14 @@ pub fn shorter_place(
             return Ok(Some(k));
         }
     }
-    shorter_by_heads(alloc, bank, members, lookup, len, c)
+    let sought = Sought {
+        bank,
+        members,
+        lookup,
+        len,
+        clause: c,
+    };
+    shorter_by_heads(alloc, &sought)
 }
 
 // Whether the clause, an instance of one with this many literals, is covered by the members. A variant is looked up.

@@ -15,6 +15,7 @@ ghost use Rattle.cert_check.specs.Origins.{IsMade};
 
 use crate::conclusion::Premises;
 use crate::covers::is_covered;
+use crate::due_side::DueSide;
 use crate::lookup::Lookup;
 use inst_logic::Memory;
 use saturation_cert::{Saturation, selected};
@@ -33,32 +34,31 @@ pub fn is_proper(bank: &Bank, bindings: &Bindings) -> bool
     bindings.proper(bank, Side::Right)
 }
 
-// Whether the instance of member `i`, counted from 0, on the side of the bindings is covered.
+// Whether the instance of the side's member under the bindings is covered.
 fn is_side_covered(
     alloc: Global,
     cert: &mut Saturation,
     lookup: &Lookup,
     bindings: &Bindings,
-    side: Side,
-    i: usize,
+    due: DueSide,
 ) -> Result<bool, Memory>
     requires ready { IsReady cert.old lookup.now }
-    requires within { i < length cert.old.base.members }
+    requires within { due.own < length cert.old.base.members }
     requires bindings { AreBindings cert.old.base.bank bindings.now.entries }
     requires terms { AreTerms cert.old.base.bank bindings.now.entries }
     ensures kept { KeepsSaturation cert.old cert.new }
     ensures whole { OnOk result (IsWholeSaturation cert.new) }
-    ensures covered { IfOk result (IsSideCovered cert.old bindings.now.entries side (suc i)) }
+    ensures covered { IfOk result (IsSideCovered cert.old bindings.now.entries due.side (suc due.own)) }
 {
     let members = cert.base.members.as_slice();
-    let member = &members[i];
+    let member = &members[due.own];
     is_covered(
         alloc,
         &mut cert.base.bank,
         members,
         lookup,
         bindings,
-        side,
+        due.side,
         &member.clause,
     )
 }
@@ -85,33 +85,31 @@ fn has_made(cert: &Saturation, lookup: &Lookup, i: usize, j: usize) -> bool
     })
 }
 
-// Whether the instance of member `i` by member `j`, on the side of the bindings, is covered where the unifier is proper on it.
-// One that is a member by its origin is not built.
+// Whether the instance of the side's member is covered where the unifier is proper on the side. One that is a member by its
+// origin is not built.
 fn is_side_closed(
     alloc: Global,
     cert: &mut Saturation,
     lookup: &Lookup,
     bindings: &Bindings,
-    side: Side,
-    i: usize,
-    j: usize,
+    due: DueSide,
 ) -> Result<bool, Memory>
     requires ready { IsReady cert.old lookup.now }
-    requires within { i < length cert.old.base.members }
-    requires partner { j < length cert.old.base.members }
+    requires within { due.own < length cert.old.base.members }
+    requires partner { due.other < length cert.old.base.members }
     requires bindings { AreBindings cert.old.base.bank bindings.now.entries }
     requires terms { AreTerms cert.old.base.bank bindings.now.entries }
     ensures kept { KeepsSaturation cert.old cert.new }
     ensures whole { OnOk result (IsWholeSaturation cert.new) }
-    ensures closed { IfOk result (IsSideClosed cert.old bindings.now.entries side (suc i) (suc j)) }
+    ensures closed { IfOk result (IsSideClosed cert.old bindings.now.entries due.side (suc due.own) (suc due.other)) }
 {
-    if !bindings.proper(&cert.base.bank, side) {
+    if !bindings.proper(&cert.base.bank, due.side) {
         return Ok(true);
     }
-    if has_made(cert, lookup, i, j) {
+    if has_made(cert, lookup, due.own, due.other) {
         return Ok(true);
     }
-    is_side_covered(alloc, cert, lookup, bindings, side, i)
+    is_side_covered(alloc, cert, lookup, bindings, due)
 }
 
 // Whether members `i` and `j`, counted from 0, are closed for the unifier that the bindings stand for.
@@ -135,10 +133,20 @@ fn is_closed(
     if !is_proper(&cert.base.bank, bindings) {
         return Ok(false);
     }
-    if !is_side_closed(alloc, cert, lookup, bindings, Side::Left, i, j)? {
+    let left = DueSide {
+        side: Side::Left,
+        own: i,
+        other: j,
+    };
+    if !is_side_closed(alloc, cert, lookup, bindings, left)? {
         return Ok(false);
     }
-    is_side_closed(alloc, cert, lookup, bindings, Side::Right, j, i)
+    let right = DueSide {
+        side: Side::Right,
+        own: j,
+        other: i,
+    };
+    is_side_closed(alloc, cert, lookup, bindings, right)
 }
 
 // Whether the selected literals of members `i` and `j`, counted from 0, do not unify with opposite signs, or are closed.

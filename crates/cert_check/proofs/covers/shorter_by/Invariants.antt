@@ -6,8 +6,8 @@ use Rattle.cert_check.proofs.covers.shorter_by.Given as goal
 
 abbrev pub invariant-loop-lengths : goal.invariant-loop-lengths
 invariant-loop-lengths l =
-    (hs : List Head) → AreGrouped l.members hs l.lookup.lengths → (h : Head) → IsHeadAt l.bank l.literal h
-    → IsPastShorter l.bank l.members hs l.lookup.lengths.ranked.items l.lookup.fingerprints.items l.len l.c l.literal h l.j
+    (hs : List Head) → AreGrouped l.sought.members.now hs l.sought.lookup.now.lengths → (h : Head) → IsHeadAt l.sought.bank.now l.literal h
+    → IsPastShorter l.sought.bank.now l.sought.members.now hs l.sought.lookup.now.lengths.ranked.items l.sought.lookup.now.fingerprints.items l.sought.len l.sought.clause.now l.literal h l.j
 
 abbrev pub decreases-loop-lengths : goal.decreases-loop-lengths
-decreases-loop-lengths l = length l.lookup.lengths.ranked.items - l.j
+decreases-loop-lengths l = length l.sought.lookup.now.lengths.ranked.items - l.j

@@ -6,4 +6,4 @@ use Rattle.cert_check.specs.Partners.{Head}
 use Rattle.cert_check.proofs.covers.shorter_by_heads.Given as goal
 
 abbrev pub invariant-loop-literal : goal.invariant-loop-literal
-invariant-loop-literal l = (i : ℕ) (x : Signed ℕ) → i < l.literal-index → (hs : List Head) → AreGrouped l.members hs l.lookup.lengths → HasNoShorter l.bank l.members hs l.lookup.fingerprints.items l.len l.c (get_or l.literals i x)
+invariant-loop-literal l = (i : ℕ) (x : Signed ℕ) → i < l.literal-index → (hs : List Head) → AreGrouped l.sought.members.now hs l.sought.lookup.now.lengths → HasNoShorter l.sought.bank.now l.sought.members.now hs l.sought.lookup.now.fingerprints.items l.sought.len l.sought.clause.now (get_or l.literals i x)

@@ -18,13 +18,13 @@ is_covered-requires-clause-lookup c = subst (λ (ms : List Member). IsLookup c.a
 
 pub is_covered-requires-clause-clause : goal.is_covered-requires-clause-clause
 is_covered-requires-clause-clause c =
-    let same = c.index-members-i.is ∙ ap (λ (ms : List Member). get_or ms c.args.i c.index-members-i.result) c.as_slice-members.ensures in
-    subst (λ (m : Member). IsWholeClause c.args.cert.now.base.bank m.clause) (sym same) (c.requires.ready.whole.members c.args.i c.index-members-i.result c.requires.within)
+    let same = c.index-members-due.is ∙ ap (λ (ms : List Member). get_or ms c.args.due.own c.index-members-due.result) c.as_slice-members.ensures in
+    subst (λ (m : Member). IsWholeClause c.args.cert.now.base.bank m.clause) (sym same) (c.requires.ready.whole.members c.args.due.own c.index-members-due.result c.requires.within)
 
 pub is_covered-requires-clause-canonical : goal.is_covered-requires-clause-canonical
 is_covered-requires-clause-canonical c =
-    let same = c.index-members-i.is ∙ ap (λ (ms : List Member). get_or ms c.args.i c.index-members-i.result) c.as_slice-members.ensures in
-    subst (λ (m : Member). IsCanonical (clause_at c.args.cert.now.base.bank m.clause)) (sym same) (canonical_members c.args.cert.now c.requires.ready.base c.args.i c.index-members-i.result c.requires.within)
+    let same = c.index-members-due.is ∙ ap (λ (ms : List Member). get_or ms c.args.due.own c.index-members-due.result) c.as_slice-members.ensures in
+    subst (λ (m : Member). IsCanonical (clause_at c.args.cert.now.base.bank m.clause)) (sym same) (canonical_members c.args.cert.now c.requires.ready.base c.args.due.own c.index-members-due.result c.requires.within)
 
 pub returns-clause-whole : goal.returns-clause-whole
 returns-clause-whole c =
@@ -35,5 +35,5 @@ returns-clause-whole c =
 pub returns-clause-covered : goal.returns-clause-covered
 returns-clause-covered c =
     IfOk-weaker c.is_covered.result _ _
-    (λ r h. covered_here c.args.cert.now c.requires.ready.placed c.args.bindings.now.entries c.args.side c.args.i c.index-members-i.result c.as_slice-members.result.now c.as_slice-members.ensures c.requires.within c.index-members-i.is r h)
+    (λ r h. covered_here c.args.cert.now c.requires.ready.placed c.args.bindings.now.entries c.args.due.side c.args.due.own c.index-members-due.result c.as_slice-members.result.now c.as_slice-members.ensures c.requires.within c.index-members-due.is r h)
     c.is_covered.ensures.covered
