@@ -117,7 +117,8 @@ fn unit_place(
     c: &IdClause,
 ) -> Result<Option<usize>, Memory>
     requires { AreClausesOf _members.now (get (pointwise id_eq) lookup.now.clauses) }
-    ensures { IfOk result (λ o. IfSome o (IsPlaceOf (IsUnitOf c.now) _members.now)) }
+    ensures some { IfOk result (λ o. IfSome o (IsPlaceOf (IsUnitOf c.now) _members.now)) }
+    ensures none { IfOk result (λ o. IfNone o (¬ (Any (IsUnitOf c.now) _members.now))) }
 {
     let literals = c.as_slice();
     for literal in literals {
