@@ -21,7 +21,7 @@ returns c =
     let f = c.args.bank.now in
     let ms = c.args.members.now in
     let none : ¬ (IsTautology (clause_at f c.args.c.now)) =
-    λ t. let e : false ≡ true = sym c.if-long_tautology.false ∙ (c.in_ok-long_tautology.ensures.trees f c.distinct.ensures c.requires.clause).1 t in cc in
+    λ t. let e : false ≡ true = sym c.if-branch.false ∙ (c.in_ok-long_tautology.ensures.trees f c.distinct.ensures c.requires.clause).1 t in cc in
     let unknown : ¬ (Any (λ (m : Member). m.clause ≡ c.args.c.now) ms) =
     c.requires.lookup.clauses.none c.args.c.now (sym c.place_of.ensures ∙ none_place c.place_of.result (sym c.is_some.ensures ∙ c.if-is_some.false)) in
     shorter_covers f ms c.distinct.ensures c.requires.members c.requires.members_canonical c.args.c.now c.requires.clause c.requires.canonical c.args.len c.is_some-2.result none unknown

@@ -16,5 +16,5 @@ pub returns : goal.returns
 returns c =
     let f = c.args.bank.now in
     let none : ¬ (IsTautology (clause_at f c.args.c.now)) =
-    λ t. let e : false ≡ true = sym c.if-long_tautology.false ∙ (c.in_ok-long_tautology.ensures.trees f c.distinct.ensures c.requires.clause).1 t in cc in
+    λ t. let e : false ≡ true = sym c.if-branch.false ∙ (c.in_ok-long_tautology.ensures.trees f c.distinct.ensures c.requires.clause).1 t in cc in
     met_or none (place_decides (λ m. Subsumes (clause_at f m.clause) (clause_at f c.args.c.now)) c.args.members.now c.in_ok-place.place c.in_ok-place.ensures.some c.in_ok-place.ensures.none c.is_some-2.result c.is_some-2.ensures)

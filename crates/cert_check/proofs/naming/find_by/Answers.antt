@@ -8,9 +8,9 @@ use Rattle.cert_check.specs.Names.{IsCoverBy}
 use Rattle.cert_check.proofs.NameLaws.{tautology_covers, variant_covers, part_covers, none_covers, member_ids, no_place, place_some, place_subsumes}
 use Rattle.cert_check.proofs.naming.find_by.Goals as goal
 
-pub returns-then-tautology-clause-some : goal.returns-then-tautology-clause-some
-returns-then-tautology-clause-some c =
-    tautology_covers c.args.bank.now c.args.bank.now c.args.members.now c.args.len c.args.c.now ((c.in_ok-long_tautology.ensures.trees c.args.bank.now c.distinct.ensures c.requires.clause.ids).0 c.if-long_tautology.true)
+pub returns-then-branch-clause-some : goal.returns-then-branch-clause-some
+returns-then-branch-clause-some c =
+    tautology_covers c.args.bank.now c.args.bank.now c.args.members.now c.args.len c.args.c.now ((c.in_ok-long_tautology.ensures.trees c.args.bank.now c.distinct.ensures c.requires.clause.ids).0 c.if-branch.true)
 
 pub variant_of-requires : goal.variant_of-requires
 variant_of-requires c = (c.requires.lookup.clauses.found c.args.c.now c.in-Some.k (sym c.place_of.ensures ∙ c.in-Some.is)).within
@@ -36,7 +36,7 @@ returns-in-None-clause-none c =
     let f = c.args.bank.now in
     let ms = c.args.members.now in
     let other : ¬ (IsTautology (clause_at f c.args.c.now)) =
-    λ t. let e : false ≡ true = sym c.if-long_tautology.false ∙ (c.in_ok-long_tautology.ensures.trees f c.distinct.ensures c.requires.clause.ids).1 t in cc in
+    λ t. let e : false ≡ true = sym c.if-branch.false ∙ (c.in_ok-long_tautology.ensures.trees f c.distinct.ensures c.requires.clause.ids).1 t in cc in
     let unknown : ¬ (Any (λ (m : Member). m.clause ≡ c.args.c.now) ms) = c.requires.lookup.clauses.none c.args.c.now (sym c.place_of.ensures ∙ no_place c.place_of.result c.in_default.not-Some) in
     let longer = subst (λ (o : Option ℕ). IfNone o (¬ (Any (ShorterOf f c.args.len c.args.c.now) ms))) c.in-None.is c.in_ok-shorter_place.ensures.none in
     none_covers f ms c.args.len c.args.c.now c.distinct.ensures (member_ids f ms c.requires.members) c.requires.members_canonical c.requires.clause.ids c.requires.canonical other unknown longer

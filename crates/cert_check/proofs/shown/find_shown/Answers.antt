@@ -16,9 +16,9 @@ returns-in-Some-clause-some c =
     part_shows f c.part_of.new.bank c.args.members.now c.args.c.now c.in-Some.k
     (place_same f c.args.c.now c.args.members.now c.in-Some.k (c.requires.lookup.clauses.found c.args.c.now c.in-Some.k (sym c.place_of.ensures ∙ c.in-Some.is))) c.in_ok-by.by c.in_ok-by.ensures.part
 
-pub returns-then-tautology-clause-some : goal.returns-then-tautology-clause-some
-returns-then-tautology-clause-some c =
-    tautology_shows c.args.bank.now c.args.bank.now c.args.members.now c.args.c.now ((c.in_ok-long_tautology.ensures.trees c.args.bank.now c.distinct.ensures c.requires.clause.ids).0 c.if-long_tautology.true)
+pub returns-then-branch-clause-some : goal.returns-then-branch-clause-some
+returns-then-branch-clause-some c =
+    tautology_shows c.args.bank.now c.args.bank.now c.args.members.now c.args.c.now ((c.in_ok-long_tautology.ensures.trees c.args.bank.now c.distinct.ensures c.requires.clause.ids).0 c.if-branch.true)
 
 pub subsuming_place_from-requires-clause-members : goal.subsuming_place_from-requires-clause-members
 subsuming_place_from-requires-clause-members c = member_ids c.args.bank.now c.args.members.now c.requires.members
@@ -29,7 +29,7 @@ returns-in-None-clause-none c =
     let ms = c.args.members.now in
     let longer = subst (λ (o : Option ℕ). IfNone o (¬ (Any (λ (m : Member). Subsumes (clause_at f m.clause) (clause_at f c.args.c.now)) ms))) c.in-None.is c.in_ok-subsuming_place_from.ensures.none in
     λ met. elim met [
-      | inl t ↦ let e : false ≡ true = sym c.if-long_tautology.false ∙ (c.in_ok-long_tautology.ensures.trees f c.distinct.ensures c.requires.clause.ids).1 t in cc
+      | inl t ↦ let e : false ≡ true = sym c.if-branch.false ∙ (c.in_ok-long_tautology.ensures.trees f c.distinct.ensures c.requires.clause.ids).1 t in cc
       | inr any ↦ longer any
     ]
 
