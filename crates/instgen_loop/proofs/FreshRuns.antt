@@ -1,5 +1,5 @@
 -- A run without entries, and one with its first.
-use Rattle.std.proofs.Common.{◌≡◌, ℕ, ◌<◌, ◌≤◌, List, [], ◌++◌, refl, sym, ap, ◌∙◌, subst as transport, map, length, arith, All, Contains, Bool, true, false, Option, Some, None, IsTrue, IsFalse, not, ◌||◌}
+use Rattle.std.proofs.Common.{◌≡◌, ℕ, suc, ◌<◌, ◌≤◌, List, [], ◌++◌, refl, sym, ap, ◌∙◌, subst as transport, map, length, arith, All, Contains, Bool, true, false, Option, Some, None, IsTrue, IsFalse, not, ◌||◌}
 use Rattle.std.proofs.lemmas.List.Elements.{All-nil}
 use Rattle.std.specs.Prelude.{slice_get}
 use Rattle.inst_logic.specs.declared.symbol.Sym.{Sym}
@@ -58,6 +58,7 @@ module _ {S I C : Type 0} (atoms : S → ℕ) (added : S → List (List (Signed 
     queue = h.queue;
     held = h.held;
     journal = h.journal;
+    known = h.known;
   }
 
   fresh_numbered : (r : Run S I C) → IsFresh atoms added pairs r → AreAtomsIn r.entries.bank r.ground.abstraction.ids
@@ -92,6 +93,7 @@ module _ {S I C : Type 0} (atoms : S → ℕ) (added : S → List (List (Signed 
     waiting = transport (λ (ws : List Waiting). All (λ n. n ≤ length (items r)) (numbers ws)) (sym h.queue) (All-nil (λ n. n ≤ length (items r)));
     within = let e : length r.selection.places ≡ 0 = ap (λ (s : Placing). length s.places) h.selection in omega arith;
     placed = λ i l. let e : length r.selection.places ≡ 0 = ap (λ (s : Placing). length s.places) h.selection in absurd (omega arith);
+    known = h.known ∙ sym (ap (map (λ (e : Item). e.0)) h.entries);
   }
 
   pub fresh_started : (r : Run S I C) → IsFresh atoms added pairs r → IsStarted atoms added r []
@@ -187,11 +189,11 @@ problem_later old new g clauses grown bot h = record {
 pub same_constant : {S I C : Type 0} (atoms : S → ℕ) (added : S → List (List (Signed ℕ))) (r : Run S I C) (bot : Sym) (cs : List TreeClause) (budget : ℕ) → IsRunningWith atoms added r bot cs budget → r.ground.abstraction.bot ≡ bot
 same_constant atoms added r bot cs budget (v, b, h) = h.linked.constant
 
--- no more entries were appended than the budget has symbols, where there is one
+-- at most one entry more was appended than the budget has symbols, where there is one
 pub appended_within : {S I C : Type 0} (atoms : S → ℕ) (added : S → List (List (Signed ℕ))) (r : Run S I C) (clauses : List TreeClause) (budget : ℕ) → IsRunningFor atoms added r (with_axioms clauses) budget
-    → IsFalse (is_function_free clauses) → appended_count r.journal ≤ budget
+    → IsFalse (is_function_free clauses) → appended_count r.journal ≤ suc budget
 appended_within atoms added r clauses budget (bot, v, b, h) functions = go r.left refl
   where
-    go : (o : Option ℕ) → r.left ≡ o → appended_count r.journal ≤ budget
+    go : (o : Option ℕ) → r.left ≡ o → appended_count r.journal ≤ suc budget
     go None e = let f = h.free e in let n = not_free clauses (equality_axioms clauses) functions in absurd cc
     go (Some k) e = appended_bounded atoms added r bot (with_axioms clauses) budget v b h k e

@@ -135,6 +135,7 @@ module _ {S I C : Type 0} (atoms : S → ℕ) (added : S → List (List (Signed 
       stored = h.safe.stored;
       numbered = h.safe.numbered;
       notes = h.safe.notes;
+      known = h.safe.known;
       count = same_atoms ∙ h.safe.count;
       waiting = h.safe.waiting;
       within = h.safe.within;

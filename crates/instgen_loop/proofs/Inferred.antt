@@ -68,7 +68,7 @@ atoms_of_formed : (g : Forest) (d : List (Signed ℕ)) → IsFormedClause (claus
 atoms_of_formed g d h = in_all (λ (l : Signed ℕ). IsAtom (tree_at g l.atom)) d (λ l i.
     passes (λ (x : Signed Tree). atom_is_formed x.atom) (clause_at g d) h (record { positive = l.positive; atom = tree_at g l.atom }) (in_map (λ (x : Signed ℕ). record { positive = x.positive; atom = tree_at g x.atom }) l d i))
 
-from_clause_at : (g : Forest) (d : List (Signed ℕ)) → All (λ l. IsAtom (tree_at g l.atom)) d → IsFormedClause (clause_at g d)
+pub from_clause_at : (g : Forest) (d : List (Signed ℕ)) → All (λ l. IsAtom (tree_at g l.atom)) d → IsFormedClause (clause_at g d)
 from_clause_at g [] h = refl
 from_clause_at g (l ∷ d) h = and_both (atom_is_formed (tree_at g l.atom)) _ (all_in (λ (l : Signed ℕ). IsAtom (tree_at g l.atom)) (l ∷ d) h l (inl refl))
     (from_clause_at g d (in_all (λ (l : Signed ℕ). IsAtom (tree_at g l.atom)) d (λ k i. all_in (λ (l : Signed ℕ). IsAtom (tree_at g l.atom)) (l ∷ d) h k (inr i))))
@@ -119,6 +119,7 @@ safe_grown atoms pairs fits r g h e formed stored = record {
   waiting = h.waiting;
   within = h.within;
   placed = h.placed;
+  known = h.known;
 }
 
 -- a grown bank alone

@@ -7,7 +7,7 @@ pub mod Selected
 pub mod Works
 pub mod Inferred
 pub mod Runs
-pub mod Counted
+pub mod Parted
 pub mod Bounded
 pub mod Opposites
 pub mod Waiting
@@ -25,11 +25,13 @@ pub mod Kept
 pub mod Started
 pub mod Grounding
 pub mod PrintedEntries
+pub mod PartTermLaws
 pub mod RecordLaws
 pub mod LineLaws
 pub mod LineNumbers
 pub mod TreeSteps
 pub mod Refuting
+pub mod DerivedLaws
 pub mod Refutations
 pub mod Ended
 pub mod Endings

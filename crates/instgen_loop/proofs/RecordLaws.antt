@@ -4,20 +4,21 @@ use Rattle.std.specs.Prelude.{option_map}
 use Rattle.inst_logic.specs.declared.symbol.Sym.{Sym}
 use Rattle.inst_logic.specs.declared.signed.Signed.{Signed}
 use Rattle.inst_logic.specs.Tree.{Tree, var}
-use Rattle.inst_logic.specs.Clauses.{TreeClause, order_of, IsCanonical}
+use Rattle.inst_logic.specs.Clauses.{TreeClause, canonical_form, instance, order_of, IsCanonical}
 use Rattle.inst_logic.specs.Derivations.{at_number}
 use Rattle.inst_logic.specs.Unifiers.{Sided, IsMostGeneral, IsUnifier}
 use Rattle.inst_logic.specs.WellFormed.{IsAtom}
 use Rattle.inst_logic.proofs.Items.{slice_get_push}
 use Rattle.inst_logic.proofs.Numbering.{map_map}
 use Rattle.inst_logic.proofs.ShownLaws.{at_number_contains}
-use Rattle.inst_calculus.specs.Conclusions.{IsConclusion}
+use Rattle.inst_calculus.specs.Conclusions.{IsConclusion, IsPartOfConclusion}
+use Rattle.inst_calculus.specs.Parts.{chosen}
 use Rattle.inst_calculus.specs.Entries as origins
 use Rattle.inst_calculus.specs.Entries.{Entry, entry_clauses}
 use Rattle.inst_calculus.specs.Unrolling as trees
-use Rattle.inst_calculus.specs.Unrolling.{How as TreeHow, given, instance_of, implied_by, made_clauses, conclusion_terms, TellsHow, AreRecords, IsMade, AreMade, CitesBelow, HasOwnVariables, IsNoLemma}
+use Rattle.inst_calculus.specs.Unrolling.{How as TreeHow, given, instance_of, implied_by, made_clauses, conclusion_terms, part_terms, TellsHow, AreRecords, IsMade, AreMade, CitesBelow, HasOwnVariables}
 use Rattle.inst_calculus.proofs.CanonicalVariables.{canonical_term}
-use Rattle.inst_calculus.proofs.Choice.{terms_of_choice}
+use Rattle.inst_calculus.proofs.Choice.{instance_of_choice, terms_of_choice}
 use Rattle.inst_calculus.proofs.Distinct.{length_map, map_append}
 use Rattle.inst_calculus.proofs.Items.{same_item, at_number_within}
 use Rattle.inst_calculus.proofs.Membership.{◌∈◌, contains_in, all_in, in_all}
@@ -31,11 +32,12 @@ use Rattle.term_bank.proofs.Growth.{ids_extend, map_extends}
 use Rattle.unify_core.specs.Terms.{AreOfOneKind}
 use Rattle.clause_form.specs.Conclusions.{AreTermIds, AreTermsOf, made_canonical}
 use Rattle.global_subs.specs.declared.made.How.{How}
-use Rattle.global_subs.specs.declared.made.How.TheVariants.{Given, From, Lemma}
+use Rattle.global_subs.specs.declared.made.How.TheVariants as made
+use Rattle.global_subs.specs.declared.made.How.TheVariants.{Given, From}
 use Rattle.global_subs.specs.declared.made.Made.{Made}
 use Rattle.global_subs.specs.Unrolls.{how_at, made_at, entries_at, terms_of, HasAllTerms, AreEntriesOf}
 use Rattle.saturation_cert.specs.declared.member.Origin.{Origin}
-use Rattle.saturation_cert.specs.declared.member.Origin.TheVariants.{Inst}
+use Rattle.saturation_cert.specs.declared.member.Origin.TheVariants.{Inst, Lemma}
 use Rattle.saturation_cert.specs.Values.{origin_of}
 use Rattle.instgen_loop.specs.Clauses.{Item, AreEntries, entries_in}
 use Rattle.instgen_loop.specs.Records.{IsConcluded, AreConcluded, IsRecord, AreRecordsOf}
@@ -125,6 +127,12 @@ module _ (f : Forest) (es : List Item) (from place partner other : ℕ) (c : Tre
         by_items (x ∷ xs) [] e h = absurd (omega arith)
         by_items (x ∷ xs) (y ∷ ys) e h = ap₂ (λ a b. a ∷ b) (h 0 (omega arith)) (by_items xs ys (omega arith) (λ i l. h (suc i) (omega arith)))
 
+    -- the clause under another most general unifier
+    pub clause_concluded : (g : Forest) (s : Sided) (d : List (Signed ℕ)) → IsMostGeneral s (tree_at f a.atom) (tree_at f b.atom) → clause_at g d ≡ canonical_form (instance s.left (clause_at f first.0)) → clause_at g d ≡ c
+    clause_concluded g s d most made =
+        made ∙ (instance_of_choice (tree_at f a.atom) (tree_at f b.atom) s k.unifier most general (clause_at f first.0)).0
+        ∙ ap (λ e. canonical_form (instance k.unifier.left e)) (sym (clause_is from first k.entry k.entry_at first_at)) ∙ sym k.conclusion
+
 -- the atom of a literal of an entry
 pub atom_within : (f : Forest) (es : List Item) → AreEntries f es → (n p : ℕ) (item : Item) (l : Signed ℕ) → at_number es n ≡ Some item → at_number item.0 p ≡ Some l → (l.atom < length f.trees) × IsAtom (tree_at f l.atom)
 atom_within f es entries n p item l at here =
@@ -141,17 +149,22 @@ one_kind f es entries from place partner other first second a b first_at second_
     inl ((atom_within f es entries from place first a first_at a_at).1, (atom_within f es entries partner other second b second_at b_at).1)
 
 -- what an origin that names two entries tells
-pub told_by : (bot : Sym) (es : List Entry) (o : Origin) (from place partner other : ℕ) (c : TreeClause) (ts : List Tree) → o ≡ Inst from place partner other
-    → ((k : IsConclusion es from place partner other c) → ts ≡ conclusion_terms k.unifier.left k.entry.clause) → IsConcluded es o c → TellsHow bot es (origin_of o) c (instance_of from ts)
-told_by bot es o from place partner other c ts e terms =
-    transport (λ (x : Origin). IsConcluded es x c → TellsHow bot es (origin_of x) c (instance_of from ts)) (sym e) (λ k. (k, ap (instance_of from) (terms k)))
+pub told_whole : (bot : Sym) (es : List Entry) (o : Origin) (from place partner other : ℕ) (c : TreeClause) (h : TreeHow) → o ≡ Inst from place partner other
+    → ((k : IsConclusion es from place partner other c) → h ≡ instance_of from (conclusion_terms k.unifier.left k.entry.clause)) → IsConcluded es o c → TellsHow bot es (origin_of o) c h
+told_whole bot es o from place partner other c h e terms =
+    transport (λ (x : Origin). IsConcluded es x c → TellsHow bot es (origin_of x) c h) (sym e) (λ k. (k, terms k))
+
+pub told_part : (bot : Sym) (es : List Entry) (o : Origin) (from place partner other : ℕ) (keep premises : List ℕ) (c : TreeClause) (h : TreeHow) → o ≡ Lemma from place partner other keep premises
+    → ((p : IsPartOfConclusion es from place partner other keep c) → h ≡ implied_by premises (part_terms bot p.whole (chosen p.whole keep))) → IsConcluded es o c → TellsHow bot es (origin_of o) c h
+told_part bot es o from place partner other keep premises c h e terms =
+    transport (λ (x : Origin). IsConcluded es x c → TellsHow bot es (origin_of x) c h) (sym e) (λ k. (k, terms k))
 
 -- Records as the bank grows
 
 how_extends : (f g : Forest) → Extends f g → (h : How) → AreIds f (terms_of h) → how_at g h ≡ how_at f h
 how_extends f g e (Given k) ids = refl
 how_extends f g e (From from terms) ids = ap (instance_of from) (map_extends f g terms e ids)
-how_extends f g e (Lemma terms premises) ids = ap (implied_by premises) (map_extends f g terms e ids)
+how_extends f g e (made.Lemma terms premises) ids = ap (implied_by premises) (map_extends f g terms e ids)
 
 pub entry_ids : (f : Forest) (es : List Item) → AreEntries f es → (e : Item) → e ∈ es → IsClauseOf f e.0
 entry_ids f es h e i = all_in (λ (x : Item). IsClauseOf f x.0) es h.ids e i
@@ -163,18 +176,17 @@ module _ (f g : Forest) (e : Extends f g) (es : List Item) (entries : AreEntries
   same_clause : (n : ℕ) (item : Item) → at_number es n ≡ Some item → clause_at g item.0 ≡ clause_at f item.0
   same_clause n item at = clause_extends f g e item.0 (entry_ids f es entries item (contains_in item es (at_number_contains es n item at)))
 
-  pub record_extends : (n : ℕ) (m : Made) → IsRecord f es n m → IsRecord g es n m
-  record_extends n m h = record {
+  pub record_extends : (bot : Sym) (n : ℕ) (m : Made) → IsRecord bot f es n m → IsRecord bot g es n m
+  record_extends bot n m h = record {
     item = h.item;
     item_at = h.item_at;
     clause = h.clause;
     ids = ids_extend f g (terms_of m.how) e h.ids;
     terms = terms_later f g e (terms_of m.how) h.ids h.terms;
-    told = λ bot.
+    told =
         transport (TellsHow bot (entries_in g es) (origin_of h.item.1) (clause_at g h.item.0)) (sym (how_extends f g e m.how h.ids))
         (transport (λ c. TellsHow bot (entries_in g es) (origin_of h.item.1) c (how_at f m.how)) (sym (same_clause n h.item h.item_at))
-        (transport (λ (xs : List Entry). TellsHow bot xs (origin_of h.item.1) (clause_at f h.item.0) (how_at f m.how)) (sym same_entries) (h.told bot)));
-    own = transport IsNoLemma (sym (how_extends f g e m.how h.ids)) h.own;
+        (transport (λ (xs : List Entry). TellsHow bot xs (origin_of h.item.1) (clause_at f h.item.0) (how_at f m.how)) (sym same_entries) h.told));
   }
 
   pub concluded_extends : AreConcluded f es → AreConcluded g es
@@ -182,28 +194,27 @@ module _ (f g : Forest) (e : Extends f g) (es : List Item) (entries : AreEntries
       transport (λ c. IsConcluded (entries_in g es) item.1 c) (sym (same_clause n item at)) (transport (λ (xs : List Entry). IsConcluded xs item.1 (clause_at f item.0)) (sym same_entries) (h n item at))
 
   -- what was told over the bank as it was is told over the grown one
-  pub record_made : (n : ℕ) (item : Item) (o : Origin) (m : Made) → at_number es n ≡ Some item → item.1 ≡ o → m.clause ≡ item.0 → AreIds g (terms_of m.how) → AreTermIds g (terms_of m.how)
-      → ((bot : Sym) → TellsHow bot (entries_in f es) (origin_of o) (clause_at f item.0) (how_at g m.how)) → IsNoLemma (how_at g m.how) → IsRecord g es n m
-  record_made n item o m at origin clause ids terms told own = record {
+  pub record_made : (bot : Sym) (n : ℕ) (item : Item) (o : Origin) (m : Made) → at_number es n ≡ Some item → item.1 ≡ o → m.clause ≡ item.0 → AreIds g (terms_of m.how) → AreTermIds g (terms_of m.how)
+      → TellsHow bot (entries_in f es) (origin_of o) (clause_at f item.0) (how_at g m.how) → IsRecord bot g es n m
+  record_made bot n item o m at origin clause ids terms told = record {
     item = item;
     item_at = at;
     clause = clause;
     ids = ids;
     terms = terms;
-    told = λ bot.
+    told =
         transport (λ (x : Origin). TellsHow bot (entries_in g es) (origin_of x) (clause_at g item.0) (how_at g m.how)) (sym origin)
         (transport (λ c. TellsHow bot (entries_in g es) (origin_of o) c (how_at g m.how)) (sym (same_clause n item at))
-        (transport (λ (xs : List Entry). TellsHow bot xs (origin_of o) (clause_at f item.0) (how_at g m.how)) (sym same_entries) (told bot)));
-    own = own;
+        (transport (λ (xs : List Entry). TellsHow bot xs (origin_of o) (clause_at f item.0) (how_at g m.how)) (sym same_entries) told));
   }
 
 -- one more
-pub one_more_record : (f g : Forest) (es : List Item) (made : List Made) (n : ℕ) (m : Made) → Extends f g → AreEntries f es → length made ≡ n → ((k : ℕ) (x : Made) → at_number made k ≡ Some x → IsRecord f es k x)
-    → IsRecord g es (n + 1) m → (k : ℕ) (x : Made) → at_number (made ++ m ∷ []) k ≡ Some x → IsRecord g es k x
-one_more_record f g es made n m e entries count old new zero x at = absurd cc
-one_more_record f g es made n m e entries count old new (suc i) x at = elim (slice_get_push made m i x at) [
-  | inl p ↦ record_extends f g e es entries (suc i) x (old (suc i) x p.0)
-  | inr p ↦ let q : n + 1 ≡ suc i = omega (arith, p.0, count) in transport (IsRecord g es (suc i)) p.1 (transport (λ j. IsRecord g es j m) q new)
+pub one_more_record : (bot : Sym) (f g : Forest) (es : List Item) (made : List Made) (n : ℕ) (m : Made) → Extends f g → AreEntries f es → length made ≡ n → ((k : ℕ) (x : Made) → at_number made k ≡ Some x → IsRecord bot f es k x)
+    → IsRecord bot g es (n + 1) m → (k : ℕ) (x : Made) → at_number (made ++ m ∷ []) k ≡ Some x → IsRecord bot g es k x
+one_more_record bot f g es made n m e entries count old new zero x at = absurd cc
+one_more_record bot f g es made n m e entries count old new (suc i) x at = elim (slice_get_push made m i x at) [
+  | inl p ↦ record_extends f g e es entries bot (suc i) x (old (suc i) x p.0)
+  | inr p ↦ let q : n + 1 ≡ suc i = omega (arith, p.0, count) in transport (IsRecord bot g es (suc i)) p.1 (transport (λ j. IsRecord bot g es j m) q new)
 ]
 
 -- one more clause
@@ -220,9 +231,9 @@ clauses_so_far es made i m item so_far at is =
 pub number_of : (made : List Made) (m : Made) → m ∈ made → (n : ℕ) × (at_number made n ≡ Some m)
 number_of made m i = let (k, at) = in_slice_get m made i in (suc k, at)
 
-module _ (f : Forest) (es : List Item) (entries : AreEntries f es) (made : List Made) (h : AreRecordsOf f es made) where
+module _ (bot : Sym) (f : Forest) (es : List Item) (entries : AreEntries f es) (made : List Made) (h : AreRecordsOf bot f es made) where
   -- the record of entry n
-  record_at : (n : ℕ) (m : trees.Made) → at_number (entries_at f made) n ≡ Some m → (x : Made) × IsRecord f es n x × (made_at f x ≡ m)
+  record_at : (n : ℕ) (m : trees.Made) → at_number (entries_at f made) n ≡ Some m → (x : Made) × IsRecord bot f es n x × (made_at f x ≡ m)
   record_at n m at = let (x, x_at, e) = item_behind (made_at f) made n m at in (x, h.each n x x_at, e)
 
   same_clauses : made_clauses (entries_at f made) ≡ entry_clauses (entries_in f es)
@@ -230,18 +241,18 @@ module _ (f : Forest) (es : List Item) (entries : AreEntries f es) (made : List 
       map_map (λ (m : trees.Made). m.clause) (made_at f) made ∙ sym (map_map (clause_at f) (λ (m : Made). m.clause) made) ∙ ap (map (clause_at f)) h.clauses
       ∙ map_map (clause_at f) (λ (e : Item). e.0) es ∙ sym (map_map (λ (x : Entry). x.clause) (entry_of_item f) es)
 
-  pub are_records : (bot : Sym) → AreRecords bot (entries_in f es) (entries_at f made)
-  are_records bot = record {
+  pub are_records : AreRecords bot (entries_in f es) (entries_at f made)
+  are_records = record {
     clauses = same_clauses;
     told = λ n e m at also.
         let (x, k, q) = record_at n m also in
         let same : e ≡ entry_of_item f k.item = same_item (at_number (entries_in f es) n) e (entry_of_item f k.item) at (at_number_map (entry_of_item f) es n ∙ ap (option_map (entry_of_item f)) k.item_at) in
         transport (λ (y : Entry). TellsHow bot (entries_in f es) y.origin y.clause m.how) (sym same)
-        (transport (λ (y : trees.Made). TellsHow bot (entries_in f es) (origin_of k.item.1) (clause_at f k.item.0) y.how) q (k.told bot));
+        (transport (λ (y : trees.Made). TellsHow bot (entries_in f es) (origin_of k.item.1) (clause_at f k.item.0) y.how) q k.told);
   }
 
   -- what an unrolled list asks of them, where they are made of clauses
-  module _ (bot : Sym) (cs : List TreeClause) (right : AreMade bot cs (entries_at f made)) where
+  module _ (cs : List TreeClause) (right : AreMade bot cs (entries_at f made)) where
     cites : (n : ℕ) (c : TreeClause) (w : TreeHow) → IsMade bot cs (entries_at f made) n c w → CitesBelow n w
     cites n c (given k) r = tt
     cites n c (instance_of from terms) (below, m, at, e) = below
@@ -268,11 +279,8 @@ module _ (f : Forest) (es : List Item) (entries : AreEntries f es) (made : List 
       own = λ n m at.
           let (x, k, q) = record_at n m at in
           transport (λ (y : trees.Made). HasOwnVariables y.clause y.how) q
-          (transport (λ c. HasOwnVariables (clause_at f c) (how_at f x.how)) (sym k.clause) (told_has_own_variables bot (entries_in f es) (origin_of k.item.1) (clause_at f k.item.0) (how_at f x.how) (k.told bot)));
+          (transport (λ c. HasOwnVariables (clause_at f c) (how_at f x.how)) (sym k.clause) (told_has_own_variables bot (entries_in f es) (origin_of k.item.1) (clause_at f k.item.0) (how_at f x.how) k.told));
       all_terms = λ n m at.
           let (x, k, q) = record_at n m at in
-          transport (λ (y : trees.Made). HasAllTerms (entries_at f made) y.how) q (all_terms (origin_of k.item.1) (clause_at f k.item.0) (how_at f x.how) (k.told bot));
+          transport (λ (y : trees.Made). HasAllTerms (entries_at f made) y.how) q (all_terms (origin_of k.item.1) (clause_at f k.item.0) (how_at f x.how) k.told);
     }
-
-    pub no_lemmas : (n : ℕ) (m : trees.Made) → at_number (entries_at f made) n ≡ Some m → IsNoLemma m.how
-    no_lemmas n m at = let (x, k, q) = record_at n m at in transport (λ (y : trees.Made). IsNoLemma y.how) q k.own

@@ -1,50 +1,42 @@
 -- The refutation that is made of a refuted run and its ground lines is valid, whole, and can be printed.
-use Rattle.std.proofs.Common.{◌≡◌, ◌≢◌, ◌⊎◌, inl, inr, ℕ, zero, suc, ◌-◌, ◌<◌, ◌≤◌, List, [], ◌∷◌, ◌++◌, refl, sym, ap, ◌∙◌, subst as transport, map, length, get_or, arith, All, Contains, Some}
-use Rattle.std.specs.Prelude.{IsTrue, slice_get, option_map}
+use Rattle.std.proofs.Common.{◌≡◌, ◌≢◌, ◌⊎◌, inl, inr, ℕ, zero, suc, ◌-◌, ◌<◌, ◌≤◌, List, [], ◌∷◌, refl, sym, ap, ◌∙◌, subst as transport, map, length, get_or, arith, All, Contains, Some}
+use Rattle.std.specs.Prelude.{slice_get, option_map}
 use Rattle.std.proofs.lemmas.Option.{slice_get-map, slice_get-get_or}
 use Rattle.inst_logic.specs.declared.symbol.Sym.{Sym}
 use Rattle.inst_logic.specs.declared.signed.Signed.{Signed}
 use Rattle.inst_logic.specs.Tree.{Tree, var}
 use Rattle.inst_logic.specs.Equal.{literal_eq}
 use Rattle.inst_logic.specs.Lists.{distinct}
-use Rattle.inst_logic.specs.Clauses.{TreeClause}
+use Rattle.inst_logic.specs.Clauses.{TreeClause, IsGround}
 use Rattle.inst_logic.specs.Derivations.{at_number}
-use Rattle.inst_logic.specs.Substitution.{tree_vars}
-use Rattle.inst_logic.specs.WellFormed.{IsAtom, IsTerm, IsFormedClause}
+use Rattle.inst_logic.specs.Substitution.{clause_vars, tree_vars}
+use Rattle.inst_logic.specs.WellFormed.{IsAtom, IsTerm, IsFormedClause, atom_is_formed}
 use Rattle.inst_logic.proofs.Membership.{get_or_in, map_agree}
-use Rattle.inst_logic.proofs.Numbers.{last_or_before}
 use Rattle.inst_logic.proofs.Numbering.{map_map}
 use Rattle.inst_logic.proofs.SameLemmas.{literal_eq_decides}
 use Rattle.inst_logic.proofs.ShownLaws.{slice_get_contains}
-use Rattle.inst_calculus.specs.Abstraction.{abstraction, abstract_literals, grounding}
 use Rattle.inst_calculus.specs.Axioms.{clause_symbols, tree_symbols, equality_axioms, with_axioms, occurrences}
-use Rattle.inst_calculus.specs.Entries.{Entry, entry_clauses}
+use Rattle.inst_calculus.specs.Entries.{Entry}
 use Rattle.inst_calculus.specs.Steps.{Step, renamed_literal, renamed_clause}
-use Rattle.inst_calculus.specs.Unrolling.{Made as TreeMade, made_clauses, AreRecords, AreMade, Grounded, unrolled, all_unrolled, each_once, ground_clause}
+use Rattle.inst_calculus.specs.Unrolling.{AreRecords, Grounded, IsGrounded, all_unrolled, each_once, ground_clause}
 use Rattle.inst_calculus.proofs.Distinct.{length_map, distinct_is_distinct, from_distinct}
-use Rattle.inst_calculus.proofs.Items.{at_number_within}
-use Rattle.inst_calculus.proofs.KeptSymbols.{symbols_with_repeats}
-use Rattle.inst_calculus.proofs.Membership.{◌∈◌, contains_in, in_contains, in_left, in_right, in_map, from_map, all_in, in_all}
-use Rattle.inst_calculus.proofs.NumberedAbstractions.{abstracted_formed, abstracted_ground}
+use Rattle.inst_calculus.proofs.Membership.{◌∈◌, contains_in, in_map, from_map, all_in, in_all, nothing_in, passes}
 use Rattle.inst_calculus.proofs.StepLaws.{at_number_map}
 use Rattle.inst_calculus.proofs.Symbols.{symbol_of_literal}
-use Rattle.inst_calculus.proofs.UnrolledClauses.{one_clause}
-use Rattle.inst_calculus.proofs.UnrolledRefutation.{same_once}
+use Rattle.inst_calculus.proofs.Clauses.{variable_of}
+use Rattle.inst_calculus.proofs.UnrolledClauses.{grounded_clause}
 use Rattle.inst_machine.specs.Machine as machine
 use Rattle.inst_machine.proofs.Contents.{contents_of_unrolled, contents_of_grounds}
-use Rattle.inst_machine.proofs.MadeRuns.{records_are_right}
 use Rattle.cert_format.specs.Certificate as format
 use Rattle.cert_format.specs.Printable.{IsPrintableClause, IsPrintableLine, IsPrintableStep, IsPrintableByLines}
 use Rattle.cert_format.specs.Validity.{IsValidByLines}
-use Rattle.cert_format.proofs.Numbers.{in_slice_get}
-use Rattle.engine_laws.specs.GroundLines.{ground_line, ground_lines}
+use Rattle.engine_laws.specs.GroundLines.{ground_line}
 use Rattle.engine_laws.proofs.PrintableLines.{printable_lines}
-use Rattle.engine_laws.proofs.Printed.{IsReadable, IsPlain, name_is_readable, plain_printable, all_formed, axiom_printable}
+use Rattle.engine_laws.proofs.Printed.{IsReadable, IsPlain, name_is_readable, plain_printable, all_formed, all_symbols_readable, axiom_printable}
 use Rattle.engine_laws.proofs.ValidRefutations.{valid_when_refuted}
 use Rattle.prop_logic.specs.declared.literal.Step.{Step as NumberedStep}
-use Rattle.prop_logic.specs.Literal.{AtomsBelow, AllAtomsBelow}
-use Rattle.term_bank.specs.Forest.{Forest, AreDistinct, IsClauseOf, clause_at, tree_at}
-use Rattle.clause_form.proofs.Ids.{same_ids}
+use Rattle.prop_logic.specs.Literal.{AtomsBelow}
+use Rattle.term_bank.specs.Forest.{Forest, AreDistinct, clause_at, literal_tree, tree_at}
 use Rattle.ground_abs.specs.Abstracts.{atoms_in}
 use Rattle.saturation_cert.specs.declared.certificate.GroundLine.{GroundLine}
 use Rattle.saturation_cert.specs.declared.certificate.GroundStep.{GroundStep}
@@ -53,41 +45,33 @@ use Rattle.saturation_cert.specs.Values.{entry_of, line_of, step_of, refutation_
 use Rattle.saturation_cert.specs.Wholes.{IsWholeClause, IsWholeTerm, IsWholeLine, IsWholeRefutation}
 use Rattle.instgen_loop.specs.declared.event.Event.{Event}
 use Rattle.instgen_loop.specs.declared.refuted.RefutedRun.{RefutedRun}
-use Rattle.instgen_loop.specs.Clauses.{Item, entries_in, clauses_in}
 use Rattle.instgen_loop.specs.Endings.{IsRefuted}
-use Rattle.instgen_loop.specs.Grounds.{IsUsed}
-use Rattle.instgen_loop.specs.LineNumbers.{clauses_of, HaveLines, AreLineNumbers}
+use Rattle.instgen_loop.specs.Derived.{IsDerived, IsOfLine}
+use Rattle.instgen_loop.specs.LineNumbers.{clauses_of, AreLineNumbers}
 use Rattle.instgen_loop.specs.Lines.{IsLineIn, AreLinesOf}
 use Rattle.instgen_loop.specs.Outcomes.{IsRefutedRun}
-use Rattle.instgen_loop.specs.Refuting.{ground_clause as ids_clause, ground_step, member_of, base_from}
+use Rattle.instgen_loop.specs.Refuting.{ground_step, member_of, base_from}
 use Rattle.instgen_loop.specs.Running.{event_in}
 use Rattle.instgen_loop.proofs.FirstEntries.{whole_at}
-use Rattle.instgen_loop.proofs.Inferred.{same_clauses}
 use Rattle.instgen_loop.proofs.PrintedEntries as entries
 use Rattle.instgen_loop.proofs.Refuting.{whole_items}
-use Rattle.instgen_loop.proofs.TreeSteps.{name, ground_trees, ground_whole, numbers_literals, line_step, step_trees, step_below, step_hinted, ends, shown_from_lines, named_once}
+use Rattle.instgen_loop.proofs.DerivedLaws.{told, line_trees, lines_grounded}
+use Rattle.instgen_loop.proofs.TreeSteps.{name, ground_trees, ground_whole, line_step, step_trees, step_below, step_hinted, ends, shown_from_lines}
 
--- the list of an entry among those of all
-in_all_unrolled : (bot : Sym) (made : List TreeMade) (n k : ℕ) (g : Grounded) → 0 < k → k ≤ n → g ∈ unrolled bot made k (grounding bot) → g ∈ all_unrolled bot made n
-in_all_unrolled bot made zero k g p l i = absurd (omega (arith, p, l))
-in_all_unrolled bot made (suc n) k g p l i = elim (last_or_before k (suc n) (omega (arith, l))) [
-  | inr e ↦ in_right g (all_unrolled bot made n) (unrolled bot made (suc n) (grounding bot)) (transport (λ m. g ∈ unrolled bot made m (grounding bot)) e i)
-  | inl m ↦ in_left g (all_unrolled bot made n) (unrolled bot made (suc n) (grounding bot)) (in_all_unrolled bot made n k g p (omega (arith, m)) i)
-]
-
-module _ (clauses : List TreeClause) (names : List (List ℕ)) (r : RefutedRun) (journal : List Event) (h : IsRefuted clauses names r journal) (once : AreDistinct r.remains.bank.trees)
-    (lines : List GroundLine) (k : AreLinesOf clauses r lines) where
+-- The run as its abstractions were refuted, its ground lines, and a derivation over these.
+module _ (clauses : List TreeClause) (names : List (List ℕ)) (r now : RefutedRun) (journal : List Event) (h : IsRefuted clauses names r journal) (once : AreDistinct r.remains.bank.trees)
+    (lines : List GroundLine) (k : AreLinesOf clauses r lines) (d : IsDerived (record now { remains = r.remains }) lines) where
   abbrev f : Forest
   f = r.remains.bank
 
   abbrev ids : List ℕ
-  ids = r.abstraction.ids
+  ids = now.abstraction.ids
 
   abbrev bot : Sym
   bot = r.abstraction.bot
 
   abbrev lits : List (List (Signed ℕ))
-  lits = r.literals
+  lits = now.literals
 
   abbrev cs : List TreeClause
   cs = with_axioms clauses
@@ -95,60 +79,14 @@ module _ (clauses : List TreeClause) (names : List (List ℕ)) (r : RefutedRun) 
   abbrev events : List machine.Event
   events = map (event_in f) journal
 
-  abbrev given_clauses : List TreeClause
-  given_clauses = clauses_in f r.remains.clauses.entries
-
   abbrev items : List Grounded
   items = each_once (all_unrolled bot k.made (length k.made))
 
-  lits_below : AllAtomsBelow (length ids) lits
-  lits_below = transport (λ n. AllAtomsBelow n lits) (length_map (tree_at f) ids) h.same.below
-
-  -- Lines that are abstractions
-
-  told : AreRecords bot h.state.entries k.made
-  told = transport (λ xs. AreRecords bot xs k.made) (sym h.members) k.records
-
-  right : AreMade bot cs k.made
-  right = records_are_right bot cs events h.state h.replays k.made told
-
-  line_trees : map (clause_at f) (clauses_of lines) ≡ map (ground_clause cs) items
-  line_trees =
-      map_map (clause_at f) (λ (l : GroundLine). l.clause) lines ∙ sym (map_map (λ (l : format.GroundLine). l.clause) (line_of f) lines) ∙ ap (map (λ (l : format.GroundLine). l.clause)) k.same
-      ∙ map_map (λ (l : format.GroundLine). l.clause) (ground_line cs) items
-
-  made_given : made_clauses k.made ≡ given_clauses
-  made_given = k.records.clauses ∙ same_clauses f r.remains.clauses.entries
-
-  -- the abstraction of an entry is the clause of a line
-  abstraction_there : (c : TreeClause) → c ∈ given_clauses → abstraction bot c ∈ map (ground_clause cs) items
-  abstraction_there c i =
-      let (m, j, e) = from_map (λ (m : TreeMade). m.clause) c k.made (transport (λ ds. c ∈ ds) (sym made_given) i) in
-      let (n, at) = in_slice_get m k.made j in
-      let within = at_number_within k.made (suc n) m at in
-      let (g, list, is) = one_clause bot cs k.made right k.no_lemmas (suc n) m (grounding bot) at in
-      let there : g ∈ all_unrolled bot k.made (length k.made) =
-      in_all_unrolled bot k.made (length k.made) (suc n) g (omega arith) within (transport (λ gs. g ∈ gs) (sym list) (inl refl)) in
-      let kept : g ∈ items = contains_in g items ((same_once (all_unrolled bot k.made (length k.made)) g).1 (in_contains g (all_unrolled bot k.made (length k.made)) there)) in
-      transport (λ d. d ∈ map (ground_clause cs) items) (is ∙ ap (abstraction bot) e) (in_map (ground_clause cs) g items kept)
-
-  abstractions_same : map (distinct literal_eq) (map (renamed_clause (name f ids h.fits)) lits) ≡ map (abstraction bot) given_clauses
-  abstractions_same = numbers_literals (atoms_in f ids) bot given_clauses lits h.same.same
-
   lit_below : (c : List (Signed ℕ)) → c ∈ lits → AtomsBelow (length ids) c
-  lit_below c i = all_in (AtomsBelow (length ids)) lits lits_below c i
+  lit_below c i = all_in (AtomsBelow (length ids)) lits d.below c i
 
-  pub have_lines : HaveLines lines ids lits
-  have_lines = in_all (λ c. Contains (clauses_of lines) (ids_clause ids c)) lits (λ c i.
-      let tree = ground_trees f ids h.fits once c (lit_below c i) in
-      let (d, j, e) = from_map (abstraction bot) (distinct literal_eq (renamed_clause (name f ids h.fits) c)) given_clauses
-      (transport (λ ds. distinct literal_eq (renamed_clause (name f ids h.fits) c) ∈ ds) abstractions_same
-      (in_map (distinct literal_eq) (renamed_clause (name f ids h.fits) c) (map (renamed_clause (name f ids h.fits)) lits) (in_map (renamed_clause (name f ids h.fits)) c lits i))) in
-      let (x, m, q) = from_map (clause_at f) (abstraction bot d) (clauses_of lines) (transport (λ ds. abstraction bot d ∈ ds) (sym line_trees) (abstraction_there d j)) in
-      let (l, n, w) = from_map (λ (l : GroundLine). l.clause) x lines m in
-      let inside : IsClauseOf f x = transport (IsClauseOf f) w (all_in (IsLineIn f) lines k.ids l n).clause in
-      let same : x ≡ ids_clause ids c = same_ids f once x (ids_clause ids c) inside (ground_whole f ids h.fits c (lit_below c i)).ids (q ∙ e ∙ sym tree) in
-      in_contains (ids_clause ids c) (clauses_of lines) (transport (λ y. y ∈ clauses_of lines) same m))
+  records : AreRecords bot h.state.entries k.made
+  records = told clauses names r journal h lines k
 
   -- The steps
 
@@ -159,7 +97,7 @@ module _ (clauses : List TreeClause) (names : List (List ℕ)) (r : RefutedRun) 
     clauses_here : format.line_clauses tree_lines ≡ map (clause_at f) (clauses_of lines)
     clauses_here = map_map (λ (l : format.GroundLine). l.clause) (line_of f) lines ∙ sym (map_map (clause_at f) (λ (l : GroundLine). l.clause) lines)
 
-    named : (n : ℕ) → (0 < n) × (n ≤ length lits) → at_number (format.line_clauses tree_lines) (get_or numbers (n - 1) 0) ≡ at_number (map (distinct literal_eq) (map (renamed_clause (name f ids h.fits)) lits)) n
+    named : (n : ℕ) → (0 < n) × (n ≤ length lits) → at_number (format.line_clauses tree_lines) (get_or numbers (n - 1) 0) ≡ at_number (map (distinct literal_eq) (map (renamed_clause (name f ids d.fits)) lits)) n
     named zero (p, l) = absurd (omega (arith, p))
     named (suc i) (p, l) =
         let before : suc i - 1 ≡ i = omega arith in
@@ -171,18 +109,18 @@ module _ (clauses : List TreeClause) (names : List (List ℕ)) (r : RefutedRun) 
         ∙ ap (λ ds. at_number ds (get_or numbers i 0)) clauses_here
         ∙ at_number_map (clause_at f) (clauses_of lines) (get_or numbers i 0)
         ∙ ap (option_map (clause_at f)) (numbered.each i (get_or numbers i 0) c n_at c_at)
-        ∙ ap Some (ground_trees f ids h.fits once c (lit_below c j))
-        ∙ sym (slice_get-map (distinct literal_eq) (map (renamed_clause (name f ids h.fits)) lits) i ∙ ap (option_map (distinct literal_eq)) (slice_get-map (renamed_clause (name f ids h.fits)) lits i ∙ ap (option_map (renamed_clause (name f ids h.fits))) c_at))
+        ∙ ap Some (ground_trees f ids d.fits once c (lit_below c j))
+        ∙ sym (slice_get-map (distinct literal_eq) (map (renamed_clause (name f ids d.fits)) lits) i ∙ ap (option_map (distinct literal_eq)) (slice_get-map (renamed_clause (name f ids d.fits)) lits i ∙ ap (option_map (renamed_clause (name f ids d.fits))) c_at))
 
     abbrev steps : List (Step Tree)
-    steps = map (line_step (name f ids h.fits) numbers) r.derivation
+    steps = map (line_step (name f ids d.fits) numbers) now.derivation
 
     abbrev cert : Refutation
     cert = record {
       base = base_from names r.remains;
       bot = bot;
       grounds = lines;
-      steps = map (ground_step ids numbers) r.derivation;
+      steps = map (ground_step ids numbers) now.derivation;
     }
 
     -- the refutation as a plain record of trees
@@ -194,11 +132,11 @@ module _ (clauses : List TreeClause) (names : List (List ℕ)) (r : RefutedRun) 
       steps = steps;
     }
 
-    below_at : (s : NumberedStep) → s ∈ r.derivation → AtomsBelow (length ids) s.clause
-    below_at = step_below f ids h.fits lits r.derivation lits_below h.refutes
+    below_at : (s : NumberedStep) → s ∈ now.derivation → AtomsBelow (length ids) s.clause
+    below_at = step_below f ids d.fits lits now.derivation d.below d.refutes
 
-    steps_same : map (step_of f) (map (ground_step ids numbers) r.derivation) ≡ steps
-    steps_same = map_map (step_of f) (ground_step ids numbers) r.derivation ∙ map_agree (λ s. step_of f (ground_step ids numbers s)) (line_step (name f ids h.fits) numbers) r.derivation (λ s i. step_trees f ids h.fits once numbers s (below_at s i))
+    steps_same : map (step_of f) (map (ground_step ids numbers) now.derivation) ≡ steps
+    steps_same = map_map (step_of f) (ground_step ids numbers) now.derivation ∙ map_agree (λ s. step_of f (ground_step ids numbers s)) (line_step (name f ids d.fits) numbers) now.derivation (λ s i. step_trees f ids d.fits once numbers s (below_at s i))
 
     members_same : map (entry_of f) (map member_of r.remains.clauses.entries) ≡ h.state.entries
     members_same = map_map (entry_of f) member_of r.remains.clauses.entries ∙ sym h.members
@@ -218,52 +156,56 @@ module _ (clauses : List TreeClause) (names : List (List ℕ)) (r : RefutedRun) 
 
     hinted : All (λ (s : Step Tree). s.hints ≢ []) steps
     hinted = in_all (λ (s : Step Tree). s.hints ≢ []) steps (λ t i.
-        let (s, j, e) = from_map (line_step (name f ids h.fits) numbers) t r.derivation i in
-        transport (λ (x : Step Tree). x.hints ≢ []) e (step_hinted f ids h.fits lits r.derivation lits_below h.refutes numbers s j))
+        let (s, j, e) = from_map (line_step (name f ids d.fits) numbers) t now.derivation i in
+        transport (λ (x : Step Tree). x.hints ≢ []) e (step_hinted f ids d.fits lits now.derivation d.below d.refutes numbers s j))
 
     valid : IsValidByLines plain
-    valid = valid_when_refuted plain events h.state.valuation h.state.has_solved k.made h.constant h.replays told refl k.same hinted
-        (shown_from_lines f ids h.fits lits r.derivation lits_below h.refutes (format.line_clauses tree_lines) numbers named) (ends f ids h.fits lits r.derivation lits_below h.refutes numbers)
+    valid = valid_when_refuted plain events h.state.valuation h.state.has_solved k.made h.constant h.replays records refl k.same hinted
+        (shown_from_lines f ids d.fits lits now.derivation d.below d.refutes (format.line_clauses tree_lines) numbers named) (ends f ids d.fits lits now.derivation d.below d.refutes numbers)
 
     -- It can be printed
 
-    entry_symbol_readable : (c : TreeClause) → c ∈ given_clauses → (s : Sym) → s ∈ clause_symbols c → IsReadable s
-    entry_symbol_readable = entries.entry_symbol_readable f r.remains.clauses.entries bot clauses events h.state h.entries h.replays h.members h.printable
+    grounded : All (IsGrounded cs) items
+    grounded = lines_grounded clauses names r journal h lines k
 
-    entry_printable : (c : TreeClause) → c ∈ given_clauses → IsPrintableClause c
-    entry_printable = entries.entry_printable f r.remains.clauses.entries bot clauses events h.state h.entries h.replays h.members h.printable
-
-    -- what the abstractions of entries have for literals
-    abstracted_plain : (c : TreeClause) → c ∈ given_clauses → (l : Signed Tree) → l ∈ abstract_literals bot c → IsPlain l
-    abstracted_plain c i l j = record {
-      formed = all_in (λ (l : Signed Tree). IsAtom l.atom) (abstract_literals bot c) (abstracted_formed bot c h.constant (entry_printable c i).formed) l j;
-      without_variables = all_in (λ (l : Signed Tree). tree_vars l.atom ≡ []) (abstract_literals bot c) (abstracted_ground bot c) l j;
-      symbols = λ s m. by s (contains_in s (bot ∷ clause_symbols c)
-          (all_in (Contains (bot ∷ clause_symbols c)) (clause_symbols (abstract_literals bot c)) (symbols_with_repeats bot c) s (symbol_of_literal s l (abstract_literals bot c) j m)));
-    }
+    -- the literals of lines
+    line_plain : (c : TreeClause) → c ∈ map (ground_clause cs) items → (l : Signed Tree) → l ∈ c → IsPlain l
+    line_plain c i l j =
+        let (g, m, e) = from_map (ground_clause cs) c items i in
+        let contents = all_in (λ (g : Grounded). IsFormedClause (ground_clause cs g) × All (Contains (bot ∷ occurrences cs)) (clause_symbols (ground_clause cs g))) items
+        (contents_of_grounds bot cs events h.state k.made (all_formed clauses h.printable) h.constant h.replays records) g m in
+        let closed : clause_vars c ≡ [] = transport IsGround e (grounded_clause cs g (all_in (IsGrounded cs) items grounded g m)).0 in
+        let symbols : All (Contains (bot ∷ occurrences cs)) (clause_symbols c) = transport (λ x. All (Contains (bot ∷ occurrences cs)) (clause_symbols x)) e contents.1 in
+        record {
+          formed = passes (λ (x : Signed Tree). atom_is_formed x.atom) c (transport IsFormedClause e contents.0) l j;
+          without_variables = nothing_in (tree_vars l.atom) (λ v n. transport (λ vs. v ∈ vs) closed (variable_of v l c j n));
+          symbols = λ s n. by s (contains_in s (bot ∷ occurrences cs) (all_in (Contains (bot ∷ occurrences cs)) (clause_symbols c) symbols s (symbol_of_literal s l c j n)));
+        }
       where
-        by : (s : Sym) → (s ≡ bot) ⊎ (s ∈ clause_symbols c) → IsReadable s
+        by : (s : Sym) → (s ≡ bot) ⊎ (s ∈ occurrences cs) → IsReadable s
         by s (inl e) = transport IsReadable (sym e) (name_is_readable bot h.bot_name)
-        by s (inr m) = entry_symbol_readable c i s m
+        by s (inr m) = all_symbols_readable clauses h.printable s m
 
     -- a literal about a numbered atom
     used_plain : (l : Signed Tree) → l.atom ∈ atoms_in f ids → IsPlain l
     used_plain l i =
-        let u : IsUsed bot given_clauses l.atom = all_in (IsUsed bot given_clauses) (atoms_in f ids) h.used l.atom i in
-        let p = abstracted_plain u.clause (contains_in u.clause given_clauses u.listed) u.literal (contains_in u.literal (abstract_literals bot u.clause) u.among) in
+        let u = all_in (IsOfLine f lines) (atoms_in f ids) d.used l.atom i in
+        let there : clause_at f u.clause ∈ map (ground_clause cs) items =
+        transport (λ ds. clause_at f u.clause ∈ ds) (line_trees clauses names r journal h lines k) (in_map (clause_at f) u.clause (clauses_of lines) (contains_in u.clause (clauses_of lines) u.listed)) in
+        let p = line_plain (clause_at f u.clause) there (literal_tree f u.literal) (in_map (literal_tree f) u.literal u.clause (contains_in u.literal u.clause u.among)) in
         record {
           formed = transport IsAtom u.atom p.formed;
           without_variables = transport (λ t. tree_vars t ≡ []) u.atom p.without_variables;
           symbols = λ s j. p.symbols s (transport (λ t. s ∈ tree_symbols t) (sym u.atom) j);
         }
 
-    step_printable : (s : NumberedStep) → s ∈ r.derivation → IsPrintableStep (line_step (name f ids h.fits) numbers s)
+    step_printable : (s : NumberedStep) → s ∈ now.derivation → IsPrintableStep (line_step (name f ids d.fits) numbers s)
     step_printable s i = record {
-      clause = plain_printable (distinct literal_eq (renamed_clause (name f ids h.fits) s.clause)) (distinct_is_distinct literal_eq literal_eq_decides (renamed_clause (name f ids h.fits) s.clause)) (λ l j.
-          let (x, m, e) = from_map (renamed_literal (name f ids h.fits)) l s.clause (from_distinct literal_eq literal_eq_decides l (renamed_clause (name f ids h.fits) s.clause) j) in
+      clause = plain_printable (distinct literal_eq (renamed_clause (name f ids d.fits) s.clause)) (distinct_is_distinct literal_eq literal_eq_decides (renamed_clause (name f ids d.fits) s.clause)) (λ l j.
+          let (x, m, e) = from_map (renamed_literal (name f ids d.fits)) l s.clause (from_distinct literal_eq literal_eq_decides l (renamed_clause (name f ids d.fits) s.clause) j) in
           let low : x.atom < length ids = all_in (λ (y : Signed ℕ). y.atom < length ids) s.clause (below_at s i) x m in
           used_plain l (transport (λ (y : Signed Tree). y.atom ∈ atoms_in f ids) e (get_or_in (atoms_in f ids) x.atom (var 0) (transport (λ n. x.atom < n) (sym (length_map (tree_at f) ids)) low))));
-      hinted = step_hinted f ids h.fits lits r.derivation lits_below h.refutes numbers s i;
+      hinted = step_hinted f ids d.fits lits now.derivation d.below d.refutes numbers s i;
     }
 
     can_be_printed : IsPrintableByLines plain
@@ -278,8 +220,8 @@ module _ (clauses : List TreeClause) (names : List (List ℕ)) (r : RefutedRun) 
       };
       constant = h.constant;
       bot_name = h.bot_name;
-      grounds = transport (All IsPrintableLine) (sym k.same) (printable_lines bot clauses events h.state k.made h.printable h.constant h.bot_name h.replays told);
-      steps = in_all IsPrintableStep steps (λ t i. let (s, j, e) = from_map (line_step (name f ids h.fits) numbers) t r.derivation i in transport IsPrintableStep e (step_printable s j));
+      grounds = transport (All IsPrintableLine) (sym k.same) (printable_lines bot clauses events h.state k.made h.printable h.constant h.bot_name h.replays records);
+      steps = in_all IsPrintableStep steps (λ t i. let (s, j, e) = from_map (line_step (name f ids d.fits) numbers) t now.derivation i in transport IsPrintableStep e (step_printable s j));
     }
 
     -- Its ids are those of the bank
@@ -288,9 +230,9 @@ module _ (clauses : List TreeClause) (names : List (List ℕ)) (r : RefutedRun) 
     line_whole l i =
         let inside = all_in (IsLineIn f) lines k.ids l i in
         let (g, j, e) = from_map (ground_line cs) (line_of f l) items (transport (λ (xs : List format.GroundLine). line_of f l ∈ xs) k.same (in_map (line_of f) l lines i)) in
-        let terms = all_in (λ (g : Grounded). All IsSound g.terms) items (contents_of_unrolled bot cs events h.state k.made (all_formed clauses h.printable) h.constant h.replays told) g j in
+        let terms = all_in (λ (g : Grounded). All IsSound g.terms) items (contents_of_unrolled bot cs events h.state k.made (all_formed clauses h.printable) h.constant h.replays records) g j in
         let clause = (all_in (λ (g : Grounded). IsFormedClause (ground_clause cs g) × All (Contains (bot ∷ occurrences cs)) (clause_symbols (ground_clause cs g))) items
-        (contents_of_grounds bot cs events h.state k.made (all_formed clauses h.printable) h.constant h.replays told) g j).0 in
+        (contents_of_grounds bot cs events h.state k.made (all_formed clauses h.printable) h.constant h.replays records) g j).0 in
         record {
           clause = whole_at f l.clause (clause_at f l.clause) (inside.clause, refl) (transport IsFormedClause (ap (λ (x : format.GroundLine). x.clause) e) clause);
           terms = in_all (IsWholeTerm f) l.terms (λ n m. record {
@@ -306,8 +248,8 @@ module _ (clauses : List TreeClause) (names : List (List ℕ)) (r : RefutedRun) 
     is_whole = record {
       base = record { bank = h.entries.formed; inputs = h.inputs.whole; axioms = h.axioms.whole; members = whole_items f r.remains.clauses.entries h.entries };
       grounds = in_all (IsWholeLine f) lines line_whole;
-      steps = in_all (λ (s : GroundStep). IsWholeClause f s.clause) (map (ground_step ids numbers) r.derivation) (λ t i.
-          let (s, j, e) = from_map (ground_step ids numbers) t r.derivation i in transport (λ (x : GroundStep). IsWholeClause f x.clause) e (ground_whole f ids h.fits s.clause (below_at s j)));
+      steps = in_all (λ (s : GroundStep). IsWholeClause f s.clause) (map (ground_step ids numbers) now.derivation) (λ t i.
+          let (s, j, e) = from_map (ground_step ids numbers) t now.derivation i in transport (λ (x : GroundStep). IsWholeClause f x.clause) e (ground_whole f ids d.fits s.clause (below_at s j)));
     }
 
     pub refuted_run : IsRefutedRun clauses names cert journal
@@ -322,7 +264,7 @@ module _ (clauses : List TreeClause) (names : List (List ℕ)) (r : RefutedRun) 
       };
       whole = is_whole;
       made = k.made;
-      records = told;
+      records = records;
       lines = k.same;
       valid = transport IsValidByLines (sym same) valid;
       printable = transport IsPrintableByLines (sym same) can_be_printed;

@@ -7,11 +7,10 @@ use Rattle.inst_logic.specs.Clauses.{TreeClause, IsCanonical}
 use Rattle.inst_logic.specs.Derivations.{at_number}
 use Rattle.inst_logic.specs.Printing.{is_readable_name}
 use Rattle.inst_logic.specs.Tree.{Tree}
-use Rattle.inst_logic.specs.WellFormed.{IsAtom, IsTerm, AreFormedClauses}
-use Rattle.inst_calculus.specs.Abstraction.{AreAbstracted, AreGroundAtoms}
+use Rattle.inst_logic.specs.WellFormed.{IsAtom, IsTerm}
+use Rattle.inst_calculus.specs.Abstraction.{AreAbstracted}
 use Rattle.inst_calculus.specs.Axioms.{tree_symbols, equality_axioms, with_axioms, occurrences}
-use Rattle.inst_calculus.specs.Conclusions.{IsConclusion, IsGiven}
-use Rattle.inst_calculus.specs.Entries.{Entry}
+use Rattle.inst_calculus.specs.Conclusions.{IsConclusion, IsPartOfConclusion, IsGiven}
 use Rattle.inst_calculus.specs.Unrolling.{Grounded, AreRecords, AreMade, all_unrolled, each_once}
 use Rattle.inst_calculus.proofs.Distinct.{length_map, map_append}
 use Rattle.inst_calculus.proofs.Membership.{◌∈◌, all_in, in_all, from_map, in_either, in_map}
@@ -50,13 +49,14 @@ use Rattle.instgen_loop.specs.Endings.{IsRefuted}
 use Rattle.instgen_loop.specs.Grounds.{IsUsed}
 use Rattle.instgen_loop.specs.Lines.{given_of, given_trees, HasClauses, IsLineIn, AreLinesOf}
 use Rattle.instgen_loop.specs.Loops.{IsSafe}
-use Rattle.instgen_loop.specs.Records.{IsConcluded, AreConcluded, IsRecord, AreRecordsOf}
+use Rattle.instgen_loop.specs.Records.{IsConcluded, AreConcluded, AreRecordsOf}
 use Rattle.instgen_loop.specs.Refuting.{member_of, refuted_from}
 use Rattle.instgen_loop.specs.Running.{event_in, IsEventOf, state_of, IsRunning, IsRunningFor}
 use Rattle.instgen_loop.specs.Starting.{IsOfProblem}
 use Rattle.instgen_loop.proofs.FirstEntries.{given_grown}
 use Rattle.instgen_loop.proofs.Grown.{clauses_kept, entries_kept, entries_stay}
-use Rattle.instgen_loop.proofs.RecordLaws.{are_entries, are_records, entry_ids, entry_of_item, no_lemmas, number_of, same_entries}
+use Rattle.instgen_loop.proofs.LineLaws.{lines_later, line_in_later}
+use Rattle.instgen_loop.proofs.RecordLaws.{are_entries, are_records, entry_ids, entry_of_item, number_of, same_entries}
 use Rattle.instgen_loop.proofs.Runs.{events_kept, events_later}
 
 pub whole_items : (f : Forest) (es : List Item) → AreEntries f es → All (λ (m : Member). IsWholeClause f m.clause) (map member_of es)
@@ -137,6 +137,17 @@ refuted_later clauses names r journal g x formed h = record {
     clauses_same : clauses_in g es ≡ clauses_in f es
     clauses_same = clauses_kept f g x es (entry_ids f es h.entries)
 
+pub lines_of_later : (clauses : List TreeClause) (names : List (List ℕ)) (r : RefutedRun) (journal : List Event) (g : Forest) → Extends r.remains.bank g → IsRefuted clauses names r journal
+    → (lines : List GroundLine) → AreLinesOf clauses r lines → AreLinesOf clauses (with_bank r g) lines
+lines_of_later clauses names r journal g x h lines k =
+    let f = r.remains.bank in
+    record {
+      made = k.made;
+      records = transport (λ xs. AreRecords r.abstraction.bot xs k.made) (sym (same_entries f g x r.remains.clauses.entries h.entries)) k.records;
+      same = lines_later f g x lines k.ids ∙ k.same;
+      ids = in_all (IsLineIn g) lines (λ l i. line_in_later f g x l (all_in (IsLineIn f) lines k.ids l i));
+    }
+
 -- What the entries are made of
 
 module _ (clauses : List TreeClause) (names : List (List ℕ)) (r : RefutedRun) (journal : List Event) (h : IsRefuted clauses names r journal) where
@@ -164,7 +175,7 @@ module _ (clauses : List TreeClause) (names : List (List ℕ)) (r : RefutedRun) 
       go : (o : Origin) → IsGiven cs h.state.entries n (origin_of o) (clause_at f e.0) → IsConcluded (entries_in f es) o (clause_at f e.0)
       go (Input k) g = tt
       go (Inst from place partner other) (a, b, k) = transport (λ xs. IsConclusion xs from place partner other (clause_at f e.0)) h.members k
-      go (Lemma from place partner other keep premises) g = tt
+      go (Lemma from place partner other keep premises) (a, b, d, k) = transport (λ xs. IsPartOfConclusion xs from place partner other keep (clause_at f e.0)) h.members k
 
   pub given_same : given_trees f r.remains.given ≡ cs
   given_same = map_append (clause_at f) r.remains.given.inputs r.remains.given.axioms ∙ ap₂ (λ xs ys. xs ++ ys) h.inputs.same h.axioms.same
@@ -185,9 +196,9 @@ module _ (clauses : List TreeClause) (names : List (List ℕ)) (r : RefutedRun) 
         (all_printable (clause_at f c) (transport (λ ds. clause_at f c ∈ ds) given_same (in_map (clause_at f) c (given_of r.remains.given) i))).canonical);
   }
 
-  module _ (made : List Made) (k : AreRecordsOf f es made) where
+  module _ (made : List Made) (k : AreRecordsOf bot f es made) where
     told : AreRecords bot h.state.entries (entries_at f made)
-    told = transport (λ xs. AreRecords bot xs (entries_at f made)) (sym h.members) (are_records f es h.entries made k bot)
+    told = transport (λ xs. AreRecords bot xs (entries_at f made)) (sym h.members) (are_records bot f es h.entries made k)
 
     made_right : AreMade bot cs (entries_at f made)
     made_right = records_are_right bot cs events h.state h.replays (entries_at f made) told
@@ -196,7 +207,7 @@ module _ (clauses : List TreeClause) (names : List (List ℕ)) (r : RefutedRun) 
     right = transport (λ ds. AreMade bot ds (entries_at f made)) (sym given_same) made_right
 
     pub unrolled_entries : AreEntriesOf f made
-    unrolled_entries = are_entries f es h.entries made k bot cs made_right
+    unrolled_entries = are_entries bot f es h.entries made k cs made_right
 
     pub term_ids : All (λ (m : Made). AreTermIds f (terms_of m.how)) made
     term_ids = in_all (λ (m : Made). AreTermIds f (terms_of m.how)) made (λ m i. let (n, at) = number_of made m i in (k.each n m at).terms)
@@ -218,8 +229,7 @@ module _ (clauses : List TreeClause) (names : List (List ℕ)) (r : RefutedRun) 
         → AreLinesOf clauses (with_bank r g) lines
     lines_are g x lines same ids = record {
       made = entries_at f made;
-      records = transport (λ xs. AreRecords bot xs (entries_at f made)) (sym (same_entries f g x es h.entries)) (are_records f es h.entries made k bot);
-      no_lemmas = no_lemmas f es h.entries made k bot cs made_right;
+      records = transport (λ xs. AreRecords bot xs (entries_at f made)) (sym (same_entries f g x es h.entries)) (are_records bot f es h.entries made k);
       same = same ∙ ap (λ ds. ground_lines bot ds (entries_at f made)) given_same;
       ids = ids;
     }

@@ -10,16 +10,20 @@ use Rattle.inst_logic.specs.Measure.{clause_size}
 use Rattle.inst_logic.specs.Clauses.{TreeClause, instance, canonical_form}
 use Rattle.inst_logic.specs.Unifiers.{Sided, IsMostGeneral, IsProper}
 use Rattle.inst_logic.proofs.ShownLaws.{at_number_append, at_number_contains}
-use Rattle.inst_calculus.specs.Entries.{Entry, entry_clauses, inst}
+use Rattle.inst_calculus.specs.Entries.{Entry, entry_clauses}
 use Rattle.inst_calculus.specs.Models.{Member}
 use Rattle.inst_calculus.specs.Saturation.{IsCovered}
 use Rattle.inst_calculus.proofs.Membership.{◌∈◌, in_all, all_in, contains_in}
 use Rattle.inst_calculus.proofs.Distinct.{map_append, length_map}
 use Rattle.inst_calculus.specs.Conclusions.{IsConclusion}
+use Rattle.inst_calculus.specs.Lemmas.{IsIrreducible}
+use Rattle.inst_calculus.specs.Parts.{AreWithin, chosen}
+use Rattle.inst_calculus.proofs.ProperParts.{part_size}
+use Rattle.global_subs.specs.Reductions.{IsReduction}
 use Rattle.inst_machine.specs.Machine as machine
 use Rattle.inst_machine.specs.Machine.{State}
 use Rattle.inst_machine.specs.Replay.{Replays}
-use Rattle.inst_machine.specs.Budget.{IsLeft}
+use Rattle.inst_machine.specs.Budget.{IsLeft, appended_size}
 use Rattle.engine_laws.specs.Places.{IsPlaced, ArePlacedTrue}
 use Rattle.engine_laws.specs.Pairs.{Held, IsHeldBack}
 use Rattle.engine_laws.specs.Valuations.{IsValuationOf}
@@ -28,11 +32,12 @@ use Rattle.inst_calculus.proofs.Items.{same_item}
 use Rattle.engine_laws.proofs.Bits.{grown}
 use Rattle.instgen_loop.specs.Running.{IsRunningFor, IsSolvedFor, KeepsTruth}
 use Rattle.inst_machine.proofs.Prolonged.{replay_goes_on, left_after}
-use Rattle.engine_laws.proofs.ConclusionSteps.{concludes as concludes_at, step}
+use Rattle.engine_laws.proofs.ConclusionSteps.{concludes as concludes_at, step, part_step}
 use Rattle.term_bank.specs.Forest.{Forest, Extends, IsClauseOf, clause_at, tree_at}
 use Rattle.ground_abs.specs.Abstracts.{atoms_in}
 use Rattle.saturation_cert.specs.Values.{origin_of}
-use Rattle.saturation_cert.specs.declared.member.Origin.TheVariants.{Inst}
+use Rattle.saturation_cert.specs.declared.member.Origin.{Origin}
+use Rattle.saturation_cert.specs.declared.member.Origin.TheVariants.{Inst, Lemma}
 use Rattle.unify_core.specs.Sides.{Binding, IsResolvedBy, of_side}
 use Rattle.unify_core.specs.Chains.{AreBindings}
 use Rattle.unify_core.specs.declared.side.Side.{Side}
@@ -44,7 +49,7 @@ use Rattle.instgen_loop.specs.declared.event.Event.TheVariants.{Solved, Inferred
 use Rattle.instgen_loop.specs.declared.state.Run.{Run}
 use Rattle.instgen_loop.specs.declared.state.Held as code
 use Rattle.instgen_loop.specs.Clauses.{Item, AreEntries, entries_in, clauses_in}
-use Rattle.instgen_loop.specs.Grounds.{IsUsed}
+use Rattle.instgen_loop.specs.Grounds.{IsLinked, IsUsed}
 use Rattle.instgen_loop.specs.Loops.{items, held_in, held_of, Appends, KeepsLink, IsSelectedLiteral}
 use Rattle.instgen_loop.specs.Running.{event_in, IsEventOf, entries_of, state_of, IsRunning, KeepsRunning, Reads, Holds, from_side, MayInfer}
 use Rattle.term_bank.proofs.Growth.{map_extends}
@@ -58,7 +63,7 @@ use Rattle.inst_calculus.proofs.OneConclusion.{conclusion_when_grown}
 use Rattle.inst_calculus.proofs.CanonicalForms.{canonical_of_canonical}
 use Rattle.inst_calculus.proofs.CoveredInstances.{covered_when_renamed}
 use Rattle.instgen_loop.specs.Loops.{IsConclusionFor}
-use Rattle.instgen_loop.specs.Running.{AppendsUncovered}
+use Rattle.instgen_loop.specs.Running.{AppendsWhole, AppendsPart, AppendsUncovered}
 use Rattle.instgen_loop.proofs.Works.{at_number_map, selected_within}
 
 -- Growth of the bank
@@ -78,6 +83,36 @@ event_later f g e (Inferred origin) h = h
 pub events_later : (f g : Forest) → Extends f g → (js : List Event) → All (IsEventOf f) js → All (IsEventOf g) js
 events_later f g e js h = in_all (IsEventOf g) js (λ j i. event_later f g e j (all_in (IsEventOf f) js h j i))
 
+-- the solver stays linked where only the bank grew
+pub linked_read : {S I C : Type 0} (atoms : S → ℕ) (added : S → List (List (Signed ℕ))) (old new : Run S I C) → Reads old new → AreEntries old.entries.bank (items old) → KeepsLink atoms added old new
+linked_read atoms added old new reads entries bot h =
+    transport (λ r. IsLinked r.entries.bank r.ground (atoms r.ground.solver) (added r.ground.solver) bot (clauses_in r.entries.bank (items r))) (sym reads.rest) (record {
+      constant = h.constant;
+      fits = record {
+        within = in_all (λ id. id < length g.trees) ids (λ id i. let k = all_in (λ id. id < length f.trees) ids h.fits.within id i in omega (arith, reads.bank.trees.0));
+        atoms = transport AreGroundAtoms (sym atoms_same) h.fits.atoms;
+      };
+      count = h.count;
+      given = h.given;
+      same = transport (λ ts. AreAbstracted bot ts old.ground.literals (clauses_in g (items old))) (sym atoms_same) (transport (λ cs. AreAbstracted bot (atoms_in f ids) old.ground.literals cs) (sym clauses_same) h.same);
+      used = transport (λ ts. All (IsUsed bot (clauses_in g (items old))) ts) (sym atoms_same) (transport (λ cs. All (IsUsed bot cs) (atoms_in f ids)) (sym clauses_same) h.used);
+    })
+  where
+    f : Forest
+    f = old.entries.bank
+
+    g : Forest
+    g = new.entries.bank
+
+    ids : List ℕ
+    ids = old.ground.abstraction.ids
+
+    atoms_same : atoms_in g ids ≡ atoms_in f ids
+    atoms_same = map_extends f g ids reads.bank h.fits.within
+
+    clauses_same : clauses_in g (items old) ≡ clauses_in f (items old)
+    clauses_same = clauses_kept f g reads.bank (items old) (λ x i. all_in (λ (x : Item). IsClauseOf f x.0) (items old) entries.ids x i)
+
 -- the invariant of a run that only read
 pub running_read : {S I C : Type 0} (atoms : S → ℕ) (added : S → List (List (Signed ℕ))) (old new : Run S I C) → Reads old new → AreEntries old.entries.bank (items old) → KeepsRunning atoms added old new
 running_read atoms added old new reads entries bot cs budget v h =
@@ -85,19 +120,7 @@ running_read atoms added old new reads entries bot cs budget v h =
       events = events_later f g reads.bank old.journal h.events;
       replays = transport (λ es. Replays bot cs (map (event_in g) old.journal) (record { entries = es; valuation = v; has_solved = true })) (sym es_same)
           (transport (λ js. Replays bot cs js (state_of old v true)) (sym (events_kept f g reads.bank old.journal (λ j i. all_in (IsEventOf f) old.journal h.events j i))) h.replays);
-      linked = record {
-        constant = h.linked.constant;
-        fits = record {
-          within = in_all (λ id. id < length g.trees) ids (λ id i. let k = all_in (λ id. id < length f.trees) ids h.linked.fits.within id i in omega (arith, reads.bank.trees.0));
-          atoms = transport AreGroundAtoms (sym atoms_same) h.linked.fits.atoms;
-        };
-        count = h.linked.count;
-        given = h.linked.given;
-        same = transport (λ ts. AreAbstracted bot ts old.ground.literals (clauses_in g (items old))) (sym atoms_same)
-            (transport (λ cs. AreAbstracted bot (atoms_in f ids) old.ground.literals cs) (sym (clauses_kept f g reads.bank (items old) (λ x i. all_in (λ (x : Item). IsClauseOf f x.0) (items old) entries.ids x i))) h.linked.same);
-        used = transport (λ ts. All (IsUsed bot (clauses_in g (items old))) ts) (sym atoms_same)
-            (transport (λ cs. All (IsUsed bot cs) (atoms_in f ids)) (sym (clauses_kept f g reads.bank (items old) (λ x i. all_in (λ (x : Item). IsClauseOf f x.0) (items old) entries.ids x i))) h.linked.used);
-      };
+      linked = transport (λ r. IsLinked r.entries.bank r.ground (atoms r.ground.solver) (added r.ground.solver) bot (clauses_in r.entries.bank (items r))) reads.rest (linked_read atoms added old new reads entries bot h.linked);
       bits = transport (λ ts. IsValuationOf ts old.ground.valuation v) (sym atoms_same) h.bits;
       width = h.width;
       places = transport (λ es. ArePlacedTrue bot (record { entries = es; valuation = v; has_solved = true }) old.selection.places) (sym es_same) h.places;
@@ -218,13 +241,13 @@ placed_on es more places n m l = record {
   selected = l.selected;
 }
 
--- the invariant of a run that appended an uncovered conclusion
-module _ {S I C : Type 0} (atoms : S → ℕ) (added : S → List (List (Signed ℕ))) (old new : Run S I C) (side : Side) (from partner size : ℕ) (d : List (Signed ℕ)) (m : MayInfer old side from partner)
-    (entries : AreEntries old.entries.bank (items old)) (ids : IsClauseOf old.entries.bank d)
-    (appends : Appends (record old { left = option_map (λ k. k - size) old.left }) new d (Inst from m.0.literals.left_at.place partner m.0.literals.right_at.place))
-    (links : KeepsLink atoms added old new) (made : clause_at old.entries.bank d ≡ canonical_form (concluded old side from partner m))
-    (uncovered : ¬ IsCovered (entry_clauses (entries_of old)) (clause_at old.entries.bank m.0.literals.left_at.item.0) (concluded old side from partner m))
-    (fits : (k : ℕ) → old.left ≡ Some k → k < 2 ^ 64 - 1 → (size ≡ clause_size (canonical_form (concluded old side from partner m))) × (size ≤ k)) where
+-- the invariant of a run that appended a clause, where that is a step of the machine for its size
+module _ {S I C : Type 0} (atoms : S → ℕ) (added : S → List (List (Signed ℕ))) (old new : Run S I C) (size : ℕ) (d : List (Signed ℕ)) (o : Origin) (c : TreeClause)
+    (entries : AreEntries old.entries.bank (items old)) (appends : Appends (record old { left = option_map (λ k. k - size) old.left }) new d o)
+    (links : KeepsLink atoms added old new) (made : clause_at new.entries.bank d ≡ c)
+    (steps : (bot : Sym) (v : List Tree) → ArePlacedTrue bot (state_of old v true) old.selection.places
+    → machine.IsStep bot (state_of old v true) (machine.inferred (origin_of o)) (record { entries = entries_of old ++ record { clause = c; origin = origin_of o } ∷ []; valuation = v; has_solved = true }))
+    (fits : (k : ℕ) → old.left ≡ Some k → k < 2 ^ 64 - 1 → (size ≡ appended_size (origin_of o) c) × (size ≤ k)) where
   abbrev f : Forest
   f = old.entries.bank
 
@@ -232,22 +255,20 @@ module _ {S I C : Type 0} (atoms : S → ℕ) (added : S → List (List (Signed 
   g = new.entries.bank
 
   abbrev last : Entry
-  last = record { clause = canonical_form (concluded old side from partner m); origin = inst from m.0.literals.left_at.place partner m.0.literals.right_at.place }
+  last = record { clause = c; origin = origin_of o }
 
   entries_now : entries_of new ≡ entries_of old ++ last ∷ []
   entries_now =
       ap (entries_in g) appends.entry
-      ∙ map_append (λ (x : Item). record { clause = clause_at g x.0; origin = origin_of x.1 }) (items old) ((d, Inst from m.0.literals.left_at.place partner m.0.literals.right_at.place) ∷ [])
-      ∙ ap₂ (λ (xs : List Entry) (c : TreeClause). xs ++ record { clause = c; origin = inst from m.0.literals.left_at.place partner m.0.literals.right_at.place } ∷ [])
-      (entries_stay f g appends.bank (items old) (λ x i. all_in (λ (x : Item). IsClauseOf f x.0) (items old) entries.ids x i))
-      (clause_extends f g appends.bank d ids ∙ made)
+      ∙ map_append (λ (x : Item). record { clause = clause_at g x.0; origin = origin_of x.1 }) (items old) ((d, o) ∷ [])
+      ∙ ap₂ (λ (xs : List Entry) (e : TreeClause). xs ++ record { clause = e; origin = origin_of o } ∷ [])
+      (entries_stay f g appends.bank (items old) (λ x i. all_in (λ (x : Item). IsClauseOf f x.0) (items old) entries.ids x i)) made
 
-  journal_now : All (IsEventOf f) old.journal → map (event_in g) new.journal ≡ map (event_in f) old.journal ++ machine.inferred (inst from m.0.literals.left_at.place partner m.0.literals.right_at.place) ∷ []
+  journal_now : All (IsEventOf f) old.journal → map (event_in g) new.journal ≡ map (event_in f) old.journal ++ machine.inferred (origin_of o) ∷ []
   journal_now h =
       ap (map (event_in g)) appends.event
-      ∙ map_append (event_in g) old.journal (Inferred (Inst from m.0.literals.left_at.place partner m.0.literals.right_at.place) ∷ [])
-      ∙ ap (λ xs. xs ++ machine.inferred (inst from m.0.literals.left_at.place partner m.0.literals.right_at.place) ∷ [])
-      (events_kept f g appends.bank old.journal (λ j i. all_in (IsEventOf f) old.journal h j i))
+      ∙ map_append (event_in g) old.journal (Inferred o ∷ [])
+      ∙ ap (λ xs. xs ++ machine.inferred (origin_of o) ∷ []) (events_kept f g appends.bank old.journal (λ j i. all_in (IsEventOf f) old.journal h j i))
 
   places_now : (bot : Sym) (v : List Tree) → ArePlacedTrue bot (state_of old v true) old.selection.places → ArePlacedTrue bot (record { entries = entries_of old ++ last ∷ []; valuation = v; has_solved = true }) old.selection.places
   places_now bot v h = record {
@@ -267,16 +288,12 @@ module _ {S I C : Type 0} (atoms : S → ℕ) (added : S → List (List (Signed 
       )
 
   pub running_appended : KeepsRunning atoms added old new
-  unfolding concludes
   running_appended bot cs budget v h = record {
-    events = transport (All (IsEventOf g)) (sym appends.event) (All-push (IsEventOf g) old.journal (Inferred (Inst from m.0.literals.left_at.place partner m.0.literals.right_at.place)) (events_later f g appends.bank old.journal h.events) tt);
+    events = transport (All (IsEventOf g)) (sym appends.event) (All-push (IsEventOf g) old.journal (Inferred o) (events_later f g appends.bank old.journal h.events) tt);
     replays = transport (λ es. Replays bot cs (map (event_in g) new.journal) (record { entries = es; valuation = v; has_solved = true })) (sym entries_now)
         (transport (λ js. Replays bot cs js (record { entries = entries_of old ++ last ∷ []; valuation = v; has_solved = true })) (sym (journal_now h.events))
         (replay_goes_on bot cs (map (event_in f) old.journal) (state_of old v true) (record { entries = entries_of old ++ last ∷ []; valuation = v; has_solved = true })
-        (machine.inferred (inst from m.0.literals.left_at.place partner m.0.literals.right_at.place)) h.replays
-        (step bot (state_of old v true) from m.0.literals.left_at.place partner m.0.literals.right_at.place (canonical_form (concluded old side from partner m))
-        (concludes_at bot (state_of old v true) old.selection.places from m.0.literals.left_at.place partner m.0.literals.right_at.place (canonical_form (concluded old side from partner m)) h.places refl
-        m.0.literals.left_at.place_at m.0.literals.right_at.place_at (concludes old side from partner m) uncovered))));
+        (machine.inferred (origin_of o)) h.replays (steps bot v h.places)));
     linked = links bot h.linked;
     bits = let (more, q) = atoms_grow f g old.ground.abstraction.ids new.ground.abstraction.ids appends.bank h.linked.fits.within appends.atoms in
         transport (λ ts. IsValuationOf ts new.ground.valuation v) (sym q)
@@ -356,28 +373,77 @@ made_concluded old new side from partner d m k =
     ∙ ap canonical_form (ap (λ (x : Item). instance (of_side m.0.unifier side) (clause_at f x.0)) same ∙ ap (λ s. instance s (clause_at f l.item.0)) (sym (from_left side m.0.unifier)))
 
 -- an inference after its size and its clause were found
-pub running_inferred : {S I C : Type 0} (atoms : S → ℕ) (added : S → List (List (Signed ℕ))) (old new : Run S I C) (side : Side) (from partner size place other len : ℕ) (d : List (Signed ℕ)) (item : Item)
-    (m : MayInfer old side from partner) → AreEntries old.entries.bank (items old) → IsClauseOf old.entries.bank d
-    → AppendsUncovered old new d (Inst from place partner other) len size → KeepsLink atoms added old new → clause_at old.entries.bank d ≡ canonical_form (concluded old side from partner m)
-    → at_number (items old) from ≡ Some item → length item.0 ≡ len → at_number old.selection.places from ≡ Some place → at_number old.selection.places partner ≡ Some other
-    → ((k : ℕ) → old.left ≡ Some k → size ≡ min (clause_size (canonical_form (concluded old side from partner m))) (2 ^ 64 - 1)) → ((k : ℕ) → old.left ≡ Some k → size ≤ k) → KeepsRunning atoms added old new
-running_inferred atoms added old new side from partner size place other len d item m entries ids (inl same) links made at long here there sized fits bot cs budget v h =
-    transport (λ r. IsRunning atoms added r bot cs budget v true) (sym same) h
-running_inferred atoms added old new side from partner size place other len d item m entries ids (inr (appends, uncovered)) links made at long here there sized fits bot cs budget v h =
-    let f = old.entries.bank in
-    let l = m.0.literals.left_at in
-    let p : place ≡ l.place = same_item (at_number old.selection.places from) place l.place here l.place_at in
-    let q : other ≡ m.0.literals.right_at.place = same_item (at_number old.selection.places partner) other m.0.literals.right_at.place there m.0.literals.right_at.place_at in
-    let same : l.item ≡ item = same_item (at_number (items old) from) l.item item l.item_at at in
-    running_appended atoms added old new side from partner size d m entries ids
-    (transport (λ x. Appends (record old { left = option_map (λ k. k - size) old.left }) new d (Inst from x partner m.0.literals.right_at.place)) p
-    (transport (λ y. Appends (record old { left = option_map (λ k. k - size) old.left }) new d (Inst from place partner y)) q appends))
-    links made
-    (λ covered. uncovered (clause_at f l.item.0) (length_at f l.item.0 ∙ ap (λ (x : Item). length x.0) same ∙ long)
-    (covered_when_renamed (clauses_in f (items old)) (clause_at f l.item.0) (concluded old side from partner m) (clause_at f d)
-    (transport (λ cs. IsCovered cs (clause_at f l.item.0) (concluded old side from partner m)) (same_clauses f (items old)) covered)
-    (sym (ap canonical_form made ∙ canonical_of_canonical (concluded old side from partner m)))))
-    (λ k e light. let cut = sized k e in let le = fits k e in (omega arith, le)) bot cs budget v h
+module _ {S I C : Type 0} (atoms : S → ℕ) (added : S → List (List (Signed ℕ))) (old new : Run S I C) (side : Side) (from partner size len : ℕ) (at : code.Held) (d : List (Signed ℕ)) (item : Item)
+    (m : MayInfer old side from partner) (entries : AreEntries old.entries.bank (items old)) (ids : IsClauseOf old.entries.bank d)
+    (links : KeepsLink atoms added old new) (made : clause_at old.entries.bank d ≡ canonical_form (concluded old side from partner m))
+    (first : at.from ≡ from) (second : at.partner ≡ partner) (item_at : at_number (items old) from ≡ Some item) (long : length item.0 ≡ len)
+    (here : at_number old.selection.places from ≡ Some at.place) (there : at_number old.selection.places partner ≡ Some at.other)
+    (sized : (k : ℕ) → old.left ≡ Some k → size ≡ min (clause_size (canonical_form (concluded old side from partner m))) (2 ^ 64 - 1)) (fits : (k : ℕ) → old.left ≡ Some k → size ≤ k) where
+  abbrev before : Forest
+  before = old.entries.bank
+
+  abbrev whole : TreeClause
+  whole = canonical_form (concluded old side from partner m)
+
+  abbrev premise : TreeClause
+  premise = clause_at before m.0.literals.left_at.item.0
+
+  same_place : at.place ≡ m.0.literals.left_at.place
+  same_place = same_item (at_number old.selection.places from) at.place m.0.literals.left_at.place here m.0.literals.left_at.place_at
+
+  same_other : at.other ≡ m.0.literals.right_at.place
+  same_other = same_item (at_number old.selection.places partner) at.other m.0.literals.right_at.place there m.0.literals.right_at.place_at
+
+  -- the conclusion at these numbers
+  concludes_here : IsConclusion (entries_of old) at.from at.place at.partner at.other whole
+  concludes_here =
+      transport (λ n. IsConclusion (entries_of old) n at.place at.partner at.other whole) (sym first)
+      (transport (λ n. IsConclusion (entries_of old) from n at.partner at.other whole) (sym same_place)
+      (transport (λ n. IsConclusion (entries_of old) from m.0.literals.left_at.place n at.other whole) (sym second)
+      (transport (λ n. IsConclusion (entries_of old) from m.0.literals.left_at.place partner n whole) (sym same_other) (concludes old side from partner m))))
+
+  module _ (uncovered : (c : TreeClause) → length c ≡ len → ¬ IsCovered (clauses_in before (items old)) c (clause_at before d)) where
+    -- the entries do not cover what is concluded, whichever unifier is taken
+    not_covered : (k : IsConclusion (entries_of old) at.from at.place at.partner at.other whole) → ¬ IsCovered (entry_clauses (entries_of old)) k.entry.clause (instance k.unifier.left k.entry.clause)
+    not_covered k covered =
+        let e : Entry = record { clause = clause_at before item.0; origin = origin_of item.1 } in
+        let same : k.entry ≡ e =
+        same_item (at_number (entries_of old) at.from) k.entry e k.entry_at (ap (at_number (entries_of old)) first ∙ at_number_map (λ (x : Item). record { clause = clause_at before x.0; origin = origin_of x.1 }) (items old) from item item_at) in
+        uncovered k.entry.clause (ap (λ (x : Entry). length x.clause) same ∙ length_at before item.0 ∙ long)
+        (covered_when_renamed (clauses_in before (items old)) k.entry.clause (instance k.unifier.left k.entry.clause) (clause_at before d)
+        (transport (λ cs. IsCovered cs k.entry.clause (instance k.unifier.left k.entry.clause)) (same_clauses before (items old)) covered)
+        (sym (ap canonical_form (made ∙ k.conclusion) ∙ canonical_of_canonical (instance k.unifier.left k.entry.clause))))
+
+    taken : (bot : Sym) (v : List Tree) → ArePlacedTrue bot (state_of old v true) old.selection.places → machine.Concludes bot (state_of old v true) at.from at.place at.partner at.other whole
+    taken bot v placed =
+        concludes_at bot (state_of old v true) old.selection.places at.from at.place at.partner at.other whole placed refl (ap (at_number old.selection.places) first ∙ here) (ap (at_number old.selection.places) second ∙ there)
+        concludes_here (not_covered concludes_here)
+
+    whole_appended : AppendsWhole old new d at size → KeepsRunning atoms added old new
+    whole_appended w =
+        running_appended atoms added old new size d (Inst at.from at.place at.partner at.other) whole entries w.appends links (clause_extends before new.entries.bank w.appends.bank d ids ∙ made)
+        (λ bot v placed. step bot (state_of old v true) at.from at.place at.partner at.other whole (taken bot v placed)
+        (transport (λ cs. IsIrreducible cs whole) (sym (same_clauses before (items old))) (transport (IsIrreducible (clauses_in before (items old))) made w.irreducible)))
+        (λ k e light. let cut = sized k e in let le = fits k e in (omega arith, le))
+
+    part_appended : AppendsPart old new d at → KeepsRunning atoms added old new
+    part_appended w =
+        let r : IsReduction (entry_clauses (entries_of old)) whole w.lemma =
+        transport (λ cs. IsReduction cs whole w.lemma) (sym (same_clauses before (items old))) (transport (λ c. IsReduction (clauses_in before (items old)) c w.lemma) made w.reduction) in
+        let literals = chosen whole w.lemma.keep in
+        let clause : clause_at new.entries.bank w.part ≡ canonical_form literals = w.canonical ∙ ap (λ c. canonical_form (chosen c w.lemma.keep)) made in
+        let smaller = part_size whole w.lemma.keep r.keep in
+        let size_is : clause_size (clause_at new.entries.bank w.part) ≡ clause_size (canonical_form literals) = ap clause_size clause in
+        running_appended atoms added old new (min (clause_size (clause_at new.entries.bank w.part)) (2 ^ 64 - 1)) w.part (Lemma at.from at.place at.partner at.other w.lemma.keep w.lemma.premises)
+        (canonical_form literals) entries w.appends links clause
+        (λ bot v placed. part_step bot (state_of old v true) at.from at.place at.partner at.other whole (taken bot v placed) w.lemma.keep w.lemma.premises r.keep
+        (transport (λ n. AreWithin n w.lemma.premises) (length_map (λ (x : Entry). x.clause) (entries_of old)) r.premises.within) r.follows)
+        (λ k e light. let cut = sized k e in let le = fits k e in (omega arith, omega arith))
+
+  pub running_inferred : AppendsUncovered old new d at len size → KeepsRunning atoms added old new
+  running_inferred (inl same) = λ bot cs budget v h. transport (λ r. IsRunning atoms added r bot cs budget v true) (sym same) h
+  running_inferred (inr (inl w, uncovered)) = whole_appended uncovered w
+  running_inferred (inr (inr w, uncovered)) = part_appended uncovered w
 
 -- a solve, and then work under its valuation
 pub solved_on : {S I C : Type 0} (atoms : S → ℕ) (added : S → List (List (Signed ℕ))) (old mid new : Run S I C) (cs : List TreeClause) (budget : ℕ) → KeepsTruth atoms added old mid → KeepsRunning atoms added mid new

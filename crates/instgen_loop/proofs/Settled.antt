@@ -88,6 +88,7 @@ module _ {S I C : Type 0} (atoms : S → ℕ) (pairs : I → List Pair) (fits : 
       stored = h.safe.stored;
       numbered = h.safe.numbered;
       notes = h.safe.notes;
+      known = h.safe.known;
       count = h.safe.count;
       waiting = h.safe.waiting;
       within = within;
@@ -180,7 +181,7 @@ module _ {S I C : Type 0} (atoms : S → ℕ) (pairs : I → List Pair) (fits : 
 
   pub accepted_orderly : IsOrderly atoms pairs fits accepted p
   accepted_orderly = record {
-    safe = record { entries = h.safe.entries; firsts = h.safe.firsts; stored = h.safe.stored; numbered = h.safe.numbered; notes = h.safe.notes; count = h.safe.count; waiting = h.safe.waiting; within = h.safe.within; placed = h.safe.placed };
+    safe = record { entries = h.safe.entries; firsts = h.safe.firsts; stored = h.safe.stored; numbered = h.safe.numbered; notes = h.safe.notes; known = h.safe.known; count = h.safe.count; waiting = h.safe.waiting; within = h.safe.within; placed = h.safe.placed };
     partners = record {
       positive_fits = h.partners.positive_fits;
       negative_fits = h.partners.negative_fits;

@@ -98,6 +98,7 @@ module _ {S I C : Type 0} (pairs : I → List Pair) (fits : Forest → I → Typ
       stored = h.stored;
       numbered = h.numbered;
       notes = h.notes;
+      known = h.known;
       count = h.count;
       waiting = fewer (λ k. k ≤ length (items r)) h.waiting;
       within = h.within;
@@ -141,6 +142,7 @@ module _ {S I C : Type 0} (pairs : I → List Pair) (fits : Forest → I → Typ
         stored = h.stored;
         numbered = h.numbered;
         notes = h.notes;
+        known = h.known;
         count = h.count;
         waiting = transport (λ (ws : List Waiting). All (λ k. k ≤ length (items r)) (numbers ws)) (sym same) h.waiting;
         within = h.within;

@@ -223,6 +223,7 @@ module _ {S I C : Type 0} (atoms : S → ℕ) (pairs : I → List Pair) (fits : 
         stored = h.safe.stored;
         numbered = h.safe.numbered;
         notes = h.safe.notes;
+        known = h.safe.known;
         count = h.safe.count;
         waiting = in_all (λ m. m ≤ length (items r)) (numbers q.items) (λ m i. elim (parts m (in_contains m (numbers q.items) i)) [
           | inl a ↦ all_in (λ m. m ≤ length (items r)) (numbers r.queue.items) h.safe.waiting m (contains_in m (numbers r.queue.items) a)
@@ -336,6 +337,7 @@ module _ {S I C : Type 0} (atoms : S → ℕ) (pairs : I → List Pair) (fits : 
       stored = h.safe.stored;
       numbered = h.safe.numbered;
       notes = h.safe.notes;
+      known = h.safe.known;
       count = h.safe.count;
       waiting = h.safe.waiting;
       within = transport (λ m. m ≤ length (items r)) (sym (length-set r.selection.places (n - 1) place)) h.safe.within;
@@ -417,7 +419,7 @@ module _ {S I C : Type 0} (atoms : S → ℕ) (pairs : I → List Pair) (fits : 
 
   orderly_with : IsOrderly atoms pairs fits (record r { selection = record { places = r.selection.places; users = us } }) p
   orderly_with = record {
-    safe = record { entries = h.safe.entries; firsts = h.safe.firsts; stored = h.safe.stored; numbered = h.safe.numbered; notes = h.safe.notes; count = h.safe.count; waiting = h.safe.waiting; within = h.safe.within; placed = h.safe.placed };
+    safe = record { entries = h.safe.entries; firsts = h.safe.firsts; stored = h.safe.stored; numbered = h.safe.numbered; notes = h.safe.notes; known = h.safe.known; count = h.safe.count; waiting = h.safe.waiting; within = h.safe.within; placed = h.safe.placed };
     partners = record {
       positive_fits = h.partners.positive_fits;
       negative_fits = h.partners.negative_fits;

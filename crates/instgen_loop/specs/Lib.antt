@@ -12,9 +12,11 @@ pub mod Choosing
 pub mod Settling
 pub mod Starting
 pub mod Refuting
+pub mod PartTerms
 pub mod Records
 pub mod Lines
 pub mod LineNumbers
+pub mod Derived
 pub mod Deciding
 pub mod Ending
 pub mod Endings

@@ -1,11 +1,10 @@
 -- Ground lines over a bank.
-use Rattle.std.specs.Prelude.{◌≡◌, ◌++◌, ℕ, List, Some, map, All}
+use Rattle.std.specs.Prelude.{◌≡◌, ◌++◌, ℕ, List, map, All}
 use Rattle.inst_logic.specs.declared.signed.Signed.{Signed}
 use Rattle.inst_logic.specs.Clauses.{TreeClause, IsCanonical}
-use Rattle.inst_logic.specs.Derivations.{at_number}
 use Rattle.inst_calculus.specs.Axioms.{with_axioms}
 use Rattle.inst_calculus.specs.Unrolling as trees
-use Rattle.inst_calculus.specs.Unrolling.{AreRecords, IsNoLemma}
+use Rattle.inst_calculus.specs.Unrolling.{AreRecords}
 use Rattle.term_bank.specs.Forest.{Forest, AreIds, IsClauseOf, clause_at}
 use Rattle.engine_laws.specs.GroundLines.{ground_line, ground_lines}
 use Rattle.global_subs.specs.declared.made.Grounded.{Grounded}
@@ -39,10 +38,9 @@ pub record IsLineOf (f g : Forest) (given : Given) (item : Grounded) (l : Ground
   pub same : line_of g l ≡ ground_line (given_trees f given) (grounded_at f item)
   pub ids : IsLineIn g l
 
--- the lines are those of the unrolled lists of the entries, of which none is a lemma
+-- the lines are those of the unrolled lists of the entries
 pub record AreLinesOf (clauses : List TreeClause) (r : RefutedRun) (lines : List GroundLine) : Type 0 where
   pub made : List trees.Made
   pub records : AreRecords r.abstraction.bot (entries_in r.remains.bank r.remains.clauses.entries) made
-  pub no_lemmas : (n : ℕ) (m : trees.Made) → at_number made n ≡ Some m → IsNoLemma m.how
   pub same : map (line_of r.remains.bank) lines ≡ ground_lines r.abstraction.bot (with_axioms clauses) made
   pub ids : All (IsLineIn r.remains.bank) lines

@@ -41,7 +41,7 @@ pub record IsLiteralPlace (es : List Item) (places : List ℕ) (i : ℕ) : Type 
   pub place_at : slice_get places i ≡ Some place
   pub literal_at : at_number item.0 place ≡ Some literal
 
--- What each call on a run needs: ids are ids, the indexes and the solver fit the entries, and numbers name entries.
+-- What each call on a run needs: ids are ids, the indexes and the solvers fit the entries, and numbers name entries.
 pub record IsSafe {S I C : Type 0} (atoms : S → ℕ) (pairs : I → List Pair) (fits : Forest → I → Type 0) (r : Run S I C) : Type 0 where
   pub entries : AreEntries r.entries.bank (items r)
   pub firsts : AreFirsts pairs r.entries (items r)
@@ -52,6 +52,7 @@ pub record IsSafe {S I C : Type 0} (atoms : S → ℕ) (pairs : I → List Pair)
   pub waiting : All (λ n. n ≤ length (items r)) (numbers r.queue.items)
   pub within : length r.selection.places ≤ length (items r)
   pub placed : (i : ℕ) → i < length r.selection.places → IsLiteralPlace (items r) r.selection.places i
+  pub known : r.known.clauses ≡ map (λ (e : Item). e.0) (items r)
 
 -- one more entry, which waits in the queue and may not be picked yet; the rest is as it was
 pub record Appends {S I C : Type 0} (old new : Run S I C) (clause : List (Signed ℕ)) (origin : Origin) : Type 0 where

@@ -1,12 +1,14 @@
 -- The invariant of a run in the machine's words, and which steps keep it.
-use Rattle.std.specs.Prelude.{◌≡◌, ◌≢◌, ◌⊎◌, ℕ, ◌+◌, ◌-◌, ◌<◌, ◌≤◌, ◌^◌, List, [], ◌∷◌, ◌++◌, map, length, Bool, true, Some, None, All, IsTrue, IsFalse, option_map}
+use Rattle.std.specs.Prelude.{◌≡◌, ◌≢◌, ◌⊎◌, ℕ, suc, ◌+◌, ◌-◌, ◌<◌, ◌≤◌, ◌^◌, min, List, [], ◌∷◌, ◌++◌, map, length, Bool, true, Some, None, All, IsTrue, IsFalse, option_map}
 use Rattle.inst_logic.specs.declared.symbol.Sym.{Sym}
 use Rattle.inst_logic.specs.declared.signed.Signed.{Signed}
 use Rattle.inst_logic.specs.Tree.{Tree}
-use Rattle.inst_logic.specs.Clauses.{TreeClause}
+use Rattle.inst_logic.specs.Clauses.{TreeClause, canonical_form}
 use Rattle.inst_logic.specs.Derivations.{at_number}
 use Rattle.inst_logic.specs.Unifiers.{Sided, IsMostGeneral, IsProper}
 use Rattle.inst_calculus.specs.Entries.{Entry}
+use Rattle.inst_calculus.specs.Lemmas.{IsIrreducible}
+use Rattle.inst_calculus.specs.Parts.{chosen}
 use Rattle.inst_calculus.specs.Saturation.{IsCovered}
 use Rattle.inst_machine.specs.Machine as machine
 use Rattle.inst_machine.specs.Machine.{State}
@@ -14,7 +16,7 @@ use Rattle.inst_machine.specs.Replay.{Replays}
 use Rattle.inst_machine.specs.Budget.{IsLeft}
 use Rattle.cert_format.specs.Certificate.{Base, Saturation}
 use Rattle.inst_machine.specs.Bound.{entry_bound}
-use Rattle.inst_logic.specs.Measure.{is_function_free}
+use Rattle.inst_logic.specs.Measure.{clause_size, is_function_free}
 use Rattle.engine_laws.specs.Places.{ArePlacedTrue}
 use Rattle.engine_laws.specs.Pairs.{IsHeldBack}
 use Rattle.engine_laws.specs.Valuations.{IsValuationOf}
@@ -24,10 +26,14 @@ use Rattle.unify_core.specs.declared.side.Side.{Side}
 use Rattle.unify_core.specs.declared.side.Side.TheVariants.{Left, Right}
 use Rattle.ground_abs.specs.Abstracts.{atoms_in}
 use Rattle.saturation_cert.specs.Values.{origin_of}
-use Rattle.saturation_cert.specs.declared.member.Origin.{Origin}
+use Rattle.saturation_cert.specs.declared.member.Origin.TheVariants as origins
+use Rattle.saturation_cert.specs.declared.member.Origin.TheVariants.{Inst}
+use Rattle.global_subs.specs.declared.lemma.Lemma.{Lemma}
+use Rattle.global_subs.specs.Reductions.{IsReduction}
 use Rattle.instgen_loop.specs.declared.event.Event.{Event}
 use Rattle.instgen_loop.specs.declared.event.Event.TheVariants.{Solved, Inferred}
 use Rattle.instgen_loop.specs.declared.state.Run.{Run}
+use Rattle.instgen_loop.specs.declared.state.Held as code
 use Rattle.instgen_loop.specs.Clauses.{entries_in, clauses_in}
 use Rattle.instgen_loop.specs.Grounds.{IsLinked}
 use Rattle.instgen_loop.specs.Loops.{items, held_of, Appends, IsSelectedLiteral}
@@ -108,10 +114,24 @@ pub record Holds {S I C : Type 0} (old new : Run S I C) (from partner : ℕ) : T
   pub held : new.held.items ≡ old.held.items ++ record { from = from; place = place; partner = partner; other = other } ∷ []
   pub rest : new ≡ record old { held = new.held }
 
--- nothing changed, or the uncovered clause was appended for its size
-abbrev pub AppendsUncovered : {S I C : Type 0} → Run S I C → Run S I C → List (Signed ℕ) → Origin → ℕ → ℕ → Type 0
-AppendsUncovered old new clause origin len size =
-    (new ≡ old) ⊎ (Appends (record old { left = option_map (λ k. k - size) old.left }) new clause origin
+-- the clause, of which the entries imply no proper part, was appended for this size
+pub record AppendsWhole {S I C : Type 0} (old new : Run S I C) (clause : List (Signed ℕ)) (at : code.Held) (size : ℕ) : Type 0 where
+  pub appends : Appends (record old { left = option_map (λ k. k - size) old.left }) new clause (Inst at.from at.place at.partner at.other)
+  pub irreducible : IsIrreducible (clauses_in old.entries.bank (items old)) (clause_at old.entries.bank clause)
+
+-- a part of the clause that the entries imply was appended for its own size
+pub record AppendsPart {S I C : Type 0} (old new : Run S I C) (clause : List (Signed ℕ)) (at : code.Held) : Type 0 where
+  pub lemma : Lemma
+  pub part : List (Signed ℕ)
+  pub reduction : IsReduction (clauses_in old.entries.bank (items old)) (clause_at old.entries.bank clause) lemma
+  pub canonical : clause_at new.entries.bank part ≡ canonical_form (chosen (clause_at old.entries.bank clause) lemma.keep)
+  pub appends : Appends (record old { left = option_map (λ k. k - min (clause_size (clause_at new.entries.bank part)) (2 ^ 64 - 1)) old.left }) new part
+      (origins.Lemma at.from at.place at.partner at.other lemma.keep lemma.premises)
+
+-- nothing changed, or the uncovered clause or a part of it was appended
+abbrev pub AppendsUncovered : {S I C : Type 0} → Run S I C → Run S I C → List (Signed ℕ) → code.Held → ℕ → ℕ → Type 0
+AppendsUncovered old new clause at len size =
+    (new ≡ old) ⊎ ((AppendsWhole old new clause at size ⊎ AppendsPart old new clause at)
     × ((c : TreeClause) → length c ≡ len → ¬ IsCovered (clauses_in old.entries.bank (items old)) c (clause_at old.entries.bank clause)))
 
 -- some valuation and constant make it so; after a solve
@@ -132,7 +152,7 @@ KeepsTruth atoms added old new = (bot : Sym) (cs : List TreeClause) (budget : �
 
 -- how many entries a run can have
 abbrev pub most_entries : List TreeClause → ℕ → ℕ
-most_entries cs budget = entry_bound cs + (length cs + budget)
+most_entries cs budget = entry_bound cs + suc (length cs + budget)
 
 -- the entries as members over the inputs and their axioms, with the places
 abbrev pub saturation_at : {S I C : Type 0} → Run S I C → Base → Saturation

@@ -8,15 +8,21 @@ use Rattle.instgen_loop.specs.declared.event.Event.{Event}
 use Rattle.instgen_loop.specs.declared.hand_over.Remains.{Remains}
 use Rattle.instgen_loop.specs.declared.refuted.RefutedRun.{RefutedRun}
 use Rattle.instgen_loop.specs.declared.refuted.Shown.{Shown}
+use Rattle.instgen_loop.specs.Derived.{IsDerived}
 use Rattle.instgen_loop.specs.Endings.{IsRefuted}
 use Rattle.instgen_loop.specs.LineNumbers.{AreLineNumbers}
 use Rattle.instgen_loop.specs.Lines.{AreLinesOf}
 use Rattle.instgen_loop.specs.Refuting.{base_from, ground_step}
 
+-- The run as its abstractions were refuted, over the bank as it is now, and its lines; the derivation that is held now is one over
+-- the lines.
 pub record IsShownOf (clauses : List TreeClause) (names : List (List ℕ)) (r : RefutedRun) (journal : List Event) (s : Shown) : Type 0 where
-  pub refuted : IsRefuted clauses names r journal
+  pub before : RefutedRun
+  pub same : before.remains ≡ r.remains
+  pub refuted : IsRefuted clauses names before journal
   pub distinct : AreDistinct r.remains.bank.trees
-  pub lines : AreLinesOf clauses r s.grounds
+  pub lines : AreLinesOf clauses before s.grounds
+  pub derived : IsDerived r s.grounds
   pub numbers : List ℕ
   pub numbered : AreLineNumbers s.grounds r.abstraction.ids r.literals numbers
   pub steps : s.steps ≡ map (ground_step r.abstraction.ids numbers) r.derivation

@@ -30,6 +30,7 @@ pub record IsFresh {S I C : Type 0} (atoms : S → ℕ) (added : S → List (Lis
   pub queue : r.queue.items ≡ []
   pub held : r.held.items ≡ []
   pub journal : r.journal ≡ []
+  pub known : r.known.clauses ≡ []
 
 -- the budget applies where there are functions
 pub record IsAllowed {S I C : Type 0} (r : Run S I C) (clauses : List TreeClause) (budget : ℕ) : Type 0 where

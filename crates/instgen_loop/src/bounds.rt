@@ -1,5 +1,5 @@
 // Laws that bound the entries of a run.
-ghost use Rattle.std.specs.Prelude.{◌≡◌, ◌≤◌, ℕ, List, Bool, Some, length};
+ghost use Rattle.std.specs.Prelude.{◌≡◌, ◌≤◌, ℕ, suc, List, Bool, Some, length};
 ghost use Rattle.inst_logic.specs.declared.symbol.Sym.{Sym};
 ghost use Rattle.inst_logic.specs.Tree.{Tree};
 ghost use Rattle.inst_logic.specs.Clauses.{TreeClause};
@@ -13,9 +13,9 @@ use prop_logic::Solver;
 use term_index::PartnerIndex;
 
 /// A run on well-formed clauses has no more entries than its clauses and its budget allow. Where there is a budget, it appended
-/// no more entries than the budget has symbols.
+/// at most one entry more than the budget has symbols: an empty part.
 pub fn entries_are_bounded<S: Solver, I: PartnerIndex>(_run: &Run<S, I>)
     ensures entries { (cs : List TreeClause) (budget : ℕ) → AreFormedClauses cs → IsRunningFor S.atoms S.added _run.now cs budget → length (items _run.now) ≤ most_entries cs budget }
     ensures appended { (bot : Sym) (cs : List TreeClause) (budget : ℕ) (v : List Tree) (b : Bool) → IsRunning S.atoms S.added _run.now bot cs budget v b
-        → (left : ℕ) → _run.now.left ≡ Some left → appended_count _run.now.journal ≤ budget }
+        → (left : ℕ) → _run.now.left ≡ Some left → appended_count _run.now.journal ≤ suc budget }
 {}

@@ -1,5 +1,5 @@
 // How a run ends. The certificate and the journal are made only once the run is gone, so that its memory serves for them.
-ghost use Rattle.std.specs.Prelude.{◌≡◌, IfOk};
+ghost use Rattle.std.specs.Prelude.{◌≡◌, [], IfOk};
 ghost use Rattle.instgen_loop.specs.Endings.{IsEnding};
 ghost use Rattle.instgen_loop.specs.Outcomes.{IsOutcome, journal_of};
 
@@ -8,6 +8,7 @@ use crate::finish::{SettledRun, saturation_of};
 use crate::outcome::Outcome;
 use crate::refuted::{RefutedRun, refutation_of};
 use inst_logic::{Memory, Problem};
+use prop_logic::Solver;
 use std::alloc::Global;
 
 /// What an outcome is made of, beside its journal.
@@ -22,21 +23,24 @@ pub enum Ending {
     },
 }
 
-/// The outcome that ends so after these events.
-pub fn outcome_of(
+/// The outcome that ends so after these events. The fresh solver serves a refutation alone.
+pub fn outcome_of<S: Solver>(
     alloc: Global,
     p: &Problem,
     ending: Ending,
+    last: S,
     log: &EventLog,
     _budget: u64,
 ) -> Result<Outcome, Memory>
-    requires { IsEnding p.now.clauses p.now.names _budget ending log.now }
+    requires ending { IsEnding p.now.clauses p.now.names _budget ending log.now }
+    requires atoms { S.atoms last ≡ 0 }
+    requires added { S.added last ≡ [] }
     ensures outcome { IfOk result (IsOutcome p.now.clauses p.now.names _budget) }
     ensures journal { IfOk result (λ o. journal_of o ≡ log.now) }
 {
     match ending {
         Ending::Refuted(run) => {
-            let cert = refutation_of(alloc, p, run, log)?;
+            let cert = refutation_of(alloc, p, run, last, log)?;
             let journal = log.journal(alloc)?;
             Ok(Outcome::Refuted { cert, journal })
         }

@@ -36,7 +36,7 @@ fn add_inferred(events: &mut Vec<Event>, origins: &[PackedOrigin]) -> Result<(),
     ensures { OnOk result (events.new.items ≡ events.old.items ++ inferred origins.now) }
 {
     for origin in origins {
-        events.push(Event::Inferred(origin.origin()))?;
+        events.push(Event::Inferred(origin.origin()?))?;
     }
     Ok(())
 }

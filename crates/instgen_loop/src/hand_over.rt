@@ -50,7 +50,7 @@ fn members_of(
     for (clause, origin) in clauses {
         members.push(Member {
             clause,
-            origin: origin.origin(),
+            origin: origin.origin()?,
         })?;
     }
     Ok(MemberList::from(members))

@@ -1,25 +1,30 @@
-// What two entries infer: the conclusion is held back, is covered, or is appended.
-ghost use Rattle.std.specs.Prelude.{◌≡◌, ◌<◌, ◌≤◌, ◌-◌, ℕ, true, false, length, Contains, Some, IfOk, IfSome, OnOk, option_map};
+// What two entries infer: the conclusion is held back, is covered, or is appended, whole or a part of it.
+ghost use Rattle.std.specs.Prelude.{◌≡◌, ◌<◌, ◌≤◌, ◌-◌, ℕ, true, false, length, min, Contains, Some, IfOk, IfSome, IfNone, OnOk, option_map};
 ghost use Rattle.inst_logic.specs.Derivations.{at_number};
 ghost use Rattle.inst_logic.specs.Unifiers.{Sided};
-ghost use Rattle.inst_logic.specs.Clauses.{TreeClause, IsCanonical};
+ghost use Rattle.inst_logic.specs.Clauses.{TreeClause, IsCanonical, canonical_form};
+ghost use Rattle.inst_logic.specs.Measure.{clause_size};
+ghost use Rattle.inst_calculus.specs.Lemmas.{IsIrreducible};
+ghost use Rattle.inst_calculus.specs.Parts.{AreWithin, IsProperPart, chosen};
 ghost use Rattle.inst_calculus.specs.Saturation.{IsCovered};
-ghost use Rattle.term_bank.specs.Forest.{clause_at};
+ghost use Rattle.global_subs.specs.Reductions.{IsReduction};
+ghost use Rattle.term_bank.specs.Forest.{IsClauseOf, clause_at};
 ghost use Rattle.unify_core.specs.Sides.{IsResolvedBy, of_side};
 ghost use Rattle.unify_core.specs.Sizes.{IsSizeUnder};
 ghost use Rattle.saturation_cert.specs.Wholes.{IsWholeClause};
 ghost use Rattle.instgen_loop.specs.Clauses.{Item, clauses_in};
 ghost use Rattle.instgen_loop.specs.Loops.{IsSafe, Goes, items, IsUnified, IsSideWorked, IsConclusionFor, KeepsLink};
-ghost use Rattle.instgen_loop.specs.Running.{Reads, Holds, AppendsUncovered, MayInfer, KeepsRunning};
+ghost use Rattle.instgen_loop.specs.Running.{Reads, Holds, AppendsWhole, AppendsPart, AppendsUncovered, MayInfer, KeepsRunning};
 
 use crate::entries::is_covered;
 use crate::origin::PackedOrigin;
 use crate::state::{Held, Run, append};
-use clause_form::conclude_clause;
-use inst_logic::Memory;
+use clause_form::{canonical, clause_size, conclude_clause};
+use global_subs::{Lemma, reduce};
+use inst_logic::{Memory, PlaceList};
 use prop_logic::Solver;
 use std::alloc::Global;
-use term_bank::{IdClause, IdLiteral};
+use term_bank::{Bank, IdClause, IdLiteral};
 use term_index::PartnerIndex;
 use unify_core::Side;
 
@@ -70,6 +75,33 @@ fn taken(left: Option<u64>, size: u64) -> Option<u64>
         Some(left) => Some(left - size),
         None => None,
     }
+}
+
+// What is left after the clause is appended.
+fn left_after(left: Option<u64>, bank: &Bank, clause: &IdClause) -> Option<u64>
+    requires { IsClauseOf bank.now clause.now }
+    ensures { result ≡ option_map (λ k. k - min (clause_size (clause_at bank.now clause.now)) u64.MAX) left }
+{
+    match left {
+        Some(left) => Some(left.saturating_sub(clause_size(bank, clause))),
+        None => None,
+    }
+}
+
+/// The literals at these places.
+pub fn kept_literals(
+    alloc: Global,
+    literals: &[IdLiteral],
+    keep: &PlaceList,
+) -> Result<IdClause, Memory>
+    requires { AreWithin (length literals.now) keep.now }
+    ensures { IfOk result (λ c. c ≡ chosen literals.now keep.now) }
+{
+    let mut kept = IdClause::new(alloc);
+    for place in keep.as_slice() {
+        kept.push(literal_at(literals, *place))?;
+    }
+    Ok(kept)
 }
 
 /// The size of what entry `from` gives under the bindings, repeats dropped.
@@ -168,12 +200,95 @@ fn hold<S: Solver, I: PartnerIndex>(
     Ok(())
 }
 
-// Appends the conclusion, where the entries do not cover it.
+// The part of the conclusion that the entries imply.
+fn lemma_of<S: Solver, I: PartnerIndex>(
+    run: &mut Run<S, I>,
+    conclusion: &IdClause,
+) -> Result<Option<Lemma>, Memory>
+    requires safe { IsSafe S.atoms I.pairs I.fits run.old }
+    requires clause { IsClauseOf run.old.entries.bank conclusion.now }
+    ensures same { OnOk result (run.new ≡ run.old) }
+    ensures some { IfOk result (λ o. IfSome o (IsReduction (clauses_in run.old.entries.bank (items run.old)) (clause_at run.old.entries.bank conclusion.now))) }
+    ensures none { IfOk result (λ o. IfNone o (IsIrreducible (clauses_in run.old.entries.bank (items run.old)) (clause_at run.old.entries.bank conclusion.now))) }
+{
+    reduce(&mut run.known, &run.entries.bank, conclusion)
+}
+
+// The literals of the conclusion at the places that are kept, in canonical form.
+fn part_of<S: Solver, I: PartnerIndex>(
+    alloc: Global,
+    run: &mut Run<S, I>,
+    conclusion: &IdClause,
+    keep: &PlaceList,
+) -> Result<IdClause, Memory>
+    requires safe { IsSafe S.atoms I.pairs I.fits run.old }
+    requires whole { IsWholeClause run.old.entries.bank conclusion.now }
+    requires keep { IsProperPart (length conclusion.now) keep.now }
+    ensures safe { OnOk result (IsSafe S.atoms I.pairs I.fits run.new) }
+    ensures reads { OnOk result (Reads run.old run.new) }
+    ensures bindings { OnOk result (run.new.bindings ≡ run.old.bindings) }
+    ensures whole { IfOk result (IsWholeClause run.new.entries.bank) }
+    ensures canonical { IfOk result (λ d. IsCanonical (clause_at run.new.entries.bank d)) }
+    ensures part { IfOk result (λ d. clause_at run.new.entries.bank d ≡ canonical_form (chosen (clause_at run.old.entries.bank conclusion.now) keep.now)) }
+{
+    let kept = kept_literals(alloc, conclusion.as_slice(), keep)?;
+    canonical(alloc, &mut run.entries.bank, &kept)
+}
+
+// Appends the conclusion.
+fn append_whole<S: Solver, I: PartnerIndex>(
+    run: &mut Run<S, I>,
+    conclusion: IdClause,
+    at: Held,
+    size: u64,
+) -> Result<(), Memory>
+    requires safe { IsSafe S.atoms I.pairs I.fits run.old }
+    requires whole { IsWholeClause run.old.entries.bank conclusion }
+    requires canonical { IsCanonical (clause_at run.old.entries.bank conclusion) }
+    requires new { (e : Item) → Contains (items run.old) e → ¬ (e.0 ≡ conclusion) }
+    requires bounded { length conclusion ≤ run.old.entries.longest }
+    requires irreducible { IsIrreducible (clauses_in run.old.entries.bank (items run.old)) (clause_at run.old.entries.bank conclusion) }
+    requires fits { IfSome run.old.left (λ k. size ≤ k) }
+    ensures safe { OnOk result (IsSafe S.atoms I.pairs I.fits run.new) }
+    ensures appends { OnOk result (AppendsWhole run.old run.new conclusion at size) }
+    ensures linked { OnOk result (KeepsLink S.atoms S.added run.old run.new) }
+{
+    let origin = PackedOrigin::inst(at)?;
+    run.left = taken(run.left, size);
+    append(run, conclusion, origin)
+}
+
+// Appends the part of the conclusion that is a lemma of the entries. It takes its own size of the budget.
+fn append_part<S: Solver, I: PartnerIndex>(
+    alloc: Global,
+    run: &mut Run<S, I>,
+    conclusion: &IdClause,
+    at: Held,
+    lemma: Lemma,
+    _len: usize,
+) -> Result<(), Memory>
+    requires safe { IsSafe S.atoms I.pairs I.fits run.old }
+    requires whole { IsWholeClause run.old.entries.bank conclusion.now }
+    requires reduction { IsReduction (clauses_in run.old.entries.bank (items run.old)) (clause_at run.old.entries.bank conclusion.now) lemma }
+    requires bounded { length conclusion.now ≤ run.old.entries.longest }
+    requires shorter { length conclusion.now ≤ _len }
+    requires uncovered { (c : TreeClause) → length c ≡ _len → ¬ IsCovered (clauses_in run.old.entries.bank (items run.old)) c (clause_at run.old.entries.bank conclusion.now) }
+    ensures safe { OnOk result (IsSafe S.atoms I.pairs I.fits run.new) }
+    ensures appends { OnOk result (AppendsPart run.old run.new conclusion.now at) }
+    ensures linked { OnOk result (KeepsLink S.atoms S.added run.old run.new) }
+{
+    let part = part_of(alloc, run, conclusion, &lemma.keep)?;
+    let origin = PackedOrigin::lemma(alloc, at, lemma)?;
+    run.left = left_after(run.left, &run.entries.bank, &part);
+    append(run, part, origin)
+}
+
+// Appends the conclusion, where the entries do not cover it, or a part of it that they imply.
 fn append_uncovered<S: Solver, I: PartnerIndex>(
     alloc: Global,
     run: &mut Run<S, I>,
     conclusion: IdClause,
-    origin: PackedOrigin,
+    at: Held,
     len: usize,
     size: u64,
 ) -> Result<(), Memory>
@@ -181,22 +296,23 @@ fn append_uncovered<S: Solver, I: PartnerIndex>(
     requires whole { IsWholeClause run.old.entries.bank conclusion }
     requires canonical { IsCanonical (clause_at run.old.entries.bank conclusion) }
     requires literal { 0 < len }
-    requires bounded { length conclusion ≤ run.old.entries.longest }
+    requires shorter { length conclusion ≤ len }
     requires premise { len ≤ run.old.entries.longest }
     requires fits { IfSome run.old.left (λ k. size ≤ k) }
     ensures safe { OnOk result (IsSafe S.atoms I.pairs I.fits run.new) }
     ensures goes { OnOk result (Goes run.old run.new) }
     ensures bindings { OnOk result (run.new.bindings.entries ≡ run.old.bindings.entries) }
-    ensures step { OnOk result (AppendsUncovered run.old run.new conclusion origin len size) }
+    ensures step { OnOk result (AppendsUncovered run.old run.new conclusion at len size) }
     ensures linked { OnOk result (KeepsLink S.atoms S.added run.old run.new) }
     ensures covered { OnOk result ((c : TreeClause) → length c ≡ len → IsCovered (clauses_in run.new.entries.bank (items run.new)) c (clause_at run.old.entries.bank conclusion)) }
 {
     if is_covered(alloc, &run.entries, &conclusion, len)? {
         return Ok(());
     }
-    run.left = taken(run.left, size);
-    append(run, conclusion, origin)?;
-    Ok(())
+    match lemma_of(run, &conclusion)? {
+        None => append_whole(run, conclusion, at, size),
+        Some(lemma) => append_part(alloc, run, &conclusion, at, lemma, len),
+    }
 }
 
 /// What entry `from` gives with entry `partner`, whose selected literals the bindings unify, is covered or held back afterwards.
@@ -226,7 +342,12 @@ pub fn infer<S: Solver, I: PartnerIndex>(
     let len = clause_of(run, from).len();
     let place = place_of(run, from);
     let other = place_of(run, partner);
-    let origin = PackedOrigin::inst(from, place, partner, other)?;
-    append_uncovered(alloc, run, conclusion, origin, len, size)?;
+    let at = Held {
+        from,
+        place,
+        partner,
+        other,
+    };
+    append_uncovered(alloc, run, conclusion, at, len, size)?;
     Ok(())
 }

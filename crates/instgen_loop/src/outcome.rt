@@ -1,5 +1,5 @@
 // What the engine answers.
-ghost use Rattle.std.specs.Prelude.{◌≡◌, ◌≤◌, [], length, true, false, Some, None, All, IsTrue, IsFalse, IfOk, OnOk};
+ghost use Rattle.std.specs.Prelude.{◌≡◌, ◌≤◌, [], suc, length, true, false, Some, None, All, IsTrue, IsFalse, IfOk, OnOk};
 ghost use Rattle.inst_logic.specs.Measure.{is_function_free};
 ghost use Rattle.inst_logic.specs.Printing.{is_readable_name};
 ghost use Rattle.cert_format.specs.Printable.{IsPrintableClause};
@@ -66,7 +66,7 @@ fn drive<S: Solver, I: PartnerIndex>(
     requires named { length p.now.names ≡ length p.now.clauses }
     requires readable { All (λ n. IsTrue (is_readable_name n)) p.now.names }
     ensures ending { IfOk result (λ e. IsEnding p.now.clauses p.now.names budget e run.new.journal) }
-    ensures appended { OnOk result (IsFalse (is_function_free p.now.clauses) → appended_count run.new.journal ≤ budget) }
+    ensures appended { OnOk result (IsFalse (is_function_free p.now.clauses) → appended_count run.new.journal ≤ suc budget) }
 {
     let given = start(alloc, p, run, budget)?;
     match cycle(alloc, run, &mut partners, p, budget)? {
@@ -83,29 +83,12 @@ fn allowed(p: &Problem, budget: u64) -> Option<u64>
     if function_free(p) { None } else { Some(budget) }
 }
 
-// Runs the engine with the indexes that it is given.
-fn drive_with<S: Solver, I: PartnerIndex>(
-    alloc: Global,
-    p: &Problem,
-    run: &mut Run<S, I>,
-    positive: I,
-    negative: I,
-    budget: u64,
-) -> Result<Ending, Memory>
-    requires fresh { IsFresh S.atoms S.added I.pairs run.old }
-    requires allowed { IsAllowed run.old p.now.clauses budget }
-    requires bot { IsBot p.now.clauses run.old.ground.abstraction.bot }
-    requires constant { IsTrue (is_constant run.old.ground.abstraction.bot) }
-    requires bot_name { IsTrue (is_readable_name run.old.ground.abstraction.bot.name) }
-    requires positive { I.pairs positive ≡ [] }
-    requires negative { I.pairs negative ≡ [] }
-    requires clauses { All IsPrintableClause p.now.clauses }
-    requires named { length p.now.names ≡ length p.now.clauses }
-    requires readable { All (λ n. IsTrue (is_readable_name n)) p.now.names }
-    ensures ending { IfOk result (λ e. IsEnding p.now.clauses p.now.names budget e run.new.journal) }
-    ensures appended { OnOk result (IsFalse (is_function_free p.now.clauses) → appended_count run.new.journal ≤ budget) }
-{
-    drive(alloc, p, run, Partners { positive, negative }, budget)
+/// Solvers without atoms: one for the abstractions, one for the clauses of the entries, and one for ground lines at the end.
+#[derive(Drop)]
+struct Solvers<S: Solver> {
+    abstractions: S,
+    known: S,
+    last: S,
 }
 
 // Makes the run, which is gone when the certificate and the journal are made, as are its indexes. It stands in a box: a function
@@ -114,45 +97,54 @@ fn run_with<S: Solver, I: PartnerIndex>(
     alloc: Global,
     p: &Problem,
     bot: Sym,
-    solver: S,
-    positive: I,
-    negative: I,
+    solvers: Solvers<S>,
+    partners: Partners<I>,
     first: I,
     budget: u64,
 ) -> Result<Outcome, Memory>
     requires bot { IsBot p.now.clauses bot }
     requires constant { IsTrue (is_constant bot) }
     requires bot_name { IsTrue (is_readable_name bot.name) }
-    requires atoms { S.atoms solver ≡ 0 }
-    requires added { S.added solver ≡ [] }
-    requires positive { I.pairs positive ≡ [] }
-    requires negative { I.pairs negative ≡ [] }
+    requires atoms { (S.atoms solvers.abstractions ≡ 0) × (S.atoms solvers.known ≡ 0) × (S.atoms solvers.last ≡ 0) }
+    requires added { (S.added solvers.abstractions ≡ []) × (S.added solvers.known ≡ []) × (S.added solvers.last ≡ []) }
+    requires positive { I.pairs partners.positive ≡ [] }
+    requires negative { I.pairs partners.negative ≡ [] }
     requires first { I.pairs first ≡ [] }
     requires clauses { All IsPrintableClause p.now.clauses }
     requires named { length p.now.names ≡ length p.now.clauses }
     requires readable { All (λ n. IsTrue (is_readable_name n)) p.now.names }
     requires budget { budget ≤ 1000000000000 }
     ensures outcome { IfOk result (IsOutcome p.now.clauses p.now.names budget) }
-    ensures appended { IfOk result (λ o. IsFalse (is_function_free p.now.clauses) → appended_count (journal_of o) ≤ budget) }
+    ensures appended { IfOk result (λ o. IsFalse (is_function_free p.now.clauses) → appended_count (journal_of o) ≤ suc budget) }
 {
+    let Solvers {
+        abstractions,
+        known,
+        last,
+    } = solvers;
     let mut run = Box::new(
         alloc,
-        new_run(alloc, solver, first, bot, allowed(p, budget)),
+        new_run(alloc, abstractions, known, first, bot, allowed(p, budget)),
     )?;
-    let ending = drive_with(alloc, p, &mut run, positive, negative, budget)?;
+    let ending = drive(alloc, p, &mut run, partners, budget)?;
     let log = replace(&mut run.journal, EventLog::new(alloc));
     drop(run);
-    outcome_of(alloc, p, ending, &log, budget)
+    outcome_of(alloc, p, ending, last, &log, budget)
 }
 
-/// Runs the engine on the problem's clauses and their axioms of equality. The budget counts the symbols and variables of the
-/// entries that are appended; it does not count on problems without function symbols, where the entries are bounded anyway. There
+/// Runs the engine on the problem's clauses and their axioms of equality. The solver `known` has the clauses of the entries, and a
+/// conclusion of which they imply a proper part is cut to such a part; `last` is asked for a derivation from the ground lines of a
+/// refutation whose members have such parts. The budget counts the symbols and variables of the entries that are appended; it does
+/// not count on problems without function symbols, where the entries are bounded anyway. An empty part has no symbols, and nothing
+/// is appended after one. There
 /// is room for 2^32 - 1 literals of the problem's clauses, for as many of their axioms and of entries, for as many changes of atoms
 /// over all solves, and for 2^31 different ground atoms: beyond that it wants memory.
 pub fn run<S: Solver, I: PartnerIndex>(
     alloc: Global,
     p: &Problem,
     solver: S,
+    known: S,
+    last: S,
     positive: I,
     negative: I,
     first: I,
@@ -160,6 +152,10 @@ pub fn run<S: Solver, I: PartnerIndex>(
 ) -> Result<Outcome, Memory>
     requires atoms { S.atoms solver ≡ 0 }
     requires added { S.added solver ≡ [] }
+    requires known_atoms { S.atoms known ≡ 0 }
+    requires known_added { S.added known ≡ [] }
+    requires last_atoms { S.atoms last ≡ 0 }
+    requires last_added { S.added last ≡ [] }
     requires positive { I.pairs positive ≡ [] }
     requires negative { I.pairs negative ≡ [] }
     requires first { I.pairs first ≡ [] }
@@ -169,8 +165,14 @@ pub fn run<S: Solver, I: PartnerIndex>(
     requires budget { budget ≤ 1000000000000 }
     ensures outcome { IfOk result (IsOutcome p.now.clauses p.now.names budget) }
     ensures function_free { IfOk result (λ o. IsTrue (is_function_free p.now.clauses) → IsDecided o) }
-    ensures appended { IfOk result (λ o. IsFalse (is_function_free p.now.clauses) → appended_count (journal_of o) ≤ budget) }
+    ensures appended { IfOk result (λ o. IsFalse (is_function_free p.now.clauses) → appended_count (journal_of o) ≤ suc budget) }
 {
     let bot = bot_of(alloc, p)?;
-    run_with(alloc, p, bot, solver, positive, negative, first, budget)
+    let solvers = Solvers {
+        abstractions: solver,
+        known,
+        last,
+    };
+    let partners = Partners { positive, negative };
+    run_with(alloc, p, bot, solvers, partners, first, budget)
 }

@@ -84,6 +84,11 @@ fn has_grown(before: usize, now: usize) -> bool
     before < now
 }
 
+// How many picks are left after one. None is where the empty clause is an entry: it covers whatever is inferred.
+fn picks_left(left: u64, has_empty: bool) -> u64 {
+    if has_empty { 0 } else { left.saturating_sub(1) }
+}
+
 // Whether the picks are made and an entry was appended.
 fn is_done(left: u64, before: usize, now: usize) -> bool
     ensures { result ≡ true → before < now }
@@ -122,7 +127,7 @@ fn work_ready<S: Solver, I: PartnerIndex>(
             Some(n) => {
                 work_entry(alloc, run, partners, n)?;
                 store(run, partners, n)?;
-                left = left.saturating_sub(1);
+                left = picks_left(left, run.entries.has_empty);
                 if is_done(left, before, run.entries.clauses.len()) {
                     return Ok(true);
                 }

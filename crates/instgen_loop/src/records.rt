@@ -1,33 +1,46 @@
 // How the entries of a run were made, found anew from their origins: a run keeps no terms, and only a refutation wants them.
-ghost use Rattle.std.specs.Prelude.{◌≡◌, ◌<◌, ◌≤◌, ℕ, Some, length, map, IfOk, OnOk};
+ghost use Rattle.std.specs.Prelude.{◌≡◌, ◌<◌, ◌≤◌, ℕ, Some, length, map, IsTrue, IfOk, OnOk};
 ghost use Rattle.inst_logic.specs.declared.symbol.Sym.{Sym};
-ghost use Rattle.inst_logic.specs.Clauses.{TreeClause};
+ghost use Rattle.inst_logic.specs.Tree.{app, none};
+ghost use Rattle.inst_logic.specs.Clauses.{TreeClause, IsCanonical};
 ghost use Rattle.inst_logic.specs.Derivations.{at_number};
-ghost use Rattle.inst_calculus.specs.Conclusions.{IsConclusion};
-ghost use Rattle.inst_calculus.specs.Unrolling.{conclusion_terms, IsNoLemma, TellsHow};
+ghost use Rattle.inst_logic.specs.WellFormed.{is_constant};
+ghost use Rattle.inst_calculus.specs.Conclusions.{IsConclusion, IsPartOfConclusion};
+ghost use Rattle.inst_calculus.specs.Parts.{chosen};
+ghost use Rattle.inst_calculus.specs.Unrolling.{conclusion_terms, part_terms, implied_by, instance_of, TellsHow};
 ghost use Rattle.clause_form.specs.Conclusions.{AreTermIds};
+ghost use Rattle.global_subs.specs.Terms.{IsTermIn};
 ghost use Rattle.global_subs.specs.Unrolls.{how_at, terms_of};
 ghost use Rattle.saturation_cert.specs.Values.{origin_of};
-ghost use Rattle.term_bank.specs.Forest.{AreFormed, AreIds, Extends, tree_at};
+ghost use Rattle.saturation_cert.specs.Wholes.{IsWholeClause};
+ghost use Rattle.term_bank.specs.Forest.{AreFormed, AreIds, Extends, clause_at, tree_at};
 ghost use Rattle.instgen_loop.specs.Clauses.{AreEntries, Item, entries_in};
 ghost use Rattle.instgen_loop.specs.Deciding.{IsSomeConclusion, held_value};
 ghost use Rattle.instgen_loop.specs.Records.{AreConcluded, AreRecordsOf, IsConcluded, IsRecord};
 
 use crate::infer::literal_at;
 use crate::origin::PackedOrigin;
+use crate::part_terms::part_terms;
 use crate::start::copied_clause;
 use crate::state::Held;
-use clause_form::conclude;
-use global_subs::{How, Made, MadeList};
+use clause_form::{Conclusion, conclude};
+use global_subs::{How, Lemma, Made, MadeList};
 use indexmap::IndexMap;
-use inst_logic::Memory;
+use inst_logic::{Memory, Sym};
 use saturation_cert::Origin;
 use std::alloc::Global;
-use term_bank::{Bank, IdClause, TermIdList};
+use term_bank::{Bank, IdClause, TermId};
 use unify_core::{Bindings, Side};
 
 /// Clauses with their origins, by their numbers.
 pub type Origins = IndexMap<IdClause, PackedOrigin>;
+
+// Room for bindings, and the constant that stands for the variables that a part of a conclusion lacks.
+#[derive(Drop)]
+struct Room {
+    bindings: Bindings,
+    constant: TermId,
+}
 
 // The clause of entry `n`.
 fn clause_of(clauses: &Origins, n: usize) -> &IdClause
@@ -40,33 +53,36 @@ fn clause_of(clauses: &Origins, n: usize) -> &IdClause
     }
 }
 
-// The origin of entry `n`.
-fn origin_of(clauses: &Origins, n: usize) -> PackedOrigin
+/// The origin of entry `n`.
+pub fn origin_of(clauses: &Origins, n: usize) -> &PackedOrigin
     requires { (0 < n) × (n ≤ length clauses.now.entries) }
-    ensures { (item : Item) × (at_number clauses.now.entries n ≡ Some item) × (item.1 ≡ result) }
+    ensures { (item : Item) × (at_number clauses.now.entries n ≡ Some item) × (item.1 ≡ result.now) }
 {
     match clauses.get_index(n - 1) {
-        Some((_, origin)) => *origin,
+        Some((_, origin)) => origin,
         None => unreachable!(),
     }
 }
 
-// What the variables of entry `at.from` become in the conclusion.
-fn terms_of(
+// What the two entries conclude, with what the variables of entry `at.from` become.
+fn conclusion_at(
     alloc: Global,
     bank: &mut Bank,
     bindings: &mut Bindings,
     clauses: &Origins,
     at: Held,
-) -> Result<TermIdList, Memory>
+) -> Result<Conclusion, Memory>
     requires entries { AreEntries bank.old clauses.now.entries }
     requires concluded { IsSomeConclusion (entries_in bank.old clauses.now.entries) (held_value at) }
     ensures extends { Extends bank.old bank.new }
     ensures formed { OnOk result (AreFormed bank.new) }
-    ensures ids { IfOk result (AreIds bank.new) }
-    ensures plain { IfOk result (AreTermIds bank.new) }
-    ensures terms { IfOk result (λ ts. (c : TreeClause) (k : IsConclusion (entries_in bank.old clauses.now.entries) at.from at.place at.partner at.other c)
-        → map (tree_at bank.new) ts ≡ conclusion_terms k.unifier.left k.entry.clause) }
+    ensures ids { IfOk result (λ d. AreIds bank.new d.terms) }
+    ensures plain { IfOk result (λ d. AreTermIds bank.new d.terms) }
+    ensures terms { IfOk result (λ d. (c : TreeClause) (k : IsConclusion (entries_in bank.old clauses.now.entries) at.from at.place at.partner at.other c)
+        → map (tree_at bank.new) d.terms ≡ conclusion_terms k.unifier.left k.entry.clause) }
+    ensures whole { IfOk result (λ d. IsWholeClause bank.new d.clause) }
+    ensures canonical { IfOk result (λ d. IsCanonical (clause_at bank.new d.clause)) }
+    ensures clause { IfOk result (λ d. (c : TreeClause) → IsConclusion (entries_in bank.old clauses.now.entries) at.from at.place at.partner at.other c → clause_at bank.new d.clause ≡ c) }
 {
     let first = clause_of(clauses, at.from);
     let second = clause_of(clauses, at.partner);
@@ -76,28 +92,82 @@ fn terms_of(
         unreachable!();
     }
     let conclusion = conclude(alloc, bank, bindings, Side::Left, first)?;
-    Ok(conclusion.terms)
+    Ok(conclusion)
+}
+
+// How a conclusion was made.
+fn how_whole(
+    alloc: Global,
+    bank: &mut Bank,
+    bindings: &mut Bindings,
+    clauses: &Origins,
+    at: Held,
+) -> Result<How, Memory>
+    requires entries { AreEntries bank.old clauses.now.entries }
+    requires concluded { IsSomeConclusion (entries_in bank.old clauses.now.entries) (held_value at) }
+    ensures extends { Extends bank.old bank.new }
+    ensures formed { OnOk result (AreFormed bank.new) }
+    ensures ids { IfOk result (λ h. AreIds bank.new (terms_of h)) }
+    ensures plain { IfOk result (λ h. AreTermIds bank.new (terms_of h)) }
+    ensures told { IfOk result (λ h. (c : TreeClause) (k : IsConclusion (entries_in bank.old clauses.now.entries) at.from at.place at.partner at.other c)
+        → how_at bank.new h ≡ instance_of at.from (conclusion_terms k.unifier.left k.entry.clause)) }
+{
+    let conclusion = conclusion_at(alloc, bank, bindings, clauses, at)?;
+    Ok(How::From {
+        from: at.from,
+        terms: conclusion.terms,
+    })
+}
+
+// How the part of a conclusion at the kept places was made of the premises.
+fn how_part(
+    alloc: Global,
+    bank: &mut Bank,
+    room: &mut Room,
+    clauses: &Origins,
+    at: Held,
+    lemma: Lemma,
+) -> Result<How, Memory>
+    requires entries { AreEntries bank.old clauses.now.entries }
+    requires part { (c : TreeClause) × IsPartOfConclusion (entries_in bank.old clauses.now.entries) at.from at.place at.partner at.other lemma.keep c }
+    requires constant { IsTermIn bank.old room.old.constant }
+    ensures constant { room.new.constant ≡ room.old.constant }
+    ensures extends { Extends bank.old bank.new }
+    ensures formed { OnOk result (AreFormed bank.new) }
+    ensures ids { IfOk result (λ h. AreIds bank.new (terms_of h)) }
+    ensures plain { IfOk result (λ h. AreTermIds bank.new (terms_of h)) }
+    ensures told { IfOk result (λ h. (bot : Sym) → tree_at bank.old room.old.constant ≡ app bot none
+        → (c : TreeClause) (p : IsPartOfConclusion (entries_in bank.old clauses.now.entries) at.from at.place at.partner at.other lemma.keep c)
+        → how_at bank.new h ≡ implied_by lemma.premises (part_terms bot p.whole (chosen p.whole lemma.keep))) }
+{
+    let conclusion = conclusion_at(alloc, bank, &mut room.bindings, clauses, at)?;
+    let terms = part_terms(alloc, bank, &conclusion.clause, &lemma.keep, room.constant)?;
+    Ok(How::Lemma {
+        terms,
+        premises: lemma.premises,
+    })
 }
 
 // How an entry of this origin was made.
 fn how_of(
     alloc: Global,
     bank: &mut Bank,
-    bindings: &mut Bindings,
+    room: &mut Room,
     clauses: &Origins,
-    origin: PackedOrigin,
+    origin: Origin,
 ) -> Result<How, Memory>
     requires entries { AreEntries bank.old clauses.now.entries }
     requires concluded { (c : TreeClause) × IsConcluded (entries_in bank.old clauses.now.entries) origin c }
+    requires constant { IsTermIn bank.old room.old.constant }
+    ensures constant { room.new.constant ≡ room.old.constant }
     ensures extends { Extends bank.old bank.new }
     ensures formed { OnOk result (AreFormed bank.new) }
     ensures ids { IfOk result (λ h. AreIds bank.new (terms_of h)) }
     ensures plain { IfOk result (λ h. AreTermIds bank.new (terms_of h)) }
-    ensures told { IfOk result (λ h. (bot : Sym) (c : TreeClause) → IsConcluded (entries_in bank.old clauses.now.entries) origin c
+    ensures told { IfOk result (λ h. (bot : Sym) → tree_at bank.old room.old.constant ≡ app bot none → (c : TreeClause) → IsConcluded (entries_in bank.old clauses.now.entries) origin c
         → TellsHow bot (entries_in bank.old clauses.now.entries) (origin_of origin) c (how_at bank.new h)) }
-    ensures own { IfOk result (λ h. IsNoLemma (how_at bank.new h)) }
 {
-    match origin.origin() {
+    match origin {
         Origin::Input(k) => Ok(How::Given(k)),
         Origin::Inst {
             from,
@@ -111,10 +181,24 @@ fn how_of(
                 partner,
                 other,
             };
-            let terms = terms_of(alloc, bank, bindings, clauses, at)?;
-            Ok(How::From { from, terms })
+            how_whole(alloc, bank, &mut room.bindings, clauses, at)
         }
-        Origin::Lemma { .. } => unreachable!(),
+        Origin::Lemma {
+            from,
+            place,
+            partner,
+            other,
+            keep,
+            premises,
+        } => {
+            let at = Held {
+                from,
+                place,
+                partner,
+                other,
+            };
+            how_part(alloc, bank, room, clauses, at, Lemma { keep, premises })
+        }
     }
 }
 
@@ -122,19 +206,22 @@ fn how_of(
 fn record_of(
     alloc: Global,
     bank: &mut Bank,
-    bindings: &mut Bindings,
+    room: &mut Room,
     clauses: &Origins,
     n: usize,
 ) -> Result<Made, Memory>
     requires entries { AreEntries bank.old clauses.now.entries }
     requires concluded { AreConcluded bank.old clauses.now.entries }
     requires number { (0 < n) × (n ≤ length clauses.now.entries) }
+    requires constant { IsTermIn bank.old room.old.constant }
+    ensures constant { room.new.constant ≡ room.old.constant }
     ensures extends { Extends bank.old bank.new }
     ensures formed { OnOk result (AreFormed bank.new) }
-    ensures record { IfOk result (IsRecord bank.new clauses.now.entries n) }
+    ensures made { IfOk result (λ m. (item : Item) × (at_number clauses.now.entries n ≡ Some item) × (m.clause ≡ item.0)) }
+    ensures record { IfOk result (λ m. (bot : Sym) → tree_at bank.old room.old.constant ≡ app bot none → IsRecord bot bank.new clauses.now.entries n m) }
 {
-    let origin = origin_of(clauses, n);
-    let how = how_of(alloc, bank, bindings, clauses, origin)?;
+    let origin = origin_of(clauses, n).origin()?;
+    let how = how_of(alloc, bank, room, clauses, origin)?;
     let clause = copied_clause(alloc, clause_of(clauses, n).as_slice())?;
     Ok(Made { clause, how })
 }
@@ -143,31 +230,43 @@ fn record_of(
 fn records_with(
     alloc: Global,
     bank: &mut Bank,
-    bindings: &mut Bindings,
+    room: &mut Room,
     clauses: &Origins,
 ) -> Result<MadeList, Memory>
     requires entries { AreEntries bank.old clauses.now.entries }
     requires concluded { AreConcluded bank.old clauses.now.entries }
+    requires constant { IsTermIn bank.old room.old.constant }
     ensures extends { Extends bank.old bank.new }
     ensures formed { OnOk result (AreFormed bank.new) }
-    ensures records { IfOk result (AreRecordsOf bank.new clauses.now.entries) }
+    ensures records { IfOk result (λ ms. (bot : Sym) → tree_at bank.old room.old.constant ≡ app bot none → AreRecordsOf bot bank.new clauses.now.entries ms) }
 {
     let mut made = Vec::with_capacity(alloc, clauses.len())?;
     for i in 0..clauses.len() {
-        let record = record_of(alloc, bank, bindings, clauses, i + 1)?;
+        let record = record_of(alloc, bank, room, clauses, i + 1)?;
         made.push(record)?;
     }
     Ok(MadeList::from(made))
 }
 
-/// The entries with how each was made, in their order. Time: for each conclusion one unification and one instance.
-pub fn records_of(alloc: Global, bank: &mut Bank, clauses: &Origins) -> Result<MadeList, Memory>
+/// The entries with how each was made, in their order; the constant stands for variables that a part lacks. Time: for each
+/// conclusion one unification and one instance, and for each part its renumbering beside that.
+pub fn records_of(
+    alloc: Global,
+    bank: &mut Bank,
+    bot: &Sym,
+    clauses: &Origins,
+) -> Result<MadeList, Memory>
     requires entries { AreEntries bank.old clauses.now.entries }
     requires concluded { AreConcluded bank.old clauses.now.entries }
+    requires constant { IsTrue (is_constant bot.now) }
     ensures extends { Extends bank.old bank.new }
     ensures formed { OnOk result (AreFormed bank.new) }
-    ensures records { IfOk result (AreRecordsOf bank.new clauses.now.entries) }
+    ensures records { IfOk result (AreRecordsOf bot.now bank.new clauses.now.entries) }
 {
-    let mut bindings = Bindings::new(alloc);
-    records_with(alloc, bank, &mut bindings, clauses)
+    let constant = bank.app(bot, &[])?;
+    let mut room = Room {
+        bindings: Bindings::new(alloc),
+        constant,
+    };
+    records_with(alloc, bank, &mut room, clauses)
 }

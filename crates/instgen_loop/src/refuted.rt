@@ -14,6 +14,7 @@ ghost use Rattle.instgen_loop.specs.ShownRuns.{IsMadeOf, IsShownOf};
 ghost use Rattle.instgen_loop.specs.Running.{IsRunningFor};
 ghost use Rattle.instgen_loop.specs.Starting.{IsOfProblem};
 
+use crate::derived::derive;
 use crate::ending::Ending;
 use crate::event_log::EventLog;
 use crate::hand_over::{Remains, base_of, hand_over};
@@ -52,8 +53,8 @@ fn lines_of(
     ensures refuted { OnOk result (IsRefuted p.now.clauses p.now.names run.new _log.now) }
     ensures lines { IfOk result (AreLinesOf p.now.clauses run.new) }
 {
-    let made = records_of(alloc, &mut run.remains.bank, &run.remains.clauses)?;
     let bot = bot_of(alloc, p)?;
+    let made = records_of(alloc, &mut run.remains.bank, &bot, &run.remains.clauses)?;
     let lines = ground_lines(
         alloc,
         &mut run.remains.bank,
@@ -71,19 +72,23 @@ struct Shown {
     steps: GroundStepList,
 }
 
-// What is shown by the derivation of the run. Its bank has grown by the terms of the lines.
-fn shown_of(
+// What is shown by a derivation over the lines of the run, which `last` gives where the run has none. The bank has grown by the
+// terms of the lines.
+fn shown_of<S: Solver>(
     alloc: Global,
     p: &Problem,
     run: &mut RefutedRun,
+    last: S,
     log: &EventLog,
 ) -> Result<Shown, Memory>
     requires refuted { IsRefuted p.now.clauses p.now.names run.old log.now }
+    requires atoms { S.atoms last ≡ 0 }
+    requires added { S.added last ≡ [] }
     ensures shown { IfOk result (IsShownOf p.now.clauses p.now.names run.new log.now) }
 {
     let grounds = lines_of(alloc, p, run, log)?;
-    // So clauses of equal trees are equal.
-    run.remains.bank.distinct();
+    let bot = bot_of(alloc, p)?;
+    derive(alloc, bot, run, last, &grounds)?;
     let numbers = line_numbers(alloc, &run.abstraction, &run.literals, &grounds)?;
     let steps = ground_steps(alloc, &run.abstraction, &numbers, &run.derivation)?;
     Ok(Shown { grounds, steps })
@@ -103,18 +108,21 @@ fn made_of(alloc: Global, p: &Problem, remains: Remains, shown: Shown) -> Result
     })
 }
 
-/// The refutation that the derivation gives. Its ground lines are those of the unrolled lists of the entries, with the constant for
-/// every variable, each once.
-pub fn refutation_of(
+/// The refutation of a refuted run. Its ground lines are those of the unrolled lists of the entries, with the constant for every
+/// variable, each once. The fresh solver is asked for a derivation from the lines where an entry is a part of a conclusion.
+pub fn refutation_of<S: Solver>(
     alloc: Global,
     p: &Problem,
     mut run: RefutedRun,
+    last: S,
     log: &EventLog,
 ) -> Result<Refutation, Memory>
     requires refuted { IsRefuted p.now.clauses p.now.names run log.now }
+    requires atoms { S.atoms last ≡ 0 }
+    requires added { S.added last ≡ [] }
     ensures refutation { IfOk result (λ r. IsRefutedRun p.now.clauses p.now.names r log.now) }
 {
-    match shown_of(alloc, p, &mut run, log) {
+    match shown_of(alloc, p, &mut run, last, log) {
         Ok(shown) => made_of(alloc, p, run.remains, shown),
         Err(Memory) => Err(Memory),
     }

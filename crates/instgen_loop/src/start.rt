@@ -24,6 +24,7 @@ use crate::state::{Run, make_entry};
 use clause_form::tautology;
 use compact_lists::{FlatClauses, FlatLists};
 use equality_axioms::axioms_of;
+use global_subs::Known;
 use ground_abs::Abstraction;
 use indexmap::IndexMap;
 use inst_logic::{ClauseList, Memory, Problem, Sym};
@@ -71,10 +72,11 @@ fn passive(alloc: Global, left: Option<u64>) -> Passive
     }
 }
 
-/// A run without entries, over a solver without atoms and an index without pairs.
+/// A run without entries, over two solvers without atoms and an index without pairs.
 pub fn new_run<S: Solver, I: PartnerIndex>(
     alloc: Global,
     solver: S,
+    known: S,
     first: I,
     bot: Sym,
     left: Option<u64>,
@@ -82,6 +84,8 @@ pub fn new_run<S: Solver, I: PartnerIndex>(
     requires constant { IsTrue (is_constant bot) }
     requires atoms { S.atoms solver ≡ 0 }
     requires added { S.added solver ≡ [] }
+    requires known_atoms { S.atoms known ≡ 0 }
+    requires known_added { S.added known ≡ [] }
     requires first { I.pairs first ≡ [] }
     ensures fresh { IsFresh S.atoms S.added I.pairs result }
     ensures bot { result.ground.abstraction.bot ≡ bot }
@@ -95,6 +99,7 @@ pub fn new_run<S: Solver, I: PartnerIndex>(
             literals: FlatClauses::new(alloc),
             valuation: Valuation::new(alloc),
         },
+        known: Known::new(alloc, known),
         selection: Selection::new(alloc),
         queue: passive(alloc, left),
         held: Vec::new(alloc),

@@ -14,6 +14,7 @@ use crate::ground::{Ground, add_entry};
 use crate::origin::PackedOrigin;
 use crate::selection::Selection;
 use clause_form::{clause_size, greatest_variable};
+use global_subs::Known;
 use inst_logic::Memory;
 use instgen_select::Passive;
 use prop_logic::Solver;
@@ -37,6 +38,8 @@ pub struct Held {
 pub struct Run<S: Solver, I: PartnerIndex> {
     pub entries: Entries<I>,
     pub ground: Ground<S>,
+    /// The clauses of the entries, by which conclusions are reduced.
+    pub known: Known<S>,
     pub selection: Selection,
     pub queue: Passive,
     pub held: Vec<Held>,
@@ -75,6 +78,7 @@ pub fn make_entry<S: Solver, I: PartnerIndex>(
     let size = clause_size(&run.entries.bank, &clause);
     let variables = variable_count(&run.entries.bank, &clause);
     add_entry(&mut run.entries.bank, &mut run.ground, &clause)?;
+    run.known.entry(&run.entries.bank, &clause)?;
     run.queue.put(number, size, variables)?;
     push_entry(&mut run.entries, clause, origin)
 }
@@ -94,7 +98,8 @@ pub fn append<S: Solver, I: PartnerIndex>(
     ensures appends { OnOk result (Appends run.old run.new clause origin) }
     ensures linked { OnOk result (KeepsLink S.atoms S.added run.old run.new) }
 {
+    let told = origin.clone()?;
     make_entry(run, clause, origin)?;
-    run.journal.push_inferred(origin)?;
+    run.journal.push_inferred(told)?;
     Ok(())
 }

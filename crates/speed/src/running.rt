@@ -19,6 +19,8 @@ fn outcome(alloc: Global, p: &Problem, budget: u32) -> Result<Outcome, Memory>
         alloc,
         p,
         Cdcl::new(alloc),
+        Cdcl::new(alloc),
+        Cdcl::new(alloc),
         Tree::new(alloc),
         Tree::new(alloc),
         Tree::new(alloc),

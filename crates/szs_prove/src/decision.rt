@@ -94,6 +94,8 @@ pub fn decide(alloc: Global, p: &Problem, budget: u64) -> Result<Decision, Memor
         alloc,
         p,
         Cdcl::new(alloc),
+        Cdcl::new(alloc),
+        Cdcl::new(alloc),
         Tree::new(alloc),
         Tree::new(alloc),
         Tree::new(alloc),

@@ -20,6 +20,8 @@ fn told_by<S: Solver, I: PartnerIndex>(
     p: &Problem,
     row: &Row,
     solver: S,
+    known: S,
+    last: S,
     positive: I,
     negative: I,
     first: I,
@@ -27,6 +29,10 @@ fn told_by<S: Solver, I: PartnerIndex>(
     requires good { IsGoodProblem p.now }
     requires atoms { S.atoms solver ≡ 0 }
     requires added { S.added solver ≡ [] }
+    requires known_atoms { S.atoms known ≡ 0 }
+    requires known_added { S.added known ≡ [] }
+    requires last_atoms { S.atoms last ≡ 0 }
+    requires last_added { S.added last ≡ [] }
     requires positive { I.pairs positive ≡ [] }
     requires negative { I.pairs negative ≡ [] }
     requires first { I.pairs first ≡ [] }
@@ -35,6 +41,8 @@ fn told_by<S: Solver, I: PartnerIndex>(
         alloc,
         p,
         solver,
+        known,
+        last,
         positive,
         negative,
         first,
@@ -60,6 +68,8 @@ fn with_plain(alloc: Global, p: &Problem, row: &Row) -> Result<Told, Fail>
         p,
         row,
         Plain::new(alloc),
+        Plain::new(alloc),
+        Plain::new(alloc),
         Rows::new(alloc),
         Rows::new(alloc),
         Rows::new(alloc),
@@ -73,6 +83,8 @@ fn with_cdcl(alloc: Global, p: &Problem, row: &Row) -> Result<Told, Fail>
         alloc,
         p,
         row,
+        Cdcl::new(alloc),
+        Cdcl::new(alloc),
         Cdcl::new(alloc),
         Tree::new(alloc),
         Tree::new(alloc),
@@ -93,6 +105,8 @@ fn with_refusing(
         alloc,
         p,
         row,
+        Plain::new(alloc),
+        Plain::new(alloc),
         Plain::new(alloc),
         Refusing::new(alloc, partners),
         Refusing::new(alloc, partners),

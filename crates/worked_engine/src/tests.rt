@@ -14,6 +14,16 @@ const CHAIN: &str = "cnf(a,axiom,p(a)). cnf(b,axiom,~p(X)|p(f(X))). cnf(c,axiom,
 
 const NESTED: &str = "cnf(a,axiom,p(f(X))). cnf(b,axiom,~p(f(f(c)))).";
 
+const PART: &str =
+    "cnf(a,axiom,q(X)|p(X)). cnf(b,axiom,~p(a)). cnf(c,axiom,r|q(a)). cnf(d,axiom,~r|q(a)).";
+
+const REFUTED_PART: &str = "
+cnf(a,axiom,~p(a)). cnf(b,axiom,r|q(a)). cnf(c,axiom,~r|q(a)).
+cnf(d,axiom,~q(Y)|s(Y)). cnf(e,axiom,~s(a)). cnf(f,axiom,q(X)|p(X)).
+";
+
+const EMPTY_PART: &str = "cnf(a,axiom,~p(f(c))). cnf(b,axiom,~p(f(d))). cnf(c,axiom,p(f(X))).";
+
 const MANSION: &str = "
 cnf(lives_a,axiom,lives(agatha)). cnf(lives_b,axiom,lives(butler)). cnf(lives_c,axiom,lives(charles)).
 cnf(only_three,axiom,~lives(X)|X=agatha|X=butler|X=charles).
@@ -80,7 +90,7 @@ fn stopped(text: &str, count: usize) -> Row {
     }
 }
 
-fn rows() -> [Row<'static>; 14] {
+fn rows() -> [Row<'static>; 17] {
     [
         // No clause, and the empty one.
         saturated("", Some(0), "", &[]),
@@ -175,6 +185,27 @@ fn rows() -> [Row<'static>; 14] {
             &[1, 1],
         ),
         refuted(MANSION, 0, None, "", ("", None)),
+        // The entries imply a part of a conclusion, which is appended in its place. It covers the conclusion.
+        saturated(PART, Some(5), "cnf(m5,plain,q(a)).", &[2, 1]),
+        // Ground lines are unrolled from the premises of the part, and not from the conclusion.
+        refuted(
+            REFUTED_PART,
+            BUDGET,
+            Some(8),
+            "cnf(m7,plain,q(a)). cnf(m8,plain,~q(a)|s(a)).",
+            (
+                "cnf(g,plain,q(bot_0)|p(bot_0)). cnf(g,plain,~q(bot_0)|s(bot_0)). cnf(g,plain,~q(a)|s(a)).",
+                Some(&[1, 2, 3, 4, 5, 6, 4]),
+            ),
+        ),
+        // Two entries exclude each other when the second conclusion comes, so its empty part is appended, beyond any budget.
+        refuted(
+            EMPTY_PART,
+            3,
+            Some(5),
+            "cnf(m4,plain,p(f(c))). cnf(m5,plain,$false).",
+            ("cnf(g,plain,p(f(c))).", Some(&[1, 2, 3, 3])),
+        ),
     ]
 }
 

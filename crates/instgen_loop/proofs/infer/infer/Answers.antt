@@ -1,4 +1,4 @@
-use Rattle.std.proofs.Common.{◌≡◌, ◌≤◌, ℕ, List, length, rules, arith, sym, ap, ◌∙◌, subst, Some, Option, min, ◌^◌, ◌-◌}
+use Rattle.std.proofs.Common.{◌≡◌, ◌≤◌, ℕ, List, length, rules, refl, arith, sym, ap, ◌∙◌, subst, Some, Option, min, ◌^◌, ◌-◌}
 use Rattle.std.specs.Prelude.{IfSome}
 use Rattle.inst_logic.proofs.ShownLaws.{at_number_append}
 use Rattle.unify_core.proofs.Stays.{substitutions_stay}
@@ -7,10 +7,8 @@ use Rattle.inst_logic.specs.Clauses.{canonical_form}
 use Rattle.term_bank.specs.Forest.{clause_at}
 use Rattle.unify_core.specs.Sides.{Binding, IsResolvedBy, of_side}
 use Rattle.inst_calculus.proofs.Items.{same_item}
-use Rattle.saturation_cert.specs.declared.member.Origin.{Origin}
 use Rattle.instgen_loop.specs.Clauses.{Item}
 use Rattle.instgen_loop.specs.Loops.{items, IsUnified}
-use Rattle.instgen_loop.specs.Running.{AppendsUncovered}
 use Rattle.instgen_loop.proofs.Selected.{literal_of, place_positive}
 use Rattle.instgen_loop.proofs.Works.{goes_on}
 use Rattle.instgen_loop.proofs.Inferred.{unified_stays, made_shorter, premise_bounded, item_later, side_by_cover, clause_of_placed, length_at}
@@ -42,8 +40,8 @@ append_uncovered-requires-clause-literal g c =
     let p = place_positive item.0 c.place_of-place.result l here in
     omega (arith, p.0, p.1, ap length same, c.len-len.ensures)
 
-pub append_uncovered-requires-clause-bounded : goal.append_uncovered-requires-clause-bounded
-append_uncovered-requires-clause-bounded g c =
+pub append_uncovered-requires-clause-shorter : goal.append_uncovered-requires-clause-shorter
+append_uncovered-requires-clause-shorter g c =
     let run = c.args.run.now in
     let r1 = c.budgeted_size.new.run in
     let r2 = c.conclusion_of.new.run in
@@ -51,8 +49,10 @@ append_uncovered-requires-clause-bounded g c =
     let later : IsUnified r1.entries.bank r1.bindings.entries =
     subst (IsUnified r1.entries.bank) (sym c.in_ok-size.ensures.bindings) (unified_stays run.entries.bank r1.entries.bank run.bindings.entries c.in_ok-size.ensures.goes.bank c.requires.unified) in
     let shorter = made_shorter r1.entries.bank r2.entries.bank r1.bindings.entries c.args.side m.item.0 c.in_ok-conclusion.conclusion later m.made in
-    let within = premise_bounded c.in_ok-conclusion.ensures.safe.firsts c.args.from m.item (item_later r1 r2 c.args.from m.item c.in_ok-conclusion.ensures.goes m.item_at) in
-    omega (arith, shorter, within)
+    let (item, at, same) = c.clause_of.ensures in
+    let one : m.item ≡ item = same_item (at_number (items r2) c.args.from) m.item item (item_later r1 r2 c.args.from m.item c.in_ok-conclusion.ensures.goes m.item_at) at in
+    let long : length m.item.0 ≡ c.len-len.result = ap (λ (x : Item). length x.0) one ∙ ap length same ∙ sym c.len-len.ensures in
+    omega (arith, shorter, long)
 
 pub append_uncovered-requires-clause-premise : goal.append_uncovered-requires-clause-premise
 append_uncovered-requires-clause-premise g c =
@@ -112,15 +112,16 @@ returns-clause-running g c = λ may bot cs budget v h.
     let later : IsUnified r1.entries.bank r1.bindings.entries =
     subst (IsUnified r1.entries.bank) (sym c.in_ok-size.ensures.bindings) (unified_stays run.entries.bank r1.entries.bank run.bindings.entries c.in_ok-size.ensures.goes.bank c.requires.unified) in
     let (n, p) = may_read r1 r2 c.args.side c.args.from c.args.partner c.in_ok-conclusion.ensures.reads c.in_ok-conclusion.ensures.bindings later.bindings c.in_ok-size.ensures.safe.entries m in
-    running_inferred S.atoms S.added r2 c.append_uncovered.new.run c.args.side c.args.from c.args.partner c.in_ok-size.size c.place_of-place.result c.place_of-other.result c.len-len.result c.in_ok-conclusion.conclusion entry n
-    c.in_ok-conclusion.ensures.safe.entries c.in_ok-conclusion.ensures.whole.ids
-    (subst (λ (o : Origin). AppendsUncovered r2 c.append_uncovered.new.run c.in_ok-conclusion.conclusion o c.len-len.result c.in_ok-size.size) c.in_ok-origin.ensures c.in_ok-append_uncovered.ensures.step) c.in_ok-append_uncovered.ensures.linked
-    (made_concluded r1 r2 c.args.side c.args.from c.args.partner c.in_ok-conclusion.conclusion m c.in_ok-conclusion.ensures.made ∙ ap canonical_form (sym p)) here
+    running_inferred S.atoms S.added r2 c.append_uncovered.new.run c.args.side c.args.from c.args.partner c.in_ok-size.size c.len-len.result
+    (record { from = c.args.from; place = c.place_of-place.result; partner = c.args.partner; other = c.place_of-other.result }) c.in_ok-conclusion.conclusion entry n
+    c.in_ok-conclusion.ensures.safe.entries c.in_ok-conclusion.ensures.whole.ids c.in_ok-append_uncovered.ensures.linked
+    (made_concluded r1 r2 c.args.side c.args.from c.args.partner c.in_ok-conclusion.conclusion m c.in_ok-conclusion.ensures.made ∙ ap canonical_form (sym p)) refl refl here
     (ap length same ∙ sym c.len-len.ensures) c.place_of-place.ensures c.place_of-other.ensures
     (λ k e.
     let (item, at, sized) = c.in_ok-size.ensures.size k (sym c.in_ok-conclusion.ensures.left ∙ e) in
     size_concluded r1 c.args.side c.args.from c.args.partner c.in_ok-size.size m item at sized ∙ ap (λ (x : TreeClause). min (clause_size (canonical_form x)) (2 ^ 64 - 1)) (sym p))
     (λ k e. fits_some r1.left c.in_ok-size.size k (c.fits.ensures.yes (search rules)) (sym c.in_ok-conclusion.ensures.left ∙ e))
+    c.in_ok-append_uncovered.ensures.step
     bot cs budget v
     (running_read S.atoms S.added r1 r2 c.in_ok-conclusion.ensures.reads c.in_ok-size.ensures.safe.entries bot cs budget v
     (running_read S.atoms S.added run r1 c.in_ok-size.ensures.reads c.requires.safe.entries bot cs budget v h))

@@ -1,4 +1,4 @@
-use Rattle.std.proofs.Common.{◌≤◌, sym, subst, List}
+use Rattle.std.proofs.Common.{◌≤◌, suc, sym, subst, List}
 use Rattle.std.proofs.lemmas.Result.{on_ok_weaker}
 use Rattle.inst_calculus.specs.Axioms.{with_axioms}
 use Rattle.inst_calculus.proofs.EqualityAxioms.{with_axioms_formed}
@@ -37,11 +37,11 @@ returns-in-Some-clause-appended g c =
     let run = c.cycle.new.run in
     let clauses = c.args.p.now.clauses in
     on_ok_weaker c.refuted.result
-    (λ e f. subst (λ (js : List Event). appended_count js ≤ c.args.budget) (sym e) (appended_within g.S.Solver.atoms g.S.Solver.added run clauses c.args.budget c.in_ok-derivation.ensures.running f)) c.refuted.ensures.journal
+    (λ e f. subst (λ (js : List Event). appended_count js ≤ suc c.args.budget) (sym e) (appended_within g.S.Solver.atoms g.S.Solver.added run clauses c.args.budget c.in_ok-derivation.ensures.running f)) c.refuted.ensures.journal
 
 pub returns-clause-appended : goal.returns-clause-appended
 returns-clause-appended g c =
     let run = c.cycle.new.run in
     let clauses = c.args.p.now.clauses in
     on_ok_weaker c.finish.result
-    (λ e f. subst (λ (js : List Event). appended_count js ≤ c.args.budget) (sym e) (appended_within g.S.Solver.atoms g.S.Solver.added run clauses c.args.budget c.in_ok-derivation.ensures.running f)) c.finish.ensures.journal
+    (λ e f. subst (λ (js : List Event). appended_count js ≤ suc c.args.budget) (sym e) (appended_within g.S.Solver.atoms g.S.Solver.added run clauses c.args.budget c.in_ok-derivation.ensures.running f)) c.finish.ensures.journal

@@ -1,10 +1,18 @@
-use Rattle.std.proofs.Common.{◌≡◌, ◌∙◌, sym, map}
-use Rattle.term_bank.specs.Forest.{tree_at}
+use Rattle.std.proofs.lemmas.Result.{IfOk-weaker}
+use Rattle.global_subs.specs.Unrolls.{how_at}
 use Rattle.instgen_loop.specs.Clauses.{entries_in}
-use Rattle.instgen_loop.proofs.RecordLaws.{told_by}
+use Rattle.instgen_loop.proofs.RecordLaws.{told_part, told_whole}
 use Rattle.instgen_loop.proofs.records.how_of.Goals as goal
 
-pub returns-in_ok-terms-in-Inst-clause-told : goal.returns-in_ok-terms-in-Inst-clause-told
-returns-in_ok-terms-in-Inst-clause-told c = λ bot clause.
-    told_by bot (entries_in c.args.bank.now c.args.clauses.now.entries) c.args.origin c.in-Inst.from c.in-Inst.place c.in-Inst.partner c.in-Inst.other clause
-    (map (tree_at c.terms_of.new.bank) c.in_ok-terms-in-Inst.terms) (sym c.origin.ensures.origin ∙ c.in-Inst.is) (λ k. c.in_ok-terms-in-Inst.ensures.terms clause k)
+pub returns-in-Inst-clause-told : goal.returns-in-Inst-clause-told
+returns-in-Inst-clause-told c =
+    let es = entries_in c.args.bank.now c.args.clauses.now.entries in
+    IfOk-weaker c.how_whole.result _ _ (λ h k bot e clause.
+    told_whole bot es c.args.origin c.in-Inst.from c.in-Inst.place c.in-Inst.partner c.in-Inst.other clause (how_at c.how_whole.new.bank h) c.in-Inst.is (λ x. k clause x)) c.how_whole.ensures.told
+
+pub returns-in-Lemma-clause-told : goal.returns-in-Lemma-clause-told
+returns-in-Lemma-clause-told c =
+    let es = entries_in c.args.bank.now c.args.clauses.now.entries in
+    IfOk-weaker c.how_part.result _ _ (λ h k bot e clause.
+    told_part bot es c.args.origin c.in-Lemma.from c.in-Lemma.place c.in-Lemma.partner c.in-Lemma.other c.in-Lemma.keep c.in-Lemma.premises clause (how_at c.how_part.new.bank h) c.in-Lemma.is (λ x. k bot e clause x))
+    c.how_part.ensures.told

@@ -1,13 +1,15 @@
-use Rattle.std.proofs.Common.{◌≡◌, ◌∙◌, ◌+◌, ℕ, suc, List, [], ◌∷◌, ◌++◌, ap, ap₂, sym, subst, map, take, length, Some, arith}
+use Rattle.std.proofs.Common.{◌≡◌, ◌∙◌, ℕ, List, [], ◌∷◌, ◌++◌, ap, sym, subst, map, take, length, Some, arith}
 use Rattle.std.proofs.lemmas.List.{length-take}
-use Rattle.inst_logic.specs.declared.signed.Signed.{Signed}
 use Rattle.inst_logic.specs.Derivations.{at_number}
-use Rattle.inst_calculus.proofs.Distinct.{length_map, map_append}
+use Rattle.inst_logic.specs.Tree.{app, none}
+use Rattle.inst_logic.specs.WellFormed.{IsTerm}
+use Rattle.term_bank.specs.Forest.{tree_at}
+use Rattle.global_subs.specs.Terms.{IsTermIn}
+use Rattle.inst_calculus.proofs.Distinct.{length_map}
 use Rattle.term_bank.proofs.Growth.{extends_trans}
 use Rattle.global_subs.specs.declared.made.Made.{Made}
 use Rattle.instgen_loop.specs.Clauses.{Item}
 use Rattle.instgen_loop.specs.Records.{IsRecord}
-use Rattle.instgen_loop.proofs.Decisions.{take_next}
 use Rattle.instgen_loop.proofs.Grown.{entries_kept}
 use Rattle.instgen_loop.proofs.RecordLaws.{concluded_extends, one_more_record, clauses_so_far}
 use Rattle.instgen_loop.proofs.records.records_with.Goals as goal
@@ -28,12 +30,20 @@ loop-i-preserved c =
     let m = c.in_ok-record.record in
     let kept = entries_kept f g c.loop-i.invariant.extends c.loop-i.invariant.formed es c.requires.entries in
     let k = c.in_ok-record.ensures in
+    let (item, item_at, clause) = k.made in
     let count : length made ≡ c.loop-i.i = sym (length_map (λ (x : Made). x.clause) made) ∙ ap length c.loop-i.invariant.clauses ∙ length_map (λ (e : Item). e.0) (take c.loop-i.i es) ∙ omega (arith, length-take c.loop-i.i es) in
     let items : c.push.new.self.items ≡ made ++ m ∷ [] = c.in_ok-push.ensures.items in
     record {
       extends = extends_trans f g h c.loop-i.invariant.extends k.extends;
       formed = k.formed;
-      clauses = ap (map (λ (x : Made). x.clause)) items ∙ clauses_so_far es made c.loop-i.i m k.record.item c.loop-i.invariant.clauses k.record.item_at k.record.clause;
-      each = subst (λ (xs : List Made). (n : ℕ) (x : Made) → at_number xs n ≡ Some x → IsRecord h es n x) (sym items)
-          (one_more_record g h es made c.loop-i.i m k.extends kept count c.loop-i.invariant.each k.record);
+      clauses = ap (map (λ (x : Made). x.clause)) items ∙ clauses_so_far es made c.loop-i.i m item c.loop-i.invariant.clauses item_at clause;
+      constant = k.constant ∙ c.loop-i.invariant.constant;
+      term =
+          let (within, term) = c.loop-i.invariant.term in
+          subst (IsTermIn h) (sym k.constant) (let l = k.extends.trees.0 in omega arith, subst IsTerm (sym (k.extends.trees.1 c.loop-i.room.constant within)) term);
+      each = λ bot e.
+          let now : tree_at g c.loop-i.room.constant ≡ app bot none =
+          ap (tree_at g) c.loop-i.invariant.constant ∙ c.loop-i.invariant.extends.trees.1 c.args.room.now.constant c.requires.constant.0 ∙ e in
+          subst (λ (xs : List Made). (n : ℕ) (x : Made) → at_number xs n ≡ Some x → IsRecord bot h es n x) (sym items)
+          (one_more_record bot g h es made c.loop-i.i m k.extends kept count (c.loop-i.invariant.each bot e) (k.record bot now));
     }

@@ -1,6 +1,9 @@
 use Rattle.std.proofs.Common.{◌≡◌, ℕ, map, take, Some}
 use Rattle.inst_logic.specs.Derivations.{at_number}
-use Rattle.term_bank.specs.Forest.{AreFormed, Extends}
+use Rattle.inst_logic.specs.declared.symbol.Sym.{Sym}
+use Rattle.inst_logic.specs.Tree.{app, none}
+use Rattle.term_bank.specs.Forest.{AreFormed, Extends, tree_at}
+use Rattle.global_subs.specs.Terms.{IsTermIn}
 use Rattle.global_subs.specs.declared.made.Made.{Made}
 use Rattle.instgen_loop.specs.Clauses.{Item}
 use Rattle.instgen_loop.specs.Records.{IsRecord}
@@ -11,5 +14,7 @@ invariant-loop-i l = record {
   extends : Extends l.fn.bank l.bank;
   formed : AreFormed l.bank;
   clauses : map (λ (m : Made). m.clause) l.made.items ≡ map (λ (e : Item). e.0) (take l.i l.clauses.entries);
-  each : (n : ℕ) (m : Made) → at_number l.made.items n ≡ Some m → IsRecord l.bank l.clauses.entries n m;
+  constant : l.room.constant ≡ l.fn.room.constant;
+  term : IsTermIn l.bank l.room.constant;
+  each : (bot : Sym) → tree_at l.fn.bank l.fn.room.constant ≡ app bot none → (n : ℕ) (m : Made) → at_number l.made.items n ≡ Some m → IsRecord bot l.bank l.clauses.entries n m;
 }

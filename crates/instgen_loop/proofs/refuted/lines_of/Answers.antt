@@ -1,15 +1,12 @@
-use Rattle.std.proofs.Common.{◌≡◌, sym, ap, ◌∙◌, subst, List, All, length}
-use Rattle.std.specs.Prelude.{IsTrue}
+use Rattle.std.proofs.Common.{◌≡◌, sym, ap, ◌∙◌, subst, All, length}
 use Rattle.inst_logic.specs.declared.symbol.Sym.{Sym}
 use Rattle.inst_logic.specs.WellFormed.{IsTerm}
 use Rattle.inst_calculus.specs.Unrolling.{AreMade, Grounded, all_unrolled, each_once}
 use Rattle.inst_calculus.proofs.GroundConstants.{bot_is_unique}
-use Rattle.term_bank.proofs.Growth.{extends_trans}
 use Rattle.global_subs.specs.Unrolls.{entries_at}
 use Rattle.engine_laws.specs.GroundLines.{ground_lines}
-use Rattle.saturation_cert.specs.declared.certificate.GroundLine.{GroundLine}
-use Rattle.saturation_cert.specs.Values.{line_of}
 use Rattle.instgen_loop.specs.Lines.{given_trees}
+use Rattle.instgen_loop.specs.Records.{AreRecordsOf}
 use Rattle.instgen_loop.proofs.Refuting.{concluded, has_clauses, item_terms, lines_are, refuted_later, right, term_ids, unrolled_entries, with_bank}
 use Rattle.instgen_loop.proofs.refuted.lines_of.Goals as goal
 
@@ -25,7 +22,8 @@ ground_lines-requires-clause-given c =
     let g = c.records_of.new.bank in
     let h = refuted_later clauses names r journal g c.in_ok-made.ensures.extends c.in_ok-made.ensures.formed c.requires.refuted in
     let made = c.in_ok-made.made in
-    let k = c.in_ok-made.ensures.records in
+    let same : r.abstraction.bot ≡ c.in_ok-bot.bot = bot_is_unique clauses r.abstraction.bot c.in_ok-bot.bot c.requires.refuted.bot c.in_ok-bot.ensures.bot in
+    let k = subst (λ (b : Sym). AreRecordsOf b g r.remains.clauses.entries made) (sym same) c.in_ok-made.ensures.records in
     has_clauses clauses names (with_bank r g) journal h
 
 pub ground_lines-requires-clause-entries : goal.ground_lines-requires-clause-entries
@@ -37,7 +35,8 @@ ground_lines-requires-clause-entries c =
     let g = c.records_of.new.bank in
     let h = refuted_later clauses names r journal g c.in_ok-made.ensures.extends c.in_ok-made.ensures.formed c.requires.refuted in
     let made = c.in_ok-made.made in
-    let k = c.in_ok-made.ensures.records in
+    let same : r.abstraction.bot ≡ c.in_ok-bot.bot = bot_is_unique clauses r.abstraction.bot c.in_ok-bot.bot c.requires.refuted.bot c.in_ok-bot.ensures.bot in
+    let k = subst (λ (b : Sym). AreRecordsOf b g r.remains.clauses.entries made) (sym same) c.in_ok-made.ensures.records in
     unrolled_entries clauses names (with_bank r g) journal h made k
 
 pub ground_lines-requires-clause-made : goal.ground_lines-requires-clause-made
@@ -49,8 +48,8 @@ ground_lines-requires-clause-made c =
     let g = c.records_of.new.bank in
     let h = refuted_later clauses names r journal g c.in_ok-made.ensures.extends c.in_ok-made.ensures.formed c.requires.refuted in
     let made = c.in_ok-made.made in
-    let k = c.in_ok-made.ensures.records in
     let same : r.abstraction.bot ≡ c.in_ok-bot.bot = bot_is_unique clauses r.abstraction.bot c.in_ok-bot.bot c.requires.refuted.bot c.in_ok-bot.ensures.bot in
+    let k = subst (λ (b : Sym). AreRecordsOf b g r.remains.clauses.entries made) (sym same) c.in_ok-made.ensures.records in
     subst (λ (b : Sym). AreMade b (given_trees g r.remains.given) (entries_at g made)) same (right clauses names (with_bank r g) journal h made k)
 
 pub ground_lines-requires-clause-terms : goal.ground_lines-requires-clause-terms
@@ -62,7 +61,8 @@ ground_lines-requires-clause-terms c =
     let g = c.records_of.new.bank in
     let h = refuted_later clauses names r journal g c.in_ok-made.ensures.extends c.in_ok-made.ensures.formed c.requires.refuted in
     let made = c.in_ok-made.made in
-    let k = c.in_ok-made.ensures.records in
+    let same : r.abstraction.bot ≡ c.in_ok-bot.bot = bot_is_unique clauses r.abstraction.bot c.in_ok-bot.bot c.requires.refuted.bot c.in_ok-bot.ensures.bot in
+    let k = subst (λ (b : Sym). AreRecordsOf b g r.remains.clauses.entries made) (sym same) c.in_ok-made.ensures.records in
     term_ids clauses names (with_bank r g) journal h made k
 
 pub ground_lines-requires-clause-items : goal.ground_lines-requires-clause-items
@@ -74,8 +74,8 @@ ground_lines-requires-clause-items c =
     let g = c.records_of.new.bank in
     let h = refuted_later clauses names r journal g c.in_ok-made.ensures.extends c.in_ok-made.ensures.formed c.requires.refuted in
     let made = c.in_ok-made.made in
-    let k = c.in_ok-made.ensures.records in
     let same : r.abstraction.bot ≡ c.in_ok-bot.bot = bot_is_unique clauses r.abstraction.bot c.in_ok-bot.bot c.requires.refuted.bot c.in_ok-bot.ensures.bot in
+    let k = subst (λ (b : Sym). AreRecordsOf b g r.remains.clauses.entries made) (sym same) c.in_ok-made.ensures.records in
     subst (λ (b : Sym). All (λ (x : Grounded). All IsTerm x.terms) (each_once (all_unrolled b (entries_at g made) (length made)))) same (item_terms clauses names (with_bank r g) journal h made k)
 
 pub returns-clause-refuted : goal.returns-clause-refuted
@@ -87,7 +87,8 @@ returns-clause-refuted c =
     let g = c.records_of.new.bank in
     let h = refuted_later clauses names r journal g c.in_ok-made.ensures.extends c.in_ok-made.ensures.formed c.requires.refuted in
     let made = c.in_ok-made.made in
-    let k = c.in_ok-made.ensures.records in
+    let same : r.abstraction.bot ≡ c.in_ok-bot.bot = bot_is_unique clauses r.abstraction.bot c.in_ok-bot.bot c.requires.refuted.bot c.in_ok-bot.ensures.bot in
+    let k = subst (λ (b : Sym). AreRecordsOf b g r.remains.clauses.entries made) (sym same) c.in_ok-made.ensures.records in
     let last = c.in_ok-lines.ensures in
     refuted_later clauses names (with_bank r g) journal c.ground_lines.new.bank last.extends (last.formed h.entries.formed) h
 
@@ -100,8 +101,8 @@ returns-clause-lines c =
     let g = c.records_of.new.bank in
     let h = refuted_later clauses names r journal g c.in_ok-made.ensures.extends c.in_ok-made.ensures.formed c.requires.refuted in
     let made = c.in_ok-made.made in
-    let k = c.in_ok-made.ensures.records in
     let same : r.abstraction.bot ≡ c.in_ok-bot.bot = bot_is_unique clauses r.abstraction.bot c.in_ok-bot.bot c.requires.refuted.bot c.in_ok-bot.ensures.bot in
+    let k = subst (λ (b : Sym). AreRecordsOf b g r.remains.clauses.entries made) (sym same) c.in_ok-made.ensures.records in
     let last = c.in_ok-lines.ensures in
     lines_are clauses names (with_bank r g) journal h made k c.ground_lines.new.bank last.extends c.in_ok-lines.lines
     (last.lines ∙ ap (λ (b : Sym). ground_lines b (given_trees g r.remains.given) (entries_at g made)) (sym same)) last.ids

@@ -1,22 +1,42 @@
 use Rattle.std.proofs.Common.{sym, subst}
-use Rattle.prop_logic.specs.Literal.{AllAtomsBelow}
-use Rattle.inst_calculus.proofs.Distinct.{length_map}
-use Rattle.term_bank.specs.Forest.{tree_at}
 use Rattle.instgen_loop.specs.Refuting.{AreHintsWithin}
+use Rattle.instgen_loop.proofs.DerivedLaws.{carried, refuted_lines}
+use Rattle.instgen_loop.proofs.Refuting.{lines_of_later, refuted_later, with_bank}
 use Rattle.instgen_loop.proofs.TreeSteps.{hints_within}
-use Rattle.instgen_loop.proofs.Refutations.{have_lines}
 use Rattle.instgen_loop.proofs.refuted.shown_of.Goals as goal
 
-pub line_numbers-requires-clause-below : goal.line_numbers-requires-clause-below
-line_numbers-requires-clause-below c =
-    let r = c.lines_of.new.run in
-    subst (λ n. AllAtomsBelow n r.literals) (length_map (tree_at r.remains.bank) r.abstraction.ids) c.in_ok-grounds.ensures.refuted.same.below
+pub derive-requires-clause-refuted : goal.derive-requires-clause-refuted
+derive-requires-clause-refuted g c =
+    refuted_lines c.args.p.now.clauses c.args.p.now.names c.lines_of.new.run c.args.log.now c.in_ok-grounds.ensures.refuted c.in_ok-grounds.grounds c.in_ok-grounds.ensures.lines
 
-pub line_numbers-requires-clause-lines : goal.line_numbers-requires-clause-lines
-line_numbers-requires-clause-lines c =
-    have_lines c.args.p.now.clauses c.args.p.now.names c.lines_of.new.run c.args.log.now c.in_ok-grounds.ensures.refuted c.distinct.ensures c.in_ok-grounds.grounds c.in_ok-grounds.ensures.lines
+pub derive-requires-clause-carried : goal.derive-requires-clause-carried
+derive-requires-clause-carried g c =
+    carried c.args.p.now.clauses c.args.p.now.names c.lines_of.new.run c.args.log.now c.in_ok-grounds.ensures.refuted c.in_ok-grounds.grounds c.in_ok-grounds.ensures.lines
 
 pub ground_steps-requires-clause-within : goal.ground_steps-requires-clause-within
-ground_steps-requires-clause-within c =
+ground_steps-requires-clause-within g c =
+    let r = c.derive.new.run in
+    subst (λ n. AreHintsWithin n r.derivation) (sym c.in_ok-numbers.ensures.count) (hints_within r.literals r.derivation c.in_ok-derive.ensures.derived.refutes.shown)
+
+pub returns : goal.returns
+returns g c =
+    let clauses = c.args.p.now.clauses in
+    let names = c.args.p.now.names in
+    let journal = c.args.log.now in
     let r = c.lines_of.new.run in
-    subst (λ n. AreHintsWithin n r.derivation) (sym c.in_ok-numbers.ensures.count) (hints_within r.literals r.derivation c.in_ok-grounds.ensures.refuted.refutes.shown)
+    let later = c.derive.new.run.remains.bank in
+    let d = c.in_ok-derive.ensures in
+    let h = c.in_ok-grounds.ensures.refuted in
+    record {
+      shown = record {
+        before = with_bank r later;
+        same = sym d.remains;
+        refuted = refuted_later clauses names r journal later d.extends d.formed h;
+        distinct = d.distinct;
+        lines = lines_of_later clauses names r journal later d.extends h c.in_ok-grounds.grounds c.in_ok-grounds.ensures.lines;
+        derived = d.derived;
+        numbers = c.in_ok-numbers.numbers;
+        numbered = c.in_ok-numbers.ensures;
+        steps = c.in_ok-steps.ensures;
+      };
+    }

@@ -1,4 +1,5 @@
-use Rattle.std.proofs.Common.{◌≡◌, ◌≤◌, ◌+◌, suc, List, ◌++◌, ◌∷◌, [], length, length-append, arith, refl, ap, sym, ◌∙◌, subst, All, Result, Ok, Err, OnOk}
+use Rattle.std.proofs.Common.{◌≡◌, ◌≤◌, ◌+◌, ℕ, suc, map, List, ◌++◌, ◌∷◌, [], length, length-append, arith, refl, ap, sym, ◌∙◌, subst, All, Result, Ok, Err, OnOk}
+use Rattle.inst_logic.specs.declared.signed.Signed.{Signed}
 use Rattle.term_bank.specs.Forest.{Forest, Extends, clause_at}
 use Rattle.ground_abs.specs.Abstracts.{AreAtomsIn, AreNotesIn}
 use Rattle.instgen_select.specs.Queues.{numbers, Waiting}
@@ -53,6 +54,7 @@ returns-clause-safe g c =
           (waiting_pushed (numbers old.queue.items) (length es) (length es + 1) refl c.requires.safe.waiting));
       within = let m : length later.clauses.entries ≡ length es + 1 = ap length pushed ∙ length-append es (item ∷ []) in omega (arith, c.requires.safe.within);
       placed = λ i l. subst (λ (xs : List Item). IsLiteralPlace xs old.selection.places i) (sym pushed) (place_kept es (item ∷ []) old.selection.places i (c.requires.safe.placed i l));
+      known = c.in_ok-entry.ensures.added ∙ ap (λ (cs : List (List (Signed ℕ))). cs ++ c.args.clause ∷ []) c.requires.safe.known ∙ sym (ap (map (λ (e : Item). e.0)) pushed ∙ map_append (λ (e : Item). e.0) es (item ∷ []));
     }) c.push_entry.ensures.firsts c.push_entry.ensures.fits c.push_entry.ensures.bank c.push_entry.ensures.pushed
 
 pub returns-clause-makes : goal.returns-clause-makes

@@ -1,14 +1,17 @@
-use Rattle.std.proofs.Common.{rules, ◌≡◌, ap, ◌∙◌, sym, subst, List, ℕ, Some}
+use Rattle.std.proofs.Common.{refl, ap, ◌∙◌, sym, subst, List, ℕ, All}
 use Rattle.inst_logic.specs.declared.signed.Signed.{Signed}
-use Rattle.inst_logic.specs.Clauses.{IsCanonical}
+use Rattle.inst_logic.specs.Clauses.{canonical_form, instance, IsCanonical}
+use Rattle.inst_logic.specs.WellFormed.{IsAtom, IsFormedClause}
 use Rattle.inst_logic.specs.Derivations.{at_number}
 use Rattle.inst_logic.proofs.ShownLaws.{at_number_contains}
 use Rattle.inst_calculus.proofs.Membership.{contains_in, all_in}
-use Rattle.term_bank.specs.Forest.{IsClauseOf, clause_at}
+use Rattle.term_bank.specs.Forest.{IsClauseOf, clause_at, tree_at}
 use Rattle.clause_form.specs.Conclusions.{AreTermsOf}
 use Rattle.instgen_loop.specs.Clauses.{Item}
-use Rattle.instgen_loop.proofs.RecordLaws.{atom_within, entry_ids, first_within, second_within, first_place, second_place, has_unifier, one_kind, terms_are}
-use Rattle.instgen_loop.proofs.records.terms_of.Goals as goal
+use Rattle.instgen_loop.proofs.FirstEntries.{whole_at}
+use Rattle.instgen_loop.proofs.Inferred.{from_clause_at}
+use Rattle.instgen_loop.proofs.RecordLaws.{atom_within, clause_concluded, entry_ids, has_unifier, one_kind, terms_are}
+use Rattle.instgen_loop.proofs.records.conclusion_at.Goals as goal
 
 pub unify-requires-clause-left : goal.unify-requires-clause-left
 unify-requires-clause-left c =
@@ -77,3 +80,34 @@ returns-clause-terms c = λ clause k.
     terms_are f es c.args.at.from c.args.at.place c.args.at.partner c.args.at.other clause k first second c.literal_at-a.result c.literal_at-b.result first_at second_at a_at b_at g s ids
     (all_in (λ (x : Item). IsCanonical (clause_at f x.0)) es c.requires.entries.canonical first (contains_in first es (at_number_contains es c.args.at.from first first_at))) most
     (subst (λ (x : List (Signed ℕ)). AreTermsOf g s.left (clause_at f x) ids) (sym first_is) made.terms)
+
+pub returns-clause-whole : goal.returns-clause-whole
+returns-clause-whole c =
+    let f = c.args.bank.now in
+    let es = c.args.clauses.now.entries in
+    let (first, first_at, first_is) = c.clause_of-first.ensures in
+    let (second, second_at, second_is) = c.clause_of-second.ensures in
+    let a_at = ap (λ (x : List (Signed ℕ)). at_number x c.args.at.place) (first_is ∙ sym c.as_slice.ensures) ∙ c.literal_at-a.ensures in
+    let b_at = ap (λ (x : List (Signed ℕ)). at_number x c.args.at.other) (second_is ∙ sym c.as_slice-2.ensures) ∙ c.literal_at-b.ensures in
+    let kind = one_kind f es c.requires.entries c.args.at.from c.args.at.place c.args.at.partner c.args.at.other first second c.literal_at-a.result c.literal_at-b.result first_at second_at a_at b_at in
+    let terms = c.in_ok-unify.ensures.terms c.if-not-branch.false kind in
+    let atoms = all_in (λ (x : Item). All (λ l. IsAtom (tree_at f l.atom)) x.0) es c.requires.entries.atoms first (contains_in first es (at_number_contains es c.args.at.from first first_at)) in
+    let formed : IsFormedClause (clause_at f c.clause_of-first.result.now) = from_clause_at f c.clause_of-first.result.now (subst (λ (x : List (Signed ℕ)). All (λ l. IsAtom (tree_at f l.atom)) x) first_is atoms) in
+    let d = c.in_ok-conclusion.conclusion.clause in
+    let g = c.conclude.new.bank in
+    whole_at g d (clause_at g d) (c.in_ok-conclusion.ensures.ids, refl) (c.in_ok-conclusion.ensures.atoms terms formed)
+
+pub returns-clause-clause : goal.returns-clause-clause
+returns-clause-clause c = λ clause k.
+    let f = c.args.bank.now in
+    let es = c.args.clauses.now.entries in
+    let (first, first_at, first_is) = c.clause_of-first.ensures in
+    let (second, second_at, second_is) = c.clause_of-second.ensures in
+    let a_at = ap (λ (x : List (Signed ℕ)). at_number x c.args.at.place) (first_is ∙ sym c.as_slice.ensures) ∙ c.literal_at-a.ensures in
+    let b_at = ap (λ (x : List (Signed ℕ)). at_number x c.args.at.other) (second_is ∙ sym c.as_slice-2.ensures) ∙ c.literal_at-b.ensures in
+    let (s, resolved, most) = c.in_ok-unify.ensures.yes c.if-not-branch.false in
+    let made = c.in_ok-conclusion.ensures.conclusion s resolved in
+    let g = c.conclude.new.bank in
+    let d = c.in_ok-conclusion.conclusion.clause in
+    clause_concluded f es c.args.at.from c.args.at.place c.args.at.partner c.args.at.other clause k first second c.literal_at-a.result c.literal_at-b.result first_at second_at a_at b_at g s d most
+    (made.clause.1 ∙ ap (λ (x : List (Signed ℕ)). canonical_form (instance s.left (clause_at f x))) (sym first_is))
