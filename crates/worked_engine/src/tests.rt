@@ -19,10 +19,10 @@ const PART: &str =
 
 const REFUTED_PART: &str = "
 cnf(a,axiom,~p(a)). cnf(b,axiom,r|q(a)). cnf(c,axiom,~r|q(a)).
-cnf(d,axiom,~q(Y)|s(Y)). cnf(e,axiom,~s(a)). cnf(f,axiom,q(X)|p(X)).
+cnf(d,axiom,~q(Y)|s). cnf(e,axiom,~s). cnf(f,axiom,q(X)|p(X)).
 ";
 
-const EMPTY_PART: &str = "cnf(a,axiom,~p(f(c))). cnf(b,axiom,~p(f(d))). cnf(c,axiom,p(f(X))).";
+const EMPTY_PART: &str = "cnf(a,axiom,~p(c)). cnf(b,axiom,~p(d)). cnf(c,axiom,p(X)).";
 
 const MANSION: &str = "
 cnf(lives_a,axiom,lives(agatha)). cnf(lives_b,axiom,lives(butler)). cnf(lives_c,axiom,lives(charles)).
@@ -192,19 +192,19 @@ fn rows() -> [Row<'static>; 17] {
             REFUTED_PART,
             BUDGET,
             Some(8),
-            "cnf(m7,plain,q(a)). cnf(m8,plain,~q(a)|s(a)).",
+            "cnf(m7,plain,q(a)). cnf(m8,plain,~q(a)|s).",
             (
-                "cnf(g,plain,q(bot_0)|p(bot_0)). cnf(g,plain,~q(bot_0)|s(bot_0)). cnf(g,plain,~q(a)|s(a)).",
+                "cnf(g,plain,q(bot_0)|p(bot_0)). cnf(g,plain,~q(bot_0)|s). cnf(g,plain,~q(a)|s).",
                 Some(&[1, 2, 3, 4, 5, 6, 4]),
             ),
         ),
-        // Two entries exclude each other when the second conclusion comes, so its empty part is appended, beyond any budget.
+        // Two entries exclude each other when the second conclusion comes, so its empty part is appended.
         refuted(
             EMPTY_PART,
-            3,
+            BUDGET,
             Some(5),
-            "cnf(m4,plain,p(f(c))). cnf(m5,plain,$false).",
-            ("cnf(g,plain,p(f(c))).", Some(&[1, 2, 3, 3])),
+            "cnf(m5,plain,$false).",
+            ("cnf(g,plain,p(bot_0)).", Some(&[1, 2, 3, 3])),
         ),
     ]
 }
