@@ -8,7 +8,7 @@ ghost use Rattle.instgen_loop.specs.Clauses.{AreEntries, AreFirsts, IsEntry, IsU
 ghost use Rattle.saturation_cert.specs.declared.member.Origin.{Origin};
 
 use crate::origin::PackedOrigin;
-use clause_form::{subsumes, tautology};
+use clause_form::{long_tautology, subsumes};
 use indexmap::IndexMap;
 use inst_logic::Memory;
 use std::alloc::Global;
@@ -294,7 +294,7 @@ pub fn is_covered<I: PartnerIndex>(
     if entries.has_empty {
         return Ok(true);
     }
-    if tautology(d) {
+    if long_tautology(alloc, d)? {
         return Ok(true);
     }
     if entries.clauses.contains_key(d) {

@@ -21,7 +21,7 @@ use crate::ground::Ground;
 use crate::origin::PackedOrigin;
 use crate::selection::Selection;
 use crate::state::{Run, make_entry};
-use clause_form::tautology;
+use clause_form::long_tautology;
 use compact_lists::{FlatClauses, FlatLists};
 use equality_axioms::axioms_of;
 use global_subs::Known;
@@ -155,6 +155,7 @@ fn next_number(k: usize) -> Result<usize, Memory>
 
 // Clause `k` becomes an entry, where it is no tautology and no variant of an entry.
 fn start_entry<S: Solver, I: PartnerIndex>(
+    alloc: Global,
     run: &mut Run<S, I>,
     clause: IdClause,
     k: usize,
@@ -170,7 +171,7 @@ fn start_entry<S: Solver, I: PartnerIndex>(
 {
     // So a variant has an equal key.
     run.entries.bank.distinct();
-    if tautology(&clause) {
+    if long_tautology(alloc, &clause)? {
         return Ok(());
     }
     if run.entries.clauses.contains_key(&clause) {
@@ -201,7 +202,7 @@ fn start_entries<S: Solver, I: PartnerIndex>(
     for i in 0..clauses.len() {
         k = next_number(k)?;
         let clause = copied_clause(alloc, literals_after(clauses, i))?;
-        start_entry(run, clause, k)?;
+        start_entry(alloc, run, clause, k)?;
     }
     Ok(())
 }

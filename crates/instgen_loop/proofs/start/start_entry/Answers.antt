@@ -1,4 +1,4 @@
-use Rattle.std.proofs.Common.{◌≡◌, inl, inr, subst, true, false, nat_eq}
+use Rattle.std.proofs.Common.{◌≡◌, ◌∙◌, inl, inr, sym, subst, true, false, nat_eq}
 use Rattle.std.proofs.lemmas.Bool.Decides.{Decides-eqb}
 use Rattle.inst_logic.specs.EqualLaws.{signed_eq_decides}
 use Rattle.term_bank.specs.Forest.{clause_at}
@@ -7,10 +7,10 @@ use Rattle.instgen_loop.proofs.Covers.{has_key}
 use Rattle.instgen_loop.proofs.FirstEntries.{known_clause, new_clause, passes_over, takes}
 use Rattle.instgen_loop.proofs.start.start_entry.Goals as goal
 
-pub returns-then-tautology-clause-started : goal.returns-then-tautology-clause-started
-returns-then-tautology-clause-started g c = λ cs n h.
+pub returns-then-branch-clause-started : goal.returns-then-branch-clause-started
+returns-then-branch-clause-started g c = λ cs n h.
     let f = c.args.run.now.entries.bank in
-    passes_over g.S.Solver.atoms g.S.Solver.added c.args.run.now cs (clause_at f c.args.clause) (inl ((c.tautology.ensures.trees f c.distinct.ensures c.requires.whole.ids).0 c.if-tautology.true)) h
+    passes_over g.S.Solver.atoms g.S.Solver.added c.args.run.now cs (clause_at f c.args.clause) (inl ((c.in_ok-long_tautology.ensures.trees f c.distinct.ensures c.requires.whole.ids).0 c.if-branch.true)) h
 
 pub returns-then-contains_key-clause-started : goal.returns-then-contains_key-clause-started
 returns-then-contains_key-clause-started g c = λ cs n h.
@@ -30,6 +30,6 @@ returns-clause-started g c = λ cs n h.
     let f = run.entries.bank in
     let d = c.args.clause in
     takes g.S.Solver.atoms g.S.Solver.added run c.make_entry.new.run d c.args.k cs (subst (MakesEntry run c.make_entry.new.run d) c.in_ok-origin.ensures c.in_ok-make_entry.ensures.makes) c.in_ok-make_entry.ensures.linked c.requires.safe.entries c.requires.whole.ids c.requires.canonical
-    (λ t. let u : c.tautology.result ≡ true = (c.tautology.ensures.trees f c.distinct.ensures c.requires.whole.ids).1 t in let w : c.tautology.result ≡ false = c.if-tautology.false in cc)
+    (λ t. let e : false ≡ true = sym c.if-branch.false ∙ (c.in_ok-long_tautology.ensures.trees f c.distinct.ensures c.requires.whole.ids).1 t in cc)
     (new_clause f run.entries.clauses.entries d c.distinct.ensures c.requires.safe.entries c.requires.whole.ids c.requires.canonical
     ((has_key _ (signed_eq_decides nat_eq Decides-eqb) run.entries.clauses.entries d c.contains_key.result c.contains_key.ensures).1 c.if-contains_key.false)) n h
