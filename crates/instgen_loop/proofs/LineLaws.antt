@@ -5,7 +5,7 @@ use Rattle.std.proofs.lemmas.Bool.Decides.{Decides-eqb}
 use Rattle.std.proofs.lemmas.List.{get_or-map}
 use Rattle.inst_logic.specs.declared.signed.Signed.{Signed}
 use Rattle.inst_logic.specs.declared.symbol.Sym.{Sym}
-use Rattle.inst_logic.specs.Tree.{Tree, var, app, none}
+use Rattle.inst_logic.specs.Tree.{var, app, none}
 use Rattle.inst_logic.specs.Clauses.{TreeClause, instance, order_of, IsCanonical}
 use Rattle.inst_logic.specs.Derivations.{at_number}
 use Rattle.inst_logic.specs.Substitution.{clause_vars}
@@ -19,7 +19,7 @@ use Rattle.inst_calculus.proofs.CanonicalForms.{canonical_variable_below}
 use Rattle.inst_calculus.proofs.Clauses.{instance_agree}
 use Rattle.inst_calculus.proofs.Distinct.{length_map, map_append, in_distinct, place, place_below, item_at_place}
 use Rattle.inst_calculus.proofs.Items.{same_item, at_number_within}
-use Rattle.inst_calculus.proofs.Membership.{◌∈◌, contains_in, in_contains, all_in, in_all, in_map, from_map, in_either}
+use Rattle.inst_calculus.proofs.Membership.{◌∈◌, contains_in, all_in, in_all, in_map, in_either}
 use Rattle.inst_calculus.proofs.StepLaws.{at_number_map}
 use Rattle.term_bank.specs.Forest.{Forest, AreFormed, AreIds, Extends, IsClauseOf, IsClauseAt, clause_at, tree_at}
 use Rattle.term_bank.proofs.Clauses.{clause_extends, clause_of_extends, clauses_extend}
@@ -29,7 +29,7 @@ use Rattle.engine_laws.specs.GroundLines.{ground_line, ground_lines}
 use Rattle.global_subs.specs.declared.made.Grounded.{Grounded}
 use Rattle.global_subs.specs.declared.made.Made.{Made}
 use Rattle.global_subs.specs.Unrolls.{AreEntriesOf, entries_at, grounded_at, made_at, terms_of}
-use Rattle.global_subs.proofs.TaskLaws.{entries_same, entries_stay}
+use Rattle.global_subs.proofs.TaskLaws.{entries_same}
 use Rattle.saturation_cert.specs.declared.certificate.GroundLine.{GroundLine}
 use Rattle.saturation_cert.specs.Values.{line_of}
 use Rattle.instgen_loop.specs.declared.start.Given.{Given}

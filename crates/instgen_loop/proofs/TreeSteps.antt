@@ -1,5 +1,5 @@
 -- A derivation over numbered atoms as one over their trees, in which hints name ground lines.
-use Rattle.std.proofs.Common.{◌≡◌, ◌⊎◌, inl, inr, ℕ, zero, suc, ◌-◌, ◌+◌, ◌<◌, ◌≤◌, List, [], ◌∷◌, ◌++◌, refl, sym, ap, ◌∙◌, subst as transport, map, take, length, get_or, arith, nat_eq, Option, Some, None, All}
+use Rattle.std.proofs.Common.{◌≡◌, inl, inr, ℕ, zero, suc, ◌-◌, ◌<◌, ◌≤◌, List, [], ◌∷◌, ◌++◌, refl, sym, ap, ◌∙◌, subst as transport, map, take, length, get_or, arith, nat_eq, Option, Some, None, All}
 use Rattle.std.specs.Prelude.{slice_get, option_map, ◌≢◌}
 use Rattle.std.proofs.lemmas.Bool.Decides.{Decides-eqb}
 use Rattle.std.proofs.lemmas.List.{take-map}
@@ -17,7 +17,7 @@ use Rattle.inst_logic.proofs.SameLemmas.{signed_eq_decides, literal_eq_decides}
 use Rattle.inst_logic.proofs.Numbering.{map_map}
 use Rattle.inst_logic.proofs.Membership.{get_or_in, map_agree}
 use Rattle.inst_calculus.specs.Abstraction.{abstraction, abstract_literals, named_literal}
-use Rattle.inst_calculus.specs.Steps.{Cited, given, earlier, Step, cited_clause, IsShownFrom, EndsEmpty, renamed_literal, renamed_clause, renamed_step, without_repeats, HasAtomsBelow}
+use Rattle.inst_calculus.specs.Steps.{Cited, given, earlier, Step, cited_clause, IsShownFrom, EndsEmpty, renamed_clause, renamed_step, without_repeats, HasAtomsBelow}
 use Rattle.inst_logic.proofs.ShownLaws.{slice_get_contains}
 use Rattle.inst_calculus.proofs.Membership.{◌∈◌, contains_in, in_map, from_map, all_in, in_all}
 use Rattle.inst_calculus.proofs.Distinct.{length_map, distinct_map, from_distinct}
@@ -27,7 +27,7 @@ use Rattle.inst_calculus.proofs.SameLiterals.{shown_without_repeats}
 use Rattle.prop_logic.specs.declared.literal.Hint.{Hint}
 use Rattle.prop_logic.specs.declared.literal.Hint.TheVariants as hint
 use Rattle.prop_logic.specs.declared.literal.Step.{Step as NumberedStep}
-use Rattle.prop_logic.specs.Literal.{cited, AtomsBelow, AllAtomsBelow, StepsBelow, IsShownDerivation}
+use Rattle.prop_logic.specs.Literal.{cited, AtomsBelow, AllAtomsBelow, IsShownDerivation}
 use Rattle.prop_logic.specs.Solving.{Refutes}
 use Rattle.prop_logic.proofs.SearchLaws.{none_inside}
 use Rattle.cert_format.proofs.Numbers.{slice_get_of_map, in_slice_get}

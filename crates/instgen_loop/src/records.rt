@@ -9,11 +9,10 @@ ghost use Rattle.inst_calculus.specs.Conclusions.{IsConclusion, IsPartOfConclusi
 ghost use Rattle.inst_calculus.specs.Parts.{chosen};
 ghost use Rattle.inst_calculus.specs.Unrolling.{conclusion_terms, part_terms, implied_by, instance_of, TellsHow};
 ghost use Rattle.clause_form.specs.Conclusions.{AreTermIds};
-ghost use Rattle.global_subs.specs.Terms.{IsTermIn};
 ghost use Rattle.global_subs.specs.Unrolls.{how_at, terms_of};
 ghost use Rattle.saturation_cert.specs.Values.{origin_of};
 ghost use Rattle.saturation_cert.specs.Wholes.{IsWholeClause};
-ghost use Rattle.term_bank.specs.Forest.{AreFormed, AreIds, Extends, clause_at, tree_at};
+ghost use Rattle.term_bank.specs.Forest.{AreFormed, AreIds, Extends, IsTermIn, clause_at, tree_at};
 ghost use Rattle.instgen_loop.specs.Clauses.{AreEntries, Item, entries_in};
 ghost use Rattle.instgen_loop.specs.Deciding.{IsSomeConclusion, held_value};
 ghost use Rattle.instgen_loop.specs.Records.{AreConcluded, AreRecordsOf, IsConcluded, IsRecord};

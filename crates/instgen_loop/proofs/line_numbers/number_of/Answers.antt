@@ -1,4 +1,4 @@
-use Rattle.std.proofs.Common.{◌≡◌, ◌∙◌, ap, sym, List, ℕ}
+use Rattle.std.proofs.Common.{◌∙◌, ap, sym, List, ℕ}
 use Rattle.std.specs.Map.{lookup}
 use Rattle.inst_logic.specs.declared.signed.Signed.{Signed}
 use Rattle.inst_calculus.proofs.Membership.{contains_in, in_contains}

@@ -1,4 +1,4 @@
-use Rattle.std.proofs.Common.{◌≡◌, ◌∙◌, ◌+◌, ℕ, suc, List, ◌++◌, [], ◌∷◌, inl, inr, ap, sym, subst, length, Some, Contains, arith}
+use Rattle.std.proofs.Common.{◌≡◌, ◌∙◌, ℕ, suc, List, ◌++◌, [], ◌∷◌, inl, inr, ap, sym, length, Some, Contains, arith}
 use Rattle.std.specs.Prelude.{slice_get}
 use Rattle.std.proofs.lemmas.List.{length-append}
 use Rattle.inst_logic.specs.declared.signed.Signed.{Signed}

@@ -3,8 +3,7 @@ use Rattle.std.proofs.lemmas.List.{length-take}
 use Rattle.inst_logic.specs.Derivations.{at_number}
 use Rattle.inst_logic.specs.Tree.{app, none}
 use Rattle.inst_logic.specs.WellFormed.{IsTerm}
-use Rattle.term_bank.specs.Forest.{tree_at}
-use Rattle.global_subs.specs.Terms.{IsTermIn}
+use Rattle.term_bank.specs.Forest.{IsTermIn, tree_at}
 use Rattle.inst_calculus.proofs.Distinct.{length_map}
 use Rattle.term_bank.proofs.Growth.{extends_trans}
 use Rattle.global_subs.specs.declared.made.Made.{Made}

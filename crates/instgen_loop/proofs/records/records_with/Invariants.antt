@@ -2,8 +2,7 @@ use Rattle.std.proofs.Common.{◌≡◌, ℕ, map, take, Some}
 use Rattle.inst_logic.specs.Derivations.{at_number}
 use Rattle.inst_logic.specs.declared.symbol.Sym.{Sym}
 use Rattle.inst_logic.specs.Tree.{app, none}
-use Rattle.term_bank.specs.Forest.{AreFormed, Extends, tree_at}
-use Rattle.global_subs.specs.Terms.{IsTermIn}
+use Rattle.term_bank.specs.Forest.{AreFormed, Extends, IsTermIn, tree_at}
 use Rattle.global_subs.specs.declared.made.Made.{Made}
 use Rattle.instgen_loop.specs.Clauses.{Item}
 use Rattle.instgen_loop.specs.Records.{IsRecord}
