@@ -14,6 +14,7 @@ pub mod VerdictTexts
 pub mod CellLines
 pub mod CoreAnswered
 pub mod CoreParts
+pub mod CoreRests
 pub mod GrownTests
 pub mod LightMembers
 pub mod Marked

@@ -4,6 +4,7 @@ pub mod Applications
 pub mod Causes
 pub mod Chains
 pub mod CoreAnswers
+pub mod CoreCertificates
 pub mod CoreTexts
 pub mod Decisions
 pub mod Formulas

@@ -1,9 +1,10 @@
-// What comes of a run on a problem that is always decided: the text of its certificate, or which clauses its refutation cites. What
-// the run found is let go at once.
+// What comes of a run on a problem that is always decided: the text of its certificate, the certificate itself where it is known
+// of which kind it is, or which clauses its refutation cites.
 ghost use Rattle.std.specs.Prelude.{◌≡◌, IfOk};
 ghost use Rattle.cert_format.specs.Text.{written_text};
 ghost use Rattle.cert_front.specs.Kinds.{covered_value, refutation_value};
-ghost use Rattle.szs_prove.specs.Decisions.{IsDecision, IsVerdict};
+ghost use Rattle.core_min.specs.Cores.{HasRefutation, HasSelection};
+ghost use Rattle.szs_prove.specs.Decisions.{IsDecision, IsShownBy, IsVerdict};
 ghost use Rattle.szs_prove.specs.Proving.{HasCertificate};
 ghost use Rattle.szs_prove.specs.SubProblems.{IsDecidable, IsSettled};
 
@@ -71,4 +72,52 @@ pub fn cited_clauses(alloc: Global, p: &Problem) -> Result<Option<ListOf<bool>>,
 {
     let decision = decide(alloc, p, 0)?;
     marks_of(alloc, p, &decision)
+}
+
+// What was decided of refuted clauses is a refutation.
+fn refutation_in(_p: &Problem, decision: Decision) -> CheckedRefutation
+    requires decision { IsDecision _p.now 0 decision }
+    requires verdict { IsVerdict decision }
+    requires refuted { HasRefutation _p.now.clauses }
+    ensures { IsShownBy _p.now (refutation_value result) }
+{
+    match decision {
+        Decision::Unsatisfiable(cert) => cert,
+        Decision::Satisfiable(_) => unreachable!(),
+        Decision::OutOfBudget { .. } => unreachable!(),
+    }
+}
+
+/// A refutation of the problem, which has one.
+pub fn refutation_of(alloc: Global, p: &Problem) -> Result<CheckedRefutation, Memory>
+    requires decidable { IsDecidable p.now }
+    requires refuted { HasRefutation p.now.clauses }
+    ensures { IfOk result (λ c. IsShownBy p.now (refutation_value c)) }
+{
+    let decision = decide(alloc, p, 0)?;
+    Ok(refutation_in(p, decision))
+}
+
+// What was decided of satisfiable clauses is a saturation.
+fn saturation_in(_p: &Problem, decision: Decision) -> CheckedCovered
+    requires decision { IsDecision _p.now 0 decision }
+    requires verdict { IsVerdict decision }
+    requires satisfiable { HasSelection _p.now.clauses }
+    ensures { IsShownBy _p.now (covered_value result) }
+{
+    match decision {
+        Decision::Unsatisfiable(_) => unreachable!(),
+        Decision::Satisfiable(cert) => cert,
+        Decision::OutOfBudget { .. } => unreachable!(),
+    }
+}
+
+/// A saturation of the problem, which has one.
+pub fn saturation_of(alloc: Global, p: &Problem) -> Result<CheckedCovered, Memory>
+    requires decidable { IsDecidable p.now }
+    requires satisfiable { HasSelection p.now.clauses }
+    ensures { IfOk result (λ c. IsShownBy p.now (covered_value c)) }
+{
+    let decision = decide(alloc, p, 0)?;
+    Ok(saturation_in(p, decision))
 }

@@ -59,7 +59,7 @@ fn load<L: Library>(
 }
 
 // The places of a core.
-fn places_of(alloc: Global, p: &Problem) -> Result<Option<Vec<usize>>, Memory>
+pub(crate) fn places_of(alloc: Global, p: &Problem) -> Result<Option<Vec<usize>>, Memory>
     requires { IsDecidable p.now }
     ensures { IfOk result (λ core. MatchOption core (HasSelection p.now.clauses) (λ places. IsCore p.now.clauses places.items)) }
 {

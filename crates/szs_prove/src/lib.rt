@@ -14,6 +14,7 @@ pub mod chain_laws;
 pub mod chain_problem;
 mod citations;
 mod command;
+mod core_certificates;
 mod core_text;
 mod cores;
 pub mod deciding;
@@ -33,5 +34,6 @@ mod sub_problem;
 mod table_texts;
 
 pub use command::run;
+pub use core_certificates::{CheckedCoveredList, CoreAnswer, core_of};
 pub use exit::Exit;
 pub use saturation_test::tables_of;

@@ -1,13 +1,16 @@
 // Runs on the sub-lists of the clauses of a problem. Each has a solver and indexes of its own.
 ghost use Rattle.std.specs.Prelude.{◌≡◌, ◌<◌, length, remove, IsTrue, IfOk, MatchOption};
-ghost use Rattle.core_min.specs.Cores.{ArePlaces, HasRefutation, HasSelection, clauses_at};
+ghost use Rattle.core_min.specs.Cores.{ArePlaces, HasRefutation, HasSelection, IsNeeded, clauses_at};
 ghost use Rattle.core_min.specs.Verdicts.{IsCited};
+ghost use Rattle.cert_front.specs.Kinds.{covered_value, refutation_value};
+ghost use Rattle.szs_prove.specs.Decisions.{IsShownBy};
 ghost use Rattle.szs_prove.specs.Proving.{HasCertificate};
 ghost use Rattle.szs_prove.specs.SubProblems.{IsDecidable, problem_at};
 
-use crate::certificates::{certificate_of, cited_clauses};
+use crate::certificates::{certificate_of, cited_clauses, refutation_of, saturation_of};
 use crate::marking::marked_places;
 use crate::sub_problem::problem_at;
+use cert_check::{CheckedCovered, CheckedRefutation};
 use core_min::{SubListTest, Verdict};
 use inst_logic::{ByteList, ListOf, Memory, NumberList, Problem};
 use std::alloc::Global;
@@ -83,6 +86,46 @@ impl<'a> SubLists<'a> {
         let mut rest = Vec::from_slice(self.alloc, places)?;
         rest.remove(i);
         self.certificate_at(file, rest.as_slice())
+    }
+
+    /// The saturation of all clauses, which are satisfiable.
+    pub fn saturation(&self) -> Result<CheckedCovered, Memory>
+        requires { HasSelection self.now.clauses }
+        ensures { IfOk result (λ c. IsShownBy self.now (covered_value c)) }
+    {
+        saturation_of(self.alloc, self.problem)
+    }
+
+    /// The refutation of the clauses at these places.
+    pub fn refutation_at(&self, places: &[usize]) -> Result<CheckedRefutation, Memory>
+        requires places { ArePlaces self.now.clauses places.now }
+        requires refuted { HasRefutation (clauses_at self.now.clauses places.now) }
+        ensures { IfOk result (λ c. IsShownBy (problem_at self.now places.now) (refutation_value c)) }
+    {
+        let sub = self.at(places)?;
+        refutation_of(self.alloc, &sub)
+    }
+
+    // The saturation of the clauses at these places.
+    fn saturation_at(&self, places: &[usize]) -> Result<CheckedCovered, Memory>
+        requires places { ArePlaces self.now.clauses places.now }
+        requires satisfiable { HasSelection (clauses_at self.now.clauses places.now) }
+        ensures { IfOk result (λ c. IsShownBy (problem_at self.now places.now) (covered_value c)) }
+    {
+        let sub = self.at(places)?;
+        saturation_of(self.alloc, &sub)
+    }
+
+    /// The saturation of the clauses at all of these places but the one at `i`, counted from 0.
+    pub fn saturation_without(&self, places: &[usize], i: usize) -> Result<CheckedCovered, Memory>
+        requires places { ArePlaces self.now.clauses places.now }
+        requires within { i < length places.now }
+        requires needed { IsNeeded self.now.clauses places.now i }
+        ensures { IfOk result (λ c. IsShownBy (problem_at self.now (remove places.now i)) (covered_value c)) }
+    {
+        let mut rest = Vec::from_slice(self.alloc, places)?;
+        rest.remove(i);
+        self.saturation_at(rest.as_slice())
     }
 
     // For each of the clauses at these places whether their refutation cites it.
