@@ -107,10 +107,10 @@ def own_problems(kind):
 
 
 def in_first_format(text, path):
-    """Writes the same saturation in format 1, which names no covers, and returns whether the text is one of a saturation."""
+    """Writes the same saturation in format 1, which names no covers and has no parts, and returns whether it can be written so."""
     with open(text, "rb") as it:
         lines = it.read().split(b"\n")
-    if not any(line.startswith(b"% SZS output start Saturation") for line in lines[:3]):
+    if any(b",lemma(" in line for line in lines) or not any(line.startswith(b"% SZS output start Saturation") for line in lines[:3]):
         return False
     with open(path, "wb") as out:
         out.write(b"\n".join(line.replace(b"certificate 3", b"certificate 1") for line in lines if not line.startswith((b"cnf(q", b"cnf(c"))))
