@@ -122,6 +122,12 @@ cnf(i2,axiom,q(X0),named(b)).
 % SZS status Unsatisfiable for e.p
 @e.p@cnf(a,axiom,p). cnf(b,axiom,$false).\
 #two equal clauses@|core|e.p@0 % core of e.p: @e.p@cnf(a,axiom,p). cnf(b,axiom,p). cnf(c,axiom,~p).\
+#a core of all clauses@|core|e.p@0 % core of e.p: 1 2 3
+% SZS status Unsatisfiable for e.p
+@e.p@cnf(a,axiom,p(c)). cnf(b,axiom,~p(X)|q(X)). cnf(c,axiom,~q(c)).\
+#equality in some clauses only@|core|e.p@0 % core of e.p: 1 2 4
+% SZS status Unsatisfiable for e.p
+@e.p@cnf(a,axiom,c=d). cnf(b,axiom,p(c)). cnf(e,axiom,q(c)). cnf(f,axiom,~p(d)).\
 #a function with arguments@|core|r6.p@2 % SZS status Inappropriate for r6.p
 % functions: clause 2
 @r6.p@cnf(a,axiom,p(c)). cnf(b,axiom,p(f(X))).\
