@@ -4,7 +4,7 @@ use Rattle.std.specs.Prelude.{is_err}
 use Rattle.std.proofs.lemmas.List.{take_all, take-append-drop, length-take, length-take-le, get_or-take}
 use Rattle.inst_logic.specs.declared.symbol.Sym.{Sym}
 use Rattle.inst_logic.specs.Tree.{Tree, var}
-use Rattle.term_bank.specs.Forest.{Forest, KeepsPlaces, Extends, ExtendsTrees, nth}
+use Rattle.term_bank.specs.Forest.{Forest, KeepsPlaces, Extends, ExtendsTrees, AreFormed, IsFormed, nth, no_symbol}
 use Rattle.term_bank.specs.declared.node.Node.{Node}
 use Rattle.term_bank.specs.declared.node.Node.TheVariants.{Var}
 use Rattle.term_bank.specs.declared.node.Measures.{Measures}
@@ -65,3 +65,15 @@ on_err P (Err e) p = p
 pub no_err : {T E : Type 0} (P : Type 0) (r : Result T E) → false ≡ is_err r → OnErr r P
 no_err P (Ok x) e = tt
 no_err P (Err x) e = absurd (cc)
+
+-- a bank that is cut back to the trees that it had extends what it was then
+pub extends_cut : (f g h : Forest) → Extends f g → h.trees ≡ take (length f.trees) g.trees → h.symbols ≡ g.symbols → Extends f h
+extends_cut f g h e cut same = record {
+  trees = subst (λ ts. ExtendsTrees f.trees ts) (sym (cut ∙ keeps_take (var 0) f.trees g.trees e.trees)) (omega arith, λ i p. refl);
+  symbols = subst (λ ss. KeepsPlaces no_symbol f.symbols ss) (sym same) e.symbols;
+}
+
+pub formed_cut : (f h : Forest) (len : ℕ) → AreFormed f → h.trees ≡ take len f.trees → AreFormed h
+formed_cut f h len formed cut = λ i p.
+    let q : i < length (take len f.trees) = subst (λ ts. i < length ts) cut p in
+    subst (λ ts. IsFormed (nth ts i)) (sym cut) (subst IsFormed (sym (get_or-take len f.trees i (var 0) (omega (arith, length-take len f.trees)))) (formed i (omega (arith, length-take len f.trees))))

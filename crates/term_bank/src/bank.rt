@@ -259,14 +259,24 @@ impl Bank {
         result
     }
 
+    /// Keeps the first `len` trees, and all symbols. The ids of the others may become those of other trees, so whoever has one must
+    /// forget it: `cut_backs` says what stays. Time follows the number of trees that go.
+    pub fn truncate(&mut self, len: usize)
+        ensures trees { self.new.trees ≡ take len self.old.trees }
+        ensures symbols { self.new.symbols ≡ self.old.symbols }
+        ensures spent { self.new.spent ≡ self.old.spent }
+    {
+        self.nodes.truncate(len);
+        self.measures.truncate(len);
+    }
+
     // After want of memory the first `len` trees stay.
     pub(crate) fn give_up(&mut self, len: usize)
         ensures trees { self.new.trees ≡ take len self.old.trees }
         ensures symbols { self.new.symbols ≡ self.old.symbols }
         ensures spent { self.new.spent ≡ true }
     {
-        self.nodes.truncate(len);
-        self.measures.truncate(len);
+        self.truncate(len);
         self.spent = true;
     }
 

@@ -1,11 +1,11 @@
 // Laws of banks that grow: what is known of ids stays so over every call that adds trees. Callers name these contracts and
 // need not know how a bank stores its trees.
-ghost use Rattle.std.specs.Prelude.{◌≡◌, ◌++◌, ◌∷◌, [], ℕ, List, map};
+ghost use Rattle.std.specs.Prelude.{◌≡◌, ◌++◌, ◌∷◌, [], ℕ, List, length, map, take};
 ghost use Rattle.std.specs.List.{All};
 ghost use Rattle.inst_logic.specs.Tree.{Tree};
 ghost use Rattle.inst_logic.specs.WellFormed.{IsAtom};
 ghost use Rattle.inst_logic.specs.declared.signed.Signed.{Signed};
-ghost use Rattle.term_bank.specs.Forest.{Forest, Extends, IsAt, AreIds, IsClauseOf, tree_at, clause_at};
+ghost use Rattle.term_bank.specs.Forest.{Forest, AreFormed, Extends, IsAt, AreIds, IsClauseOf, tree_at, clause_at};
 
 /// A bank extends itself, and what extends an extension extends the first.
 pub fn extensions()
@@ -37,4 +37,10 @@ pub fn lists_stay()
         → All (IsClauseOf g) (cs ++ c ∷ []) }
     ensures one_more_tree { (f g : Forest) (cs : List (List (Signed ℕ))) (c : List (Signed ℕ)) → Extends f g → All (IsClauseOf f) cs
         → map (clause_at g) (cs ++ c ∷ []) ≡ map (clause_at f) cs ++ clause_at g c ∷ [] }
+{}
+
+/// A bank that is cut back to the trees that it had extends what it was then, and its trees stay terms and atoms.
+pub fn cut_backs()
+    ensures extends { (f g h : Forest) → Extends f g → h.trees ≡ take (length f.trees) g.trees → h.symbols ≡ g.symbols → Extends f h }
+    ensures formed { (f h : Forest) (len : ℕ) → AreFormed f → h.trees ≡ take len f.trees → AreFormed h }
 {}

@@ -2,7 +2,7 @@ use Rattle.std.proofs.Common.{ap, ◌∙◌, take}
 use Rattle.term_bank.specs.Forest.{Forest}
 use Rattle.term_bank.specs.Nodes.{trees_of}
 use Rattle.term_bank.proofs.Cuts.{trees_take, bank_take}
-use Rattle.term_bank.proofs.bank.Bank.give_up.Goals as goal
+use Rattle.term_bank.proofs.bank.Bank.truncate.Goals as goal
 
 pub invariant_of-self : goal.invariant_of-self
 invariant_of-self c =
