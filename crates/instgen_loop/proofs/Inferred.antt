@@ -1,5 +1,5 @@
 -- Conclusions as entries.
-use Rattle.std.proofs.Common.{◌≡◌, ℕ, zero, suc, ◌≤◌, List, [], ◌∷◌, ◌++◌, inl, inr, refl, sym, ap, ◌∙◌, subst as transport, length, length-append, append-nil, ◌+◌, arith, All, Contains, Option, Some}
+use Rattle.std.proofs.Common.{◌≡◌, ℕ, zero, suc, ◌≤◌, List, [], ◌∷◌, ◌++◌, inl, inr, refl, sym, ap, ◌∙◌, subst as transport, take, length, length-append, append-nil, ◌+◌, arith, All, Contains, Option, Some}
 use Rattle.inst_logic.specs.declared.signed.Signed.{Signed}
 use Rattle.inst_logic.specs.Tree.{Tree}
 use Rattle.inst_logic.specs.Derivations.{at_number}
@@ -42,9 +42,10 @@ use Rattle.instgen_loop.proofs.Firsts.{firsts_kept}
 use Rattle.instgen_select.specs.Queues.{numbers}
 use Rattle.instgen_loop.specs.Loops.{items, IsSafe, IsUnified, IsSideWorked, Goes, Appends}
 use Rattle.instgen_loop.specs.Running.{Reads}
+use Rattle.term_bank.proofs.Cuts.{extends_cut}
 use Rattle.term_bank.proofs.Growth.{ids_extend, map_extends}
 use Rattle.term_bank.proofs.Clauses.{clause_extends}
-use Rattle.instgen_loop.proofs.Grown.{entries_kept}
+use Rattle.instgen_loop.proofs.Grown.{clauses_kept, entries_kept}
 use Rattle.instgen_loop.proofs.Works.{at_number_map}
 
 pub unified_stays : (f g : Forest) (es : List Binding) → Extends f g → IsUnified f es → IsUnified g es
@@ -122,6 +123,24 @@ safe_grown atoms pairs fits r g h e formed stored = record {
   known = h.known;
 }
 
+-- the same where bindings were made too
+pub safe_read : {S I C : Type 0} (atoms : S → ℕ) (pairs : I → List Pair) (fits : Forest → I → Type 0) (old new : Run S I C) → IsSafe atoms pairs fits old → Reads old new → AreFormed new.entries.bank → fits new.entries.bank old.entries.first
+    → IsSafe atoms pairs fits new
+safe_read atoms pairs fits old new h reads formed stored =
+    let s = safe_grown atoms pairs fits old new.entries.bank h reads.bank formed stored in
+    transport (λ r. IsSafe atoms pairs fits r) (sym reads.rest) (record {
+      entries = s.entries;
+      firsts = s.firsts;
+      stored = s.stored;
+      numbered = s.numbered;
+      notes = s.notes;
+      count = s.count;
+      waiting = s.waiting;
+      within = s.within;
+      placed = s.placed;
+      known = s.known;
+    })
+
 -- a grown bank alone
 pub goes_grown : {S I C : Type 0} (r : Run S I C) (g : Forest) → Extends r.entries.bank g → Goes r (record r { entries = record r.entries { bank = g } })
 goes_grown r g e = record {
@@ -134,6 +153,35 @@ goes_grown r g e = record {
   valuation = refl;
   literals = ([], sym (append-nil r.ground.literals));
 }
+
+pub goes_read : {S I C : Type 0} (old new : Run S I C) → Reads old new → Goes old new
+goes_read old new reads = transport (λ r. Goes old r) (sym reads.rest) (record {
+  bank = reads.bank;
+  entries = ([], sym (append-nil (items old)));
+  held = ([], sym (append-nil old.held.items));
+  waits = (0, omega arith, sym (append-nil (numbers old.queue.items)));
+  ready = refl;
+  selection = refl;
+  valuation = refl;
+  literals = ([], sym (append-nil old.ground.literals));
+})
+
+-- the bank was read, and cut back to the terms that it had
+pub read_and_cut : {S I C : Type 0} (old read new : Run S I C) (len : ℕ) → Reads old read → len ≡ length old.entries.bank.trees → new.entries.bank.trees ≡ take len read.entries.bank.trees → new.entries.bank.symbols ≡ read.entries.bank.symbols
+    → new ≡ record read { entries = record read.entries { bank = new.entries.bank } } → Reads old new
+read_and_cut old read new len reads count trees symbols rest = record {
+  bank = extends_cut old.entries.bank read.entries.bank new.entries.bank reads.bank (trees ∙ ap (λ n. take n read.entries.bank.trees) count) symbols;
+  rest = rest ∙ ap (λ (r : Run _ _ _). record r { entries = record r.entries { bank = new.entries.bank } }) reads.rest ∙ bindings_same;
+}
+  where
+    bindings_same : record old { entries = record old.entries { bank = new.entries.bank }; bindings = read.bindings } ≡ record old { entries = record old.entries { bank = new.entries.bank }; bindings = new.bindings }
+    bindings_same = ap (λ b. record old { entries = record old.entries { bank = new.entries.bank }; bindings = b }) (sym (ap (λ (r : Run _ _ _). r.bindings) rest))
+
+-- reading changes no clause of the entries
+pub clauses_read : {S I C : Type 0} (old new : Run S I C) → Reads old new → AreEntries old.entries.bank (items old) → clauses_in new.entries.bank (items new) ≡ clauses_in old.entries.bank (items old)
+clauses_read old new reads entries =
+    ap (λ (r : Run _ _ _). clauses_in new.entries.bank (items r)) reads.rest
+    ∙ clauses_kept old.entries.bank new.entries.bank reads.bank (items old) (λ x i. all_in (λ (x : Item). IsClauseOf old.entries.bank x.0) (items old) entries.ids x i)
 
 pub reads_grown : {S I C : Type 0} (r : Run S I C) (g : Forest) → Extends r.entries.bank g → Reads r (record r { entries = record r.entries { bank = g } })
 reads_grown r g e = record { bank = e; rest = refl }

@@ -1,5 +1,5 @@
 // What two entries infer: the conclusion is held back, is covered, or is appended, whole or a part of it.
-ghost use Rattle.std.specs.Prelude.{◌≡◌, ◌<◌, ◌≤◌, ◌-◌, ℕ, true, false, length, min, Contains, Some, IfOk, IfSome, IfNone, OnOk, option_map};
+ghost use Rattle.std.specs.Prelude.{◌≡◌, ◌<◌, ◌≤◌, ◌-◌, ℕ, true, false, length, min, take, Contains, Some, IfOk, IfSome, IfNone, OnOk, option_map};
 ghost use Rattle.inst_logic.specs.Derivations.{at_number};
 ghost use Rattle.inst_logic.specs.Unifiers.{Sided};
 ghost use Rattle.inst_logic.specs.Clauses.{TreeClause, IsCanonical, canonical_form};
@@ -283,7 +283,7 @@ fn append_part<S: Solver, I: PartnerIndex>(
     append(run, part, origin)
 }
 
-// Appends the conclusion, where the entries do not cover it, or a part of it that they imply.
+// Appends the conclusion, which the entries do not cover, or a part of it that they imply.
 fn append_uncovered<S: Solver, I: PartnerIndex>(
     alloc: Global,
     run: &mut Run<S, I>,
@@ -295,7 +295,8 @@ fn append_uncovered<S: Solver, I: PartnerIndex>(
     requires safe { IsSafe S.atoms I.pairs I.fits run.old }
     requires whole { IsWholeClause run.old.entries.bank conclusion }
     requires canonical { IsCanonical (clause_at run.old.entries.bank conclusion) }
-    requires literal { 0 < len }
+    requires new { (e : Item) → Contains (items run.old) e → ¬ (e.0 ≡ conclusion) }
+    requires uncovered { (c : TreeClause) → length c ≡ len → ¬ IsCovered (clauses_in run.old.entries.bank (items run.old)) c (clause_at run.old.entries.bank conclusion) }
     requires shorter { length conclusion ≤ len }
     requires premise { len ≤ run.old.entries.longest }
     requires fits { IfSome run.old.left (λ k. size ≤ k) }
@@ -306,13 +307,19 @@ fn append_uncovered<S: Solver, I: PartnerIndex>(
     ensures linked { OnOk result (KeepsLink S.atoms S.added run.old run.new) }
     ensures covered { OnOk result ((c : TreeClause) → length c ≡ len → IsCovered (clauses_in run.new.entries.bank (items run.new)) c (clause_at run.old.entries.bank conclusion)) }
 {
-    if is_covered(alloc, &run.entries, &conclusion, len)? {
-        return Ok(());
-    }
     match lemma_of(run, &conclusion)? {
         None => append_whole(run, conclusion, at, size),
         Some(lemma) => append_part(alloc, run, &conclusion, at, lemma, len),
     }
+}
+
+// Takes what was interned since the bank had so many terms out of it: nothing names a conclusion that is covered.
+pub fn forget<S: Solver, I: PartnerIndex>(run: &mut Run<S, I>, len: usize)
+    ensures trees { run.new.entries.bank.trees ≡ take len run.old.entries.bank.trees }
+    ensures symbols { run.new.entries.bank.symbols ≡ run.old.entries.bank.symbols }
+    ensures rest { run.new ≡ record run.old { entries = record run.old.entries { bank = run.new.entries.bank } } }
+{
+    run.entries.bank.truncate(len);
 }
 
 /// What entry `from` gives with entry `partner`, whose selected literals the bindings unify, is covered or held back afterwards.
@@ -338,9 +345,14 @@ pub fn infer<S: Solver, I: PartnerIndex>(
         hold(run, from, partner)?;
         return Ok(());
     }
+    let terms = run.entries.bank.len();
     let conclusion = conclusion_of(alloc, run, side, from)?;
     let len = clause_of(run, from).len();
     let place = place_of(run, from);
+    if is_covered(alloc, &run.entries, &conclusion, len)? {
+        forget(run, terms);
+        return Ok(());
+    }
     let other = place_of(run, partner);
     let at = Held {
         from,

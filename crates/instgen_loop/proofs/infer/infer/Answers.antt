@@ -11,7 +11,10 @@ use Rattle.instgen_loop.specs.Clauses.{Item}
 use Rattle.instgen_loop.specs.Loops.{items, IsUnified}
 use Rattle.instgen_loop.proofs.Selected.{literal_of, place_positive}
 use Rattle.instgen_loop.proofs.Works.{goes_on}
-use Rattle.instgen_loop.proofs.Inferred.{unified_stays, made_shorter, premise_bounded, item_later, side_by_cover, clause_of_placed, length_at}
+use Rattle.inst_calculus.specs.Saturation.{IsCovered}
+use Rattle.term_bank.proofs.Cuts.{formed_cut}
+use Rattle.instgen_loop.specs.declared.state.Run.{Run}
+use Rattle.instgen_loop.proofs.Inferred.{unified_stays, made_shorter, premise_bounded, item_later, side_by_cover, clause_of_placed, clauses_read, goes_read, length_at, read_and_cut, safe_read}
 use Rattle.inst_logic.specs.Measure.{clause_size}
 use Rattle.inst_logic.specs.Clauses.{TreeClause}
 use Rattle.instgen_loop.proofs.Runs.{may_read, running_read, running_held, running_inferred, size_concluded, made_concluded}
@@ -32,8 +35,17 @@ conclusion_of-requires-clause-unified g c =
 pub append_uncovered-requires-clause-canonical : goal.append_uncovered-requires-clause-canonical
 append_uncovered-requires-clause-canonical g c = c.in_ok-conclusion.ensures.canonical
 
-pub append_uncovered-requires-clause-literal : goal.append_uncovered-requires-clause-literal
-append_uncovered-requires-clause-literal g c =
+pub append_uncovered-requires-clause-new : goal.append_uncovered-requires-clause-new
+append_uncovered-requires-clause-new g c = c.in_ok-is_covered.ensures.new (search rules)
+
+pub append_uncovered-requires-clause-uncovered : goal.append_uncovered-requires-clause-uncovered
+append_uncovered-requires-clause-uncovered g c = λ x q covered. let yes_ = (c.in_ok-is_covered.ensures.covered x q).1 covered in search rules
+
+pub is_covered-requires-clause-canonical : goal.is_covered-requires-clause-canonical
+is_covered-requires-clause-canonical g c = c.in_ok-conclusion.ensures.canonical
+
+pub is_covered-requires-clause-literal : goal.is_covered-requires-clause-literal
+is_covered-requires-clause-literal g c =
     let r2 = c.conclusion_of.new.run in
     let (item, at, same) = c.clause_of.ensures in
     let (l, here) = literal_of (items r2) r2.selection.places c.in_ok-conclusion.ensures.safe.placed c.args.from c.place_of-place.result item c.place_of-place.ensures at in
@@ -60,8 +72,65 @@ append_uncovered-requires-clause-premise g c =
     let within = premise_bounded c.in_ok-conclusion.ensures.safe.firsts c.args.from item at in
     omega (arith, within, ap length same, c.len-len.ensures)
 
+pub is_covered-requires-clause-bounded : goal.is_covered-requires-clause-bounded
+is_covered-requires-clause-bounded g c =
+    let (item, at, same) = c.clause_of.ensures in
+    let within = premise_bounded c.in_ok-conclusion.ensures.safe.firsts c.args.from item at in
+    omega (arith, within, ap length same, c.len-len.ensures)
+
 pub append_uncovered-requires-clause-fits : goal.append_uncovered-requires-clause-fits
 append_uncovered-requires-clause-fits g c = subst (λ o. IfSome o (λ k. c.in_ok-size.size ≤ k)) (sym c.in_ok-conclusion.ensures.left) (c.fits.ensures.yes (search rules))
+
+pub returns-then-branch-clause-safe : goal.returns-then-branch-clause-safe
+returns-then-branch-clause-safe g c =
+    let r1 = c.budgeted_size.new.run in
+    let r2 = c.conclusion_of.new.run in
+    let new = c.forget.new.run in
+    let reads = read_and_cut r1 r2 new c.len-terms.result c.in_ok-conclusion.ensures.reads c.len-terms.ensures.len c.forget.ensures.trees c.forget.ensures.symbols c.forget.ensures.rest in
+    safe_read g.S.Solver.atoms g.I.PartnerIndex.pairs g.I.PartnerIndex.fits r1 new c.in_ok-size.ensures.safe reads
+    (formed_cut r2.entries.bank new.entries.bank c.len-terms.result c.in_ok-conclusion.ensures.safe.entries.formed c.forget.ensures.trees)
+    (g.met.I.PartnerIndex.grown_fits r1.entries.bank new.entries.bank r1.entries.first reads.bank c.in_ok-size.ensures.safe.stored)
+
+pub returns-then-branch-clause-goes : goal.returns-then-branch-clause-goes
+returns-then-branch-clause-goes g c =
+    let r1 = c.budgeted_size.new.run in
+    let new = c.forget.new.run in
+    let reads = read_and_cut r1 c.conclusion_of.new.run new c.len-terms.result c.in_ok-conclusion.ensures.reads c.len-terms.ensures.len c.forget.ensures.trees c.forget.ensures.symbols c.forget.ensures.rest in
+    goes_on c.args.run.now r1 new c.in_ok-size.ensures.goes (goes_read r1 new reads)
+
+pub returns-then-branch-clause-bindings : goal.returns-then-branch-clause-bindings
+returns-then-branch-clause-bindings g c = ap (λ (r : Run _ _ _). r.bindings.entries) c.forget.ensures.rest ∙ c.in_ok-conclusion.ensures.bindings ∙ c.in_ok-size.ensures.bindings
+
+pub returns-then-branch-clause-running : goal.returns-then-branch-clause-running
+returns-then-branch-clause-running g c = λ may bot cs budget v h.
+    let S = g.S.Solver in
+    let r1 = c.budgeted_size.new.run in
+    let new = c.forget.new.run in
+    let reads = read_and_cut r1 c.conclusion_of.new.run new c.len-terms.result c.in_ok-conclusion.ensures.reads c.len-terms.ensures.len c.forget.ensures.trees c.forget.ensures.symbols c.forget.ensures.rest in
+    running_read S.atoms S.added r1 new reads c.in_ok-size.ensures.safe.entries bot cs budget v
+    (running_read S.atoms S.added c.args.run.now r1 c.in_ok-size.ensures.reads c.requires.safe.entries bot cs budget v h)
+
+pub returns-then-branch-clause-worked : goal.returns-then-branch-clause-worked
+returns-then-branch-clause-worked g c = λ s resolved.
+    let run = c.args.run.now in
+    let r1 = c.budgeted_size.new.run in
+    let r2 = c.conclusion_of.new.run in
+    let new = c.forget.new.run in
+    let reads = read_and_cut r1 r2 new c.len-terms.result c.in_ok-conclusion.ensures.reads c.len-terms.ensures.len c.forget.ensures.trees c.forget.ensures.symbols c.forget.ensures.rest in
+    let m = c.in_ok-conclusion.ensures.made in
+    let (item, at, same) = c.clause_of.ensures in
+    let (more, q) = c.in_ok-conclusion.ensures.goes.entries in
+    let here : at_number (items r2) c.args.from ≡ Some m.item = ap (λ xs. at_number xs c.args.from) q ∙ at_number_append (items r1) more c.args.from m.item m.item_at in
+    let one : m.item ≡ item = same_item (at_number (items r2) c.args.from) m.item item here at in
+    let long : length (clause_at r1.entries.bank m.item.0) ≡ c.len-len.result = length_at r1.entries.bank m.item.0 ∙ ap (λ (x : Item). length x.0) one ∙ ap length same ∙ sym c.len-len.ensures in
+    side_by_cover r1 new (of_side s c.args.side) c.args.from c.args.partner c.len-len.result m.item r2.entries.bank c.in_ok-conclusion.conclusion m.item_at
+    (clause_of_placed r1 new c.args.from m.item (goes_read r1 new reads) c.in_ok-size.ensures.safe.entries m.item_at) long
+    (m.made s (subst (λ (bs : List Binding). IsResolvedBy r1.entries.bank bs s) (sym c.in_ok-size.ensures.bindings)
+    (substitutions_stay run.entries.bank r1.entries.bank run.bindings.entries s c.in_ok-size.ensures.goes.bank c.requires.unified.bindings resolved)))
+    (λ x e.
+    subst (λ cs. IsCovered cs x (clause_at r2.entries.bank c.in_ok-conclusion.conclusion))
+    (clauses_read r1 r2 c.in_ok-conclusion.ensures.reads c.in_ok-size.ensures.safe.entries ∙ sym (clauses_read r1 new reads c.in_ok-size.ensures.safe.entries))
+    ((c.in_ok-is_covered.ensures.covered x e).0 (search rules)))
 
 pub returns-clause-goes : goal.returns-clause-goes
 returns-clause-goes g c =
