@@ -1,22 +1,21 @@
 -- What values that make the clauses true say of another clause, and what keeps its notes as atoms and values come.
-use Rattle.std.proofs.Common.{◌≡◌, ◌≢◌, ℕ, zero, suc, ◌+◌, ◌<◌, ◌≤◌, Bool, true, false, not, ◌⊎◌, inl, inr, List, [], ◌∷◌, ◌++◌, length, Some, refl, sym, ap, ◌∙◌, subst, arith, length-append, cond}
-use Rattle.std.specs.Prelude.{All, Contains, slice_get}
-use Rattle.std.proofs.lemmas.Bool.{cases_eq, cases_lt}
+use Rattle.std.proofs.Common.{◌≡◌, ◌≢◌, ℕ, zero, suc, ◌+◌, ◌<◌, ◌≤◌, Bool, true, false, not, ◌⊎◌, inl, inr, List, [], ◌∷◌, ◌++◌, length, refl, sym, ◌∙◌, subst, arith, length-append, cond}
+use Rattle.std.specs.Prelude.{All, Contains}
+use Rattle.std.proofs.lemmas.Bool.{cases_lt}
 use Rattle.std.proofs.lemmas.List.{get_or_append_left, get_or_past}
-use Rattle.std.proofs.lemmas.List.Elements.{All-weaker, All-contains, All-map}
+use Rattle.std.proofs.lemmas.List.Elements.{All-weaker, All-map}
 use Rattle.inst_logic.specs.declared.signed.Signed.{Signed}
 use Rattle.inst_logic.specs.Signed.{signed, complement}
 use Rattle.inst_logic.specs.Truth.{IsTrueLiteral, IsTrueClause}
 use Rattle.inst_logic.proofs.Booleans.{true_or_false}
 use Rattle.inst_logic.proofs.Items.{All-from_slice_get, All-slice_get}
-use Rattle.inst_logic.proofs.Membership.{contains_in, in_contains, in_all, some_or_none}
+use Rattle.inst_logic.proofs.Membership.{contains_in, in_contains, in_all}
 use Rattle.prop_logic.specs.Literal.{AtomsBelow, AllAtomsBelow}
 use Rattle.prop_logic.specs.Valuation.{IsHeld, value_at, AreChanges}
 use Rattle.prop_logic.proofs.PackedLaws.{value_held}
 use Rattle.compact_lists.specs.Codes.{code_of}
-use Rattle.global_subs.specs.Notes.{numbers_at, IsNotedAt, KeepsNotes}
+use Rattle.global_subs.specs.Notes.{KeepsNotes}
 use Rattle.global_subs.specs.Keeping.{IsTrueIn, HasTrue, AreTrueAt, IsWitnessed, AreWitnessed, AreKept, HaveRoom, CanBeFalse}
-use Rattle.global_subs.proofs.ValueLaws.{same_literal}
 use Rattle.global_subs.proofs.MoveLaws.{kept_notes, kept_values}
 
 -- a literal is true by the values where it is by the atoms that they hold
@@ -47,35 +46,20 @@ true_clause v c (k, l, inside, at, holds) = (l, (k, inside, at), literal_true v 
 pub all_true_at : (clauses : List (List (Signed ℕ))) (v : List Bool) → All (IsTrueClause (IsHeld v)) clauses → (k : ℕ) → AreTrueAt clauses v k
 all_true_at clauses v truth k clause at = true_clause v clause (All-slice_get (IsTrueClause (IsHeld v)) clauses truth k clause at)
 
--- Values that make the clauses true, but for those noted at what was turned, and these too, and all literals of another clause
--- false, say that it can be false.
-pub refuting : (clauses : List (List (Signed ℕ))) (lists : List (List ℕ)) (old new : List Bool) (room c : List (Signed ℕ)) → AreWitnessed clauses lists old []
-    → All (IsTrueIn old) room → ((a : ℕ) → All (λ l. l.atom ≢ a) room → value_at new a ≡ value_at old a)
-    → All (λ l. All (AreTrueAt clauses new) (numbers_at lists l)) room → All (λ l. value_at new l.atom ≡ not l.positive) c → CanBeFalse clauses c
-refuting clauses lists old new room c each turned others rest untrue = (
-  new,
+-- Values that make the clauses true, and all literals of another clause false, say that it can be false.
+pub refuting : (clauses : List (List (Signed ℕ))) (lists : List (List ℕ)) (values : List Bool) (c : List (Signed ℕ)) → AreWitnessed clauses lists values []
+    → All (λ l. value_at values l.atom ≡ not l.positive) c → CanBeFalse clauses c
+refuting clauses lists values c each untrue = (
+  values,
   record {
-    clauses_true = All-from_slice_get (IsTrueClause (IsHeld new)) clauses (λ k clause at. clause_true new clause (at_least k clause at (each k clause at)));
-    assumptions_true = All-map (IsTrueLiteral (IsHeld new)) complement c (All-weaker (λ (l : Signed ℕ). value_at new l.atom ≡ not l.positive) (λ l. IsTrueLiteral (IsHeld new) (complement l)) (λ l e. true_literal new (complement l) e) c untrue);
+    clauses_true = All-from_slice_get (IsTrueClause (IsHeld values)) clauses (λ k clause at. clause_true values clause (has_true k clause (each k clause at)));
+    assumptions_true = All-map (IsTrueLiteral (IsHeld values)) complement c (All-weaker (λ (l : Signed ℕ). value_at values l.atom ≡ not l.positive) (λ l. IsTrueLiteral (IsHeld values) (complement l)) (λ l e. true_literal values (complement l) e) c untrue);
   },
 )
   where
-    decided : (a : ℕ) (l : Signed ℕ) → Dec (l.atom ≡ a)
-    decided a l = elim (cases_eq l.atom a) [ inl e ↦ yes e | inr n ↦ no n ]
-
-    at_least : (k : ℕ) (clause : List (Signed ℕ)) → slice_get clauses k ≡ Some clause → Contains [] k ⊎ IsWitnessed lists old clause k → HasTrue new clause
-    at_least k clause at (inl free) = absurd (contains_in k [] free)
-    at_least k clause at (inr w) =
-        elim (some_or_none (λ (l : Signed ℕ). l.atom ≡ w.literal.atom) (decided w.literal.atom) room) [
-          | inl found ↦
-              let inside : Contains room found.0 = in_contains found.0 room found.1 in
-              let sign : found.0.positive ≡ w.literal.positive = sym (All-contains (IsTrueIn old) room found.0 turned inside) ∙ ap (value_at old) found.2 ∙ w.holds in
-              let same : found.0 ≡ w.literal = same_literal found.0 w.literal sign found.2 in
-              let noted : IsNotedAt lists found.0 k = subst (λ l. IsNotedAt lists l k) (sym same) w.noted in
-              All-contains (AreTrueAt clauses new) (numbers_at lists found.0) k (All-contains (λ l. All (AreTrueAt clauses new) (numbers_at lists l)) room found.0 rest inside) noted clause at
-          | inr nothing ↦
-              (w.literal, w.here, others w.literal.atom (in_all (λ (l : Signed ℕ). l.atom ≢ w.literal.atom) room nothing) ∙ w.holds)
-        ]
+    has_true : (k : ℕ) (clause : List (Signed ℕ)) → Contains [] k ⊎ IsWitnessed lists values clause k → HasTrue values clause
+    has_true k clause (inl free) = absurd (contains_in k [] free)
+    has_true k clause (inr w) = (w.literal, w.here, w.holds)
 
 -- Room for literals
 

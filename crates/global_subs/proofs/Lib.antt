@@ -1,6 +1,7 @@
 pub mod ValueLaws
 pub mod MoveLaws
 pub mod KeptLaws
+pub mod RepairLaws
 pub mod CoreLaws
 pub mod PartLaws
 pub mod TreeLaws

@@ -1,18 +1,16 @@
 // Clauses with values of their atoms that make all of them true, or all but the loose ones.
-ghost use Rattle.std.specs.Prelude.{◌≡◌, ◌+◌, ◌<◌, ◌≤◌, ◌++◌, ◌∷◌, [], ℕ, Bool, List, All, Contains, length, true, false, not, IfOk, IfSome, OnOk, OnErr};
-ghost use Rattle.inst_logic.specs.declared.signed.Signed.{Signed};
+ghost use Rattle.std.specs.Prelude.{◌≡◌, ◌+◌, ◌<◌, ◌≤◌, ◌++◌, ◌∷◌, [], All, length, true, IfOk, OnOk, OnErr};
 ghost use Rattle.prop_logic.specs.Literal.{AtomsBelow, AllAtomsBelow};
-ghost use Rattle.prop_logic.specs.Valuation.{value_at};
 ghost use Rattle.inst_logic.specs.Truth.{IsTrueClause};
 ghost use Rattle.prop_logic.specs.Valuation.{IsHeld};
-ghost use Rattle.compact_lists.specs.Codes.{code_of};
-ghost use Rattle.global_subs.specs.Notes.{numbers_at, KeepsNotes};
-ghost use Rattle.global_subs.specs.Keeping.{AreTrueAt, AreKept, IsMoved, AreMoved, HaveRoom, CanBeFalse};
+ghost use Rattle.global_subs.specs.Notes.{KeepsNotes};
+ghost use Rattle.global_subs.specs.Keeping.{AreKept, IsMoved, AreMoved, HaveRoom, CanBeFalse};
 
-use crate::moves::{clear_changed, move_changed, note_all, stay_true};
+use crate::moves::{clear_changed, move_changed, note_all};
 use crate::notes::Notes;
+use crate::repair::falsify;
 use crate::turn::add_clause;
-use crate::values::{make_false, make_true, put_true, take_values, true_of};
+use crate::values::take_values;
 use compact_lists::FlatClauses;
 use inst_logic::Memory;
 use prop_logic::{Lit, Valuation, changes};
@@ -20,7 +18,8 @@ use std::alloc::Global;
 use std::marker::Model;
 
 // Each clause that is not loose is noted at one literal that is true, so where an atom turns only the clauses that are noted
-// at its literal are looked at (as with watched literals). A loose clause need not be true. The room is empty between calls.
+// at its literal are looked at (as with watched literals). A loose clause need not be true. The fixed atoms are
+// those that are not turned for the last question.
 #[derive(Drop)]
 pub struct Kept {
     alloc: Global,
@@ -28,7 +27,7 @@ pub struct Kept {
     notes: Notes,
     values: Valuation,
     loose: Vec<usize>,
-    room: Vec<Lit>,
+    fixed: Vec<usize>,
 }
 
 impl Model for Kept {
@@ -40,46 +39,6 @@ impl Model for Kept {
     ghost view = { λ k. record { clauses = k.clauses; atoms = length k.values } };
 
     ghost invariant = { λ k. AreKept k.clauses k.notes k.values k.loose.items };
-}
-
-// Whether the values make the clause false, and the clauses true that are noted at what was turned.
-fn is_refuted(
-    clauses: &FlatClauses,
-    notes: &Notes,
-    values: &Valuation,
-    turned: &[Lit],
-    c: &[Lit],
-) -> bool
-    requires room { All (λ l. code_of l < length notes.now) turned.now }
-    ensures untrue { result ≡ true → All (λ l. value_at values.now l.atom ≡ not l.positive) c.now }
-    ensures others { result ≡ true → All (λ l. All (AreTrueAt clauses.now values.now) (numbers_at notes.now l)) turned.now }
-{
-    if true_of(c, values).is_some() {
-        return false;
-    }
-    stay_true(clauses, notes, values, turned)
-}
-
-// Whether the values make all clauses true with the true literals of the clause turned, and the clause false.
-fn is_refuted_turned(
-    clauses: &FlatClauses,
-    notes: &Notes,
-    values: &mut Valuation,
-    room: &mut Vec<Lit>,
-    c: &[Lit],
-) -> Result<bool, Memory>
-    requires within { AtomsBelow (length values.old) c.now }
-    requires kept { AreKept clauses.now notes.now values.old [] }
-    ensures same { (a : ℕ) → value_at values.new a ≡ value_at values.old a }
-    ensures width { length values.new ≡ length values.old }
-    ensures refuted { IfOk result (λ refuted. refuted ≡ true → CanBeFalse clauses.now c.now) }
-{
-    room.truncate(0);
-    put_true(room, c, values)?;
-    make_false(values, room);
-    let refuted = is_refuted(clauses, notes, values, room, c);
-    make_true(values, room);
-    Ok(refuted)
 }
 
 // Notes the clauses at literals that the values make true: those at a literal of these atoms, and the loose ones.
@@ -136,7 +95,7 @@ impl Kept {
             notes: Notes::new(alloc),
             values: Valuation::new(alloc),
             loose: Vec::new(alloc),
-            room: Vec::new(alloc),
+            fixed: Vec::new(alloc),
         }
     }
 
@@ -186,20 +145,18 @@ impl Kept {
         Ok(())
     }
 
-    // Whether the clause is seen to be false by values that make the others true.
+    // Whether values are found that make the clause false and the others true, which are then kept.
     pub fn falsifies(&mut self, c: &[Lit]) -> Result<bool, Memory>
         requires { AtomsBelow self.old.atoms c.now }
         ensures same { self.new ≡ self.old }
         ensures refuted { IfOk result (λ refuted. refuted ≡ true → CanBeFalse self.old.clauses c.now) }
     {
-        if !self.loose.is_empty() {
-            return Ok(false);
-        }
-        is_refuted_turned(
+        falsify(
             &self.clauses,
-            &self.notes,
+            &mut self.notes,
             &mut self.values,
-            &mut self.room,
+            &mut self.loose,
+            &mut self.fixed,
             c,
         )
     }

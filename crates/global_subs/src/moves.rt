@@ -34,19 +34,6 @@ pub fn are_true(clauses: &FlatClauses, numbers: &[usize], values: &Valuation) ->
     true
 }
 
-// Whether each clause that is noted at one of the literals has a true literal.
-pub fn stay_true(clauses: &FlatClauses, notes: &Notes, values: &Valuation, literals: &[Lit]) -> bool
-    requires { All (λ l. code_of l < length notes.now) literals.now }
-    ensures { result ≡ true → All (λ l. All (AreTrueAt clauses.now values.now) (numbers_at notes.now l)) literals.now }
-{
-    for l in literals {
-        if !are_true(clauses, notes.at(*l), values) {
-            return false;
-        }
-    }
-    true
-}
-
 // Notes the clause at a true literal of it, if it has one.
 fn note_true(
     clauses: &FlatClauses,

@@ -1,7 +1,6 @@
 // Literals that are true or false by the values of atoms.
-ghost use Rattle.std.specs.Prelude.{◌≡◌, ◌≢◌, ◌<◌, ℕ, Bool, List, All, Contains, length, not, true, false, IfSome, IfNone, OnOk};
+ghost use Rattle.std.specs.Prelude.{◌≡◌, ◌<◌, ℕ, All, Contains, length, not, true, false, IfSome, IfNone};
 ghost use Rattle.inst_logic.specs.declared.signed.Signed.{Signed};
-ghost use Rattle.prop_logic.specs.Literal.{AtomsBelow};
 ghost use Rattle.prop_logic.specs.Valuation.{value_at};
 ghost use Rattle.global_subs.specs.Keeping.{IsTrueIn};
 
@@ -42,44 +41,6 @@ pub fn true_of(clause: &[Lit], values: &Valuation) -> Option<Lit>
         }
     }
     None
-}
-
-// Puts the true literals of the clause into the room.
-pub fn put_true(room: &mut Vec<Lit>, clause: &[Lit], values: &Valuation) -> Result<(), Memory>
-    ensures holds { OnOk result (All (IsTrueIn values.now) room.old.items → All (IsTrueIn values.now) room.new.items) }
-    ensures within { OnOk result ((n : ℕ) → AtomsBelow n room.old.items → AtomsBelow n clause.now → AtomsBelow n room.new.items) }
-{
-    for l in clause {
-        if is_true(values, *l) {
-            room.push(*l)?;
-        }
-    }
-    Ok(())
-}
-
-// Makes the literals false, of which no two are complements.
-pub fn make_false(values: &mut Valuation, literals: &[Lit])
-    requires { AtomsBelow (length values.old) literals.now }
-    ensures len { length values.new ≡ length values.old }
-    ensures others { (a : ℕ) → All (λ l. l.atom ≢ a) literals.now → value_at values.new a ≡ value_at values.old a }
-{
-    for l in literals {
-        values.set(l.atom, !l.positive);
-    }
-}
-
-// Makes the literals true, of which no two are complements: the values are then those by which all of them are true, where
-// the other atoms had those values.
-pub fn make_true(values: &mut Valuation, literals: &[Lit])
-    requires { AtomsBelow (length values.old) literals.now }
-    ensures len { length values.new ≡ length values.old }
-    ensures like { (like : List Bool) → All (IsTrueIn like) literals.now
-        → ((a : ℕ) → All (λ l. l.atom ≢ a) literals.now → value_at values.old a ≡ value_at like a)
-        → (a : ℕ) → value_at values.new a ≡ value_at like a }
-{
-    for l in literals {
-        values.set(l.atom, l.positive);
-    }
 }
 
 // Gives the atoms these values: then all values are these, where those of the other atoms were.

@@ -1,0 +1,130 @@
+// A false literal is made true, whatever that breaks: clauses that are left without a true literal become loose.
+ghost use Rattle.std.specs.Prelude.{◌≡◌, ◌<◌, All, length, not, OnOk};
+ghost use Rattle.prop_logic.specs.Literal.{AtomsBelow};
+ghost use Rattle.prop_logic.specs.Valuation.{value_at};
+ghost use Rattle.compact_lists.specs.Codes.{code_of};
+ghost use Rattle.global_subs.specs.Notes.{numbers_at, KeepsNotes};
+ghost use Rattle.global_subs.specs.Keeping.{IsTrueIn, AreKept, IsPlaced, KeepsFalse, KeepsFront, HaveRoom};
+
+use crate::notes::Notes;
+use crate::values::{is_true, true_in};
+use compact_lists::FlatClauses;
+use inst_logic::Memory;
+use prop_logic::{Lit, Valuation, complement};
+
+// Notes the clause at a true literal of it, or puts it to the loose ones where it has none.
+fn place(
+    clauses: &FlatClauses,
+    notes: &mut Notes,
+    values: &Valuation,
+    loose: &mut Vec<usize>,
+    k: usize,
+) -> Result<(), Memory>
+    requires room { HaveRoom clauses.now (length notes.old) }
+    ensures len { length notes.new ≡ length notes.old }
+    ensures keeps { KeepsNotes notes.old notes.new }
+    ensures others { KeepsFalse values.now notes.old notes.new }
+    ensures loose { KeepsFront loose.old.items loose.new.items }
+    ensures placed { OnOk result (IsPlaced clauses.now notes.new values.now loose.new.items k) }
+{
+    if let Some(clause) = clauses.get(k) {
+        match true_in(clause, values) {
+            Some(l) => notes.add(l, k)?,
+            None => loose.push(k)?,
+        }
+    }
+    Ok(())
+}
+
+// The same for each clause that is noted at the literal, which is false.
+fn place_all(
+    clauses: &FlatClauses,
+    notes: &mut Notes,
+    values: &Valuation,
+    loose: &mut Vec<usize>,
+    from: Lit,
+) -> Result<(), Memory>
+    requires room { HaveRoom clauses.now (length notes.old) }
+    requires within { code_of from < length notes.old }
+    requires untrue { value_at values.now from.atom ≡ not from.positive }
+    ensures len { length notes.new ≡ length notes.old }
+    ensures keeps { KeepsNotes notes.old notes.new }
+    ensures loose { KeepsFront loose.old.items loose.new.items }
+    ensures placed { OnOk result (All (IsPlaced clauses.now notes.new values.now loose.new.items) (numbers_at notes.old from)) }
+{
+    for i in 0..notes.at(from).len() {
+        let k = notes.at(from)[i];
+        place(clauses, notes, values, loose, k)?;
+    }
+    Ok(())
+}
+
+// Makes a false literal true.
+pub fn force(
+    clauses: &FlatClauses,
+    notes: &mut Notes,
+    values: &mut Valuation,
+    loose: &mut Vec<usize>,
+    l: Lit,
+) -> Result<(), Memory>
+    requires within { l.atom < length values.old }
+    requires untrue { value_at values.old l.atom ≡ not l.positive }
+    requires kept { AreKept clauses.now notes.old values.old loose.old.items }
+    ensures kept { AreKept clauses.now notes.new values.new loose.new.items }
+    ensures width { length values.new ≡ length values.old }
+    ensures len { length notes.new ≡ length notes.old }
+    ensures loose { KeepsFront loose.old.items loose.new.items }
+    ensures holds { OnOk result (IsTrueIn values.new l) }
+{
+    let other = complement(l);
+    values.set(l.atom, l.positive);
+    match place_all(clauses, notes, values, loose, other) {
+        Ok(()) => {
+            notes.clear(other);
+            Ok(())
+        }
+        Err(error) => {
+            values.set(l.atom, !l.positive);
+            Err(error)
+        }
+    }
+}
+
+// Makes the literal false.
+fn make_false(
+    clauses: &FlatClauses,
+    notes: &mut Notes,
+    values: &mut Valuation,
+    loose: &mut Vec<usize>,
+    l: Lit,
+) -> Result<(), Memory>
+    requires within { l.atom < length values.old }
+    requires kept { AreKept clauses.now notes.old values.old loose.old.items }
+    ensures kept { AreKept clauses.now notes.new values.new loose.new.items }
+    ensures width { length values.new ≡ length values.old }
+{
+    if !is_true(values, l) {
+        return Ok(());
+    }
+    let other = complement(l);
+    force(clauses, notes, values, loose, other)
+}
+
+// Makes the literals false, of which no two are complements.
+pub fn make_all_false(
+    clauses: &FlatClauses,
+    notes: &mut Notes,
+    values: &mut Valuation,
+    loose: &mut Vec<usize>,
+    c: &[Lit],
+) -> Result<(), Memory>
+    requires within { AtomsBelow (length values.old) c.now }
+    requires kept { AreKept clauses.now notes.old values.old loose.old.items }
+    ensures kept { AreKept clauses.now notes.new values.new loose.new.items }
+    ensures width { length values.new ≡ length values.old }
+{
+    for l in c {
+        make_false(clauses, notes, values, loose, *l)?;
+    }
+    Ok(())
+}

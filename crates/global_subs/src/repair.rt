@@ -1,0 +1,265 @@
+// Whether values can make all clauses true and one clause false, tried by turns of single atoms: the literals of that clause are
+// made false, and then each clause that is left without a true literal gets one, by the turn that breaks fewest others.
+ghost use Rattle.std.specs.Prelude.{◌≡◌, [], ◌+◌, ◌<◌, ◌≤◌, All, Contains, length, true, not, IfOk, IfSome};
+ghost use Rattle.prop_logic.specs.Literal.{AtomsBelow};
+ghost use Rattle.prop_logic.specs.Valuation.{value_at};
+ghost use Rattle.global_subs.specs.Keeping.{AreKept, IsTrueIn, IsWitnessedAt, KeepsFront, CanBeFalse};
+
+use crate::force::{force, make_all_false};
+use crate::notes::Notes;
+use crate::values::{is_true, true_in, true_of};
+use compact_lists::{FlatClauses, PackedLit};
+use inst_logic::Memory;
+use prop_logic::{Lit, Valuation, complement};
+
+// How many atoms are turned for one clause, beside those of its literals and one for each clause that was loose before.
+const MOST_TURNS: usize = 32;
+
+// Whether the clause has a true literal beside this one.
+fn has_other(clause: &[PackedLit], values: &Valuation, except: Lit) -> bool {
+    for packed in clause {
+        let l = packed.lit();
+        if l != except && is_true(values, l) {
+            return true;
+        }
+    }
+    false
+}
+
+// Whether the clause of this number has no true literal beside this one.
+fn hangs_on(clauses: &FlatClauses, values: &Valuation, k: usize, l: Lit) -> bool {
+    match clauses.get(k) {
+        Some(clause) => !has_other(clause, values, l),
+        None => false,
+    }
+}
+
+// How many of the clauses of these numbers have no true literal beside this one, counted up to `most`.
+fn broken_by(
+    clauses: &FlatClauses,
+    numbers: &[usize],
+    values: &Valuation,
+    l: Lit,
+    most: usize,
+) -> usize {
+    let mut count: usize = 0;
+    for k in numbers {
+        if hangs_on(clauses, values, *k, l) {
+            count = count.saturating_add(1);
+            if most <= count {
+                return count;
+            }
+        }
+    }
+    count
+}
+
+// How many clauses the turn of the literal, which is false, breaks, counted up to `most`; so many where its atom is fixed.
+fn cost(
+    clauses: &FlatClauses,
+    notes: &Notes,
+    values: &Valuation,
+    fixed: &[usize],
+    l: Lit,
+    most: usize,
+) -> usize
+    requires within { l.atom < length values.now }
+    requires room { length values.now + length values.now ≤ length notes.now }
+{
+    if most == 0 || fixed.contains(&l.atom) {
+        return most;
+    }
+    let other = complement(l);
+    broken_by(clauses, notes.at(other), values, other, most)
+}
+
+// The literal whose turn breaks fewest clauses, of those whose atom isn't fixed.
+fn cheapest(
+    clauses: &FlatClauses,
+    notes: &Notes,
+    values: &Valuation,
+    fixed: &[usize],
+    clause: &[PackedLit],
+) -> Option<Lit>
+    requires within { AtomsBelow (length values.now) clause.now }
+    requires room { length values.now + length values.now ≤ length notes.now }
+    ensures some { IfSome result (Contains clause.now) }
+{
+    let mut found = None;
+    let mut least = usize::MAX;
+    for packed in clause {
+        let l = packed.lit();
+        let count = cost(clauses, notes, values, fixed, l, least);
+        if count < least {
+            least = count;
+            found = Some(l);
+        }
+    }
+    found
+}
+
+// Makes one of the literals, which are all false, true, where one can be turned.
+fn turn_cheapest(
+    clauses: &FlatClauses,
+    notes: &mut Notes,
+    values: &mut Valuation,
+    loose: &mut Vec<usize>,
+    fixed: &mut Vec<usize>,
+    clause: &[PackedLit],
+) -> Result<Option<Lit>, Memory>
+    requires within { AtomsBelow (length values.old) clause.now }
+    requires untrue { All (λ l. value_at values.old l.atom ≡ not l.positive) clause.now }
+    requires kept { AreKept clauses.now notes.old values.old loose.old.items }
+    ensures kept { AreKept clauses.now notes.new values.new loose.new.items }
+    ensures width { length values.new ≡ length values.old }
+    ensures loose { KeepsFront loose.old.items loose.new.items }
+    ensures some { IfOk result (λ o. IfSome o (λ l. Contains clause.now l × IsTrueIn values.new l)) }
+{
+    match cheapest(clauses, notes, values, fixed.as_slice(), clause) {
+        None => Ok(None),
+        Some(l) => {
+            fixed.push(l.atom)?;
+            force(clauses, notes, values, loose, l)?;
+            Ok(Some(l))
+        }
+    }
+}
+
+// A true literal of the clause, for which one may have been turned.
+fn make_true(
+    clauses: &FlatClauses,
+    notes: &mut Notes,
+    values: &mut Valuation,
+    loose: &mut Vec<usize>,
+    fixed: &mut Vec<usize>,
+    clause: &[PackedLit],
+) -> Result<Option<Lit>, Memory>
+    requires within { AtomsBelow (length values.old) clause.now }
+    requires kept { AreKept clauses.now notes.old values.old loose.old.items }
+    ensures kept { AreKept clauses.now notes.new values.new loose.new.items }
+    ensures width { length values.new ≡ length values.old }
+    ensures loose { KeepsFront loose.old.items loose.new.items }
+    ensures some { IfOk result (λ o. IfSome o (λ l. Contains clause.now l × IsTrueIn values.new l)) }
+{
+    match true_in(clause, values) {
+        Some(l) => Ok(Some(l)),
+        None => turn_cheapest(clauses, notes, values, loose, fixed, clause),
+    }
+}
+
+// Notes the clause of this number at a true literal, where it has one or gets one by a turn.
+fn settle(
+    clauses: &FlatClauses,
+    notes: &mut Notes,
+    values: &mut Valuation,
+    loose: &mut Vec<usize>,
+    fixed: &mut Vec<usize>,
+    k: usize,
+) -> Result<bool, Memory>
+    requires kept { AreKept clauses.now notes.old values.old loose.old.items }
+    ensures kept { AreKept clauses.now notes.new values.new loose.new.items }
+    ensures width { length values.new ≡ length values.old }
+    ensures loose { KeepsFront loose.old.items loose.new.items }
+    ensures noted { IfOk result (λ noted. noted ≡ true → IsWitnessedAt clauses.now notes.new values.new k) }
+{
+    match clauses.get(k) {
+        None => Ok(true),
+        Some(clause) => match make_true(clauses, notes, values, loose, fixed, clause)? {
+            None => Ok(false),
+            Some(l) => {
+                notes.add(l, k)?;
+                Ok(true)
+            }
+        },
+    }
+}
+
+// Notes the first loose clause so, which is then no longer loose.
+fn settle_first(
+    clauses: &FlatClauses,
+    notes: &mut Notes,
+    values: &mut Valuation,
+    loose: &mut Vec<usize>,
+    fixed: &mut Vec<usize>,
+) -> Result<bool, Memory>
+    requires some { 0 < length loose.old.items }
+    requires kept { AreKept clauses.now notes.old values.old loose.old.items }
+    ensures kept { AreKept clauses.now notes.new values.new loose.new.items }
+    ensures width { length values.new ≡ length values.old }
+{
+    let k = loose[0];
+    if !settle(clauses, notes, values, loose, fixed, k)? {
+        return Ok(false);
+    }
+    loose.swap_remove(0);
+    Ok(true)
+}
+
+// Notes loose clauses so, until none is loose, one has no literal that can be turned, or enough were turned.
+fn repair(
+    clauses: &FlatClauses,
+    notes: &mut Notes,
+    values: &mut Valuation,
+    loose: &mut Vec<usize>,
+    fixed: &mut Vec<usize>,
+) -> Result<(), Memory>
+    requires kept { AreKept clauses.now notes.old values.old loose.old.items }
+    ensures kept { AreKept clauses.now notes.new values.new loose.new.items }
+    ensures width { length values.new ≡ length values.old }
+{
+    for _ in 0..loose.len().saturating_add(MOST_TURNS) {
+        if loose.is_empty() {
+            return Ok(());
+        }
+        if !settle_first(clauses, notes, values, loose, fixed)? {
+            return Ok(());
+        }
+    }
+    Ok(())
+}
+
+// The atoms of the clause.
+fn put_atoms(atoms: &mut Vec<usize>, c: &[Lit]) -> Result<(), Memory> {
+    atoms.truncate(0);
+    for l in c {
+        atoms.push(l.atom)?;
+    }
+    Ok(())
+}
+
+// Whether the values, which make all clauses true, make this one false.
+fn is_refuted(clauses: &FlatClauses, notes: &Notes, values: &Valuation, c: &[Lit]) -> bool
+    requires { AreKept clauses.now notes.now values.now [] }
+    ensures { result ≡ true → CanBeFalse clauses.now c.now }
+{
+    let _ = clauses;
+    let _ = notes;
+    match true_of(c, values) {
+        Some(_) => false,
+        None => true,
+    }
+}
+
+// Whether values are found that make the clause false and the others true.
+pub fn falsify(
+    clauses: &FlatClauses,
+    notes: &mut Notes,
+    values: &mut Valuation,
+    loose: &mut Vec<usize>,
+    fixed: &mut Vec<usize>,
+    c: &[Lit],
+) -> Result<bool, Memory>
+    requires within { AtomsBelow (length values.old) c.now }
+    requires kept { AreKept clauses.now notes.old values.old loose.old.items }
+    ensures kept { AreKept clauses.now notes.new values.new loose.new.items }
+    ensures width { length values.new ≡ length values.old }
+    ensures refuted { IfOk result (λ refuted. refuted ≡ true → CanBeFalse clauses.now c.now) }
+{
+    put_atoms(fixed, c)?;
+    make_all_false(clauses, notes, values, loose, c)?;
+    repair(clauses, notes, values, loose, fixed)?;
+    if !loose.is_empty() {
+        return Ok(false);
+    }
+    Ok(is_refuted(clauses, notes, values, c))
+}
