@@ -6,6 +6,7 @@ ghost use Rattle.prop_logic.specs.Valuation.{IsHeld};
 ghost use Rattle.global_subs.specs.Notes.{KeepsNotes};
 ghost use Rattle.global_subs.specs.Keeping.{AreKept, IsMoved, AreMoved, HaveRoom, CanBeFalse};
 
+use crate::fixed::Fixed;
 use crate::moves::{clear_changed, move_changed, note_all};
 use crate::notes::Notes;
 use crate::repair::falsify;
@@ -27,7 +28,7 @@ pub struct Kept {
     notes: Notes,
     values: Valuation,
     loose: Vec<usize>,
-    fixed: Vec<usize>,
+    fixed: Fixed,
 }
 
 impl Model for Kept {
@@ -95,7 +96,7 @@ impl Kept {
             notes: Notes::new(alloc),
             values: Valuation::new(alloc),
             loose: Vec::new(alloc),
-            fixed: Vec::new(alloc),
+            fixed: Fixed::new(alloc),
         }
     }
 

@@ -5,6 +5,7 @@ ghost use Rattle.prop_logic.specs.Literal.{AtomsBelow};
 ghost use Rattle.prop_logic.specs.Valuation.{value_at};
 ghost use Rattle.global_subs.specs.Keeping.{AreKept, IsTrueIn, IsWitnessedAt, KeepsFront, CanBeFalse};
 
+use crate::fixed::Fixed;
 use crate::force::{force, make_all_false};
 use crate::notes::Notes;
 use crate::values::{is_true, true_in, true_of};
@@ -12,7 +13,7 @@ use compact_lists::{FlatClauses, PackedLit};
 use inst_logic::Memory;
 use prop_logic::{Lit, Valuation, complement};
 
-// How many atoms are turned for one clause, beside those of its literals and one for each clause that was loose before.
+// How many loose clauses are looked at for one question, beside those that were loose when its literals were made false.
 const MOST_TURNS: usize = 32;
 
 // Whether the clause has a true literal beside this one.
@@ -59,14 +60,14 @@ fn cost(
     clauses: &FlatClauses,
     notes: &Notes,
     values: &Valuation,
-    fixed: &[usize],
+    fixed: &Fixed,
     l: Lit,
     most: usize,
 ) -> usize
     requires within { l.atom < length values.now }
     requires room { length values.now + length values.now ≤ length notes.now }
 {
-    if most == 0 || fixed.contains(&l.atom) {
+    if most == 0 || fixed.contains(l.atom) {
         return most;
     }
     let other = complement(l);
@@ -78,7 +79,7 @@ fn cheapest(
     clauses: &FlatClauses,
     notes: &Notes,
     values: &Valuation,
-    fixed: &[usize],
+    fixed: &Fixed,
     clause: &[PackedLit],
 ) -> Option<Lit>
     requires within { AtomsBelow (length values.now) clause.now }
@@ -104,7 +105,7 @@ fn turn_cheapest(
     notes: &mut Notes,
     values: &mut Valuation,
     loose: &mut Vec<usize>,
-    fixed: &mut Vec<usize>,
+    fixed: &mut Fixed,
     clause: &[PackedLit],
 ) -> Result<Option<Lit>, Memory>
     requires within { AtomsBelow (length values.old) clause.now }
@@ -115,10 +116,10 @@ fn turn_cheapest(
     ensures loose { KeepsFront loose.old.items loose.new.items }
     ensures some { IfOk result (λ o. IfSome o (λ l. Contains clause.now l × IsTrueIn values.new l)) }
 {
-    match cheapest(clauses, notes, values, fixed.as_slice(), clause) {
+    match cheapest(clauses, notes, values, fixed, clause) {
         None => Ok(None),
         Some(l) => {
-            fixed.push(l.atom)?;
+            fixed.insert(l.atom)?;
             force(clauses, notes, values, loose, l)?;
             Ok(Some(l))
         }
@@ -131,7 +132,7 @@ fn make_true(
     notes: &mut Notes,
     values: &mut Valuation,
     loose: &mut Vec<usize>,
-    fixed: &mut Vec<usize>,
+    fixed: &mut Fixed,
     clause: &[PackedLit],
 ) -> Result<Option<Lit>, Memory>
     requires within { AtomsBelow (length values.old) clause.now }
@@ -153,7 +154,7 @@ fn settle(
     notes: &mut Notes,
     values: &mut Valuation,
     loose: &mut Vec<usize>,
-    fixed: &mut Vec<usize>,
+    fixed: &mut Fixed,
     k: usize,
 ) -> Result<bool, Memory>
     requires kept { AreKept clauses.now notes.old values.old loose.old.items }
@@ -180,7 +181,7 @@ fn settle_first(
     notes: &mut Notes,
     values: &mut Valuation,
     loose: &mut Vec<usize>,
-    fixed: &mut Vec<usize>,
+    fixed: &mut Fixed,
 ) -> Result<bool, Memory>
     requires some { 0 < length loose.old.items }
     requires kept { AreKept clauses.now notes.old values.old loose.old.items }
@@ -201,7 +202,7 @@ fn repair(
     notes: &mut Notes,
     values: &mut Valuation,
     loose: &mut Vec<usize>,
-    fixed: &mut Vec<usize>,
+    fixed: &mut Fixed,
 ) -> Result<(), Memory>
     requires kept { AreKept clauses.now notes.old values.old loose.old.items }
     ensures kept { AreKept clauses.now notes.new values.new loose.new.items }
@@ -218,22 +219,20 @@ fn repair(
     Ok(())
 }
 
-// The atoms of the clause.
-fn put_atoms(atoms: &mut Vec<usize>, c: &[Lit]) -> Result<(), Memory> {
-    atoms.truncate(0);
+// Fixes the atoms of the clause, and no others.
+fn fix_atoms(fixed: &mut Fixed, c: &[Lit]) -> Result<(), Memory> {
+    fixed.clear();
     for l in c {
-        atoms.push(l.atom)?;
+        fixed.insert(l.atom)?;
     }
     Ok(())
 }
 
 // Whether the values, which make all clauses true, make this one false.
-fn is_refuted(clauses: &FlatClauses, notes: &Notes, values: &Valuation, c: &[Lit]) -> bool
-    requires { AreKept clauses.now notes.now values.now [] }
-    ensures { result ≡ true → CanBeFalse clauses.now c.now }
+fn is_refuted(_clauses: &FlatClauses, _notes: &Notes, values: &Valuation, c: &[Lit]) -> bool
+    requires { AreKept _clauses.now _notes.now values.now [] }
+    ensures { result ≡ true → CanBeFalse _clauses.now c.now }
 {
-    let _ = clauses;
-    let _ = notes;
     match true_of(c, values) {
         Some(_) => false,
         None => true,
@@ -246,7 +245,7 @@ pub fn falsify(
     notes: &mut Notes,
     values: &mut Valuation,
     loose: &mut Vec<usize>,
-    fixed: &mut Vec<usize>,
+    fixed: &mut Fixed,
     c: &[Lit],
 ) -> Result<bool, Memory>
     requires within { AtomsBelow (length values.old) c.now }
@@ -255,7 +254,7 @@ pub fn falsify(
     ensures width { length values.new ≡ length values.old }
     ensures refuted { IfOk result (λ refuted. refuted ≡ true → CanBeFalse clauses.now c.now) }
 {
-    put_atoms(fixed, c)?;
+    fix_atoms(fixed, c)?;
     make_all_false(clauses, notes, values, loose, c)?;
     repair(clauses, notes, values, loose, fixed)?;
     if !loose.is_empty() {
