@@ -38,3 +38,4 @@ pub mod Endings
 pub mod Stopped
 pub mod Decisions
 pub mod Logged
+pub mod Alike

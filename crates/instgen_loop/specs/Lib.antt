@@ -24,3 +24,4 @@ pub mod Marks
 pub mod EventLogs
 pub mod Origins
 pub mod ShownRuns
+pub mod Alike

@@ -3,8 +3,9 @@ ghost use Rattle.std.specs.Prelude.{◌≡◌, ◌<◌, ◌≤◌, [], ◌⊎◌
 ghost use Rattle.inst_logic.specs.declared.signed.Signed.{Signed};
 ghost use Rattle.term_bank.specs.Forest.{Extends};
 ghost use Rattle.instgen_select.specs.Queues.{numbers};
-ghost use Rattle.instgen_loop.specs.Loops.{IsSafe, Goes, items, ArePartners, AreWaiting, AreReady, IsSigned, IsPairWorked};
-ghost use Rattle.instgen_loop.specs.Running.{KeepsRunning};
+ghost use Rattle.instgen_loop.specs.Loops.{IsSafe, Goes, items, ArePartners, AreWaiting, AreReady, IsSigned, IsPairWorked, held_of};
+ghost use Rattle.engine_laws.specs.Pairs.{AreWorked};
+ghost use Rattle.instgen_loop.specs.Running.{KeepsRunning, entries_of};
 ghost use Rattle.instgen_loop.specs.Tended.{AreTended, indexed_of};
 
 use crate::infer::{clause_of, literal_at, place_of};
@@ -42,15 +43,16 @@ fn work_entry<S: Solver, I: PartnerIndex>(
     requires safe { IsSafe S.atoms I.pairs I.fits run.old }
     requires within { (0 < n) × (n ≤ length run.old.selection.places) }
     requires partners { ArePartners I.pairs I.fits run.old partners.now }
+    requires worked { AreWorked (entries_of run.old) run.old.selection.places (held_of run.old) (indexed_of I.pairs partners.now) }
     ensures safe { OnOk result (IsSafe S.atoms I.pairs I.fits run.new) }
     ensures goes { OnOk result (Goes run.old run.new) }
     ensures running { OnOk result (KeepsRunning S.atoms S.added run.old run.new) }
     ensures worked { OnOk result ((m : ℕ) → Contains (indexed_of I.pairs partners.now) m → IsPairWorked run.new n m) }
 {
     if is_positive(run, n) {
-        work_with(alloc, run, &partners.negative, n)
+        work_with(alloc, run, &partners.positive, &partners.negative, n)
     } else {
-        work_with(alloc, run, &partners.positive, n)
+        work_with(alloc, run, &partners.negative, &partners.positive, n)
     }
 }
 

@@ -119,3 +119,6 @@ returns-in-None-clause-partners g c = partners_requeued g.I.PartnerIndex.pairs g
 pub returns-in-None-clause-tended : goal.returns-in-None-clause-tended
 returns-in-None-clause-tended g c =
     tended_requeued g.I.PartnerIndex.pairs g.I.PartnerIndex.fits c.loop-run.run c.pick.new.self (ap (λ (q : Passive_list). q.items) c.in-None.ensures.same) c.loop-run.partners c.loop-run.invariant.tended
+
+pub work_entry-requires-clause-worked : goal.work_entry-requires-clause-worked
+work_entry-requires-clause-worked g c = c.loop-run.invariant.tended.worked

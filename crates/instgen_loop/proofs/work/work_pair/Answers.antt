@@ -7,8 +7,9 @@ use Rattle.unify_core.proofs.Stays.{substitutions_stay}
 use Rattle.instgen_loop.proofs.Selected.{same_places}
 use Rattle.instgen_loop.proofs.Inferred.{unified_stays}
 use Rattle.instgen_loop.specs.Loops.{items, IsUnified}
-use Rattle.instgen_loop.proofs.Works.{goes_on, goes_rebound, tree_stays, worked_after, pair_without, selected_within}
+use Rattle.instgen_loop.proofs.Works.{goes_on, goes_rebound, tree_stays, pair_without, selected_within}
 use Rattle.instgen_loop.proofs.Works.{selected_stays}
+use Rattle.instgen_loop.proofs.Alike.{done_or, parts_after}
 use Rattle.instgen_loop.proofs.Opposites.{running_rebound, paired_left, paired_right, opposite_stays, opposite_swapped}
 use Rattle.instgen_loop.proofs.work.work_pair.Goals as goal
 
@@ -22,8 +23,8 @@ returns-then-not-branch-clause-worked g c =
     (tree_stays old (record old { bindings = c.unify.new.self }) rebound entries c.args.j (tree_at old.entries.bank c.selected_atom-b.result) (c.selected_atom-b.result, c.selected_atom-b.ensures, refl))
     (c.in_ok-unify.ensures.no (search rules))
 
-pub infer_where_proper-requires-clause-unified : goal.infer_where_proper-requires-clause-unified
-infer_where_proper-requires-clause-unified g c =
+pub infer_unless_done-requires-clause-unified : goal.infer_unless_done-requires-clause-unified
+infer_unless_done-requires-clause-unified g c =
     let old = c.args.run.now in
     let kinds : AreOfOneKind (tree_at old.entries.bank c.selected_atom-a.result) (tree_at old.entries.bank c.selected_atom-b.result) =
     inl ((selected_within old c.args.i c.selected_atom-a.result c.requires.safe.entries c.selected_atom-a.ensures).1, (selected_within old c.args.j c.selected_atom-b.result c.requires.safe.entries c.selected_atom-b.ensures).1) in
@@ -40,10 +41,10 @@ infer_where_proper-requires-clause-unified g c =
       most_general = general;
     }
 
-pub infer_where_proper-requires-2-clause-unified : goal.infer_where_proper-requires-2-clause-unified
-infer_where_proper-requires-2-clause-unified g c =
+pub infer_unless_done-requires-2-clause-unified : goal.infer_unless_done-requires-2-clause-unified
+infer_unless_done-requires-2-clause-unified g c =
     let old = c.args.run.now in
-    let mid = c.infer_where_proper.new.run in
+    let mid = c.infer_unless_done.new.run in
     let kinds : AreOfOneKind (tree_at old.entries.bank c.selected_atom-a.result) (tree_at old.entries.bank c.selected_atom-b.result) =
     inl ((selected_within old c.args.i c.selected_atom-a.result c.requires.safe.entries c.selected_atom-a.ensures).1, (selected_within old c.args.j c.selected_atom-b.result c.requires.safe.entries c.selected_atom-b.ensures).1) in
     let (s, resolved, general) = c.in_ok-unify.ensures.yes (search rules) in
@@ -58,25 +59,25 @@ infer_where_proper-requires-2-clause-unified g c =
       resolved = resolved;
       most_general = general;
     } in
-    subst (IsUnified mid.entries.bank) (sym c.in_ok-infer_where_proper.ensures.bindings) (unified_stays old.entries.bank mid.entries.bank c.unify.new.self.entries c.in_ok-infer_where_proper.ensures.goes.bank first)
+    subst (IsUnified mid.entries.bank) (sym c.in_ok-infer_unless_done.ensures.bindings) (unified_stays old.entries.bank mid.entries.bank c.unify.new.self.entries c.in_ok-infer_unless_done.ensures.goes.bank first)
 
 pub returns-clause-goes : goal.returns-clause-goes
 returns-clause-goes g c =
     let old = c.args.run.now in
     let same = record old { bindings = c.unify.new.self } in
-    goes_on old c.infer_where_proper.new.run c.infer_where_proper-2.new.run (goes_on old same c.infer_where_proper.new.run (goes_rebound old c.unify.new.self) c.in_ok-infer_where_proper.ensures.goes) c.in_ok-infer_where_proper-2.ensures.goes
+    goes_on old c.infer_unless_done.new.run c.infer_unless_done-2.new.run (goes_on old same c.infer_unless_done.new.run (goes_rebound old c.unify.new.self) c.in_ok-infer_unless_done.ensures.goes) c.in_ok-infer_unless_done-2.ensures.goes
 
 pub returns-clause-worked : goal.returns-clause-worked
 returns-clause-worked g c =
     let old = c.args.run.now in
     let es = c.unify.new.self.entries in
     let same = record old { bindings = c.unify.new.self } in
-    let mid = c.infer_where_proper.new.run in
-    let new = c.infer_where_proper-2.new.run in
+    let mid = c.infer_unless_done.new.run in
+    let new = c.infer_unless_done-2.new.run in
     let t = tree_at old.entries.bank c.selected_atom-a.result in
     let u = tree_at old.entries.bank c.selected_atom-b.result in
-    let one = c.in_ok-infer_where_proper.ensures in
-    let two = c.in_ok-infer_where_proper-2.ensures in
+    let one = c.in_ok-infer_unless_done.ensures in
+    let two = c.in_ok-infer_unless_done-2.ensures in
     let entries = c.requires.safe.entries in
     let later = one.safe.entries in
     let (s, resolved, general) = c.in_ok-unify.ensures.yes (search rules) in
@@ -86,8 +87,11 @@ returns-clause-worked g c =
     subst (λ (bs : List Binding). IsResolvedBy mid.entries.bank bs s) (sym one.bindings) (substitutions_stay old.entries.bank mid.entries.bank es s one.goes.bank (c.in_ok-unify.ensures.bindings (search rules)) resolved) in
     let short : length mid.selection.places ≤ length (items mid) = one.safe.within in
     let places : length mid.selection.places ≡ length old.selection.places = ap length (same_places one.goes.selection) in
-    worked_after same mid new c.args.i c.args.j t u s one.goes two.goes entries later (omega (arith, c.requires.first.1)) (omega (arith, c.requires.second.1)) general first second
-    (one.worked t u s resolved general first) (two.worked t u s resolved_later general (tree_stays same mid one.goes entries c.args.j u second))
+    let within : length old.selection.places ≤ length (items old) = c.requires.safe.within in
+    parts_after same mid new c.args.i c.args.j t u s one.goes two.goes entries later (omega (arith, c.requires.first.1), omega (arith, c.requires.second.1))
+    (omega (arith, c.requires.first.1), omega (arith, c.requires.second.1)) general first second
+    (done_or c.args.done.first c.requires.first_done (λ e. one.worked e t u s resolved general first))
+    (done_or c.args.done.second c.requires.second_done (λ e. two.worked e t u s resolved_later general (tree_stays same mid one.goes entries c.args.j u second)))
 
 pub returns-then-not-branch-clause-running : goal.returns-then-not-branch-clause-running
 returns-then-not-branch-clause-running g c = λ o. running_rebound g.S.Solver.atoms g.S.Solver.added c.args.run.now c.unify.new.self
@@ -99,9 +103,9 @@ returns-clause-running g c = λ o bot cs budget v h.
     let a = c.selected_atom-a.result in
     let b = c.selected_atom-b.result in
     let same = record old { bindings = c.unify.new.self } in
-    let mid = c.infer_where_proper.new.run in
-    let one = c.in_ok-infer_where_proper.ensures in
-    let two = c.in_ok-infer_where_proper-2.ensures in
+    let mid = c.infer_unless_done.new.run in
+    let one = c.in_ok-infer_unless_done.ensures in
+    let two = c.in_ok-infer_unless_done-2.ensures in
     let entries = c.requires.safe.entries in
     let rebound = goes_rebound old c.unify.new.self in
     let (s, resolved, general) = c.in_ok-unify.ensures.yes (search rules) in
