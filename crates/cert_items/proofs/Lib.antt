@@ -6,6 +6,7 @@ pub mod Repeats
 pub mod Orders
 pub mod CanonicalIds
 pub mod Known
+pub mod Spelled
 pub mod PrintableClauses
 pub mod Marked
 pub mod Hints

@@ -6,4 +6,5 @@ pub mod NumberTexts
 pub mod Notes
 pub mod Items
 pub mod Known
+pub mod Spelled
 pub mod Orders

@@ -19,6 +19,7 @@ mod order;
 mod origin;
 mod place;
 mod printable;
+mod recent;
 pub mod shape;
 pub mod symbol;
 mod term_list;

@@ -1,5 +1,5 @@
 // Literals and clauses of a text, read into a bank.
-ghost use Rattle.std.specs.Prelude.{◌≡◌, ◌≢◌, ◌++◌, ◌<◌, ◌∷◌, ℕ, List, length, false, true, map, IsTrue, IfOk, IfSome, IfNone, None};
+ghost use Rattle.std.specs.Prelude.{◌≡◌, ◌≢◌, ◌++◌, ◌<◌, ◌≤◌, ◌∷◌, ℕ, List, length, false, true, map, IsTrue, IfOk, IfSome, IfNone, None};
 ghost use Rattle.inst_logic.specs.declared.symbol.Kind.{Kind};
 ghost use Rattle.inst_logic.specs.declared.symbol.Kind.TheVariants.{Predicate, Equality, Function};
 ghost use Rattle.term_bank.specs.Forest.{tree_at, AreIds, IsAt, Grows};
@@ -13,6 +13,7 @@ ghost use Rattle.inst_logic.specs.Codes as byte;
 use crate::mark::{mark, word};
 use crate::name::name;
 use crate::number::number;
+use crate::recent::{Candidate, candidate_of};
 use crate::terms::{goes_on, terms};
 use crate::text_bank::{TextBank, apply};
 use inst_logic::{Kind, Memory, Name, Sym};
@@ -234,8 +235,8 @@ fn negated<'a>(
     }
 }
 
-/// The literal at the front, and what follows it.
-pub fn literal<'a>(
+// The literal at the front, read term by term, and what follows it.
+fn read_literal<'a>(
     alloc: Global,
     bank: &mut TextBank,
     ids: &mut Vec<TermId>,
@@ -248,5 +249,88 @@ pub fn literal<'a>(
     match mark(bytes, b'~') {
         Some(after) => negated(alloc, bank, ids, after),
         None => unsigned(alloc, bank, ids, bytes),
+    }
+}
+
+// The literal at the front that was read before, and what follows it.
+fn known_literal<'a>(
+    bank: &TextBank,
+    candidate: Candidate,
+    bytes: &'a [u8],
+) -> Option<(IdLiteral, &'a [u8])>
+    requires { candidate.len ≤ length bytes.now }
+    ensures { IfSome result (λ p. IsLiteralAt bank.now p.0 bytes.now p.1.now) }
+{
+    let (text, rest) = bytes.split_at(candidate.len);
+    if goes_on(rest) {
+        return None;
+    }
+    match equality_sign(rest) {
+        Some(_) => None,
+        None => match bank.spelled(text, candidate.code) {
+            None => None,
+            Some(l) => Some((l, rest)),
+        },
+    }
+}
+
+// Remembers the literal at the front, where it is the candidate.
+fn note_literal(
+    alloc: Global,
+    bank: &mut TextBank,
+    candidate: Candidate,
+    bytes: &[u8],
+    rest: &[u8],
+    l: &IdLiteral,
+) -> Result<(), Memory>
+    requires within { candidate.len ≤ length bytes.now }
+    requires literal { IsLiteralAt bank.old l.now bytes.now rest.now }
+    ensures { bank.new ≡ bank.old }
+{
+    let (text, after) = bytes.split_at(candidate.len);
+    if after.len() != rest.len() {
+        return Ok(());
+    }
+    bank.note(alloc, text, candidate.code, l)
+}
+
+// The literal at the front, which was not remembered, and what follows it.
+fn new_literal<'a>(
+    alloc: Global,
+    bank: &mut TextBank,
+    ids: &mut Vec<TermId>,
+    candidate: Candidate,
+    bytes: &'a [u8],
+) -> Result<Option<(IdLiteral, &'a [u8])>, Memory>
+    requires within { candidate.len ≤ length bytes.now }
+    ensures grows { Grows bank.old bank.new }
+    ensures some { IfOk result (λ r. IfSome r (λ p. IsLiteralAt bank.new p.0 bytes.now p.1.now)) }
+    ensures none { IfOk result (λ r. IfNone r (NoForm bytes.now)) }
+{
+    match read_literal(alloc, bank, ids, bytes) {
+        Err(e) => Err(e),
+        Ok(None) => Ok(None),
+        Ok(Some((l, rest))) => {
+            note_literal(alloc, bank, candidate, bytes, rest, &l)?;
+            Ok(Some((l, rest)))
+        }
+    }
+}
+
+/// The literal at the front, and what follows it.
+pub fn literal<'a>(
+    alloc: Global,
+    bank: &mut TextBank,
+    ids: &mut Vec<TermId>,
+    bytes: &'a [u8],
+) -> Result<Option<(IdLiteral, &'a [u8])>, Memory>
+    ensures grows { Grows bank.old bank.new }
+    ensures some { IfOk result (λ r. IfSome r (λ p. IsLiteralAt bank.new p.0 bytes.now p.1.now)) }
+    ensures none { IfOk result (λ r. IfNone r (NoForm bytes.now)) }
+{
+    let candidate = candidate_of(bytes);
+    match known_literal(bank, candidate, bytes) {
+        Some((l, rest)) => Ok(Some((l, rest))),
+        None => new_literal(alloc, bank, ids, candidate, bytes),
     }
 }

@@ -1,22 +1,24 @@
 // A bank with what is remembered of the names that were read into it: for each name as it is printed an application of a symbol
 // of that name. Nearly every name of a text has been read before, and then neither a name nor a symbol is made of it, and a
-// constant is found by one look-up.
-ghost use Rattle.std.specs.Prelude.{◌≡◌, ℕ, List, [], ◌<◌, length, false, map, None, IsTrue, ◌↔◌, IfOk};
+// constant is found by one look-up. The literals that were read are remembered too.
+ghost use Rattle.std.specs.Prelude.{◌≡◌, ℕ, List, [], ◌<◌, length, false, map, None, IsTrue, ◌↔◌, IfOk, IfSome};
 ghost use Rattle.inst_logic.specs.declared.signed.Signed.{Signed};
 ghost use Rattle.inst_logic.specs.Clauses.{IsCanonical};
 ghost use Rattle.inst_logic.specs.Tree.{var, app, of_list};
 ghost use Rattle.term_bank.specs.Forest.{tree_at, IsAt, AreIds, Extends, AreFormed, IsFormed, IsClauseOf, clause_at, Grows};
 ghost use Rattle.cert_format.specs.Names.{IsNameText};
 ghost use Rattle.cert_items.specs.Known.{IsKnown, AreKnown, remembered};
+ghost use Rattle.cert_items.specs.Spelled.{IsSpelled};
 ghost use Rattle.cert_items.specs.Reading.{IsApplied};
 
 use crate::canonical::is_canonical as is_canonical_in;
+use crate::recent::Recent;
 use crate::symbol::apply_named;
 use indexmap::IndexMap;
 use inst_logic::{Kind, Memory, Sym};
 use std::alloc::Global;
 use std::marker::Model;
-use term_bank::{Bank, IdClause, TermId};
+use term_bank::{Bank, IdClause, IdLiteral, TermId};
 
 // An application of the symbol of a name that was read, and the symbol's kind and arity.
 #[derive(Clone, Copy)]
@@ -31,11 +33,13 @@ pub struct Known {
 pub struct TextBank {
     bank: Bank,
     known: IndexMap<Vec<u8>, Known>,
+    recent: Recent,
 }
 
 impl Model for TextBank {
     ghost use Rattle.term_bank.specs.Forest.{Forest, forest_code};
     ghost use Rattle.cert_items.specs.Known.{AreKnown};
+    ghost use Rattle.cert_items.specs.Spelled.{AreSpelled};
 
     ghost Value = { Forest };
 
@@ -43,7 +47,7 @@ impl Model for TextBank {
 
     ghost view = { λ t. t.bank };
 
-    ghost invariant = { λ t. AreKnown t.bank t.known.entries };
+    ghost invariant = { λ t. AreKnown t.bank t.known.entries × AreSpelled t.bank t.recent.literals.items };
 }
 
 // What is remembered of the name that is printed so.
@@ -156,6 +160,7 @@ impl TextBank {
         TextBank {
             bank: Bank::new(alloc),
             known: IndexMap::new(alloc),
+            recent: Recent::new(alloc),
         }
     }
 
@@ -172,6 +177,27 @@ impl TextBank {
         ensures { (c d : List (Signed ℕ)) → IsClauseOf self.now c → IsClauseOf self.now d → clause_at self.now c ≡ clause_at self.now d → c ≡ d }
     {
         self.bank.distinct();
+    }
+
+    // The literal whose text, which has this code, this is, where it is remembered.
+    pub(crate) fn spelled(&self, text: &[u8], code: usize) -> Option<IdLiteral>
+        ensures { IfSome result (IsSpelled self.now text.now) }
+    {
+        self.recent.find(text, code)
+    }
+
+    // Remembers the literal by its text, which has this code.
+    pub(crate) fn note(
+        &mut self,
+        alloc: Global,
+        text: &[u8],
+        code: usize,
+        literal: &IdLiteral,
+    ) -> Result<(), Memory>
+        requires { IsSpelled self.old text.now literal.now }
+        ensures { self.new ≡ self.old }
+    {
+        self.recent.note(alloc, text, code, literal)
     }
 
     // The id of the variable of this number.

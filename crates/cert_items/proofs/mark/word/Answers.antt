@@ -1,19 +1,34 @@
-use Rattle.std.proofs.lemmas.Bool.Decides.{Decides-eqb}
-use Rattle.std.proofs.lemmas.Slice.Eq.{strip_prefix_is}
-use Rattle.std.proofs.Common.{List, ℕ, Option, Some, None, IfSome, IfNone, Bor}
-use Rattle.std.specs.Option.{MatchOption}
+use Rattle.std.proofs.Common.{◌≡◌, ◌∷◌, ◌++◌, ◌+◌, List, ℕ, suc, sym, ap, ◌∙◌, arith, drop, slice_index_or, drop-cons}
+use Rattle.std.proofs.lemmas.List.{drop_all}
 use Rattle.cert_items.proofs.mark.word.Goals as goal
 
-if_some : (r : Option (Bor (List ℕ))) (P : Type 0) (Q : Bor (List ℕ) → Type 0) → MatchOption r P Q → IfSome r Q
-if_some None P Q h = tt
-if_some (Some x) P Q h = h
+pub loop-byte-init : goal.loop-byte-init
+loop-byte-init c x = ((λ e. e), (λ e. e))
 
-if_none : (r : Option (Bor (List ℕ))) (P : Type 0) (Q : Bor (List ℕ) → Type 0) → MatchOption r P Q → IfNone r P
-if_none None P Q h = h
-if_none (Some x) P Q h = tt
+pub loop-byte-preserved : goal.loop-byte-preserved
+loop-byte-preserved c x =
+    let i = c.loop-byte.byte-index in
+    let ws = c.args.word.now in
+    let after = c.in-Some.after.now in
+    let d = slice_index_or ws i 0 in
+    let e : drop i ws ≡ d ∷ drop (suc i) ws = drop-cons ws i 0 c.loop-byte-test.true in
+    let n : suc i ≡ i + 1 = omega arith in
+    let m : c.loop-byte.rest.now ≡ d ∷ after = c.in-Some.ensures.some in (
+      (λ h. (c.loop-byte.invariant x).0 (m ∙ ap (λ (bs : List ℕ). d ∷ bs) h ∙ ap (λ (k : ℕ). d ∷ (drop k ws ++ x)) (sym n) ∙ ap (λ (bs : List ℕ). bs ++ x) (sym e))),
+      (λ h.
+          let z : d ∷ after ≡ d ∷ (drop (suc i) ws ++ x) = sym m ∙ (c.loop-byte.invariant x).1 h ∙ ap (λ (bs : List ℕ). bs ++ x) e in
+          let t : after ≡ drop (suc i) ws ++ x = cc in
+          t ∙ ap (λ (k : ℕ). drop k ws ++ x) n),
+    )
+
+pub returns-in-None-clause-none : goal.returns-in-None-clause-none
+returns-in-None-clause-none c x h =
+    let i = c.loop-byte.byte-index in
+    let ws = c.args.word.now in
+    let e : drop i ws ≡ slice_index_or ws i 0 ∷ drop (suc i) ws = drop-cons ws i 0 c.loop-byte-test.true in
+    c.in-None.ensures.none (drop (suc i) ws ++ x) ((c.loop-byte.invariant x).1 h ∙ ap (λ (bs : List ℕ). bs ++ x) e)
 
 pub returns-clause-some : goal.returns-clause-some
-returns-clause-some c = if_some c.strip_prefix.result _ _ (strip_prefix_is Decides-eqb c.args.bytes.now c.args.word.now c.strip_prefix.result c.strip_prefix.ensures.cases)
-
-pub returns-clause-none : goal.returns-clause-none
-returns-clause-none c = if_none c.strip_prefix.result _ _ (strip_prefix_is Decides-eqb c.args.bytes.now c.args.word.now c.strip_prefix.result c.strip_prefix.ensures.cases)
+returns-clause-some c =
+    let rest = c.loop-byte.rest.now in
+    (c.loop-byte.invariant rest).0 (sym (ap (λ (bs : List ℕ). bs ++ rest) (drop_all c.loop-byte.byte-index c.args.word.now c.loop-byte-test.false)))
