@@ -1,11 +1,11 @@
 -- Words ask at most one thing.
-use Rattle.std.proofs.Common.{◌≡◌, ◌∙◌, ℕ, ◌<◌, ◌≤◌, List, Option, Some, None, false, sym, ap, arith, rules, codes, refl}
+use Rattle.std.proofs.Common.{◌≡◌, ◌∙◌, ℕ, ◌≤◌, List, Option, Some, None, false, sym, ap, arith, rules, codes, refl}
 use Rattle.std.proofs.Math.Dec.{eqb}
 use Rattle.std.proofs.lemmas.Option.{same_Some}
 use Rattle.inst_logic.specs.Tree.{Tree}
 use Rattle.inst_logic.specs.declared.signed.Signed.{Signed}
 use Rattle.cert_format.specs.Printable.{IsTextName}
-use Rattle.command_words.specs.Asked.{Asked, IsAsked, SaysAtom, SaysBudget, SaysElements, SaysLength, name_of, prove, sat, check, rewrite, ask, stress, qbf, fmodel, core, word_of}
+use Rattle.command_words.specs.Asked.{Asked, IsAsked, IsWithin, SaysAtom, SaysBudget, SaysNumber, name_of, prove, sat, check, rewrite, ask, stress, qbf, fmodel, core, word_of}
 use Rattle.command_words.proofs.AtomTexts.{same_reading}
 use Rattle.command_words.proofs.FirstWords.{differ, second}
 
@@ -21,13 +21,13 @@ same_atom : (given : Option (List ℕ)) (a b : Signed Tree) → SaysAtom given a
 same_atom None a b h k = absurd h
 same_atom (Some text) a b h k = same_reading text a b h k
 
-same_length : (given : Option (List ℕ)) (m n : ℕ) → SaysLength given m → SaysLength given n → m ≡ n
-same_length None m n h k = absurd h
-same_length (Some text) m n h k = sym h.0.value ∙ k.0.value
+same_number : (least greatest most : ℕ) (given : Option (List ℕ)) (m n : ℕ) → SaysNumber least greatest most given m → SaysNumber least greatest most given n → m ≡ n
+same_number least greatest most None m n h k = absurd h
+same_number least greatest most (Some text) m n h k = sym h.0.value ∙ k.0.value
 
-same_elements : (given : Option (List ℕ)) (m n : ℕ) → SaysElements given m → SaysElements given n → m ≡ n
-same_elements None m n h k = absurd h
-same_elements (Some text) m n h k = sym h.0.value ∙ k.0.value
+within_bounds : (least greatest most : ℕ) (given : Option (List ℕ)) (n : ℕ) → SaysNumber least greatest most given n → (least ≤ n) × (n ≤ greatest)
+within_bounds least greatest most None n h = absurd h
+within_bounds least greatest most (Some text) n h = (h.1, h.2)
 
 same_prove : (f g : List ℕ) (r s : Option (List ℕ)) (m n : ℕ) → f ≡ g → r ≡ s → m ≡ n → prove f r m ≡ prove g s n
 same_prove f g r s m n a b c = cc
@@ -64,10 +64,10 @@ once words (rewrite c p r) (check d q s) h k = absurd (k.says.3 h.says.3)
 once words (rewrite c p r) (rewrite d q s) h k = same_rewrite c d p q r s
     (same_Some c d (sym h.says.0.0 ∙ k.says.0.0)) (sym h.says.1.0 ∙ k.says.1.0) (sym h.says.2.0 ∙ k.says.2.0)
 once words (ask c a) (ask d b) h k = same_ask c d a b (same_Some c d (sym h.says.0.0 ∙ k.says.0.0)) (same_atom _ a b h.says.1 k.says.1)
-once words (stress m) (stress n) h k = ap stress (same_length _ m n h.says k.says)
+once words (stress m) (stress n) h k = ap stress (same_number 2 100000 6 _ m n h.says k.says)
 once words (qbf f) (qbf g) h k = ap qbf (same_Some f g (sym h.says.0 ∙ k.says.0))
 once words (fmodel m f r) (fmodel n g s) h k = same_fmodel m n f g r s
-    (same_elements _ m n h.says.0 k.says.0) (same_Some f g (sym h.says.1.0 ∙ k.says.1.0)) (sym h.says.2.0 ∙ k.says.2.0)
+    (same_number 1 64 2 _ m n h.says.0 k.says.0) (same_Some f g (sym h.says.1.0 ∙ k.says.1.0)) (sym h.says.2.0 ∙ k.says.2.0)
 once words (core f r) (core g s) h k = same_core f g r s (same_Some f g (sym h.says.0.0 ∙ k.says.0.0)) (sym h.says.1.0 ∙ k.says.1.0)
 once words a b h k = other_word words a b h k refl
 
@@ -85,19 +85,8 @@ named words (qbf f) h = h.says.1
 named words (fmodel m f r) h = h.says.1.1
 named words (core f r) h = h.says.0.1
 
-pub budget_limit : (words : List (List ℕ)) (file : List ℕ) (root : Option (List ℕ)) (budget : ℕ) → IsAsked words (prove file root budget) → budget ≤ 1000000000000
-budget_limit words file root budget h = small_budget _ budget h.says.2
-
-range_of : (given : Option (List ℕ)) (n : ℕ) → SaysLength given n → (2 ≤ n) × (n ≤ 100000)
-range_of None n h = absurd h
-range_of (Some text) n h = (h.1, h.2)
-
-pub length_range : (words : List (List ℕ)) (n : ℕ) → IsAsked words (stress n) → (2 ≤ n) × (n ≤ 100000)
-length_range words n h = range_of _ n h.says
-
-elements_within : (given : Option (List ℕ)) (n : ℕ) → SaysElements given n → (0 < n) × (n ≤ 64)
-elements_within None n h = absurd h
-elements_within (Some text) n h = (h.1, h.2)
-
-pub elements_range : (words : List (List ℕ)) (elements : ℕ) (file : List ℕ) (root : Option (List ℕ)) → IsAsked words (fmodel elements file root) → (0 < elements) × (elements ≤ 64)
-elements_range words elements file root h = elements_within _ elements h.says.0
+pub within : (words : List (List ℕ)) (a : Asked) → IsAsked words a → IsWithin a
+within words (prove f r m) h = small_budget _ m h.says.2
+within words (stress m) h = within_bounds 2 100000 6 _ m h.says
+within words (fmodel m f r) h = within_bounds 1 64 2 _ m h.says.0
+within words a h = tt

@@ -1,7 +1,5 @@
 mod Numerals
-mod SimpleCommands
 mod Parses
 mod FirstWords
 mod AtomTexts
 mod AskedOnce
-mod ExampleWords

@@ -1,4 +1,4 @@
--- The commands, each as it is told to the parser of command lines, and what that parser makes of words. It passes over the
+-- The parts of commands, as they are told to the parser of command lines, and what that parser makes of words. It passes over the
 -- first word, which is the command's own.
 use Rattle.std.specs.Prelude.{◌≡◌, List, [], Option, Some, true, codes}
 use Rattle.clap.specs.Words.{App, Rule, Text, fault_of, first_of, matches_of, new_app, new_rule, with_rule}
@@ -23,26 +23,6 @@ file_command word = with_rule (new_app word) (wanted (codes "file"))
 -- a command that takes a file, with `--root DIR` or without
 unfoldable pub problem_command : Text → App
 problem_command word = with_rule (file_command word) (optional (codes "root"))
-
--- `prove FILE`, with `--root DIR` and `--budget N` or without
-unfoldable pub prove_command : App
-prove_command = with_rule (problem_command (codes "prove")) (optional (codes "budget"))
-
--- `check CERT`, with `--problem FILE`, `--root DIR` and `--rewrite` or without
-unfoldable pub check_command : App
-check_command = with_rule (with_rule (with_rule (with_rule (new_app (codes "check")) (wanted (codes "cert"))) (optional (codes "problem"))) (optional (codes "root"))) (flag (codes "rewrite"))
-
--- `ask CERT ATOM`
-unfoldable pub ask_command : App
-ask_command = with_rule (with_rule (new_app (codes "ask")) (wanted (codes "cert"))) (wanted (codes "atom"))
-
--- `stress N`
-unfoldable pub stress_command : App
-stress_command = with_rule (new_app (codes "stress")) (wanted (codes "number"))
-
--- `fmodel K FILE`, with `--root DIR` or without
-unfoldable pub fmodel_command : App
-fmodel_command = with_rule (with_rule (with_rule (new_app (codes "fmodel")) (wanted (codes "number"))) (wanted (codes "file"))) (optional (codes "root"))
 
 -- the parser finds no fault in the words
 unfoldable pub IsTaken : App → List Text → Type 0

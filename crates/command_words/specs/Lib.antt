@@ -1,5 +1,4 @@
 pub mod Commands
 pub mod Numbers
 pub mod Asked
-pub mod Requests
 pub mod Errors

@@ -1,9 +1,11 @@
-// Worked examples of the definitions, as theorems: each function does nothing, and its clauses are closed facts.
+// Worked examples of the definitions, as theorems: the function does nothing, and its clauses are closed facts.
 ghost use Rattle.std.specs.Prelude.{[], ◌∷◌, Some, None, codes};
 ghost use Rattle.command_words.specs.Asked.{IsAsked, IsUnread, prove, sat, check, rewrite, stress, qbf, fmodel, core};
 
 /// Options stand on either side of the file, with `=` or as a word of their own; zeros may stand in front; behind `--` a file may
-/// begin with `-`.
+/// begin with `-`. Nothing is asked by no command, no file or two, an option of another command or one given twice, a flag with a
+/// value or twice, a budget past the limit, a certificate without an atom, a chain without a length or of one constant, a model
+/// without a file, without an element or with too many, and what `clap` would answer by help.
 pub fn asking()
     ensures file { IsAsked (codes "prove" ∷ codes "f.p" ∷ []) (prove (codes "f.p") None 10000000) }
     ensures root { IsAsked (codes "prove" ∷ codes "--root" ∷ codes "d" ∷ codes "f.p" ∷ []) (prove (codes "f.p") (Some (codes "d")) 10000000) }
@@ -18,12 +20,7 @@ pub fn asking()
     ensures formula { IsAsked (codes "qbf" ∷ codes "x" ∷ []) (qbf (codes "x")) }
     ensures model { IsAsked (codes "fmodel" ∷ codes "04" ∷ codes "--root=d" ∷ codes "f.p" ∷ []) (fmodel 4 (codes "f.p") (Some (codes "d"))) }
     ensures core { IsAsked (codes "core" ∷ codes "f.p" ∷ []) (core (codes "f.p") None) }
-{}
-
-/// No command, no file or two, an option of another command or one given twice, a flag with a value or twice, a budget past the
-/// limit, a certificate without an atom, a chain without a length or of one constant, a model without a file, without an element or
-/// with too many, and what `clap` would answer by help.
-pub fn asking_nothing()
+    // Words that ask nothing.
     ensures empty { IsUnread [] }
     ensures help { IsUnread (codes "--help" ∷ []) }
     ensures no_file { IsUnread (codes "prove" ∷ []) }

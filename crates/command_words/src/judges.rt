@@ -7,7 +7,7 @@ ghost use Rattle.inst_logic.specs.Tree.{Tree};
 ghost use Rattle.inst_logic.specs.declared.signed.Signed.{Signed};
 ghost use Rattle.cert_format.specs.Printable.{IsTextName};
 ghost use Rattle.tptp_read.specs.Atoms.{ReadsAtom};
-ghost use Rattle.command_words.specs.Asked.{IsSet, SaysAtom, SaysBudget, SaysElements, SaysFile, SaysLength, SaysOther};
+ghost use Rattle.command_words.specs.Asked.{IsSet, SaysAtom, SaysBudget, SaysFile, SaysNumber, SaysOther};
 ghost use Rattle.command_words.specs.Errors as wanting;
 ghost use Rattle.command_words.specs.Numbers.{IsNumber};
 
@@ -157,24 +157,13 @@ fn number_within(least: u64, greatest: u64, most: usize, word: &str) -> Option<u
     }
 }
 
-// The length of a chain that is given, which has to be.
-pub(crate) fn length_in(word: Option<&str>) -> Option<usize>
-    ensures { MatchOption result ((n : ℕ) → ¬ SaysLength (option_map (λ w. w.now) word.entry) n)
-        (SaysLength (option_map (λ w. w.now) word.entry)) }
+// The number within these bounds that is given, which has to be, in 1 to `most` digits.
+pub(crate) fn number_in(least: u64, greatest: u64, most: usize, word: Option<&str>) -> Option<usize>
+    ensures { MatchOption result ((n : ℕ) → ¬ SaysNumber least greatest most (option_map (λ w. w.now) word.entry) n)
+        (SaysNumber least greatest most (option_map (λ w. w.now) word.entry)) }
 {
     match word {
-        Some(text) => number_within(2, 100_000, 6, text),
-        None => None,
-    }
-}
-
-// The number of a model's elements that is given, which has to be.
-pub(crate) fn elements_in(word: Option<&str>) -> Option<usize>
-    ensures { MatchOption result ((n : ℕ) → ¬ SaysElements (option_map (λ w. w.now) word.entry) n)
-        (SaysElements (option_map (λ w. w.now) word.entry)) }
-{
-    match word {
-        Some(text) => number_within(1, 64, 2, text),
+        Some(text) => number_within(least, greatest, most, text),
         None => None,
     }
 }

@@ -7,8 +7,6 @@ pub mod examples;
 mod judges;
 pub mod laws;
 mod matched;
-mod read;
 mod request;
 
-pub use read::read_words;
-pub use request::Request;
+pub use request::{Request, read_words};

@@ -1,10 +1,17 @@
-use Rattle.std.proofs.Common.{◌∙◌, ap, codes}
+use Rattle.std.proofs.Common.{◌≡◌, ◌∙◌, ℕ, List, true, ap, codes, refl}
 use Rattle.std.proofs.lemmas.Result.{IfOk-weaker}
-use Rattle.clap.specs.Words.{with_rule}
+use Rattle.clap.specs.Words.{is_simple_and_free, with_rule}
+use Rattle.clap.proofs.OnLiterals.{clap_on_literals}
 use Rattle.command_words.specs.Commands.{file_command, wanted}
 use Rattle.command_words.proofs.commands.make_of_file.Goals as goal
+
+-- whatever the command's word
+made_is_simple : (word : List ℕ) → is_simple_and_free (file_command word) ≡ true
+unfolding file_command clap_on_literals
+made_is_simple word = refl
 
 pub returns : goal.returns
 unfolding file_command
 returns c =
-    IfOk-weaker c.with_word.result _ _ (λ _ e. e ∙ ap (λ a. with_rule a (wanted (codes "file"))) c.new.ensures.app) c.with_word.ensures
+    let told = IfOk-weaker c.with_word.result _ _ (λ _ e. e ∙ ap (λ a. with_rule a (wanted (codes "file"))) c.new.ensures.app) c.with_word.ensures in
+    record { told = told; simple = IfOk-weaker c.with_word.result _ _ (λ _ e. ap is_simple_and_free e ∙ made_is_simple c.args.word.now) told }
