@@ -1,5 +1,4 @@
 pub mod AskedAtoms
-pub mod Causes
 pub mod ChainClauses
 pub mod ChainModels
 pub mod CheckedDecisions

@@ -43,14 +43,12 @@ use Rattle.dimacs_front.specs.declared.error.DimacsError.TheVariants as fault
 use Rattle.dimacs_front.specs.declared.file.SatError.{SatError}
 use Rattle.dimacs_front.specs.declared.file.SatError.TheVariants as bar
 use Rattle.szs_prove.specs.Answers.{HasVerdict, IsOutOfBudget, IsProblemOf, IsProof, IsRefusal, Reading}
-use Rattle.szs_prove.specs.Causes.{IsAnswer, IsCoreOutcome, IsFinding, IsModelOutcome, IsReplyOf, IsRewritingOf}
+use Rattle.szs_prove.specs.Answered.{Answered, Finding, Finds, IsAnswer, IsBarred, IsCoreOutcome, IsExact, IsFinding, IsFlat, IsLoaded, IsModelOutcome, IsRead, IsRefusedBy, IsReplyOf, IsRewritingOf, IsTabled, IsWanted, Reader, Situation, Stands, Wants, Writing, Yields, ask_exit, asks, check_exit, core_exit, exit_for, fmodel_exit, judgement_exit, prove_exit, qbf_exit, reply_exit, rewriting_exit, sat_exit, stress_exit, unjudged_status, unread}
+use Rattle.szs_prove.specs.Texts.{exit_of, load_status, text_status}
 use Rattle.szs_prove.specs.Applications.{IsFirstWithFunctions}
 use Rattle.szs_prove.specs.CoreAnswers.{HasCoreAnswer}
 use Rattle.szs_prove.specs.Formulas.{IsFormulaOutcome, IsFormulaRefused}
 use Rattle.szs_prove.specs.ModelAnswers.{HasModelAnswer}
-use Rattle.szs_prove.specs.Answered.{Answered, Writing}
-use Rattle.szs_prove.specs.Situations.{Finding, Finds, IsBarred, IsExact, IsFlat, IsLoaded, IsRead, IsRefusedBy, IsTabled, IsWanted, Reader, Situation, Stands, Wants, Yields, asks, unread}
-use Rattle.szs_prove.specs.Texts.{ask_exit, check_exit, core_exit, exit_for, exit_of, fmodel_exit, judgement_exit, load_status, prove_exit, qbf_exit, reply_exit, rewriting_exit, sat_exit, stress_exit, text_status, unjudged_status}
 use Rattle.dimacs_front.specs.Notices.{fault_status as status_of_text}
 use Rattle.szs_prove.proofs.Endings.{AsksOne}
 use Rattle.szs_prove.proofs.FirstFunctions.{not_free, one_first}

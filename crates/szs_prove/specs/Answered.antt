@@ -1,41 +1,286 @@
--- What a run of the program did.
-use Rattle.std.specs.Prelude.{ℕ, ◌≡◌, ◌⊎◌, List, Option, Some, Ok, IsTrue, codes}
+-- What the program answers, command by command: what is told, for which cause, how the program ends, and when it ends so.
+use Rattle.std.specs.Prelude.{Bool, Err, IsFalse, IsTrue, List, None, Ok, Option, Result, Some, [], codes, decimal, length, ℕ, ⊤, ◌<◌, ◌∷◌, ◌≡◌, ◌⊎◌}
+use Rattle.std.specs.List.{concat}
 use Rattle.std.specs.Io.KnownBytes.{Appends}
+use Rattle.inst_logic.specs.declared.memory.Memory.{Memory as OutOfMemory}
+use Rattle.outside_io.specs.Notices.{notice_text}
+use Rattle.outside_io.specs.declared.notices.Status.{Status}
+use Rattle.tptp_load.specs.declared.error.LoadError.{LoadError}
+use Rattle.cert_front.specs.Texts.{fault_reason, fault_status}
+use Rattle.cert_front.specs.Words.{judgement_line, reply_line}
+use Rattle.cert_front.specs.declared.check.CheckFault.{CheckFault}
+use Rattle.cert_front.specs.declared.fault.CertFault.{CertFault}
+use Rattle.cert_front.specs.declared.judgement.Judgement.{Judgement}
+use Rattle.cert_front.specs.declared.reply.Reply.{Reply}
+use Rattle.cert_front.specs.declared.rewriting.Rewriting.{Rewriting}
+use Rattle.cert_front.specs.declared.words.Form.{Form}
+use Rattle.dimacs_front.specs.Notices.{refusal_reason, refusal_status}
+use Rattle.dimacs_front.specs.declared.answers.SatAnswer.{SatAnswer}
+use Rattle.dimacs_front.specs.declared.file.SatError.{SatError}
+use Rattle.szs_prove.specs.SizeWords.{size_lines}
+use Rattle.szs_prove.specs.declared.answer.Answer.{Answer}
+use Rattle.szs_prove.specs.declared.answer.Answer.TheVariants.{Ask, Check, Core, Fmodel, NoWords, Prove, Qbf, Rewrite, Sat, Stress, Unread}
+use Rattle.szs_prove.specs.declared.cores.CoreRefusal.{CoreRefusal}
+use Rattle.szs_prove.specs.declared.exit.Exit.{Exit}
+use Rattle.szs_prove.specs.declared.formula.FormulaAnswer.{FormulaAnswer}
+use Rattle.szs_prove.specs.declared.formula.FormulaAnswer.TheVariants.{False, True}
+use Rattle.szs_prove.specs.declared.model.ModelRefusal.{ModelRefusal}
+use Rattle.szs_prove.specs.declared.refusal.Refusal.{Refusal}
+use Rattle.szs_prove.specs.declared.sizes.Size.{Size}
 use Rattle.inst_logic.specs.Tree.{Tree}
 use Rattle.inst_logic.specs.declared.signed.Signed.{Signed}
+use Rattle.cert_front.specs.Checks.{IsCheckFault, IsFound, IsJudged}
+use Rattle.cert_front.specs.Queries.{IsAskFault, IsFoundReply, IsReplied}
+use Rattle.cert_front.specs.Rewritings.{IsRewritten}
+use Rattle.command_words.specs.Asked.{Asked, IsAsked, IsUnread, ask, check, core, fmodel, name_of, prove, qbf, rewrite, sat, stress}
+use Rattle.dimacs_front.specs.Files.{IsHeld, IsOutcome, limit}
+use Rattle.szs_prove.specs.Answers.{IsOutOfBudget, IsProof, IsUntouched, IsVerdict, Reading}
+use Rattle.szs_prove.specs.CoreAnswers.{HasCoreAnswer, IsCoreRefusal}
+use Rattle.szs_prove.specs.Formulas.{IsFalseFormula, IsFormulaAnswer, IsFormulaOutcome, IsTrueFormula}
+use Rattle.szs_prove.specs.ModelAnswers.{HasModelAnswer, IsModelRefusal}
+use Rattle.szs_prove.specs.Sizes.{IsRefutedIn}
 use Rattle.outside_io.specs.Seen.{Seen}
 use Rattle.outside_io.specs.Taken.{AppendsProperPrefix}
 use Rattle.outside_io.specs.declared.library.NamedFile.{NamedFile}
 use Rattle.cert_format.specs.Certificate.{Certificate}
 use Rattle.cert_format.specs.Text.{written_text}
 use Rattle.cert_format.specs.ValueLines.{IsCertificateText}
-use Rattle.cert_front.specs.Words.{judgement_line, reply_line}
-use Rattle.cert_front.specs.declared.judgement.Judgement.{Judgement}
-use Rattle.cert_front.specs.declared.reply.Reply.{Reply}
-use Rattle.cert_front.specs.declared.rewriting.Rewriting.TheVariants.{Text}
-use Rattle.cert_front.specs.declared.words.Form.{Form}
-use Rattle.szs_prove.specs.Sizes.{IsRefutedIn}
-use Rattle.szs_prove.specs.SizeWords.{size_lines}
-use Rattle.szs_prove.specs.declared.sizes.Size.{Size}
-use Rattle.cert_front.specs.Checks.{IsJudged}
-use Rattle.cert_front.specs.Queries.{IsReplied}
-use Rattle.cert_front.specs.Rewritings.{IsRewritten}
-use Rattle.command_words.specs.Asked.{Asked, prove, check, rewrite, ask, stress, qbf, fmodel, core, IsAsked, name_of}
-use Rattle.dimacs_front.specs.Files.{IsHeld}
 use Rattle.dimacs_front.specs.Quantified.{formula_in}
 use Rattle.dimacs_front.specs.declared.cnf.Qbf.{Qbf}
-use Rattle.szs_prove.specs.Answers.{Reading, IsVerdict, IsOutOfBudget, IsUntouched}
-use Rattle.szs_prove.specs.Causes.{IsAnswer}
-use Rattle.szs_prove.specs.CoreAnswers.{HasCoreAnswer}
-use Rattle.szs_prove.specs.Formulas.{IsFormulaAnswer}
-use Rattle.szs_prove.specs.ModelAnswers.{HasModelAnswer}
-use Rattle.szs_prove.specs.Texts.{exit_for, judgement_exit, refusal_text, reply_exit, text_for, value_exit, value_text, want_text}
 use Rattle.szs_prove.specs.Written.{IsWritten}
-use Rattle.szs_prove.specs.declared.answer.Answer.{Answer}
-use Rattle.szs_prove.specs.declared.exit.Exit.{Exit}
-use Rattle.szs_prove.specs.declared.exit.Exit.TheVariants.{Decided, WriteFault, Memory, Sat, Unsat, CheckFailed}
-use Rattle.szs_prove.specs.declared.formula.FormulaAnswer.{FormulaAnswer}
-use Rattle.szs_prove.specs.declared.refusal.Refusal.TheVariants.{OutOfBudget}
+use Rattle.outside_io.specs.Causes.{Rose}
+use Rattle.outside_io.specs.Files.{bytes_named}
+use Rattle.finite_model.specs.Tables.{IsTooWide}
+use Rattle.inst_logic.specs.Measure.{is_function_free}
+use Rattle.inst_logic.specs.declared.clause.Problem.{Problem}
+use Rattle.tptp_load.specs.Problems.{Loads, Refuses}
+use Rattle.dimacs_front.specs.Answers.{IsModel}
+use Rattle.dimacs_front.specs.Form.{reading as clauses_of}
+use Rattle.dimacs_front.specs.declared.cnf.Cnf.{Cnf}
+use Rattle.dimacs_front.specs.declared.error.DimacsError.{DimacsError}
+use Rattle.szs_prove.specs.Applications.{IsFirstWithFunctions}
+use Rattle.szs_prove.specs.Texts.{exit_of, load_reason, load_status, refusal_text, status_of, want_text}
+use Rattle.cert_front.specs.declared.check.CheckFault.TheVariants as unjudged
+use Rattle.cert_front.specs.declared.judgement.Judgement.TheVariants as judgement
+use Rattle.cert_front.specs.declared.reply.Reply.TheVariants as reply
+use Rattle.cert_front.specs.declared.rewriting.Rewriting.TheVariants as rewriting
+use Rattle.dimacs_front.specs.declared.answers.SatAnswer.TheVariants as solved
+use Rattle.dimacs_front.specs.declared.error.DimacsError.TheVariants as fault
+use Rattle.dimacs_front.specs.declared.file.SatError.TheVariants as bar
+use Rattle.outside_io.specs.declared.notices.Status.TheVariants as status
+use Rattle.szs_prove.specs.declared.cores.CoreRefusal.TheVariants as no_core
+use Rattle.szs_prove.specs.declared.exit.Exit.TheVariants as end
+use Rattle.szs_prove.specs.declared.model.ModelRefusal.TheVariants as no_model
+use Rattle.szs_prove.specs.declared.refusal.Refusal.TheVariants as why
+
+-- ---- why there are neither tables nor a refutation
+
+abbrev pub model_status : ModelRefusal → Status
+model_status (no_model.Load e) = load_status e
+model_status no_model.TooWide = status.InputError
+model_status no_model.Memory = status.MemoryOut
+
+abbrev pub model_reason : ModelRefusal → List ℕ
+model_reason (no_model.Load e) = load_reason e
+model_reason no_model.TooWide = codes "% limit tables\n"
+model_reason no_model.Memory = []
+
+-- ---- why no core is searched for
+
+abbrev pub core_status : CoreRefusal → Status
+core_status (no_core.Load e) = load_status e
+core_status (no_core.Functions clause) = status.Inappropriate
+core_status no_core.Memory = status.MemoryOut
+
+abbrev pub core_reason : CoreRefusal → List ℕ
+core_reason (no_core.Load e) = load_reason e
+core_reason (no_core.Functions clause) = concat (codes "% functions: clause " ∷ decimal clause ∷ codes "\n" ∷ [])
+core_reason no_core.Memory = []
+
+-- ---- what is told of each answer, and how the program ends with it
+
+abbrev pub prove_text : List ℕ → Result (List ℕ) Refusal → List ℕ
+prove_text name (Ok text) = text
+prove_text name (Err refusal) = refusal_text name refusal
+
+abbrev pub prove_exit : Result (List ℕ) Refusal → Exit
+prove_exit (Ok text) = end.Decided
+prove_exit (Err refusal) = exit_of (status_of refusal)
+
+abbrev pub sat_text : List ℕ → Result SatAnswer SatError → List ℕ
+sat_text name (Ok (solved.Satisfiable text)) = text
+sat_text name (Ok (solved.Unsatisfiable text)) = text
+sat_text name (Err error) = notice_text (refusal_status error) name (refusal_reason name error)
+
+abbrev pub sat_exit : Result SatAnswer SatError → Exit
+sat_exit (Ok (solved.Satisfiable text)) = end.Sat
+sat_exit (Ok (solved.Unsatisfiable text)) = end.Unsat
+sat_exit (Err error) = exit_of (refusal_status error)
+
+-- why a certificate is not judged, under its own name also where the problem is refused
+abbrev pub unjudged_status : CheckFault → Status
+unjudged_status (unjudged.Cert f) = fault_status f
+unjudged_status (unjudged.Problem e) = load_status e
+unjudged_status unjudged.Memory = status.MemoryOut
+
+abbrev pub unjudged_reason : List ℕ → CheckFault → List ℕ
+unjudged_reason cert (unjudged.Cert f) = fault_reason cert f
+unjudged_reason cert (unjudged.Problem e) = load_reason e
+unjudged_reason cert unjudged.Memory = []
+
+abbrev pub check_text : List ℕ → Result (Form × Judgement) CheckFault → List ℕ
+check_text cert (Ok found) = judgement_line found.0 found.1
+check_text cert (Err fault) = notice_text (unjudged_status fault) cert (unjudged_reason cert fault)
+
+abbrev pub judgement_exit : Judgement → Exit
+judgement_exit judgement.Valid = end.Decided
+judgement_exit (judgement.Problem n) = end.CheckFailed
+judgement_exit (judgement.Invalid complaint) = end.CheckFailed
+
+abbrev pub check_exit : Result (Form × Judgement) CheckFault → Exit
+check_exit (Ok found) = judgement_exit found.1
+check_exit (Err fault) = exit_of (unjudged_status fault)
+
+-- the new text of the certificate, or what is found of it
+abbrev pub rewriting_text : List ℕ → Result Rewriting CheckFault → List ℕ
+rewriting_text cert (Ok (rewriting.Text text)) = text
+rewriting_text cert (Ok (rewriting.Refused form found)) = judgement_line form found
+rewriting_text cert (Err fault) = notice_text (unjudged_status fault) cert (unjudged_reason cert fault)
+
+abbrev pub rewriting_exit : Result Rewriting CheckFault → Exit
+rewriting_exit (Ok (rewriting.Text text)) = end.Decided
+rewriting_exit (Ok (rewriting.Refused form found)) = judgement_exit found
+rewriting_exit (Err fault) = exit_of (unjudged_status fault)
+
+abbrev pub ask_text : List ℕ → Result Reply CertFault → List ℕ
+ask_text cert (Ok found) = reply_line found
+ask_text cert (Err fault) = notice_text (fault_status fault) cert (fault_reason cert fault)
+
+abbrev pub reply_exit : Reply → Exit
+reply_exit reply.True = end.Decided
+reply_exit reply.False = end.Decided
+reply_exit (reply.Invalid complaint) = end.CheckFailed
+
+abbrev pub ask_exit : Result Reply CertFault → Exit
+ask_exit (Ok found) = reply_exit found
+ask_exit (Err fault) = exit_of (fault_status fault)
+
+abbrev pub stress_text : List ℕ → Result Size OutOfMemory → List ℕ
+stress_text name (Ok size) = size_lines size
+stress_text name (Err want) = want_text name
+
+abbrev pub stress_exit : Result Size OutOfMemory → Exit
+stress_exit (Ok size) = end.Decided
+stress_exit (Err want) = end.Memory
+
+-- the value of a formula, with its certificate
+abbrev pub value_text : FormulaAnswer → List ℕ
+value_text (True text) = text
+value_text (False text) = text
+
+abbrev pub value_exit : FormulaAnswer → Exit
+value_exit (True text) = end.Sat
+value_exit (False text) = end.Unsat
+
+abbrev pub qbf_text : List ℕ → Result FormulaAnswer SatError → List ℕ
+qbf_text name (Ok found) = value_text found
+qbf_text name (Err error) = notice_text (refusal_status error) name (refusal_reason name error)
+
+abbrev pub qbf_exit : Result FormulaAnswer SatError → Exit
+qbf_exit (Ok found) = value_exit found
+qbf_exit (Err error) = exit_of (refusal_status error)
+
+abbrev pub fmodel_text : List ℕ → Result (List ℕ) ModelRefusal → List ℕ
+fmodel_text name (Ok text) = text
+fmodel_text name (Err why) = notice_text (model_status why) name (model_reason why)
+
+abbrev pub fmodel_exit : Result (List ℕ) ModelRefusal → Exit
+fmodel_exit (Ok text) = end.Decided
+fmodel_exit (Err why) = exit_of (model_status why)
+
+abbrev pub core_text : List ℕ → Result (List ℕ) CoreRefusal → List ℕ
+core_text name (Ok text) = text
+core_text name (Err why) = notice_text (core_status why) name (core_reason why)
+
+abbrev pub core_exit : Result (List ℕ) CoreRefusal → Exit
+core_exit (Ok text) = end.Decided
+core_exit (Err why) = exit_of (core_status why)
+
+abbrev pub text_for : List ℕ → Answer → List ℕ
+text_for name (Prove outcome) = prove_text name outcome
+text_for name (Sat outcome) = sat_text name outcome
+text_for name (Check outcome) = check_text name outcome
+text_for name (Rewrite outcome) = rewriting_text name outcome
+text_for name (Ask outcome) = ask_text name outcome
+text_for name (Stress outcome) = stress_text name outcome
+text_for name (Qbf outcome) = qbf_text name outcome
+text_for name (Fmodel outcome) = fmodel_text name outcome
+text_for name (Core outcome) = core_text name outcome
+text_for name Unread = notice_text status.UsageError name (codes "% usage\n")
+text_for name NoWords = want_text name
+
+abbrev pub exit_for : Answer → Exit
+exit_for (Prove outcome) = prove_exit outcome
+exit_for (Sat outcome) = sat_exit outcome
+exit_for (Check outcome) = check_exit outcome
+exit_for (Rewrite outcome) = rewriting_exit outcome
+exit_for (Ask outcome) = ask_exit outcome
+exit_for (Stress outcome) = stress_exit outcome
+exit_for (Qbf outcome) = qbf_exit outcome
+exit_for (Fmodel outcome) = fmodel_exit outcome
+exit_for (Core outcome) = core_exit outcome
+exit_for Unread = end.Usage
+exit_for NoWords = end.Memory
+
+-- ---- the causes of what is answered by check, its rewriting, ask, stress, fmodel and core
+
+-- what is found of the certificate of a file and the problem of another, or why nothing is
+abbrev pub IsFinding : Reading → List ℕ → Option (List ℕ) → Option (List ℕ) → Result (Form × Judgement) CheckFault → Type 0
+IsFinding read cert problem root (Ok found) = IsJudged read.old.files cert problem root found
+IsFinding read cert problem root (Err why) = IsCheckFault read.old.files read.old.faults read.new.faults cert problem root why
+
+-- what the certificate of a file is in the format in which certificates are written, or why it is not rewritten
+abbrev pub IsRewritingOf : Reading → List ℕ → Option (List ℕ) → Option (List ℕ) → Result Rewriting CheckFault → Type 0
+IsRewritingOf read cert problem root (Ok rewriting) = IsRewritten read.old.files cert problem root rewriting
+IsRewritingOf read cert problem root (Err why) = IsCheckFault read.old.files read.old.faults read.new.faults cert problem root why
+
+-- what the saturation of a file says of an atom, or why it says nothing
+abbrev pub IsReplyOf : Reading → List ℕ → Tree → Result Reply CertFault → Type 0
+IsReplyOf read cert atom (Ok reply) = IsReplied read.old.files cert atom reply
+IsReplyOf read cert atom (Err why) = IsAskFault read.old.files read.old.faults read.new.faults cert why
+
+-- how large a refutation of the chain is
+abbrev pub IsMeasured : ℕ → Result Size OutOfMemory → Type 0
+IsMeasured number (Ok size) = IsRefutedIn number size
+IsMeasured number (Err want) = ⊤
+
+-- tables over so many elements for the problem of the file, or that there are none, or why there is no answer
+abbrev pub IsModelOutcome : Reading → ℕ → List ℕ → Option (List ℕ) → Result (List ℕ) ModelRefusal → Type 0
+IsModelOutcome read elements file root (Ok text) = HasModelAnswer read.old.files elements file root text
+IsModelOutcome read elements file root (Err why) = IsModelRefusal read elements file root why
+
+-- a core of the problem of the file, or that there is none, or why there is no answer
+abbrev pub IsCoreOutcome : Reading → List ℕ → Option (List ℕ) → Result (List ℕ) CoreRefusal → Type 0
+IsCoreOutcome read file root (Ok text) = HasCoreAnswer read.old.files file root text
+IsCoreOutcome read file root (Err why) = IsCoreRefusal read file root why
+
+-- ---- the causes of all answers
+
+-- the cause of an answer under this name to the words
+abbrev pub IsAnswer : List (List ℕ) → Reading → List ℕ → Answer → Type 0
+IsAnswer words read name (Prove outcome) = (root : Option (List ℕ)) × (budget : ℕ) × IsAsked words (prove name root budget) × IsProof read name root budget outcome
+IsAnswer words read name (Sat outcome) = IsAsked words (sat name) × IsOutcome read.old read.new name outcome
+IsAnswer words read name (Check outcome) = (problem : Option (List ℕ)) × (root : Option (List ℕ)) × IsAsked words (check name problem root) × IsFinding read name problem root outcome
+IsAnswer words read name (Rewrite outcome) = (problem : Option (List ℕ)) × (root : Option (List ℕ)) × IsAsked words (rewrite name problem root) × IsRewritingOf read name problem root outcome
+IsAnswer words read name (Ask outcome) = (atom : Signed Tree) × IsAsked words (ask name atom) × IsReplyOf read name atom.atom outcome
+IsAnswer words read name (Stress outcome) = (name ≡ codes "stress") × IsUntouched read × (number : ℕ) × IsAsked words (stress number) × IsMeasured number outcome
+IsAnswer words read name (Qbf outcome) = IsAsked words (qbf name) × IsFormulaOutcome read.old read.new name outcome
+IsAnswer words read name (Fmodel outcome) = (elements : ℕ) × (root : Option (List ℕ)) × IsAsked words (fmodel elements name root) × IsModelOutcome read elements name root outcome
+IsAnswer words read name (Core outcome) = (root : Option (List ℕ)) × IsAsked words (core name root) × IsCoreOutcome read name root outcome
+IsAnswer words read name Unread = (name ≡ codes "instgen") × IsUntouched read × IsUnread words
+IsAnswer words read name NoWords = (name ≡ codes "instgen") × IsUntouched read
+
+-- ---- what a run did
 
 -- what the sink has seen before the call and after it
 pub record Writing : Type 0 where
@@ -99,7 +344,7 @@ pub record WritesNumbers (words : List (List ℕ)) (files : Option (List NamedFi
   pub wanted : ℕ
   pub asked : IsAsked words (prove file root budget)
   pub stopped : IsOutOfBudget files file root budget left wanted
-  pub written : Appends old new (refusal_text file (OutOfBudget budget left wanted))
+  pub written : Appends old new (refusal_text file (why.OutOfBudget budget left wanted))
 
 -- a question about a certificate, and the problem of another file
 abbrev pub OfCertificate : Type 0
@@ -124,7 +369,7 @@ pub record WritesRewriting (words : List (List ℕ)) (files : Option (List Named
   pub root : Option (List ℕ)
   pub asked : IsAsked words (rewrite cert problem root)
   pub text : List ℕ
-  pub rewritten : IsRewritten files cert problem root (Text text)
+  pub rewritten : IsRewritten files cert problem root (rewriting.Text text)
   pub written : Appends old new text
 
 -- The line of what the saturation says of the atom was written, whole, and the program ends as it should with that.
@@ -147,7 +392,7 @@ pub record WritesSize (words : List (List ℕ)) (old new : Option (List ℕ)) : 
 
 -- how the program ends where it tells that truth values are found, or a formula is true, or that there are none, or it is false
 abbrev pub TellsValue : Exit → Type 0
-TellsValue exit = (exit ≡ Sat) ⊎ (exit ≡ Unsat)
+TellsValue exit = (exit ≡ end.Sat) ⊎ (exit ≡ end.Unsat)
 
 -- The value of the formula of the file that the words name was written, whole, with the certificate that shows it, and the program
 -- ends as it should with that.
@@ -185,12 +430,12 @@ pub record WritesCore (words : List (List ℕ)) (files : Option (List NamedFile)
 
 -- how the program ends where the words ask for a chain
 abbrev pub EndsChain : Exit → Type 0
-EndsChain exit = (exit ≡ Decided) ⊎ (exit ≡ WriteFault) ⊎ (exit ≡ Memory)
+EndsChain exit = (exit ≡ end.Decided) ⊎ (exit ≡ end.WriteFault) ⊎ (exit ≡ end.Memory)
 
 -- what is complained of a certificate, whether it is checked, with or without its rewriting, or asked
 abbrev pub WritesComplaint : List (List ℕ) → Option (List NamedFile) → Option (List ℕ) → Option (List ℕ) → Type 0
 WritesComplaint words files old new =
-    WritesJudgement check words files old new CheckFailed ⊎ WritesJudgement rewrite words files old new CheckFailed ⊎ WritesReply words files old new CheckFailed
+    WritesJudgement check words files old new end.CheckFailed ⊎ WritesJudgement rewrite words files old new end.CheckFailed ⊎ WritesReply words files old new end.CheckFailed
 
 -- The sink tells what it took, and that is the text of a printable certificate, whole.
 pub record TookCertificate (old new : Option (List ℕ)) : Type 0 where
@@ -222,3 +467,141 @@ pub record WritesWant (words : List (List ℕ)) (read : Reading) (old new : Opti
 abbrev pub WantsMemory : List (List ℕ) → Reading → Writing → Type 0
 WantsMemory words read write =
     WritesWant words read write.old.taken write.new.taken ⊎ (IsTrue write.old.may_want × IsInterrupted words read write.old.taken write.new.taken)
+
+-- ---- what is found of a problem, where the files are told, and the exits that are wanted then
+
+-- the problem of the file, or why it gives none
+abbrev pub IsLoaded : List NamedFile → List ℕ → Option (List ℕ) → Result Problem LoadError → Type 0
+IsLoaded files file root (Ok p) = Loads files file root p
+IsLoaded files file root (Err e) = Refuses files file root e
+
+-- a problem is decided; or, where it has function symbols with arguments, a budget may run out
+abbrev pub WantsOfProblem : Result Problem LoadError → Exit → Type 0
+WantsOfProblem (Ok p) exit = (exit ≡ end.Decided) ⊎ ((exit ≡ end.ResourceOut) × IsFalse (is_function_free p.clauses))
+WantsOfProblem (Err e) exit = exit ≡ end.Refused
+
+-- the problem of the file, whose tables over so many elements are not too large, or why there is none
+abbrev pub IsTabled : List NamedFile → ℕ → List ℕ → Option (List ℕ) → Result Problem ModelRefusal → Type 0
+IsTabled files elements file root (Ok p) = Loads files file root p × ¬ IsTooWide elements p.clauses
+IsTabled files elements file root (Err (no_model.Load e)) = Refuses files file root e
+IsTabled files elements file root (Err no_model.TooWide) = (p : Problem) × Loads files file root p × IsTooWide elements p.clauses
+IsTabled files elements file root (Err no_model.Memory) = ⊥
+
+-- the problem of the file, without function symbols that have arguments, or why there is none
+abbrev pub IsFlat : List NamedFile → List ℕ → Option (List ℕ) → Result Problem CoreRefusal → Type 0
+IsFlat files file root (Ok p) = Loads files file root p × IsTrue (is_function_free p.clauses)
+IsFlat files file root (Err (no_core.Load e)) = Refuses files file root e
+IsFlat files file root (Err (no_core.Functions clause)) = (p : Problem) × Loads files file root p × IsFirstWithFunctions p.clauses clause
+IsFlat files file root (Err no_core.Memory) = ⊥
+
+-- such a problem is always decided
+abbrev pub WantsDecision : {E : Type 0} → Result Problem E → Exit → Type 0
+WantsDecision (Ok p) exit = exit ≡ end.Decided
+WantsDecision (Err e) exit = exit ≡ end.Refused
+
+-- ---- what is found of clauses in the DIMACS form, and of formulas
+
+-- a reader of these forms
+abbrev pub Reader : Type 0 → Type 0
+Reader A = List ℕ → Result A DimacsError
+
+-- the file's text is refused for this, which is not want of memory
+abbrev pub IsRefusedBy : {A : Type 0} → Reader A → List NamedFile → List ℕ → DimacsError → Type 0
+IsRefusedBy reads files file fault.Memory = ⊥
+IsRefusedBy reads files file e = (bytes : List ℕ) × IsHeld (Some files) file bytes × (reads bytes ≡ Err e)
+
+-- the file is absent or too long, or its text is refused
+abbrev pub IsBarred : {A : Type 0} → Reader A → List NamedFile → List ℕ → SatError → Type 0
+IsBarred reads files file bar.Absent = bytes_named files file ≡ None
+IsBarred reads files file bar.TooLong = (bytes : List ℕ) × (bytes_named files file ≡ Some bytes) × (limit < length bytes)
+IsBarred reads files file (bar.Text e) = IsRefusedBy reads files file e
+IsBarred reads files file bar.ReadFault = ⊥
+IsBarred reads files file bar.Memory = ⊥
+
+-- what is read of the file, or why nothing is
+abbrev pub IsRead : {A : Type 0} → Reader A → List NamedFile → List ℕ → Result A SatError → Type 0
+IsRead reads files file (Ok found) = (bytes : List ℕ) × IsHeld (Some files) file bytes × (reads bytes ≡ Ok found)
+IsRead reads files file (Err e) = IsBarred reads files file e
+
+-- some truth values make the clauses true, or none do
+abbrev pub WantsOfClauses : Result Cnf SatError → Exit → Type 0
+WantsOfClauses (Ok cnf) exit =
+    ((exit ≡ end.Sat) × (values : List Bool) × IsModel cnf.vars cnf.clauses values)
+    ⊎ ((exit ≡ end.Unsat) × ((values : List Bool) → ¬ IsModel cnf.vars cnf.clauses values))
+WantsOfClauses (Err e) exit = exit ≡ end.Refused
+
+-- some truth values of the variables without a quantifier make the formula true, or all make it false
+abbrev pub WantsOfFormula : Result Qbf SatError → Exit → Type 0
+WantsOfFormula (Ok q) exit = ((exit ≡ end.Sat) × IsTrueFormula q) ⊎ ((exit ≡ end.Unsat) × IsFalseFormula q)
+WantsOfFormula (Err e) exit = exit ≡ end.Refused
+
+-- ---- what is found of certificates
+
+abbrev pub WantsOfCheck : Result (Form × Judgement) CheckFault → Exit → Type 0
+WantsOfCheck (Ok found) exit = exit ≡ judgement_exit found.1
+WantsOfCheck (Err why) exit = exit ≡ end.Refused
+
+abbrev pub WantsOfReply : Result Reply CertFault → Exit → Type 0
+WantsOfReply (Ok reply) exit = exit ≡ reply_exit reply
+WantsOfReply (Err why) exit = exit ≡ end.Refused
+
+-- ---- when each exit comes, where the files are told
+
+-- what a question finds
+abbrev pub Finding : Asked → Type 0
+Finding (prove file root budget) = Result Problem LoadError
+Finding (sat file) = Result Cnf SatError
+Finding (check cert problem root) = Result (Form × Judgement) CheckFault
+Finding (rewrite cert problem root) = Result (Form × Judgement) CheckFault
+Finding (ask cert atom) = Result Reply CertFault
+Finding (stress number) = ⊤
+Finding (qbf file) = Result Qbf SatError
+Finding (fmodel elements file root) = Result Problem ModelRefusal
+Finding (core file root) = Result Problem CoreRefusal
+
+-- it finds this in the files
+abbrev pub Finds : List NamedFile → (question : Asked) → Finding question → Type 0
+Finds files (prove file root budget) found = IsLoaded files file root found
+Finds files (sat file) found = IsRead clauses_of files file found
+Finds files (check cert problem root) found = IsFound files cert problem root found
+Finds files (rewrite cert problem root) found = IsFound files cert problem root found
+Finds files (ask cert atom) found = IsFoundReply files cert atom.atom found
+Finds files (stress number) found = ⊤
+Finds files (qbf file) found = IsRead formula_in files file found
+Finds files (fmodel elements file root) found = IsTabled files elements file root found
+Finds files (core file root) found = IsFlat files file root found
+
+-- this exit is wanted then
+abbrev pub Wants : (question : Asked) → Finding question → Exit → Type 0
+Wants (prove file root budget) found exit = WantsOfProblem found exit
+Wants (sat file) found exit = WantsOfClauses found exit
+Wants (check cert problem root) found exit = WantsOfCheck found exit
+Wants (rewrite cert problem root) found exit = WantsOfCheck found exit
+Wants (ask cert atom) found exit = WantsOfReply found exit
+Wants (stress number) found exit = exit ≡ end.Decided
+Wants (qbf file) found exit = WantsOfFormula found exit
+Wants (fmodel elements file root) found exit = WantsDecision found exit
+Wants (core file root) found exit = WantsDecision found exit
+
+-- what can stand in the words and the files: a question with what it finds, or words that are not read
+pub data Situation : Type 0 where
+  asks : (question : Asked) → Finding question → Situation
+  unread : Situation
+
+abbrev pub Stands : List (List ℕ) → List NamedFile → Situation → Type 0
+Stands words files (asks question found) = IsAsked words question × Finds files question found
+Stands words files unread = IsUnread words
+
+abbrev pub IsWanted : Situation → Exit → Type 0
+IsWanted (asks question found) exit = Wants question found exit
+IsWanted unread exit = exit ≡ end.Usage
+
+-- the exit is that of a fault that has its cause, or of want of memory
+abbrev pub Yields : Reading → Writing → Exit → Type 0
+Yields read write exit =
+    ((exit ≡ end.ReadFault) × Rose read.old.faults read.new.faults) ⊎ ((exit ≡ end.WriteFault) × Rose write.old.faults write.new.faults) ⊎ (exit ≡ end.Memory)
+
+-- The exit is wanted in a situation that stands, or yields; and in each situation that stands it is wanted, or yields.
+pub record IsExact (words : List (List ℕ)) (files : List NamedFile) (read : Reading) (write : Writing) (exit : Exit) : Type 0 where
+  pub cause : ((s : Situation) × Stands words files s × IsWanted s exit) ⊎ Yields read write exit
+  pub each : (s : Situation) → Stands words files s → IsWanted s exit ⊎ Yields read write exit

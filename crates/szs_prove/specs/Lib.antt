@@ -1,7 +1,6 @@
 pub mod Answered
 pub mod Answers
 pub mod Applications
-pub mod Causes
 pub mod Chains
 pub mod CoreAnswers
 pub mod CoreCertificates
@@ -10,7 +9,6 @@ pub mod Decisions
 pub mod Formulas
 pub mod ModelAnswers
 pub mod Proving
-pub mod Situations
 pub mod SizeWords
 pub mod Sizes
 pub mod SubProblems

@@ -1,28 +1,29 @@
-// What comes of what the words ask, what is told of it, and how the program ends with it. Only here an answer meets the sink. A
-// text is whole before its first byte is written, or is told in pieces that take no memory.
-ghost use Rattle.std.specs.Prelude.{◌≡◌};
+// What comes of what the words ask, what is told of it or why there is nothing, and how the program ends with it, command by command.
+// Only here an answer meets the sink. A text is whole before its first byte is written, or is told in pieces that take no memory.
+ghost use Rattle.std.specs.Prelude.{◌≡◌, ◌∷◌, [], codes, decimal};
+ghost use Rattle.std.specs.List.{concat};
+ghost use Rattle.outside_io.specs.Notices.{notice_text};
 ghost use Rattle.outside_io.specs.Pieces.{text_of};
-ghost use Rattle.szs_prove.specs.Texts.{exit_for, text_for};
+ghost use Rattle.outside_io.specs.declared.notices.Status.TheVariants as status;
+ghost use Rattle.szs_prove.specs.Answered.{ask_exit, ask_text, check_exit, check_text, core_exit, core_reason, core_status, core_text, exit_for, fmodel_exit, fmodel_text, judgement_exit, model_reason, model_status, prove_exit, prove_text, qbf_exit, qbf_text, reply_exit, rewriting_exit, rewriting_text, sat_exit, sat_text, stress_exit, stress_text, text_for, unjudged_reason, unjudged_status, value_exit, value_text};
+ghost use Rattle.szs_prove.specs.Texts.{want_text};
 ghost use Rattle.szs_prove.specs.Written.{IsWritten, exit_after};
 
-use crate::answer_exits::{
-    ask_exit, check_exit, core_exit, fmodel_exit, prove_exit, qbf_exit, rewriting_exit, sat_exit,
-    stress_exit,
-};
-use crate::answer_texts::{
-    ask_pieces, check_pieces, core_pieces, fmodel_pieces, prove_pieces, qbf_pieces,
-    rewriting_pieces, sat_pieces, stress_pieces, usage, want,
-};
 use crate::cores::CoreRefusal;
-use crate::exit::Exit;
+use crate::exit::{Exit, exit_of};
 use crate::formula::FormulaAnswer;
 use crate::model::ModelRefusal;
-use crate::refusal::Refusal;
-use crate::sizes::Size;
-use cert_front::{CertFault, CheckFault, Form, Judgement, Reply, Rewriting};
+use crate::refusal::{Refusal, load_reason, load_status};
+use crate::sizes::{Size, size_lines};
+use cert_front::{
+    CertFault, CheckFault, Form, Judgement, Reply, Rewriting, judgement_line, reply_line,
+};
 use dimacs_front::{SatAnswer, SatError};
 use inst_logic::{ByteList, Memory};
-use outside_io::{Pieces, Sink, Trouble, write_pieces};
+use outside_io::{
+    Line, Piece, Pieces, Sink, Status, Trouble, notice, one_line, text_line, whole_text,
+    write_pieces,
+};
 
 /// What comes of what the words ask. Each but the last two and `Rewrite` is that of the command of its name.
 #[derive(Drop)]
@@ -104,4 +105,318 @@ pub fn tell<K: Sink>(out: &mut K, name: &[u8], answer: &Answer) -> Exit
     let pieces = answer.pieces(name);
     let written = write_pieces(out, &pieces);
     exit_after(written, answer.exit())
+}
+
+// ---- all commands
+
+// The line that tells that memory is wanted.
+fn want(name: &[u8]) -> Pieces<'_>
+    ensures { text_of result ≡ want_text name.now }
+{
+    notice(Status::MemoryOut, name, text_line(b""))
+}
+
+// The line that tells that the words are not read.
+fn usage(name: &[u8]) -> Pieces<'_>
+    ensures { text_of result ≡ notice_text status.UsageError name.now (codes "% usage\n") }
+{
+    notice(Status::UsageError, name, text_line(b"% usage\n"))
+}
+
+// ---- prove
+
+fn prove_pieces<'a>(name: &'a [u8], outcome: &'a Result<ByteList, Refusal>) -> Pieces<'a>
+    ensures { text_of result ≡ prove_text name.now outcome.now }
+{
+    match outcome {
+        Ok(text) => whole_text(text.as_slice()),
+        Err(why) => notice(why.status(), name, why.reason()),
+    }
+}
+
+fn prove_exit(outcome: &Result<ByteList, Refusal>) -> Exit
+    ensures { result ≡ prove_exit outcome.now }
+{
+    match outcome {
+        Ok(_) => Exit::Decided,
+        Err(why) => exit_of(why.status()),
+    }
+}
+
+// ---- sat
+
+fn sat_pieces<'a>(name: &'a [u8], outcome: &'a Result<SatAnswer, SatError>) -> Pieces<'a>
+    ensures { text_of result ≡ sat_text name.now outcome.now }
+{
+    match outcome {
+        Ok(SatAnswer::Satisfiable(text)) => whole_text(text.as_slice()),
+        Ok(SatAnswer::Unsatisfiable(text)) => whole_text(text.as_slice()),
+        Err(error) => notice(error.status(), name, error.reason(name)),
+    }
+}
+
+fn sat_exit(outcome: &Result<SatAnswer, SatError>) -> Exit
+    ensures { result ≡ sat_exit outcome.now }
+{
+    match outcome {
+        Ok(SatAnswer::Satisfiable(_)) => Exit::Sat,
+        Ok(SatAnswer::Unsatisfiable(_)) => Exit::Unsat,
+        Err(error) => exit_of(error.status()),
+    }
+}
+
+// ---- check, with or without its rewriting
+
+fn unjudged_status(why: &CheckFault) -> Status
+    ensures { result ≡ unjudged_status why.now }
+{
+    match why {
+        CheckFault::Cert(fault) => fault.status(),
+        CheckFault::Problem(error) => load_status(error),
+        CheckFault::Memory => Status::MemoryOut,
+    }
+}
+
+// Where the problem is refused, its reason stands under the certificate's name.
+fn unjudged_reason<'a>(name: &'a [u8], why: &'a CheckFault) -> Line<'a>
+    ensures { text_of result ≡ unjudged_reason name.now why.now }
+{
+    match why {
+        CheckFault::Cert(fault) => fault.reason(name),
+        CheckFault::Problem(error) => load_reason(error),
+        CheckFault::Memory => text_line(b""),
+    }
+}
+
+fn judgement_exit(judgement: Judgement) -> Exit
+    ensures { result ≡ judgement_exit judgement }
+{
+    match judgement {
+        Judgement::Valid => Exit::Decided,
+        Judgement::Problem { .. } | Judgement::Invalid(_) => Exit::CheckFailed,
+    }
+}
+
+fn check_pieces<'a>(
+    name: &'a [u8],
+    outcome: &'a Result<(Form, Judgement), CheckFault>,
+) -> Pieces<'a>
+    ensures { text_of result ≡ check_text name.now outcome.now }
+{
+    match outcome {
+        Ok(found) => one_line(judgement_line(found.0, found.1)),
+        Err(why) => notice(unjudged_status(why), name, unjudged_reason(name, why)),
+    }
+}
+
+fn check_exit(outcome: &Result<(Form, Judgement), CheckFault>) -> Exit
+    ensures { result ≡ check_exit outcome.now }
+{
+    match outcome {
+        Ok(found) => judgement_exit(found.1),
+        Err(why) => exit_of(unjudged_status(why)),
+    }
+}
+
+fn rewriting_pieces<'a>(name: &'a [u8], outcome: &'a Result<Rewriting, CheckFault>) -> Pieces<'a>
+    ensures { text_of result ≡ rewriting_text name.now outcome.now }
+{
+    match outcome {
+        Ok(Rewriting::Text(text)) => whole_text(text.as_slice()),
+        Ok(Rewriting::Refused(form, judgement)) => one_line(judgement_line(*form, *judgement)),
+        Err(why) => notice(unjudged_status(why), name, unjudged_reason(name, why)),
+    }
+}
+
+fn rewriting_exit(outcome: &Result<Rewriting, CheckFault>) -> Exit
+    ensures { result ≡ rewriting_exit outcome.now }
+{
+    match outcome {
+        Ok(Rewriting::Text(_)) => Exit::Decided,
+        Ok(Rewriting::Refused(_, judgement)) => judgement_exit(*judgement),
+        Err(why) => exit_of(unjudged_status(why)),
+    }
+}
+
+// ---- ask
+
+fn ask_pieces<'a>(name: &'a [u8], outcome: &'a Result<Reply, CertFault>) -> Pieces<'a>
+    ensures { text_of result ≡ ask_text name.now outcome.now }
+{
+    match outcome {
+        Ok(reply) => one_line(reply_line(*reply)),
+        Err(fault) => notice(fault.status(), name, fault.reason(name)),
+    }
+}
+
+fn reply_exit(reply: Reply) -> Exit
+    ensures { result ≡ reply_exit reply }
+{
+    match reply {
+        Reply::True | Reply::False => Exit::Decided,
+        Reply::Invalid(_) => Exit::CheckFailed,
+    }
+}
+
+fn ask_exit(outcome: &Result<Reply, CertFault>) -> Exit
+    ensures { result ≡ ask_exit outcome.now }
+{
+    match outcome {
+        Ok(reply) => reply_exit(*reply),
+        Err(fault) => exit_of(fault.status()),
+    }
+}
+
+// ---- stress
+
+fn stress_pieces<'a>(name: &'a [u8], outcome: &'a Result<Size, Memory>) -> Pieces<'a>
+    ensures { text_of result ≡ stress_text name.now outcome.now }
+{
+    match outcome {
+        Ok(size) => one_line(size_lines(*size)),
+        Err(Memory) => want(name),
+    }
+}
+
+fn stress_exit(outcome: &Result<Size, Memory>) -> Exit
+    ensures { result ≡ stress_exit outcome.now }
+{
+    match outcome {
+        Ok(_) => Exit::Decided,
+        Err(Memory) => Exit::Memory,
+    }
+}
+
+// ---- qbf
+
+fn value_text(found: &FormulaAnswer) -> &[u8]
+    ensures { result.now ≡ value_text found.now }
+{
+    match found {
+        FormulaAnswer::True(text) => text.as_slice(),
+        FormulaAnswer::False(text) => text.as_slice(),
+    }
+}
+
+fn value_exit(found: &FormulaAnswer) -> Exit
+    ensures { result ≡ value_exit found.now }
+{
+    match found {
+        FormulaAnswer::True(_) => Exit::Sat,
+        FormulaAnswer::False(_) => Exit::Unsat,
+    }
+}
+
+fn qbf_pieces<'a>(name: &'a [u8], outcome: &'a Result<FormulaAnswer, SatError>) -> Pieces<'a>
+    ensures { text_of result ≡ qbf_text name.now outcome.now }
+{
+    match outcome {
+        Ok(found) => whole_text(value_text(found)),
+        Err(error) => notice(error.status(), name, error.reason(name)),
+    }
+}
+
+fn qbf_exit(outcome: &Result<FormulaAnswer, SatError>) -> Exit
+    ensures { result ≡ qbf_exit outcome.now }
+{
+    match outcome {
+        Ok(found) => value_exit(found),
+        Err(error) => exit_of(error.status()),
+    }
+}
+
+// ---- fmodel
+
+fn model_status(why: &ModelRefusal) -> Status
+    ensures { result ≡ model_status why.now }
+{
+    match why {
+        ModelRefusal::Load(error) => load_status(error),
+        ModelRefusal::TooWide => Status::InputError,
+        ModelRefusal::Memory => Status::MemoryOut,
+    }
+}
+
+fn model_reason(why: &ModelRefusal) -> Line<'_>
+    ensures { text_of result ≡ model_reason why.now }
+{
+    match why {
+        ModelRefusal::Load(error) => load_reason(error),
+        ModelRefusal::TooWide => text_line(b"% limit tables\n"),
+        ModelRefusal::Memory => text_line(b""),
+    }
+}
+
+fn fmodel_pieces<'a>(name: &'a [u8], outcome: &'a Result<ByteList, ModelRefusal>) -> Pieces<'a>
+    ensures { text_of result ≡ fmodel_text name.now outcome.now }
+{
+    match outcome {
+        Ok(text) => whole_text(text.as_slice()),
+        Err(why) => notice(model_status(why), name, model_reason(why)),
+    }
+}
+
+fn fmodel_exit(outcome: &Result<ByteList, ModelRefusal>) -> Exit
+    ensures { result ≡ fmodel_exit outcome.now }
+{
+    match outcome {
+        Ok(_) => Exit::Decided,
+        Err(why) => exit_of(model_status(why)),
+    }
+}
+
+// ---- core
+
+fn core_status(why: &CoreRefusal) -> Status
+    ensures { result ≡ core_status why.now }
+{
+    match why {
+        CoreRefusal::Load(error) => load_status(error),
+        CoreRefusal::Functions { .. } => Status::Inappropriate,
+        CoreRefusal::Memory => Status::MemoryOut,
+    }
+}
+
+// The number of the first clause that has functions.
+fn functions_line<'a>(clause: usize) -> Line<'a>
+    ensures { text_of result ≡ concat (codes "% functions: clause " ∷ decimal clause ∷ codes "\n" ∷ []) }
+{
+    let none = Piece::Text(b"");
+    [
+        Piece::Text(b"% functions: clause "),
+        Piece::Number(clause as u64),
+        Piece::Text(b"\n"),
+        none,
+        none,
+        none,
+        none,
+    ]
+}
+
+fn core_reason(why: &CoreRefusal) -> Line<'_>
+    ensures { text_of result ≡ core_reason why.now }
+{
+    match why {
+        CoreRefusal::Load(error) => load_reason(error),
+        CoreRefusal::Functions { clause } => functions_line(*clause),
+        CoreRefusal::Memory => text_line(b""),
+    }
+}
+
+fn core_pieces<'a>(name: &'a [u8], outcome: &'a Result<ByteList, CoreRefusal>) -> Pieces<'a>
+    ensures { text_of result ≡ core_text name.now outcome.now }
+{
+    match outcome {
+        Ok(text) => whole_text(text.as_slice()),
+        Err(why) => notice(core_status(why), name, core_reason(why)),
+    }
+}
+
+fn core_exit(outcome: &Result<ByteList, CoreRefusal>) -> Exit
+    ensures { result ≡ core_exit outcome.now }
+{
+    match outcome {
+        Ok(_) => Exit::Decided,
+        Err(why) => exit_of(core_status(why)),
+    }
 }

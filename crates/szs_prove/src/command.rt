@@ -2,12 +2,9 @@
 ghost use Rattle.std.specs.Prelude.{◌≡◌, IfNone, IfSome, map, string_bytes};
 ghost use Rattle.outside_io.specs.Causes.{Rose};
 ghost use Rattle.outside_io.specs.Told.{Follows};
-ghost use Rattle.command_words.specs.Asked.{IsAsked, IsUnread, check, name_of};
-ghost use Rattle.command_words.specs.Requests.{asked};
-ghost use Rattle.szs_prove.specs.Answered.{Answered, AsksAtom, AsksChain, AsksCheck, AsksCore, AsksFormula, AsksModel, AsksProof, AsksRewriting, EndsChain, IsInterrupted, TellsValue, TookCertificate, WantsMemory, WritesCertificate, WritesComplaint, WritesCore, WritesFormula, WritesJudgement, WritesModel, WritesNumbers, WritesReply, WritesRewriting, WritesSize, writing};
+ghost use Rattle.command_words.specs.Asked.{IsAsked, IsUnread, asked, check, name_of};
+ghost use Rattle.szs_prove.specs.Answered.{Answered, AsksAtom, AsksChain, AsksCheck, AsksCore, AsksFormula, AsksModel, AsksProof, AsksRewriting, EndsChain, IsAnswer, IsExact, IsInterrupted, TellsValue, TookCertificate, WantsMemory, WritesCertificate, WritesComplaint, WritesCore, WritesFormula, WritesJudgement, WritesModel, WritesNumbers, WritesReply, WritesRewriting, WritesSize, writing};
 ghost use Rattle.szs_prove.specs.Answers.{reading};
-ghost use Rattle.szs_prove.specs.Causes.{IsAnswer};
-ghost use Rattle.szs_prove.specs.Situations.{IsExact};
 
 use crate::answer::{Answer, tell};
 use crate::cores::core_file;
@@ -17,7 +14,7 @@ use crate::formula::answer_formula_file;
 use crate::model::model_file;
 use crate::prove::prove;
 use cert_front::{ask_file, atoms_are_variable_free, check_file, findings_are_one, rewrite_file};
-use command_words::laws::{asked_budget, asked_elements, asked_length, asked_once};
+use command_words::laws::asked_once;
 use command_words::{Request, read_words};
 use dimacs_front::answer_file;
 use inst_logic::Memory;
@@ -54,9 +51,6 @@ fn answer<L: Library>(
     ensures answer { IsAnswer (map string_bytes _words.now) (reading (L.told files.old) (L.told files.new)) (name_of (asked request.entry)) result }
 {
     asked_once();
-    asked_budget();
-    asked_length();
-    asked_elements();
     atoms_are_variable_free();
     match request {
         Request::Prove { file, root, budget } => {

@@ -5,8 +5,6 @@
 #![tactic(auto)]
 
 mod answer;
-mod answer_exits;
-mod answer_texts;
 mod application;
 mod certificates;
 pub mod chain_examples;
@@ -25,7 +23,6 @@ mod formula;
 mod marking;
 mod model;
 mod prove;
-mod reasons;
 mod refusal;
 mod saturation_test;
 pub mod sizes;

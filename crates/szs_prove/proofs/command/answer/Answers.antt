@@ -1,13 +1,74 @@
-use Rattle.std.proofs.Common.{arith, subst, sym, refl, map, string_bytes}
-use Rattle.command_words.specs.Asked.{IsAsked, name_of}
-use Rattle.command_words.specs.Requests.{asked}
+use Rattle.std.proofs.Common.{arith, subst, sym, refl, map, string_bytes, ℕ, List, Option, codes}
+use Rattle.std.specs.Prelude.{IfOk, IfErr, Result, Ok, Err}
 use Rattle.command_words.specs.declared.request.Request.{Request}
-use Rattle.szs_prove.specs.Answers.{reading}
-use Rattle.szs_prove.specs.Causes.{IsAnswer}
+use Rattle.szs_prove.specs.Answers.{reading, HasVerdict, IsRefusal, IsUntouched, Reading}
+use Rattle.szs_prove.specs.Answered.{IsAnswer}
 use Rattle.szs_prove.specs.declared.answer.Answer.TheVariants.{Prove, Sat, Check, Rewrite, Ask, Stress, Qbf, Fmodel, Core}
 use Rattle.szs_prove.proofs.AskedAtoms.{asked_atom_is_formed, asked_atom_is_free}
-use Rattle.szs_prove.proofs.Causes.{proved, checked, rewritten, replied, measured, modelled, has_core}
+use Rattle.inst_logic.specs.declared.memory.Memory.{Memory as OutOfMemory}
+use Rattle.inst_logic.specs.declared.signed.Signed.{Signed}
+use Rattle.inst_logic.specs.Tree.{Tree}
+use Rattle.cert_front.specs.Checks.{IsCheckFault, IsJudged}
+use Rattle.cert_front.specs.Queries.{IsAskFault, IsReplied}
+use Rattle.cert_front.specs.Rewritings.{IsRewritten}
+use Rattle.cert_front.specs.declared.check.CheckFault.{CheckFault}
+use Rattle.cert_front.specs.declared.fault.CertFault.{CertFault}
+use Rattle.cert_front.specs.declared.judgement.Judgement.{Judgement}
+use Rattle.cert_front.specs.declared.reply.Reply.{Reply}
+use Rattle.cert_front.specs.declared.rewriting.Rewriting.{Rewriting}
+use Rattle.cert_front.specs.declared.words.Form.{Form}
+use Rattle.command_words.specs.Asked.{IsAsked, ask, asked, check, core, fmodel, name_of, prove, rewrite, stress}
+use Rattle.szs_prove.specs.CoreAnswers.{HasCoreAnswer, IsCoreRefusal}
+use Rattle.szs_prove.specs.ModelAnswers.{HasModelAnswer, IsModelRefusal}
+use Rattle.szs_prove.specs.Sizes.{IsRefutedIn}
+use Rattle.szs_prove.specs.declared.cores.CoreRefusal.{CoreRefusal}
+use Rattle.szs_prove.specs.declared.model.ModelRefusal.{ModelRefusal}
+use Rattle.szs_prove.specs.declared.refusal.Refusal.{Refusal}
+use Rattle.szs_prove.specs.declared.sizes.Size.{Size}
 use Rattle.szs_prove.proofs.command.answer.Goals as goal
+
+-- ---- the causes of what the calls of the commands answer
+
+module _ (words : List (List ℕ)) (read : Reading) where
+  proved : (file : List ℕ) (root : Option (List ℕ)) (budget : ℕ) (o : Result (List ℕ) Refusal) → IsAsked words (prove file root budget)
+      → IfOk o (HasVerdict read.old.files file root) → IfErr o (IsRefusal read file root budget) → IsAnswer words read file (Prove o)
+  proved file root budget (Ok text) asked ok err = (root, budget, asked, ok)
+  proved file root budget (Err why) asked ok err = (root, budget, asked, err)
+
+  checked : (cert : List ℕ) (problem root : Option (List ℕ)) (o : Result (Form × Judgement) CheckFault) → IsAsked words (check cert problem root)
+      → IfOk o (IsJudged read.old.files cert problem root) → IfErr o (IsCheckFault read.old.files read.old.faults read.new.faults cert problem root)
+      → IsAnswer words read cert (Check o)
+  checked cert problem root (Ok found) asked ok err = (problem, root, asked, ok)
+  checked cert problem root (Err why) asked ok err = (problem, root, asked, err)
+
+  rewritten : (cert : List ℕ) (problem root : Option (List ℕ)) (o : Result Rewriting CheckFault) → IsAsked words (rewrite cert problem root)
+      → IfOk o (IsRewritten read.old.files cert problem root) → IfErr o (IsCheckFault read.old.files read.old.faults read.new.faults cert problem root)
+      → IsAnswer words read cert (Rewrite o)
+  rewritten cert problem root (Ok rewriting) asked ok err = (problem, root, asked, ok)
+  rewritten cert problem root (Err why) asked ok err = (problem, root, asked, err)
+
+  replied : (cert : List ℕ) (atom : Signed Tree) (o : Result Reply CertFault) → IsAsked words (ask cert atom)
+      → IfOk o (IsReplied read.old.files cert atom.atom) → IfErr o (IsAskFault read.old.files read.old.faults read.new.faults cert)
+      → IsAnswer words read cert (Ask o)
+  replied cert atom (Ok reply) asked ok err = (atom, asked, ok)
+  replied cert atom (Err why) asked ok err = (atom, asked, err)
+
+  measured : (number : ℕ) (o : Result Size OutOfMemory) → IsUntouched read → IsAsked words (stress number) → IfOk o (IsRefutedIn number)
+      → IsAnswer words read (codes "stress") (Stress o)
+  measured number (Ok size) untouched asked ok = (refl, untouched, number, asked, ok)
+  measured number (Err want) untouched asked ok = (refl, untouched, number, asked, tt)
+
+  modelled : (elements : ℕ) (file : List ℕ) (root : Option (List ℕ)) (o : Result (List ℕ) ModelRefusal) → IsAsked words (fmodel elements file root)
+      → IfOk o (HasModelAnswer read.old.files elements file root) → IfErr o (IsModelRefusal read elements file root) → IsAnswer words read file (Fmodel o)
+  modelled elements file root (Ok text) asked ok err = (elements, root, asked, ok)
+  modelled elements file root (Err why) asked ok err = (elements, root, asked, err)
+
+  has_core : (file : List ℕ) (root : Option (List ℕ)) (o : Result (List ℕ) CoreRefusal) → IsAsked words (core file root)
+      → IfOk o (HasCoreAnswer read.old.files file root) → IfErr o (IsCoreRefusal read file root) → IsAnswer words read file (Core o)
+  has_core file root (Ok text) asked ok err = (root, asked, ok)
+  has_core file root (Err why) asked ok err = (root, asked, err)
+
+-- ---- each command
 
 pub prove-requires-clause-name : goal.prove-requires-clause-name
 prove-requires-clause-name g c =
@@ -17,7 +78,7 @@ prove-requires-clause-name g c =
 pub prove-requires-clause-budget : goal.prove-requires-clause-budget
 prove-requires-clause-budget g c =
     let h = subst (λ (q : Request). IsAsked (map string_bytes c.args._words.now) (asked q)) c.in-Prove.is c.requires in
-    c.asked_budget.ensures _ _ _ _ h
+    c.asked_once.ensures.within _ _ h
 
 pub returns-in-Prove-clause-answer : goal.returns-in-Prove-clause-answer
 returns-in-Prove-clause-answer g c =
@@ -67,13 +128,13 @@ returns-in-Ask-clause-answer g c =
 pub stress-requires-clause-some : goal.stress-requires-clause-some
 stress-requires-clause-some g c =
     let h = subst (λ (q : Request). IsAsked (map string_bytes c.args._words.now) (asked q)) c.in-Stress.is c.requires in
-    let within = c.asked_length.ensures _ _ h in
+    let within = c.asked_once.ensures.within _ _ h in
     omega (arith, within.0)
 
 pub stress-requires-clause-fits : goal.stress-requires-clause-fits
 stress-requires-clause-fits g c =
     let h = subst (λ (q : Request). IsAsked (map string_bytes c.args._words.now) (asked q)) c.in-Stress.is c.requires in
-    let within = c.asked_length.ensures _ _ h in
+    let within = c.asked_once.ensures.within _ _ h in
     omega (arith, within.1)
 
 pub returns-in-Stress-clause-answer : goal.returns-in-Stress-clause-answer
@@ -103,12 +164,12 @@ model_file-requires-clause-name g c =
 pub model_file-requires-clause-some : goal.model_file-requires-clause-some
 model_file-requires-clause-some g c =
     let h = subst (λ (q : Request). IsAsked (map string_bytes c.args._words.now) (asked q)) c.in-Fmodel.is c.requires in
-    (c.asked_elements.ensures _ _ _ _ h).0
+    (c.asked_once.ensures.within _ _ h).0
 
 pub model_file-requires-clause-few : goal.model_file-requires-clause-few
 model_file-requires-clause-few g c =
     let h = subst (λ (q : Request). IsAsked (map string_bytes c.args._words.now) (asked q)) c.in-Fmodel.is c.requires in
-    (c.asked_elements.ensures _ _ _ _ h).1
+    (c.asked_once.ensures.within _ _ h).1
 
 pub returns-in-Fmodel-clause-answer : goal.returns-in-Fmodel-clause-answer
 returns-in-Fmodel-clause-answer g c =

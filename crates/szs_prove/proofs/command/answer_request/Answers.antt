@@ -1,9 +1,8 @@
 use Rattle.std.proofs.Common.{codes, map, string_bytes, subst, refl, ◌∙◌, Option, List, ℕ}
 use Rattle.std.specs.Prelude.{IfNone, IfSome}
-use Rattle.command_words.specs.Asked.{IsAsked, IsUnread, name_of}
-use Rattle.command_words.specs.Requests.{asked}
+use Rattle.command_words.specs.Asked.{IsAsked, IsUnread, asked, name_of}
 use Rattle.command_words.specs.declared.request.Request.{Request}
-use Rattle.szs_prove.specs.Texts.{exit_for, text_for}
+use Rattle.szs_prove.specs.Answered.{exit_for, text_for}
 use Rattle.szs_prove.specs.Written.{IsWritten}
 use Rattle.szs_prove.specs.declared.answer.Answer.TheVariants.{Unread}
 use Rattle.szs_prove.proofs.command.answer_request.Goals as goal

@@ -1,6 +1,5 @@
-use Rattle.szs_prove.proofs.Endings.{asked_atom, chain, check_failed, checked, decided, formula_value, has_core, interrupted, memory, modelled, read_fault, resource_out, rewritten, stressed, usage_unread, write_fault}
+use Rattle.szs_prove.proofs.Endings.{asked_atom, chain, check_failed, checked, decided, formula_value, has_core, interrupted, memory, modelled, read_fault, resource_out, rewritten, stressed, took_verdict, usage_unread, write_fault}
 use Rattle.szs_prove.proofs.Situated.{LoadsOne, exact}
-use Rattle.szs_prove.proofs.VerdictTexts.{took_verdict}
 use Rattle.szs_prove.proofs.command.run.Goals as goal
 
 pub returns : goal.returns
