@@ -9,6 +9,8 @@ mod chains;
 #[cfg(test)]
 mod checks;
 #[cfg(test)]
+mod cores;
+#[cfg(test)]
 mod cuts;
 #[cfg(test)]
 mod faults;
