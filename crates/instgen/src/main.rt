@@ -1,6 +1,5 @@
-// `instgen prove FILE` decides the clauses of FILE, and writes a certificate of its answer; `instgen sat FILE` answers propositional
-// clauses; `instgen check CERT` judges a certificate, or writes it in the newest format, `instgen ask CERT ATOM` asks it for an atom, and `instgen stress N` refutes a
-// chain.
+// `instgen prove FILE` decides the clauses of FILE, and writes a certificate of its answer. `command_words` has all commands, and
+// `szs_prove` says what comes of each.
 #![tactic(auto)]
 
 mod words;
