@@ -1,6 +1,6 @@
 -- What is worked with an entry is worked with one that has the same literal selected, where nothing is held back; and pairs of which
 -- a part is known to be worked.
-use Rattle.std.proofs.Common.{◌≡◌, ◌≢◌, ℕ, ◌<◌, ◌≤◌, List, [], ◌∷◌, ◌++◌, ◌⊎◌, inl, inr, refl, sym, ap, ◌∙◌, subst as transport, length, arith, Contains, Bool, true, false, None, Some}
+use Rattle.std.proofs.Common.{◌≡◌, ◌≢◌, ℕ, ◌<◌, ◌≤◌, List, [], ◌++◌, ◌⊎◌, inl, inr, refl, sym, ap, subst as transport, length, arith, Contains, Bool, true, false, None, Some}
 use Rattle.std.specs.Prelude.{Option, IfSome, IfOk, Result, Ok, Err, MatchOption}
 use Rattle.term_index.specs.Pairs.{Pair, Gives}
 use Rattle.inst_logic.specs.declared.signed.Signed.{Signed}

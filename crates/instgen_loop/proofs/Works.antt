@@ -8,7 +8,7 @@ use Rattle.inst_logic.specs.Clauses.{instance}
 use Rattle.inst_logic.specs.Substitution.{Substitution, subst as apply}
 use Rattle.inst_logic.specs.WellFormed.{IsAtom}
 use Rattle.inst_logic.proofs.ShownLaws.{at_number_contains}
-use Rattle.inst_logic.specs.Unifiers.{Sided, IsUnifier, IsMostGeneral}
+use Rattle.inst_logic.specs.Unifiers.{Sided, IsUnifier}
 use Rattle.inst_calculus.specs.Entries.{Entry, entry_clauses}
 use Rattle.inst_calculus.specs.Models.{Member}
 use Rattle.inst_calculus.specs.Saturation.{IsCovered}
@@ -20,7 +20,7 @@ use Rattle.engine_laws.specs.Places.{IsPlaced}
 use Rattle.engine_laws.specs.Pairs.{Held, IsWorked}
 use Rattle.engine_laws.proofs.Lists.{at_number_front}
 use Rattle.inst_calculus.proofs.Items.{same_item, at_number_within}
-use Rattle.engine_laws.proofs.WorkedPairs.{placed_before, clauses_stay, worked_by_one, pair_stays_worked}
+use Rattle.engine_laws.proofs.WorkedPairs.{placed_before, clauses_stay, pair_stays_worked}
 use Rattle.term_bank.specs.Forest.{Forest, IsClauseOf, clause_at, tree_at}
 use Rattle.term_index.specs.Pairs.{Pair, Gives, IsOver}
 use Rattle.instgen_loop.specs.declared.state.Run.{Run}
@@ -148,21 +148,6 @@ goes_on a b c g h = record {
     join [] ys zs = refl
     join (x ∷ xs) ys zs = ap (λ us. x ∷ us) (join xs ys zs)
 
--- both sides worked under one most general unifier
-pub pair_by_sides : {S I C : Type 0} (r : Run S I C) (i j : ℕ) (a b : Tree) (s : Sided) → IsMostGeneral s a b → IsSelectedTree r i a → IsSelectedTree r j b
-    → IsSideWorked r s.left i j → IsSideWorked r s.right j i → IsPairWorked r i j
-pair_by_sides r i j a b s g first second left right = (
-  λ m n l o. (both m n l o).0 m n l o,
-  λ n m o l. (both m n l o).1 n m o l,
-)
-  where
-    both : (m n : Member) (l : IsPlaced (entries_in r.entries.bank (items r)) r.selection.places i m) (o : IsPlaced (entries_in r.entries.bank (items r)) r.selection.places j n)
-        → IsWorked (entries_in r.entries.bank (items r)) r.selection.places (held_of r) i j × IsWorked (entries_in r.entries.bank (items r)) r.selection.places (held_of r) j i
-    both m n l o =
-        worked_by_one (entries_in r.entries.bank (items r)) r.selection.places (held_of r) i j m n l o s
-        (transport (λ x. IsMostGeneral s x n.selected.atom) (sym (placed_tree r i a m first l)) (transport (λ y. IsMostGeneral s a y) (sym (placed_tree r j b n second o)) g))
-        (λ p. left m n l o p) (λ p. right n m o l p)
-
 -- a selected atom is one of the bank
 pub selected_within : {S I C : Type 0} (r : Run S I C) (n a : ℕ) → AreEntries r.entries.bank (items r) → IsSelectedAtom r n a → (a < length r.entries.bank.trees) × IsAtom (tree_at r.entries.bank a)
 selected_within r n a entries h =
@@ -211,13 +196,6 @@ goes_rebound r b = record {
 
 pub tree_stays : {S I C : Type 0} (old new : Run S I C) → Goes old new → AreEntries old.entries.bank (items old) → (n : ℕ) (t : Tree) → IsSelectedTree old n t → IsSelectedTree new n t
 tree_stays old new goes entries n t (a, h, e) = (a, selected_stays old new goes entries n a h, goes.bank.trees.1 a (selected_within old n a entries h).0 ∙ e)
-
-pub worked_after : {S I C : Type 0} (old mid new : Run S I C) (i j : ℕ) (t u : Tree) (s : Sided) → Goes old mid → Goes mid new → AreEntries old.entries.bank (items old) → AreEntries mid.entries.bank (items mid)
-    → i ≤ length (items mid) → j ≤ length (items mid) → IsMostGeneral s t u → IsSelectedTree old i t → IsSelectedTree old j u → IsSideWorked mid s.left i j → IsSideWorked new s.right j i → IsPairWorked new i j
-worked_after old mid new i j t u s g h entries later a b general first second left right =
-    pair_by_sides new i j t u s general
-    (tree_stays mid new h later i t (tree_stays old mid g entries i t first)) (tree_stays mid new h later j u (tree_stays old mid g entries j u second))
-    (side_stays mid new h later s.left i j a b left) right
 
 -- what is no pair of unifiable atoms needs no work
 pub all_worked : {S I C : Type 0} (start r : Run S I C) (i atom : ℕ) (pairs : List Pair) (comes over : Pair → Type 0) → Goes start r → AreEntries start.entries.bank (items start) → IsSelectedAtom start i atom

@@ -1,5 +1,5 @@
 -- Entries with the same literal selected: what is covered for one of them is covered for the other.
-use Rattle.std.specs.Prelude.{◌≡◌, ℕ, List, [], Option, Some}
+use Rattle.std.specs.Prelude.{◌≡◌, ℕ, [], Option, Some}
 use Rattle.inst_logic.specs.declared.signed.Signed.{Signed}
 use Rattle.engine_laws.specs.Pairs.{IsWorked}
 use Rattle.instgen_loop.specs.declared.state.Run.{Run}

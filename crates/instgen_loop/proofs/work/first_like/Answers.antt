@@ -1,4 +1,3 @@
-use Rattle.std.proofs.Common.{◌<◌}
 use Rattle.instgen_loop.proofs.Alike.{found_in}
 use Rattle.instgen_loop.proofs.work.first_like.Goals as goal
 

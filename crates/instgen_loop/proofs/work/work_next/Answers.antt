@@ -1,4 +1,3 @@
-use Rattle.std.proofs.Common.{◌≡◌, true}
 use Rattle.instgen_loop.proofs.Alike.{first_done, second_done}
 use Rattle.instgen_loop.proofs.work.work_next.Goals as goal
 
