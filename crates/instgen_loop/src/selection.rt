@@ -112,6 +112,14 @@ impl Selection {
         self.places[n - 1] as usize
     }
 
+    /// Whether more than one entry may have the atom selected.
+    pub fn is_shared(&self, atom: usize) -> bool {
+        match self.users.get(atom) {
+            None => false,
+            Some(users) => users.as_slice().len() > 1,
+        }
+    }
+
     /// Makes lists of users for so many atoms.
     pub fn make_users(&mut self, alloc: Global, count: usize) -> Result<(), Memory>
         ensures places { OnOk result (self.new.places ≡ self.old.places) }

@@ -10,6 +10,7 @@ ghost use Rattle.instgen_loop.specs.Running.{AreOpposite, ArePaired, KeepsRunnin
 
 use crate::infer::{clause_of, infer, literal_at, place_of};
 use crate::state::Run;
+use compact_lists::PackedLit;
 use inst_logic::Memory;
 use prop_logic::Solver;
 use std::alloc::Global;
@@ -229,6 +230,44 @@ fn first_like<S: Solver, I: PartnerIndex>(
     index.next(&mut cursor)
 }
 
+// The numbered form of the selected literal of entry `n`.
+fn numbered_literal<S: Solver, I: PartnerIndex>(run: &Run<S, I>, n: usize) -> Option<&PackedLit>
+    requires { (0 < n) × (n ≤ length run.now.selection.places) }
+{
+    match run.ground.literals.get(n - 1) {
+        None => None,
+        Some(clause) => clause.get(place_of(run, n).saturating_sub(1)),
+    }
+}
+
+// Whether another entry may have the same literal selected: it has the numbered atom of entry `n`.
+fn is_shared<S: Solver, I: PartnerIndex>(run: &Run<S, I>, n: usize) -> bool
+    requires { (0 < n) × (n ≤ length run.now.selection.places) }
+{
+    match numbered_literal(run, n) {
+        None => false,
+        Some(literal) => run.selection.is_shared(literal.lit().atom),
+    }
+}
+
+// The same, where it may have the literal of entry `n` selected.
+fn first_shared<S: Solver, I: PartnerIndex>(
+    run: &Run<S, I>,
+    index: &I,
+    n: usize,
+) -> Result<Option<usize>, Memory>
+    requires safe { IsSafe S.atoms I.pairs I.fits run.now }
+    requires within { (0 < n) × (n ≤ length run.now.selection.places) }
+    requires fits { I.fits run.now.entries.bank index.now }
+    ensures { IfOk result (λ o. IfSome o (λ k. (atom : ℕ) × Contains (I.pairs index.now) (atom, k))) }
+{
+    if is_shared(run, n) {
+        first_like(run, index, n)
+    } else {
+        Ok(None)
+    }
+}
+
 /// Works an entry with all entries that an index has: those of the opposite sign. The other index has those of its own sign.
 pub fn work_with<S: Solver, I: PartnerIndex>(
     alloc: Global,
@@ -249,6 +288,6 @@ pub fn work_with<S: Solver, I: PartnerIndex>(
     ensures running { OnOk result (((p : Pair) → Contains (I.pairs partners.now) p → AreOpposite run.old i p.1) → KeepsRunning S.atoms S.added run.old run.new) }
     ensures worked { OnOk result ((p : Pair) → Contains (I.pairs partners.now) p → IsPairWorked run.new i p.1) }
 {
-    let indexed = first_like(run, own, i)?;
+    let indexed = first_shared(run, own, i)?;
     work_all(alloc, run, partners, Pick { entry: i, indexed })
 }
