@@ -158,47 +158,47 @@ record AreGood (s : Shape) (f : Forest) (g : Groups) (h : Header) : Type 0 where
   pub few : (k : ℕ) → count k (items_of s f g) < 2 ^ 64
 
 module _ (r : Bool) (v : ℕ) (f : Forest) (g : Groups) (h : Header) (p : AreGood (shape_for r v) f g h) where
-  abbrev A : List Item
-  A = input_items (map (clause_at f) g.inputs) g.names
+  abbrev input_part : List Item
+  input_part = input_items (map (clause_at f) g.inputs) g.names
 
-  abbrev B : List Item
-  B = axiom_items (map (clause_at f) g.axioms)
+  abbrev axiom_part : List Item
+  axiom_part = axiom_items (map (clause_at f) g.axioms)
 
-  abbrev C : List Item
-  C = members_by (shape_for r v) (map (entry_of f) g.members) g.places
+  abbrev member_part : List Item
+  member_part = members_by (shape_for r v) (map (entry_of f) g.members) g.places
 
-  abbrev D1 : List Item
-  D1 = ground_items (map (clause_at f) g.grounds)
+  abbrev ground_part : List Item
+  ground_part = ground_items (map (clause_at f) g.grounds)
 
-  abbrev D2 : List Item
-  D2 = line_items (map (line_of f) g.lines)
+  abbrev line_part : List Item
+  line_part = line_items (map (line_of f) g.lines)
 
-  abbrev E : List Item
-  E = step_items (map (step_of f) g.steps)
+  abbrev step_part : List Item
+  step_part = step_items (map (step_of f) g.steps)
 
   abbrev base : List TreeClause
   base = map (clause_at f) g.inputs ++ map (clause_at f) g.axioms
 
-  abbrev F : List Item
-  F = shown_items base (map (by_of f) g.shown)
+  abbrev shown_part : List Item
+  shown_part = shown_items base (map (by_of f) g.shown)
 
-  abbrev G : List Item
-  G = cover_items (map (cover_of f) g.covers)
+  abbrev cover_part : List Item
+  cover_part = cover_items (map (cover_of f) g.covers)
 
-  behind_a : (list_all (is_good h) A ≡ true) × (list_all (is_good h) (B ++ (C ++ ((D1 ++ D2) ++ (E ++ (F ++ G))))) ≡ true)
-  behind_a = parts_good (is_good h) A (B ++ (C ++ ((D1 ++ D2) ++ (E ++ (F ++ G))))) p.good
+  behind_a : (list_all (is_good h) input_part ≡ true) × (list_all (is_good h) (axiom_part ++ (member_part ++ ((ground_part ++ line_part) ++ (step_part ++ (shown_part ++ cover_part))))) ≡ true)
+  behind_a = parts_good (is_good h) input_part (axiom_part ++ (member_part ++ ((ground_part ++ line_part) ++ (step_part ++ (shown_part ++ cover_part))))) p.good
 
-  behind_b : (list_all (is_good h) B ≡ true) × (list_all (is_good h) (C ++ ((D1 ++ D2) ++ (E ++ (F ++ G)))) ≡ true)
-  behind_b = parts_good (is_good h) B (C ++ ((D1 ++ D2) ++ (E ++ (F ++ G)))) behind_a.1
+  behind_b : (list_all (is_good h) axiom_part ≡ true) × (list_all (is_good h) (member_part ++ ((ground_part ++ line_part) ++ (step_part ++ (shown_part ++ cover_part)))) ≡ true)
+  behind_b = parts_good (is_good h) axiom_part (member_part ++ ((ground_part ++ line_part) ++ (step_part ++ (shown_part ++ cover_part)))) behind_a.1
 
-  behind_c : (list_all (is_good h) C ≡ true) × (list_all (is_good h) ((D1 ++ D2) ++ (E ++ (F ++ G))) ≡ true)
-  behind_c = parts_good (is_good h) C ((D1 ++ D2) ++ (E ++ (F ++ G))) behind_b.1
+  behind_c : (list_all (is_good h) member_part ≡ true) × (list_all (is_good h) ((ground_part ++ line_part) ++ (step_part ++ (shown_part ++ cover_part))) ≡ true)
+  behind_c = parts_good (is_good h) member_part ((ground_part ++ line_part) ++ (step_part ++ (shown_part ++ cover_part))) behind_b.1
 
-  behind_d : (list_all (is_good h) (D1 ++ D2) ≡ true) × (list_all (is_good h) (E ++ (F ++ G)) ≡ true)
-  behind_d = parts_good (is_good h) (D1 ++ D2) (E ++ (F ++ G)) behind_c.1
+  behind_d : (list_all (is_good h) (ground_part ++ line_part) ≡ true) × (list_all (is_good h) (step_part ++ (shown_part ++ cover_part)) ≡ true)
+  behind_d = parts_good (is_good h) (ground_part ++ line_part) (step_part ++ (shown_part ++ cover_part)) behind_c.1
 
-  behind_e : (list_all (is_good h) E ≡ true) × (list_all (is_good h) (F ++ G) ≡ true)
-  behind_e = parts_good (is_good h) E (F ++ G) behind_d.1
+  behind_e : (list_all (is_good h) step_part ≡ true) × (list_all (is_good h) (shown_part ++ cover_part) ≡ true)
+  behind_e = parts_good (is_good h) step_part (shown_part ++ cover_part) behind_d.1
 
   named_is : length g.names ≡ length (map (clause_at f) g.inputs)
   named_is = p.groups.named ∙ sym (length-map g.inputs (clause_at f))
@@ -223,10 +223,10 @@ module _ (r : Bool) (v : ℕ) (f : Forest) (g : Groups) (h : Header) (p : AreGoo
   }
 
   ground_list : All IsWritableClause (map (clause_at f) g.grounds)
-  ground_list = grounds_good h (map (clause_at f) g.grounds) (parts_good (is_good h) D1 D2 behind_d.0).0
+  ground_list = grounds_good h (map (clause_at f) g.grounds) (parts_good (is_good h) ground_part line_part behind_d.0).0
 
   line_list : All IsWritableLine (map (line_of f) g.lines)
-  line_list = lines_good h (map (line_of f) g.lines) (parts_good (is_good h) D1 D2 behind_d.0).1
+  line_list = lines_good h (map (line_of f) g.lines) (parts_good (is_good h) ground_part line_part behind_d.0).1
 
   step_list : All IsWritableStep (map (step_of f) g.steps)
   step_list = steps_good h (map (step_of f) g.steps) behind_e.0
@@ -235,10 +235,10 @@ module _ (r : Bool) (v : ℕ) (f : Forest) (g : Groups) (h : Header) (p : AreGoo
   few_shown = let a = length-append (map (clause_at f) g.inputs) (map (clause_at f) g.axioms) in let b = length-map g.inputs (clause_at f) in let c = length-map g.axioms (clause_at f) in let d = length-map g.shown (by_of f) in let e = p.groups.few in omega arith
 
   shown_list : All IsWritableBy (map (by_of f) g.shown)
-  shown_list = shown_good h base (map (by_of f) g.shown) few_shown (parts_good (is_good h) F G behind_e.1).0
+  shown_list = shown_good h base (map (by_of f) g.shown) few_shown (parts_good (is_good h) shown_part cover_part behind_e.1).0
 
   cover_list : All IsWritableCover (map (cover_of f) g.covers)
-  cover_list = covers_good h (map (cover_of f) g.covers) (parts_good (is_good h) F G behind_e.1).1
+  cover_list = covers_good h (map (cover_of f) g.covers) (parts_good (is_good h) shown_part cover_part behind_e.1).1
 
 -- ---- the certificates can be written
 
