@@ -27,7 +27,7 @@ use Rattle.unify_core.specs.Sides.{Binding, IsResolvedBy, of_side}
 use Rattle.unify_core.specs.declared.side.Side.{Side}
 use Rattle.unify_core.specs.declared.side.Side.TheVariants.{Left, Right}
 use Rattle.cert_check.specs.declared.due_side.DueSide.{DueSide}
-use Rattle.cert_check.specs.Compared.{IsCoverRight, IsNamedRight}
+use Rattle.cert_check.specs.Compared.{IsCoverRight, IsNamedOf, IsNamedRight}
 use Rattle.cert_check.specs.DueSteps.{due_of}
 use Rattle.cert_check.specs.Sides.{left_number, right_number}
 use Rattle.cert_check.proofs.CoverLaws.{clause_of}
@@ -93,19 +93,19 @@ cover_there c place o at = slice_get-map (cover_of c.cert.base.bank) c.covers pl
 
 module _ (c : Covered) (es : List Binding) (due : DueSide) (place : ℕ) where
   pub cover_none : slice_get c.covers place ≡ None → IsCoverRight c es due place false
-  cover_none at s resolved m sel =
+  cover_none at s resolved m n sel there general =
       subst (λ (o : Option format.Cover). IsTrue false ↔ CoversAt (saturation_of c.cert).base.members (Some (due_of due.side due.own due.other m s)) o) (sym (cover_there c place None at))
       ((λ t. absurd (let e : false ≡ true = t in cc)), (λ h. absurd h))
 
   module _ (v : Cover) (at : slice_get c.covers place ≡ Some v) where
     pub cover_other : ¬ ((v.left ≡ left_number due.side due.own due.other) × (v.right ≡ right_number due.side due.own due.other) × (v.side ≡ due.side)) → IsCoverRight c es due place false
-    cover_other other s resolved m sel =
+    cover_other other s resolved m n sel there general =
         subst (λ (o : Option format.Cover). IsTrue false ↔ CoversAt (saturation_of c.cert).base.members (Some (due_of due.side due.own due.other m s)) o) (sym (cover_there c place (Some v) at))
         ((λ t. absurd (let e : false ≡ true = t in cc)), (λ h. absurd (other (h.left, h.right, side_from v.side due.side h.side))))
 
-    pub cover_same : (v.left ≡ left_number due.side due.own due.other) × (v.right ≡ right_number due.side due.own due.other) × (v.side ≡ due.side) → (r : Bool) → IsNamedRight c.cert es due.side (suc due.own) v r → IsCoverRight c es due place r
-    cover_same same r named s resolved m sel =
+    pub cover_same : (v.left ≡ left_number due.side due.own due.other) × (v.right ≡ right_number due.side due.own due.other) × (v.side ≡ due.side) → (r : Bool) → IsNamedOf c.cert es due v r → IsCoverRight c es due place r
+    cover_same same r named s resolved m n sel there general =
         subst (λ (o : Option format.Cover). IsTrue r ↔ CoversAt (saturation_of c.cert).base.members (Some (due_of due.side due.own due.other m s)) o) (sym (cover_there c place (Some v) at)) (
-          (λ t. let h = (named s resolved m sel).0 t in record { left = same.0; right = same.1; side = ap side_of same.2; clause = h.0; holds = h.1 }),
-          (λ h. (named s resolved m sel).1 (h.clause, h.holds)),
+          (λ t. let h = (named s resolved m n sel there general).0 t in record { left = same.0; right = same.1; side = ap side_of same.2; clause = h.0; holds = h.1 }),
+          (λ h. (named s resolved m n sel there general).1 (h.clause, h.holds)),
         )

@@ -42,9 +42,10 @@ side_gives_none c f es x own other none P s resolved m n at_m at_n general = ([]
 -- and one on which it is
 pub side_gives_one : (c : Saturation) (f : Forest) (es : List Binding) (x : Side) (own other : ℕ)
     → ((s : Sided) → IsResolvedBy f es s → (m n : Member) → IsGeneralOn x s m.selected.atom n.selected.atom → IsProper (of_side s x) m.selected.atom) → (P Q : List Due → Type 0)
-    → ((s : Sided) → IsResolvedBy f es s → (m : Member) → SelectsAt c (suc own) m → (ds : List Due) → P ds → Q (ds ++ due_of x own other m s ∷ [])) → GivesSide c f es x own other P Q
+    → ((s : Sided) → IsResolvedBy f es s → (m n : Member) → SelectsAt c (suc own) m → SelectsAt c (suc other) n → IsGeneralOn x s m.selected.atom n.selected.atom → (ds : List Due) → P ds → Q (ds ++ due_of x own other m s ∷ []))
+    → GivesSide c f es x own other P Q
 side_gives_one c f es x own other proper P Q step s resolved m n at_m at_n general =
-    (due_of x own other m s ∷ [], inl (proper s resolved m n general, refl), step s resolved m at_m)
+    (due_of x own other m s ∷ [], inl (proper s resolved m n general, refl), step s resolved m n at_m at_n general)
 
 pub side_of_same : (c d : Saturation) → c ≡ d → (f : Forest) (es : List Binding) (x : Side) (own other : ℕ) (P Q : List Due → Type 0) → GivesSide c f es x own other P Q → GivesSide d f es x own other P Q
 side_of_same c d same f es x own other P Q = subst (λ y. GivesSide y f es x own other P Q) same

@@ -1,8 +1,8 @@
 -- What a member whose origin is two members with their selected literals covers.
-use Rattle.std.proofs.Common.{◌≡◌, inl, inr, ◌⊎◌, ℕ, suc, ◌<◌, Bool, true, false, cond, length, get_or, nat_eq, refl, ap, sym, ◌∙◌, map, subst, Some}
+use Rattle.std.proofs.Common.{◌≡◌, inl, inr, ◌⊎◌, ℕ, zero, suc, ◌<◌, Bool, List, true, false, cond, length, get_or, nat_eq, refl, ap, sym, ◌∙◌, map, subst, Some}
 use Rattle.std.specs.Prelude.{Any, slice_get, option_map}
 use Rattle.std.proofs.lemmas.Bool.Decides.{Decides-eqb}
-use Rattle.std.proofs.lemmas.Option.{slice_get-map, slice_get-get_or}
+use Rattle.std.proofs.lemmas.Option.{slice_get-map, slice_get-get_or, slice_get_within, same_Some}
 use Rattle.inst_logic.specs.declared.signed.Signed.{Signed}
 use Rattle.inst_logic.specs.EqualLaws.{and_left, and_right}
 use Rattle.inst_logic.specs.Clauses.{TreeClause, AreVariants, canonical_form, instance}
@@ -14,18 +14,28 @@ use Rattle.inst_calculus.specs.Entries.{Entry}
 use Rattle.inst_calculus.specs.Models.{Member as Selected}
 use Rattle.inst_calculus.specs.Saturation.{variant}
 use Rattle.inst_calculus.proofs.CanonicalForms.{canonical_of_canonical}
-use Rattle.inst_calculus.proofs.Choice.{instance_of_choice}
+use Rattle.inst_calculus.proofs.Choice.{instance_of_choice, swapped, swapped_general}
 use Rattle.inst_calculus.proofs.Membership.{contains_in, in_contains, in_map}
+use Rattle.cert_format.specs.TermLists.{HoldsBy}
 use Rattle.cert_format.specs.Validity.{Gives, IsValidBase, SelectsAt}
 use Rattle.cert_format.specs.declared.complaint.Complaint.TheVariants.{Member as Derived}
 use Rattle.cert_format.proofs.Numbers.{same_item}
 use Rattle.term_bank.specs.Forest.{clause_at}
+use Rattle.saturation_cert.specs.declared.certificate.By.{By}
+use Rattle.saturation_cert.specs.declared.certificate.By.TheVariants.{Variant}
+use Rattle.saturation_cert.specs.declared.certificate.Cover.{Cover}
 use Rattle.saturation_cert.specs.declared.certificate.Saturation.{Saturation}
 use Rattle.saturation_cert.specs.declared.member.Member.{Member}
 use Rattle.saturation_cert.specs.declared.member.Origin.{Origin}
 use Rattle.saturation_cert.specs.declared.member.Origin.TheVariants.{Inst}
-use Rattle.saturation_cert.specs.Values.{base_of, entry_of, origin_of, saturation_of}
+use Rattle.saturation_cert.specs.Values.{base_of, by_of, entry_of, origin_of, saturation_of}
 use Rattle.saturation_cert.specs.Wholes.{HasPlaces}
+use Rattle.unify_core.specs.Sides.{Binding, of_side}
+use Rattle.unify_core.specs.declared.side.Side.{Side}
+use Rattle.unify_core.specs.declared.side.Side.TheVariants.{Left, Right}
+use Rattle.cert_check.specs.Closings.{IsGeneralOn}
+use Rattle.cert_check.specs.Compared.{IsMadeCover, IsNamedOf}
+use Rattle.cert_check.specs.declared.due_side.DueSide.{DueSide}
 use Rattle.cert_check.specs.declared.conclusion.Premises.{Premises}
 use Rattle.cert_check.specs.Origins.{IsMade, premises_eq}
 use Rattle.cert_check.proofs.Closings.{selected_cover}
@@ -101,3 +111,38 @@ module _ (c : Saturation) (base : IsValidBase (base_of c.base)) (placed : HasPla
       let v : AreVariants (instance s.left m.clause) d = variants m n at_m at_n s general d (conclusion_at k x within (sym is) origin) in
       let found = in_contains d (map (clause_of c.base.bank) c.base.members) (in_map (clause_of c.base.bank) x c.base.members (contains_in x c.base.members (k, within, is))) in
       (selected_cover c placed m.clause (instance s.left m.clause)).0 (variant d found v)
+
+  -- the clause of a member that was made so is the instance on the side
+  made_left : (k : ℕ) (x : Member) → k < length c.base.members → x ≡ get_or c.base.members k x → x.origin ≡ Inst (suc i) place (suc j) other
+      → (m n : Selected) → SelectsAt (saturation_of c) (suc i) m → SelectsAt (saturation_of c) (suc j) n → (s : Sided) → IsMostGeneral s m.selected.atom n.selected.atom → clause_at c.base.bank x.clause ≡ canonical_form (instance s.left m.clause)
+  made_left k x within is origin m n at_m at_n s general =
+      let h = conclusion_at k x within is origin in
+      let d = clause_at c.base.bank x.clause in
+      let own : canonical_form d ≡ d = ap canonical_form h.conclusion ∙ canonical_of_canonical (instance h.unifier.left h.entry.clause) ∙ sym h.conclusion in
+      let v : AreVariants (instance s.left m.clause) d = variants m n at_m at_n s general d h in
+      sym own ∙ sym v
+
+  pub made_instance : (k : ℕ) (x : Member) → k < length c.base.members → x ≡ get_or c.base.members k x → x.origin ≡ Inst (suc i) place (suc j) other
+      → (side : Side) (m n : Selected) → SelectsAt (saturation_of c) (suc i) m → SelectsAt (saturation_of c) (suc j) n → (s : Sided) → IsGeneralOn side s m.selected.atom n.selected.atom
+      → clause_at c.base.bank x.clause ≡ canonical_form (instance (of_side s side) m.clause)
+  made_instance k x within is origin Left m n at_m at_n s general = made_left k x within is origin m n at_m at_n s general
+  made_instance k x within is origin Right m n at_m at_n s general = made_left k x within is origin m n at_m at_n (swapped s) (swapped_general s n.selected.atom m.selected.atom general)
+
+numbered_place : (ms : List Member) (n : ℕ) (x : Member) → at_number ms n ≡ Some x → (k : ℕ) × (n ≡ suc k) × (slice_get ms k ≡ Some x)
+numbered_place ms zero x e = absurd cc
+numbered_place ms (suc k) x e = (k, refl, e)
+
+-- so a cover that names such a member is right
+pub made_named : (c : Saturation) → IsValidBase (base_of c.base) → HasPlaces (saturation_of c) → (es : List Binding) (due : DueSide) (v : Cover) → IsMadeCover c due v → IsNamedOf c es due v true
+made_named c base placed es due v h s resolved m n at_m at_n general =
+    let f = c.base.bank in
+    let (k, number, at) = numbered_place c.base.members h.number h.member h.at in
+    let within = slice_get_within c.base.members k h.member at in
+    let is : h.member ≡ get_or c.base.members k h.member = same_Some h.member (get_or c.base.members k h.member) (sym at ∙ slice_get-get_or c.base.members k h.member within) in
+    let made = made_instance c base placed due.own due.other h.place h.other h.here h.there k h.member within is h.origin due.side m n at_m at_n s general in
+    let same : clause_at f v.clause ≡ clause_at f h.member.clause = ap (clause_at f) (sym h.clause) in
+    let there : at_number (map (entry_of f) c.base.members) (suc k) ≡ Some (entry_of f h.member) = slice_get-map (entry_of f) c.base.members k ∙ ap (option_map (entry_of f)) at in
+    let holds : HoldsBy (saturation_of c).base.members m.clause (clause_at f v.clause) (by_of f (Variant (suc k))) = (entry_of f h.member, there, ap canonical_form same) in (
+      (λ t. (same ∙ made, subst (λ (b : By). HoldsBy (saturation_of c).base.members m.clause (clause_at f v.clause) (by_of f b)) (sym (h.by ∙ ap Variant number)) holds)),
+      (λ z. refl),
+    )

@@ -14,10 +14,12 @@ ghost use Rattle.cert_check.specs.Closings.{IsProperSomewhere};
 ghost use Rattle.cert_check.specs.DueSteps.{AreCompared, GivesMeeting, GivesPair, GivesRow, GivesSide};
 ghost use Rattle.cert_check.specs.FirstPairs.{IsFirstWrongPairOf};
 ghost use Rattle.cert_check.specs.Firsts.{IsFirstWrongOf};
-ghost use Rattle.cert_check.specs.Compared.{IsComparable, IsCoverRight, IsNamedRight};
+ghost use Rattle.cert_check.specs.Compared.{IsComparable, IsCoverRight, IsMadeCover, IsNamedRight};
 ghost use Rattle.cert_check.specs.Meetings.{LeadsOn};
+ghost use Rattle.cert_check.specs.Origins.{origin_from};
 ghost use Rattle.cert_check.specs.Sides.{left_number, right_number};
 
+use crate::conclusion::{Premises, numbered_item};
 use crate::difference::same_clause;
 use crate::due_side::{DueSide, number_at};
 use crate::meetings::Meetings;
@@ -25,7 +27,7 @@ use crate::pairs::is_proper;
 use cert_names::holds_by;
 use clause_form::conclude_clause;
 use inst_logic::Memory;
-use saturation_cert::{Cover, Covered, Member, Saturation, selected};
+use saturation_cert::{By, Cover, Covered, Member, Origin, Saturation, selected};
 use std::alloc::Global;
 use term_bank::{Bank, IdClause};
 use unify_core::{Bindings, Side};
@@ -98,6 +100,49 @@ fn is_named(
     )
 }
 
+// Whether the origin is that of the premises.
+fn is_from(origin: &Origin, premises: Premises) -> bool
+    ensures { result ≡ true → origin.now ≡ origin_from premises }
+{
+    match origin {
+        Origin::Inst {
+            from,
+            place,
+            partner,
+            other,
+        } => {
+            *from == premises.from
+                && *place == premises.place
+                && *partner == premises.partner
+                && *other == premises.other
+        }
+        Origin::Input(_) | Origin::Lemma { .. } => false,
+    }
+}
+
+// Whether the cover names a member that has its clause and was made from the selected literals of the two members. The origins
+// were checked before, so the clause is the instance, which then is not built.
+fn is_made(cert: &Saturation, due: DueSide, cover: &Cover) -> bool
+    requires own { due.own < length cert.now.base.members }
+    requires other { due.other < length cert.now.base.members }
+    ensures { result ≡ true → IsMadeCover cert.now due cover.now }
+{
+    let By::Variant(number) = &cover.by else {
+        return false;
+    };
+    let Some(member) = numbered_item(cert.base.members.as_slice(), *number) else {
+        return false;
+    };
+    let Some(place) = cert.places.get(due.own) else {
+        return false;
+    };
+    let Some(other) = cert.places.get(due.other) else {
+        return false;
+    };
+    let premises = Premises::new(due.own + 1, *place, due.other + 1, *other);
+    is_from(&member.origin, premises) && same_clause(&member.clause, &cover.clause)
+}
+
 // Whether the cover at the place, counted from 0, is that of the side.
 fn is_right_cover(
     alloc: Global,
@@ -121,6 +166,9 @@ fn is_right_cover(
     };
     if !is_of(cover, cert.cert.base.members.as_slice(), due) {
         return Ok(false);
+    }
+    if is_made(&cert.cert, due, cover) {
+        return Ok(true);
     }
     is_named(alloc, &mut cert.cert, bindings, due, cover)
 }

@@ -21,7 +21,7 @@ returns-then-progress-clause-gives c =
     let p = c.args.progress.now in
     side_gives_one (saturation_of cert.cert) cert.cert.base.bank c.args.bindings.now.entries c.args.due.side c.args.due.own c.args.due.other
     (λ s resolved m n g. proper_there cert.cert.base.bank c.args.bindings.now.entries c.args.due.side (c.proper.ensures.yes c.if-not-proper.false) m.selected.atom n.selected.atom s resolved g) (AreCompared v p) (AreCompared v p)
-    (λ s resolved m sel ds h. more_after_wrong v p ds h c.if-progress.true (due_of c.args.due.side c.args.due.own c.args.due.other m s ∷ []))
+    (λ s resolved m n sel there g ds h. more_after_wrong v p ds h c.if-progress.true (due_of c.args.due.side c.args.due.own c.args.due.other m s ∷ []))
 
 pub returns-in_err-right-clause-counted : goal.returns-in_err-right-clause-counted
 returns-in_err-right-clause-counted c = counted_kept c.args.cert.now c.is_right_cover.new.cert c.is_right_cover.ensures.kept c.args.progress.now.count c.requires.counted
@@ -46,4 +46,4 @@ returns-clause-gives c =
     let q = c.note.new.progress in
     side_gives_one (saturation_of cert.cert) cert.cert.base.bank c.args.bindings.now.entries c.args.due.side c.args.due.own c.args.due.other
     (λ s resolved m n g. proper_there cert.cert.base.bank c.args.bindings.now.entries c.args.due.side (c.proper.ensures.yes c.if-not-proper.false) m.selected.atom n.selected.atom s resolved g) (AreCompared v p) (AreCompared v q)
-    (λ s resolved m sel ds h. step_compared v p q ds h c.if-progress.false (due_of c.args.due.side c.args.due.own c.args.due.other m s) c.in_ok-right.right (c.in_ok-right.ensures.right s resolved m sel) c.note.ensures.yes c.note.ensures.no)
+    (λ s resolved m n sel there g ds h. step_compared v p q ds h c.if-progress.false (due_of c.args.due.side c.args.due.own c.args.due.other m s) c.in_ok-right.right (c.in_ok-right.ensures.right s resolved m n sel there g) c.note.ensures.yes c.note.ensures.no)

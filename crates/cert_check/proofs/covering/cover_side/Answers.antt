@@ -48,7 +48,7 @@ returns-in_ok-push_cover-in-Some-clause-gives c e =
     let names = subst (λ (o : Option Named). IfSome o (NamesSide cert.cert s es x (suc c.args.due.own))) c.in-Some.is c.in_ok-named_side.ensures.some in
     side_gives_one (saturation_of cert.cert) cert.cert.base.bank es x c.args.due.own c.args.due.other
     (λ u resolved m n g. proper_there cert.cert.base.bank es x (c.proper.ensures.yes c.if-not-proper.false) m.selected.atom n.selected.atom u resolved g) (AreNamed (covered_of cert)) (AreNamed (covered_of (record cert { cert = s; covers = c.push_cover.new.covers })))
-    (λ u resolved m sel ds named.
+    (λ u resolved m n sel there g ds named.
     pushed_names cert s c.push_cover.new.covers _ (ds ++ due_of x c.args.due.own c.args.due.other m u ∷ []) c.in_ok-push_cover-in-Some.ensures
     (cover_added cert s c.requires.whole c.named_side.ensures.kept _ ds (due_of x c.args.due.own c.args.due.other m u) named
     (due_covered cert.cert s es x c.args.due.own c.args.due.other c.in-Some.named names u resolved m sel)))
