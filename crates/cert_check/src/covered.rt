@@ -215,7 +215,7 @@ fn check(alloc: Global, cert: &mut Covered) -> Result<(), CheckError>
 }
 
 /// Checks the certificate and owns it from then on. After a refusal it is dropped. Nothing is searched for: each instance that is
-/// due is built once and compared.
+/// due is compared, and built for that unless the member that is named was made from the same two selected literals.
 pub fn check_covered(alloc: Global, cert: Covered) -> Result<CheckedCovered, CheckError>
     requires { IsWholeCovered cert }
     ensures kept { IfOk result (KeepsCovered cert) }

@@ -46,7 +46,7 @@ use Rattle.cert_format.specs.Certificate.{Certificate}
 use Rattle.cert_format.specs.Text.{written_text}
 use Rattle.cert_format.specs.ValueLines.{IsCertificateText}
 use Rattle.dimacs_front.specs.Quantified.{formula_in}
-use Rattle.dimacs_front.specs.declared.cnf.Qbf.{Qbf}
+use Rattle.dimacs_front.specs.declared.cnf.Qbf.{Qbf as Quantified}
 use Rattle.szs_prove.specs.Written.{IsWritten}
 use Rattle.outside_io.specs.Causes.{Rose}
 use Rattle.outside_io.specs.Files.{bytes_named}
@@ -401,7 +401,7 @@ pub record WritesFormula (words : List (List ℕ)) (files : Option (List NamedFi
   pub asked : IsAsked words (qbf file)
   pub bytes : List ℕ
   pub held : IsHeld files file bytes
-  pub formula : Qbf
+  pub formula : Quantified
   pub read : formula_in bytes ≡ Ok formula
   pub answer : FormulaAnswer
   pub shown : IsFormulaAnswer file formula answer
@@ -531,7 +531,7 @@ WantsOfClauses (Ok cnf) exit =
 WantsOfClauses (Err e) exit = exit ≡ end.Refused
 
 -- some truth values of the variables without a quantifier make the formula true, or all make it false
-abbrev pub WantsOfFormula : Result Qbf SatError → Exit → Type 0
+abbrev pub WantsOfFormula : Result Quantified SatError → Exit → Type 0
 WantsOfFormula (Ok q) exit = ((exit ≡ end.Sat) × IsTrueFormula q) ⊎ ((exit ≡ end.Unsat) × IsFalseFormula q)
 WantsOfFormula (Err e) exit = exit ≡ end.Refused
 
@@ -555,7 +555,7 @@ Finding (check cert problem root) = Result (Form × Judgement) CheckFault
 Finding (rewrite cert problem root) = Result (Form × Judgement) CheckFault
 Finding (ask cert atom) = Result Reply CertFault
 Finding (stress number) = ⊤
-Finding (qbf file) = Result Qbf SatError
+Finding (qbf file) = Result Quantified SatError
 Finding (fmodel elements file root) = Result Problem ModelRefusal
 Finding (core file root) = Result Problem CoreRefusal
 
