@@ -62,16 +62,22 @@ fn depth_behind(depth: usize, byte: u8) -> usize {
     }
 }
 
-/// The text at the front that may be a literal's.
+/// The text at the front that may be a literal's. Letters and digits lie behind `0`, and what a literal may end with before it.
 pub fn candidate_of(bytes: &[u8]) -> Candidate
     ensures { result.len ≤ length bytes.now }
 {
     let mut code: usize = 0;
     let mut depth: usize = 0;
     let mut len = 0;
-    while len < bytes.len() && len < LONGEST && !may_end(&bytes[len..], depth) {
-        depth = depth_behind(depth, bytes[len]);
-        code = (code ^ usize::from(bytes[len])).wrapping_mul(16_777_619);
+    while len < bytes.len() && len < LONGEST {
+        let byte = bytes[len];
+        if byte < b'0' {
+            if may_end(&bytes[len..], depth) {
+                return Candidate { len, code };
+            }
+            depth = depth_behind(depth, byte);
+        }
+        code = (code ^ usize::from(byte)).wrapping_mul(16_777_619);
         len += 1;
     }
     Candidate { len, code }
