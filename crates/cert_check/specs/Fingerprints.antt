@@ -1,5 +1,5 @@
 -- Fingerprints of atoms: marks of the symbols at a few places. Atoms with different symbols at one place do not unify.
-use Rattle.std.specs.Prelude.{◌≡◌, ◌≢◌, ◌⊎◌, ◌+◌, ◌-◌, ◌^◌, ◌<◌, ℕ, suc, List, length, min, Option, None, Some, option_map, slice_get, slice_index_or}
+use Rattle.std.specs.Prelude.{◌≡◌, ◌≢◌, ◌⊎◌, ◌+◌, ◌-◌, ◌*◌, ◌^◌, ◌<◌, ℕ, suc, List, length, min, Option, None, Some, option_map, slice_get, slice_index_or}
 use Rattle.inst_logic.specs.declared.symbol.Sym.{Sym}
 use Rattle.inst_logic.specs.Tree.{Tree}
 use Rattle.cert_format.specs.Certificate as format
@@ -24,6 +24,10 @@ top_of (Some t) = symbol_of t
 abbrev pub mark_of : Option ℕ → ℕ
 mark_of None = 0
 mark_of (Some number) = min (number + 1) (2 ^ 32 - 1)
+
+-- two marks as the number by which they are hashed
+abbrev pub joined : ℕ → ℕ → ℕ
+joined m n = m + n * 4294967296
 
 -- the symbol is one of the bank's, so that it keeps its number while the bank grows
 pub record IsMark (f : Forest) (o : Option Tree) (m : ℕ) : Type 0 where

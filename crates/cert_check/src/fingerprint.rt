@@ -1,24 +1,47 @@
 // Fingerprints of atoms (Schulz, Fingerprint indexing for paramodulation and rewriting, 2012): the symbols at a few places. Two
 // atoms with different symbols at one place have no unifier, whatever stands elsewhere, so most pairs of members cost a few
 // comparisons. A variable says nothing of its place and of those below it.
-ghost use Rattle.std.specs.Prelude.{◌≡◌, ◌<◌, ℕ, length, map, true, IfOk, IfSome, Some, option_map};
+ghost use Rattle.std.proofs.Common.{rules};
+ghost use Rattle.std.specs.Cmp.Rules.{hashing};
+ghost use Rattle.std.specs.Hash as fed;
+ghost use Rattle.std.specs.Prelude.{◌≡◌, ◌<◌, ◌++◌, ℕ, length, map, true, IfOk, IfSome, Some, option_map};
 ghost use Rattle.saturation_cert.specs.Values.{saturation_of};
 ghost use Rattle.saturation_cert.specs.Wholes.{HasPlaces, IsWholeSaturation};
 ghost use Rattle.term_bank.specs.Forest.{tree_at};
-ghost use Rattle.cert_check.specs.Fingerprints.{AreDifferent, Differ, DifferInMarks, HasFingerprint, HasMarks, IsFingerprintOf, IsMark, TellApart, argument_of, fingerprint_at, mark_of, top_marks};
+ghost use Rattle.cert_check.specs.Fingerprints.{AreDifferent, Differ, DifferInMarks, HasFingerprint, HasMarks, IsFingerprintOf, IsMark, TellApart, argument_of, fingerprint_at, joined, mark_of, top_marks};
 
 use inst_logic::Memory;
 use saturation_cert::{Saturation, selected};
 use std::alloc::Global;
+use std::hash::{Hash, Hasher};
 use term_bank::{Bank, TermId};
 
 // The marks of the symbols at the tops of a tree's first four arguments; 0 for a variable, and where there is no argument.
-#[derive(Clone, Copy, Debug, PartialEq, Eq, Hash)]
+#[derive(Clone, Copy, Debug, PartialEq, Eq)]
 pub struct Marks {
     first: u32,
     second: u32,
     third: u32,
     fourth: u32,
+}
+
+// Two marks as one number.
+fn joined(m: u32, n: u32) -> u64
+    ensures { result ≡ joined m n }
+{
+    m as u64 + (n as u64) * 4294967296
+}
+
+// Marks are hashed two at a time: a number of two takes as long as a single mark.
+impl Hash for Marks {
+    ghost hash_input = { λ m. fed.u64 (joined m.first m.second) ++ fed.u64 (joined m.third m.fourth) };
+
+    ghost respects_eq = { Prim.search (hashing, rules) };
+
+    fn hash<H: Hasher>(&self, state: &mut H) {
+        state.write_u64(joined(self.first, self.second));
+        state.write_u64(joined(self.third, self.fourth));
+    }
 }
 
 const UNMARKED: Marks = Marks {
