@@ -32,7 +32,8 @@ abbrev pub IsNamedRight : Saturation → List Binding → Side → ℕ → Cover
 IsNamedRight c es x n v r = (s : Sided) → IsResolvedBy c.base.bank es s → (m : Member) → SelectsAt (saturation_of c) n m
     → IsTrue r ↔ ((clause_at c.base.bank v.clause ≡ canonical_form (instance (of_side s x) m.clause)) × HoldsBy (saturation_of c).base.members m.clause (clause_at c.base.bank v.clause) (by_of c.base.bank v.by))
 
--- the same, where the unifier that the bindings stand for is most general for both selected atoms
+-- where the unifier that the bindings stand for is most general for both selected atoms, the answer is whether the cover's clause is
+-- the instance of the side's member, and what it names covers it
 abbrev pub IsNamedOf : Saturation → List Binding → DueSide → Cover → Bool → Type 0
 IsNamedOf c es due v r = (s : Sided) → IsResolvedBy c.base.bank es s → (m n : Member) → SelectsAt (saturation_of c) (suc due.own) m → SelectsAt (saturation_of c) (suc due.other) n → IsGeneralOn due.side s m.selected.atom n.selected.atom
     → IsTrue r ↔ ((clause_at c.base.bank v.clause ≡ canonical_form (instance (of_side s due.side) m.clause)) × HoldsBy (saturation_of c).base.members m.clause (clause_at c.base.bank v.clause) (by_of c.base.bank v.by))

@@ -75,7 +75,7 @@ fn fingerprints_of(alloc: Global, buckets: &[Bucket]) -> Result<Vec<Fingerprint>
     Ok(fingerprints)
 }
 
-// The same as below, with an empty set to work in.
+// The buckets of items with these heads and fingerprints, with an empty set to work in.
 fn find_buckets_by(
     alloc: Global,
     known: &mut IndexSet<Bucket>,

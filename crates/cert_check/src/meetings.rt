@@ -100,7 +100,7 @@ fn find_opposite(
     find_alike(alloc, fingerprints, p, &opposite)
 }
 
-// The same for each place.
+// For each place those that neither their classes nor their fingerprints tell apart from it.
 fn find_opposites(
     alloc: Global,
     classes: &Partners,
@@ -131,7 +131,7 @@ fn opposites_by_classes(
     find_opposites(alloc, &classes, fingerprints)
 }
 
-// The same, where places that cannot meet are told apart already.
+// For each of the places those that are not told apart from it, where places that cannot meet are told apart already.
 fn opposites_within(
     alloc: Global,
     meetings: &Meetings,
