@@ -1,5 +1,5 @@
 -- Clauses stay noted or loose where a false literal is made true, and a clause that is noted need not be loose.
-use Rattle.std.proofs.Common.{◌≡◌, ◌≢◌, ℕ, ◌+◌, ◌<◌, Bool, not, inl, inr, List, [], ◌∷◌, ◌++◌, set, get_or, length, take, Some, refl, sym, ap, ◌∙◌, subst, arith, append_assoc, append-nil, length-append}
+use Rattle.std.proofs.Common.{◌≡◌, ◌≢◌, ℕ, ◌+◌, ◌<◌, Bool, not, inl, inr, List, [], ◌∷◌, set, get_or, length, take, Some, refl, sym, ap, ◌∙◌, subst, arith, length-append}
 use Rattle.std.specs.Prelude.{All, Contains, slice_get, swap_remove}
 use Rattle.std.proofs.lemmas.List.{get_or_append_left}
 use Rattle.std.proofs.lemmas.List.Elements.{All-more, All-weaker, All-contains, Contains-append_left}
@@ -8,29 +8,21 @@ use Rattle.inst_logic.specs.declared.signed.Signed.{Signed}
 use Rattle.inst_logic.specs.Signed.{complement}
 use Rattle.inst_logic.proofs.Membership.{contains_in, in_contains}
 use Rattle.prop_logic.specs.Valuation.{value_at}
+use Rattle.ground_abs.specs.Abstracts.{Grows}
 use Rattle.global_subs.specs.Notes.{numbers_at, IsNotedAt, KeepsNotes, KeepsOthers}
-use Rattle.global_subs.specs.Keeping.{IsTrueIn, IsWitnessed, AreWitnessed, IsPlaced, IsWitnessedAt, KeepsFront}
+use Rattle.global_subs.specs.Keeping.{IsTrueIn, IsWitnessed, AreWitnessed, IsPlaced, IsWitnessedAt}
 use Rattle.global_subs.proofs.ValueLaws.{value_set, not_true_and_false, same_literal}
 use Rattle.global_subs.proofs.MoveLaws.{witness_stays}
 
 -- Numbers with others behind them
 
-pub front_same : (xs : List ℕ) → KeepsFront xs xs
-front_same xs = ([], sym (append-nil xs))
-
-pub front_is : (xs ys : List ℕ) → ys ≡ xs → KeepsFront xs ys
-front_is xs ys e = ([], e ∙ sym (append-nil xs))
-
-pub front_more : (xs ys zs : List ℕ) → KeepsFront xs ys → KeepsFront ys zs → KeepsFront xs zs
-front_more xs ys zs f g = (f.0 ++ g.0, g.1 ∙ ap (λ us. us ++ g.0) f.1 ∙ append_assoc xs f.0 g.0)
-
-pub front_contains : (xs ys : List ℕ) → KeepsFront xs ys → (k : ℕ) → Contains xs k → Contains ys k
+pub front_contains : (xs ys : List ℕ) → Grows xs ys → (k : ℕ) → Contains xs k → Contains ys k
 front_contains xs ys f k h = subst (λ us. Contains us k) (sym f.1) (Contains-append_left xs f.0 k h)
 
-pub front_first : (xs ys : List ℕ) → KeepsFront xs ys → (d : ℕ) → 0 < length xs → get_or ys 0 d ≡ get_or xs 0 d
+pub front_first : (xs ys : List ℕ) → Grows xs ys → (d : ℕ) → 0 < length xs → get_or ys 0 d ≡ get_or xs 0 d
 front_first xs ys f d h = ap (λ us. get_or us 0 d) f.1 ∙ get_or_append_left xs f.0 d 0 h
 
-pub front_some : (xs ys : List ℕ) → KeepsFront xs ys → 0 < length xs → 0 < length ys
+pub front_some : (xs ys : List ℕ) → Grows xs ys → 0 < length xs → 0 < length ys
 front_some xs ys f h = let long = ap length f.1 ∙ length-append xs f.0 in omega (arith, long, h)
 
 -- the first of some numbers, whatever it would be of none
@@ -41,7 +33,7 @@ first_same (x ∷ xs) d e h = refl
 -- Clauses that are loose or noted at a true literal
 
 module _ (clauses : List (List (Signed ℕ))) where
-  pub placed_stays : (old new : List (List ℕ)) (values : List Bool) (loose more : List ℕ) (k : ℕ) → KeepsNotes old new → KeepsFront loose more
+  pub placed_stays : (old new : List (List ℕ)) (values : List Bool) (loose more : List ℕ) (k : ℕ) → KeepsNotes old new → Grows loose more
       → IsPlaced clauses old values loose k → IsPlaced clauses new values more k
   placed_stays old new values loose more k keeps front p clause at =
       elim (p clause at) [
@@ -49,13 +41,13 @@ module _ (clauses : List (List (Signed ℕ))) where
         | inr w ↦ inr (witness_stays old new values clause k keeps w)
       ]
 
-  pub placed_more : (old new : List (List ℕ)) (values : List Bool) (loose more numbers : List ℕ) (i d : ℕ) → i < length numbers → KeepsNotes old new → KeepsFront loose more
+  pub placed_more : (old new : List (List ℕ)) (values : List Bool) (loose more numbers : List ℕ) (i d : ℕ) → i < length numbers → KeepsNotes old new → Grows loose more
       → All (IsPlaced clauses old values loose) (take i numbers) → IsPlaced clauses new values more (get_or numbers i d) → All (IsPlaced clauses new values more) (take (i + 1) numbers)
   placed_more old new values loose more numbers i d h keeps front before here =
       All-more (IsPlaced clauses new values more) numbers i d h
       (All-weaker (IsPlaced clauses old values loose) (IsPlaced clauses new values more) (λ k. placed_stays old new values loose more k keeps front) (take i numbers) before) here
 
-  pub kept_front : (lists : List (List ℕ)) (values : List Bool) (loose more : List ℕ) → KeepsFront loose more → AreWitnessed clauses lists values loose → AreWitnessed clauses lists values more
+  pub kept_front : (lists : List (List ℕ)) (values : List Bool) (loose more : List ℕ) → Grows loose more → AreWitnessed clauses lists values loose → AreWitnessed clauses lists values more
   kept_front lists values loose more front each k clause at =
       elim (each k clause at) [
         | inl free ↦ inl (front_contains loose more front k free)
@@ -64,7 +56,7 @@ module _ (clauses : List (List (Signed ℕ))) where
 
   -- a false literal is made true, and what was noted at its complement is noted at other literals or loose
   pub forced : (lists moved cleared : List (List ℕ)) (old new : List Bool) (l : Signed ℕ) (loose more : List ℕ) → l.atom < length old → value_at old l.atom ≡ not l.positive → new ≡ set old l.atom l.positive
-      → KeepsNotes lists moved → KeepsFront loose more → All (IsPlaced clauses moved new more) (numbers_at lists (complement l)) → KeepsOthers moved cleared (complement l)
+      → KeepsNotes lists moved → Grows loose more → All (IsPlaced clauses moved new more) (numbers_at lists (complement l)) → KeepsOthers moved cleared (complement l)
       → AreWitnessed clauses lists old loose → AreWitnessed clauses cleared new more
   forced lists moved cleared old new l loose more below untrue e keeps front placed others each k clause at =
       elim (each k clause at) [

@@ -1,10 +1,10 @@
 -- What is put for variables are terms, so the bank stays formed.
-use Rattle.std.proofs.Common.{◌≡◌, ℕ, ◌<◌, List, [], ◌∷◌, ◌++◌, inl, inr, refl, sym, subst, length, arith, Some}
+use Rattle.std.proofs.Common.{◌≡◌, ℕ, ◌<◌, List, [], ◌∷◌, ◌++◌, inl, refl, sym, subst, length, arith, Some}
 use Rattle.std.specs.Prelude.{All}
 use Rattle.std.proofs.lemmas.List.Elements.{All-nil, All-push, All-weaker}
 use Rattle.inst_logic.specs.Derivations.{at_number}
 use Rattle.inst_logic.specs.WellFormed.{IsTerm}
-use Rattle.inst_logic.proofs.Membership.{◌∈◌, in_right, in_left, all_in, in_all}
+use Rattle.inst_logic.proofs.Membership.{in_right, in_left, all_in, in_all}
 use Rattle.term_bank.specs.Forest.{Forest, AreFormed, AreIds, Extends, tree_at, IsTermIn}
 use Rattle.clause_form.specs.Conclusions.{AreTermIds}
 use Rattle.global_subs.specs.declared.made.Made.{Made}

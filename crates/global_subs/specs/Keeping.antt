@@ -1,5 +1,5 @@
 -- Clauses with values of their atoms that make them true: each clause is noted at a literal of it that is true.
-use Rattle.std.specs.Prelude.{◌≡◌, ◌⊎◌, ℕ, ◌+◌, ◌≤◌, ◌<◌, ◌++◌, List, Bool, not, Some, All, Contains, length, map, slice_get}
+use Rattle.std.specs.Prelude.{◌≡◌, ◌⊎◌, ℕ, ◌+◌, ◌≤◌, ◌<◌, List, Bool, not, Some, All, Contains, length, map, slice_get}
 use Rattle.inst_logic.specs.declared.signed.Signed.{Signed}
 use Rattle.inst_logic.specs.Signed.{complement}
 use Rattle.prop_logic.specs.Solving.{MakesTrue}
@@ -34,10 +34,6 @@ IsPlaced clauses lists values loose k = (clause : List (Signed ℕ)) → slice_g
 -- the clause of this number, if there is one, is noted at a true literal of it
 abbrev pub IsWitnessedAt : List (List (Signed ℕ)) → List (List ℕ) → List Bool → ℕ → Type 0
 IsWitnessedAt clauses lists values k = (clause : List (Signed ℕ)) → slice_get clauses k ≡ Some clause → IsWitnessed lists values clause k
-
--- the numbers stay, and others come behind them
-abbrev pub KeepsFront : List ℕ → List ℕ → Type 0
-KeepsFront old new = (more : List ℕ) × (new ≡ old ++ more)
 
 pub record AreKept (clauses : List (List (Signed ℕ))) (lists : List (List ℕ)) (values : List Bool) (loose : List ℕ) : Type 0 where
   pub below : AllAtomsBelow (length values) clauses

@@ -3,8 +3,9 @@ ghost use Rattle.std.specs.Prelude.{◌≡◌, ◌<◌, All, length, not, OnOk};
 ghost use Rattle.prop_logic.specs.Literal.{AtomsBelow};
 ghost use Rattle.prop_logic.specs.Valuation.{value_at};
 ghost use Rattle.compact_lists.specs.Codes.{code_of};
+ghost use Rattle.ground_abs.specs.Abstracts.{Grows};
 ghost use Rattle.global_subs.specs.Notes.{numbers_at, KeepsNotes};
-ghost use Rattle.global_subs.specs.Keeping.{IsTrueIn, AreKept, IsPlaced, KeepsFalse, KeepsFront, HaveRoom};
+ghost use Rattle.global_subs.specs.Keeping.{IsTrueIn, AreKept, IsPlaced, KeepsFalse, HaveRoom};
 
 use crate::notes::Notes;
 use crate::values::{is_true, true_in};
@@ -24,7 +25,7 @@ fn place(
     ensures len { length notes.new ≡ length notes.old }
     ensures keeps { KeepsNotes notes.old notes.new }
     ensures others { KeepsFalse values.now notes.old notes.new }
-    ensures loose { KeepsFront loose.old.items loose.new.items }
+    ensures loose { Grows loose.old.items loose.new.items }
     ensures placed { OnOk result (IsPlaced clauses.now notes.new values.now loose.new.items k) }
 {
     if let Some(clause) = clauses.get(k) {
@@ -36,7 +37,7 @@ fn place(
     Ok(())
 }
 
-// The same for each clause that is noted at the literal, which is false.
+// Places each clause that is noted at the literal, which is false, so.
 fn place_all(
     clauses: &FlatClauses,
     notes: &mut Notes,
@@ -49,7 +50,7 @@ fn place_all(
     requires untrue { value_at values.now from.atom ≡ not from.positive }
     ensures len { length notes.new ≡ length notes.old }
     ensures keeps { KeepsNotes notes.old notes.new }
-    ensures loose { KeepsFront loose.old.items loose.new.items }
+    ensures loose { Grows loose.old.items loose.new.items }
     ensures placed { OnOk result (All (IsPlaced clauses.now notes.new values.now loose.new.items) (numbers_at notes.old from)) }
 {
     for i in 0..notes.at(from).len() {
@@ -73,7 +74,7 @@ pub fn force(
     ensures kept { AreKept clauses.now notes.new values.new loose.new.items }
     ensures width { length values.new ≡ length values.old }
     ensures len { length notes.new ≡ length notes.old }
-    ensures loose { KeepsFront loose.old.items loose.new.items }
+    ensures loose { Grows loose.old.items loose.new.items }
     ensures holds { OnOk result (IsTrueIn values.new l) }
 {
     let other = complement(l);

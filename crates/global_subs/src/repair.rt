@@ -3,7 +3,8 @@
 ghost use Rattle.std.specs.Prelude.{◌≡◌, [], ◌+◌, ◌<◌, ◌≤◌, All, Contains, length, true, not, IfOk, IfSome};
 ghost use Rattle.prop_logic.specs.Literal.{AtomsBelow};
 ghost use Rattle.prop_logic.specs.Valuation.{value_at};
-ghost use Rattle.global_subs.specs.Keeping.{AreKept, IsTrueIn, IsWitnessedAt, KeepsFront, CanBeFalse};
+ghost use Rattle.ground_abs.specs.Abstracts.{Grows};
+ghost use Rattle.global_subs.specs.Keeping.{AreKept, IsTrueIn, IsWitnessedAt, CanBeFalse};
 
 use crate::fixed::Fixed;
 use crate::force::{force, make_all_false};
@@ -113,7 +114,7 @@ fn turn_cheapest(
     requires kept { AreKept clauses.now notes.old values.old loose.old.items }
     ensures kept { AreKept clauses.now notes.new values.new loose.new.items }
     ensures width { length values.new ≡ length values.old }
-    ensures loose { KeepsFront loose.old.items loose.new.items }
+    ensures loose { Grows loose.old.items loose.new.items }
     ensures some { IfOk result (λ o. IfSome o (λ l. Contains clause.now l × IsTrueIn values.new l)) }
 {
     match cheapest(clauses, notes, values, fixed, clause) {
@@ -139,7 +140,7 @@ fn make_true(
     requires kept { AreKept clauses.now notes.old values.old loose.old.items }
     ensures kept { AreKept clauses.now notes.new values.new loose.new.items }
     ensures width { length values.new ≡ length values.old }
-    ensures loose { KeepsFront loose.old.items loose.new.items }
+    ensures loose { Grows loose.old.items loose.new.items }
     ensures some { IfOk result (λ o. IfSome o (λ l. Contains clause.now l × IsTrueIn values.new l)) }
 {
     match true_in(clause, values) {
@@ -160,7 +161,7 @@ fn settle(
     requires kept { AreKept clauses.now notes.old values.old loose.old.items }
     ensures kept { AreKept clauses.now notes.new values.new loose.new.items }
     ensures width { length values.new ≡ length values.old }
-    ensures loose { KeepsFront loose.old.items loose.new.items }
+    ensures loose { Grows loose.old.items loose.new.items }
     ensures noted { IfOk result (λ noted. noted ≡ true → IsWitnessedAt clauses.now notes.new values.new k) }
 {
     match clauses.get(k) {
