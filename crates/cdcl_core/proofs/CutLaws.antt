@@ -19,7 +19,7 @@ use Rattle.prop_logic.specs.Search.{AreGood}
 use Rattle.prop_logic.specs.Cut.{IsCutOf}
 use Rattle.prop_logic.proofs.ListLaws.{slice_get_take, slice_get-Contains, All-slice_get}
 use Rattle.prop_logic.proofs.SearchLaws.{good_push, last_cited, cited_later, ends_with_push}
-use Rattle.cdcl_core.specs.Cut.{CitesOnly, Rises, AreNeeded, IsRenamed, IsCopy}
+use Rattle.cdcl_core.specs.Cut.{CitesOnly, Rises, AreNeeded, AreNumbers, IsRenamed, IsCopy}
 
 pub rises_at : (xs : List ℕ) (i j : ℕ) → Rises xs → i < j → j < length xs → get_or xs i 0 < get_or xs j 0
 rises_at [] i j r low high = absurd (omega arith)
@@ -28,7 +28,7 @@ rises_at (x ∷ xs) (suc i) zero r low high = absurd (omega arith)
 rises_at (x ∷ xs) zero (suc j) r low high = All-get_or (λ y. x < y) xs j 0 (omega arith) r.0
 rises_at (x ∷ xs) (suc i) (suc j) r low high = rises_at xs i j r.1 (omega arith) (omega arith)
 
-pub rises_to : (xs : List ℕ) (i j : ℕ) → Rises xs → i ≤ j → j < length xs → get_or xs i 0 ≤ get_or xs j 0
+rises_to : (xs : List ℕ) (i j : ℕ) → Rises xs → i ≤ j → j < length xs → get_or xs i 0 ≤ get_or xs j 0
 rises_to xs i j r low high =
     elim (cases_eq i j) [
       | inl same ↦ subst (λ k. get_or xs i 0 ≤ get_or xs k 0) same (omega arith)
@@ -92,25 +92,27 @@ pub record KeepsFirst (steps : List Step) (places : List ℕ) (i : ℕ) (kept : 
   pub good : (clauses : List (List (Signed ℕ))) (n : ℕ) → AreGood clauses n steps → AreGood clauses n kept
   pub last : (s : Step) → 0 < i → slice_get steps (get_or places (i - 1) 0) ≡ Some s → EndsWith kept s.clause
 
-renamed_cited : (clauses : List (List (Signed ℕ))) (steps : List Step) (places : List ℕ) (i p : ℕ) (kept : List Step) (h k : Hint) → Rises places → i < length places → p ≡ get_or places i 0
-    → CitesOnly (Contains places) p h → IsRenamed places h k → KeepsFirst steps places i kept → Stays (cited clauses (take p steps)) (cited clauses kept) h k
-renamed_cited clauses steps places i p kept (Added n) k r inside at f is a c e = ap (cited clauses kept) is ∙ e
-renamed_cited clauses steps places i p kept (Earlier zero) k r inside at f is a c e = absurd (none-some c e)
-renamed_cited clauses steps places i p kept (Earlier (suc m)) k r inside at f is a c e =
+renamed_cited : (clauses : List (List (Signed ℕ))) (steps : List Step) (places numbers : List ℕ) (i p : ℕ) (kept : List Step) (h k : Hint) → Rises places → AreNumbers places numbers → i < length places → p ≡ get_or places i 0
+    → CitesOnly (Contains places) p h → IsRenamed numbers h k → KeepsFirst steps places i kept → Stays (cited clauses (take p steps)) (cited clauses kept) h k
+renamed_cited clauses steps places numbers i p kept (Added n) k r numbered inside at f is a c e = ap (cited clauses kept) is ∙ e
+renamed_cited clauses steps places numbers i p kept (Earlier zero) k r numbered inside at f is a c e = absurd (none-some c e)
+renamed_cited clauses steps places numbers i p kept (Earlier (suc m)) k r numbered inside at f is a c e =
     let within : m < length (take p steps) = let w = slice_get_within (map (λ s. s.clause) (take p steps)) m c e in omega (arith, w, length-map (take p steps) (λ s. s.clause)) in
     let d : Step = record { clause = c; hints = [] } in
     let s : Step = get_or (take p steps) m d in
     let read = slice_get-get_or (take p steps) m d within in
     let old = slice_get_take steps p m s read in
     let same : s.clause ≡ c = same_Some s.clause c (sym (slice_get-map (λ x. x.clause) (take p steps) m ∙ ap (option_map (λ x. x.clause)) read) ∙ e) in
-    let new = is (f old.1) in
+    let new = slice_get-Contains places m (f old.1) in
+    let there : new.0 < length places = slice_get_within places new.0 m new.1 in
     let here : get_or places new.0 0 ≡ m = get_or_from_slice_get places new.0 m 0 new.1 in
-    let first : new.0 < i = earlier_at places new.0 i r (slice_get_within places new.0 m new.1) inside (omega (arith, here, at, old.1)) in
-    ap (cited clauses kept) new.2 ∙ a.named new.0 s first (ap (slice_get steps) here ∙ old.0) clauses ∙ ap Some same
+    let first : new.0 < i = earlier_at places new.0 i r there inside (omega (arith, here, at, old.1)) in
+    let named : k ≡ Earlier (suc new.0) = is (suc new.0) (ap (slice_get numbers) (sym here) ∙ numbered new.0 there) in
+    ap (cited clauses kept) named ∙ a.named new.0 s first (ap (slice_get steps) here ∙ old.0) clauses ∙ ap Some same
 
-pub keeps_more : (steps : List Step) (places : List ℕ) (i p : ℕ) (s new : Step) (kept now : List Step) → AreNeeded steps places → i < length places → p ≡ get_or places i 0 → slice_get steps p ≡ Some s
-    → IsCopy places s new → now ≡ kept ++ new ∷ [] → KeepsFirst steps places i kept → KeepsFirst steps places (i + 1) now
-keeps_more steps places i p s new kept now all inside here at copy grown a =
+pub keeps_more : (steps : List Step) (places numbers : List ℕ) (i p : ℕ) (s new : Step) (kept now : List Step) → AreNeeded steps places → AreNumbers places numbers → i < length places → p ≡ get_or places i 0 → slice_get steps p ≡ Some s
+    → IsCopy numbers s new → now ≡ kept ++ new ∷ [] → KeepsFirst steps places i kept → KeepsFirst steps places (i + 1) now
+keeps_more steps places numbers i p s new kept now all numbered inside here at copy grown a =
     let size : length now ≡ i + 1 = ap length grown ∙ length_push kept new ∙ ap (λ n. n + 1) a.size in
     record {
       size = size;
@@ -124,10 +126,10 @@ keeps_more steps places i p s new kept now all inside here at copy grown a =
       ];
       good = λ clauses n g.
           let member : Contains places p = subst (Contains places) (sym here) (Contains-get_or places i 0 inside) in
-          let stays = zip_stay (CitesOnly (Contains places) p) (IsRenamed places) (Stays (cited clauses (take p steps)) (cited clauses kept)) s.hints new.hints
-          (λ h k f is. renamed_cited clauses steps places i p kept h k all.rising inside here f is a) (all.closed p s member at) copy.hints in
+          let stays = zip_stay (CitesOnly (Contains places) p) (IsRenamed numbers) (Stays (cited clauses (take p steps)) (cited clauses kept)) s.hints new.hints
+          (λ h k f is. renamed_cited clauses steps places numbers i p kept h k all.rising numbered inside here f is a) (all.closed p s member at) copy.hints in
           let shown = subst (λ c. IsShown c (map (cited clauses kept) new.hints)) (sym copy.clause) (shown_stay (cited clauses (take p steps)) (cited clauses kept) s.clause s.hints new.hints stays (g.shown p s at)) in
-          let hinted = hinted_stay (IsRenamed places) s.hints new.hints copy.hints (All-slice_get (λ x. x.hints ≢ []) steps g.hinted p s at) in
+          let hinted = hinted_stay (IsRenamed numbers) s.hints new.hints copy.hints (All-slice_get (λ x. x.hints ≢ []) steps g.hinted p s at) in
           subst (AreGood clauses n) (sym grown) (good_push clauses n kept new (a.good clauses n g) shown hinted (subst (AtomsBelow n) (sym copy.clause) (All-slice_get (λ x. AtomsBelow n x.clause) steps g.below p s at)));
       last = λ x h e.
           let one : i + 1 - 1 ≡ i = omega arith in

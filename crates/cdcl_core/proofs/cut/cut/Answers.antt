@@ -1,7 +1,7 @@
 use Rattle.std.proofs.Common.{◌≡◌, ◌<◌, ◌++◌, [], ◌∷◌, length, get_or, refl, sym, ◌∙◌, subst, arith}
 use Rattle.std.proofs.lemmas.List.{length_push}
 use Rattle.std.proofs.lemmas.List.Elements.{All-get_or}
-use Rattle.cdcl_core.specs.Cut.{AreNeeded, IsCopy}
+use Rattle.cdcl_core.specs.Cut.{AreNeeded, AreNumbers, IsCopy}
 use Rattle.cdcl_core.proofs.CutLaws.{keeps_more, keeps_all}
 use Rattle.cdcl_core.proofs.cut.cut.Goals as goal
 
@@ -21,8 +21,10 @@ loop-place-preserved c =
     let i = c.loop-place.place-index in
     let s = c.step_at-step.result.now in
     let needed = subst (AreNeeded all) (sym c.as_slice-place-items.ensures.value) c.in_ok-places.ensures in
-    let copy = subst (λ ps. IsCopy ps s c.in_ok-copy.field-0) (c.deref.ensures.value ∙ sym c.as_slice-place-items.ensures.value) c.in_ok-copy.ensures in
-    keeps_more all places i (get_or places i 0) s c.in_ok-copy.field-0 c.loop-place.kept c.push.new.self needed c.loop-place-test.true refl
+    let numbers = c.in_ok-numbers.numbers.items in
+    let numbered = subst (λ ps. AreNumbers ps numbers) (c.deref.ensures.value ∙ sym c.as_slice-place-items.ensures.value) c.in_ok-numbers.ensures in
+    let copy = subst (λ ns. IsCopy ns s c.in_ok-copy.field-0) c.deref-in-loop-place.ensures.value c.in_ok-copy.ensures in
+    keeps_more all places numbers i (get_or places i 0) s c.in_ok-copy.field-0 c.loop-place.kept c.push.new.self needed numbered c.loop-place-test.true refl
     c.step_at-step.ensures copy c.in_ok-push.ensures.ok c.loop-place.invariant
 
 pub returns : goal.returns

@@ -1,43 +1,30 @@
-use Rattle.std.proofs.Common.{◌≡◌, ◌+◌, ◌-◌, ◌<◌, ◌++◌, [], ◌∷◌, length, get_or, reverse, ap, ◌∙◌, subst, sym, arith}
-use Rattle.std.specs.Prelude.{All, Contains}
-use Rattle.std.specs.Ordering.{nat_cmp}
-use Rattle.std.specs.BTreeMap.Range.{IsLtBy}
-use Rattle.std.proofs.lemmas.List.{length_push, reverse-append}
-use Rattle.std.proofs.lemmas.List.Elements.{All-weaker}
-use Rattle.cdcl_core.specs.Cut.{CitesOnly}
-use Rattle.cdcl_core.proofs.NeedLaws.{reached_none, reached_more, reached_within, reached_falls, below_by}
+use Rattle.std.proofs.Common.{◌≡◌, ◌-◌, ◌++◌, [], ◌∷◌, drop, length, reverse, take, ap, ◌∙◌, subst, sym, arith}
+use Rattle.std.specs.Prelude.{All}
+use Rattle.std.proofs.lemmas.List.{reverse-append, take-append-le, take_all}
+use Rattle.cdcl_core.specs.Cut.{CitesOnly, IsMarked}
+use Rattle.cdcl_core.proofs.NeedLaws.{IsReached, reached_more, reached_all}
 use Rattle.cdcl_core.proofs.cut.needed_places.Goals as goal
 
-pub loop-place-init : goal.loop-place-init
-loop-place-init c =
+pub loop-place-preserved-then-index : goal.loop-place-preserved-then-index
+loop-place-preserved-then-index c =
     let all = c.args.steps.now ++ c.args.last.now ∷ [] in
-    let count : length all ≡ length c.args.steps.now + 1 = length_push c.args.steps.now c.args.last.now in
-    let waiting = c.in_ok-waiting.waiting.keys in
-    reached_none all (reverse c.new-places.result.items) waiting (ap reverse c.new-places.ensures.items)
-    (subst (λ n. 0 < n → Contains waiting (n - 1)) (sym count) c.in_ok-waiting.ensures.last)
-    (subst (λ n. All (λ k. k < n) waiting) (sym count) c.in_ok-waiting.ensures.below)
+    let old = c.loop-place.needed.items in
+    let new = c.mark_all.new.needed in
+    let n = c.loop-place.needed.len in
+    let i = c.loop-place.place in
+    let size : n ≡ length new = omega (arith, ap length c.deref_mut.ensures.value, c.loop-place.needed.ok.0, c.mark_all.auto.needed) in
+    let same : take n (new ++ drop (length new) old) ≡ new = take-append-le n new (drop (length new) old) (omega arith) ∙ take_all n new (omega arith) in
+    let is : reverse c.push.new.self.items ≡ (i - 1) ∷ reverse c.loop-place.places.items = ap reverse c.in_ok-push.ensures.items ∙ reverse-append c.loop-place.places.items ((i - 1) ∷ []) in
+    let cited = subst (All (CitesOnly (IsMarked new) (i - 1))) c.as_slice.ensures c.mark_all.ensures.cited in
+    let value = c.deref_mut.ensures.value in
+    record {
+      size = ap length same ∙ omega (arith, size, c.loop-place.invariant.size, c.loop-place.needed.ok.0);
+      reached = subst (λ ms. IsReached all ms (i - 1) (reverse c.push.new.self.items)) (sym same)
+          (reached_more all old new i (i - 1) (reverse c.loop-place.places.items) (reverse c.push.new.self.items) c.step_at-step.result.now (omega arith) is c.step_at-step.ensures cited
+          (λ k m. c.mark_all.ensures.kept k (subst (λ ms. IsMarked ms k) (sym value) m)) (λ k past m. subst (λ ms. IsMarked ms k) value (c.mark_all.ensures.above k past m)) c.loop-place.invariant.reached);
+    }
 
-pub loop-place-smaller : goal.loop-place-smaller
-loop-place-smaller c =
-    let all = c.args.steps.now ++ c.args.last.now ∷ [] in
-    let p = c.in-Some.place in
-    let more : reverse c.push.new.self.items ≡ p ∷ reverse c.loop-place.places.items = ap reverse c.in_ok-push.ensures.items ∙ reverse-append c.loop-place.places.items (p ∷ []) in
-    subst (λ l. get_or l 0 (length all) < get_or (reverse c.loop-place.places.items) 0 (length all)) (sym more)
-    (reached_falls all (reverse c.loop-place.places.items) c.loop-place.waiting.keys c.pop_last.new.self.keys p c.in-Some.ensures.removal c.loop-place.invariant)
-
-pub step_at-step-requires : goal.step_at-step-requires
-step_at-step-requires c =
-    let steps = c.args.steps.now in
-    let inside = reached_within (steps ++ c.args.last.now ∷ []) (reverse c.loop-place.places.items) c.loop-place.waiting.keys c.pop_last.new.self.keys c.in-Some.place c.in-Some.ensures.removal c.loop-place.invariant in
-    omega (arith, inside, length_push steps c.args.last.now)
-
-pub loop-place-preserved : goal.loop-place-preserved
-loop-place-preserved c =
-    let p = c.in-Some.place in
-    let all = c.args.steps.now ++ c.args.last.now ∷ [] in
-    let s = c.step_at-step.result.now in
-    let more : reverse c.push.new.self.items ≡ p ∷ reverse c.loop-place.places.items = ap reverse c.in_ok-push.ensures.items ∙ reverse-append c.loop-place.places.items (p ∷ []) in
-    let cited = subst (All (CitesOnly (Contains c.need_all.new.waiting.keys) p)) c.as_slice.ensures c.in_ok-need_all.ensures.cited in
-    reached_more all (reverse c.loop-place.places.items) (reverse c.push.new.self.items) c.loop-place.waiting.keys c.pop_last.new.self.keys c.need_all.new.waiting.keys p s
-    c.in-Some.ensures.removal (All-weaker (λ q. IsLtBy nat_cmp q p) (λ q. q < p) (λ q less. below_by q p less) c.pop_last.new.self.keys c.in-Some.ensures.all_below) more
-    c.step_at-step.ensures cited c.in_ok-need_all.ensures.kept c.in_ok-need_all.ensures.below c.loop-place.invariant
+pub returns : goal.returns
+returns c =
+    let none_left : c.loop-place.place ≡ 0 = omega (arith, c.loop-place-test.false) in
+    reached_all (c.args.steps.now ++ c.args.last.now ∷ []) c.loop-place.needed.items c.loop-place.place (reverse c.loop-place.places.items) c.reverse.new.self.items none_left c.reverse.ensures.items c.loop-place.invariant.reached

@@ -1,4 +1,4 @@
-use Rattle.std.proofs.Common.{◌+◌, take, sym, subst}
+use Rattle.std.proofs.Common.{◌+◌, List, take, sym, subst}
 use Rattle.std.specs.List.{AllZip}
 use Rattle.prop_logic.specs.declared.literal.Hint.{Hint}
 use Rattle.prop_logic.specs.declared.literal.Hint.TheVariants.{Added}
@@ -8,8 +8,8 @@ use Rattle.cdcl_core.proofs.cut.renumber.Goals as goal
 
 pub loop-hint-preserved : goal.loop-hint-preserved
 loop-hint-preserved c =
-    let R = IsRenamed c.args.places.now in
+    let R = IsRenamed c.args.numbers.now in
     let i = c.loop-hint.hint-index in
     let d : Hint = Added 0 in
-    subst (AllZip R (take (i + 1) c.args.hints.now)) (sym c.in_ok-push.ensures.items)
+    subst (AllZip R (take (i + 1) c.args.hints.now)) (sym {A = List Hint} c.in_ok-push.ensures.items)
     (zip_more R c.args.hints.now c.loop-hint.others.items i d c.renumber_one.result c.loop-hint-test.true c.loop-hint.invariant c.renumber_one.ensures)
