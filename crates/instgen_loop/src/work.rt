@@ -55,7 +55,7 @@ fn infer_where_proper<S: Solver, I: PartnerIndex>(
     }
 }
 
-// The same, and nothing where that is known to be covered.
+// What entry `from` gives with entry `partner` so, and nothing where that is known to be covered.
 fn infer_unless_done<S: Solver, I: PartnerIndex>(
     alloc: Global,
     run: &mut Run<S, I>,
@@ -250,7 +250,7 @@ fn is_shared<S: Solver, I: PartnerIndex>(run: &Run<S, I>, n: usize) -> bool
     }
 }
 
-// The same, where it may have the literal of entry `n` selected.
+// An entry that the index has so, where one may have the literal of entry `n` selected.
 fn first_shared<S: Solver, I: PartnerIndex>(
     run: &Run<S, I>,
     index: &I,
