@@ -9,11 +9,11 @@ ghost use Rattle.saturation_cert.specs.Values.{base_of};
 ghost use Rattle.saturation_cert.specs.Wholes.{IsWholeBase, KeepsBase};
 
 use crate::axioms::interned;
-use crate::conclusion::{Premises, members_give};
+use crate::conclusion::{Claim, Premises, members_give};
 use crate::difference::difference;
 use crate::error::CheckError;
 use crate::origin::input_gives;
-use crate::part::{are_within, members_give_part};
+use crate::part::{PartClaim, are_within, members_give_part};
 use crate::walk::symbols_in;
 use cert_format::Complaint;
 use equality_axioms::axioms_from;
@@ -61,8 +61,12 @@ fn is_right(
             partner,
             other,
         } => {
-            let of = Premises::new(from, place, partner, other);
-            members_give(alloc, bank, bindings, members, of, i, clause)
+            let claim = Claim {
+                i,
+                premises: Premises::new(from, place, partner, other),
+                clause,
+            };
+            members_give(alloc, bank, bindings, members, &claim)
         }
         Origin::Lemma {
             from,
@@ -75,17 +79,13 @@ fn is_right(
             if !are_within(i, premises.as_slice()) {
                 return Ok(false);
             }
-            let of = Premises::new(from, place, partner, other);
-            members_give_part(
-                alloc,
-                bank,
-                bindings,
-                members,
-                of,
+            let claim = PartClaim {
                 i,
-                keep.as_slice(),
+                premises: Premises::new(from, place, partner, other),
+                keep: keep.as_slice(),
                 clause,
-            )
+            };
+            members_give_part(alloc, bank, bindings, members, &claim)
         }
     }
 }

@@ -38,6 +38,14 @@ impl Premises {
     }
 }
 
+/// What is claimed of member `i`, counted from 0: that the premises give its clause.
+#[derive(Clone, Copy)]
+pub struct Claim<'a> {
+    pub i: usize,
+    pub premises: Premises,
+    pub clause: &'a IdClause,
+}
+
 // Item `n`, counted from 1.
 pub fn numbered_item<T>(items: &[T], n: usize) -> Option<&T>
     ensures { option_copied result ≡ at_number items.now n }
@@ -133,42 +141,39 @@ fn is_conclusion(
     bank: &mut Bank,
     bindings: &mut Bindings,
     members: &[Member],
-    premises: Premises,
-    clause: &IdClause,
+    claim: &Claim<'_>,
 ) -> Result<bool, Memory>
     requires members { All (λ m. IsWholeClause bank.old m.clause) members.now }
-    requires clause { IsClauseOf bank.old clause.now }
-    ensures gives { IfOk result (λ r. IsTrue r ↔ IsConclusion (map (entry_of bank.old) members.now) premises.from premises.place premises.partner premises.other (clause_at bank.old clause.now)) }
+    requires clause { IsClauseOf bank.old claim.now.clause.now }
+    ensures gives { IfOk result (λ r. IsTrue r ↔ IsConclusion (map (entry_of bank.old) members.now) claim.now.premises.from claim.now.premises.place claim.now.premises.partner claim.now.premises.other (clause_at bank.old claim.now.clause.now)) }
     ensures extends { Extends bank.old bank.new }
     ensures formed { AreFormed bank.old → AreFormed bank.new }
 {
-    match conclusion(alloc, bank, bindings, members, premises)? {
+    match conclusion(alloc, bank, bindings, members, claim.premises)? {
         None => Ok(false),
         Some(d) => {
             bank.distinct();
-            Ok(same_clause(&d, clause))
+            Ok(same_clause(&d, claim.clause))
         }
     }
 }
 
-// Whether both members come before member `i`, counted from 0, and conclude the clause.
+// Whether both members come before the one that the claim is about, and conclude the clause.
 pub fn members_give(
     alloc: Global,
     bank: &mut Bank,
     bindings: &mut Bindings,
     members: &[Member],
-    premises: Premises,
-    i: usize,
-    clause: &IdClause,
+    claim: &Claim<'_>,
 ) -> Result<bool, Memory>
     requires members { All (λ m. IsWholeClause bank.old m.clause) members.now }
-    requires clause { IsClauseOf bank.old clause.now }
-    ensures gives { IfOk result (λ r. IsTrue r ↔ MembersGive (map (entry_of bank.old) members.now) (i + 1) premises.from premises.place premises.partner premises.other (clause_at bank.old clause.now)) }
+    requires clause { IsClauseOf bank.old claim.now.clause.now }
+    ensures gives { IfOk result (λ r. IsTrue r ↔ MembersGive (map (entry_of bank.old) members.now) (claim.now.i + 1) claim.now.premises.from claim.now.premises.place claim.now.premises.partner claim.now.premises.other (clause_at bank.old claim.now.clause.now)) }
     ensures extends { Extends bank.old bank.new }
     ensures formed { AreFormed bank.old → AreFormed bank.new }
 {
-    if premises.from > i || premises.partner > i {
+    if claim.premises.from > claim.i || claim.premises.partner > claim.i {
         return Ok(false);
     }
-    is_conclusion(alloc, bank, bindings, members, premises, clause)
+    is_conclusion(alloc, bank, bindings, members, claim)
 }

@@ -16,6 +16,7 @@ ghost use Rattle.cert_check.specs.Meetings.{LeadsOn};
 ghost use Rattle.cert_check.specs.Names.{NamesSide};
 
 use crate::due_side::DueSide;
+use crate::instance::Instance;
 use crate::lookup::Lookup;
 use crate::naming::{Named, named_instance};
 use crate::pairs::is_proper;
@@ -44,15 +45,12 @@ fn named_side(
 {
     let members = cert.base.members.as_slice();
     let member = &members[due.own];
-    named_instance(
-        alloc,
-        &mut cert.base.bank,
-        members,
-        lookup,
+    let of = Instance {
         bindings,
-        due.side,
-        &member.clause,
-    )
+        side: due.side,
+        clause: &member.clause,
+    };
+    named_instance(alloc, &mut cert.base.bank, members, lookup, &of)
 }
 
 // Puts the cover of the side at the end.

@@ -22,13 +22,13 @@ ghost use Rattle.cert_check.specs.Lookups.{AreClausesOf, AreUnsoughtBy, IsLookup
 ghost use Rattle.cert_check.specs.Places.{IsPlaceOf};
 
 use crate::fingerprint::{Fingerprint, fingerprint_of};
+use crate::instance::Instance;
 use crate::lookup::Lookup;
 use clause_form::{conclude_clause, long_tautology, subsumes};
 use inst_logic::Memory;
 use saturation_cert::Member;
 use std::alloc::Global;
 use term_bank::{Bank, IdClause, IdLiteral};
-use unify_core::{Bindings, Side};
 
 // A clause that is an instance of one with `len` literals, and the members among which one with fewer that subsumes it is sought.
 #[derive(Clone, Copy)]
@@ -187,26 +187,24 @@ fn has_cover(
     Ok(place.is_some())
 }
 
-// Whether the instance of the side's clause under the bindings is covered by the members.
+// Whether the instance is covered by the members.
 pub fn is_covered(
     alloc: Global,
     bank: &mut Bank,
     members: &[Member],
     lookup: &Lookup,
-    bindings: &Bindings,
-    side: Side,
-    c: &IdClause,
+    of: &Instance<'_>,
 ) -> Result<bool, Memory>
     requires members { All (λ m. IsWholeClause bank.old m.clause) members.now }
     requires members_canonical { AreCanonicalMembers bank.old members.now }
     requires lookup { IsLookup bank.old members.now lookup.now }
-    requires clause { IsWholeClause bank.old c.now }
-    requires canonical { IsCanonical (clause_at bank.old c.now) }
-    requires bindings { AreBindings bank.old bindings.now.entries }
+    requires clause { IsWholeClause bank.old of.now.clause.now }
+    requires canonical { IsCanonical (clause_at bank.old of.now.clause.now) }
+    requires bindings { AreBindings bank.old of.now.bindings.now.entries }
     ensures extends { Extends bank.old bank.new }
-    ensures formed { AreFormed bank.old → AreTerms bank.old bindings.now.entries → AreFormed bank.new }
-    ensures covered { IfOk result (λ r. (s : Sided) → IsResolvedBy bank.old bindings.now.entries s → IsTrue r ↔ IsCovered (map (λ m. clause_at bank.old m.clause) members.now) (clause_at bank.old c.now) (instance (of_side s side) (clause_at bank.old c.now))) }
+    ensures formed { AreFormed bank.old → AreTerms bank.old of.now.bindings.now.entries → AreFormed bank.new }
+    ensures covered { IfOk result (λ r. (s : Sided) → IsResolvedBy bank.old of.now.bindings.now.entries s → IsTrue r ↔ IsCovered (map (λ m. clause_at bank.old m.clause) members.now) (clause_at bank.old of.now.clause.now) (instance (of_side s of.now.side) (clause_at bank.old of.now.clause.now))) }
 {
-    let conclusion = conclude_clause(alloc, bank, bindings, side, c)?;
-    has_cover(alloc, bank, members, lookup, c.len(), &conclusion)
+    let conclusion = conclude_clause(alloc, bank, of.bindings, of.side, of.clause)?;
+    has_cover(alloc, bank, members, lookup, of.clause.len(), &conclusion)
 }

@@ -18,6 +18,7 @@ mod fingerprint;
 pub mod first;
 mod grounds;
 mod inputs;
+mod instance;
 mod lengths;
 mod links;
 mod lookup;

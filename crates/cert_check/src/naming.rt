@@ -17,6 +17,7 @@ ghost use Rattle.cert_check.specs.Names.{IsCoverBy, IsPartOf, NamesInstance};
 ghost use Rattle.cert_check.specs.Places.{IsPlaceOf};
 
 use crate::covers::shorter_place;
+use crate::instance::Instance;
 use crate::lookup::Lookup;
 use cert_names::part_terms;
 use clause_form::{conclude_clause, long_tautology};
@@ -24,7 +25,6 @@ use inst_logic::Memory;
 use saturation_cert::{By, Member};
 use std::alloc::Global;
 use term_bank::{Bank, IdClause};
-use unify_core::{Bindings, Side};
 
 /// A clause, and what covers it.
 #[derive(Drop)]
@@ -101,32 +101,30 @@ fn find_by(
     }
 }
 
-// The instance of the side's clause under the bindings, and what covers it.
+// The instance, and what covers it.
 pub fn named_instance(
     alloc: Global,
     bank: &mut Bank,
     members: &[Member],
     lookup: &Lookup,
-    bindings: &Bindings,
-    side: Side,
-    c: &IdClause,
+    of: &Instance<'_>,
 ) -> Result<Option<Named>, Memory>
     requires members { All (λ m. IsWholeClause bank.old m.clause) members.now }
     requires members_canonical { AreCanonicalMembers bank.old members.now }
     requires lookup { IsLookup bank.old members.now lookup.now }
-    requires clause { IsWholeClause bank.old c.now }
-    requires canonical { IsCanonical (clause_at bank.old c.now) }
-    requires bindings { AreBindings bank.old bindings.now.entries }
-    requires terms { AreTerms bank.old bindings.now.entries }
+    requires clause { IsWholeClause bank.old of.now.clause.now }
+    requires canonical { IsCanonical (clause_at bank.old of.now.clause.now) }
+    requires bindings { AreBindings bank.old of.now.bindings.now.entries }
+    requires terms { AreTerms bank.old of.now.bindings.now.entries }
     requires formed { AreFormed bank.old }
-    ensures some { IfOk result (λ o. IfSome o (NamesInstance bank.old bank.new bindings.now.entries side members.now c.now)) }
-    ensures covered { IfOk result (λ o. IfSome o (λ _. (s : Sided) → IsResolvedBy bank.old bindings.now.entries s → IsCovered (map (λ m. clause_at bank.old m.clause) members.now) (clause_at bank.old c.now) (instance (of_side s side) (clause_at bank.old c.now)))) }
-    ensures none { IfOk result (λ o. IfNone o ((s : Sided) → IsResolvedBy bank.old bindings.now.entries s → ¬ (IsCovered (map (λ m. clause_at bank.old m.clause) members.now) (clause_at bank.old c.now) (instance (of_side s side) (clause_at bank.old c.now))))) }
+    ensures some { IfOk result (λ o. IfSome o (NamesInstance bank.old bank.new of.now.bindings.now.entries of.now.side members.now of.now.clause.now)) }
+    ensures covered { IfOk result (λ o. IfSome o (λ _. (s : Sided) → IsResolvedBy bank.old of.now.bindings.now.entries s → IsCovered (map (λ m. clause_at bank.old m.clause) members.now) (clause_at bank.old of.now.clause.now) (instance (of_side s of.now.side) (clause_at bank.old of.now.clause.now)))) }
+    ensures none { IfOk result (λ o. IfNone o ((s : Sided) → IsResolvedBy bank.old of.now.bindings.now.entries s → ¬ (IsCovered (map (λ m. clause_at bank.old m.clause) members.now) (clause_at bank.old of.now.clause.now) (instance (of_side s of.now.side) (clause_at bank.old of.now.clause.now))))) }
     ensures extends { Extends bank.old bank.new }
     ensures formed { AreFormed bank.new }
 {
-    let clause = conclude_clause(alloc, bank, bindings, side, c)?;
-    match find_by(alloc, bank, members, lookup, c.len(), &clause)? {
+    let clause = conclude_clause(alloc, bank, of.bindings, of.side, of.clause)?;
+    match find_by(alloc, bank, members, lookup, of.clause.len(), &clause)? {
         None => Ok(None),
         Some(by) => Ok(Some(Named { clause, by })),
     }

@@ -16,6 +16,7 @@ ghost use Rattle.cert_check.specs.Origins.{IsMade};
 use crate::conclusion::Premises;
 use crate::covers::is_covered;
 use crate::due_side::DueSide;
+use crate::instance::Instance;
 use crate::lookup::Lookup;
 use inst_logic::Memory;
 use saturation_cert::{Saturation, selected};
@@ -52,15 +53,12 @@ fn is_side_covered(
 {
     let members = cert.base.members.as_slice();
     let member = &members[due.own];
-    is_covered(
-        alloc,
-        &mut cert.base.bank,
-        members,
-        lookup,
+    let of = Instance {
         bindings,
-        due.side,
-        &member.clause,
-    )
+        side: due.side,
+        clause: &member.clause,
+    };
+    is_covered(alloc, &mut cert.base.bank, members, lookup, &of)
 }
 
 // Whether a member was made from the selected literals of members `i` and `j`, counted from 0. The origins were checked before,

@@ -17,6 +17,15 @@ use std::alloc::Global;
 use term_bank::{Bank, IdClause};
 use unify_core::Bindings;
 
+/// What is claimed of member `i`, counted from 0: that its clause is the part, by the places, of what the premises give.
+#[derive(Clone, Copy)]
+pub struct PartClaim<'a> {
+    pub i: usize,
+    pub premises: Premises,
+    pub keep: &'a [usize],
+    pub clause: &'a IdClause,
+}
+
 // Whether each place is below the next one.
 fn are_rising(places: &[usize]) -> bool
     ensures { IsTrue result ↔ IsStrictlyIncreasing places.now }
@@ -83,41 +92,37 @@ fn is_part(
     bank: &mut Bank,
     bindings: &mut Bindings,
     members: &[Member],
-    premises: Premises,
-    keep: &[usize],
-    clause: &IdClause,
+    claim: &PartClaim<'_>,
 ) -> Result<bool, Memory>
     requires members { All (λ m. IsWholeClause bank.old m.clause) members.now }
-    requires clause { IsClauseOf bank.old clause.now }
-    ensures part { IfOk result (λ r. IsTrue r ↔ IsPartOfConclusion (map (entry_of bank.old) members.now) premises.from premises.place premises.partner premises.other keep.now (clause_at bank.old clause.now)) }
+    requires clause { IsClauseOf bank.old claim.now.clause.now }
+    ensures part { IfOk result (λ r. IsTrue r ↔ IsPartOfConclusion (map (entry_of bank.old) members.now) claim.now.premises.from claim.now.premises.place claim.now.premises.partner claim.now.premises.other claim.now.keep.now (clause_at bank.old claim.now.clause.now)) }
     ensures extends { Extends bank.old bank.new }
     ensures formed { AreFormed bank.old → AreFormed bank.new }
 {
-    match conclusion(alloc, bank, bindings, members, premises)? {
+    match conclusion(alloc, bank, bindings, members, claim.premises)? {
         None => Ok(false),
-        Some(whole) => is_part_of(alloc, bank, &whole, keep, clause),
+        Some(whole) => is_part_of(alloc, bank, &whole, claim.keep, claim.clause),
     }
 }
 
-// Whether both members come before member `i`, counted from 0, and the clause is a part, by the places, of what they conclude.
+// Whether both members come before the one that the claim is about, and the clause is a part, by the places, of what they
+// conclude.
 pub fn members_give_part(
     alloc: Global,
     bank: &mut Bank,
     bindings: &mut Bindings,
     members: &[Member],
-    premises: Premises,
-    i: usize,
-    keep: &[usize],
-    clause: &IdClause,
+    claim: &PartClaim<'_>,
 ) -> Result<bool, Memory>
     requires members { All (λ m. IsWholeClause bank.old m.clause) members.now }
-    requires clause { IsClauseOf bank.old clause.now }
-    ensures gives { IfOk result (λ r. IsTrue r ↔ IsPartGiven (map (entry_of bank.old) members.now) (i + 1) premises.from premises.place premises.partner premises.other keep.now (clause_at bank.old clause.now)) }
+    requires clause { IsClauseOf bank.old claim.now.clause.now }
+    ensures gives { IfOk result (λ r. IsTrue r ↔ IsPartGiven (map (entry_of bank.old) members.now) (claim.now.i + 1) claim.now.premises.from claim.now.premises.place claim.now.premises.partner claim.now.premises.other claim.now.keep.now (clause_at bank.old claim.now.clause.now)) }
     ensures extends { Extends bank.old bank.new }
     ensures formed { AreFormed bank.old → AreFormed bank.new }
 {
-    if premises.from > i || premises.partner > i {
+    if claim.premises.from > claim.i || claim.premises.partner > claim.i {
         return Ok(false);
     }
-    is_part(alloc, bank, bindings, members, premises, keep, clause)
+    is_part(alloc, bank, bindings, members, claim)
 }

@@ -64,11 +64,11 @@ returns-in-Inst-clause-right c =
     let by = right_inst b c.args.i m v.from v.place v.partner v.other c.requires.within is v.is in
     let P = λ (ms : List Member) (p : Premises). MembersGive (map (entry_of b.bank) ms) (c.args.i + 1) p.from p.place p.partner p.other (clause_at b.bank m.clause) in
     let members = c.as_slice-members.ensures in
-    let of = c.new-of.ensures in
+    let of = c.new.ensures in
     IfOk-weaker c.members_give.result _ _
     (λ _ g. (
-      (λ t. by.0 (subst (P b.members) of (subst (λ (ms : List Member). P ms c.new-of.result) members (g.0 t)))),
-      (λ r. g.1 (subst (λ (ms : List Member). P ms c.new-of.result) (sym members) (subst (P b.members) (sym of) (by.1 r)))),
+      (λ t. by.0 (subst (P b.members) of (subst (λ (ms : List Member). P ms c.new.result) members (g.0 t)))),
+      (λ r. g.1 (subst (λ (ms : List Member). P ms c.new.result) (sym members) (subst (P b.members) (sym of) (by.1 r)))),
     )) c.members_give.ensures.gives
 
 pub returns-then-not-are_within-clause-right : goal.returns-then-not-are_within-clause-right
@@ -110,13 +110,13 @@ returns-else-not-are_within-clause-right c =
     let by = right_part b i m v.from v.place v.partner v.other v.keep v.premises c.requires.within is v.is before in
     let P = λ (ms : List Member) (p : Premises) (keep : List ℕ). IsPartGiven (map (entry_of b.bank) ms) (i + 1) p.from p.place p.partner p.other keep (clause_at b.bank m.clause) in
     let members = c.as_slice-members.ensures in
-    let of = c.new-of-in-Lemma.ensures in
+    let of = c.new-in-Lemma.ensures in
     let keep = c.as_slice-in-Lemma.ensures in
     IfOk-weaker c.members_give_part.result _ _
     (λ _ g. (
       (λ t. by.0 (subst (P b.members (record { from = v.from; place = v.place; partner = v.partner; other = v.other })) keep
-          (subst (λ (p : Premises). P b.members p c.as_slice-in-Lemma.result.now) of (subst (λ (ms : List Member). P ms c.new-of-in-Lemma.result c.as_slice-in-Lemma.result.now) members (g.0 t))))),
-      (λ r. g.1 (subst (λ (ms : List Member). P ms c.new-of-in-Lemma.result c.as_slice-in-Lemma.result.now) (sym members)
+          (subst (λ (p : Premises). P b.members p c.as_slice-in-Lemma.result.now) of (subst (λ (ms : List Member). P ms c.new-in-Lemma.result c.as_slice-in-Lemma.result.now) members (g.0 t))))),
+      (λ r. g.1 (subst (λ (ms : List Member). P ms c.new-in-Lemma.result c.as_slice-in-Lemma.result.now) (sym members)
           (subst (λ (p : Premises). P b.members p c.as_slice-in-Lemma.result.now) (sym of)
           (subst (P b.members (record { from = v.from; place = v.place; partner = v.partner; other = v.other })) (sym keep) (by.1 r))))),
     )) c.members_give_part.ensures.gives

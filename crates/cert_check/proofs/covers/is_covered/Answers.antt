@@ -28,5 +28,5 @@ returns-clause-covered c =
     let d = c.in_ok-conclusion.conclusion in
     IfOk-weaker c.has_cover.result _ _ (λ r p s resolved.
     let q : IsTrue r ↔ IsCoveredIn g ms _ d = subst (λ n. IsTrue r ↔ IsCoveredIn g ms n d) c.len.ensures p in
-    let law = covered_in c.args.bank.now g c.conclude_clause.ensures.extends ms c.requires.members c.args.c.now d _ (c.in_ok-conclusion.ensures.made s resolved).1 in
+    let law = covered_in c.args.bank.now g c.conclude_clause.ensures.extends ms c.requires.members c.args.of.now.clause.now d _ (c.in_ok-conclusion.ensures.made s resolved).1 in
     ((λ t. law.0 (q.0 t)), (λ h. q.1 (law.1 h)))) c.has_cover.ensures

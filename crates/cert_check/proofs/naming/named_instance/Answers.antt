@@ -15,16 +15,16 @@ find_by-requires-clause-lookup c = lookup_later c.args.bank.now c.conclude_claus
 
 pub find_by-requires-clause-clause : goal.find_by-requires-clause-clause
 find_by-requires-clause-clause c =
-    formed_whole c.conclude_clause.new.bank c.in_ok-clause.clause c.in_ok-clause.ensures.ids (c.in_ok-clause.ensures.atoms c.requires.terms (whole_formed c.args.bank.now c.args.c.now c.requires.clause))
+    formed_whole c.conclude_clause.new.bank c.in_ok-clause.clause c.in_ok-clause.ensures.ids (c.in_ok-clause.ensures.atoms c.requires.terms (whole_formed c.args.bank.now c.args.of.now.clause.now c.requires.clause))
 
 pub returns-in-None-clause-none : goal.returns-in-None-clause-none
 returns-in-None-clause-none c =
     let f = c.args.bank.now in
     let g = c.conclude_clause.new.bank in
     let d = c.in_ok-clause.clause in
-    let inside = formed_whole g d c.in_ok-clause.ensures.ids (c.in_ok-clause.ensures.atoms c.requires.terms (whole_formed f c.args.c.now c.requires.clause)) in
+    let inside = formed_whole g d c.in_ok-clause.ensures.ids (c.in_ok-clause.ensures.atoms c.requires.terms (whole_formed f c.args.of.now.clause.now c.requires.clause)) in
     let unmet = by_none g c.args.members.now c.len.result _ d c.len.ensures c.in_ok-find_by.field-0 c.in_ok-find_by.ensures.none c.in-None.is in
-    instance_open f g c.find_by.new.bank c.conclude_clause.ensures.extends c.find_by.ensures.extends c.args.members.now c.requires.members c.args.bindings.now.entries c.args.side c.args.c.now d inside
+    instance_open f g c.find_by.new.bank c.conclude_clause.ensures.extends c.find_by.ensures.extends c.args.members.now c.requires.members c.args.of.now.bindings.now.entries c.args.of.now.side c.args.of.now.clause.now d inside
     (λ s resolved. (c.in_ok-clause.ensures.made s resolved).1) unmet
 
 pub returns-in-Some-clause-some : goal.returns-in-Some-clause-some
@@ -32,9 +32,9 @@ returns-in-Some-clause-some c =
     let f = c.args.bank.now in
     let g = c.conclude_clause.new.bank in
     let d = c.in_ok-clause.clause in
-    let inside = formed_whole g d c.in_ok-clause.ensures.ids (c.in_ok-clause.ensures.atoms c.requires.terms (whole_formed f c.args.c.now c.requires.clause)) in
+    let inside = formed_whole g d c.in_ok-clause.ensures.ids (c.in_ok-clause.ensures.atoms c.requires.terms (whole_formed f c.args.of.now.clause.now c.requires.clause)) in
     let covers = by_some g c.find_by.new.bank c.args.members.now c.len.result _ d c.len.ensures c.in_ok-find_by.field-0 c.in-Some.by c.in_ok-find_by.ensures.some c.in-Some.is in
-    instance_named f g c.find_by.new.bank c.conclude_clause.ensures.extends c.find_by.ensures.extends c.args.members.now c.requires.members c.args.bindings.now.entries c.args.side c.args.c.now d inside
+    instance_named f g c.find_by.new.bank c.conclude_clause.ensures.extends c.find_by.ensures.extends c.args.members.now c.requires.members c.args.of.now.bindings.now.entries c.args.of.now.side c.args.of.now.clause.now d inside
     (λ s resolved. (c.in_ok-clause.ensures.made s resolved).1) c.in-Some.by covers
 
 pub returns-in-Some-clause-covered : goal.returns-in-Some-clause-covered
@@ -42,7 +42,7 @@ returns-in-Some-clause-covered c =
     let f = c.args.bank.now in
     let g = c.conclude_clause.new.bank in
     let d = c.in_ok-clause.clause in
-    let inside = formed_whole g d c.in_ok-clause.ensures.ids (c.in_ok-clause.ensures.atoms c.requires.terms (whole_formed f c.args.c.now c.requires.clause)) in
+    let inside = formed_whole g d c.in_ok-clause.ensures.ids (c.in_ok-clause.ensures.atoms c.requires.terms (whole_formed f c.args.of.now.clause.now c.requires.clause)) in
     let covers = by_some g c.find_by.new.bank c.args.members.now c.len.result _ d c.len.ensures c.in_ok-find_by.field-0 c.in-Some.by c.in_ok-find_by.ensures.some c.in-Some.is in
-    instance_covered f g c.find_by.new.bank c.conclude_clause.ensures.extends c.find_by.ensures.extends c.args.members.now c.requires.members c.args.bindings.now.entries c.args.side c.args.c.now d inside
+    instance_covered f g c.find_by.new.bank c.conclude_clause.ensures.extends c.find_by.ensures.extends c.args.members.now c.requires.members c.args.of.now.bindings.now.entries c.args.of.now.side c.args.of.now.clause.now d inside
     (λ s resolved. (c.in_ok-clause.ensures.made s resolved).1) covers.covered
