@@ -12,7 +12,7 @@ use crate::order::is_ordered;
 use clause_form::{canonical, greatest_variable, variant};
 use inst_logic::Memory;
 use std::alloc::Global;
-use term_bank::{Bank, IdClause, IdLiteral};
+use term_bank::{Bank, IdClause, IdLiteral, TermId};
 
 // So many literals at most are compared with each other.
 const FEW: usize = 8;
@@ -30,18 +30,18 @@ fn are_distinct(literals: &[IdLiteral]) -> bool
 }
 
 // Whether the variables are 0, 1, 2 by first occurrence, as they are where there are none.
-fn is_numbered(alloc: Global, bank: &Bank, c: &IdClause) -> Result<bool, Memory>
+fn is_numbered(bank: &Bank, room: &mut Vec<TermId>, c: &IdClause) -> Result<bool, Memory>
     requires { IsClauseOf bank.now c.now }
     ensures { IfOk result (λ r. IsTrue r → in_order 0 (clause_vars (clause_at bank.now c.now)) ≡ true) }
 {
     if greatest_variable(bank, c).is_none() {
         return Ok(true);
     }
-    is_ordered(alloc, bank, c)
+    is_ordered(bank, room, c)
 }
 
 // Whether the clause is short and seen to be in canonical form.
-fn is_seen(alloc: Global, bank: &Bank, c: &IdClause) -> Result<bool, Memory>
+fn is_seen(bank: &Bank, room: &mut Vec<TermId>, c: &IdClause) -> Result<bool, Memory>
     requires { IsClauseOf bank.now c.now }
     ensures { IfOk result (λ r. IsTrue r → IsCanonical (clause_at bank.now c.now)) }
 {
@@ -49,7 +49,7 @@ fn is_seen(alloc: Global, bank: &Bank, c: &IdClause) -> Result<bool, Memory>
     if c.len() > FEW || !are_distinct(c.as_slice()) {
         return Ok(false);
     }
-    is_numbered(alloc, bank, c)
+    is_numbered(bank, room, c)
 }
 
 // Whether the clause is the canonical form that is built of it.
@@ -64,13 +64,19 @@ fn is_built(alloc: Global, bank: &mut Bank, c: &IdClause) -> Result<bool, Memory
     Ok(variant(&d, c))
 }
 
-/// Whether the clause has its variables 0, 1, 2 by first occurrence, and no repeats. The bank may grow where it has not.
-pub fn is_canonical(alloc: Global, bank: &mut Bank, c: &IdClause) -> Result<bool, Memory>
+/// Whether the clause has its variables 0, 1, 2 by first occurrence, and no repeats. The bank may grow where it has not. `room` is
+/// room to work in.
+pub fn is_canonical(
+    alloc: Global,
+    bank: &mut Bank,
+    room: &mut Vec<TermId>,
+    c: &IdClause,
+) -> Result<bool, Memory>
     requires { IsClauseOf bank.old c.now }
     ensures grows { Grows bank.old bank.new }
     ensures is { IfOk result (λ r. IsTrue r ↔ IsCanonical (clause_at bank.old c.now)) }
 {
-    if is_seen(alloc, bank, c)? {
+    if is_seen(bank, room, c)? {
         return Ok(true);
     }
     is_built(alloc, bank, c)

@@ -6,7 +6,6 @@ ghost use Rattle.term_bank.specs.Forest.{AreIds, IsClauseOf, clause_at};
 ghost use Rattle.cert_items.specs.Orders.{in_order, ids_vars, ids_size};
 
 use inst_logic::Memory;
-use std::alloc::Global;
 use term_bank::{Bank, IdClause, IdLiteral, Root, TermId};
 
 // Puts the ids on the list, the first one last.
@@ -83,16 +82,17 @@ fn visit(
     }
 }
 
-/// Whether each variable of the clause is below the number of different ones before it, or is that number.
-pub fn is_ordered(alloc: Global, bank: &Bank, c: &IdClause) -> Result<bool, Memory>
+/// Whether each variable of the clause is below the number of different ones before it, or is that number. `left` is room to work
+/// in.
+pub fn is_ordered(bank: &Bank, left: &mut Vec<TermId>, c: &IdClause) -> Result<bool, Memory>
     requires { IsClauseOf bank.now c.now }
     ensures { IfOk result (λ r. IsTrue r → in_order 0 (clause_vars (clause_at bank.now c.now)) ≡ true) }
 {
-    let mut left = Vec::new(alloc);
-    push_atoms(&mut left, c.as_slice())?;
+    left.clear();
+    push_atoms(left, c.as_slice())?;
     let mut met = 0;
     while let Some(id) = left.pop() {
-        match visit(bank, &mut left, met, id)? {
+        match visit(bank, left, met, id)? {
             None => return Ok(false),
             Some(n) => met = n,
         }

@@ -32,7 +32,7 @@ pub fn printable_clause<'a>(
     match clause(alloc, bank, ids, literals, bytes)? {
         None => Ok(None),
         Some(rest) => {
-            if is_canonical(alloc, bank, literals)? {
+            if is_canonical(alloc, bank, ids, literals)? {
                 Ok(Some(rest))
             } else {
                 Ok(None)

@@ -236,11 +236,16 @@ pub fn apply(
     applied(alloc, &mut bank.bank, &mut bank.known, kind, text, args)
 }
 
-// Whether the clause has its variables 0, 1, 2 by first occurrence, and no repeats.
-pub fn is_canonical(alloc: Global, bank: &mut TextBank, c: &IdClause) -> Result<bool, Memory>
+// Whether the clause has its variables 0, 1, 2 by first occurrence, and no repeats. `ids` is room to work in.
+pub fn is_canonical(
+    alloc: Global,
+    bank: &mut TextBank,
+    ids: &mut Vec<TermId>,
+    c: &IdClause,
+) -> Result<bool, Memory>
     requires { IsClauseOf bank.old c.now }
     ensures grows { Grows bank.old bank.new }
     ensures is { IfOk result (λ r. IsTrue r ↔ IsCanonical (clause_at bank.old c.now)) }
 {
-    is_canonical_in(alloc, &mut bank.bank, c)
+    is_canonical_in(alloc, &mut bank.bank, ids, c)
 }

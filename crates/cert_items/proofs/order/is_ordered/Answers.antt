@@ -12,7 +12,7 @@ pub loop-id-init : goal.loop-id-init
 loop-id-init c =
     let f = c.args.bank.now in
     let start : reverse c.push_atoms.new.left.items ≡ map (λ l. l.atom) c.args.c.now =
-    c.in_ok-push_atoms.ensures ∙ ap (λ (ls : List ℕ). map (λ l. l.atom) c.as_slice.result.now ++ reverse ls) c.new-left.ensures.items ∙ append-nil _ ∙ ap (map (λ l. l.atom)) c.as_slice.ensures in
+    c.in_ok-push_atoms.ensures ∙ ap (λ (ls : List ℕ). map (λ l. l.atom) c.as_slice.result.now ++ reverse ls) c.clear.ensures.items ∙ append-nil _ ∙ ap (map (λ l. l.atom)) c.as_slice.ensures in
     record {
       order = λ h. sym (ap (in_order 0) (clause_ids f c.args.c.now)) ∙ sym (ap (λ (ids : List ℕ). in_order 0 (ids_vars f ids)) start) ∙ h;
       within = subst (AreIds f) (sym start) (atom_ids f c.args.c.now c.requires);
