@@ -44,9 +44,8 @@ both_parts literals bits count first after = all_true literals bits (λ i l. go 
     go i l (inr b) = after i b l
 
 -- a valuation that makes them true answers
-pub satisfied : (atoms : ℕ) (added literals : List (List (Signed ℕ))) (bits : List Bool) (count : ℕ) → added ≡ literals → length bits ≤ atoms
-    → ((i : ℕ) → i < count → IsTrueEntry literals bits i) → ((i : ℕ) → count ≤ i → i < length literals → IsTrueEntry literals bits i) → Satisfies atoms added [] bits
-satisfied atoms added literals bits count given width first after = record {
-  makes_true = record { clauses_true = transport (All (IsTrueClause (IsHeld bits))) (sym given) (both_parts literals bits count first after); assumptions_true = All-nil (IsTrueLiteral (IsHeld bits)) };
+pub satisfied : (atoms : ℕ) (added literals : List (List (Signed ℕ))) (bits : List Bool) → added ≡ literals → length bits ≤ atoms → All (IsTrueClause (IsHeld bits)) literals → Satisfies atoms added [] bits
+satisfied atoms added literals bits given width hold = record {
+  makes_true = record { clauses_true = transport (All (IsTrueClause (IsHeld bits))) (sym given) hold; assumptions_true = All-nil (IsTrueLiteral (IsHeld bits)) };
   within = width;
 }

@@ -1,6 +1,6 @@
 -- What a run knows of its solver, and what a question to it changes.
-use Rattle.std.proofs.Common.{◌≡◌, ℕ, suc, ◌<◌, List, [], ◌∷◌, refl, sym, ap, ap₂, ◌∙◌, subst as transport, map, length, Bool, true, false, All, Contains, Some}
-use Rattle.std.specs.Prelude.{slice_get}
+use Rattle.std.proofs.Common.{◌≡◌, ℕ, suc, ◌<◌, List, [], ◌∷◌, refl, sym, ap, ap₂, ◌∙◌, subst as transport, map, length, Bool, true, false, All, Contains, Some, None, Option, ◌≤◌}
+use Rattle.std.specs.Prelude.{slice_get, IfSome, IfNone}
 use Rattle.inst_logic.specs.declared.symbol.Sym.{Sym}
 use Rattle.inst_logic.specs.declared.signed.Signed.{Signed}
 use Rattle.inst_logic.specs.Tree.{Tree}
@@ -33,6 +33,7 @@ use Rattle.instgen_loop.specs.Loops.{items, IsStored, IsSigned}
 use Rattle.instgen_loop.specs.Running.{IsRunning, IsRunningFor, IsRunningWith, KeepsTruth, entries_of}
 use Rattle.instgen_loop.specs.Settling.{IsOrderly, IsGrounded, IsSomeRun}
 use Rattle.instgen_loop.specs.Solves.{IsTruePlace, Solves}
+use Rattle.instgen_loop.proofs.Asked.{satisfied}
 use Rattle.instgen_loop.proofs.Inferred.{same_clauses}
 use Rattle.instgen_loop.proofs.Solved.{from_map_number, running_solved}
 use Rattle.instgen_loop.proofs.Works.{slice_get_map, at_number_map}
@@ -152,7 +153,13 @@ module _ {S I C : Type 0} (atoms : S → ℕ) (added : S → List (List (Signed 
     tended = record { once = h.tended.once; positive = h.tended.positive; apart = h.tended.apart; queued = h.tended.queued; worked = h.tended.worked };
   }
 
-  -- it was asked, and its valuation was taken
+  -- it was not asked for more than the last valuation
+  pub last_satisfies : atoms r.ground.solver ≡ length r.ground.abstraction.ids → IsSomeRun atoms added r → All (IsTrueClause (IsHeld r.ground.valuation)) r.ground.literals → Satisfies (atoms s) (added s) [] r.ground.valuation
+  last_satisfies count h hold =
+      let g = run_grounded atoms added r h in
+      satisfied (atoms s) (added s) r.ground.literals r.ground.valuation (same_added ∙ g.given) (transport (λ n. length r.ground.valuation ≤ n) (sym (same_atoms ∙ count)) g.width) hold
+
+  -- its valuation was taken, or the last one stays
   module _ (new : Run S I C) (bits : List Bool) (satisfies : Satisfies (atoms s) (added s) [] bits) (taken : new.ground.valuation ≡ bits) (flips : List ℕ) (solves : Solves atoms added asked new flips) where
     pub truth_kept : KeepsTruth atoms added r new
     truth_kept bot cs budget v b h = (
@@ -174,3 +181,9 @@ unsat_refutes n cs a core derivation h e =
 
 pub sat_satisfies : (n : ℕ) (cs : List (List (Signed ℕ))) (a : Answer) (bits : List Bool) → IsAnswer n cs [] a → a ≡ Sat bits → Satisfies n cs [] bits
 sat_satisfies n cs a bits h e = transport (IsAnswer n cs []) e h
+
+pub some_answer : (n : ℕ) (cs : List (List (Signed ℕ))) (o : Option Answer) (a : Answer) → IfSome o (IsAnswer n cs []) → o ≡ Some a → IsAnswer n cs [] a
+some_answer n cs o a h e = transport (λ o. IfSome o (IsAnswer n cs [])) e h
+
+pub none_holds : (cs : List (List (Signed ℕ))) (o : Option Answer) (bits : List Bool) → IfNone o (All (IsTrueClause (IsHeld bits)) cs) → o ≡ None → All (IsTrueClause (IsHeld bits)) cs
+none_holds cs o bits h e = transport (λ o. IfNone o (All (IsTrueClause (IsHeld bits)) cs)) e h

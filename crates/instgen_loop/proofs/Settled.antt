@@ -1,9 +1,11 @@
 -- Each entry has a true place after a solve.
 use Rattle.std.proofs.Common.{◌≡◌, ℕ, ◌+◌, ◌<◌, ◌≤◌, List, [], ◌∷◌, ◌++◌, inl, inr, refl, sym, ap, ◌∙◌, subst as transport, map, length, length-append, arith, All, Contains, Bool, true, false}
+use Rattle.std.proofs.lemmas.List.Elements.{All-nil}
 use Rattle.inst_logic.specs.declared.signed.Signed.{Signed}
 use Rattle.inst_logic.specs.Derivations.{at_number}
 use Rattle.inst_logic.specs.Truth.{IsTrueClause}
-use Rattle.inst_calculus.proofs.Membership.{in_contains, in_all, all_in}
+use Rattle.inst_logic.specs.Tree.{Tree}
+use Rattle.inst_calculus.proofs.Membership.{contains_in, in_contains, in_all, all_in}
 use Rattle.inst_calculus.proofs.Distinct.{length_map}
 use Rattle.prop_logic.specs.Valuation.{IsHeld, AreChanges}
 use Rattle.engine_laws.specs.Pairs.{IsWorked}
@@ -218,3 +220,47 @@ module _ {S I C : Type 0} (atoms : S → ℕ) (added : S → List (List (Signed 
 
   pub accepted_whole : length mid.selection.places ≡ length (items mid)
   accepted_whole = settles.whole ∙ sym (ap (λ (x : Run S I C). length (items x)) settles.rest)
+
+-- The valuation stays, and entries without a place get one
+
+no_changes : (bits : List Bool) → AreChanges bits bits []
+no_changes bits k = (λ i. absurd (contains_in k [] i), λ d. absurd (d refl))
+
+no_flips : (atoms : List Tree) (bits : List Bool) → AreFlips atoms bits bits []
+no_flips atoms bits = record {
+  once = λ i j d low high. absurd (omega arith);
+  each = λ a i. absurd (contains_in a [] i);
+  all = λ n a e d. absurd (d refl);
+}
+
+module _ {S I C : Type 0} (atoms : S → ℕ) (pairs : I → List Pair) (fits : Forest → I → Type 0) (added : S → List (List (Signed ℕ))) (r : Run S I C) (p : Partners I C)
+    (h : IsOrderly atoms pairs fits r p) (users : AreUsers r.ground.literals r.selection) (grounded : IsGrounded added r)
+    (s : Placing) (places : s.places ≡ r.selection.places) (count : length r.ground.abstraction.ids ≤ length s.users) (kept : AreUsersKept r.selection.users s.users) where
+  abbrev bits : List Bool
+  bits = r.ground.valuation
+
+  pub stays_under_way : IsUnderWay r.ground.literals bits [] [] s
+  stays_under_way = started_under_way atoms pairs fits added r p bits [] h users grounded s places count kept (no_changes bits)
+
+  pub stays_selectable : All (IsTrueClause (IsHeld bits)) r.ground.literals → AreSelectable (record r { selection = s }) bits
+  stays_selectable hold = started_selectable atoms pairs fits added r p bits [] h users grounded s places count kept hold
+
+  pub stays_within : length s.places ≤ length r.ground.literals
+  stays_within =
+      let w = h.safe.within in
+      let e = count_of r.ground.literals (items r) grounded.lengths in
+      let q : length s.places ≡ length r.selection.places = ap length places in
+      omega arith
+
+  module _ (last : Placing) (more : List ℕ) (grown : last.places ≡ s.places ++ more) (under_way : IsUnderWay r.ground.literals bits [] [] last) (numbers : AreNumbersPlaced last) (whole : length last.places ≡ length r.ground.literals)
+      (journal : List Event) where
+    pub stays_settled : Settles r (record r { selection = last }) bits
+    stays_settled = all_settled r (record r { selection = s }) s last bits (record { rest = refl; count = refl; users = refl }) grounded.lengths under_way numbers whole
+
+    pub stays_orderly : IsOrderly atoms pairs fits (record r { selection = last; journal = journal }) p
+    stays_orderly = accepted_orderly atoms pairs fits (record r { selection = last }) p
+        (grown_orderly atoms pairs fits (record r { selection = s }) p bits (started_orderly atoms pairs fits added r p bits [] h users grounded s places count kept) last more grown grounded.lengths whole
+        (all_are_true r.ground.literals bits last under_way)) journal bits
+
+    pub stays_solves : journal ≡ r.journal ++ Solved [] ∷ [] → Solves atoms added r (record r { selection = last; journal = journal }) []
+    stays_solves pushed = accepted_solves atoms added r (record r { selection = last }) bits stays_settled journal [] pushed (All-nil (λ a. a < length r.entries.bank.trees)) (no_flips (atoms_in r.entries.bank r.ground.abstraction.ids) bits) grounded.width

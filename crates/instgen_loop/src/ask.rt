@@ -1,7 +1,9 @@
 // The question to the solver. It is not asked where the last valuation makes the entries true that came since: an entry with a
 // new atom mostly has a true literal there, since new atoms are false.
-ghost use Rattle.std.specs.Prelude.{◌≡◌, ◌<◌, ◌≤◌, ℕ, [], length, true, IfOk, OnOk};
+ghost use Rattle.std.specs.Prelude.{◌≡◌, ◌<◌, ◌≤◌, ℕ, [], length, true, All, IfOk, IfSome, IfNone};
+ghost use Rattle.inst_logic.specs.Truth.{IsTrueClause};
 ghost use Rattle.prop_logic.specs.Solving.{IsAnswer};
+ghost use Rattle.prop_logic.specs.Valuation.{IsHeld};
 ghost use Rattle.instgen_select.specs.Choices.{IsTrueAt};
 ghost use Rattle.instgen_loop.specs.Solves.{IsTrueEntry};
 
@@ -10,7 +12,6 @@ use compact_lists::{FlatClauses, PackedLit};
 use inst_logic::Memory;
 use instgen_select::choose_among;
 use prop_logic::{Answer, Solver, Valuation};
-use std::alloc::Global;
 
 // Whether a literal of the clause is true.
 fn is_true(clause: &[PackedLit], v: &Valuation) -> bool
@@ -34,24 +35,22 @@ fn are_true_after(literals: &FlatClauses, count: usize, v: &Valuation) -> bool
     true
 }
 
-/// A valuation that makes the solver's clauses true, or their refutation. The first `count` clauses are true in the last
-/// valuation, which is the answer where it makes the others true as well.
+/// The solver's answer, and `None` where the last valuation makes the solver's clauses true. The first `count` are true there.
 pub fn ask<S: Solver>(
-    alloc: Global,
     solver: &mut S,
     literals: &FlatClauses,
     count: usize,
     v: &Valuation,
-) -> Result<Answer, Memory>
+) -> Result<Option<Answer>, Memory>
     requires given { S.added solver.old ≡ literals.now }
-    requires width { length v.now ≤ S.atoms solver.old }
     requires first { (i : ℕ) → i < count → IsTrueEntry literals.now v.now i }
     ensures atoms { S.atoms solver.new ≡ S.atoms solver.old }
     ensures added { S.added solver.new ≡ S.added solver.old }
-    ensures answer { IfOk result (IsAnswer (S.atoms solver.old) (S.added solver.old) []) }
+    ensures some { IfOk result (λ r. IfSome r (IsAnswer (S.atoms solver.old) (S.added solver.old) [])) }
+    ensures none { IfOk result (λ r. IfNone r (All (IsTrueClause (IsHeld v.now)) literals.now)) }
 {
     if are_true_after(literals, count, v) {
-        return Ok(Answer::Sat(v.copy(alloc)?));
+        return Ok(None);
     }
-    solver.solve(&[])
+    Ok(Some(solver.solve(&[])?))
 }

@@ -15,6 +15,7 @@ ghost use Rattle.instgen_loop.specs.Choosing.{IsUnderWay, AreNumbersPlaced};
 ghost use Rattle.instgen_loop.specs.Settling.{IsOrderly, IsGrounded, IsSomeRun, Settles};
 
 use crate::ask::ask;
+use crate::event::FlipList;
 use crate::flips::flips_between;
 use crate::ground::clause_after;
 use crate::queue::Partners;
@@ -120,6 +121,34 @@ fn accept<S: Solver, I: PartnerIndex>(
     Ok(())
 }
 
+// Keeps the last valuation, and the selected literals with it. The entries without a place get one.
+fn stay<S: Solver, I: PartnerIndex>(
+    alloc: Global,
+    run: &mut Run<S, I>,
+    _partners: &Partners<I>,
+) -> Result<(), Memory>
+    requires orderly { IsOrderly S.atoms I.pairs I.fits run.old _partners.now }
+    requires users { AreUsers run.old.ground.literals run.old.selection }
+    requires grounded { IsGrounded S.added run.old }
+    requires hold { All (IsTrueClause (IsHeld run.old.ground.valuation)) run.old.ground.literals }
+    ensures orderly { OnOk result (IsOrderly S.atoms I.pairs I.fits run.new _partners.now) }
+    ensures users { OnOk result (AreUsers run.new.ground.literals run.new.selection) }
+    ensures whole { OnOk result (length run.new.selection.places ≡ length (items run.new)) }
+    ensures valuation { OnOk result (run.new.ground.valuation ≡ run.old.ground.valuation) }
+    ensures solves { OnOk result (Solves S.atoms S.added run.old run.new []) }
+{
+    run.selection
+        .make_users(alloc, run.ground.abstraction.len())?;
+    place_new(
+        &mut run.selection,
+        &run.ground.literals,
+        &run.ground.valuation,
+    )?;
+    let none = FlipList::new(alloc);
+    run.journal.push_solved(&none)?;
+    Ok(())
+}
+
 /// Solves, and selects a true literal of each entry: those whose literals changed leave their index and wait again. The derivation
 /// comes where there is no valuation.
 pub fn settle<S: Solver, I: PartnerIndex>(
@@ -146,16 +175,19 @@ pub fn settle<S: Solver, I: PartnerIndex>(
 {
     let count = run.selection.len();
     match ask(
-        alloc,
         &mut run.ground.solver,
         &run.ground.literals,
         count,
         &run.ground.valuation,
     )? {
-        Answer::Unsat { derivation, .. } => Ok(Some(derivation)),
-        Answer::Sat(v) => {
+        None => {
+            stay(alloc, run, partners)?;
+            Ok(None)
+        }
+        Some(Answer::Sat(v)) => {
             accept(alloc, run, partners, v)?;
             Ok(None)
         }
+        Some(Answer::Unsat { derivation, .. }) => Ok(Some(derivation)),
     }
 }
