@@ -2,6 +2,7 @@
 ghost use Rattle.std.specs.Prelude.{◌≡◌, [], IfOk};
 ghost use Rattle.instgen_loop.specs.Endings.{IsEnding};
 ghost use Rattle.instgen_loop.specs.Outcomes.{IsOutcome, journal_of};
+ghost use Rattle.instgen_loop.specs.declared.outcome.Outcome.TheVariants.{Refuted, Saturated, OutOfBudget};
 
 use crate::event_log::EventLog;
 use crate::finish::{SettledRun, saturation_of};
@@ -9,6 +10,7 @@ use crate::outcome::Outcome;
 use crate::refuted::{RefutedRun, refutation_of};
 use inst_logic::{Memory, Problem};
 use prop_logic::Solver;
+use saturation_cert::{Refutation, Saturation};
 use std::alloc::Global;
 
 /// What an outcome is made of, beside its journal.
@@ -21,6 +23,41 @@ pub enum Ending {
         wanted: u64,
         state: SettledRun,
     },
+}
+
+// The refutation with its journal.
+fn refuted_outcome(alloc: Global, cert: Refutation, log: &EventLog) -> Result<Outcome, Memory>
+    ensures { IfOk result (λ o. o ≡ Refuted cert log.now) }
+{
+    let journal = log.journal(alloc)?;
+    Ok(Outcome::Refuted { cert, journal })
+}
+
+// The saturation with its journal.
+fn saturated_outcome(alloc: Global, cert: Saturation, log: &EventLog) -> Result<Outcome, Memory>
+    ensures { IfOk result (λ o. o ≡ Saturated cert log.now) }
+{
+    let journal = log.journal(alloc)?;
+    Ok(Outcome::Saturated { cert, journal })
+}
+
+// What the budget left open, with its journal.
+fn stopped_outcome(
+    alloc: Global,
+    left: u64,
+    wanted: u64,
+    state: Saturation,
+    log: &EventLog,
+) -> Result<Outcome, Memory>
+    ensures { IfOk result (λ o. o ≡ OutOfBudget left wanted state log.now) }
+{
+    let journal = log.journal(alloc)?;
+    Ok(Outcome::OutOfBudget {
+        left,
+        wanted,
+        state,
+        journal,
+    })
 }
 
 /// The outcome that ends so after these events. The fresh solver serves a refutation alone.
@@ -41,13 +78,11 @@ pub fn outcome_of<S: Solver>(
     match ending {
         Ending::Refuted(run) => {
             let cert = refutation_of(alloc, p, run, last, log)?;
-            let journal = log.journal(alloc)?;
-            Ok(Outcome::Refuted { cert, journal })
+            refuted_outcome(alloc, cert, log)
         }
         Ending::Saturated(run) => {
             let cert = saturation_of(alloc, p, run)?;
-            let journal = log.journal(alloc)?;
-            Ok(Outcome::Saturated { cert, journal })
+            saturated_outcome(alloc, cert, log)
         }
         Ending::OutOfBudget {
             left,
@@ -55,13 +90,7 @@ pub fn outcome_of<S: Solver>(
             state,
         } => {
             let state = saturation_of(alloc, p, state)?;
-            let journal = log.journal(alloc)?;
-            Ok(Outcome::OutOfBudget {
-                left,
-                wanted,
-                state,
-                journal,
-            })
+            stopped_outcome(alloc, left, wanted, state, log)
         }
     }
 }

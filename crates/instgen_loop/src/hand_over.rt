@@ -78,6 +78,30 @@ fn clause_list(alloc: Global, clauses: IdClauses) -> Result<IdClauseList, Memory
     Ok(IdClauseList::from(list))
 }
 
+// What a base tells of the problem.
+#[derive(Drop)]
+struct Told {
+    inputs: IdClauseList,
+    names: NameList,
+    axioms: IdClauseList,
+}
+
+// The given clauses as certificates have them, with the names.
+fn told_of(alloc: Global, p: &Problem, given: Given) -> Result<Told, Memory>
+    ensures inputs { IfOk result (λ t. t.inputs ≡ given.inputs) }
+    ensures names { IfOk result (λ t. t.names ≡ p.now.names) }
+    ensures axioms { IfOk result (λ t. t.axioms ≡ given.axioms) }
+{
+    let inputs = clause_list(alloc, given.inputs)?;
+    let names = copied_names(alloc, &p.names)?;
+    let axioms = clause_list(alloc, given.axioms)?;
+    Ok(Told {
+        inputs,
+        names,
+        axioms,
+    })
+}
+
 /// The base of a certificate: the run's entries become its members, and the run's bank is its bank.
 pub fn base_of(alloc: Global, p: &Problem, remains: Remains) -> Result<Base, Memory>
     ensures { IfOk result (λ b. b ≡ base_from p.now.names remains) }
@@ -88,14 +112,12 @@ pub fn base_of(alloc: Global, p: &Problem, remains: Remains) -> Result<Base, Mem
         given,
     } = remains;
     let members = members_of(alloc, clauses)?;
-    let inputs = clause_list(alloc, given.inputs)?;
-    let names = copied_names(alloc, &p.names)?;
-    let axioms = clause_list(alloc, given.axioms)?;
+    let told = told_of(alloc, p, given)?;
     Ok(Base {
         bank,
-        inputs,
-        names,
-        axioms,
+        inputs: told.inputs,
+        names: told.names,
+        axioms: told.axioms,
         members,
     })
 }
