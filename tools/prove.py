@@ -196,6 +196,8 @@ class Run:
         self.calls = {}
         self.lanes = []
         self.begun = time.monotonic()
+        # What the program takes behind the libraries: it is proved and compiled by the script, and no part of it goes beside another.
+        self.program = known_minutes().get('instgen', 0.0)
         self.pace = 1.0
         self.timed = [0.0, 0.0]
 
@@ -207,7 +209,7 @@ class Run:
         if not self.left and not self.running:
             tell('all %d libraries are proved' % len(self.crates))
             return
-        minutes = self.pace * minutes_left(self.left, self.done, self.running, self.spent(), self.processors)
+        minutes = self.pace * (minutes_left(self.left, self.done, self.running, self.spent(), self.processors) + self.program)
         names = ', '.join(sorted(it.name for it in self.running))
         tell('%d of %d libraries are proved (%s); about %s left; at work on %s' % (
             len(self.done), len(self.crates), crate.name, counted(minutes), names))
@@ -305,8 +307,8 @@ def main():
     run = Run(top, log, processors, sys.stdin.read())
     for number in (signal.SIGTERM, signal.SIGHUP, signal.SIGINT):
         signal.signal(number, lambda *_: sys.exit(1))
-    tell('%d libraries by %d processors: about %s where the machine does nothing else' % (
-        len(run.crates), processors, counted(minutes_left(run.left, set(), {}, {}, processors))))
+    tell('%d libraries and the program by %d processors: about %s where the machine does nothing else' % (
+        len(run.crates), processors, counted(minutes_left(run.left, set(), {}, {}, processors) + run.program)))
     room = room_for(top)
     try:
         return run.work(room)
