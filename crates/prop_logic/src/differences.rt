@@ -73,8 +73,10 @@ pub fn changes(alloc: Global, old: &Valuation, new: &Valuation) -> Result<Vec<us
 {
     let mut changes = Vec::new(alloc);
     let count = old.word_count().max(new.word_count());
-    for place in 0..count {
+    let mut place = old.first_difference(new, 0);
+    while place < count {
         add_word(&mut changes, old, new, place)?;
+        place = old.first_difference(new, place + 1);
     }
     Ok(changes)
 }

@@ -1,6 +1,7 @@
 // Valuations of numbered atoms, packed into words so that two of them are compared 64 atoms at a time.
 ghost use Rattle.std.specs.Prelude.{◌≡◌, ◌↔◌, ◌≢◌, ◌+◌, ◌*◌, ◌<◌, ◌≤◌, ◌%◌, ◌/◌, ◌==◌, ℕ, [], ◌∷◌, ◌++◌, false, length, IsTrue, IfOk, OnOk, OnErr, slice_get, slice_set, option_copied};
 ghost use Rattle.std.specs.Int.{bit_at};
+ghost use Rattle.std.specs.List.{slice_index_or};
 ghost use Rattle.prop_logic.specs.Valuation.{IsHeld, value_at};
 ghost use Rattle.prop_logic.specs.Packed.{bit_of, values_of};
 
@@ -39,6 +40,21 @@ fn take_room(words: &mut Vec<u64>, len: usize) -> Result<(), Memory>
         words.push(0)?;
     }
     Ok(())
+}
+
+// The first place from one on at which the words differ, and `end` where they are the same up to it.
+fn first_other_word(old: &[u64], new: &[u64], from: usize, end: usize) -> usize
+    requires order { from ≤ end }
+    requires old { end ≤ length old.now }
+    requires new { end ≤ length new.now }
+    ensures after { from ≤ result }
+    ensures same { (p : ℕ) → from ≤ p → p < result → slice_index_or old.now p 0 ≡ slice_index_or new.now p 0 }
+{
+    let mut place = from;
+    while place < end && old[place] == new[place] {
+        place += 1;
+    }
+    place
 }
 
 impl Valuation {
@@ -143,6 +159,18 @@ impl Valuation {
         ensures { (k : ℕ) → k / 64 ≡ place → value_at self.now k ≡ (bit_at result (k % 64) == 1) }
     {
         word_at(self.words.as_slice(), place)
+    }
+
+    // The first place from one on whose 64 values may differ from those of the other: those of the places between are the same.
+    pub(crate) fn first_difference(&self, other: &Valuation, from: usize) -> usize
+        ensures after { from ≤ result }
+        ensures same { (k : ℕ) → 64 * from ≤ k → k < 64 * result → value_at self.now k ≡ value_at other.now k }
+    {
+        let end = self.words.len().min(other.words.len());
+        if end < from {
+            return from;
+        }
+        first_other_word(self.words.as_slice(), other.words.as_slice(), from, end)
     }
 
     // How many words there are, 64 values each.
