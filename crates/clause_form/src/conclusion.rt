@@ -12,7 +12,7 @@ ghost use Rattle.clause_form.specs.Conclusions.{IsConclusionOf, AreVariables, by
 
 use crate::compare::greatest_variable;
 use crate::literals::{atoms_of, clause_of};
-use crate::walk::{Leaves, build_all};
+use crate::walk::{Leaves, build_all, build_atoms};
 use inst_logic::Memory;
 use std::alloc::Global;
 use term_bank::{Bank, IdClause, TermId, TermIdList};
@@ -124,9 +124,8 @@ pub fn conclude_clause(
     ensures unspent { OnOk result (bank.old.spent ≡ false → bank.new.spent ≡ false) }
     ensures formed { AreFormed bank.old → AreTerms bank.old b.now.entries → AreFormed bank.new }
 {
-    let atoms = atoms_of(alloc, c.as_slice(), 0)?;
     let leaves = Leaves::Led(b);
-    let built = build_all(alloc, bank, &leaves, side, &atoms)?;
+    let built = build_atoms(alloc, bank, &leaves, side, c.as_slice())?;
     bank.distinct();
     clause_of(alloc, c.as_slice(), &built)
 }
@@ -148,9 +147,8 @@ pub fn under(
     ensures unspent { OnOk result (bank.old.spent ≡ false → bank.new.spent ≡ false) }
     ensures formed { AreFormed bank.old → AreTermIds bank.old terms.now → AreFormed bank.new }
 {
-    let atoms = atoms_of(alloc, c.as_slice(), 0)?;
     let leaves = Leaves::Listed(terms.as_slice());
-    let built = build_all(alloc, bank, &leaves, Side::Left, &atoms)?;
+    let built = build_atoms(alloc, bank, &leaves, Side::Left, c.as_slice())?;
     bank.distinct();
     clause_of(alloc, c.as_slice(), &built)
 }

@@ -8,6 +8,7 @@ pub mod complements;
 pub mod conclusion;
 pub mod laws;
 mod literals;
+mod order;
 mod renumber;
 mod subsuming;
 pub mod subsumption;
