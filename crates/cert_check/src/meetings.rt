@@ -66,27 +66,32 @@ fn find_alike(
     Ok(alike)
 }
 
-// The places of the head that is opposite to that of place `p`.
-fn find_opposite_heads(alloc: Global, classes: &Partners, p: usize) -> Result<Vec<usize>, Memory>
+// Fills the list with the places of the head that is opposite to that of place `p`.
+fn find_opposite_heads(
+    opposite: &mut Vec<usize>,
+    classes: &Partners,
+    p: usize,
+) -> Result<(), Memory>
     requires chains { HasChains classes.now }
     requires within { p < length classes.now.heads.items }
-    ensures { IfOk result (λ qs. HaveOpposite classes.now.heads.items p (length classes.now.heads.items) qs.items) }
+    ensures { OnOk result (HaveOpposite classes.now.heads.items p (length classes.now.heads.items) opposite.new.items) }
 {
+    opposite.clear();
     let count = classes.heads.len();
     let head = classes.heads[p];
     let other = complement(head);
-    let mut opposite = Vec::new(alloc);
     let mut q = place_of(&classes.first, other, count);
     while q < count {
         opposite.push(q)?;
         q = classes.same[q];
     }
-    Ok(opposite)
+    Ok(())
 }
 
-// The places that neither their classes nor their fingerprints tell apart from place `p`.
+// The places that neither their classes nor their fingerprints tell apart from place `p`. `room` is room to work in.
 fn find_opposite(
     alloc: Global,
+    room: &mut Vec<usize>,
     classes: &Partners,
     fingerprints: &[Fingerprint],
     p: usize,
@@ -96,8 +101,8 @@ fn find_opposite(
     requires within { p < length classes.now.heads.items }
     ensures { IfOk result (λ qs. AreOpposite classes.now.heads.items fingerprints.now p qs.items) }
 {
-    let opposite = find_opposite_heads(alloc, classes, p)?;
-    find_alike(alloc, fingerprints, p, &opposite)
+    find_opposite_heads(room, classes, p)?;
+    find_alike(alloc, fingerprints, p, room.as_slice())
 }
 
 // For each place those that neither their classes nor their fingerprints tell apart from it.
@@ -111,8 +116,9 @@ fn find_opposites(
     ensures { IfOk result (λ vs. AreOpposites classes.now.heads.items fingerprints.now (length fingerprints.now) vs.items) }
 {
     let mut opposites = Vec::with_capacity(alloc, fingerprints.len())?;
+    let mut room = Vec::new(alloc);
     for p in 0..fingerprints.len() {
-        let opposite = find_opposite(alloc, classes, fingerprints, p)?;
+        let opposite = find_opposite(alloc, &mut room, classes, fingerprints, p)?;
         opposites.push(opposite)?;
     }
     Ok(opposites)
@@ -142,8 +148,9 @@ fn opposites_within(
     ensures { (hs : List Head) → TellsApart hs fingerprints.now meetings.now → IfOk result (λ vs. AreOpposites hs fingerprints.now (length hs) vs.items) }
 {
     let mut opposites = Vec::with_capacity(alloc, fingerprints.len())?;
+    let mut places = Vec::new(alloc);
     for p in 0..fingerprints.len() {
-        let places = meetings.gather(alloc, p, 0)?;
+        meetings.gather(&mut places, p, 0)?;
         let alike = find_alike(alloc, fingerprints, p, &places)?;
         opposites.push(alike)?;
     }
@@ -219,20 +226,20 @@ pub fn meetings_of(alloc: Global, cert: &Saturation) -> Result<Meetings, Memory>
 }
 
 impl Meetings {
-    // The items from `from` on that may meet item `i`, in no order.
-    fn gather(&self, alloc: Global, i: usize, from: usize) -> Result<Vec<usize>, Memory>
+    // Fills the list with the items from `from` on that may meet item `i`, in no order.
+    fn gather(&self, items: &mut Vec<usize>, i: usize, from: usize) -> Result<(), Memory>
         requires grouped { AreGrouped self.now }
         requires within { i < length self.now.links.numbers.items }
-        ensures { IfOk result (λ js. MayMeet self.now i from js.items) }
+        ensures { OnOk result (MayMeet self.now i from items.new.items) }
     {
-        let mut items = Vec::new(alloc);
+        items.clear();
         let bucket = self.links.numbers[i];
         let list = &self.opposites[bucket];
         let opposite = list.as_slice();
         for number in opposite {
-            self.links.add_items(&mut items, *number, from)?;
+            self.links.add_items(items, *number, from)?;
         }
-        Ok(items)
+        Ok(())
     }
 
     /// The later members that may meet member `i`, counted from 0, in rising order.
@@ -246,7 +253,8 @@ impl Meetings {
         requires within { i < length cert.now.base.members }
         ensures { IfOk result (λ js. LeadsOn (saturation_of cert.now) i (suc i) js.items) }
     {
-        let mut partners = self.gather(alloc, i, i + 1)?;
+        let mut partners = Vec::new(alloc);
+        self.gather(&mut partners, i, i + 1)?;
         partners.sort_unstable();
         partners.dedup();
         Ok(partners)

@@ -1,8 +1,7 @@
 -- Which item is in turn where covers are named, and when all inputs and axioms are shown: what the lists say is what the items say.
-use Rattle.std.proofs.Common.{◌≡◌, ℕ, zero, suc, ◌<◌, ◌^◌, Bool, true, false, List, [], ◌∷◌, ◌++◌, length, map, Some, Option, refl, sym, ap, ap₂, ◌∙◌, subst, arith, length-append}
-use Rattle.std.specs.Prelude.{nat_eq, nat_le, slice_get, All}
+use Rattle.std.proofs.Common.{◌≡◌, ℕ, zero, suc, ◌<◌, ◌^◌, true, List, [], ◌∷◌, ◌++◌, length, map, Some, Option, refl, sym, ap, ap₂, ◌∙◌, subst, arith, length-append}
+use Rattle.std.specs.Prelude.{slice_get, All}
 use Rattle.std.specs.Option.{option_map}
-use Rattle.std.proofs.lemmas.Bool.{and_parts}
 use Rattle.std.proofs.lemmas.Option.{slice_get-map}
 use Rattle.std.proofs.lemmas.List.{append-nil, length-map, map-append}
 use Rattle.std.proofs.lemmas.List.Elements.{All-head, All-tail}
@@ -10,12 +9,12 @@ use Rattle.inst_logic.specs.declared.signed.Signed.{Signed}
 use Rattle.inst_logic.specs.Clauses.{TreeClause}
 use Rattle.inst_logic.proofs.Numbers.{number_is, equal_numbers, is_less}
 use Rattle.term_bank.specs.Forest.{Forest, clause_at, IsClauseOf}
-use Rattle.cert_format.specs.LineMachine.{Note, named, equality, member, selected, ground_of, ground_by, shown_by, input_by, side_by, rank, Item, Header, names_covers, clauses_if, base_clauses, shown_clauses, is_this, are_shown, in_turn, has_turn, is_complete}
+use Rattle.cert_format.specs.LineMachine.{Note, named, equality, member, selected, ground_of, ground_by, shown_by, input_by, side_by, Item, Header, names_covers, base_clauses, shown_clauses, is_this, are_shown, in_turn, has_turn, is_complete}
 use Rattle.cert_format.specs.ValueLines.{input_items, axiom_items, ground_items, line_items, step_items, shown_items, cover_items}
 use Rattle.cert_format.proofs.LineMachine.{clause_eq_yes, clause_eq_itself, count_shown, met, asked}
 use Rattle.cert_format.proofs.LineTexts.{ground_ranks, line_ranks, step_ranks, shown_ranks, cover_ranks}
 use Rattle.cert_format.proofs.Spelling.{small_number}
-use Rattle.cert_format.proofs.ItemGroups.{IsGroup, base_other}
+use Rattle.cert_format.proofs.ItemGroups.{base_other}
 use Rattle.cert_format.proofs.ValueRuns.{base_append, base_inputs, base_axioms}
 use Rattle.saturation_cert.specs.Values.{entry_of, line_of, step_of, by_of, cover_of}
 use Rattle.saturation_cert.specs.Wholes.{IsWholeClause}

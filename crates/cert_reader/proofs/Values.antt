@@ -11,13 +11,13 @@ use Rattle.inst_logic.specs.Tree.{Tree}
 use Rattle.inst_logic.specs.Clauses.{TreeClause}
 use Rattle.inst_logic.specs.Printing.{is_readable_name}
 use Rattle.inst_logic.specs.WellFormed.{is_constant}
-use Rattle.inst_calculus.specs.Entries.{Origin, input, inst, lemma, Entry}
+use Rattle.inst_calculus.specs.Entries.{Entry}
 use Rattle.inst_calculus.specs.Steps.{Cited, Step}
 use Rattle.term_bank.specs.Forest.{Forest, clause_at}
 use Rattle.cert_format.specs.Certificate as format
 use Rattle.cert_format.specs.Certificate.{By, by_tautology, by_variant, by_part}
 use Rattle.cert_format.specs.Validity.{IsFirstOrigin}
-use Rattle.cert_format.specs.Printable.{IsTextName, IsNumber, cited_number, ArePrintableTerms, HasFormat}
+use Rattle.cert_format.specs.Printable.{IsTextName, IsNumber, cited_number, HasFormat}
 use Rattle.cert_format.specs.Spelling.{is_printable}
 use Rattle.cert_format.specs.LineMachine.{is_number, Note, named, equality, member, selected, ground_of, ground_by, shown_by, input_by, side_by, Item, Header, Line, status, opening, version, constant, closing, count, fits_origin, fits, done}
 use Rattle.cert_format.specs.LineTexts.{origin_is_printable, by_is_printable, note_is_printable}

@@ -2,12 +2,14 @@
 ghost use Rattle.std.specs.Prelude.{◌≡◌, ◌+◌, ◌<◌, ◌^◌, List, ℕ, [], length, IfOk, IfErr, IsTrue};
 ghost use Rattle.std.specs.Result.{IsErrOf};
 ghost use Rattle.inst_logic.specs.Printing.{is_readable_name, name_text};
+ghost use Rattle.cert_format.specs.LineMachine.{Header};
 ghost use Rattle.cert_format.specs.Names.{IsNameText};
 ghost use Rattle.cert_format.specs.ValueLines.{IsCertificateText};
 ghost use Rattle.inst_logic.specs.WellFormed.{is_constant};
 ghost use Rattle.cert_format.specs.Formats.{is_known};
-ghost use Rattle.cert_reader.specs.Bodies.{header, refutation_in, saturation_in, HasRead};
-ghost use Rattle.cert_reader.specs.Groups.{refuted_by, saturated_by};
+ghost use Rattle.cert_items.specs.Items.{shape_of};
+ghost use Rattle.cert_reader.specs.Bodies.{header, refutation_in, saturation_in, HasRead, IsComplete};
+ghost use Rattle.cert_reader.specs.Groups.{items_of, refuted_by, saturated_by, AreGroups};
 ghost use Rattle.cert_reader.specs.Reads.{HasVersion, IsCause, IsSyntaxAt, IsTextOf, IsVersion, IsWholeCertificate, value_of};
 ghost use Rattle.cert_reader.specs.Starts.{HasBegun};
 ghost use Rattle.cert_reader.specs.declared.error.CertError.TheVariants.{Syntax, Version};
@@ -25,10 +27,18 @@ use saturation_cert::{Base, Covered, FirstRefutation, Refutation, Saturation};
 use std::alloc::Global;
 use term_bank::Bank;
 
+// What was read of the items of a text.
+#[derive(Drop)]
+struct Content {
+    bank: Bank,
+    groups: Groups,
+}
+
 // The refutation of these items and this constant, in this format.
-fn refutation(bank: Bank, groups: Groups, bot: Sym, format: u64) -> Certificate
-    ensures { result ≡ refuted_by format bank groups bot }
+fn refutation(content: Content, bot: Sym, format: u64) -> Certificate
+    ensures { result ≡ refuted_by format content.bank content.groups bot }
 {
+    let Content { bank, groups } = content;
     let Groups {
         inputs,
         names,
@@ -64,9 +74,10 @@ fn refutation(bank: Bank, groups: Groups, bot: Sym, format: u64) -> Certificate
 }
 
 // The saturation of these items, in this format.
-fn saturation(bank: Bank, groups: Groups, format: u64) -> Certificate
-    ensures { result ≡ saturated_by format bank groups }
+fn saturation(content: Content, format: u64) -> Certificate
+    ensures { result ≡ saturated_by format content.bank content.groups }
 {
+    let Content { bank, groups } = content;
     let Groups {
         inputs,
         names,
@@ -96,6 +107,31 @@ fn saturation(bank: Bank, groups: Groups, format: u64) -> Certificate
     }
 }
 
+// The items of a text of the shape under this name, of which so many lines have been read.
+fn content_of(
+    alloc: Global,
+    shape: Shape,
+    name: &[u8],
+    lines: usize,
+    bytes: &[u8],
+) -> Result<Content, CertError>
+    requires counted { lines + length bytes.now < 2 ^ 63 }
+    ensures groups { IfOk result (λ c. AreGroups shape c.bank c.groups) }
+    ensures complete { (text : List ℕ) (h : Header) → shape_of h ≡ shape → h.name ≡ name.now → HasRead text h [] lines bytes.now → IfOk result (λ c. IsComplete text h (items_of shape c.bank c.groups)) }
+    ensures refused { (text : List ℕ) (h : Header) → shape_of h ≡ shape → h.name ≡ name.now → HasRead text h [] lines bytes.now → ¬ HasVersion text → IfErr result (IsCause text) }
+{
+    let mut bank = TextBank::new(alloc);
+    let mut groups = Groups::new(alloc);
+    match read_items(alloc, &mut bank, &mut groups, shape, name, lines, bytes) {
+        Ok(Ending::Complete) => Ok(Content {
+            bank: bank.into_bank(),
+            groups,
+        }),
+        Ok(Ending::BadLine(line)) => Err(CertError::Syntax { line }),
+        Err(Memory) => Err(CertError::Memory),
+    }
+}
+
 // The refutation with this constant in this format under this name, of whose text four lines have been read.
 fn read_refutation(
     alloc: Global,
@@ -116,13 +152,8 @@ fn read_refutation(
         refutation: true,
         format,
     };
-    let mut bank = TextBank::new(alloc);
-    let mut groups = Groups::new(alloc);
-    match read_items(alloc, &mut bank, &mut groups, shape, name, 4, bytes) {
-        Ok(Ending::Complete) => Ok(refutation(bank.into_bank(), groups, bot, format)),
-        Ok(Ending::BadLine(line)) => Err(CertError::Syntax { line }),
-        Err(Memory) => Err(CertError::Memory),
-    }
+    let content = content_of(alloc, shape, name, 4, bytes)?;
+    Ok(refutation(content, bot, format))
 }
 
 // The saturation in this format under this name, of whose text three lines have been read.
@@ -142,13 +173,8 @@ fn read_saturation(
         refutation: false,
         format,
     };
-    let mut bank = TextBank::new(alloc);
-    let mut groups = Groups::new(alloc);
-    match read_items(alloc, &mut bank, &mut groups, shape, name, 3, bytes) {
-        Ok(Ending::Complete) => Ok(saturation(bank.into_bank(), groups, format)),
-        Ok(Ending::BadLine(line)) => Err(CertError::Syntax { line }),
-        Err(Memory) => Err(CertError::Memory),
-    }
+    let content = content_of(alloc, shape, name, 3, bytes)?;
+    Ok(saturation(content, format))
 }
 
 // The constant whose name is printed so.

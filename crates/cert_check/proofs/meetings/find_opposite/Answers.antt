@@ -6,10 +6,10 @@ use Rattle.cert_check.proofs.MeetingLaws.{opposite_alike}
 use Rattle.cert_check.proofs.meetings.find_opposite.Goals as goal
 
 pub find_alike-requires-clause-there : goal.find_alike-requires-clause-there
-find_alike-requires-clause-there c q h = let low = c.in_ok-opposite.ensures.within q (subst (λ (xs : List ℕ). Contains xs q) c.deref.ensures.value h) in omega (arith, c.requires.count, low)
+find_alike-requires-clause-there c q h = let low = c.in_ok-find_opposite_heads.ensures.within q (subst (λ (xs : List ℕ). Contains xs q) c.as_slice.ensures.value h) in omega (arith, c.requires.count, low)
 
 pub returns : goal.returns
 returns c =
     let ps = c.args.fingerprints.now in
     IfOk-weaker c.find_alike.result _ _
-    (λ qs h. opposite_alike c.args.classes.now.heads.items c.args.p ps c.in_ok-opposite.opposite.items qs.items c.in_ok-opposite.ensures (subst (λ (xs : List ℕ). AreAlike ps c.args.p xs qs.items) c.deref.ensures.value h)) c.find_alike.ensures
+    (λ qs h. opposite_alike c.args.classes.now.heads.items c.args.p ps c.find_opposite_heads.new.opposite.items qs.items c.in_ok-find_opposite_heads.ensures (subst (λ (xs : List ℕ). AreAlike ps c.args.p xs qs.items) c.as_slice.ensures.value h)) c.find_alike.ensures

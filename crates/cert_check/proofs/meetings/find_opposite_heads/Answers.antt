@@ -19,7 +19,7 @@ loop-q-init c =
     let count : c.len-count.result ≡ length hs = omega (arith, c.len-count.ensures, classes.heads.ok.0) in
     let same : q ≡ unwrap_or (get id_eq classes.first (complement (head_at hs p))) (length hs) = c.place_of-q.ensures ∙ (λ z. unwrap_or (get id_eq classes.first (other z)) (count z)) in
     let next : IsNext hs (complement (head_at hs p)) 0 q = subst (IsNext hs (complement (head_at hs p)) 0) (sym same) (c.requires.chains.first (complement (head_at hs p))) in
-    record { at = next.at; opposite = subst (HaveOpposite hs p q) (sym c.new-opposite.ensures.items) (opposite_none hs p q next) }
+    record { at = next.at; opposite = subst (HaveOpposite hs p q) (sym c.clear.ensures.items) (opposite_none hs p q next) }
 
 pub loop-q-preserved : goal.loop-q-preserved
 loop-q-preserved c =

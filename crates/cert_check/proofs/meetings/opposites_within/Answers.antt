@@ -6,7 +6,7 @@ use Rattle.cert_check.proofs.MeetingLaws.{opposite_within, opposites_more}
 use Rattle.cert_check.proofs.meetings.opposites_within.Goals as goal
 
 pub find_alike-requires-clause-there : goal.find_alike-requires-clause-there
-find_alike-requires-clause-there c q h = let low = (c.in_ok-places.ensures.only q (subst (λ (xs : List ℕ). Contains xs q) c.deref.ensures.value h)).1 in omega (arith, c.requires.count, low)
+find_alike-requires-clause-there c q h = let low = (c.in_ok-gather.ensures.only q (subst (λ (xs : List ℕ). Contains xs q) c.deref.ensures.value h)).1 in omega (arith, c.requires.count, low)
 
 pub loop-p-preserved : goal.loop-p-preserved
 loop-p-preserved c hs tells =
@@ -15,7 +15,7 @@ loop-p-preserved c hs tells =
     let here : p < length hs = omega (arith, c.loop-p-test.true, c.requires.count, tells.count) in
     subst (λ (vs : List (Vec ℕ)). AreOpposites hs ps (p + 1) vs) (sym c.in_ok-push.ensures.items)
     (opposites_more hs ps p c.loop-p.opposites.items c.in_ok-alike.alike (c.loop-p.invariant hs tells)
-    (opposite_within hs ps c.args.meetings.now tells p here c.in_ok-places.places.items c.in_ok-alike.alike.items c.in_ok-places.ensures
+    (opposite_within hs ps c.args.meetings.now tells p here c.gather.new.items.items c.in_ok-alike.alike.items c.in_ok-gather.ensures
     (subst (λ (xs : List ℕ). AreAlike ps p xs c.in_ok-alike.alike.items) c.deref.ensures.value c.in_ok-alike.ensures)))
 
 pub returns : goal.returns

@@ -1,38 +1,28 @@
-use Rattle.std.proofs.Common.{refl, sym, ap, ◌∙◌, subst}
-use Rattle.term_bank.specs.Forest.{Forest}
+use Rattle.std.proofs.Common.{refl, sym, subst}
+use Rattle.std.proofs.lemmas.Result.{err_from_is_err_and}
 use Rattle.cert_reader.specs.declared.certificate.Certificate.{Certificate}
 use Rattle.cert_reader.specs.Bodies.{header, refutation_in}
-use Rattle.cert_reader.specs.Groups.{items_of, refuted_by}
 use Rattle.cert_reader.specs.Reads.{IsTextOf, IsWholeCertificate, value_of}
-use Rattle.cert_reader.proofs.Causes.{refused_syntax, complete_is, bad_line_is, from_nothing}
-use Rattle.cert_reader.proofs.Pushes.{empty_items}
 use Rattle.cert_reader.proofs.Values.{refutation_read, refutation_whole}
 use Rattle.cert_reader.proofs.read.read_refutation.Goals as goal
 
-pub returns-in-Ok-Complete-clause-read : goal.returns-in-Ok-Complete-clause-read
-returns-in-Ok-Complete-clause-read c text p =
+pub returns-clause-read : goal.returns-clause-read
+returns-clause-read c text p =
     let v = c.args.format in
     let n = c.args.name.now in
     let bot = c.args.bot in
-    let b = c.read_items.new.bank in
-    let g = c.read_items.new.groups in
-    let s = refutation_in v in
-    let h = header s n bot.name in
-    let k = c.in-Ok-Complete in
-    let first = from_nothing text h (items_of s c.new-bank.result c.new-groups.result) 4 c.args.bytes.now (empty_items s c.new-bank.result c.new-groups.result c.new-groups.ensures) p in
-    let e = complete_is text h (items_of s b g) k.field-0 k.field-0-is (k.ensures.ends text h refl refl first) in
-    subst (λ (r : Certificate). IsTextOf text v n (value_of r)) (sym (c.refutation.ensures ∙ ap (λ (f : Forest). refuted_by v f g bot) c.into_bank.ensures))
-    (refutation_read text v b g n c.requires.known bot c.requires.constant c.requires.readable (k.ensures.groups k.field-0-is) e)
+    let k = c.in_ok-content in
+    subst (λ (r : Certificate). IsTextOf text v n (value_of r)) (sym c.refutation.ensures)
+    (refutation_read text v k.content.bank k.content.groups n c.requires.known bot c.requires.constant c.requires.readable k.ensures.groups
+    (k.ensures.complete text (header (refutation_in v) n bot.name) refl refl p))
 
-pub returns-in-Ok-Complete-clause-whole : goal.returns-in-Ok-Complete-clause-whole
-returns-in-Ok-Complete-clause-whole c =
-    let k = c.in-Ok-Complete in
-    let g = c.read_items.new.groups in
-    subst IsWholeCertificate (sym (c.refutation.ensures ∙ ap (λ (f : Forest). refuted_by c.args.format f g c.args.bot) c.into_bank.ensures)) (refutation_whole c.args.format c.read_items.new.bank g c.args.bot (k.ensures.groups k.field-0-is))
+pub returns-clause-whole : goal.returns-clause-whole
+returns-clause-whole c =
+    let k = c.in_ok-content in
+    subst IsWholeCertificate (sym c.refutation.ensures) (refutation_whole c.args.format k.content.bank k.content.groups c.args.bot k.ensures.groups)
 
-pub returns-in-Ok-BadLine-clause-refused : goal.returns-in-Ok-BadLine-clause-refused
-returns-in-Ok-BadLine-clause-refused c text p v =
-    let h = header (refutation_in c.args.format) c.args.name.now c.args.bot.name in
-    let is = items_of (refutation_in c.args.format) c.read_items.new.bank c.read_items.new.groups in
-    let first = from_nothing text h (items_of (refutation_in c.args.format) c.new-bank.result c.new-groups.result) 4 c.args.bytes.now (empty_items (refutation_in c.args.format) c.new-bank.result c.new-groups.result c.new-groups.ensures) p in
-    refused_syntax text c.in-Ok-BadLine.line (bad_line_is text h is c.in-Ok-BadLine.field-0 c.in-Ok-BadLine.line c.in-Ok-BadLine.field-0-is (c.in-Ok-BadLine.ensures.ends text h refl refl first)) v
+pub returns-in_err-content-clause-refused : goal.returns-in_err-content-clause-refused
+returns-in_err-content-clause-refused c text p v =
+    let f = c.from_residual in
+    let e = err_from_is_err_and f.result f.ensures.1 in
+    rw (e.1, e.2) (c.in_err-content.ensures.refused text (header (refutation_in c.args.format) c.args.name.now c.args.bot.name) refl refl p v)

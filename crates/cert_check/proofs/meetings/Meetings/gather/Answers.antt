@@ -11,7 +11,7 @@ pub loop-number-init : goal.loop-number-init
 loop-number-init c =
     let ns = c.args.self.now.links.numbers.items in
     let xs = c.as_slice-opposite.result.now in
-    subst (AreGathered ns (take 0 xs) c.args.from) (sym c.new-items.ensures.items) (gathered_none ns xs c.args.from)
+    subst (AreGathered ns (take 0 xs) c.args.from) (sym c.clear.ensures.items) (gathered_none ns xs c.args.from)
 
 pub add_items-requires-clause-known : goal.add_items-requires-clause-known
 add_items-requires-clause-known c =

@@ -20,9 +20,9 @@ returns c =
     let cert = saturation_of c.args.cert.now in
     let m = c.args.self.now in
     let i = c.args.i in
-    let js = c.in_ok-partners.partners.items in
+    let js = c.gather.new.items.items in
     let is = dedup_is _ _ _ c.dedup.ensures.filtered in
     subst (LeadsOn cert i (suc i)) (sym is)
-    (leads_meeting cert i m c.requires.meetings js _ c.in_ok-partners.ensures (AllPairs-from_increasing _ (IsStrictlyIncreasing-dedup _ c.sort_unstable.ensures.sorted))
+    (leads_meeting cert i m c.requires.meetings js _ c.in_ok-gather.ensures (AllPairs-from_increasing _ (IsStrictlyIncreasing-dedup _ c.sort_unstable.ensures.sorted))
     (λ k h. Contains-dedup_nat _ k (Contains-permutation _ _ k c.sort_unstable.ensures.permutation h))
-    (All-dedup _ (λ k. (i + 1 ≤ k) × (k < length m.links.numbers.items)) _ (All-permutation (λ k. (i + 1 ≤ k) × (k < length m.links.numbers.items)) _ _ c.sort_unstable.ensures.permutation (all_within cert i m js c.in_ok-partners.ensures))))
+    (All-dedup _ (λ k. (i + 1 ≤ k) × (k < length m.links.numbers.items)) _ (All-permutation (λ k. (i + 1 ≤ k) × (k < length m.links.numbers.items)) _ _ c.sort_unstable.ensures.permutation (all_within cert i m js c.in_ok-gather.ensures))))
