@@ -1,7 +1,6 @@
 -- A refuted run with its ground lines and the steps over them, and the refutation that is made of these.
 use Rattle.std.specs.Prelude.{◌≡◌, ℕ, List, map}
 use Rattle.inst_logic.specs.Clauses.{TreeClause}
-use Rattle.inst_calculus.specs.Abstraction.{IsBot}
 use Rattle.term_bank.specs.Forest.{AreDistinct}
 use Rattle.saturation_cert.specs.declared.certificate.Refutation.{Refutation}
 use Rattle.instgen_loop.specs.declared.event.Event.{Event}
@@ -21,15 +20,16 @@ pub record IsShownOf (clauses : List TreeClause) (names : List (List ℕ)) (r : 
   pub same : before.remains ≡ r.remains
   pub refuted : IsRefuted clauses names before journal
   pub distinct : AreDistinct r.remains.bank.trees
+  pub bot : s.bot ≡ before.abstraction.bot
   pub lines : AreLinesOf clauses before s.grounds
   pub derived : IsDerived r s.grounds
   pub numbers : List ℕ
   pub numbered : AreLineNumbers s.grounds r.abstraction.ids r.literals numbers
   pub steps : s.steps ≡ map (ground_step r.abstraction.ids numbers) r.derivation
 
--- with a constant that is the problem's own
-pub record IsMadeOf (clauses : List TreeClause) (names : List (List ℕ)) (remains : Remains) (s : Shown) (r : Refutation) : Type 0 where
+-- the remains with what was shown
+pub record IsMadeOf (names : List (List ℕ)) (remains : Remains) (s : Shown) (r : Refutation) : Type 0 where
   pub base : r.base ≡ base_from names remains
-  pub bot : IsBot clauses r.bot
+  pub bot : r.bot ≡ s.bot
   pub grounds : r.grounds ≡ s.grounds
   pub steps : r.steps ≡ s.steps

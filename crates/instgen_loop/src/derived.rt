@@ -1,7 +1,6 @@
 // The derivation over the ground lines. Where no entry is a part of a conclusion each abstraction is a line, and what refuted the
 // abstractions refutes the lines. Else a solver of its own is asked for it.
-ghost use Rattle.std.specs.Prelude.{◌≡◌, [], List, Bool, map, All, IsTrue, IfOk, OnOk, false};
-ghost use Rattle.inst_logic.specs.WellFormed.{is_constant};
+ghost use Rattle.std.specs.Prelude.{◌≡◌, [], List, Bool, map, All, IfOk, OnOk, false};
 ghost use Rattle.prop_logic.specs.Solving.{MakesTrue, Refutes};
 ghost use Rattle.saturation_cert.specs.Wholes.{IsWholeClause};
 ghost use Rattle.term_bank.specs.Forest.{AreDistinct, AreFormed, Extends, clause_at};
@@ -15,7 +14,7 @@ use crate::records::{Origins, origin_of};
 use crate::refuted::RefutedRun;
 use compact_lists::FlatClauses;
 use ground_abs::Abstraction;
-use inst_logic::{Memory, Sym};
+use inst_logic::Memory;
 use prop_logic::{Answer, Derivation, Solver, Valuation};
 use saturation_cert::GroundLineList;
 use std::alloc::Global;
@@ -93,12 +92,10 @@ fn ask_lines<S: Solver>(
 // Asks a fresh solver.
 fn ask_anew<S: Solver>(
     alloc: Global,
-    bot: Sym,
     run: &mut RefutedRun,
     solver: S,
     lines: &GroundLineList,
 ) -> Result<(), Memory>
-    requires constant { IsTrue (is_constant bot) }
     requires atoms { S.atoms solver ≡ 0 }
     requires added { S.added solver ≡ [] }
     requires formed { AreFormed run.old.remains.bank }
@@ -109,6 +106,7 @@ fn ask_anew<S: Solver>(
     ensures derived { OnOk result (IsDerived run.new lines.now) }
     ensures distinct { OnOk result (AreDistinct run.new.remains.bank.trees) }
 {
+    let bot = run.abstraction.bot().clone()?;
     let mut ground = Ground {
         abstraction: Abstraction::new(alloc, bot),
         solver,
@@ -121,12 +119,10 @@ fn ask_anew<S: Solver>(
 /// Makes the derivation of the run one over the ground lines, with the numbered clauses that its hints cite. The bank may grow.
 pub fn derive<S: Solver>(
     alloc: Global,
-    bot: Sym,
     run: &mut RefutedRun,
     last: S,
     lines: &GroundLineList,
 ) -> Result<(), Memory>
-    requires constant { IsTrue (is_constant bot) }
     requires atoms { S.atoms last ≡ 0 }
     requires added { S.added last ≡ [] }
     requires formed { AreFormed run.old.remains.bank }
@@ -139,7 +135,7 @@ pub fn derive<S: Solver>(
     ensures distinct { OnOk result (AreDistinct run.new.remains.bank.trees) }
 {
     if has_part(&run.remains.clauses) {
-        ask_anew(alloc, bot, run, last, lines)
+        ask_anew(alloc, run, last, lines)
     } else {
         run.remains.bank.distinct();
         Ok(())

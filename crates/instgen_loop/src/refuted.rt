@@ -25,8 +25,8 @@ use crate::start::Given;
 use crate::state::Run;
 use crate::steps::ground_steps;
 use compact_lists::FlatClauses;
-use ground_abs::{Abstraction, bot_of};
-use inst_logic::{Memory, Problem};
+use ground_abs::Abstraction;
+use inst_logic::{Memory, Problem, Sym};
 use prop_logic::{Derivation, Solver};
 use saturation_cert::{GroundLineList, GroundStepList, Refutation};
 use std::alloc::Global;
@@ -45,15 +45,15 @@ pub struct RefutedRun {
 // The ground lines of the run. Its bank has grown by their terms.
 fn lines_of(
     alloc: Global,
-    p: &Problem,
+    _p: &Problem,
     run: &mut RefutedRun,
     _log: &EventLog,
 ) -> Result<GroundLineList, Memory>
-    requires refuted { IsRefuted p.now.clauses p.now.names run.old _log.now }
-    ensures refuted { OnOk result (IsRefuted p.now.clauses p.now.names run.new _log.now) }
-    ensures lines { IfOk result (AreLinesOf p.now.clauses run.new) }
+    requires refuted { IsRefuted _p.now.clauses _p.now.names run.old _log.now }
+    ensures refuted { OnOk result (IsRefuted _p.now.clauses _p.now.names run.new _log.now) }
+    ensures lines { IfOk result (AreLinesOf _p.now.clauses run.new) }
 {
-    let bot = bot_of(alloc, p)?;
+    let bot = run.abstraction.bot().clone()?;
     let made = records_of(alloc, &mut run.remains.bank, &bot, &run.remains.clauses)?;
     let lines = ground_lines(
         alloc,
@@ -65,9 +65,10 @@ fn lines_of(
     Ok(lines)
 }
 
-// The lines and the steps over them.
+// The lines, the steps over them, and the constant that both have.
 #[derive(Drop)]
 struct Shown {
+    bot: Sym,
     grounds: GroundLineList,
     steps: GroundStepList,
 }
@@ -87,22 +88,25 @@ fn shown_of<S: Solver>(
     ensures shown { IfOk result (IsShownOf p.now.clauses p.now.names run.new log.now) }
 {
     let grounds = lines_of(alloc, p, run, log)?;
-    let bot = bot_of(alloc, p)?;
-    derive(alloc, bot, run, last, &grounds)?;
+    let bot = run.abstraction.bot().clone()?;
+    derive(alloc, run, last, &grounds)?;
     let numbers = line_numbers(alloc, &run.abstraction, &run.literals, &grounds)?;
     let steps = ground_steps(alloc, &run.abstraction, &numbers, &run.derivation)?;
-    Ok(Shown { grounds, steps })
+    Ok(Shown {
+        bot,
+        grounds,
+        steps,
+    })
 }
 
 // The refutation of what remains of the run.
 fn made_of(alloc: Global, p: &Problem, remains: Remains, shown: Shown) -> Result<Refutation, Memory>
-    ensures { IfOk result (IsMadeOf p.now.clauses p.now.names remains shown) }
+    ensures { IfOk result (IsMadeOf p.now.names remains shown) }
 {
-    let bot = bot_of(alloc, p)?;
     let base = base_of(alloc, p, remains)?;
     Ok(Refutation {
         base,
-        bot,
+        bot: shown.bot,
         grounds: shown.grounds,
         steps: shown.steps,
     })
@@ -131,7 +135,6 @@ pub fn refutation_of<S: Solver>(
 // Takes of the run what a refutation is made of.
 fn taken<S: Solver, I: PartnerIndex>(
     alloc: Global,
-    p: &Problem,
     run: &mut Run<S, I>,
     given: Given,
     derivation: Derivation,
@@ -139,7 +142,7 @@ fn taken<S: Solver, I: PartnerIndex>(
     ensures taken { IfOk result (λ r. r ≡ refuted_from run.old given derivation) }
     ensures journal { OnOk result (run.new.journal ≡ run.old.journal) }
 {
-    let none = Abstraction::new(alloc, bot_of(alloc, p)?);
+    let none = Abstraction::new(alloc, run.ground.abstraction.bot().clone()?);
     let abstraction = replace(&mut run.ground.abstraction, none);
     let literals = replace(&mut run.ground.literals, FlatClauses::new(alloc));
     let remains = hand_over(alloc, run, given);
@@ -155,22 +158,22 @@ fn taken<S: Solver, I: PartnerIndex>(
 /// which only the journal serves for anything after.
 pub fn refuted<S: Solver, I: PartnerIndex>(
     alloc: Global,
-    p: &Problem,
+    _p: &Problem,
     run: &mut Run<S, I>,
     given: Given,
     derivation: Derivation,
     _budget: u64,
 ) -> Result<Ending, Memory>
     requires safe { IsSafe S.atoms I.pairs I.fits run.old }
-    requires running { IsRunningFor S.atoms S.added run.old (with_axioms p.now.clauses) _budget }
+    requires running { IsRunningFor S.atoms S.added run.old (with_axioms _p.now.clauses) _budget }
     requires refutes { Refutes (S.atoms run.old.ground.solver) (S.added run.old.ground.solver) [] [] derivation }
-    requires problem { IsOfProblem run.old given p.now.clauses }
-    requires clauses { All IsPrintableClause p.now.clauses }
-    requires named { length p.now.names ≡ length p.now.clauses }
-    requires readable { All (λ n. IsTrue (is_readable_name n)) p.now.names }
-    ensures ending { IfOk result (λ e. IsEnding p.now.clauses p.now.names _budget e run.new.journal) }
+    requires problem { IsOfProblem run.old given _p.now.clauses }
+    requires clauses { All IsPrintableClause _p.now.clauses }
+    requires named { length _p.now.names ≡ length _p.now.clauses }
+    requires readable { All (λ n. IsTrue (is_readable_name n)) _p.now.names }
+    ensures ending { IfOk result (λ e. IsEnding _p.now.clauses _p.now.names _budget e run.new.journal) }
     ensures journal { OnOk result (run.new.journal ≡ run.old.journal) }
 {
-    let refuted = taken(alloc, p, run, given, derivation)?;
+    let refuted = taken(alloc, run, given, derivation)?;
     Ok(Ending::Refuted(refuted))
 }

@@ -1,6 +1,5 @@
 use Rattle.std.proofs.Common.{◌∙◌, sym, ap, subst}
 use Rattle.std.proofs.lemmas.Result.{IfOk-weaker}
-use Rattle.inst_calculus.proofs.GroundConstants.{bot_is_unique}
 use Rattle.term_bank.specs.Forest.{AreDistinct}
 use Rattle.saturation_cert.specs.declared.certificate.Refutation.{Refutation}
 use Rattle.instgen_loop.specs.declared.hand_over.Remains.{Remains}
@@ -22,8 +21,8 @@ returns-in-Ok g c =
     let once = subst (λ (m : Remains). AreDistinct m.bank.trees) (sym h.same) h.distinct in
     let derived = subst (λ (m : Remains). IsDerived (record r { remains = m }) s.grounds) (sym h.same) h.derived in
     record {
-      refutation = IfOk-weaker c.made_of.result (IsMadeOf clauses names r.remains s) (λ x. IsRefutedRun clauses names x journal) (λ x made.
-          let same = bot_is_unique clauses h.before.abstraction.bot x.bot h.refuted.bot made.bot in
+      refutation = IfOk-weaker c.made_of.result (IsMadeOf names r.remains s) (λ x. IsRefutedRun clauses names x journal) (λ x made.
+          let same = sym (made.bot ∙ h.bot) in
           let base = ap (base_from names) h.same ∙ sym made.base in
           subst (λ (y : Refutation). IsRefutedRun clauses names y journal)
           (λ i. record { base = base i; bot = same i; grounds = sym made.grounds i; steps = sym (made.steps ∙ h.steps) i })

@@ -1,4 +1,4 @@
-use Rattle.std.proofs.Common.{sym, subst}
+use Rattle.std.proofs.Common.{◌∙◌, sym, subst}
 use Rattle.instgen_loop.specs.Refuting.{AreHintsWithin}
 use Rattle.instgen_loop.proofs.DerivedLaws.{carried, refuted_lines}
 use Rattle.instgen_loop.proofs.Refuting.{lines_of_later, refuted_later, with_bank}
@@ -33,6 +33,7 @@ returns g c =
         same = sym d.remains;
         refuted = refuted_later clauses names r journal later d.extends d.formed h;
         distinct = d.distinct;
+        bot = c.in_ok-bot.ensures.cases ∙ c.bot.ensures.bot;
         lines = lines_of_later clauses names r journal later d.extends h c.in_ok-grounds.grounds c.in_ok-grounds.ensures.lines;
         derived = d.derived;
         numbers = c.in_ok-numbers.numbers;
