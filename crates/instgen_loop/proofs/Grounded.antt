@@ -153,7 +153,7 @@ module _ {S I C : Type 0} (atoms : S → ℕ) (added : S → List (List (Signed 
     tended = record { once = h.tended.once; positive = h.tended.positive; apart = h.tended.apart; queued = h.tended.queued; worked = h.tended.worked };
   }
 
-  -- it was not asked for more than the last valuation
+  -- the last valuation satisfies the solver as it is now, where it makes the numbered clauses true
   pub last_satisfies : atoms r.ground.solver ≡ length r.ground.abstraction.ids → IsSomeRun atoms added r → All (IsTrueClause (IsHeld r.ground.valuation)) r.ground.literals → Satisfies (atoms s) (added s) [] r.ground.valuation
   last_satisfies count h hold =
       let g = run_grounded atoms added r h in

@@ -144,8 +144,9 @@ fn stay<S: Solver, I: PartnerIndex>(
         &run.ground.literals,
         &run.ground.valuation,
     )?;
-    let none = FlipList::new(alloc);
-    run.journal.push_solved(&none)?;
+    // No value changed.
+    let flips = FlipList::new(alloc);
+    run.journal.push_solved(&flips)?;
     Ok(())
 }
 

@@ -58,4 +58,4 @@ returns-clause-solves g c =
     stays_solves g.S.Solver.atoms g.I.PartnerIndex.pairs g.I.PartnerIndex.fits g.S.Solver.added c.args.run.now c.args._partners.now c.requires.orderly c.requires.users c.requires.grounded
     c.make_users.new.self u.places (subst (λ (n : ℕ). n ≤ length c.make_users.new.self.users) c.len.ensures.len u.count) u.users
     c.place_new.new.selection w.grows.0 w.grows.1 w.under_way w.numbers w.whole c.push_solved.new.self
-    (c.in_ok-push_solved.ensures ∙ ap (λ fs. c.args.run.now.journal ++ Solved fs ∷ []) c.new-none.ensures)
+    (c.in_ok-push_solved.ensures ∙ ap (λ fs. c.args.run.now.journal ++ Solved fs ∷ []) c.new-flips.ensures)
