@@ -5,7 +5,7 @@ use Rattle.std.proofs.lemmas.List.{length-map}
 use Rattle.std.proofs.lemmas.List.Elements.{All-cons, All-head, All-nil}
 use Rattle.std.proofs.lemmas.Option.{slice_get-map, slice_get-get_or, slice_get_within, same_Some}
 use Rattle.inst_logic.specs.declared.signed.Signed.{Signed}
-use Rattle.inst_logic.specs.Clauses.{TreeClause, canonical_form, instance}
+use Rattle.inst_logic.specs.Clauses.{IsCanonical, TreeClause, canonical_form, instance}
 use Rattle.inst_logic.specs.Unifiers.{Sided}
 use Rattle.inst_calculus.specs.Entries.{Entry}
 use Rattle.inst_calculus.specs.Models.{Member as Selected}
@@ -13,8 +13,8 @@ use Rattle.cert_format.specs.Certificate as format
 use Rattle.cert_format.specs.TermLists.{HoldsBy}
 use Rattle.cert_format.specs.Validity.{CoversAt, SelectsAt}
 use Rattle.cert_format.proofs.Numbers.{slice_get_of_map}
-use Rattle.term_bank.specs.Forest.{Forest, Extends, clause_at, literal_tree}
-use Rattle.term_bank.proofs.Clauses.{clause_extends}
+use Rattle.term_bank.specs.Forest.{Forest, Extends, IsClauseAt, IsClauseOf, clause_at, literal_tree}
+use Rattle.term_bank.proofs.Clauses.{clause_extends, clause_of_extends}
 use Rattle.saturation_cert.specs.declared.certificate.By.{By}
 use Rattle.saturation_cert.specs.declared.certificate.Cover.{Cover}
 use Rattle.saturation_cert.specs.declared.certificate.Covered.{Covered}
@@ -23,11 +23,13 @@ use Rattle.saturation_cert.specs.declared.member.Member.{Member}
 use Rattle.saturation_cert.specs.Values.{by_of, cover_of, covered_of, entry_of, saturation_of, side_of}
 use Rattle.saturation_cert.specs.Wholes.{IsWholeBy, IsWholeCover, IsWholeCovered, IsWholeSaturation}
 use Rattle.saturation_cert.proofs.Grown.{bys_grown, bys_same, members_same}
+use Rattle.clause_form.proofs.Concluded.{clause_in}
+use Rattle.unify_core.specs.Chains.{AreBindings}
 use Rattle.unify_core.specs.Sides.{Binding, IsResolvedBy, of_side}
 use Rattle.unify_core.specs.declared.side.Side.{Side}
 use Rattle.unify_core.specs.declared.side.Side.TheVariants.{Left, Right}
 use Rattle.cert_check.specs.declared.due_side.DueSide.{DueSide}
-use Rattle.cert_check.specs.Compared.{IsCoverRight, IsNamedOf, IsNamedRight}
+use Rattle.cert_check.specs.Compared.{IsCoverRight, IsInstanceOf, IsNamedOf, IsNamedRight}
 use Rattle.cert_check.specs.DueSteps.{due_of}
 use Rattle.cert_check.specs.Sides.{left_number, right_number}
 use Rattle.cert_check.proofs.CoverLaws.{clause_of}
@@ -50,31 +52,52 @@ member_clause c i m within is n sel =
     let same : k ≡ m = same_Some k m (sym at ∙ slice_get-get_or c.base.members i m within ∙ ap Some (sym is)) in
     ap (clause_of f) (sym same) ∙ ap (λ (y : Entry). y.clause) e ∙ sym sel.clause
 
+-- the answer for the member's clause, which is an instance or not
 module _ (c : Saturation) (g : Forest) (grown : Extends c.base.bank g) (whole : IsWholeSaturation c) (es : List Binding) (x : Side) (i : ℕ) (m : Member) (within : i < length c.base.members) (is : m ≡ get_or c.base.members i m)
-    (d : List (Signed ℕ)) (made : (s : Sided) → IsResolvedBy c.base.bank es s → clause_at g d ≡ canonical_form (instance (of_side s x) (clause_at c.base.bank m.clause))) (v : Cover) (cover : IsWholeCover c.base.bank v) where
+    (v : Cover) (cover : IsWholeCover c.base.bank v) where
   there : clause_at g v.clause ≡ clause_at c.base.bank v.clause
   there = clause_extends c.base.bank g grown v.clause cover.clause.ids
 
-  made_of : (s : Sided) → IsResolvedBy c.base.bank es s → (n : Selected) → SelectsAt (saturation_of c) (suc i) n → clause_at g d ≡ canonical_form (instance (of_side s x) n.clause)
-  made_of s resolved n sel = subst (λ (w : TreeClause). clause_at g d ≡ canonical_form (instance (of_side s x) w)) (member_clause c i m within is n sel) (made s resolved)
+  member_is : (r : Bool) → IsInstanceOf c.base.bank es x m.clause v.clause r → (s : Sided) → IsResolvedBy c.base.bank es s → (n : Selected) → SelectsAt (saturation_of c) (suc i) n
+      → IsTrue r ↔ (clause_at c.base.bank v.clause ≡ canonical_form (instance (of_side s x) n.clause))
+  member_is r law s resolved n sel = subst (λ (w : TreeClause). IsTrue r ↔ (clause_at c.base.bank v.clause ≡ canonical_form (instance (of_side s x) w))) (member_clause c i m within is n sel) (law s resolved)
 
-  pub named_wrong : ¬ (clause_at g d ≡ clause_at g v.clause) → IsNamedRight c es x (suc i) v false
-  named_wrong differ s resolved n sel = (
+  pub named_wrong : IsInstanceOf c.base.bank es x m.clause v.clause false → IsNamedRight c es x (suc i) v false
+  named_wrong law s resolved n sel = (
     (λ t. absurd (let e : false ≡ true = t in cc)),
-    (λ h. absurd (differ (made_of s resolved n sel ∙ sym h.0 ∙ sym there))),
+    (λ h. (member_is false law s resolved n sel).1 h.0),
   )
 
-  pub named_right : clause_at g d ≡ clause_at g v.clause → (r : Bool) → ((w : TreeClause) → length w ≡ length m.clause → IsTrue r ↔ HoldsBy (map (entry_of g) c.base.members) w (clause_at g d) (by_of g v.by)) → IsNamedRight c es x (suc i) v r
-  named_right same r holds s resolved n sel =
+  pub named_right : IsInstanceOf c.base.bank es x m.clause v.clause true → (r : Bool) → ((w : TreeClause) → length w ≡ length m.clause → IsTrue r ↔ HoldsBy (map (entry_of g) c.base.members) w (clause_at g v.clause) (by_of g v.by)) → IsNamedRight c es x (suc i) v r
+  named_right made r holds s resolved n sel =
       let long : length n.clause ≡ length m.clause = ap (λ (w : TreeClause). length w) (sym (member_clause c i m within is n sel)) ∙ length-map m.clause (literal_tree c.base.bank) in
       let law : IsTrue r ↔ HoldsBy (map (entry_of g) c.base.members) n.clause (clause_at c.base.bank v.clause) (by_of g v.by) =
-      subst (λ (e : TreeClause). IsTrue r ↔ HoldsBy (map (entry_of g) c.base.members) n.clause e (by_of g v.by)) (same ∙ there) (holds n.clause long) in
+      subst (λ (e : TreeClause). IsTrue r ↔ HoldsBy (map (entry_of g) c.base.members) n.clause e (by_of g v.by)) there (holds n.clause long) in
       let here : IsTrue r ↔ HoldsBy (saturation_of c).base.members n.clause (clause_at c.base.bank v.clause) (by_of c.base.bank v.by) =
       subst (λ (b : format.By). IsTrue r ↔ HoldsBy (saturation_of c).base.members n.clause (clause_at c.base.bank v.clause) b) (by_same c.base.bank g grown v.by cover.by)
       (subst (λ (ms : List Entry). IsTrue r ↔ HoldsBy ms n.clause (clause_at c.base.bank v.clause) (by_of g v.by)) (members_same c.base.bank g grown c.base.members whole.members) law) in (
-        (λ t. (sym (same ∙ there) ∙ made_of s resolved n sel, here.0 t)),
+        (λ t. ((member_is true made s resolved n sel).0 refl, here.0 t)),
         (λ h. here.1 h.1),
       )
+
+-- the clause was seen to be the instance
+pub instance_seen : (f : Forest) (es : List Binding) (x : Side) (c d : List (Signed ℕ)) → ((s : Sided) → IsResolvedBy f es s → IsClauseAt f d (canonical_form (instance (of_side s x) (clause_at f c)))) → IsInstanceOf f es x c d true
+instance_seen f es x c d made s resolved = ((λ t. (made s resolved).1), (λ h. refl))
+
+-- the instance was built
+pub instance_built : (f g : Forest) → Extends f g → (es : List Binding) (x : Side) (c d e : List (Signed ℕ)) → IsClauseOf f d → ((s : Sided) → IsResolvedBy f es s → IsClauseAt g e (canonical_form (instance (of_side s x) (clause_at f c))))
+    → (r : Bool) → IsTrue r ↔ (clause_at g e ≡ clause_at g d) → IsInstanceOf f es x c d r
+instance_built f g grown es x c d e ids made r same s resolved =
+    let there : clause_at g d ≡ clause_at f d = clause_extends f g grown d ids in
+    let is = (made s resolved).1 in (
+      (λ t. sym there ∙ sym (same.0 t) ∙ is),
+      (λ h. same.1 (is ∙ sym h ∙ sym there)),
+    )
+
+-- an instance is canonical
+pub instance_canonical : (f g : Forest) → Extends f g → (es : List Binding) (x : Side) (c d : List (Signed ℕ)) → IsClauseOf f d → AreBindings f es → IsInstanceOf f es x c d true → IsCanonical (clause_at g d)
+instance_canonical f g grown es x c d ids bindings law =
+    (clause_in f g es x c d bindings (λ s resolved. (clause_of_extends f g grown d ids, clause_extends f g grown d ids ∙ (law s resolved).0 refl))).1
 
 pub whole_cover_at : (c : Covered) → IsWholeCovered c → (place : ℕ) (v : Cover) → slice_get c.covers place ≡ Some v → IsWholeCover c.cert.base.bank v
 whole_cover_at c whole place v at =

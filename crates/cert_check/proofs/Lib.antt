@@ -1,4 +1,5 @@
 pub mod Bases
+pub mod ConcludedLaws
 pub mod Conclusions
 pub mod BoundTerms
 pub mod Closings

@@ -1,7 +1,7 @@
 // The comparison of the covers that are named with what is due, one pair after the other. Nothing is searched for. The first wrong
 // cover is kept while the pairs go on, since a pair with a unifier that is proper on neither side comes before it.
 ghost use Rattle.std.specs.Prelude.{◌≡◌, ◌↔◌, ◌+◌, ◌<◌, ◌≤◌, List, [], suc, length, false, true, IfOk, IsTrue, None, OnOk};
-ghost use Rattle.term_bank.specs.Forest.{IsClauseOf, clause_at};
+ghost use Rattle.term_bank.specs.Forest.{AreFormed, Extends, IsClauseOf, clause_at};
 ghost use Rattle.cert_format.specs.Certificate as format;
 ghost use Rattle.cert_format.specs.Dues.{Due, AreDue};
 ghost use Rattle.cert_format.specs.Validity.{IsProperPair, IsRightCover, IsValidBase};
@@ -14,14 +14,16 @@ ghost use Rattle.cert_check.specs.Closings.{IsProperSomewhere};
 ghost use Rattle.cert_check.specs.DueSteps.{AreCompared, GivesMeeting, GivesPair, GivesRow, GivesSide};
 ghost use Rattle.cert_check.specs.FirstPairs.{IsFirstWrongPairOf};
 ghost use Rattle.cert_check.specs.Firsts.{IsFirstWrongOf};
-ghost use Rattle.cert_check.specs.Compared.{IsComparable, IsCoverRight, IsMadeCover, IsNamedRight};
+ghost use Rattle.cert_check.specs.Compared.{IsComparable, IsCoverRight, IsInstanceOf, IsMadeCover, IsNamedRight};
 ghost use Rattle.cert_check.specs.Meetings.{LeadsOn};
 ghost use Rattle.cert_check.specs.Origins.{origin_from};
 ghost use Rattle.cert_check.specs.Sides.{left_number, right_number};
 
+use crate::concluded::{Room, is_conclusion};
 use crate::conclusion::{Premises, numbered_item};
 use crate::difference::same_clause;
 use crate::due_side::{DueSide, number_at};
+use crate::instance::Instance;
 use crate::meetings::Meetings;
 use crate::pairs::is_proper;
 use cert_names::holds_by;
@@ -37,6 +39,13 @@ use unify_core::{Bindings, Side};
 pub struct Progress {
     pub count: usize,
     pub wrong: bool,
+}
+
+// Room to work in, for all pairs.
+#[derive(Drop)]
+struct Rooms {
+    bindings: Bindings,
+    room: Room,
 }
 
 // Whether the cover has the numbers and the side.
@@ -60,11 +69,33 @@ fn same_trees(bank: &Bank, c: &IdClause, d: &IdClause) -> bool
     same_clause(c, d)
 }
 
+// Whether the clause is the instance, which is built only where that is not seen without it.
+fn is_instance(
+    alloc: Global,
+    bank: &mut Bank,
+    room: &mut Room,
+    of: &Instance<'_>,
+    clause: &IdClause,
+) -> Result<bool, Memory>
+    requires member { IsClauseOf bank.old of.now.clause.now }
+    requires clause { IsClauseOf bank.old clause.now }
+    requires bindings { AreBindings bank.old of.now.bindings.now.entries }
+    ensures instance { IfOk result (IsInstanceOf bank.old of.now.bindings.now.entries of.now.side of.now.clause.now clause.now) }
+    ensures extends { Extends bank.old bank.new }
+    ensures formed { AreFormed bank.old → AreTerms bank.old of.now.bindings.now.entries → AreFormed bank.new }
+{
+    if is_conclusion(room, bank, of, clause)? {
+        return Ok(true);
+    }
+    let built = conclude_clause(alloc, bank, of.bindings, of.side, of.clause)?;
+    Ok(same_trees(bank, &built, clause))
+}
+
 // Whether the cover's clause is the instance of the side's member under the bindings, and what it names covers it.
 fn is_named(
     alloc: Global,
     cert: &mut Saturation,
-    bindings: &Bindings,
+    rooms: &mut Rooms,
     due: DueSide,
     cover: &Cover,
 ) -> Result<bool, Memory>
@@ -72,22 +103,22 @@ fn is_named(
     requires base { IsValidBase (base_of cert.old.base) }
     requires within { due.own < length cert.old.base.members }
     requires cover { IsWholeCover cert.old.base.bank cover.now }
-    requires bindings { AreBindings cert.old.base.bank bindings.now.entries }
-    requires terms { AreTerms cert.old.base.bank bindings.now.entries }
+    requires bindings { AreBindings cert.old.base.bank rooms.old.bindings.entries }
+    requires terms { AreTerms cert.old.base.bank rooms.old.bindings.entries }
     ensures kept { KeepsSaturation cert.old cert.new }
     ensures whole { OnOk result (IsWholeSaturation cert.new) }
-    ensures named { IfOk result (IsNamedRight cert.old bindings.now.entries due.side (suc due.own) cover.now) }
+    ensures named { IfOk result (IsNamedRight cert.old rooms.old.bindings.entries due.side (suc due.own) cover.now) }
+    ensures bindings { rooms.new.bindings ≡ rooms.old.bindings }
 {
     let members = cert.base.members.as_slice();
     let member = &members[due.own];
-    let clause = conclude_clause(
-        alloc,
-        &mut cert.base.bank,
-        bindings,
-        due.side,
-        &member.clause,
-    )?;
-    if !same_trees(&cert.base.bank, &clause, &cover.clause) {
+    let of = Instance {
+        bindings: &rooms.bindings,
+        side: due.side,
+        clause: &member.clause,
+    };
+    let bank = &mut cert.base.bank;
+    if !is_instance(alloc, bank, &mut rooms.room, &of, &cover.clause)? {
         return Ok(false);
     }
     holds_by(
@@ -95,7 +126,7 @@ fn is_named(
         &mut cert.base.bank,
         &cert.base.members,
         member.clause.len(),
-        &clause,
+        &cover.clause,
         &cover.by,
     )
 }
@@ -147,19 +178,20 @@ fn is_made(cert: &Saturation, due: DueSide, cover: &Cover) -> bool
 fn is_right_cover(
     alloc: Global,
     cert: &mut Covered,
-    bindings: &Bindings,
+    rooms: &mut Rooms,
     due: DueSide,
     place: usize,
 ) -> Result<bool, Memory>
     requires comparable { IsComparable cert.old }
     requires own { due.own < length cert.old.cert.base.members }
     requires other { due.other < length cert.old.cert.base.members }
-    requires bindings { AreBindings cert.old.cert.base.bank bindings.now.entries }
-    requires terms { AreTerms cert.old.cert.base.bank bindings.now.entries }
+    requires bindings { AreBindings cert.old.cert.base.bank rooms.old.bindings.entries }
+    requires terms { AreTerms cert.old.cert.base.bank rooms.old.bindings.entries }
     ensures kept { KeepsCovered cert.old cert.new }
     ensures whole { OnOk result (IsWholeCovered cert.new) }
-    ensures right { IfOk result (IsCoverRight cert.old bindings.now.entries due place) }
+    ensures right { IfOk result (IsCoverRight cert.old rooms.old.bindings.entries due place) }
     ensures within { IfOk result (λ r. r ≡ true → place < length cert.old.covers) }
+    ensures bindings { rooms.new.bindings ≡ rooms.old.bindings }
 {
     let Some(cover) = cert.covers.get(place) else {
         return Ok(false);
@@ -170,7 +202,7 @@ fn is_right_cover(
     if is_made(&cert.cert, due, cover) {
         return Ok(true);
     }
-    is_named(alloc, &mut cert.cert, bindings, due, cover)
+    is_named(alloc, &mut cert.cert, rooms, due, cover)
 }
 
 // Notes whether the next cover is right.
@@ -190,28 +222,29 @@ fn note(progress: &mut Progress, _covers: &[Cover], right: bool)
 fn compare_side(
     alloc: Global,
     cert: &mut Covered,
-    bindings: &Bindings,
+    rooms: &mut Rooms,
     due: DueSide,
     progress: &mut Progress,
 ) -> Result<(), Memory>
     requires comparable { IsComparable cert.old }
     requires own { due.own < length cert.old.cert.base.members }
     requires other { due.other < length cert.old.cert.base.members }
-    requires bindings { AreBindings cert.old.cert.base.bank bindings.now.entries }
-    requires terms { AreTerms cert.old.cert.base.bank bindings.now.entries }
+    requires bindings { AreBindings cert.old.cert.base.bank rooms.old.bindings.entries }
+    requires terms { AreTerms cert.old.cert.base.bank rooms.old.bindings.entries }
     requires counted { progress.old.count ≤ length cert.old.covers }
     ensures kept { KeepsCovered cert.old cert.new }
     ensures whole { OnOk result (IsWholeCovered cert.new) }
     ensures counted { progress.new.count ≤ length cert.new.covers }
-    ensures gives { OnOk result (GivesSide (saturation_of cert.old.cert) cert.old.cert.base.bank bindings.now.entries due.side due.own due.other (AreCompared (covered_of cert.old) progress.old) (AreCompared (covered_of cert.old) progress.new)) }
+    ensures gives { OnOk result (GivesSide (saturation_of cert.old.cert) cert.old.cert.base.bank rooms.old.bindings.entries due.side due.own due.other (AreCompared (covered_of cert.old) progress.old) (AreCompared (covered_of cert.old) progress.new)) }
+    ensures bindings { rooms.new.bindings ≡ rooms.old.bindings }
 {
-    if !bindings.proper(&cert.cert.base.bank, due.side) {
+    if !rooms.bindings.proper(&cert.cert.base.bank, due.side) {
         return Ok(());
     }
     if progress.wrong {
         return Ok(());
     }
-    let right = is_right_cover(alloc, cert, bindings, due, progress.count)?;
+    let right = is_right_cover(alloc, cert, rooms, due, progress.count)?;
     note(progress, cert.covers.as_slice(), right);
     Ok(())
 }
@@ -221,7 +254,7 @@ fn compare_side(
 fn compare_meeting(
     alloc: Global,
     cert: &mut Covered,
-    bindings: &Bindings,
+    rooms: &mut Rooms,
     i: usize,
     j: usize,
     progress: &mut Progress,
@@ -229,16 +262,16 @@ fn compare_meeting(
     requires comparable { IsComparable cert.old }
     requires left { i < length cert.old.cert.base.members }
     requires right { j < length cert.old.cert.base.members }
-    requires bindings { AreBindings cert.old.cert.base.bank bindings.now.entries }
-    requires terms { AreTerms cert.old.cert.base.bank bindings.now.entries }
+    requires bindings { AreBindings cert.old.cert.base.bank rooms.old.bindings.entries }
+    requires terms { AreTerms cert.old.cert.base.bank rooms.old.bindings.entries }
     requires counted { progress.old.count ≤ length cert.old.covers }
     ensures kept { KeepsCovered cert.old cert.new }
     ensures whole { OnOk result (IsWholeCovered cert.new) }
     ensures counted { progress.new.count ≤ length cert.new.covers }
-    ensures proper { IfOk result (IsProperSomewhere cert.old.cert.base.bank bindings.now.entries) }
-    ensures gives { IfOk result (λ r. r ≡ true → GivesMeeting (saturation_of cert.old.cert) cert.old.cert.base.bank bindings.now.entries i j (AreCompared (covered_of cert.old) progress.old) (AreCompared (covered_of cert.old) progress.new)) }
+    ensures proper { IfOk result (IsProperSomewhere cert.old.cert.base.bank rooms.old.bindings.entries) }
+    ensures gives { IfOk result (λ r. r ≡ true → GivesMeeting (saturation_of cert.old.cert) cert.old.cert.base.bank rooms.old.bindings.entries i j (AreCompared (covered_of cert.old) progress.old) (AreCompared (covered_of cert.old) progress.new)) }
 {
-    if !is_proper(&cert.cert.base.bank, bindings) {
+    if !is_proper(&cert.cert.base.bank, &rooms.bindings) {
         return Ok(false);
     }
     let left = DueSide {
@@ -246,13 +279,13 @@ fn compare_meeting(
         own: i,
         other: j,
     };
-    compare_side(alloc, cert, bindings, left, progress)?;
+    compare_side(alloc, cert, rooms, left, progress)?;
     let right = DueSide {
         side: Side::Right,
         own: j,
         other: i,
     };
-    compare_side(alloc, cert, bindings, right, progress)?;
+    compare_side(alloc, cert, rooms, right, progress)?;
     Ok(true)
 }
 
@@ -261,7 +294,7 @@ fn compare_meeting(
 fn compare_pair(
     alloc: Global,
     cert: &mut Covered,
-    bindings: &mut Bindings,
+    rooms: &mut Rooms,
     i: usize,
     j: usize,
     progress: &mut Progress,
@@ -281,10 +314,10 @@ fn compare_pair(
     if l.positive == m.positive {
         return Ok(true);
     }
-    if !bindings.unify(&cert.cert.base.bank, l.atom, m.atom)? {
+    if !rooms.bindings.unify(&cert.cert.base.bank, l.atom, m.atom)? {
         return Ok(true);
     }
-    compare_meeting(alloc, cert, bindings, i, j, progress)
+    compare_meeting(alloc, cert, rooms, i, j, progress)
 }
 
 // Compares the covers of member `i`, counted from 0, with each of the list, up to the first with which its unifier is proper on
@@ -292,7 +325,7 @@ fn compare_pair(
 fn compare_among(
     alloc: Global,
     cert: &mut Covered,
-    bindings: &mut Bindings,
+    rooms: &mut Rooms,
     i: usize,
     partners: &[usize],
     progress: &mut Progress,
@@ -308,7 +341,7 @@ fn compare_among(
     ensures gives { IfOk result (λ o. o ≡ None → GivesRow (saturation_of cert.old.cert) i (AreCompared (covered_of cert.old) progress.old) (AreCompared (covered_of cert.old) progress.new)) }
 {
     for j in partners {
-        if !compare_pair(alloc, cert, bindings, i, *j, progress)? {
+        if !compare_pair(alloc, cert, rooms, i, *j, progress)? {
             let members = cert.cert.base.members.as_slice();
             return Ok(Some(number_at(members, *j)));
         }
@@ -321,7 +354,7 @@ fn compare_row(
     alloc: Global,
     cert: &mut Covered,
     meetings: &Meetings,
-    bindings: &mut Bindings,
+    rooms: &mut Rooms,
     i: usize,
     progress: &mut Progress,
 ) -> Result<Option<usize>, Memory>
@@ -336,7 +369,7 @@ fn compare_row(
     ensures gives { IfOk result (λ o. o ≡ None → GivesRow (saturation_of cert.old.cert) i (AreCompared (covered_of cert.old) progress.old) (AreCompared (covered_of cert.old) progress.new)) }
 {
     let partners = meetings.later_partners(alloc, &cert.cert, i)?;
-    compare_among(alloc, cert, bindings, i, &partners, progress)
+    compare_among(alloc, cert, rooms, i, &partners, progress)
 }
 
 // Compares the covers of all members, with room to work in.
@@ -344,7 +377,7 @@ fn compare_rows(
     alloc: Global,
     cert: &mut Covered,
     meetings: &Meetings,
-    bindings: &mut Bindings,
+    rooms: &mut Rooms,
     progress: &mut Progress,
 ) -> Result<Option<(usize, usize)>, Memory>
     requires comparable { IsComparable cert.old }
@@ -357,7 +390,7 @@ fn compare_rows(
     ensures compared { IfOk result (λ o. o ≡ None → (ds : List Due) × AreDue (saturation_of cert.old.cert) ds × AreCompared (covered_of cert.old) progress.new ds) }
 {
     for i in 0..cert.cert.base.members.len() {
-        if let Some(right) = compare_row(alloc, cert, meetings, bindings, i, progress)? {
+        if let Some(right) = compare_row(alloc, cert, meetings, rooms, i, progress)? {
             return Ok(Some((i + 1, right)));
         }
     }
@@ -380,8 +413,11 @@ pub fn compare_pairs(
     ensures first { IfOk result (IsFirstWrongPairOf (IsProperPair (saturation_of cert.old.cert))) }
     ensures compared { IfOk result (λ o. o ≡ None → (ds : List Due) × AreDue (saturation_of cert.old.cert) ds × AreCompared (covered_of cert.old) progress.new ds) }
 {
-    let mut bindings = Bindings::new(alloc);
-    compare_rows(alloc, cert, meetings, &mut bindings, progress)
+    let mut rooms = Rooms {
+        bindings: Bindings::new(alloc),
+        room: Room::new(alloc),
+    };
+    compare_rows(alloc, cert, meetings, &mut rooms, progress)
 }
 
 // The number of the first wrong cover, or of the first past what is due, where all pairs were compared.

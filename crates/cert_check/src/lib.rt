@@ -7,6 +7,7 @@ mod axioms;
 mod base;
 mod buckets;
 mod compare;
+mod concluded;
 mod conclusion;
 pub mod covered;
 mod covering;

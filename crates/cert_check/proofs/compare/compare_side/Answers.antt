@@ -11,16 +11,16 @@ use Rattle.cert_check.proofs.compare.compare_side.Goals as goal
 pub returns-then-not-proper-clause-gives : goal.returns-then-not-proper-clause-gives
 returns-then-not-proper-clause-gives c =
     let cert = c.args.cert.now in
-    side_gives_none (saturation_of cert.cert) cert.cert.base.bank c.args.bindings.now.entries c.args.due.side c.args.due.own c.args.due.other
-    (λ s resolved m n g. not_proper_there cert.cert.base.bank c.args.bindings.now.entries c.args.due.side (c.proper.ensures.no c.if-not-proper.true) m.selected.atom n.selected.atom s resolved g) (AreCompared (covered_of cert) c.args.progress.now)
+    side_gives_none (saturation_of cert.cert) cert.cert.base.bank c.args.rooms.now.bindings.entries c.args.due.side c.args.due.own c.args.due.other
+    (λ s resolved m n g. not_proper_there cert.cert.base.bank c.args.rooms.now.bindings.entries c.args.due.side (c.proper.ensures.no c.if-not-proper.true) m.selected.atom n.selected.atom s resolved g) (AreCompared (covered_of cert) c.args.progress.now)
 
 pub returns-then-progress-clause-gives : goal.returns-then-progress-clause-gives
 returns-then-progress-clause-gives c =
     let cert = c.args.cert.now in
     let v = covered_of cert in
     let p = c.args.progress.now in
-    side_gives_one (saturation_of cert.cert) cert.cert.base.bank c.args.bindings.now.entries c.args.due.side c.args.due.own c.args.due.other
-    (λ s resolved m n g. proper_there cert.cert.base.bank c.args.bindings.now.entries c.args.due.side (c.proper.ensures.yes c.if-not-proper.false) m.selected.atom n.selected.atom s resolved g) (AreCompared v p) (AreCompared v p)
+    side_gives_one (saturation_of cert.cert) cert.cert.base.bank c.args.rooms.now.bindings.entries c.args.due.side c.args.due.own c.args.due.other
+    (λ s resolved m n g. proper_there cert.cert.base.bank c.args.rooms.now.bindings.entries c.args.due.side (c.proper.ensures.yes c.if-not-proper.false) m.selected.atom n.selected.atom s resolved g) (AreCompared v p) (AreCompared v p)
     (λ s resolved m n sel there g ds h. more_after_wrong v p ds h c.if-progress.true (due_of c.args.due.side c.args.due.own c.args.due.other m s ∷ []))
 
 pub returns-in_err-right-clause-counted : goal.returns-in_err-right-clause-counted
@@ -44,6 +44,6 @@ returns-clause-gives c =
     let v = covered_of cert in
     let p = c.args.progress.now in
     let q = c.note.new.progress in
-    side_gives_one (saturation_of cert.cert) cert.cert.base.bank c.args.bindings.now.entries c.args.due.side c.args.due.own c.args.due.other
-    (λ s resolved m n g. proper_there cert.cert.base.bank c.args.bindings.now.entries c.args.due.side (c.proper.ensures.yes c.if-not-proper.false) m.selected.atom n.selected.atom s resolved g) (AreCompared v p) (AreCompared v q)
+    side_gives_one (saturation_of cert.cert) cert.cert.base.bank c.args.rooms.now.bindings.entries c.args.due.side c.args.due.own c.args.due.other
+    (λ s resolved m n g. proper_there cert.cert.base.bank c.args.rooms.now.bindings.entries c.args.due.side (c.proper.ensures.yes c.if-not-proper.false) m.selected.atom n.selected.atom s resolved g) (AreCompared v p) (AreCompared v q)
     (λ s resolved m n sel there g ds h. step_compared v p q ds h c.if-progress.false (due_of c.args.due.side c.args.due.own c.args.due.other m s) c.in_ok-right.right (c.in_ok-right.ensures.right s resolved m n sel there g) c.note.ensures.yes c.note.ensures.no)

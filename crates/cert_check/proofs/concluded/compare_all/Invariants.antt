@@ -1,0 +1,7 @@
+use Rattle.std.proofs.Common.{reverse}
+use Rattle.clause_form.specs.Walks.{numbers_of}
+use Rattle.cert_check.specs.Concluded.{IsStepUnder}
+use Rattle.cert_check.proofs.concluded.compare_all.Given as goal
+
+abbrev pub invariant-loop : goal.invariant-loop
+invariant-loop l = IsStepUnder l.bank l.fn.bindings.entries (reverse l.initial.pairs.items) (reverse l.pairs.items) (numbers_of l.initial.order.items) (numbers_of l.order.items)

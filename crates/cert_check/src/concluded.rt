@@ -1,0 +1,278 @@
+// Whether a clause is the canonical form of a member's instance, seen without building it. This only saves work: it may say no
+// where there are many variables, literals or nodes, or where literals become one, and then the instance is built.
+ghost use Rattle.std.specs.Prelude.{◌≡◌, ◌<◌, ◌++◌, ◌∷◌, List, [], true, ℕ, length, map, position, reverse, IfOk, IfSome, OnOk};
+ghost use denote.Bor.{Bor};
+ghost use Rattle.inst_logic.specs.Clauses.{canonical_form, instance as under};
+ghost use Rattle.inst_logic.specs.Lists.{distinct};
+ghost use Rattle.inst_logic.specs.Tree.{var};
+ghost use Rattle.inst_logic.specs.Unifiers.{IsApplication, Sided};
+ghost use Rattle.term_bank.specs.Forest.{IsClauseAt, IsClauseOf, clause_at, tree_at};
+ghost use Rattle.unify_core.specs.Bindings.{Bound_list};
+ghost use Rattle.unify_core.specs.Chains.{AreBindings};
+ghost use Rattle.unify_core.specs.Sides.{IsResolvedBy, of_side};
+ghost use Rattle.clause_form.specs.Literals.{id_eq, with_atoms};
+ghost use Rattle.clause_form.specs.Orders.{is_variable, number_in, with_variable};
+ghost use Rattle.clause_form.specs.Walks.{IsFree, numbers_of};
+ghost use Rattle.clause_form.specs.declared.walk.Leaves.TheVariants.{Led};
+ghost use Rattle.cert_check.specs.Concluded.{ArePairs, IsStep, IsStepUnder, pairs_of};
+
+use crate::instance::Instance;
+use inst_logic::Memory;
+use std::alloc::Global;
+use term_bank::{Bank, IdClause, IdLiteral, Shape, TermId};
+use unify_core::{Bindings, Bound, Side, Variable};
+
+// So many variables are looked at one by one, and so many literals.
+const FEW: usize = 16;
+
+// So many nodes are compared at most.
+const STEPS: usize = 512;
+
+// A node that is to become a term of the clause.
+#[derive(Clone, Copy)]
+struct Pair {
+    node: Bound,
+    term: TermId,
+}
+
+/// Room to work in, which is kept from one comparison to the next.
+#[derive(Drop)]
+pub struct Room {
+    // What is left to compare, the next pair last.
+    pairs: Vec<Pair>,
+    // The variables that were met, in the order of their numbers.
+    order: Vec<Variable>,
+}
+
+impl Room {
+    /// Takes no memory.
+    pub fn new(alloc: Global) -> Room {
+        Room {
+            pairs: Vec::new(alloc),
+            order: Vec::new(alloc),
+        }
+    }
+}
+
+// The variable's place, where it is there.
+fn place_of(variables: &[Variable], v: Variable) -> Option<usize>
+    ensures { result ≡ position (is_variable v) variables.now }
+{
+    variables.iter().position(|w| v == *w)
+}
+
+// The variable's number, from 0. A new one goes last, where there are few.
+fn number_of(order: &mut Vec<Variable>, v: Variable) -> Result<Option<usize>, Memory>
+    ensures { IfOk result (λ o. IfSome o (λ n. (order.new.items ≡ with_variable order.old.items v) × (n ≡ number_in order.old.items v))) }
+{
+    if let Some(number) = place_of(order, v) {
+        return Ok(Some(number));
+    }
+    let count = order.len();
+    if count == FEW {
+        return Ok(None);
+    }
+    order.push(v)?;
+    Ok(Some(count))
+}
+
+// Whether the term is the variable of the number that this one gets.
+fn is_numbered(
+    bank: &Bank,
+    order: &mut Vec<Variable>,
+    v: Variable,
+    term: TermId,
+) -> Result<bool, Memory>
+    requires { term < length bank.now.trees }
+    ensures { IfOk result (λ r. r ≡ true → (order.new.items ≡ with_variable order.old.items v) × (tree_at bank.now term ≡ var (number_in order.old.items v))) }
+{
+    match number_of(order, v)? {
+        Some(number) => Ok(bank.shape(term) == Shape::Var(number)),
+        None => Ok(false),
+    }
+}
+
+// Pairs of the side's nodes and the terms, so that the first one is the next.
+fn push_pairs(
+    pairs: &mut Vec<Pair>,
+    side: Side,
+    nodes: &[TermId],
+    terms: &[TermId],
+) -> Result<(), Memory>
+    requires { length nodes.now ≡ length terms.now }
+    ensures { OnOk result (reverse pairs.new.items ≡ pairs_of side nodes.now terms.now ++ reverse pairs.old.items) }
+{
+    for i in (0..nodes.len()).rev() {
+        pairs.push(Pair {
+            node: Bound {
+                side,
+                term: nodes[i],
+            },
+            term: terms[i],
+        })?;
+    }
+    Ok(())
+}
+
+// The same for the atoms of the literals.
+fn push_atoms(
+    pairs: &mut Vec<Pair>,
+    side: Side,
+    literals: &[IdLiteral],
+    others: &[IdLiteral],
+) -> Result<(), Memory>
+    requires { length literals.now ≡ length others.now }
+    ensures { OnOk result (reverse pairs.new.items ≡ pairs_of side (map (λ l. l.atom) literals.now) (map (λ l. l.atom) others.now) ++ reverse pairs.old.items) }
+{
+    for i in (0..literals.len()).rev() {
+        pairs.push(Pair {
+            node: Bound {
+                side,
+                term: literals[i].atom,
+            },
+            term: others[i].atom,
+        })?;
+    }
+    Ok(())
+}
+
+// Puts off the arguments of both, where the term has the symbol of the node, which is an application.
+fn open(bank: &Bank, pairs: &mut Vec<Pair>, node: Bound, term: TermId) -> Result<bool, Memory>
+    requires node { node.term < length bank.now.trees }
+    requires term { term < length bank.now.trees }
+    requires application { IsApplication (tree_at bank.now node.term) }
+    ensures { IfOk result (λ r. r ≡ true → (bs : Bor Bound_list) (os : List ℕ) → IsStep bank.now (Led bs) (record { node = node; term = term } ∷ reverse pairs.old.items) (reverse pairs.new.items) os os) }
+{
+    if bank.symbol_number(node.term) != bank.symbol_number(term) {
+        return Ok(false);
+    }
+    let nodes = bank.args(node.term);
+    let terms = bank.args(term);
+    if nodes.len() != terms.len() {
+        return Ok(false);
+    }
+    push_pairs(pairs, node.side, nodes, terms)?;
+    Ok(true)
+}
+
+// Compares the root of the node, which was followed, with that of the term.
+fn compare_roots(
+    bank: &Bank,
+    pairs: &mut Vec<Pair>,
+    order: &mut Vec<Variable>,
+    node: Bound,
+    term: TermId,
+) -> Result<bool, Memory>
+    requires node { node.term < length bank.now.trees }
+    requires term { term < length bank.now.trees }
+    ensures { IfOk result (λ r. r ≡ true → (bs : Bor Bound_list) → IsFree bank.now (Led bs) node → IsStep bank.now (Led bs) (record { node = node; term = term } ∷ reverse pairs.old.items) (reverse pairs.new.items) (numbers_of order.old.items) (numbers_of order.new.items)) }
+{
+    if bank.ground(node.term) {
+        return Ok(node.term == term);
+    }
+    match bank.shape(node.term) {
+        Shape::Var(var) => {
+            let side = node.side;
+            is_numbered(bank, order, Variable { side, var }, term)
+        }
+        Shape::App => open(bank, pairs, node, term),
+    }
+}
+
+// Compares what the node becomes at its root.
+fn compare_next(
+    bank: &Bank,
+    bindings: &Bindings,
+    pairs: &mut Vec<Pair>,
+    order: &mut Vec<Variable>,
+    next: Pair,
+) -> Result<bool, Memory>
+    requires bindings { AreBindings bank.now bindings.now.entries }
+    requires node { next.node.term < length bank.now.trees }
+    requires term { next.term < length bank.now.trees }
+    ensures { IfOk result (λ r. r ≡ true → IsStepUnder bank.now bindings.now.entries (next ∷ reverse pairs.old.items) (reverse pairs.new.items) (numbers_of order.old.items) (numbers_of order.new.items)) }
+{
+    let node = bindings.follow(bank, next.node);
+    compare_roots(bank, pairs, order, node, next.term)
+}
+
+// Compares the pairs, and those of their arguments, up to the first that differ.
+fn compare_all(
+    bank: &Bank,
+    bindings: &Bindings,
+    pairs: &mut Vec<Pair>,
+    order: &mut Vec<Variable>,
+) -> Result<bool, Memory>
+    requires bindings { AreBindings bank.now bindings.now.entries }
+    requires pairs { ArePairs bank.now (reverse pairs.old.items) }
+    ensures { IfOk result (λ r. r ≡ true → IsStepUnder bank.now bindings.now.entries (reverse pairs.old.items) [] (numbers_of order.old.items) (numbers_of order.new.items)) }
+{
+    for _ in 0..STEPS {
+        let Some(next) = pairs.pop() else {
+            return Ok(true);
+        };
+        if !compare_next(bank, bindings, pairs, order, next)? {
+            return Ok(false);
+        }
+    }
+    Ok(false)
+}
+
+// Whether the literals have the same signs.
+fn has_signs(literals: &[IdLiteral], others: &[IdLiteral]) -> bool
+    requires { length literals.now ≡ length others.now }
+    ensures { result ≡ true → with_atoms literals.now (map (λ l. l.atom) others.now) ≡ others.now }
+{
+    for i in 0..literals.len() {
+        if literals[i].positive != others[i].positive {
+            return false;
+        }
+    }
+    true
+}
+
+// Whether no literal is there twice.
+fn has_no_repeats(literals: &[IdLiteral]) -> bool
+    ensures { result ≡ true → distinct id_eq literals.now ≡ literals.now }
+{
+    for i in 0..literals.len() {
+        if literals[..i].contains(&literals[i]) {
+            return false;
+        }
+    }
+    true
+}
+
+// Whether the literals are few, as many as the others, of the same signs, and each another one.
+fn looks_alike(literals: &[IdLiteral], others: &[IdLiteral]) -> bool
+    ensures { result ≡ true → (length literals.now ≡ length others.now) × (others.now ≡ distinct id_eq (with_atoms literals.now (map (λ l. l.atom) others.now))) }
+{
+    literals.len() == others.len()
+        && others.len() <= FEW
+        && has_signs(literals, others)
+        && has_no_repeats(others)
+}
+
+/// Whether the clause was seen to be the canonical form of the instance.
+pub fn is_conclusion(
+    room: &mut Room,
+    bank: &Bank,
+    of: &Instance<'_>,
+    clause: &IdClause,
+) -> Result<bool, Memory>
+    requires member { IsClauseOf bank.now of.now.clause.now }
+    requires clause { IsClauseOf bank.now clause.now }
+    requires bindings { AreBindings bank.now of.now.bindings.now.entries }
+    ensures { IfOk result (λ r. r ≡ true → (s : Sided) → IsResolvedBy bank.now of.now.bindings.now.entries s → IsClauseAt bank.now clause.now (canonical_form (under (of_side s of.now.side) (clause_at bank.now of.now.clause.now)))) }
+{
+    let literals = of.clause.as_slice();
+    let others = clause.as_slice();
+    if !looks_alike(literals, others) {
+        return Ok(false);
+    }
+    bank.distinct();
+    room.pairs.clear();
+    room.order.clear();
+    push_atoms(&mut room.pairs, of.side, literals, others)?;
+    compare_all(bank, of.bindings, &mut room.pairs, &mut room.order)
+}
