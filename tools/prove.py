@@ -1,16 +1,18 @@
 #!/usr/bin/env python3
-"""Proves the crates that the program stands on, side by side, and says how many minutes are left.
+"""Proves the crates that the program stands on, side by side, builds the program, and says how many minutes are left.
 
 usage: prove.py TOP LOG PROCESSORS <LINES, the lines of crates.txt that are needed
 
-rt works on one crate at a time in a folder and in those of the crates below it. So each lane here is a copy of the sources, with a
-processor or several: the crate with the longest chain of others behind it goes first, and has the processors that no other waits
-for. What is proved in a lane is moved to TOP, where rt takes it for its own: it compares the sums of texts, and no paths. The
-status is 0 where all is proved; else the crate that is not is named, and the log LOG has what rt said of it.
+Each library is proved by the kit's `rattle build`, which keeps its statements: the crates above read these and not its proofs, as
+they do under `rt ci`. The crate with the longest chain of others behind it goes first, and has the processors that no other waits
+for. What is proved stays in TOP/out with the sum of all that it was made from, and is taken as it is where that is the same.
+
+The status is 0 where all is proved and TOP/out/instgen.built is the program, 1 where a crate is not proved, which is then named and
+of which the log LOG has what rattle said, and 3 where the kit does not look as this script knows it.
 """
 
 import contextlib
-import fcntl
+import hashlib
 import os
 import shutil
 import signal
@@ -21,9 +23,11 @@ import time
 
 HERE = os.path.dirname(os.path.abspath(__file__))
 PARTS = ('src', 'specs', 'proofs')
+PROGRAM = 'instgen'
 # How many times as fast a crate is proved by so many processors, in the estimates alone.
 SPEED = {1: 1.0, 2: 1.6, 3: 2.0, 4: 2.3}
 LINES_A_MINUTE = 700
+UNKNOWN_KIT = 3
 
 
 def tell(text):
@@ -35,21 +39,70 @@ def counted(minutes):
     return 'a minute' if whole == 1 else '%d minutes' % whole
 
 
+class Kit:
+    """The parts of the Rattle kit that are called, beside its command rt."""
+
+    def __init__(self):
+        command = os.path.realpath(shutil.which('rt') or '')
+        self.top = os.path.dirname(os.path.dirname(command))
+        self.rattle = self.at('bin', 'rattle')
+        self.link = self.at('bin', 'rattle-link')
+        self.project = self.at('rattle', 'logic', 'antt-project.json')
+        self.logic = self.at('logic_built')
+        self.toolchain = self.at('toolchain')
+        self.c_libraries = [self.at('c', 'libos_c.a'), self.at('c', 'liblibc_c.a')]
+
+    def at(self, *parts):
+        return os.path.join(self.top, *parts)
+
+    def library(self, name):
+        return self.at('rlibs', name + '.rlib')
+
+    def is_known(self):
+        parts = [self.rattle, self.link, self.project, self.logic, self.toolchain, self.library('std'), *self.c_libraries]
+        if not all(os.path.exists(it) for it in parts):
+            return False
+        said = subprocess.run([self.rattle, 'build', '--help'], stdout=subprocess.PIPE, stderr=subprocess.DEVNULL, check=False).stdout
+        return all(it in said for it in (b'--statements', b'--logic-built', b'--toolchain', b'--jobs'))
+
+    def identity(self):
+        return subprocess.run(['rt', 'version'], stdout=subprocess.PIPE, stderr=subprocess.DEVNULL, check=False).stdout
+
+
 class Crate:
-    def __init__(self, name, below):
+    def __init__(self, name, line, uses):
         self.name = name
-        self.below = below
+        self.line = line
+        self.uses = uses
+        self.below = []
         self.minutes = 0.0
         self.chain = 0.0
+        self.sum = ''
 
-    def lines_in(self, top):
-        count = 0
+    def is_program(self):
+        return self.name == PROGRAM
+
+    def files_in(self, top):
+        """The files that a check reads, by their names below the crate's folder, in order."""
+        folder = os.path.join(top, 'crates', self.name)
+        found = []
         for part in PARTS:
-            for folder, _, names in os.walk(os.path.join(top, 'crates', self.name, part)):
-                for name in names:
-                    with open(os.path.join(folder, name), 'rb') as file:
-                        count += file.read().count(b'\n')
-        return count
+            for at, _, names in os.walk(os.path.join(folder, part)):
+                found += [os.path.join(at, name) for name in names]
+        return sorted((os.path.relpath(it, folder), it) for it in found)
+
+    def read(self, top, identity):
+        """Sets the sum of what the crate is made from, given those of the crates below; gives how many lines it has."""
+        total, lines = hashlib.sha256(identity + self.line.encode()), 0
+        for name, path in self.files_in(top):
+            with open(path, 'rb') as file:
+                text = file.read()
+            total.update(b'%s %d\n' % (os.fsencode(name), len(text)) + text)
+            lines += text.count(b'\n')
+        for it in self.below:
+            total.update(it.sum.encode())
+        self.sum = total.hexdigest()
+        return lines
 
 
 def known_minutes():
@@ -63,25 +116,27 @@ def known_minutes():
     return found
 
 
-def crates_of(top, text):
-    """The libraries that the lines name, by name, each with its minutes and those of the longest chain of crates from it on."""
+def crates_of(top, text, identity):
+    """The crates that the lines name, those below a crate before it, each with its sum, its minutes and those of the longest chain of
+    crates from it on."""
     crates = {}
     for line in text.splitlines():
-        name, _, below = line.partition(':')
-        crates[name.split()[0]] = Crate(name.split()[0], below.split())
+        name, _, uses = line.partition(':')
+        crates[name.split()[0]] = Crate(name.split()[0], line, uses.split())
     known = known_minutes()
-    for crate in crates.values():
-        crate.below = [crates[name] for name in crate.below if name in crates]
-        crate.minutes = known.get(crate.name) or max(0.3, crate.lines_in(top) / LINES_A_MINUTE)
-
-    def chain(crate):
-        if not crate.chain:
-            crate.chain = crate.minutes + max([chain(above) for above in crates.values() if crate in above.below], default=0.0)
-        return crate.chain
-
-    for crate in crates.values():
-        chain(crate)
-    return {name: crate for name, crate in crates.items() if os.path.isfile(os.path.join(top, 'crates', name, 'src', 'lib.rt'))}
+    ordered = []
+    while len(ordered) < len(crates):
+        ready = [it for it in crates.values() if it not in ordered and all(crates.get(use) in ordered for use in it.uses if use in crates)]
+        if not ready:
+            raise SystemExit('crates.txt has a ring of crates')
+        for crate in ready:
+            crate.below = [crates[use] for use in crate.uses if use in crates]
+            lines = crate.read(top, identity)
+            crate.minutes = known.get(crate.name) or max(0.3, lines / LINES_A_MINUTE)
+            ordered.append(crate)
+    for crate in reversed(ordered):
+        crate.chain = crate.minutes + max([it.chain for it in ordered if crate in it.below], default=0.0)
+    return ordered
 
 
 def next_of(left, done, running, processors):
@@ -117,101 +172,100 @@ def minutes_left(left, done, running, spent, processors):
     return total
 
 
-@contextlib.contextmanager
-def alone_in(folder):
-    """Keeps rt out of a crate's folder."""
-    held = os.open(folder, os.O_RDONLY)
-    try:
-        with contextlib.suppress(OSError):
-            fcntl.flock(held, fcntl.LOCK_EX)
-        yield
-    finally:
-        os.close(held)
+class Made:
+    """What is made of the crates, in a folder: the libraries and the program."""
 
+    def __init__(self, top, kit):
+        self.top, self.kit = top, kit
+        self.out = os.path.join(top, 'out')
+        self.libraries = os.path.join(self.out, 'libraries')
+        self.program = os.path.join(self.out, PROGRAM + '.built')
+        os.makedirs(self.libraries, exist_ok=True)
 
-def linked(source, target):
-    try:
-        os.link(source, target)
-    except OSError:
-        shutil.copy2(source, target)
+    def library(self, crate):
+        return os.path.join(self.libraries, crate.name + '.rlib')
 
+    def target(self, crate):
+        return self.program + '.o' if crate.is_program() else self.library(crate)
 
-class Lane:
-    """A copy of the sources, in which one crate at a time is proved."""
+    def sum_file(self, crate):
+        return os.path.join(self.libraries, crate.name + '.sum')
 
-    def __init__(self, top, folder, text, crates):
-        self.top, self.folder, self.crates = top, folder, crates
-        os.makedirs(folder)
-        with open(os.path.join(folder, 'crates.txt'), 'w', encoding='utf-8') as file:
-            file.writelines(line + '\n' for line in text.splitlines() if line.split(':')[0].split()[0] in crates)
-        for name in crates:
-            for part in PARTS:
-                source = os.path.join(top, 'crates', name, part)
-                if os.path.isdir(source):
-                    shutil.copytree(source, os.path.join(folder, 'crates', name, part))
+    def has(self, crate):
+        if not os.path.exists(self.program if crate.is_program() else self.library(crate)):
+            return False
+        with contextlib.suppress(OSError), open(self.sum_file(crate), encoding='ascii') as file:
+            return file.read() == crate.sum
+        return False
 
-    def place(self, name, *parts):
-        return os.path.join(self.folder, 'crates', name, *parts)
+    def forget(self, crate):
+        with contextlib.suppress(FileNotFoundError):
+            os.remove(self.sum_file(crate))
+        target = self.target(crate)
+        if os.path.isdir(target):
+            shutil.rmtree(target)
 
-    def origin(self, name, *parts):
-        return os.path.join(self.top, 'crates', name, *parts)
+    def note(self, crate):
+        with open(self.sum_file(crate), 'w', encoding='ascii') as file:
+            file.write(crate.sum)
 
-    def take_library(self, name):
-        """Gives the lane what is proved of a crate below."""
-        source, target = self.origin(name, 'out', 'rlib'), self.place(name, 'out', 'rlib')
-        if os.path.isdir(source) and not os.path.isdir(target):
-            shutil.copytree(source, target, copy_function=linked)
-
-    def move(self, source, target):
-        """Moves what rt keeps of a crate, where it is there."""
-        if os.path.isdir(source):
-            shutil.rmtree(target, ignore_errors=True)
-            shutil.move(source, target)
+    def words(self, crate, jobs):
+        """The command that proves the crate, and makes its library or the program's object file."""
+        kit, names = self.kit, {it.name for it in crate.below}
+        words = [kit.rattle, 'build', '--crate-name', crate.name, 'src/main.rt' if crate.is_program() else 'src/lib.rt']
+        for name in ['std', *crate.uses]:
+            library = os.path.join(self.libraries, name + '.rlib') if name in names else kit.library(name)
+            words += ['--extern', '%s=%s' % (name, library)]
+        words += ['-L', 'dependency=' + os.path.dirname(kit.library('std')), '-L', 'dependency=' + self.libraries]
+        words += ['--antt-project', kit.project, '--logic-built', kit.logic, '--links', crate.name + '=']
+        words += ['--jobs', str(jobs)]
+        words += ['--toolchain', kit.toolchain] if crate.is_program() else ['--statements']
+        return words + ['-o', self.target(crate)]
 
     def begin(self, crate, jobs, log):
-        todo = list(crate.below)
-        below = set()
-        while todo:
-            it = todo.pop()
-            if it not in below:
-                below.add(it)
-                todo += it.below
-        for it in below:
-            self.take_library(it.name)
-        with alone_in(self.origin(crate.name)):
-            self.move(self.origin(crate.name, 'out'), self.place(crate.name, 'out'))
-        words = ['rt', 'lib', '--jobs', str(jobs)]
-        return subprocess.Popen(words, cwd=self.place(crate.name), stdin=subprocess.DEVNULL, stdout=log, stderr=log, start_new_session=True)
+        self.forget(crate)
+        return subprocess.Popen(self.words(crate, jobs), cwd=os.path.join(self.top, 'crates', crate.name), stdin=subprocess.DEVNULL,
+                                stdout=log, stderr=log, start_new_session=True)
 
-    def end(self, crate):
-        with alone_in(self.origin(crate.name)):
-            self.move(self.place(crate.name, 'out'), self.origin(crate.name, 'out'))
+    def end(self, crate, log):
+        """Links the program; gives whether what was to be made of the crate is there."""
+        if crate.is_program():
+            words = [self.kit.link, '--target', 'x86_64-unknown-linux-gnu', '--toolchain', self.kit.toolchain, '-o', self.program]
+            words += [self.target(crate), *self.kit.c_libraries]
+            if subprocess.run(words, stdin=subprocess.DEVNULL, stdout=log, stderr=log, check=False).returncode:
+                return False
+            os.remove(self.target(crate))
+        self.note(crate)
+        return True
 
 
 class Run:
-    def __init__(self, top, log, processors, text):
-        self.top, self.log, self.processors, self.text = top, log, processors, text
-        self.crates = crates_of(top, text)
-        self.left, self.done, self.running = set(self.crates.values()), set(), {}
-        self.calls = {}
-        self.lanes = []
-        self.begun = time.monotonic()
-        # What the program takes behind the libraries: it is proved and compiled by the script, and no part of it goes beside another.
-        self.program = known_minutes().get('instgen', 0.0)
+    def __init__(self, made, log, processors, crates):
+        self.made, self.log, self.processors, self.crates = made, log, processors, crates
+        self.done, self.running, self.calls = set(), {}, {}
+        for crate in crates:
+            if made.has(crate):
+                self.done.add(crate)
+        self.left = set(crates) - self.done
         self.pace = 1.0
         self.timed = [0.0, 0.0]
 
     def spent(self):
         now = time.monotonic()
-        return {it: (now - call[3]) / 60 / self.pace for it, call in self.calls.items()}
+        return {it: (now - call[2]) / 60 / self.pace for it, call in self.calls.items()}
+
+    def say_begin(self):
+        minutes = minutes_left(self.left, self.done, {}, {}, self.processors)
+        tell('%d of %d crates are to be proved by %d processors: about %s where the machine does nothing else' % (
+            len(self.left), len(self.crates), self.processors, counted(minutes)))
 
     def say(self, crate):
         if not self.left and not self.running:
-            tell('all %d libraries are proved' % len(self.crates))
+            tell('all %d crates are proved, and the program is built' % len(self.crates))
             return
-        minutes = self.pace * (minutes_left(self.left, self.done, self.running, self.spent(), self.processors) + self.program)
+        minutes = self.pace * minutes_left(self.left, self.done, self.running, self.spent(), self.processors)
         names = ', '.join(sorted(it.name for it in self.running))
-        tell('%d of %d libraries are proved (%s); about %s left; at work on %s' % (
+        tell('%d of %d crates are proved (%s); about %s left; at work on %s' % (
             len(self.done), len(self.crates), crate.name, counted(minutes), names))
 
     def begin_all(self):
@@ -219,14 +273,11 @@ class Run:
             begun = next_of(self.left, self.done, self.running, self.processors)
             if not begun:
                 return
-            self.begin(*begun)
-
-    def begin(self, crate, jobs):
-        lane = self.lanes.pop()
-        said = tempfile.TemporaryFile('w+b')
-        self.left.remove(crate)
-        self.running[crate] = jobs
-        self.calls[crate] = lane, lane.begin(crate, jobs, said), said, time.monotonic()
+            crate, jobs = begun
+            said = tempfile.TemporaryFile('w+b')
+            self.left.remove(crate)
+            self.running[crate] = jobs
+            self.calls[crate] = self.made.begin(crate, jobs, said), said, time.monotonic()
 
     def note(self, crate, jobs, seconds):
         """Sets how much slower than the known minutes this machine is."""
@@ -236,21 +287,20 @@ class Run:
             self.pace = self.timed[0] / self.timed[1]
 
     def end(self, crate):
-        """Takes over what the lane made; gives whether it is proved, or is to be tried once more."""
-        lane, call, said, begun = self.calls.pop(crate)
+        """Takes over what was made; gives whether the crate is proved, or is to be tried once more."""
+        call, said, begun = self.calls.pop(crate)
         jobs = self.running.pop(crate)
+        is_proved = call.returncode == 0 and self.made.end(crate, said)
         said.seek(0)
         with open(self.log, 'ab') as log:
             log.write(b'== %s\n' % crate.name.encode() + said.read())
-        lane.end(crate)
-        self.lanes.append(lane)
         if call.returncode in (-signal.SIGKILL, 128 + signal.SIGKILL) and self.processors > 1:
             self.processors -= 1
             tell('%s was killed, most likely for memory: once more, and all by %d processors' % (crate.name, self.processors))
             self.left.add(crate)
             return True
-        if call.returncode:
-            tell('%s is not proved' % crate.name)
+        if not is_proved:
+            tell('%s is not %s' % (crate.name, 'proved' if call.returncode else 'linked'))
             return False
         self.note(crate, jobs, time.monotonic() - begun)
         self.done.add(crate)
@@ -259,25 +309,21 @@ class Run:
         return True
 
     def stop(self):
-        """Ends what still runs, and gives the crates back what rt keeps of them."""
-        for _, call, _, _ in self.calls.values():
+        for call, _, _ in self.calls.values():
             with contextlib.suppress(ProcessLookupError):
                 os.killpg(call.pid, signal.SIGTERM)
-        for crate, (lane, call, _, _) in self.calls.items():
+        for call, _, _ in self.calls.values():
             try:
                 call.wait(20)
             except subprocess.TimeoutExpired:
                 os.killpg(call.pid, signal.SIGKILL)
                 call.wait()
-            lane.end(crate)
 
-    def work(self, room):
-        for number in range(self.processors):
-            self.lanes.append(Lane(self.top, os.path.join(room, 'lane%d' % number), self.text, self.crates))
+    def work(self):
         try:
             self.begin_all()
             while self.running:
-                ended = [it for it, call in self.calls.items() if call[1].poll() is not None]
+                ended = [it for it, call in self.calls.items() if call[0].poll() is not None]
                 for crate in ended:
                     if not self.end(crate):
                         return 1
@@ -288,32 +334,19 @@ class Run:
             self.stop()
 
 
-def room_for(top):
-    """A folder for the lanes: beside the repository's own data, where rt looks for no sources and a move costs nothing, or elsewhere."""
-    git = os.path.join(top, '.git')
-    if os.path.isdir(git):
-        room = os.path.join(git, 'instgen-lanes')
-        shutil.rmtree(room, ignore_errors=True)
-        os.mkdir(room)
-        return room
-    return tempfile.mkdtemp(prefix='instgen-lanes')
-
-
 def main():
     if len(sys.argv) != 4:
         print(__doc__, file=sys.stderr)
         return 2
     top, log, processors = os.path.abspath(sys.argv[1]), sys.argv[2], int(sys.argv[3])
-    run = Run(top, log, processors, sys.stdin.read())
+    kit = Kit()
+    if not kit.is_known():
+        return UNKNOWN_KIT
+    run = Run(Made(top, kit), log, processors, crates_of(top, sys.stdin.read(), kit.identity()))
     for number in (signal.SIGTERM, signal.SIGHUP, signal.SIGINT):
         signal.signal(number, lambda *_: sys.exit(1))
-    tell('%d libraries and the program by %d processors: about %s where the machine does nothing else' % (
-        len(run.crates), processors, counted(minutes_left(run.left, set(), {}, {}, processors) + run.program)))
-    room = room_for(top)
-    try:
-        return run.work(room)
-    finally:
-        shutil.rmtree(room, ignore_errors=True)
+    run.say_begin()
+    return run.work()
 
 
 if __name__ == '__main__':
