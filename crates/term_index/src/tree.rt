@@ -13,6 +13,7 @@ ghost use Rattle.term_index.specs.Walking.{WalkComes, most_of};
 ghost use Rattle.term_index.specs.StateLaws.{empty_tree, grown_tree};
 
 use crate::descent::{Descent, begin, no_descent};
+use crate::ids::FEW;
 use crate::index::PartnerIndex;
 use crate::links::{link_all, prune};
 use crate::node::{Edge, Node};
@@ -250,6 +251,7 @@ fn begun(alloc: Global, nodes: &[Node]) -> Result<Walk, Memory>
             place,
         });
     }
+    stack.reserve(FEW)?;
     stack.push(Frame {
         node: 0,
         at: 0,
