@@ -1,5 +1,5 @@
 // The way of an atom down the tree, label by label, and the exits that lead along it.
-ghost use Rattle.std.specs.Prelude.{◌≡◌, ◌<◌, ◌+◌, ◌++◌, ◌∷◌, [], List, length, IfOk, OnOk, reverse};
+ghost use Rattle.std.specs.Prelude.{◌≡◌, ◌<◌, ◌+◌, ◌++◌, ◌∷◌, [], List, length, OnOk, reverse};
 ghost use Rattle.term_bank.specs.Forest.{tree_at};
 ghost use Rattle.term_index.specs.declared.label.Label.{Label};
 ghost use Rattle.term_index.specs.declared.node.Edge.{Edge};
@@ -30,17 +30,24 @@ pub struct Descent {
     pub closed: Vec<Span>,
 }
 
-// An atom of which no symbol is passed.
-pub fn descent_of(alloc: Global, atom: TermId) -> Result<Descent, Memory>
-    ensures { IfOk result (λ d. (d.left.items ≡ atom ∷ []) × (d.opened.items ≡ []) × (d.closed.items ≡ [])) }
-{
-    let mut left = Vec::new(alloc);
-    left.push(atom)?;
-    Ok(Descent {
-        left,
+// Lists without anything in them, which take no memory.
+pub fn no_descent(alloc: Global) -> Descent {
+    Descent {
+        left: Vec::new(alloc),
         opened: Vec::new(alloc),
         closed: Vec::new(alloc),
-    })
+    }
+}
+
+// An atom of which no symbol is passed, whatever the lists held before. They keep their room.
+pub fn begin(descent: &mut Descent, atom: TermId) -> Result<(), Memory>
+    ensures { OnOk result ((descent.new.left.items ≡ atom ∷ []) × (descent.new.opened.items ≡ []) × (descent.new.closed.items ≡ [])) }
+{
+    descent.left.clear();
+    descent.opened.clear();
+    descent.closed.clear();
+    descent.left.push(atom)?;
+    Ok(())
 }
 
 // The ids, so that the first one comes off first.

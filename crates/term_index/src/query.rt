@@ -2,11 +2,11 @@
 // borrow the bank.
 ghost use Rattle.std.specs.Prelude.{◌≡◌, ◌<◌, ◌++◌, ◌∷◌, ℕ, length, IfOk, OnOk, All, map};
 ghost use Rattle.term_bank.specs.Forest.{tree_at};
-ghost use Rattle.term_index.specs.Copies.{id_of, CopiesOne, CopiesArgs, IsCopyOf, IsQueryOf};
+ghost use Rattle.term_index.specs.Copies.{CopiesArgs, IsCopyOf, IsQueryOf};
 
+use crate::ids::{FEW, Ids};
 use crate::label::{Label, label_at};
 use crate::walk::Frame;
-use indexmap::IndexSet;
 use inst_logic::Memory;
 use std::alloc::Global;
 use std::marker::Model;
@@ -34,35 +34,12 @@ impl Model for Query {
     ghost view = { λ q. record { nodes = q.nodes.items; args = q.args.items } };
 }
 
-// The id of this number.
-fn id_at(ids: &IndexSet<TermId>, number: usize) -> TermId
-    requires { number < length ids.now.keys }
-    ensures { result ≡ id_of ids.now.keys number }
-{
-    match ids.get_index(number) {
-        Some(id) => *id,
-        None => unreachable!(),
-    }
-}
-
-// The number of the id. A new one goes last.
-fn copy_arg(ids: &mut IndexSet<TermId>, id: TermId) -> Result<usize, Memory>
-    ensures { IfOk result (CopiesOne ids.old.keys ids.new.keys id) }
-{
-    let (number, _) = ids.insert_full(id)?;
-    Ok(number)
-}
-
 // The numbers of the ids. New ones go last.
-fn copy_args(
-    ids: &mut IndexSet<TermId>,
-    numbers: &mut Vec<usize>,
-    args: &[TermId],
-) -> Result<(), Memory>
-    ensures { OnOk result (CopiesArgs ids.old.keys ids.new.keys numbers.old.items numbers.new.items args.now) }
+fn copy_args(ids: &mut Ids, numbers: &mut Vec<usize>, args: &[TermId]) -> Result<(), Memory>
+    ensures { OnOk result (CopiesArgs ids.old ids.new numbers.old.items numbers.new.items args.now) }
 {
     for a in args {
-        numbers.push(copy_arg(ids, *a)?)?;
+        numbers.push(ids.number_of(*a)?)?;
     }
     Ok(())
 }
@@ -72,14 +49,13 @@ fn copied(alloc: Global, bank: &Bank, query: TermId) -> Result<Query, Memory>
     requires { query < length bank.now.trees }
     ensures { IfOk result (IsCopyOf bank.now query) }
 {
-    let mut ids = IndexSet::new(alloc);
-    ids.insert(query)?;
-    let mut nodes = Vec::new(alloc);
-    let mut args = Vec::new(alloc);
+    let mut ids = Ids::new(alloc, query);
+    let mut nodes = Vec::with_capacity(alloc, FEW)?;
+    let mut args = Vec::with_capacity(alloc, FEW)?;
     args.push(0)?;
     let mut next = 0;
     while next < ids.len() {
-        let id = id_at(&ids, next);
+        let id = ids.id_at(next);
         nodes.push(QueryNode {
             label: label_at(bank, id)?,
             first: args.len(),

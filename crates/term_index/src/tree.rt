@@ -12,7 +12,8 @@ ghost use Rattle.term_index.specs.State.{pairs_of, IsStored, Fits, IsWalkOf};
 ghost use Rattle.term_index.specs.Walking.{WalkComes, most_of};
 ghost use Rattle.term_index.specs.StateLaws.{empty_tree, grown_tree};
 
-use crate::descent::{Descent, descent_of};
+use crate::descent::{Descent, begin, no_descent};
+use crate::ids::FEW;
 use crate::index::PartnerIndex;
 use crate::links::{link_all, prune};
 use crate::node::{Edge, Node};
@@ -33,12 +34,13 @@ use term_bank::{Bank, TermId};
 /// path indexing for term retrieval, 1992), where all variables have one label. An atom is wide to a query exactly where the
 /// two stand to each other as the view says when every occurrence of a variable is a variable of its own.
 ///
-/// `insert` and `remove` take time in the symbols of the atom, which is spelled out, however many entries are stored with it;
-/// `start` in the nodes of the query, each once even where it shares them, and in none where no pair is stored; `next` in the
-/// nodes that it looks at. The child by a label is found by one hash, however many children a node has. A term that a variable of
-/// the query stands for is passed over in one step for each node at which it may end, however long it is; where that is a whole
-/// atom, since the query itself is a variable, all nodes are looked at. A node stays when the last pair below it is removed, for
-/// the next that is stored there, but no walk of another query comes to it any more.
+/// `insert` and `remove` take time in the symbols of the atom, which is spelled out, however many entries are stored with it.
+/// The lists in which they work are kept for the next call, so they soon take no memory but for what is stored. `start` takes
+/// time in the nodes of the query, each once even where it shares them, and in none where no pair is stored; `next` in the
+/// nodes that it looks at. The child by a label is found by one hash, however many children a node has. A term that a variable
+/// of the query stands for is passed over in one step for each node at which it may end, however long it is; where that is a
+/// whole atom, since the query itself is a variable, all nodes are looked at. A node stays when the last pair below it is
+/// removed, for the next that is stored there, but no walk of another query comes to it any more.
 ///
 /// A tree has room for 4,294,967,296 nodes, and for entries, numbers of symbols and numbers of arguments up to 4,294,967,295.
 /// `insert` and `start` want memory for what is larger, and nothing that is larger is there to be removed.
@@ -49,6 +51,7 @@ pub struct Tree {
     places: Places,
     nodes: Vec<Node>,
     found: IndexMap<(TermId, u32), u32>,
+    descent: Descent,
     spent: bool,
 }
 
@@ -86,6 +89,7 @@ impl Tree {
             places: no_places(alloc),
             nodes: Vec::new(alloc),
             found: IndexMap::new(alloc),
+            descent: no_descent(alloc),
             spent: false,
         }
     }
@@ -143,32 +147,25 @@ fn stored(
     nodes: &mut Vec<Node>,
     found: &mut IndexMap<(TermId, u32), u32>,
     bank: &Bank,
-    atom: TermId,
-    entry: usize,
+    pair: (TermId, usize),
+    descent: &mut Descent,
 ) -> Result<(), Memory>
-    requires within { atom < length bank.now.trees }
+    requires within { pair.0 < length bank.now.trees }
     requires arena { IsArena edges.old.keys places.old nodes.old.items }
     requires found { AreFound found.old.entries nodes.old.items }
     requires stored { IsStored bank.now edges.old.keys nodes.old.items }
-    requires absent { ¬ Contains (pairs_of nodes.old.items) (atom, entry) }
+    requires absent { ¬ Contains (pairs_of nodes.old.items) pair }
     ensures arena { OnOk result (IsArena edges.new.keys places.new nodes.new.items) }
     ensures found { OnOk result (AreFound found.new.entries nodes.new.items) }
     ensures stored { OnOk result (IsStored bank.now edges.new.keys nodes.new.items) }
-    ensures added { OnOk result (Adds (atom, entry) (pairs_of nodes.old.items) (pairs_of nodes.new.items)) }
+    ensures added { OnOk result (Adds pair (pairs_of nodes.old.items) (pairs_of nodes.new.items)) }
     ensures held { OnErr result (pairs_of nodes.new.items ≡ pairs_of nodes.old.items) }
 {
+    let (atom, entry) = pair;
     let number = short(entry)?;
-    let mut descent = descent_of(alloc, atom)?;
+    begin(descent, atom)?;
     stored_by(
-        alloc,
-        edges,
-        places,
-        nodes,
-        found,
-        bank,
-        atom,
-        number,
-        &mut descent,
+        alloc, edges, places, nodes, found, bank, atom, number, descent,
     )
 }
 
@@ -210,41 +207,32 @@ fn taken_by(
 
 // Takes the pair, where it is there.
 fn taken(
-    alloc: Global,
     edges: &IndexSet<Edge>,
     places: &mut Places,
     nodes: &mut Vec<Node>,
     found: &mut IndexMap<(TermId, u32), u32>,
     bank: &Bank,
-    atom: TermId,
-    entry: usize,
+    pair: (TermId, usize),
+    descent: &mut Descent,
 ) -> Result<bool, Memory>
-    requires within { atom < length bank.now.trees }
+    requires within { pair.0 < length bank.now.trees }
     requires arena { IsArena edges.now.keys places.old nodes.old.items }
     requires found { AreFound found.old.entries nodes.old.items }
     requires stored { IsStored bank.now edges.now.keys nodes.old.items }
     ensures arena { IsArena edges.now.keys places.new nodes.new.items }
     ensures found { OnOk result (AreFound found.new.entries nodes.new.items) }
     ensures stored { IsStored bank.now edges.now.keys nodes.new.items }
-    ensures there { IfOk result (λ r. r ≡ true → Removes (atom, entry) (pairs_of nodes.old.items) (pairs_of nodes.new.items)) }
-    ensures absent { IfOk result (λ r. r ≡ false → (¬ Contains (pairs_of nodes.old.items) (atom, entry)) × (pairs_of nodes.new.items ≡ pairs_of nodes.old.items)) }
+    ensures there { IfOk result (λ r. r ≡ true → Removes pair (pairs_of nodes.old.items) (pairs_of nodes.new.items)) }
+    ensures absent { IfOk result (λ r. r ≡ false → (¬ Contains (pairs_of nodes.old.items) pair) × (pairs_of nodes.new.items ≡ pairs_of nodes.old.items)) }
     ensures held { OnErr result (nodes.new.items ≡ nodes.old.items) }
 {
+    let (atom, entry) = pair;
     match short(entry) {
         // (no such entry was stored)
         Err(_) => Ok(false),
         Ok(number) => {
-            let mut descent = descent_of(alloc, atom)?;
-            taken_by(
-                edges,
-                places,
-                nodes,
-                found,
-                bank,
-                atom,
-                number,
-                &mut descent,
-            )
+            begin(descent, atom)?;
+            taken_by(edges, places, nodes, found, bank, atom, number, descent)
         }
     }
 }
@@ -263,6 +251,7 @@ fn begun(alloc: Global, nodes: &[Node]) -> Result<Walk, Memory>
             place,
         });
     }
+    stack.reserve(FEW)?;
     stack.push(Frame {
         node: 0,
         at: 0,
@@ -308,8 +297,8 @@ impl PartnerIndex for Tree {
             &mut self.nodes,
             &mut self.found,
             bank,
-            atom,
-            entry,
+            (atom, entry),
+            &mut self.descent,
         );
         self.spent = result.is_err();
         result
@@ -320,14 +309,13 @@ impl PartnerIndex for Tree {
             return Err(Memory);
         }
         let result = taken(
-            self.alloc,
             &self.edges,
             &mut self.places,
             &mut self.nodes,
             &mut self.found,
             bank,
-            atom,
-            entry,
+            (atom, entry),
+            &mut self.descent,
         );
         self.spent = result.is_err();
         result

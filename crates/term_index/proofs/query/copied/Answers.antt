@@ -6,15 +6,15 @@ use Rattle.term_index.proofs.query.copied.Goals as goal
 
 pub loop-next-smaller : goal.loop-next-smaller
 loop-next-smaller c =
-    let few = few_ids c.loop-next.ids.keys (length c.args.bank.now.trees) c.len.ensures.unique c.loop-next.invariant.ids in
+    let few = few_ids c.loop-next.ids (length c.args.bank.now.trees) c.len.ensures.unique c.loop-next.invariant.ids in
     omega (arith, few, c.loop-next-test.true, c.len.ensures.len)
 
 pub loop-next-preserved : goal.loop-next-preserved
 loop-next-preserved c =
     let f = c.args.bank.now in
     let i = c.loop-next.invariant in
-    let ids = c.loop-next.ids.keys in
-    let last = c.copy_args.new.ids.keys in
+    let ids = c.loop-next.ids in
+    let last = c.copy_args.new.ids in
     let nodes = c.loop-next.nodes.items in
     let args = c.loop-next.args.items in
     let numbers = c.copy_args.new.numbers.items in
@@ -40,4 +40,4 @@ loop-next-preserved c =
 pub returns : goal.returns
 returns c =
     let i = c.loop-next.invariant in
-    copy_whole c.args.bank.now c.args.query c.loop-next.ids.keys (record { nodes = c.loop-next.nodes.items; args = c.loop-next.args.items }) i.copies (omega (arith, i.place, i.so_far, c.loop-next-test.false, c.len.ensures.len)) i.args i.some i.root i.front
+    copy_whole c.args.bank.now c.args.query c.loop-next.ids (record { nodes = c.loop-next.nodes.items; args = c.loop-next.args.items }) i.copies (omega (arith, i.place, i.so_far, c.loop-next-test.false, c.len.ensures.len)) i.args i.some i.root i.front

@@ -5,12 +5,12 @@ use Rattle.term_index.proofs.query.copied.Given as goal
 abbrev pub invariant-loop-next : goal.invariant-loop-next
 invariant-loop-next l = record {
   place : l.next ≡ length l.nodes.items;
-  so_far : l.next ≤ length l.ids.keys;
-  ids : All (λ i. i < length l.bank.trees) l.ids.keys;
-  some : 0 < length l.ids.keys;
-  root : id_of l.ids.keys 0 ≡ l.fn.query;
-  copies : CopiesSome l.bank l.ids.keys (record { nodes = l.nodes.items; args = l.args.items });
-  args : All (λ n. n < length l.ids.keys) l.args.items;
+  so_far : l.next ≤ length l.ids;
+  ids : All (λ i. i < length l.bank.trees) l.ids;
+  some : 0 < length l.ids;
+  root : id_of l.ids 0 ≡ l.fn.query;
+  copies : CopiesSome l.bank l.ids (record { nodes = l.nodes.items; args = l.args.items });
+  args : All (λ n. n < length l.ids) l.args.items;
   front : (0 < length l.args.items) × (slice_index_or l.args.items 0 0 ≡ 0);
 }
 
