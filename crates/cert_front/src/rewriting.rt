@@ -51,7 +51,10 @@ fn valid_text(alloc: Global, name: &[u8], cert: Refutation) -> Result<ByteList, 
     ensures { IfOk result (λ text. text ≡ written_text name.now (refutation_value cert)) }
 {
     let checked = accept_refutation(alloc, cert)?;
-    refutation_text(alloc, name, &checked)
+    let text = refutation_text(alloc, name, &checked);
+    // Let go by a call, here and below: where the scope of one ends, the proof takes long.
+    drop(checked);
+    text
 }
 
 impl Rewritable for FirstRefutation {
@@ -69,7 +72,9 @@ impl Rewritable for Refutation {
         name: &[u8],
         checked: CheckedRefutation,
     ) -> Result<ByteList, Memory> {
-        refutation_text(alloc, name, &checked)
+        let text = refutation_text(alloc, name, &checked);
+        drop(checked);
+        text
     }
 }
 
@@ -77,13 +82,17 @@ impl Rewritable for Uncovered {
     fn new_text(alloc: Global, name: &[u8], checked: CheckedCovered) -> Result<ByteList, Memory> {
         covered_numbers(checked.cert());
         names_are_printable();
-        covered_text(alloc, name, &checked)
+        let text = covered_text(alloc, name, &checked);
+        drop(checked);
+        text
     }
 }
 
 impl Rewritable for Covered {
     fn new_text(alloc: Global, name: &[u8], checked: CheckedCovered) -> Result<ByteList, Memory> {
-        covered_text(alloc, name, &checked)
+        let text = covered_text(alloc, name, &checked);
+        drop(checked);
+        text
     }
 }
 

@@ -46,7 +46,10 @@ pub fn certificate_of(alloc: Global, file: &str, p: &Problem) -> Result<ByteList
     ensures { IfOk result (HasCertificate p.now file.now) }
 {
     let decision = decide(alloc, p, 0)?;
-    text_of(alloc, file, p, &decision)
+    let text = text_of(alloc, file, p, &decision);
+    // Let go by a call, here and below: where the scope of one ends, the proof takes long.
+    drop(decision);
+    text
 }
 
 // What was decided, as marks.
@@ -71,7 +74,9 @@ pub fn cited_clauses(alloc: Global, p: &Problem) -> Result<Option<ListOf<bool>>,
     ensures { IfOk result (IsSettled p.now.clauses) }
 {
     let decision = decide(alloc, p, 0)?;
-    marks_of(alloc, p, &decision)
+    let marks = marks_of(alloc, p, &decision);
+    drop(decision);
+    marks
 }
 
 // What was decided of refuted clauses is a refutation.

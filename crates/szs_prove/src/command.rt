@@ -96,7 +96,10 @@ fn answer_request<L: Library, K: Sink>(
         Some(request) => {
             let name = name_of(&request);
             let answer = answer(alloc, request, words, files);
-            tell(out, name.as_bytes(), &answer)
+            let exit = tell(out, name.as_bytes(), &answer);
+            // Let go by a call: where the scope of so many cases ends, the proof takes long.
+            drop(answer);
+            exit
         }
         None => tell(out, b"instgen", &Answer::Unread),
     }

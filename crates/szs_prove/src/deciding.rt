@@ -34,5 +34,7 @@ pub fn stress(alloc: Global, n: usize) -> Result<Size, Memory>
 {
     let problem = chain_problem(alloc, n)?;
     let decision = decide(alloc, &problem, 0)?;
-    Ok(decided_size(&problem, &decision))
+    let size = decided_size(&problem, &decision);
+    drop(decision);
+    Ok(size)
 }

@@ -1,10 +1,11 @@
 // What is decided of a problem.
-ghost use Rattle.std.specs.Prelude.{◌≡◌, ◌≤◌, IsTrue, IfOk};
+ghost use Rattle.std.specs.Prelude.{◌≡◌, ◌≤◌, ℕ, IsTrue, IfOk};
 ghost use Rattle.inst_logic.specs.Measure.{is_function_free};
 ghost use Rattle.cert_front.specs.Kinds.{covered_value, refutation_value};
 ghost use Rattle.instgen_loop.specs.Outcomes.{IsOutcome, IsRefutedRun, IsSaturatedRun};
 ghost use Rattle.cert_format.specs.Printable.{IsPrintableProblem};
 ghost use Rattle.szs_prove.specs.Decisions.{IsDecision, IsShownBy, IsVerdict};
+ghost use Rattle.szs_prove.specs.declared.decision.Decision.TheVariants as decision;
 
 use cdcl_core::Cdcl;
 use cert_check::{CheckedCovered, CheckedRefutation};
@@ -28,7 +29,7 @@ pub enum Decision {
 }
 
 // The journal is let go here: it shows that the members come from a run, and no certificate has it.
-fn refuted(
+fn checked_refutation(
     alloc: Global,
     p: &Problem,
     cert: Refutation,
@@ -45,7 +46,7 @@ fn refuted(
 }
 
 // What covers its clauses is found once, and checked once.
-fn satisfied(
+fn checked_saturation(
     alloc: Global,
     p: &Problem,
     cert: Saturation,
@@ -62,22 +63,61 @@ fn satisfied(
     accept_saturation(alloc, cert)
 }
 
-// Has the checker judge what the engine answered in this budget.
+// The decision of a run that ended with a refutation.
+fn refuted(
+    alloc: Global,
+    p: &Problem,
+    cert: Refutation,
+    journal: Journal,
+) -> Result<Decision, Memory>
+    requires problem { IsPrintableProblem p.now }
+    requires outcome { IsRefutedRun p.now.clauses p.now.names cert journal }
+    ensures { (budget : ℕ) → IfOk result (IsDecision p.now budget) }
+{
+    let checked = checked_refutation(alloc, p, cert, journal)?;
+    Ok(Decision::Unsatisfiable(checked))
+}
+
+// That of one that ended with a saturation.
+fn satisfied(
+    alloc: Global,
+    p: &Problem,
+    cert: Saturation,
+    journal: Journal,
+) -> Result<Decision, Memory>
+    requires problem { IsPrintableProblem p.now }
+    requires outcome { IsSaturatedRun p.now.clauses p.now.names cert journal }
+    ensures { (budget : ℕ) → IfOk result (IsDecision p.now budget) }
+{
+    let checked = checked_saturation(alloc, p, cert, journal)?;
+    Ok(Decision::Satisfiable(checked))
+}
+
+// That of one that ended for want of budget. Where the run stopped is let go here.
+fn stopped(left: u64, wanted: u64, state: Saturation, journal: Journal) -> Decision
+    ensures { result ≡ decision.OutOfBudget left wanted }
+{
+    drop(state);
+    drop(journal);
+    Decision::OutOfBudget { left, wanted }
+}
+
+// Has the checker judge what the engine answered in this budget. Each arm gives all that it owns to one call: a function that held a
+// part of an outcome at a second way out would take long to prove.
 fn judged(alloc: Global, p: &Problem, _budget: u64, outcome: Outcome) -> Result<Decision, Memory>
     requires problem { IsPrintableProblem p.now }
     requires outcome { IsOutcome p.now.clauses p.now.names _budget outcome }
     ensures { IfOk result (IsDecision p.now _budget) }
 {
     match outcome {
-        Outcome::Refuted { cert, journal } => {
-            let checked = refuted(alloc, p, cert, journal)?;
-            Ok(Decision::Unsatisfiable(checked))
-        }
-        Outcome::Saturated { cert, journal } => {
-            let checked = satisfied(alloc, p, cert, journal)?;
-            Ok(Decision::Satisfiable(checked))
-        }
-        Outcome::OutOfBudget { left, wanted, .. } => Ok(Decision::OutOfBudget { left, wanted }),
+        Outcome::Refuted { cert, journal } => refuted(alloc, p, cert, journal),
+        Outcome::Saturated { cert, journal } => satisfied(alloc, p, cert, journal),
+        Outcome::OutOfBudget {
+            left,
+            wanted,
+            state,
+            journal,
+        } => Ok(stopped(left, wanted, state, journal)),
     }
 }
 

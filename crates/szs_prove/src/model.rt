@@ -98,7 +98,9 @@ fn satisfied(
 fn written(alloc: Global, file: &str, cert: CheckedRefutation) -> Result<ByteList, Memory>
     ensures { IfOk result (λ text. text ≡ written_text file.now (refutation_value cert)) }
 {
-    refutation_text(alloc, file.as_bytes(), &cert)
+    let text = refutation_text(alloc, file.as_bytes(), &cert);
+    drop(cert);
+    text
 }
 
 // The text that tells that there are no tables.

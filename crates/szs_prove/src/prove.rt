@@ -39,18 +39,23 @@ fn load<L: Library>(
     }
 }
 
-/// The text of a refutation under the file's name. The certificate is let go where its text is made, so that one function owns it.
+/// The text of a refutation under the file's name. The certificate is let go where its text is made, so that one function owns it, and
+/// by a call: where its scope ends, the proof takes long.
 pub fn refuted(alloc: Global, file: &str, cert: CheckedRefutation) -> Result<ByteList, Memory>
     ensures { IfOk result (λ text. text ≡ written_text file.now (refutation_value cert)) }
 {
-    refutation_text(alloc, file.as_bytes(), &cert)
+    let text = refutation_text(alloc, file.as_bytes(), &cert);
+    drop(cert);
+    text
 }
 
 /// That of a saturation.
 pub fn satisfied(alloc: Global, file: &str, cert: CheckedCovered) -> Result<ByteList, Memory>
     ensures { IfOk result (λ text. text ≡ written_text file.now (covered_value cert)) }
 {
-    covered_text(alloc, file.as_bytes(), &cert)
+    let text = covered_text(alloc, file.as_bytes(), &cert);
+    drop(cert);
+    text
 }
 
 // The text of what was decided of the problem in this budget.

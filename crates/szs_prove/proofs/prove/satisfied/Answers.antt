@@ -4,4 +4,4 @@ use Rattle.cert_front.specs.Kinds.{covered_value}
 use Rattle.szs_prove.proofs.prove.satisfied.Goals as goal
 
 pub returns : goal.returns
-returns c = subst (λ (n : List ℕ). IfOk c.covered_text.result (λ text. text ≡ written_text n (covered_value c.args.cert))) c.as_bytes.ensures.value c.covered_text.ensures.text
+returns c = subst (λ (n : List ℕ). IfOk c.covered_text-text.result (λ text. text ≡ written_text n (covered_value c.args.cert))) c.as_bytes.ensures.value c.covered_text-text.ensures.text

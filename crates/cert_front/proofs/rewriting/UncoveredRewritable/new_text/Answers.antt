@@ -15,4 +15,4 @@ pub returns : goal.returns
 returns c =
     let laws : NamesArePrintable = record { covers = c.names_are_printable.ensures.covers; lines = c.names_are_printable.ensures.lines } in
     let fits = subst (λ (x : Covered). CoveredFits (covered_of x)) c.cert.ensures.is c.covered_numbers.ensures in
-    IfOk-weaker c.covered_text.result _ _ (λ text is. covered_text laws c.args.name.now text (covered_of c.args.checked) c.requires.printable.0 c.cert.ensures.named c.requires.printable.1 fits is) c.covered_text.ensures.text
+    IfOk-weaker c.covered_text-text.result _ _ (λ text is. covered_text laws c.args.name.now text (covered_of c.args.checked) c.requires.printable.0 c.cert.ensures.named c.requires.printable.1 fits is) c.covered_text-text.ensures.text

@@ -1,5 +1,5 @@
 use Rattle.szs_prove.proofs.CheckedDecisions.{always_satisfied}
-use Rattle.szs_prove.proofs.decision.satisfied.Goals as goal
+use Rattle.szs_prove.proofs.decision.checked_saturation.Goals as goal
 
 pub saturation_numbers-requires : goal.saturation_numbers-requires
 saturation_numbers-requires c = c.requires.outcome.run.whole

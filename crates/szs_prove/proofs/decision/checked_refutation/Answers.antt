@@ -1,5 +1,5 @@
 use Rattle.szs_prove.proofs.CheckedDecisions.{always_refuted}
-use Rattle.szs_prove.proofs.decision.refuted.Goals as goal
+use Rattle.szs_prove.proofs.decision.checked_refutation.Goals as goal
 
 pub returns : goal.returns
 returns c =
