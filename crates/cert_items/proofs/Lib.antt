@@ -1,6 +1,7 @@
 pub mod Reading
 pub mod Formed
 pub mod Clauses
+pub mod Behind
 pub mod Roots
 pub mod Repeats
 pub mod Orders

@@ -5,6 +5,7 @@ ghost use Rattle.inst_logic.specs.declared.symbol.Kind.TheVariants.{Predicate, E
 ghost use Rattle.term_bank.specs.Forest.{tree_at, AreIds, IsAt, Grows};
 ghost use Rattle.inst_logic.specs.Printing.{equality_sign, sign_text};
 ghost use Rattle.cert_format.specs.Names.{IsNameText};
+ghost use Rattle.cert_format.specs.Runs.{Ends};
 ghost use Rattle.cert_format.specs.Spelling.{is_printable, goes_on, IsEqualitySign};
 ghost use Rattle.cert_items.specs.Reading.{ArePrintable, NoTerm};
 ghost use Rattle.cert_items.specs.Roots.{IsRootAt, IsRoot, IsTermAt, IsApplicationAt, IsLiteralAt, NoForm, equality_atom};
@@ -252,6 +253,19 @@ fn read_literal<'a>(
     }
 }
 
+// Whether no literal goes on here, as is seen where a clause ends or has another one.
+#[tactic(auto, using(crate::proofs::Behind::comma_no_sign, crate::proofs::Behind::bar_no_sign))]
+fn is_behind(rest: &[u8]) -> bool
+    ensures ends { IsTrue result → Ends goes_on rest.now }
+    ensures unequal { IsTrue result → ¬ IsEqualitySign rest.now }
+{
+    match rest {
+        [b',', ..] => true,
+        [b' ', b'|', ..] => true,
+        _ => false,
+    }
+}
+
 // The literal at the front that was read before, and what follows it.
 fn known_literal<'a>(
     bank: &TextBank,
@@ -262,15 +276,12 @@ fn known_literal<'a>(
     ensures { IfSome result (λ p. IsLiteralAt bank.now p.0 bytes.now p.1.now) }
 {
     let (text, rest) = bytes.split_at(candidate.len);
-    if goes_on(rest) {
+    if !is_behind(rest) {
         return None;
     }
-    match equality_sign(rest) {
-        Some(_) => None,
-        None => match bank.spelled(text, candidate.code) {
-            None => None,
-            Some(l) => Some((l, rest)),
-        },
+    match bank.spelled(text, candidate.code) {
+        None => None,
+        Some(l) => Some((l, rest)),
     }
 }
 

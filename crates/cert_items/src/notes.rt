@@ -77,7 +77,9 @@ fn side(bytes: &[u8]) -> Option<(Side, &[u8])>
     }
 }
 
-/// The two members of a cover and the side, and what follows the bracket behind them.
+/// The two members of a cover and the side, and what follows the bracket behind them. Inlined, each byte that is compared would set
+/// the fields of a note for the case that it differs.
+#[inline(never)]
 pub fn sides(bytes: &[u8]) -> Option<(usize, usize, Side, &[u8])>
     ensures some { IfSome result (λ r. bytes.now ≡ side_text r.0 r.1 (side_of r.2) r.3.now) }
     ensures fits { IfSome result (λ r. (r.0 < 2 ^ 64) × (r.1 < 2 ^ 64)) }

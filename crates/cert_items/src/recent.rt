@@ -83,9 +83,10 @@ pub fn candidate_of(bytes: &[u8]) -> Candidate
     Candidate { len, code }
 }
 
-// The place for the code among so many. The one beside it is the second.
+// The place for the code among so many. The one beside it is the second. The low bits of a code are those of the low bits of its
+// bytes alone, and the high ones are not.
 fn place_of(count: usize, code: usize) -> usize {
-    code & count.wrapping_sub(1)
+    (code ^ code >> 32) & count.wrapping_sub(1)
 }
 
 // Which of both places for the code is taken by a new literal.
