@@ -150,7 +150,7 @@ impl Workspace {
         let leaves = Leaves::Led(b);
         build_atoms_in(self, bank, &leaves, side, c.as_slice())?;
         bank.distinct();
-        clause_of(self.alloc, c.as_slice(), &self.ids)
+        clause_of(self.alloc(), c.as_slice(), &self.ids)
     }
 }
 
