@@ -1,7 +1,6 @@
 -- Which items may meet: places that heads and fingerprints do not tell apart, found by buckets, and lists that lead through them.
 use Rattle.std.proofs.Common.{◌≡◌, ◌⊎◌, inl, inr, ℕ, zero, suc, ◌+◌, ◌<◌, ◌≤◌, Bool, true, false, List, [], ◌∷◌, ◌++◌, length, get_or, take, refl, ap, sym, ◌∙◌, subst, arith, below_more}
 use Rattle.std.specs.Prelude.{map, slice_index_or}
-use Rattle.std.specs.Global.{Vec}
 use Rattle.std.specs.List.{All, AllPairs, Contains}
 use Rattle.std.proofs.lemmas.Bool.{cases_lt}
 use Rattle.std.proofs.lemmas.List.{get_or-map, get_or_push, length-append, map_push, length-map, take_all, take_more}
@@ -139,18 +138,13 @@ module _ (hs : List Head) (p : ℕ) where
 pub opposites_none : (hs : List Head) (ps : List Fingerprint) → AreOpposites hs ps 0 []
 opposites_none hs ps = record { count = refl; each = λ p less. absurd (omega arith) }
 
-pub list_before : (vs : List (Vec ℕ)) (v : Vec ℕ) (k : ℕ) → k < length vs → list_at (vs ++ v ∷ []) k ≡ list_at vs k
-list_before vs v k less =
-    ap (λ (xs : List (List ℕ)). get_or xs k []) (map_push (λ (w : Vec ℕ). w.items) vs v) ∙ get_or-append (map (λ (w : Vec ℕ). w.items) vs) (v.items ∷ []) [] k (let l = length-map vs (λ (w : Vec ℕ). w.items) in omega arith)
+pub list_before : (vs : List (List ℕ)) (v : List ℕ) (k : ℕ) → k < length vs → list_at (vs ++ v ∷ []) k ≡ list_at vs k
+list_before vs v k less = get_or-append vs (v ∷ []) [] k less
 
-pub list_last : (vs : List (Vec ℕ)) (v : Vec ℕ) (k : ℕ) → length vs ≡ k → list_at (vs ++ v ∷ []) k ≡ v.items
-list_last vs v k e =
-    ap (λ (xs : List (List ℕ)). get_or xs k []) (map_push (λ (w : Vec ℕ). w.items) vs v) ∙ get_or_push (map (λ (w : Vec ℕ). w.items) vs) v.items [] k (length-map vs (λ (w : Vec ℕ). w.items) ∙ e)
+pub list_last : (vs : List (List ℕ)) (v : List ℕ) (k : ℕ) → length vs ≡ k → list_at (vs ++ v ∷ []) k ≡ v
+list_last vs v k e = get_or_push vs v [] k e
 
-pub list_read : (vs : List (Vec ℕ)) (v : Vec ℕ) (k : ℕ) → k < length vs → v ≡ get_or vs k v → v.items ≡ list_at vs k
-list_read vs v k less at = ap (λ (w : Vec ℕ). w.items) at ∙ sym (get_or-map (λ (w : Vec ℕ). w.items) vs k v [] less)
-
-pub opposites_more : (hs : List Head) (ps : List Fingerprint) (n : ℕ) (vs : List (Vec ℕ)) (v : Vec ℕ) → AreOpposites hs ps n vs → AreOpposite hs ps n v.items → AreOpposites hs ps (n + 1) (vs ++ v ∷ [])
+pub opposites_more : (hs : List Head) (ps : List Fingerprint) (n : ℕ) (vs : List (List ℕ)) (v : List ℕ) → AreOpposites hs ps n vs → AreOpposite hs ps n v → AreOpposites hs ps (n + 1) (vs ++ v ∷ [])
 opposites_more hs ps n vs v before last = record {
   count = length-append vs (v ∷ []) ∙ ap (λ m. m + 1) before.count;
   each = below_more (λ p. AreOpposite hs ps p (list_at (vs ++ v ∷ []) p)) n
@@ -159,7 +153,7 @@ opposites_more hs ps n vs v before last = record {
 }
 
 -- by classes
-pub opposites_narrow : (hs : List Head) (ps : List Fingerprint) (ns : List Head) (vs : List (Vec ℕ)) → length ns ≡ length hs → AreNarrow hs ps ns → AreOpposites ns ps (length ns) vs → AreOpposites hs ps (length hs) vs
+pub opposites_narrow : (hs : List Head) (ps : List Fingerprint) (ns : List Head) (vs : List (List ℕ)) → length ns ≡ length hs → AreNarrow hs ps ns → AreOpposites ns ps (length ns) vs → AreOpposites hs ps (length hs) vs
 opposites_narrow hs ps ns vs count narrow os = record {
   count = os.count ∙ count;
   each = λ p less. let o = os.each p (omega arith) in record {
@@ -184,7 +178,7 @@ opposite_within hs ps m tells p here js alike gathered a = record {
 
 -- items of buckets
 pub told_by_buckets : (hs : List Head) (ps : List Fingerprint) (b : Buckets) (m : Meetings) → AreInBuckets hs ps b → m.links.numbers.items ≡ b.numbers.items → length m.links.first.items ≡ length b.heads.items → IsLinked m.links
-    → AreOpposites b.heads.items b.fingerprints.items (length b.heads.items) m.opposites.items → TellsApart hs ps m
+    → AreOpposites b.heads.items b.fingerprints.items (length b.heads.items) m.opposites → TellsApart hs ps m
 told_by_buckets hs ps b m inside numbers count linked os =
     let each : (i : ℕ) → i < length hs → number_at m.links.numbers.items i < length b.heads.items = λ i less. subst (λ (ns : List ℕ). number_at ns i < length b.heads.items) (sym numbers) (inside.each i less).within in
     let items : length m.links.numbers.items ≡ length hs = ap (λ (ns : List ℕ). length ns) numbers ∙ inside.count in
@@ -195,7 +189,7 @@ told_by_buckets hs ps b m inside numbers count linked os =
         known = λ n q less h. subst (λ k. q < k) (sym count) ((os.each n (subst (λ k. n < k) os.count less)).within q h);
       };
       count = items;
-      told = λ p q left right. subst (λ (ns : List ℕ). Contains (list_at m.opposites.items (number_at ns p)) (number_at ns q) ⊎ AreToldApart hs ps p q) (sym numbers)
+      told = λ p q left right. subst (λ (ns : List ℕ). Contains (list_at m.opposites (number_at ns p)) (number_at ns q) ⊎ AreToldApart hs ps p q) (sym numbers)
           (let i = inside.each p left in let j = inside.each q right in
           elim ((os.each (number_at b.numbers.items p) i.within).rest (number_at b.numbers.items q) j.within) [
             | inl there ↦ inl there

@@ -1,6 +1,5 @@
 -- Which items may meet: those of two buckets that are told apart by neither their heads nor their fingerprints.
-use Rattle.std.specs.Prelude.{◌≡◌, ◌⊎◌, ℕ, suc, ◌<◌, ◌≤◌, List, [], length, map, slice_index_or}
-use Rattle.std.specs.Global.{Vec}
+use Rattle.std.specs.Prelude.{◌≡◌, ◌⊎◌, ℕ, suc, ◌<◌, ◌≤◌, List, [], length, slice_index_or}
 use Rattle.std.specs.List.{Contains}
 use Rattle.inst_logic.specs.Signed.{complement}
 use Rattle.cert_format.specs.Certificate.{Saturation}
@@ -37,22 +36,22 @@ pub record AreOpposite (hs : List Head) (ps : List Fingerprint) (p : ℕ) (qs : 
   pub within : (q : ℕ) → Contains qs q → q < length hs
   pub rest : (q : ℕ) → q < length hs → Contains qs q ⊎ AreToldApart hs ps p q
 
-abbrev pub list_at : List (Vec ℕ) → ℕ → List ℕ
-list_at vs p = slice_index_or (map (λ v. v.items) vs) p []
+abbrev pub list_at : List (List ℕ) → ℕ → List ℕ
+list_at vs p = slice_index_or vs p []
 
 -- for the first n places
-pub record AreOpposites (hs : List Head) (ps : List Fingerprint) (n : ℕ) (vs : List (Vec ℕ)) : Type 0 where
+pub record AreOpposites (hs : List Head) (ps : List Fingerprint) (n : ℕ) (vs : List (List ℕ)) : Type 0 where
   pub count : length vs ≡ n
   pub each : (p : ℕ) → p < n → AreOpposite hs ps p (list_at vs p)
 
 -- the bucket of item q is opposite to that of item p
 abbrev pub CanMeet : Meetings → ℕ → ℕ → Type 0
-CanMeet m p q = Contains (list_at m.opposites.items (number_at m.links.numbers.items p)) (number_at m.links.numbers.items q)
+CanMeet m p q = Contains (list_at m.opposites (number_at m.links.numbers.items p)) (number_at m.links.numbers.items q)
 
 pub record AreGrouped (m : Meetings) : Type 0 where
   pub linked : IsLinked m.links
-  pub numbered : (i : ℕ) → i < length m.links.numbers.items → number_at m.links.numbers.items i < length m.opposites.items
-  pub known : (n q : ℕ) → n < length m.opposites.items → Contains (list_at m.opposites.items n) q → q < length m.links.first.items
+  pub numbered : (i : ℕ) → i < length m.links.numbers.items → number_at m.links.numbers.items i < length m.opposites
+  pub known : (n q : ℕ) → n < length m.opposites → Contains (list_at m.opposites n) q → q < length m.links.first.items
 
 -- items with these heads and fingerprints that cannot meet are told apart
 pub record TellsApart (hs : List Head) (ps : List Fingerprint) (m : Meetings) : Type 0 where
@@ -67,7 +66,7 @@ pub record AreGathered (ns numbers : List ℕ) (from : ℕ) (js : List ℕ) : Ty
 
 -- the items from the place on that can meet item i
 abbrev pub MayMeet : Meetings → ℕ → ℕ → List ℕ → Type 0
-MayMeet m i from js = AreGathered m.links.numbers.items (list_at m.opposites.items (number_at m.links.numbers.items i)) from js
+MayMeet m i from js = AreGathered m.links.numbers.items (list_at m.opposites (number_at m.links.numbers.items i)) from js
 
 -- members that cannot meet are apart
 pub record AreMeetings (c : Saturation) (m : Meetings) : Type 0 where

@@ -14,13 +14,13 @@ use crate::difference::difference;
 use crate::error::CheckError;
 use crate::origin::input_gives;
 use crate::part::{PartClaim, are_within, members_give_part};
+use crate::rooms::PairRoom;
 use crate::walk::symbols_in;
 use cert_format::Complaint;
 use equality_axioms::axioms_from;
 use inst_logic::Memory;
 use saturation_cert::{Base, Origin};
 use std::alloc::Global;
-use unify_core::Bindings;
 
 // The number of the first axiom that is not the one that the inputs have there.
 pub fn wrong_axiom(alloc: Global, base: &mut Base) -> Result<Option<usize>, Memory>
@@ -35,13 +35,8 @@ pub fn wrong_axiom(alloc: Global, base: &mut Base) -> Result<Option<usize>, Memo
     Ok(difference(&base.bank, &base.axioms, &ids))
 }
 
-// Whether member `i`, counted from 0, is what its origin gives. The bindings are room to work in.
-fn is_right(
-    alloc: Global,
-    base: &mut Base,
-    bindings: &mut Bindings,
-    i: usize,
-) -> Result<bool, Memory>
+// Whether member `i`, counted from 0, is what its origin gives. `room` is room to work in.
+fn is_right(alloc: Global, base: &mut Base, room: &mut PairRoom, i: usize) -> Result<bool, Memory>
     requires whole { IsWholeBase base.old }
     requires within { i < length base.old.members }
     requires axioms { (n : ℕ) → IsRightAxiom (base_of base.old) n }
@@ -66,7 +61,7 @@ fn is_right(
                 premises: Premises::new(from, place, partner, other),
                 clause,
             };
-            members_give(alloc, bank, bindings, members, &claim)
+            members_give(bank, room, members, &claim)
         }
         Origin::Lemma {
             from,
@@ -85,16 +80,16 @@ fn is_right(
                 keep: keep.as_slice(),
                 clause,
             };
-            members_give_part(alloc, bank, bindings, members, &claim)
+            members_give_part(alloc, bank, room, members, &claim)
         }
     }
 }
 
-// The number of the first member that is not what its origin gives. The bindings are room to work in.
+// The number of the first member that is not what its origin gives. `room` is room to work in.
 fn wrong_member_by(
     alloc: Global,
     base: &mut Base,
-    bindings: &mut Bindings,
+    room: &mut PairRoom,
 ) -> Result<Option<usize>, Memory>
     requires whole { IsWholeBase base.old }
     requires axioms { (n : ℕ) → IsRightAxiom (base_of base.old) n }
@@ -103,7 +98,7 @@ fn wrong_member_by(
     ensures first { IfOk result (IsFirstWrongOf (IsRightMember (base_of base.old))) }
 {
     for i in 0..base.members.len() {
-        if !is_right(alloc, base, bindings, i)? {
+        if !is_right(alloc, base, room, i)? {
             return Ok(Some(i + 1));
         }
     }
@@ -118,8 +113,8 @@ pub fn wrong_member(alloc: Global, base: &mut Base) -> Result<Option<usize>, Mem
     ensures whole { OnOk result (IsWholeBase base.new) }
     ensures first { IfOk result (IsFirstWrongOf (IsRightMember (base_of base.old))) }
 {
-    let mut bindings = Bindings::new(alloc);
-    wrong_member_by(alloc, base, &mut bindings)
+    let mut room = PairRoom::new(alloc);
+    wrong_member_by(alloc, base, &mut room)
 }
 
 // The first complaint about the axioms and then about the members, if there is one.

@@ -27,7 +27,7 @@ use crate::instance::Instance;
 use crate::meetings::Meetings;
 use crate::pairs::is_proper;
 use cert_names::holds_by;
-use clause_form::conclude_clause;
+use clause_form::Workspace;
 use inst_logic::Memory;
 use saturation_cert::{By, Cover, Covered, Member, Origin, Saturation, selected};
 use std::alloc::Global;
@@ -46,6 +46,14 @@ pub struct Progress {
 struct Rooms {
     bindings: Bindings,
     room: Room,
+    workspace: Workspace,
+}
+
+// The same, and the members that may meet one member.
+#[derive(Drop)]
+struct RowRooms {
+    pair: Rooms,
+    partners: Vec<usize>,
 }
 
 // Whether the cover has the numbers and the side.
@@ -71,7 +79,7 @@ fn same_trees(bank: &Bank, c: &IdClause, d: &IdClause) -> bool
 
 // Whether the clause is the instance, which is built only where that is not seen without it.
 fn is_instance(
-    alloc: Global,
+    workspace: &mut Workspace,
     bank: &mut Bank,
     room: &mut Room,
     of: &Instance<'_>,
@@ -87,7 +95,7 @@ fn is_instance(
     if is_conclusion(room, bank, of, clause)? {
         return Ok(true);
     }
-    let built = conclude_clause(alloc, bank, of.bindings, of.side, of.clause)?;
+    let built = workspace.conclude_clause(bank, of.bindings, of.side, of.clause)?;
     Ok(same_trees(bank, &built, clause))
 }
 
@@ -118,7 +126,8 @@ fn is_named(
         clause: &member.clause,
     };
     let bank = &mut cert.base.bank;
-    if !is_instance(alloc, bank, &mut rooms.room, &of, &cover.clause)? {
+    let workspace = &mut rooms.workspace;
+    if !is_instance(workspace, bank, &mut rooms.room, &of, &cover.clause)? {
         return Ok(false);
     }
     holds_by(
@@ -354,7 +363,7 @@ fn compare_row(
     alloc: Global,
     cert: &mut Covered,
     meetings: &Meetings,
-    rooms: &mut Rooms,
+    rooms: &mut RowRooms,
     i: usize,
     progress: &mut Progress,
 ) -> Result<Option<usize>, Memory>
@@ -368,8 +377,9 @@ fn compare_row(
     ensures first { IfOk result (IsFirstWrongOf (IsProperPair (saturation_of cert.old.cert) (suc i))) }
     ensures gives { IfOk result (λ o. o ≡ None → GivesRow (saturation_of cert.old.cert) i (AreCompared (covered_of cert.old) progress.old) (AreCompared (covered_of cert.old) progress.new)) }
 {
-    let partners = meetings.later_partners(alloc, &cert.cert, i)?;
-    compare_among(alloc, cert, rooms, i, &partners, progress)
+    let RowRooms { pair, partners } = rooms;
+    meetings.later_partners(partners, &cert.cert, i)?;
+    compare_among(alloc, cert, pair, i, partners.as_slice(), progress)
 }
 
 // Compares the covers of all members, with room to work in.
@@ -377,7 +387,7 @@ fn compare_rows(
     alloc: Global,
     cert: &mut Covered,
     meetings: &Meetings,
-    rooms: &mut Rooms,
+    rooms: &mut RowRooms,
     progress: &mut Progress,
 ) -> Result<Option<(usize, usize)>, Memory>
     requires comparable { IsComparable cert.old }
@@ -413,9 +423,14 @@ pub fn compare_pairs(
     ensures first { IfOk result (IsFirstWrongPairOf (IsProperPair (saturation_of cert.old.cert))) }
     ensures compared { IfOk result (λ o. o ≡ None → (ds : List Due) × AreDue (saturation_of cert.old.cert) ds × AreCompared (covered_of cert.old) progress.new ds) }
 {
-    let mut rooms = Rooms {
+    let pair = Rooms {
         bindings: Bindings::new(alloc),
         room: Room::new(alloc),
+        workspace: Workspace::new(alloc),
+    };
+    let mut rooms = RowRooms {
+        pair,
+        partners: Vec::new(alloc),
     };
     compare_rows(alloc, cert, meetings, &mut rooms, progress)
 }

@@ -9,10 +9,9 @@ ghost use Rattle.saturation_cert.specs.Wholes.{IsWholeClause};
 ghost use Rattle.cert_check.specs.Conclusions.{Concludes, HasNoProper, IsAtomOf, IsProperlyUnified, MembersConclude, MembersGive, literal_of};
 
 use crate::difference::same_clause;
-use clause_form::conclude_clause;
+use crate::rooms::PairRoom;
 use inst_logic::Memory;
 use saturation_cert::Member;
-use std::alloc::Global;
 use term_bank::{Bank, IdClause, IdLiteral, TermId};
 use unify_core::{Bindings, Side};
 
@@ -86,9 +85,8 @@ fn unify_properly(
 
 // The instance of the clause, whose literal `l` is, under the proper most general unifier of `l` and `m`, in canonical form.
 fn conclude_at(
-    alloc: Global,
     bank: &mut Bank,
-    bindings: &mut Bindings,
+    room: &mut PairRoom,
     clause: &IdClause,
     l: IdLiteral,
     m: IdLiteral,
@@ -103,18 +101,19 @@ fn conclude_at(
     if l.positive == m.positive {
         return Ok(None);
     }
-    if !unify_properly(bank, bindings, l.atom, m.atom)? {
+    if !unify_properly(bank, &mut room.bindings, l.atom, m.atom)? {
         return Ok(None);
     }
-    let conclusion = conclude_clause(alloc, bank, bindings, Side::Left, clause)?;
+    let conclusion = room
+        .workspace
+        .conclude_clause(bank, &room.bindings, Side::Left, clause)?;
     Ok(Some(conclusion))
 }
 
 // What the first member gives with the second, if they conclude something.
 pub fn conclusion(
-    alloc: Global,
     bank: &mut Bank,
-    bindings: &mut Bindings,
+    room: &mut PairRoom,
     members: &[Member],
     premises: Premises,
 ) -> Result<Option<IdClause>, Memory>
@@ -132,14 +131,13 @@ pub fn conclusion(
     let Some(m) = literal_at(members, premises.partner, premises.other) else {
         return Ok(None);
     };
-    conclude_at(alloc, bank, bindings, &member.clause, l, m)
+    conclude_at(bank, room, &member.clause, l, m)
 }
 
 // Whether the members conclude the clause.
 fn is_conclusion(
-    alloc: Global,
     bank: &mut Bank,
-    bindings: &mut Bindings,
+    room: &mut PairRoom,
     members: &[Member],
     claim: &Claim<'_>,
 ) -> Result<bool, Memory>
@@ -149,7 +147,7 @@ fn is_conclusion(
     ensures extends { Extends bank.old bank.new }
     ensures formed { AreFormed bank.old → AreFormed bank.new }
 {
-    match conclusion(alloc, bank, bindings, members, claim.premises)? {
+    match conclusion(bank, room, members, claim.premises)? {
         None => Ok(false),
         Some(d) => {
             bank.distinct();
@@ -160,9 +158,8 @@ fn is_conclusion(
 
 // Whether both members come before the one that the claim is about, and conclude the clause.
 pub fn members_give(
-    alloc: Global,
     bank: &mut Bank,
-    bindings: &mut Bindings,
+    room: &mut PairRoom,
     members: &[Member],
     claim: &Claim<'_>,
 ) -> Result<bool, Memory>
@@ -175,5 +172,5 @@ pub fn members_give(
     if claim.premises.from > claim.i || claim.premises.partner > claim.i {
         return Ok(false);
     }
-    is_conclusion(alloc, bank, bindings, members, claim)
+    is_conclusion(bank, room, members, claim)
 }

@@ -20,6 +20,8 @@ use crate::instance::Instance;
 use crate::lookup::Lookup;
 use crate::naming::{Named, named_instance};
 use crate::pairs::is_proper;
+use crate::rooms::{PairRoom, RowRoom};
+use clause_form::Workspace;
 use inst_logic::Memory;
 use saturation_cert::{Cover, CoverList, Covered, Member, Saturation, selected};
 use std::alloc::Global;
@@ -27,7 +29,7 @@ use unify_core::{Bindings, Side};
 
 // The instance of the side's member under the bindings, and what covers it.
 fn named_side(
-    alloc: Global,
+    workspace: &mut Workspace,
     cert: &mut Saturation,
     lookup: &Lookup,
     bindings: &Bindings,
@@ -50,7 +52,7 @@ fn named_side(
         side: due.side,
         clause: &member.clause,
     };
-    named_instance(alloc, &mut cert.base.bank, members, lookup, &of)
+    named_instance(workspace, &mut cert.base.bank, members, lookup, &of)
 }
 
 // Puts the cover of the side at the end.
@@ -76,7 +78,7 @@ fn push_cover(
 
 // Adds the cover of the side where the unifier is proper on it. False comes where nothing covers it.
 fn cover_side(
-    alloc: Global,
+    workspace: &mut Workspace,
     cert: &mut Covered,
     lookup: &Lookup,
     bindings: &Bindings,
@@ -96,7 +98,7 @@ fn cover_side(
     if !bindings.proper(&cert.cert.base.bank, due.side) {
         return Ok(true);
     }
-    match named_side(alloc, &mut cert.cert, lookup, bindings, due)? {
+    match named_side(workspace, &mut cert.cert, lookup, bindings, due)? {
         None => Ok(false),
         Some(named) => {
             push_cover(
@@ -113,7 +115,7 @@ fn cover_side(
 // Adds the covers of members `i` and `j`, counted from 0, for the unifier that the bindings stand for. False comes where they
 // are not closed for it.
 fn cover_meeting(
-    alloc: Global,
+    workspace: &mut Workspace,
     cert: &mut Covered,
     lookup: &Lookup,
     bindings: &Bindings,
@@ -139,7 +141,7 @@ fn cover_meeting(
         own: i,
         other: j,
     };
-    if !cover_side(alloc, cert, lookup, bindings, left)? {
+    if !cover_side(workspace, cert, lookup, bindings, left)? {
         return Ok(false);
     }
     let right = DueSide {
@@ -147,12 +149,12 @@ fn cover_meeting(
         own: j,
         other: i,
     };
-    cover_side(alloc, cert, lookup, bindings, right)
+    cover_side(workspace, cert, lookup, bindings, right)
 }
 
 // Adds the covers of members `i` and `j`, counted from 0. False comes where they meet and are not closed.
 fn cover_pair(
-    alloc: Global,
+    workspace: &mut Workspace,
     cert: &mut Covered,
     lookup: &Lookup,
     bindings: &mut Bindings,
@@ -176,13 +178,13 @@ fn cover_pair(
     if !bindings.unify(&cert.cert.base.bank, l.atom, m.atom)? {
         return Ok(true);
     }
-    cover_meeting(alloc, cert, lookup, bindings, i, j)
+    cover_meeting(workspace, cert, lookup, bindings, i, j)
 }
 
 // Adds the covers of member `i`, counted from 0, with each of the list, up to the first with which it is not closed, whose
 // number is the answer.
 fn cover_among(
-    alloc: Global,
+    workspace: &mut Workspace,
     cert: &mut Covered,
     lookup: &Lookup,
     bindings: &mut Bindings,
@@ -199,7 +201,7 @@ fn cover_among(
     ensures gives { IfOk result (λ o. o ≡ None → GivesRow (saturation_of cert.old.cert) i (AreNamed (covered_of cert.old)) (AreNamed (covered_of cert.new))) }
 {
     for j in partners {
-        if !cover_pair(alloc, cert, lookup, bindings, i, *j)? {
+        if !cover_pair(workspace, cert, lookup, bindings, i, *j)? {
             return Ok(Some(*j + 1));
         }
     }
@@ -208,10 +210,9 @@ fn cover_among(
 
 // Adds the covers of member `i`, counted from 0, with each later member, up to the first with which it is not closed.
 fn cover_row(
-    alloc: Global,
     cert: &mut Covered,
     lookup: &Lookup,
-    bindings: &mut Bindings,
+    room: &mut RowRoom,
     i: usize,
 ) -> Result<Option<usize>, Memory>
     requires whole { IsWholeCovered cert.old }
@@ -222,16 +223,20 @@ fn cover_row(
     ensures first { IfOk result (IsFirstWrongOf (IsRightPair (saturation_of cert.old.cert) (suc i))) }
     ensures gives { IfOk result (λ o. o ≡ None → GivesRow (saturation_of cert.old.cert) i (AreNamed (covered_of cert.old)) (AreNamed (covered_of cert.new))) }
 {
-    let partners = lookup.meetings.later_partners(alloc, &cert.cert, i)?;
-    cover_among(alloc, cert, lookup, bindings, i, &partners)
+    let RowRoom { pair, partners } = room;
+    let PairRoom {
+        bindings,
+        workspace,
+    } = pair;
+    lookup.meetings.later_partners(partners, &cert.cert, i)?;
+    cover_among(workspace, cert, lookup, bindings, i, partners.as_slice())
 }
 
 // Adds the covers of all members, with room to work in.
 fn cover_rows(
-    alloc: Global,
     cert: &mut Covered,
     lookup: &Lookup,
-    bindings: &mut Bindings,
+    room: &mut RowRoom,
 ) -> Result<Option<(usize, usize)>, Memory>
     requires whole { IsWholeCovered cert.old }
     requires ready { IsReady cert.old.cert lookup.now }
@@ -242,7 +247,7 @@ fn cover_rows(
     ensures named { IfOk result (λ o. o ≡ None → (ds : List Due) × AreDue (saturation_of cert.old.cert) ds × AreNamed (covered_of cert.new) ds) }
 {
     for i in 0..cert.cert.base.members.len() {
-        if let Some(right) = cover_row(alloc, cert, lookup, bindings, i)? {
+        if let Some(right) = cover_row(cert, lookup, room, i)? {
             return Ok(Some((i + 1, right)));
         }
     }
@@ -263,6 +268,6 @@ pub fn cover_pairs(
     ensures first { IfOk result (IsFirstWrongPairOf (IsRightPair (saturation_of cert.old.cert))) }
     ensures named { IfOk result (λ o. o ≡ None → (ds : List Due) × AreDue (saturation_of cert.old.cert) ds × AreNamed (covered_of cert.new) ds) }
 {
-    let mut bindings = Bindings::new(alloc);
-    cover_rows(alloc, cert, lookup, &mut bindings)
+    let mut room = RowRoom::new(alloc);
+    cover_rows(cert, lookup, &mut room)
 }

@@ -24,7 +24,7 @@ ghost use Rattle.cert_check.specs.Places.{IsPlaceOf};
 use crate::fingerprint::{Fingerprint, fingerprint_of};
 use crate::instance::Instance;
 use crate::lookup::Lookup;
-use clause_form::{conclude_clause, long_tautology, subsumes};
+use clause_form::{Workspace, long_tautology, subsumes};
 use inst_logic::Memory;
 use saturation_cert::Member;
 use std::alloc::Global;
@@ -189,7 +189,7 @@ fn has_cover(
 
 // Whether the instance is covered by the members.
 pub fn is_covered(
-    alloc: Global,
+    workspace: &mut Workspace,
     bank: &mut Bank,
     members: &[Member],
     lookup: &Lookup,
@@ -205,6 +205,7 @@ pub fn is_covered(
     ensures formed { AreFormed bank.old → AreTerms bank.old of.now.bindings.now.entries → AreFormed bank.new }
     ensures covered { IfOk result (λ r. (s : Sided) → IsResolvedBy bank.old of.now.bindings.now.entries s → IsTrue r ↔ IsCovered (map (λ m. clause_at bank.old m.clause) members.now) (clause_at bank.old of.now.clause.now) (instance (of_side s of.now.side) (clause_at bank.old of.now.clause.now))) }
 {
-    let conclusion = conclude_clause(alloc, bank, of.bindings, of.side, of.clause)?;
+    let conclusion = workspace.conclude_clause(bank, of.bindings, of.side, of.clause)?;
+    let alloc = workspace.alloc();
     has_cover(alloc, bank, members, lookup, of.clause.len(), &conclusion)
 }

@@ -32,6 +32,7 @@ mod part;
 mod partners;
 mod places;
 pub mod refutation;
+mod rooms;
 pub mod saturation;
 mod shown;
 mod source;

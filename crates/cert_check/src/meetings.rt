@@ -8,7 +8,7 @@ ghost use Rattle.saturation_cert.specs.Values.{saturation_of};
 ghost use Rattle.saturation_cert.specs.Wholes.{HasPlaces, IsWholeSaturation};
 ghost use Rattle.cert_check.specs.declared.fingerprint.Fingerprint as declared;
 ghost use Rattle.cert_check.specs.Buckets.{AreInBuckets, AreKnown};
-ghost use Rattle.cert_check.specs.Chains.{AreAlike, AreGrouped, AreMeetings, AreOpposite, AreOpposites, HaveOpposite, IsAddedAlike, MayMeet, TellsApart};
+ghost use Rattle.cert_check.specs.Chains.{AreAlike, AreGrouped, AreMeetings, AreOpposite, AreOpposites, HaveOpposite, IsAddedAlike, MayMeet, TellsApart, list_at};
 ghost use Rattle.cert_check.specs.Fingerprints.{TellApart};
 ghost use Rattle.cert_check.specs.Meetings.{LeadsOn};
 ghost use Rattle.cert_check.specs.Partners.{AreApart, HasChains, Head};
@@ -18,6 +18,7 @@ use crate::fingerprint::{Fingerprint, find_fingerprints, tops_of};
 use crate::links::{Links, find_links};
 use crate::narrow::find_classes;
 use crate::partners::{HeadId, Partners, find_heads, place_of};
+use compact_lists::FlatLists;
 use inst_logic::Memory;
 use prop_logic::complement;
 use saturation_cert::Saturation;
@@ -27,7 +28,7 @@ use std::alloc::Global;
 #[derive(Drop)]
 pub struct Meetings {
     links: Links,
-    opposites: Vec<Vec<usize>>,
+    opposites: FlatLists<usize>,
 }
 
 // Adds place `q`, unless its fingerprint differs from that of place `p`.
@@ -48,22 +49,22 @@ fn add_alike(
     Ok(())
 }
 
-// Those of the places whose fingerprints do not differ from that of place `p`.
+// Fills the list with those of the places whose fingerprints do not differ from that of place `p`.
 fn find_alike(
-    alloc: Global,
+    alike: &mut Vec<usize>,
     fingerprints: &[Fingerprint],
     p: usize,
     places: &[usize],
-) -> Result<Vec<usize>, Memory>
+) -> Result<(), Memory>
     requires here { p < length fingerprints.now }
     requires there { (q : ℕ) → Contains places.now q → q < length fingerprints.now }
-    ensures { IfOk result (λ qs. AreAlike fingerprints.now p places.now qs.items) }
+    ensures { OnOk result (AreAlike fingerprints.now p places.now alike.new.items) }
 {
-    let mut alike = Vec::new(alloc);
+    alike.clear();
     for q in places {
-        add_alike(&mut alike, fingerprints, p, *q)?;
+        add_alike(alike, fingerprints, p, *q)?;
     }
-    Ok(alike)
+    Ok(())
 }
 
 // Fills the list with the places of the head that is opposite to that of place `p`.
@@ -88,21 +89,23 @@ fn find_opposite_heads(
     Ok(())
 }
 
-// The places that neither their classes nor their fingerprints tell apart from place `p`. `room` is room to work in.
+// Fills the list with the places that neither their classes nor their fingerprints tell apart from place `p`. `room` is room to
+// work in.
 fn find_opposite(
-    alloc: Global,
+    alike: &mut Vec<usize>,
     room: &mut Vec<usize>,
     classes: &Partners,
     fingerprints: &[Fingerprint],
     p: usize,
-) -> Result<Vec<usize>, Memory>
+) -> Result<(), Memory>
     requires chains { HasChains classes.now }
     requires count { length fingerprints.now ≡ length classes.now.heads.items }
     requires within { p < length classes.now.heads.items }
-    ensures { IfOk result (λ qs. AreOpposite classes.now.heads.items fingerprints.now p qs.items) }
+    ensures { OnOk result (AreOpposite classes.now.heads.items fingerprints.now p alike.new.items) }
 {
     find_opposite_heads(room, classes, p)?;
-    find_alike(alloc, fingerprints, p, room.as_slice())
+    find_alike(alike, fingerprints, p, room.as_slice())?;
+    Ok(())
 }
 
 // For each place those that neither their classes nor their fingerprints tell apart from it.
@@ -110,16 +113,17 @@ fn find_opposites(
     alloc: Global,
     classes: &Partners,
     fingerprints: &[Fingerprint],
-) -> Result<Vec<Vec<usize>>, Memory>
+) -> Result<FlatLists<usize>, Memory>
     requires chains { HasChains classes.now }
     requires count { length fingerprints.now ≡ length classes.now.heads.items }
-    ensures { IfOk result (λ vs. AreOpposites classes.now.heads.items fingerprints.now (length fingerprints.now) vs.items) }
+    ensures { IfOk result (λ vs. AreOpposites classes.now.heads.items fingerprints.now (length fingerprints.now) vs) }
 {
-    let mut opposites = Vec::with_capacity(alloc, fingerprints.len())?;
+    let mut opposites = FlatLists::new(alloc);
     let mut room = Vec::new(alloc);
+    let mut alike = Vec::new(alloc);
     for p in 0..fingerprints.len() {
-        let opposite = find_opposite(alloc, &mut room, classes, fingerprints, p)?;
-        opposites.push(opposite)?;
+        find_opposite(&mut alike, &mut room, classes, fingerprints, p)?;
+        opposites.push(&alike)?;
     }
     Ok(opposites)
 }
@@ -129,9 +133,9 @@ fn opposites_by_classes(
     alloc: Global,
     heads: &[HeadId],
     fingerprints: &[Fingerprint],
-) -> Result<Vec<Vec<usize>>, Memory>
+) -> Result<FlatLists<usize>, Memory>
     requires { length fingerprints.now ≡ length heads.now }
-    ensures { IfOk result (λ vs. AreOpposites heads.now fingerprints.now (length heads.now) vs.items) }
+    ensures { IfOk result (λ vs. AreOpposites heads.now fingerprints.now (length heads.now) vs) }
 {
     let classes = find_classes(alloc, heads, fingerprints)?;
     find_opposites(alloc, &classes, fingerprints)
@@ -142,17 +146,18 @@ fn opposites_within(
     alloc: Global,
     meetings: &Meetings,
     fingerprints: &[Fingerprint],
-) -> Result<Vec<Vec<usize>>, Memory>
+) -> Result<FlatLists<usize>, Memory>
     requires grouped { AreGrouped meetings.now }
     requires count { length meetings.now.links.numbers.items ≡ length fingerprints.now }
-    ensures { (hs : List Head) → TellsApart hs fingerprints.now meetings.now → IfOk result (λ vs. AreOpposites hs fingerprints.now (length hs) vs.items) }
+    ensures { (hs : List Head) → TellsApart hs fingerprints.now meetings.now → IfOk result (λ vs. AreOpposites hs fingerprints.now (length hs) vs) }
 {
-    let mut opposites = Vec::with_capacity(alloc, fingerprints.len())?;
+    let mut opposites = FlatLists::new(alloc);
     let mut places = Vec::new(alloc);
+    let mut alike = Vec::new(alloc);
     for p in 0..fingerprints.len() {
         meetings.gather(&mut places, p, 0)?;
-        let alike = find_alike(alloc, fingerprints, p, &places)?;
-        opposites.push(alike)?;
+        find_alike(&mut alike, fingerprints, p, &places)?;
+        opposites.push(&alike)?;
     }
     Ok(opposites)
 }
@@ -161,10 +166,10 @@ fn opposites_within(
 fn meetings_by(
     alloc: Global,
     buckets: Buckets,
-    opposites: Vec<Vec<usize>>,
+    opposites: FlatLists<usize>,
 ) -> Result<Meetings, Memory>
     requires { AreKnown buckets }
-    ensures { (hs : List Head) → (ps : List declared.Fingerprint) → AreInBuckets hs ps buckets → AreOpposites buckets.heads.items buckets.fingerprints.items (length buckets.heads.items) opposites.items → IfOk result (TellsApart hs ps) }
+    ensures { (hs : List Head) → (ps : List declared.Fingerprint) → AreInBuckets hs ps buckets → AreOpposites buckets.heads.items buckets.fingerprints.items (length buckets.heads.items) opposites → IfOk result (TellsApart hs ps) }
 {
     let Buckets { numbers, heads, .. } = buckets;
     let count = heads.len();
@@ -226,6 +231,16 @@ pub fn meetings_of(alloc: Global, cert: &Saturation) -> Result<Meetings, Memory>
 }
 
 impl Meetings {
+    // The buckets that this one may meet.
+    fn opposites_of(&self, bucket: usize) -> &[usize]
+        ensures { result.now ≡ list_at self.now.opposites bucket }
+    {
+        match self.opposites.get(bucket) {
+            Some(opposite) => opposite,
+            None => &[],
+        }
+    }
+
     // Fills the list with the items from `from` on that may meet item `i`, in no order.
     fn gather(&self, items: &mut Vec<usize>, i: usize, from: usize) -> Result<(), Memory>
         requires grouped { AreGrouped self.now }
@@ -234,29 +249,27 @@ impl Meetings {
     {
         items.clear();
         let bucket = self.links.numbers[i];
-        let list = &self.opposites[bucket];
-        let opposite = list.as_slice();
+        let opposite = self.opposites_of(bucket);
         for number in opposite {
             self.links.add_items(items, *number, from)?;
         }
         Ok(())
     }
 
-    /// The later members that may meet member `i`, counted from 0, in rising order.
+    /// Fills the list with the later members that may meet member `i`, counted from 0, in rising order.
     pub fn later_partners(
         &self,
-        alloc: Global,
+        partners: &mut Vec<usize>,
         cert: &Saturation,
         i: usize,
-    ) -> Result<Vec<usize>, Memory>
+    ) -> Result<(), Memory>
         requires meetings { AreMeetings (saturation_of cert.now) self.now }
         requires within { i < length cert.now.base.members }
-        ensures { IfOk result (λ js. LeadsOn (saturation_of cert.now) i (suc i) js.items) }
+        ensures { OnOk result (LeadsOn (saturation_of cert.now) i (suc i) partners.new.items) }
     {
-        let mut partners = Vec::new(alloc);
-        self.gather(&mut partners, i, i + 1)?;
+        self.gather(partners, i, i + 1)?;
         partners.sort_unstable();
         partners.dedup();
-        Ok(partners)
+        Ok(())
     }
 }

@@ -20,7 +20,7 @@ use crate::covers::shorter_place;
 use crate::instance::Instance;
 use crate::lookup::Lookup;
 use cert_names::part_terms;
-use clause_form::{conclude_clause, long_tautology};
+use clause_form::{Workspace, long_tautology};
 use inst_logic::Memory;
 use saturation_cert::{By, Member};
 use std::alloc::Global;
@@ -103,7 +103,7 @@ fn find_by(
 
 // The instance, and what covers it.
 pub fn named_instance(
-    alloc: Global,
+    workspace: &mut Workspace,
     bank: &mut Bank,
     members: &[Member],
     lookup: &Lookup,
@@ -123,7 +123,8 @@ pub fn named_instance(
     ensures extends { Extends bank.old bank.new }
     ensures formed { AreFormed bank.new }
 {
-    let clause = conclude_clause(alloc, bank, of.bindings, of.side, of.clause)?;
+    let clause = workspace.conclude_clause(bank, of.bindings, of.side, of.clause)?;
+    let alloc = workspace.alloc();
     match find_by(alloc, bank, members, lookup, of.clause.len(), &clause)? {
         None => Ok(None),
         Some(by) => Ok(Some(Named { clause, by })),

@@ -18,6 +18,8 @@ use crate::covers::is_covered;
 use crate::due_side::DueSide;
 use crate::instance::Instance;
 use crate::lookup::Lookup;
+use crate::rooms::{PairRoom, RowRoom};
+use clause_form::Workspace;
 use inst_logic::Memory;
 use saturation_cert::{Saturation, selected};
 use std::alloc::Global;
@@ -37,7 +39,7 @@ pub fn is_proper(bank: &Bank, bindings: &Bindings) -> bool
 
 // Whether the instance of the side's member under the bindings is covered.
 fn is_side_covered(
-    alloc: Global,
+    workspace: &mut Workspace,
     cert: &mut Saturation,
     lookup: &Lookup,
     bindings: &Bindings,
@@ -58,7 +60,7 @@ fn is_side_covered(
         side: due.side,
         clause: &member.clause,
     };
-    is_covered(alloc, &mut cert.base.bank, members, lookup, &of)
+    is_covered(workspace, &mut cert.base.bank, members, lookup, &of)
 }
 
 // Whether a member was made from the selected literals of members `i` and `j`, counted from 0. The origins were checked before,
@@ -86,7 +88,7 @@ fn has_made(cert: &Saturation, lookup: &Lookup, i: usize, j: usize) -> bool
 // Whether the instance of the side's member is covered where the unifier is proper on the side. One that is a member by its
 // origin is not built.
 fn is_side_closed(
-    alloc: Global,
+    workspace: &mut Workspace,
     cert: &mut Saturation,
     lookup: &Lookup,
     bindings: &Bindings,
@@ -107,12 +109,12 @@ fn is_side_closed(
     if has_made(cert, lookup, due.own, due.other) {
         return Ok(true);
     }
-    is_side_covered(alloc, cert, lookup, bindings, due)
+    is_side_covered(workspace, cert, lookup, bindings, due)
 }
 
 // Whether members `i` and `j`, counted from 0, are closed for the unifier that the bindings stand for.
 fn is_closed(
-    alloc: Global,
+    workspace: &mut Workspace,
     cert: &mut Saturation,
     lookup: &Lookup,
     bindings: &Bindings,
@@ -136,7 +138,7 @@ fn is_closed(
         own: i,
         other: j,
     };
-    if !is_side_closed(alloc, cert, lookup, bindings, left)? {
+    if !is_side_closed(workspace, cert, lookup, bindings, left)? {
         return Ok(false);
     }
     let right = DueSide {
@@ -144,12 +146,12 @@ fn is_closed(
         own: j,
         other: i,
     };
-    is_side_closed(alloc, cert, lookup, bindings, right)
+    is_side_closed(workspace, cert, lookup, bindings, right)
 }
 
 // Whether the selected literals of members `i` and `j`, counted from 0, do not unify with opposite signs, or are closed.
 fn is_right_pair(
-    alloc: Global,
+    workspace: &mut Workspace,
     cert: &mut Saturation,
     lookup: &Lookup,
     bindings: &mut Bindings,
@@ -171,12 +173,12 @@ fn is_right_pair(
     if !bindings.unify(&cert.base.bank, l.atom, m.atom)? {
         return Ok(true);
     }
-    is_closed(alloc, cert, lookup, bindings, i, j)
+    is_closed(workspace, cert, lookup, bindings, i, j)
 }
 
 // The number of the first of the list with which member `i`, counted from 0, is not closed.
 fn wrong_among(
-    alloc: Global,
+    workspace: &mut Workspace,
     cert: &mut Saturation,
     lookup: &Lookup,
     bindings: &mut Bindings,
@@ -191,7 +193,7 @@ fn wrong_among(
     ensures first { IfOk result (IsFirstWrongOf (IsRightPair (saturation_of cert.old) (suc i))) }
 {
     for j in partners {
-        if !is_right_pair(alloc, cert, lookup, bindings, i, *j)? {
+        if !is_right_pair(workspace, cert, lookup, bindings, i, *j)? {
             return Ok(Some(*j + 1));
         }
     }
@@ -200,10 +202,9 @@ fn wrong_among(
 
 // The number of the first later member with which member `i`, counted from 0, is not closed.
 fn wrong_partner(
-    alloc: Global,
     cert: &mut Saturation,
     lookup: &Lookup,
-    bindings: &mut Bindings,
+    room: &mut RowRoom,
     i: usize,
 ) -> Result<Option<usize>, Memory>
     requires ready { IsReady cert.old lookup.now }
@@ -212,16 +213,20 @@ fn wrong_partner(
     ensures whole { OnOk result (IsWholeSaturation cert.new) }
     ensures first { IfOk result (IsFirstWrongOf (IsRightPair (saturation_of cert.old) (suc i))) }
 {
-    let partners = lookup.meetings.later_partners(alloc, cert, i)?;
-    wrong_among(alloc, cert, lookup, bindings, i, &partners)
+    let RowRoom { pair, partners } = room;
+    let PairRoom {
+        bindings,
+        workspace,
+    } = pair;
+    lookup.meetings.later_partners(partners, cert, i)?;
+    wrong_among(workspace, cert, lookup, bindings, i, partners.as_slice())
 }
 
 // The first such pair of all members, with room to work in.
 fn wrong_pair_by(
-    alloc: Global,
     cert: &mut Saturation,
     lookup: &Lookup,
-    bindings: &mut Bindings,
+    room: &mut RowRoom,
 ) -> Result<Option<(usize, usize)>, Memory>
     requires ready { IsReady cert.old lookup.now }
     ensures kept { KeepsSaturation cert.old cert.new }
@@ -229,7 +234,7 @@ fn wrong_pair_by(
     ensures first { IfOk result (IsFirstWrongPairOf (IsRightPair (saturation_of cert.old))) }
 {
     for i in 0..cert.base.members.len() {
-        if let Some(right) = wrong_partner(alloc, cert, lookup, bindings, i)? {
+        if let Some(right) = wrong_partner(cert, lookup, room, i)? {
             return Ok(Some((i + 1, right)));
         }
     }
@@ -248,6 +253,6 @@ pub fn wrong_pair(
     ensures whole { OnOk result (IsWholeSaturation cert.new) }
     ensures first { IfOk result (IsFirstWrongPairOf (IsRightPair (saturation_of cert.old))) }
 {
-    let mut bindings = Bindings::new(alloc);
-    wrong_pair_by(alloc, cert, lookup, &mut bindings)
+    let mut room = RowRoom::new(alloc);
+    wrong_pair_by(cert, lookup, &mut room)
 }

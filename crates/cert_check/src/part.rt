@@ -11,11 +11,11 @@ ghost use Rattle.cert_check.specs.Conclusions.{IsPartGiven};
 
 use crate::conclusion::{Premises, conclusion, numbered_item};
 use crate::origin::is_canonical_form;
+use crate::rooms::PairRoom;
 use inst_logic::Memory;
 use saturation_cert::Member;
 use std::alloc::Global;
 use term_bank::{Bank, IdClause};
-use unify_core::Bindings;
 
 /// What is claimed of member `i`, counted from 0: that its clause is the part, by the places, of what the premises give.
 #[derive(Clone, Copy)]
@@ -90,7 +90,7 @@ fn is_part_of(
 fn is_part(
     alloc: Global,
     bank: &mut Bank,
-    bindings: &mut Bindings,
+    room: &mut PairRoom,
     members: &[Member],
     claim: &PartClaim<'_>,
 ) -> Result<bool, Memory>
@@ -100,7 +100,7 @@ fn is_part(
     ensures extends { Extends bank.old bank.new }
     ensures formed { AreFormed bank.old → AreFormed bank.new }
 {
-    match conclusion(alloc, bank, bindings, members, claim.premises)? {
+    match conclusion(bank, room, members, claim.premises)? {
         None => Ok(false),
         Some(whole) => is_part_of(alloc, bank, &whole, claim.keep, claim.clause),
     }
@@ -111,7 +111,7 @@ fn is_part(
 pub fn members_give_part(
     alloc: Global,
     bank: &mut Bank,
-    bindings: &mut Bindings,
+    room: &mut PairRoom,
     members: &[Member],
     claim: &PartClaim<'_>,
 ) -> Result<bool, Memory>
@@ -124,5 +124,5 @@ pub fn members_give_part(
     if claim.premises.from > claim.i || claim.premises.partner > claim.i {
         return Ok(false);
     }
-    is_part(alloc, bank, bindings, members, claim)
+    is_part(alloc, bank, room, members, claim)
 }

@@ -5,4 +5,4 @@ use Rattle.cert_check.proofs.compare.compare_row.Goals as goal
 
 pub compare_among-requires-clause-partners : goal.compare_among-requires-clause-partners
 compare_among-requires-clause-partners c =
-    subst (λ (js : List ℕ). LeadsOn (saturation_of c.args.cert.now.cert) c.args.i (suc c.args.i) js) (sym c.deref.ensures.value) c.in_ok-partners.ensures
+    subst (λ (js : List ℕ). LeadsOn (saturation_of c.args.cert.now.cert) c.args.i (suc c.args.i) js) (sym c.as_slice.ensures.value) c.in_ok-later_partners.ensures

@@ -5,7 +5,7 @@ use Rattle.cert_check.proofs.MeetingLaws.{alike_all, alike_more, alike_none}
 use Rattle.cert_check.proofs.meetings.find_alike.Goals as goal
 
 pub loop-q-init : goal.loop-q-init
-loop-q-init c = subst (AreAlike c.args.fingerprints.now c.args.p (take 0 c.args.places.now)) (sym c.new-alike.ensures.items) (alike_none c.args.fingerprints.now c.args.p c.args.places.now)
+loop-q-init c = subst (AreAlike c.args.fingerprints.now c.args.p (take 0 c.args.places.now)) (sym c.clear.ensures.items) (alike_none c.args.fingerprints.now c.args.p c.args.places.now)
 
 pub add_alike-requires-clause-there : goal.add_alike-requires-clause-there
 add_alike-requires-clause-there c = c.requires.there (get_or c.args.places.now c.loop-q.q-index 0) (Contains-get_or c.args.places.now c.loop-q.q-index 0 c.loop-q-test.true)

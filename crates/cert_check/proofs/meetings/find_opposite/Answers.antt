@@ -1,6 +1,5 @@
 use Rattle.std.proofs.Common.{List, ℕ, subst, arith}
 use Rattle.std.specs.List.{Contains}
-use Rattle.std.proofs.lemmas.Result.{IfOk-weaker}
 use Rattle.cert_check.specs.Chains.{AreAlike}
 use Rattle.cert_check.proofs.MeetingLaws.{opposite_alike}
 use Rattle.cert_check.proofs.meetings.find_opposite.Goals as goal
@@ -11,5 +10,6 @@ find_alike-requires-clause-there c q h = let low = c.in_ok-find_opposite_heads.e
 pub returns : goal.returns
 returns c =
     let ps = c.args.fingerprints.now in
-    IfOk-weaker c.find_alike.result _ _
-    (λ qs h. opposite_alike c.args.classes.now.heads.items c.args.p ps c.find_opposite_heads.new.opposite.items qs.items c.in_ok-find_opposite_heads.ensures (subst (λ (xs : List ℕ). AreAlike ps c.args.p xs qs.items) c.as_slice.ensures.value h)) c.find_alike.ensures
+    let qs = c.find_alike.new.alike.items in
+    opposite_alike c.args.classes.now.heads.items c.args.p ps c.find_opposite_heads.new.opposite.items qs c.in_ok-find_opposite_heads.ensures
+    (subst (λ (xs : List ℕ). AreAlike ps c.args.p xs qs) c.as_slice.ensures.value c.in_ok-find_alike.ensures)

@@ -1,6 +1,5 @@
 use Rattle.std.proofs.Common.{◌≡◌, ◌+◌, List, ℕ, length, sym, subst, arith}
-use Rattle.std.specs.Global.{Vec}
-use Rattle.cert_check.specs.Chains.{AreOpposites}
+use Rattle.cert_check.specs.Chains.{AreOpposite, AreOpposites}
 use Rattle.cert_check.proofs.MeetingLaws.{opposites_more}
 use Rattle.cert_check.proofs.meetings.find_opposites.Goals as goal
 
@@ -8,10 +7,11 @@ pub loop-p-preserved : goal.loop-p-preserved
 loop-p-preserved c =
     let hs = c.args.classes.now.heads.items in
     let ps = c.args.fingerprints.now in
-    subst (λ (vs : List (Vec ℕ)). AreOpposites hs ps (c.loop-p.p + 1) vs) (sym c.in_ok-push.ensures.items)
-    (opposites_more hs ps c.loop-p.p c.loop-p.opposites.items c.in_ok-opposite.opposite c.loop-p.invariant c.in_ok-opposite.ensures)
+    let last : AreOpposite hs ps c.loop-p.p c.deref.result.now = subst (AreOpposite hs ps c.loop-p.p) (sym c.deref.ensures.value) c.in_ok-find_opposite.ensures in
+    subst (λ (vs : List (List ℕ)). AreOpposites hs ps (c.loop-p.p + 1) vs) (sym c.in_ok-push.ensures.ok)
+    (opposites_more hs ps c.loop-p.p c.loop-p.opposites c.deref.result.now c.loop-p.invariant last)
 
 pub returns : goal.returns
 returns c =
     let end : c.loop-p.p ≡ length c.args.fingerprints.now = omega (arith, c.loop-p-test.false) in
-    subst (λ n. AreOpposites c.args.classes.now.heads.items c.args.fingerprints.now n c.loop-p.opposites.items) end c.loop-p.invariant
+    subst (λ n. AreOpposites c.args.classes.now.heads.items c.args.fingerprints.now n c.loop-p.opposites) end c.loop-p.invariant

@@ -23,7 +23,7 @@ pub returns : goal.returns
 returns c =
     let b = c.in_ok-buckets.buckets in
     let m = c.in_ok-tops.tops in
-    let vs = c.in_ok-opposites.opposites.items in
+    let vs = c.in_ok-opposites.opposites in
     let tells : TellsApart b.heads.items c.deref-3.result.now m =
     subst (λ (xs : List Head). TellsApart xs c.deref-3.result.now m) c.deref.ensures.value
     (subst (λ (xs : List Fingerprint). TellsApart c.deref.result.now xs m) (c.deref-2.ensures.value ∙ sym c.deref-3.ensures.value) c.in_ok-tops.ensures) in

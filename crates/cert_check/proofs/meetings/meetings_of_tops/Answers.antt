@@ -24,7 +24,7 @@ pub returns : goal.returns
 returns c =
     let hs = c.args.heads.now in
     let b = c.in_ok-buckets.buckets in
-    let vs = c.in_ok-opposites.opposites.items in
+    let vs = c.in_ok-opposites.opposites in
     let os : AreOpposites b.heads.items b.fingerprints.items (length b.heads.items) vs =
     subst (λ (xs : List Head). AreOpposites xs b.fingerprints.items (length xs) vs) c.deref-2.ensures.value
     (subst (λ (xs : List Fingerprint). AreOpposites c.deref-2.result.now xs (length c.deref-2.result.now) vs) c.deref-3.ensures.value c.in_ok-opposites.ensures) in

@@ -17,4 +17,4 @@ returns c =
     let ns = c.in_ok-classes.classes.heads.items in
     let count : length ps ≡ length ns = c.requires ∙ sym c.in_ok-classes.ensures.count in
     IfOk-weaker c.find_opposites.result _ _
-    (λ vs h. opposites_narrow hs ps ns vs.items c.in_ok-classes.ensures.count c.in_ok-classes.ensures.narrow (subst (λ n. AreOpposites ns ps n vs.items) count h)) c.find_opposites.ensures
+    (λ vs h. opposites_narrow hs ps ns vs c.in_ok-classes.ensures.count c.in_ok-classes.ensures.narrow (subst (λ n. AreOpposites ns ps n vs) count h)) c.find_opposites.ensures

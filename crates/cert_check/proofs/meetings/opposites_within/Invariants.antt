@@ -4,4 +4,4 @@ use Rattle.cert_check.specs.Partners.{Head}
 use Rattle.cert_check.proofs.meetings.opposites_within.Given as goal
 
 abbrev pub invariant-loop-p : goal.invariant-loop-p
-invariant-loop-p l = (hs : List Head) → TellsApart hs l.fingerprints l.meetings → AreOpposites hs l.fingerprints l.p l.opposites.items
+invariant-loop-p l = (hs : List Head) → TellsApart hs l.fingerprints l.meetings → AreOpposites hs l.fingerprints l.p l.opposites
