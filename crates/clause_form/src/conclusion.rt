@@ -12,7 +12,7 @@ ghost use Rattle.clause_form.specs.Conclusions.{IsConclusionOf, AreVariables, by
 
 use crate::compare::greatest_variable;
 use crate::literals::{atoms_of, clause_of};
-use crate::walk::{Leaves, build_all, build_atoms};
+use crate::walk::{Leaves, Workspace, build_all, build_atoms, build_atoms_in};
 use inst_logic::Memory;
 use std::alloc::Global;
 use term_bank::{Bank, IdClause, TermId, TermIdList};
@@ -124,10 +124,34 @@ pub fn conclude_clause(
     ensures unspent { OnOk result (bank.old.spent ≡ false → bank.new.spent ≡ false) }
     ensures formed { AreFormed bank.old → AreTerms bank.old b.now.entries → AreFormed bank.new }
 {
-    let leaves = Leaves::Led(b);
-    let built = build_atoms(alloc, bank, &leaves, side, c.as_slice())?;
-    bank.distinct();
-    clause_of(alloc, c.as_slice(), &built)
+    let mut room = Workspace::new(alloc);
+    room.conclude_clause(bank, b, side, c)
+}
+
+impl Workspace {
+    /// As the function `conclude_clause`. The walk takes no memory where an earlier one took as much.
+    pub fn conclude_clause(
+        &mut self,
+        bank: &mut Bank,
+        b: &Bindings,
+        side: Side,
+        c: &IdClause,
+    ) -> Result<IdClause, Memory>
+        requires clause { IsClauseOf bank.old c.now }
+        requires bindings { AreBindings bank.old b.now.entries }
+        ensures made { IfOk result (λ d. (s : Sided) → IsResolvedBy bank.old b.now.entries s → IsClauseAt bank.new d (canonical_form (instance (of_side s side) (clause_at bank.old c.now)))) }
+        ensures ids { IfOk result (λ d. IsClauseOf bank.new d) }
+        ensures canonical { IfOk result (λ d. IsCanonical (clause_at bank.new d)) }
+        ensures atoms { IfOk result (λ d. AreTerms bank.old b.now.entries → IsFormedClause (clause_at bank.old c.now) → IsFormedClause (clause_at bank.new d)) }
+        ensures extends { Extends bank.old bank.new }
+        ensures unspent { OnOk result (bank.old.spent ≡ false → bank.new.spent ≡ false) }
+        ensures formed { AreFormed bank.old → AreTerms bank.old b.now.entries → AreFormed bank.new }
+    {
+        let leaves = Leaves::Led(b);
+        build_atoms_in(self, bank, &leaves, side, c.as_slice())?;
+        bank.distinct();
+        clause_of(self.alloc, c.as_slice(), &self.ids)
+    }
 }
 
 /// The clause with term `i` of the list for its variable `i`, repeated literals dropped. The bank keeps its trees and may have

@@ -22,3 +22,4 @@ pub use renumber::canonical;
 pub use subsuming::subsuming_terms;
 pub use subsumption::subsumes;
 pub use terms::terms_under;
+pub use walk::Workspace;

@@ -47,6 +47,14 @@ impl Order {
         }
     }
 
+    // Forgets the variables. There stays room for the first few.
+    pub fn clear(&mut self, alloc: Global)
+        ensures { self.new ≡ [] }
+    {
+        self.first.clear();
+        self.later = IndexSet::new(alloc);
+    }
+
     // The variable's number, from 0. A new one goes last.
     pub fn number_of(&mut self, v: Variable) -> Result<usize, Memory>
         ensures met { OnOk result (self.new ≡ with_variable self.old v) }
