@@ -98,6 +98,7 @@ pub fn new_run<S: Solver, I: PartnerIndex>(
             solver,
             literals: FlatClauses::new(alloc),
             valuation: Valuation::new(alloc),
+            numbered: Vec::new(alloc),
         },
         known: Known::new(alloc, known),
         selection: Selection::new(alloc),
