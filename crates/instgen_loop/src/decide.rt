@@ -61,7 +61,7 @@ fn uncovered_size<S: Solver, I: PartnerIndex>(
     let size = conclusion_size(run, Side::Left, from)?;
     let conclusion = conclusion_of(alloc, run, Side::Left, from)?;
     let len = clause_of(run, from).len();
-    if is_covered(alloc, &run.entries, &conclusion, len)? {
+    if is_covered(alloc, &run.entries, &conclusion, len, &mut run.scratch)? {
         Ok(None)
     } else {
         Ok(Some(size))

@@ -349,7 +349,7 @@ pub fn infer<S: Solver, I: PartnerIndex>(
     let conclusion = conclusion_of(alloc, run, side, from)?;
     let len = clause_of(run, from).len();
     let place = place_of(run, from);
-    if is_covered(alloc, &run.entries, &conclusion, len)? {
+    if is_covered(alloc, &run.entries, &conclusion, len, &mut run.scratch)? {
         forget(run, terms);
         return Ok(());
     }
