@@ -59,9 +59,9 @@ fn uncovered_size<S: Solver, I: PartnerIndex>(
         → IsCoveredOrSize run.new (clause_at run.old.entries.bank m.0.literals.left_at.item.0) (instance m.0.unifier.left (clause_at run.old.entries.bank m.0.literals.left_at.item.0)) o) }
 {
     let size = conclusion_size(run, Side::Left, from)?;
-    let conclusion = conclusion_of(alloc, run, Side::Left, from)?;
+    let conclusion = conclusion_of(run, Side::Left, from)?;
     let len = clause_of(run, from).len();
-    if is_covered(alloc, &run.entries, &conclusion, len)? {
+    if is_covered(alloc, &run.entries, &conclusion, len, &mut run.scratch)? {
         Ok(None)
     } else {
         Ok(Some(size))

@@ -112,6 +112,7 @@ fn ask_anew<S: Solver>(
         solver,
         literals: FlatClauses::new(alloc),
         valuation: Valuation::new(alloc),
+        numbered: Vec::new(alloc),
     };
     ask_lines(run, &mut ground, lines)
 }

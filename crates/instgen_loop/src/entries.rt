@@ -8,11 +8,11 @@ ghost use Rattle.instgen_loop.specs.Clauses.{AreEntries, AreFirsts, IsEntry, IsU
 ghost use Rattle.saturation_cert.specs.declared.member.Origin.{Origin};
 
 use crate::origin::PackedOrigin;
+use crate::scratch::Scratch;
 use clause_form::{long_tautology, subsumes};
 use indexmap::IndexMap;
 use inst_logic::Memory;
 use std::alloc::Global;
-use std::mem::replace;
 use term_bank::{Bank, IdClause, IdLiteral};
 use term_index::{PartnerIndex, View};
 
@@ -205,12 +205,11 @@ fn has_shorter_first<I: PartnerIndex>(
     Ok(false)
 }
 
-// Whether the literal alone is an entry, where it has no variables. The key is made anew in the memory that it has.
+// Whether the literal alone is an entry, where it has no variables.
 fn is_unit<I: PartnerIndex>(
-    alloc: Global,
     entries: &Entries<I>,
     l: IdLiteral,
-    key: &mut IdClause,
+    scratch: &mut Scratch,
 ) -> Result<bool, Memory>
     requires { l.atom < length entries.now.bank.trees }
     ensures yes { IfOk result (λ r. r ≡ true → IsEntry entries.now.clauses.entries l) }
@@ -219,26 +218,22 @@ fn is_unit<I: PartnerIndex>(
     if !entries.bank.ground(l.atom) {
         return Ok(false);
     }
-    let mut alone = Vec::from(replace(key, IdClause::new(alloc)));
-    alone.clear();
-    alone.push(l)?;
-    *key = IdClause::from(alone);
-    Ok(entries.clauses.contains_key(&*key))
+    let key = scratch.alone(l)?;
+    Ok(entries.clauses.contains_key(key))
 }
 
 // Whether some literal of the clause is a unit.
 fn has_unit<I: PartnerIndex>(
-    alloc: Global,
     entries: &Entries<I>,
     d: &IdClause,
+    scratch: &mut Scratch,
 ) -> Result<bool, Memory>
     requires { IsClauseOf entries.now.bank d.now }
     ensures yes { IfOk result (λ r. r ≡ true → (l : Signed ℕ) × Contains d.now l × IsEntry entries.now.clauses.entries l) }
     ensures no { IfOk result (λ r. r ≡ false → All (IsNoUnit entries.now.bank entries.now.clauses.entries) d.now) }
 {
-    let mut key = IdClause::new(alloc);
     for l in d.as_slice() {
-        if is_unit(alloc, entries, *l, &mut key)? {
+        if is_unit(entries, *l, scratch)? {
             return Ok(true);
         }
     }
@@ -251,6 +246,7 @@ fn has_shorter<I: PartnerIndex>(
     entries: &Entries<I>,
     d: &IdClause,
     len: usize,
+    scratch: &mut Scratch,
 ) -> Result<bool, Memory>
     requires entries { AreEntries entries.now.bank entries.now.clauses.entries }
     requires firsts { AreFirsts I.pairs entries.now entries.now.clauses.entries }
@@ -265,7 +261,7 @@ fn has_shorter<I: PartnerIndex>(
     if len <= 1 {
         return Ok(false);
     }
-    if has_unit(alloc, entries, d)? {
+    if has_unit(entries, d, scratch)? {
         return Ok(true);
     }
     has_shorter_first(alloc, entries, d, len)
@@ -278,6 +274,7 @@ pub fn is_covered<I: PartnerIndex>(
     entries: &Entries<I>,
     d: &IdClause,
     len: usize,
+    scratch: &mut Scratch,
 ) -> Result<bool, Memory>
     requires entries { AreEntries entries.now.bank entries.now.clauses.entries }
     requires firsts { AreFirsts I.pairs entries.now entries.now.clauses.entries }
@@ -300,5 +297,5 @@ pub fn is_covered<I: PartnerIndex>(
     if entries.clauses.contains_key(d) {
         return Ok(true);
     }
-    has_shorter(alloc, entries, d, len)
+    has_shorter(alloc, entries, d, len, scratch)
 }

@@ -11,7 +11,7 @@ ghost use Rattle.instgen_loop.specs.Grounds.{IsLinked};
 use compact_lists::{FlatClauses, PackedLit};
 use ground_abs::Abstraction;
 use inst_logic::Memory;
-use prop_logic::{Solver, Valuation, make_atoms};
+use prop_logic::{Lit, Solver, Valuation, make_atoms};
 use term_bank::{Bank, IdClause};
 
 /// The abstractions of the entries, one for one, and the last valuation of their atoms.
@@ -21,6 +21,8 @@ pub struct Ground<S: Solver> {
     pub solver: S,
     pub literals: FlatClauses,
     pub valuation: Valuation,
+    /// Room for the numbered literals of one entry.
+    pub numbered: Vec<Lit>,
 }
 
 /// The numbered literals of the entry after the first `count`.
@@ -58,10 +60,12 @@ pub fn add_entry<S: Solver>(
     ensures formed { AreFormed bank.old → AreFormed bank.new }
 {
     let before = ground.abstraction.len();
-    let lits = ground.abstraction.abstract_clause(bank, clause)?;
+    ground
+        .abstraction
+        .abstract_into(bank, clause, &mut ground.numbered)?;
     let count = ground.abstraction.len() - before;
     make_atoms(&mut ground.solver, count)?;
-    let literals = lits.as_slice();
+    let literals = ground.numbered.as_slice();
     ground.solver.add(literals)?;
     ground.literals.push(literals)?;
     Ok(())

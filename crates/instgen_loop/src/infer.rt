@@ -19,7 +19,7 @@ ghost use Rattle.instgen_loop.specs.Running.{Reads, Holds, AppendsWhole, Appends
 use crate::entries::is_covered;
 use crate::origin::PackedOrigin;
 use crate::state::{Held, Run, append};
-use clause_form::{canonical, clause_size, conclude_clause};
+use clause_form::{canonical, clause_size};
 use global_subs::{Lemma, reduce};
 use inst_logic::{Memory, PlaceList};
 use prop_logic::Solver;
@@ -150,7 +150,6 @@ fn budgeted_size<S: Solver, I: PartnerIndex>(
 
 /// What entry `from` gives under the bindings, in canonical form.
 pub fn conclusion_of<S: Solver, I: PartnerIndex>(
-    alloc: Global,
     run: &mut Run<S, I>,
     side: Side,
     from: usize,
@@ -169,7 +168,8 @@ pub fn conclusion_of<S: Solver, I: PartnerIndex>(
 {
     match run.entries.clauses.get_index(from - 1) {
         Some((clause, _)) => {
-            conclude_clause(alloc, &mut run.entries.bank, &run.bindings, side, clause)
+            let scratch = &mut run.scratch;
+            scratch.conclude_clause(&mut run.entries.bank, &run.bindings, side, clause)
         }
         None => unreachable!(),
     }
@@ -346,10 +346,10 @@ pub fn infer<S: Solver, I: PartnerIndex>(
         return Ok(());
     }
     let terms = run.entries.bank.len();
-    let conclusion = conclusion_of(alloc, run, side, from)?;
+    let conclusion = conclusion_of(run, side, from)?;
     let len = clause_of(run, from).len();
     let place = place_of(run, from);
-    if is_covered(alloc, &run.entries, &conclusion, len)? {
+    if is_covered(alloc, &run.entries, &conclusion, len, &mut run.scratch)? {
         forget(run, terms);
         return Ok(());
     }

@@ -28,6 +28,7 @@ pub mod queue;
 pub mod records;
 pub mod refuted;
 pub mod reselect;
+pub mod scratch;
 pub mod selection;
 pub mod settle;
 pub mod small;

@@ -19,6 +19,7 @@ use crate::entries::Entries;
 use crate::event_log::EventLog;
 use crate::ground::Ground;
 use crate::origin::PackedOrigin;
+use crate::scratch::Scratch;
 use crate::selection::Selection;
 use crate::state::{Run, make_entry};
 use clause_form::long_tautology;
@@ -98,6 +99,7 @@ pub fn new_run<S: Solver, I: PartnerIndex>(
             solver,
             literals: FlatClauses::new(alloc),
             valuation: Valuation::new(alloc),
+            numbered: Vec::new(alloc),
         },
         known: Known::new(alloc, known),
         selection: Selection::new(alloc),
@@ -105,6 +107,7 @@ pub fn new_run<S: Solver, I: PartnerIndex>(
         held: Vec::new(alloc),
         journal: EventLog::new(alloc),
         bindings: Bindings::new(alloc),
+        scratch: Scratch::new(alloc),
         left,
     }
 }

@@ -12,6 +12,7 @@ use crate::entries::{Entries, push_entry};
 use crate::event_log::EventLog;
 use crate::ground::{Ground, add_entry};
 use crate::origin::PackedOrigin;
+use crate::scratch::Scratch;
 use crate::selection::Selection;
 use clause_form::{clause_size, greatest_variable};
 use global_subs::Known;
@@ -45,6 +46,7 @@ pub struct Run<S: Solver, I: PartnerIndex> {
     pub held: Vec<Held>,
     pub journal: EventLog,
     pub bindings: Bindings,
+    pub scratch: Scratch,
     /// What is left of the budget, in symbols. There is none on function-free problems.
     pub left: Option<u64>,
 }

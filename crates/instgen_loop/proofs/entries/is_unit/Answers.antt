@@ -9,13 +9,11 @@ use Rattle.instgen_loop.proofs.entries.is_unit.Goals as goal
 pub returns-clause-yes : goal.returns-clause-yes
 returns-clause-yes g c = λ t.
     let es = c.args.entries.now.clauses.entries in
-    let alone = c.from.ensures ∙ c.in_ok-push.ensures.items ∙ ap (λ (ls : List (Signed ℕ)). ls ++ c.args.l ∷ []) c.clear.ensures.items in
-    subst (λ (d : List (Signed ℕ)). (e : Item) × Contains es e × (e.0 ≡ d)) alone
-    ((has_key _ (signed_eq_decides nat_eq Decides-eqb) es c.from.result c.contains_key.result c.contains_key.ensures).0 t)
+    subst (λ (d : List (Signed ℕ)). (e : Item) × Contains es e × (e.0 ≡ d)) c.in_ok-key.ensures
+    ((has_key _ (signed_eq_decides nat_eq Decides-eqb) es c.in_ok-key.key.now c.contains_key.result c.contains_key.ensures).0 t)
 
 pub returns-clause-no : goal.returns-clause-no
 returns-clause-no g c = λ t still (e, i, one).
     let es = c.args.entries.now.clauses.entries in
-    let alone = c.from.ensures ∙ c.in_ok-push.ensures.items ∙ ap (λ (ls : List (Signed ℕ)). ls ++ c.args.l ∷ []) c.clear.ensures.items in
-    subst (λ (d : List (Signed ℕ)). (x : Item) → Contains es x → ¬ (x.0 ≡ d)) alone
-    ((has_key _ (signed_eq_decides nat_eq Decides-eqb) es c.from.result c.contains_key.result c.contains_key.ensures).1 t) e i one
+    subst (λ (d : List (Signed ℕ)). (x : Item) → Contains es x → ¬ (x.0 ≡ d)) c.in_ok-key.ensures
+    ((has_key _ (signed_eq_decides nat_eq Decides-eqb) es c.in_ok-key.key.now c.contains_key.result c.contains_key.ensures).1 t) e i one
