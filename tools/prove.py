@@ -8,7 +8,8 @@ they do under `rt ci`. The crate with the longest chain of others behind it goes
 for. What is proved stays in TOP/out with the sum of all that it was made from, and is taken as it is where that is the same.
 
 The status is 0 where all is proved and TOP/out/instgen.built is the program, 1 where a crate is not proved, which is then named and
-of which the log LOG has what rattle said, and 3 where the kit does not look as this script knows it.
+of which the log LOG has what rattle said, 3 where the kit does not look as this script knows it, and 4 where a crate's sources were
+changed while it was proved: what was made of it is then not kept.
 """
 
 import contextlib
@@ -28,6 +29,7 @@ PROGRAM = 'instgen'
 SPEED = {1: 1.0, 2: 1.6, 3: 2.0, 4: 2.3}
 LINES_A_MINUTE = 700
 UNKNOWN_KIT = 3
+CHANGED = 4
 
 
 def tell(text):
@@ -92,7 +94,7 @@ class Crate:
         return sorted((os.path.relpath(it, folder), it) for it in found)
 
     def read(self, top, identity):
-        """Sets the sum of what the crate is made from, given those of the crates below; gives how many lines it has."""
+        """The sum of what the crate is made from, given those of the crates below, and how many lines it has."""
         total, lines = hashlib.sha256(identity + self.line.encode()), 0
         for name, path in self.files_in(top):
             with open(path, 'rb') as file:
@@ -101,8 +103,7 @@ class Crate:
             lines += text.count(b'\n')
         for it in self.below:
             total.update(it.sum.encode())
-        self.sum = total.hexdigest()
-        return lines
+        return total.hexdigest(), lines
 
 
 def known_minutes():
@@ -131,7 +132,7 @@ def crates_of(top, text, identity):
             raise SystemExit('crates.txt has a ring of crates')
         for crate in ready:
             crate.below = [crates[use] for use in crate.uses if use in crates]
-            lines = crate.read(top, identity)
+            crate.sum, lines = crate.read(top, identity)
             crate.minutes = known.get(crate.name) or max(0.3, lines / LINES_A_MINUTE)
             ordered.append(crate)
     for crate in reversed(ordered):
@@ -176,7 +177,7 @@ class Made:
     """What is made of the crates, in a folder: the libraries and the program."""
 
     def __init__(self, top, kit):
-        self.top, self.kit = top, kit
+        self.top, self.kit, self.identity = top, kit, kit.identity()
         self.out = os.path.join(top, 'out')
         self.libraries = os.path.join(self.out, 'libraries')
         self.program = os.path.join(self.out, PROGRAM + '.built')
@@ -221,6 +222,9 @@ class Made:
         words += ['--jobs', str(jobs)]
         words += ['--toolchain', kit.toolchain] if crate.is_program() else ['--statements']
         return words + ['-o', self.target(crate)]
+
+    def is_changed(self, crate):
+        return crate.read(self.top, self.identity)[0] != crate.sum
 
     def begin(self, crate, jobs, log):
         self.forget(crate)
@@ -287,10 +291,11 @@ class Run:
             self.pace = self.timed[0] / self.timed[1]
 
     def end(self, crate):
-        """Takes over what was made; gives whether the crate is proved, or is to be tried once more."""
+        """Takes over what was made; gives 0 where the crate is proved or is to be tried once more, and else the status to end with."""
         call, said, begun = self.calls.pop(crate)
         jobs = self.running.pop(crate)
-        is_proved = call.returncode == 0 and self.made.end(crate, said)
+        is_changed = self.made.is_changed(crate)
+        is_made = call.returncode == 0 and not is_changed and self.made.end(crate, said)
         said.seek(0)
         with open(self.log, 'ab') as log:
             log.write(b'== %s\n' % crate.name.encode() + said.read())
@@ -298,15 +303,18 @@ class Run:
             self.processors -= 1
             tell('%s was killed, most likely for memory: once more, and all by %d processors' % (crate.name, self.processors))
             self.left.add(crate)
-            return True
-        if not is_proved:
+            return 0
+        if is_changed:
+            tell('the sources of %s have changed meanwhile' % crate.name)
+            return CHANGED
+        if not is_made:
             tell('%s is not %s' % (crate.name, 'proved' if call.returncode else 'linked'))
-            return False
+            return 1
         self.note(crate, jobs, time.monotonic() - begun)
         self.done.add(crate)
         self.begin_all()
         self.say(crate)
-        return True
+        return 0
 
     def stop(self):
         for call, _, _ in self.calls.values():
@@ -325,8 +333,9 @@ class Run:
             while self.running:
                 ended = [it for it, call in self.calls.items() if call[0].poll() is not None]
                 for crate in ended:
-                    if not self.end(crate):
-                        return 1
+                    status = self.end(crate)
+                    if status:
+                        return status
                 self.begin_all()
                 time.sleep(0 if ended else 0.2)
             return 0
@@ -342,7 +351,8 @@ def main():
     kit = Kit()
     if not kit.is_known():
         return UNKNOWN_KIT
-    run = Run(Made(top, kit), log, processors, crates_of(top, sys.stdin.read(), kit.identity()))
+    made = Made(top, kit)
+    run = Run(made, log, processors, crates_of(top, sys.stdin.read(), made.identity))
     for number in (signal.SIGTERM, signal.SIGHUP, signal.SIGINT):
         signal.signal(number, lambda *_: sys.exit(1))
     run.say_begin()
