@@ -99,3 +99,8 @@ outside_of keys all stated h (n ∷ ns) sub =
 
 pub outside_missing : (keys names : List (List ℕ)) (stated chosen : List Stated) → chosen ≡ listed names stated → HasSame keys (names_of chosen) → first_outside keys names ≡ first_missing stated names
 outside_missing keys names stated chosen e h = outside_of keys names stated (subst (λ c. HasSame keys (names_of c)) e h) names (λ n k. k)
+
+-- a set has the names that a list with the same names has
+pub same_outside : (keys own names : List (List ℕ)) → HasSame keys own → first_outside keys names ≡ first_outside own names
+same_outside keys own [] h = refl
+same_outside keys own (n ∷ ns) h = λ i. cond (h n i) (same_outside keys own ns h i) (Some n)

@@ -127,8 +127,69 @@ fn add_all(stated: &mut Vec<StatedClause>, chosen: Vec<StatedClause>) -> Result<
     Ok(())
 }
 
+// The clauses of a part whose names are among these. The set is let go by a call, as below: where the scope of one ends, the proof
+// takes long.
+fn chosen_of(
+    alloc: Global,
+    names: &NameList,
+    part: Vec<StatedClause>,
+) -> Result<Vec<StatedClause>, Memory>
+    ensures { IfOk result (λ v. v.items ≡ listed names.now part.items) }
+{
+    match set_of(alloc, names) {
+        Ok(wanted) => {
+            let chosen = kept(alloc, &wanted, part);
+            drop(wanted);
+            chosen
+        }
+        Err(Memory) => {
+            drop(part);
+            Err(Memory)
+        }
+    }
+}
+
+// Each of the names is that of a chosen clause, or the first that is not is told.
+fn are_chosen(
+    alloc: Global,
+    file: &Name,
+    names: &NameList,
+    chosen: &[StatedClause],
+) -> Result<(), LoadError>
+    ensures ok { OnOk result (first_outside (names_of chosen.now) names.now ≡ None) }
+    ensures err { IfErr result (IsOutside (names_of chosen.now) file.now names.now) }
+{
+    let found = set_of_names(alloc, chosen)?;
+    let told = are_found(&found, file, names);
+    drop(found);
+    told
+}
+
+// Moves the chosen clauses to the end, where each of the names is that of one.
+fn add_chosen(
+    alloc: Global,
+    file: &Name,
+    names: &NameList,
+    chosen: Vec<StatedClause>,
+    stated: &mut Vec<StatedClause>,
+) -> Result<(), LoadError>
+    ensures complete { OnOk result (first_outside (names_of chosen.items) names.now ≡ None) }
+    ensures added { OnOk result (stated.new.items ≡ stated.old.items ++ chosen.items) }
+    ensures err { IfErr result (IsOutside (names_of chosen.items) file.now names.now) }
+{
+    match are_chosen(alloc, file, names, chosen.as_slice()) {
+        Ok(()) => {
+            add_all(stated, chosen)?;
+            Ok(())
+        }
+        Err(error) => {
+            drop(chosen);
+            Err(error)
+        }
+    }
+}
+
 /// Adds the clauses of a part whose names are selected. Each of the names must be that of a statement of the part.
-#[tactic(auto, using(std::proofs::lemmas::Grind::common_steps, crate::proofs::Selections::kept_listed, crate::proofs::Selections::outside_missing))]
 pub(crate) fn select(
     alloc: Global,
     file: &Name,
@@ -140,10 +201,6 @@ pub(crate) fn select(
     ensures added { OnOk result (stated.new.items ≡ stated.old.items ++ listed names.now part.items) }
     ensures err { IfErr result (IsUnselected part.items file.now names.now) }
 {
-    let wanted = set_of(alloc, names)?;
-    let chosen = kept(alloc, &wanted, part)?;
-    let found = set_of_names(alloc, chosen.as_slice())?;
-    are_found(&found, file, names)?;
-    add_all(stated, chosen)?;
-    Ok(())
+    let chosen = chosen_of(alloc, names, part)?;
+    add_chosen(alloc, file, names, chosen, stated)
 }
