@@ -65,3 +65,10 @@ pub record IsReadFunction (ms : List Member) (k : ℕ) (ns : Numbers) (t : Table
 
 pub record IsReadPredicate (ms : List Member) (k : ℕ) (ns : Numbers) (t : Table) : Type 0 where
   pub cells : AreFilled k t.sym.arity (IsTruthAt ms (numbered_predicate ns t.sym)) (k ^ t.sym.arity) t.cells
+
+-- those of the symbols of a numbering, in its order
+pub record AreReadBy (ms : List Member) (k : ℕ) (ns : Numbers) (ts : Tables) : Type 0 where
+  pub functions : map (λ t. t.sym) ts.functions ≡ ns.functions
+  pub predicates : map (λ t. t.sym) ts.predicates ≡ ns.predicates
+  pub read_functions : All (IsReadFunction ms k ns) ts.functions
+  pub read_predicates : All (IsReadPredicate ms k ns) ts.predicates

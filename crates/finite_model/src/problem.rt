@@ -2,7 +2,7 @@
 ghost use Rattle.std.specs.Prelude.{◌≡◌, ◌+◌, ◌-◌, ◌<◌, ◌≤◌, ◌++◌, ◌∷◌, [], codes, length, map, slice_index_or, IfOk, OnOk};
 ghost use Rattle.std.specs.List.{range_with_len};
 ghost use Rattle.inst_logic.specs.Clauses.{canonical_form};
-ghost use Rattle.finite_model.specs.Flattening.{identity, identity_clause, identity_clauses, unique_clause, unique_clauses, graph_clauses, function_clauses, function_predicate, flat_clause, flattened, flattened_names};
+ghost use Rattle.finite_model.specs.Flattening.{identity, identity_clause, identity_clauses, unique_clause, unique_clauses, graph_clauses, function_clauses, function_predicate, flat_clause, flattened, flattened_names, numbers_of};
 ghost use Rattle.finite_model.specs.Adding.{Adds, AddsEach};
 
 use crate::clauses::flat_clause;
@@ -183,6 +183,55 @@ fn add_clauses(
     Ok(())
 }
 
+// Adds the flattened form of the problem by the numbering of its symbols.
+fn add_all(
+    alloc: Global,
+    numbering: &Numbering,
+    all: &mut Problem,
+    p: &Problem,
+    k: usize,
+) -> Result<(), Memory>
+    requires named { length p.now.names ≡ length p.now.clauses }
+    requires numbered { numbering.now ≡ numbers_of p.now.clauses }
+    ensures clauses { OnOk result (all.new.clauses ≡ all.old.clauses ++ flattened k p.now.clauses) }
+    ensures names { OnOk result (all.new.names ≡ all.old.names ++ flattened_names k p.now.clauses p.now.names) }
+{
+    add_identities(alloc, all, k)?;
+    add_functions(alloc, numbering, all, k)?;
+    add_clauses(
+        alloc,
+        numbering,
+        all,
+        p.clauses.as_slice(),
+        p.names.as_slice(),
+    )
+}
+
+// The flattened form of the problem by the numbering of its symbols.
+fn flattened_by(
+    alloc: Global,
+    numbering: &Numbering,
+    p: &Problem,
+    k: usize,
+) -> Result<Problem, Memory>
+    requires named { length p.now.names ≡ length p.now.clauses }
+    requires numbered { numbering.now ≡ numbers_of p.now.clauses }
+    ensures clauses { IfOk result (λ q. q.clauses ≡ flattened k p.now.clauses) }
+    ensures names { IfOk result (λ q. q.names ≡ flattened_names k p.now.clauses p.now.names) }
+{
+    let mut all = Problem {
+        clauses: ClauseList::new(alloc),
+        names: NameList::new(alloc),
+    };
+    match add_all(alloc, numbering, &mut all, p, k) {
+        Ok(()) => Ok(all),
+        Err(Memory) => {
+            drop(all);
+            Err(Memory)
+        }
+    }
+}
+
 /// The flattened form of the problem for `k` elements, with the names of its clauses. It has `k * k` clauses for identity, then one
 /// and `k * (k - 1) / 2` for each function, and one for each clause of the problem. A function with `usize::MAX` arguments is want
 /// of memory.
@@ -192,18 +241,8 @@ pub fn flatten(alloc: Global, p: &Problem, k: usize) -> Result<Problem, Memory>
     ensures names { IfOk result (λ q. q.names ≡ flattened_names k p.now.clauses p.now.names) }
 {
     let numbering = Numbering::of(alloc, &p.clauses)?;
-    let mut all = Problem {
-        clauses: ClauseList::new(alloc),
-        names: NameList::new(alloc),
-    };
-    add_identities(alloc, &mut all, k)?;
-    add_functions(alloc, &numbering, &mut all, k)?;
-    add_clauses(
-        alloc,
-        &numbering,
-        &mut all,
-        p.clauses.as_slice(),
-        p.names.as_slice(),
-    )?;
-    Ok(all)
+    let all = flattened_by(alloc, &numbering, p, k);
+    // Let go by a call, here and above: where the scope of one ends, the proof takes long.
+    drop(numbering);
+    all
 }

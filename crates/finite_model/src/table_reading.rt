@@ -4,7 +4,7 @@ ghost use Rattle.inst_logic.specs.declared.symbol.Sym.{Sym};
 ghost use Rattle.inst_logic.specs.WellFormed.{AreFormedClauses};
 ghost use Rattle.inst_calculus.specs.Models.{Makes};
 ghost use Rattle.finite_model.specs.Flattening.{function_predicate, flattened, identity};
-ghost use Rattle.finite_model.specs.Reading.{AreRead, HasValues, IsReadFunction, IsReadPredicate};
+ghost use Rattle.finite_model.specs.Reading.{AreRead, AreReadBy, HasValues, IsReadFunction, IsReadPredicate};
 ghost use Rattle.finite_model.specs.Tables.{IsModel};
 
 use crate::cell_reading::{TruthTest, function_cells, predicate_cells};
@@ -146,6 +146,33 @@ fn predicate_tables<T: TruthTest>(
     Ok(tables)
 }
 
+// The tables of the symbols of this numbering.
+fn tables_by<T: TruthTest>(
+    alloc: Global,
+    numbering: &Numbering,
+    test: &mut T,
+    k: usize,
+) -> Result<Tables, Memory>
+    requires some { 0 < k }
+    requires values { (f : Sym) → Contains numbering.now.functions f → HasValues (T.members test.old) k f.arity (function_predicate numbering.now f) }
+    requires ready { T.ready test.old }
+    ensures read { IfOk result (AreReadBy (T.members test.old) k numbering.now) }
+    ensures same { T.members test.new ≡ T.members test.old }
+    ensures ready { T.ready test.new }
+{
+    let functions = function_tables(alloc, numbering, test, k)?;
+    match predicate_tables(alloc, numbering, test, k) {
+        Ok(predicates) => Ok(Tables {
+            functions,
+            predicates,
+        }),
+        Err(Memory) => {
+            drop(functions);
+            Err(Memory)
+        }
+    }
+}
+
 /// The tables of the problem over `k` elements, where the test's clauses make its flattened form true: they are a model. The test is
 /// asked once for each cell of a predicate, and at most `k` times for each cell of a function.
 pub fn read_tables<T: TruthTest>(
@@ -164,10 +191,8 @@ pub fn read_tables<T: TruthTest>(
     ensures ready { T.ready test.new }
 {
     let numbering = Numbering::of(alloc, &p.clauses)?;
-    let functions = function_tables(alloc, &numbering, test, k)?;
-    let predicates = predicate_tables(alloc, &numbering, test, k)?;
-    Ok(Tables {
-        functions,
-        predicates,
-    })
+    let tables = tables_by(alloc, &numbering, test, k);
+    // Let go by a call: where its scope ends, the proof takes long.
+    drop(numbering);
+    tables
 }
