@@ -111,7 +111,7 @@ side_from Left Right e = absurd cc
 side_from Right Left e = absurd cc
 side_from Right Right e = refl
 
-cover_there : (c : Covered) (place : ℕ) (o : Option Cover) → slice_get c.covers place ≡ o → slice_get (covered_of c).covers place ≡ option_map (cover_of c.cert.base.bank) o
+pub cover_there : (c : Covered) (place : ℕ) (o : Option Cover) → slice_get c.covers place ≡ o → slice_get (covered_of c).covers place ≡ option_map (cover_of c.cert.base.bank) o
 cover_there c place o at = slice_get-map (cover_of c.cert.base.bank) c.covers place ∙ ap (option_map (cover_of c.cert.base.bank)) at
 
 module _ (c : Covered) (es : List Binding) (due : DueSide) (place : ℕ) where

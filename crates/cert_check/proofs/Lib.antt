@@ -42,3 +42,4 @@ pub mod BucketLaws
 pub mod LinkLaws
 pub mod MeetingLaws
 pub mod ShownSteps
+pub mod MadePairs

@@ -24,6 +24,7 @@ use crate::conclusion::{Premises, numbered_item};
 use crate::difference::same_clause;
 use crate::due_side::{DueSide, number_at};
 use crate::instance::Instance;
+use crate::made::{is_made, is_of, pass_made};
 use crate::meetings::Meetings;
 use crate::pairs::is_proper;
 use cert_names::holds_by;
@@ -54,17 +55,6 @@ struct Rooms {
 struct RowRooms {
     pair: Rooms,
     partners: Vec<usize>,
-}
-
-// Whether the cover has the numbers and the side.
-fn is_of(cover: &Cover, members: &[Member], due: DueSide) -> bool
-    requires own { due.own < length members.now }
-    requires other { due.other < length members.now }
-    ensures { IsTrue result ↔ ((cover.now.left ≡ left_number due.side due.own due.other) × (cover.now.right ≡ right_number due.side due.own due.other) × (cover.now.side ≡ due.side)) }
-{
-    cover.left == due.left_number(members)
-        && cover.right == due.right_number(members)
-        && cover.side == due.side
 }
 
 // Whether the clauses stand for the same trees: equal trees have equal ids.
@@ -138,49 +128,6 @@ fn is_named(
         &cover.clause,
         &cover.by,
     )
-}
-
-// Whether the origin is that of the premises.
-fn is_from(origin: &Origin, premises: Premises) -> bool
-    ensures { result ≡ true → origin.now ≡ origin_from premises }
-{
-    match origin {
-        Origin::Inst {
-            from,
-            place,
-            partner,
-            other,
-        } => {
-            *from == premises.from
-                && *place == premises.place
-                && *partner == premises.partner
-                && *other == premises.other
-        }
-        Origin::Input(_) | Origin::Lemma { .. } => false,
-    }
-}
-
-// Whether the cover names a member that has its clause and was made from the selected literals of the two members. The origins
-// were checked before, so the clause is the instance, which then is not built.
-fn is_made(cert: &Saturation, due: DueSide, cover: &Cover) -> bool
-    requires own { due.own < length cert.now.base.members }
-    requires other { due.other < length cert.now.base.members }
-    ensures { result ≡ true → IsMadeCover cert.now due cover.now }
-{
-    let By::Variant(number) = &cover.by else {
-        return false;
-    };
-    let Some(member) = numbered_item(cert.base.members.as_slice(), *number) else {
-        return false;
-    };
-    let Some(place) = cert.places.get(due.own) else {
-        return false;
-    };
-    let Some(other) = cert.places.get(due.other) else {
-        return false;
-    };
-    let premises = Premises::new(due.own + 1, *place, due.other + 1, *other);
-    is_from(&member.origin, premises) && same_clause(&member.clause, &cover.clause)
 }
 
 // Whether the cover at the place, counted from 0, is that of the side.
@@ -298,9 +245,9 @@ fn compare_meeting(
     Ok(true)
 }
 
-// Compares the covers of members `i` and `j`, counted from 0. False comes where they meet and the unifier is proper on neither
-// side.
-fn compare_pair(
+// Compares the covers of members `i` and `j`, counted from 0, for their unifier. False comes where they meet and it is proper on
+// neither side.
+fn compare_unified(
     alloc: Global,
     cert: &mut Covered,
     rooms: &mut Rooms,
@@ -327,6 +274,32 @@ fn compare_pair(
         return Ok(true);
     }
     compare_meeting(alloc, cert, rooms, i, j, progress)
+}
+
+// Compares the covers of members `i` and `j`, counted from 0. Nothing is unified where origins tell what is due. False comes
+// where the members meet and the unifier is proper on neither side.
+fn compare_pair(
+    alloc: Global,
+    cert: &mut Covered,
+    rooms: &mut Rooms,
+    i: usize,
+    j: usize,
+    progress: &mut Progress,
+) -> Result<bool, Memory>
+    requires comparable { IsComparable cert.old }
+    requires left { i < j }
+    requires right { j < length cert.old.cert.base.members }
+    requires counted { progress.old.count ≤ length cert.old.covers }
+    ensures kept { KeepsCovered cert.old cert.new }
+    ensures whole { OnOk result (IsWholeCovered cert.new) }
+    ensures counted { progress.new.count ≤ length cert.new.covers }
+    ensures proper { IfOk result (λ r. IsTrue r ↔ IsProperPair (saturation_of cert.old.cert) (suc i) (suc j)) }
+    ensures gives { IfOk result (λ r. r ≡ true → GivesPair (saturation_of cert.old.cert) (suc i) (suc j) (AreCompared (covered_of cert.old) progress.old) (AreCompared (covered_of cert.old) progress.new)) }
+{
+    if pass_made(cert, i, j, progress) {
+        return Ok(true);
+    }
+    compare_unified(alloc, cert, rooms, i, j, progress)
 }
 
 // Compares the covers of member `i`, counted from 0, with each of the list, up to the first with which its unifier is proper on

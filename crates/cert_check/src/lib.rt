@@ -23,6 +23,7 @@ mod instance;
 mod lengths;
 mod links;
 mod lookup;
+mod made;
 mod meetings;
 mod naming;
 mod narrow;

@@ -20,7 +20,7 @@ pub returns-then-is_made-clause-right : goal.returns-then-is_made-clause-right
 returns-then-is_made-clause-right c =
     let cert = c.args.cert.now in
     cover_same cert c.args.rooms.now.bindings.entries c.args.due c.args.place c.in-Some.cover.now (sym c.get.ensures ∙ ap option_copied c.in-Some.is) (c.is_of.ensures.0 c.if-not-is_of.false) true
-    (made_named cert.cert c.requires.comparable.base c.requires.comparable.placed c.args.rooms.now.bindings.entries c.args.due c.in-Some.cover.now (c.is_made.ensures c.if-is_made.true))
+    (made_named cert.cert c.requires.comparable.base c.requires.comparable.placed c.args.due c.in-Some.cover.now (c.is_made.ensures c.if-is_made.true) c.args.rooms.now.bindings.entries)
 
 pub is_named-requires-clause-cover : goal.is_named-requires-clause-cover
 is_named-requires-clause-cover c = whole_cover_at c.args.cert.now c.requires.comparable.whole c.args.place c.in-Some.cover.now (sym c.get.ensures ∙ ap option_copied c.in-Some.is)

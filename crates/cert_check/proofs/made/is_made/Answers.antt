@@ -4,7 +4,7 @@ use Rattle.inst_logic.specs.Derivations.{at_number}
 use Rattle.saturation_cert.specs.declared.member.Member.{Member}
 use Rattle.saturation_cert.specs.declared.member.Origin.TheVariants.{Inst}
 use Rattle.cert_check.specs.Origins.{origin_from}
-use Rattle.cert_check.proofs.compare.is_made.Goals as goal
+use Rattle.cert_check.proofs.made.is_made.Goals as goal
 
 pub returns-then-is_from : goal.returns-then-is_from
 returns-then-is_from c found =
