@@ -1,10 +1,10 @@
 -- What two members conclude, over their ids and over their trees.
-use Rattle.std.proofs.Common.{◌≡◌, ℕ, zero, suc, ◌<◌, List, refl, ap, sym, ◌∙◌, map, subst, length, Option, None, Some}
-use Rattle.std.specs.Prelude.{All, IfOk, Result, Ok, Err, option_map}
+use Rattle.std.proofs.Common.{◌≡◌, ◌≢◌, ◌↔◌, ℕ, zero, suc, ◌<◌, List, refl, ap, sym, ◌∙◌, map, subst, length, Option, None, Some}
+use Rattle.std.specs.Prelude.{All, Bool, IfOk, IsTrue, Result, Ok, Err, false, option_map, true}
 use Rattle.std.proofs.lemmas.Option.{slice_get-map}
 use Rattle.inst_logic.specs.declared.signed.Signed.{Signed}
 use Rattle.inst_logic.specs.Tree.{Tree}
-use Rattle.inst_logic.specs.Clauses.{TreeClause}
+use Rattle.inst_logic.specs.Clauses.{TreeClause, canonical_form, instance}
 use Rattle.inst_logic.specs.Derivations.{at_number}
 use Rattle.inst_logic.specs.Substitution.{subst as apply}
 use Rattle.inst_logic.specs.Unifiers.{IsMostGeneral, IsProper}
@@ -12,16 +12,19 @@ use Rattle.inst_logic.specs.WellFormed.{IsAtom}
 use Rattle.inst_logic.proofs.ShownLaws.{at_number_contains}
 use Rattle.inst_calculus.specs.Conclusions.{IsConclusion}
 use Rattle.inst_calculus.specs.Entries.{Entry}
+use Rattle.inst_calculus.proofs.Choice.{instance_of_choice}
 use Rattle.inst_calculus.proofs.Membership.{all_in, contains_in}
 use Rattle.saturation_cert.specs.declared.member.Member.{Member}
 use Rattle.saturation_cert.specs.Values.{entry_of}
 use Rattle.saturation_cert.specs.Wholes.{IsWholeClause}
-use Rattle.term_bank.specs.Forest.{Forest, clause_at, tree_at}
+use Rattle.term_bank.specs.Forest.{Forest, IsClauseOf, clause_at, tree_at}
 use Rattle.unify_core.specs.Sides.{Binding}
 use Rattle.unify_core.specs.Terms.{AreTerms}
+use Rattle.unify_core.specs.declared.side.Side.TheVariants.{Left}
 use Rattle.cert_check.proofs.BoundTerms.{bound_terms}
 use Rattle.cert_check.specs.Sources.{AreConclusionTerms, AreUnifiedTerms, Unify}
-use Rattle.cert_check.specs.Conclusions.{Concludes, IsAtomOf, IsProperlyUnified, MembersConclude, literal_of, placed_in}
+use Rattle.cert_check.specs.Compared.{IsInstanceOf}
+use Rattle.cert_check.specs.Conclusions.{Concludes, IsAtomOf, IsConcluded, IsProperlyUnified, MembersConclude, literal_of, placed_in}
 use Rattle.std.proofs.lemmas.Option.{same_Some}
 use Rattle.term_bank.specs.Forest.{literal_tree}
 
@@ -111,6 +114,54 @@ module _ (f : Forest) where
         },
       )
 
+  -- and the clause is what the members conclude exactly where it is what the two literals do
+  pub concluded_clause : (ms : List Member) (from place partner other : ℕ) (m : Member) (k l : Signed ℕ)
+      → at_number ms from ≡ Some m → literal_of ms from place ≡ Some k → literal_of ms partner other ≡ Some l
+      → (d : List (Signed ℕ)) → IsClauseOf f d → (answer : Bool) → IsTrue answer ↔ IsConcluded f f m.clause k l d → IsTrue answer ↔ IsConclusion (map (entry_of f) ms) from place partner other (clause_at f d)
+  concluded_clause ms from place partner other m k l at kat lat d ids answer h = (
+    (λ t. (concluded f ms from place partner other m k l at kat lat (Some d) (h.0 t)).1),
+    (λ r.
+        let (k2, u, v) = literal_named ms from place r.entry r.literal r.entry_at r.literal_at in
+        let (l2, x, y) = literal_named ms partner other r.partner_entry r.other_literal r.partner_at r.other_at in
+        let ke : literal_tree f k ≡ r.literal = ap (literal_tree f) (same_Some k k2 (sym kat ∙ u)) ∙ v in
+        let le : literal_tree f l ≡ r.other_literal = ap (literal_tree f) (same_Some l l2 (sym lat ∙ x)) ∙ y in
+        let ks = ap (λ (z : Signed Tree). z.positive) ke in
+        let ls = ap (λ (z : Signed Tree). z.positive) le in
+        let entry : r.entry ≡ entry_of f m = same_Some r.entry (entry_of f m) (sym r.entry_at ∙ entry_there ms from m at) in
+        let general : IsMostGeneral r.unifier (tree_at f k.atom) (tree_at f l.atom) =
+        subst (λ (z : Signed Tree). IsMostGeneral r.unifier z.atom (tree_at f l.atom)) (sym ke) (subst (λ (z : Signed Tree). IsMostGeneral r.unifier r.literal.atom z.atom) (sym le) r.most_general) in
+        h.1 (record {
+          opposite = λ e. r.opposite (sym ks ∙ e ∙ ls);
+          unifier = r.unifier;
+          most_general = general;
+          proper = subst (λ (z : Signed Tree). IsProper r.unifier.left z.atom) (sym ke) r.proper;
+          ids = ids;
+          conclusion = r.conclusion ∙ ap (λ (e : Entry). canonical_form (instance r.unifier.left e.clause)) entry;
+        })),
+  )
+
+  -- members without such literals conclude nothing
+  pub none_from : (ms : List Member) (from place partner other : ℕ) → literal_of ms from place ≡ None → (c : TreeClause) → ¬ IsConclusion (map (entry_of f) ms) from place partner other c
+  none_from ms from place partner other none c r =
+      let (k, u, v) = literal_named ms from place r.entry r.literal r.entry_at r.literal_at in
+      let e : None ≡ Some k = sym none ∙ u in
+      cc
+
+  pub none_partner : (ms : List Member) (from place partner other : ℕ) → literal_of ms partner other ≡ None → (c : TreeClause) → ¬ IsConclusion (map (entry_of f) ms) from place partner other c
+  none_partner ms from place partner other none c r =
+      let (k, u, v) = literal_named ms partner other r.partner_entry r.other_literal r.partner_at r.other_at in
+      let e : None ≡ Some k = sym none ∙ u in
+      cc
+
+  -- the answer for the bindings is that for each most general unifier
+  pub instance_concludes : (es : List Binding) (c : List (Signed ℕ)) (k l : Signed ℕ) (d : List (Signed ℕ)) → k.positive ≢ l.positive → IsProperlyUnified f es (tree_at f k.atom) (tree_at f l.atom) → IsClauseOf f d
+      → (answer : Bool) → IsInstanceOf f es Left c d answer → IsTrue answer ↔ IsConcluded f f c k l d
+  instance_concludes es c k l d opposite u ids answer h =
+      let law = h u.unifier u.resolved in (
+        (λ t. record { opposite = opposite; unifier = u.unifier; most_general = u.most_general; proper = u.proper; ids = ids; conclusion = law.0 t }),
+        (λ x. law.1 (x.conclusion ∙ sym (instance_of_choice (tree_at f k.atom) (tree_at f l.atom) u.unifier x.unifier u.most_general x.most_general (clause_at f c)).0)),
+      )
+
   -- members that conclude something have literals with a unifier
   pub unify_named : (ms : List Member) (from place partner other : ℕ) (k l : Signed ℕ) → literal_of ms from place ≡ Some k → literal_of ms partner other ≡ Some l
       → (c : TreeClause) → IsConclusion (map (entry_of f) ms) from place partner other c → Unify (tree_at f k.atom) (tree_at f l.atom)
@@ -144,6 +195,9 @@ module _ (f : Forest) where
         most_general = h.most_general;
         terms = h.terms;
       }
+
+pub not_concluded : (f g : Forest) (c : List (Signed ℕ)) (k l : Signed ℕ) (d : List (Signed ℕ)) → ¬ IsConcluded f g c k l d → IsTrue false ↔ IsConcluded f g c k l d
+not_concluded f g c k l d none = ((λ t. absurd (let e : false ≡ true = t in cc)), (λ x. absurd (none x)))
 
 -- what follows of the value of a result
 pub when_ok : {A E : Type 0} (P Q : A → Type 0) → ((x : A) → P x → Q x) → (r : Result A E) → IfOk r P → IfOk r Q

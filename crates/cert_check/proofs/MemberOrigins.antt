@@ -19,16 +19,6 @@ use Rattle.cert_check.specs.Conclusions.{MembersGive, IsPartGiven}
 use Rattle.clause_form.proofs.Ids.{same_ids}
 use Rattle.cert_check.proofs.Rightness.{right_by}
 
--- the ids of the conclusion are those of the clause where the clause is the conclusion
-pub gives_by : (f g : Forest) → Extends f g → AreDistinct g.trees → (es : List Entry) (from place partner other : ℕ) (clause d : List (Signed ℕ)) → IsClauseOf f clause → IsClauseOf g d
-    → IsConclusion es from place partner other (clause_at g d) → (d ≡ clause) ↔ IsConclusion es from place partner other (clause_at f clause)
-gives_by f g grown once es from place partner other clause d in_clause in_d h = (
-  (λ e. subst (IsConclusion es from place partner other) (ap (clause_at g) e ∙ clause_extends f g grown clause in_clause) h),
-  (λ k.
-      same_ids g once d clause in_d (clause_of_extends f g grown clause in_clause)
-      (one_conclusion es from place partner other (clause_at g d) (clause_at f clause) h k ∙ sym (clause_extends f g grown clause in_clause))),
-)
-
 -- where the members conclude nothing, they do not conclude the clause
 pub nothing_given : (es : List Entry) (from place partner other : ℕ) (c : TreeClause) → ¬ IsConclusion es from place partner other c → IsTrue false ↔ IsConclusion es from place partner other c
 nothing_given es from place partner other c h = ((λ t. absurd (cc)), (λ k. absurd (h k)))

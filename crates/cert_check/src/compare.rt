@@ -1,39 +1,33 @@
 // The comparison of the covers that are named with what is due, one pair after the other. Nothing is searched for. The first wrong
 // cover is kept while the pairs go on, since a pair with a unifier that is proper on neither side comes before it.
-ghost use Rattle.std.specs.Prelude.{◌≡◌, ◌↔◌, ◌+◌, ◌<◌, ◌≤◌, List, [], suc, length, false, true, IfOk, IsTrue, None, OnOk};
-ghost use Rattle.term_bank.specs.Forest.{AreFormed, Extends, IsClauseOf, clause_at};
+ghost use Rattle.std.specs.Prelude.{◌≡◌, ◌↔◌, ◌+◌, ◌<◌, ◌≤◌, List, suc, length, false, true, IfOk, IsTrue, None, OnOk};
 ghost use Rattle.cert_format.specs.Certificate as format;
 ghost use Rattle.cert_format.specs.Dues.{Due, AreDue};
 ghost use Rattle.cert_format.specs.Validity.{IsProperPair, IsRightCover, IsValidBase};
 ghost use Rattle.unify_core.specs.Chains.{AreBindings};
 ghost use Rattle.unify_core.specs.Terms.{AreTerms};
 ghost use Rattle.saturation_cert.specs.Values.{base_of, covered_of, saturation_of};
-ghost use Rattle.saturation_cert.specs.Wholes.{HasPlaces, IsWholeCover, IsWholeCovered, IsWholeSaturation, KeepsCovered, KeepsSaturation};
+ghost use Rattle.saturation_cert.specs.Wholes.{IsWholeCover, IsWholeCovered, IsWholeSaturation, KeepsCovered, KeepsSaturation};
 ghost use Rattle.cert_check.specs.Chains.{AreMeetings};
 ghost use Rattle.cert_check.specs.Closings.{IsProperSomewhere};
 ghost use Rattle.cert_check.specs.DueSteps.{AreCompared, GivesMeeting, GivesPair, GivesRow, GivesSide};
 ghost use Rattle.cert_check.specs.FirstPairs.{IsFirstWrongPairOf};
 ghost use Rattle.cert_check.specs.Firsts.{IsFirstWrongOf};
-ghost use Rattle.cert_check.specs.Compared.{IsComparable, IsCoverRight, IsInstanceOf, IsMadeCover, IsNamedRight};
+ghost use Rattle.cert_check.specs.Compared.{IsComparable, IsCoverRight, IsNamedRight};
 ghost use Rattle.cert_check.specs.Meetings.{LeadsOn};
-ghost use Rattle.cert_check.specs.Origins.{origin_from};
-ghost use Rattle.cert_check.specs.Sides.{left_number, right_number};
 
-use crate::concluded::{Room, is_conclusion};
-use crate::conclusion::{Premises, numbered_item};
-use crate::difference::same_clause;
+use crate::concluded::is_instance;
 use crate::due_side::{DueSide, number_at};
 use crate::instance::Instance;
 use crate::made::{is_made, is_of, pass_made};
 use crate::meetings::Meetings;
 use crate::pairs::is_proper;
+use crate::rooms::{PairRoom, RowRoom};
 use cert_names::holds_by;
-use clause_form::Workspace;
 use inst_logic::Memory;
-use saturation_cert::{By, Cover, Covered, Member, Origin, Saturation, selected};
+use saturation_cert::{Cover, Covered, Saturation, selected};
 use std::alloc::Global;
-use term_bank::{Bank, IdClause};
-use unify_core::{Bindings, Side};
+use unify_core::Side;
 
 /// How many covers are right from the first on, and whether the next one is known to be wrong.
 #[derive(Clone, Copy)]
@@ -42,58 +36,11 @@ pub struct Progress {
     pub wrong: bool,
 }
 
-// Room to work in, for all pairs.
-#[derive(Drop)]
-struct Rooms {
-    bindings: Bindings,
-    room: Room,
-    workspace: Workspace,
-}
-
-// The same, and the members that may meet one member.
-#[derive(Drop)]
-struct RowRooms {
-    pair: Rooms,
-    partners: Vec<usize>,
-}
-
-// Whether the clauses stand for the same trees: equal trees have equal ids.
-fn same_trees(bank: &Bank, c: &IdClause, d: &IdClause) -> bool
-    requires left { IsClauseOf bank.now c.now }
-    requires right { IsClauseOf bank.now d.now }
-    ensures { IsTrue result ↔ (clause_at bank.now c.now ≡ clause_at bank.now d.now) }
-{
-    bank.distinct();
-    same_clause(c, d)
-}
-
-// Whether the clause is the instance, which is built only where that is not seen without it.
-fn is_instance(
-    workspace: &mut Workspace,
-    bank: &mut Bank,
-    room: &mut Room,
-    of: &Instance<'_>,
-    clause: &IdClause,
-) -> Result<bool, Memory>
-    requires member { IsClauseOf bank.old of.now.clause.now }
-    requires clause { IsClauseOf bank.old clause.now }
-    requires bindings { AreBindings bank.old of.now.bindings.now.entries }
-    ensures instance { IfOk result (IsInstanceOf bank.old of.now.bindings.now.entries of.now.side of.now.clause.now clause.now) }
-    ensures extends { Extends bank.old bank.new }
-    ensures formed { AreFormed bank.old → AreTerms bank.old of.now.bindings.now.entries → AreFormed bank.new }
-{
-    if is_conclusion(room, bank, of, clause)? {
-        return Ok(true);
-    }
-    let built = workspace.conclude_clause(bank, of.bindings, of.side, of.clause)?;
-    Ok(same_trees(bank, &built, clause))
-}
-
 // Whether the cover's clause is the instance of the side's member under the bindings, and what it names covers it.
 fn is_named(
     alloc: Global,
     cert: &mut Saturation,
-    rooms: &mut Rooms,
+    rooms: &mut PairRoom,
     due: DueSide,
     cover: &Cover,
 ) -> Result<bool, Memory>
@@ -117,7 +64,7 @@ fn is_named(
     };
     let bank = &mut cert.base.bank;
     let workspace = &mut rooms.workspace;
-    if !is_instance(workspace, bank, &mut rooms.room, &of, &cover.clause)? {
+    if !is_instance(workspace, bank, &mut rooms.walk, &of, &cover.clause)? {
         return Ok(false);
     }
     holds_by(
@@ -134,7 +81,7 @@ fn is_named(
 fn is_right_cover(
     alloc: Global,
     cert: &mut Covered,
-    rooms: &mut Rooms,
+    rooms: &mut PairRoom,
     due: DueSide,
     place: usize,
 ) -> Result<bool, Memory>
@@ -178,7 +125,7 @@ fn note(progress: &mut Progress, _covers: &[Cover], right: bool)
 fn compare_side(
     alloc: Global,
     cert: &mut Covered,
-    rooms: &mut Rooms,
+    rooms: &mut PairRoom,
     due: DueSide,
     progress: &mut Progress,
 ) -> Result<(), Memory>
@@ -210,7 +157,7 @@ fn compare_side(
 fn compare_meeting(
     alloc: Global,
     cert: &mut Covered,
-    rooms: &mut Rooms,
+    rooms: &mut PairRoom,
     i: usize,
     j: usize,
     progress: &mut Progress,
@@ -250,7 +197,7 @@ fn compare_meeting(
 fn compare_unified(
     alloc: Global,
     cert: &mut Covered,
-    rooms: &mut Rooms,
+    rooms: &mut PairRoom,
     i: usize,
     j: usize,
     progress: &mut Progress,
@@ -281,7 +228,7 @@ fn compare_unified(
 fn compare_pair(
     alloc: Global,
     cert: &mut Covered,
-    rooms: &mut Rooms,
+    rooms: &mut PairRoom,
     i: usize,
     j: usize,
     progress: &mut Progress,
@@ -307,7 +254,7 @@ fn compare_pair(
 fn compare_among(
     alloc: Global,
     cert: &mut Covered,
-    rooms: &mut Rooms,
+    rooms: &mut PairRoom,
     i: usize,
     partners: &[usize],
     progress: &mut Progress,
@@ -336,7 +283,7 @@ fn compare_row(
     alloc: Global,
     cert: &mut Covered,
     meetings: &Meetings,
-    rooms: &mut RowRooms,
+    rooms: &mut RowRoom,
     i: usize,
     progress: &mut Progress,
 ) -> Result<Option<usize>, Memory>
@@ -350,7 +297,7 @@ fn compare_row(
     ensures first { IfOk result (IsFirstWrongOf (IsProperPair (saturation_of cert.old.cert) (suc i))) }
     ensures gives { IfOk result (λ o. o ≡ None → GivesRow (saturation_of cert.old.cert) i (AreCompared (covered_of cert.old) progress.old) (AreCompared (covered_of cert.old) progress.new)) }
 {
-    let RowRooms { pair, partners } = rooms;
+    let RowRoom { pair, partners } = rooms;
     meetings.later_partners(partners, &cert.cert, i)?;
     compare_among(alloc, cert, pair, i, partners.as_slice(), progress)
 }
@@ -360,7 +307,7 @@ fn compare_rows(
     alloc: Global,
     cert: &mut Covered,
     meetings: &Meetings,
-    rooms: &mut RowRooms,
+    rooms: &mut RowRoom,
     progress: &mut Progress,
 ) -> Result<Option<(usize, usize)>, Memory>
     requires comparable { IsComparable cert.old }
@@ -396,15 +343,7 @@ pub fn compare_pairs(
     ensures first { IfOk result (IsFirstWrongPairOf (IsProperPair (saturation_of cert.old.cert))) }
     ensures compared { IfOk result (λ o. o ≡ None → (ds : List Due) × AreDue (saturation_of cert.old.cert) ds × AreCompared (covered_of cert.old) progress.new ds) }
 {
-    let pair = Rooms {
-        bindings: Bindings::new(alloc),
-        room: Room::new(alloc),
-        workspace: Workspace::new(alloc),
-    };
-    let mut rooms = RowRooms {
-        pair,
-        partners: Vec::new(alloc),
-    };
+    let mut rooms = RowRoom::new(alloc);
     compare_rows(alloc, cert, meetings, &mut rooms, progress)
 }
 

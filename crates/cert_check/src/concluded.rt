@@ -1,22 +1,27 @@
-// Whether a clause is the canonical form of a member's instance, seen without building it. This only saves work: it may say no
-// where there are many variables, literals or nodes, or where literals become one, and then the instance is built.
-ghost use Rattle.std.specs.Prelude.{◌≡◌, ◌<◌, ◌++◌, ◌∷◌, List, [], true, ℕ, length, map, position, reverse, IfOk, IfSome, OnOk};
+// Whether a clause is the canonical form of a member's instance, seen without building it where that can be. This only saves work:
+// the walk may say no where there are many variables, literals or nodes, or where literals become one, and then the instance is
+// built.
+ghost use Rattle.std.specs.Prelude.{◌≡◌, ◌↔◌, ◌<◌, ◌++◌, ◌∷◌, List, [], true, ℕ, length, map, position, reverse, IfOk, IfSome, IsTrue, OnOk};
 ghost use denote.Bor.{Bor};
 ghost use Rattle.inst_logic.specs.Clauses.{canonical_form, instance as under};
 ghost use Rattle.inst_logic.specs.Lists.{distinct};
 ghost use Rattle.inst_logic.specs.Tree.{var};
 ghost use Rattle.inst_logic.specs.Unifiers.{IsApplication, Sided};
-ghost use Rattle.term_bank.specs.Forest.{IsClauseAt, IsClauseOf, clause_at, tree_at};
+ghost use Rattle.term_bank.specs.Forest.{AreFormed, Extends, IsClauseAt, IsClauseOf, clause_at, tree_at};
 ghost use Rattle.unify_core.specs.Bindings.{Bound_list};
 ghost use Rattle.unify_core.specs.Chains.{AreBindings};
 ghost use Rattle.unify_core.specs.Sides.{IsResolvedBy, of_side};
+ghost use Rattle.unify_core.specs.Terms.{AreTerms};
 ghost use Rattle.clause_form.specs.Literals.{id_eq, with_atoms};
 ghost use Rattle.clause_form.specs.Orders.{is_variable, number_in, with_variable};
 ghost use Rattle.clause_form.specs.Walks.{IsFree, numbers_of};
 ghost use Rattle.clause_form.specs.declared.walk.Leaves.TheVariants.{Led};
+ghost use Rattle.cert_check.specs.Compared.{IsInstanceOf};
 ghost use Rattle.cert_check.specs.Concluded.{ArePairs, IsStep, IsStepUnder, pairs_of};
 
+use crate::difference::same_clause;
 use crate::instance::Instance;
+use clause_form::Workspace;
 use inst_logic::Memory;
 use std::alloc::Global;
 use term_bank::{Bank, IdClause, IdLiteral, Shape, TermId};
@@ -253,8 +258,8 @@ fn looks_alike(literals: &[IdLiteral], others: &[IdLiteral]) -> bool
         && has_no_repeats(others)
 }
 
-/// Whether the clause was seen to be the canonical form of the instance.
-pub fn is_conclusion(
+// Whether the clause was seen to be the canonical form of the instance.
+fn is_conclusion(
     room: &mut Room,
     bank: &Bank,
     of: &Instance<'_>,
@@ -275,4 +280,36 @@ pub fn is_conclusion(
     room.order.clear();
     push_atoms(&mut room.pairs, of.side, literals, others)?;
     compare_all(bank, of.bindings, &mut room.pairs, &mut room.order)
+}
+
+// Whether the clauses stand for the same trees: equal trees have equal ids.
+fn same_trees(bank: &Bank, c: &IdClause, d: &IdClause) -> bool
+    requires left { IsClauseOf bank.now c.now }
+    requires right { IsClauseOf bank.now d.now }
+    ensures { IsTrue result ↔ (clause_at bank.now c.now ≡ clause_at bank.now d.now) }
+{
+    bank.distinct();
+    same_clause(c, d)
+}
+
+/// Whether the clause is the instance, which is built only where that is not seen without it.
+pub fn is_instance(
+    workspace: &mut Workspace,
+    bank: &mut Bank,
+    room: &mut Room,
+    of: &Instance<'_>,
+    clause: &IdClause,
+) -> Result<bool, Memory>
+    requires member { IsClauseOf bank.old of.now.clause.now }
+    requires clause { IsClauseOf bank.old clause.now }
+    requires bindings { AreBindings bank.old of.now.bindings.now.entries }
+    ensures instance { IfOk result (IsInstanceOf bank.old of.now.bindings.now.entries of.now.side of.now.clause.now clause.now) }
+    ensures extends { Extends bank.old bank.new }
+    ensures formed { AreFormed bank.old → AreTerms bank.old of.now.bindings.now.entries → AreFormed bank.new }
+{
+    if is_conclusion(room, bank, of, clause)? {
+        return Ok(true);
+    }
+    let built = workspace.conclude_clause(bank, of.bindings, of.side, of.clause)?;
+    Ok(same_trees(bank, &built, clause))
 }

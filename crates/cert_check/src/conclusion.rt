@@ -1,14 +1,15 @@
-// Conclusions of two members: found anew and compared, not matched against what the certificate has. Both are in canonical
-// form, so they are the same clause exactly where their ids are equal.
+// Conclusions of two members: found anew, not matched against what the certificate has. The clause of an origin is compared with
+// the conclusion before that is built.
 ghost use Rattle.std.specs.Prelude.{◌≡◌, ◌+◌, ◌<◌, ◌↔◌, All, IfOk, IsTrue, false, length, map, option_copied, true};
 ghost use Rattle.inst_logic.specs.Derivations.{at_number};
 ghost use Rattle.cert_format.specs.Validity.{IsConclusion};
 ghost use Rattle.term_bank.specs.Forest.{AreFormed, Extends, IsClauseOf, clause_at, tree_at};
 ghost use Rattle.saturation_cert.specs.Values.{entry_of};
 ghost use Rattle.saturation_cert.specs.Wholes.{IsWholeClause};
-ghost use Rattle.cert_check.specs.Conclusions.{Concludes, HasNoProper, IsAtomOf, IsProperlyUnified, MembersConclude, MembersGive, literal_of};
+ghost use Rattle.cert_check.specs.Conclusions.{Concludes, HasNoProper, IsAtomOf, IsConcluded, IsProperlyUnified, MembersConclude, MembersGive, literal_of};
 
-use crate::difference::same_clause;
+use crate::concluded::is_instance;
+use crate::instance::Instance;
 use crate::rooms::PairRoom;
 use inst_logic::Memory;
 use saturation_cert::Member;
@@ -134,6 +135,38 @@ pub fn conclusion(
     conclude_at(bank, room, &member.clause, l, m)
 }
 
+// Whether the clause is the instance of the other one, whose literal `l` is, under the proper most general unifier of `l` and
+// `m`, in canonical form.
+fn is_concluded_at(
+    bank: &mut Bank,
+    room: &mut PairRoom,
+    from: &IdClause,
+    l: IdLiteral,
+    m: IdLiteral,
+    clause: &IdClause,
+) -> Result<bool, Memory>
+    requires from { IsWholeClause bank.old from.now }
+    requires left { IsAtomOf bank.old l }
+    requires right { IsAtomOf bank.old m }
+    requires clause { IsClauseOf bank.old clause.now }
+    ensures concluded { IfOk result (λ r. IsTrue r ↔ IsConcluded bank.old bank.old from.now l m clause.now) }
+    ensures extends { Extends bank.old bank.new }
+    ensures formed { AreFormed bank.old → AreFormed bank.new }
+{
+    if l.positive == m.positive {
+        return Ok(false);
+    }
+    if !unify_properly(bank, &mut room.bindings, l.atom, m.atom)? {
+        return Ok(false);
+    }
+    let of = Instance {
+        bindings: &room.bindings,
+        side: Side::Left,
+        clause: from,
+    };
+    is_instance(&mut room.workspace, bank, &mut room.walk, &of, clause)
+}
+
 // Whether the members conclude the clause.
 fn is_conclusion(
     bank: &mut Bank,
@@ -147,13 +180,17 @@ fn is_conclusion(
     ensures extends { Extends bank.old bank.new }
     ensures formed { AreFormed bank.old → AreFormed bank.new }
 {
-    match conclusion(bank, room, members, claim.premises)? {
-        None => Ok(false),
-        Some(d) => {
-            bank.distinct();
-            Ok(same_clause(&d, claim.clause))
-        }
-    }
+    let premises = claim.premises;
+    let Some(member) = numbered_item(members, premises.from) else {
+        return Ok(false);
+    };
+    let Some(l) = literal_at(members, premises.from, premises.place) else {
+        return Ok(false);
+    };
+    let Some(m) = literal_at(members, premises.partner, premises.other) else {
+        return Ok(false);
+    };
+    is_concluded_at(bank, room, &member.clause, l, m, claim.clause)
 }
 
 // Whether both members come before the one that the claim is about, and conclude the clause.

@@ -227,6 +227,7 @@ fn cover_row(
     let PairRoom {
         bindings,
         workspace,
+        ..
     } = pair;
     lookup.meetings.later_partners(partners, &cert.cert, i)?;
     cover_among(workspace, cert, lookup, bindings, i, partners.as_slice())

@@ -1,6 +1,6 @@
 // Covers that are told by the origins of the members that they name. The origins were checked before, so the selected literals
 // of such a member's premises unify, the unifier is proper for the first, and the member's clause is the instance.
-ghost use Rattle.std.specs.Prelude.{◌≡◌, ◌↔◌, ◌<◌, ◌≤◌, IfSome, IsTrue, false, length, suc, true};
+ghost use Rattle.std.specs.Prelude.{◌≡◌, ◌↔◌, ◌<◌, IfSome, IsTrue, false, length, suc, true};
 ghost use Rattle.saturation_cert.specs.Values.{saturation_of};
 ghost use Rattle.saturation_cert.specs.Wholes.{HasPlaces, IsWholeSaturation};
 ghost use Rattle.cert_check.specs.Compared.{IsComparable, IsMadeCover};

@@ -217,6 +217,7 @@ fn wrong_partner(
     let PairRoom {
         bindings,
         workspace,
+        ..
     } = pair;
     lookup.meetings.later_partners(partners, cert, i)?;
     wrong_among(workspace, cert, lookup, bindings, i, partners.as_slice())

@@ -1,23 +1,37 @@
-use Rattle.std.proofs.Common.{ℕ, List, Option, map, subst}
-use Rattle.inst_logic.specs.declared.signed.Signed.{Signed}
-use Rattle.saturation_cert.specs.Values.{entry_of}
-use Rattle.term_bank.specs.Forest.{clause_at}
-use Rattle.cert_check.specs.Conclusions.{MembersConclude}
-use Rattle.cert_check.proofs.MemberOrigins.{gives_by, nothing_given}
+use Rattle.std.proofs.Common.{◌≡◌, sym, ap, ◌∙◌, Some}
+use Rattle.std.specs.Prelude.{option_copied}
+use Rattle.std.proofs.lemmas.Result.{IfOk-weaker}
+use Rattle.inst_logic.specs.Derivations.{at_number}
+use Rattle.cert_check.specs.Conclusions.{literal_of}
+use Rattle.cert_check.proofs.Conclusions.{concluded_clause, literal_atom, member_whole}
 use Rattle.cert_check.proofs.conclusion.is_conclusion.Goals as goal
 
-pub returns-in-None-clause-gives : goal.returns-in-None-clause-gives
-returns-in-None-clause-gives c =
+pub is_concluded_at-requires-clause-from : goal.is_concluded_at-requires-clause-from
+is_concluded_at-requires-clause-from c =
     let p = c.args.claim.now.premises in
-    let es = map (entry_of c.args.bank.now) c.args.members.now in
-    let h = subst (λ (o : Option (List (Signed ℕ))). MembersConclude c.conclusion.new.bank es p.from p.place p.partner p.other o) c.in-None.is c.in_ok-conclusion.ensures.concludes in
-    nothing_given es p.from p.place p.partner p.other (clause_at c.args.bank.now c.args.claim.now.clause.now) (h (clause_at c.args.bank.now c.args.claim.now.clause.now))
+    let at : at_number c.args.members.now p.from ≡ Some c.in-Some.member.now = sym c.numbered_item.ensures ∙ ap option_copied c.in-Some.is in
+    member_whole c.args.bank.now c.args.members.now p.from c.in-Some.member.now c.requires.members at
 
-pub returns-in-Some-clause-gives : goal.returns-in-Some-clause-gives
-returns-in-Some-clause-gives c =
+pub is_concluded_at-requires-clause-left : goal.is_concluded_at-requires-clause-left
+is_concluded_at-requires-clause-left c =
     let p = c.args.claim.now.premises in
-    let es = map (entry_of c.args.bank.now) c.args.members.now in
-    let h = subst (λ (o : Option (List (Signed ℕ))). MembersConclude c.conclusion.new.bank es p.from p.place p.partner p.other o) c.in-Some.is c.in_ok-conclusion.ensures.concludes in
-    let k = gives_by c.args.bank.now c.conclusion.new.bank c.conclusion.ensures.extends c.distinct.ensures es p.from p.place p.partner p.other
-    c.args.claim.now.clause.now c.in-Some.d c.requires.clause h.0 h.1 in
-    (λ t. k.0 (c.same_clause.ensures.0 t), λ e. c.same_clause.ensures.1 (k.1 e))
+    let at : literal_of c.args.members.now p.from p.place ≡ Some c.in-Some-literal_at.l = sym c.literal_at.ensures ∙ c.in-Some-literal_at.is in
+    literal_atom c.args.bank.now c.args.members.now p.from p.place c.in-Some-literal_at.l c.requires.members at
+
+pub is_concluded_at-requires-clause-right : goal.is_concluded_at-requires-clause-right
+is_concluded_at-requires-clause-right c =
+    let p = c.args.claim.now.premises in
+    let at : literal_of c.args.members.now p.partner p.other ≡ Some c.in-Some-literal_at-2.m = sym c.literal_at-2.ensures ∙ c.in-Some-literal_at-2.is in
+    literal_atom c.args.bank.now c.args.members.now p.partner p.other c.in-Some-literal_at-2.m c.requires.members at
+
+pub returns-clause-gives : goal.returns-clause-gives
+returns-clause-gives c =
+    let p = c.args.claim.now.premises in
+    let ms = c.args.members.now in
+    let member = c.in-Some.member.now in
+    let k = c.in-Some-literal_at.l in
+    let l = c.in-Some-literal_at-2.m in
+    let at : at_number ms p.from ≡ Some member = sym c.numbered_item.ensures ∙ ap option_copied c.in-Some.is in
+    let kat : literal_of ms p.from p.place ≡ Some k = sym c.literal_at.ensures ∙ c.in-Some-literal_at.is in
+    let lat : literal_of ms p.partner p.other ≡ Some l = sym c.literal_at-2.ensures ∙ c.in-Some-literal_at-2.is in
+    IfOk-weaker c.is_concluded_at.result _ _ (concluded_clause c.args.bank.now ms p.from p.place p.partner p.other member k l at kat lat c.args.claim.now.clause.now c.requires.clause) c.is_concluded_at.ensures.concluded

@@ -1,5 +1,5 @@
 use Rattle.cert_check.proofs.CompareLaws.{instance_built}
-use Rattle.cert_check.proofs.compare.is_instance.Goals as goal
+use Rattle.cert_check.proofs.concluded.is_instance.Goals as goal
 
 pub returns-clause-instance : goal.returns-clause-instance
 returns-clause-instance c =
