@@ -268,12 +268,13 @@ fn is_behind(rest: &[u8]) -> bool
 
 // The literal at the front that was read before, and what follows it.
 fn known_literal<'a>(
-    bank: &TextBank,
+    bank: &mut TextBank,
     candidate: Candidate,
     bytes: &'a [u8],
 ) -> Option<(IdLiteral, &'a [u8])>
     requires { candidate.len ≤ length bytes.now }
-    ensures { IfSome result (λ p. IsLiteralAt bank.now p.0 bytes.now p.1.now) }
+    ensures same { bank.new ≡ bank.old }
+    ensures some { IfSome result (λ p. IsLiteralAt bank.old p.0 bytes.now p.1.now) }
 {
     let (text, rest) = bytes.split_at(candidate.len);
     if !is_behind(rest) {
@@ -282,6 +283,22 @@ fn known_literal<'a>(
     match bank.spelled(text, candidate.code) {
         None => None,
         Some(l) => Some((l, rest)),
+    }
+}
+
+// The literal at the front that came behind the last one when that was read before, and what follows it.
+fn expected_literal<'a>(bank: &mut TextBank, bytes: &'a [u8]) -> Option<(IdLiteral, &'a [u8])>
+    ensures same { bank.new ≡ bank.old }
+    ensures some { IfSome result (λ p. IsLiteralAt bank.old p.0 bytes.now p.1.now) }
+{
+    match bank.expected(bytes) {
+        None => None,
+        Some((l, rest)) => {
+            if !is_behind(rest) {
+                return None;
+            }
+            Some((l, rest))
+        }
     }
 }
 
@@ -328,8 +345,8 @@ fn new_literal<'a>(
     }
 }
 
-/// The literal at the front, and what follows it.
-pub fn literal<'a>(
+// The literal at the front, which was not expected there, and what follows it.
+fn other_literal<'a>(
     alloc: Global,
     bank: &mut TextBank,
     ids: &mut Vec<TermId>,
@@ -343,5 +360,22 @@ pub fn literal<'a>(
     match known_literal(bank, candidate, bytes) {
         Some((l, rest)) => Ok(Some((l, rest))),
         None => new_literal(alloc, bank, ids, candidate, bytes),
+    }
+}
+
+/// The literal at the front, and what follows it.
+pub fn literal<'a>(
+    alloc: Global,
+    bank: &mut TextBank,
+    ids: &mut Vec<TermId>,
+    bytes: &'a [u8],
+) -> Result<Option<(IdLiteral, &'a [u8])>, Memory>
+    ensures grows { Grows bank.old bank.new }
+    ensures some { IfOk result (λ r. IfSome r (λ p. IsLiteralAt bank.new p.0 bytes.now p.1.now)) }
+    ensures none { IfOk result (λ r. IfNone r (NoForm bytes.now)) }
+{
+    match expected_literal(bank, bytes) {
+        Some((l, rest)) => Ok(Some((l, rest))),
+        None => other_literal(alloc, bank, ids, bytes),
     }
 }

@@ -1,6 +1,7 @@
 // Literals that were read, by their texts. Most literals of a text stand in it before, and are then found without their terms
-// being read. The place where one is sought is only a hint, since its text is compared.
-ghost use Rattle.std.specs.Prelude.{◌≡◌, ◌≤◌, [], length, IfSome, IsTrue};
+// being read. The place where one is sought is only a hint, since its text is compared. The literals of a clause that stands in
+// the text once more come in the same order: the one that came behind the last literal is tried first, and needs no code.
+ghost use Rattle.std.specs.Prelude.{◌≡◌, ◌≤◌, ◌++◌, [], List, ℕ, length, IfSome, IsTrue};
 ghost use Rattle.term_bank.specs.Forest.{Forest};
 ghost use Rattle.cert_items.specs.Spelled.{AreSpelled, IsSpelled};
 
@@ -35,10 +36,13 @@ pub struct Spelled {
     literal: IdLiteral,
 }
 
-/// Literals that were read, and for the low bits of a code the place of one that has it.
+/// Literals that were read, for each the place of the one that came behind it last, and the place of the last one. For the low
+/// bits of a code the place of a literal that has it.
 #[derive(Drop)]
 pub struct Recent {
     pub(crate) literals: Vec<Spelled>,
+    followers: Vec<usize>,
+    last: usize,
     places: Vec<usize>,
 }
 
@@ -131,13 +135,15 @@ impl Recent {
     {
         Recent {
             literals: Vec::new(alloc),
+            followers: Vec::new(alloc),
+            last: NOWHERE,
             places: Vec::new(alloc),
         }
     }
 
-    // The literal of the text that is remembered at this place.
-    fn find_at(&self, at: usize, text: &[u8], code: usize) -> Option<IdLiteral>
-        ensures { (f : Forest) → AreSpelled f self.now.literals.items → IfSome result (IsSpelled f text.now) }
+    // The literal of the text that is remembered for this place of a code, and its own place.
+    fn find_at(&self, at: usize, text: &[u8], code: usize) -> Option<(IdLiteral, usize)>
+        ensures { (f : Forest) → AreSpelled f self.now.literals.items → IfSome result (λ p. IsSpelled f text.now p.0) }
     {
         match self.places.get(at) {
             None => None,
@@ -145,7 +151,7 @@ impl Recent {
                 None => None,
                 Some(spelled) => {
                     if spelled.code == code && is_text(text, &spelled.text) {
-                        Some(spelled.literal)
+                        Some((spelled.literal, *place))
                     } else {
                         None
                     }
@@ -154,14 +160,74 @@ impl Recent {
         }
     }
 
-    /// The literal whose text, which has this code, this is, where it is remembered.
-    pub fn find(&self, text: &[u8], code: usize) -> Option<IdLiteral>
-        ensures { (f : Forest) → AreSpelled f self.now.literals.items → IfSome result (IsSpelled f text.now) }
+    // The literal whose text, which has this code, this is, where it is remembered, and its own place.
+    fn find_place(&self, text: &[u8], code: usize) -> Option<(IdLiteral, usize)>
+        ensures { (f : Forest) → AreSpelled f self.now.literals.items → IfSome result (λ p. IsSpelled f text.now p.0) }
     {
         let at = place_of(self.places.len(), code);
         match self.find_at(at, text, code) {
-            Some(l) => Some(l),
+            Some(found) => Some(found),
             None => self.find_at(at ^ 1, text, code),
+        }
+    }
+
+    // Notes that the literal at the place comes behind the last one, and is the last one now.
+    fn follow(&mut self, place: usize)
+        ensures { self.new.literals ≡ self.old.literals }
+    {
+        if let Some(follower) = self.followers.get_mut(self.last) {
+            *follower = place;
+        }
+        self.last = place;
+    }
+
+    /// The literal whose text, which has this code, this is, where it is remembered.
+    pub fn find(&mut self, text: &[u8], code: usize) -> Option<IdLiteral>
+        ensures same { self.new.literals ≡ self.old.literals }
+        ensures spelled { (f : Forest) → AreSpelled f self.old.literals.items → IfSome result (IsSpelled f text.now) }
+    {
+        match self.find_place(text, code) {
+            None => None,
+            Some((l, place)) => {
+                self.follow(place);
+                Some(l)
+            }
+        }
+    }
+
+    // The place of the literal that came behind the last one.
+    fn next_place(&self) -> usize {
+        match self.followers.get(self.last) {
+            None => NOWHERE,
+            Some(place) => *place,
+        }
+    }
+
+    // The literal at the place, where its text is at the front, and what follows that.
+    fn at_front<'a>(&self, place: usize, bytes: &'a [u8]) -> Option<(IdLiteral, &'a [u8])>
+        ensures { (f : Forest) → AreSpelled f self.now.literals.items → IfSome result (λ p. (text : List ℕ) × IsSpelled f text p.0 × (bytes.now ≡ text ++ p.1.now)) }
+    {
+        match self.literals.get(place) {
+            None => None,
+            Some(spelled) => match word(bytes, &spelled.text) {
+                None => None,
+                Some(rest) => Some((spelled.literal, rest)),
+            },
+        }
+    }
+
+    /// The literal that came behind the last one, where its text is at the front, and what follows that.
+    pub fn expected<'a>(&mut self, bytes: &'a [u8]) -> Option<(IdLiteral, &'a [u8])>
+        ensures same { self.new.literals ≡ self.old.literals }
+        ensures spelled { (f : Forest) → AreSpelled f self.old.literals.items → IfSome result (λ p. (text : List ℕ) × IsSpelled f text p.0 × (bytes.now ≡ text ++ p.1.now)) }
+    {
+        let place = self.next_place();
+        match self.at_front(place, bytes) {
+            None => None,
+            Some(found) => {
+                self.last = place;
+                Some(found)
+            }
         }
     }
 
@@ -175,6 +241,8 @@ impl Recent {
         }
         if count >= MOST_ROOM {
             self.literals.clear();
+            self.followers.clear();
+            self.last = NOWHERE;
             self.places = places_of(alloc, count, &self.literals)?;
             return Ok(());
         }
@@ -200,7 +268,9 @@ impl Recent {
             code,
             literal: *literal,
         })?;
+        self.followers.push(NOWHERE)?;
         put(&mut self.places, code, place);
+        self.follow(place);
         Ok(())
     }
 }
