@@ -140,19 +140,6 @@ module _ (f : Forest) where
         })),
   )
 
-  -- members without such literals conclude nothing
-  pub none_from : (ms : List Member) (from place partner other : ℕ) → literal_of ms from place ≡ None → (c : TreeClause) → ¬ IsConclusion (map (entry_of f) ms) from place partner other c
-  none_from ms from place partner other none c r =
-      let (k, u, v) = literal_named ms from place r.entry r.literal r.entry_at r.literal_at in
-      let e : None ≡ Some k = sym none ∙ u in
-      cc
-
-  pub none_partner : (ms : List Member) (from place partner other : ℕ) → literal_of ms partner other ≡ None → (c : TreeClause) → ¬ IsConclusion (map (entry_of f) ms) from place partner other c
-  none_partner ms from place partner other none c r =
-      let (k, u, v) = literal_named ms partner other r.partner_entry r.other_literal r.partner_at r.other_at in
-      let e : None ≡ Some k = sym none ∙ u in
-      cc
-
   -- the answer for the bindings is that for each most general unifier
   pub instance_concludes : (es : List Binding) (c : List (Signed ℕ)) (k l : Signed ℕ) (d : List (Signed ℕ)) → k.positive ≢ l.positive → IsProperlyUnified f es (tree_at f k.atom) (tree_at f l.atom) → IsClauseOf f d
       → (answer : Bool) → IsInstanceOf f es Left c d answer → IsTrue answer ↔ IsConcluded f f c k l d

@@ -69,8 +69,8 @@ module _ (c : Covered) (base : IsValidBase (base_of c.cert.base)) (placed : HasP
         let d = due_of Left i j m s in (
           d ∷ [],
           meeting m n at_m at_n signs s general (d ∷ []) []
-          (inl (made_proper c.cert base placed (left_of i j) h.cover h.made m n at_m at_n s general, refl))
-          (inr (never_proper s.right n.selected.atom (ground n at_n), refl)) refl,
+              (inl (made_proper c.cert base placed (left_of i j) h.cover h.made m n at_m at_n s general, refl))
+              (inr (never_proper s.right n.selected.atom (ground n at_n), refl)) refl,
           λ ds k. more_right (covered_of c) p ds k none_wrong d (covers_there (left_of i j) p.count h m n at_m at_n s general),
         )
 
@@ -83,8 +83,8 @@ module _ (c : Covered) (base : IsValidBase (base_of c.cert.base)) (placed : HasP
         let d = due_of Right j i n s in (
           d ∷ [],
           meeting m n at_m at_n (λ e. signs (sym e)) s general [] (d ∷ [])
-          (inr (never_proper s.left m.selected.atom (ground m at_m), refl))
-          (inl (made_proper c.cert base placed (right_of i j) h.cover h.made n m at_n at_m s general, refl)) refl,
+              (inr (never_proper s.left m.selected.atom (ground m at_m), refl))
+              (inl (made_proper c.cert base placed (right_of i j) h.cover h.made n m at_n at_m s general, refl)) refl,
           λ ds k. more_right (covered_of c) p ds k none_wrong d (covers_there (right_of i j) p.count h n m at_n at_m s general),
         )
 
@@ -100,8 +100,8 @@ module _ (c : Covered) (base : IsValidBase (base_of c.cert.base)) (placed : HasP
         let more : p.count + 1 + 1 ≡ p.count + 2 = omega arith in (
           d ∷ e ∷ [],
           meeting m n at_m at_n signs s general (d ∷ []) (e ∷ [])
-          (inl (made_proper c.cert base placed (left_of i j) h.cover h.made m n at_m at_n s general, refl))
-          (inl (made_proper c.cert base placed (right_of i j) k.cover k.made n m at_n at_m s general, refl)) refl,
+              (inl (made_proper c.cert base placed (left_of i j) h.cover h.made m n at_m at_n s general, refl))
+              (inl (made_proper c.cert base placed (right_of i j) k.cover k.made n m at_n at_m s general, refl)) refl,
           λ ds a.
               subst (λ (x : ℕ). AreCompared (covered_of c) (record { count = x; wrong = p.wrong }) (ds ++ d ∷ e ∷ [])) more
               (subst (AreCompared (covered_of c) (record { count = p.count + 1 + 1; wrong = p.wrong })) (append_assoc ds (d ∷ []) (e ∷ []))

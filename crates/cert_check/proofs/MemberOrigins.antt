@@ -1,14 +1,11 @@
 -- What an origin from two members gives.
-use Rattle.std.proofs.Common.{◌≡◌, ℕ, ◌+◌, ◌<◌, List, ap, sym, ◌∙◌, map, subst, arith, length, get_or}
+use Rattle.std.proofs.Common.{◌≡◌, ℕ, ◌+◌, ◌<◌, List, sym, map, subst, arith, length, get_or}
 use Rattle.std.specs.Prelude.{◌↔◌, All, Bool, false, IfOk, IsTrue, Result, Ok, Err}
-use Rattle.inst_logic.specs.declared.signed.Signed.{Signed}
 use Rattle.inst_logic.specs.Clauses.{TreeClause}
 use Rattle.inst_calculus.specs.Conclusions.{IsPartOfConclusion}
 use Rattle.inst_calculus.specs.Entries.{Entry}
 use Rattle.inst_calculus.specs.Parts.{AreWithin}
-use Rattle.inst_calculus.proofs.OneConclusion.{one_conclusion}
-use Rattle.term_bank.specs.Forest.{Forest, AreDistinct, Extends, IsClauseOf, clause_at}
-use Rattle.term_bank.proofs.Clauses.{clause_extends, clause_of_extends}
+use Rattle.term_bank.specs.Forest.{clause_at}
 use Rattle.cert_format.specs.Validity.{Gives, IsConclusion, IsRightMember}
 use Rattle.saturation_cert.specs.declared.member.Member.{Member}
 use Rattle.saturation_cert.specs.declared.member.Origin.{Origin}
@@ -16,7 +13,6 @@ use Rattle.saturation_cert.specs.declared.member.Origin.TheVariants.{Inst, Lemma
 use Rattle.saturation_cert.specs.declared.certificate.Base.{Base}
 use Rattle.saturation_cert.specs.Values.{base_of, entry_of, origin_of}
 use Rattle.cert_check.specs.Conclusions.{MembersGive, IsPartGiven}
-use Rattle.clause_form.proofs.Ids.{same_ids}
 use Rattle.cert_check.proofs.Rightness.{right_by}
 
 -- where the members conclude nothing, they do not conclude the clause
