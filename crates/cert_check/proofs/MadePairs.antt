@@ -22,12 +22,12 @@ use Rattle.cert_check.specs.declared.compare.Progress.{Progress}
 use Rattle.cert_check.specs.declared.due_side.DueSide.{DueSide}
 use Rattle.cert_check.specs.Closings.{IsGeneralOn}
 use Rattle.cert_check.specs.DueSteps.{AreCompared, GivesPair, due_of}
-use Rattle.cert_check.specs.Made.{AreMade, on_left, on_both, on_right, IsGroundAt, IsMadeAt, IsPassed, left_of, right_of}
+use Rattle.cert_check.specs.Made.{AreMade, on_left, on_both, on_right, HasGroundAtom, IsMadeAt, IsPassed, left_of, right_of}
 use Rattle.cert_check.proofs.CompareLaws.{cover_there}
 use Rattle.cert_check.proofs.DueLaws.{more_right}
 use Rattle.cert_check.proofs.MadeLaws.{made_meets, made_proper, made_right}
 
-pub ground_at : (c : Saturation) (n : ℕ) (l : Signed ℕ) → IsSelectedLiteral c n l → tree_vars (tree_at c.base.bank l.atom) ≡ [] → IsGroundAt c n
+pub ground_at : (c : Saturation) (n : ℕ) (l : Signed ℕ) → IsSelectedLiteral c n l → tree_vars (tree_at c.base.bank l.atom) ≡ [] → HasGroundAtom c n
 ground_at c n l h none m s =
     ap (λ (x : Member). tree_vars x.selected.atom) (selected_once (saturation_of c).base.members (saturation_of c).places n m h.member s h.is) ∙ ap (λ (k : Signed Tree). tree_vars k.atom) h.literal ∙ none
 
@@ -60,7 +60,7 @@ module _ (c : Covered) (base : IsValidBase (base_of c.cert.base)) (placed : HasP
     proper_right : IsMadeAt c.cert c.covers (right_of i j) p.count → IsProperPair (saturation_of c.cert) (suc i) (suc j)
     proper_right h less m n at_m at_n signs s general = inr (made_proper c.cert base placed (right_of i j) h.cover h.made n m at_n at_m s general)
 
-    gives_left : IsMadeAt c.cert c.covers (left_of i j) p.count → IsGroundAt c.cert (suc j)
+    gives_left : IsMadeAt c.cert c.covers (left_of i j) p.count → HasGroundAtom c.cert (suc j)
         → GivesPair (saturation_of c.cert) (suc i) (suc j) (AreCompared (covered_of c) p) (AreCompared (covered_of c) (record { count = p.count + 1; wrong = p.wrong }))
     gives_left h ground =
         let (m, at_m) = member_at i left in
@@ -74,7 +74,7 @@ module _ (c : Covered) (base : IsValidBase (base_of c.cert.base)) (placed : HasP
           λ ds k. more_right (covered_of c) p ds k none_wrong d (covers_there (left_of i j) p.count h m n at_m at_n s general),
         )
 
-    gives_right : IsMadeAt c.cert c.covers (right_of i j) p.count → IsGroundAt c.cert (suc i)
+    gives_right : IsMadeAt c.cert c.covers (right_of i j) p.count → HasGroundAtom c.cert (suc i)
         → GivesPair (saturation_of c.cert) (suc i) (suc j) (AreCompared (covered_of c) p) (AreCompared (covered_of c) (record { count = p.count + 1; wrong = p.wrong }))
     gives_right h ground =
         let (m, at_m) = member_at i left in

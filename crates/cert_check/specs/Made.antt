@@ -31,14 +31,14 @@ pub record IsMadeAt (c : Saturation) (vs : List Cover) (due : DueSide) (place : 
   pub made : IsMadeCover c due cover
 
 -- the selected atom of member n has no variables
-abbrev pub IsGroundAt : Saturation → ℕ → Type 0
-IsGroundAt c n = (m : Member) → SelectsAt (saturation_of c) n m → tree_vars m.selected.atom ≡ []
+abbrev pub HasGroundAtom : Saturation → ℕ → Type 0
+HasGroundAtom c n = (m : Member) → SelectsAt (saturation_of c) n m → tree_vars m.selected.atom ≡ []
 
 -- so many covers from the place on are told, and no other is due of members i and j
 pub data AreMade (c : Saturation) (vs : List Cover) (i j place count : ℕ) : Type 0 where
-  on_left : IsMadeAt c vs (left_of i j) place → IsGroundAt c (suc j) → count ≡ 1 → AreMade c vs i j place count
+  on_left : IsMadeAt c vs (left_of i j) place → HasGroundAtom c (suc j) → count ≡ 1 → AreMade c vs i j place count
   on_both : IsMadeAt c vs (left_of i j) place → IsMadeAt c vs (right_of i j) (place + 1) → count ≡ 2 → AreMade c vs i j place count
-  on_right : IsMadeAt c vs (right_of i j) place → IsGroundAt c (suc i) → count ≡ 1 → AreMade c vs i j place count
+  on_right : IsMadeAt c vs (right_of i j) place → HasGroundAtom c (suc i) → count ≡ 1 → AreMade c vs i j place count
 
 -- the covers of members i and j were compared, and were right
 pub record IsPassed (c : Covered) (i j : ℕ) (p q : Progress) : Type 0 where

@@ -1,7 +1,7 @@
 // Whether a clause is the canonical form of a member's instance, seen without building it where that can be. This only saves work:
 // the walk may say no where there are many variables, literals or nodes, or where literals become one, and then the instance is
 // built.
-ghost use Rattle.std.specs.Prelude.{◌≡◌, ◌↔◌, ◌<◌, ◌++◌, ◌∷◌, List, [], true, ℕ, length, map, position, reverse, IfOk, IfSome, IsTrue, OnOk};
+ghost use Rattle.std.specs.Prelude.{◌≡◌, ◌<◌, ◌++◌, ◌∷◌, List, [], true, ℕ, length, map, position, reverse, IfOk, IfSome, OnOk};
 ghost use denote.Bor.{Bor};
 ghost use Rattle.inst_logic.specs.Clauses.{canonical_form, instance as under};
 ghost use Rattle.inst_logic.specs.Lists.{distinct};
@@ -19,7 +19,7 @@ ghost use Rattle.clause_form.specs.declared.walk.Leaves.TheVariants.{Led};
 ghost use Rattle.cert_check.specs.Compared.{IsInstanceOf};
 ghost use Rattle.cert_check.specs.Concluded.{ArePairs, IsStep, IsStepUnder, pairs_of};
 
-use crate::difference::same_clause;
+use crate::difference::same_trees;
 use crate::instance::Instance;
 use clause_form::Workspace;
 use inst_logic::Memory;
@@ -280,16 +280,6 @@ fn is_conclusion(
     room.order.clear();
     push_atoms(&mut room.pairs, of.side, literals, others)?;
     compare_all(bank, of.bindings, &mut room.pairs, &mut room.order)
-}
-
-// Whether the clauses stand for the same trees: equal trees have equal ids.
-fn same_trees(bank: &Bank, c: &IdClause, d: &IdClause) -> bool
-    requires left { IsClauseOf bank.now c.now }
-    requires right { IsClauseOf bank.now d.now }
-    ensures { IsTrue result ↔ (clause_at bank.now c.now ≡ clause_at bank.now d.now) }
-{
-    bank.distinct();
-    same_clause(c, d)
 }
 
 /// Whether the clause is the instance, which is built only where that is not seen without it.

@@ -13,6 +13,16 @@ pub fn same_clause(c: &IdClause, d: &IdClause) -> bool
     c == d
 }
 
+// Whether the clauses stand for the same trees: equal trees have equal ids.
+pub fn same_trees(bank: &Bank, c: &IdClause, d: &IdClause) -> bool
+    requires left { IsClauseOf bank.now c.now }
+    requires right { IsClauseOf bank.now d.now }
+    ensures { IsTrue result ↔ (clause_at bank.now c.now ≡ clause_at bank.now d.now) }
+{
+    bank.distinct();
+    same_clause(c, d)
+}
+
 // Whether both lists have equal clauses there, or both have none.
 fn same_at(xs: &[IdClause], ys: &[IdClause], i: usize) -> bool
     ensures { IsTrue result ↔ (slice_get xs.now i ≡ slice_get ys.now i) }

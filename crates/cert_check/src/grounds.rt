@@ -11,7 +11,7 @@ ghost use Rattle.term_bank.specs.Forest.{AreFormed, Extends, IsClauseAt, IsClaus
 ghost use Rattle.cert_check.specs.Firsts.{IsFirstWrongOf};
 ghost use Rattle.cert_check.specs.Grounds.{AreCanonicalMembers, IsGroundAt};
 
-use crate::difference::same_clause;
+use crate::difference::same_trees;
 use clause_form::{greatest_variable, under};
 use inst_logic::{Kind, Memory, Sym};
 use saturation_cert::MemberList;
@@ -66,16 +66,6 @@ fn built_under(
 {
     let terms = repeated(alloc, bank, term, c)?;
     under(alloc, bank, c, &terms)
-}
-
-// Whether the clauses stand for the same trees: equal trees have equal ids.
-fn same_trees(bank: &Bank, c: &IdClause, d: &IdClause) -> bool
-    requires left { IsClauseOf bank.now c.now }
-    requires right { IsClauseOf bank.now d.now }
-    ensures { IsTrue result ↔ (clause_at bank.now c.now ≡ clause_at bank.now d.now) }
-{
-    bank.distinct();
-    same_clause(c, d)
 }
 
 // Whether the ground clause is that instance of the clause, which is built.

@@ -4,7 +4,7 @@ ghost use Rattle.std.specs.Prelude.{◌≡◌, ◌↔◌, ◌<◌, IfSome, IsTru
 ghost use Rattle.saturation_cert.specs.Values.{saturation_of};
 ghost use Rattle.saturation_cert.specs.Wholes.{HasPlaces, IsWholeSaturation};
 ghost use Rattle.cert_check.specs.Compared.{IsComparable, IsMadeCover};
-ghost use Rattle.cert_check.specs.Made.{AreMade, IsGroundAt, IsMadeAt, IsPassed};
+ghost use Rattle.cert_check.specs.Made.{AreMade, HasGroundAtom, IsMadeAt, IsPassed};
 ghost use Rattle.cert_check.specs.Origins.{origin_from};
 ghost use Rattle.cert_check.specs.Sides.{left_number, right_number};
 
@@ -89,7 +89,7 @@ fn has_ground_atom(cert: &Saturation, i: usize) -> bool
     requires whole { IsWholeSaturation cert.now }
     requires placed { HasPlaces (saturation_of cert.now) }
     requires within { i < length cert.now.base.members }
-    ensures { result ≡ true → IsGroundAt cert.now (suc i) }
+    ensures { result ≡ true → HasGroundAtom cert.now (suc i) }
 {
     let l = *selected(cert, i);
     cert.base.bank.ground(l.atom)

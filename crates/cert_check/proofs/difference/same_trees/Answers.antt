@@ -1,7 +1,7 @@
 use Rattle.std.proofs.Common.{ap}
 use Rattle.term_bank.specs.Forest.{clause_at}
 use Rattle.clause_form.proofs.Ids.{same_ids}
-use Rattle.cert_check.proofs.grounds.same_trees.Goals as goal
+use Rattle.cert_check.proofs.difference.same_trees.Goals as goal
 
 pub returns : goal.returns
 returns c =
