@@ -215,7 +215,8 @@ fn check(alloc: Global, cert: &mut Covered) -> Result<(), CheckError>
 }
 
 /// Checks the certificate and owns it from then on. After a refusal it is dropped. Nothing is searched for: each instance that is
-/// due is compared, and built for that unless the member that is named was made from the same two selected literals.
+/// due is compared, and built only where that does not show it. Where the origins of the named members tell all that is due of
+/// two members, these are not unified.
 pub fn check_covered(alloc: Global, cert: Covered) -> Result<CheckedCovered, CheckError>
     requires { IsWholeCovered cert }
     ensures kept { IfOk result (KeepsCovered cert) }
