@@ -3,8 +3,9 @@
 ghost use Rattle.std.specs.Prelude.{◌≡◌, ◌≢◌, [], None, IfOk, OnErr, option_copied};
 ghost use Rattle.cdcl_trail.specs.Clauses.{clause_number, AddsClause, RemovesClause};
 
+use crate::packed_clause::PackedClause;
 use inst_logic::Memory;
-use prop_logic::{Lit, LitList};
+use prop_logic::Lit;
 use slab::Slab;
 use std::alloc::Global;
 use std::marker::Model;
@@ -13,7 +14,7 @@ use std::marker::Model;
 #[derive(Drop)]
 pub struct Clauses {
     alloc: Global,
-    clauses: Slab<LitList>,
+    clauses: Slab<PackedClause>,
 }
 
 impl Model for Clauses {
@@ -39,7 +40,7 @@ impl Clauses {
     }
 
     /// Adds a copy of the clause, and answers its number, which is 1 for the first. A refused call leaves the clauses as they
-    /// were. The clause is attached to no trail by it.
+    /// were; a clause with an atom that is not below 2^31 is refused. The clause is attached to no trail by it.
     pub fn add(&mut self, c: &[Lit]) -> Result<usize, Memory>
         ensures number { IfOk result (AddsClause self.old self.new c.now) }
         ensures err { OnErr result (self.new ≡ self.old) }
@@ -48,13 +49,13 @@ impl Clauses {
         if key == usize::MAX {
             return Err(Memory);
         }
-        let copy = LitList::from(Vec::from_slice(self.alloc, c)?);
+        let copy = PackedClause::of(self.alloc, c)?;
         self.clauses.insert(copy)?;
         Ok(key + 1)
     }
 
     /// The clause of this number, or `None` where there is none or it was forgotten.
-    pub fn get(&self, n: usize) -> Option<&LitList>
+    pub fn get(&self, n: usize) -> Option<&PackedClause>
         ensures { option_copied result ≡ clause_number self.now n }
     {
         if n == 0 {

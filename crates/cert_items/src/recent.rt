@@ -122,10 +122,7 @@ fn places_of(alloc: Global, count: usize, literals: &[Spelled]) -> Result<Vec<us
 fn is_text(text: &[u8], other: &[u8]) -> bool
     ensures { IsTrue result → text.now ≡ other.now }
 {
-    match word(text, other) {
-        None => false,
-        Some(rest) => rest.is_empty(),
-    }
+    text == other
 }
 
 impl Recent {
