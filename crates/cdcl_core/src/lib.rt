@@ -15,6 +15,7 @@ mod pace;
 mod phases;
 mod places;
 mod reasons;
+mod renewal;
 mod search;
 mod units;
 mod uses;

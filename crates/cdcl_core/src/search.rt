@@ -25,6 +25,7 @@ use crate::marks::Marks;
 use crate::pace::Pace;
 use crate::phases::Phases;
 use crate::reasons::mark_reasons;
+use crate::renewal::renew_where_due;
 use crate::units::unite_all;
 use cdcl_trail::{Clauses, Trail};
 use compact_lists::Literals;
@@ -672,6 +673,7 @@ impl Search {
         ensures added { self.new.log.added ≡ self.old.log.added }
         ensures answer { IfOk result (IsAnswer self.old.trail.trail.atoms self.old.log.added assumptions.now) }
     {
+        renew_where_due(self, assumptions)?;
         self.keep_levels(assumptions);
         let mut pace = Pace::new();
         loop {
@@ -682,6 +684,7 @@ impl Search {
             }
             let level = self.trail.level();
             if let Some(answer) = self.turn(assumptions)? {
+                self.learned.see_answer(&answer);
                 return Ok(answer);
             }
             pace.see(level, self.trail.level());

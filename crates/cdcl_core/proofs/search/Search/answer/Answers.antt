@@ -2,7 +2,10 @@ use Rattle.std.proofs.Common.{ap, ◌∙◌}
 use Rattle.cdcl_core.proofs.search.Search.answer.Goals as goal
 
 pub loop-pace-init : goal.loop-pace-init
-loop-pace-init c = record { search = c.keep_levels.ensures.search; same = c.keep_levels.ensures.same }
+loop-pace-init c =
+    let k = c.keep_levels.ensures in
+    let r = c.in_ok-renew_where_due.ensures.same in
+    record { search = k.search; same = record { atoms = k.same.atoms ∙ r.atoms; added = k.same.added ∙ r.added } }
 
 pub loop-pace-preserved-then-is_due : goal.loop-pace-preserved-then-is_due
 loop-pace-preserved-then-is_due c =

@@ -1,0 +1,150 @@
+// A search that begins anew over the same clauses. The derivation of an answer has all steps that its last one rests on, and these
+// are more from question to question, since what is learned rests on what was learned before. So once answers have copied many
+// steps, all that was learned is forgotten: what matters of it has mostly come back as added clauses.
+ghost use Rattle.std.specs.Prelude.{◌≡◌, ◌+◌, ◌<◌, [], length, take, IfOk, OnOk};
+ghost use Rattle.prop_logic.specs.Literal.{AllAtomsBelow};
+ghost use Rattle.cdcl_core.specs.Search.{IsKept, IsSameProblem};
+
+use crate::marks::Marks;
+use crate::search::Search;
+use compact_lists::{FlatClauses, PackedLit};
+use inst_logic::Memory;
+use prop_logic::Lit;
+use std::alloc::Global;
+
+// The literals, as they are added.
+fn unpacked(alloc: Global, clause: &[PackedLit]) -> Result<Vec<Lit>, Memory>
+    ensures { IfOk result (λ literals. literals.items ≡ clause.now) }
+{
+    let mut literals = Vec::with_capacity(alloc, clause.len())?;
+    for packed in clause {
+        literals.push(packed.lit())?;
+    }
+    Ok(literals)
+}
+
+// Makes so many atoms more.
+fn grow(search: &mut Search, count: usize) -> Result<(), Memory>
+    requires { IsKept search.old }
+    ensures kept { OnOk result (IsKept search.new) }
+    ensures atoms { OnOk result (search.new.trail.trail.atoms ≡ search.old.trail.trail.atoms + count) }
+    ensures added { OnOk result (search.new.log.added ≡ search.old.log.added) }
+{
+    for _ in 0..count {
+        search.new_atom()?;
+    }
+    Ok(())
+}
+
+// Adds the clause at the place, counted from 0, where those before it were added.
+fn add_next(
+    alloc: Global,
+    search: &mut Search,
+    added: &FlatClauses,
+    place: usize,
+) -> Result<(), Memory>
+    requires kept { IsKept search.old }
+    requires below { AllAtomsBelow search.old.trail.trail.atoms added.now }
+    requires within { place < length added.now }
+    requires before { search.old.log.added ≡ take place added.now }
+    ensures kept { OnOk result (IsKept search.new) }
+    ensures atoms { OnOk result (search.new.trail.trail.atoms ≡ search.old.trail.trail.atoms) }
+    ensures added { OnOk result (search.new.log.added ≡ take (place + 1) added.now) }
+{
+    match added.get(place) {
+        None => unreachable!(),
+        Some(clause) => {
+            let literals = unpacked(alloc, clause)?;
+            search.add(&literals)?;
+            Ok(())
+        }
+    }
+}
+
+// Adds all clauses, where none was.
+fn add_all(alloc: Global, search: &mut Search, added: &FlatClauses) -> Result<(), Memory>
+    requires kept { IsKept search.old }
+    requires below { AllAtomsBelow search.old.trail.trail.atoms added.now }
+    requires none { search.old.log.added ≡ [] }
+    ensures kept { OnOk result (IsKept search.new) }
+    ensures atoms { OnOk result (search.new.trail.trail.atoms ≡ search.old.trail.trail.atoms) }
+    ensures added { OnOk result (search.new.log.added ≡ added.now) }
+{
+    for place in 0..added.len() {
+        add_next(alloc, search, added, place)?;
+    }
+    Ok(())
+}
+
+// The search over so many atoms and these clauses, of which nothing is learned.
+fn fresh(alloc: Global, atoms: usize, added: &FlatClauses) -> Result<Search, Memory>
+    requires below { AllAtomsBelow atoms added.now }
+    ensures kept { IfOk result IsKept }
+    ensures atoms { IfOk result (λ s. s.trail.trail.atoms ≡ atoms) }
+    ensures added { IfOk result (λ s. s.log.added ≡ added.now) }
+{
+    let mut search = Search::new(alloc);
+    grow(&mut search, atoms)?;
+    add_all(alloc, &mut search, added)?;
+    Ok(search)
+}
+
+// Puts all atoms into the order.
+fn put_all(marks: &mut Marks, atoms: usize)
+    ensures { marks.new ≡ marks.old }
+{
+    for atom in 0..atoms {
+        marks.put_back(atom);
+    }
+}
+
+// Goes on with the clauses and the trail of the other search. The values that atoms had last stay, and their order.
+fn take_over(search: &mut Search, other: Search)
+    requires kept { IsKept search.old }
+    requires other { IsKept other }
+    requires same { IsSameProblem search.old other }
+    ensures kept { IsKept search.new }
+    ensures same { IsSameProblem search.old search.new }
+{
+    let Search {
+        log,
+        clauses,
+        trail,
+        ..
+    } = other;
+    search.phases.save(&search.trail);
+    search.phases.saved = 0;
+    put_all(&mut search.marks, search.phases.values.len());
+    search.learned = search.learned.begun_anew(search.alloc);
+    search.log = log;
+    search.clauses = clauses;
+    search.trail = trail;
+    search.next = 0;
+    search.assumed = 0;
+    search.checked = 0;
+}
+
+// Forgets all that was learned.
+fn renew(search: &mut Search) -> Result<(), Memory>
+    requires { IsKept search.old }
+    ensures kept { OnOk result (IsKept search.new) }
+    ensures same { OnOk result (IsSameProblem search.old search.new) }
+    ensures added { search.new.log.added ≡ search.old.log.added }
+{
+    let other = fresh(search.alloc, search.atoms(), &search.log.added)?;
+    take_over(search, other);
+    Ok(())
+}
+
+// Does so before a question under assumptions, where answers have copied many steps.
+pub(crate) fn renew_where_due(search: &mut Search, assumptions: &[Lit]) -> Result<(), Memory>
+    requires { IsKept search.old }
+    ensures kept { OnOk result (IsKept search.new) }
+    ensures same { OnOk result (IsSameProblem search.old search.new) }
+    ensures added { search.new.log.added ≡ search.old.log.added }
+{
+    if assumptions.is_empty() || !search.learned.is_worn(search.log.added.len()) {
+        return Ok(());
+    }
+    renew(search)
+}
