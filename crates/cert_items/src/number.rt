@@ -1,6 +1,5 @@
 // Numbers in decimal, without leading zeros.
-ghost use Rattle.std.specs.Prelude.{◌≡◌, ◌≢◌, ◌++◌, ◌+◌, ◌-◌, ◌*◌, ◌∷◌, false, ◌<◌, ◌≤◌, ◌^◌, ℕ, List, length, IsTrue, IfSome, IfNone, decimal};
-ghost use Rattle.std.specs.List.{list_all};
+ghost use Rattle.std.specs.Prelude.{◌≡◌, ◌≢◌, ◌++◌, ◌+◌, ◌-◌, ◌*◌, ◌∷◌, false, ◌<◌, ◌≤◌, ◌^◌, ℕ, List, length, take, IsTrue, IfSome, IfNone, decimal};
 ghost use Rattle.std.specs.Char.{is_ascii_digit};
 ghost use Rattle.cert_format.specs.Runs.{run, Ends};
 ghost use Rattle.cert_format.specs.Digits.{value, is_plain};
@@ -24,6 +23,7 @@ pub fn digits_len(bytes: &[u8]) -> usize
 fn with_digit(n: usize, digit: u8) -> Option<usize>
     requires { IsTrue (is_ascii_digit digit) }
     ensures some { IfSome result (λ m. m ≡ n * 10 + (digit - byte.digit_zero)) }
+    ensures fits { IfSome result (λ m. m < 2 ^ 64) }
     ensures none { IfNone result (2 ^ 64 ≤ n * 10 + (digit - byte.digit_zero)) }
 {
     match n.checked_mul(10) {
@@ -32,20 +32,24 @@ fn with_digit(n: usize, digit: u8) -> Option<usize>
     }
 }
 
-// The value of the digits, and `None` where it is no `usize`.
-fn value(digits: &[u8]) -> Option<usize>
-    requires { IsTrue (list_all is_ascii_digit digits.now) }
-    ensures some { IfSome result (λ n. n ≡ value 0 digits.now) }
-    ensures none { IfNone result (2 ^ 64 ≤ value 0 digits.now) }
+// The value of the digits at the front, and how many there are; `None` where it is no `usize`.
+fn digits_value(bytes: &[u8]) -> Option<(usize, usize)>
+    ensures count { IfSome result (λ r. r.1 ≡ run is_ascii_digit bytes.now) }
+    ensures within { IfSome result (λ r. r.1 ≤ length bytes.now) }
+    ensures some { IfSome result (λ r. r.0 ≡ value 0 (take r.1 bytes.now)) }
+    ensures fits { IfSome result (λ r. r.0 < 2 ^ 64) }
+    ensures none { IfNone result (2 ^ 64 ≤ value 0 (take (run is_ascii_digit bytes.now) bytes.now)) }
 {
     let mut n: usize = 0;
-    for digit in digits {
-        match with_digit(n, *digit) {
+    let mut len = 0;
+    while len < bytes.len() && bytes[len].is_ascii_digit() {
+        match with_digit(n, bytes[len]) {
             Some(m) => n = m,
             None => return None,
         }
+        len += 1;
     }
-    Some(n)
+    Some((n, len))
 }
 
 // Whether the digits have no leading zero.
@@ -64,13 +68,15 @@ pub fn number(bytes: &[u8]) -> Option<(usize, &[u8])>
     ensures fits { IfSome result (λ r. r.0 < 2 ^ 64) }
     ensures none { IfNone result ((n : ℕ) (rest : List ℕ) → n < 2 ^ 64 → Ends is_ascii_digit rest → bytes.now ≢ decimal n ++ rest) }
 {
-    let (digits, rest) = bytes.split_at(digits_len(bytes));
-    if !is_plain(digits) {
-        return None;
-    }
-    match value(digits) {
+    match digits_value(bytes) {
         None => None,
-        Some(n) => Some((n, rest)),
+        Some((n, len)) => {
+            let (digits, rest) = bytes.split_at(len);
+            if !is_plain(digits) {
+                return None;
+            }
+            Some((n, rest))
+        }
     }
 }
 
