@@ -3,9 +3,8 @@
 ghost use Rattle.std.specs.Prelude.{◌≡◌, ◌≢◌, [], None, IfOk, OnErr, option_copied};
 ghost use Rattle.cdcl_trail.specs.Clauses.{clause_number, AddsClause, RemovesClause};
 
-use crate::packed_clause::PackedClause;
 use inst_logic::Memory;
-use prop_logic::Lit;
+use prop_logic::{Lit, LitList};
 use slab::Slab;
 use std::alloc::Global;
 use std::marker::Model;
@@ -14,7 +13,7 @@ use std::marker::Model;
 #[derive(Drop)]
 pub struct Clauses {
     alloc: Global,
-    clauses: Slab<PackedClause>,
+    clauses: Slab<LitList>,
 }
 
 impl Model for Clauses {
@@ -40,7 +39,7 @@ impl Clauses {
     }
 
     /// Adds a copy of the clause, and answers its number, which is 1 for the first. A refused call leaves the clauses as they
-    /// were; a clause with an atom that is not below 2^31 is refused. The clause is attached to no trail by it.
+    /// were. The clause is attached to no trail by it.
     pub fn add(&mut self, c: &[Lit]) -> Result<usize, Memory>
         ensures number { IfOk result (AddsClause self.old self.new c.now) }
         ensures err { OnErr result (self.new ≡ self.old) }
@@ -49,13 +48,13 @@ impl Clauses {
         if key == usize::MAX {
             return Err(Memory);
         }
-        let copy = PackedClause::of(self.alloc, c)?;
+        let copy = LitList::from(Vec::from_slice(self.alloc, c)?);
         self.clauses.insert(copy)?;
         Ok(key + 1)
     }
 
     /// The clause of this number, or `None` where there is none or it was forgotten.
-    pub fn get(&self, n: usize) -> Option<&PackedClause>
+    pub fn get(&self, n: usize) -> Option<&LitList>
         ensures { option_copied result ≡ clause_number self.now n }
     {
         if n == 0 {

@@ -8,7 +8,6 @@ pub mod entry;
 mod entry_table;
 mod lists;
 mod loose;
-mod packed_clause;
 mod packed_pair;
 mod packed_watch;
 mod propagation;
@@ -23,5 +22,4 @@ mod watch_list;
 
 pub use clauses::Clauses;
 pub use entry::Entry;
-pub use packed_clause::PackedClause;
 pub use trail::Trail;
