@@ -136,6 +136,24 @@ unequal a l h e =
     same_sign false true e = absurd cc
     same_sign false false e = refl
 
+-- literals that the comparison does not tell apart
+pub equal : (a l : Signed ℕ) → (beq a.positive l.positive && eqb a.atom l.atom) ≡ true → a ≡ l
+equal a l h = same_lit a l (eqb-true a.atom l.atom (second (beq a.positive l.positive) (eqb a.atom l.atom) h)) (same_sign a.positive l.positive (first (beq a.positive l.positive) (eqb a.atom l.atom) h))
+  where
+    first : (p q : Bool) → (p && q) ≡ true → p ≡ true
+    first true q h = refl
+    first false q h = absurd cc
+
+    second : (p q : Bool) → (p && q) ≡ true → q ≡ true
+    second true q h = h
+    second false q h = absurd cc
+
+    same_sign : (p q : Bool) → beq p q ≡ true → p ≡ q
+    same_sign true true e = refl
+    same_sign true false e = absurd cc
+    same_sign false true e = absurd cc
+    same_sign false false e = refl
+
 -- what the value says of a literal
 pub true_has_value : (es : List Entry) (l : Signed ℕ) → AllPairs (λ a b. a.lit.atom ≢ b.lit.atom) es → Contains (literals_of es) l → value_of es l ≡ Some true
 true_has_value es l once f = by_value (value_of es l) refl

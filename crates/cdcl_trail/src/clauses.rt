@@ -3,6 +3,8 @@
 ghost use Rattle.std.specs.Prelude.{◌≡◌, ◌≢◌, [], None, IfOk, OnErr, option_copied};
 ghost use Rattle.cdcl_trail.specs.Clauses.{clause_number, AddsClause, RemovesClause};
 
+use crate::stored::Stored;
+use compact_lists::PackedLit;
 use inst_logic::Memory;
 use prop_logic::{Lit, LitList};
 use slab::Slab;
@@ -13,7 +15,7 @@ use std::marker::Model;
 #[derive(Drop)]
 pub struct Clauses {
     alloc: Global,
-    clauses: Slab<LitList>,
+    clauses: Slab<Stored>,
 }
 
 impl Model for Clauses {
@@ -39,7 +41,7 @@ impl Clauses {
     }
 
     /// Adds a copy of the clause, and answers its number, which is 1 for the first. A refused call leaves the clauses as they
-    /// were. The clause is attached to no trail by it.
+    /// were; a clause with an atom that is not below 2^31 is refused. The clause is attached to no trail by it.
     pub fn add(&mut self, c: &[Lit]) -> Result<usize, Memory>
         ensures number { IfOk result (AddsClause self.old self.new c.now) }
         ensures err { OnErr result (self.new ≡ self.old) }
@@ -48,7 +50,7 @@ impl Clauses {
         if key == usize::MAX {
             return Err(Memory);
         }
-        let copy = LitList::from(Vec::from_slice(self.alloc, c)?);
+        let copy = Stored::of(self.alloc, c)?;
         self.clauses.insert(copy)?;
         Ok(key + 1)
     }
@@ -60,7 +62,23 @@ impl Clauses {
         if n == 0 {
             return None;
         }
-        self.clauses.get(n - 1)
+        match self.clauses.get(n - 1) {
+            None => None,
+            Some(stored) => Some(stored.clause()),
+        }
+    }
+
+    // The literals of the clause of this number, packed.
+    pub(crate) fn packed(&self, n: usize) -> Option<&[PackedLit]>
+        ensures { option_copied result ≡ clause_number self.now n }
+    {
+        if n == 0 {
+            return None;
+        }
+        match self.clauses.get(n - 1) {
+            None => None,
+            Some(stored) => Some(stored.packed()),
+        }
     }
 
     /// Takes the clause of this number away. Its number may be given again.

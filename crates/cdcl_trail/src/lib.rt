@@ -12,6 +12,7 @@ mod packed_pair;
 mod packed_watch;
 mod propagation;
 mod scan;
+mod stored;
 pub mod trail;
 mod values;
 mod visit;

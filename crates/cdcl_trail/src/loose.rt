@@ -81,16 +81,16 @@ pub(crate) fn look_at(
     ensures looked { IfOk result (IsLookedAt clauses.now number (entries_of values.new) pairs.new) }
     ensures err { OnErr result (values.new ≡ values.old) }
 {
-    let Some(clause) = clauses.get(number) else {
+    let Some(clause) = clauses.packed(number) else {
         return Ok(Look::Taken);
     };
     if pair_of_clause(pairs, number).is_some() {
         return Ok(Look::Taken);
     }
-    let Some(first) = first_open(values, clause.as_slice()) else {
+    let Some(first) = first_open(values, clause) else {
         return Ok(Look::False(number));
     };
-    match other_open(values, clause.as_slice(), first) {
+    match other_open(values, clause, first) {
         Some(second) => {
             watch_pair(lists, pairs, number, Pair { first, second })?;
             Ok(Look::Taken)

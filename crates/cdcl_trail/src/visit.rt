@@ -111,10 +111,10 @@ fn settle(
     ensures visits { IfOk result (Visits clauses.now level l place values.old lists.old pairs.old values.new lists.new pairs.new) }
     ensures err { OnErr result (values.new ≡ values.old) }
 {
-    let Some(clause) = clauses.get(number) else {
+    let Some(clause) = clauses.packed(number) else {
         return Ok(Visit::False(number));
     };
-    match other_open(values, clause.as_slice(), other) {
+    match other_open(values, clause, other) {
         Some(next) => {
             move_watch(lists, pairs, l, place, number, other, next)?;
             Ok(Visit::Moved)

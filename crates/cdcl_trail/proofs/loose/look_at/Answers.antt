@@ -24,7 +24,7 @@ watch_pair-requires-clause-small c = lists_small c.args.clauses.now c.args.level
 
 pub returns-in_default-first_open-clause-looked : goal.returns-in_default-first_open-clause-looked
 returns-in_default-first_open-clause-looked c =
-    (c.in-Some.clause.now, sym c.in-Some.ensures, subst (All (IsFalseIn (entries_of c.args.values.now))) c.as_slice.ensures c.in_default-first_open.ensures.none)
+    (c.in-Some.clause.now, sym c.in-Some.ensures, c.in_default-first_open.ensures.none)
 
 pub put-requires-clause-unset : goal.put-requires-clause-unset
 put-requires-clause-unset c = neither (entries_of c.args.values.now) c.in-Some-first_open.first (decided_false _ _ _ c.is_true.ensures c.if-not-is_true.true) c.in-Some-first_open.ensures.some.1
@@ -40,8 +40,8 @@ returns-in_ok-watch_pair-in-Some-other_open-clause-running c =
     let at : clause_number clauses n ≡ Some c.in-Some.clause.now = sym c.in-Some.ensures in
     let room = c.requires.room c.in-Some.clause.now at in
     let none : pair_at c.args.pairs.now n ≡ None = none_at c.pair_of_clause.result (pair_at c.args.pairs.now n) c.pair_of_clause.ensures (sym c.if-is_some.ensures) in
-    let has_a : Contains c.in-Some.clause.now a = subst (λ ls. Contains ls a) c.as_slice.ensures c.in-Some-first_open.ensures.some.0 in
-    let has_b : Contains c.in-Some.clause.now b = subst (λ ls. Contains ls b) c.as_slice-2.ensures c.in-Some-other_open.ensures.some.0 in
+    let has_a : Contains c.in-Some.clause.now a = c.in-Some-first_open.ensures.some.0 in
+    let has_b : Contains c.in-Some.clause.now b = c.in-Some-other_open.ensures.some.0 in
     let in_a = subst (λ m. slot_of a < m) (sym r.slots) (slot_below a atoms (atom_below clauses n atoms c.in-Some.clause.now a r.below at has_a)) in
     let in_b = subst (λ m. slot_of b < m) (sym r.slots) (slot_below b atoms (atom_below clauses n atoms c.in-Some.clause.now b r.below at has_b)) in
     let e = c.in_ok-watch_pair-in-Some-other_open.ensures in
@@ -71,7 +71,7 @@ pub returns-then-not-is_true-clause-running : goal.returns-then-not-is_true-clau
 returns-then-not-is_true-clause-running c =
     let a = c.in-Some-first_open.first in
     let r = c.requires.running in
-    let has_a : Contains c.in-Some.clause.now a = subst (λ ls. Contains ls a) c.as_slice.ensures c.in-Some-first_open.ensures.some.0 in
+    let has_a : Contains c.in-Some.clause.now a = c.in-Some-first_open.ensures.some.0 in
     let low = atom_below c.args.clauses.now c.args.number (length c.args.values.now.entries.items) c.in-Some.clause.now a r.below (sym c.in-Some.ensures) has_a in
     let unset = neither (entries_of c.args.values.now) a (decided_false _ _ _ c.is_true.ensures c.if-not-is_true.true) c.in-Some-first_open.ensures.some.1 in
     unit_running c.args.clauses.now c.args.level c.args.values.now c.put.new.self c.args.lists.now c.args.pairs.now c.args.number a r low unset c.put.ensures.values c.put.ensures.entries c.put.ensures.atoms
@@ -80,14 +80,14 @@ pub returns-then-not-is_true-clause-runs : goal.returns-then-not-is_true-clause-
 returns-then-not-is_true-clause-runs c =
     let a = c.in-Some-first_open.first in
     let es = entries_of c.args.values.now in
-    let has_a : Contains c.in-Some.clause.now a = subst (λ ls. Contains ls a) c.as_slice.ensures c.in-Some-first_open.ensures.some.0 in
-    let all : All (λ m. IsFalseIn es m ⊎ (m ≡ a)) c.in-Some.clause.now = subst (All (λ m. IsFalseIn es m ⊎ (m ≡ a))) c.as_slice-2.ensures c.in-None.ensures.none in
+    let has_a : Contains c.in-Some.clause.now a = c.in-Some-first_open.ensures.some.0 in
+    let all : All (λ m. IsFalseIn es m ⊎ (m ≡ a)) c.in-Some.clause.now = c.in-None.ensures.none in
     unit_runs c.args.clauses.now c.args.level c.args.values.now c.put.new.self c.args.pairs.now c.args.number a c.in-Some.clause.now (sym c.in-Some.ensures) has_a all c.put.ensures.entries c.put.ensures.atoms
 
 pub returns-then-not-is_true-clause-looked : goal.returns-then-not-is_true-clause-looked
 returns-then-not-is_true-clause-looked c d at =
     let a = c.in-Some-first_open.first in
-    let has_a : Contains c.in-Some.clause.now a = subst (λ ls. Contains ls a) c.as_slice.ensures c.in-Some-first_open.ensures.some.0 in
+    let has_a : Contains c.in-Some.clause.now a = c.in-Some-first_open.ensures.some.0 in
     (a, subst (λ e. Contains e a) (same_Some c.in-Some.clause.now d (c.in-Some.ensures ∙ at)) has_a, last_true (entries_of c.args.values.now) (entries_of c.put.new.self) a c.args.level c.args.number c.put.ensures.entries)
 
 pub returns-else-not-is_true-clause-runs : goal.returns-else-not-is_true-clause-runs

@@ -1,4 +1,4 @@
-use Rattle.std.proofs.Common.{◌≡◌, set, ◌++◌, ◌∷◌, [], ◌⊎◌, Some, sym, ap, ◌∙◌, subst, false, arith}
+use Rattle.std.proofs.Common.{◌≡◌, set, ◌++◌, ◌∷◌, [], ◌⊎◌, Some, sym, ap, ◌∙◌, false, arith}
 use Rattle.std.proofs.lemmas.Option.{slice_get_within, none-some}
 use Rattle.std.specs.Prelude.{All, Contains}
 use Rattle.cdcl_trail.specs.Clauses.{clause_number}
@@ -53,7 +53,7 @@ pub returns-then-is_false-clause-visits : goal.returns-then-is_false-clause-visi
 returns-then-is_false-clause-visits c =
     let es = entries_of c.args.values.now in
     let at : clause_number c.args.clauses.now c.args.number ≡ Some c.in-Some.clause.now = sym c.in-Some.ensures in
-    let all : All (λ m. IsFalseIn es m ⊎ (m ≡ c.args.other)) c.in-Some.clause.now = subst (All (λ m. IsFalseIn es m ⊎ (m ≡ c.args.other))) c.as_slice.ensures c.in-None.ensures.none in
+    let all : All (λ m. IsFalseIn es m ⊎ (m ≡ c.args.other)) c.in-Some.clause.now = c.in-None.ensures.none in
     visits_false c.args.clauses.now c.args.level c.args.l c.args.place c.args.values.now c.args.lists.now c.args.pairs.now c.args.number c.args.other c.in-Some.clause.now c.requires.running at all
     (decided_true _ _ _ c.is_false.ensures c.if-is_false.true)
 
@@ -64,7 +64,7 @@ returns-else-is_false-clause-visits c =
     let w = c.requires.watch in
     let o = c.args.other in
     let at : clause_number c.args.clauses.now c.args.number ≡ Some c.in-Some.clause.now = sym c.in-Some.ensures in
-    let all : All (λ m. IsFalseIn es m ⊎ (m ≡ o)) c.in-Some.clause.now = subst (All (λ m. IsFalseIn es m ⊎ (m ≡ o))) c.as_slice.ensures c.in-None.ensures.none in
+    let all : All (λ m. IsFalseIn es m ⊎ (m ≡ o)) c.in-Some.clause.now = c.in-None.ensures.none in
     let has = (of_pair c.args.clauses.now c.args.lists.now c.args.pairs.now c.args.number p.0 c.args.l o c.in-Some.clause.now c.requires.running.watched p.1 p.2 at).1 in
     visits_implied c.args.clauses.now c.args.level c.args.l c.args.place c.args.values.now c.put.new.self c.args.lists.now c.args.pairs.now w.0 o c.in-Some.clause.now c.requires.running
     w.1 (ap (clause_number c.args.clauses.now) w.2 ∙ at) has all
@@ -81,7 +81,7 @@ returns-in_ok-move_watch-in-Some-other_open-clause-visits c =
     let at : clause_number c.args.clauses.now w.0.number ≡ Some c.in-Some.clause.now = ap (clause_number c.args.clauses.now) w.2 ∙ sym c.in-Some.ensures in
     let pair : pair_at c.args.pairs.now w.0.number ≡ Some p.0 = ap (pair_at c.args.pairs.now) w.2 ∙ p.1 in
     let some = c.in-Some-other_open.ensures.some in
-    let has : Contains c.in-Some.clause.now next = subst (λ ls. Contains ls next) c.as_slice.ensures some.0 in
+    let has : Contains c.in-Some.clause.now next = some.0 in
     let e = c.in_ok-move_watch-in-Some-other_open.ensures in
     let move = move_of c.args.clauses.now c.args.level c.args.l c.args.place c.args.values.now c.args.lists.now c.args.pairs.now w.0 p.0 o next c.in-Some.clause.now c.requires.running w.1 pair p.2 at has some.1 c.requires.is_false some.2 in
     visits_moved c.args.clauses.now c.args.level c.args.l c.args.place c.args.values.now c.args.lists.now c.move_watch.new.lists c.args.pairs.now c.move_watch.new.pairs w.0 p.0 o next c.requires.running
