@@ -1,6 +1,6 @@
 // A search that begins anew over the same clauses. The derivation of an answer has all steps that its last one rests on, and these
 // are more from question to question, since what is learned rests on what was learned before. So once answers have copied many
-// steps, all that was learned is forgotten: what matters of it has mostly come back as added clauses.
+// steps, all that was learned is forgotten, and the search goes on with the added clauses, the last values and their order.
 ghost use Rattle.std.specs.Prelude.{◌≡◌, ◌+◌, ◌<◌, [], length, take, IfOk, OnOk};
 ghost use Rattle.prop_logic.specs.Literal.{AllAtomsBelow};
 ghost use Rattle.cdcl_core.specs.Search.{IsKept, IsSameProblem};

@@ -19,6 +19,9 @@ pub fn digits_len(bytes: &[u8]) -> usize
     n
 }
 
+// Up to this number any digit fits behind it.
+const ROOMY: usize = 1_844_674_407_370_955_160;
+
 // The number with one more digit, and `None` where it is no `usize`.
 fn with_digit(n: usize, digit: u8) -> Option<usize>
     requires { IsTrue (is_ascii_digit digit) }
@@ -26,6 +29,9 @@ fn with_digit(n: usize, digit: u8) -> Option<usize>
     ensures fits { IfSome result (λ m. m < 2 ^ 64) }
     ensures none { IfNone result (2 ^ 64 ≤ n * 10 + (digit - byte.digit_zero)) }
 {
+    if n <= ROOMY {
+        return Some(n * 10 + usize::from(digit - b'0'));
+    }
     match n.checked_mul(10) {
         Some(tens) => tens.checked_add(usize::from(digit - b'0')),
         None => None,

@@ -70,10 +70,11 @@ fn depth_behind(depth: usize, byte: u8) -> usize {
 pub fn candidate_of(bytes: &[u8]) -> Candidate
     ensures { result.len ≤ length bytes.now }
 {
+    let most = bytes.len().min(LONGEST);
     let mut code: usize = 0;
     let mut depth: usize = 0;
     let mut len = 0;
-    while len < bytes.len() && len < LONGEST {
+    while len < most {
         let byte = bytes[len];
         if byte < b'0' {
             if may_end(&bytes[len..], depth) {

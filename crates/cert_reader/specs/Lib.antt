@@ -1,4 +1,5 @@
 pub mod Reads
 pub mod Groups
 pub mod Bodies
+pub mod Texts
 pub mod Starts

@@ -8,6 +8,7 @@ ghost use Rattle.cert_reader.specs.Groups.{AreGroups, items_of};
 use crate::groups::Groups;
 use crate::lines::closing;
 use crate::next::next_item;
+use crate::texts::Texts;
 use cert_items::{Shape, TextBank};
 use inst_logic::Memory;
 use std::alloc::Global;
@@ -62,16 +63,19 @@ pub fn read_items(
         → IfOk result (EndsSo text h (items_of shape bank.new groups.new)) }
 {
     let mut ids = Vec::new(alloc);
+    let mut texts = Texts::new(alloc);
+    let mut len = 0;
     let mut lines = lines;
     let mut rest = bytes;
     loop {
         match closing(shape.refutation, name, rest) {
             Some(behind) => return Ok(end_of(groups, shape, lines + 1, behind)),
-            None => match next_item(alloc, bank, &mut ids, groups, shape, rest) {
+            None => match next_item(alloc, bank, &mut ids, groups, &mut texts, shape, len, rest) {
                 Err(e) => return Err(e),
                 Ok(None) => return Ok(Ending::BadLine(lines + 1)),
                 Ok(Some(after)) => {
                     lines += 1;
+                    len = rest.len() - after.len();
                     rest = after;
                 }
             },
