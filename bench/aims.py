@@ -33,7 +33,7 @@ def classes(count, denied):
 
 def wide(count, denied):
     """One clause of so many atoms; or each of them is denied besides."""
-    return [[yes(f"p{n}") for n in range(count)]] + ([[no(f"p{n}")] for n in range(count)] if denied else [])
+    return [[yes("p", f"k{n}") for n in range(count)]] + ([[no("p", f"k{n}")] for n in range(count)] if denied else [])
 
 
 def constants(count, denied):
