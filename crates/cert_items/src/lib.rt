@@ -27,7 +27,7 @@ mod terms;
 pub mod text_bank;
 
 pub use by::read_by;
-pub use group::{Group, head};
+pub use group::Group;
 pub use item::{Item, read_item};
 pub use note::Note;
 pub use notes::sides;

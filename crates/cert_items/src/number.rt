@@ -38,7 +38,9 @@ fn with_digit(n: usize, digit: u8) -> Option<usize>
     }
 }
 
-// The value of the digits at the front, and how many there are; `None` where it is no `usize`.
+// The value of the digits at the front, and how many there are; `None` where it is no `usize`. Inlined, each digit would set what its
+// callers give for the case that it is the last.
+#[inline(never)]
 fn digits_value(bytes: &[u8]) -> Option<(usize, usize)>
     ensures count { IfSome result (λ r. r.1 ≡ run is_ascii_digit bytes.now) }
     ensures within { IfSome result (λ r. r.1 ≤ length bytes.now) }

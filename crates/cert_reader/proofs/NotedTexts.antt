@@ -1,9 +1,8 @@
 -- The texts of the clauses that were read, while the bank grows and items are added.
-use Rattle.std.proofs.Common.{◌≡◌, ℕ, zero, suc, List, [], ◌∷◌, ◌++◌, length, Some, refl, sym, ap, ◌∙◌, subst, arith}
+use Rattle.std.proofs.Common.{◌≡◌, ℕ, zero, suc, List, [], ◌∷◌, ◌++◌, Some, refl, sym, subst}
 use Rattle.std.specs.Prelude.{All, slice_get}
 use Rattle.std.specs.List.{AllZip}
 use Rattle.std.specs.Borrow.{Bor}
-use Rattle.std.proofs.lemmas.List.{length_push, nil_from_length}
 use Rattle.std.proofs.lemmas.List.Elements.{All-head, All-tail}
 use Rattle.inst_logic.specs.declared.signed.Signed.{Signed}
 use Rattle.inst_logic.specs.Clauses.{TreeClause}
@@ -68,34 +67,28 @@ module _ (f h : Forest) (grown : Extends f h) where
   }
 
   pub grown_noted : (s : Shape) (g : Groups) (t : Texts) → AreGroups s f g → AreNoted s f g t → AreNoted s h g t
-  grown_noted s g t p n names one = grown_texts s g t p (n names one)
+  grown_noted s g t p n names = grown_texts s g t p (n names)
 
 -- ---- no texts
 
-none_noted : {A B : Type 0} (R : A → B → Type 0) (xs : List A) (ys : List B) → ys ≡ [] → length ys ≡ length xs → AllZip R xs ys
-none_noted R xs ys e l = zip_same R [] xs [] ys (nil_from_length xs (sym l ∙ ap length e)) e tt
+none_noted : {A B : Type 0} (R : A → B → Type 0) (xs : List A) (ys : List B) → xs ≡ [] → ys ≡ [] → AllZip R xs ys
+none_noted R xs ys e g = zip_same R [] xs [] ys e g tt
 
-pub no_texts : (s : Shape) (f : Forest) (g : Groups) (t : Texts) → t.inputs.items ≡ [] → t.axioms.items ≡ [] → t.members.items ≡ [] → AreNoted s f g t
-no_texts s f g t i a m names one = record {
-  inputs = none_noted (IsTextAt f) g.inputs t.inputs.items i one.0;
-  axioms = none_noted (IsTextAt f) g.axioms t.axioms.items a one.1;
-  members = none_noted (IsMemberText f) g.members t.members.items m one.2;
-}
+module _ (s : Shape) (f : Forest) (g : Groups) (inputs : g.inputs ≡ []) (axioms : g.axioms ≡ []) (members : g.members ≡ []) where
+  pub no_texts : (t : Texts) → t.inputs.items ≡ [] → t.axioms.items ≡ [] → t.members.items ≡ [] → AreNoted s f g t
+  no_texts t i a m names = record {
+    inputs = none_noted (IsTextAt f) g.inputs t.inputs.items inputs i;
+    axioms = none_noted (IsTextAt f) g.axioms t.axioms.items axioms a;
+    members = none_noted (IsMemberText f) g.members t.members.items members m;
+  }
 
 -- ---- one item more
-
-one_less : {A B : Type 0} (xs : List A) (ys zs : List B) (x : A) (y : B) → zs ≡ ys ++ y ∷ [] → length zs ≡ length (xs ++ x ∷ []) → length ys ≡ length xs
-one_less xs ys zs x y e l =
-    let a = length_push xs x in
-    let b = length_push ys y in
-    let c = ap length e in
-    omega arith
 
 module _ (s : Shape) (f : Forest) (g : Groups) (t u : Texts) (p : AreNoted s f g t) where
   -- where the item's clause has no text that is noted
   pub same_noted : (k : Groups) → k.inputs ≡ g.inputs → k.axioms ≡ g.axioms → k.members ≡ g.members → AreSame t u → AreNoted s f k u
-  same_noted k i a m same names one =
-      let q = p names (ap length (sym same.0) ∙ one.0 ∙ ap length i, ap length (sym same.1) ∙ one.1 ∙ ap length a, ap length (sym same.2) ∙ one.2 ∙ ap length m) in
+  same_noted k i a m same names =
+      let q = p names in
       record {
         inputs = zip_same (IsTextAt f) g.inputs k.inputs t.inputs.items u.inputs.items i same.0 q.inputs;
         axioms = zip_same (IsTextAt f) g.axioms k.axioms t.axioms.items u.axioms.items a same.1 q.axioms;
@@ -105,8 +98,8 @@ module _ (s : Shape) (f : Forest) (g : Groups) (t u : Texts) (p : AreNoted s f g
   module _ (c : List (Signed ℕ)) (text : Bor (List ℕ)) (good : IsTextAt f c text) where
     input_noted : (k : Groups) → k.inputs ≡ g.inputs ++ c ∷ [] → k.axioms ≡ g.axioms → k.members ≡ g.members
         → u.inputs.items ≡ t.inputs.items ++ text ∷ [] → u.axioms.items ≡ t.axioms.items → u.members.items ≡ t.members.items → AreNoted s f k u
-    input_noted k i a m x y z names one =
-        let q = p names (one_less g.inputs t.inputs.items u.inputs.items c text x (one.0 ∙ ap length i), ap length (sym y) ∙ one.1 ∙ ap length a, ap length (sym z) ∙ one.2 ∙ ap length m) in
+    input_noted k i a m x y z names =
+        let q = p names in
         record {
           inputs = zip_same (IsTextAt f) (g.inputs ++ c ∷ []) k.inputs (t.inputs.items ++ text ∷ []) u.inputs.items i x (zip_push (IsTextAt f) g.inputs t.inputs.items c text q.inputs good);
           axioms = zip_same (IsTextAt f) g.axioms k.axioms t.axioms.items u.axioms.items a y q.axioms;
@@ -115,8 +108,8 @@ module _ (s : Shape) (f : Forest) (g : Groups) (t u : Texts) (p : AreNoted s f g
 
     axiom_noted : (k : Groups) → k.inputs ≡ g.inputs → k.axioms ≡ g.axioms ++ c ∷ [] → k.members ≡ g.members
         → u.inputs.items ≡ t.inputs.items → u.axioms.items ≡ t.axioms.items ++ text ∷ [] → u.members.items ≡ t.members.items → AreNoted s f k u
-    axiom_noted k i a m x y z names one =
-        let q = p names (ap length (sym x) ∙ one.0 ∙ ap length i, one_less g.axioms t.axioms.items u.axioms.items c text y (one.1 ∙ ap length a), ap length (sym z) ∙ one.2 ∙ ap length m) in
+    axiom_noted k i a m x y z names =
+        let q = p names in
         record {
           inputs = zip_same (IsTextAt f) g.inputs k.inputs t.inputs.items u.inputs.items i x q.inputs;
           axioms = zip_same (IsTextAt f) (g.axioms ++ c ∷ []) k.axioms (t.axioms.items ++ text ∷ []) u.axioms.items a y (zip_push (IsTextAt f) g.axioms t.axioms.items c text q.axioms good);
@@ -125,8 +118,8 @@ module _ (s : Shape) (f : Forest) (g : Groups) (t u : Texts) (p : AreNoted s f g
 
     member_noted : (k : Groups) (d : Member) → d.clause ≡ c → k.inputs ≡ g.inputs → k.axioms ≡ g.axioms → k.members ≡ g.members ++ d ∷ []
         → u.inputs.items ≡ t.inputs.items → u.axioms.items ≡ t.axioms.items → u.members.items ≡ t.members.items ++ text ∷ [] → AreNoted s f k u
-    member_noted k d e i a m x y z names one =
-        let q = p names (ap length (sym x) ∙ one.0 ∙ ap length i, ap length (sym y) ∙ one.1 ∙ ap length a, one_less g.members t.members.items u.members.items d text z (one.2 ∙ ap length m)) in
+    member_noted k d e i a m x y z names =
+        let q = p names in
         let w = subst (λ (b : List (Signed ℕ)). IsTextAt f b text) (sym e) good in
         record {
           inputs = zip_same (IsTextAt f) g.inputs k.inputs t.inputs.items u.inputs.items i x q.inputs;

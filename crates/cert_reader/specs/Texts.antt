@@ -1,5 +1,5 @@
 -- How the clauses of items stand in the text, and the items that are found by that.
-use Rattle.std.specs.Prelude.{◌≡◌, ℕ, ◌<◌, List, [], ◌∷◌, ◌++◌, length, IsTrue}
+use Rattle.std.specs.Prelude.{◌≡◌, ℕ, ◌<◌, List, [], ◌∷◌, ◌++◌, length, IsTrue, codes}
 use Rattle.std.specs.List.{AllZip}
 use Rattle.std.specs.Borrow.{Bor}
 use Rattle.inst_logic.specs.Clauses.{TreeClause}
@@ -7,11 +7,14 @@ use Rattle.inst_logic.specs.declared.signed.Signed.{Signed}
 use Rattle.inst_logic.specs.Printing.{clause_text}
 use Rattle.term_bank.specs.Forest.{Forest, clause_at}
 use Rattle.cert_format.specs.Formats.{clause_is_printable}
-use Rattle.cert_format.specs.LineMachine.{Note, item}
+use Rattle.cert_format.specs.LineMachine.{Note, input_by, side_by, item}
 use Rattle.cert_format.specs.LineTexts.{line}
+use Rattle.saturation_cert.specs.declared.certificate.By.{By}
+use Rattle.saturation_cert.specs.declared.certificate.Cover.{Cover}
 use Rattle.saturation_cert.specs.declared.member.Member.{Member}
-use Rattle.saturation_cert.specs.Wholes.{IsWholeClause}
-use Rattle.cert_items.specs.Items.{IsItem}
+use Rattle.saturation_cert.specs.Values.{by_of, side_of}
+use Rattle.saturation_cert.specs.Wholes.{IsWholeBy, IsWholeClause}
+use Rattle.cert_items.specs.Items.{letter_of, IsItem, IsNoteAt}
 use Rattle.cert_items.specs.declared.group.Group.{Group}
 use Rattle.cert_items.specs.declared.group.Group.TheVariants as kinds
 use Rattle.cert_items.specs.declared.shape.Shape.{Shape}
@@ -39,13 +42,9 @@ pub record AreTexts (f : Forest) (g : Groups) (t : Texts) : Type 0 where
   pub axioms : AllZip (IsTextAt f) g.axioms t.axioms.items
   pub members : AllZip (IsMemberText f) g.members t.members.items
 
--- there is one text for each of them
-abbrev pub IsOneEach : Groups → Texts → Type 0
-IsOneEach g t = (length t.inputs.items ≡ length g.inputs) × (length t.axioms.items ≡ length g.axioms) × (length t.members.items ≡ length g.members)
-
--- where there is one for each, they are those, in a text of a shape that names covers
+-- the same, in a text of a shape that names covers
 abbrev pub AreNoted : Shape → Forest → Groups → Texts → Type 0
-AreNoted shape f g t = IsTrue (names_in shape) → IsOneEach g t → AreTexts f g t
+AreNoted shape f g t = IsTrue (names_in shape) → AreTexts f g t
 
 -- no text more
 abbrev pub AreSame : Texts → Texts → Type 0
@@ -70,6 +69,25 @@ pub record IsKnown (f : Forest) (k : Known) : Type 0 where
 pub record IsItemAt (shape : Shape) (n : ℕ) (c : TreeClause) (note : Note) (bytes rest : List ℕ) : Type 0 where
   pub good : IsItem shape n c note
   pub text : bytes ≡ line (item n c note) rest
+
+-- the line of an item of the group, of which this follows the letter
+abbrev pub line_of : Group → List ℕ → List ℕ
+line_of g bytes = codes "cnf(" ++ letter_of g ∷ bytes
+
+-- what is put behind the others shows a clause, and is at the front of the text up to the end of the line
+pub record IsShownBehind (f : Forest) (xs ys : List By) (bytes rest : List ℕ) : Type 0 where
+  pub by : By
+  pub pushed : ys ≡ xs ++ by ∷ []
+  pub whole : IsWholeBy f by
+  pub at : (shape : Shape) (n : ℕ) → IsTrue (names_in shape) → IsNoteAt shape kinds.Shown n (input_by (by_of f by)) bytes (byte.closing_parenthesis ∷ byte.full_stop ∷ byte.line_feed ∷ rest)
+
+-- what is put behind the others covers the clause, and is at the front of the text up to the end of the line
+pub record IsCoverBehind (f : Forest) (c : List (Signed ℕ)) (xs ys : List Cover) (bytes rest : List ℕ) : Type 0 where
+  pub cover : Cover
+  pub pushed : ys ≡ xs ++ cover ∷ []
+  pub clause : cover.clause ≡ c
+  pub whole : IsWholeBy f cover.by
+  pub at : (shape : Shape) (n : ℕ) → IsTrue (names_in shape) → IsNoteAt shape kinds.Cover n (side_by cover.left cover.right (side_of cover.side) (by_of f cover.by)) bytes (byte.closing_parenthesis ∷ byte.full_stop ∷ byte.line_feed ∷ rest)
 
 -- one item more, which may follow, and none that has a text of its own
 pub record IsOneMore (shape : Shape) (f : Forest) (g : Groups) (h : Forest) (k : Groups) (t : Texts) (bytes rest : List ℕ) : Type 0 where

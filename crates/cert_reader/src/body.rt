@@ -1,5 +1,5 @@
 // The items of a text, up to its end.
-ghost use Rattle.std.specs.Prelude.{◌≡◌, ◌+◌, ◌<◌, ◌^◌, List, ℕ, length, IfOk};
+ghost use Rattle.std.specs.Prelude.{◌≡◌, ◌+◌, ◌<◌, ◌^◌, List, ℕ, [], length, IfOk};
 ghost use Rattle.cert_format.specs.LineMachine.{Header};
 ghost use Rattle.cert_items.specs.Items.{shape_of};
 ghost use Rattle.cert_reader.specs.Bodies.{HasRead, EndsSo, EndsAt, ending_behind};
@@ -46,7 +46,8 @@ fn end_of(groups: &Groups, shape: Shape, line: usize, rest: &[u8]) -> Ending
     }
 }
 
-/// Reads the items and the last line of a text of the shape under this name, of which so many lines have been read.
+/// Reads the items and the last line of a text of the shape under this name, of which so many lines have been read, into groups
+/// that were empty.
 pub fn read_items(
     alloc: Global,
     bank: &mut TextBank,
@@ -57,6 +58,9 @@ pub fn read_items(
     bytes: &[u8],
 ) -> Result<Ending, Memory>
     requires groups { AreGroups shape bank.old groups.old }
+    requires inputs { groups.old.inputs ≡ [] }
+    requires axioms { groups.old.axioms ≡ [] }
+    requires members { groups.old.members ≡ [] }
     requires counted { lines + length bytes.now < 2 ^ 63 }
     ensures groups { IfOk result (λ e. e ≡ Ending.Complete → AreGroups shape bank.new groups.new) }
     ensures ends { (text : List ℕ) (h : Header) → shape_of h ≡ shape → h.name ≡ name.now → HasRead text h (items_of shape bank.old groups.old) lines bytes.now

@@ -4,45 +4,49 @@ ghost use Rattle.term_bank.specs.Forest.{Forest, Grows};
 ghost use Rattle.saturation_cert.specs.Wholes.{IsWholeClause};
 ghost use Rattle.cert_items.specs.declared.shape.Shape.{Shape as AnyShape};
 ghost use Rattle.cert_reader.specs.Groups.{names_in, AreGroups};
-ghost use Rattle.cert_reader.specs.Texts.{AreTexts, AreNoted, IsKnown, IsOneMore};
+ghost use Rattle.cert_items.specs.declared.group.Group.TheVariants.{Shown as InShown, Cover as InCovers};
+ghost use Rattle.cert_reader.specs.Texts.{line_of, AreTexts, AreNoted, IsKnown, IsOneMore};
 
 use crate::groups::Groups;
-use crate::naming::{CoverLine, Known, ShownLine, cover_line, named_variant, shown_line};
+use crate::naming::{
+    Known, behind_text, clause_of, named_variant, numbered, push_cover, push_shown,
+};
 use crate::texts::Texts;
-use cert_items::{Group, Note, Shape, TextBank};
+use cert_items::{Group, Shape, TextBank};
 use inst_logic::Memory;
-use saturation_cert::GroundHintList;
 use std::alloc::Global;
 use term_bank::{IdClause, TermId};
 
-// Reads what shows the first input or axiom that is not shown.
+// Reads what shows the first input or axiom that is not shown, behind the letter of its group.
 fn next_shown<'a>(
     alloc: Global,
     bank: &mut TextBank,
     ids: &mut Vec<TermId>,
     groups: &mut Groups,
-    texts: &Texts<'a>,
+    texts: &Texts<'_>,
     bytes: &'a [u8],
 ) -> Result<Option<&'a [u8]>, Memory>
     requires texts { AreTexts bank.old groups.old texts.now }
-    ensures some { (shape : AnyShape) → IsTrue (names_in shape) → AreGroups shape bank.old groups.old → IfOk result (λ r. IfSome r (λ rest. IsOneMore shape bank.old groups.old bank.new groups.new texts.now bytes.now rest.now)) }
+    ensures some { (shape : AnyShape) → IsTrue (names_in shape) → AreGroups shape bank.old groups.old → IfOk result (λ r. IfSome r (λ rest. IsOneMore shape bank.old groups.old bank.new groups.new texts.now (line_of InShown bytes.now) rest.now)) }
     ensures none { IfOk result (λ r. IfNone r (groups.new ≡ groups.old)) }
     ensures grows { Grows bank.old bank.new }
 {
+    let Some((number, after)) = numbered(bytes) else {
+        return Ok(None);
+    };
+    if !groups.is_due(Group::Shown, number) {
+        return Ok(None);
+    }
     let Some(text) = texts.base(groups.shown.len()) else {
         return Ok(None);
     };
-    match shown_line(alloc, bank, ids, text, bytes)? {
+    let Some(behind) = behind_text(text, after) else {
+        return Ok(None);
+    };
+    match push_shown(alloc, bank, ids, &mut groups.shown, behind)? {
         None => Ok(None),
-        Some(ShownLine { number, by, rest }) => {
-            if !groups.is_due(Group::Shown, number) {
-                return Ok(None);
-            }
-            groups.push(
-                Note::InputBy(by),
-                IdClause::new(alloc),
-                GroundHintList::new(alloc),
-            )?;
+        Some(rest) => {
+            groups.last = Group::Shown;
             Ok(Some(rest))
         }
     }
@@ -67,46 +71,36 @@ fn known_member<'a>(groups: &'a Groups, texts: &'a Texts<'_>, number: usize) -> 
     }
 }
 
-// Reads what covers an instance. A line is mostly as long as the one before.
+// Reads what covers an instance, behind the letter of its group. Its clause may be that of the member of this number.
 fn next_cover<'a>(
     alloc: Global,
     bank: &mut TextBank,
     ids: &mut Vec<TermId>,
     groups: &mut Groups,
-    texts: &Texts<'a>,
-    len: usize,
+    texts: &Texts<'_>,
+    member: usize,
     bytes: &'a [u8],
 ) -> Result<Option<&'a [u8]>, Memory>
     requires texts { AreTexts bank.old groups.old texts.now }
     requires members { All (λ m. IsWholeClause bank.old m.clause) groups.old.members }
-    ensures some { (shape : AnyShape) → IsTrue (names_in shape) → AreGroups shape bank.old groups.old → IfOk result (λ r. IfSome r (λ rest. IsOneMore shape bank.old groups.old bank.new groups.new texts.now bytes.now rest.now)) }
+    ensures some { (shape : AnyShape) → IsTrue (names_in shape) → AreGroups shape bank.old groups.old → IfOk result (λ r. IfSome r (λ rest. IsOneMore shape bank.old groups.old bank.new groups.new texts.now (line_of InCovers bytes.now) rest.now)) }
     ensures none { IfOk result (λ r. IfNone r (groups.new ≡ groups.old)) }
     ensures grows { Grows bank.old bank.new }
 {
-    let mut clause = IdClause::new(alloc);
-    let known = known_member(groups, texts, named_variant(bytes, len));
-    match cover_line(alloc, bank, ids, known, &mut clause, bytes)? {
+    let Some((number, after)) = numbered(bytes) else {
+        return Ok(None);
+    };
+    if !groups.is_due(Group::Cover, number) || !groups.is_all_shown() {
+        return Ok(None);
+    }
+    let known = known_member(groups, texts, member);
+    let Some((clause, behind)) = clause_of(alloc, bank, ids, known, after)? else {
+        return Ok(None);
+    };
+    match push_cover(alloc, bank, ids, &mut groups.covers, clause, behind)? {
         None => Ok(None),
-        Some(
-            CoverLine {
-                number,
-                left,
-                right,
-                side,
-                by,
-                rest,
-            },
-        ) => {
-            if !groups.is_due(Group::Cover, number) || !groups.is_all_shown() {
-                return Ok(None);
-            }
-            let note = Note::SideBy {
-                left,
-                right,
-                side,
-                by,
-            };
-            groups.push(note, clause, GroundHintList::new(alloc))?;
+        Some(rest) => {
+            groups.last = Group::Cover;
             Ok(Some(rest))
         }
     }
@@ -130,12 +124,22 @@ pub fn next_named<'a>(
     ensures none { IfOk result (λ r. IfNone r (groups.new ≡ groups.old)) }
     ensures grows { Grows bank.old bank.new }
 {
-    if !shape.names_covers() || !texts.are_all(groups) {
+    if !shape.names_covers() {
         return Ok(None);
     }
     match bytes {
-        [_, _, _, _, b'q', ..] => next_shown(alloc, bank, ids, groups, texts, bytes),
-        [_, _, _, _, b'c', ..] => next_cover(alloc, bank, ids, groups, texts, len, bytes),
+        [b'c', b'n', b'f', b'(', b'q', after @ ..] => {
+            next_shown(alloc, bank, ids, groups, texts, after)
+        }
+        [b'c', b'n', b'f', b'(', b'c', after @ ..] => next_cover(
+            alloc,
+            bank,
+            ids,
+            groups,
+            texts,
+            named_variant(bytes, len),
+            after,
+        ),
         _ => Ok(None),
     }
 }

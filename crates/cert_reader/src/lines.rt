@@ -101,8 +101,8 @@ pub fn opening<'a>(refutation: bool, name: &[u8], bytes: &'a [u8]) -> Option<&'a
     }
 }
 
-/// What follows the line in which the output ends, under this name.
-pub fn closing<'a>(refutation: bool, name: &[u8], bytes: &'a [u8]) -> Option<&'a [u8]>
+// What follows the line in which the output ends, under this name.
+fn ending<'a>(refutation: bool, name: &[u8], bytes: &'a [u8]) -> Option<&'a [u8]>
     ensures some { IfSome result (λ rest. bytes.now ≡ line (lines.closing refutation name.now) rest.now) }
     ensures none { IfNone result ((rest : List ℕ) → bytes.now ≢ line (lines.closing refutation name.now) rest) }
 {
@@ -110,6 +110,17 @@ pub fn closing<'a>(refutation: bool, name: &[u8], bytes: &'a [u8]) -> Option<&'a
         about(b"% SZS output end CNFRefutation for ", name, bytes)
     } else {
         about(b"% SZS output end Saturation for ", name, bytes)
+    }
+}
+
+/// What follows the line in which the output ends, under this name. The first byte tells other lines from it.
+pub fn closing<'a>(refutation: bool, name: &[u8], bytes: &'a [u8]) -> Option<&'a [u8]>
+    ensures some { IfSome result (λ rest. bytes.now ≡ line (lines.closing refutation name.now) rest.now) }
+    ensures none { IfNone result ((rest : List ℕ) → bytes.now ≢ line (lines.closing refutation name.now) rest) }
+{
+    match bytes {
+        [b'%', ..] => ending(refutation, name, bytes),
+        _ => None,
     }
 }
 

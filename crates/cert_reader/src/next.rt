@@ -7,7 +7,7 @@ ghost use Rattle.cert_reader.specs.Texts.{AreNoted};
 use crate::groups::Groups;
 use crate::known::next_named;
 use crate::texts::Texts;
-use cert_items::{Item, Shape, TextBank, read_item};
+use cert_items::{Shape, TextBank, read_item};
 use inst_logic::Memory;
 use saturation_cert::GroundHintList;
 use std::alloc::Global;
@@ -33,29 +33,16 @@ fn next_read<'a>(
 {
     let mut literals = IdClause::new(alloc);
     let mut hints = GroundHintList::new(alloc);
-    match read_item(alloc, bank, ids, &mut literals, &mut hints, shape, bytes) {
-        Err(e) => Err(e),
-        Ok(None) => Ok(None),
-        Ok(
-            Some(
-                Item {
-                    group,
-                    number,
-                    clause,
-                    note,
-                    rest,
-                },
-            ),
-        ) => {
-            bank.distinct();
-            if !groups.may_take(shape, group, number, &literals) {
-                return Ok(None);
-            }
-            groups.push(note, literals, hints)?;
-            texts.note(shape, group, clause)?;
-            Ok(Some(rest))
-        }
+    let Some(item) = read_item(alloc, bank, ids, &mut literals, &mut hints, shape, bytes)? else {
+        return Ok(None);
+    };
+    bank.distinct();
+    if !groups.may_take(shape, item.group, item.number, &literals) {
+        return Ok(None);
     }
+    groups.push(item.note, literals, hints)?;
+    texts.note(shape, item.group, item.clause)?;
+    Ok(Some(item.rest))
 }
 
 /// Reads the item whose line is at the front of the text, where it may follow those that were read, and gives what follows its

@@ -1,10 +1,9 @@
 // The texts of the clauses that were read. What shows or covers a clause comes behind all of these, and most clauses there are
 // among them.
-ghost use Rattle.std.specs.Prelude.{◌≡◌, ◌↔◌, ◌++◌, [], IsTrue, OnOk, slice_get};
+ghost use Rattle.std.specs.Prelude.{◌≡◌, ◌++◌, [], IsTrue, OnOk, slice_get};
 ghost use Rattle.cert_reader.specs.Groups.{names_in};
-ghost use Rattle.cert_reader.specs.Texts.{IsNoted, IsOneEach};
+ghost use Rattle.cert_reader.specs.Texts.{IsNoted};
 
-use crate::groups::Groups;
 use cert_items::{Group, Shape};
 use inst_logic::Memory;
 use std::alloc::Global;
@@ -64,14 +63,5 @@ impl<'a> Texts<'a> {
         } else {
             self.axioms.get(number - inputs).copied()
         }
-    }
-
-    /// Whether there is one for each input, axiom and member.
-    pub fn are_all(&self, groups: &Groups) -> bool
-        ensures { IsTrue result ↔ IsOneEach groups.now self.now }
-    {
-        self.inputs.len() == groups.inputs.len()
-            && self.axioms.len() == groups.axioms.len()
-            && self.members.len() == groups.members.len()
     }
 }

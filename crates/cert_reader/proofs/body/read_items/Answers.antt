@@ -47,7 +47,7 @@ returns-in-Ok-None-clause-groups c e = absurd cc
 pub loop-behind-init : goal.loop-behind-init
 loop-behind-init c = record {
   groups = c.requires.groups;
-  texts = no_texts c.args.shape c.args.bank.now c.args.groups.now c.new-texts.result c.new-texts.ensures.inputs c.new-texts.ensures.axioms c.new-texts.ensures.members;
+  texts = no_texts c.args.shape c.args.bank.now c.args.groups.now c.requires.inputs c.requires.axioms c.requires.members c.new-texts.result c.new-texts.ensures.inputs c.new-texts.ensures.axioms c.new-texts.ensures.members;
   counted = omega arith;
   read = λ text h e p. p;
 }

@@ -1,7 +1,7 @@
 use Rattle.std.proofs.Common.{◌≢◌, Bool, List, ℕ, IfNone, sym, subst}
 use Rattle.cert_format.specs.LineMachine as lines
 use Rattle.cert_format.specs.LineTexts.{line}
-use Rattle.cert_reader.proofs.lines.closing.Goals as goal
+use Rattle.cert_reader.proofs.lines.ending.Goals as goal
 
 pub returns-then-refutation-clause-none : goal.returns-then-refutation-clause-none
 returns-then-refutation-clause-none c =
