@@ -1,7 +1,8 @@
 // Instances of clauses by lists of terms, one for each variable.
-ghost use Rattle.std.specs.Prelude.{◌≡◌, ◌↔◌, All, IfOk, IsTrue, map};
+ghost use Rattle.std.specs.Prelude.{◌≡◌, ◌↔◌, All, IfOk, IsTrue, length, map, true};
 ghost use Rattle.std.specs.List.{list_all, list_any};
 ghost use Rattle.inst_logic.specs.Clauses.{IsCanonical, IsPart};
+ghost use Rattle.clause_form.specs.Conclusions.{AreVariables};
 ghost use Rattle.clause_form.specs.Literals.{id_eq};
 ghost use Rattle.cert_format.specs.TermLists.{AreTermsFor, IsPartBy};
 ghost use Rattle.saturation_cert.specs.Wholes.{IsWholeTerm};
@@ -10,7 +11,7 @@ ghost use Rattle.term_bank.specs.Forest.{IsClauseOf, clause_at, tree_at, Grows};
 use clause_form::{greatest_variable, under, variant};
 use inst_logic::Memory;
 use std::alloc::Global;
-use term_bank::{Bank, IdClause, IdLiteral, TermIdList};
+use term_bank::{Bank, IdClause, IdLiteral, Shape, TermId, TermIdList};
 
 // Whether there is one term for each variable of the clause.
 pub fn are_terms_for(bank: &Bank, c: &IdClause, terms: &TermIdList) -> bool
@@ -44,7 +45,22 @@ fn is_part(bank: &Bank, c: &IdClause, d: &IdClause) -> bool
     all_within(c.as_slice(), d.as_slice())
 }
 
-/// Whether there is one term for each variable of the clause `e`, and all its literals under them are among those of `d`.
+// Whether the term at each place is the variable of that number. Under these a canonical clause is its own instance, and a clause
+// without variables is under none.
+fn are_variables(bank: &Bank, terms: &[TermId]) -> bool
+    requires { All (IsWholeTerm bank.now) terms.now }
+    ensures { result ≡ true → AreVariables bank.now (length terms.now) terms.now }
+{
+    for i in 0..terms.len() {
+        if bank.shape(terms[i]) != Shape::Var(i) {
+            return false;
+        }
+    }
+    true
+}
+
+/// Whether there is one term for each variable of the clause `e`, and all its literals under them are among those of `d`. Under its
+/// own variables, or under none, the instance is the clause itself, and is not built.
 pub fn is_part_by(
     alloc: Global,
     bank: &mut Bank,
@@ -61,6 +77,9 @@ pub fn is_part_by(
 {
     if !are_terms_for(bank, e, terms) {
         return Ok(false);
+    }
+    if are_variables(bank, terms.as_slice()) {
+        return Ok(is_part(bank, e, d));
     }
     let built = under(alloc, bank, e, terms)?;
     Ok(is_part(bank, &built, d))
