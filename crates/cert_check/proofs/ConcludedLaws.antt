@@ -1,6 +1,6 @@
 -- Nodes that are compared with the terms that they are to become.
 use Rattle.std.proofs.Common.{◌≡◌, ℕ, suc, zero, ◌-◌, ◌+◌, ◌<◌, ◌≤◌, List, [], ◌∷◌, ◌++◌, refl, sym, ap, ap₂, ◌∙◌, subst as transport, map, length, reverse, take, drop, get_or, arith, Bool, true, false, Option, Some, None, eqb, append_assoc}
-use Rattle.std.proofs.lemmas.List.{append-nil, take_more, take_all}
+use Rattle.std.proofs.lemmas.List.{append-nil, length-drop, take_more, take_all}
 use Rattle.std.proofs.lemmas.List.Elements.{All-head, All-tail}
 use Rattle.std.proofs.lemmas.Option.{same_Some}
 use Rattle.std.proofs.Math.Seq.{drop-cons}
@@ -148,6 +148,28 @@ step_variable f bs node term v rest xs ys within inside is free met named = reco
         leaf_numbered f f f bs.now.entries r final node v (number_in xs (record { side = node.side; var = v })) term xs ys (extends_itself f) within is free reading.leaf
         (transport (λ (os : List ℕ). IsBegun os (with_vars (numbers_of xs) (r.vars node))) (sym (met_append (numbers_of xs) (r.vars node) (vars_of r rest)) ∙ e) (with_begun (with_vars (numbers_of xs) (r.vars node)) (vars_of r rest)))
         met refl (inside, named)
+
+-- a slice from a place to the end is the list from there on
+pub slice_to_end : (k : ℕ) (xs : List ℕ) → take (length xs - k) (drop k xs) ≡ drop k xs
+slice_to_end k xs = take_all (length xs - k) (drop k xs) (omega (arith, length-drop k xs))
+
+-- the pair at a place, before those behind it
+pub pair_at : (s : Side) (nodes terms : List ℕ) (i a t : ℕ) → i < length nodes → length nodes ≡ length terms → a ≡ get_or nodes i a → t ≡ get_or terms i t
+    → pairs_of s (drop i nodes) (drop i terms) ≡ record { node = on s a; term = t } ∷ pairs_of s (drop (i + 1) nodes) (drop (i + 1) terms)
+pair_at s nodes terms i a t within long is is' =
+    let next : suc i ≡ i + 1 = omega arith in
+    let e : drop i nodes ≡ a ∷ drop (i + 1) nodes = drop-cons nodes i a (omega arith) ∙ ap₂ (λ x xs. x ∷ xs) (sym is) (ap (λ j. drop j nodes) next) in
+    let e' : drop i terms ≡ t ∷ drop (i + 1) terms = drop-cons terms i t (omega arith) ∙ ap₂ (λ x xs. x ∷ xs) (sym is') (ap (λ j. drop j terms) next) in
+    ap₂ (pairs_of s) e e'
+
+-- one more pair that is seen
+pub step_pair : (f : Forest) (w : Leaves) (s : Side) (nodes terms : List ℕ) (i a t : ℕ) (ps rest : List Pair) (os : List ℕ) → i < length nodes → length nodes ≡ length terms → a ≡ get_or nodes i a → t ≡ get_or terms i t
+    → IsStep f w ps (pairs_of s (drop i nodes) (drop i terms) ++ rest) os os
+    → IsStep f w (record { node = on s a; term = t } ∷ (pairs_of s (drop (i + 1) nodes) (drop (i + 1) terms) ++ rest)) (pairs_of s (drop (i + 1) nodes) (drop (i + 1) terms) ++ rest) os os
+    → IsStep f w ps (pairs_of s (drop (i + 1) nodes) (drop (i + 1) terms) ++ rest) os os
+step_pair f w s nodes terms i a t ps rest os within long is is' before step =
+    step_trans f w ps (pairs_of s (drop i nodes) (drop i terms) ++ rest) (pairs_of s (drop (i + 1) nodes) (drop (i + 1) terms) ++ rest) os os os before
+    (transport (λ (zs : List Pair). IsStep f w (zs ++ rest) (pairs_of s (drop (i + 1) nodes) (drop (i + 1) terms) ++ rest) os os) (sym (pair_at s nodes terms i a t within long is is')) step)
 
 -- the arguments as pairs
 pairs_vars : (r : Reading) (s : Side) (nodes terms : List ℕ) (rest : List Pair) → length nodes ≡ length terms → vars_of r (pairs_of s nodes terms ++ rest) ≡ vars_on r s nodes ++ vars_of r rest

@@ -1,13 +1,13 @@
 // Whether a clause is the canonical form of a member's instance, seen without building it where that can be. This only saves work:
 // the walk may say no where there are many variables, literals or nodes, or where literals become one, and then the instance is
 // built.
-ghost use Rattle.std.specs.Prelude.{◌≡◌, ◌<◌, ◌++◌, ◌∷◌, List, [], true, ℕ, length, map, position, reverse, IfOk, IfSome, OnOk};
+ghost use Rattle.std.specs.Prelude.{◌≡◌, ◌<◌, ◌≤◌, ◌++◌, ◌∷◌, List, [], true, ℕ, length, drop, map, position, reverse, IfOk, IfSome, OnOk};
 ghost use denote.Bor.{Bor};
 ghost use Rattle.inst_logic.specs.Clauses.{canonical_form, instance as under};
 ghost use Rattle.inst_logic.specs.Lists.{distinct};
 ghost use Rattle.inst_logic.specs.Tree.{var};
 ghost use Rattle.inst_logic.specs.Unifiers.{IsApplication, Sided};
-ghost use Rattle.term_bank.specs.Forest.{AreFormed, Extends, IsClauseAt, IsClauseOf, clause_at, tree_at};
+ghost use Rattle.term_bank.specs.Forest.{AreFormed, AreIds, Extends, IsClauseAt, IsClauseOf, clause_at, tree_at};
 ghost use Rattle.unify_core.specs.Bindings.{Bound_list};
 ghost use Rattle.unify_core.specs.Chains.{AreBindings};
 ghost use Rattle.unify_core.specs.Sides.{IsResolvedBy, of_side};
@@ -18,6 +18,7 @@ ghost use Rattle.clause_form.specs.Walks.{IsFree, numbers_of};
 ghost use Rattle.clause_form.specs.declared.walk.Leaves.TheVariants.{Led};
 ghost use Rattle.cert_check.specs.Compared.{IsInstanceOf};
 ghost use Rattle.cert_check.specs.Concluded.{ArePairs, IsStep, IsStepUnder, pairs_of};
+ghost use Rattle.cert_check.specs.declared.concluded.Pair.{Pair};
 
 use crate::difference::same_trees;
 use crate::instance::Instance;
@@ -30,7 +31,7 @@ use unify_core::{Bindings, Bound, Side, Variable};
 // So many variables are looked at one by one, and so many literals.
 const FEW: usize = 16;
 
-// So many nodes are compared at most.
+// So many pairs are taken off the list at most. Arguments that are seen to be the terms are not on it.
 const STEPS: usize = 512;
 
 // A node that is to become a term of the clause.
@@ -141,13 +142,59 @@ fn push_atoms(
     Ok(())
 }
 
-// Puts off the arguments of both, where the term has the symbol of the node, which is an application.
-fn open(bank: &Bank, pairs: &mut Vec<Pair>, node: Bound, term: TermId) -> Result<bool, Memory>
+// Whether the bindings lead from the node to this very term, and it has no variables. Then the node becomes the term.
+fn leads_to_ground(bank: &Bank, bindings: &Bindings, node: Bound, term: TermId) -> bool
+    requires bindings { AreBindings bank.now bindings.now.entries }
     requires node { node.term < length bank.now.trees }
     requires term { term < length bank.now.trees }
-    requires application { IsApplication (tree_at bank.now node.term) }
-    ensures { IfOk result (λ r. r ≡ true → (bs : Bor Bound_list) (os : List ℕ) → IsStep bank.now (Led bs) (record { node = node; term = term } ∷ reverse pairs.old.items) (reverse pairs.new.items) os os) }
+    ensures { result ≡ true → (rest : List Pair) (os : List ℕ) → IsStepUnder bank.now bindings.now.entries (record { node = node; term = term } ∷ rest) rest os os }
 {
+    let end = bindings.follow(bank, node);
+    end.term == term && bank.ground(term)
+}
+
+// How many of the side's first nodes are seen to become the terms at the same places, up to the first that is not.
+fn seen_count(
+    bank: &Bank,
+    bindings: &Bindings,
+    side: Side,
+    nodes: &[TermId],
+    terms: &[TermId],
+) -> usize
+    requires bindings { AreBindings bank.now bindings.now.entries }
+    requires nodes { AreIds bank.now nodes.now }
+    requires terms { AreIds bank.now terms.now }
+    requires counted { length nodes.now ≡ length terms.now }
+    ensures within { result ≤ length nodes.now }
+    ensures seen { (rest : List Pair) (os : List ℕ) → IsStepUnder bank.now bindings.now.entries (pairs_of side nodes.now terms.now ++ rest) (pairs_of side (drop result nodes.now) (drop result terms.now) ++ rest) os os }
+{
+    let mut count = 0;
+    while count < nodes.len()
+        && leads_to_ground(
+            bank,
+            bindings,
+            Bound {
+                side,
+                term: nodes[count],
+            },
+            terms[count],
+        )
+    {
+        count += 1;
+    }
+    count
+}
+
+// Where the term has the symbol of the node, which is an application, puts off the arguments of both, but for those at the front
+// that are seen to be the same.
+fn open(bank: &Bank, bindings: &Bindings, pairs: &mut Vec<Pair>, next: Pair) -> Result<bool, Memory>
+    requires bindings { AreBindings bank.now bindings.now.entries }
+    requires node { next.node.term < length bank.now.trees }
+    requires term { next.term < length bank.now.trees }
+    requires application { IsApplication (tree_at bank.now next.node.term) }
+    ensures { IfOk result (λ r. r ≡ true → (os : List ℕ) → IsStepUnder bank.now bindings.now.entries (next ∷ reverse pairs.old.items) (reverse pairs.new.items) os os) }
+{
+    let Pair { node, term } = next;
     if bank.symbol_number(node.term) != bank.symbol_number(term) {
         return Ok(false);
     }
@@ -156,22 +203,25 @@ fn open(bank: &Bank, pairs: &mut Vec<Pair>, node: Bound, term: TermId) -> Result
     if nodes.len() != terms.len() {
         return Ok(false);
     }
-    push_pairs(pairs, node.side, nodes, terms)?;
+    let seen = seen_count(bank, bindings, node.side, nodes, terms);
+    push_pairs(pairs, node.side, &nodes[seen..], &terms[seen..])?;
     Ok(true)
 }
 
 // Compares the root of the node, which was followed, with that of the term.
 fn compare_roots(
     bank: &Bank,
+    bindings: &Bindings,
     pairs: &mut Vec<Pair>,
     order: &mut Vec<Variable>,
-    node: Bound,
-    term: TermId,
+    next: Pair,
 ) -> Result<bool, Memory>
-    requires node { node.term < length bank.now.trees }
-    requires term { term < length bank.now.trees }
-    ensures { IfOk result (λ r. r ≡ true → (bs : Bor Bound_list) → IsFree bank.now (Led bs) node → IsStep bank.now (Led bs) (record { node = node; term = term } ∷ reverse pairs.old.items) (reverse pairs.new.items) (numbers_of order.old.items) (numbers_of order.new.items)) }
+    requires bindings { AreBindings bank.now bindings.now.entries }
+    requires node { next.node.term < length bank.now.trees }
+    requires term { next.term < length bank.now.trees }
+    ensures { IfOk result (λ r. r ≡ true → (bs : Bor Bound_list) → bs.now.entries ≡ bindings.now.entries → IsFree bank.now (Led bs) next.node → IsStep bank.now (Led bs) (next ∷ reverse pairs.old.items) (reverse pairs.new.items) (numbers_of order.old.items) (numbers_of order.new.items)) }
 {
+    let Pair { node, term } = next;
     if bank.ground(node.term) {
         return Ok(node.term == term);
     }
@@ -180,7 +230,7 @@ fn compare_roots(
             let side = node.side;
             is_numbered(bank, order, Variable { side, var }, term)
         }
-        Shape::App => open(bank, pairs, node, term),
+        Shape::App => open(bank, bindings, pairs, next),
     }
 }
 
@@ -198,7 +248,8 @@ fn compare_next(
     ensures { IfOk result (λ r. r ≡ true → IsStepUnder bank.now bindings.now.entries (next ∷ reverse pairs.old.items) (reverse pairs.new.items) (numbers_of order.old.items) (numbers_of order.new.items)) }
 {
     let node = bindings.follow(bank, next.node);
-    compare_roots(bank, pairs, order, node, next.term)
+    let term = next.term;
+    compare_roots(bank, bindings, pairs, order, Pair { node, term })
 }
 
 // Compares the pairs, and those of their arguments, up to the first that differ.
