@@ -6,7 +6,7 @@ ghost use Rattle.saturation_cert.specs.Values.{by_of};
 ghost use Rattle.saturation_cert.specs.Wholes.{IsWholeBy};
 ghost use Rattle.cert_items.specs.Notes.{NoBy};
 
-use crate::mark::word;
+use crate::mark::{mark, word};
 use crate::number::marked;
 use crate::term_list::number_and_terms;
 use crate::text_bank::TextBank;
@@ -15,16 +15,19 @@ use saturation_cert::By;
 use std::alloc::Global;
 use term_bank::TermId;
 
-// The number of a variant, and what follows the parenthesis behind it.
+// A variant by the letter of the members and its number, and what follows the parenthesis behind it.
 fn variant(bytes: &[u8]) -> Option<(By, &[u8])>
-    ensures some { (f : Forest) → IfSome result (λ p. codes "variant(m" ++ bytes.now ≡ by_text (by_of f p.0) p.1.now) }
+    ensures some { (f : Forest) → IfSome result (λ p. codes "variant(" ++ bytes.now ≡ by_text (by_of f p.0) p.1.now) }
     ensures printable { (f : Forest) → IfSome result (λ p. IsTrue (by_is_printable (by_of f p.0))) }
     ensures whole { (f : Forest) → IfSome result (λ p. IsWholeBy f p.0) }
-    ensures none { IfNone result (NoBy (codes "variant(m" ++ bytes.now)) }
+    ensures none { IfNone result (NoBy (codes "variant(" ++ bytes.now)) }
 {
-    match marked(bytes, b')') {
+    match mark(bytes, b'm') {
         None => None,
-        Some((k, rest)) => Some((By::Variant(k), rest)),
+        Some(digits) => match marked(digits, b')') {
+            None => None,
+            Some((k, rest)) => Some((By::Variant(k), rest)),
+        },
     }
 }
 
@@ -48,7 +51,8 @@ fn part<'a>(
     }
 }
 
-/// What covers a clause, at the front, and what follows it. `ids` is room to work in.
+/// What covers a clause, at the front, and what follows it. `ids` is room to work in. What covers an instance is mostly a variant,
+/// so that word is tried first. It ends before the letter, since only words of up to eight bytes are compared without a call.
 pub fn read_by<'a>(
     alloc: Global,
     bank: &mut TextBank,
@@ -61,12 +65,12 @@ pub fn read_by<'a>(
     ensures none { IfOk result (λ r. IfNone r (NoBy bytes.now)) }
     ensures grows { Grows bank.old bank.new }
 {
-    match word(bytes, b"tautology") {
-        Some(rest) => Ok(Some((By::Tautology, rest))),
-        None => match word(bytes, b"variant(m") {
-            Some(after) => Ok(variant(after)),
-            None => match word(bytes, b"part(m") {
-                Some(after) => part(alloc, bank, ids, after),
+    match word(bytes, b"variant(") {
+        Some(after) => Ok(variant(after)),
+        None => match word(bytes, b"part(m") {
+            Some(after) => part(alloc, bank, ids, after),
+            None => match word(bytes, b"tautology") {
+                Some(rest) => Ok(Some((By::Tautology, rest))),
                 None => Ok(None),
             },
         },

@@ -286,7 +286,7 @@ fn known_literal<'a>(
     }
 }
 
-// The literal at the front that came behind the last one when that was read before, and what follows it.
+// The literal at the front that came behind the last one before, or last where that one was expected, and what follows it.
 fn expected_literal<'a>(bank: &mut TextBank, bytes: &'a [u8]) -> Option<(IdLiteral, &'a [u8])>
     ensures same { bank.new ≡ bank.old }
     ensures some { IfSome result (λ p. IsLiteralAt bank.old p.0 bytes.now p.1.now) }

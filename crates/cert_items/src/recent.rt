@@ -1,6 +1,8 @@
 // Literals that were read, by their texts. Most literals of a text stand in it before, and are then found without their terms
 // being read. The place where one is sought is only a hint, since its text is compared. The literals of a clause that stands in
-// the text once more come in the same order: the one that came behind the last literal is tried first, and needs no code.
+// the text once more come in the same order: the one that came behind the last literal is tried first, and needs no code. Next is
+// tried the one that came last where that one was expected: instances of one clause differ in few literals, and where they follow
+// each other once more, they mostly do so in the same order.
 ghost use Rattle.std.specs.Prelude.{◌≡◌, ◌≤◌, ◌++◌, [], List, ℕ, length, IfSome, IsTrue};
 ghost use Rattle.term_bank.specs.Forest.{Forest};
 ghost use Rattle.cert_items.specs.Spelled.{AreSpelled, IsSpelled};
@@ -36,12 +38,24 @@ pub struct Spelled {
     literal: IdLiteral,
 }
 
-/// Literals that were read, for each the place of the one that came behind it last, and the place of the last one. For the low
-/// bits of a code the place of a literal that has it.
+// For a literal, the places of the one that came behind it last, and of the one that came last where it was expected.
+#[derive(Clone, Copy)]
+struct Links {
+    next: usize,
+    instead: usize,
+}
+
+const UNLINKED: Links = Links {
+    next: NOWHERE,
+    instead: NOWHERE,
+};
+
+/// Literals that were read, with their links, and the place of the last one. For the low bits of a code the place of a literal that
+/// has it.
 #[derive(Drop)]
 pub struct Recent {
     pub(crate) literals: Vec<Spelled>,
-    followers: Vec<usize>,
+    links: Vec<Links>,
     last: usize,
     places: Vec<usize>,
 }
@@ -133,7 +147,7 @@ impl Recent {
     {
         Recent {
             literals: Vec::new(alloc),
-            followers: Vec::new(alloc),
+            links: Vec::new(alloc),
             last: NOWHERE,
             places: Vec::new(alloc),
         }
@@ -169,12 +183,16 @@ impl Recent {
         }
     }
 
-    // Notes that the literal at the place comes behind the last one, and is the last one now.
+    // Notes that the literal at the place comes behind the last one, also where another was expected, and is the last one now.
     fn follow(&mut self, place: usize)
         ensures { self.new.literals ≡ self.old.literals }
     {
-        if let Some(follower) = self.followers.get_mut(self.last) {
-            *follower = place;
+        let before = self.next_place();
+        if let Some(links) = self.links.get_mut(before) {
+            links.instead = place;
+        }
+        if let Some(links) = self.links.get_mut(self.last) {
+            links.next = place;
         }
         self.last = place;
     }
@@ -195,9 +213,17 @@ impl Recent {
 
     // The place of the literal that came behind the last one.
     fn next_place(&self) -> usize {
-        match self.followers.get(self.last) {
+        match self.links.get(self.last) {
             None => NOWHERE,
-            Some(place) => *place,
+            Some(links) => links.next,
+        }
+    }
+
+    // The place of the literal that came last where the one at the place was expected.
+    fn instead_of(&self, place: usize) -> usize {
+        match self.links.get(place) {
+            None => NOWHERE,
+            Some(links) => links.instead,
         }
     }
 
@@ -214,16 +240,22 @@ impl Recent {
         }
     }
 
-    /// The literal that came behind the last one, where its text is at the front, and what follows that.
+    /// The literal that came behind the last one, or else the one that came last where that was expected, where its text is at the
+    /// front, and what follows.
     pub fn expected<'a>(&mut self, bytes: &'a [u8]) -> Option<(IdLiteral, &'a [u8])>
         ensures same { self.new.literals ≡ self.old.literals }
         ensures spelled { (f : Forest) → AreSpelled f self.old.literals.items → IfSome result (λ p. (text : List ℕ) × IsSpelled f text p.0 × (bytes.now ≡ text ++ p.1.now)) }
     {
         let place = self.next_place();
-        match self.at_front(place, bytes) {
+        if let Some(found) = self.at_front(place, bytes) {
+            self.last = place;
+            return Some(found);
+        }
+        let other = self.instead_of(place);
+        match self.at_front(other, bytes) {
             None => None,
             Some(found) => {
-                self.last = place;
+                self.follow(other);
                 Some(found)
             }
         }
@@ -239,7 +271,7 @@ impl Recent {
         }
         if count >= MOST_ROOM {
             self.literals.clear();
-            self.followers.clear();
+            self.links.clear();
             self.last = NOWHERE;
             self.places = places_of(alloc, count, &self.literals)?;
             return Ok(());
@@ -266,7 +298,7 @@ impl Recent {
             code,
             literal: *literal,
         })?;
-        self.followers.push(NOWHERE)?;
+        self.links.push(UNLINKED)?;
         put(&mut self.places, code, place);
         self.follow(place);
         Ok(())

@@ -187,7 +187,8 @@ impl TextBank {
         self.recent.find(text, code)
     }
 
-    // The literal that came behind the last one, where its text is at the front, and what follows that.
+    // The literal that came behind the last one, or else the one that came last where that was expected, where its text is at
+    // the front, and what follows.
     pub(crate) fn expected<'a>(&mut self, bytes: &'a [u8]) -> Option<(IdLiteral, &'a [u8])>
         ensures same { self.new ≡ self.old }
         ensures spelled { IfSome result (λ p. (text : List ℕ) × IsSpelled self.old text p.0 × (bytes.now ≡ text ++ p.1.now)) }
