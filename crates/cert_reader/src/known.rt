@@ -107,7 +107,7 @@ fn next_cover<'a>(
 }
 
 /// Reads the item whose line is at the front of the text, where it says what shows or covers a clause, in a text of the shape.
-/// The line before it has so many bytes. Nothing is found where a clause has no text.
+/// The line before it has so many bytes. Where nothing is found, `read_item` decides.
 pub fn next_named<'a>(
     alloc: Global,
     bank: &mut TextBank,

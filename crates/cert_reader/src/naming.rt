@@ -16,6 +16,9 @@ use saturation_cert::{ByList, Cover, CoverList};
 use std::alloc::Global;
 use term_bank::{IdClause, TermId};
 
+// Room for so many literals at first. Most clauses that do not stand in the text before have no more.
+const FIRST_ROOM: usize = 2;
+
 /// A clause, and how it stands in the text with the comma behind it.
 #[derive(Clone, Copy)]
 pub struct Known<'a> {
@@ -81,7 +84,7 @@ pub fn clause_of<'a>(
             return Ok(Some((clause, rest)));
         }
     }
-    let mut clause = IdClause::new(alloc);
+    let mut clause = IdClause::from(Vec::with_capacity(alloc, FIRST_ROOM)?);
     match printable_clause(alloc, bank, ids, &mut clause, bytes)? {
         None => Ok(None),
         Some(rest) => Ok(Some((clause, rest))),
