@@ -5,6 +5,7 @@ seconds of one run."""
 
 import argparse
 import itertools
+import math
 import os
 import resource
 import shutil
@@ -106,21 +107,22 @@ def own_problems(kind):
             yield f"{name} {size} {'unsat' if refuted else 'sat'}", lambda path, them=(make, size, refuted): write(path, *them)
 
 
-def in_first_format(text, path):
-    """Writes the same saturation in format 1, which names no covers and has no parts, and returns whether it can be written so."""
+def in_old_format(text, path):
+    """Writes the same saturation in the first format that can hold it, without covers, and returns which that is, if any."""
     with open(text, "rb") as it:
         lines = it.read().split(b"\n")
-    if any(b",lemma(" in line for line in lines) or not any(line.startswith(b"% SZS output start Saturation") for line in lines[:3]):
-        return False
+    if not any(line.startswith(b"% SZS output start Saturation") for line in lines[:3]):
+        return None
+    old = 2 if any(b",lemma(" in line for line in lines) else 1
     with open(path, "wb") as out:
-        out.write(b"\n".join(line.replace(b"certificate 3", b"certificate 1") for line in lines if not line.startswith((b"cnf(q", b"cnf(c"))))
-    return True
+        out.write(b"\n".join(line.replace(b"certificate 3", b"certificate %d" % old) for line in lines if not line.startswith((b"cnf(q", b"cnf(c"))))
+    return old
 
 
 def first_format(program, folder, text):
     """The seconds of `check` on the saturation in format 1, and how many more it takes to find, name and write the covers."""
     path, said = os.path.join(folder, "first.txt"), os.path.join(folder, "first.out")
-    if not in_first_format(text, path):
+    if in_old_format(text, path) != 1:
         return None
     judged = measured([program, "check", path], None, said)
     rewritten = measured([program, "check", path, "--rewrite"], None, said)
@@ -158,6 +160,55 @@ def own(program, folder, limit, kind):
         line("prove of prove without naming, at most", "", "", "", "", mean([found / max(found - more, 0.001) for found, _, _, more in long]))
 
 
+def spent_by(words):
+    """The processor seconds of one command."""
+    with open(os.devnull, "wb") as to:
+        process = subprocess.Popen(words, stdout=to, stderr=subprocess.DEVNULL)
+        _, _, used = os.wait4(process.pid, 0)
+        process.returncode = 0
+    return used.ru_utime + used.ru_stime
+
+
+def by_turns(commands, seconds=1, least=15):
+    """Of each command the processor seconds that a quarter of its runs stay below, where they run by turns."""
+    times = [[] for _ in commands]
+    while len(times[0]) < least or sum(map(sum, times)) < seconds:
+        for words, them in zip(commands, times):
+            them.append(spent_by(words))
+    return [sorted(them)[len(them) // 4] for them in times]
+
+
+def beside_old(program, name, old, text):
+    """One line: `check` of a saturation in the first format that can hold it, of the same once more, and in format 3."""
+    number = in_old_format(text, old)
+    if number is None:
+        return None
+    first, again, third = by_turns([[program, "check", it] for it in (old, old, text)])
+    line(name, number, os.path.getsize(old), os.path.getsize(text), f"{1000 * first:.2f}", f"{1000 * third:.2f}", f"{third / first:.3f}",
+         f"{again / first:.3f}")
+    return first, third
+
+
+def formats(program, folder, limit):
+    """What `check` takes of saturations that name their covers, beside the same in the first format that can hold them."""
+    line("check by turns, milliseconds", "format", "bytes", "in 3", "check", "in 3", "ratio", "of itself")
+    text, old = (os.path.join(folder, f"turn.{it}") for it in ("txt", "old"))
+    rows = []
+    for name, write in own_problems("epr"):
+        if name.endswith(" sat"):
+            write(old)
+            if measured([program, "prove", old], limit, text) is not None:
+                rows.append(beside_old(program, name, old, text))
+    for name, make in itertools.chain(MADE["pairs"], MADE["covers"]):
+        with open(old, "w", encoding="ascii") as out:
+            out.writelines(make())
+        measured([program, "check", old, "--rewrite"], None, text)
+        rows.append(beside_old(program, name, old, text))
+    rows = [it for it in rows if it]
+    line("all together", *[""] * 5, f"{sum(third for _, third in rows) / sum(first for first, _ in rows):.3f}")
+    line("mean (geometric)", *[""] * 5, f"{math.exp(sum(math.log(third / first) for first, third in rows) / len(rows)):.3f}")
+
+
 def made_here(program, name, path):
     """A certificate of format 1, checked, rewritten in format 3, and checked so."""
     taken = measured([program, "check", path], None, path + ".out")
@@ -173,18 +224,20 @@ def made_here(program, name, path):
 
 def main():
     parser = argparse.ArgumentParser(description=__doc__)
-    parser.add_argument("kinds", nargs="*", help="epr, ground, pairs, covers, hints, stress; all if none")
+    parser.add_argument("kinds", nargs="*", help="epr, ground, formats, pairs, covers, hints, stress; all if none")
     parser.add_argument("--limit", type=float, default=20, help="seconds for each run")
     parser.add_argument("--keep", help="a folder for the files, which are else removed")
     parser.add_argument("--program", default=os.path.join(TOP, "instgen"), help="the program to run")
     given = parser.parse_args()
-    kinds = given.kinds or ["epr", "ground", *MADE, "stress"]
+    kinds = given.kinds or ["epr", "ground", "formats", *MADE, "stress"]
     folder = given.keep or tempfile.mkdtemp(prefix="bench")
     os.makedirs(folder, exist_ok=True)
     subprocess.run([given.program], stdout=subprocess.DEVNULL, stderr=sys.stderr, check=False)  # builds it where needed
     for kind in ("epr", "ground"):
         if kind in kinds:
             own(given.program, folder, given.limit, kind)
+    if "formats" in kinds:
+        formats(given.program, folder, given.limit)
     if set(kinds) & set(MADE):
         line("made here, format 1, then rewritten", "bytes", "check", "--rewrite", "check MB/s")
     for name, make in itertools.chain.from_iterable(MADE.get(kind, []) for kind in kinds):
