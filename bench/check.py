@@ -1,7 +1,7 @@
 #!/usr/bin/env python3
 """Measures the checker: on certificates that the program printed itself, what `check` takes of what `prove` took, and on
 certificates made here, what pairs, covers and hints cost. `check.py --help` lists the kinds. All times are processor
-seconds of one run."""
+seconds of one run, but for those of `formats`."""
 
 import argparse
 import itertools
@@ -161,11 +161,13 @@ def own(program, folder, limit, kind):
 
 
 def spent_by(words):
-    """The processor seconds of one command."""
+    """The processor seconds of one command, which has to end well: a refused certificate takes no time worth telling."""
     with open(os.devnull, "wb") as to:
         process = subprocess.Popen(words, stdout=to, stderr=subprocess.DEVNULL)
-        _, _, used = os.wait4(process.pid, 0)
-        process.returncode = 0
+        _, status, used = os.wait4(process.pid, 0)
+        process.returncode = status  # it was waited for here
+    if status:
+        sys.exit(f"{' '.join(words)} did not end well")
     return used.ru_utime + used.ru_stime
 
 
