@@ -1,5 +1,5 @@
 -- Sides and pairs of members that are closed for the unifier that bindings stand for.
-use Rattle.std.proofs.Common.{◌≡◌, ◌↔◌, inl, inr, ℕ, suc, ◌<◌, List, length, map, get_or, refl, ap, sym, ◌∙◌, subst, arith, true, false, Some}
+use Rattle.std.proofs.Common.{◌≡◌, ◌↔◌, ◌||◌, inl, inr, ℕ, suc, ◌<◌, List, length, map, get_or, refl, ap, sym, ◌∙◌, subst, arith, true, false, Some}
 use Rattle.std.specs.Prelude.{Bool, IsTrue, slice_get}
 use Rattle.std.proofs.lemmas.Option.{slice_get-get_or, slice_get_within, same_Some}
 use Rattle.inst_logic.specs.declared.signed.Signed.{Signed}
@@ -32,7 +32,7 @@ use Rattle.saturation_cert.specs.Values.{base_of, saturation_of, entry_of}
 use Rattle.saturation_cert.specs.Wholes.{IsWholeSaturation, HasPlaces, KeepsSaturation}
 use Rattle.cert_format.specs.Validity.{IsValidBase}
 use Rattle.inst_calculus.proofs.Choice.{swapped, swapped_general}
-use Rattle.cert_check.specs.Closings.{IsGeneralOn, IsSideCovered, IsSideClosed, IsProperSomewhere, IsPairClosed}
+use Rattle.cert_check.specs.Closings.{IsGeneralOn, IsSideCovered, IsSideClosed, IsProperOn, IsProperSomewhere, IsPairClosed}
 use Rattle.cert_check.specs.Origins.{IsMade}
 use Rattle.cert_check.specs.Grounds.{AreCanonicalMembers}
 use Rattle.cert_check.proofs.Bases.{member_canonical}
@@ -136,6 +136,19 @@ proper_there f es Right h a b s resolved g = h b a s resolved g
 pub not_proper_there : (f : Forest) (es : List Binding) (x : Side) → NotProperOn f es x → (a b : Tree) (s : Sided) → IsResolvedBy f es s → IsGeneralOn x s a b → ¬ (IsProper (of_side s x) a)
 not_proper_there f es Left h a b s resolved g = h a b s resolved g
 not_proper_there f es Right h a b s resolved g = h b a s resolved g
+
+pub proper_on : (f : Forest) (es : List Binding) (x : Side) → ProperOn f es x → IsProperOn f es x true
+proper_on f es x h s resolved a b g = ((λ t. proper_there f es x h a b s resolved g), (λ p. refl))
+
+pub not_proper_on : (f : Forest) (es : List Binding) (x : Side) → NotProperOn f es x → IsProperOn f es x false
+not_proper_on f es x h s resolved a b g = ((λ t. absurd (let e : false ≡ true = t in cc)), (λ p. absurd (not_proper_there f es x h a b s resolved g p)))
+
+-- the right side in a bank that has grown
+pub proper_sides : (f g : Forest) (es : List Binding) (l r : Bool) → ((s : Sided) → IsResolvedBy f es s → IsResolvedBy g es s) → IsProperOn f es Left l → IsProperOn g es Right r → IsProperSomewhere f es (l || r)
+proper_sides f g es true r later left right s resolved a b u = ((λ t. inl ((left s resolved a b u).0 refl)), (λ p. refl))
+proper_sides f g es false r later left right s resolved a b u =
+    let by : IsTrue r ↔ IsProper s.right b = right s (later s resolved) b a u in
+    ((λ t. inr (by.0 t)), (λ h. elim h [ inl p ↦ absurd (let e : false ≡ true = (left s resolved a b u).1 p in cc) | inr p ↦ by.1 p ]))
 
 module _ (c : Saturation) (es : List Binding) where
   pub side_not_proper : (x : Side) (i j : ℕ) → NotProperOn c.base.bank es x → IsSideClosed c es x i j true

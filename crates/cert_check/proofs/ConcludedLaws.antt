@@ -1,6 +1,6 @@
 -- Nodes that are compared with the terms that they are to become.
 use Rattle.std.proofs.Common.{◌≡◌, ℕ, suc, zero, ◌-◌, ◌+◌, ◌<◌, ◌≤◌, List, [], ◌∷◌, ◌++◌, refl, sym, ap, ap₂, ◌∙◌, subst as transport, map, length, reverse, take, drop, get_or, arith, Bool, true, false, Option, Some, None, eqb, append_assoc}
-use Rattle.std.proofs.lemmas.List.{append-nil, length-drop, take_more, take_all}
+use Rattle.std.proofs.lemmas.List.{append-nil, length-drop, nil_from_length, take_more, take_all}
 use Rattle.std.proofs.lemmas.List.Elements.{All-head, All-tail}
 use Rattle.std.proofs.lemmas.Option.{same_Some}
 use Rattle.std.proofs.Math.Seq.{drop-cons}
@@ -51,16 +51,24 @@ use Rattle.cert_check.specs.declared.concluded.Pair.{Pair}
 pub top_pair : (pairs rest : List Pair) (p : Pair) → pairs ≡ rest ++ p ∷ [] → reverse pairs ≡ p ∷ reverse rest
 top_pair pairs rest p e = ap reverse e ∙ reverse_push rest p
 
+-- the pair at a place, before those behind it
+pair_at : (s : Side) (nodes terms : List ℕ) (i a t : ℕ) → i < length nodes → length nodes ≡ length terms → a ≡ get_or nodes i a → t ≡ get_or terms i t
+    → pairs_of s (drop i nodes) (drop i terms) ≡ record { node = on s a; term = t } ∷ pairs_of s (drop (i + 1) nodes) (drop (i + 1) terms)
+pair_at s nodes terms i a t within long is is' =
+    let next : suc i ≡ i + 1 = omega arith in
+    let e : drop i nodes ≡ a ∷ drop (i + 1) nodes = drop-cons nodes i a (omega arith) ∙ ap₂ (λ x xs. x ∷ xs) (sym is) (ap (λ j. drop j nodes) next) in
+    let e' : drop i terms ≡ t ∷ drop (i + 1) terms = drop-cons terms i t (omega arith) ∙ ap₂ (λ x xs. x ∷ xs) (sym is') (ap (λ j. drop j terms) next) in
+    ap₂ (pairs_of s) e e'
+
 -- one pair more before those that were put there
 pub one_pair : (s : Side) (nodes terms : List ℕ) (old now new : List Pair) (i a t : ℕ) → 0 < i → i ≤ length nodes → length nodes ≡ length terms → a ≡ get_or nodes (i - 1) a → t ≡ get_or terms (i - 1) t
     → reverse now ≡ pairs_of s (drop i nodes) (drop i terms) ++ reverse old → new ≡ now ++ record { node = on s a; term = t } ∷ []
     → reverse new ≡ pairs_of s (drop (i - 1) nodes) (drop (i - 1) terms) ++ reverse old
 one_pair s nodes terms old now new i a t positive within long is is' before pushed =
-    let next : suc (i - 1) ≡ i = omega arith in
-    let e : drop (i - 1) nodes ≡ a ∷ drop i nodes = drop-cons nodes (i - 1) a (omega arith) ∙ ap₂ (λ x xs. x ∷ xs) (sym is) (ap (λ j. drop j nodes) next) in
-    let e' : drop (i - 1) terms ≡ t ∷ drop i terms = drop-cons terms (i - 1) t (omega arith) ∙ ap₂ (λ x xs. x ∷ xs) (sym is') (ap (λ j. drop j terms) next) in
+    let next : i - 1 + 1 ≡ i = omega arith in
+    let here = pair_at s nodes terms (i - 1) a t (omega arith) long is is' ∙ ap (λ (j : ℕ). record { node = on s a; term = t } ∷ pairs_of s (drop j nodes) (drop j terms)) next in
     top_pair new now (record { node = on s a; term = t }) pushed ∙ ap (λ (ps : List Pair). record { node = on s a; term = t } ∷ ps) before
-    ∙ ap₂ (λ (xs ys : List ℕ). pairs_of s xs ys ++ reverse old) (sym e) (sym e')
+    ∙ ap (λ (ps : List Pair). ps ++ reverse old) (sym here)
 
 -- the literals of the same signs so far
 pub more_signs : (c d : List (Signed ℕ)) (i : ℕ) → i < length c → length c ≡ length d → (l k : Signed ℕ) → l ≡ get_or c i l → k ≡ get_or d i k → l.positive ≡ k.positive
@@ -153,23 +161,20 @@ step_variable f bs node term v rest xs ys within inside is free met named = reco
 pub slice_to_end : (k : ℕ) (xs : List ℕ) → take (length xs - k) (drop k xs) ≡ drop k xs
 slice_to_end k xs = take_all (length xs - k) (drop k xs) (omega (arith, length-drop k xs))
 
--- the pair at a place, before those behind it
-pub pair_at : (s : Side) (nodes terms : List ℕ) (i a t : ℕ) → i < length nodes → length nodes ≡ length terms → a ≡ get_or nodes i a → t ≡ get_or terms i t
-    → pairs_of s (drop i nodes) (drop i terms) ≡ record { node = on s a; term = t } ∷ pairs_of s (drop (i + 1) nodes) (drop (i + 1) terms)
-pair_at s nodes terms i a t within long is is' =
-    let next : suc i ≡ i + 1 = omega arith in
-    let e : drop i nodes ≡ a ∷ drop (i + 1) nodes = drop-cons nodes i a (omega arith) ∙ ap₂ (λ x xs. x ∷ xs) (sym is) (ap (λ j. drop j nodes) next) in
-    let e' : drop i terms ≡ t ∷ drop (i + 1) terms = drop-cons terms i t (omega arith) ∙ ap₂ (λ x xs. x ∷ xs) (sym is') (ap (λ j. drop j terms) next) in
-    ap₂ (pairs_of s) e e'
+-- one more pair that fits
+pub step_pair : (f : Forest) (w : Leaves) (s : Side) (nodes terms : List ℕ) (i a t : ℕ) (ps rest : List Pair) (os ns ms : List ℕ) → i < length nodes → length nodes ≡ length terms → a ≡ get_or nodes i a → t ≡ get_or terms i t
+    → IsStep f w ps (pairs_of s (drop i nodes) (drop i terms) ++ rest) os ns
+    → IsStep f w (record { node = on s a; term = t } ∷ (pairs_of s (drop (i + 1) nodes) (drop (i + 1) terms) ++ rest)) (pairs_of s (drop (i + 1) nodes) (drop (i + 1) terms) ++ rest) ns ms
+    → IsStep f w ps (pairs_of s (drop (i + 1) nodes) (drop (i + 1) terms) ++ rest) os ms
+step_pair f w s nodes terms i a t ps rest os ns ms within long is is' before step =
+    step_trans f w ps (pairs_of s (drop i nodes) (drop i terms) ++ rest) (pairs_of s (drop (i + 1) nodes) (drop (i + 1) terms) ++ rest) os ns ms before
+    (transport (λ (zs : List Pair). IsStep f w (zs ++ rest) (pairs_of s (drop (i + 1) nodes) (drop (i + 1) terms) ++ rest) ns ms) (sym (pair_at s nodes terms i a t within long is is')) step)
 
--- one more pair that is seen
-pub step_pair : (f : Forest) (w : Leaves) (s : Side) (nodes terms : List ℕ) (i a t : ℕ) (ps rest : List Pair) (os : List ℕ) → i < length nodes → length nodes ≡ length terms → a ≡ get_or nodes i a → t ≡ get_or terms i t
-    → IsStep f w ps (pairs_of s (drop i nodes) (drop i terms) ++ rest) os os
-    → IsStep f w (record { node = on s a; term = t } ∷ (pairs_of s (drop (i + 1) nodes) (drop (i + 1) terms) ++ rest)) (pairs_of s (drop (i + 1) nodes) (drop (i + 1) terms) ++ rest) os os
-    → IsStep f w ps (pairs_of s (drop (i + 1) nodes) (drop (i + 1) terms) ++ rest) os os
-step_pair f w s nodes terms i a t ps rest os within long is is' before step =
-    step_trans f w ps (pairs_of s (drop i nodes) (drop i terms) ++ rest) (pairs_of s (drop (i + 1) nodes) (drop (i + 1) terms) ++ rest) os os os before
-    (transport (λ (zs : List Pair). IsStep f w (zs ++ rest) (pairs_of s (drop (i + 1) nodes) (drop (i + 1) terms) ++ rest) os os) (sym (pair_at s nodes terms i a t within long is is')) step)
+-- all pairs were passed
+pub step_all : (f : Forest) (w : Leaves) (s : Side) (nodes terms : List ℕ) (i : ℕ) (ps rest : List Pair) (os ns : List ℕ) → length nodes ≤ i
+    → IsStep f w ps (pairs_of s (drop i nodes) (drop i terms) ++ rest) os ns → IsStep f w ps rest os ns
+step_all f w s nodes terms i ps rest os ns end step =
+    transport (λ (xs : List ℕ). IsStep f w ps (pairs_of s xs (drop i terms) ++ rest) os ns) (nil_from_length (drop i nodes) (omega (arith, length-drop i nodes))) step
 
 -- the arguments as pairs
 pairs_vars : (r : Reading) (s : Side) (nodes terms : List ℕ) (rest : List Pair) → length nodes ≡ length terms → vars_of r (pairs_of s nodes terms ++ rest) ≡ vars_on r s nodes ++ vars_of r rest
@@ -227,17 +232,17 @@ step_application f w node term rest qs os nodes terms within inside symbol appli
     })
 
 -- all pairs fit: the clause is the instance
-pub clause_seen : (f : Forest) (bs : Bor Bound_list) (side : Side) (c d : List (Signed ℕ)) (ps : List Pair) (os : List ℕ) → AreDistinct f.trees → IsClauseOf f d → length c ≡ length d → d ≡ distinct id_eq (with_atoms c (map (λ l. l.atom) d))
-    → ps ≡ pairs_of side (map (λ l. l.atom) c) (map (λ l. l.atom) d) ++ [] → IsStep f (Led bs) ps [] [] os
+pub clause_seen : (f : Forest) (bs : Bor Bound_list) (side : Side) (c d : List (Signed ℕ)) (os : List ℕ) → AreDistinct f.trees → IsClauseOf f d → length c ≡ length d → d ≡ distinct id_eq (with_atoms c (map (λ l. l.atom) d))
+    → IsStep f (Led bs) (pairs_of side (map (λ l. l.atom) c) (map (λ l. l.atom) d) ++ []) [] [] os
     → (s : Sided) → IsResolvedBy f bs.now.entries s → IsClauseAt f d (canonical_form (instance (of_side s side) (clause_at f c)))
-clause_seen f bs side c d ps os once ids long alone is step s resolved =
+clause_seen f bs side c d os once ids long alone step s resolved =
     let atoms = map (λ (l : Signed ℕ). l.atom) c in
     let others = map (λ (l : Signed ℕ). l.atom) d in
     let final = final_order f (of_side s side) c in
     let r = led_reading f s final in
     let n : length atoms ≡ length others = length_map (λ (l : Signed ℕ). l.atom) c ∙ long ∙ sym (length_map (λ (l : Signed ℕ). l.atom) d) in
-    let whole : with_vars [] (vars_of r ps) ≡ final = ap (λ (zs : List Pair). with_vars [] (vars_of r zs)) is ∙ ap (with_vars []) (pairs_vars r side atoms others [] n ∙ append-nil (vars_on r side atoms)) ∙ atoms_met f s side c atoms refl in
-    let fits = pairs_fit f r side atoms others [] n (transport (AreFit f r) is (step.fit r final (led_is_reading f bs s final resolved) whole tt)) in
+    let whole : with_vars [] (vars_of r (pairs_of side atoms others ++ [])) ≡ final = ap (with_vars []) (pairs_vars r side atoms others [] n ∙ append-nil (vars_on r side atoms)) ∙ atoms_met f s side c atoms refl in
+    let fits = pairs_fit f r side atoms others [] n (step.fit r final (led_is_reading f bs s final resolved) whole tt) in
     clause_becomes f f (of_side s side) c c d others once (atoms_within f d others refl ids) (atoms_become f f s side c atoms others refl (sym fits.0)) refl alone
 
 -- a variable by its shape
@@ -260,8 +265,12 @@ root_of f bs from b es same k within moved root below =
     }
 
 -- nothing is left
-pub step_done : (f : Forest) (w : Leaves) (ps qs : List Pair) (os ns : List ℕ) → qs ≡ [] → IsStep f w ps (reverse qs) os ns → IsStep f w ps [] os ns
-step_done f w ps qs os ns e a = transport (λ (zs : List Pair). IsStep f w ps (reverse zs) os ns) e a
+pub step_done : (f : Forest) (w : Leaves) (ps qs rest : List Pair) (os ns : List ℕ) → qs ≡ [] → IsStep f w ps (reverse qs ++ rest) os ns → IsStep f w ps rest os ns
+step_done f w ps qs rest os ns e a = transport (λ (zs : List Pair). IsStep f w ps (reverse zs ++ rest) os ns) e a
+
+-- the ids stay those of the bank
+pub all_pairs : (f : Forest) (w : Leaves) (ps qs : List Pair) (os ns : List ℕ) → IsStep f w (ps ++ []) (qs ++ []) os ns → ArePairs f ps → ArePairs f qs
+all_pairs f w ps qs os ns step h = transport (ArePairs f) (append-nil qs) (step.within (transport (ArePairs f) (sym (append-nil ps)) h))
 
 -- a test of inequality that fails
 pub same_numbers : (m n : Option ℕ) → not (option_eq eqb m n) ≡ false → m ≡ n

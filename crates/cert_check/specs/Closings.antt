@@ -32,6 +32,10 @@ abbrev pub IsSideClosed : Saturation → List Binding → Side → ℕ → ℕ �
 IsSideClosed c es side i j r = (s : Sided) → IsResolvedBy c.base.bank es s → (m n : Member) → SelectsAt (saturation_of c) i m → SelectsAt (saturation_of c) j n → IsGeneralOn side s m.selected.atom n.selected.atom
     → IsTrue r ↔ (IsProper (of_side s side) m.selected.atom → HasCoveredSide c s side m)
 
+-- the answer is whether the unifier is proper on the side
+abbrev pub IsProperOn : Forest → List Binding → Side → Bool → Type 0
+IsProperOn f es side r = (s : Sided) → IsResolvedBy f es s → (a b : Tree) → IsGeneralOn side s a b → IsTrue r ↔ IsProper (of_side s side) a
+
 -- the answer is whether the unifier is proper on a side
 abbrev pub IsProperSomewhere : Forest → List Binding → Bool → Type 0
 IsProperSomewhere f es r = (s : Sided) → IsResolvedBy f es s → (a b : Tree) → IsMostGeneral s a b → IsTrue r ↔ (IsProper s.left a ⊎ IsProper s.right b)

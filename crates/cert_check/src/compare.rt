@@ -9,7 +9,7 @@ ghost use Rattle.unify_core.specs.Terms.{AreTerms};
 ghost use Rattle.saturation_cert.specs.Values.{base_of, covered_of, saturation_of};
 ghost use Rattle.saturation_cert.specs.Wholes.{IsWholeCover, IsWholeCovered, IsWholeSaturation, KeepsCovered, KeepsSaturation};
 ghost use Rattle.cert_check.specs.Chains.{AreMeetings};
-ghost use Rattle.cert_check.specs.Closings.{IsProperSomewhere};
+ghost use Rattle.cert_check.specs.Closings.{IsProperOn, IsProperSomewhere};
 ghost use Rattle.cert_check.specs.DueSteps.{AreCompared, GivesMeeting, GivesPair, GivesRow, GivesSide};
 ghost use Rattle.cert_check.specs.FirstPairs.{IsFirstWrongPairOf};
 ghost use Rattle.cert_check.specs.Firsts.{IsFirstWrongOf};
@@ -21,7 +21,6 @@ use crate::due_side::{DueSide, number_at};
 use crate::instance::Instance;
 use crate::made::{is_made, is_of, pass_made};
 use crate::meetings::Meetings;
-use crate::pairs::is_proper;
 use crate::rooms::{PairRoom, RowRoom};
 use cert_names::holds_by;
 use inst_logic::Memory;
@@ -121,14 +120,14 @@ fn note(progress: &mut Progress, _covers: &[Cover], right: bool)
     }
 }
 
-// Compares the next cover with the side, where the unifier is proper on it and no cover was wrong.
+// Compares the next cover with the side, where the unifier is proper on it and no cover was wrong. The answer is whether it is.
 fn compare_side(
     alloc: Global,
     cert: &mut Covered,
     rooms: &mut PairRoom,
     due: DueSide,
     progress: &mut Progress,
-) -> Result<(), Memory>
+) -> Result<bool, Memory>
     requires comparable { IsComparable cert.old }
     requires own { due.own < length cert.old.cert.base.members }
     requires other { due.other < length cert.old.cert.base.members }
@@ -138,18 +137,19 @@ fn compare_side(
     ensures kept { KeepsCovered cert.old cert.new }
     ensures whole { OnOk result (IsWholeCovered cert.new) }
     ensures counted { progress.new.count ≤ length cert.new.covers }
+    ensures proper { IfOk result (IsProperOn cert.old.cert.base.bank rooms.old.bindings.entries due.side) }
     ensures gives { OnOk result (GivesSide (saturation_of cert.old.cert) cert.old.cert.base.bank rooms.old.bindings.entries due.side due.own due.other (AreCompared (covered_of cert.old) progress.old) (AreCompared (covered_of cert.old) progress.new)) }
     ensures bindings { rooms.new.bindings ≡ rooms.old.bindings }
 {
     if !rooms.bindings.proper(&cert.cert.base.bank, due.side) {
-        return Ok(());
+        return Ok(false);
     }
     if progress.wrong {
-        return Ok(());
+        return Ok(true);
     }
     let right = is_right_cover(alloc, cert, rooms, due, progress.count)?;
     note(progress, cert.covers.as_slice(), right);
-    Ok(())
+    Ok(true)
 }
 
 // Compares the covers of members `i` and `j`, counted from 0, for the unifier that the bindings stand for. False comes where it
@@ -174,22 +174,19 @@ fn compare_meeting(
     ensures proper { IfOk result (IsProperSomewhere cert.old.cert.base.bank rooms.old.bindings.entries) }
     ensures gives { IfOk result (λ r. r ≡ true → GivesMeeting (saturation_of cert.old.cert) cert.old.cert.base.bank rooms.old.bindings.entries i j (AreCompared (covered_of cert.old) progress.old) (AreCompared (covered_of cert.old) progress.new)) }
 {
-    if !is_proper(&cert.cert.base.bank, &rooms.bindings) {
-        return Ok(false);
-    }
     let left = DueSide {
         side: Side::Left,
         own: i,
         other: j,
     };
-    compare_side(alloc, cert, rooms, left, progress)?;
+    let on_left = compare_side(alloc, cert, rooms, left, progress)?;
     let right = DueSide {
         side: Side::Right,
         own: j,
         other: i,
     };
-    compare_side(alloc, cert, rooms, right, progress)?;
-    Ok(true)
+    let on_right = compare_side(alloc, cert, rooms, right, progress)?;
+    Ok(on_left || on_right)
 }
 
 // Compares the covers of members `i` and `j`, counted from 0, for their unifier. False comes where they meet and it is proper on

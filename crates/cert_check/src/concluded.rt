@@ -14,7 +14,7 @@ ghost use Rattle.unify_core.specs.Sides.{IsResolvedBy, of_side};
 ghost use Rattle.unify_core.specs.Terms.{AreTerms};
 ghost use Rattle.clause_form.specs.Literals.{id_eq, with_atoms};
 ghost use Rattle.clause_form.specs.Orders.{is_variable, number_in, with_variable};
-ghost use Rattle.clause_form.specs.Walks.{IsFree, numbers_of};
+ghost use Rattle.clause_form.specs.Walks.{IsFree, numbers_of, on};
 ghost use Rattle.clause_form.specs.declared.walk.Leaves.TheVariants.{Led};
 ghost use Rattle.cert_check.specs.Compared.{IsInstanceOf};
 ghost use Rattle.cert_check.specs.Concluded.{ArePairs, IsStep, IsStepUnder, pairs_of};
@@ -31,7 +31,7 @@ use unify_core::{Bindings, Bound, Side, Variable};
 // So many variables are looked at one by one, and so many literals.
 const FEW: usize = 16;
 
-// So many pairs are taken off the list at most. Arguments that are seen to be the terms are not on it.
+// So many pairs are taken off the list at most for each atom. Arguments that are seen to be the terms are not on it.
 const STEPS: usize = 512;
 
 // A node that is to become a term of the clause.
@@ -120,28 +120,6 @@ fn push_pairs(
     Ok(())
 }
 
-// The same for the atoms of the literals.
-fn push_atoms(
-    pairs: &mut Vec<Pair>,
-    side: Side,
-    literals: &[IdLiteral],
-    others: &[IdLiteral],
-) -> Result<(), Memory>
-    requires { length literals.now ≡ length others.now }
-    ensures { OnOk result (reverse pairs.new.items ≡ pairs_of side (map (λ l. l.atom) literals.now) (map (λ l. l.atom) others.now) ++ reverse pairs.old.items) }
-{
-    for i in (0..literals.len()).rev() {
-        pairs.push(Pair {
-            node: Bound {
-                side,
-                term: literals[i].atom,
-            },
-            term: others[i].atom,
-        })?;
-    }
-    Ok(())
-}
-
 // Whether the bindings lead from the node to this very term, and it has no variables. Then the node becomes the term.
 fn leads_to_ground(bank: &Bank, bindings: &Bindings, node: Bound, term: TermId) -> bool
     requires bindings { AreBindings bank.now bindings.now.entries }
@@ -168,21 +146,16 @@ fn seen_count(
     ensures within { result ≤ length nodes.now }
     ensures seen { (rest : List Pair) (os : List ℕ) → IsStepUnder bank.now bindings.now.entries (pairs_of side nodes.now terms.now ++ rest) (pairs_of side (drop result nodes.now) (drop result terms.now) ++ rest) os os }
 {
-    let mut count = 0;
-    while count < nodes.len()
-        && leads_to_ground(
-            bank,
-            bindings,
-            Bound {
-                side,
-                term: nodes[count],
-            },
-            terms[count],
-        )
-    {
-        count += 1;
+    for count in 0..nodes.len() {
+        let node = Bound {
+            side,
+            term: nodes[count],
+        };
+        if !leads_to_ground(bank, bindings, node, terms[count]) {
+            return count;
+        }
     }
-    count
+    nodes.len()
 }
 
 // Where the term has the symbol of the node, which is an application, puts off the arguments of both, but for those at the front
@@ -192,7 +165,7 @@ fn open(bank: &Bank, bindings: &Bindings, pairs: &mut Vec<Pair>, next: Pair) -> 
     requires node { next.node.term < length bank.now.trees }
     requires term { next.term < length bank.now.trees }
     requires application { IsApplication (tree_at bank.now next.node.term) }
-    ensures { IfOk result (λ r. r ≡ true → (os : List ℕ) → IsStepUnder bank.now bindings.now.entries (next ∷ reverse pairs.old.items) (reverse pairs.new.items) os os) }
+    ensures { IfOk result (λ r. r ≡ true → (rest : List Pair) (os : List ℕ) → IsStepUnder bank.now bindings.now.entries (next ∷ reverse pairs.old.items ++ rest) (reverse pairs.new.items ++ rest) os os) }
 {
     let Pair { node, term } = next;
     if bank.symbol_number(node.term) != bank.symbol_number(term) {
@@ -219,7 +192,7 @@ fn compare_roots(
     requires bindings { AreBindings bank.now bindings.now.entries }
     requires node { next.node.term < length bank.now.trees }
     requires term { next.term < length bank.now.trees }
-    ensures { IfOk result (λ r. r ≡ true → (bs : Bor Bound_list) → bs.now.entries ≡ bindings.now.entries → IsFree bank.now (Led bs) next.node → IsStep bank.now (Led bs) (next ∷ reverse pairs.old.items) (reverse pairs.new.items) (numbers_of order.old.items) (numbers_of order.new.items)) }
+    ensures { IfOk result (λ r. r ≡ true → (bs : Bor Bound_list) → bs.now.entries ≡ bindings.now.entries → IsFree bank.now (Led bs) next.node → (rest : List Pair) → IsStep bank.now (Led bs) (next ∷ reverse pairs.old.items ++ rest) (reverse pairs.new.items ++ rest) (numbers_of order.old.items) (numbers_of order.new.items)) }
 {
     let Pair { node, term } = next;
     if bank.ground(node.term) {
@@ -245,7 +218,7 @@ fn compare_next(
     requires bindings { AreBindings bank.now bindings.now.entries }
     requires node { next.node.term < length bank.now.trees }
     requires term { next.term < length bank.now.trees }
-    ensures { IfOk result (λ r. r ≡ true → IsStepUnder bank.now bindings.now.entries (next ∷ reverse pairs.old.items) (reverse pairs.new.items) (numbers_of order.old.items) (numbers_of order.new.items)) }
+    ensures { IfOk result (λ r. r ≡ true → (rest : List Pair) → IsStepUnder bank.now bindings.now.entries (next ∷ reverse pairs.old.items ++ rest) (reverse pairs.new.items ++ rest) (numbers_of order.old.items) (numbers_of order.new.items)) }
 {
     let node = bindings.follow(bank, next.node);
     let term = next.term;
@@ -261,7 +234,7 @@ fn compare_all(
 ) -> Result<bool, Memory>
     requires bindings { AreBindings bank.now bindings.now.entries }
     requires pairs { ArePairs bank.now (reverse pairs.old.items) }
-    ensures { IfOk result (λ r. r ≡ true → IsStepUnder bank.now bindings.now.entries (reverse pairs.old.items) [] (numbers_of order.old.items) (numbers_of order.new.items)) }
+    ensures { IfOk result (λ r. r ≡ true → (rest : List Pair) → IsStepUnder bank.now bindings.now.entries (reverse pairs.old.items ++ rest) rest (numbers_of order.old.items) (numbers_of order.new.items)) }
 {
     for _ in 0..STEPS {
         let Some(next) = pairs.pop() else {
@@ -272,6 +245,58 @@ fn compare_all(
         }
     }
     Ok(false)
+}
+
+// Compares the atom of a literal with the one that it is to become, and what stands in both. An atom without variables stays what it
+// is. The atoms themselves are not put on the list.
+fn compare_atom(
+    bank: &Bank,
+    of: &Instance<'_>,
+    room: &mut Room,
+    l: &IdLiteral,
+    other: &IdLiteral,
+) -> Result<bool, Memory>
+    requires bindings { AreBindings bank.now of.now.bindings.now.entries }
+    requires node { l.now.atom < length bank.now.trees }
+    requires term { other.now.atom < length bank.now.trees }
+    ensures { IfOk result (λ r. r ≡ true → (rest : List Pair) → IsStepUnder bank.now of.now.bindings.now.entries (record { node = on of.now.side l.now.atom; term = other.now.atom } ∷ rest) rest (numbers_of room.old.order.items) (numbers_of room.new.order.items)) }
+{
+    if l.atom == other.atom && bank.ground(l.atom) {
+        return Ok(true);
+    }
+    room.pairs.clear();
+    let side = of.side;
+    let node = Bound { side, term: l.atom };
+    let next = Pair {
+        node,
+        term: other.atom,
+    };
+    if !compare_next(bank, of.bindings, &mut room.pairs, &mut room.order, next)? {
+        return Ok(false);
+    }
+    compare_all(bank, of.bindings, &mut room.pairs, &mut room.order)
+}
+
+// Compares the atoms of the literals, one after the other.
+fn compare_atoms(
+    bank: &Bank,
+    of: &Instance<'_>,
+    room: &mut Room,
+    literals: &[IdLiteral],
+    others: &[IdLiteral],
+) -> Result<bool, Memory>
+    requires bindings { AreBindings bank.now of.now.bindings.now.entries }
+    requires nodes { AreIds bank.now (map (λ l. l.atom) literals.now) }
+    requires terms { AreIds bank.now (map (λ l. l.atom) others.now) }
+    requires counted { length literals.now ≡ length others.now }
+    ensures { IfOk result (λ r. r ≡ true → (rest : List Pair) → IsStepUnder bank.now of.now.bindings.now.entries (pairs_of of.now.side (map (λ l. l.atom) literals.now) (map (λ l. l.atom) others.now) ++ rest) rest (numbers_of room.old.order.items) (numbers_of room.new.order.items)) }
+{
+    for i in 0..literals.len() {
+        if !compare_atom(bank, of, room, &literals[i], &others[i])? {
+            return Ok(false);
+        }
+    }
+    Ok(true)
 }
 
 // Whether the literals have the same signs.
@@ -327,10 +352,8 @@ fn is_conclusion(
         return Ok(false);
     }
     bank.distinct();
-    room.pairs.clear();
     room.order.clear();
-    push_atoms(&mut room.pairs, of.side, literals, others)?;
-    compare_all(bank, of.bindings, &mut room.pairs, &mut room.order)
+    compare_atoms(bank, of, room, literals, others)
 }
 
 /// Whether the clause is the instance, which is built only where that is not seen without it.

@@ -135,6 +135,14 @@ fn made_covers(
     None
 }
 
+// Whether what covers the clause at the place, counted from 0, is named as a variant of it.
+fn names_variant(covers: &[Cover], place: usize) -> bool {
+    match covers.get(place) {
+        Some(cover) => matches!(cover.by, By::Variant(_)),
+        None => false,
+    }
+}
+
 // Passes the next covers where no cover was wrong and the origins tell that they are all that is due of members `i` and `j`,
 // counted from 0.
 pub fn pass_made(cert: &Covered, i: usize, j: usize, progress: &mut Progress) -> bool
@@ -144,10 +152,10 @@ pub fn pass_made(cert: &Covered, i: usize, j: usize, progress: &mut Progress) ->
     ensures yes { result ≡ true → IsPassed cert.now i j progress.old progress.new }
     ensures no { result ≡ false → progress.new ≡ progress.old }
 {
-    if progress.wrong {
+    let covers = cert.covers.as_slice();
+    if progress.wrong || !names_variant(covers, progress.count) {
         return false;
     }
-    let covers = cert.covers.as_slice();
     match made_covers(&cert.cert, covers, i, j, progress.count) {
         Some(count) => {
             progress.count += count;

@@ -10,6 +10,7 @@ pub mod Known
 pub mod Spelled
 pub mod PrintableClauses
 pub mod Marked
+pub mod Digits
 pub mod Hints
 pub mod NumberLists
 pub mod Origins

@@ -21,7 +21,7 @@ const FEW: usize = 8;
 fn are_distinct(literals: &[IdLiteral]) -> bool
     ensures { IsTrue result → distinct id_eq literals.now ≡ literals.now }
 {
-    for i in 0..literals.len() {
+    for i in 1..literals.len() {
         if literals[..i].contains(&literals[i]) {
             return false;
         }

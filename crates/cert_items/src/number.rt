@@ -19,6 +19,28 @@ pub fn digits_len(bytes: &[u8]) -> usize
     n
 }
 
+// So many digits are the digits of a `usize`, whatever they are.
+const SURE: usize = 19;
+
+// The value of the digits at the front, at most 19 of them, and how many these are. Inlined, each digit would set what its callers
+// give for the case that it is the last.
+#[inline(never)]
+fn first_digits(bytes: &[u8]) -> (usize, usize)
+    ensures value { result.0 ≡ value 0 (take result.1 bytes.now) }
+    ensures short { result.1 < 19 → result.1 ≡ run is_ascii_digit bytes.now }
+    ensures within { result.1 ≤ length bytes.now }
+    ensures fits { result.0 < 2 ^ 64 }
+{
+    let most = bytes.len().min(SURE);
+    let mut n: usize = 0;
+    let mut len = 0;
+    while len < most && bytes[len].is_ascii_digit() {
+        n = n * 10 + usize::from(bytes[len] - b'0');
+        len += 1;
+    }
+    (n, len)
+}
+
 // Up to this number any digit fits behind it.
 const ROOMY: usize = 1_844_674_407_370_955_160;
 
@@ -38,9 +60,7 @@ fn with_digit(n: usize, digit: u8) -> Option<usize>
     }
 }
 
-// The value of the digits at the front, and how many there are; `None` where it is no `usize`. Inlined, each digit would set what its
-// callers give for the case that it is the last.
-#[inline(never)]
+// The value of the digits at the front, and how many there are; `None` where it is no `usize`.
 fn digits_value(bytes: &[u8]) -> Option<(usize, usize)>
     ensures count { IfSome result (λ r. r.1 ≡ run is_ascii_digit bytes.now) }
     ensures within { IfSome result (λ r. r.1 ≤ length bytes.now) }
@@ -70,8 +90,9 @@ fn is_plain(digits: &[u8]) -> bool
     }
 }
 
-/// The number at the front, and what follows its digits.
-pub fn number(bytes: &[u8]) -> Option<(usize, &[u8])>
+// The number at the front, of however many digits, and what follows these. Hardly any number is so long that it comes to this.
+#[inline(never)]
+fn long_number(bytes: &[u8]) -> Option<(usize, &[u8])>
     ensures some { IfSome result (λ r. (bytes.now ≡ decimal r.0 ++ r.1.now) × Ends is_ascii_digit r.1.now) }
     ensures fits { IfSome result (λ r. r.0 < 2 ^ 64) }
     ensures none { IfNone result ((n : ℕ) (rest : List ℕ) → n < 2 ^ 64 → Ends is_ascii_digit rest → bytes.now ≢ decimal n ++ rest) }
@@ -86,6 +107,23 @@ pub fn number(bytes: &[u8]) -> Option<(usize, &[u8])>
             Some((n, rest))
         }
     }
+}
+
+/// The number at the front, and what follows its digits.
+pub fn number(bytes: &[u8]) -> Option<(usize, &[u8])>
+    ensures some { IfSome result (λ r. (bytes.now ≡ decimal r.0 ++ r.1.now) × Ends is_ascii_digit r.1.now) }
+    ensures fits { IfSome result (λ r. r.0 < 2 ^ 64) }
+    ensures none { IfNone result ((n : ℕ) (rest : List ℕ) → n < 2 ^ 64 → Ends is_ascii_digit rest → bytes.now ≢ decimal n ++ rest) }
+{
+    let (n, len) = first_digits(bytes);
+    if len >= SURE {
+        return long_number(bytes);
+    }
+    let (digits, rest) = bytes.split_at(len);
+    if !is_plain(digits) {
+        return None;
+    }
+    Some((n, rest))
 }
 
 /// The number at the front and the mark behind it, and what follows.

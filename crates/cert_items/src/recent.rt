@@ -1,8 +1,8 @@
 // Literals that were read, by their texts. Most literals of a text stand in it before, and are then found without their terms
-// being read. The place where one is sought is only a hint, since its text is compared. The literals of a clause that stands in
-// the text once more come in the same order: the one that came behind the last literal is tried first, and needs no code. Next is
-// tried the one that came last where that one was expected: instances of one clause differ in few literals, and where they follow
-// each other once more, they mostly do so in the same order.
+// being read. The place where one is sought is only a hint, since its text is compared. Two are tried first, which need no code.
+// The literals of a clause that stands in the text once more come in the same order: so the one that came behind the last literal.
+// Instances of one clause differ in few literals, and where they follow each other once more, they mostly do so in the same order:
+// so the one that came last where that one was expected.
 ghost use Rattle.std.specs.Prelude.{◌≡◌, ◌≤◌, ◌++◌, [], List, ℕ, length, IfSome, IsTrue};
 ghost use Rattle.term_bank.specs.Forest.{Forest};
 ghost use Rattle.cert_items.specs.Spelled.{AreSpelled, IsSpelled};
@@ -38,16 +38,19 @@ pub struct Spelled {
     literal: IdLiteral,
 }
 
-// For a literal, the places of the one that came behind it last, and of the one that came last where it was expected.
+// For a literal, the places of the one that came behind it last, and of the one that came last where it was expected. Of the two
+// that may come behind it, whether the second was right last time.
 #[derive(Clone, Copy)]
 struct Links {
     next: usize,
     instead: usize,
+    turns: bool,
 }
 
 const UNLINKED: Links = Links {
     next: NOWHERE,
     instead: NOWHERE,
+    turns: false,
 };
 
 /// Literals that were read, with their links, and the place of the last one. For the low bits of a code the place of a literal that
@@ -183,18 +186,34 @@ impl Recent {
         }
     }
 
-    // Notes that the literal at the place comes behind the last one, also where another was expected, and is the last one now.
+    // Notes that the literal at the place comes behind the last one, and is the last one now.
     fn follow(&mut self, place: usize)
         ensures { self.new.literals ≡ self.old.literals }
     {
-        let before = self.next_place();
-        if let Some(links) = self.links.get_mut(before) {
-            links.instead = place;
-        }
         if let Some(links) = self.links.get_mut(self.last) {
             links.next = place;
         }
         self.last = place;
+    }
+
+    // Notes that the other one of the two places was right this time.
+    fn turn(&mut self)
+        ensures { self.new.literals ≡ self.old.literals }
+    {
+        if let Some(links) = self.links.get_mut(self.last) {
+            links.turns = !links.turns;
+        }
+    }
+
+    // Notes the same as `follow` of a literal that was not expected, and that it came where another one was.
+    fn follow_instead(&mut self, place: usize)
+        ensures { self.new.literals ≡ self.old.literals }
+    {
+        let before = self.last_links().next;
+        if let Some(links) = self.links.get_mut(before) {
+            links.instead = place;
+        }
+        self.follow(place);
     }
 
     /// The literal whose text, which has this code, this is, where it is remembered.
@@ -205,17 +224,17 @@ impl Recent {
         match self.find_place(text, code) {
             None => None,
             Some((l, place)) => {
-                self.follow(place);
+                self.follow_instead(place);
                 Some(l)
             }
         }
     }
 
-    // The place of the literal that came behind the last one.
-    fn next_place(&self) -> usize {
+    // The links of the last literal.
+    fn last_links(&self) -> Links {
         match self.links.get(self.last) {
-            None => NOWHERE,
-            Some(links) => links.next,
+            None => UNLINKED,
+            Some(links) => *links,
         }
     }
 
@@ -224,6 +243,18 @@ impl Recent {
         match self.links.get(place) {
             None => NOWHERE,
             Some(links) => links.instead,
+        }
+    }
+
+    // The places of the two literals that may come behind the last one, the likelier one first: the one that came behind it last,
+    // and the one that came last where that was expected. What was right last time is likelier.
+    fn expected_places(&self) -> (usize, usize) {
+        let links = self.last_links();
+        let other = self.instead_of(links.next);
+        if links.turns {
+            (other, links.next)
+        } else {
+            (links.next, other)
         }
     }
 
@@ -240,22 +271,21 @@ impl Recent {
         }
     }
 
-    /// The literal that came behind the last one, or else the one that came last where that was expected, where its text is at the
-    /// front, and what follows.
+    /// One of the two literals that may come behind the last one, where its text is at the front, and what follows.
     pub fn expected<'a>(&mut self, bytes: &'a [u8]) -> Option<(IdLiteral, &'a [u8])>
         ensures same { self.new.literals ≡ self.old.literals }
         ensures spelled { (f : Forest) → AreSpelled f self.old.literals.items → IfSome result (λ p. (text : List ℕ) × IsSpelled f text p.0 × (bytes.now ≡ text ++ p.1.now)) }
     {
-        let place = self.next_place();
-        if let Some(found) = self.at_front(place, bytes) {
-            self.last = place;
+        let (first, second) = self.expected_places();
+        if let Some(found) = self.at_front(first, bytes) {
+            self.follow(first);
             return Some(found);
         }
-        let other = self.instead_of(place);
-        match self.at_front(other, bytes) {
+        match self.at_front(second, bytes) {
             None => None,
             Some(found) => {
-                self.follow(other);
+                self.turn();
+                self.follow(second);
                 Some(found)
             }
         }
@@ -300,7 +330,7 @@ impl Recent {
         })?;
         self.links.push(UNLINKED)?;
         put(&mut self.places, code, place);
-        self.follow(place);
+        self.follow_instead(place);
         Ok(())
     }
 }

@@ -7,7 +7,7 @@ ghost use Rattle.saturation_cert.specs.Wholes.{IsWholeTerm};
 ghost use Rattle.cert_items.specs.Reading.{ArePrintable, NoTerms};
 ghost use Rattle.inst_logic.specs.Codes as byte;
 
-use crate::mark::mark;
+use crate::mark::{mark, word};
 use crate::number::marked;
 use crate::terms::terms;
 use crate::text_bank::TextBank;
@@ -50,7 +50,9 @@ pub fn term_list<'a>(
     }
 }
 
-/// A number with terms in brackets behind it, and what follows the parenthesis behind them.
+/// A number with terms in brackets behind it, and what follows the parenthesis behind them. That there are no terms is seen first.
+/// Inlined, it hands the list on without a copy of it in memory.
+#[inline(always)]
 pub fn number_and_terms<'a>(
     alloc: Global,
     bank: &mut TextBank,
@@ -66,16 +68,21 @@ pub fn number_and_terms<'a>(
 {
     match marked(bytes, b',') {
         None => Ok(None),
-        Some((n, after)) => match mark(after, b'[') {
-            None => Ok(None),
-            Some(inner) => match term_list(alloc, bank, ids, inner) {
-                Err(e) => Err(e),
-                Ok(None) => Ok(None),
-                Ok(Some((list, behind))) => match mark(behind, b')') {
-                    None => Ok(None),
-                    Some(rest) => Ok(Some((n, list, rest))),
+        Some((n, after)) => {
+            if let Some(rest) = word(after, b"[])") {
+                return Ok(Some((n, TermIdList::new(alloc), rest)));
+            }
+            match mark(after, b'[') {
+                None => Ok(None),
+                Some(inner) => match term_list(alloc, bank, ids, inner) {
+                    Err(e) => Err(e),
+                    Ok(None) => Ok(None),
+                    Ok(Some((list, behind))) => match mark(behind, b')') {
+                        None => Ok(None),
+                        Some(rest) => Ok(Some((n, list, rest))),
+                    },
                 },
-            },
-        },
+            }
+        }
     }
 }

@@ -1,13 +1,13 @@
 // A bank with what is remembered of the names that were read into it: for each name as it is printed an application of a symbol
 // of that name. Nearly every name of a text has been read before, and then neither a name nor a symbol is made of it, and a
-// constant is found by one look-up. The literals that were read are remembered too.
-ghost use Rattle.std.specs.Prelude.{◌≡◌, ◌++◌, ℕ, List, [], ◌<◌, length, false, map, None, IsTrue, ◌↔◌, IfOk, IfSome};
+// constant is found by one look-up. The first variables and the literals that were read are remembered too.
+ghost use Rattle.std.specs.Prelude.{◌≡◌, ◌++◌, ℕ, List, [], ◌<◌, length, false, map, None, IsTrue, ◌↔◌, IfOk, IfSome, slice_get};
 ghost use Rattle.inst_logic.specs.declared.signed.Signed.{Signed};
 ghost use Rattle.inst_logic.specs.Clauses.{IsCanonical};
 ghost use Rattle.inst_logic.specs.Tree.{var, app, of_list};
 ghost use Rattle.term_bank.specs.Forest.{tree_at, IsAt, AreIds, Extends, AreFormed, IsFormed, IsClauseOf, clause_at, Grows};
 ghost use Rattle.cert_format.specs.Names.{IsNameText};
-ghost use Rattle.cert_items.specs.Known.{IsKnown, AreKnown, remembered};
+ghost use Rattle.cert_items.specs.Known.{IsKnown, AreFirst, AreKnown, remembered};
 ghost use Rattle.cert_items.specs.Spelled.{IsSpelled};
 ghost use Rattle.cert_items.specs.Reading.{IsApplied};
 
@@ -33,12 +33,14 @@ pub struct Known {
 pub struct TextBank {
     bank: Bank,
     known: IndexMap<Vec<u8>, Known>,
+    // The ids of the first variables, by their numbers, as far as these were read in this order.
+    variables: Vec<TermId>,
     recent: Recent,
 }
 
 impl Model for TextBank {
     ghost use Rattle.term_bank.specs.Forest.{Forest, forest_code};
-    ghost use Rattle.cert_items.specs.Known.{AreKnown};
+    ghost use Rattle.cert_items.specs.Known.{AreFirst, AreKnown};
     ghost use Rattle.cert_items.specs.Spelled.{AreSpelled};
 
     ghost Value = { Forest };
@@ -47,7 +49,7 @@ impl Model for TextBank {
 
     ghost view = { λ t. t.bank };
 
-    ghost invariant = { λ t. AreKnown t.bank t.known.entries × AreSpelled t.bank t.recent.literals.items };
+    ghost invariant = { λ t. AreKnown t.bank t.known.entries × AreSpelled t.bank t.recent.literals.items × AreFirst t.bank t.variables.items };
 }
 
 // What is remembered of the name that is printed so.
@@ -152,6 +154,46 @@ fn applied(
     }
 }
 
+// The id that is noted for the variable of this number.
+fn noted_variable(variables: &[TermId], v: usize) -> Option<TermId>
+    ensures { result ≡ slice_get variables.now v }
+{
+    variables.get(v).copied()
+}
+
+// Notes the id of the variable of this number, where those of the ones before it are noted.
+fn note_variable(
+    bank: &Bank,
+    variables: &mut Vec<TermId>,
+    v: usize,
+    id: TermId,
+) -> Result<(), Memory>
+    requires at { IsAt bank.now id (var v) }
+    requires first { AreFirst bank.now variables.old.items }
+    ensures { AreFirst bank.now variables.new.items }
+{
+    if v != variables.len() {
+        return Ok(());
+    }
+    variables.push(id)?;
+    Ok(())
+}
+
+// The id of the variable of this number.
+fn variable(bank: &mut Bank, variables: &mut Vec<TermId>, v: usize) -> Result<TermId, Memory>
+    requires first { AreFirst bank.old variables.old.items }
+    ensures at { IfOk result (λ id. IsAt bank.new id (var v)) }
+    ensures first { AreFirst bank.new variables.new.items }
+    ensures grows { Grows bank.old bank.new }
+{
+    if let Some(id) = noted_variable(variables, v) {
+        return Ok(id);
+    }
+    let id = bank.var(v)?;
+    note_variable(bank, variables, v, id)?;
+    Ok(id)
+}
+
 impl TextBank {
     /// An empty bank, which takes no memory.
     pub fn new(alloc: Global) -> TextBank
@@ -160,6 +202,7 @@ impl TextBank {
         TextBank {
             bank: Bank::new(alloc),
             known: IndexMap::new(alloc),
+            variables: Vec::new(alloc),
             recent: Recent::new(alloc),
         }
     }
@@ -215,7 +258,7 @@ impl TextBank {
         ensures at { IfOk result (λ id. IsAt self.new id (var v)) }
         ensures grows { Grows self.old self.new }
     {
-        self.bank.var(v)
+        variable(&mut self.bank, &mut self.variables, v)
     }
 
     // The id of the symbol applied to the terms of these ids.

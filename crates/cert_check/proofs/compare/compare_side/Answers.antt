@@ -3,7 +3,7 @@ use Rattle.saturation_cert.specs.declared.certificate.Cover.{Cover}
 use Rattle.saturation_cert.specs.declared.certificate.Covered.{Covered}
 use Rattle.saturation_cert.specs.Values.{covered_of, saturation_of}
 use Rattle.cert_check.specs.DueSteps.{AreCompared, due_of}
-use Rattle.cert_check.proofs.Closings.{proper_there, not_proper_there}
+use Rattle.cert_check.proofs.Closings.{proper_there, not_proper_there, proper_on, not_proper_on}
 use Rattle.cert_check.proofs.CoverGrowth.{counted_kept}
 use Rattle.cert_check.proofs.DueLaws.{more_after_wrong, side_gives_none, side_gives_one, step_compared, step_counted}
 use Rattle.cert_check.proofs.compare.compare_side.Goals as goal
@@ -13,6 +13,15 @@ returns-then-not-proper-clause-gives c =
     let cert = c.args.cert.now in
     side_gives_none (saturation_of cert.cert) cert.cert.base.bank c.args.rooms.now.bindings.entries c.args.due.side c.args.due.own c.args.due.other
     (λ s resolved m n g. not_proper_there cert.cert.base.bank c.args.rooms.now.bindings.entries c.args.due.side (c.proper.ensures.no c.if-not-proper.true) m.selected.atom n.selected.atom s resolved g) (AreCompared (covered_of cert) c.args.progress.now)
+
+pub returns-then-not-proper-clause-proper : goal.returns-then-not-proper-clause-proper
+returns-then-not-proper-clause-proper c = not_proper_on c.args.cert.now.cert.base.bank c.args.rooms.now.bindings.entries c.args.due.side (c.proper.ensures.no c.if-not-proper.true)
+
+pub returns-then-progress-clause-proper : goal.returns-then-progress-clause-proper
+returns-then-progress-clause-proper c = proper_on c.args.cert.now.cert.base.bank c.args.rooms.now.bindings.entries c.args.due.side (c.proper.ensures.yes c.if-not-proper.false)
+
+pub returns-clause-proper : goal.returns-clause-proper
+returns-clause-proper c = proper_on c.args.cert.now.cert.base.bank c.args.rooms.now.bindings.entries c.args.due.side (c.proper.ensures.yes c.if-not-proper.false)
 
 pub returns-then-progress-clause-gives : goal.returns-then-progress-clause-gives
 returns-then-progress-clause-gives c =

@@ -1,8 +1,17 @@
-use Rattle.std.proofs.Common.{◌≡◌, ◌∙◌, ◌+◌, ◌++◌, ◌∷◌, ℕ, suc, [], ap, sym, take, arith}
+use Rattle.std.proofs.Common.{◌≡◌, ◌∙◌, ◌+◌, ◌++◌, ◌∷◌, ℕ, suc, [], List, refl, ap, sym, take, arith}
 use Rattle.std.proofs.Math.Seq.{take-suc}
 use Rattle.inst_logic.specs.declared.signed.Signed.{Signed}
+use Rattle.inst_logic.specs.Lists.{distinct}
+use Rattle.clause_form.specs.Literals.{id_eq}
 use Rattle.cert_items.proofs.Repeats.{one_more}
 use Rattle.cert_items.proofs.canonical.are_distinct.Goals as goal
+
+one : (ls : List (Signed ℕ)) → distinct id_eq (take 1 ls) ≡ take 1 ls
+one [] = refl
+one (l ∷ ls) = refl
+
+pub loop-i-init : goal.loop-i-init
+loop-i-init c = one c.args.literals.now
 
 pub loop-i-preserved : goal.loop-i-preserved
 loop-i-preserved c =

@@ -1,28 +1,9 @@
-use Rattle.std.proofs.Common.{◌≡◌, ◌+◌, ◌*◌, ◌-◌, ◌≤◌, ◌<◌, ℕ, suc, zero, List, [], ◌∷◌, true, cond, length, take, drop, get_or, drop-cons, refl, ap, ◌∙◌, sym, arith}
+use Rattle.std.proofs.Common.{◌≡◌, ◌+◌, ◌*◌, ◌-◌, ◌<◌, suc, true, length, take, drop, get_or, ap, ◌∙◌, sym, arith}
 use Rattle.std.specs.Char.{is_ascii_digit}
 use Rattle.cert_format.specs.Digits.{value}
 use Rattle.cert_format.specs.Runs.{run}
-use Rattle.cert_format.proofs.Digits.{value_grows}
+use Rattle.cert_items.proofs.Digits.{value_take, value_next, run_next}
 use Rattle.cert_items.proofs.number.digits_value.Goals as goal
-
--- more digits are no smaller number
-value_take : (bytes : List ℕ) (m k n : ℕ) → m ≤ k → value n (take m bytes) ≤ value n (take k bytes)
-value_take [] zero k n h = value_grows (take k []) n
-value_take [] (suc m) zero n h = absurd (omega arith)
-value_take [] (suc m) (suc k) n h = omega arith
-value_take (b ∷ bs) zero k n h = value_grows (take k (b ∷ bs)) n
-value_take (b ∷ bs) (suc m) zero n h = absurd (omega arith)
-value_take (b ∷ bs) (suc m) (suc k) n h = value_take bs m k (n * 10 + (b - 48)) (omega arith)
-
--- one digit more
-value_next : (bytes : List ℕ) (len n : ℕ) → len < length bytes → value n (take (suc len) bytes) ≡ value n (take len bytes) * 10 + (get_or bytes len 0 - 48)
-value_next [] len n h = absurd (omega arith)
-value_next (b ∷ bs) zero n h = refl
-value_next (b ∷ bs) (suc len) n h = value_next bs len (n * 10 + (b - 48)) (omega arith)
-
--- the digits go on behind one
-run_next : (bytes : List ℕ) (len : ℕ) → len < length bytes → is_ascii_digit (get_or bytes len 0) ≡ true → run is_ascii_digit (drop len bytes) ≡ 1 + run is_ascii_digit (drop (suc len) bytes)
-run_next bytes len h d = ap (run is_ascii_digit) (drop-cons bytes len 0 h) ∙ ap (λ b. cond b (1 + run is_ascii_digit (drop (suc len) bytes)) 0) d
 
 pub returns-in-None-clause-none : goal.returns-in-None-clause-none
 returns-in-None-clause-none c =
