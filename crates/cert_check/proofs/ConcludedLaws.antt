@@ -192,7 +192,7 @@ pairs_fit f r s (a ∷ nodes) (t ∷ terms) rest long h =
     let k = pairs_fit f r s nodes terms rest (omega arith) h.1 in
     (ap₂ (λ (x : Tree) (xs : List Tree). x ∷ xs) h.0 k.0, k.1)
 
-pub pairs_within : (f : Forest) (s : Side) (nodes terms : List ℕ) (rest : List Pair) → AreIds f nodes → AreIds f terms → ArePairs f rest → ArePairs f (pairs_of s nodes terms ++ rest)
+pairs_within : (f : Forest) (s : Side) (nodes terms : List ℕ) (rest : List Pair) → AreIds f nodes → AreIds f terms → ArePairs f rest → ArePairs f (pairs_of s nodes terms ++ rest)
 pairs_within f s [] terms rest h k l = l
 pairs_within f s (a ∷ nodes) [] rest h k l = l
 pairs_within f s (a ∷ nodes) (t ∷ terms) rest h k l = (

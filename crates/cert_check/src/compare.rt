@@ -120,7 +120,8 @@ fn note(progress: &mut Progress, _covers: &[Cover], right: bool)
     }
 }
 
-// Compares the next cover with the side, where the unifier is proper on it and no cover was wrong. The answer is whether it is.
+// Compares the next cover with the side, where the unifier is proper on it and no cover was wrong. The answer is
+// whether the unifier is proper on the side.
 fn compare_side(
     alloc: Global,
     cert: &mut Covered,

@@ -44,7 +44,7 @@ struct Pair {
 /// Room to work in, which is kept from one comparison to the next.
 #[derive(Drop)]
 pub struct Room {
-    // What is left to compare, the next pair last.
+    // What is left to compare of an atom, the next pair last.
     pairs: Vec<Pair>,
     // The variables that were met, in the order of their numbers.
     order: Vec<Variable>,
@@ -247,8 +247,8 @@ fn compare_all(
     Ok(false)
 }
 
-// Compares the atom of a literal with the one that it is to become, and what stands in both. An atom without variables stays what it
-// is. The atoms themselves are not put on the list.
+// Compares the atom of a literal with the one that it is to become, from the roots down. One without variables stays what it is.
+// The two atoms are not put on the list, their arguments are.
 fn compare_atom(
     bank: &Bank,
     of: &Instance<'_>,

@@ -135,7 +135,7 @@ fn made_covers(
     None
 }
 
-// Whether what covers the clause at the place, counted from 0, is named as a variant of it.
+// Whether the cover at the place, counted from 0, names a member as a variant. Of others no origin tells.
 fn names_variant(covers: &[Cover], place: usize) -> bool {
     match covers.get(place) {
         Some(cover) => matches!(cover.by, By::Variant(_)),

@@ -24,7 +24,7 @@ value_next (b ∷ bs) (suc len) n h = value_next bs len (n * 10 + (b - 48)) (ome
 pub run_next : (bytes : List ℕ) (len : ℕ) → len < length bytes → is_ascii_digit (get_or bytes len 0) ≡ true → run is_ascii_digit (drop len bytes) ≡ 1 + run is_ascii_digit (drop (suc len) bytes)
 run_next bytes len h d = ap (run is_ascii_digit) (drop-cons bytes len 0 h) ∙ ap (λ b. cond b (1 + run is_ascii_digit (drop (suc len) bytes)) 0) d
 
--- the first number with more digits
+-- 10 to the power n, which is above every number of n digits
 pub tens : ℕ → ℕ
 tens zero = 1
 tens (suc n) = tens n * 10
@@ -40,8 +40,9 @@ tens_grow zero n h = tens_positive n
 tens_grow (suc m) zero h = absurd (omega arith)
 tens_grow (suc m) (suc n) h = let k = tens_grow m n (omega arith) in omega (arith, k)
 
-pub none_below : 0 < tens 0
-none_below = tens_positive 0
+-- the number of no digits, and one with a digit more
+pub first_below : 0 < tens 0
+first_below = tens_positive 0
 
 pub next_below : (n len d : ℕ) → n < tens len → d < 10 → n * 10 + d < tens (len + 1)
 unfolding tens

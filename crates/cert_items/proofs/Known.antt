@@ -1,4 +1,4 @@
--- What is remembered of names stays true as the bank grows, and is found by a name's text.
+-- What is remembered of names and first variables stays true as the bank grows, and is found by a name's text.
 use Rattle.std.proofs.Common.{◌≡◌, ℕ, zero, suc, ◌+◌, length, List, [], ◌∷◌, ◌++◌, refl, sym, subst, arith, Bool, true, false, cond, Option, Some, IfSome, nat_eq, slice_get}
 use Rattle.std.specs.Global.{Vec}
 use Rattle.std.specs.Cmp.Lexicographic.{pointwise}
@@ -11,7 +11,7 @@ use Rattle.inst_logic.specs.Tree.{Tree, var, app, of_list}
 use Rattle.term_bank.specs.Forest.{Forest, IsAt, Extends}
 use Rattle.term_bank.proofs.Growth.{at_extends}
 use Rattle.cert_items.specs.declared.text_bank.Known.{Known}
-use Rattle.cert_items.specs.Known.{IsKnown, AreFirst, AreKnown, remembered}
+use Rattle.cert_items.specs.Known.{IsKnown, AreFirstVariables, AreKnown, remembered}
 use Rattle.cert_items.specs.Reading.{IsApplied}
 
 found_in : (f : Forest) (text : List ℕ) (es : List (Vec ℕ × Known)) → AreKnown f es → IfSome (remembered text es) (IsKnown f text)
@@ -58,10 +58,10 @@ applied_known f id kind text args n count h = record {
 
 -- ---- the first variables
 
-pub first_later : (f g : Forest) (ids : List ℕ) → Extends f g → AreFirst f ids → AreFirst g ids
+pub first_later : (f g : Forest) (ids : List ℕ) → Extends f g → AreFirstVariables f ids → AreFirstVariables g ids
 first_later f g ids e h = record { each = λ v id is. at_extends f g id (var v) e (h.each v id is) }
 
--- they were found behind n others
+-- one more, where the first id is that of variable n
 one_more_from : (f : Forest) (n : ℕ) (ids : List ℕ) (x : ℕ) → ((v id : ℕ) → slice_get ids v ≡ Some id → IsAt f id (var (v + n))) → IsAt f x (var (length ids + n))
     → (v id : ℕ) → slice_get (ids ++ x ∷ []) v ≡ Some id → IsAt f id (var (v + n))
 one_more_from f n [] x h at zero id is = subst (λ (i : ℕ). IsAt f i (var (0 + n))) (same_Some x id is) at
@@ -73,8 +73,8 @@ one_more_from f n (i ∷ ids) x h at (suc v) id is =
     subst (λ (m : ℕ). IsAt f id (var m)) e
     (one_more_from f (suc n) ids x (λ w j same. subst (λ (m : ℕ). IsAt f j (var m)) (let d : suc w + n ≡ w + suc n = omega arith in d) (h (suc w) j same)) (subst (λ (m : ℕ). IsAt f x (var m)) k at) v id is)
 
-pub one_more_first : (f : Forest) (ids jds : List ℕ) (x : ℕ) → jds ≡ ids ++ x ∷ [] → IsAt f x (var (length ids)) → AreFirst f ids → AreFirst f jds
-one_more_first f ids jds x is at h = subst (AreFirst f) (sym is) (record {
+pub one_more_first : (f : Forest) (ids jds : List ℕ) (x : ℕ) → jds ≡ ids ++ x ∷ [] → IsAt f x (var (length ids)) → AreFirstVariables f ids → AreFirstVariables f jds
+one_more_first f ids jds x is at h = subst (AreFirstVariables f) (sym is) (record {
   each = λ v id same.
       let z : (w : ℕ) → w + 0 ≡ w = λ w. omega arith in
       subst (λ (m : ℕ). IsAt f id (var m)) (z v)

@@ -1,4 +1,4 @@
--- What is remembered of the names that were read.
+-- What is remembered of the names and of the first variables that were read.
 use Rattle.std.specs.Prelude.{◌≡◌, ℕ, List, length, All, IsTrue, Option, Some, nat_eq, slice_get}
 use Rattle.std.specs.Global.{Vec}
 use Rattle.std.specs.Map.{lookup}
@@ -25,5 +25,5 @@ abbrev pub remembered : List ℕ → List (Vec ℕ × Known) → Option Known
 remembered text es = lookup (λ v. pointwise nat_eq text v.items) es
 
 -- each id is that of the variable whose number is its place
-pub record AreFirst (f : Forest) (ids : List ℕ) : Type 0 where
+pub record AreFirstVariables (f : Forest) (ids : List ℕ) : Type 0 where
   pub each : (v id : ℕ) → slice_get ids v ≡ Some id → IsAt f id (var v)

@@ -19,8 +19,8 @@ pub fn digits_len(bytes: &[u8]) -> usize
     n
 }
 
-// So many digits are the digits of a `usize`, whatever they are.
-const SURE: usize = 19;
+// Any number of at most so many digits is a `usize`.
+const SAFE_DIGITS: usize = 19;
 
 // The value of the digits at the front, at most 19 of them, and how many these are. Inlined, each digit would set what its callers
 // give for the case that it is the last.
@@ -31,7 +31,7 @@ fn first_digits(bytes: &[u8]) -> (usize, usize)
     ensures within { result.1 ≤ length bytes.now }
     ensures fits { result.0 < 2 ^ 64 }
 {
-    let most = bytes.len().min(SURE);
+    let most = bytes.len().min(SAFE_DIGITS);
     let mut n: usize = 0;
     let mut len = 0;
     while len < most && bytes[len].is_ascii_digit() {
@@ -41,9 +41,6 @@ fn first_digits(bytes: &[u8]) -> (usize, usize)
     (n, len)
 }
 
-// Up to this number any digit fits behind it.
-const ROOMY: usize = 1_844_674_407_370_955_160;
-
 // The number with one more digit, and `None` where it is no `usize`.
 fn with_digit(n: usize, digit: u8) -> Option<usize>
     requires { IsTrue (is_ascii_digit digit) }
@@ -51,16 +48,15 @@ fn with_digit(n: usize, digit: u8) -> Option<usize>
     ensures fits { IfSome result (λ m. m < 2 ^ 64) }
     ensures none { IfNone result (2 ^ 64 ≤ n * 10 + (digit - byte.digit_zero)) }
 {
-    if n <= ROOMY {
-        return Some(n * 10 + usize::from(digit - b'0'));
-    }
     match n.checked_mul(10) {
         Some(tens) => tens.checked_add(usize::from(digit - b'0')),
         None => None,
     }
 }
 
-// The value of the digits at the front, and how many there are; `None` where it is no `usize`.
+// The value of the digits at the front, and how many there are; `None` where it is no `usize`. Hardly any number is so long that it
+// comes to this.
+#[inline(never)]
 fn digits_value(bytes: &[u8]) -> Option<(usize, usize)>
     ensures count { IfSome result (λ r. r.1 ≡ run is_ascii_digit bytes.now) }
     ensures within { IfSome result (λ r. r.1 ≤ length bytes.now) }
@@ -90,23 +86,21 @@ fn is_plain(digits: &[u8]) -> bool
     }
 }
 
-// The number at the front, of however many digits, and what follows these. Hardly any number is so long that it comes to this.
-#[inline(never)]
-fn long_number(bytes: &[u8]) -> Option<(usize, &[u8])>
+// The number of this value, whose digits are so many bytes at the front, and what follows them.
+fn split_number(bytes: &[u8], n: usize, len: usize) -> Option<(usize, &[u8])>
+    requires count { len ≡ run is_ascii_digit bytes.now }
+    requires within { len ≤ length bytes.now }
+    requires value { n ≡ value 0 (take len bytes.now) }
+    requires fits { n < 2 ^ 64 }
     ensures some { IfSome result (λ r. (bytes.now ≡ decimal r.0 ++ r.1.now) × Ends is_ascii_digit r.1.now) }
     ensures fits { IfSome result (λ r. r.0 < 2 ^ 64) }
     ensures none { IfNone result ((n : ℕ) (rest : List ℕ) → n < 2 ^ 64 → Ends is_ascii_digit rest → bytes.now ≢ decimal n ++ rest) }
 {
-    match digits_value(bytes) {
-        None => None,
-        Some((n, len)) => {
-            let (digits, rest) = bytes.split_at(len);
-            if !is_plain(digits) {
-                return None;
-            }
-            Some((n, rest))
-        }
+    let (digits, rest) = bytes.split_at(len);
+    if !is_plain(digits) {
+        return None;
     }
+    Some((n, rest))
 }
 
 /// The number at the front, and what follows its digits.
@@ -116,14 +110,13 @@ pub fn number(bytes: &[u8]) -> Option<(usize, &[u8])>
     ensures none { IfNone result ((n : ℕ) (rest : List ℕ) → n < 2 ^ 64 → Ends is_ascii_digit rest → bytes.now ≢ decimal n ++ rest) }
 {
     let (n, len) = first_digits(bytes);
-    if len >= SURE {
-        return long_number(bytes);
+    if len < SAFE_DIGITS {
+        return split_number(bytes, n, len);
     }
-    let (digits, rest) = bytes.split_at(len);
-    if !is_plain(digits) {
-        return None;
+    match digits_value(bytes) {
+        None => None,
+        Some((n, len)) => split_number(bytes, n, len),
     }
-    Some((n, rest))
 }
 
 /// The number at the front and the mark behind it, and what follows.

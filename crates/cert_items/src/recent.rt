@@ -1,8 +1,8 @@
 // Literals that were read, by their texts. Most literals of a text stand in it before, and are then found without their terms
 // being read. The place where one is sought is only a hint, since its text is compared. Two are tried first, which need no code.
-// The literals of a clause that stands in the text once more come in the same order: so the one that came behind the last literal.
-// Instances of one clause differ in few literals, and where they follow each other once more, they mostly do so in the same order:
-// so the one that came last where that one was expected.
+// One is the literal that came behind the last one: the literals of a clause that stands in the text once more come in the same
+// order. The other is the one that came last where that was expected: instances of one clause differ in few literals, and mostly
+// follow each other in the same order too. Of the two the one that was right last comes first.
 ghost use Rattle.std.specs.Prelude.{◌≡◌, ◌≤◌, ◌++◌, [], List, ℕ, length, IfSome, IsTrue};
 ghost use Rattle.term_bank.specs.Forest.{Forest};
 ghost use Rattle.cert_items.specs.Spelled.{AreSpelled, IsSpelled};
@@ -39,18 +39,18 @@ pub struct Spelled {
 }
 
 // For a literal, the places of the one that came behind it last, and of the one that came last where it was expected. Of the two
-// that may come behind it, whether the second was right last time.
+// that may come behind it, whether the one that came where `next` was expected was the last that was right.
 #[derive(Clone, Copy)]
 struct Links {
     next: usize,
     instead: usize,
-    turns: bool,
+    prefers_instead: bool,
 }
 
 const UNLINKED: Links = Links {
     next: NOWHERE,
     instead: NOWHERE,
-    turns: false,
+    prefers_instead: false,
 };
 
 /// Literals that were read, with their links, and the place of the last one. For the low bits of a code the place of a literal that
@@ -196,16 +196,16 @@ impl Recent {
         self.last = place;
     }
 
-    // Notes that the other one of the two places was right this time.
-    fn turn(&mut self)
+    // Notes that of the two expected places the one that was tried second was right.
+    fn swap_preference(&mut self)
         ensures { self.new.literals ≡ self.old.literals }
     {
         if let Some(links) = self.links.get_mut(self.last) {
-            links.turns = !links.turns;
+            links.prefers_instead = !links.prefers_instead;
         }
     }
 
-    // Notes the same as `follow` of a literal that was not expected, and that it came where another one was.
+    // As `follow`, for a literal that was not expected; notes also that it came where another one was.
     fn follow_instead(&mut self, place: usize)
         ensures { self.new.literals ≡ self.old.literals }
     {
@@ -246,12 +246,11 @@ impl Recent {
         }
     }
 
-    // The places of the two literals that may come behind the last one, the likelier one first: the one that came behind it last,
-    // and the one that came last where that was expected. What was right last time is likelier.
+    // The places of the two literals that may come behind the last one. What was right last of the two comes first.
     fn expected_places(&self) -> (usize, usize) {
         let links = self.last_links();
         let other = self.instead_of(links.next);
-        if links.turns {
+        if links.prefers_instead {
             (other, links.next)
         } else {
             (links.next, other)
@@ -284,7 +283,7 @@ impl Recent {
         match self.at_front(second, bytes) {
             None => None,
             Some(found) => {
-                self.turn();
+                self.swap_preference();
                 self.follow(second);
                 Some(found)
             }

@@ -50,7 +50,7 @@ pub fn term_list<'a>(
     }
 }
 
-/// A number with terms in brackets behind it, and what follows the parenthesis behind them. That there are no terms is seen first.
+/// A number with terms in brackets behind it, and what follows the parenthesis behind them. Where there are none, both brackets are seen at once.
 /// Inlined, it hands the list on without a copy of it in memory.
 #[inline(always)]
 pub fn number_and_terms<'a>(

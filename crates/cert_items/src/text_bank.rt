@@ -7,7 +7,7 @@ ghost use Rattle.inst_logic.specs.Clauses.{IsCanonical};
 ghost use Rattle.inst_logic.specs.Tree.{var, app, of_list};
 ghost use Rattle.term_bank.specs.Forest.{tree_at, IsAt, AreIds, Extends, AreFormed, IsFormed, IsClauseOf, clause_at, Grows};
 ghost use Rattle.cert_format.specs.Names.{IsNameText};
-ghost use Rattle.cert_items.specs.Known.{IsKnown, AreFirst, AreKnown, remembered};
+ghost use Rattle.cert_items.specs.Known.{IsKnown, AreFirstVariables, AreKnown, remembered};
 ghost use Rattle.cert_items.specs.Spelled.{IsSpelled};
 ghost use Rattle.cert_items.specs.Reading.{IsApplied};
 
@@ -40,7 +40,7 @@ pub struct TextBank {
 
 impl Model for TextBank {
     ghost use Rattle.term_bank.specs.Forest.{Forest, forest_code};
-    ghost use Rattle.cert_items.specs.Known.{AreFirst, AreKnown};
+    ghost use Rattle.cert_items.specs.Known.{AreFirstVariables, AreKnown};
     ghost use Rattle.cert_items.specs.Spelled.{AreSpelled};
 
     ghost Value = { Forest };
@@ -49,7 +49,7 @@ impl Model for TextBank {
 
     ghost view = { λ t. t.bank };
 
-    ghost invariant = { λ t. AreKnown t.bank t.known.entries × AreSpelled t.bank t.recent.literals.items × AreFirst t.bank t.variables.items };
+    ghost invariant = { λ t. AreKnown t.bank t.known.entries × AreSpelled t.bank t.recent.literals.items × AreFirstVariables t.bank t.variables.items };
 }
 
 // What is remembered of the name that is printed so.
@@ -169,8 +169,8 @@ fn note_variable(
     id: TermId,
 ) -> Result<(), Memory>
     requires at { IsAt bank.now id (var v) }
-    requires first { AreFirst bank.now variables.old.items }
-    ensures { AreFirst bank.now variables.new.items }
+    requires first { AreFirstVariables bank.now variables.old.items }
+    ensures { AreFirstVariables bank.now variables.new.items }
 {
     if v != variables.len() {
         return Ok(());
@@ -181,9 +181,9 @@ fn note_variable(
 
 // The id of the variable of this number.
 fn variable(bank: &mut Bank, variables: &mut Vec<TermId>, v: usize) -> Result<TermId, Memory>
-    requires first { AreFirst bank.old variables.old.items }
+    requires first { AreFirstVariables bank.old variables.old.items }
     ensures at { IfOk result (λ id. IsAt bank.new id (var v)) }
-    ensures first { AreFirst bank.new variables.new.items }
+    ensures first { AreFirstVariables bank.new variables.new.items }
     ensures grows { Grows bank.old bank.new }
 {
     if let Some(id) = noted_variable(variables, v) {
@@ -207,7 +207,7 @@ impl TextBank {
         }
     }
 
-    /// The bank, without what is remembered of names.
+    /// The bank, without what is remembered.
     pub fn into_bank(self) -> Bank
         ensures { result ≡ self }
     {
@@ -230,8 +230,7 @@ impl TextBank {
         self.recent.find(text, code)
     }
 
-    // The literal that came behind the last one, or else the one that came last where that was expected, where its text is at
-    // the front, and what follows.
+    // One of the two literals that may come behind the last one, where its text is at the front, and what follows.
     pub(crate) fn expected<'a>(&mut self, bytes: &'a [u8]) -> Option<(IdLiteral, &'a [u8])>
         ensures same { self.new ≡ self.old }
         ensures spelled { IfSome result (λ p. (text : List ℕ) × IsSpelled self.old text p.0 × (bytes.now ≡ text ++ p.1.now)) }

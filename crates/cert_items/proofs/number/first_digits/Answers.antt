@@ -2,12 +2,12 @@ use Rattle.std.proofs.Common.{◌≡◌, ◌+◌, ◌*◌, ◌-◌, ◌<◌, suc
 use Rattle.std.specs.Char.{is_ascii_digit}
 use Rattle.cert_format.specs.Digits.{value}
 use Rattle.cert_format.specs.Runs.{run}
-use Rattle.cert_items.proofs.Digits.{run_next, next_below, none_below, tens_fit, value_next}
+use Rattle.cert_items.proofs.Digits.{run_next, next_below, first_below, tens_fit, value_next}
 use Rattle.cert_items.proofs.number.first_digits.Goals as goal
 use Rattle.cert_items.proofs.number.first_digits.Goals.{After-from}
 
 pub loop-len-init : goal.loop-len-init
-loop-len-init c = record { in_range = omega arith; total = omega arith; value_is = refl; small = none_below }
+loop-len-init c = record { in_range = omega arith; total = omega arith; value_is = refl; small = first_below }
 
 below_ten : (c : After-from) → c.from.result < 10
 below_ten c = let b = c.if-is_ascii_digit.ensures.cases in omega (arith, b, c.from.ensures)
