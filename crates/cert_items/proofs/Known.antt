@@ -1,17 +1,16 @@
--- What is remembered of names and first variables stays true as the bank grows, and is found by a name's text.
-use Rattle.std.proofs.Common.{◌≡◌, ℕ, zero, suc, ◌+◌, length, List, [], ◌∷◌, ◌++◌, refl, sym, subst, arith, Bool, true, false, cond, Option, Some, IfSome, nat_eq, slice_get}
+-- What is remembered of names stays true as the bank grows, and is found by a name's text.
+use Rattle.std.proofs.Common.{◌≡◌, ℕ, length, List, [], ◌∷◌, ◌++◌, refl, sym, subst, Bool, true, false, cond, Option, Some, IfSome, nat_eq}
 use Rattle.std.specs.Global.{Vec}
 use Rattle.std.specs.Cmp.Lexicographic.{pointwise}
 use Rattle.std.proofs.lemmas.Bool.Decides.{Decides-eqb}
 use Rattle.std.proofs.lemmas.Slice.Eq.{slice_eq-Decides}
-use Rattle.std.proofs.lemmas.Option.{same_Some}
 use Rattle.std.proofs.lemmas.List.Elements.{All-head, All-tail, All-push, All-weaker}
 use Rattle.inst_logic.specs.declared.symbol.Kind.{Kind}
-use Rattle.inst_logic.specs.Tree.{Tree, var, app, of_list}
+use Rattle.inst_logic.specs.Tree.{Tree, app, of_list}
 use Rattle.term_bank.specs.Forest.{Forest, IsAt, Extends}
 use Rattle.term_bank.proofs.Growth.{at_extends}
 use Rattle.cert_items.specs.declared.text_bank.Known.{Known}
-use Rattle.cert_items.specs.Known.{IsKnown, AreFirstVariables, AreKnown, remembered}
+use Rattle.cert_items.specs.Known.{IsKnown, AreKnown, remembered}
 use Rattle.cert_items.specs.Reading.{IsApplied}
 
 found_in : (f : Forest) (text : List ℕ) (es : List (Vec ℕ × Known)) → AreKnown f es → IfSome (remembered text es) (IsKnown f text)
@@ -55,28 +54,3 @@ applied_known f id kind text args n count h = record {
   count = count;
   at = subst (λ (m : ℕ). IsAt f id (app (record { kind = kind; name = h.name; arity = m }) (of_list args))) count h.at;
 }
-
--- ---- the first variables
-
-pub first_later : (f g : Forest) (ids : List ℕ) → Extends f g → AreFirstVariables f ids → AreFirstVariables g ids
-first_later f g ids e h = record { each = λ v id is. at_extends f g id (var v) e (h.each v id is) }
-
--- one more, where the first id is that of variable n
-one_more_from : (f : Forest) (n : ℕ) (ids : List ℕ) (x : ℕ) → ((v id : ℕ) → slice_get ids v ≡ Some id → IsAt f id (var (v + n))) → IsAt f x (var (length ids + n))
-    → (v id : ℕ) → slice_get (ids ++ x ∷ []) v ≡ Some id → IsAt f id (var (v + n))
-one_more_from f n [] x h at zero id is = subst (λ (i : ℕ). IsAt f i (var (0 + n))) (same_Some x id is) at
-one_more_from f n [] x h at (suc v) id is = absurd (cc)
-one_more_from f n (i ∷ ids) x h at zero id is = h zero id is
-one_more_from f n (i ∷ ids) x h at (suc v) id is =
-    let e : v + suc n ≡ suc v + n = omega arith in
-    let k : length (i ∷ ids) + n ≡ length ids + suc n = omega arith in
-    subst (λ (m : ℕ). IsAt f id (var m)) e
-    (one_more_from f (suc n) ids x (λ w j same. subst (λ (m : ℕ). IsAt f j (var m)) (let d : suc w + n ≡ w + suc n = omega arith in d) (h (suc w) j same)) (subst (λ (m : ℕ). IsAt f x (var m)) k at) v id is)
-
-pub one_more_first : (f : Forest) (ids jds : List ℕ) (x : ℕ) → jds ≡ ids ++ x ∷ [] → IsAt f x (var (length ids)) → AreFirstVariables f ids → AreFirstVariables f jds
-one_more_first f ids jds x is at h = subst (AreFirstVariables f) (sym is) (record {
-  each = λ v id same.
-      let z : (w : ℕ) → w + 0 ≡ w = λ w. omega arith in
-      subst (λ (m : ℕ). IsAt f id (var m)) (z v)
-      (one_more_from f zero ids x (λ w j k. subst (λ (m : ℕ). IsAt f j (var m)) (sym (z w)) (h.each w j k)) (subst (λ (m : ℕ). IsAt f x (var m)) (sym (z (length ids))) at) v id same);
-})

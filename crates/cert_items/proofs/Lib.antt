@@ -8,6 +8,7 @@ pub mod Orders
 pub mod CanonicalIds
 pub mod Known
 pub mod Spelled
+pub mod Remembered
 pub mod PrintableClauses
 pub mod Marked
 pub mod Digits

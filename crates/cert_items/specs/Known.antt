@@ -1,9 +1,9 @@
--- What is remembered of the names and of the first variables that were read.
-use Rattle.std.specs.Prelude.{◌≡◌, ℕ, List, length, All, IsTrue, Option, Some, nat_eq, slice_get}
+-- What is remembered of the names that were read.
+use Rattle.std.specs.Prelude.{◌≡◌, ℕ, List, length, All, IsTrue, Option, nat_eq}
 use Rattle.std.specs.Global.{Vec}
 use Rattle.std.specs.Map.{lookup}
 use Rattle.std.specs.Cmp.Lexicographic.{pointwise}
-use Rattle.inst_logic.specs.Tree.{Tree, var, app, of_list}
+use Rattle.inst_logic.specs.Tree.{Tree, app, of_list}
 use Rattle.inst_logic.specs.Printing.{name_text, is_readable_name}
 use Rattle.term_bank.specs.Forest.{Forest, IsAt}
 use Rattle.cert_items.specs.declared.text_bank.Known.{Known}
@@ -23,7 +23,3 @@ AreKnown f es = All (λ e. IsKnown f e.0.items e.1) es
 -- what is remembered of the name that is printed so
 abbrev pub remembered : List ℕ → List (Vec ℕ × Known) → Option Known
 remembered text es = lookup (λ v. pointwise nat_eq text v.items) es
-
--- each id is that of the variable whose number is its place
-pub record AreFirstVariables (f : Forest) (ids : List ℕ) : Type 0 where
-  pub each : (v id : ℕ) → slice_get ids v ≡ Some id → IsAt f id (var v)

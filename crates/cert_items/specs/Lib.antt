@@ -7,4 +7,5 @@ pub mod Notes
 pub mod Items
 pub mod Known
 pub mod Spelled
+pub mod Remembered
 pub mod Orders

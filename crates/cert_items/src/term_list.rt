@@ -1,10 +1,10 @@
 // Terms in brackets.
 ghost use Rattle.std.specs.Prelude.{◌≡◌, ◌≢◌, ◌++◌, ◌∷◌, ◌<◌, ◌^◌, ℕ, List, [], map, All, IfOk, IfSome, IfNone, decimal};
 ghost use Rattle.inst_logic.specs.Tree.{Tree};
-ghost use Rattle.term_bank.specs.Forest.{tree_at, AreIds, Grows};
+ghost use Rattle.term_bank.specs.Forest.{tree_at, Grows};
 ghost use Rattle.cert_format.specs.LineTexts as texts;
 ghost use Rattle.saturation_cert.specs.Wholes.{IsWholeTerm};
-ghost use Rattle.cert_items.specs.Reading.{ArePrintable, NoTerms};
+ghost use Rattle.cert_items.specs.Reading.{ArePrintable};
 ghost use Rattle.inst_logic.specs.Codes as byte;
 
 use crate::mark::{mark, word};

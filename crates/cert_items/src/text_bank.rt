@@ -1,13 +1,14 @@
 // A bank with what is remembered of the names that were read into it: for each name as it is printed an application of a symbol
 // of that name. Nearly every name of a text has been read before, and then neither a name nor a symbol is made of it, and a
 // constant is found by one look-up. The first variables and the literals that were read are remembered too.
-ghost use Rattle.std.specs.Prelude.{◌≡◌, ◌++◌, ℕ, List, [], ◌<◌, length, false, map, None, IsTrue, ◌↔◌, IfOk, IfSome, slice_get};
+ghost use Rattle.std.specs.Prelude.{◌≡◌, ◌++◌, ℕ, List, [], ◌<◌, length, false, map, None, IsTrue, ◌↔◌, IfOk, IfSome};
 ghost use Rattle.inst_logic.specs.declared.signed.Signed.{Signed};
 ghost use Rattle.inst_logic.specs.Clauses.{IsCanonical};
 ghost use Rattle.inst_logic.specs.Tree.{var, app, of_list};
 ghost use Rattle.term_bank.specs.Forest.{tree_at, IsAt, AreIds, Extends, AreFormed, IsFormed, IsClauseOf, clause_at, Grows};
 ghost use Rattle.cert_format.specs.Names.{IsNameText};
-ghost use Rattle.cert_items.specs.Known.{IsKnown, AreFirstVariables, AreKnown, remembered};
+ghost use Rattle.clause_form.specs.Conclusions.{AreVariables};
+ghost use Rattle.cert_items.specs.Known.{IsKnown, AreKnown, remembered};
 ghost use Rattle.cert_items.specs.Spelled.{IsSpelled};
 ghost use Rattle.cert_items.specs.Reading.{IsApplied};
 
@@ -40,8 +41,7 @@ pub struct TextBank {
 
 impl Model for TextBank {
     ghost use Rattle.term_bank.specs.Forest.{Forest, forest_code};
-    ghost use Rattle.cert_items.specs.Known.{AreFirstVariables, AreKnown};
-    ghost use Rattle.cert_items.specs.Spelled.{AreSpelled};
+    ghost use Rattle.cert_items.specs.Remembered.{IsRemembered};
 
     ghost Value = { Forest };
 
@@ -49,7 +49,7 @@ impl Model for TextBank {
 
     ghost view = { λ t. t.bank };
 
-    ghost invariant = { λ t. AreKnown t.bank t.known.entries × AreSpelled t.bank t.recent.literals.items × AreFirstVariables t.bank t.variables.items };
+    ghost invariant = { λ t. IsRemembered t.bank t.known.entries t.variables.items t.recent.literals.items };
 }
 
 // What is remembered of the name that is printed so.
@@ -155,38 +155,38 @@ fn applied(
 }
 
 // The id that is noted for the variable of this number.
-fn noted_variable(variables: &[TermId], v: usize) -> Option<TermId>
-    ensures { result ≡ slice_get variables.now v }
+fn noted_variable(_bank: &Bank, variables: &[TermId], v: usize) -> Option<TermId>
+    requires { AreVariables _bank.now (length variables.now) variables.now }
+    ensures { IfSome result (λ id. IsAt _bank.now id (var v)) }
 {
     variables.get(v).copied()
 }
 
 // Notes the id of the variable of this number, where those of the ones before it are noted.
 fn note_variable(
-    bank: &Bank,
+    _bank: &Bank,
     variables: &mut Vec<TermId>,
     v: usize,
     id: TermId,
 ) -> Result<(), Memory>
-    requires at { IsAt bank.now id (var v) }
-    requires first { AreFirstVariables bank.now variables.old.items }
-    ensures { AreFirstVariables bank.now variables.new.items }
+    requires at { IsAt _bank.now id (var v) }
+    requires variables { AreVariables _bank.now (length variables.old.items) variables.old.items }
+    ensures { AreVariables _bank.now (length variables.new.items) variables.new.items }
 {
-    if v != variables.len() {
-        return Ok(());
+    if v == variables.len() {
+        variables.push(id)?;
     }
-    variables.push(id)?;
     Ok(())
 }
 
 // The id of the variable of this number.
 fn variable(bank: &mut Bank, variables: &mut Vec<TermId>, v: usize) -> Result<TermId, Memory>
-    requires first { AreFirstVariables bank.old variables.old.items }
+    requires { AreVariables bank.old (length variables.old.items) variables.old.items }
     ensures at { IfOk result (λ id. IsAt bank.new id (var v)) }
-    ensures first { AreFirstVariables bank.new variables.new.items }
+    ensures variables { AreVariables bank.new (length variables.new.items) variables.new.items }
     ensures grows { Grows bank.old bank.new }
 {
-    if let Some(id) = noted_variable(variables, v) {
+    if let Some(id) = noted_variable(bank, variables, v) {
         return Ok(id);
     }
     let id = bank.var(v)?;

@@ -1,11 +1,15 @@
-use Rattle.std.proofs.Common.{◌≡◌, ℕ, arith, length, subst}
+use Rattle.std.proofs.Common.{◌≡◌, ◌∷◌, ◌++◌, [], List, ℕ, arith, length, subst, sym}
 use Rattle.inst_logic.specs.Tree.{var}
 use Rattle.term_bank.specs.Forest.{IsAt}
-use Rattle.cert_items.proofs.Known.{one_more_first}
+use Rattle.term_bank.proofs.Growth.{extends_itself}
+use Rattle.clause_form.specs.Conclusions.{AreVariables}
+use Rattle.clause_form.proofs.Variables.{one_variable}
 use Rattle.cert_items.proofs.text_bank.note_variable.Goals as goal
 
-pub returns : goal.returns
-returns c =
+pub returns-in_ok-push : goal.returns-in_ok-push
+returns-in_ok-push c =
+    let f = c.args._bank.now in
     let old = c.args.variables.now.items in
-    let next : c.args.v ≡ length old = omega (arith, c.if-v-len.false, c.len.ensures) in
-    one_more_first c.args.bank.now old c.push.new.self.items c.args.id c.in_ok-push.ensures.items (subst (λ (n : ℕ). IsAt c.args.bank.now c.args.id (var n)) next c.requires.at) c.requires.first
+    let next : c.args.v ≡ length old = omega (arith, c.if-v-len.true, c.len.ensures) in
+    let more = one_variable f f (length old) c.args.id old (extends_itself f) c.requires.variables (subst (λ (n : ℕ). IsAt f c.args.id (var n)) next c.requires.at) in
+    subst (λ (ids : List ℕ). AreVariables f (length ids) ids) (sym c.in_ok-push.ensures.items) (subst (λ (n : ℕ). AreVariables f n (old ++ c.args.id ∷ [])) (sym more.count_of) more)
