@@ -276,6 +276,8 @@ def page():
     text, reader, begun = WORDS.strip(), Reader(), 0
     for mark, roots in ROOTS:
         for crate, place, name in roots:
+            if name not in reader.module(crate, place).own:
+                sys.exit('%s: no definition %s' % (reader.module(crate, place).path, name))
             reader.visit(crate, 'specs', place, name)
         found, begun = reader.order[begun:], len(reader.order)
         text = text.replace('{%s count}' % mark, str(len(found)))
