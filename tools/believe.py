@@ -193,7 +193,7 @@ The other commands come after that: `sat`, `qbf`, `fmodel` and `core`, and last 
 
 ## That there is always a verdict
 
-The headline's last sentence is the clause `exact`, read for `prove`. Where the library tells its files, the words ask one question, and the files answer it in one way: `IsLoaded` has the problem, or why there is none. The exit is then the one that `WantsOfProblem` names: Decided where the problem has no function symbols with arguments, Decided or ResourceOut where it has some, Refused where the file gives no problem. Only the three exits of `Yields` may come in its place: a read that failed, a write that failed, or out of memory.
+The headline's last sentence is the clause `exact`, read for `prove`. Where the library (what files are read from) tells its files, the words ask one question, and the files answer it in one way: `IsLoaded` has the problem, or why there is none. The exit is then the one that `WantsOfProblem` names: Decided where the problem has no function symbols with arguments, Decided or ResourceOut where it has some, Refused where the file gives no problem. Only the three exits of `Yields` may come in its place: a read that failed, a write that failed, or out of memory.
 
 {verdict table}
 
