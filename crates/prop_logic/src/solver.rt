@@ -68,6 +68,15 @@ pub trait Solver: Drop {
     fn conflicts(&self) -> u64 {
         0
     }
+
+    /// Tells the value that searches may try first for an atom that has none yet; a number that is no atom is passed over. It
+    /// takes no memory, and no answer is another by it: nothing else is promised.
+    fn prefer(&mut self, _atom: usize, _value: bool)
+        ensures atoms { atoms self.new ≡ atoms self.old }
+        ensures added { added self.new ≡ added self.old }
+        ensures spent { spent self.new ≡ spent self.old }
+    {
+    }
 }
 
 /// Makes so many atoms.
