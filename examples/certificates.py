@@ -2,6 +2,7 @@
 something is wrong. Which lines a certificate has is judged by `instgen check`; here its lines are only taken apart."""
 import argparse
 import collections
+import contextlib
 import pathlib
 import re
 import signal
@@ -110,19 +111,27 @@ def first_certificate(path):
     return certificates[0]
 
 
-def checked(certificate):
-    """what `instgen check` says of a certificate, and its exit status"""
+@contextlib.contextmanager
+def file_of(certificate):
+    """the name of a file that has the certificate alone"""
     with tempfile.NamedTemporaryFile() as file:
         file.write(certificate.encode('utf-8', 'surrogateescape'))
         file.flush()
-        said, status = called('check', file.name)
-    return said.replace(f'{file.name}', 'the certificate').strip(), status
+        yield file.name
+
+
+def checked(certificate, *options):
+    """what `instgen check` says of a certificate, in one line, and its exit status"""
+    with file_of(certificate) as name:
+        said, status = called('check', name, *options)
+    *_, last = rows(said) or ['nothing']
+    return last.strip().replace(name, 'the certificate'), status
 
 
 def refuse_invalid(certificate):
     said, status = checked(certificate)
     if status != 0:
-        raise Failure(f'the certificate is refused: {said.splitlines()[-1]}' if said else 'the certificate can not be checked', status)
+        raise Failure(f'the certificate is refused: {said}', status)
 
 
 def parts(text, separator):
