@@ -67,6 +67,8 @@ def run_script(words, main):
 
 
 def warn(sentence):
+    """says it on standard error, behind what was printed by then"""
+    sys.stdout.flush()
     print(f'{pathlib.Path(sys.argv[0]).name}: {sentence}', file=sys.stderr)
 
 
