@@ -113,6 +113,14 @@ def first_certificate(path):
     return certificates[0]
 
 
+def saturation(path):
+    """the first certificate of an answer, which must be one that has a model"""
+    certificate = first_certificate(path)
+    if not certificate.startswith(BEGINS[0]):
+        raise Failure(f'{path} is a refutation: the clauses have no model')
+    return certificate
+
+
 @contextlib.contextmanager
 def file_of(certificate):
     """the name of a file that has the certificate alone"""
