@@ -113,6 +113,11 @@ def first_certificate(path):
     return certificates[0]
 
 
+def core_places(head):
+    """the places in the first line of an answer of `core`"""
+    return rows(head)[0].rpartition(':')[2].split()
+
+
 def saturation(path):
     """the first certificate of an answer, which must be one that has a model"""
     certificate = first_certificate(path)
