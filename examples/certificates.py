@@ -12,7 +12,9 @@ import tempfile
 
 PROGRAM = pathlib.Path(__file__).resolve().parent / 'program'
 USAGE, REFUSED, UNREAD = 3, 2, 4  # exit statuses, as the program has them
-BEGINS = ('% SZS status Satisfiable for ', '% SZS status Unsatisfiable for ')
+INTERRUPTED = 130
+SATURATION = '% SZS status Satisfiable for '  # what a certificate begins with
+REFUTATION = '% SZS status Unsatisfiable for '
 ENDS = '% SZS output end '
 PIECE = re.compile(r"'(?:[^'\\]|\\.)*'|[()\[\],]| \| | != | = |~|[^'()\[\],~ ]+| ")
 VARIABLE = re.compile(r'X[0-9]+')
@@ -48,8 +50,7 @@ class Words(argparse.ArgumentParser):
 
 def run_script(words, main):
     """Reads the words and runs main on them; its result is the exit status. A reader that goes away ends the script without a word."""
-    for ending in (signal.SIGPIPE, signal.SIGINT):
-        signal.signal(ending, signal.SIG_DFL)
+    signal.signal(signal.SIGPIPE, signal.SIG_DFL)
     sys.stdout.reconfigure(errors='surrogateescape')
     sys.stderr.reconfigure(errors='surrogateescape')
     script = pathlib.Path(sys.argv[0]).name
@@ -63,6 +64,8 @@ def run_script(words, main):
     except OSError as error:
         print(f'{script}: {error.filename or "standard output"}: {error.strerror}', file=sys.stderr)
         status = UNREAD
+    except KeyboardInterrupt:
+        status = INTERRUPTED
     sys.exit(status)
 
 
@@ -94,7 +97,7 @@ def cut(answer):
     """what stands in an answer before its first certificate, and its certificates, each from its line of status to its last"""
     head, certificates, inside = [], [], False
     for line in rows(answer):
-        if line.startswith(BEGINS):
+        if line.startswith((SATURATION, REFUTATION)):
             certificates.append([])
             inside = True
         if inside:
@@ -121,7 +124,7 @@ def core_places(head):
 def saturation(path):
     """the first certificate of an answer, which must be one that has a model"""
     certificate = first_certificate(path)
-    if not certificate.startswith(BEGINS[0]):
+    if not certificate.startswith(SATURATION):
         raise Failure(f'{path} is a refutation: the clauses have no model')
     return certificate
 
