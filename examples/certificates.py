@@ -12,7 +12,7 @@ import tempfile
 
 PROGRAM = pathlib.Path(__file__).resolve().parent / 'program'
 USAGE, REFUSED, UNREAD = 3, 2, 4  # exit statuses, as the program has them
-INTERRUPTED = 130
+UNBUILT, INTERRUPTED = 70, 130
 SATURATION = '% SZS status Satisfiable for '  # what a certificate begins with
 REFUTATION = '% SZS status Unsatisfiable for '
 ENDS = '% SZS output end '
@@ -78,6 +78,8 @@ def warn(sentence):
 def called(*words):
     """what the program prints for these words, and its exit status"""
     done = subprocess.run([PROGRAM, *words], stdout=subprocess.PIPE, encoding='utf-8', errors='surrogateescape')
+    if done.returncode == UNBUILT:
+        raise Failure('the program could not be built', UNBUILT)
     return done.stdout, done.returncode
 
 
