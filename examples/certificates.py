@@ -75,7 +75,7 @@ def warn(sentence):
     print(f'{pathlib.Path(sys.argv[0]).name}: {sentence}', file=sys.stderr)
 
 
-def called(*words):
+def program_answer(*words):
     """what the program prints for these words, and its exit status"""
     done = subprocess.run([PROGRAM, *words], stdout=subprocess.PIPE, encoding='utf-8', errors='surrogateescape')
     if done.returncode == UNBUILT:
@@ -95,7 +95,7 @@ def rows(text):
     return re.findall('[^\n]*\n|[^\n]+', text)
 
 
-def cut(answer):
+def answer_parts(answer):
     """what stands in an answer before its first certificate, and its certificates, each from its line of status to its last"""
     head, certificates, inside = [], [], False
     for line in rows(answer):
@@ -112,7 +112,7 @@ def cut(answer):
 
 def first_certificate(path):
     """the first certificate of an answer, without a line like `s TRUE` or `% core of ..` before it"""
-    _, certificates = cut(text_of(path))
+    _, certificates = answer_parts(text_of(path))
     if not certificates:
         raise Failure(f'{path}: there is no certificate in it; it is what `instgen prove FILE >CERT` writes')
     return certificates[0]
@@ -140,16 +140,16 @@ def file_of(certificate):
         yield file.name
 
 
-def checked(certificate, *options):
+def check_answer(certificate, *options):
     """what `instgen check` says of a certificate, in one line, and its exit status"""
     with file_of(certificate) as name:
-        said, status = called('check', name, *options)
+        said, status = program_answer('check', name, *options)
     *_, last = rows(said) or ['nothing']
     return last.strip().replace(name, 'the certificate'), status
 
 
 def refuse_invalid(certificate):
-    said, status = checked(certificate)
+    said, status = check_answer(certificate)
     if status != 0:
         raise Failure(f'the certificate is refused: {said}', status)
 
@@ -176,9 +176,9 @@ def lines_of(certificate, letters):
             yield Line(label, clause, fields)
 
 
-def inner(field):
+def bracket_items(field):
     """the texts within the brackets of a field: of `ground(4,[socrates])` these are `4` and `[socrates]`"""
-    content = field[field.index('(') + 1 if field[0] not in "'[" else 1:-1]
+    content = field[1 if field[0] == '[' else field.index('(') + 1:-1]
     return parts(content, ',') if content else []
 
 
