@@ -8,8 +8,10 @@ ghost use Rattle.cdcl_trail.specs.Values.{AreValues, entries_of};
 ghost use Rattle.cdcl_trail.specs.Watch.{slot_of, list_at, pair_at};
 ghost use Rattle.cdcl_trail.specs.Watching.{IsTrueAt};
 ghost use Rattle.cdcl_trail.specs.Running.{at_level, IsRunning, Runs};
+ghost use Rattle.cdcl_trail.specs.Arena.{AreCopies};
 ghost use Rattle.cdcl_trail.specs.Loose.{IsLookedAt, AreLoose, with_pair};
 
+use crate::arena::Arena;
 use crate::clauses::Clauses;
 use crate::entry::Entry;
 use crate::lists::add_watch;
@@ -69,6 +71,7 @@ pub(crate) fn look_at(
     values: &mut Values,
     lists: &mut [WatchList],
     pairs: &mut [PackedPair],
+    arena: &mut Arena,
     clauses: &Clauses,
     level: usize,
     number: usize,
@@ -76,12 +79,14 @@ pub(crate) fn look_at(
     requires running { IsRunning clauses.now level values.old lists.old pairs.old }
     requires room { (c : List (Signed ℕ)) → clause_number clauses.now number ≡ Some c → number < length pairs.old }
     requires number { number < 2 ^ 32 }
+    requires copies { AreCopies clauses.now arena.old pairs.old }
     ensures running { OnOk result (IsRunning clauses.now level values.new lists.new pairs.new) }
     ensures runs { OnOk result (Runs clauses.now level values.old pairs.old values.new pairs.new) }
+    ensures copies { OnOk result (AreCopies clauses.now arena.new pairs.new) }
     ensures looked { IfOk result (IsLookedAt clauses.now number (entries_of values.new) pairs.new) }
     ensures err { OnErr result (values.new ≡ values.old) }
 {
-    let Some(clause) = clauses.packed(number) else {
+    let Some(clause) = clauses.literals(number) else {
         return Ok(Look::Taken);
     };
     if pair_of_clause(pairs, number).is_some() {
@@ -92,6 +97,7 @@ pub(crate) fn look_at(
     };
     match other_open(values, clause, first) {
         Some(second) => {
+            arena.keep(number, clause)?;
             watch_pair(lists, pairs, number, Pair { first, second })?;
             Ok(Look::Taken)
         }
@@ -113,6 +119,7 @@ pub(crate) fn settle_loose(
     values: &mut Values,
     lists: &mut [WatchList],
     pairs: &mut [PackedPair],
+    arena: &mut Arena,
     loose: &mut Vec<u32>,
     passed: &mut u32,
     clauses: &Clauses,
@@ -121,10 +128,12 @@ pub(crate) fn settle_loose(
     requires running { IsRunning clauses.now level values.old lists.old pairs.old }
     requires loose { AreLoose clauses.now (entries_of values.old) pairs.old loose.old.items passed.old }
     requires short { length loose.old.items < 2 ^ 32 }
+    requires copies { AreCopies clauses.now arena.old pairs.old }
     ensures running { OnOk result (IsRunning clauses.now level values.new lists.new pairs.new) }
     ensures runs { OnOk result (Runs clauses.now level values.old pairs.old values.new pairs.new) }
     ensures conflict { IfOk result (λ found. IfSome found (IsConflict clauses.now (entries_of values.new))) }
     ensures loose { OnOk result (AreLoose clauses.now (entries_of values.new) pairs.new loose.new.items passed.new) }
+    ensures copies { OnOk result (AreCopies clauses.now arena.new pairs.new) }
     ensures front { OnOk result (take passed.old loose.new.items ≡ take passed.old loose.old.items) }
     ensures short { length loose.new.items ≤ length loose.old.items }
     ensures on { OnOk result (passed.old ≤ passed.new) }
@@ -134,7 +143,7 @@ pub(crate) fn settle_loose(
 {
     while (*passed as usize) < loose.len() {
         let number = loose[*passed as usize] as usize;
-        match look_at(values, lists, pairs, clauses, level, number)? {
+        match look_at(values, lists, pairs, arena, clauses, level, number)? {
             Look::Passed => *passed += 1,
             Look::Taken => {
                 loose.swap_remove(*passed as usize);

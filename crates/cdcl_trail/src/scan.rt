@@ -11,15 +11,31 @@ use crate::values::Values;
 use compact_lists::PackedLit;
 use prop_logic::Lit;
 
+// A literal of the clause that is not false.
+pub(crate) fn first_open(values: &Values, clause: &[Lit]) -> Option<Lit>
+    requires values { AreValues values.now }
+    requires atoms { AtomsBelow (length values.now.entries.items) clause.now }
+    ensures some { IfSome result (λ l. Contains clause.now l × ¬ IsFalseIn (entries_of values.now) l) }
+    ensures none { IfNone result (All (IsFalseIn (entries_of values.now)) clause.now) }
+{
+    for lit in clause {
+        let l = *lit;
+        if !values.is_false(l) {
+            return Some(l);
+        }
+    }
+    None
+}
+
 // A literal of the clause that is not false, and not this one.
-pub(crate) fn other_open(values: &Values, clause: &[PackedLit], other: Lit) -> Option<Lit>
+pub(crate) fn other_open(values: &Values, clause: &[Lit], other: Lit) -> Option<Lit>
     requires values { AreValues values.now }
     requires atoms { AtomsBelow (length values.now.entries.items) clause.now }
     ensures some { IfSome result (λ l. Contains clause.now l × (l ≢ other) × ¬ IsFalseIn (entries_of values.now) l) }
     ensures none { IfNone result (All (λ m. IsFalseIn (entries_of values.now) m ⊎ (m ≡ other)) clause.now) }
 {
-    for packed in clause {
-        let l = packed.lit();
+    for lit in clause {
+        let l = *lit;
         if l == other {
             continue;
         }
@@ -30,15 +46,18 @@ pub(crate) fn other_open(values: &Values, clause: &[PackedLit], other: Lit) -> O
     None
 }
 
-// A literal of the clause that is not false.
-pub(crate) fn first_open(values: &Values, clause: &[PackedLit]) -> Option<Lit>
+// The same of a packed clause.
+pub(crate) fn next_open(values: &Values, clause: &[PackedLit], other: Lit) -> Option<Lit>
     requires values { AreValues values.now }
     requires atoms { AtomsBelow (length values.now.entries.items) clause.now }
-    ensures some { IfSome result (λ l. Contains clause.now l × ¬ IsFalseIn (entries_of values.now) l) }
-    ensures none { IfNone result (All (IsFalseIn (entries_of values.now)) clause.now) }
+    ensures some { IfSome result (λ l. Contains clause.now l × (l ≢ other) × ¬ IsFalseIn (entries_of values.now) l) }
+    ensures none { IfNone result (All (λ m. IsFalseIn (entries_of values.now) m ⊎ (m ≡ other)) clause.now) }
 {
     for packed in clause {
         let l = packed.lit();
+        if l == other {
+            continue;
+        }
         if !values.is_false(l) {
             return Some(l);
         }

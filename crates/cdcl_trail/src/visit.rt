@@ -11,11 +11,11 @@ ghost use Rattle.cdcl_trail.specs.Running.{IsRunning, Visits};
 ghost use Rattle.cdcl_trail.specs.declared.watch.Watch.{Watch};
 ghost use Rattle.cdcl_trail.specs.declared.watch.Pair.{Pair};
 
-use crate::clauses::Clauses;
+use crate::arena::Arena;
 use crate::entry::Entry;
 use crate::lists::{add_watch, drop_watch, put_watch, slot, watch_at};
 use crate::packed_pair::PackedPair;
-use crate::scan::other_open;
+use crate::scan::next_open;
 use crate::values::Values;
 use crate::watch::{Pair, Watch};
 use crate::watch_list::WatchList;
@@ -95,7 +95,7 @@ fn settle(
     values: &mut Values,
     lists: &mut [WatchList],
     pairs: &mut [PackedPair],
-    clauses: &Clauses,
+    clauses: &Arena,
     level: usize,
     l: Lit,
     place: usize,
@@ -111,10 +111,10 @@ fn settle(
     ensures visits { IfOk result (Visits clauses.now level l place values.old lists.old pairs.old values.new lists.new pairs.new) }
     ensures err { OnErr result (values.new ≡ values.old) }
 {
-    let Some(clause) = clauses.packed(number) else {
+    let Some(clause) = clauses.get(number) else {
         return Ok(Visit::False(number));
     };
-    match other_open(values, clause, other) {
+    match next_open(values, clause, other) {
         Some(next) => {
             move_watch(lists, pairs, l, place, number, other, next)?;
             Ok(Visit::Moved)
@@ -138,7 +138,7 @@ fn visit_clause(
     values: &mut Values,
     lists: &mut [WatchList],
     pairs: &mut [PackedPair],
-    clauses: &Clauses,
+    clauses: &Arena,
     level: usize,
     l: Lit,
     place: usize,
@@ -173,7 +173,7 @@ pub(crate) fn visit_at(
     values: &mut Values,
     lists: &mut [WatchList],
     pairs: &mut [PackedPair],
-    clauses: &Clauses,
+    clauses: &Arena,
     level: usize,
     l: Lit,
     place: usize,
