@@ -33,39 +33,36 @@ pub(crate) enum Visit {
     False(usize),
 }
 
-// The clause that watched the literal and the other one watches the next one in its place.
+// The clause that watched the literal and the watch's blocker watches the next literal, found at a place of it, in its place.
 fn move_watch(
     lists: &mut [WatchList],
     pairs: &mut [PackedPair],
     l: Lit,
     place: usize,
-    number: usize,
-    other: Lit,
+    watch: Watch,
     next: Lit,
+    from: usize,
 ) -> Result<(), Memory>
     requires slot { slot_of l < length lists.old }
     requires next { slot_of next < length lists.old }
     requires apart { slot_of next ≢ slot_of l }
     requires place { place < length (list_at lists.old (slot_of l)) }
-    requires number { number < length pairs.old }
-    requires small_number { number < 2 ^ 32 }
-    requires other { slot_of other < length lists.old }
+    requires number { watch.number < length pairs.old }
+    requires small_number { watch.number < 2 ^ 32 }
+    requires other { slot_of watch.blocker < length lists.old }
     requires small { length lists.old < 2 ^ 32 }
-    ensures watched { OnOk result ((clauses : List (Option (List (Signed ℕ)))) (w : Watch) (p : Pair) (c : List (Signed ℕ)) → w.number ≡ number → IsMove clauses lists.old pairs.old l other next place w p c → AreWatched clauses lists.new pairs.new) }
+    ensures watched { OnOk result ((clauses : List (Option (List (Signed ℕ)))) (w : Watch) (p : Pair) (c : List (Signed ℕ)) → w.number ≡ watch.number → IsMove clauses lists.old pairs.old l watch.blocker next place w p c → AreWatched clauses lists.new pairs.new) }
     ensures lists { OnOk result ((w : Watch) → slice_get (list_at lists.old (slot_of l)) place ≡ Some w → list_at lists.new (slot_of l) ≡ swap_remove (list_at lists.old (slot_of l)) place w) }
     ensures size { OnOk result (length lists.new ≡ length lists.old) }
-    ensures pairs { OnOk result (pairs.new ≡ slice_set pairs.old number (Some (pair_of other next))) }
+    ensures pairs { OnOk result (pairs.new ≡ slice_set pairs.old watch.number (Some (pair_of watch.blocker next))) }
 {
-    let watch = Watch {
-        number,
-        blocker: other,
-    };
     add_watch(lists, next, watch)?;
     drop_watch(lists, l, place);
-    pairs[number] = PackedPair::of(Pair {
-        first: other,
+    let pair = Pair {
+        first: watch.blocker,
         second: next,
-    });
+    };
+    pairs[watch.number] = PackedPair::with_place(pair, from);
     Ok(())
 }
 
@@ -76,6 +73,14 @@ pub(crate) fn pair_of_clause(pairs: &[PackedPair], number: usize) -> Option<Pair
     match pairs.get(number) {
         Some(pair) => pair.get(),
         None => None,
+    }
+}
+
+// Where the next look at the clause of this number begins.
+fn look_from(pairs: &[PackedPair], number: usize) -> usize {
+    match pairs.get(number) {
+        Some(pair) => pair.from(),
+        None => 0,
     }
 }
 
@@ -114,9 +119,14 @@ fn settle(
     let Some(clause) = clauses.get(number) else {
         return Ok(Visit::False(number));
     };
-    match next_open(values, clause, other) {
-        Some(next) => {
-            move_watch(lists, pairs, l, place, number, other, next)?;
+    match next_open(values, clause, other, look_from(pairs, number)) {
+        Some(from) => {
+            let next = clause[from].lit();
+            let watch = Watch {
+                number,
+                blocker: other,
+            };
+            move_watch(lists, pairs, l, place, watch, next, from)?;
             Ok(Visit::Moved)
         }
         None => {

@@ -6,11 +6,11 @@ use Rattle.cdcl_trail.proofs.visit.move_watch.Goals as goal
 
 pub returns-clause-watched : goal.returns-clause-watched
 returns-clause-watched c clauses w p d same m =
-    subst (λ (o : Option Pair). AreWatched clauses c.drop_watch.new.lists (set c.args.pairs.now c.args.number o)) (sym c.of.ensures)
-    (moved_by clauses c.args.lists.now c.add_watch.new.lists c.drop_watch.new.lists c.args.pairs.now c.args.l c.args.other c.args.next c.args.place c.args.number c.drop_watch.result w p d
+    subst (λ (o : Option Pair). AreWatched clauses c.drop_watch.new.lists (set c.args.pairs.now c.args.watch.number o)) (sym c.with_place.ensures)
+    (moved_by clauses c.args.lists.now c.add_watch.new.lists c.drop_watch.new.lists c.args.pairs.now c.args.l c.args.watch.blocker c.args.next c.args.place c.args.watch.number c.drop_watch.result w p d
     c.in_ok-add_watch.ensures.added c.drop_watch.ensures.value c.drop_watch.ensures.dropped same m)
 
 pub returns-clause-lists : goal.returns-clause-lists
 returns-clause-lists c w at =
-    moved_list c.args.lists.now c.add_watch.new.lists c.drop_watch.new.lists c.args.l c.args.next c.args.place (record { number = c.args.number; blocker = c.args.other }) c.drop_watch.result w
+    moved_list c.args.lists.now c.add_watch.new.lists c.drop_watch.new.lists c.args.l c.args.next c.args.place c.args.watch c.drop_watch.result w
     c.requires.slot c.requires.apart c.in_ok-add_watch.ensures.added c.drop_watch.ensures.value c.drop_watch.ensures.dropped at
