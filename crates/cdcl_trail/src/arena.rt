@@ -1,11 +1,12 @@
 // The clauses that propagation reads, packed in one vector, as in MiniSat's `ClauseAllocator` (Eén and Sörensson, MiniSat 2.2,
 // 2010): a visit reads the eight bytes that say where a clause stands, and then its literals. No literal is written once it
 // stands here. Where clauses were taken out there are gaps, which are closed when they make a third.
-ghost use Rattle.std.specs.Prelude.{◌≡◌, ◌≢◌, ◌≤◌, ◌++◌, ◌∷◌, [], ℕ, List, Some, length, option_copied, IfOk, OnOk};
+ghost use Rattle.std.specs.Prelude.{◌≡◌, ◌≢◌, ◌<◌, ◌≤◌, ◌^◌, ◌++◌, ◌∷◌, [], ℕ, List, Some, length, option_copied, IfOk, OnOk};
 ghost use Rattle.inst_logic.specs.declared.signed.Signed.{Signed};
 ghost use Rattle.cdcl_trail.specs.Clauses.{clause_number, RemovesClause};
 ghost use Rattle.cdcl_trail.specs.Arena.{clause_at, clauses_at, AreWithin};
 
+use crate::packed_watch::MOST_NUMBER;
 use compact_lists::PackedLit;
 use inst_logic::Memory;
 use prop_logic::Lit;
@@ -139,12 +140,17 @@ impl Arena {
         literals_of(self.literals.as_slice(), self.spans.as_slice(), n)
     }
 
-    // Keeps a copy of the clause under this number, which has none. A clause with an atom that is not below 2^31 has no room.
+    // Keeps a copy of the clause under this number, which has none. There is no room for a number that no watch holds, nor for
+    // an atom that is not below 2^31.
     pub(crate) fn keep(&mut self, n: usize, clause: &[Lit]) -> Result<(), Memory>
         ensures here { OnOk result (clause_number self.new n ≡ Some clause.now) }
+        ensures small { OnOk result (n < 2 ^ 31) }
         ensures others { OnOk result ((k : ℕ) → k ≢ n → clause_number self.new k ≡ clause_number self.old k) }
     {
         if n == 0 {
+            return Err(Memory);
+        }
+        if MOST_NUMBER < n {
             return Err(Memory);
         }
         lengthen(&mut self.spans, n)?;

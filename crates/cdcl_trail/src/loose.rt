@@ -35,30 +35,33 @@ pub(crate) enum Look {
     False(usize),
 }
 
-// The clause of this number watches the pair.
+// The clause of this number watches the pair, which is all that it has where it is binary.
 fn watch_pair(
     lists: &mut [WatchList],
     pairs: &mut [PackedPair],
     number: usize,
     pair: Pair,
+    binary: bool,
 ) -> Result<(), Memory>
     requires first { slot_of pair.first < length lists.old }
     requires second { slot_of pair.second < length lists.old }
     requires apart { slot_of pair.first ≢ slot_of pair.second }
     requires number { number < length pairs.old }
-    requires small_number { number < 2 ^ 32 }
+    requires small_number { number < 2 ^ 31 }
     requires small { length lists.old < 2 ^ 32 }
-    ensures lists { OnOk result (lists.new ≡ with_pair lists.old number pair) }
+    ensures lists { OnOk result (lists.new ≡ with_pair lists.old number pair binary) }
     ensures size { OnOk result (length lists.new ≡ length lists.old) }
     ensures pairs { OnOk result (pairs.new ≡ slice_set pairs.old number (Some pair)) }
 {
     let first = Watch {
         number,
         blocker: pair.second,
+        binary,
     };
     let second = Watch {
         number,
         blocker: pair.first,
+        binary,
     };
     add_watch(lists, pair.first, first)?;
     add_watch(lists, pair.second, second)?;
@@ -78,7 +81,6 @@ pub(crate) fn look_at(
 ) -> Result<Look, Memory>
     requires running { IsRunning clauses.now level values.old lists.old pairs.old }
     requires room { (c : List (Signed ℕ)) → clause_number clauses.now number ≡ Some c → number < length pairs.old }
-    requires number { number < 2 ^ 32 }
     requires copies { AreCopies clauses.now arena.old pairs.old }
     ensures running { OnOk result (IsRunning clauses.now level values.new lists.new pairs.new) }
     ensures runs { OnOk result (Runs clauses.now level values.old pairs.old values.new pairs.new) }
@@ -98,7 +100,8 @@ pub(crate) fn look_at(
     match other_open(values, clause, first) {
         Some(second) => {
             arena.keep(number, clause)?;
-            watch_pair(lists, pairs, number, Pair { first, second })?;
+            let binary = clause.len() == 2;
+            watch_pair(lists, pairs, number, Pair { first, second }, binary)?;
             Ok(Look::Taken)
         }
         None => {

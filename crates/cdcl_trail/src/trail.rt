@@ -16,6 +16,7 @@ use crate::clauses::Clauses;
 use crate::detach::{forget_loose, unpass_all, unwatch};
 use crate::entry::Entry;
 use crate::packed_pair::PackedPair;
+use crate::packed_watch::MOST_NUMBER;
 use crate::propagation::saturate;
 use crate::values::Values;
 use crate::watch::Head;
@@ -113,7 +114,7 @@ fn lengthen(pairs: &mut Vec<PackedPair>, n: usize) -> Result<(), Memory>
     Ok(())
 }
 
-// Ends the loose clauses with this one, where its number and how many they are fit into a u32.
+// Ends the loose clauses with this one, where a watch holds its number, and a u32 how many they are.
 fn add_loose(pairs: &mut Vec<PackedPair>, loose: &mut Vec<u32>, n: usize) -> Result<(), Memory>
     requires short { length loose.old.items < 2 ^ 32 }
     ensures short { length loose.new.items < 2 ^ 32 }
@@ -122,8 +123,7 @@ fn add_loose(pairs: &mut Vec<PackedPair>, loose: &mut Vec<u32>, n: usize) -> Res
     ensures size { length pairs.old.items ≤ length pairs.new.items }
     ensures loose { OnOk result (loose.new.items ≡ loose.old.items ++ n ∷ []) }
 {
-    let most = u32::MAX as usize;
-    if n > most || loose.len() == most {
+    if n > MOST_NUMBER || loose.len() == u32::MAX as usize {
         return Err(Memory);
     }
     lengthen(pairs, n)?;
@@ -286,7 +286,7 @@ impl Trail {
     }
 
     /// Attaches the clause of this number: `propagate` looks at it from now on. It watches nothing before that first look, so
-    /// it may have any literals, true and false ones among them. There is room for numbers below 2^32, for 2^32 - 1 clauses
+    /// it may have any literals, true and false ones among them. There is room for numbers below 2^31, for 2^32 - 1 clauses
     /// that watch nothing, and for 2^32 - 1 literals of those that watch, which `propagate` copies when they begin to. After want of memory the values are those from before, nothing is promised of the attached
     /// clauses, and every later call that can want memory wants it.
     pub fn attach(&mut self, clauses: &Clauses, n: usize) -> Result<(), Memory>

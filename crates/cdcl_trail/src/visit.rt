@@ -1,6 +1,6 @@
 // What comes of one watch of a literal that became false. The blocker is looked at first, then the other literal that the
 // clause watches, and the clause itself only where neither is true, since reading it is what costs.
-ghost use Rattle.std.specs.Prelude.{◌≡◌, ◌≢◌, ◌⊎◌, ◌<◌, ◌^◌, ℕ, Option, List, Some, length, slice_get, slice_set, IfOk, OnOk, OnErr, Contains};
+ghost use Rattle.std.specs.Prelude.{◌≡◌, ◌≢◌, false, ◌⊎◌, ◌<◌, ◌^◌, ℕ, Option, List, Some, length, slice_get, slice_set, IfOk, OnOk, OnErr, Contains};
 ghost use Rattle.std.specs.List.{swap_remove};
 ghost use Rattle.inst_logic.specs.declared.signed.Signed.{Signed};
 ghost use Rattle.cdcl_trail.specs.Propagation.{IsFalseIn};
@@ -48,8 +48,9 @@ fn move_watch(
     requires apart { slot_of next ≢ slot_of l }
     requires place { place < length (list_at lists.old (slot_of l)) }
     requires number { watch.number < length pairs.old }
-    requires small_number { watch.number < 2 ^ 32 }
+    requires small_number { watch.number < 2 ^ 31 }
     requires other { slot_of watch.blocker < length lists.old }
+    requires long { watch.binary ≡ false }
     requires small { length lists.old < 2 ^ 32 }
     ensures watched { OnOk result ((clauses : List (Option (List (Signed ℕ)))) (w : Watch) (p : Pair) (c : List (Signed ℕ)) → w.number ≡ watch.number → IsMove clauses lists.old pairs.old l watch.blocker next place w p c → AreWatched clauses lists.new pairs.new) }
     ensures lists { OnOk result ((w : Watch) → slice_get (list_at lists.old (slot_of l)) place ≡ Some w → list_at lists.new (slot_of l) ≡ swap_remove (list_at lists.old (slot_of l)) place w) }
@@ -111,7 +112,7 @@ fn settle(
     requires is_false { IsFalseIn (entries_of values.old) l }
     requires watch { (w : Watch) × (slice_get (list_at lists.old (slot_of l)) place ≡ Some w) × (w.number ≡ number) }
     requires pair { (p : Pair) × (pair_at pairs.old number ≡ Some p) × HasBoth p l other }
-    requires number { number < 2 ^ 32 }
+    requires number { number < 2 ^ 31 }
     requires not_true { ¬ Contains (literals_of (entries_of values.old)) other }
     ensures visits { IfOk result (Visits clauses.now level l place values.old lists.old pairs.old values.new lists.new pairs.new) }
     ensures err { OnErr result (values.new ≡ values.old) }
@@ -125,6 +126,7 @@ fn settle(
             let watch = Watch {
                 number,
                 blocker: other,
+                binary: false,
             };
             move_watch(lists, pairs, l, place, watch, next, from)?;
             Ok(Visit::Moved)
@@ -157,7 +159,7 @@ fn visit_clause(
     requires running { IsRunning clauses.now level values.old lists.old pairs.old }
     requires is_false { IsFalseIn (entries_of values.old) l }
     requires watch { (w : Watch) × (slice_get (list_at lists.old (slot_of l)) place ≡ Some w) × (w.number ≡ number) }
-    requires number { number < 2 ^ 32 }
+    requires number { number < 2 ^ 31 }
     ensures visits { IfOk result (Visits clauses.now level l place values.old lists.old pairs.old values.new lists.new pairs.new) }
     ensures err { OnErr result (values.new ≡ values.old) }
 {
@@ -169,6 +171,7 @@ fn visit_clause(
         let watch = Watch {
             number,
             blocker: other,
+            binary: false,
         };
         put_watch(lists, l, place, watch);
         return Ok(Visit::Kept);
@@ -178,7 +181,7 @@ fn visit_clause(
     )
 }
 
-// Visits the clause at a place of the literal's list.
+// Visits the clause at a place of the literal's list. One of two literals is not read: its other literal is the blocker.
 pub(crate) fn visit_at(
     values: &mut Values,
     lists: &mut [WatchList],
@@ -198,5 +201,16 @@ pub(crate) fn visit_at(
     if values.is_true(watch.blocker) {
         return Ok(Visit::Kept);
     }
-    visit_clause(values, lists, pairs, clauses, level, l, place, watch.number)
+    if !watch.binary {
+        return visit_clause(values, lists, pairs, clauses, level, l, place, watch.number);
+    }
+    if values.is_false(watch.blocker) {
+        return Ok(Visit::False(watch.number));
+    }
+    values.put(Entry {
+        lit: watch.blocker,
+        level,
+        reason: Some(watch.number),
+    });
+    Ok(Visit::Kept)
 }

@@ -43,13 +43,13 @@ impl WatchList {
     pub(crate) fn at(&self, place: usize) -> Watch
         requires { place < length self.now }
         ensures watch { slice_get self.now place ≡ Some result }
-        ensures number { result.number < 2 ^ 32 }
+        ensures number { result.number < 2 ^ 31 }
     {
         self.items[place].get()
     }
 
     pub(crate) fn push(&mut self, watch: Watch) -> Result<(), Memory>
-        requires number { watch.number < 2 ^ 32 }
+        requires number { watch.number < 2 ^ 31 }
         requires blocker { slot_of watch.blocker < 2 ^ 32 }
         ensures { OnOk result (self.new ≡ self.old ++ watch ∷ []) }
     {
@@ -68,7 +68,7 @@ impl WatchList {
 
     pub(crate) fn put(&mut self, place: usize, watch: Watch)
         requires place { place < length self.old }
-        requires number { watch.number < 2 ^ 32 }
+        requires number { watch.number < 2 ^ 31 }
         requires blocker { slot_of watch.blocker < 2 ^ 32 }
         ensures { self.new ≡ slice_set self.old place watch }
     {
