@@ -94,6 +94,12 @@ impl Solver for Cdcl {
         }
     }
 
+    fn prefer(&mut self, atom: usize, value: bool) {
+        if !self.spent {
+            self.search.prefer(atom, value);
+        }
+    }
+
     // Each conflict is answered by a learned clause, but not the last of a question that is refuted.
     fn conflicts(&self) -> u64 {
         self.search.learned.conflicts

@@ -288,6 +288,17 @@ impl Search {
         self.trail.grow()
     }
 
+    // The value that the atom is given first, where it has none yet.
+    pub(crate) fn prefer(&mut self, atom: usize, value: bool)
+        requires kept { IsKept self.old }
+        ensures kept { IsKept self.new }
+        ensures same { IsSameProblem self.old self.new }
+    {
+        if atom < self.phases.values.len() && self.trail.level_of(atom).is_none() {
+            self.phases.values.set(atom, value);
+        }
+    }
+
     pub(crate) fn atoms(&self) -> usize
         requires { IsKept self.now }
         ensures { result ≡ self.now.trail.trail.atoms }
