@@ -14,6 +14,7 @@ mod order;
 mod pace;
 mod phases;
 mod places;
+mod probing;
 mod reasons;
 mod renewal;
 mod search;
