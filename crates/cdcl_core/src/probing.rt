@@ -1,19 +1,22 @@
 // Failed literals, before a search: where a literal alone leads to a conflict by propagation, a clause of one literal is learned
 // from the conflict (Freeman, Improvements to propositional satisfiability search algorithms, 1995; Le Berre, Exploiting the real
 // power of unit propagation lookahead, 2001; Lynce and Marques-Silva, Probing-based preprocessing techniques for propositional
-// satisfiability, 2003). This goes on until no literal fails, or for too long without one that does.
+// satisfiability, 2003). This goes on until no literal fails, or for too long without one that does. Only literals that make some
+// added clause unit are probed: propagation finds nothing from the others.
 ghost use Rattle.std.specs.Prelude.{◌≡◌, ◌<◌, [], None, IfOk, IfSome};
+ghost use Rattle.prop_logic.specs.Literal.{AtomsBelow, AllAtomsBelow};
 ghost use Rattle.cdcl_trail.specs.Trail.{IsTrail, level_of};
 ghost use Rattle.cdcl_core.specs.Search.{IsKept, IsSearch, IsSameProblem, IsProbed};
 
 use crate::analysis::literal_at;
 use crate::search::Search;
 use cdcl_trail::Trail;
+use compact_lists::{FlatClauses, PackedLit};
 use inst_logic::Memory;
-use prop_logic::{Answer, Lit};
+use prop_logic::{Answer, Lit, complement};
 use std::alloc::Global;
 
-// Without a literal that fails, so many are propagated at most for each atom and each added clause.
+// Between two that fail, so many literals are propagated at most for each atom and each added clause.
 const PATIENCE: usize = 3;
 
 // A literal is probed at most so many times, in the mean of all.
@@ -22,13 +25,22 @@ const TURNS: usize = 100;
 // No trail has so many literals.
 const NEVER: usize = usize::MAX;
 
-// A literal has the number 2 a, or 2 a + 1 where it is positive, by its atom a. `settled` has by these numbers how many facts there
-// were when the literal was seen last not to fail: as long as there are no more, it does not. The next one is looked for from
-// `number` on, in a ring. So many as `left` says are still propagated, and as `patience` says after one fails.
+// What is kept of each literal: whether it is probed, and how many facts there were when it was seen last not to fail. As long as
+// there are no more, it does not.
+#[derive(Clone, Copy)]
+struct Probed {
+    candidate: bool,
+    settled: usize,
+}
+
+// The literals by their numbers, 2 a for the negative and 2 a + 1 for the positive one of atom a. The next one is looked for from
+// `number` on, in a ring. The candidates were found where there were `facts` facts. So many literals as `left` says may still be
+// propagated, and as `patience` says after one fails.
 #[derive(Drop)]
 pub(crate) struct Probing {
-    settled: Vec<usize>,
+    literals: Vec<Probed>,
     number: usize,
+    facts: usize,
     patience: usize,
     left: usize,
 }
@@ -41,24 +53,90 @@ fn number_of(lit: Lit) -> usize {
     number
 }
 
+// How many literals of the clause have no value; 0 where one is true.
+fn open_count(trail: &Trail, clause: &[PackedLit]) -> usize
+    requires { AtomsBelow trail.now.trail.atoms clause.now }
+{
+    let mut count: usize = 0;
+    for packed in clause {
+        match trail.value(packed.lit()) {
+            None => count = count.saturating_add(1),
+            Some(true) => return 0,
+            Some(false) => {}
+        }
+    }
+    count
+}
+
 impl Probing {
     fn new(alloc: Global, atoms: usize, clauses: usize) -> Result<Probing, Memory> {
-        let mut settled = Vec::new(alloc);
+        let mut literals = Vec::new(alloc);
         for _ in 0..atoms.saturating_mul(2) {
-            settled.push(NEVER)?;
+            literals.push(Probed {
+                candidate: false,
+                settled: NEVER,
+            })?;
         }
         let patience = atoms.saturating_add(clauses).saturating_mul(PATIENCE);
         Ok(Probing {
-            settled,
+            literals,
             number: 0,
+            facts: NEVER,
             patience,
             left: patience,
         })
     }
 
-    // Whether the literal of this number was seen not to fail, where there are so many facts.
-    fn is_settled(&self, number: usize, facts: usize) -> bool {
-        self.settled.get(number).copied().unwrap_or(facts) == facts
+    // Probes the literal from now on.
+    fn add_candidate(&mut self, lit: Lit) {
+        let number = number_of(lit);
+        if number < self.literals.len() {
+            self.literals[number].candidate = true;
+        }
+    }
+
+    // Those that make the clause unit are candidates.
+    fn see_clause(&mut self, trail: &Trail, clause: &[PackedLit])
+        requires { AtomsBelow trail.now.trail.atoms clause.now }
+    {
+        if open_count(trail, clause) != 2 {
+            return;
+        }
+        for packed in clause {
+            self.add_candidate(complement(packed.lit()));
+        }
+    }
+
+    // The same of all clauses.
+    fn see_clauses(&mut self, trail: &Trail, added: &FlatClauses)
+        requires { AllAtomsBelow trail.now.trail.atoms added.now }
+    {
+        for place in 0..added.len() {
+            if let Some(clause) = added.get(place) {
+                self.see_clause(trail, clause);
+            }
+        }
+    }
+
+    // Finds the candidates where there are so many facts. Nothing is left if these are found.
+    fn begin_round(&mut self, trail: &Trail, added: &FlatClauses, facts: usize)
+        requires { AllAtomsBelow trail.now.trail.atoms added.now }
+    {
+        if self.facts == facts {
+            self.left = 0;
+            return;
+        }
+        self.facts = facts;
+        self.see_clauses(trail, added);
+        self.spend(added.len());
+    }
+
+    // Whether the literal of this number may fail, where there are so many facts.
+    fn may_fail(&self, number: usize, facts: usize) -> bool {
+        match self.literals.get(number) {
+            Some(literal) => literal.candidate && literal.settled != facts,
+            None => false,
+        }
     }
 
     // A literal without a value that may fail, where there are so many facts.
@@ -66,15 +144,15 @@ impl Probing {
         requires { atoms ≡ trail.now.trail.atoms }
         ensures { IfSome result (λ l. (l.atom < trail.now.trail.atoms) × (level_of trail.now.trail.entries l.atom ≡ None)) }
     {
-        for _ in 0..self.settled.len() {
+        for _ in 0..self.literals.len() {
             let number = self.number;
             let atom = number / 2;
-            if atom < atoms && !self.is_settled(number, facts) && trail.level_of(atom).is_none() {
+            if atom < atoms && self.may_fail(number, facts) && trail.level_of(atom).is_none() {
                 let positive = number % 2 == 1;
                 return Some(Lit { positive, atom });
             }
             self.number = number.saturating_add(1);
-            if self.settled.len() <= self.number {
+            if self.literals.len() <= self.number {
                 self.number = 0;
             }
         }
@@ -85,15 +163,15 @@ impl Probing {
     fn settle(&mut self, trail: &Trail, facts: usize) {
         for place in facts..trail.assigned().len() {
             let number = number_of(literal_at(trail, place));
-            if number < self.settled.len() {
-                self.settled[number] = facts;
+            if number < self.literals.len() {
+                self.literals[number].settled = facts;
             }
         }
     }
 
     // How often a literal is probed at most.
     fn turns(&self) -> usize {
-        self.settled.len().saturating_mul(TURNS)
+        self.literals.len().saturating_mul(TURNS)
     }
 
     // Counts what was propagated.
@@ -142,7 +220,7 @@ impl Search {
         }
     }
 
-    // The same for the next literal. Where there is none, nothing is left.
+    // The same for the next literal. Where there is none, others may be candidates.
     fn probe_next(&mut self, probing: &mut Probing) -> Result<Option<Answer>, Memory>
         requires search { IsSearch [] self.old }
         ensures probed { IfOk result (IsProbed [] self.old self.new) }
@@ -153,7 +231,7 @@ impl Search {
         match probing.next(&self.trail, atoms, facts) {
             Some(lit) => self.probe(probing, lit),
             None => {
-                probing.left = 0;
+                probing.begin_round(&self.trail, &self.log.added, facts);
                 Ok(None)
             }
         }
