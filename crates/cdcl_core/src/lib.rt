@@ -15,6 +15,7 @@ mod pace;
 mod packed_hint;
 mod phases;
 mod places;
+mod probing;
 mod reasons;
 mod renewal;
 mod search;
