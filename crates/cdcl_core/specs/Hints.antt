@@ -1,7 +1,12 @@
 -- Hints as numbers.
-use Rattle.std.specs.Prelude.{ℕ, ◌/◌, ◌%◌, ◌==◌, if◌then◌else◌}
+use Rattle.std.specs.Prelude.{ℕ, ◌+◌, ◌/◌, ◌%◌, ◌==◌, if◌then◌else◌}
 use Rattle.prop_logic.specs.declared.literal.Hint.{Hint}
 use Rattle.prop_logic.specs.declared.literal.Hint.TheVariants.{Added, Step as Earlier}
+
+-- the number of a hint: twice its own, and one more for a step
+abbrev pub code_of : Hint → ℕ
+code_of (Added n) = n + n
+code_of (Earlier n) = n + n + 1
 
 -- an even number names an added clause, an odd one a step
 abbrev pub hint_of : ℕ → Hint
