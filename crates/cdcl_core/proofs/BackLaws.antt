@@ -13,11 +13,11 @@ use Rattle.cdcl_trail.specs.Propagation.{IsFalseIn, IsConflict}
 use Rattle.cdcl_trail.proofs.LevelLaws.{up_to_up_to}
 use Rattle.cdcl_trail.proofs.TrailLaws.{level_within}
 use Rattle.prop_logic.specs.declared.solver.Answer.{Answer}
-use Rattle.prop_logic.specs.Solving.{IsAnswer}
 use Rattle.cdcl_core.specs.declared.search.Search.{Search}
 use Rattle.cdcl_core.specs.Search.{IsKept, IsTrueUpTo, IsSearch, IsBackFrom, weight, Advances, Ends}
 use Rattle.cdcl_core.proofs.EntryLaws.{entry_at, pair_at, before_or_here, of_false, to_false, level_found, reason_found}
 use Rattle.cdcl_core.proofs.GoLaws.{marks_search, none_of}
+use Rattle.cdcl_core.proofs.KeptLaws.{ends_from}
 use Rattle.cdcl_core.proofs.Measure.{weight_below, weight_backjump}
 use Rattle.cdcl_core.proofs.RoomLaws.{room}
 use Rattle.cdcl_core.proofs.SearchLaws.{of_up_to, up_to_contains}
@@ -161,13 +161,7 @@ shared_below t assumptions place level e v at chosen low before d c decided h =
 
 -- an end after levels are taken back
 pub back_ends : (assumptions : List (Signed ℕ)) (first old new : Search) (a : Answer) → IsBackFrom first old → Ends assumptions old new a → Ends assumptions first new a
-back_ends assumptions first old new a b c =
-    let atoms : old.trail.trail.atoms ≡ first.trail.trail.atoms = ap (λ x. x.atoms) b.back in
-    record {
-      kept = c.kept;
-      same = record { atoms = c.same.atoms ∙ atoms; added = c.same.added ∙ b.added };
-      answered = subst (λ n. IsAnswer n first.log.added assumptions a) atoms (subst (λ xs. IsAnswer old.trail.trail.atoms xs assumptions a) b.added c.answered);
-    }
+back_ends assumptions first old new a b c = ends_from assumptions first old new a (record { atoms = ap (λ x. x.atoms) b.back; added = b.added }) c
 
 -- the walk over the decisions
 decided_or_given : (o : Option ℕ) (b : Bool) → is_some o ≡ b → b ≡ true → o ≡ None → ⊥

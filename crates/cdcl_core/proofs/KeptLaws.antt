@@ -1,5 +1,5 @@
 -- What is kept from one question to the next.
-use Rattle.std.proofs.Common.{◌≡◌, ℕ, suc, zero, ◌+◌, ◌-◌, ◌^◌, ◌<◌, ◌≤◌, false, List, [], ◌∷◌, ◌++◌, length, map, take, Option, Some, None, refl, sym, ap, ◌∙◌, subst, arith}
+use Rattle.std.proofs.Common.{◌≡◌, ℕ, suc, zero, ◌+◌, ◌-◌, ◌^◌, ◌<◌, false, List, [], ◌∷◌, ◌++◌, length, map, take, Option, Some, None, refl, sym, ap, ◌∙◌, subst, arith}
 use Rattle.std.specs.Prelude.{All, Contains, slice_get}
 use Rattle.std.proofs.lemmas.List.{length_push}
 use Rattle.std.proofs.lemmas.List.Elements.{All-nil, All-contains, All-weaker}
@@ -22,11 +22,11 @@ use Rattle.cdcl_trail.specs.Trail.{Trail, IsTrail, IsDecision, literals_of, with
 use Rattle.cdcl_trail.specs.Propagation.{Propagates}
 use Rattle.cdcl_core.specs.declared.search.Search.{Search}
 use Rattle.cdcl_core.specs.Log.{PutsName, IsFound, IsLog}
-use Rattle.cdcl_core.specs.Phases.{IsSaved, ArePhases}
-use Rattle.cdcl_core.specs.Search.{AreGiven, IsKept, IsTrueUpTo, IsSearch, weight, Advances, Continues}
+use Rattle.cdcl_core.specs.Phases.{ArePhases}
+use Rattle.cdcl_core.specs.Search.{AreGiven, IsKept, IsTrueUpTo, IsSearch, weight, IsSameProblem, Advances, Ends, Continues, IsProbed}
 use Rattle.cdcl_core.proofs.EntryLaws.{of_literals, to_literals}
 use Rattle.cdcl_core.proofs.LogLaws.{log_atom, log_added, log_step, log_learned}
-use Rattle.cdcl_core.proofs.PhaseLaws.{no_phases, phases_same, phases_kept, phases_back, phases_atom}
+use Rattle.cdcl_core.proofs.PhaseLaws.{no_phases, phases_same, phases_kept, phases_atom}
 use Rattle.cdcl_core.proofs.SearchLaws.{given_up_to, given_propagated, given_clauses, in_new, decision_old, weight_kept, of_up_to}
 
 no_clause : (n : ℕ) (c : List (Signed ℕ)) → clause_number [] n ≡ Some c → ⊥
@@ -90,15 +90,15 @@ added_kept old new clause key low a grown same p trail attached marks phases k =
       phases = phases_same old.trail.trail new.trail.trail old.phases new.phases trail phases k.phases;
     }
 
-pub back_kept : (old new : Search) (level : ℕ) → IsTrail old.trail.trail → new.trail.trail ≡ back_at old.trail.trail level → ((clauses : List (Option (List (Signed ℕ)))) → AreAttached old.trail clauses → AreAttached new.trail clauses) → new.clauses ≡ old.clauses → new.log ≡ old.log → new.marks ≡ old.marks → length new.phases.values ≡ old.trail.trail.atoms → All (IsSaved new.phases.values) old.trail.trail.entries → new.phases.saved ≤ length new.trail.trail.entries → IsKept old → IsKept new
-back_kept old new level v trail attached clauses log marks size whole within k =
+pub back_kept : (old new : Search) (level : ℕ) → IsTrail old.trail.trail → new.trail.trail ≡ back_at old.trail.trail level → ((clauses : List (Option (List (Signed ℕ)))) → AreAttached old.trail clauses → AreAttached new.trail clauses) → new.clauses ≡ old.clauses → new.log ≡ old.log → new.marks ≡ old.marks → ArePhases new.trail.trail new.phases → IsKept old → IsKept new
+back_kept old new level v trail attached clauses log marks phases k =
     let atoms : new.trail.trail.atoms ≡ old.trail.trail.atoms = ap (λ x. x.atoms) trail in
     record {
       attached = subst (AreAttached new.trail) (sym clauses) (attached old.clauses k.attached);
       log = subst (λ n. IsLog n new.clauses new.log) (sym atoms) (subst (λ x. IsLog old.trail.trail.atoms x new.log) (sym clauses) (subst (IsLog old.trail.trail.atoms old.clauses) (sym log) k.log));
       given = subst (λ x. AreGiven x new.trail.trail.entries) (sym clauses) (subst (AreGiven old.clauses) (sym (ap (λ x. x.entries) trail)) (given_up_to old.clauses old.trail.trail level v k.given));
       marks = ap length marks ∙ k.marks ∙ sym atoms;
-      phases = phases_back old.trail.trail new.trail.trail new.phases level atoms (ap (λ x. x.entries) trail) size whole within;
+      phases = phases;
     }
 
 pub closes_shown : (F : List (Signed ℕ)) (hints : List (Option (List (Signed ℕ)))) → ClosesAll F hints → IsShown F hints
@@ -179,6 +179,27 @@ continues_from assumptions old new t (Some answer) p c = record {
   same = record { atoms = c.same.atoms ∙ p.atoms; added = c.same.added };
   answered = subst (λ n. IsAnswer n old.log.added assumptions answer) p.atoms c.answered;
 }
+
+-- an answer is the same where the problem is
+pub ends_from : (assumptions : List (Signed ℕ)) (first old new : Search) (a : Answer) → IsSameProblem first old → Ends assumptions old new a → Ends assumptions first new a
+ends_from assumptions first old new a s c = record {
+  kept = c.kept;
+  same = record { atoms = c.same.atoms ∙ s.atoms; added = c.same.added ∙ s.added };
+  answered = subst (λ n. IsAnswer n first.log.added assumptions a) s.atoms (subst (λ xs. IsAnswer old.trail.trail.atoms xs assumptions a) s.added c.answered);
+}
+
+-- before the search: a step of it
+pub probed_by : (assumptions : List (Signed ℕ)) (first old new : Search) (found : Option Answer) → IsSameProblem first old → Continues assumptions old new found → IsProbed assumptions first new found
+probed_by assumptions first old new None s c = (c.0, record { atoms = c.1.same.atoms ∙ s.atoms; added = c.1.same.added ∙ s.added })
+probed_by assumptions first old new (Some a) s c = ends_from assumptions first old new a s c
+
+pub probed_from : (assumptions : List (Signed ℕ)) (first old new : Search) (found : Option Answer) → IsSameProblem first old → IsProbed assumptions old new found → IsProbed assumptions first new found
+probed_from assumptions first old new None s c = (c.0, record { atoms = c.1.atoms ∙ s.atoms; added = c.1.added ∙ s.added })
+probed_from assumptions first old new (Some a) s c = ends_from assumptions first old new a s c
+
+pub not_probed : (assumptions : List (Signed ℕ)) (old new : Search) (found : Option Answer) → ((a : Answer) → found ≡ Some a → ⊥) → IsProbed assumptions old new found → IsSearch assumptions new × IsSameProblem old new
+not_probed assumptions old new None goes c = c
+not_probed assumptions old new (Some a) goes c = absurd (goes a refl)
 
 -- the beginning: no decision is left
 pub begun : (assumptions : List (Signed ℕ)) (old : Trail) (s : Search) → IsTrail old → s.trail.trail ≡ back_at old 0 → s.assumed ≡ 0 → s.checked ≡ 0 → IsKept s → IsSearch assumptions s

@@ -10,7 +10,7 @@ use Rattle.cdcl_trail.specs.Trail.{Trail, IsTrail, IsUnset, with_atom, entries_u
 use Rattle.cdcl_core.specs.declared.phases.Phases.{Phases}
 use Rattle.cdcl_core.specs.Phases.{IsSaved, ArePhases}
 use Rattle.cdcl_core.proofs.EntryLaws.{entry_at, take_item, pair_before}
-use Rattle.cdcl_core.proofs.SearchLaws.{of_up_to}
+use Rattle.cdcl_core.proofs.SearchLaws.{of_up_to, up_to_take}
 
 take_zero : (values : List Bool) (n : ℕ) (es : List Entry) → n ≡ 0 → All (IsSaved values) (take n es)
 take_zero values n es e = subst (λ k. All (IsSaved values) (take k es)) (sym e) (none es)
@@ -47,6 +47,21 @@ phases_back old new p level atoms entries size whole within = record {
       let f = of_up_to old.entries level e (subst (λ es. Contains es e) entries (Contains-take new.entries p.saved e c)) in
       All-contains (IsSaved p.values) old.entries e whole f.0);
 }
+
+-- the same where nothing more is saved first
+pub phases_cut : (old new : Trail) (p q : Phases) (level : ℕ) → IsTrail old → new.atoms ≡ old.atoms → new.entries ≡ entries_up_to old.entries level → q.values ≡ p.values → q.saved ≤ p.saved → q.saved ≤ length new.entries → ArePhases old p → ArePhases new q
+phases_cut old new p q level v atoms entries values fewer within h =
+    let n = length (entries_up_to old.entries level) in
+    let low : q.saved ≤ n = omega (arith, within, ap length entries) in
+    let part : take q.saved new.entries ≡ take q.saved (take p.saved old.entries) =
+    ap (take q.saved) (entries ∙ up_to_take old.entries level v.rising) ∙ take_of_take old.entries n q.saved low ∙ sym (take_of_take old.entries p.saved q.saved fewer) in
+    record {
+      size = ap length values ∙ h.size ∙ sym atoms;
+      within = within;
+      saved = subst (λ xs. All (IsSaved xs) (take q.saved new.entries)) (sym values) (subst (All (IsSaved p.values)) (sym part)
+          (All-from_contained (IsSaved p.values) (take q.saved (take p.saved old.entries)) (λ e c.
+          All-contains (IsSaved p.values) (take p.saved old.entries) e h.saved (Contains-take (take p.saved old.entries) q.saved e c))));
+    }
 
 pub phases_atom : (old new : Trail) (p q : Phases) → new ≡ with_atom old → q.values ≡ p.values ++ false ∷ [] → q.saved ≡ p.saved → ArePhases old p → ArePhases new q
 phases_atom old new p q t values saved h = record {

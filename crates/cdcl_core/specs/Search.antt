@@ -105,3 +105,8 @@ pub record Ends (assumptions : List (Signed ℕ)) (old new : Search) (answer : A
 abbrev pub Continues : List (Signed ℕ) → Search → Search → Option Answer → Type 0
 Continues assumptions old new None = IsSearch assumptions new × Advances old new
 Continues assumptions old new (Some answer) = Ends assumptions old new answer
+
+-- the search has learned what it found beforehand, or has ended
+abbrev pub IsProbed : List (Signed ℕ) → Search → Search → Option Answer → Type 0
+IsProbed assumptions old new None = IsSearch assumptions new × IsSameProblem old new
+IsProbed assumptions old new (Some answer) = Ends assumptions old new answer

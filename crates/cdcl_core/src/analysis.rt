@@ -17,11 +17,16 @@ use crate::log::Log;
 use crate::marks::Marks;
 use crate::packed_hint::PackedHint;
 use crate::places::Places;
+use crate::redundancy::all_follow;
 use cdcl_trail::Trail;
 use compact_lists::PackedLit;
 use inst_logic::Memory;
 use prop_logic::{Lit, complement};
 use std::alloc::Global;
+
+// A literal goes that follows by so many more clauses, one after the other. With more of them clauses get shorter, but each costs
+// a hint.
+const DEPTH: usize = 3;
 
 // The marked literals that are still to be met: how many are of the present level, and the places of all.
 #[derive(Drop)]
@@ -89,6 +94,7 @@ fn mark(trail: &Trail, marks: &mut Marks, waiting: &mut Waiting, lit: Lit) -> Re
     push_place(trail, &mut waiting.places, lit.atom)?;
     count_marked(trail, &mut waiting.present, lit.atom);
     marks.insert(lit.atom);
+    marks.see_level(trail.level_of(lit.atom).unwrap_or(0));
     Ok(())
 }
 
@@ -112,34 +118,21 @@ fn mark_all(
     Ok(())
 }
 
-// Whether all atoms of the clause are marked or of level 0.
-fn are_marked(trail: &Trail, marks: &Marks, clause: &[PackedLit]) -> bool
-    requires size { length marks.now ≡ trail.now.trail.atoms }
-    requires atoms { AtomsBelow (length marks.now) clause.now }
-{
-    for packed in clause {
-        let lit = packed.lit();
-        if !marks.contains(lit.atom) && trail.level_of(lit.atom) != Some(0) {
-            return false;
-        }
-    }
-    true
-}
-
 // Whether a literal that the clause of this number gave stays. The first one that stays is the last of the present level that
-// all paths to the conflict go through. After it those stay that are above level 0 and whose clause has an atom above level 0
-// that isn't marked: the others follow from what is marked (Sörensson and Biere, Minimizing learned clauses, 2009).
+// all paths to the conflict go through. After it those stay that are above level 0 and do not follow from what is marked. One
+// that follows only by atoms without marks is resolved too: these atoms are marked then, are met later, and follow in turn.
 fn stays(
     log: &Log,
     trail: &Trail,
-    marks: &Marks,
+    marks: &mut Marks,
     analysis: &Analysis,
     level: usize,
     number: usize,
 ) -> bool
     requires ready { IsReady log.now trail.now.trail }
-    requires size { length marks.now ≡ trail.now.trail.atoms }
-    ensures { IsTrue result → (0 < level) × (analysis.now.clause.items ≡ [] → (level ≡ trail.now.trail.level) × (analysis.now.waiting.present ≤ 1)) }
+    requires size { length marks.old ≡ trail.now.trail.atoms }
+    ensures same { marks.new ≡ marks.old }
+    ensures stays { IsTrue result → (0 < level) × (analysis.now.clause.items ≡ [] → (level ≡ trail.now.trail.level) × (analysis.now.waiting.present ≤ 1)) }
 {
     if level == 0 {
         return false;
@@ -147,7 +140,7 @@ fn stays(
     if analysis.clause.is_empty() {
         return level == trail.level() && analysis.waiting.present <= 1;
     }
-    !are_marked(trail, marks, log.cited(log.hint_of(number)))
+    !all_follow(log, trail, marks, number, DEPTH)
 }
 
 // Counts a literal as met.

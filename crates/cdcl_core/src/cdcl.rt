@@ -39,7 +39,19 @@ impl Cdcl {
         ensures { result ≡ (record { atoms = 0; added = []; spent = false }) }
     {
         Cdcl {
-            search: Search::new(alloc),
+            search: Search::new(alloc, false),
+            atoms: 0,
+            spent: false,
+        }
+    }
+
+    /// The same for one question without assumptions that may take long: it first looks for literals that lead to a conflict by
+    /// propagation alone, and learns that they are false.
+    pub fn for_one_question(alloc: Global) -> Self
+        ensures { result ≡ (record { atoms = 0; added = []; spent = false }) }
+    {
+        Cdcl {
+            search: Search::new(alloc, true),
             atoms: 0,
             spent: false,
         }

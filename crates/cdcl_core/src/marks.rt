@@ -3,6 +3,7 @@ ghost use Rattle.std.specs.Prelude.{◌≡◌, ◌<◌, ◌++◌, ◌∷◌, [],
 ghost use Rattle.cdcl_trail.specs.Trail.{level_of};
 ghost use Rattle.std.specs.List.{slice_index_or};
 
+use crate::memo::Memo;
 use crate::order::Order;
 use cdcl_trail::Trail;
 use inst_logic::Memory;
@@ -15,6 +16,7 @@ pub(crate) struct Marks {
     stamps: Vec<u32>,
     present: u32,
     order: Order,
+    memo: Memo,
 }
 
 impl Model for Marks {
@@ -37,6 +39,7 @@ impl Marks {
             stamps: Vec::new(alloc),
             present: 1,
             order: Order::new(alloc),
+            memo: Memo::new(alloc),
         }
     }
 
@@ -45,6 +48,7 @@ impl Marks {
         ensures { OnOk result (self.new ≡ self.old ++ false ∷ []) }
     {
         self.order.grow()?;
+        self.memo.grow()?;
         self.stamps.push(0)?;
         Ok(())
     }
@@ -54,6 +58,7 @@ impl Marks {
         ensures { self.new ≡ replicate (length self.old) false }
     {
         self.order.decay();
+        self.memo.clear();
         if self.present < u32::MAX {
             self.present += 1;
         } else {
@@ -84,6 +89,30 @@ impl Marks {
         ensures { self.new ≡ self.old }
     {
         self.order.insert(atom);
+    }
+
+    // An atom of the level is put in.
+    pub(crate) fn see_level(&mut self, level: usize)
+        ensures { self.new ≡ self.old }
+    {
+        self.memo.see_level(level);
+    }
+
+    // Whether an atom of the level was put in.
+    pub(crate) fn has_level(&self, level: usize) -> bool {
+        self.memo.has_level(level)
+    }
+
+    // Notes whether the atom follows from those in the set.
+    pub(crate) fn find(&mut self, atom: usize, follows: bool)
+        ensures { self.new ≡ self.old }
+    {
+        self.memo.find(atom, follows);
+    }
+
+    // Whether the atom follows from those in the set, where that was noted.
+    pub(crate) fn found(&self, atom: usize) -> Option<bool> {
+        self.memo.found(atom)
     }
 
     pub(crate) fn contains(&self, atom: usize) -> bool

@@ -54,6 +54,7 @@ impl Phases {
     pub(crate) fn cut(&mut self, trail: &Trail)
         ensures values { self.new.values ≡ self.old.values }
         ensures within { self.new.saved ≤ length trail.now.trail.entries }
+        ensures fewer { self.new.saved ≤ self.old.saved }
     {
         self.saved = self.saved.min(trail.assigned().len());
     }

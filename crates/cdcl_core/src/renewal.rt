@@ -73,7 +73,7 @@ fn fresh(alloc: Global, atoms: usize, added: &FlatClauses) -> Result<Search, Mem
     ensures atoms { IfOk result (λ s. s.trail.trail.atoms ≡ atoms) }
     ensures added { IfOk result (λ s. s.log.added ≡ added.now) }
 {
-    let mut search = Search::new(alloc);
+    let mut search = Search::new(alloc, false);
     grow(&mut search, atoms)?;
     add_all(alloc, &mut search, added)?;
     Ok(search)

@@ -36,7 +36,7 @@ use std::alloc::Global;
 
 // The levels up to `assumed` were opened by assumptions, of which the first `checked` are true. The decisions take atoms by
 // their activity, each with the value that it had last. Where the order has no atom left, which it may for want of memory, one
-// is looked for from `next` on.
+// is looked for from `next` on. Where `probes` holds, literals that fail are looked for before a question without assumptions.
 #[derive(Drop)]
 pub(crate) struct Search {
     pub(crate) alloc: Global,
@@ -49,6 +49,7 @@ pub(crate) struct Search {
     pub(crate) next: usize,
     pub(crate) assumed: usize,
     pub(crate) checked: usize,
+    pub(crate) probes: bool,
 }
 
 // The first atom from `from` on that has no value.
@@ -258,7 +259,7 @@ fn put_back(trail: &Trail, marks: &mut Marks, next: usize, level: usize) -> usiz
 }
 
 impl Search {
-    pub(crate) fn new(alloc: Global) -> Search
+    pub(crate) fn new(alloc: Global, probes: bool) -> Search
         ensures kept { IsKept result }
         ensures atoms { result.trail.trail.atoms ≡ 0 }
         ensures added { result.log.added ≡ [] }
@@ -274,6 +275,7 @@ impl Search {
             next: 0,
             assumed: 0,
             checked: 0,
+            probes,
         }
     }
 
@@ -466,7 +468,7 @@ impl Search {
     }
 
     // Answers a conflict: by what is learned from it, or with an end where it depends on no decision.
-    fn resolve(&mut self, number: usize) -> Result<Option<Answer>, Memory>
+    pub(crate) fn resolve(&mut self, number: usize) -> Result<Option<Answer>, Memory>
         requires kept { IsKept self.old }
         requires trail { IsTrail self.old.trail.trail }
         requires conflict { IsConflict self.old.clauses self.old.trail.trail.entries number }
@@ -663,7 +665,7 @@ impl Search {
     }
 
     // Takes back the levels that no assumption opened.
-    fn restart(&mut self)
+    pub(crate) fn restart(&mut self)
         requires kept { IsKept self.old }
         ensures back { IsBackFrom self.old self.new }
     {
@@ -682,6 +684,9 @@ impl Search {
     {
         renew_where_due(self, assumptions)?;
         self.keep_levels(assumptions);
+        if let Some(answer) = self.probe_where_due(assumptions)? {
+            return Ok(answer);
+        }
         let mut pace = Pace::new();
         loop {
             if pace.is_due() {

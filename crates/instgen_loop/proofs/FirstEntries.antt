@@ -1,8 +1,9 @@
 -- The first entries, one after the other, and what holds when all were made.
-use Rattle.std.proofs.Common.{◌≡◌, ◌⊎◌, inl, inr, ℕ, zero, suc, ◌+◌, ◌<◌, ◌≤◌, List, [], ◌∷◌, ◌++◌, refl, sym, ap, ap₂, ◌∙◌, subst as transport, map, take, get_or, length, length-append, append_assoc, arith, All, Contains}
+use Rattle.std.proofs.Common.{◌≡◌, ◌⊎◌, inl, inr, ℕ, zero, suc, ◌+◌, ◌<◌, ◌≤◌, List, [], ◌∷◌, ◌++◌, refl, sym, ap, ap₂, ◌∙◌, subst as transport, map, take, get_or, slice_get, Some, length, length-append, append_assoc, arith, All, Contains}
 use Rattle.std.proofs.lemmas.List.{take_more, length-take-le}
 use Rattle.std.proofs.lemmas.List.Folds.{list_all-append}
 use Rattle.std.proofs.lemmas.List.Elements.{All-push}
+use Rattle.std.proofs.lemmas.Option.{get_or_from_slice_get}
 use Rattle.inst_logic.specs.declared.symbol.Sym.{Sym}
 use Rattle.inst_logic.specs.declared.signed.Signed.{Signed}
 use Rattle.inst_logic.specs.Tree.{Tree}
@@ -16,6 +17,7 @@ use Rattle.inst_calculus.proofs.EqualityAxioms.{with_axioms_formed}
 use Rattle.inst_calculus.specs.Entries.{Entry, entry_clauses, input}
 use Rattle.inst_calculus.proofs.Membership.{◌∈◌, contains_in, in_contains, in_all, all_in, in_map, from_map, passes}
 use Rattle.inst_calculus.proofs.Distinct.{map_append, length_map}
+use Rattle.inst_calculus.proofs.Items.{slice_get_below}
 use Rattle.cert_format.specs.Printable.{IsPrintableClause}
 use Rattle.inst_machine.specs.Machine.{IsFirst}
 use Rattle.inst_machine.proofs.Prolonged.{first_passed_over, first_taken}
@@ -140,6 +142,9 @@ taken_count f cs xs before i k b within e =
 
 pub whole_item : (f : Forest) (xs : List (List (Signed ℕ))) (i : ℕ) (d : List (Signed ℕ)) → All (IsWholeClause f) xs → i < length xs → d ≡ get_or xs i d → IsWholeClause f d
 whole_item f xs i d h within is = transport (IsWholeClause f) (sym is) (h i d within)
+
+pub whole_after : (f : Forest) (xs : List (List (Signed ℕ))) (i : ℕ) (d : List (Signed ℕ)) → All (IsWholeClause f) xs → slice_get xs i ≡ Some d → IsWholeClause f d
+whole_after f xs i d h at = whole_item f xs i d h (slice_get_below xs i d at) (sym (get_or_from_slice_get xs i d d at))
 
 pub bounded_item : (xs : List (List (Signed ℕ))) (i : ℕ) (d : List (Signed ℕ)) (n : ℕ) → All (λ c. length c ≤ n) xs → i < length xs → d ≡ get_or xs i d → length d ≤ n
 bounded_item xs i d n h within is = transport (λ (c : List (Signed ℕ)). length c ≤ n) (sym is) (h i d within)

@@ -40,10 +40,14 @@ use Rattle.instgen_loop.proofs.FirstEntries.{given_grown}
 use Rattle.instgen_loop.specs.Outcomes.{appended_count}
 use Rattle.instgen_loop.proofs.Bounded.{appended_bounded}
 
+-- the run with another bank, another bound of lengths and other first values
+abbrev pub with_given : {S I C : Type 0} → Run S I C → Forest → ℕ → List Bool → Run S I C
+with_given r g n v = record r { entries = record r.entries { bank = g; longest = n }; ground = record r.ground { first_values = v } }
+
 module _ {S I C : Type 0} (atoms : S → ℕ) (added : S → List (List (Signed ℕ))) (pairs : I → List Pair) where
-  -- the bank and the bound of lengths do not matter
-  pub fresh_interned : (r : Run S I C) (g : Forest) (n : ℕ) → AreFormed g → IsFresh atoms added pairs r → IsFresh atoms added pairs (record r { entries = record r.entries { bank = g; longest = n } })
-  fresh_interned r g n formed h = record {
+  -- none of which matters
+  pub fresh_interned : (r : Run S I C) (g : Forest) (n : ℕ) (v : List Bool) → AreFormed g → IsFresh atoms added pairs r → IsFresh atoms added pairs (with_given r g n v)
+  fresh_interned r g n v formed h = record {
     bank = formed;
     entries = h.entries;
     first = h.first;

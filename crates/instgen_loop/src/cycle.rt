@@ -19,9 +19,13 @@ use std::alloc::Global;
 use term_index::PartnerIndex;
 
 // How many picks come before the next solve. What a solve learned by conflicts is worth some work, so that solves which are dear
-// come less often; the factor hardly matters.
-fn picks_after(conflicts: u64) -> u64 {
-    conflicts.saturating_mul(2).saturating_add(1)
+// come less often; the factor hardly matters. An entry that was appended since the last solve is often false at first, which is a
+// conflict by itself and says nothing of the search: so many are not counted.
+fn picks_after(conflicts: u64, appended: usize) -> u64 {
+    conflicts
+        .saturating_sub(appended as u64)
+        .saturating_mul(2)
+        .saturating_add(1)
 }
 
 /// Solves and works by turns until the abstractions are refuted, or nothing waits any more and each entry has a true literal
@@ -50,12 +54,17 @@ pub fn cycle<S: Solver, I: PartnerIndex>(
     ensures refuted { IfOk result (λ r. IfSome r (λ d. Refutes (S.atoms run.new.ground.solver) (S.added run.new.ground.solver) [] [] d)) }
 {
     loop {
+        let appended = run
+            .ground
+            .literals
+            .len()
+            .saturating_sub(run.selection.len());
         let before = run.ground.solver.conflicts();
         match settle(alloc, run, partners)? {
             Some(derivation) => return Ok(Some(derivation)),
             None => {
                 let conflicts = run.ground.solver.conflicts().saturating_sub(before);
-                if !work_queue(alloc, run, partners, picks_after(conflicts))? {
+                if !work_queue(alloc, run, partners, picks_after(conflicts, appended))? {
                     return Ok(None);
                 }
             }

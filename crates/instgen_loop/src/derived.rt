@@ -113,6 +113,7 @@ fn ask_anew<S: Solver>(
         literals: FlatClauses::new(alloc),
         valuation: Valuation::new(alloc),
         numbered: Vec::new(alloc),
+        first_values: Valuation::new(alloc),
     };
     ask_lines(run, &mut ground, lines)
 }

@@ -12,7 +12,7 @@ use compact_lists::{FlatClauses, PackedLit};
 use ground_abs::Abstraction;
 use inst_logic::Memory;
 use prop_logic::{Lit, Solver, Valuation, make_atoms};
-use term_bank::{Bank, IdClause};
+use term_bank::{Bank, IdClause, TermId};
 
 /// The abstractions of the entries, one for one, and the last valuation of their atoms.
 #[derive(Drop)]
@@ -23,6 +23,8 @@ pub struct Ground<S: Solver> {
     pub valuation: Valuation,
     /// Room for the numbered literals of one entry.
     pub numbered: Vec<Lit>,
+    /// The values that searches try first, by the number of a predicate's symbol in the bank; empty where there are none.
+    pub first_values: Valuation,
 }
 
 /// The numbered literals of the entry after the first `count`.
@@ -33,6 +35,39 @@ pub fn clause_after(literals: &FlatClauses, count: usize) -> &[PackedLit]
     match literals.get(count) {
         Some(clause) => clause,
         None => unreachable!(),
+    }
+}
+
+// The value of the atom's predicate.
+fn predicate_value(bank: &Bank, values: &Valuation, id: TermId) -> bool
+    requires { id < length bank.now.trees }
+{
+    match bank.symbol_number(id) {
+        Some(predicate) => values.value(predicate),
+        None => false,
+    }
+}
+
+// Tells the solver the first values of the atoms from one on.
+fn prefer_from<S: Solver>(
+    bank: &Bank,
+    abstraction: &Abstraction,
+    values: &Valuation,
+    solver: &mut S,
+    from: usize,
+)
+    requires { AreAtomsIn bank.now abstraction.now.ids }
+    ensures atoms { S.atoms solver.new ≡ S.atoms solver.old }
+    ensures added { S.added solver.new ≡ S.added solver.old }
+{
+    if values.is_empty() {
+        return;
+    }
+    for atom in from..abstraction.len() {
+        match abstraction.atom_at(atom) {
+            Some(id) => solver.prefer(atom, predicate_value(bank, values, id)),
+            None => {}
+        }
     }
 }
 
@@ -65,6 +100,13 @@ pub fn add_entry<S: Solver>(
         .abstract_into(bank, clause, &mut ground.numbered)?;
     let count = ground.abstraction.len() - before;
     make_atoms(&mut ground.solver, count)?;
+    prefer_from(
+        bank,
+        &ground.abstraction,
+        &ground.first_values,
+        &mut ground.solver,
+        before,
+    );
     let literals = ground.numbered.as_slice();
     ground.solver.add(literals)?;
     ground.literals.push(literals)?;

@@ -6,6 +6,7 @@
 
 pub mod ask;
 pub mod bounds;
+pub mod choices;
 pub mod cycle;
 pub mod decide;
 pub mod derived;
@@ -14,6 +15,7 @@ pub mod entries;
 pub mod event;
 pub mod event_log;
 pub mod finish;
+pub mod first_values;
 pub mod flips;
 pub mod ground;
 pub mod hand_over;
@@ -37,5 +39,6 @@ pub mod state;
 pub mod steps;
 pub mod work;
 
+pub use choices::Choices;
 pub use event::{Event, FlipList, Journal};
-pub use outcome::{Outcome, run};
+pub use outcome::{Outcome, run, run_with};

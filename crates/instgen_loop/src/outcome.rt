@@ -9,6 +9,7 @@ ghost use Rattle.instgen_loop.specs.Endings.{IsEnding};
 ghost use Rattle.instgen_loop.specs.Starting.{IsFresh, IsAllowed};
 ghost use Rattle.instgen_loop.specs.Outcomes.{IsOutcome, IsDecided, appended_count, journal_of};
 
+use crate::choices::Choices;
 use crate::cycle::cycle;
 use crate::ending::{Ending, outcome_of};
 use crate::event::Journal;
@@ -53,6 +54,7 @@ fn drive<S: Solver, I: PartnerIndex>(
     p: &Problem,
     run: &mut Run<S, I>,
     mut partners: Partners<I>,
+    first_values: Option<S>,
     budget: u64,
 ) -> Result<Ending, Memory>
     requires fresh { IsFresh S.atoms S.added I.pairs run.old }
@@ -68,7 +70,7 @@ fn drive<S: Solver, I: PartnerIndex>(
     ensures ending { IfOk result (λ e. IsEnding p.now.clauses p.now.names budget e run.new.journal) }
     ensures appended { OnOk result (IsFalse (is_function_free p.now.clauses) → appended_count run.new.journal ≤ suc budget) }
 {
-    let given = start(alloc, p, run, budget)?;
+    let given = start(alloc, p, run, first_values, budget)?;
     match cycle(alloc, run, &mut partners, p, budget)? {
         Some(derivation) => refuted(alloc, p, run, given, derivation, budget),
         None => finish(alloc, p, run, &partners, given, budget),
@@ -83,17 +85,19 @@ fn allowed(p: &Problem, budget: u64) -> Option<u64>
     if function_free(p) { None } else { Some(budget) }
 }
 
-/// Solvers without atoms: one for the abstractions, one for the clauses of the entries, and one for ground lines at the end.
+/// Solvers without atoms: one for the abstractions, one for the clauses of the entries, one for ground lines at the end, and perhaps
+/// one for first values.
 #[derive(Drop)]
 struct Solvers<S: Solver> {
     abstractions: S,
     known: S,
     last: S,
+    first_values: Option<S>,
 }
 
 // Makes the run, which is gone when the certificate and the journal are made, as are its indexes. It stands in a box: a function
 // that holds so many maps by itself takes long to prove.
-fn run_with<S: Solver, I: PartnerIndex>(
+fn run_over<S: Solver, I: PartnerIndex>(
     alloc: Global,
     p: &Problem,
     bot: Sym,
@@ -121,12 +125,13 @@ fn run_with<S: Solver, I: PartnerIndex>(
         abstractions,
         known,
         last,
+        first_values,
     } = solvers;
     let mut run = Box::new(
         alloc,
         new_run(alloc, abstractions, known, first, bot, allowed(p, budget)),
     )?;
-    let ending = drive(alloc, p, &mut run, partners, budget)?;
+    let ending = drive(alloc, p, &mut run, partners, first_values, budget)?;
     let log = replace(&mut run.journal, EventLog::new(alloc));
     drop(run);
     outcome_of(alloc, p, ending, last, &log, budget)
@@ -167,12 +172,57 @@ pub fn run<S: Solver, I: PartnerIndex>(
     ensures function_free { IfOk result (λ o. IsTrue (is_function_free p.now.clauses) → IsDecided o) }
     ensures appended { IfOk result (λ o. IsFalse (is_function_free p.now.clauses) → appended_count (journal_of o) ≤ suc budget) }
 {
+    run_with(
+        alloc,
+        p,
+        solver,
+        known,
+        last,
+        positive,
+        negative,
+        first,
+        budget,
+        Choices::plain(),
+    )
+}
+
+/// What `run` does, with these choices: what it asks for and what it answers are the same, clause for clause.
+pub fn run_with<S: Solver, I: PartnerIndex>(
+    alloc: Global,
+    p: &Problem,
+    solver: S,
+    known: S,
+    last: S,
+    positive: I,
+    negative: I,
+    first: I,
+    budget: u64,
+    choices: Choices<S>,
+) -> Result<Outcome, Memory>
+    requires atoms { S.atoms solver ≡ 0 }
+    requires added { S.added solver ≡ [] }
+    requires known_atoms { S.atoms known ≡ 0 }
+    requires known_added { S.added known ≡ [] }
+    requires last_atoms { S.atoms last ≡ 0 }
+    requires last_added { S.added last ≡ [] }
+    requires positive { I.pairs positive ≡ [] }
+    requires negative { I.pairs negative ≡ [] }
+    requires first { I.pairs first ≡ [] }
+    requires clauses { All IsPrintableClause p.now.clauses }
+    requires named { length p.now.names ≡ length p.now.clauses }
+    requires readable { All (λ n. IsTrue (is_readable_name n)) p.now.names }
+    requires budget { budget ≤ 1000000000000 }
+    ensures outcome { IfOk result (IsOutcome p.now.clauses p.now.names budget) }
+    ensures function_free { IfOk result (λ o. IsTrue (is_function_free p.now.clauses) → IsDecided o) }
+    ensures appended { IfOk result (λ o. IsFalse (is_function_free p.now.clauses) → appended_count (journal_of o) ≤ suc budget) }
+{
     let bot = bot_of(alloc, p)?;
     let solvers = Solvers {
         abstractions: solver,
         known,
         last,
+        first_values: choices.first_values,
     };
     let partners = Partners { positive, negative };
-    run_with(alloc, p, bot, solvers, partners, first, budget)
+    run_over(alloc, p, bot, solvers, partners, first, budget)
 }

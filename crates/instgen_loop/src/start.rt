@@ -17,6 +17,7 @@ ghost use Rattle.instgen_loop.specs.FirstEntries.{Continues, IsStarted};
 
 use crate::entries::Entries;
 use crate::event_log::EventLog;
+use crate::first_values::predicate_values;
 use crate::ground::Ground;
 use crate::origin::PackedOrigin;
 use crate::scratch::Scratch;
@@ -100,6 +101,7 @@ pub fn new_run<S: Solver, I: PartnerIndex>(
             literals: FlatClauses::new(alloc),
             valuation: Valuation::new(alloc),
             numbered: Vec::new(alloc),
+            first_values: Valuation::new(alloc),
         },
         known: Known::new(alloc, known),
         selection: Selection::new(alloc),
@@ -146,8 +148,8 @@ pub fn copied_clause(alloc: Global, literals: &[IdLiteral]) -> Result<IdClause, 
     Ok(IdClause::from(Vec::from_slice(alloc, literals)?))
 }
 
-// The next number; want of memory past the last one.
-fn next_number(k: usize) -> Result<usize, Memory>
+/// The next number; want of memory past the last one.
+pub fn next_number(k: usize) -> Result<usize, Memory>
     ensures { IfOk result (λ n. n ≡ k + 1) }
 {
     match k.checked_add(1) {
@@ -210,8 +212,8 @@ fn start_entries<S: Solver, I: PartnerIndex>(
     Ok(())
 }
 
-// The greater number.
-fn greater(m: usize, n: usize) -> usize
+/// The greater number.
+pub fn greater(m: usize, n: usize) -> usize
     ensures first { m ≤ result }
     ensures second { n ≤ result }
 {
@@ -246,11 +248,13 @@ fn longest(clauses: &IdClauses, least: usize) -> usize
 }
 
 /// Gives a run its first entries, which all wait: the problem's clauses and then their axioms of equality, without tautologies and
-/// without variants of earlier entries. Their origins are the numbers of the clauses, counted from 1 over both lists.
+/// without variants of earlier entries. Their origins are the numbers of the clauses, counted from 1 over both lists. The solver for
+/// the first values of atoms, if there is one, is let go.
 pub fn start<S: Solver, I: PartnerIndex>(
     alloc: Global,
     p: &Problem,
     run: &mut Run<S, I>,
+    first_values: Option<S>,
     _budget: u64,
 ) -> Result<Given, Memory>
     requires fresh { IsFresh S.atoms S.added I.pairs run.old }
@@ -268,6 +272,8 @@ pub fn start<S: Solver, I: PartnerIndex>(
     let given = given_in(alloc, &mut run.entries.bank, p)?;
     let least = longest(&given.inputs, 0);
     run.entries.longest = longest(&given.axioms, least);
+    let values = predicate_values(alloc, &run.entries.bank, &given, first_values)?;
+    run.ground.first_values = values;
     start_entries(alloc, run, &given.inputs, 0)?;
     start_entries(alloc, run, &given.axioms, given.inputs.len())?;
     Ok(given)

@@ -322,8 +322,12 @@ fn signs_checked<S: Solver>(alloc: Global, mut solver: S) -> Result<Option<(usiz
 }
 
 pub fn the_checker_accepts_what_refutes_eight_clauses(alloc: Global) -> Result<bool, Memory> {
-    let found = signs_checked(alloc, Cdcl::new(alloc))?;
-    Ok(found == Some((0, true)))
+    Ok(
+        [
+            signs_checked(alloc, Cdcl::new(alloc))?,
+            signs_checked(alloc, Cdcl::for_one_question(alloc))?,
+        ] == [Some((0, true)); 2],
+    )
 }
 
 // The clauses that say that atom i gives atom i + 1, for the first `count` atoms, and the first atom.

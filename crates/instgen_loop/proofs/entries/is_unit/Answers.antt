@@ -1,4 +1,4 @@
-use Rattle.std.proofs.Common.{◌≡◌, ◌∙◌, List, [], ◌∷◌, ◌++◌, ℕ, Contains, nat_eq, ap, subst}
+use Rattle.std.proofs.Common.{◌≡◌, List, ℕ, Contains, nat_eq, subst}
 use Rattle.std.proofs.lemmas.Bool.Decides.{Decides-eqb}
 use Rattle.inst_logic.specs.EqualLaws.{signed_eq_decides}
 use Rattle.inst_logic.specs.declared.signed.Signed.{Signed}

@@ -18,10 +18,10 @@ returns-clause-linked g c = λ bot cs h.
       fits = a.fits c.requires.atoms h.fits;
       count =
           let m : length later ≡ length before + length a.grows.0 = ap length a.grows.1 ∙ length-append before a.grows.0 in
-          omega (arith, c.in_ok-add.ensures.kept, c.in_ok-make_atoms.ensures.atoms, h.count, m, c.len.ensures, c.len-before.ensures);
+          omega (arith, c.in_ok-add.ensures.kept, c.in_ok-make_atoms.ensures.atoms, c.prefer_from.ensures.atoms, h.count, m, c.len.ensures, c.len-before.ensures);
       given =
           let e = c.in_ok-add.ensures.grown in
-          let f = c.in_ok-make_atoms.ensures.added in
+          let f = c.prefer_from.ensures.added ∙ c.in_ok-make_atoms.ensures.added in
           let p = c.in_ok-push.ensures.ok in
           e ∙ ap (λ xs. xs ++ c.as_slice-literals.result.now ∷ []) (f ∙ h.given) ∙ sym p;
       same = subst (λ x. AreAbstracted bot (atoms_in c.abstract_into.new.bank later) x (cs ++ clause ∷ [])) (sym (c.in_ok-push.ensures.ok ∙ ap (λ (x : List (Signed _)). old.literals ++ x ∷ []) c.as_slice-literals.ensures.value))
@@ -37,4 +37,4 @@ returns-clause-count g c =
     let before = c.args.ground.now.abstraction.ids in
     let later = c.abstract_into.new.self.ids in
     let m : length later ≡ length before + length a.grows.0 = ap length a.grows.1 ∙ length-append before a.grows.0 in
-    omega (arith, c.in_ok-add.ensures.kept, c.in_ok-make_atoms.ensures.atoms, c.requires.count, m, c.len.ensures, c.len-before.ensures)
+    omega (arith, c.in_ok-add.ensures.kept, c.in_ok-make_atoms.ensures.atoms, c.prefer_from.ensures.atoms, c.requires.count, m, c.len.ensures, c.len-before.ensures)

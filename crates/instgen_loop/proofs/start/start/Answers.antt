@@ -8,7 +8,7 @@ use Rattle.term_bank.specs.Forest.{clause_at}
 use Rattle.term_bank.proofs.Growth.{extends_trans}
 use Rattle.instgen_loop.specs.FirstEntries.{IsStarted}
 use Rattle.instgen_loop.proofs.FirstEntries.{bounds_grow, given_grown, given_canonical, printable_canonical}
-use Rattle.instgen_loop.proofs.FreshRuns.{fresh_interned, fresh_safe, fresh_started, starts_with, problem_later}
+use Rattle.instgen_loop.proofs.FreshRuns.{with_given, fresh_interned, fresh_safe, fresh_started, starts_with, problem_later}
 use Rattle.instgen_loop.proofs.Started.{printable_formed}
 use Rattle.instgen_loop.proofs.start.start.Goals as goal
 
@@ -22,8 +22,9 @@ start_entries-requires-clause-safe g c =
     let index = g.I.PartnerIndex in
     let run = c.args.run.now in
     let n = c.longest-run.result in
-    fresh_safe atoms added index.pairs index.fits g.met.I.PartnerIndex.empty_fits (record run { entries = record run.entries { bank = c.given_in.new.bank; longest = n } })
-    (fresh_interned atoms added index.pairs run c.given_in.new.bank n c.given_in.ensures.formed c.requires.fresh)
+    let v = c.in_ok-values.values in
+    fresh_safe atoms added index.pairs index.fits g.met.I.PartnerIndex.empty_fits (with_given run c.given_in.new.bank n v)
+    (fresh_interned atoms added index.pairs run c.given_in.new.bank n v c.given_in.ensures.formed c.requires.fresh)
 
 pub start_entries-requires-clause-canonical : goal.start_entries-requires-clause-canonical
 start_entries-requires-clause-canonical g c =
@@ -55,10 +56,11 @@ returns-clause-waiting g c =
     let run = c.args.run.now in
     let mid = c.given_in.new.bank in
     let n = c.longest-run.result in
+    let v = c.in_ok-values.values in
     let f = c.start_entries.new.run.entries.bank in
     let clauses = c.args.p.now.clauses in
     let given = c.in_ok-given.given in
-    let empty = fresh_started atoms added pairs (record run { entries = record run.entries { bank = mid; longest = n } }) (fresh_interned atoms added pairs run mid n c.given_in.ensures.formed c.requires.fresh) in
+    let empty = fresh_started atoms added pairs (with_given run mid n v) (fresh_interned atoms added pairs run mid n v c.given_in.ensures.formed c.requires.fresh) in
     let first = c.in_ok-start_entries.ensures.started [] refl empty in
     let all = c.in_ok-start_entries-2.ensures.started (map (clause_at mid) given.inputs) (c.len.ensures ∙ sym (length_map (clause_at mid) given.inputs)) first in
     let later = given_grown mid f c.in_ok-start_entries.ensures.continues.bank given.axioms (equality_axioms clauses) c.in_ok-given.ensures.axioms in
@@ -74,10 +76,11 @@ returns-clause-selection g c =
     let run = c.args.run.now in
     let mid = c.given_in.new.bank in
     let n = c.longest-run.result in
+    let v = c.in_ok-values.values in
     let f = c.start_entries.new.run.entries.bank in
     let clauses = c.args.p.now.clauses in
     let given = c.in_ok-given.given in
-    let empty = fresh_started atoms added pairs (record run { entries = record run.entries { bank = mid; longest = n } }) (fresh_interned atoms added pairs run mid n c.given_in.ensures.formed c.requires.fresh) in
+    let empty = fresh_started atoms added pairs (with_given run mid n v) (fresh_interned atoms added pairs run mid n v c.given_in.ensures.formed c.requires.fresh) in
     let first = c.in_ok-start_entries.ensures.started [] refl empty in
     let all = c.in_ok-start_entries-2.ensures.started (map (clause_at mid) given.inputs) (c.len.ensures ∙ sym (length_map (clause_at mid) given.inputs)) first in
     let later = given_grown mid f c.in_ok-start_entries.ensures.continues.bank given.axioms (equality_axioms clauses) c.in_ok-given.ensures.axioms in
@@ -93,10 +96,11 @@ returns-clause-running g c =
     let run = c.args.run.now in
     let mid = c.given_in.new.bank in
     let n = c.longest-run.result in
+    let v = c.in_ok-values.values in
     let f = c.start_entries.new.run.entries.bank in
     let clauses = c.args.p.now.clauses in
     let given = c.in_ok-given.given in
-    let empty = fresh_started atoms added pairs (record run { entries = record run.entries { bank = mid; longest = n } }) (fresh_interned atoms added pairs run mid n c.given_in.ensures.formed c.requires.fresh) in
+    let empty = fresh_started atoms added pairs (with_given run mid n v) (fresh_interned atoms added pairs run mid n v c.given_in.ensures.formed c.requires.fresh) in
     let first = c.in_ok-start_entries.ensures.started [] refl empty in
     let all = c.in_ok-start_entries-2.ensures.started (map (clause_at mid) given.inputs) (c.len.ensures ∙ sym (length_map (clause_at mid) given.inputs)) first in
     let later = given_grown mid f c.in_ok-start_entries.ensures.continues.bank given.axioms (equality_axioms clauses) c.in_ok-given.ensures.axioms in
@@ -114,6 +118,7 @@ returns-clause-problem g c =
     let run = c.args.run.now in
     let mid = c.given_in.new.bank in
     let n = c.longest-run.result in
+    let v = c.in_ok-values.values in
     let last = c.start_entries-2.new.run in
-    problem_later (record run { entries = record run.entries { bank = mid; longest = n } }) last c.in_ok-given.given c.args.p.now.clauses (extends_trans mid c.start_entries.new.run.entries.bank last.entries.bank a.bank b.bank) (b.bot ∙ a.bot)
+    problem_later (with_given run mid n v) last c.in_ok-given.given c.args.p.now.clauses (extends_trans mid c.start_entries.new.run.entries.bank last.entries.bank a.bank b.bank) (b.bot ∙ a.bot)
     (record { inputs = e.inputs; axioms = e.axioms; bot = c.requires.bot; constant = c.requires.constant; readable = c.requires.readable })

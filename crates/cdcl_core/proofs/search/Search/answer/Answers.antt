@@ -1,11 +1,13 @@
 use Rattle.std.proofs.Common.{ap, ◌∙◌}
+use Rattle.cdcl_core.proofs.KeptLaws.{not_probed}
 use Rattle.cdcl_core.proofs.search.Search.answer.Goals as goal
 
 pub loop-pace-init : goal.loop-pace-init
 loop-pace-init c =
     let k = c.keep_levels.ensures in
     let r = c.in_ok-renew_where_due.ensures.same in
-    record { search = k.search; same = record { atoms = k.same.atoms ∙ r.atoms; added = k.same.added ∙ r.added } }
+    let p = not_probed c.args.assumptions.now c.keep_levels.new.self c.probe_where_due.new.self c.in_ok-answer.field-0 c.in_default.not-Some c.in_ok-answer.ensures.probed in
+    record { search = p.0; same = record { atoms = p.1.atoms ∙ k.same.atoms ∙ r.atoms; added = p.1.added ∙ k.same.added ∙ r.added } }
 
 pub loop-pace-preserved-then-is_due : goal.loop-pace-preserved-then-is_due
 loop-pace-preserved-then-is_due c =

@@ -1,0 +1,74 @@
+// Which literals a learned clause does not need: those that follow from its others by the clauses that gave them, and by the
+// clauses that gave these literals in turn (Sörensson and Biere, Minimizing learned clauses, 2009).
+ghost use Rattle.std.specs.Prelude.{◌≡◌, ◌<◌, length};
+ghost use Rattle.cdcl_core.specs.Analysis.{IsReady};
+
+use crate::log::Log;
+use crate::marks::Marks;
+use cdcl_trail::Trail;
+
+// Whether the atom follows from the marked ones, where no clause is needed to know: those of level 0 do, and those of a level
+// without marks do not.
+fn known(trail: &Trail, marks: &Marks, atom: usize) -> Option<bool>
+    requires size { length marks.now ≡ trail.now.trail.atoms }
+    requires atom { atom < trail.now.trail.atoms }
+{
+    if marks.contains(atom) {
+        return Some(true);
+    }
+    let level = trail.level_of(atom).unwrap_or(0);
+    if level == 0 {
+        return Some(true);
+    }
+    if !marks.has_level(level) {
+        return Some(false);
+    }
+    marks.found(atom)
+}
+
+// Whether the atom follows from the marked ones by clauses of which at most so many are used one after the other.
+#[cycle(redundancy)]
+fn follows(log: &Log, trail: &Trail, marks: &mut Marks, atom: usize, depth: usize) -> bool
+    requires ready { IsReady log.now trail.now.trail }
+    requires size { length marks.old ≡ trail.now.trail.atoms }
+    requires atom { atom < trail.now.trail.atoms }
+    ensures { marks.new ≡ marks.old }
+{
+    if let Some(found) = known(trail, marks, atom) {
+        return found;
+    }
+    if depth == 0 {
+        return false;
+    }
+    match trail.reason(atom) {
+        None => false,
+        Some(number) => {
+            // It is an atom of this clause itself.
+            marks.find(atom, true);
+            let found = all_follow(log, trail, marks, number, depth - 1);
+            marks.find(atom, found);
+            found
+        }
+    }
+}
+
+// Whether all atoms of the clause of this number do.
+#[cycle(redundancy)]
+pub(crate) fn all_follow(
+    log: &Log,
+    trail: &Trail,
+    marks: &mut Marks,
+    number: usize,
+    depth: usize,
+) -> bool
+    requires ready { IsReady log.now trail.now.trail }
+    requires size { length marks.old ≡ trail.now.trail.atoms }
+    ensures { marks.new ≡ marks.old }
+{
+    for packed in log.cited(log.hint_of(number)) {
+        if !follows(log, trail, marks, packed.lit().atom, depth) {
+            return false;
+        }
+    }
+    true
+}

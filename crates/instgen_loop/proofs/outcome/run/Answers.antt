@@ -1,5 +1,0 @@
-use Rattle.instgen_loop.proofs.Started.{always_decided}
-use Rattle.instgen_loop.proofs.outcome.run.Goals as goal
-
-pub returns-clause-function_free : goal.returns-clause-function_free
-returns-clause-function_free g c = always_decided c.run_with.result c.args.p.now.clauses c.args.p.now.names c.args.budget c.run_with.ensures.outcome
