@@ -1,0 +1,617 @@
+#!/usr/bin/env python3
+"""Checks a certificate without the program: this file was written from docs/FORMATS.md alone, by somebody who had not read the program's checker.
+
+CERT is a certificate of any format, or the whole answer of `qbf`, or that of `fmodel` where there is no model. What is printed is what `instgen check`
+prints: `valid` and the form; `invalid:` and the first complaint; or why a file is refused. The exit status is 0, 7, or that of the refusal.
+
+With --problem, the clauses of the certificate must be those of FILE, which is what the program was asked about: a problem, or a quantified formula, of which
+the clauses are made. Where CERT begins with `% no tables K for NAME`, they must be those that say that the clauses of FILE have a model with K elements."""
+import argparse
+import itertools
+import os
+import re
+import sys
+
+class Ended(Exception):
+    """a complaint or a refusal: the line that says why, and the exit status; for a refusal, the word of its status"""
+
+class Misread(Exception):
+    """a place of a text that its rules do not allow"""
+
+def demand(holds):
+    if not holds:
+        raise Misread
+
+# Terms, atoms and literals are tuples of what is read from left to right: of symbols, which have a kind, a name and how many arguments follow, and of
+# variables, which are numbers in canonical clauses. A negative literal begins with NOT. A clause is a tuple of literals.
+
+NOT, EQUAL, TRUE, FALSE = ('not', '~', 1), ('equality', '=', 2), ('dollar', '$true', 0), ('dollar', '$false', 0)
+
+def is_variable(part):
+    return not isinstance(part, tuple)
+
+def complement(literal):
+    return literal[1:] if literal[0] == NOT else (NOT, *literal)
+
+def subterm(term, place):
+    """the term that begins at a place"""
+    end, missing = place, 1
+    while missing:
+        missing += -1 if is_variable(term[end]) else term[end][2] - 1
+        end += 1
+    return term[place:end]
+
+def replaced(term, bindings):
+    """the term with terms for its variables"""
+    return tuple(itertools.chain.from_iterable(bindings.get(part, (part,)) if is_variable(part) else (part,) for part in term))
+
+def instance(clause, bindings):
+    return tuple(dict.fromkeys(replaced(literal, bindings) for literal in clause))
+
+def variables(clause):
+    """the different variables, by first occurrence"""
+    return list(dict.fromkeys(part for literal in clause for part in literal if is_variable(part)))
+
+def under_terms(clause, terms):
+    """the clause under terms, or None where they are not as many as its variables"""
+    places = variables(clause)
+    return instance(clause, dict(zip(places, terms))) if len(places) == len(terms) else None
+
+def canonical(clause):
+    """equal literals once, and the variables numbered by first occurrence"""
+    return under_terms(clause, [(number,) for number in range(len(variables(clause)))])
+
+def is_tautology(clause):
+    literals = set(clause)
+    return any(complement(literal) in literals for literal in clause)
+
+def symbols(clauses, kind):
+    """the different symbols of a kind, by first occurrence"""
+    return list(dict.fromkeys(part for clause in clauses for literal in clause for part in literal if not is_variable(part) and part[0] == kind))
+
+def axioms(clauses):
+    """the axioms of equality of a list of clauses"""
+    if not symbols(clauses, 'equality'):
+        return []
+    same = [((EQUAL, 0, 0),), ((NOT, EQUAL, 0, 1), (EQUAL, 1, 0)), ((NOT, EQUAL, 0, 1), (NOT, EQUAL, 1, 2), (EQUAL, 0, 2))]
+    return same + [congruence(symbol) for kind in ('function', 'predicate') for symbol in symbols(clauses, kind) if symbol[2]]
+
+def congruence(symbol):
+    ones, others = range(0, 2 * symbol[2], 2), range(1, 2 * symbol[2], 2)
+    last = [(EQUAL, symbol, *ones, symbol, *others)] if symbol[0] == 'function' else [(NOT, symbol, *ones), (symbol, *others)]
+    return (*((NOT, EQUAL, one, other) for one, other in zip(ones, others)), *last)
+
+def unifier(first, second):
+    """a most general unifier of two literals without common variables, or None"""
+    bindings = {}
+    while first != second:
+        place = next(place for place, (one, other) in enumerate(zip(first, second)) if one != other)
+        one, other = sorted((subterm(first, place), subterm(second, place)), key=lambda term: not is_variable(term[0]))
+        if not is_variable(one[0]) or one[0] in other:
+            return None
+        step = {one[0]: other}
+        first, second = replaced(first, step), replaced(second, step)
+        bindings = {**{part: replaced(term, step) for part, term in bindings.items()}, **step}
+    return bindings
+
+def meeting(left, left_place, right, right_place):
+    """None where the literals at the places have one sign or no unifier; else the instance of each side for whose literal it is proper"""
+    one, other = complement(left[left_place - 1]), right[right_place - 1]
+    if one[:1 + (one[0] == NOT)] != other[:1 + (other[0] == NOT)]:
+        return None
+    right = instance(right, {part: (-1 - part,) for part in variables(right)})
+    bindings = unifier(one, right[right_place - 1])
+    sides = ('left', left, left_place), ('right', right, right_place)
+    return None if bindings is None else {side: canonical(instance(clause, bindings)) for side, clause, place in sides if any(
+        not is_variable(bindings.get(part, (part,))[0]) for part in variables([clause[place - 1]]))}
+
+def has_instance_within(clause, target):
+    """whether an instance of the clause has all its literals in the target, whose variables are held fixed"""
+    fixed, work = instance(target, {part: (('fixed', part, 0),) for part in variables(target)}), [clause]
+    while work:
+        first, *rest = work.pop() or [None]
+        if first is None:
+            return True
+        found = [unifier(first, literal) for literal in fixed]
+        work += [instance(rest, bindings) for bindings in found if bindings is not None]
+    return False
+
+# Statements. The lines of a certificate are statements too, but must be spelled in one way.
+
+LOWER, QUOTED, INTEGER = '[a-z][A-Za-z0-9_]*', r"'(?:[\x20-&(-\[\]-~]|\\['\\])+'", '[+-]?[0-9]+'
+PRINTED = f"(?:{LOWER}|(?!'{LOWER}'){QUOTED})"
+BLANK = re.compile(r'(?:[\t-\r ]+|%[^\n]*|/\*.*?\*/)*', re.DOTALL)
+KINDS = {'real': rf'{INTEGER}(?:\.[0-9]+(?:[eE]{INTEGER})?|[eE]{INTEGER})', 'rational': rf'{INTEGER}/[0-9]+', 'integer': INTEGER, 'lower': LOWER,
+         'variable': '[A-Z][A-Za-z0-9_]*', 'dollar': rf'\$\$?{LOWER}', 'quoted': QUOTED, 'distinct': r'"(?:[\x20!#-\[\]-~]|\\["\\])*"',
+         'mark': r'!=|[()\[\],.|~=:]'}
+TOKEN = re.compile('|'.join(f'(?P<{kind}>{spelling})' for kind, spelling in KINDS.items()))
+ROLES = 'axiom hypothesis definition assumption lemma theorem corollary negated_conjecture plain'.split()
+
+def content(word):
+    """the name that a word has"""
+    return re.sub(r'\\(.)', r'\1', word[1:-1]) if word.startswith("'") else word
+
+class Statement:
+    """the tokens from a place up to the first full stop, each a kind and a text, and how many are read"""
+
+    def __init__(self, text, end=0, where=None):
+        self.tokens, self.end, self.place, self.truths, self.loose = [], end, 0, set(), False
+        while not self.tokens or self.tokens[-1][1] != '.':
+            found = TOKEN.match(text, BLANK.match(text, self.end).end())
+            demand(found)
+            self.tokens.append((found.lastgroup, found[0]))
+            self.end = found.end()
+            if len(self.tokens) == 2 and self.tokens[0][1] in ('fof', 'tff', 'tcf', 'thf', 'tpi') and found[0] == '(':
+                raise Ended(f'% language {self.tokens[0][1]}: {where}', 2, 'Inappropriate')
+
+    def has(self, word):
+        found = self.place < len(self.tokens) and self.tokens[self.place][1] == word
+        self.place += found
+        return found
+
+    def expect(self, *words):
+        demand(all(self.has(word) for word in words))
+
+    def take(self, *kinds):
+        kind, text = self.tokens[self.place] if self.place < len(self.tokens) else ('', '')
+        demand(kind in kinds)
+        self.place += 1
+        return kind, content(text)
+
+    def name(self):
+        return self.take('lower', 'quoted', 'integer')[1]
+
+    def listed(self, item):
+        """what the calls give, in brackets"""
+        self.expect('[')
+        items = []
+        while not self.has(']'):
+            self.expect(*[','] * bool(items))
+            items.append(item())
+        return items
+
+    def leaf(self):
+        """a kind, and a name or a number"""
+        if self.has('['):
+            return 'list', '['
+        kind, name = self.take(*set(KINDS) - {'mark'})
+        number = re.fullmatch('X(0|[1-9][0-9]{0,19})', name) if kind == 'variable' else None
+        return 'function' if kind in ('lower', 'quoted') else kind, int(number[1]) if number and int(number[1]) < 2 ** 64 else name
+
+    def term(self):
+        """a general term, as terms are; a list has the name `[`, and of `a:b` both stand one behind the other"""
+        parts, open_places = [], []
+        while True:
+            kind, name = self.leaf()
+            parts.append(name if kind == 'variable' else (kind, name, 0))
+            if kind == 'list' and not self.has(']') or kind in ('function', 'dollar') and self.has('('):
+                open_places.append(len(parts) - 1)
+                parts[-1] = kind, name, 1
+                continue
+            while kind == 'list' or not self.has(':'):
+                if not open_places:
+                    return tuple(parts)
+                kind, name, size = parts[open_places[-1]]
+                if self.has(','):
+                    parts[open_places[-1]] = kind, name, size + 1
+                    break
+                open_places.pop()
+                self.expect(']' if kind == 'list' else ')')
+
+    def opened(self):
+        level = 0
+        while self.has('('):
+            level, self.loose = level + 1, True
+        return level
+
+    def literal(self):
+        negative = self.has('~')
+        level, begin, atom = self.opened() if negative else 0, self.place, self.term()
+        unequal = not negative and self.has('!=')
+        if unequal or self.has('='):
+            atom, self.loose = (EQUAL, *atom, *self.term()), self.loose or negative
+        else:
+            demand(not is_variable(atom[0]) and atom[0][0] in ('function', 'dollar'))
+            atom = (('predicate', *atom[0][1:]) if atom[0][0] == 'function' else atom[0], *atom[1:])
+            self.truths |= {begin} if atom in ((TRUE,), (FALSE,)) else set()
+        self.expect(*')' * level)
+        return complement(atom) if negative or unequal else atom
+
+    def disjunction(self):
+        literals, level, begin = [], 0, self.place
+        while not literals or self.has('|'):
+            level += self.opened()
+            literals.append(self.literal())
+            while level and self.has(')'):
+                level -= 1
+        demand(not level and not any(text in ('[', ':') for _, text in self.tokens[begin:self.place]))
+        return tuple(literals)
+
+    def said(self, where):
+        """a name and a clause, None where it always holds; or the name of an include, its selection or None, and None"""
+        steps = ((text in ('(', '[')) - (before in (')', ']')) for (_, before), (_, text) in zip([('', ''), *self.tokens], self.tokens))
+        if max(itertools.accumulate(steps)) > 256:
+            raise Ended(f'% limit nesting: {where}', 2, 'InputError')
+        if self.has('include'):
+            self.expect('(')
+            name, selection = self.take('quoted')[1], self.listed(self.name) if self.has(',') else None
+            self.expect(')', '.')
+            demand(selection != [])
+            return name, selection, None
+        self.expect('cnf', '(')
+        name, _ = self.name(), self.expect(',')
+        role, _ = self.take('lower')[1], self.expect(',')
+        begin, literals, end = self.place, self.disjunction(), self.place
+        demand(not self.has(',') or self.term() and (not self.has(',') or self.term()[0][0] == 'list'))
+        self.expect(')', '.')
+        self.judge(where, role, range(begin, end), literals)
+        literals = [literal for literal in literals if literal not in ((FALSE,), (NOT, TRUE))]
+        return name, None if (TRUE,) in literals or (NOT, FALSE) in literals else canonical(literals)
+
+    def judge(self, where, role, places, literals):
+        features = [self.tokens[place][1] for place in places if place not in self.truths and self.tokens[place][0] in (
+            'integer', 'rational', 'real', 'distinct', 'dollar')]
+        large = any(part[2] > 1024 for literal in literals for part in literal if not is_variable(part))
+        for word, line, holds in (('Inappropriate', f'role {role}', role not in ROLES), ('Inappropriate', f'feature {"".join(features[:1])}', features),
+                                  ('InputError', 'limit arity', large), ('InputError', 'limit variables', len(variables(literals)) > 10_000)):
+            if holds:
+                raise Ended(f'% {line}: {where}', 2, word)
+
+    def spelled(self, begin):
+        """the tokens from one on to the place as a certificate has them"""
+        tokens = self.tokens[begin:self.place]
+        demand(not self.loose and all(kind in ('variable', 'mark') or re.fullmatch(PRINTED, text) for kind, text in tokens))
+        return ''.join(f' {text} ' if text in ('|', '=', '!=') else text for _, text in tokens)
+
+# The text of a certificate.
+
+TITLE, NUMBER = '[ -~\x80-\xff]{1,4096}', '(?:0|[1-9][0-9]{0,19})'
+HEAD = re.compile(f'(s TRUE|s FALSE|% no tables ([1-9]|[1-5][0-9]|6[0-4]) for ({TITLE}))')
+
+def line_forms(form, version):
+    """for the letter of each group, in order, what stands behind the clause of its lines"""
+    parents = f'm({NUMBER}),({NUMBER}),m({NUMBER}),({NUMBER})'
+    lemma = rf'|(lemma)\({parents}(,\[(?:{NUMBER}(?:,{NUMBER})*)?\])(,\[(?:m{NUMBER}(?:,m{NUMBER})*)?\])\)' if version > 1 else ''
+    reason = rf'(?:(tautology)|(variant)\(m({NUMBER})\)|(part)\(m({NUMBER}),(\[.*\])\))'
+    forms = {'i': rf'named\({PRINTED}\)', 'e': 'equality', 'm': rf'(?:(input)\(({NUMBER})\)|(inst)\({parents}\){lemma})'}
+    if form == 'CNFRefutation':
+        forms['g'] = rf'ground\(m({NUMBER})\)' if version == 1 else rf'ground\(({NUMBER}),(\[.*\])\)'
+        return {**forms, 'r': rf'rup(\(\[[gr]{NUMBER}(?:,[gr]{NUMBER})*\])\)'}
+    forms['m'] += rf',\[selected\(({NUMBER})\)\]'
+    return {**forms, 'q': reason, 'c': rf'cover\(m({NUMBER}),m({NUMBER}),(left|right)\),\[{reason}\]'} if version == 3 else forms
+
+def read_part(text):
+    """a word, a number, a list of numbers, of hints or of terms"""
+    if text[0] == '[':
+        statement = Statement(text + '.')
+        terms = statement.listed(statement.term)
+        demand(not any(mark in ('[', ':') for _, mark in statement.tokens[1:]) and not any(isinstance(part, str) for term in terms for part in term))
+        demand(statement.spelled(0) == text)
+        return terms
+    found = [(letter, int(digits)) for letter, digits in re.findall('([gr]?)([0-9]+)', text)]
+    demand(all(number < 2 ** 64 for _, number in found))
+    values = found if text[0] == '(' else [number for _, number in found]
+    return text if text[0].isalpha() else values if text[0] in '(,' else values[0]
+
+class Certificate:
+    """groups has for each letter a list of lines: the clause and what stands behind it; clauses are those of the inputs and axioms"""
+
+    def __init__(self, text, name):
+        *self.lines, self.rest = text.split('\n')
+        self.number = 0
+        try:
+            self.read_beginning()
+            self.read_groups()
+        except Misread:
+            raise Ended(f'% syntax: line {self.number} of {name}', 2, 'SyntaxError') from None
+
+    def line(self, pattern):
+        """the next line, which must be as the pattern says"""
+        self.number += 1
+        demand(self.number <= len(self.lines))
+        found = re.fullmatch(pattern, self.lines[self.number - 1])
+        demand(found)
+        return found
+
+    def read_beginning(self):
+        self.head = self.line(HEAD) if self.lines and HEAD.fullmatch(self.lines[0]) else None
+        status, self.title = self.line(f'% SZS status (Satisfiable|Unsatisfiable) for ({TITLE})').groups()
+        self.form = 'Saturation' if status == 'Satisfiable' else 'CNFRefutation'
+        demand(not self.head or (self.head[1] == 's TRUE') == (status == 'Satisfiable') and self.head[3] in (None, self.title))
+        self.line(re.escape(f'% SZS output start {self.form} for {self.title}'))
+        self.version = int(self.line('% instgen certificate ([1-9][0-9]{0,17})')[1])
+        if self.version > 3:
+            raise Ended(f'% version: {self.version}', 2, 'InputError')
+        if self.form == 'CNFRefutation':
+            self.constant = 'function', content(self.line(f'% ground constant ({PRINTED})')[1]), 0
+
+    def read_groups(self):
+        forms, end = line_forms(self.form, self.version), f'% SZS output end {self.form} for {self.title}'
+        letters, self.groups, self.clauses = list(forms), {letter: [] for letter in forms}, []
+        text = self.line('.*')[0]
+        while text != end:
+            letter = text[4:5]
+            demand(letter in letters and (letter != 'c' or len(self.groups['q']) == len(self.clauses)))
+            letters = letters[letters.index(letter):]
+            self.read_entry(text, letter, forms[letter])
+            text = self.line('.*')[0]
+        demand('q' not in forms or len(self.groups['q']) == len(self.clauses))
+        self.number += 1
+        demand(self.number > len(self.lines) and not self.rest)
+
+    def read_entry(self, text, letter, form):
+        group, begin = self.groups[letter], f'cnf({letter}{len(self.groups[letter]) + 1},{"axiom" if letter in "ie" else "plain"},'
+        demand(text.startswith(begin))
+        statement = Statement(text)
+        statement.place = 6
+        clause = statement.disjunction()
+        begin, clause = (begin + '$false', ()) if clause == ((FALSE,),) else (begin + statement.spelled(6), clause)
+        found = re.fullmatch(rf',{form}\)\.', text[len(begin):])
+        demand(text.startswith(begin) and found and clause == canonical(clause))
+        entry = [clause, *map(read_part, filter(None, found.groups()))]
+        demand(letter != 'q' or self.clauses[len(group):len(group) + 1] == [clause])
+        demand(letter != 'g' or self.version > 1 or entry[1] == len(group) + 1)
+        group.append(entry)
+        self.clauses += [clause] * (letter in 'ie')
+
+# The checks.
+
+def item(items, number):
+    """the item with a number, or None"""
+    return items[number - 1] if 1 <= number <= len(items) else None
+
+def require(word, items, holds):
+    """a complaint with the number of the first item that does not hold"""
+    for number, parts in enumerate(items, 1):
+        if not holds(*parts):
+            raise Ended(f'invalid: {word} {number}', 7)
+
+def require_same(word, ones, others):
+    require(word, itertools.zip_longest(ones, others), lambda one, other: one == other)
+
+class Check:
+    """the checks of a certificate in their order; wanted are the clauses of the problem, or None"""
+
+    def __init__(self, certificate, wanted):
+        self.groups, self.clauses, self.version, self.members, self.steps = certificate.groups, certificate.clauses, certificate.version, [], []
+        inputs, given = ([clause for clause, *_ in self.groups[letter]] for letter in 'ie')
+        require_same('problem', inputs, inputs if wanted is None else wanted)
+        require_same('axiom', given, axioms(inputs))
+        require('member', self.groups['m'], self.member_holds)
+        if certificate.form == 'Saturation':
+            self.check_saturation([entry[-1] for entry in self.groups['m']])
+        else:
+            self.check_refutation(certificate.constant)
+
+    def member_holds(self, clause, word, *numbers):
+        """whether the clause is what its origin gives; if so, it becomes a member"""
+        wanted = item(self.clauses, numbers[0]) if word == 'input' else self.conclusion(*numbers[:4])
+        if word == 'lemma' and wanted is not None:
+            places, givers = numbers[4:6]
+            rising = all(low < high for low, high in zip([0, *places], [*places, len(wanted) + 1])) and len(places) < len(wanted)
+            given = all(1 <= giver <= len(self.members) for giver in givers)
+            wanted = canonical([wanted[place - 1] for place in places]) if rising and given else None
+        self.members.append(clause)
+        return clause == wanted
+
+    def conclusion(self, left, left_place, right, right_place):
+        """the conclusion of a member at a place with a member at a place, or None"""
+        left, right = item(self.members, left) or (), item(self.members, right) or ()
+        exist = item(left, left_place) and item(right, right_place)
+        return (meeting(left, left_place, right, right_place) or {}).get('left') if exist else None
+
+    def check_refutation(self, constant):
+        if self.version == 1:
+            owed = [instance(member, dict.fromkeys(variables(member), (constant,))) for member in self.members]
+            require_same('ground', [clause for clause, _ in self.groups['g']], owed)
+        else:
+            require('ground', self.groups['g'], self.ground_holds)
+        require('step', self.groups['r'], self.step_holds)
+        if not self.steps or self.steps[-1]:
+            raise Ended('invalid: no empty clause', 7)
+
+    def ground_holds(self, clause, number, terms):
+        owner = item(self.clauses, number)
+        return owner is not None and not variables(terms) and under_terms(owner, terms) == clause
+
+    def step_holds(self, clause, hints):
+        """whether the step is shown by its hints; if so, it becomes a step"""
+        false, (*hints, last) = set(clause), [self.hinted(*hint) for hint in hints]
+        for hint in hints:
+            left = hint - false
+            if len(left) != 1:
+                return False
+            false.update(map(complement, left))
+        self.steps.append(clause)
+        return last <= false
+
+    def hinted(self, letter, number):
+        """the literals of a hint; where there is none, two that no clause has"""
+        found = item(self.steps, number) if letter == 'r' else (item(self.groups['g'], number) or [None])[0]
+        return {'', ' '} if found is None else set(found)
+
+    def check_saturation(self, places):
+        require('place', zip(self.members, places), lambda clause, place: item(clause, place) is not None)
+        if self.version == 3:
+            require('input', self.groups['q'], lambda clause, word, *reason: word != 'variant' and self.shows(clause, word, *reason))
+        else:
+            require('input', zip(self.clauses), lambda clause: is_tautology(clause) or self.has_part(clause))
+        owed, known = [], set(self.members)
+        for (left, one), (right, other) in itertools.combinations(enumerate(zip(self.members, places), 1), 2):
+            found = meeting(*one, *other)
+            dues = [(clause, left, right, side, one[0] if side == 'left' else other[0]) for side, clause in (found or {}).items()]
+            covered = self.version == 3 or all(is_tautology(due[0]) or due[0] in known or self.has_part(due[0], due[4]) for due in dues)
+            if found is not None and not (dues and covered):
+                raise Ended(f'invalid: pair {left} {right}', 7)
+            owed += dues
+        if self.version == 3:
+            require('cover', itertools.zip_longest(owed, self.groups['c']), self.cover_holds)
+
+    def cover_holds(self, due, cover):
+        return None not in (due, cover) and list(due[:4]) == cover[:4] and self.shows(due[0], *cover[4:], owner=due[4])
+
+    def shows(self, clause, word, number=0, terms=(), owner=None):
+        """whether the reason shows that the members make true the clause, which is an instance of its owner if it has one"""
+        if word == 'tautology':
+            return is_tautology(clause)
+        member = item(self.members, number)
+        if member is None or word == 'variant':
+            return member == clause
+        part = under_terms(member, terms)
+        return (owner is None or len(member) < len(owner)) and part is not None and set(part) <= set(clause)
+
+    def has_part(self, clause, owner=None):
+        return any((owner is None or len(member) < len(owner)) and has_instance_within(member, clause) for member in self.members)
+
+# The clauses of a file.
+
+LIMIT = 16_777_216
+FORMULA = re.compile(r'(?:(?:c.*|[\t-\r ]*)\n)*[\t-\r ]*p[\t-\r ]+cnf[\t-\r ]')
+
+def contents(names, most, shown):
+    """the text of the first file that is there, a character for a byte, and its name"""
+    for name in names:
+        try:
+            with open(name.encode('latin-1'), 'rb') as file:
+                text = file.read(most + 1).decode('latin-1')
+        except FileNotFoundError:
+            continue
+        except OSError:
+            raise Ended('% read fault', 4, 'OSError') from None
+        if len(text) > most:
+            raise Ended('% limit bytes', 2, 'InputError')
+        return text, name
+    raise Ended(f'% absent: {shown}', 2, 'InputError')
+
+def statements(text, name):
+    """what each statement says"""
+    found, end = [], BLANK.match(text).end()
+    while end < len(text):
+        where = f'statement {len(found) + 1} of {name}'
+        try:
+            statement = Statement(text, end, where)
+            found.append(statement.said(where))
+        except Misread:
+            raise Ended(f'% syntax: {where}', 2, 'SyntaxError') from None
+        end = BLANK.match(text, statement.end).end()
+    return found
+
+class Problem:
+    """the clauses of a file and its includes, each behind its name, and None for one that always holds"""
+
+    def __init__(self, name, root):
+        self.root, self.left = root, LIMIT
+        self.clauses = [clause for _, clause in self.expanded([name], 0, name) if clause is not None]
+
+    def expanded(self, names, level, shown):
+        if level > 16:
+            raise Ended(f'% limit include depth: {shown}', 2, 'InputError')
+        text, name = contents(names, self.left, shown)
+        self.left -= len(text)
+        found = []
+        for named, said, *include in statements(text, name):
+            if include:
+                tried = [named] if named[0] == '/' else [name[:name.rfind('/') + 1] + named] + [f'{self.root}/{named}'] * (self.root is not None)
+                inner = self.expanded(tried, level + 1, named)
+                for listed in said or ():
+                    if listed not in dict(inner):
+                        raise Ended(f'% not selected: {listed} in {named}', 2, 'InputError')
+            found += [pair for pair in inner if said is None or pair[0] in said] if include else [(named, said)]
+        return found
+
+def flattened(clauses, size):
+    """the clauses that have a model where these have one with so many elements"""
+    elements = [('function', f'k{number}', 0) for number in range(1, size + 1)]
+    numbers = {symbol: number for kind in ('function', 'predicate') for number, symbol in enumerate(symbols(clauses, kind), 1)}
+    cells = [((('predicate', 'id', 2), one, other), one == other) for one in elements for other in elements]
+    result = [(cell if same else complement(cell),) for cell, same in cells]
+    for symbol in symbols(clauses, 'function'):
+        cells = [(('predicate', f'f{numbers[symbol]}', symbol[2] + 1), *range(symbol[2]), element) for element in elements]
+        result += [tuple(cells)] + [(complement(one), complement(other)) for one, other in itertools.combinations(cells, 2)]
+    return result + [flat_clause(clause, numbers) for clause in clauses]
+
+def flat_clause(clause, numbers):
+    """the clause without nested terms"""
+    stands, literals, own = {}, [], []
+    for literal in clause:
+        atom = literal[literal[0] == NOT:]
+        ends = [place + len(subterm(atom, place)) for place in range(len(atom))]
+        for place in sorted(range(len(atom)), key=lambda place: (ends[place], -place)):
+            symbol, term, values, behind = atom[place], subterm(atom, place), [], place + 1
+            while behind < ends[place]:
+                values.append(stands.get(subterm(atom, behind), atom[behind]))
+                behind = ends[behind]
+            if place == 0:
+                flat = ('predicate', 'id' if symbol == EQUAL else f'p{numbers[symbol]}', symbol[2]), *values
+                own.append(flat if atom is literal else complement(flat))
+            elif not is_variable(symbol) and term not in stands:
+                stands[term] = f'value {len(stands)}'
+                literals.append((NOT, ('predicate', f'f{numbers[symbol]}', symbol[2] + 1), *values, stands[term]))
+    return canonical(literals + own)
+
+def formula_clauses(text):
+    """the clauses of a quantified formula"""
+    lines = itertools.takewhile(lambda line: line[:1] != '%', text.split('\n'))
+    header, *rows = filter(None, [re.findall(r'[^\t-\r ]+', line) for line in lines if line[:1] != 'c'])
+    quantified, universal, atoms, literals = list(itertools.takewhile(lambda row: row[0] in 'ae', rows)), [], {}, []
+    demand(all(re.fullmatch('-?[0-9]{1,10}', word) for row in rows for word in row[row in quantified:]) and all(row[-1] == '0' for row in quantified))
+    truth, letters = ('predicate', 'v', 1), [('function', letter, 0) for letter in 'tf']
+    for letter, *words, _ in quantified:
+        universal += words if letter == 'a' else []
+        for number in map(int, words):
+            atoms[number] = (truth, str(number)) if letter == 'a' else (('predicate', f'e{number}', len(universal)), *universal)
+    result = [((truth, letters[0]),), ((NOT, truth, letters[1]),)]
+    for number in [int(word) for row in rows[len(quantified):] for word in row]:
+        atom = atoms.get(abs(number), (('predicate', f'e{abs(number)}', 0),))
+        literals.append(atom if number > 0 else complement(atom))
+        if not number:
+            result.append(canonical(literals[:-1]))
+            literals = []
+    demand(not literals and [len(result) - 2] == list(map(int, header[3:])))
+    return result
+
+# The words and the answer.
+
+def wanted_clauses(certificate, name, root):
+    """the clauses that the certificate must have"""
+    size = certificate.head and certificate.head[2]
+    text, _ = contents([name], LIMIT, name)
+    if size or not certificate.head and not FORMULA.match(text):
+        clauses = Problem(name, root).clauses
+        return flattened(clauses, int(size)) if size else clauses
+    try:
+        return formula_clauses(text)
+    except (Misread, ValueError):
+        raise Ended(f'% syntax: {name}', 2, 'SyntaxError') from None
+
+def read_words(arguments):
+    parser = argparse.ArgumentParser(description=__doc__, formatter_class=argparse.RawDescriptionHelpFormatter, allow_abbrev=False)
+    parser.add_argument('certificate', metavar='CERT')
+    parser.add_argument('--problem', metavar='FILE', help='what the program was asked about')
+    parser.add_argument('--root', metavar='DIR', help='the folder under which includes are looked for too')
+    parser.error = lambda _: demand(False)
+    words = parser.parse_args([os.fsencode(argument).decode('latin-1') for argument in arguments])
+    demand(all(word is None or re.fullmatch(TITLE, word) for word in vars(words).values()))
+    return words
+
+def answer(arguments):
+    """what is printed, and the exit status"""
+    name = 'instgen'
+    try:
+        words = read_words(arguments)
+        name = words.certificate
+        certificate = Certificate(contents([name], 268_435_456, name)[0], name)
+        Check(certificate, words.problem and wanted_clauses(certificate, words.problem, words.root))
+        return f'valid {certificate.form}\n', 0
+    except Misread:
+        return f'% SZS status UsageError for {name}\n% usage\n', 3
+    except Ended as ended:
+        line, status, *refusal = ended.args
+        return ''.join(f'% SZS status {word} for {name}\n' for word in refusal) + f'{line}\n', status
+    except MemoryError:
+        return f'% SZS status MemoryOut for {name}\n', 6
+
+if __name__ == '__main__':
+    printed, code = answer(sys.argv[1:])
+    sys.stdout.buffer.write(printed.encode('latin-1'))
+    sys.exit(code)
