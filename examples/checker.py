@@ -4,11 +4,10 @@
 CERT is a certificate of any format, or the whole answer of `qbf`, or that of `fmodel` where there is no model. What is printed is what `instgen check`
 prints: `valid` and the form; `invalid:` and the first complaint; or why a file is refused. The exit status is 0, 7, or that of the refusal.
 
-With --problem, the clauses of the certificate must be those of FILE, which is what the program was asked about: a problem, or a quantified formula, of which
-the clauses are made. Where CERT begins with `% no tables K for NAME`, they must be those that say that the clauses of FILE have a model with K elements."""
+With --problem, the clauses of the certificate must be those of FILE, which is what the program was asked about: a problem, or a quantified formula, whose
+clauses are made here. Where CERT begins with `% no tables K for NAME`, they must be those that say that FILE's clauses have a model with K elements."""
 import argparse
 import itertools
-import os
 import re
 import sys
 
@@ -21,6 +20,12 @@ class Misread(Exception):
 def demand(holds):
     if not holds:
         raise Misread
+def refuse(word, line, holds=True, status=2):
+    if holds:
+        raise Ended(line, status, word)
+def complain(words, holds=True):
+    if holds:
+        raise Ended(f'invalid: {words}', 7)
 
 # Terms, atoms and literals are tuples of what is read from left to right: of symbols, which have a kind, a name and how many arguments follow, and of
 # variables, which are numbers in canonical clauses. A negative literal begins with NOT. A clause is a tuple of literals.
@@ -29,10 +34,11 @@ NOT, EQUAL, TRUE, FALSE = ('not', '~', 1), ('equality', '=', 2), ('dollar', '$tr
 
 def is_variable(part):
     return not isinstance(part, tuple)
-
 def complement(literal):
     return literal[1:] if literal[0] == NOT else (NOT, *literal)
-
+def item(items, number):
+    """the item with a number, or None"""
+    return items[number - 1] if 1 <= number <= len(items) else None
 def subterm(term, place):
     """the term that begins at a place"""
     end, missing = place, 1
@@ -41,41 +47,31 @@ def subterm(term, place):
         end += 1
     return term[place:end]
 
-def replaced(term, bindings):
-    """the term with terms for its variables"""
-    return tuple(itertools.chain.from_iterable(bindings.get(part, (part,)) if is_variable(part) else (part,) for part in term))
-
-def instance(clause, bindings):
-    return tuple(dict.fromkeys(replaced(literal, bindings) for literal in clause))
-
 def variables(clause):
     """the different variables, by first occurrence"""
     return list(dict.fromkeys(part for literal in clause for part in literal if is_variable(part)))
-
+def replaced(term, bindings):
+    return tuple(new for part in term for new in bindings.get(part, (part,)))
+def instance(clause, bindings):
+    return tuple(dict.fromkeys(replaced(literal, bindings) for literal in clause))
 def under_terms(clause, terms):
     """the clause under terms, or None where they are not as many as its variables"""
     places = variables(clause)
     return instance(clause, dict(zip(places, terms))) if len(places) == len(terms) else None
-
 def canonical(clause):
     """equal literals once, and the variables numbered by first occurrence"""
-    return under_terms(clause, [(number,) for number in range(len(variables(clause)))])
-
+    return instance(clause, {part: (number,) for number, part in enumerate(variables(clause))})
 def is_tautology(clause):
-    literals = set(clause)
-    return any(complement(literal) in literals for literal in clause)
+    return not {complement(literal) for literal in clause}.isdisjoint(clause)
 
 def symbols(clauses, kind):
     """the different symbols of a kind, by first occurrence"""
     return list(dict.fromkeys(part for clause in clauses for literal in clause for part in literal if not is_variable(part) and part[0] == kind))
-
 def axioms(clauses):
     """the axioms of equality of a list of clauses"""
-    if not symbols(clauses, 'equality'):
-        return []
     same = [((EQUAL, 0, 0),), ((NOT, EQUAL, 0, 1), (EQUAL, 1, 0)), ((NOT, EQUAL, 0, 1), (NOT, EQUAL, 1, 2), (EQUAL, 0, 2))]
-    return same + [congruence(symbol) for kind in ('function', 'predicate') for symbol in symbols(clauses, kind) if symbol[2]]
-
+    others = [congruence(symbol) for kind in ('function', 'predicate') for symbol in symbols(clauses, kind) if symbol[2]]
+    return same + others if symbols(clauses, 'equality') else []
 def congruence(symbol):
     ones, others = range(0, 2 * symbol[2], 2), range(1, 2 * symbol[2], 2)
     last = [(EQUAL, symbol, *ones, symbol, *others)] if symbol[0] == 'function' else [(NOT, symbol, *ones), (symbol, *others)]
@@ -95,12 +91,13 @@ def unifier(first, second):
     return bindings
 
 def meeting(left, left_place, right, right_place):
-    """None where the literals at the places have one sign or no unifier; else the instance of each side for whose literal it is proper"""
-    one, other = complement(left[left_place - 1]), right[right_place - 1]
-    if one[:1 + (one[0] == NOT)] != other[:1 + (other[0] == NOT)]:
+    """the instance of each side for whose literal at its place the unifier is proper; None where there is no unifier or no such literal"""
+    one, other = item(left, left_place), item(right, right_place)
+    start = 1 + (one is not None and one[0] != NOT)
+    if None in (one, other) or complement(one)[:start] != other[:start]:
         return None
     right = instance(right, {part: (-1 - part,) for part in variables(right)})
-    bindings = unifier(one, right[right_place - 1])
+    bindings = unifier(complement(one), right[right_place - 1])
     sides = ('left', left, left_place), ('right', right, right_place)
     return None if bindings is None else {side: canonical(instance(clause, bindings)) for side, clause, place in sides if any(
         not is_variable(bindings.get(part, (part,))[0]) for part in variables([clause[place - 1]]))}
@@ -108,13 +105,11 @@ def meeting(left, left_place, right, right_place):
 def has_instance_within(clause, target):
     """whether an instance of the clause has all its literals in the target, whose variables are held fixed"""
     fixed, work = instance(target, {part: (('fixed', part, 0),) for part in variables(target)}), [clause]
-    while work:
-        first, *rest = work.pop() or [None]
-        if first is None:
-            return True
+    while work and work[-1]:
+        first, *rest = work.pop()
         found = [unifier(first, literal) for literal in fixed]
         work += [instance(rest, bindings) for bindings in found if bindings is not None]
-    return False
+    return bool(work)
 
 # Statements. The lines of a certificate are statements too, but must be spelled in one way.
 
@@ -133,51 +128,44 @@ def content(word):
 
 class Statement:
     """the tokens from a place up to the first full stop, each a kind and a text, and how many are read"""
-
     def __init__(self, text, end=0, where=None):
-        self.tokens, self.end, self.place, self.truths, self.loose = [], end, 0, set(), False
-        while not self.tokens or self.tokens[-1][1] != '.':
+        self.tokens, self.end, self.place, self.truths, self.loose, self.where = [('mark', ' ')], end, 1, set(), False, where
+        while self.tokens[-1][1] != '.':
             found = TOKEN.match(text, BLANK.match(text, self.end).end())
             demand(found)
             self.tokens.append((found.lastgroup, found[0]))
             self.end = found.end()
-            if len(self.tokens) == 2 and self.tokens[0][1] in ('fof', 'tff', 'tcf', 'thf', 'tpi') and found[0] == '(':
-                raise Ended(f'% language {self.tokens[0][1]}: {where}', 2, 'Inappropriate')
+            is_language = len(self.tokens) == 3 and self.tokens[1][1] in ('fof', 'tff', 'tcf', 'thf', 'tpi') and found[0] == '('
+            refuse('Inappropriate', f'% language {self.tokens[1][1]}: {where}', is_language)
 
     def has(self, word):
-        found = self.place < len(self.tokens) and self.tokens[self.place][1] == word
+        found = self.tokens[self.place % len(self.tokens)][1] == word
         self.place += found
         return found
-
     def expect(self, *words):
         demand(all(self.has(word) for word in words))
-
     def take(self, *kinds):
-        kind, text = self.tokens[self.place] if self.place < len(self.tokens) else ('', '')
+        kind, text = self.tokens[self.place % len(self.tokens)]
         demand(kind in kinds)
         self.place += 1
         return kind, content(text)
-
     def name(self):
         return self.take('lower', 'quoted', 'integer')[1]
-
-    def listed(self, item):
+    def listed(self, part):
         """what the calls give, in brackets"""
-        self.expect('[')
-        items = []
+        parts = self.expect('[') or []
         while not self.has(']'):
-            self.expect(*[','] * bool(items))
-            items.append(item())
-        return items
+            self.expect(*[','] * bool(parts))
+            parts.append(part())
+        return parts
 
     def leaf(self):
-        """a kind, and a name or a number"""
+        """a kind, and a name or the number of a variable"""
         if self.has('['):
             return 'list', '['
         kind, name = self.take(*set(KINDS) - {'mark'})
-        number = re.fullmatch('X(0|[1-9][0-9]{0,19})', name) if kind == 'variable' else None
-        return 'function' if kind in ('lower', 'quoted') else kind, int(number[1]) if number and int(number[1]) < 2 ** 64 else name
-
+        is_number = kind == 'variable' and re.fullmatch('X(0|[1-9][0-9]{0,19})', name) and int(name[1:]) < 2 ** 64
+        return 'function' if kind in ('lower', 'quoted') else kind, int(name[1:]) if is_number else name
     def term(self):
         """a general term, as terms are; a list has the name `[`, and of `a:b` both stand one behind the other"""
         parts, open_places = [], []
@@ -203,7 +191,6 @@ class Statement:
         while self.has('('):
             level, self.loose = level + 1, True
         return level
-
     def literal(self):
         negative = self.has('~')
         level, begin, atom = self.opened() if negative else 0, self.place, self.term()
@@ -216,7 +203,6 @@ class Statement:
             self.truths |= {begin} if atom in ((TRUE,), (FALSE,)) else set()
         self.expect(*')' * level)
         return complement(atom) if negative or unequal else atom
-
     def disjunction(self):
         literals, level, begin = [], 0, self.place
         while not literals or self.has('|'):
@@ -227,11 +213,10 @@ class Statement:
         demand(not level and not any(text in ('[', ':') for _, text in self.tokens[begin:self.place]))
         return tuple(literals)
 
-    def said(self, where):
+    def said(self):
         """a name and a clause, None where it always holds; or the name of an include, its selection or None, and None"""
-        steps = ((text in ('(', '[')) - (before in (')', ']')) for (_, before), (_, text) in zip([('', ''), *self.tokens], self.tokens))
-        if max(itertools.accumulate(steps)) > 256:
-            raise Ended(f'% limit nesting: {where}', 2, 'InputError')
+        steps = ((text in ('(', '[')) - (before in (')', ']')) for (_, before), (_, text) in zip(self.tokens, self.tokens[1:]))
+        refuse('InputError', f'% limit nesting: {self.where}', max(itertools.accumulate(steps)) > 256)
         if self.has('include'):
             self.expect('(')
             name, selection = self.take('quoted')[1], self.listed(self.name) if self.has(',') else None
@@ -239,23 +224,18 @@ class Statement:
             demand(selection != [])
             return name, selection, None
         self.expect('cnf', '(')
-        name, _ = self.name(), self.expect(',')
-        role, _ = self.take('lower')[1], self.expect(',')
+        name, _, (_, role), _ = self.name(), self.expect(','), self.take('lower'), self.expect(',')
         begin, literals, end = self.place, self.disjunction(), self.place
         demand(not self.has(',') or self.term() and (not self.has(',') or self.term()[0][0] == 'list'))
         self.expect(')', '.')
-        self.judge(where, role, range(begin, end), literals)
+        refuse('Inappropriate', f'% role {role}: {self.where}', role not in ROLES)
+        for kind, text in (self.tokens[place] for place in range(begin, end) if place not in self.truths):
+            refuse('Inappropriate', f'% feature {text}: {self.where}', kind in ('integer', 'rational', 'real', 'distinct', 'dollar'))
+        large = any(part[2] > 1024 for literal in literals for part in literal if not is_variable(part))
+        refuse('InputError', f'% limit arity: {self.where}', large)
+        refuse('InputError', f'% limit variables: {self.where}', len(variables(literals)) > 10_000)
         literals = [literal for literal in literals if literal not in ((FALSE,), (NOT, TRUE))]
         return name, None if (TRUE,) in literals or (NOT, FALSE) in literals else canonical(literals)
-
-    def judge(self, where, role, places, literals):
-        features = [self.tokens[place][1] for place in places if place not in self.truths and self.tokens[place][0] in (
-            'integer', 'rational', 'real', 'distinct', 'dollar')]
-        large = any(part[2] > 1024 for literal in literals for part in literal if not is_variable(part))
-        for word, line, holds in (('Inappropriate', f'role {role}', role not in ROLES), ('Inappropriate', f'feature {"".join(features[:1])}', features),
-                                  ('InputError', 'limit arity', large), ('InputError', 'limit variables', len(variables(literals)) > 10_000)):
-            if holds:
-                raise Ended(f'% {line}: {where}', 2, word)
 
     def spelled(self, begin):
         """the tokens from one on to the place as a certificate has them"""
@@ -266,7 +246,7 @@ class Statement:
 # The text of a certificate.
 
 TITLE, NUMBER = '[ -~\x80-\xff]{1,4096}', '(?:0|[1-9][0-9]{0,19})'
-HEAD = re.compile(f'(s TRUE|s FALSE|% no tables ([1-9]|[1-5][0-9]|6[0-4]) for ({TITLE}))')
+HEAD = f'(s TRUE|s FALSE|% no tables ([1-9]|[1-5][0-9]|6[0-4]) for ({TITLE}))'
 
 def line_forms(form, version):
     """for the letter of each group, in order, what stands behind the clause of its lines"""
@@ -285,51 +265,53 @@ def read_part(text):
     if text[0] == '[':
         statement = Statement(text + '.')
         terms = statement.listed(statement.term)
-        demand(not any(mark in ('[', ':') for _, mark in statement.tokens[1:]) and not any(isinstance(part, str) for term in terms for part in term))
-        demand(statement.spelled(0) == text)
+        demand(not any(mark in ('[', ':') for _, mark in statement.tokens[2:]) and not any(isinstance(part, str) for term in terms for part in term))
+        demand(statement.spelled(1) == text)
         return terms
     found = [(letter, int(digits)) for letter, digits in re.findall('([gr]?)([0-9]+)', text)]
     demand(all(number < 2 ** 64 for _, number in found))
     values = found if text[0] == '(' else [number for _, number in found]
     return text if text[0].isalpha() else values if text[0] in '(,' else values[0]
 
+def require(word, entries, holds):
+    """a complaint with the number of the first entry that does not hold"""
+    for number, entry in enumerate(entries, 1):
+        complain(f'{word} {number}', not holds(*entry))
+def require_same(word, ones, others):
+    require(word, itertools.zip_longest(ones, others), lambda one, other: one == other)
+
 class Certificate:
     """groups has for each letter a list of lines: the clause and what stands behind it; clauses are those of the inputs and axioms"""
-
     def __init__(self, text, name):
         *self.lines, self.rest = text.split('\n')
-        self.number = 0
+        self.number, self.head, self.clauses, self.members, self.steps = 0, None, [], [], []
         try:
             self.read_beginning()
-            self.read_groups()
+            self.read_groups(line_forms(self.form, self.version))
         except Misread:
-            raise Ended(f'% syntax: line {self.number} of {name}', 2, 'SyntaxError') from None
+            refuse('SyntaxError', f'% syntax: line {self.number} of {name}')
 
     def line(self, pattern):
         """the next line, which must be as the pattern says"""
         self.number += 1
-        demand(self.number <= len(self.lines))
-        found = re.fullmatch(pattern, self.lines[self.number - 1])
+        found = self.number <= len(self.lines) and re.fullmatch(pattern, self.lines[self.number - 1])
         demand(found)
         return found
-
     def read_beginning(self):
-        self.head = self.line(HEAD) if self.lines and HEAD.fullmatch(self.lines[0]) else None
-        status, self.title = self.line(f'% SZS status (Satisfiable|Unsatisfiable) for ({TITLE})').groups()
+        if self.lines and re.fullmatch(HEAD, self.lines[0]):
+            self.head = self.line(HEAD)
+        status, title = self.line(f'% SZS status (Satisfiable|Unsatisfiable) for ({TITLE})').groups()
+        demand(not self.head or (self.head[1] == 's TRUE') == (status == 'Satisfiable') and self.head[3] in (None, title))
         self.form = 'Saturation' if status == 'Satisfiable' else 'CNFRefutation'
-        demand(not self.head or (self.head[1] == 's TRUE') == (status == 'Satisfiable') and self.head[3] in (None, self.title))
-        self.line(re.escape(f'% SZS output start {self.form} for {self.title}'))
+        self.end = f'% SZS output end {self.form} for {title}'
+        self.line(re.escape(self.end.replace('end', 'start', 1)))
         self.version = int(self.line('% instgen certificate ([1-9][0-9]{0,17})')[1])
-        if self.version > 3:
-            raise Ended(f'% version: {self.version}', 2, 'InputError')
+        refuse('InputError', f'% version: {self.version}', self.version > 3)
         if self.form == 'CNFRefutation':
             self.constant = 'function', content(self.line(f'% ground constant ({PRINTED})')[1]), 0
-
-    def read_groups(self):
-        forms, end = line_forms(self.form, self.version), f'% SZS output end {self.form} for {self.title}'
-        letters, self.groups, self.clauses = list(forms), {letter: [] for letter in forms}, []
-        text = self.line('.*')[0]
-        while text != end:
+    def read_groups(self, forms):
+        letters, self.groups, text = list(forms), {letter: [] for letter in forms}, self.line('.*')[0]
+        while text != self.end:
             letter = text[4:5]
             demand(letter in letters and (letter != 'c' or len(self.groups['q']) == len(self.clauses)))
             letters = letters[letters.index(letter):]
@@ -338,14 +320,13 @@ class Certificate:
         demand('q' not in forms or len(self.groups['q']) == len(self.clauses))
         self.number += 1
         demand(self.number > len(self.lines) and not self.rest)
-
     def read_entry(self, text, letter, form):
         group, begin = self.groups[letter], f'cnf({letter}{len(self.groups[letter]) + 1},{"axiom" if letter in "ie" else "plain"},'
         demand(text.startswith(begin))
         statement = Statement(text)
-        statement.place = 6
+        statement.place = 7
         clause = statement.disjunction()
-        begin, clause = (begin + '$false', ()) if clause == ((FALSE,),) else (begin + statement.spelled(6), clause)
+        begin, clause = (begin + '$false', ()) if clause == ((FALSE,),) else (begin + statement.spelled(7), clause)
         found = re.fullmatch(rf',{form}\)\.', text[len(begin):])
         demand(text.startswith(begin) and found and clause == canonical(clause))
         entry = [clause, *map(read_part, filter(None, found.groups()))]
@@ -354,66 +335,42 @@ class Certificate:
         group.append(entry)
         self.clauses += [clause] * (letter in 'ie')
 
-# The checks.
-
-def item(items, number):
-    """the item with a number, or None"""
-    return items[number - 1] if 1 <= number <= len(items) else None
-
-def require(word, items, holds):
-    """a complaint with the number of the first item that does not hold"""
-    for number, parts in enumerate(items, 1):
-        if not holds(*parts):
-            raise Ended(f'invalid: {word} {number}', 7)
-
-def require_same(word, ones, others):
-    require(word, itertools.zip_longest(ones, others), lambda one, other: one == other)
-
-class Check:
-    """the checks of a certificate in their order; wanted are the clauses of the problem, or None"""
-
-    def __init__(self, certificate, wanted):
-        self.groups, self.clauses, self.version, self.members, self.steps = certificate.groups, certificate.clauses, certificate.version, [], []
+    def check(self, wanted):
+        """the checks in their order; wanted are the clauses of the problem, or None"""
         inputs, given = ([clause for clause, *_ in self.groups[letter]] for letter in 'ie')
         require_same('problem', inputs, inputs if wanted is None else wanted)
         require_same('axiom', given, axioms(inputs))
         require('member', self.groups['m'], self.member_holds)
-        if certificate.form == 'Saturation':
+        if self.form == 'Saturation':
             self.check_saturation([entry[-1] for entry in self.groups['m']])
         else:
-            self.check_refutation(certificate.constant)
-
-    def member_holds(self, clause, word, *numbers):
+            self.check_refutation()
+    def member_holds(self, clause, word, first, *more):
         """whether the clause is what its origin gives; if so, it becomes a member"""
-        wanted = item(self.clauses, numbers[0]) if word == 'input' else self.conclusion(*numbers[:4])
+        if word == 'input':
+            wanted = item(self.clauses, first)
+        else:
+            place, second, second_place, *lists = more
+            wanted = (meeting(item(self.members, first) or (), place, item(self.members, second) or (), second_place) or {}).get('left')
         if word == 'lemma' and wanted is not None:
-            places, givers = numbers[4:6]
+            places, givers = lists[:2]
             rising = all(low < high for low, high in zip([0, *places], [*places, len(wanted) + 1])) and len(places) < len(wanted)
             given = all(1 <= giver <= len(self.members) for giver in givers)
             wanted = canonical([wanted[place - 1] for place in places]) if rising and given else None
         self.members.append(clause)
         return clause == wanted
 
-    def conclusion(self, left, left_place, right, right_place):
-        """the conclusion of a member at a place with a member at a place, or None"""
-        left, right = item(self.members, left) or (), item(self.members, right) or ()
-        exist = item(left, left_place) and item(right, right_place)
-        return (meeting(left, left_place, right, right_place) or {}).get('left') if exist else None
-
-    def check_refutation(self, constant):
+    def check_refutation(self):
         if self.version == 1:
-            owed = [instance(member, dict.fromkeys(variables(member), (constant,))) for member in self.members]
+            owed = [instance(member, dict.fromkeys(variables(member), (self.constant,))) for member in self.members]
             require_same('ground', [clause for clause, _ in self.groups['g']], owed)
         else:
             require('ground', self.groups['g'], self.ground_holds)
         require('step', self.groups['r'], self.step_holds)
-        if not self.steps or self.steps[-1]:
-            raise Ended('invalid: no empty clause', 7)
-
+        complain('no empty clause', not self.steps or self.steps[-1])
     def ground_holds(self, clause, number, terms):
         owner = item(self.clauses, number)
         return owner is not None and not variables(terms) and under_terms(owner, terms) == clause
-
     def step_holds(self, clause, hints):
         """whether the step is shown by its hints; if so, it becomes a step"""
         false, (*hints, last) = set(clause), [self.hinted(*hint) for hint in hints]
@@ -424,7 +381,6 @@ class Check:
             false.update(map(complement, left))
         self.steps.append(clause)
         return last <= false
-
     def hinted(self, letter, number):
         """the literals of a hint; where there is none, two that no clause has"""
         found = item(self.steps, number) if letter == 'r' else (item(self.groups['g'], number) or [None])[0]
@@ -441,15 +397,11 @@ class Check:
             found = meeting(*one, *other)
             dues = [(clause, left, right, side, one[0] if side == 'left' else other[0]) for side, clause in (found or {}).items()]
             covered = self.version == 3 or all(is_tautology(due[0]) or due[0] in known or self.has_part(due[0], due[4]) for due in dues)
-            if found is not None and not (dues and covered):
-                raise Ended(f'invalid: pair {left} {right}', 7)
+            complain(f'pair {left} {right}', found is not None and not (dues and covered))
             owed += dues
-        if self.version == 3:
-            require('cover', itertools.zip_longest(owed, self.groups['c']), self.cover_holds)
-
+        require('cover', itertools.zip_longest(owed, self.groups['c']) if self.version == 3 else (), self.cover_holds)
     def cover_holds(self, due, cover):
         return None not in (due, cover) and list(due[:4]) == cover[:4] and self.shows(due[0], *cover[4:], owner=due[4])
-
     def shows(self, clause, word, number=0, terms=(), owner=None):
         """whether the reason shows that the members make true the clause, which is an instance of its owner if it has one"""
         if word == 'tautology':
@@ -459,7 +411,6 @@ class Check:
             return member == clause
         part = under_terms(member, terms)
         return (owner is None or len(member) < len(owner)) and part is not None and set(part) <= set(clause)
-
     def has_part(self, clause, owner=None):
         return any((owner is None or len(member) < len(owner)) and has_instance_within(member, clause) for member in self.members)
 
@@ -474,14 +425,13 @@ def contents(names, most, shown):
         try:
             with open(name.encode('latin-1'), 'rb') as file:
                 text = file.read(most + 1).decode('latin-1')
+            refuse('InputError', '% limit bytes', len(text) > most)
+            return text, name
         except FileNotFoundError:
-            continue
+            pass
         except OSError:
-            raise Ended('% read fault', 4, 'OSError') from None
-        if len(text) > most:
-            raise Ended('% limit bytes', 2, 'InputError')
-        return text, name
-    raise Ended(f'% absent: {shown}', 2, 'InputError')
+            refuse('OSError', '% read fault', status=4)
+    return refuse('InputError', f'% absent: {shown}')
 
 def statements(text, name):
     """what each statement says"""
@@ -490,64 +440,57 @@ def statements(text, name):
         where = f'statement {len(found) + 1} of {name}'
         try:
             statement = Statement(text, end, where)
-            found.append(statement.said(where))
+            found.append(statement.said())
         except Misread:
-            raise Ended(f'% syntax: {where}', 2, 'SyntaxError') from None
+            refuse('SyntaxError', f'% syntax: {where}')
         end = BLANK.match(text, statement.end).end()
     return found
 
-class Problem:
-    """the clauses of a file and its includes, each behind its name, and None for one that always holds"""
-
-    def __init__(self, name, root):
-        self.root, self.left = root, LIMIT
-        self.clauses = [clause for _, clause in self.expanded([name], 0, name) if clause is not None]
-
-    def expanded(self, names, level, shown):
-        if level > 16:
-            raise Ended(f'% limit include depth: {shown}', 2, 'InputError')
-        text, name = contents(names, self.left, shown)
-        self.left -= len(text)
-        found = []
-        for named, said, *include in statements(text, name):
-            if include:
-                tried = [named] if named[0] == '/' else [name[:name.rfind('/') + 1] + named] + [f'{self.root}/{named}'] * (self.root is not None)
-                inner = self.expanded(tried, level + 1, named)
-                for listed in said or ():
-                    if listed not in dict(inner):
-                        raise Ended(f'% not selected: {listed} in {named}', 2, 'InputError')
-            found += [pair for pair in inner if said is None or pair[0] in said] if include else [(named, said)]
-        return found
+def expanded(names, root, left, level, shown):
+    """the name and the clause of each statement of a file and its includes, None for one that always holds; left are the bytes that may be read"""
+    refuse('InputError', f'% limit include depth: {shown}', level > 16)
+    (text, name), found = contents(names, left[0], shown), []
+    left[0] -= len(text)
+    for named, said, *include in statements(text, name):
+        if include:
+            tried = [named] if named[0] == '/' else [name[:name.rfind('/') + 1] + named] + [f'{root}/{named}'] * (root is not None)
+            inner = expanded(tried, root, left, level + 1, named)
+            for listed in said or ():
+                refuse('InputError', f'% not selected: {listed} in {named}', listed not in dict(inner))
+        found += [pair for pair in inner if said is None or pair[0] in said] if include else [(named, said)]
+    return found
 
 def flattened(clauses, size):
     """the clauses that have a model where these have one with so many elements"""
     elements = [('function', f'k{number}', 0) for number in range(1, size + 1)]
     numbers = {symbol: number for kind in ('function', 'predicate') for number, symbol in enumerate(symbols(clauses, kind), 1)}
-    cells = [((('predicate', 'id', 2), one, other), one == other) for one in elements for other in elements]
-    result = [(cell if same else complement(cell),) for cell, same in cells]
+    pairs = [((('predicate', 'id', 2), one, other), one == other) for one in elements for other in elements]
+    result = [(atom if same else complement(atom),) for atom, same in pairs]
     for symbol in symbols(clauses, 'function'):
         cells = [(('predicate', f'f{numbers[symbol]}', symbol[2] + 1), *range(symbol[2]), element) for element in elements]
         result += [tuple(cells)] + [(complement(one), complement(other)) for one, other in itertools.combinations(cells, 2)]
     return result + [flat_clause(clause, numbers) for clause in clauses]
-
 def flat_clause(clause, numbers):
-    """the clause without nested terms"""
+    """the clause without terms in terms; stands has for each term what stands for it"""
     stands, literals, own = {}, [], []
     for literal in clause:
         atom = literal[literal[0] == NOT:]
-        ends = [place + len(subterm(atom, place)) for place in range(len(atom))]
-        for place in sorted(range(len(atom)), key=lambda place: (ends[place], -place)):
-            symbol, term, values, behind = atom[place], subterm(atom, place), [], place + 1
-            while behind < ends[place]:
-                values.append(stands.get(subterm(atom, behind), atom[behind]))
-                behind = ends[behind]
-            if place == 0:
-                flat = ('predicate', 'id' if symbol == EQUAL else f'p{numbers[symbol]}', symbol[2]), *values
-                own.append(flat if atom is literal else complement(flat))
-            elif not is_variable(symbol) and term not in stands:
+        terms = [subterm(atom, place) for place in range(1, len(atom))]
+        for _, term in sorted(enumerate(terms), key=lambda pair: (pair[0] + len(pair[1]), -pair[0])):
+            if not is_variable(term[0]) and term not in stands:
+                flat = ('predicate', f'f{numbers[term[0]]}', term[0][2] + 1), *standing(term, stands)
                 stands[term] = f'value {len(stands)}'
-                literals.append((NOT, ('predicate', f'f{numbers[symbol]}', symbol[2] + 1), *values, stands[term]))
+                literals.append((NOT, *flat, stands[term]))
+        flat = ('predicate', 'id' if atom[0] == EQUAL else f'p{numbers[atom[0]]}', atom[0][2]), *standing(atom, stands)
+        own.append(flat if atom is literal else complement(flat))
     return canonical(literals + own)
+def standing(term, stands):
+    """what stands for the arguments"""
+    found, place = [], 1
+    while place < len(term):
+        found.append(stands.get(subterm(term, place), term[place]))
+        place += len(subterm(term, place))
+    return found
 
 def formula_clauses(text):
     """the clauses of a quantified formula"""
@@ -572,17 +515,16 @@ def formula_clauses(text):
 
 # The words and the answer.
 
-def wanted_clauses(certificate, name, root):
+def wanted_clauses(head, name, root):
     """the clauses that the certificate must have"""
-    size = certificate.head and certificate.head[2]
-    text, _ = contents([name], LIMIT, name)
-    if size or not certificate.head and not FORMULA.match(text):
-        clauses = Problem(name, root).clauses
+    text, size = contents([name], LIMIT, name)[0], head and head[2]
+    if size or not head and not FORMULA.match(text):
+        clauses = [clause for _, clause in expanded([name], root, [LIMIT], 0, name) if clause is not None]
         return flattened(clauses, int(size)) if size else clauses
     try:
         return formula_clauses(text)
     except (Misread, ValueError):
-        raise Ended(f'% syntax: {name}', 2, 'SyntaxError') from None
+        return refuse('SyntaxError', f'% syntax: {name}')
 
 def read_words(arguments):
     parser = argparse.ArgumentParser(description=__doc__, formatter_class=argparse.RawDescriptionHelpFormatter, allow_abbrev=False)
@@ -590,7 +532,7 @@ def read_words(arguments):
     parser.add_argument('--problem', metavar='FILE', help='what the program was asked about')
     parser.add_argument('--root', metavar='DIR', help='the folder under which includes are looked for too')
     parser.error = lambda _: demand(False)
-    words = parser.parse_args([os.fsencode(argument).decode('latin-1') for argument in arguments])
+    words = parser.parse_args([argument.encode().decode('latin-1') for argument in arguments])
     demand(all(word is None or re.fullmatch(TITLE, word) for word in vars(words).values()))
     return words
 
@@ -601,15 +543,15 @@ def answer(arguments):
         words = read_words(arguments)
         name = words.certificate
         certificate = Certificate(contents([name], 268_435_456, name)[0], name)
-        Check(certificate, words.problem and wanted_clauses(certificate, words.problem, words.root))
+        certificate.check(words.problem and wanted_clauses(certificate.head, words.problem, words.root))
         return f'valid {certificate.form}\n', 0
+    except UnicodeError:
+        return '', 3
     except Misread:
         return f'% SZS status UsageError for {name}\n% usage\n', 3
     except Ended as ended:
         line, status, *refusal = ended.args
         return ''.join(f'% SZS status {word} for {name}\n' for word in refusal) + f'{line}\n', status
-    except MemoryError:
-        return f'% SZS status MemoryOut for {name}\n', 6
 
 if __name__ == '__main__':
     printed, code = answer(sys.argv[1:])
