@@ -120,6 +120,7 @@ KINDS = {'real': rf'{INTEGER}(?:\.[0-9]+(?:[eE]{INTEGER})?|[eE]{INTEGER})', 'rat
          'variable': '[A-Z][A-Za-z0-9_]*', 'dollar': rf'\$\$?{LOWER}', 'quoted': QUOTED, 'distinct': r'"(?:[\x20!#-\[\]-~]|\\["\\])*"',
          'mark': r'!=|[()\[\],.|~=:]'}
 TOKEN = re.compile('|'.join(f'(?P<{kind}>{spelling})' for kind, spelling in KINDS.items()))
+WORDS = [kind for kind in KINDS if kind != 'mark']
 ROLES = 'axiom hypothesis definition assumption lemma theorem corollary negated_conjecture plain'.split()
 
 def content(word):
@@ -163,7 +164,7 @@ class Statement:
         """a kind, and a name or the number of a variable"""
         if self.has('['):
             return 'list', '['
-        kind, name = self.take(*set(KINDS) - {'mark'})
+        kind, name = self.take(*WORDS)
         is_number = kind == 'variable' and re.fullmatch('X(0|[1-9][0-9]{0,19})', name) and int(name[1:]) < 2 ** 64
         return 'function' if kind in ('lower', 'quoted') else kind, int(name[1:]) if is_number else name
     def term(self):
@@ -273,12 +274,10 @@ def read_part(text):
     values = found if text[0] == '(' else [number for _, number in found]
     return text if text[0].isalpha() else values if text[0] in '(,' else values[0]
 
-def require(word, entries, holds):
+def require(word, entries, holds=lambda one, other: one == other):
     """a complaint with the number of the first entry that does not hold"""
     for number, entry in enumerate(entries, 1):
         complain(f'{word} {number}', not holds(*entry))
-def require_same(word, ones, others):
-    require(word, itertools.zip_longest(ones, others), lambda one, other: one == other)
 
 class Certificate:
     """groups has for each letter a list of lines: the clause and what stands behind it; clauses are those of the inputs and axioms"""
@@ -338,13 +337,10 @@ class Certificate:
     def check(self, wanted):
         """the checks in their order; wanted are the clauses of the problem, or None"""
         inputs, given = ([clause for clause, *_ in self.groups[letter]] for letter in 'ie')
-        require_same('problem', inputs, inputs if wanted is None else wanted)
-        require_same('axiom', given, axioms(inputs))
+        require('problem', itertools.zip_longest(inputs, inputs if wanted is None else wanted))
+        require('axiom', itertools.zip_longest(given, axioms(inputs)))
         require('member', self.groups['m'], self.member_holds)
-        if self.form == 'Saturation':
-            self.check_saturation([entry[-1] for entry in self.groups['m']])
-        else:
-            self.check_refutation()
+        (self.check_refutation if 'r' in self.groups else self.check_saturation)()
     def member_holds(self, clause, word, first, *more):
         """whether the clause is what its origin gives; if so, it becomes a member"""
         if word == 'input':
@@ -363,7 +359,7 @@ class Certificate:
     def check_refutation(self):
         if self.version == 1:
             owed = [instance(member, dict.fromkeys(variables(member), (self.constant,))) for member in self.members]
-            require_same('ground', [clause for clause, _ in self.groups['g']], owed)
+            require('ground', itertools.zip_longest([clause for clause, _ in self.groups['g']], owed))
         else:
             require('ground', self.groups['g'], self.ground_holds)
         require('step', self.groups['r'], self.step_holds)
@@ -386,13 +382,13 @@ class Certificate:
         found = item(self.steps, number) if letter == 'r' else (item(self.groups['g'], number) or [None])[0]
         return {'', ' '} if found is None else set(found)
 
-    def check_saturation(self, places):
+    def check_saturation(self):
+        places, owed, known = [entry[-1] for entry in self.groups['m']], [], set(self.members)
         require('place', zip(self.members, places), lambda clause, place: item(clause, place) is not None)
         if self.version == 3:
             require('input', self.groups['q'], lambda clause, word, *reason: word != 'variant' and self.shows(clause, word, *reason))
         else:
             require('input', zip(self.clauses), lambda clause: is_tautology(clause) or self.has_part(clause))
-        owed, known = [], set(self.members)
         for (left, one), (right, other) in itertools.combinations(enumerate(zip(self.members, places), 1), 2):
             found = meeting(*one, *other)
             dues = [(clause, left, right, side, one[0] if side == 'left' else other[0]) for side, clause in (found or {}).items()]
@@ -471,39 +467,34 @@ def flattened(clauses, size):
         result += [tuple(cells)] + [(complement(one), complement(other)) for one, other in itertools.combinations(cells, 2)]
     return result + [flat_clause(clause, numbers) for clause in clauses]
 def flat_clause(clause, numbers):
-    """the clause without terms in terms; stands has for each term what stands for it"""
+    """the clause without terms in terms; stands has the variable for each term, whose arguments are variables already"""
     stands, literals, own = {}, [], []
     for literal in clause:
-        atom = literal[literal[0] == NOT:]
-        terms = [subterm(atom, place) for place in range(1, len(atom))]
-        for _, term in sorted(enumerate(terms), key=lambda pair: (pair[0] + len(pair[1]), -pair[0])):
-            if not is_variable(term[0]) and term not in stands:
-                flat = ('predicate', f'f{numbers[term[0]]}', term[0][2] + 1), *standing(term, stands)
-                stands[term] = f'value {len(stands)}'
-                literals.append((NOT, *flat, stands[term]))
-        flat = ('predicate', 'id' if atom[0] == EQUAL else f'p{numbers[atom[0]]}', atom[0][2]), *standing(atom, stands)
-        own.append(flat if atom is literal else complement(flat))
+        work = []
+        for part in literal[literal[0] == NOT:]:
+            work.append([part])
+            while len(work) > 1 and (is_variable(work[-1][0]) or len(work[-1]) > work[-1][0][2]):
+                symbol, *arguments = term = tuple(work.pop())
+                if not is_variable(symbol) and term not in stands:
+                    stands[term] = f'value {len(stands)}'
+                    literals.append((NOT, ('predicate', f'f{numbers[symbol]}', symbol[2] + 1), *arguments, stands[term]))
+                work[-1].append(stands.get(term, symbol))
+        symbol, *arguments = work[0]
+        flat = ('predicate', 'id' if symbol == EQUAL else f'p{numbers[symbol]}', symbol[2]), *arguments
+        own.append(complement(flat) if literal[0] == NOT else flat)
     return canonical(literals + own)
-def standing(term, stands):
-    """what stands for the arguments"""
-    found, place = [], 1
-    while place < len(term):
-        found.append(stands.get(subterm(term, place), term[place]))
-        place += len(subterm(term, place))
-    return found
 
 def formula_clauses(text):
     """the clauses of a quantified formula"""
     lines = itertools.takewhile(lambda line: line[:1] != '%', text.split('\n'))
     header, *rows = filter(None, [re.findall(r'[^\t-\r ]+', line) for line in lines if line[:1] != 'c'])
     quantified, universal, atoms, literals = list(itertools.takewhile(lambda row: row[0] in 'ae', rows)), [], {}, []
-    demand(all(re.fullmatch('-?[0-9]{1,10}', word) for row in rows for word in row[row in quantified:]) and all(row[-1] == '0' for row in quantified))
-    truth, letters = ('predicate', 'v', 1), [('function', letter, 0) for letter in 'tf']
+    demand(all(re.fullmatch('[ae]|-?[0-9]{1,10}', word) for row in rows for word in row) and all(row[-1] == '0' for row in quantified))
+    truth, true, false = ('predicate', 'v', 1), ('function', 't', 0), ('function', 'f', 0)
     for letter, *words, _ in quantified:
         universal += words if letter == 'a' else []
-        for number in map(int, words):
-            atoms[number] = (truth, str(number)) if letter == 'a' else (('predicate', f'e{number}', len(universal)), *universal)
-    result = [((truth, letters[0]),), ((NOT, truth, letters[1]),)]
+        atoms.update((int(word), (truth, word) if letter == 'a' else (('predicate', f'e{int(word)}', len(universal)), *universal)) for word in words)
+    result = [((truth, true),), ((NOT, truth, false),)]
     for number in [int(word) for row in rows[len(quantified):] for word in row]:
         atom = atoms.get(abs(number), (('predicate', f'e{abs(number)}', 0),))
         literals.append(atom if number > 0 else complement(atom))
