@@ -11,21 +11,19 @@ import itertools
 import re
 import sys
 
-class Ended(Exception):
-    """a complaint or a refusal: the line that says why, and the exit status; for a refusal, the word of its status"""
-
 class Misread(Exception):
     """a place of a text that its rules do not allow"""
+class Ended(Exception):
+    """the word of a refusal, or none for a complaint; the line that says why; and the exit status"""
 
 def demand(holds):
     if not holds:
         raise Misread
 def refuse(word, line, holds=True, status=2):
     if holds:
-        raise Ended(line, status, word)
-def complain(words, holds=True):
-    if holds:
-        raise Ended(f'invalid: {words}', 7)
+        raise Ended(word, line, status)
+def complain(words, holds):
+    refuse('', f'invalid: {words}', holds, 7)
 
 # Terms, atoms and literals are tuples of what is read from left to right: of symbols, which have a kind, a name and how many arguments follow, and of
 # variables, which are numbers in canonical clauses. A negative literal begins with NOT. A clause is a tuple of literals.
@@ -37,10 +35,8 @@ def is_variable(part):
 def complement(literal):
     return literal[1:] if literal[0] == NOT else (NOT, *literal)
 def item(items, number):
-    """the item with a number, or None"""
     return items[number - 1] if 1 <= number <= len(items) else None
 def subterm(term, place):
-    """the term that begins at a place"""
     end, missing = place, 1
     while missing:
         missing += -1 if is_variable(term[end]) else term[end][2] - 1
@@ -68,7 +64,6 @@ def symbols(clauses, kind):
     """the different symbols of a kind, by first occurrence"""
     return list(dict.fromkeys(part for clause in clauses for literal in clause for part in literal if not is_variable(part) and part[0] == kind))
 def axioms(clauses):
-    """the axioms of equality of a list of clauses"""
     same = [((EQUAL, 0, 0),), ((NOT, EQUAL, 0, 1), (EQUAL, 1, 0)), ((NOT, EQUAL, 0, 1), (NOT, EQUAL, 1, 2), (EQUAL, 0, 2))]
     others = [congruence(symbol) for kind in ('function', 'predicate') for symbol in symbols(clauses, kind) if symbol[2]]
     return same + others if symbols(clauses, 'equality') else []
@@ -124,13 +119,12 @@ WORDS = [kind for kind in KINDS if kind != 'mark']
 ROLES = 'axiom hypothesis definition assumption lemma theorem corollary negated_conjecture plain'.split()
 
 def content(word):
-    """the name that a word has"""
     return re.sub(r'\\(.)', r'\1', word[1:-1]) if word.startswith("'") else word
 
 class Statement:
     """the tokens from a place up to the first full stop, each a kind and a text, and how many are read"""
-    def __init__(self, text, end=0, where=None):
-        self.tokens, self.end, self.place, self.truths, self.loose, self.where = [('mark', ' ')], end, 1, set(), False, where
+    def __init__(self, text, end=0, where=None, place=1):
+        self.tokens, self.end, self.place, self.truths, self.loose, self.where = [('mark', ' ')], end, place, set(), False, where
         while self.tokens[-1][1] != '.':
             found = TOKEN.match(text, BLANK.match(text, self.end).end())
             demand(found)
@@ -153,7 +147,6 @@ class Statement:
     def name(self):
         return self.take('lower', 'quoted', 'integer')[1]
     def listed(self, part):
-        """what the calls give, in brackets"""
         parts = self.expect('[') or []
         while not self.has(']'):
             self.expect(*[','] * bool(parts))
@@ -188,9 +181,8 @@ class Statement:
                 self.expect(']' if kind == 'list' else ')')
 
     def opened(self):
-        level = 0
-        while self.has('('):
-            level, self.loose = level + 1, True
+        level = sum(iter(lambda: self.has('('), False))
+        self.loose |= level > 0
         return level
     def literal(self):
         negative = self.has('~')
@@ -221,8 +213,7 @@ class Statement:
         if self.has('include'):
             self.expect('(')
             name, selection = self.take('quoted')[1], self.listed(self.name) if self.has(',') else None
-            self.expect(')', '.')
-            demand(selection != [])
+            demand(selection != [] and self.has(')') and self.has('.'))
             return name, selection, None
         self.expect('cnf', '(')
         name, _, (_, role), _ = self.name(), self.expect(','), self.take('lower'), self.expect(',')
@@ -232,8 +223,7 @@ class Statement:
         refuse('Inappropriate', f'% role {role}: {self.where}', role not in ROLES)
         for kind, text in (self.tokens[place] for place in range(begin, end) if place not in self.truths):
             refuse('Inappropriate', f'% feature {text}: {self.where}', kind in ('integer', 'rational', 'real', 'distinct', 'dollar'))
-        large = any(part[2] > 1024 for literal in literals for part in literal if not is_variable(part))
-        refuse('InputError', f'% limit arity: {self.where}', large)
+        refuse('InputError', f'% limit arity: {self.where}', any(part[2] > 1024 for literal in literals for part in literal if not is_variable(part)))
         refuse('InputError', f'% limit variables: {self.where}', len(variables(literals)) > 10_000)
         literals = [literal for literal in literals if literal not in ((FALSE,), (NOT, TRUE))]
         return name, None if (TRUE,) in literals or (NOT, FALSE) in literals else canonical(literals)
@@ -283,7 +273,7 @@ class Certificate:
     """groups has for each letter a list of lines: the clause and what stands behind it; clauses are those of the inputs and axioms"""
     def __init__(self, text, name):
         *self.lines, self.rest = text.split('\n')
-        self.number, self.head, self.clauses, self.members, self.steps = 0, None, [], [], []
+        self.number, self.clauses, self.members, self.steps = 0, [], [], []
         try:
             self.read_beginning()
             self.read_groups(line_forms(self.form, self.version))
@@ -297,8 +287,7 @@ class Certificate:
         demand(found)
         return found
     def read_beginning(self):
-        if self.lines and re.fullmatch(HEAD, self.lines[0]):
-            self.head = self.line(HEAD)
+        self.head = self.line(HEAD) if self.lines and re.fullmatch(HEAD, self.lines[0]) else None
         status, title = self.line(f'% SZS status (Satisfiable|Unsatisfiable) for ({TITLE})').groups()
         demand(not self.head or (self.head[1] == 's TRUE') == (status == 'Satisfiable') and self.head[3] in (None, title))
         self.form = 'Saturation' if status == 'Satisfiable' else 'CNFRefutation'
@@ -322,15 +311,13 @@ class Certificate:
     def read_entry(self, text, letter, form):
         group, begin = self.groups[letter], f'cnf({letter}{len(self.groups[letter]) + 1},{"axiom" if letter in "ie" else "plain"},'
         demand(text.startswith(begin))
-        statement = Statement(text)
-        statement.place = 7
+        statement = Statement(text, place=7)
         clause = statement.disjunction()
         begin, clause = (begin + '$false', ()) if clause == ((FALSE,),) else (begin + statement.spelled(7), clause)
         found = re.fullmatch(rf',{form}\)\.', text[len(begin):])
         demand(text.startswith(begin) and found and clause == canonical(clause))
         entry = [clause, *map(read_part, filter(None, found.groups()))]
-        demand(letter != 'q' or self.clauses[len(group):len(group) + 1] == [clause])
-        demand(letter != 'g' or self.version > 1 or entry[1] == len(group) + 1)
+        demand((letter != 'q' or self.clauses[len(group):len(group) + 1] == [clause]) and (letter != 'g' or self.version > 1 or entry[1] == len(group) + 1))
         group.append(entry)
         self.clauses += [clause] * (letter in 'ie')
 
@@ -362,6 +349,7 @@ class Certificate:
             require('ground', itertools.zip_longest([clause for clause, _ in self.groups['g']], owed))
         else:
             require('ground', self.groups['g'], self.ground_holds)
+        self.known = {('g', number): set(clause) for number, (clause, *_) in enumerate(self.groups['g'], 1)}
         require('step', self.groups['r'], self.step_holds)
         complain('no empty clause', not self.steps or self.steps[-1])
     def ground_holds(self, clause, number, terms):
@@ -369,18 +357,15 @@ class Certificate:
         return owner is not None and not variables(terms) and under_terms(owner, terms) == clause
     def step_holds(self, clause, hints):
         """whether the step is shown by its hints; if so, it becomes a step"""
-        false, (*hints, last) = set(clause), [self.hinted(*hint) for hint in hints]
+        false, (*hints, last) = set(clause), [self.known.get(hint, {'no', 'clause'}) for hint in hints]
         for hint in hints:
             left = hint - false
             if len(left) != 1:
                 return False
             false.update(map(complement, left))
         self.steps.append(clause)
+        self.known['r', len(self.steps)] = set(clause)
         return last <= false
-    def hinted(self, letter, number):
-        """the literals of a hint; where there is none, two that no clause has"""
-        found = item(self.steps, number) if letter == 'r' else (item(self.groups['g'], number) or [None])[0]
-        return {'', ' '} if found is None else set(found)
 
     def check_saturation(self):
         places, owed, known = [entry[-1] for entry in self.groups['m']], [], set(self.members)
@@ -430,7 +415,6 @@ def contents(names, most, shown):
     return refuse('InputError', f'% absent: {shown}')
 
 def statements(text, name):
-    """what each statement says"""
     found, end = [], BLANK.match(text).end()
     while end < len(text):
         where = f'statement {len(found) + 1} of {name}'
@@ -485,7 +469,6 @@ def flat_clause(clause, numbers):
     return canonical(literals + own)
 
 def formula_clauses(text):
-    """the clauses of a quantified formula"""
     lines = itertools.takewhile(lambda line: line[:1] != '%', text.split('\n'))
     header, *rows = filter(None, [re.findall(r'[^\t-\r ]+', line) for line in lines if line[:1] != 'c'])
     quantified, universal, atoms, literals = list(itertools.takewhile(lambda row: row[0] in 'ae', rows)), [], {}, []
@@ -507,9 +490,8 @@ def formula_clauses(text):
 # The words and the answer.
 
 def wanted_clauses(head, name, root):
-    """the clauses that the certificate must have"""
     text, size = contents([name], LIMIT, name)[0], head and head[2]
-    if size or not head and not FORMULA.match(text):
+    if size or not (head or FORMULA.match(text)):
         clauses = [clause for _, clause in expanded([name], root, [LIMIT], 0, name) if clause is not None]
         return flattened(clauses, int(size)) if size else clauses
     try:
@@ -529,20 +511,17 @@ def read_words(arguments):
 
 def answer(arguments):
     """what is printed, and the exit status"""
-    name = 'instgen'
     try:
         words = read_words(arguments)
         name = words.certificate
         certificate = Certificate(contents([name], 268_435_456, name)[0], name)
         certificate.check(words.problem and wanted_clauses(certificate.head, words.problem, words.root))
         return f'valid {certificate.form}\n', 0
-    except UnicodeError:
-        return '', 3
-    except Misread:
-        return f'% SZS status UsageError for {name}\n% usage\n', 3
+    except (Misread, UnicodeError) as fault:
+        return '% SZS status UsageError for instgen\n% usage\n' if isinstance(fault, Misread) else '', 3
     except Ended as ended:
-        line, status, *refusal = ended.args
-        return ''.join(f'% SZS status {word} for {name}\n' for word in refusal) + f'{line}\n', status
+        word, line, status = ended.args
+        return (f'% SZS status {word} for {name}\n' if word else '') + f'{line}\n', status
 
 if __name__ == '__main__':
     printed, code = answer(sys.argv[1:])
