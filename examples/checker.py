@@ -15,7 +15,6 @@ class Misread(Exception):
     """a place of a text that its rules do not allow"""
 class Ended(Exception):
     """the word of a refusal, or none for a complaint; the line that says why; and the exit status"""
-
 def demand(holds):
     if not holds:
         raise Misread
@@ -27,9 +26,7 @@ def complain(words, holds):
 
 # Terms, atoms and literals are tuples of what is read from left to right: of symbols, which have a kind, a name and how many arguments follow, and of
 # variables, which are numbers in canonical clauses. A negative literal begins with NOT. A clause is a tuple of literals.
-
 NOT, EQUAL, TRUE, FALSE = ('not', '~', 1), ('equality', '=', 2), ('dollar', '$true', 0), ('dollar', '$false', 0)
-
 def is_variable(part):
     return not isinstance(part, tuple)
 def complement(literal):
@@ -42,7 +39,6 @@ def subterm(term, place):
         missing += -1 if is_variable(term[end]) else term[end][2] - 1
         end += 1
     return term[place:end]
-
 def variables(clause):
     """the different variables, by first occurrence"""
     return list(dict.fromkeys(part for literal in clause for part in literal if is_variable(part)))
@@ -59,7 +55,6 @@ def canonical(clause):
     return instance(clause, {part: (number,) for number, part in enumerate(variables(clause))})
 def is_tautology(clause):
     return not {complement(literal) for literal in clause}.isdisjoint(clause)
-
 def symbols(clauses, kind):
     """the different symbols of a kind, by first occurrence"""
     return list(dict.fromkeys(part for clause in clauses for literal in clause for part in literal if not is_variable(part) and part[0] == kind))
@@ -96,7 +91,6 @@ def meeting(left, left_place, right, right_place):
     sides = ('left', left, left_place), ('right', right, right_place)
     return None if bindings is None else {side: canonical(instance(clause, bindings)) for side, clause, place in sides if any(
         not is_variable(bindings.get(part, (part,))[0]) for part in variables([clause[place - 1]]))}
-
 def has_instance_within(clause, target):
     """whether an instance of the clause has all its literals in the target, whose variables are held fixed"""
     fixed, work = instance(target, {part: (('fixed', part, 0),) for part in variables(target)}), [clause]
@@ -107,7 +101,6 @@ def has_instance_within(clause, target):
     return bool(work)
 
 # Statements. The lines of a certificate are statements too, but must be spelled in one way.
-
 LOWER, QUOTED, INTEGER = '[a-z][A-Za-z0-9_]*', r"'(?:[\x20-&(-\[\]-~]|\\['\\])+'", '[+-]?[0-9]+'
 PRINTED = f"(?:{LOWER}|(?!'{LOWER}'){QUOTED})"
 BLANK = re.compile(r'(?:[\t-\r ]+|%[^\n]*|/\*.*?\*/)*', re.DOTALL)
@@ -116,8 +109,7 @@ KINDS = {'real': rf'{INTEGER}(?:\.[0-9]+(?:[eE]{INTEGER})?|[eE]{INTEGER})', 'rat
          'mark': r'!=|[()\[\],.|~=:]'}
 TOKEN = re.compile('|'.join(f'(?P<{kind}>{spelling})' for kind, spelling in KINDS.items()))
 WORDS = [kind for kind in KINDS if kind != 'mark']
-ROLES = 'axiom hypothesis definition assumption lemma theorem corollary negated_conjecture plain'.split()
-
+LANGUAGES, ROLES = 'fof tff tcf thf tpi'.split(), 'axiom hypothesis definition assumption lemma theorem corollary negated_conjecture plain'.split()
 def content(word):
     return re.sub(r'\\(.)', r'\1', word[1:-1]) if word.startswith("'") else word
 
@@ -130,9 +122,8 @@ class Statement:
             demand(found)
             self.tokens.append((found.lastgroup, found[0]))
             self.end = found.end()
-            is_language = len(self.tokens) == 3 and self.tokens[1][1] in ('fof', 'tff', 'tcf', 'thf', 'tpi') and found[0] == '('
-            refuse('Inappropriate', f'% language {self.tokens[1][1]}: {where}', is_language)
-
+            word = self.tokens[1][1]
+            refuse('Inappropriate', f'% language {word}: {where}', word in LANGUAGES and len(self.tokens) == 3 and found[0] == '(')
     def has(self, word):
         found = self.tokens[self.place % len(self.tokens)][1] == word
         self.place += found
@@ -152,9 +143,7 @@ class Statement:
             self.expect(*[','] * bool(parts))
             parts.append(part())
         return parts
-
     def leaf(self):
-        """a kind, and a name or the number of a variable"""
         if self.has('['):
             return 'list', '['
         kind, name = self.take(*WORDS)
@@ -179,7 +168,6 @@ class Statement:
                     break
                 open_places.pop()
                 self.expect(']' if kind == 'list' else ')')
-
     def opened(self):
         level = sum(iter(lambda: self.has('('), False))
         self.loose |= level > 0
@@ -205,7 +193,6 @@ class Statement:
                 level -= 1
         demand(not level and not any(text in ('[', ':') for _, text in self.tokens[begin:self.place]))
         return tuple(literals)
-
     def said(self):
         """a name and a clause, None where it always holds; or the name of an include, its selection or None, and None"""
         steps = ((text in ('(', '[')) - (before in (')', ']')) for (_, before), (_, text) in zip(self.tokens, self.tokens[1:]))
@@ -227,7 +214,6 @@ class Statement:
         refuse('InputError', f'% limit variables: {self.where}', len(variables(literals)) > 10_000)
         literals = [literal for literal in literals if literal not in ((FALSE,), (NOT, TRUE))]
         return name, None if (TRUE,) in literals or (NOT, FALSE) in literals else canonical(literals)
-
     def spelled(self, begin):
         """the tokens from one on to the place as a certificate has them"""
         tokens = self.tokens[begin:self.place]
@@ -235,10 +221,8 @@ class Statement:
         return ''.join(f' {text} ' if text in ('|', '=', '!=') else text for _, text in tokens)
 
 # The text of a certificate.
-
 TITLE, NUMBER = '[ -~\x80-\xff]{1,4096}', '(?:0|[1-9][0-9]{0,19})'
 HEAD = f'(s TRUE|s FALSE|% no tables ([1-9]|[1-5][0-9]|6[0-4]) for ({TITLE}))'
-
 def line_forms(form, version):
     """for the letter of each group, in order, what stands behind the clause of its lines"""
     parents = f'm({NUMBER}),({NUMBER}),m({NUMBER}),({NUMBER})'
@@ -256,8 +240,8 @@ def read_part(text):
     if text[0] == '[':
         statement = Statement(text + '.')
         terms = statement.listed(statement.term)
-        demand(not any(mark in ('[', ':') for _, mark in statement.tokens[2:]) and not any(isinstance(part, str) for term in terms for part in term))
-        demand(statement.spelled(1) == text)
+        strange = any(mark in ('[', ':') for _, mark in statement.tokens[2:]) or any(isinstance(part, str) for term in terms for part in term)
+        demand(not strange and statement.spelled(1) == text)
         return terms
     found = [(letter, int(digits)) for letter, digits in re.findall('([gr]?)([0-9]+)', text)]
     demand(all(number < 2 ** 64 for _, number in found))
@@ -279,7 +263,6 @@ class Certificate:
             self.read_groups(line_forms(self.form, self.version))
         except Misread:
             refuse('SyntaxError', f'% syntax: line {self.number} of {name}')
-
     def line(self, pattern):
         """the next line, which must be as the pattern says"""
         self.number += 1
@@ -298,13 +281,12 @@ class Certificate:
         if self.form == 'CNFRefutation':
             self.constant = 'function', content(self.line(f'% ground constant ({PRINTED})')[1]), 0
     def read_groups(self, forms):
-        letters, self.groups, text = list(forms), {letter: [] for letter in forms}, self.line('.*')[0]
-        while text != self.end:
+        letters, self.groups = list(forms), {letter: [] for letter in forms}
+        while (text := self.line('.*')[0]) != self.end:
             letter = text[4:5]
             demand(letter in letters and (letter != 'c' or len(self.groups['q']) == len(self.clauses)))
             letters = letters[letters.index(letter):]
             self.read_entry(text, letter, forms[letter])
-            text = self.line('.*')[0]
         demand('q' not in forms or len(self.groups['q']) == len(self.clauses))
         self.number += 1
         demand(self.number > len(self.lines) and not self.rest)
@@ -320,7 +302,6 @@ class Certificate:
         demand((letter != 'q' or self.clauses[len(group):len(group) + 1] == [clause]) and (letter != 'g' or self.version > 1 or entry[1] == len(group) + 1))
         group.append(entry)
         self.clauses += [clause] * (letter in 'ie')
-
     def check(self, wanted):
         """the checks in their order; wanted are the clauses of the problem, or None"""
         inputs, given = ([clause for clause, *_ in self.groups[letter]] for letter in 'ie')
@@ -330,19 +311,15 @@ class Certificate:
         (self.check_refutation if 'r' in self.groups else self.check_saturation)()
     def member_holds(self, clause, word, first, *more):
         """whether the clause is what its origin gives; if so, it becomes a member"""
-        if word == 'input':
-            wanted = item(self.clauses, first)
-        else:
-            place, second, second_place, *lists = more
-            wanted = (meeting(item(self.members, first) or (), place, item(self.members, second) or (), second_place) or {}).get('left')
+        left, right = (item(self.members, number) or () for number in (first, *more, 0, 0)[:3:2])
+        wanted = item(self.clauses, first) if word == 'input' else (meeting(left, more[0], right, more[2]) or {}).get('left')
         if word == 'lemma' and wanted is not None:
-            places, givers = lists[:2]
+            places, givers = more[3:5]
             rising = all(low < high for low, high in zip([0, *places], [*places, len(wanted) + 1])) and len(places) < len(wanted)
             given = all(1 <= giver <= len(self.members) for giver in givers)
             wanted = canonical([wanted[place - 1] for place in places]) if rising and given else None
         self.members.append(clause)
         return clause == wanted
-
     def check_refutation(self):
         if self.version == 1:
             owed = [instance(member, dict.fromkeys(variables(member), (self.constant,))) for member in self.members]
@@ -366,7 +343,6 @@ class Certificate:
         self.steps.append(clause)
         self.known['r', len(self.steps)] = set(clause)
         return last <= false
-
     def check_saturation(self):
         places, owed, known = [entry[-1] for entry in self.groups['m']], [], set(self.members)
         require('place', zip(self.members, places), lambda clause, place: item(clause, place) is not None)
@@ -396,7 +372,6 @@ class Certificate:
         return any((owner is None or len(member) < len(owner)) and has_instance_within(member, clause) for member in self.members)
 
 # The clauses of a file.
-
 LIMIT = 16_777_216
 FORMULA = re.compile(r'(?:(?:c.*|[\t-\r ]*)\n)*[\t-\r ]*p[\t-\r ]+cnf[\t-\r ]')
 
@@ -425,7 +400,6 @@ def statements(text, name):
             refuse('SyntaxError', f'% syntax: {where}')
         end = BLANK.match(text, statement.end).end()
     return found
-
 def expanded(names, root, left, level, shown):
     """the name and the clause of each statement of a file and its includes, None for one that always holds; left are the bytes that may be read"""
     refuse('InputError', f'% limit include depth: {shown}', level > 16)
@@ -444,8 +418,8 @@ def flattened(clauses, size):
     """the clauses that have a model where these have one with so many elements"""
     elements = [('function', f'k{number}', 0) for number in range(1, size + 1)]
     numbers = {symbol: number for kind in ('function', 'predicate') for number, symbol in enumerate(symbols(clauses, kind), 1)}
-    pairs = [((('predicate', 'id', 2), one, other), one == other) for one in elements for other in elements]
-    result = [(atom if same else complement(atom),) for atom, same in pairs]
+    pairs = [(('predicate', 'id', 2), one, other) for one in elements for other in elements]
+    result = [(atom if atom[1] == atom[2] else complement(atom),) for atom in pairs]
     for symbol in symbols(clauses, 'function'):
         cells = [(('predicate', f'f{numbers[symbol]}', symbol[2] + 1), *range(symbol[2]), element) for element in elements]
         result += [tuple(cells)] + [(complement(one), complement(other)) for one, other in itertools.combinations(cells, 2)]
@@ -488,7 +462,6 @@ def formula_clauses(text):
     return result
 
 # The words and the answer.
-
 def wanted_clauses(head, name, root):
     text, size = contents([name], LIMIT, name)[0], head and head[2]
     if size or not (head or FORMULA.match(text)):
@@ -498,7 +471,6 @@ def wanted_clauses(head, name, root):
         return formula_clauses(text)
     except (Misread, ValueError):
         return refuse('SyntaxError', f'% syntax: {name}')
-
 def read_words(arguments):
     parser = argparse.ArgumentParser(description=__doc__, formatter_class=argparse.RawDescriptionHelpFormatter, allow_abbrev=False)
     parser.add_argument('certificate', metavar='CERT')
@@ -508,7 +480,6 @@ def read_words(arguments):
     words = parser.parse_args([argument.encode().decode('latin-1') for argument in arguments])
     demand(all(word is None or re.fullmatch(TITLE, word) for word in vars(words).values()))
     return words
-
 def answer(arguments):
     """what is printed, and the exit status"""
     try:
