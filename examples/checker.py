@@ -373,7 +373,7 @@ class Certificate:
 
 # The clauses of a file.
 LIMIT = 16_777_216
-FORMULA = re.compile(r'(?:(?:c.*|[\t-\r ]*)\n)*[\t-\r ]*p[\t-\r ]+cnf[\t-\r ]')
+TRUTH, FORMULA = ('predicate', 'v', 1), re.compile(r'(?:(?:c.*|[\t-\r ]*)\n)*[\t-\r ]*p[\t-\r ]+cnf[\t-\r ]')
 
 def contents(names, most, shown):
     """the text of the first file that is there, a character for a byte, and its name"""
@@ -447,18 +447,18 @@ def formula_clauses(text):
     header, *rows = filter(None, [re.findall(r'[^\t-\r ]+', line) for line in lines if line[:1] != 'c'])
     quantified, universal, atoms, literals = list(itertools.takewhile(lambda row: row[0] in 'ae', rows)), [], {}, []
     demand(all(re.fullmatch('[ae]|-?[0-9]{1,10}', word) for row in rows for word in row) and all(row[-1] == '0' for row in quantified))
-    truth, true, false = ('predicate', 'v', 1), ('function', 't', 0), ('function', 'f', 0)
     for letter, *words, _ in quantified:
         universal += words if letter == 'a' else []
-        atoms.update((int(word), (truth, word) if letter == 'a' else (('predicate', f'e{int(word)}', len(universal)), *universal)) for word in words)
-    result = [((truth, true),), ((NOT, truth, false),)]
+        atoms.update((int(word), (TRUTH, word) if letter == 'a' else (('predicate', f'e{int(word)}', len(universal)), *universal)) for word in words)
+    result = [((TRUTH, ('function', 't', 0)),), ((NOT, TRUTH, ('function', 'f', 0)),)]
     for number in [int(word) for row in rows[len(quantified):] for word in row]:
         atom = atoms.get(abs(number), (('predicate', f'e{abs(number)}', 0),))
         literals.append(atom if number > 0 else complement(atom))
         if not number:
             result.append(canonical(literals[:-1]))
             literals = []
-    demand(not literals and [len(result) - 2] == list(map(int, header[3:])))
+    numbers = [abs(int(word)) for row in rows for word in row[row in quantified:]]
+    demand(not literals and max([0, *numbers]) <= int(header[2]) and [len(result) - 2] == list(map(int, header[3:])))
     return result
 
 # The words and the answer.
