@@ -34,6 +34,13 @@ pub(crate) struct Arena {
     waste: usize,
 }
 
+// The attached clauses: copies of those that watch, and the numbers of those that watch nothing.
+#[derive(Drop)]
+pub(crate) struct Attached {
+    pub(crate) arena: Arena,
+    pub(crate) loose: Vec<u32>,
+}
+
 impl Model for Arena {
     ghost use Rattle.std.specs.Prelude.{ℕ, List, Option, length};
     ghost use Rattle.inst_logic.specs.declared.signed.Signed.{Signed};

@@ -11,7 +11,7 @@ ghost use Rattle.cdcl_trail.specs.Running.{at_level, IsRunning, Runs};
 ghost use Rattle.cdcl_trail.specs.Arena.{AreCopies};
 ghost use Rattle.cdcl_trail.specs.Loose.{IsLookedAt, AreLoose, with_pair};
 
-use crate::arena::Arena;
+use crate::arena::{Arena, Attached};
 use crate::clauses::Clauses;
 use crate::entry::Entry;
 use crate::lists::add_watch;
@@ -122,34 +122,41 @@ pub(crate) fn settle_loose(
     values: &mut Values,
     lists: &mut [WatchList],
     pairs: &mut [PackedPair],
-    arena: &mut Arena,
-    loose: &mut Vec<u32>,
+    attached: &mut Attached,
     passed: &mut u32,
     clauses: &Clauses,
     level: usize,
 ) -> Result<Option<usize>, Memory>
     requires running { IsRunning clauses.now level values.old lists.old pairs.old }
-    requires loose { AreLoose clauses.now (entries_of values.old) pairs.old loose.old.items passed.old }
-    requires short { length loose.old.items < 2 ^ 32 }
-    requires copies { AreCopies clauses.now arena.old pairs.old }
+    requires loose { AreLoose clauses.now (entries_of values.old) pairs.old attached.old.loose.items passed.old }
+    requires short { length attached.old.loose.items < 2 ^ 32 }
+    requires copies { AreCopies clauses.now attached.old.arena pairs.old }
     ensures running { OnOk result (IsRunning clauses.now level values.new lists.new pairs.new) }
     ensures runs { OnOk result (Runs clauses.now level values.old pairs.old values.new pairs.new) }
     ensures conflict { IfOk result (λ found. IfSome found (IsConflict clauses.now (entries_of values.new))) }
-    ensures loose { OnOk result (AreLoose clauses.now (entries_of values.new) pairs.new loose.new.items passed.new) }
-    ensures copies { OnOk result (AreCopies clauses.now arena.new pairs.new) }
-    ensures front { OnOk result (take passed.old loose.new.items ≡ take passed.old loose.old.items) }
-    ensures short { length loose.new.items ≤ length loose.old.items }
+    ensures loose { OnOk result (AreLoose clauses.now (entries_of values.new) pairs.new attached.new.loose.items passed.new) }
+    ensures copies { OnOk result (AreCopies clauses.now attached.new.arena pairs.new) }
+    ensures front { OnOk result (take passed.old attached.new.loose.items ≡ take passed.old attached.old.loose.items) }
+    ensures short { length attached.new.loose.items ≤ length attached.old.loose.items }
     ensures on { OnOk result (passed.old ≤ passed.new) }
-    ensures whole { IfOk result (λ found. IfNone found (passed.new ≡ length loose.new.items)) }
+    ensures whole { IfOk result (λ found. IfNone found (passed.new ≡ length attached.new.loose.items)) }
     ensures values { AreValues values.new }
     ensures added { Propagates clauses.now (at_level level values.old) (at_level level values.new) }
 {
-    while (*passed as usize) < loose.len() {
-        let number = loose[*passed as usize] as usize;
-        match look_at(values, lists, pairs, arena, clauses, level, number)? {
+    while (*passed as usize) < attached.loose.len() {
+        let number = attached.loose[*passed as usize] as usize;
+        match look_at(
+            values,
+            lists,
+            pairs,
+            &mut attached.arena,
+            clauses,
+            level,
+            number,
+        )? {
             Look::Passed => *passed += 1,
             Look::Taken => {
-                loose.swap_remove(*passed as usize);
+                attached.loose.swap_remove(*passed as usize);
             }
             Look::False(number) => return Ok(Some(number)),
         }

@@ -8,7 +8,7 @@ ghost use Rattle.cdcl_trail.specs.Running.{at_level, IsRunning, Runs};
 ghost use Rattle.cdcl_trail.specs.Arena.{AreCopies};
 ghost use Rattle.cdcl_trail.specs.Loose.{AreLoose};
 
-use crate::arena::Arena;
+use crate::arena::Attached;
 use crate::clauses::Clauses;
 use crate::loose::settle_loose;
 use crate::packed_pair::PackedPair;
@@ -23,24 +23,23 @@ pub(crate) fn saturate(
     values: &mut Values,
     lists: &mut [WatchList],
     pairs: &mut [PackedPair],
-    arena: &mut Arena,
-    loose: &mut Vec<u32>,
+    attached: &mut Attached,
     head: &mut Head,
     clauses: &Clauses,
     level: usize,
 ) -> Result<Option<usize>, Memory>
     requires running { IsRunning clauses.now level values.old lists.old pairs.old }
-    requires loose { AreLoose clauses.now (entries_of values.old) pairs.old loose.old.items head.old.passed }
-    requires short { length loose.old.items < 2 ^ 32 }
+    requires loose { AreLoose clauses.now (entries_of values.old) pairs.old attached.old.loose.items head.old.passed }
+    requires short { length attached.old.loose.items < 2 ^ 32 }
     requires head { head.old.place ≤ length (entries_of values.old) }
     requires settled { IsSettled clauses.now pairs.old (entries_of values.old) head.old.place }
-    requires copies { AreCopies clauses.now arena.old pairs.old }
+    requires copies { AreCopies clauses.now attached.old.arena pairs.old }
     ensures running { OnOk result (IsRunning clauses.now level values.new lists.new pairs.new) }
     ensures runs { OnOk result (Runs clauses.now level values.old pairs.old values.new pairs.new) }
-    ensures loose { OnOk result (AreLoose clauses.now (entries_of values.new) pairs.new loose.new.items head.new.passed) }
-    ensures copies { OnOk result (AreCopies clauses.now arena.new pairs.new) }
-    ensures front { OnOk result (take head.old.passed loose.new.items ≡ take head.old.passed loose.old.items) }
-    ensures short { length loose.new.items ≤ length loose.old.items }
+    ensures loose { OnOk result (AreLoose clauses.now (entries_of values.new) pairs.new attached.new.loose.items head.new.passed) }
+    ensures copies { OnOk result (AreCopies clauses.now attached.new.arena pairs.new) }
+    ensures front { OnOk result (take head.old.passed attached.new.loose.items ≡ take head.old.passed attached.old.loose.items) }
+    ensures short { length attached.new.loose.items ≤ length attached.old.loose.items }
     ensures on { OnOk result (head.old.passed ≤ head.new.passed) }
     ensures head { OnOk result (head.new.place ≤ length (entries_of values.new)) }
     ensures settled { OnOk result (IsSettled clauses.now pairs.new (entries_of values.new) head.new.place) }
@@ -53,14 +52,20 @@ pub(crate) fn saturate(
         values,
         lists,
         pairs,
-        arena,
-        loose,
+        attached,
         &mut head.passed,
         clauses,
         level,
     )? {
         return Ok(Some(number));
     }
-    let found = visit_trail(values, lists, pairs, arena, level, &mut head.place)?;
+    let found = visit_trail(
+        values,
+        lists,
+        pairs,
+        &attached.arena,
+        level,
+        &mut head.place,
+    )?;
     Ok(found)
 }

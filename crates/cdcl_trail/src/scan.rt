@@ -64,12 +64,13 @@ fn open_within(
 {
     for place in start..end {
         let l = clause[place].lit();
+        if values.is_false(l) {
+            continue;
+        }
         if l == other {
             continue;
         }
-        if !values.is_false(l) {
-            return Some(place);
-        }
+        return Some(place);
     }
     None
 }

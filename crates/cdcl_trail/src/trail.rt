@@ -11,7 +11,7 @@ ghost use Rattle.cdcl_trail.specs.Propagation.{Propagates, IsConflict, IsStable}
 ghost use Rattle.cdcl_trail.specs.Values.{AreValues, entries_of};
 ghost use Rattle.cdcl_trail.specs.Trail.{IsTrail, IsUnset, IsPlaceOf, value_of, level_of, reason_of, literals_of, with_atom, with_decision, with_implied, back_at};
 
-use crate::arena::Arena;
+use crate::arena::{Arena, Attached};
 use crate::clauses::Clauses;
 use crate::detach::{forget_loose, unpass_all, unwatch};
 use crate::entry::Entry;
@@ -36,8 +36,7 @@ pub struct Trail {
     spent: bool,
     lists: Vec<WatchList>,
     pairs: Vec<PackedPair>,
-    arena: Arena,
-    loose: Vec<u32>,
+    attached: Attached,
     head: Head,
     heads: Vec<Head>,
 }
@@ -53,10 +52,10 @@ impl Model for Trail {
 
     ghost view = { λ t. record {
       trail = record { atoms = length t.values.entries.items; level = t.level; entries = entries_of t.values; spent = t.spent };
-      watching = record { lists = t.lists.items; pairs = t.pairs.items; copies = t.arena; loose = t.loose.items; head = t.head; heads = t.heads.items };
+      watching = record { lists = t.lists.items; pairs = t.pairs.items; copies = t.attached.arena; loose = t.attached.loose.items; head = t.head; heads = t.heads.items };
     } };
 
-    ghost invariant = { λ t. AreValues t.values × IsTrail (record { atoms = length t.values.entries.items; level = t.level; entries = entries_of t.values; spent = t.spent }) × (length t.lists.items ≡ length t.values.entries.items + length t.values.entries.items) × (length t.heads.items ≡ t.level) × (length t.values.entries.items ≤ vec_capacity t.heads) × (length t.loose.items < 2 ^ 32) };
+    ghost invariant = { λ t. AreValues t.values × IsTrail (record { atoms = length t.values.entries.items; level = t.level; entries = entries_of t.values; spent = t.spent }) × (length t.lists.items ≡ length t.values.entries.items + length t.values.entries.items) × (length t.heads.items ≡ t.level) × (length t.values.entries.items ≤ vec_capacity t.heads) × (length t.attached.loose.items < 2 ^ 32) };
 }
 
 // Takes the room of one more atom.
@@ -144,8 +143,10 @@ impl Trail {
             spent: false,
             lists: Vec::new(alloc),
             pairs: Vec::new(alloc),
-            arena: Arena::new(alloc),
-            loose: Vec::new(alloc),
+            attached: Attached {
+                arena: Arena::new(alloc),
+                loose: Vec::new(alloc),
+            },
             head: Head {
                 place: 0,
                 passed: 0,
@@ -287,8 +288,9 @@ impl Trail {
 
     /// Attaches the clause of this number: `propagate` looks at it from now on. It watches nothing before that first look, so
     /// it may have any literals, true and false ones among them. There is room for numbers below 2^31, for 2^32 - 1 clauses
-    /// that watch nothing, and for 2^32 - 1 literals of those that watch, which `propagate` copies when they begin to. After want of memory the values are those from before, nothing is promised of the attached
-    /// clauses, and every later call that can want memory wants it.
+    /// that watch nothing, and for 2^32 - 1 literals of those that watch, which `propagate` copies when they begin to. After
+    /// want of memory the values are those from before, nothing is promised of the attached clauses, and every later call that
+    /// can want memory wants it.
     pub fn attach(&mut self, clauses: &Clauses, n: usize) -> Result<(), Memory>
         ensures trail { OnOk result ((self.old.trail.spent ≡ false) × (self.new.trail ≡ self.old.trail)) }
         ensures attached { OnOk result ((before after : List (Option (List (Signed ℕ)))) (c : List (Signed ℕ)) → AddsClause before after c n → AreAttached self.old before → AreAttached self.new after) }
@@ -297,7 +299,7 @@ impl Trail {
         if self.spent {
             return Err(Memory);
         }
-        match add_loose(&mut self.pairs, &mut self.loose, n) {
+        match add_loose(&mut self.pairs, &mut self.attached.loose, n) {
             Ok(()) => Ok(()),
             Err(error) => {
                 self.spent = true;
@@ -315,8 +317,8 @@ impl Trail {
     {
         let atoms = self.values.atoms();
         unwatch(&mut self.lists, &mut self.pairs, atoms, n);
-        self.arena.remove(n);
-        forget_loose(&mut self.loose, n);
+        self.attached.arena.remove(n);
+        forget_loose(&mut self.attached.loose, n);
         unpass_all(&mut self.heads);
         self.head.passed = 0;
     }
@@ -345,8 +347,7 @@ impl Trail {
             &mut self.values,
             &mut self.lists,
             &mut self.pairs,
-            &mut self.arena,
-            &mut self.loose,
+            &mut self.attached,
             &mut self.head,
             clauses,
             self.level,

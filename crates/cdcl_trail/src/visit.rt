@@ -17,7 +17,7 @@ use crate::lists::{add_watch, drop_watch, put_watch, slot, watch_at};
 use crate::packed_pair::PackedPair;
 use crate::scan::next_open;
 use crate::values::Values;
-use crate::watch::{Pair, Watch};
+use crate::watch::{Pair, Spot, Watch};
 use crate::watch_list::WatchList;
 use inst_logic::Memory;
 use prop_logic::Lit;
@@ -33,32 +33,31 @@ pub(crate) enum Visit {
     False(usize),
 }
 
-// The clause that watched the literal and the watch's blocker watches the next literal, found at a place of it, in its place.
+// The clause that watched the literal and the watch's blocker watches the next literal, found at place `from`, instead.
 fn move_watch(
     lists: &mut [WatchList],
     pairs: &mut [PackedPair],
-    l: Lit,
-    place: usize,
+    spot: Spot,
     watch: Watch,
     next: Lit,
     from: usize,
 ) -> Result<(), Memory>
-    requires slot { slot_of l < length lists.old }
+    requires slot { slot_of spot.l < length lists.old }
     requires next { slot_of next < length lists.old }
-    requires apart { slot_of next ≢ slot_of l }
-    requires place { place < length (list_at lists.old (slot_of l)) }
+    requires apart { slot_of next ≢ slot_of spot.l }
+    requires place { spot.place < length (list_at lists.old (slot_of spot.l)) }
     requires number { watch.number < length pairs.old }
     requires small_number { watch.number < 2 ^ 31 }
     requires other { slot_of watch.blocker < length lists.old }
     requires long { watch.binary ≡ false }
     requires small { length lists.old < 2 ^ 32 }
-    ensures watched { OnOk result ((clauses : List (Option (List (Signed ℕ)))) (w : Watch) (p : Pair) (c : List (Signed ℕ)) → w.number ≡ watch.number → IsMove clauses lists.old pairs.old l watch.blocker next place w p c → AreWatched clauses lists.new pairs.new) }
-    ensures lists { OnOk result ((w : Watch) → slice_get (list_at lists.old (slot_of l)) place ≡ Some w → list_at lists.new (slot_of l) ≡ swap_remove (list_at lists.old (slot_of l)) place w) }
+    ensures watched { OnOk result ((clauses : List (Option (List (Signed ℕ)))) (w : Watch) (p : Pair) (c : List (Signed ℕ)) → w.number ≡ watch.number → IsMove clauses lists.old pairs.old spot.l watch.blocker next spot.place w p c → AreWatched clauses lists.new pairs.new) }
+    ensures lists { OnOk result ((w : Watch) → slice_get (list_at lists.old (slot_of spot.l)) spot.place ≡ Some w → list_at lists.new (slot_of spot.l) ≡ swap_remove (list_at lists.old (slot_of spot.l)) spot.place w) }
     ensures size { OnOk result (length lists.new ≡ length lists.old) }
     ensures pairs { OnOk result (pairs.new ≡ slice_set pairs.old watch.number (Some (pair_of watch.blocker next))) }
 {
     add_watch(lists, next, watch)?;
-    drop_watch(lists, l, place);
+    drop_watch(lists, spot.l, spot.place);
     let pair = Pair {
         first: watch.blocker,
         second: next,
@@ -96,49 +95,48 @@ fn other_of(pair: Pair, l: Lit) -> Lit
     }
 }
 
-// Looks for another literal of the clause to watch, where the other watch is not true.
+// Looks for another literal of the clause to watch, where its other watched literal, the blocker, is not true.
 fn settle(
     values: &mut Values,
     lists: &mut [WatchList],
     pairs: &mut [PackedPair],
     clauses: &Arena,
     level: usize,
-    l: Lit,
-    place: usize,
-    number: usize,
-    other: Lit,
+    spot: Spot,
+    watch: Watch,
 ) -> Result<Visit, Memory>
     requires running { IsRunning clauses.now level values.old lists.old pairs.old }
-    requires is_false { IsFalseIn (entries_of values.old) l }
-    requires watch { (w : Watch) × (slice_get (list_at lists.old (slot_of l)) place ≡ Some w) × (w.number ≡ number) }
-    requires pair { (p : Pair) × (pair_at pairs.old number ≡ Some p) × HasBoth p l other }
-    requires number { number < 2 ^ 31 }
-    requires not_true { ¬ Contains (literals_of (entries_of values.old)) other }
-    ensures visits { IfOk result (Visits clauses.now level l place values.old lists.old pairs.old values.new lists.new pairs.new) }
+    requires is_false { IsFalseIn (entries_of values.old) spot.l }
+    requires watch { (w : Watch) × (slice_get (list_at lists.old (slot_of spot.l)) spot.place ≡ Some w) × (w.number ≡ watch.number) }
+    requires pair { (p : Pair) × (pair_at pairs.old watch.number ≡ Some p) × HasBoth p spot.l watch.blocker }
+    requires number { watch.number < 2 ^ 31 }
+    requires long { watch.binary ≡ false }
+    requires not_true { ¬ Contains (literals_of (entries_of values.old)) watch.blocker }
+    ensures visits { IfOk result (Visits clauses.now level spot.l spot.place values.old lists.old pairs.old values.new lists.new pairs.new) }
     ensures err { OnErr result (values.new ≡ values.old) }
 {
-    let Some(clause) = clauses.get(number) else {
-        return Ok(Visit::False(number));
+    let Some(clause) = clauses.get(watch.number) else {
+        return Ok(Visit::False(watch.number));
     };
-    match next_open(values, clause, other, look_from(pairs, number)) {
+    match next_open(
+        values,
+        clause,
+        watch.blocker,
+        look_from(pairs, watch.number),
+    ) {
         Some(from) => {
             let next = clause[from].lit();
-            let watch = Watch {
-                number,
-                blocker: other,
-                binary: false,
-            };
-            move_watch(lists, pairs, l, place, watch, next, from)?;
+            move_watch(lists, pairs, spot, watch, next, from)?;
             Ok(Visit::Moved)
         }
         None => {
-            if values.is_false(other) {
-                return Ok(Visit::False(number));
+            if values.is_false(watch.blocker) {
+                return Ok(Visit::False(watch.number));
             }
             values.put(Entry {
-                lit: other,
+                lit: watch.blocker,
                 level,
-                reason: Some(number),
+                reason: Some(watch.number),
             });
             Ok(Visit::Kept)
         }
@@ -152,57 +150,53 @@ fn visit_clause(
     pairs: &mut [PackedPair],
     clauses: &Arena,
     level: usize,
-    l: Lit,
-    place: usize,
+    spot: Spot,
     number: usize,
 ) -> Result<Visit, Memory>
     requires running { IsRunning clauses.now level values.old lists.old pairs.old }
-    requires is_false { IsFalseIn (entries_of values.old) l }
-    requires watch { (w : Watch) × (slice_get (list_at lists.old (slot_of l)) place ≡ Some w) × (w.number ≡ number) }
+    requires is_false { IsFalseIn (entries_of values.old) spot.l }
+    requires watch { (w : Watch) × (slice_get (list_at lists.old (slot_of spot.l)) spot.place ≡ Some w) × (w.number ≡ number) }
     requires number { number < 2 ^ 31 }
-    ensures visits { IfOk result (Visits clauses.now level l place values.old lists.old pairs.old values.new lists.new pairs.new) }
+    ensures visits { IfOk result (Visits clauses.now level spot.l spot.place values.old lists.old pairs.old values.new lists.new pairs.new) }
     ensures err { OnErr result (values.new ≡ values.old) }
 {
     let Some(pair) = pair_of_clause(pairs, number) else {
         return Ok(Visit::False(number));
     };
-    let other = other_of(pair, l);
+    let other = other_of(pair, spot.l);
+    let watch = Watch {
+        number,
+        blocker: other,
+        binary: false,
+    };
     if values.is_true(other) {
-        let watch = Watch {
-            number,
-            blocker: other,
-            binary: false,
-        };
-        put_watch(lists, l, place, watch);
+        put_watch(lists, spot.l, spot.place, watch);
         return Ok(Visit::Kept);
     }
-    settle(
-        values, lists, pairs, clauses, level, l, place, number, other,
-    )
+    settle(values, lists, pairs, clauses, level, spot, watch)
 }
 
-// Visits the clause at a place of the literal's list. One of two literals is not read: its other literal is the blocker.
+// Visits the clause of the watch at this place. One of two literals is not read: its other literal is the blocker.
 pub(crate) fn visit_at(
     values: &mut Values,
     lists: &mut [WatchList],
     pairs: &mut [PackedPair],
     clauses: &Arena,
     level: usize,
-    l: Lit,
-    place: usize,
+    spot: Spot,
 ) -> Result<Visit, Memory>
     requires running { IsRunning clauses.now level values.old lists.old pairs.old }
-    requires is_false { IsFalseIn (entries_of values.old) l }
-    requires place { place < length (list_at lists.old (slot_of l)) }
-    ensures visits { IfOk result (Visits clauses.now level l place values.old lists.old pairs.old values.new lists.new pairs.new) }
+    requires is_false { IsFalseIn (entries_of values.old) spot.l }
+    requires place { spot.place < length (list_at lists.old (slot_of spot.l)) }
+    ensures visits { IfOk result (Visits clauses.now level spot.l spot.place values.old lists.old pairs.old values.new lists.new pairs.new) }
     ensures err { OnErr result (values.new ≡ values.old) }
 {
-    let watch = watch_at(lists, l, place);
+    let watch = watch_at(lists, spot.l, spot.place);
     if values.is_true(watch.blocker) {
         return Ok(Visit::Kept);
     }
     if !watch.binary {
-        return visit_clause(values, lists, pairs, clauses, level, l, place, watch.number);
+        return visit_clause(values, lists, pairs, clauses, level, spot, watch.number);
     }
     if values.is_false(watch.blocker) {
         return Ok(Visit::False(watch.number));

@@ -12,6 +12,7 @@ use crate::lists::count_at;
 use crate::packed_pair::PackedPair;
 use crate::values::Values;
 use crate::visit::{Visit, visit_at};
+use crate::watch::Spot;
 use crate::watch_list::WatchList;
 use inst_logic::Memory;
 use prop_logic::Lit;
@@ -37,7 +38,8 @@ pub(crate) fn visit_list(
 {
     let mut place = 0;
     while place < count_at(lists, l) {
-        match visit_at(values, lists, pairs, clauses, level, l, place)? {
+        let spot = Spot { l, place };
+        match visit_at(values, lists, pairs, clauses, level, spot)? {
             Visit::Kept => place += 1,
             Visit::Moved => {}
             Visit::False(number) => return Ok(Some(number)),

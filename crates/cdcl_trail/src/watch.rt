@@ -12,6 +12,13 @@ pub struct Watch {
     pub binary: bool,
 }
 
+/// A place of the literal's watch list.
+#[derive(Clone, Copy, Debug, PartialEq, Eq)]
+pub struct Spot {
+    pub l: Lit,
+    pub place: usize,
+}
+
 /// The two literals that a clause watches.
 #[derive(Clone, Copy, Debug, PartialEq, Eq)]
 pub struct Pair {

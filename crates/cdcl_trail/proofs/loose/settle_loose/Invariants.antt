@@ -5,9 +5,9 @@ use Rattle.cdcl_trail.proofs.loose.settle_loose.Given as goal
 
 abbrev pub invariant-loop-passed : goal.invariant-loop-passed
 invariant-loop-passed l = record {
-  run : IsLooseRun l.clauses l.level l.initial.values l.initial.pairs l.initial.loose.items l.initial.passed l.values l.lists l.pairs l.loose.items l.passed;
-  copies : AreCopies l.clauses l.arena l.pairs;
+  run : IsLooseRun l.clauses l.level l.initial.values l.initial.pairs l.initial.attached.loose.items l.initial.passed l.values l.lists l.pairs l.attached.loose.items l.passed;
+  copies : AreCopies l.clauses l.attached.arena l.pairs;
 }
 
 abbrev pub decreases-loop-passed : goal.decreases-loop-passed
-decreases-loop-passed l = length l.loose.items - l.passed
+decreases-loop-passed l = length l.attached.loose.items - l.passed

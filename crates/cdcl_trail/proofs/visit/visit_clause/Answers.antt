@@ -10,7 +10,7 @@ use Rattle.cdcl_trail.proofs.visit.visit_clause.Goals as goal
 pub returns-in_default-clause-visits : goal.returns-in_default-clause-visits
 returns-in_default-clause-visits c =
     let w = c.requires.watch in
-    let x = watch_pair c.args.clauses.now c.args.lists.now c.args.pairs.now c.args.l c.args.place w.0 c.requires.running.watched w.1 in
+    let x = watch_pair c.args.clauses.now c.args.lists.now c.args.pairs.now c.args.spot.l c.args.spot.place w.0 c.requires.running.watched w.1 in
     absurd (none-some x.0 (c.in_default.ensures ∙ ap (pair_at c.args.pairs.now) (sym w.2) ∙ x.1))
 
 pub is_true-requires-clause-atom : goal.is_true-requires-clause-atom
@@ -18,11 +18,11 @@ is_true-requires-clause-atom c =
     let w = c.requires.watch in
     let p = c.in-Some.pair in
     let at : pair_at c.args.pairs.now c.args.number ≡ Some p = sym c.in-Some.ensures in
-    let both = c.other_of-other.ensures (watches_of c.args.clauses.now c.args.lists.now c.args.pairs.now c.args.l c.args.place c.args.number w.0 p c.requires.running.watched w.1 w.2 at) in
-    other_below c.args.clauses.now c.args.level c.args.values.now c.args.lists.now c.args.pairs.now c.args.number p c.args.l c.other_of-other.result c.requires.running at both
+    let both = c.other_of-other.ensures (watches_of c.args.clauses.now c.args.lists.now c.args.pairs.now c.args.spot.l c.args.spot.place c.args.number w.0 p c.requires.running.watched w.1 w.2 at) in
+    other_below c.args.clauses.now c.args.level c.args.values.now c.args.lists.now c.args.pairs.now c.args.number p c.args.spot.l c.other_of-other.result c.requires.running at both
 
 pub put_watch-requires-clause-place : goal.put_watch-requires-clause-place
-put_watch-requires-clause-place c = slice_get_within (list_at c.args.lists.now (slot_of c.args.l)) c.args.place c.requires.watch.0 c.requires.watch.1
+put_watch-requires-clause-place c = slice_get_within (list_at c.args.lists.now (slot_of c.args.spot.l)) c.args.spot.place c.requires.watch.0 c.requires.watch.1
 
 pub put_watch-requires-clause-blocker : goal.put_watch-requires-clause-blocker
 put_watch-requires-clause-blocker c =
@@ -30,10 +30,10 @@ put_watch-requires-clause-blocker c =
     let p = c.in-Some.pair in
     let r = c.requires.running in
     let at : pair_at c.args.pairs.now c.args.number ≡ Some p = sym c.in-Some.ensures in
-    let both = c.other_of-other.ensures (watches_of c.args.clauses.now c.args.lists.now c.args.pairs.now c.args.l c.args.place c.args.number w.0 p r.watched w.1 w.2 at) in
+    let both = c.other_of-other.ensures (watches_of c.args.clauses.now c.args.lists.now c.args.pairs.now c.args.spot.l c.args.spot.place c.args.number w.0 p r.watched w.1 w.2 at) in
     omega (
       arith,
-      other_slot c.args.clauses.now c.args.level c.args.values.now c.args.lists.now c.args.pairs.now c.args.number p c.args.l c.other_of-other.result r at both,
+      other_slot c.args.clauses.now c.args.level c.args.values.now c.args.lists.now c.args.pairs.now c.args.number p c.args.spot.l c.other_of-other.result r at both,
       lists_small c.args.clauses.now c.args.level c.args.values.now c.args.lists.now c.args.pairs.now r,
     )
 
@@ -43,10 +43,10 @@ returns-then-is_true-clause-visits c =
     let p = c.in-Some.pair in
     let o = c.other_of-other.result in
     let at : pair_at c.args.pairs.now c.args.number ≡ Some p = sym c.in-Some.ensures in
-    let both = c.other_of-other.ensures (watches_of c.args.clauses.now c.args.lists.now c.args.pairs.now c.args.l c.args.place c.args.number w.0 p c.requires.running.watched w.1 w.2 at) in
-    visits_blocked c.args.clauses.now c.args.level c.args.l c.args.place c.args.values.now c.args.lists.now c.put_watch.new.lists c.args.pairs.now w.0 (record { number = c.args.number; blocker = o; binary = false }) o c.requires.running
-    (slot_within c.args.lists.now (slot_of c.args.l) c.args.place w.0 w.1) w.1 (sym w.2) refl refl
-    (λ d here. (of_pair c.args.clauses.now c.args.lists.now c.args.pairs.now c.args.number p c.args.l o d c.requires.running.watched at both (ap (clause_number c.args.clauses.now) (sym w.2) ∙ here)).1)
+    let both = c.other_of-other.ensures (watches_of c.args.clauses.now c.args.lists.now c.args.pairs.now c.args.spot.l c.args.spot.place c.args.number w.0 p c.requires.running.watched w.1 w.2 at) in
+    visits_blocked c.args.clauses.now c.args.level c.args.spot.l c.args.spot.place c.args.values.now c.args.lists.now c.put_watch.new.lists c.args.pairs.now w.0 (record { number = c.args.number; blocker = o; binary = false }) o c.requires.running
+    (slot_within c.args.lists.now (slot_of c.args.spot.l) c.args.spot.place w.0 w.1) w.1 (sym w.2) refl refl
+    (λ d here. (of_pair c.args.clauses.now c.args.lists.now c.args.pairs.now c.args.number p c.args.spot.l o d c.requires.running.watched at both (ap (clause_number c.args.clauses.now) (sym w.2) ∙ here)).1)
     (decided_true _ _ _ c.is_true.ensures c.if-is_true.true) c.put_watch.ensures
 
 pub settle-requires-clause-pair : goal.settle-requires-clause-pair
@@ -54,4 +54,4 @@ settle-requires-clause-pair c =
     let w = c.requires.watch in
     let p = c.in-Some.pair in
     let at : pair_at c.args.pairs.now c.args.number ≡ Some p = sym c.in-Some.ensures in
-    (p, at, c.other_of-other.ensures (watches_of c.args.clauses.now c.args.lists.now c.args.pairs.now c.args.l c.args.place c.args.number w.0 p c.requires.running.watched w.1 w.2 at))
+    (p, at, c.other_of-other.ensures (watches_of c.args.clauses.now c.args.lists.now c.args.pairs.now c.args.spot.l c.args.spot.place c.args.number w.0 p c.requires.running.watched w.1 w.2 at))

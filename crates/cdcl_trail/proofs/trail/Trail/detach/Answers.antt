@@ -29,7 +29,7 @@ returns-clause-attached c before after removes a =
     let s = c.self.inside in
     let n = c.args.n in
     let t : Trail = trail_of (length s.values.entries.items) s.level (entries_of s.values) s.spent in
-    let w : Watching = record { lists = s.lists.items; pairs = s.pairs.items; copies = s.arena; loose = s.loose.items; head = s.head; heads = s.heads.items } in
+    let w : Watching = record { lists = s.lists.items; pairs = s.pairs.items; copies = s.attached.arena; loose = s.attached.loose.items; head = s.head; heads = s.heads.items } in
     let old : AreAttached (record { trail = t; watching = w }) before = subst (λ x. AreAttached x before) (sym c.self.view_is) a in
     let e = c.unwatch.ensures in
     let few : length c.unwatch.new.lists ≡ s.lists.len = omega (arith, e.size, ap length c.deref_mut.ensures.value, s.lists.ok.0) in
