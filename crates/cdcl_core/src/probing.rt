@@ -17,7 +17,7 @@ use prop_logic::{Answer, Lit, complement};
 use std::alloc::Global;
 
 // Between two that fail, so many literals are propagated at most for each atom and each added clause.
-const PATIENCE: usize = 3;
+const PATIENCE: usize = 5;
 
 // A literal is probed at most so many times, in the mean of all.
 const TURNS: usize = 100;
