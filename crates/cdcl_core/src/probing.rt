@@ -17,7 +17,7 @@ use prop_logic::{Answer, Lit, complement};
 use std::alloc::Global;
 
 // Between two that fail, so many literals are propagated at most for each atom and each added clause.
-const PATIENCE: usize = 3;
+const PATIENCE: usize = 5;
 
 // A literal is probed at most so many times, in the mean of all.
 const TURNS: usize = 100;
@@ -33,9 +33,9 @@ struct Probed {
     settled: usize,
 }
 
-// The literals by their numbers, 2 a for the negative and 2 a + 1 for the positive one of atom a. The next one is looked for from
-// `number` on, in a ring. The candidates were found where there were `facts` facts. So many literals as `left` says may still be
-// propagated, and as `patience` says after one fails.
+// The literals by their numbers, 2 a for the negative and 2 a + 1 for the positive one of atom a. In rounds each is probed that is a
+// candidate; those of this round were found where there were `facts` facts, and the next one is looked for from `number` on. So
+// many literals as `left` says may still be propagated, and as `patience` says after one fails.
 #[derive(Drop)]
 pub(crate) struct Probing {
     literals: Vec<Probed>,
@@ -118,7 +118,7 @@ impl Probing {
         }
     }
 
-    // Finds the candidates where there are so many facts. Nothing is left if these are found.
+    // Begins a round where there are so many facts. Nothing is left if there were as many when the last one began.
     fn begin_round(&mut self, trail: &Trail, added: &FlatClauses, facts: usize)
         requires { AllAtomsBelow trail.now.trail.atoms added.now }
     {
@@ -139,23 +139,20 @@ impl Probing {
         }
     }
 
-    // A literal without a value that may fail, where there are so many facts.
+    // The next literal of the round that may fail, where there are so many facts.
     fn next(&mut self, trail: &Trail, atoms: usize, facts: usize) -> Option<Lit>
         requires { atoms ≡ trail.now.trail.atoms }
         ensures { IfSome result (λ l. (l.atom < trail.now.trail.atoms) × (level_of trail.now.trail.entries l.atom ≡ None)) }
     {
-        for _ in 0..self.literals.len() {
-            let number = self.number;
+        for number in self.number..self.literals.len() {
             let atom = number / 2;
             if atom < atoms && self.may_fail(number, facts) && trail.level_of(atom).is_none() {
+                self.number = number;
                 let positive = number % 2 == 1;
                 return Some(Lit { positive, atom });
             }
-            self.number = number.saturating_add(1);
-            if self.literals.len() <= self.number {
-                self.number = 0;
-            }
         }
+        self.number = 0;
         None
     }
 
@@ -220,7 +217,7 @@ impl Search {
         }
     }
 
-    // The same for the next literal. Where there is none, others may be candidates.
+    // The same for the next literal. Where there is none, another round begins.
     fn probe_next(&mut self, probing: &mut Probing) -> Result<Option<Answer>, Memory>
         requires search { IsSearch [] self.old }
         ensures probed { IfOk result (IsProbed [] self.old self.new) }
