@@ -1,11 +1,11 @@
-// A run of the engine with the fast solver and the fast index.
+// A run of the engine with the fast solver and the fast index, and the choices of the command `prove`.
 ghost use Rattle.std.specs.Prelude.{IfOk};
 ghost use Rattle.tptp_load.specs.Problems.{IsGoodProblem};
 
 use crate::counting::{Counts, counts_of};
 use cdcl_core::Cdcl;
 use inst_logic::{Memory, Problem};
-use instgen_loop::{Outcome, run};
+use instgen_loop::{Choices, Outcome, run_with};
 use outside_io::Library;
 use std::alloc::Global;
 use term_index::Tree;
@@ -15,7 +15,10 @@ use tptp_load::load;
 fn outcome(alloc: Global, p: &Problem, budget: u32) -> Result<Outcome, Memory>
     requires { IsGoodProblem p.now }
 {
-    run(
+    let choices = Choices {
+        first_values: Some(Cdcl::new(alloc)),
+    };
+    run_with(
         alloc,
         p,
         Cdcl::new(alloc),
@@ -25,6 +28,7 @@ fn outcome(alloc: Global, p: &Problem, budget: u32) -> Result<Outcome, Memory>
         Tree::new(alloc),
         Tree::new(alloc),
         u64::from(budget),
+        choices,
     )
 }
 

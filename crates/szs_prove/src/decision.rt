@@ -13,7 +13,7 @@ use cert_format::covers::names_are_printable;
 use cert_format::laws::valid_certificates_certify;
 use cert_front::{accept_refutation, accept_saturation};
 use inst_logic::{Memory, Problem};
-use instgen_loop::{Journal, Outcome, run};
+use instgen_loop::{Choices, Journal, Outcome, run_with};
 use saturation_cert::{Refutation, Saturation, refutation_numbers, saturation_numbers};
 use std::alloc::Global;
 use term_index::Tree;
@@ -130,7 +130,10 @@ pub fn decide(alloc: Global, p: &Problem, budget: u64) -> Result<Decision, Memor
     ensures decision { IfOk result (IsDecision p.now budget) }
     ensures function_free { IfOk result (λ d. IsTrue (is_function_free p.now.clauses) → IsVerdict d) }
 {
-    let outcome = run(
+    let choices = Choices {
+        first_values: Some(Cdcl::new(alloc)),
+    };
+    let outcome = run_with(
         alloc,
         p,
         Cdcl::new(alloc),
@@ -140,6 +143,7 @@ pub fn decide(alloc: Global, p: &Problem, budget: u64) -> Result<Decision, Memor
         Tree::new(alloc),
         Tree::new(alloc),
         budget,
+        choices,
     )?;
     judged(alloc, p, budget, outcome)
 }

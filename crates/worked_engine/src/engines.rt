@@ -6,7 +6,7 @@ use crate::outcomes::{Row, Told, tell};
 use crate::problems::problem_of;
 use cdcl_core::Cdcl;
 use inst_logic::Problem;
-use instgen_loop::run;
+use instgen_loop::{Choices, run, run_with};
 use prop_logic::{Plain, Solver};
 use std::alloc::Global;
 use std::test::Fail;
@@ -56,6 +56,8 @@ fn told_by<S: Solver, I: PartnerIndex>(
 pub enum Engine {
     PlainRows,
     CdclTree,
+    // The same, where another such solver is asked for first values.
+    FirstValues,
     // Walks over the indexes of selected literals refuse to begin, or those over that of first literals do.
     Refusing { partners: bool, first: bool },
 }
@@ -92,6 +94,28 @@ fn with_cdcl(alloc: Global, p: &Problem, row: &Row) -> Result<Told, Fail>
     )
 }
 
+#[tactic(auto, using(std::proofs::lemmas::Grind::common_steps, crate::proofs::Printable::printable_clauses, crate::proofs::Printable::readable_names))]
+fn with_first_values(alloc: Global, p: &Problem, row: &Row) -> Result<Told, Fail>
+    requires { IsGoodProblem p.now }
+{
+    let choices = Choices {
+        first_values: Some(Cdcl::new(alloc)),
+    };
+    let answer = run_with(
+        alloc,
+        p,
+        Cdcl::new(alloc),
+        Cdcl::new(alloc),
+        Cdcl::new(alloc),
+        Tree::new(alloc),
+        Tree::new(alloc),
+        Tree::new(alloc),
+        u64::from(row.budget),
+        choices,
+    );
+    tell(alloc, answer, row)
+}
+
 fn with_refusing(
     alloc: Global,
     p: &Problem,
@@ -120,6 +144,7 @@ fn told_with(alloc: Global, p: &Problem, row: &Row, engine: Engine) -> Result<To
     match engine {
         Engine::PlainRows => with_plain(alloc, p, row),
         Engine::CdclTree => with_cdcl(alloc, p, row),
+        Engine::FirstValues => with_first_values(alloc, p, row),
         Engine::Refusing { partners, first } => with_refusing(alloc, p, row, partners, first),
     }
 }

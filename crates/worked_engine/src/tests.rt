@@ -242,6 +242,22 @@ fn learning_solver_and_trees(rt: HostRuntime) -> Result<(), Fail> {
     check_rows(&rt, rt.alloc(), Engine::CdclTree)
 }
 
+// Where each predicate can have one value, and the solver is told them, nothing is inferred.
+#[test]
+fn first_values_are_tried(rt: HostRuntime) -> Result<(), Fail> {
+    let rows = [
+        saturated(PART, Some(4), "", &[1]),
+        refuted(CHAIN, BUDGET, None, "", ("", None)),
+        refuted(INSTANCE, 0, Some(3), "", ("", None)),
+        saturated("cnf(a,axiom,r|q). cnf(b,axiom,~q).", Some(2), "", &[1, 1]),
+    ];
+    for row in &rows {
+        let told = row_told(rt.alloc(), row, Engine::FirstValues)?;
+        assert_eq!(rt; told, as_wanted(row.ending), "of {}", row.text);
+    }
+    Ok(())
+}
+
 // An engine that scans its entries in place of asking an index does not meet it.
 #[test]
 fn indexes_are_asked(rt: HostRuntime) -> Result<(), Fail> {
