@@ -160,10 +160,6 @@ module _ (c : Saturation) (es : List Binding) where
     (λ k. (h s resolved m at_m).1 (k (proper_there c.base.bank es x proper m.selected.atom n.selected.atom s resolved g))),
   )
 
-  pub side_made : (x : Side) (i j : ℕ) → IsMade c i j → IsSideClosed c es x i j true
-  side_made Left i j made s resolved m n at_m at_n g = ((λ t p. made m n at_m at_n s g), (λ h. refl))
-  side_made Right i j made s resolved m n at_m at_n g = ((λ t p. made m n at_m at_n (swapped s) (swapped_general s n.selected.atom m.selected.atom g)), (λ h. refl))
-
   pub open_left : (i j : ℕ) (r : Bool) → r ≡ false → IsSideClosed c es Left i j r → IsPairClosed c es i j false
   open_left i j r e h s resolved m n p q g = (
     (λ t. absurd (let k : false ≡ true = t in cc)),
