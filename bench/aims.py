@@ -8,8 +8,9 @@ import random
 import shutil
 
 import models
+from begin import beginning
 from epr import chain, counter, equations, judged, no, smt, tptp, yes
-from table import beginning, compare
+from table import compare
 
 
 def classes(count, denied):

@@ -3,18 +3,16 @@
 certificates made here, what pairs, covers and hints cost. `check.py --help` lists the kinds. All times are processor
 seconds of one run, but for those of `formats`."""
 
-import argparse
 import itertools
 import math
 import os
 import resource
-import shutil
 import subprocess
 import sys
-import tempfile
 
+from begin import beginning
 from epr import KINDS, mean, tptp
-from run import TOP, problems as ground_problems, write_tptp
+from run import table as ground_problems, write_tptp
 
 # The certificates made here. A clause is its text; all that stand in one certificate are inputs and members at once, and the
 # first literal of each is selected.
@@ -94,7 +92,7 @@ def line(name, *cells):
 def own_problems(kind):
     """Names of problems and what writes each: those without function symbols, or the ground ones."""
     if kind == "ground":
-        for name, make in ground_problems([]):
+        for name, make in itertools.chain.from_iterable(ground_problems().values()):
             yield name, lambda path, make=make: write_tptp(path, make()[1])
         return
 
@@ -225,16 +223,8 @@ def made_here(program, name, path):
 
 
 def main():
-    parser = argparse.ArgumentParser(description=__doc__)
-    parser.add_argument("kinds", nargs="*", help="epr, ground, formats, pairs, covers, hints, stress; all if none")
-    parser.add_argument("--limit", type=float, default=20, help="seconds for each run")
-    parser.add_argument("--keep", help="a folder for the files, which are else removed")
-    parser.add_argument("--program", default=os.path.join(TOP, "instgen"), help="the program to run")
-    given = parser.parse_args()
-    kinds = given.kinds or ["epr", "ground", "formats", *MADE, "stress"]
-    folder = given.keep or tempfile.mkdtemp(prefix="bench")
-    os.makedirs(folder, exist_ok=True)
-    subprocess.run([given.program], stdout=subprocess.DEVNULL, stderr=sys.stderr, check=False)  # builds it where needed
+    given = beginning(__doc__, ["epr", "ground", "formats", *MADE, "stress"], 20)
+    kinds, folder = given.kinds, given.folder
     for kind in ("epr", "ground"):
         if kind in kinds:
             own(given.program, folder, given.limit, kind)
@@ -251,8 +241,6 @@ def main():
         line("stress", "seconds")
         for size in (1000, 10000, 100000):
             line(f"{size} links", f"{measured([given.program, 'stress', str(size)], None):.2f}")
-    if not given.keep:
-        shutil.rmtree(folder)
 
 
 if __name__ == "__main__":

@@ -9,10 +9,11 @@ import random
 import re
 import shutil
 
+from begin import beginning, shown, timed
 from check import line
 from epr import mean, no, tptp, yes
-from run import chain, parity, pigeonhole, shown, timed, write_dimacs, write_tptp
-from table import beginning, checked
+from run import chain, parity, pigeonhole, write_dimacs, write_tptp
+from table import checked
 
 # A kind gives the planted clauses and so many others. All others are true together whatever the planted ones say, but for their own
 # predicates or atoms; so all that is refuted has all planted clauses, and they are the only core.
@@ -151,8 +152,6 @@ def main():
         means(kind + ", mean", found)
         every += found
     means("all, mean", every)
-    if not given.keep:
-        shutil.rmtree(given.folder)
 
 
 if __name__ == "__main__":

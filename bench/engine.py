@@ -1,17 +1,15 @@
 #!/usr/bin/env python3
 """Builds crates/speed, runs the engine alone on generated problems, and prints for each how the run ended, its members,
-solves and appended entries, the seconds, the members a second, and the bytes of memory a member. Words choose kinds of problems."""
+solves and appended entries, the seconds, the members a second, and the bytes of memory a member. `engine.py --help` lists the kinds."""
 
-import argparse
+import itertools
+import math
 import os
 import random
 import resource
-import subprocess
 import sys
-import tempfile
 
-TOP = os.path.dirname(os.path.dirname(os.path.abspath(__file__)))
-CRATE = os.path.join(TOP, 'crates', 'speed')
+from begin import beginning, built_speed
 
 
 def chain(length, reached=True):
@@ -82,25 +80,15 @@ def tower(height, reached=True):
     yield '~ n(%s)' % term if reached else '~ n(w)'
 
 
-def problems():
-    for size in [1000, 10000, 100000]:
-        yield 'chain', '%d' % size, chain(size)
-        yield 'chain', '%d, sat' % size, chain(size, False)
-    for holes in range(6, 10):
-        yield 'pigeonhole', '%d' % holes, pigeonhole(holes, holes + 1)
-    yield 'pigeonhole', '9, sat', pigeonhole(9, 9)
-    for bits in [4, 6, 8, 10, 12, 14, 16]:
-        yield 'counter', '%d' % bits, counter(bits)
-    yield 'counter', '10, sat', counter(10, False)
-    for size in range(5, 8):
-        yield 'latin', '%d, sat' % size, latin(size)
-        yield 'latin', '%d' % size, latin(size, -1)
-    for count in [30, 45, 60, 90]:
-        for seed in range(2):
-            yield 'clauses', '%d, seed %d' % (count, seed), clauses(seed, 4, count)
-    for height in [100, 200]:
-        yield 'tower', '%d' % height, tower(height)
-    yield 'tower', 'sat', tower(1, False)
+# for each kind its problems: the size, and the literals of each clause
+KINDS = {
+    'chain': lambda: [row for size in (1000, 10000, 100000) for row in (('%d' % size, chain(size)), ('%d, sat' % size, chain(size, False)))],
+    'pigeonhole': lambda: [('%d' % holes, pigeonhole(holes, holes + 1)) for holes in range(6, 10)] + [('9, sat', pigeonhole(9, 9))],
+    'counter': lambda: [('%d' % bits, counter(bits)) for bits in (4, 6, 8, 10, 12, 14, 16)] + [('10, sat', counter(10, False))],
+    'latin': lambda: [row for size in range(5, 8) for row in (('%d, sat' % size, latin(size)), ('%d' % size, latin(size, -1)))],
+    'clauses': lambda: [('%d, seed %d' % row, clauses(row[1], 4, row[0])) for row in itertools.product((30, 45, 60, 90), range(2))],
+    'tower': lambda: [('%d' % height, tower(height)) for height in (100, 200)] + [('sat', tower(1, False))],
+}
 
 
 def write(path, literals):
@@ -124,37 +112,26 @@ def measured(program, path, budget, limit):
     return told, used.ru_utime + used.ru_stime, used.ru_maxrss * 1024
 
 
-def main():
-    parser = argparse.ArgumentParser(description=__doc__)
-    parser.add_argument('kinds', nargs='*')
-    parser.add_argument('--limit', type=int, default=20, help='seconds for each run')
+def words(parser):
     parser.add_argument('--budget', type=int, default=20000, help='symbols, where there are function symbols')
-    parser.add_argument('--program', help='a speed that is built already')
-    parser.add_argument('--keep', help='a folder for the files')
-    words = parser.parse_args()
-    program = words.program
-    if program is None:
-        subprocess.run(['rt', 'run', '--', 'engine', 'tiny.p', '1'], cwd=CRATE, stdout=subprocess.DEVNULL, stderr=subprocess.DEVNULL)
-        program = os.path.join(CRATE, 'out', 'speed')
+
+
+def main():
+    given = beginning(__doc__, KINDS, 20, built_speed, words)
     print('%-12s %-12s %-10s %8s %7s %8s %8s %9s %6s' % ('kind', 'size', 'status', 'members', 'solves', 'appended', 'seconds', 'members/s', 'bytes'))
-    with tempfile.TemporaryDirectory() as folder:
-        folder = words.keep or folder
-        os.makedirs(folder, exist_ok=True)
-        for kind, size, literals in problems():
-            if words.kinds and kind not in words.kinds:
-                continue
-            path = os.path.join(folder, '%s_%s.p' % (kind, size.replace(', ', '_').replace(' ', '_')))
-            write(path, literals)
-            told, seconds, held = measured(program, path, words.budget, words.limit)
-            if not told:
-                print('%-12s %-12s %-10s %8s %7s %8s %8.2f' % (kind, size, 'none', '', '', '', seconds))
-                continue
-            counts = dict(word.split('=') for word in told[1:])
-            members = int(counts['members'])
-            print('%-12s %-12s %-10s %8d %7s %8s %8.3f %9.0f %6.0f' % (
-                kind, size, told[0], members, counts['solves'], counts['appended'], seconds, members / max(seconds, 0.001), held / members))
-            sys.stdout.flush()
-    return 0
+    for kind, size, literals in ((kind, *row) for kind in given.kinds for row in KINDS[kind]()):
+        path = os.path.join(given.folder, '%s_%s.p' % (kind, size.replace(', ', '_').replace(' ', '_')))
+        write(path, literals)
+        told, seconds, held = measured(given.program, path, given.budget, math.ceil(given.limit))
+        if not told:
+            print('%-12s %-12s %-10s %8s %7s %8s %8.2f' % (kind, size, 'none', '', '', '', seconds))
+            continue
+        counts = dict(word.split('=') for word in told[1:])
+        members = int(counts['members'])
+        print('%-12s %-12s %-10s %8d %7s %8s %8.3f %9.0f %6.0f' % (
+            kind, size, told[0], members, counts['solves'], counts['appended'], seconds, members / max(seconds, 0.001), held / members))
+        sys.stdout.flush()
 
 
-sys.exit(main())
+if __name__ == '__main__':
+    main()

@@ -3,17 +3,13 @@
 where they are installed z3 and E, and prints the times, and for each kind and in all the geometric mean of the ratios.
 `epr.py --help` lists the kinds."""
 
-import argparse
 import itertools
 import math
 import os
 import random
 import shutil
-import subprocess
-import sys
-import tempfile
 
-from run import TOP, shown, timed, verdict
+from begin import beginning, shown, timed
 
 # A literal is a sign, a predicate and a tuple of terms; a term is a variable where it begins with a capital letter. The predicate
 # `=` is equality.
@@ -211,24 +207,16 @@ def row(name, stem, limit, program, others):
 
 
 def main():
-    parser = argparse.ArgumentParser(description=__doc__)
-    parser.add_argument("kinds", nargs="*", help=", ".join(KINDS) + "; all if none")
-    parser.add_argument("--limit", type=float, default=10, help="seconds for each run")
-    parser.add_argument("--keep", help="a folder for the files, which are else removed")
-    parser.add_argument("--program", default=os.path.join(TOP, "instgen"), help="the program to run")
-    given = parser.parse_args()
+    given = beginning(__doc__, KINDS)
     others = [p for p in ("z3", "eprover") if shutil.which(p)]
-    folder = given.keep or tempfile.mkdtemp(prefix="bench")
-    os.makedirs(folder, exist_ok=True)
-    subprocess.run([given.program], stdout=subprocess.DEVNULL, stderr=sys.stderr, check=False)  # builds it where needed
     print(f"{'problem':24} {'verdict':>16}" + "".join(f" {p:>9}" for p in ["instgen"] + others) + f" {'ratio':>8}", flush=True)
     all_ratios = []
-    for kind in given.kinds or KINDS:
+    for kind in given.kinds:
         make, sizes = KINDS[kind]
         ratios = []
         for size, refuted in itertools.product(sizes, (True, False)):
             name = f"{kind} {size} {'unsat' if refuted else 'sat'}"
-            stem = os.path.join(folder, name.replace(" ", "-"))
+            stem = os.path.join(given.folder, name.replace(" ", "-"))
             clauses = make(size, refuted)
             with open(stem + ".p", "w", encoding="ascii") as out:
                 out.writelines(tptp(clauses))
@@ -239,8 +227,6 @@ def main():
         all_ratios += ratios
         print(f"{kind + ', mean':24} {'':>16}" + " " * 10 * (1 + len(others)) + f" {mean(ratios):>8}", flush=True)
     print(f"{'all, mean':24} {'':>16}" + " " * 10 * (1 + len(others)) + f" {mean(all_ratios):>8}", flush=True)
-    if not given.keep:
-        shutil.rmtree(folder)
 
 
 if __name__ == "__main__":

@@ -9,7 +9,8 @@ import os
 import re
 import shutil
 
-from table import beginning, checked, compare
+from begin import beginning
+from table import checked, compare
 
 # A problem is a list of texts of clauses, or a function that gives it for a number of elements.
 GROUP = ["m(e,X) = X", "m(i(X),X) = e", "m(m(X,Y),Z) = m(X,m(Y,Z))"]

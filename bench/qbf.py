@@ -8,7 +8,8 @@ import os
 import random
 import shutil
 
-from table import beginning, checked, compare
+from begin import beginning
+from table import checked, compare
 
 # A formula is a list of blocks, each a letter with its variables, and a list of clauses as in run.py.
 

@@ -2,16 +2,11 @@
 """Makes ground problems of known kinds, runs the program and, where it is installed, minisat on each, and prints the times
 and their ratio. `run.py --help` lists the kinds."""
 
-import argparse
 import os
 import random
 import shutil
-import subprocess
-import sys
-import tempfile
-import time
 
-TOP = os.path.dirname(os.path.dirname(os.path.abspath(__file__)))
+from begin import beginning, shown, timed
 
 
 # A problem is a number of atoms and a list of clauses; a literal is a number from 1 on, or its negative.
@@ -93,8 +88,9 @@ def wide(length):
     return length, [list(range(1, length + 1))] + [[-n] for n in range(1, length + 1)]
 
 
-def problems(kinds):
-    table = {
+def table():
+    """For each kind its problems: a name, and what makes it."""
+    return {
         "random": [(f"random {n} at 4.26, seed {s}", lambda n=n, s=s: random_clauses(n, 4.26, s))
                    for n in (50, 100, 150, 200, 250) for s in (1, 2, 3)],
         "large": [(f"random {n} at 3", lambda n=n: random_clauses(n, 3, 1)) for n in (6666, 22000, 66000)],
@@ -105,7 +101,6 @@ def problems(kinds):
         "chain": [(f"chain {n}", lambda n=n: chain(n)) for n in (1000, 10000, 100000)],
         "wide": [(f"one clause of {n}", lambda n=n: wide(n)) for n in (1000, 10000, 100000)],
     }
-    return [row for kind in table if not kinds or kind in kinds for row in table[kind]]
 
 
 def write_tptp(path, clauses):
@@ -122,16 +117,6 @@ def write_dimacs(path, atoms, clauses):
             out.write(" ".join(map(str, clause)) + " 0\n")
 
 
-def timed(words, limit):
-    """The seconds that the command takes, and the beginning of what it prints."""
-    begun = time.perf_counter()
-    try:
-        done = subprocess.run(words, stdout=subprocess.PIPE, stderr=subprocess.DEVNULL, timeout=limit, check=False)
-    except subprocess.TimeoutExpired:
-        return None, b""
-    return time.perf_counter() - begun, done.stdout
-
-
 def verdict(text):
     first = text.split(b"\n", 1)[0]
     for word in (b"Unsatisfiable", b"Satisfiable"):
@@ -144,39 +129,24 @@ def verdict(text):
     return "?"
 
 
-def shown(seconds):
-    return "-" if seconds is None else f"{seconds:.3f}"
-
-
 def main():
-    parser = argparse.ArgumentParser(description=__doc__)
-    parser.add_argument("kinds", nargs="*", help="random, large, pigeonhole, parity, planning, chain, wide; all if none")
-    parser.add_argument("--limit", type=float, default=60, help="seconds for each run")
-    parser.add_argument("--sat", action="store_true", help="run the command sat on the clauses in the DIMACS form")
-    parser.add_argument("--program", default=os.path.join(TOP, "instgen"), help="the program to run")
-    parser.add_argument("--keep", help="a folder for the files, which are else removed")
-    given = parser.parse_args()
-    program = given.program
+    given = beginning(__doc__, list(table()), 60, add=lambda parser: parser.add_argument(
+        "--sat", action="store_true", help="run the command sat on the clauses in the DIMACS form"))
     command, ending = ("sat", ".cnf") if given.sat else ("prove", ".p")
     other = shutil.which("minisat")
-    folder = given.keep or tempfile.mkdtemp(prefix="bench")
-    os.makedirs(folder, exist_ok=True)
-    subprocess.run([program], stdout=subprocess.DEVNULL, stderr=sys.stderr, check=False)  # builds it where needed
     print(f"{'problem':34} {'clauses':>8} {'verdict':>14} {'instgen':>9} {'minisat':>9} {'ratio':>7}", flush=True)
-    for name, make in problems(given.kinds):
+    for name, make in (row for kind in given.kinds for row in table()[kind]):
         atoms, clauses = make()
-        stem = os.path.join(folder, name.replace(" ", "-").replace(",", "").replace(".", "-"))
+        stem = os.path.join(given.folder, name.replace(" ", "-").replace(",", "").replace(".", "-"))
         write_tptp(stem + ".p", clauses)
         write_dimacs(stem + ".cnf", atoms, clauses)
-        ours, text = timed([program, command, stem + ending], given.limit)
+        ours, text = timed([given.program, command, stem + ending], given.limit)
         theirs, said = timed([other, "-verb=0", stem + ".cnf"], given.limit) if other else (None, b"")
         ratio = f"{ours / theirs:.1f}" if ours and theirs else "-"
         found = verdict(text)
         if other and theirs is not None and ours is not None and verdict(said) != found:
             found += " !"
         print(f"{name:34} {len(clauses):8} {found:>14} {shown(ours):>9} {shown(theirs):>9} {ratio:>7}", flush=True)
-    if not given.keep:
-        shutil.rmtree(folder)
 
 
 if __name__ == "__main__":

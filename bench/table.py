@@ -1,15 +1,10 @@
 """What the scripts share that compare the program with other solvers in a table."""
 
-import argparse
-import os
-import shutil
 import subprocess
-import sys
-import tempfile
 
+from begin import shown, timed
 from check import line
 from epr import mean
-from run import TOP, shown, timed
 
 
 def checked(program, text, path):
@@ -18,21 +13,6 @@ def checked(program, text, path):
         out.write(text.partition(b"\n")[2])
     said = subprocess.run([program, "check", path], stdout=subprocess.PIPE, stderr=subprocess.DEVNULL, check=False).stdout
     return "valid" if said.startswith(b"valid ") else "bad !"
-
-
-def beginning(text, kinds, limit=10):
-    """The words of the command, with a folder for the files and all kinds where none is given."""
-    parser = argparse.ArgumentParser(description=text)
-    parser.add_argument("kinds", nargs="*", help=", ".join(kinds) + "; all if none")
-    parser.add_argument("--limit", type=float, default=limit, help="seconds for each run")
-    parser.add_argument("--keep", help="a folder for the files, which are else removed")
-    parser.add_argument("--program", default=os.path.join(TOP, "instgen"), help="the program to run")
-    given = parser.parse_args()
-    given.kinds = given.kinds or list(kinds)
-    given.folder = given.keep or tempfile.mkdtemp(prefix="bench")
-    os.makedirs(given.folder, exist_ok=True)
-    subprocess.run([given.program], stdout=subprocess.DEVNULL, stderr=sys.stderr, check=False)  # builds it where needed
-    return given
 
 
 def row(name, wanted, commands, limit, reader, look):
@@ -64,5 +44,3 @@ def compare(given, others, reader, problems):
         means(kind + ", mean", found)
         every += found
     means("all, mean", every)
-    if not given.keep:
-        shutil.rmtree(given.folder)

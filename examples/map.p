@@ -1,4 +1,5 @@
-% Can four countries be coloured with three colours, so that neighbours differ? Satisfiable: they can.
+% Can four countries be coloured with three colours, so that neighbours differ? Satisfiable: they can, and `examples/model`
+% shows how.
 include('maps/borders.ax').
 cnf(north_has_one,axiom,( red(north) | blue(north) | green(north) )).
 cnf(south_has_one,axiom,( red(south) | blue(south) | green(south) )).

@@ -1,5 +1,7 @@
-% A robot is in the hall, the door to the roof is locked, and the key is in the lab. Satisfiable: it can be on the roof with
-% the key after three steps, and the literals go(..) and take(..) that are selected positive are the plan.
+% A robot is in the hall, the door to the roof is locked, and the key is in the lab. Can it be on the roof after three steps?
+%
+% Satisfiable: it can, and the model is the plan: `examples/model CERT go take` shows it, go(lab,t0) being that it goes to the lab at the first time.
+% plan_in_two_steps.p asks for two steps.
 cnf(begins_in_the_hall,axiom,( in_hall(t0) )).
 cnf(begins_without_the_key,axiom,( ~ has_key(t0) )).
 cnf(ends_on_the_roof,negated_conjecture,( on_roof(t3) )).

@@ -10,8 +10,8 @@ import tempfile
 import threading
 
 import runs
+from runs import TWO
 
-TWO = 'cnf(one,axiom,p(X)). cnf(two,axiom,~p(c)).'
 NOBODY = ['setpriv', '--reuid=65534', '--regid=65534', '--clear-groups', '--no-new-privs']
 
 
@@ -20,27 +20,26 @@ def told(status, name):
 
 
 class Table:
-    def __init__(self, program, folder):
-        self.program, self.folder, self.bad = program, folder, 0
+    def __init__(self, program, folder, limit):
+        self.program, self.folder, self.limit, self.rows, self.bad = program, folder, limit, 0, 0
         print('%-46s %-14s %-10s %s' % ('run', 'ended', 'wanted', 'first line'))
 
     def row(self, what, found, status, line=None):
         """Notes a run: `line` is the first line that is wanted, or any where it is None."""
         good = found.status == status and (line is None or found.first_line() == line)
+        self.rows += 1
         self.bad += not good
         print('%-46s %-14s %-10s %s%s' % (what, found.how(), 'exit %d' % status, found.first_line()[:60], '' if good else '   WRONG'), flush=True)
 
-    def run(self, words, before=(), **how):
-        """The words behind the program, with an output of their own where one is given."""
-        how.setdefault('stdin', subprocess.DEVNULL)
-        if 'stdout' not in how:
-            how['stdout'] = subprocess.PIPE
-        process = subprocess.Popen([*before, self.program, *words], cwd=self.folder, stderr=subprocess.DEVNULL, **how)
-        text = b''
-        if process.stdout:
-            text = process.stdout.read(1 << 20)
-            process.stdout.close()
-        process.wait(120)
+    def run(self, words, before=(), most=1 << 26, **how):
+        """The words behind the program, with an output of their own where one is given; of another so many bytes are read."""
+        how = {'cwd': self.folder, 'stdin': subprocess.DEVNULL, 'stdout': subprocess.PIPE, 'stderr': subprocess.DEVNULL, **how}
+        with runs.begun([*before, self.program, *words], self.limit, **how) as process:
+            text = b''
+            if process.stdout:
+                text = process.stdout.read(most)
+                process.stdout.close()
+            process.wait()
         return runs.Ended(process.returncode, text)
 
 
@@ -52,16 +51,18 @@ def files_that_fail(table):
     os.chmod(closed, 0)
     inner = os.path.join(folder, runs.write(folder, 'inner.p', "include('folder.p')."))
     os.chmod(inner, 0o644)
-    for words in (['prove'], ['sat'], ['check'], ['ask']):
+    for words in (['prove'], ['sat'], ['qbf'], ['fmodel', '2'], ['core'], ['check'], ['ask']):
         more = ['p(a)'] if words == ['ask'] else []
         table.row('%s, a folder as the file' % words[0], table.run([*words, 'folder.p', *more]), 4, told('OSError', 'folder.p'))
-    table.row('an include that is a folder', table.run(['prove', 'inner.p']), 4, told('OSError', 'inner.p'))
+        table.row('%s, an absent file' % words[0], table.run([*words, 'absent.p', *more]), 2, told('InputError', 'absent.p'))
+    for words in (['prove'], ['fmodel', '2'], ['core']):
+        table.row('%s, an include that is a folder' % words[0], table.run([*words, 'inner.p']), 4, told('OSError', 'inner.p'))
     table.row('no permission', table.run(['prove', 'closed.p'], as_user), 4, told('OSError', 'closed.p'))
     table.row('a link to itself', table.run(['prove', 'loop.p']), 4, told('OSError', 'loop.p'))
     table.row('a file below a file', table.run(['prove', 'two.p/two.p']), 4, told('OSError', 'two.p/two.p'))
     table.row('a name of 300 bytes', table.run(['prove', 'n' * 300]), 4, told('OSError', 'n' * 300))
-    table.row('an absent file', table.run(['prove', 'absent.p']), 2, told('InputError', 'absent.p'))
     table.row('a device without an end', table.run(['prove', '/dev/zero']), 2, told('InputError', '/dev/zero'))
+    table.row('a file of more than 64 KiB', table.run(['prove', 'long.p']), 0, told('Satisfiable', 'long.p'))
     table.row('an empty device', table.run(['prove', '/dev/null']), 0, told('Satisfiable', '/dev/null'))
 
 
@@ -79,7 +80,7 @@ def pipes(table):
         ('a pipe that ends in a statement', [TWO[:30]], 2, 'SyntaxError'),
         ('a pipe without a byte', [], 0, 'Satisfiable'),
     ]:
-        feeder = threading.Thread(target=feed, args=(pieces,))
+        feeder = threading.Thread(target=feed, args=(pieces,), daemon=True)  # it waits for a reader, who may not come
         feeder.start()
         table.row(what, table.run(['prove', 'pipe.p']), status, told(word, 'pipe.p'))
         feeder.join(10)
@@ -94,34 +95,27 @@ def names(table):
     inside = os.path.join(os.fsencode(table.folder), b'in\xff')
     os.mkdir(inside)
     shutil.copy(os.fsencode(os.path.join(table.folder, 'two.p')), inside)
-    process = subprocess.run([table.program, 'prove', 'two.p'], cwd=inside, stdin=subprocess.DEVNULL, capture_output=True, check=False)
-    table.row('a folder whose name is no text', runs.Ended(process.returncode, process.stdout), 0, told('Unsatisfiable', 'two.p'))
+    table.row('a folder whose name is no text', table.run(['prove', 'two.p'], cwd=inside), 0, told('Unsatisfiable', 'two.p'))
 
 
 def outputs(table):
     closed = ['sh', '-c', 'exec "$@" >&-', 'sh']
-    for words, what in ((['prove', 'two.p'], 'prove'), (['prove', 'bad.p'], 'a refusal'), (['sat', 'yes.cnf'], 'sat'), (['check', 'tie.c'], 'check'),
+    for words, what in ((['prove', 'two.p'], 'prove'), (['prove', 'bad.p'], 'a refusal'), (['sat', 'yes.cnf'], 'sat'), (['qbf', 'switches.cnf'], 'qbf'),
+                        (['fmodel', '2', 'turn.p'], 'fmodel'), (['fmodel', '1', 'turn.p'], 'fmodel, no tables'), (['core', 'spare.p'], 'core'), (['check', 'tie.c'], 'check'),
                         (['ask', 'tie.c', 'p(c,a)'], 'ask'), (['stress', '5'], 'stress'), ([], 'no words')):
         table.row('%s, the output is closed' % what, table.run(words, closed), 5)
         with open('/dev/full', 'wb') as full:
             table.row('%s, the output is full' % what, table.run(words, stdout=full), 5)
-    table.row('a reader that goes away at once', gone(table, 0), 5)
-    table.row('a reader that goes away after 1,000 bytes', gone(table, 1000), 5)
+    table.row('a reader that goes away at once', table.run(['prove', 'long.p'], most=0), 5)
+    table.row('a reader that goes away after 1,000 bytes', table.run(['prove', 'long.p'], most=1000), 5)
     table.row('all of the three streams are closed', table.run(['prove', 'two.p'], ['sh', '-c', 'exec "$@" <&- >&- 2>&-', 'sh']), 5)
     table.row('the input is closed', table.run(['prove', 'two.p'], ['sh', '-c', 'exec "$@" <&-', 'sh']), 0, told('Unsatisfiable', 'two.p'))
 
 
-def gone(table, count):
-    """A run whose reader takes so many bytes of a long answer."""
-    process = subprocess.Popen([table.program, 'prove', 'long.p'], cwd=table.folder, stdin=subprocess.DEVNULL, stdout=subprocess.PIPE, stderr=subprocess.DEVNULL)
-    text = process.stdout.read(count)
-    process.stdout.close()
-    process.wait(120)
-    return runs.Ended(process.returncode, text)
-
-
 def main():
-    given = runs.words_of(__doc__).parse_args()
+    parser = runs.words_of(__doc__)
+    parser.add_argument('--limit', type=float, default=60, help='seconds for each run, which is killed behind them')
+    given = parser.parse_args()
     with tempfile.TemporaryDirectory() as folder:
         os.chmod(folder, 0o755)
         program = os.path.join(folder, 'instgen')
@@ -131,14 +125,16 @@ def main():
         runs.write(folder, 'bad.p', 'fof(a,axiom,p).')
         runs.write(folder, 'tie.c', runs.TIE)
         runs.write(folder, 'yes.cnf', 'p cnf 2 2\n1 2 0\n-1 0\n')
+        runs.write(folder, 'switches.cnf', runs.SWITCHES)
+        runs.write(folder, 'turn.p', runs.TURN)
+        runs.write(folder, 'spare.p', runs.SPARE)
         runs.write(folder, 'long.p', ''.join('cnf(k%d,axiom,p(c%d)).\n' % (n, n) for n in range(20000)))
-        table = Table(program, folder)
+        table = Table(program, folder, given.limit)
         files_that_fail(table)
         pipes(table)
         names(table)
         outputs(table)
-    print('%d wrong' % table.bad)
-    return 1 if table.bad else 0
+    return runs.judgement(table.bad, '%d runs, %d wrong' % (table.rows, table.bad))
 
 
 sys.exit(main())

@@ -1,12 +1,11 @@
 #!/usr/bin/env python3
 """Refuses the Nth allocation of the program, for N from 1 on until a run meets no refusal, on small problems of each command. Each
-run must give the answer that it gives undisturbed, or end with status 6 and the line MemoryOut; before the words are read, that line
-is under the program's name, or, where the words themselves have no room, there is none. The same status and first line with another
-certificate behind it is an answer too: a search that did without a piece of memory may come by other steps. With --onward all allocations from the Nth
-on are refused. It needs a C compiler (cc) and glibc."""
+run must give the answer that it gives undisturbed, or end with status 6 and the line MemoryOut. Once the words are read, that line is
+there and names the file; before, it names `instgen`, or, where the words themselves have no room, there is none. The same status and
+first line with another certificate behind it is an answer too: a search that did without a piece of memory may come by other steps.
+With --onward all allocations from the Nth on are refused. It needs a C compiler (cc) and glibc."""
 
 import os
-import re
 import subprocess
 import sys
 import tempfile
@@ -15,6 +14,8 @@ import runs
 
 SHIM = r'''
 #include <errno.h>
+#include <fcntl.h>
+#include <stdarg.h>
 #include <stddef.h>
 #include <stdlib.h>
 #include <unistd.h>
@@ -34,12 +35,25 @@ __attribute__((constructor)) static void begin(void) {
     at = number ? atol(number) : 0;
 }
 
+static void tell(const char *what) {
+    if (mark >= 0 && write(mark, what, 1) < 0) mark = -1;
+}
+
 static int refused(void) {
     if (at == 0 || --at != 0) return 0;
     if (onward) at = 1;
-    if (mark >= 0 && write(mark, "x", 1) < 0) return 0;
+    tell("x");
     errno = ENOMEM;
     return 1;
+}
+
+int open(const char *path, int flags, ...) {
+    va_list more;
+    va_start(more, flags);
+    mode_t mode = flags & O_CREAT ? va_arg(more, mode_t) : 0;
+    va_end(more);
+    tell("o");
+    return openat(AT_FDCWD, path, flags, mode);
 }
 
 void *malloc(size_t size) { return refused() ? NULL : __libc_malloc(size); }
@@ -72,6 +86,13 @@ ROWS = [
     ('sat, satisfiable', {'yes.cnf': 'p cnf 2 2\n1 2 0\n-1 0\n'}, ['sat', 'yes.cnf']),
     ('sat, unsatisfiable', {'no.cnf': 'p cnf 3 8\n' + ''.join(
         '%d %d %d 0\n' % (a, 2 * b, 3 * c) for a in (1, -1) for b in (1, -1) for c in (1, -1))}, ['sat', 'no.cnf']),
+    ('qbf, true', {'switches.cnf': runs.SWITCHES}, ['qbf', 'switches.cnf']),
+    ('qbf, false', {'early.cnf': 'p cnf 2 2\ne 2 0\na 1 0\n1 -2 0\n-1 2 0\n'}, ['qbf', 'early.cnf']),
+    ('fmodel, tables', {'turn.p': runs.TURN}, ['fmodel', '2', 'turn.p']),
+    ('fmodel, no tables', {'turn.p': runs.TURN}, ['fmodel', '1', 'turn.p']),
+    ('core', {'spare.p': runs.SPARE}, ['core', 'spare.p']),
+    ('core, none', {'rule.p': 'cnf(one,axiom,p(X) | ~q(X)). cnf(two,axiom,q(Y)).'}, ['core', 'rule.p']),
+    ('core, a function', {'deep.p': 'cnf(a,axiom,p(c)). cnf(b,axiom,~p(f(c))).'}, ['core', 'deep.p']),
     ('a chain', {}, ['stress', '5']),
     ('a refusal', {'bad.p': 'cnf(one,axiom,p(X)). fof(two,axiom,p).'}, ['prove', 'bad.p']),
 ]
@@ -86,16 +107,70 @@ def compiled(folder):
 
 
 def refused(program, words, folder, shim, number, onward):
-    """The status, the output, and whether an allocation was refused."""
+    """The status, the output, and what happened in order: `o` where a file was opened, `x` where an allocation was refused."""
     read, mark = os.pipe()
     env = dict(os.environ, LD_PRELOAD=shim, REFUSE_AT=str(number), REFUSE_MARK=str(mark))
     if onward:
         env['REFUSE_ONWARD'] = '1'
-    run = subprocess.run([program, *words], cwd=folder, stdin=subprocess.DEVNULL, capture_output=True, env=env, pass_fds=[mark], timeout=60, check=False)
-    os.close(mark)
+    how = {'cwd': folder, 'stdin': subprocess.DEVNULL, 'stdout': subprocess.PIPE, 'stderr': subprocess.DEVNULL, 'env': env, 'pass_fds': [mark]}
     with os.fdopen(read, 'rb') as pipe:
-        met = bool(pipe.read(1))
-    return run.returncode, run.stdout, met
+        with runs.begun([program, *words], 60, **how) as run:
+            os.close(mark)
+            out = run.stdout.read()
+            run.stdout.close()
+            run.wait()
+        return run.returncode, out, pipe.read().decode()
+
+
+class Row:
+    """The runs of one command. `begun` says that the words have been read at the present N: at an N before, a file had been opened when
+    memory was refused, or the line named the file."""
+
+    def __init__(self, what, name, status, text):
+        self.what, self.name, self.undisturbed = what, name, (status, text.split(b'\n', 1)[0])
+        self.begun, self.counts = False, dict.fromkeys(('answer', 'named', 'unnamed', 'none', 'wrong'), 0)
+
+    def kind(self, code, out, happened):
+        if (code, out.split(b'\n', 1)[0]) == self.undisturbed:
+            return 'answer'
+        line = b'%% SZS status MemoryOut for %s\n'
+        self.begun = self.begun or 'o' in happened.partition('x')[0]
+        if code == 6 and out == line % self.name:
+            self.begun = True
+            return 'named'
+        if code == 6 and not self.begun and out in (b'', line % b'instgen'):
+            return 'unnamed' if out else 'none'
+        return 'wrong'
+
+    def note(self, number, code, out, happened):
+        kind = self.kind(code, out, happened)
+        self.counts[kind] += 1
+        if kind == 'wrong':
+            print('  %s, N = %d: status %d, %r%s' % (self.what, number, code, out[:80], ', the words were read' if self.begun else ''))
+
+    def fails(self):
+        """Where nothing was refused, or no refusal was told under the name, or the program fails undisturbed, nothing is shown."""
+        return bool(self.counts['wrong']) or not self.counts['named'] or self.undisturbed[0] not in (0, 1, 2, 10, 20)
+
+    def show(self):
+        print('| %-28s | %7d | %6d | %9d | %7d | %7d | %5d |%s' % (
+            self.what, sum(self.counts.values()), *self.counts.values(), ' <- fails' if self.fails() else ''), flush=True)
+
+
+def tried(program, folder, shim, given, what, files, words):
+    """One command at each N."""
+    for name, text in files.items():
+        runs.write(folder, name, text)
+    name = next((word for word in words if word in files), 'stress').encode()
+    status, text, _ = refused(program, words, folder, shim, 0, False)
+    row = Row(what, name, status, text)
+    for number in range(1, given.most + 1):
+        found = refused(program, words, folder, shim, number, given.onward)
+        if 'x' not in found[2]:
+            break
+        row.note(number, *found)
+    row.show()
+    return row
 
 
 def main():
@@ -103,37 +178,18 @@ def main():
     parser.add_argument('--onward', action='store_true', help='refuse all allocations from the Nth on')
     parser.add_argument('--most', type=int, default=100000, help='the greatest N')
     given = parser.parse_args()
-    program, bad = runs.built(given), 0
-    print('%-30s %8s %8s %10s %10s %6s' % ('run', 'refused', 'answer', 'MemoryOut', 'no line', 'other'))
+    program = runs.built(given)
+    print('| Run | Refused | Answer | MemoryOut | Instgen | No line | Wrong |')
+    print('|---|---|---|---|---|---|---|', flush=True)
     with tempfile.TemporaryDirectory() as room:
         shim = compiled(room)
+        rows = []
         for place, (what, files, words) in enumerate(ROWS):
             folder = os.path.join(room, str(place))
             os.mkdir(folder)
-            for name, text in files.items():
-                runs.write(folder, name, text)
-            status, text, _ = refused(program, words, folder, shim, 0, False)
-            line = re.compile(rb'% SZS status MemoryOut for (instgen|' + re.escape(words[1] if files else 'stress').encode() + rb')\n')
-            counts = dict.fromkeys(('answer', 'line', 'none', 'other'), 0)
-            number = 1
-            while number <= given.most:
-                code, out, met = refused(program, words, folder, shim, number, given.onward)
-                if not met:
-                    break
-                kind = 'other'
-                if (code, out.split(b'\n', 1)[0]) == (status, text.split(b'\n', 1)[0]):
-                    kind = 'answer'
-                elif code == 6 and line.fullmatch(out):
-                    kind = 'line'
-                elif code == 6 and not out:
-                    kind = 'none'
-                else:
-                    print('  N = %d: status %d, %r' % (number, code, out[:80]))
-                counts[kind] += 1
-                number += 1
-            bad += counts['other']
-            print('%-30s %8d %8d %10d %10d %6d' % (what, number - 1, counts['answer'], counts['line'], counts['none'], counts['other']), flush=True)
-    return 1 if bad else 0
+            rows.append(tried(program, folder, shim, given, what, files, words))
+    failing = sum(row.fails() for row in rows)
+    return runs.judgement(failing, '%d commands, %d refusals, %d commands fail' % (len(rows), sum(sum(row.counts.values()) for row in rows), failing))
 
 
 sys.exit(main())

@@ -2,12 +2,14 @@
 wrote, its seconds and its memory."""
 
 import argparse
+import contextlib
 import os
 import resource
 import signal
 import subprocess
 import sys
 import tempfile
+import threading
 import time
 
 TOP = os.path.dirname(os.path.dirname(os.path.abspath(__file__)))
@@ -22,6 +24,10 @@ cnf(m3,plain,p(b,a) | q(b),inst(m1,1,m2,1),[selected(2)]).
 cnf(m4,plain,~p(b,a) | s(a),inst(m2,1,m1,1),[selected(2)]).
 % SZS output end Saturation for tie.p
 '''
+TWO = 'cnf(one,axiom,p(X)). cnf(two,axiom,~p(c)).'
+SWITCHES = 'p cnf 2 2\na 1 0\ne 2 0\n1 -2 0\n-1 2 0\n'  # true; with the two lines of quantifiers exchanged, false
+TURN = 'cnf(turn,axiom,f(X) != X). cnf(back,axiom,f(f(X)) = X).'  # a model with two elements, and none with one
+SPARE = 'cnf(a,axiom,p(c)). cnf(b,axiom,q(c)). cnf(d,axiom,~p(X) | r(X)). cnf(e,axiom,~r(c)).'  # a core of all but the second
 
 
 def words_of(description):
@@ -34,7 +40,7 @@ def words_of(description):
 def built(words):
     """The program's path, built where it is the repository's own and is not there."""
     if not os.path.isfile(words.program):
-        subprocess.run([os.path.join(TOP, 'instgen')], stdout=subprocess.DEVNULL, check=False)
+        subprocess.run([os.path.join(TOP, 'instgen'), 'prove', os.devnull], stdout=subprocess.DEVNULL, check=False)
     if not os.access(words.program, os.X_OK):
         sys.exit('there is no program %s' % words.program)
     return os.path.abspath(words.program)
@@ -46,6 +52,33 @@ def write(folder, name, text):
     with open(path, 'wb') as file:
         file.write(text if isinstance(text, bytes) else text.encode())
     return name
+
+
+@contextlib.contextmanager
+def begun(words, limit=120, **how):
+    """A process in a group of its own, which is killed with all that it began when its seconds are over, or whoever asked for it is done."""
+    process = subprocess.Popen(words, start_new_session=True, **how)
+
+    def end():
+        if process.poll() is None:
+            with contextlib.suppress(ProcessLookupError):
+                os.killpg(process.pid, signal.SIGKILL)
+
+    timer = threading.Timer(limit, end)
+    timer.daemon = True
+    timer.start()
+    try:
+        yield process
+    finally:
+        timer.cancel()
+        end()
+        process.wait()
+
+
+def judgement(bad, what):
+    """The last line of a script, and its status."""
+    print('%s: %s' % ('failed' if bad else 'passed', what))
+    return 1 if bad else 0
 
 
 class Ended:

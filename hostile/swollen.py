@@ -123,6 +123,23 @@ def table_of_levels(program, limit):
     return bad
 
 
+def copies(count):
+    """For all values of a row of variables there is a row that equals them."""
+    rows = ['p cnf %d %d' % (2 * count, 2 * count)]
+    rows += ['%s %s 0' % (letter, ' '.join(map(str, range(first, first + count)))) for letter, first in (('a', 1), ('e', count + 1))]
+    rows += ['%d -%d 0\n-%d %d 0' % (n, n + count, n, n + count) for n in range(1, count + 1)]
+    return '\n'.join(rows) + '\n'
+
+
+JOBS = [
+    ('stress 100000', ['stress', '100000']),
+    ('a saturation of 100,000 members', ['prove', 'chain.p']),
+    ('qbf, 600 variables of each kind', ['qbf', 'copies.cnf']),
+    ('fmodel, 786,432 cells', ['fmodel', '64', 'wide.p']),
+    ('core, 3 clauses of 60,003', ['core', 'many.p']),
+]
+
+
 def table_of_memory(program, limit):
     """Large jobs under a limit of memory, from 64 MiB on, until each has its answer."""
     bad = 0
@@ -131,31 +148,38 @@ def table_of_memory(program, limit):
         chain = ['cnf(k0,axiom,r(c1)).', 'cnf(goal,axiom,~r(d)).', 'cnf(rule,axiom,~r(X) | ~e(X,Y) | r(Y)).']
         chain += ['cnf(k%d,axiom,e(c%d,c%d)).' % (n, n, n + 1) for n in range(1, 33334)]
         runs.write(folder, 'chain.p', '\n'.join(chain) + '\n')
-        for what, words in (('stress 100000', ['stress', '100000']), ('a saturation of 100,000 members', ['prove', 'chain.p'])):
+        runs.write(folder, 'copies.cnf', copies(600))
+        runs.write(folder, 'wide.p', 'cnf(a,axiom,p(X,Y,Z) | q(X,Y,Z)). cnf(b,axiom,~q(X,Y,X) | r(X,X,Y)).')
+        many = ['cnf(k%d,axiom,p(c%d)).' % (n, n) for n in range(60000)]
+        runs.write(folder, 'many.p', '\n'.join(many + ['cnf(a,axiom,q(c)). cnf(b,axiom,~q(X) | r(X)). cnf(d,axiom,~r(c)).']))
+        for what, words in JOBS:
             for mib in (64, 96, 128, 192, 256, 384, 512, 768, 1024, 1536, 2048, 3072):
                 found = runs.ended([program, *words], folder, limit, mib * 2 ** 20)
-                wrong = found.status not in (0, 6) or (found.status == 6 and 'MemoryOut' not in found.first_line())
+                line = '%% SZS status MemoryOut for %s' % ('stress' if words[0] == 'stress' else words[-1])
+                wrong = found.status not in (0, 6, 10) or (found.status == 6 and found.first_line() != line)
                 bad += wrong
                 print('%-42s %8d %10s %9.2f  %s%s' % (what, mib, found.how(), found.seconds, found.first_line()[:44], '   WRONG' if wrong else ''), flush=True)
-                if found.status == 0:
+                if found.status in (0, 10):
                     break
+            else:
+                bad += 1
     return bad
+
+
+TABLES = {'long': table_of_lengths, 'deep': table_of_levels, 'little': table_of_memory}
 
 
 def main():
     parser = runs.words_of(__doc__)
-    parser.add_argument('tables', nargs='*', help='long, deep, little; all if none')
+    parser.add_argument('tables', nargs='*', metavar='TABLE', help=', '.join(TABLES) + '; all if none')
     parser.add_argument('--limit', type=int, default=120, help='seconds of a processor for each run')
     given = parser.parse_args()
-    program, bad = runs.built(given), 0
-    if not given.tables or 'long' in given.tables:
-        bad += table_of_lengths(program, given.limit)
-    if not given.tables or 'deep' in given.tables:
-        bad += table_of_levels(program, given.limit)
-    if not given.tables or 'little' in given.tables:
-        bad += table_of_memory(program, given.limit)
-    print('%d wrong' % bad)
-    return 1 if bad else 0
+    unknown = [it for it in given.tables if it not in TABLES]
+    if unknown:
+        parser.error('no table is %s; the tables are %s' % (', '.join(unknown), ', '.join(TABLES)))
+    program = runs.built(given)
+    bad = sum(TABLES[it](program, given.limit) for it in given.tables or TABLES)
+    return runs.judgement(bad, '%d wrong' % bad)
 
 
 sys.exit(main())

@@ -1,5 +1,5 @@
 #!/usr/bin/env python3
-"""Writes docs/BELIEVE.md: the definitions that the headline rests on, in an order in which each is read behind those that it names.
+"""Writes docs/BELIEVE.md: the definitions that the answers rest on, in an order in which each is read after those that it names.
 
 usage: tools/believe.py [--check]     --check: ends with the status 1 where the page is not what the sources give
 
@@ -139,37 +139,47 @@ class Reader:
             self.types.append((path, type_name))
 
 
+# Each part of the page, with the definitions that it begins from.
 ROOTS = [
-    ('cert_format', 'Certifies', 'Shows', 'shows'),
-    ('tptp_load', 'Problems', 'Loads', 'loads'),
-    ('cert_format', 'Text', 'certificate_text', 'text'),
-    ('szs_prove', 'Answered', 'WritesCertificate', 'decided'),
+    ('shows', [('cert_format', 'Certifies', 'Shows')]),
+    ('loads', [('tptp_load', 'Problems', 'Loads')]),
+    ('text', [('cert_format', 'Text', 'certificate_text')]),
+    ('decided', [('szs_prove', 'Answered', 'WritesCertificate')]),
+    ('verdict', [('szs_prove', 'Answered', 'IsLoaded'), ('szs_prove', 'Answered', 'WantsOfProblem'), ('szs_prove', 'Answered', 'Yields')]),
+    ('solved', [('dimacs_front', 'Files', 'IsOutcome'), ('szs_prove', 'Written', 'IsWritten')]),
+    ('formula', [('szs_prove', 'Answered', 'WritesFormula')]),
+    ('model', [('szs_prove', 'Answered', 'WritesModel')]),
+    ('core', [('szs_prove', 'Answered', 'WritesCore')]),
+    ('exact', [('szs_prove', 'Answered', 'IsExact')]),
 ]
 
 
 WORDS = """
 # What there is to believe
 
-The proofs are checked by the kit. What a reader must check by eye is that the statements say what they seem to say: the definitions that the headline rests on. This page lists them, each behind those that it names. `tools/believe.py` writes it from the sources, and `tools/believe.py --check` compares the two. A line number is that of the definition's first line, below `crates/`.
+The kit checks the proofs. What you must check by eye is that the statements say what they seem to say. This page lists the definitions behind them, each after those that it names, and after the parts of the page before it. `tools/believe.py` writes it from the sources, and `tools/believe.py --check` compares the two. A line number is that of the definition's first line, below `crates/`.
 
 ## The headline
 
-If `prove` writes Unsatisfiable, the ground instances it writes are instances of the problem's clauses and of its equality axioms, and no valuation makes them all true; if it writes Satisfiable, its selection's truth test makes every ground instance of those clauses true; a readable function-free problem always gets one of the two, unless want of memory is answered or a read or write failed.
+If `prove` writes Unsatisfiable, the ground instances it writes are instances of the problem's clauses and of its equality axioms, and no valuation makes them all true. If it writes Satisfiable, the certificate describes a model, and every ground instance of those clauses is true in it. A readable problem without function symbols always gets one of the two verdicts (constants don't count as function symbols; it may take very long), unless memory runs out or a file can't be read or written.
 
-Its clauses stand on `run` in `szs_prove/src/command.rt`, the call that `main` makes. `decided` says that a verdict is written only with a certificate that shows what its status says, for the problem of the file: `Shows`, below. `exact` says that a function-free problem that loads gets a verdict, but for faults and want of memory. Read in this order:
+These are clauses of `run` in `szs_prove/src/command.rt`, the call that `main` makes. `decided` says that a verdict is written only with a certificate that shows what its status says, for the problem of the file. `exact` says that there is always a verdict. Read in this order:
 
-1. **What a verdict shows**: the {shows count} definitions of the table, up to `Shows`. They are the heart, and speak of trees, lists and numbers alone: no bank, solver, index or file occurs in them.
-2. **Which problem is spoken of**: `Loads`, over {loads count} more, which are the grammar of TPTP's clauses and the rules of includes, as in `docs/FORMATS.md`. Who trusts the reader skips them: the certificate that is written has the clauses as they were read.
-3. **Which bytes say it**: `certificate_text`, over {text count} more, the lines of a certificate. Who reads the certificate by eye skips them too.
-4. **The clause itself**: `WritesCertificate`, over {decided count} more: the words, what makes a certificate valid, and the run of the calculus from which it comes. None of it weakens what stands before: the clause says all of it together.
+1. **What a verdict shows**: the {shows count} definitions of the first table, up to `Shows`. They are the heart, and speak of trees, lists and numbers alone: no bank, solver, index or file occurs in them.
+2. **Which problem is meant**: `Loads`, over {loads count} more. They are the grammar of TPTP's clauses and the rules of includes, as in `docs/FORMATS.md`. If you trust the reader, skip them: the certificate has the clauses as they were read.
+3. **Which bytes say it**: `certificate_text`, over {text count} more, the lines of a certificate. If you read the certificate by eye, skip them too.
+4. **The clause `decided`**: `WritesCertificate`, over {decided count} more: the words, what makes a certificate valid, and the run of the calculus from which it comes. None of them weakens what stands before: the clause says all of it together.
+5. **That there is always a verdict**: {verdict count} more.
+
+The other commands come after that: `sat`, `qbf`, `fmodel` and `core`, and last the clause `exact` for all of them.
 
 ## What a verdict shows
 
 {shows table}
 
-`Shows` speaks of an empty list of instances too: a problem without clauses is not refuted, since a valuation that makes all of no clauses true is any. A saturation speaks of every ground instance, over whatever symbols: of a finite list of clauses it gives a Herbrand model, in which equality is a congruence, by the axioms among the clauses. That a congruence gives a structure with true equality is the textbook's step, and not proved.
+`Shows` holds of an empty list of instances too: a problem without clauses is not refuted, since any valuation makes all of no clauses true. A saturation speaks of every ground instance, over whatever symbols. For a finite list of clauses it gives a Herbrand model, in which equality is a congruence, by the axioms among the clauses. That a congruence gives a structure with true equality is the textbook's step, and not proved.
 
-## Which problem is spoken of
+## Which problem is meant
 
 {loads files}
 
@@ -177,9 +187,47 @@ Its clauses stand on `run` in `szs_prove/src/command.rt`, the call that `main` m
 
 {text files}
 
-## The clause itself
+## The clause `decided`
 
 {decided files}
+
+## That there is always a verdict
+
+The headline's last sentence is the clause `exact`, read for `prove`. Where the library (what files are read from) tells its files, the words ask one question, and the files answer it in one way: `IsLoaded` has the problem, or why there is none. The exit is then the one that `WantsOfProblem` names: Decided where the problem has no function symbols with arguments, Decided or ResourceOut where it has some, Refused where the file gives no problem. Only the three exits of `Yields` may come in its place: a read that failed, a write that failed, or out of memory.
+
+{verdict table}
+
+The last part of this page has `IsExact` itself, which says this of every command.
+
+## `sat`: clauses in the DIMACS form
+
+The clause `answered` says it: what is written is an answer with its cause, and for `sat` the cause is `IsOutcome`. `s SATISFIABLE` comes with a value for each variable, and these make every clause true. `s UNSATISFIABLE` comes only where no values do, and with a derivation whose steps each follow from the clauses and steps that they cite, and whose last step is empty. `IsWritten` says what the output has then: the whole answer, or a proper prefix of it where writing failed or the output ran out of memory.
+
+{solved table}
+
+## `qbf`: the clause `formula`
+
+`s TRUE` and `s FALSE` are the value of the formula by its meaning, `value`: `s TRUE` where some values of the variables without a quantifier make it true, `s FALSE` where none do. The line comes with a certificate of the formula's `translation` to clauses. That both say the same is a theorem (`qbf_logic`), so you need not believe the translation for the line, only for reading the certificate.
+
+{formula table}
+
+## `fmodel`: the clause `model`
+
+The tables that are written give each function symbol an element and each predicate symbol a truth value at all arguments. They make every clause true under every assignment of elements, with equality as identity (`IsModel`). `% no tables` comes only where no such tables exist, and with a refutation of the `flattened` form. That the two forms say the same is a theorem (`finite_model`).
+
+{model table}
+
+## `core`: the clause `core`
+
+The places that are written are those of a core (`IsCore`): the clauses there are refuted, and without any one of them the rest are satisfiable. The text has a refutation, and for each place a saturation. `% no core` comes only where the clauses are satisfiable, with their saturation.
+
+{core table}
+
+## `exact`: every question has its answer
+
+Where the library tells its files, some situation stands: a question with what it finds in the files, or words that aren't read. The exit is one that is wanted there, or one of the three of `Yields`. What `check` and `ask` find of a certificate is here too: that it is valid and one of the problem, the first complaint, or the first bad line.
+
+{exact table}
 
 ## Below these
 
@@ -189,7 +237,13 @@ Words of the kit's library, among them all of `clap` that is cited: {library}.
 
 ## What no definition says
 
-That the proofs were checked: the kit's word for it, on your machine (`./instgen` proves each crate before it builds the program). That the real devices give the bytes of the files and take those that are written: `main` hands over a library and an output of which contracts say nothing. That the compiler is right: the gate runs the program as two compilers build it. And that memory is there: want of memory is an answer without a cause.
+- **That the proofs were checked.** You have the kit's word for it, on your machine: `./instgen` proves each crate before it builds the program.
+- **What `main` does.** It has no clause. It reads the words, makes the real library of files and the real output, calls `run`, and ends with the number of the exit. If an argument is not UTF-8, nothing is printed and the status is 3. Read `instgen/src/main.rt` and `words.rt` beside it; they are short.
+- **That the real devices are honest.** `exact` holds where the library tells its files, and what was written is known where the output tells its bytes. Those in memory do, and the real ones don't: their contracts say nothing of bytes. Tests compare them with real folders and a real output.
+- **That the compiler is right.** The gate runs the program as two compilers build it.
+- **That memory is there.** Out of memory is an answer without a cause: a contract can't exclude a program that always gives it. Tests do.
+- **Where `Memory` means that room ended.** Many tables keep numbers in four bytes, and answer out of memory when no number is left, though memory may be there: after 2,147,483,647 clauses or steps of a search, for example, or 4,294,967,295 literals. README has these limits, and `docs/PROMISES.md` has them crate by crate. A small input comes to one of them: a certificate with a variable `X4294967296` or above.
+- **That the stack suffices**, and how long anything takes.
 """
 
 def cell(text):
@@ -220,13 +274,17 @@ def by_file(found):
 
 def page():
     text, reader, begun = WORDS.strip(), Reader(), 0
-    for crate, place, name, mark in ROOTS:
-        reader.visit(crate, 'specs', place, name)
+    for mark, roots in ROOTS:
+        for crate, place, name in roots:
+            if name not in reader.module(crate, place).own:
+                sys.exit('%s: no definition %s' % (reader.module(crate, place).path, name))
+            reader.visit(crate, 'specs', place, name)
         found, begun = reader.order[begun:], len(reader.order)
         text = text.replace('{%s count}' % mark, str(len(found)))
         text = text.replace('{%s table}' % mark, '\n'.join(table(found))).replace('{%s files}' % mark, '\n'.join(by_file(found)))
     types = ', '.join('`%s` (`%s`)' % (name, path[len('crates/'):]) for path, name in sorted(reader.types, key=lambda it: it[1]))
-    return text.replace('{types}', types).replace('{library}', ', '.join('`%s`' % cell(it) for it in sorted(reader.library))) + '\n'
+    library = ', '.join('`%s`' % cell(it) for it in sorted(reader.library))
+    return text.replace('{types}', types).replace('{library}', library) + '\n'
 
 
 def main():

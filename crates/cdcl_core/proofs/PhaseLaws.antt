@@ -1,12 +1,12 @@
 -- The values that atoms had last, as the trail changes.
-use Rattle.std.proofs.Common.{◌≡◌, ℕ, ◌+◌, ◌<◌, ◌≤◌, Bool, false, List, [], ◌∷◌, ◌++◌, length, take, set, Some, sym, ap, ◌∙◌, subst, arith}
+use Rattle.std.proofs.Common.{◌≡◌, ◌≢◌, ℕ, ◌+◌, ◌<◌, ◌≤◌, Bool, false, List, [], ◌∷◌, ◌++◌, length, take, set, length-set, Some, sym, ap, ◌∙◌, subst, arith}
 use Rattle.std.specs.Prelude.{All, Contains, slice_get}
 use Rattle.std.proofs.lemmas.List.{length_push, length-take, take_all}
 use Rattle.std.proofs.lemmas.List.Elements.{All-nil, All-contains, All-push}
 use Rattle.inst_logic.specs.declared.signed.Signed.{Signed}
 use Rattle.prop_logic.proofs.ListLaws.{slice_get_set, slice_get_set_other, slice_get_append, take_of_append, take_whole, take_of_take, All-from_contained, Contains-take}
 use Rattle.cdcl_trail.specs.declared.entry.Entry.{Entry}
-use Rattle.cdcl_trail.specs.Trail.{Trail, IsTrail, with_atom, entries_up_to}
+use Rattle.cdcl_trail.specs.Trail.{Trail, IsTrail, IsUnset, with_atom, entries_up_to}
 use Rattle.cdcl_core.specs.declared.phases.Phases.{Phases}
 use Rattle.cdcl_core.specs.Phases.{IsSaved, ArePhases}
 use Rattle.cdcl_core.proofs.EntryLaws.{entry_at, take_item, pair_before}
@@ -55,6 +55,17 @@ phases_atom old new p q t values saved h = record {
   saved = subst (λ n. All (IsSaved q.values) (take n new.entries)) (sym saved) (subst (λ es. All (IsSaved q.values) (take p.saved es)) (sym (ap (λ x. x.entries) t))
       (All-from_contained (IsSaved q.values) (take p.saved old.entries) (λ e c.
       ap (λ xs. slice_get xs e.lit.atom) values ∙ slice_get_append p.values (false ∷ []) e.lit.atom e.lit.positive (All-contains (IsSaved p.values) (take p.saved old.entries) e h.saved c))));
+}
+
+-- another value for an atom that has none on the trail
+pub phases_preferred : (t : Trail) (p q : Phases) (atom : ℕ) (value : Bool) → IsUnset t.entries atom → q.values ≡ set p.values atom value → q.saved ≡ p.saved → ArePhases t p → ArePhases t q
+phases_preferred t p q atom value unset values saved h = record {
+  size = ap length values ∙ length-set p.values atom value ∙ h.size;
+  within = omega (arith, saved, h.within);
+  saved = subst (λ n. All (IsSaved q.values) (take n t.entries)) (sym saved) (All-from_contained (IsSaved q.values) (take p.saved t.entries) (λ e c.
+      ap (λ xs. slice_get xs e.lit.atom) values
+      ∙ slice_get_set_other p.values atom e.lit.atom value (All-contains (λ x. x.lit.atom ≢ atom) t.entries e unset (Contains-take t.entries p.saved e c))
+      ∙ All-contains (IsSaved p.values) (take p.saved t.entries) e h.saved c));
 }
 
 -- one value more

@@ -74,9 +74,6 @@ false_other t i e clause m v at unit inside other =
       | inr same ↦ absurd (other same)
     ]
 
-pub same_step : (s : Step) (c d : List (Signed ℕ)) (h g : List Hint) → s ≡ record { clause = c; hints = h } → c ≡ d → h ≡ g → s ≡ record { clause = d; hints = g }
-same_step s c d h g e clause hints = cc
-
 -- a log with a step more
 pub more_step : (atoms : ℕ) (old new : Log) (l : Signed ℕ) (hints : List Hint) → l.atom < atoms → ClosesAll (l ∷ []) (map (cited old.added old.steps) hints) → new.added ≡ old.added → new.steps ≡ old.steps ++ (record { clause = l ∷ []; hints = hints }) ∷ [] → new.names ≡ old.names → IsLogMore atoms old new
 more_step atoms old new l hints low closes added steps names =

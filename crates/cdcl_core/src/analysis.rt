@@ -15,11 +15,12 @@ ghost use Rattle.cdcl_core.specs.Analysis.{IsMarked, AreCounted, AreWaiting, Mar
 
 use crate::log::Log;
 use crate::marks::Marks;
+use crate::packed_hint::PackedHint;
 use crate::places::Places;
 use cdcl_trail::Trail;
-use compact_lists::Literals;
+use compact_lists::PackedLit;
 use inst_logic::Memory;
-use prop_logic::{Hint, Lit, complement};
+use prop_logic::{Lit, complement};
 use std::alloc::Global;
 
 // The marked literals that are still to be met: how many are of the present level, and the places of all.
@@ -34,7 +35,7 @@ pub(crate) struct Waiting {
 #[derive(Drop)]
 pub(crate) struct Analysis {
     pub(crate) clause: Vec<Lit>,
-    pub(crate) hints: Vec<Hint>,
+    pub(crate) hints: Vec<PackedHint>,
     pub(crate) facts: Vec<usize>,
     pub(crate) waiting: Waiting,
 }
@@ -96,7 +97,7 @@ fn mark_all(
     trail: &Trail,
     marks: &mut Marks,
     waiting: &mut Waiting,
-    clause: &Literals,
+    clause: &[PackedLit],
 ) -> Result<(), Memory>
     requires trail { IsTrail trail.now.trail }
     requires room { length trail.now.trail.entries ≤ usize.MAX }
@@ -105,19 +106,19 @@ fn mark_all(
     ensures size { OnOk result (length marks.new ≡ length marks.old) }
     ensures marked { OnOk result (MarksToo trail.now.trail clause.now marks.old marks.new waiting.old waiting.new) }
 {
-    for i in 0..clause.len() {
-        mark(trail, marks, waiting, clause.at(i))?;
+    for packed in clause {
+        mark(trail, marks, waiting, packed.lit())?;
     }
     Ok(())
 }
 
 // Whether all atoms of the clause are marked or of level 0.
-fn are_marked(trail: &Trail, marks: &Marks, clause: &Literals) -> bool
+fn are_marked(trail: &Trail, marks: &Marks, clause: &[PackedLit]) -> bool
     requires size { length marks.now ≡ trail.now.trail.atoms }
     requires atoms { AtomsBelow (length marks.now) clause.now }
 {
-    for i in 0..clause.len() {
-        let lit = clause.at(i);
+    for packed in clause {
+        let lit = packed.lit();
         if !marks.contains(lit.atom) && trail.level_of(lit.atom) != Some(0) {
             return false;
         }
@@ -146,7 +147,7 @@ fn stays(
     if analysis.clause.is_empty() {
         return level == trail.level() && analysis.waiting.present <= 1;
     }
-    !are_marked(trail, marks, &log.cited(log.hint_of(number)))
+    !are_marked(trail, marks, log.cited(log.hint_of(number)))
 }
 
 // Counts a literal as met.
@@ -164,7 +165,7 @@ fn take(
     trail: &Trail,
     marks: &mut Marks,
     analysis: &mut Analysis,
-    hint: Hint,
+    hint: PackedHint,
 ) -> Result<(), Memory>
     requires ready { IsReady log.now trail.now.trail }
     requires size { length marks.old ≡ trail.now.trail.atoms }
@@ -174,27 +175,44 @@ fn take(
     ensures marked { OnOk result ((c : List (Signed ℕ)) → cited log.now.added log.now.steps hint ≡ Some c → MarksToo trail.now.trail c marks.old marks.new analysis.old.waiting analysis.new.waiting) }
 {
     analysis.hints.push(hint)?;
-    mark_all(trail, marks, &mut analysis.waiting, &log.cited(hint))
+    mark_all(trail, marks, &mut analysis.waiting, log.cited(hint))
 }
 
 // Lists the place of a fact of level 0 whose clause has other literals.
 fn list_fact(
     log: &Log,
-    trail: &Trail,
     analysis: &mut Analysis,
     place: usize,
-    hint: Hint,
+    hint: PackedHint,
 ) -> Result<(), Memory>
-    requires { place < length trail.now.trail.entries }
     ensures clause { OnOk result (analysis.new.clause ≡ analysis.old.clause) }
     ensures hints { OnOk result (analysis.new.hints ≡ analysis.old.hints) }
     ensures waiting { OnOk result (analysis.new.waiting ≡ analysis.old.waiting) }
 {
-    let lit = literal_at(trail, place);
-    if trail.level_of(lit.atom) == Some(0) && 1 < log.cited(hint).len() {
+    if 1 < log.cited(hint).len() {
         analysis.facts.push(place)?;
     }
     Ok(())
+}
+
+// Puts what gave the fact of level 0 at the place in its stead: what cites it alone, if that is known.
+fn resolve_fact(
+    log: &Log,
+    trail: &Trail,
+    marks: &mut Marks,
+    analysis: &mut Analysis,
+    place: usize,
+    number: usize,
+) -> Result<(), Memory>
+    requires ready { IsReady log.now trail.now.trail }
+    requires size { length marks.old ≡ trail.now.trail.atoms }
+    requires place { place < length trail.now.trail.entries }
+    ensures size { OnOk result (length marks.new ≡ length marks.old) }
+    ensures resolved { OnOk result ((e : Entry) → slice_get trail.now.trail.entries place ≡ Some e → e.reason ≡ Some number → Resolves log.now trail.now.trail place e.lit marks.old marks.new analysis.old analysis.new) }
+{
+    let hint = log.given_by(literal_at(trail, place), number);
+    list_fact(log, analysis, place, hint)?;
+    take(log, trail, marks, analysis, hint)
 }
 
 // Puts what gave the literal at the place in its stead.
@@ -212,9 +230,11 @@ fn resolve(
     ensures size { OnOk result (length marks.new ≡ length marks.old) }
     ensures resolved { OnOk result ((e : Entry) → slice_get trail.now.trail.entries place ≡ Some e → e.reason ≡ Some number → Resolves log.now trail.now.trail place e.lit marks.old marks.new analysis.old analysis.new) }
 {
-    let hint = log.given_by(literal_at(trail, place), number);
-    list_fact(log, trail, analysis, place, hint)?;
-    take(log, trail, marks, analysis, hint)
+    let lit = literal_at(trail, place);
+    if trail.level_of(lit.atom) == Some(0) {
+        return resolve_fact(log, trail, marks, analysis, place, number);
+    }
+    take(log, trail, marks, analysis, log.hint_of(number))
 }
 
 fn keep(analysis: &mut Analysis, lit: Lit) -> Result<(), Memory>
@@ -364,7 +384,7 @@ pub(crate) fn analyze_given(
     marks: &mut Marks,
     lit: Lit,
     number: usize,
-) -> Result<Vec<Hint>, Memory>
+) -> Result<Vec<PackedHint>, Memory>
     requires ready { IsReady log.now trail.now.trail }
     requires size { length marks.old ≡ trail.now.trail.atoms }
     requires given { (e : Entry) × Contains trail.now.trail.entries e × (e.lit ≡ lit) × (e.reason ≡ Some number) }

@@ -11,7 +11,8 @@ use std::marker::Model;
 /// A solver that learns the clause of the first unique implication point from each conflict. What it learned and did not
 /// forget, the values that it gave and the last values of the atoms stay from one question to the next, until the answers to
 /// questions under assumptions have copied many steps: then it forgets all that it learned. There is room for 2^31 - 1 clauses
-/// and as many steps, and for 2^32 - 1 literals of clauses: beyond that it answers as for want of memory.
+/// and as many steps, for 2^32 - 1 literals of clauses and as many of steps, and for 2^32 - 1 hints: beyond that it answers as
+/// for want of memory.
 #[derive(Drop)]
 pub struct Cdcl {
     search: Search,
@@ -91,6 +92,12 @@ impl Solver for Cdcl {
                 self.spent = true;
                 Err(error)
             }
+        }
+    }
+
+    fn prefer(&mut self, atom: usize, value: bool) {
+        if !self.spent {
+            self.search.prefer(atom, value);
         }
     }
 

@@ -1,13 +1,32 @@
 // Derivations without the steps that their last step does not need. The log keeps the steps of all questions, and an answer
 // needs few of them. Even so a mark and a number for each step of the log cost less than ordered sets of the steps that are kept.
-ghost use Rattle.std.specs.Prelude.{◌≡◌, ◌<◌, ◌≤◌, ◌++◌, ◌∷◌, [], ℕ, length, Some, All, slice_get, IfOk};
+ghost use Rattle.std.specs.Prelude.{◌≡◌, ◌<◌, ◌≤◌, ◌+◌, ◌++◌, ◌∷◌, [], ℕ, length, Some, All, slice_get, IfOk};
 ghost use Rattle.std.specs.List.{AllZip};
+ghost use Rattle.prop_logic.specs.declared.literal.Step.{Step};
 ghost use Rattle.prop_logic.specs.Cut.{IsCutOf};
 ghost use Rattle.cdcl_core.specs.Cut.{CitesOnly, Rises, IsMarked, AreNeeded, AreNumbers, IsRenamed, IsCopy};
 
+use crate::packed_hint::PackedHint;
+use crate::steps::{Steps, unpacked};
 use inst_logic::Memory;
 use prop_logic::{Derivation, Hint, HintList, LitList, Step};
 use std::alloc::Global;
+use std::marker::Model;
+
+// The step that an answer ends its derivation with. It is not in the log.
+#[derive(Drop)]
+pub(crate) struct LastStep {
+    pub(crate) clause: LitList,
+    pub(crate) hints: Vec<PackedHint>,
+}
+
+impl Model for LastStep {
+    ghost use Rattle.prop_logic.specs.declared.literal.Step.{Step};
+
+    ghost Value = { Step };
+
+    ghost view = { λ s. record { clause = s.clause; hints = s.hints.items } };
+}
 
 // Marks the step that the hint cites, if its place is below `limit`.
 fn mark_cited(needed: &mut [bool], limit: usize, hint: Hint)
@@ -24,41 +43,57 @@ fn mark_cited(needed: &mut [bool], limit: usize, hint: Hint)
 }
 
 // Marks the steps that the hints cite, of those whose places are below `limit`.
-fn mark_all(needed: &mut [bool], limit: usize, hints: &[Hint])
+fn mark_all(needed: &mut [bool], limit: usize, hints: &[PackedHint])
     requires { limit ≤ length needed.old }
     ensures cited { All (CitesOnly (IsMarked needed.new) limit) hints.now }
     ensures kept { (k : ℕ) → IsMarked needed.old k → IsMarked needed.new k }
     ensures above { (k : ℕ) → limit ≤ k → IsMarked needed.new k → IsMarked needed.old k }
 {
     for hint in hints {
-        mark_cited(needed, limit, *hint);
+        mark_cited(needed, limit, hint.hint());
     }
 }
 
-// The step at the place, where one more stands behind the others.
-fn step_at<'a>(steps: &'a [Step], last: &'a Step, place: usize) -> &'a Step
+// The hints of the step at the place, where one more stands behind the others.
+fn hints_at<'a>(steps: &'a Steps, last: &'a LastStep, place: usize) -> &'a [PackedHint]
     requires { place ≤ length steps.now }
-    ensures { slice_get (steps.now ++ last.now ∷ []) place ≡ Some result.now }
+    ensures { (s : Step) → slice_get (steps.now ++ last.now ∷ []) place ≡ Some s → result.now ≡ s.hints }
 {
-    match steps.get(place) {
-        Some(step) => step,
-        None => last,
+    match steps.hints(place) {
+        Some(hints) => hints,
+        None => last.hints.as_slice(),
+    }
+}
+
+// A copy of the clause of the step at the place.
+fn clause_at(alloc: Global, steps: &Steps, last: &LastStep, place: usize) -> Result<LitList, Memory>
+    requires { place ≤ length steps.now }
+    ensures { IfOk result (λ clause. (s : Step) → slice_get (steps.now ++ last.now ∷ []) place ≡ Some s → clause ≡ s.clause) }
+{
+    match steps.clause(place) {
+        Some(clause) => Ok(LitList::from(unpacked(alloc, clause)?)),
+        None => Ok(LitList::from(Vec::from_slice(alloc, last.clause.as_slice())?)),
     }
 }
 
 // The places of the steps that the last one needs, and its own, which is behind the others. They are gone through from the
 // last on, so that what a step cites is marked before its turn comes.
-fn needed_places(alloc: Global, steps: &[Step], last: &Step) -> Result<Vec<usize>, Memory>
+fn needed_places(
+    alloc: Global,
+    steps: &Steps,
+    last: &LastStep,
+    count: usize,
+) -> Result<Vec<usize>, Memory>
+    requires { count ≡ length steps.now + 1 }
     ensures { IfOk result (λ places. AreNeeded (steps.now ++ last.now ∷ []) places.items) }
 {
-    let mut needed = vec![in alloc; false; steps.len() + 1]?;
+    let mut needed = vec![in alloc; false; count]?;
     let mut places = Vec::new(alloc);
-    needed[steps.len()] = true;
+    needed[count - 1] = true;
     for place in (0..needed.len()).rev() {
         if needed[place] {
             places.push(place)?;
-            let step = step_at(steps, last, place);
-            mark_all(&mut needed, place, step.hints.as_slice());
+            mark_all(&mut needed, place, hints_at(steps, last, place));
         }
     }
     places.reverse();
@@ -94,34 +129,42 @@ fn renumber_one(numbers: &[usize], hint: Hint) -> Hint
     }
 }
 
-fn renumber(alloc: Global, numbers: &[usize], hints: &[Hint]) -> Result<HintList, Memory>
+fn renumber(alloc: Global, numbers: &[usize], hints: &[PackedHint]) -> Result<HintList, Memory>
     ensures { IfOk result (AllZip (IsRenamed numbers.now) hints.now) }
 {
     let mut others = Vec::with_capacity(alloc, hints.len())?;
     for hint in hints {
-        others.push(renumber_one(numbers, *hint))?;
+        others.push(renumber_one(numbers, hint.hint()))?;
     }
     Ok(HintList::from(others))
 }
 
-fn copy(alloc: Global, numbers: &[usize], step: &Step) -> Result<Step, Memory>
-    ensures { IfOk result (IsCopy numbers.now step.now) }
+// A copy of the step at the place.
+fn copy(
+    alloc: Global,
+    numbers: &[usize],
+    steps: &Steps,
+    last: &LastStep,
+    place: usize,
+) -> Result<Step, Memory>
+    requires { place ≤ length steps.now }
+    ensures { IfOk result (λ t. (s : Step) → slice_get (steps.now ++ last.now ∷ []) place ≡ Some s → IsCopy numbers.now s t) }
 {
-    let clause = LitList::from(Vec::from_slice(alloc, step.clause.as_slice())?);
-    let hints = renumber(alloc, numbers, step.hints.as_slice())?;
+    let clause = clause_at(alloc, steps, last, place)?;
+    let hints = renumber(alloc, numbers, hints_at(steps, last, place))?;
     Ok(Step { clause, hints })
 }
 
 // The steps that the last one needs, in their order, and a copy of it behind them.
-pub(crate) fn cut(alloc: Global, steps: &[Step], last: &Step) -> Result<Derivation, Memory>
+pub(crate) fn cut(alloc: Global, steps: &Steps, last: &LastStep) -> Result<Derivation, Memory>
     ensures { IfOk result (IsCutOf (steps.now ++ last.now ∷ [])) }
 {
-    let places = needed_places(alloc, steps, last)?;
-    let numbers = numbers_of(alloc, &places, steps.len() + 1)?;
+    let count = steps.len().checked_add(1).ok_or(Memory)?;
+    let places = needed_places(alloc, steps, last, count)?;
+    let numbers = numbers_of(alloc, &places, count)?;
     let mut kept = Derivation::new(alloc);
     for place in places.as_slice() {
-        let step = step_at(steps, last, *place);
-        kept.push(copy(alloc, &numbers, step)?)?;
+        kept.push(copy(alloc, &numbers, steps, last, *place)?)?;
     }
     Ok(kept)
 }

@@ -3,10 +3,11 @@
 // a tenth after a hundred conflicts, after half as many more, and so on: where it rises each time that some are forgotten,
 // nearly all of them are kept in a long search, and propagation pays for each.
 
+use crate::packed_hint::PackedHint;
 use crate::uses::Uses;
 use cdcl_trail::Clauses;
 use inst_logic::Memory;
-use prop_logic::{Answer, Hint};
+use prop_logic::Answer;
 use std::alloc::Global;
 
 // Clauses of so few literals are not listed, and so kept.
@@ -101,7 +102,7 @@ impl Learned {
         step: usize,
         number: usize,
         literals: usize,
-        hints: &[Hint],
+        hints: &[PackedHint],
     ) -> Result<(), Memory> {
         self.uses.see(step, hints);
         self.count();

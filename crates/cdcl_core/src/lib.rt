@@ -12,11 +12,13 @@ mod marks;
 mod names;
 mod order;
 mod pace;
+mod packed_hint;
 mod phases;
 mod places;
 mod reasons;
 mod renewal;
 mod search;
+mod steps;
 mod units;
 mod uses;
 

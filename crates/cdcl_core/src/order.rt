@@ -13,7 +13,8 @@ const HIGHEST: u64 = 1 << 60;
 // From one conflict to the next, what a raise counts grows by one part of so many.
 const DECAY: u64 = 30;
 
-// A heap of atoms by activity, with the place of each atom in it. An atom that is no `u32` is not put in.
+// A heap of atoms by activity, with the place of each atom in it. What moves in it leaves a hole, which others move into, and is
+// written once. An atom that is no `u32` is not put in.
 #[derive(Drop)]
 pub(crate) struct Order {
     heap: Vec<u32>,
@@ -63,31 +64,25 @@ impl Order {
         }
     }
 
-    // Exchanges the atoms at the places, if the one at `lower` is more active.
-    fn exchange(&mut self, upper: usize, lower: usize) -> bool
-        ensures { length self.new.heap.items ≡ length self.old.heap.items }
-    {
-        let above = self.heap.get(upper).copied().unwrap_or(0);
-        let below = self.heap.get(lower).copied().unwrap_or(0);
-        if self.activity(below) <= self.activity(above) {
-            return false;
-        }
-        self.put(upper, below);
-        self.put(lower, above);
-        true
-    }
-
+    // Moves the atom at the place up, past those that are less active.
     fn rise(&mut self, from: usize)
         ensures { length self.new.heap.items ≡ length self.old.heap.items }
     {
-        let mut place = from;
-        while 0 < place {
-            let parent = (place - 1) / 2;
-            if !self.exchange(parent, place) {
-                return;
+        let Some(atom) = self.heap.get(from).copied() else {
+            return;
+        };
+        let activity = self.activity(atom);
+        let mut hole = from;
+        while 0 < hole {
+            let parent = (hole - 1) / 2;
+            let above = self.heap.get(parent).copied().unwrap_or(0);
+            if activity <= self.activity(above) {
+                break;
             }
-            place = parent;
+            self.put(hole, above);
+            hole = parent;
         }
+        self.put(hole, atom);
     }
 
     // The more active of the two below the place.
@@ -108,17 +103,25 @@ impl Order {
         left
     }
 
+    // Moves the atom at the place down, past those that are more active.
     fn sink(&mut self, from: usize)
         ensures { length self.new.heap.items ≡ length self.old.heap.items }
     {
-        let mut place = from;
-        while place < self.heap.len() / 2 {
-            let below = self.best_below(place);
-            if !self.exchange(place, below) {
-                return;
+        let Some(atom) = self.heap.get(from).copied() else {
+            return;
+        };
+        let activity = self.activity(atom);
+        let mut hole = from;
+        while hole < self.heap.len() / 2 {
+            let place = self.best_below(hole);
+            let below = self.heap.get(place).copied().unwrap_or(0);
+            if self.activity(below) <= activity {
+                break;
             }
-            place = below;
+            self.put(hole, below);
+            hole = place;
         }
+        self.put(hole, atom);
     }
 
     // Takes the most active atom out.

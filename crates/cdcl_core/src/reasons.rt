@@ -8,16 +8,16 @@ ghost use Rattle.cdcl_core.specs.Analysis.{IsReady};
 use crate::log::Log;
 use crate::marks::Marks;
 use cdcl_trail::Trail;
-use compact_lists::Literals;
+use compact_lists::PackedLit;
 use prop_logic::Lit;
 
 // Marks the atoms of the clause that aren't, which raises them.
-fn mark_others(marks: &mut Marks, clause: &Literals)
+fn mark_others(marks: &mut Marks, clause: &[PackedLit])
     requires { AtomsBelow (length marks.old) clause.now }
     ensures { length marks.new ≡ length marks.old }
 {
-    for i in 0..clause.len() {
-        let lit = clause.at(i);
+    for packed in clause {
+        let lit = packed.lit();
         if !marks.contains(lit.atom) {
             marks.insert(lit.atom);
         }
@@ -33,7 +33,7 @@ pub(crate) fn mark_reasons(log: &Log, trail: &Trail, marks: &mut Marks, clause: 
 {
     for lit in clause {
         if let Some(number) = trail.reason(lit.atom) {
-            mark_others(marks, &log.cited(log.hint_of(number)));
+            mark_others(marks, log.cited(log.hint_of(number)));
         }
     }
 }

@@ -7,21 +7,11 @@ ghost use Rattle.cdcl_core.specs.Search.{IsKept, IsSameProblem};
 
 use crate::marks::Marks;
 use crate::search::Search;
-use compact_lists::{FlatClauses, PackedLit};
+use crate::steps::unpacked;
+use compact_lists::FlatClauses;
 use inst_logic::Memory;
 use prop_logic::Lit;
 use std::alloc::Global;
-
-// The literals, as they are added.
-fn unpacked(alloc: Global, clause: &[PackedLit]) -> Result<Vec<Lit>, Memory>
-    ensures { IfOk result (λ literals. literals.items ≡ clause.now) }
-{
-    let mut literals = Vec::with_capacity(alloc, clause.len())?;
-    for packed in clause {
-        literals.push(packed.lit())?;
-    }
-    Ok(literals)
-}
 
 // Makes so many atoms more.
 fn grow(search: &mut Search, count: usize) -> Result<(), Memory>

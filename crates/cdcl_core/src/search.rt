@@ -18,11 +18,12 @@ ghost use Rattle.cdcl_core.specs.declared.search.Search.{Search};
 ghost use Rattle.cdcl_core.specs.Search.{IsKept, IsTrueUpTo, IsSearch, IsCoreIn, IsInCore, IsSameProblem, IsBackFrom, IsSameButClauses, Advances, Ends, Continues};
 
 use crate::analysis::{Analysis, analyze, analyze_given, literal_at};
-use crate::cut::cut;
+use crate::cut::{LastStep, cut};
 use crate::learned::Learned;
-use crate::log::{Log, step_of};
+use crate::log::Log;
 use crate::marks::Marks;
 use crate::pace::Pace;
+use crate::packed_hint::PackedHint;
 use crate::phases::Phases;
 use crate::reasons::mark_reasons;
 use crate::renewal::renew_where_due;
@@ -288,6 +289,17 @@ impl Search {
         self.trail.grow()
     }
 
+    // The value that the atom is given first, where it has none yet.
+    pub(crate) fn prefer(&mut self, atom: usize, value: bool)
+        requires kept { IsKept self.old }
+        ensures kept { IsKept self.new }
+        ensures same { IsSameProblem self.old self.new }
+    {
+        if atom < self.phases.values.len() && self.trail.level_of(atom).is_none() {
+            self.phases.values.set(atom, value);
+        }
+    }
+
     pub(crate) fn atoms(&self) -> usize
         requires { IsKept self.now }
         ensures { result ≡ self.now.trail.trail.atoms }
@@ -339,10 +351,10 @@ impl Search {
         ensures same { IsSameButClauses self.old self.new }
     {
         let hint = self.log.hint_of(number);
-        if !is_step(hint) || self.clauses.get(number).is_none() {
+        if !is_step(hint.hint()) || self.clauses.get(number).is_none() {
             return;
         }
-        if is_reason(&self.trail, &self.log.cited(hint), number) {
+        if is_reason(&self.trail, &Literals::packed(self.log.cited(hint)), number) {
             return;
         }
         self.trail.detach(&self.clauses, number);
@@ -365,38 +377,33 @@ impl Search {
     }
 
     // Ends the steps with the clause.
-    fn push_step(&mut self, clause: LitList, hints: Vec<Hint>) -> Result<(), Memory>
+    fn push_step(&mut self, clause: &[Lit], hints: &[PackedHint]) -> Result<(), Memory>
         requires kept { IsKept self.old }
-        requires atoms { AtomsBelow self.old.trail.trail.atoms clause }
-        requires closes { ClosesAll clause (map (cited self.old.log.added self.old.log.steps) hints.items) }
+        requires atoms { AtomsBelow self.old.trail.trail.atoms clause.now }
+        requires closes { ClosesAll clause.now (map (cited self.old.log.added self.old.log.steps) hints.now) }
         ensures kept { OnOk result (IsKept self.new) }
         ensures added { self.new.log.added ≡ self.old.log.added }
-        ensures steps { OnOk result (self.new.log.steps ≡ self.old.log.steps ++ (record { clause = clause; hints = hints.items }) ∷ []) }
+        ensures steps { OnOk result (self.new.log.steps ≡ self.old.log.steps ++ (record { clause = clause.now; hints = hints.now }) ∷ []) }
         ensures trail { self.new.trail ≡ self.old.trail }
         ensures clauses { self.new.clauses ≡ self.old.clauses }
         ensures assumed { self.new.assumed ≡ self.old.assumed }
     {
-        let step = step_of(self.alloc, clause.as_slice(), hints.as_slice())?;
-        self.log.steps.push(step)
+        self.log.steps.push(clause, hints)
     }
 
-    // Gives the clause of the last step to the trail, and answers its number there.
-    fn use_last_step(&mut self) -> Result<usize, Memory>
+    // Gives the clause of the last step, which has these hints, to the trail, and answers its number there.
+    fn use_last_step(&mut self, clause: &[Lit], hints: &[PackedHint]) -> Result<usize, Memory>
         requires { IsKept self.old }
-        ensures kept { IfOk result (λ key. (before : List Step) (s : Step) → self.old.log.steps ≡ before ++ s ∷ [] → IsKept self.new × (clause_number self.new.clauses key ≡ Some s.clause)) }
+        ensures kept { IfOk result (λ key. (before : List Step) (s : Step) → self.old.log.steps ≡ before ++ s ∷ [] → s.clause ≡ clause.now → IsKept self.new × (clause_number self.new.clauses key ≡ Some s.clause)) }
         ensures trail { OnOk result (self.new.trail.trail ≡ self.old.trail.trail) }
         ensures added { self.new.log.added ≡ self.old.log.added }
         ensures assumed { self.new.assumed ≡ self.old.assumed }
     {
         let step = self.log.steps.len();
-        let hint = Hint::Step(step);
-        let clause = self.log.step_literals(step);
-        let literals = clause.len();
         let key = self.clauses.add(clause)?;
-        self.log.names.put(key, hint)?;
+        self.log.names.put(key, Hint::Step(step))?;
         self.trail.attach(&self.clauses, key)?;
-        let hints = self.log.hints_of(step);
-        self.learned.push(step, key, literals, hints)?;
+        self.learned.push(step, key, clause.len(), hints)?;
         Ok(key)
     }
 
@@ -412,8 +419,8 @@ impl Search {
     {
         let lit = analysis.clause[0];
         let level = highest_level(&self.trail, &Literals::plain(&analysis.clause[1..]));
-        self.push_step(LitList::from(analysis.clause), analysis.hints)?;
-        let key = self.use_last_step()?;
+        self.push_step(&analysis.clause, &analysis.hints)?;
+        let key = self.use_last_step(&analysis.clause, &analysis.hints)?;
         unite_all(self.alloc, &mut self.log, &self.trail, &analysis.facts)?;
         self.back_to(level);
         self.trail.imply(lit, key);
@@ -421,20 +428,17 @@ impl Search {
     }
 
     // The answer where the core can't be true, whose complements the hints show. Nothing of it stays in the log.
-    fn refuted(&self, core: LitList, hints: Vec<Hint>) -> Result<Answer, Memory>
+    fn refuted(&self, core: LitList, hints: Vec<PackedHint>) -> Result<Answer, Memory>
         requires kept { IsKept self.now }
         requires atoms { AtomsBelow self.now.trail.trail.atoms core }
         requires closes { ClosesAll (map complement core) (map (cited self.now.log.added self.now.log.steps) hints.items) }
         ensures { IfOk result (λ answer. (assumptions : List (Signed ℕ)) → IsSubList core assumptions → Ends assumptions self.now self.now answer) }
     {
-        // They are copied, and may be many.
-        let mut hints = hints;
-        hints.shrink_to_fit();
-        let last = Step {
+        let last = LastStep {
             clause: complements(self.alloc, core.as_slice())?,
-            hints: HintList::from(hints),
+            hints,
         };
-        let derivation = cut(self.alloc, self.log.steps.as_slice(), &last)?;
+        let derivation = cut(self.alloc, &self.log.steps, &last)?;
         Ok(Answer::Unsat { core, derivation })
     }
 
@@ -452,7 +456,10 @@ impl Search {
         ensures added { self.new.log.added ≡ self.old.log.added }
         ensures conflict { IsConflict self.new.clauses self.new.trail.trail.entries number }
     {
-        let highest = highest_level(&self.trail, &self.log.cited(self.log.hint_of(number)));
+        let highest = highest_level(
+            &self.trail,
+            &Literals::packed(self.log.cited(self.log.hint_of(number))),
+        );
         let level = highest.min(self.trail.level());
         self.back_to(level);
         self.trail.assigned().len()

@@ -8,14 +8,15 @@ ghost use Rattle.cdcl_trail.specs.Trail.{IsTrail};
 ghost use Rattle.cdcl_core.specs.Search.{IsLogOf, IsLogMore};
 
 use crate::analysis::literal_at;
-use crate::log::{Log, step_of};
+use crate::log::Log;
+use crate::packed_hint::PackedHint;
 use cdcl_trail::Trail;
 use inst_logic::Memory;
 use prop_logic::{Hint, Lit, complement};
 use std::alloc::Global;
 
 // What cites the literal alone, if a clause gave it and it is known.
-fn known(log: &Log, trail: &Trail, lit: Lit) -> Option<Hint>
+fn known(log: &Log, trail: &Trail, lit: Lit) -> Option<PackedHint>
     requires { lit.atom < trail.now.trail.atoms }
     ensures { IfSome result (λ hint. cited log.now.added log.now.steps hint ≡ Some (lit ∷ [])) }
 {
@@ -32,7 +33,7 @@ fn unit_hints(
     trail: &Trail,
     place: usize,
     number: usize,
-) -> Result<Option<Vec<Hint>>, Memory>
+) -> Result<Option<Vec<PackedHint>>, Memory>
     requires trail { IsTrail trail.now.trail }
     requires log { IsLogOf log.now trail.now.trail }
     requires place { place < length trail.now.trail.entries }
@@ -43,8 +44,8 @@ fn unit_hints(
     let last = log.hint_of(number);
     let clause = log.cited(last);
     let mut hints = Vec::new(alloc);
-    for i in 0..clause.len() {
-        let other = clause.at(i);
+    for packed in clause {
+        let other = packed.lit();
         if other == lit {
             continue;
         }
@@ -58,13 +59,12 @@ fn unit_hints(
 }
 
 // Ends the steps with the literal alone.
-fn push_unit(alloc: Global, log: &mut Log, lit: Lit, hints: Vec<Hint>) -> Result<(), Memory>
-    requires { ClosesAll (lit ∷ []) (map (cited log.old.added log.old.steps) hints.items) }
+fn push_unit(log: &mut Log, lit: Lit, hints: &[PackedHint]) -> Result<(), Memory>
+    requires { ClosesAll (lit ∷ []) (map (cited log.old.added log.old.steps) hints.now) }
     ensures more { OnOk result ((atoms : ℕ) → lit.atom < atoms → IsLogMore atoms log.old log.new) }
     ensures added { log.new.added ≡ log.old.added }
 {
-    let step = step_of(alloc, &[lit], hints.as_slice())?;
-    log.steps.push(step)?;
+    log.steps.push(&[lit], hints)?;
     let hint = Hint::Step(log.steps.len());
     log.units.put(lit.atom, hint)
 }
@@ -83,7 +83,7 @@ fn unite(alloc: Global, log: &mut Log, trail: &Trail, place: usize) -> Result<()
         None => Ok(()),
         Some(number) => match unit_hints(alloc, log, trail, place, number)? {
             None => Ok(()),
-            Some(hints) => push_unit(alloc, log, lit, hints),
+            Some(hints) => push_unit(log, lit, hints.as_slice()),
         },
     }
 }

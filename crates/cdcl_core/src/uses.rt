@@ -1,5 +1,6 @@
 // How often conflicts met the clause of each step. What a later conflict meets counts more. Nothing is proved of the counts.
 
+use crate::packed_hint::PackedHint;
 use prop_logic::Hint;
 use std::alloc::Global;
 
@@ -58,10 +59,10 @@ impl Uses {
     }
 
     // A conflict met these hints, and the step was learned from it.
-    pub(crate) fn see(&mut self, step: usize, hints: &[Hint]) {
+    pub(crate) fn see(&mut self, step: usize, hints: &[PackedHint]) {
         for hint in hints {
-            if let Hint::Step(met) = hint {
-                self.raise(*met);
+            if let Hint::Step(met) = hint.hint() {
+                self.raise(met);
             }
         }
         self.reach(step);

@@ -7,6 +7,7 @@ use Rattle.std.proofs.lemmas.Option.{none-some}
 use Rattle.std.proofs.lemmas.Bool.{cases_eq}
 use Rattle.inst_logic.specs.declared.signed.Signed.{Signed}
 use Rattle.prop_logic.proofs.ListLaws.{take_of_append, take_of_take, take_whole, slice_get-Contains, All-from_contained, Contains-take}
+use Rattle.cdcl_trail.specs.Arena.{AreCopies}
 use Rattle.cdcl_trail.specs.Attached.{Watching, WatchedTrail, head_at, IsSettledTo, AreAttached}
 use Rattle.cdcl_trail.specs.Clauses.{clause_number, AddsClause}
 use Rattle.cdcl_trail.specs.Loose.{AreLoose}
@@ -20,6 +21,7 @@ use Rattle.cdcl_trail.specs.declared.values.Values.{Values}
 use Rattle.cdcl_trail.specs.declared.watch.Head.{Head}
 use Rattle.cdcl_trail.specs.declared.watch.Pair.{Pair}
 use Rattle.cdcl_trail.specs.declared.watch.Watch.{Watch}
+use Rattle.cdcl_trail.proofs.CopyLaws.{copies_added}
 use Rattle.cdcl_trail.proofs.LevelLaws.{added_above, up_to_up_to, up_to_true, get_past, get_push, get_cut, get_within}
 use Rattle.cdcl_trail.proofs.VisitLaws.{due_some, in_list}
 use Rattle.cdcl_trail.proofs.ListRunLaws.{still_true}
@@ -57,6 +59,7 @@ pub attached_decided : (t : Trail) (w : Watching) (l : Signed ℕ) (clauses : Li
     → AreAttached (cdcl_trail (with_decision t l) (record w { heads = w.heads ++ w.head ∷ [] })) clauses
 attached_decided t w l clauses is next size a = record {
   watched = a.watched;
+  copies = a.copies;
   room = a.room;
   loose = a.loose;
   there = a.there;
@@ -107,6 +110,7 @@ pub attached_implied : (t : Trail) (w : Watching) (l : Signed ℕ) (n : ℕ) (cl
     → AreAttached (cdcl_trail (with_implied t l n) w) clauses
 attached_implied t w l n clauses is next size a = record {
   watched = a.watched;
+  copies = a.copies;
   room = a.room;
   loose = a.loose;
   there = a.there;
@@ -132,6 +136,7 @@ pub attached_back : (t : Trail) (w : Watching) (n : ℕ) (clauses : List (Option
     → AreAttached (cdcl_trail (back_at t n) (record w { head = head_at w n; heads = take n w.heads })) clauses
 attached_back t w n clauses h a = record {
   watched = a.watched;
+  copies = a.copies;
   room = a.room;
   loose = a.loose;
   there = a.there;
@@ -148,13 +153,14 @@ attached_back t w n clauses h a = record {
     same_head k low = get_cut w.heads n k w.head low
 
 -- propagation at the present level
-pub attached_propagated : (v v' : Values) (level : ℕ) (lists lists' : List (List Watch)) (pairs pairs' : List (Option Pair)) (loose loose' : List ℕ) (head head' : Head) (heads : List Head) (clauses : List (Option (List (Signed ℕ))))
-    → length heads ≡ level → AreAttached (cdcl_trail (at_level level v) (record { lists = lists; pairs = pairs; loose = loose; head = head; heads = heads })) clauses
+pub attached_propagated : (v v' : Values) (level : ℕ) (lists lists' : List (List Watch)) (pairs pairs' : List (Option Pair)) (copies copies' : List (Option (List (Signed ℕ)))) (loose loose' : List ℕ) (head head' : Head) (heads : List Head) (clauses : List (Option (List (Signed ℕ))))
+    → length heads ≡ level → AreAttached (cdcl_trail (at_level level v) (record { lists = lists; pairs = pairs; copies = copies; loose = loose; head = head; heads = heads })) clauses
     → IsRunning clauses level v' lists' pairs' → Runs clauses level v pairs v' pairs' → AreLoose clauses (entries_of v') pairs' loose' head'.passed → take head.passed loose' ≡ take head.passed loose → head.passed ≤ head'.passed
-    → head'.place ≤ length (entries_of v') → IsSettled clauses pairs' (entries_of v') head'.place
-    → AreAttached (cdcl_trail (at_level level v') (record { lists = lists'; pairs = pairs'; loose = loose'; head = head'; heads = heads })) clauses
-attached_propagated v v' level lists lists' pairs pairs' loose loose' head head' heads clauses size a r' runs are_loose front on low settled = record {
+    → head'.place ≤ length (entries_of v') → IsSettled clauses pairs' (entries_of v') head'.place → AreCopies clauses copies' pairs'
+    → AreAttached (cdcl_trail (at_level level v') (record { lists = lists'; pairs = pairs'; copies = copies'; loose = loose'; head = head'; heads = heads })) clauses
+attached_propagated v v' level lists lists' pairs pairs' copies copies' loose loose' head head' heads clauses size a r' runs are_loose front on low settled are_copies = record {
   watched = r'.watched;
+  copies = are_copies;
   room = are_loose.room;
   loose = are_loose.all;
   there = are_loose.there;
@@ -179,21 +185,21 @@ attached_propagated v v' level lists lists' pairs pairs' loose loose' head head'
   ];
 }
   where
-    at_present : (k : ℕ) → k ≡ level → IsSettledTo clauses (record { lists = lists'; pairs = pairs'; loose = loose'; head = head'; heads = heads }) (entries_up_to (entries_of v') k) (get_or heads k head')
+    at_present : (k : ℕ) → k ≡ level → IsSettledTo clauses (record { lists = lists'; pairs = pairs'; copies = copies'; loose = loose'; head = head'; heads = heads }) (entries_up_to (entries_of v') k) (get_or heads k head')
     at_present k e =
-        subst (λ x. IsSettledTo clauses (record { lists = lists'; pairs = pairs'; loose = loose'; head = head'; heads = heads }) (entries_up_to (entries_of v') k) x) (sym (get_past heads k head' (omega (arith, size, e))))
-        (subst (λ es. IsSettledTo clauses (record { lists = lists'; pairs = pairs'; loose = loose'; head = head'; heads = heads }) es head') (sym (up_to_present (at_level level v') k r'.trail (omega (arith, e))))
+        subst (λ x. IsSettledTo clauses (record { lists = lists'; pairs = pairs'; copies = copies'; loose = loose'; head = head'; heads = heads }) (entries_up_to (entries_of v') k) x) (sym (get_past heads k head' (omega (arith, size, e))))
+        (subst (λ es. IsSettledTo clauses (record { lists = lists'; pairs = pairs'; copies = copies'; loose = loose'; head = head'; heads = heads }) es head') (sym (up_to_present (at_level level v') k r'.trail (omega (arith, e))))
         (record { settled = settled; seen = are_loose.seen; place = low; passed = are_loose.low }))
 
-    at_lower : (k : ℕ) → k < level → IsSettledTo clauses (record { lists = lists'; pairs = pairs'; loose = loose'; head = head'; heads = heads }) (entries_up_to (entries_of v') k) (get_or heads k head')
+    at_lower : (k : ℕ) → k < level → IsSettledTo clauses (record { lists = lists'; pairs = pairs'; copies = copies'; loose = loose'; head = head'; heads = heads }) (entries_up_to (entries_of v') k) (get_or heads k head')
     at_lower k h =
         let x = get_or heads k head in
         let same : entries_up_to (entries_of v') k ≡ entries_up_to (entries_of v) k = added_above (entries_of v) (entries_of v') k runs.added.kept (λ i e up at. omega (arith, h, runs.added.at_level i e up at)) in
         let s = a.levels k (omega (arith, h)) in
         let up : x.passed ≤ head.passed = omega (arith, a.rising k level (omega (arith, h)) (omega arith), ap (λ (y : Head). y.passed) (get_past heads level head (omega (arith, size)))) in
         let first : take x.passed loose' ≡ take x.passed loose = sym (take_of_take loose' head.passed x.passed up) ∙ ap (take x.passed) front ∙ take_of_take loose head.passed x.passed up in
-        subst (λ y. IsSettledTo clauses (record { lists = lists'; pairs = pairs'; loose = loose'; head = head'; heads = heads }) (entries_up_to (entries_of v') k) y) (get_within heads k head head' (omega (arith, h, size)))
-        (subst (λ es. IsSettledTo clauses (record { lists = lists'; pairs = pairs'; loose = loose'; head = head'; heads = heads }) es x) (sym same)
+        subst (λ y. IsSettledTo clauses (record { lists = lists'; pairs = pairs'; copies = copies'; loose = loose'; head = head'; heads = heads }) (entries_up_to (entries_of v') k) y) (get_within heads k head head' (omega (arith, h, size)))
+        (subst (λ es. IsSettledTo clauses (record { lists = lists'; pairs = pairs'; copies = copies'; loose = loose'; head = head'; heads = heads }) es x) (sym same)
         (record {
           settled = runs.kept (entries_up_to (entries_of v) k) x.place (λ l c. up_to_true (entries_of v) k l c) s.settled;
           seen = subst (All (IsTrueAt clauses (entries_up_to (entries_of v) k))) (sym first) s.seen;
@@ -221,6 +227,7 @@ attached_grown t w clauses a = record {
     counted = λ k n. ap (times n) (same k) ∙ a.watched.counted k n;
     of_clauses = a.watched.of_clauses;
   };
+  copies = a.copies;
   room = a.room;
   loose = a.loose;
   there = a.there;
@@ -242,6 +249,10 @@ attached_added t w n c pairs before after adds a longer kept size = record {
         let x = a.watched.of_clauses m p (sym (kept m) ∙ e) in
         record { clause = x.clause; here = adds.others m (λ f. none-some x.clause (sym adds.free ∙ ap (clause_number before) (sym f) ∙ x.here)) ∙ x.here; first = x.first; second = x.second; apart = x.apart };
   };
+  copies = copies_added before after w.copies w.pairs pairs n c adds (λ m p e.
+      let old : pair_at w.pairs m ≡ Some p = sym (kept m) ∙ e in
+      let x = a.watched.of_clauses m p old in
+      (λ f. none-some x.clause (sym adds.free ∙ ap (clause_number before) (sym f) ∙ x.here), old)) a.copies;
   room = λ m d at. elim (cases_eq m n) [
     | inl e ↦ omega (arith, e, longer)
     | inr e ↦ omega (arith, size, a.room m d (sym (adds.others m e) ∙ at))

@@ -17,16 +17,17 @@ use Rattle.cdcl_trail.specs.Watching.{IsTrueAt}
 use Rattle.cdcl_trail.specs.declared.watch.Head.{Head}
 use Rattle.cdcl_trail.specs.declared.watch.Pair.{Pair}
 use Rattle.cdcl_trail.specs.declared.watch.Watch.{Watch}
+use Rattle.cdcl_trail.proofs.CopyLaws.{copies_removed}
 use Rattle.cdcl_trail.proofs.LooseLaws.{front_removed}
 use Rattle.cdcl_trail.proofs.WatchLaws.{times_removed, one_not, contains_removed, due_first, due_second, due_neither}
 use Rattle.cdcl_trail.proofs.VisitLaws.{slot_within}
 
 -- the clause was taken out of all lists; the loose clauses are looked at again
-pub attached_detached : (t : Trail) (w w' : Watching) (n : ℕ) (before after : List (Option (List (Signed ℕ)))) → RemovesClause before after n → AreAttached (record { trail = t; watching = w }) before → pair_at w'.pairs n ≡ None → ((m : ℕ) → m ≢ n → pair_at w'.pairs m ≡ pair_at w.pairs m) → length w'.pairs ≡ length w.pairs
+pub attached_detached : (t : Trail) (w w' : Watching) (n : ℕ) (before after : List (Option (List (Signed ℕ)))) → RemovesClause before after n → RemovesClause w.copies w'.copies n → AreAttached (record { trail = t; watching = w }) before → pair_at w'.pairs n ≡ None → ((m : ℕ) → m ≢ n → pair_at w'.pairs m ≡ pair_at w.pairs m) → length w'.pairs ≡ length w.pairs
     → ((k m : ℕ) → m ≢ n → times m (list_at w'.lists k) ≡ times m (list_at w.lists k)) → ((k : ℕ) → times n (list_at w'.lists k) ≡ 0) → ((k : ℕ) (x : Watch) → Contains (list_at w'.lists k) x → Contains (list_at w.lists k) x)
     → (Contains w'.loose n → ⊥) → ((m : ℕ) → m ≢ n → Contains w.loose m → Contains w'.loose m) → ((m : ℕ) → Contains w'.loose m → Contains w.loose m)
     → ((k : ℕ) → (head_at w' k).place ≡ (head_at w k).place) → ((k : ℕ) → (head_at w' k).passed ≡ 0) → AreAttached (record { trail = t; watching = w' }) after
-attached_detached t w w' n before after removes a here other size others gone sub loose_gone loose_kept loose_sub places passed = record {
+attached_detached t w w' n before after removes goes a here other size others gone sub loose_gone loose_kept loose_sub places passed = record {
   watched = record {
     blockers = λ k x c has at. a.watched.blockers k x c (sub k x has) (earlier x.number c at);
     counted = λ k m. elim (cases_eq m n) [
@@ -38,6 +39,7 @@ attached_detached t w w' n before after removes a here other size others gone su
         let x = a.watched.of_clauses m p (sym (other m apart) ∙ e) in
         record { clause = x.clause; here = removes.others m apart ∙ x.here; first = x.first; second = x.second; apart = x.apart };
   };
+  copies = copies_removed before after w.copies w'.copies w.pairs w'.pairs n removes goes (λ m p e. let apart = watching_one m p e in (apart, sym (other m apart) ∙ e)) a.copies;
   room = λ m c at. omega (arith, a.room m c (earlier m c at), size);
   loose = λ m c at none. loose_kept m (is_other m c at) (a.loose m c (earlier m c at) (sym (other m (is_other m c at)) ∙ none));
   there = λ m has none.

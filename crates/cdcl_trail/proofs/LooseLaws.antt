@@ -1,9 +1,9 @@
 -- Looks at loose clauses.
-use Rattle.std.proofs.Common.{◌≡◌, ◌≢◌, ℕ, ◌+◌, ◌-◌, ◌<◌, false, ◌⊎◌, inl, inr, List, [], ◌∷◌, ◌++◌, length, take, set, get_or, Option, Some, None, refl, sym, ap, ◌∙◌, subst, arith, length-set}
+use Rattle.std.proofs.Common.{◌≡◌, ◌≢◌, ℕ, zero, suc, Bool, true, ◌+◌, ◌-◌, ◌<◌, false, ◌⊎◌, inl, inr, List, [], ◌∷◌, ◌++◌, length, take, set, get_or, Option, Some, None, refl, sym, ap, ◌∙◌, subst, arith, length-set}
 use Rattle.std.specs.Prelude.{All, Contains, slice_get, is_some, ◌==◌}
 use Rattle.std.specs.List.{swap_remove, slice_index_or}
 use Rattle.std.proofs.lemmas.List.{get_or-set_same, get_or-set_other, map-append, take-set, length-take}
-use Rattle.std.proofs.lemmas.List.Elements.{All-weaker, Contains-push, Contains-push_cases}
+use Rattle.std.proofs.lemmas.List.Elements.{All-nil, All-cons, All-weaker, Contains-push, Contains-push_cases}
 use Rattle.std.proofs.lemmas.Option.{none-some, same_Some, slice_get_within, get_or_from_slice_get}
 use Rattle.std.proofs.lemmas.Bool.{cases_eq}
 use Rattle.inst_logic.specs.declared.signed.Signed.{Signed}
@@ -15,7 +15,7 @@ use Rattle.cdcl_trail.specs.Propagation.{IsFalseIn, Propagates}
 use Rattle.cdcl_trail.specs.Running.{at_level, IsRunning, Runs}
 use Rattle.cdcl_trail.specs.Trail.{IsUnset, literals_of, with_implied}
 use Rattle.cdcl_trail.specs.Values.{AreValues, entries_of}
-use Rattle.cdcl_trail.specs.Watch.{slot_of, list_at, times, pair_at, due, IsPairOf, AreWatched}
+use Rattle.cdcl_trail.specs.Watch.{slot_of, list_at, times, pair_at, due, IsPairOf, IsBlocker, AreWatched}
 use Rattle.cdcl_trail.specs.Watching.{IsTrueAt, Watches}
 use Rattle.cdcl_trail.specs.declared.entry.Entry.{Entry}
 use Rattle.cdcl_trail.specs.declared.values.Values.{Values}
@@ -37,55 +37,89 @@ added_other lists l w k h = get_or-set_other lists (slot_of l) k (list_at lists 
 added_times : (lists : List (List Watch)) (l : Signed ℕ) (w : Watch) (k n : ℕ) → slot_of l < length lists → slot_of l ≡ k → times n (list_at (add_to lists l w) k) ≡ times n (list_at lists k) + one_if (w.number == n)
 added_times lists l w k n h e = subst (λ j. times n (list_at (add_to lists l w) j) ≡ times n (list_at lists j) + one_if (w.number == n)) e (ap (times n) (added_here lists l w h) ∙ times_push n (list_at lists (slot_of l)) w)
 
-added_in : (lists : List (List Watch)) (l : Signed ℕ) (w x : Watch) (k : ℕ) → slot_of l < length lists → Contains (list_at (add_to lists l w) k) x → Contains (list_at lists k) x ⊎ (w ≡ x)
+added_in : (lists : List (List Watch)) (l : Signed ℕ) (w x : Watch) (k : ℕ) → slot_of l < length lists → Contains (list_at (add_to lists l w) k) x → Contains (list_at lists k) x ⊎ ((k ≡ slot_of l) × (w ≡ x))
 added_in lists l w x k h c = elim (cases_eq k (slot_of l)) [
   | inl e ↦
       elim (Contains-push_cases (list_at lists (slot_of l)) w x (subst (λ xs. Contains xs x) (added_here lists l w h) (subst (λ j. Contains (list_at (add_to lists l w) j) x) e c))) [
         | inl old ↦ inl (subst (λ j. Contains (list_at lists j) x) (sym e) old)
-        | inr new ↦ inr new
+        | inr new ↦ inr (e, new)
       ]
   | inr n ↦ inl (subst (λ xs. Contains xs x) (added_other lists l w k n) c)
 ]
 
+-- a clause of two literals, seen from the list of one of them
+only_first : (p : Pair) (k : ℕ) (c : List (Signed ℕ)) → k ≡ slot_of p.first → All (λ m. (m ≡ p.first) ⊎ (m ≡ p.second)) c → All (λ m. (slot_of m ≡ k) ⊎ (m ≡ p.second)) c
+only_first p k c e all = All-weaker (λ m. (m ≡ p.first) ⊎ (m ≡ p.second)) (λ m. (slot_of m ≡ k) ⊎ (m ≡ p.second)) (λ m h. either m h) c all
+  where
+    either : (m : Signed ℕ) → (m ≡ p.first) ⊎ (m ≡ p.second) → (slot_of m ≡ k) ⊎ (m ≡ p.second)
+    either m (inl f) = inl (ap slot_of f ∙ sym e)
+    either m (inr f) = inr f
+
+only_second : (p : Pair) (k : ℕ) (c : List (Signed ℕ)) → k ≡ slot_of p.second → All (λ m. (m ≡ p.first) ⊎ (m ≡ p.second)) c → All (λ m. (slot_of m ≡ k) ⊎ (m ≡ p.first)) c
+only_second p k c e all = All-weaker (λ m. (m ≡ p.first) ⊎ (m ≡ p.second)) (λ m. (slot_of m ≡ k) ⊎ (m ≡ p.first)) (λ m h. either m h) c all
+  where
+    either : (m : Signed ℕ) → (m ≡ p.first) ⊎ (m ≡ p.second) → (slot_of m ≡ k) ⊎ (m ≡ p.first)
+    either m (inl f) = inr f
+    either m (inr f) = inl (ap slot_of f ∙ sym e)
+
+-- two different literals of a clause of two are all of it
+pub two_of : (c : List (Signed ℕ)) (a b : Signed ℕ) → length c ≡ 2 → Contains c a → Contains c b → a ≢ b → All (λ m. (m ≡ a) ⊎ (m ≡ b)) c
+two_of [] a b size i j apart = absurd (omega (arith, size))
+two_of (x ∷ []) a b size i j apart = absurd (omega (arith, size))
+two_of (x ∷ y ∷ []) a b size (zero, h, s) (zero, k, t) apart = absurd (apart (sym s ∙ t))
+two_of (x ∷ y ∷ []) a b size (zero, h, s) (suc zero, k, t) apart = All-cons (λ m. (m ≡ a) ⊎ (m ≡ b)) x (y ∷ []) (inl s) (All-cons (λ m. (m ≡ a) ⊎ (m ≡ b)) y [] (inr t) (All-nil (λ m. (m ≡ a) ⊎ (m ≡ b))))
+two_of (x ∷ y ∷ []) a b size (suc zero, h, s) (zero, k, t) apart = All-cons (λ m. (m ≡ a) ⊎ (m ≡ b)) x (y ∷ []) (inr t) (All-cons (λ m. (m ≡ a) ⊎ (m ≡ b)) y [] (inl s) (All-nil (λ m. (m ≡ a) ⊎ (m ≡ b))))
+two_of (x ∷ y ∷ []) a b size (suc zero, h, s) (suc zero, k, t) apart = absurd (apart (sym s ∙ t))
+two_of (x ∷ y ∷ []) a b size (suc (suc i), h, s) j apart = absurd (omega (arith, h))
+two_of (x ∷ y ∷ []) a b size i (suc (suc j), k, t) apart = absurd (omega (arith, k))
+two_of (x ∷ y ∷ z ∷ zs) a b size i j apart = absurd (omega (arith, size))
+
 -- a clause that watched nothing begins to watch a pair
-pub paired_watched : (clauses : List (Option (List (Signed ℕ)))) (lists : List (List Watch)) (pairs : List (Option Pair)) (n : ℕ) (p : Pair) (c : List (Signed ℕ)) → AreWatched clauses lists pairs → pair_at pairs n ≡ None → clause_number clauses n ≡ Some c
-    → Contains c p.first → Contains c p.second → slot_of p.first ≢ slot_of p.second → slot_of p.first < length lists → slot_of p.second < length lists → n < length pairs
-    → AreWatched clauses (with_pair lists n p) (set pairs n (Some p))
-paired_watched clauses lists pairs n p c h none at a b apart in_a in_b room = record {
+pub paired_watched : (clauses : List (Option (List (Signed ℕ)))) (lists : List (List Watch)) (pairs : List (Option Pair)) (n : ℕ) (p : Pair) (bit : Bool) (c : List (Signed ℕ)) → AreWatched clauses lists pairs → pair_at pairs n ≡ None → clause_number clauses n ≡ Some c
+    → Contains c p.first → Contains c p.second → (bit ≡ true → All (λ m. (m ≡ p.first) ⊎ (m ≡ p.second)) c) → slot_of p.first ≢ slot_of p.second → slot_of p.first < length lists → slot_of p.second < length lists → n < length pairs
+    → AreWatched clauses (with_pair lists n p bit) (set pairs n (Some p))
+paired_watched clauses lists pairs n p bit c h none at a b two apart in_a in_b room = record {
   blockers = λ k x d has here. blocker k x d has here;
   counted = λ k m. count k m;
   of_clauses = λ m q e. of_clause m q e;
 }
   where
     mid : List (List Watch)
-    mid = add_to lists p.first (record { number = n; blocker = p.second })
+    mid = add_to lists p.first (record { number = n; blocker = p.second; binary = bit })
 
-    in_mid : slot_of p.second < length (add_to lists p.first (record { number = n; blocker = p.second }))
-    in_mid = subst (λ m. slot_of p.second < m) (sym (length-set lists (slot_of p.first) (list_at lists (slot_of p.first) ++ (record { number = n; blocker = p.second }) ∷ []))) in_b
+    in_mid : slot_of p.second < length (add_to lists p.first (record { number = n; blocker = p.second; binary = bit }))
+    in_mid = subst (λ m. slot_of p.second < m) (sym (length-set lists (slot_of p.first) (list_at lists (slot_of p.first) ++ (record { number = n; blocker = p.second; binary = bit }) ∷ []))) in_b
 
-    blocker : (k : ℕ) (x : Watch) (d : List (Signed ℕ)) → Contains (list_at (with_pair lists n p) k) x → clause_number clauses x.number ≡ Some d → Contains d x.blocker
+    is : (d : List (Signed ℕ)) (x : Watch) → x.number ≡ n → clause_number clauses x.number ≡ Some d → c ≡ d
+    is d x same here = same_Some c d (sym at ∙ ap (clause_number clauses) (sym same) ∙ here)
+
+    blocker : (k : ℕ) (x : Watch) (d : List (Signed ℕ)) → Contains (list_at (with_pair lists n p bit) k) x → clause_number clauses x.number ≡ Some d → IsBlocker d k x
     blocker k x d has here =
-        elim (added_in (add_to lists p.first (record { number = n; blocker = p.second })) p.second (record { number = n; blocker = p.first }) x k in_mid has) [
-          | inl old ↦ elim (added_in lists p.first (record { number = n; blocker = p.second }) x k in_a old) [
+        elim (added_in (add_to lists p.first (record { number = n; blocker = p.second; binary = bit })) p.second (record { number = n; blocker = p.first; binary = bit }) x k in_mid has) [
+          | inl old ↦ elim (added_in lists p.first (record { number = n; blocker = p.second; binary = bit }) x k in_a old) [
             | inl older ↦ h.blockers k x d older here
-            | inr new ↦ subst (λ (y : Watch). Contains d y.blocker) new (subst (λ e. Contains e p.second) (same_Some c d (sym at ∙ ap (λ (y : Watch). clause_number clauses y.number) new ∙ here)) b)
+            | inr new ↦
+                subst (λ y. IsBlocker d k y) new.1 (subst (λ e. IsBlocker e k (record { number = n; blocker = p.second; binary = bit })) (is d x (ap (λ (y : Watch). y.number) (sym new.1)) here)
+                (record { here = b; only = λ e. only_first p k c new.0 (two e) }))
           ]
-          | inr new ↦ subst (λ (y : Watch). Contains d y.blocker) new (subst (λ e. Contains e p.first) (same_Some c d (sym at ∙ ap (λ (y : Watch). clause_number clauses y.number) new ∙ here)) a)
+          | inr new ↦
+              subst (λ y. IsBlocker d k y) new.1 (subst (λ e. IsBlocker e k (record { number = n; blocker = p.first; binary = bit })) (is d x (ap (λ (y : Watch). y.number) (sym new.1)) here)
+              (record { here = a; only = λ e. only_second p k c new.0 (two e) }))
         ]
 
-    first_times : (k m : ℕ) → slot_of p.first ≡ k → times m (list_at (with_pair lists n p) k) ≡ times m (list_at lists k) + one_if (n == m)
+    first_times : (k m : ℕ) → slot_of p.first ≡ k → times m (list_at (with_pair lists n p bit) k) ≡ times m (list_at lists k) + one_if (n == m)
     first_times k m e =
-        ap (times m) (added_other (add_to lists p.first (record { number = n; blocker = p.second })) p.second (record { number = n; blocker = p.first }) k (λ f. apart (e ∙ f)))
-        ∙ added_times lists p.first (record { number = n; blocker = p.second }) k m in_a e
+        ap (times m) (added_other (add_to lists p.first (record { number = n; blocker = p.second; binary = bit })) p.second (record { number = n; blocker = p.first; binary = bit }) k (λ f. apart (e ∙ f)))
+        ∙ added_times lists p.first (record { number = n; blocker = p.second; binary = bit }) k m in_a e
 
-    second_times : (k m : ℕ) → slot_of p.second ≡ k → times m (list_at (with_pair lists n p) k) ≡ times m (list_at lists k) + one_if (n == m)
+    second_times : (k m : ℕ) → slot_of p.second ≡ k → times m (list_at (with_pair lists n p bit) k) ≡ times m (list_at lists k) + one_if (n == m)
     second_times k m e =
-        added_times (add_to lists p.first (record { number = n; blocker = p.second })) p.second (record { number = n; blocker = p.first }) k m in_mid e
-        ∙ ap (λ xs. times m xs + one_if (n == m)) (added_other lists p.first (record { number = n; blocker = p.second }) k (λ f. apart (sym f ∙ sym e)))
+        added_times (add_to lists p.first (record { number = n; blocker = p.second; binary = bit })) p.second (record { number = n; blocker = p.first; binary = bit }) k m in_mid e
+        ∙ ap (λ xs. times m xs + one_if (n == m)) (added_other lists p.first (record { number = n; blocker = p.second; binary = bit }) k (λ f. apart (sym f ∙ sym e)))
 
-    other_times : (k m : ℕ) → slot_of p.first ≢ k → slot_of p.second ≢ k → times m (list_at (with_pair lists n p) k) ≡ times m (list_at lists k)
+    other_times : (k m : ℕ) → slot_of p.first ≢ k → slot_of p.second ≢ k → times m (list_at (with_pair lists n p bit) k) ≡ times m (list_at lists k)
     other_times k m e f =
-        ap (times m) (added_other (add_to lists p.first (record { number = n; blocker = p.second })) p.second (record { number = n; blocker = p.first }) k (λ g. f (sym g)) ∙ added_other lists p.first (record { number = n; blocker = p.second }) k (λ g. e (sym g)))
+        ap (times m) (added_other (add_to lists p.first (record { number = n; blocker = p.second; binary = bit })) p.second (record { number = n; blocker = p.first; binary = bit }) k (λ g. f (sym g)) ∙ added_other lists p.first (record { number = n; blocker = p.second; binary = bit }) k (λ g. e (sym g)))
 
     old_zero : (k m : ℕ) → m ≡ n → times m (list_at lists k) ≡ 0
     old_zero k m e = h.counted k m ∙ ap (λ i. due (pair_at pairs i) k) e ∙ ap (λ o. due o k) none
@@ -96,7 +130,7 @@ paired_watched clauses lists pairs n p c h none at a b apart in_a in_b room = re
     old_due : (k m : ℕ) → m ≢ n → due (pair_at (set pairs n (Some p)) m) k ≡ times m (list_at lists k)
     old_due k m e = ap (λ o. due o k) (pair_at_other pairs n m (Some p) e) ∙ sym (h.counted k m)
 
-    count : (k m : ℕ) → times m (list_at (with_pair lists n p) k) ≡ due (pair_at (set pairs n (Some p)) m) k
+    count : (k m : ℕ) → times m (list_at (with_pair lists n p bit) k) ≡ due (pair_at (set pairs n (Some p)) m) k
     count k m = elim (cases_eq m n) [
       | inl e ↦ elim (cases_eq (slot_of p.first) k) [
         | inl f ↦ omega (arith, first_times k m f, old_zero k m e, one_here n m (sym e), new_due k m e, due_first p.first p.second k f)

@@ -1,18 +1,20 @@
 -- What the values say of a clause.
-use Rattle.std.proofs.Common.{◌≡◌, ◌≢◌, ℕ, suc, zero, Bool, true, false, not, cond, ◌⊎◌, inl, inr, List, [], ◌∷◌, ◌≤◌, length, take, Option, Some, None, refl, sym, ap, ◌∙◌, subst, arith}
-use Rattle.std.specs.Prelude.{All, AllPairs, Contains, MatchBool, ◌==◌, ◌&&◌}
+use Rattle.std.proofs.Common.{◌≡◌, ◌≢◌, ℕ, suc, zero, Bool, true, false, not, cond, ◌⊎◌, inl, inr, List, [], ◌∷◌, ◌+◌, ◌≤◌, length, take, get_or, Option, Some, None, refl, sym, ap, ◌∙◌, subst, arith}
+use Rattle.std.specs.Prelude.{All, AllPairs, Contains, MatchBool, slice_get, ◌==◌, ◌&&◌}
+use Rattle.std.specs.List.{AllWithin}
 use Rattle.std.proofs.lemmas.List.{take_all}
 use Rattle.std.proofs.lemmas.List.Elements.{All-nil, All-cons, All-weaker, All-contains, All-map, All-contains_itself}
-use Rattle.std.proofs.lemmas.Option.{none-some, same_Some}
-use Rattle.std.proofs.lemmas.Bool.{eqb-true, eqb-false, eq-eqb}
+use Rattle.std.proofs.lemmas.Option.{none-some, same_Some, get_or_from_slice_get}
+use Rattle.std.proofs.lemmas.Bool.{eqb-true, eqb-false, eq-eqb, cases_eq}
 use Rattle.std.proofs.Math.Dec.{eqb}
 use Rattle.std.specs.Bool.{beq}
 use Rattle.inst_logic.proofs.Items.{contains_here, contains_there}
+use Rattle.prop_logic.proofs.ListLaws.{Contains-slice_get}
 use Rattle.inst_logic.specs.declared.signed.Signed.{Signed}
 use Rattle.inst_logic.specs.Signed.{complement}
 use Rattle.cdcl_trail.specs.declared.entry.Entry.{Entry}
 use Rattle.cdcl_trail.specs.Propagation.{IsFalseIn, GivesUnit, IsStable}
-use Rattle.cdcl_trail.specs.Scan.{HasRest, RestsAt}
+use Rattle.cdcl_trail.specs.Scan.{IsOpenAt, HasRest, RestsAt}
 use Rattle.cdcl_trail.specs.Trail.{IsUnset, value_of, literals_of}
 
 pub same_lit : (a l : Signed ℕ) → a.atom ≡ l.atom → a.positive ≡ l.positive → a ≡ l
@@ -189,3 +191,16 @@ decided_true false P Q m h = absurd cc
 pub decided_false : (b : Bool) (P Q : Type 0) → MatchBool b P Q → b ≡ false → Q
 decided_false true P Q m h = absurd cc
 decided_false false P Q m h = m
+
+-- one literal more of a part of a clause
+pub within_more : (P : Signed ℕ → Type 0) (xs : List (Signed ℕ)) (start i : ℕ) (x : Signed ℕ) → slice_get xs i ≡ Some x → AllWithin P xs start i → P x → AllWithin P xs start (i + 1)
+within_more P xs start i x at before here k d low high = elim (cases_eq k i) [
+  | inl e ↦ subst P (sym (get_or_from_slice_get xs k x d (ap (slice_get xs) e ∙ at))) here
+  | inr n ↦ before k d low (omega (arith, high, n))
+]
+
+-- the literal at an open place
+pub open_is : (es : List Entry) (clause : List (Signed ℕ)) (other : Signed ℕ) (place : ℕ) (x item : Signed ℕ) → IsOpenAt es clause other place → x ≡ item → item ≡ get_or clause place item → Contains clause x × (x ≢ other) × (IsFalseIn es x → ⊥)
+open_is es clause other place x item o e f =
+    let same : x ≡ o.0 = e ∙ f ∙ get_or_from_slice_get clause place o.0 item o.1 in
+    subst (λ y. Contains clause y × (y ≢ other) × (IsFalseIn es y → ⊥)) (sym same) (Contains-slice_get clause place o.0 o.1, o.2, o.3)

@@ -1,6 +1,6 @@
 -- Propagation is at its end where every clause is settled.
 use Rattle.std.proofs.Common.{◌≡◌, ◌≢◌, ℕ, ◌≤◌, Bool, true, false, inl, inr, List, length, take, Option, Some, None, refl, sym, ap, ◌∙◌, subst, arith}
-use Rattle.std.specs.Prelude.{All, Contains, IfNone}
+use Rattle.std.specs.Prelude.{All, Contains, IfNone, IfSome}
 use Rattle.std.proofs.lemmas.List.{take_all, length-map}
 use Rattle.std.proofs.lemmas.List.Elements.{All-contains}
 use Rattle.std.proofs.lemmas.Option.{same_Some}
@@ -51,3 +51,7 @@ all_stable clauses level v lists pairs loose passed head r a whole settled ends 
 pub stable_when : {X : Type 0} (o : Option X) {P Q : Type 0} → (P → Q) → IfNone o P → IfNone o Q
 stable_when None f p = f p
 stable_when (Some x) f p = p
+
+pub some_when : {X : Type 0} (o : Option X) {P Q : X → Type 0} → ((x : X) → P x → Q x) → IfSome o P → IfSome o Q
+some_when None f p = p
+some_when (Some x) f p = f x p

@@ -25,7 +25,7 @@ use Rattle.cdcl_trail.specs.declared.watch.Watch.{Watch}
 use Rattle.cdcl_trail.proofs.PropagationLaws.{nothing_added, one_added, more_added}
 use Rattle.cdcl_trail.proofs.ScanLaws.{same_lit, none_value, true_value, false_value}
 use Rattle.cdcl_trail.proofs.TrailLaws.{trail_of, same_trail, implied}
-use Rattle.cdcl_trail.proofs.WatchLaws.{times_removed, one_here, pair_at_set, pair_at_other, pair_within, blocker_put, numbers_put}
+use Rattle.cdcl_trail.proofs.WatchLaws.{not_true, times_removed, one_here, pair_at_set, pair_at_other, pair_within, blocker_put, numbers_put}
 
 -- a literal is known by its slot
 pub slot_injective : (a b : Signed ℕ) → slot_of a ≡ slot_of b → a ≡ b
@@ -290,13 +290,13 @@ move_of clauses level l place v lists pairs w p o next c r at pair both here has
 
 -- a true literal of the clause becomes its blocker
 pub visits_blocked : (clauses : List (Option (List (Signed ℕ)))) (level : ℕ) (l : Signed ℕ) (place : ℕ) (v : Values) (lists lists' : List (List Watch)) (pairs : List (Option Pair)) (w w' : Watch) (o : Signed ℕ) → IsRunning clauses level v lists pairs
-    → slot_of l < length lists → slice_get (list_at lists (slot_of l)) place ≡ Some w → w'.number ≡ w.number → w'.blocker ≡ o → ((c : List (Signed ℕ)) → clause_number clauses w.number ≡ Some c → Contains c o)
+    → slot_of l < length lists → slice_get (list_at lists (slot_of l)) place ≡ Some w → w'.number ≡ w.number → w'.blocker ≡ o → w'.binary ≡ false → ((c : List (Signed ℕ)) → clause_number clauses w.number ≡ Some c → Contains c o)
     → Contains (literals_of (entries_of v)) o → lists' ≡ set lists (slot_of l) (set (list_at lists (slot_of l)) place w') → Visits clauses level l place v lists pairs v lists' pairs Kept
-visits_blocked clauses level l place v lists lists' pairs w w' o r inside at same blocker has true_now new =
+visits_blocked clauses level l place v lists lists' pairs w w' o r inside at same blocker long has true_now new =
     let j = slot_of l in
     let xs = set (list_at lists j) place w' in
     let watched : AreWatched clauses (set lists j xs) pairs = blocker_put clauses lists pairs j place w w' r.watched inside at same
-    (λ c here. subst (Contains c) (sym blocker) (has c (ap (clause_number clauses) (sym same) ∙ here))) in
+    (λ c here. record { here = subst (Contains c) (sym blocker) (has c (ap (clause_number clauses) (sym same) ∙ here)); only = λ e. not_true (sym long ∙ e) }) in
     record {
       running = record {
         values = r.values;
@@ -337,4 +337,17 @@ pub blocker_below : (clauses : List (Option (List (Signed ℕ)))) (level : ℕ) 
 blocker_below clauses level v lists pairs l i w r at =
     let x = watch_pair clauses lists pairs l i w r.watched at in
     let y = r.watched.of_clauses w.number x.0 x.1 in
-    atom_below clauses w.number (length v.entries.items) y.clause w.blocker r.below y.here (r.watched.blockers (slot_of l) w y.clause (Contains-slice_get (list_at lists (slot_of l)) i w at) y.here)
+    atom_below clauses w.number (length v.entries.items) y.clause w.blocker r.below y.here (r.watched.blockers (slot_of l) w y.clause (Contains-slice_get (list_at lists (slot_of l)) i w at) y.here).here
+
+-- the clause of a watch that says that it has two literals
+pub binary_clause : (clauses : List (Option (List (Signed ℕ)))) (level : ℕ) (v : Values) (lists : List (List Watch)) (pairs : List (Option Pair)) (l : Signed ℕ) (i : ℕ) (w : Watch) → IsRunning clauses level v lists pairs → slice_get (list_at lists (slot_of l)) i ≡ Some w
+    → w.binary ≡ true → IsFalseIn (entries_of v) l → (c : List (Signed ℕ)) × (clause_number clauses w.number ≡ Some c) × Contains c w.blocker × All (λ m. IsFalseIn (entries_of v) m ⊎ (m ≡ w.blocker)) c
+binary_clause clauses level v lists pairs l i w r at is f =
+    let x = watch_pair clauses lists pairs l i w r.watched at in
+    let y = r.watched.of_clauses w.number x.0 x.1 in
+    let b = r.watched.blockers (slot_of l) w y.clause (Contains-slice_get (list_at lists (slot_of l)) i w at) y.here in
+    (y.clause, y.here, b.here, All-weaker (λ m. (slot_of m ≡ slot_of l) ⊎ (m ≡ w.blocker)) (λ m. IsFalseIn (entries_of v) m ⊎ (m ≡ w.blocker)) (λ m h. either m h) y.clause (b.only is))
+  where
+    either : (m : Signed ℕ) → (slot_of m ≡ slot_of l) ⊎ (m ≡ w.blocker) → IsFalseIn (entries_of v) m ⊎ (m ≡ w.blocker)
+    either m (inl e) = inl (subst (IsFalseIn (entries_of v)) (sym (slot_injective m l e)) f)
+    either m (inr e) = inr e

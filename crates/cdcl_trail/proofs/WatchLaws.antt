@@ -13,7 +13,7 @@ use Rattle.prop_logic.proofs.ListLaws.{slice_get_set, slice_get_set_other, Conta
 use Rattle.cdcl_trail.specs.Clauses.{clause_number}
 use Rattle.cdcl_trail.specs.declared.watch.Watch.{Watch}
 use Rattle.cdcl_trail.specs.declared.watch.Pair.{Pair}
-use Rattle.cdcl_trail.specs.Watch.{slot_of, list_at, times, pair_in, pair_at, due, pair_of, HasBoth, IsPairOf, AreWatched, IsMove}
+use Rattle.cdcl_trail.specs.Watch.{slot_of, list_at, times, pair_in, pair_at, due, pair_of, HasBoth, IsPairOf, IsBlocker, AreWatched, IsMove}
 
 abbrev pub one_if : Bool → ℕ
 one_if b = cond b 1 0
@@ -112,11 +112,14 @@ one_not m n e =
     let t : (m == n) ≡ false = ne_eqb m n e in
     rw t refl
 
+pub not_true : {P : Type 0} → false ≡ true → P
+not_true e = absurd cc
+
 abbrev pub moved_lists : List (List Watch) → Signed ℕ → Signed ℕ → ℕ → Watch → Watch → List (List Watch)
 moved_lists lists f next place w w' = set (set lists (slot_of next) (list_at lists (slot_of next) ++ w' ∷ [])) (slot_of f) (swap_remove (list_at lists (slot_of f)) place w)
 
 abbrev pub new_watch : Watch → Signed ℕ → Watch
-new_watch w o = record { number = w.number; blocker = o }
+new_watch w o = record { number = w.number; blocker = o; binary = false }
 
 -- the three kinds of slots
 moved_here : (lists : List (List Watch)) (f next : Signed ℕ) (place : ℕ) (w w' : Watch) → slot_of f < length lists
@@ -151,19 +154,19 @@ moved_watched clauses lists pairs f o next place w p c m = record {
     inside : w.number < length pairs
     inside = pair_within pairs w.number p m.pair
 
-    by_slot : (k : ℕ) (x : Watch) (d : List (Signed ℕ)) → Contains (list_at (moved_lists lists f next place w (new_watch w o)) k) x → clause_number clauses x.number ≡ Some d → Contains d x.blocker
+    by_slot : (k : ℕ) (x : Watch) (d : List (Signed ℕ)) → Contains (list_at (moved_lists lists f next place w (new_watch w o)) k) x → clause_number clauses x.number ≡ Some d → IsBlocker d k x
     by_slot k x d has here = elim (cases_eq k (slot_of f)) [
       | inl e ↦
           let less = subst (λ xs. Contains xs x) (moved_here lists f next place w (new_watch w o) m.in_f) (subst (λ j. Contains (list_at (moved_lists lists f next place w (new_watch w o)) j) x) e has) in
-          m.watched.blockers (slot_of f) x d (contains_removed (list_at lists (slot_of f)) place w x m.at less) here
+          subst (λ j. IsBlocker d j x) (sym e) (m.watched.blockers (slot_of f) x d (contains_removed (list_at lists (slot_of f)) place w x m.at less) here)
       | inr a ↦ elim (cases_eq k (slot_of next)) [
         | inl e ↦
             let more = subst (λ xs. Contains xs x) (moved_next lists f next place w (new_watch w o) m.in_next m.not_f) (subst (λ j. Contains (list_at (moved_lists lists f next place w (new_watch w o)) j) x) e has) in
             elim (Contains-push_cases (list_at lists (slot_of next)) (new_watch w o) x more) [
-              | inl old ↦ m.watched.blockers (slot_of next) x d old here
+              | inl old ↦ subst (λ j. IsBlocker d j x) (sym e) (m.watched.blockers (slot_of next) x d old here)
               | inr same ↦
                   let clause : d ≡ c = same_Some d c (sym here ∙ ap (λ (y : Watch). clause_number clauses y.number) (sym same) ∙ m.here) in
-                  subst (λ y. Contains d y.blocker) same (subst (λ e. Contains e o) (sym clause) m.has_o)
+                  subst (λ y. IsBlocker d k y) same (record { here = subst (λ e. Contains e o) (sym clause) m.has_o; only = λ e. not_true e })
             ]
         | inr b ↦ m.watched.blockers k x d (subst (λ xs. Contains xs x) (moved_other lists f next place w (new_watch w o) k a b) has) here
       ]
@@ -241,18 +244,18 @@ moved_watched clauses lists pairs f o next place w p c m = record {
 
 -- the same by the two steps of the move
 pub moved_by : (clauses : List (Option (List (Signed ℕ)))) (lists mid new : List (List Watch)) (pairs : List (Option Pair)) (f o next : Signed ℕ) (place number : ℕ) (r w : Watch) (p : Pair) (c : List (Signed ℕ))
-    → mid ≡ set lists (slot_of next) (list_at lists (slot_of next) ++ (record { number = number; blocker = o }) ∷ [])
+    → mid ≡ set lists (slot_of next) (list_at lists (slot_of next) ++ (record { number = number; blocker = o; binary = false }) ∷ [])
     → slice_get (list_at mid (slot_of f)) place ≡ Some r → new ≡ set mid (slot_of f) (swap_remove (list_at mid (slot_of f)) place r) → w.number ≡ number
     → IsMove clauses lists pairs f o next place w p c → AreWatched clauses new (set pairs number (Some (pair_of o next)))
 moved_by clauses lists mid new pairs f o next place number r w p c first at second same m =
-    let x : Watch = record { number = number; blocker = o } in
+    let x : Watch = record { number = number; blocker = o; binary = false } in
     let more = list_at lists (slot_of next) ++ x ∷ [] in
     let kept : list_at mid (slot_of f) ≡ list_at lists (slot_of f) = ap (λ ls. list_at ls (slot_of f)) first ∙ get_or-set_other lists (slot_of next) (slot_of f) more [] (λ e. m.not_f (sym e)) in
     let is : r ≡ w = same_Some r w (sym at ∙ ap (λ xs. slice_get xs place) kept ∙ m.at) in
     let all : new ≡ moved_lists lists f next place w x = second ∙ ap (λ ls. set ls (slot_of f) (swap_remove (list_at mid (slot_of f)) place r)) first
     ∙ ap (λ xs. set (set lists (slot_of next) more) (slot_of f) (swap_remove xs place r)) kept
     ∙ ap (λ y. set (set lists (slot_of next) more) (slot_of f) (swap_remove (list_at lists (slot_of f)) place y)) is in
-    let here : new_watch w o ≡ x = ap (λ n. (record { number = n; blocker = o })) same in
+    let here : new_watch w o ≡ x = ap (λ n. (record { number = n; blocker = o; binary = false })) same in
     subst (λ ls. AreWatched clauses ls (set pairs number (Some (pair_of o next)))) (sym all)
     (subst (λ y. AreWatched clauses (moved_lists lists f next place w y) (set pairs number (Some (pair_of o next)))) here
     (subst (λ n. AreWatched clauses (moved_lists lists f next place w (new_watch w o)) (set pairs n (Some (pair_of o next)))) same
@@ -271,7 +274,7 @@ moved_list lists mid new f next place x r w inside apart first at second here =
 
 -- another blocker
 pub blocker_put : (clauses : List (Option (List (Signed ℕ)))) (lists : List (List Watch)) (pairs : List (Option Pair)) (j place : ℕ) (w w' : Watch) → AreWatched clauses lists pairs → j < length lists
-    → slice_get (list_at lists j) place ≡ Some w → w'.number ≡ w.number → ((c : List (Signed ℕ)) → clause_number clauses w'.number ≡ Some c → Contains c w'.blocker) → AreWatched clauses (set lists j (set (list_at lists j) place w')) pairs
+    → slice_get (list_at lists j) place ≡ Some w → w'.number ≡ w.number → ((c : List (Signed ℕ)) → clause_number clauses w'.number ≡ Some c → IsBlocker c j w') → AreWatched clauses (set lists j (set (list_at lists j) place w')) pairs
 blocker_put clauses lists pairs j place w w' h inside at same has = record {
   blockers = λ k x c here e. by_slot k x c here e;
   counted = λ k n. by_count k n;
@@ -281,13 +284,13 @@ blocker_put clauses lists pairs j place w w' h inside at same has = record {
     here_list : list_at (set lists j (set (list_at lists j) place w')) j ≡ set (list_at lists j) place w'
     here_list = get_or-set_same lists j (set (list_at lists j) place w') [] inside
 
-    by_slot : (k : ℕ) (x : Watch) (c : List (Signed ℕ)) → Contains (list_at (set lists j (set (list_at lists j) place w')) k) x → clause_number clauses x.number ≡ Some c → Contains c x.blocker
+    by_slot : (k : ℕ) (x : Watch) (c : List (Signed ℕ)) → Contains (list_at (set lists j (set (list_at lists j) place w')) k) x → clause_number clauses x.number ≡ Some c → IsBlocker c k x
     by_slot k x c here e = elim (cases_eq k j) [
       | inl eq ↦
           let in_set = subst (λ xs. Contains xs x) here_list (subst (λ i. Contains (list_at (set lists j (set (list_at lists j) place w')) i) x) eq here) in
           elim (contains_set (list_at lists j) place w' x in_set) [
-            | inl old ↦ h.blockers j x c old e
-            | inr new ↦ subst (λ (y : Watch). Contains c y.blocker) (sym new) (has c (ap (λ (y : Watch). clause_number clauses y.number) (sym new) ∙ e))
+            | inl old ↦ subst (λ i. IsBlocker c i x) (sym eq) (h.blockers j x c old e)
+            | inr new ↦ subst (λ (y : Watch). IsBlocker c k y) (sym new) (subst (λ i. IsBlocker c i w') (sym eq) (has c (ap (λ (y : Watch). clause_number clauses y.number) (sym new) ∙ e)))
           ]
       | inr other ↦ h.blockers k x c (subst (λ xs. Contains xs x) (get_or-set_other lists j k (set (list_at lists j) place w') [] other) here) e
     ]

@@ -2,6 +2,7 @@
 use Rattle.std.specs.Prelude.{◌≡◌, ◌≢◌, ℕ, ◌<◌, ◌≤◌, List, length, take, Option, Some, None, All, Contains}
 use Rattle.std.specs.List.{slice_index_or}
 use Rattle.inst_logic.specs.declared.signed.Signed.{Signed}
+use Rattle.cdcl_trail.specs.Arena.{AreCopies}
 use Rattle.cdcl_trail.specs.Clauses.{clause_number}
 use Rattle.cdcl_trail.specs.Trail.{Trail, entries_up_to}
 use Rattle.cdcl_trail.specs.Watch.{pair_at, AreWatched}
@@ -11,11 +12,12 @@ use Rattle.cdcl_trail.specs.declared.watch.Head.{Head}
 use Rattle.cdcl_trail.specs.declared.watch.Pair.{Pair}
 use Rattle.cdcl_trail.specs.declared.watch.Watch.{Watch}
 
--- how clauses are watched: the lists of the literals, the pairs of the clauses, the clauses that watch nothing, and how far
--- propagation came at the present level and, before each level was opened, at the one below
+-- how clauses are watched: the lists of the literals, the pairs of the clauses, copies of those that watch, the clauses that
+-- watch nothing, and how far propagation came at the present level and, before each level was opened, at the one below
 pub record Watching : Type 0 where
   pub lists : List (List Watch)
   pub pairs : List (Option Pair)
+  pub copies : List (Option (List (Signed ℕ)))
   pub loose : List ℕ
   pub head : Head
   pub heads : List Head
@@ -39,6 +41,7 @@ pub record IsSettledTo (clauses : List (Option (List (Signed ℕ)))) (w : Watchi
 -- The attached clauses are exactly these.
 pub record AreAttached (t : WatchedTrail) (clauses : List (Option (List (Signed ℕ)))) : Type 0 where
   pub watched : AreWatched clauses t.watching.lists t.watching.pairs
+  pub copies : AreCopies clauses t.watching.copies t.watching.pairs
   pub room : (n : ℕ) (c : List (Signed ℕ)) → clause_number clauses n ≡ Some c → n < length t.watching.pairs
   pub loose : (n : ℕ) (c : List (Signed ℕ)) → clause_number clauses n ≡ Some c → pair_at t.watching.pairs n ≡ None → Contains t.watching.loose n
   pub there : (n : ℕ) → Contains t.watching.loose n → clause_number clauses n ≢ None

@@ -1,5 +1,5 @@
 -- Clauses that watch nothing.
-use Rattle.std.specs.Prelude.{◌≡◌, ◌≢◌, ℕ, ◌<◌, ◌≤◌, List, [], ◌∷◌, ◌++◌, length, take, Option, Some, None, All, Contains, slice_set}
+use Rattle.std.specs.Prelude.{Bool, ◌≡◌, ◌≢◌, ℕ, ◌<◌, ◌≤◌, List, [], ◌∷◌, ◌++◌, length, take, Option, Some, None, All, Contains, slice_set}
 use Rattle.inst_logic.specs.declared.signed.Signed.{Signed}
 use Rattle.cdcl_trail.specs.Clauses.{clause_number}
 use Rattle.cdcl_trail.specs.Propagation.{IsConflict}
@@ -18,8 +18,8 @@ abbrev pub add_to : List (List Watch) → Signed ℕ → Watch → List (List Wa
 add_to lists l w = slice_set lists (slot_of l) (list_at lists (slot_of l) ++ w ∷ [])
 
 -- the lists after a clause began to watch a pair
-abbrev pub with_pair : List (List Watch) → ℕ → Pair → List (List Watch)
-with_pair lists n p = add_to (add_to lists p.first (record { number = n; blocker = p.second })) p.second (record { number = n; blocker = p.first })
+abbrev pub with_pair : List (List Watch) → ℕ → Pair → Bool → List (List Watch)
+with_pair lists n p b = add_to (add_to lists p.first (record { number = n; blocker = p.second; binary = b })) p.second (record { number = n; blocker = p.first; binary = b })
 
 -- what a look at clause n says
 abbrev pub IsLookedAt : List (Option (List (Signed ℕ))) → ℕ → List Entry → List (Option Pair) → Look → Type 0

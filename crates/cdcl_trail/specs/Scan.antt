@@ -1,9 +1,14 @@
 -- What a scan of a clause says.
-use Rattle.std.specs.Prelude.{◌≡◌, ◌≢◌, ℕ, ◌⊎◌, List, Option, Some, Contains}
+use Rattle.std.specs.Prelude.{◌≡◌, ◌≢◌, ℕ, ◌⊎◌, List, Option, Some, Contains, slice_get}
 use Rattle.inst_logic.specs.declared.signed.Signed.{Signed}
 use Rattle.cdcl_trail.specs.declared.entry.Entry.{Entry}
 use Rattle.cdcl_trail.specs.Clauses.{clause_number}
+use Rattle.cdcl_trail.specs.Propagation.{IsFalseIn}
 use Rattle.cdcl_trail.specs.Trail.{IsUnset, literals_of}
+
+-- at this place of the clause is a literal that is not false, and not this one
+abbrev pub IsOpenAt : List Entry → List (Signed ℕ) → Signed ℕ → ℕ → Type 0
+IsOpenAt entries clause other place = (l : Signed ℕ) × (slice_get clause place ≡ Some l) × (l ≢ other) × (¬ IsFalseIn entries l)
 
 -- a literal of the clause is true
 abbrev pub HasTrue : List Entry → List (Signed ℕ) → Type 0

@@ -1,5 +1,5 @@
 -- Watch lists by the slots of their literals, and the pairs that clauses watch.
-use Rattle.std.specs.Prelude.{◌≡◌, ◌≢◌, ℕ, ◌+◌, ◌==◌, Bool, ◌||◌, ◌⊎◌, ◌<◌, length, List, [], cond, Option, Some, None, Contains, slice_get}
+use Rattle.std.specs.Prelude.{◌≡◌, ◌≢◌, ℕ, ◌+◌, ◌==◌, Bool, true, ◌||◌, ◌⊎◌, ◌<◌, length, List, [], cond, Option, Some, None, All, Contains, slice_get}
 use Rattle.std.specs.List.{slice_index_or, count_by}
 use Rattle.inst_logic.specs.declared.signed.Signed.{Signed}
 use Rattle.cdcl_trail.specs.Clauses.{clause_number}
@@ -41,9 +41,14 @@ pub record IsPairOf (clauses : List (Option (List (Signed ℕ)))) (n : ℕ) (p :
   pub second : Contains clause p.second
   pub apart : slot_of p.first ≢ slot_of p.second
 
--- each clause that watches stands once in the lists of its two literals and in no other, and its blockers are literals of it
+-- the blocker is a literal of the clause; one that is said to be binary has no others but it and the literal of the list
+pub record IsBlocker (c : List (Signed ℕ)) (k : ℕ) (w : Watch) : Type 0 where
+  pub here : Contains c w.blocker
+  pub only : w.binary ≡ true → All (λ m. (slot_of m ≡ k) ⊎ (m ≡ w.blocker)) c
+
+-- each clause that watches stands once in the lists of its two literals and in no other, with blockers that are literals of it
 pub record AreWatched (clauses : List (Option (List (Signed ℕ)))) (lists : List (List Watch)) (pairs : List (Option Pair)) : Type 0 where
-  pub blockers : (k : ℕ) (w : Watch) (c : List (Signed ℕ)) → Contains (list_at lists k) w → clause_number clauses w.number ≡ Some c → Contains c w.blocker
+  pub blockers : (k : ℕ) (w : Watch) (c : List (Signed ℕ)) → Contains (list_at lists k) w → clause_number clauses w.number ≡ Some c → IsBlocker c k w
   pub counted : (k n : ℕ) → times n (list_at lists k) ≡ due (pair_at pairs n) k
   pub of_clauses : (n : ℕ) (p : Pair) → pair_at pairs n ≡ Some p → IsPairOf clauses n p
 

@@ -3,8 +3,6 @@
 ghost use Rattle.std.specs.Prelude.{◌≡◌, ◌≢◌, [], None, IfOk, OnErr, option_copied};
 ghost use Rattle.cdcl_trail.specs.Clauses.{clause_number, AddsClause, RemovesClause};
 
-use crate::stored::Stored;
-use compact_lists::PackedLit;
 use inst_logic::Memory;
 use prop_logic::{Lit, LitList};
 use slab::Slab;
@@ -15,7 +13,7 @@ use std::marker::Model;
 #[derive(Drop)]
 pub struct Clauses {
     alloc: Global,
-    clauses: Slab<Stored>,
+    clauses: Slab<LitList>,
 }
 
 impl Model for Clauses {
@@ -41,7 +39,7 @@ impl Clauses {
     }
 
     /// Adds a copy of the clause, and answers its number, which is 1 for the first. A refused call leaves the clauses as they
-    /// were; a clause with an atom that is not below 2^31 is refused. The clause is attached to no trail by it.
+    /// were. The clause is attached to no trail by it.
     pub fn add(&mut self, c: &[Lit]) -> Result<usize, Memory>
         ensures number { IfOk result (AddsClause self.old self.new c.now) }
         ensures err { OnErr result (self.new ≡ self.old) }
@@ -50,7 +48,7 @@ impl Clauses {
         if key == usize::MAX {
             return Err(Memory);
         }
-        let copy = Stored::of(self.alloc, c)?;
+        let copy = LitList::from(Vec::from_slice(self.alloc, c)?);
         self.clauses.insert(copy)?;
         Ok(key + 1)
     }
@@ -62,22 +60,16 @@ impl Clauses {
         if n == 0 {
             return None;
         }
-        match self.clauses.get(n - 1) {
-            None => None,
-            Some(stored) => Some(stored.clause()),
-        }
+        self.clauses.get(n - 1)
     }
 
-    // The literals of the clause of this number, packed.
-    pub(crate) fn packed(&self, n: usize) -> Option<&[PackedLit]>
+    // The literals of the clause of this number.
+    pub(crate) fn literals(&self, n: usize) -> Option<&[Lit]>
         ensures { option_copied result ≡ clause_number self.now n }
     {
-        if n == 0 {
-            return None;
-        }
-        match self.clauses.get(n - 1) {
+        match self.get(n) {
             None => None,
-            Some(stored) => Some(stored.packed()),
+            Some(clause) => Some(clause.as_slice()),
         }
     }
 

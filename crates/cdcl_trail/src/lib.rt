@@ -2,6 +2,7 @@
 //! (Marques-Silva and Sakallah, GRASP, 1999; Eén and Sörensson, An extensible SAT-solver, 2003).
 #![tactic(auto)]
 
+mod arena;
 pub mod clauses;
 mod detach;
 pub mod entry;
@@ -12,7 +13,6 @@ mod packed_pair;
 mod packed_watch;
 mod propagation;
 mod scan;
-mod stored;
 pub mod trail;
 mod values;
 mod visit;

@@ -44,14 +44,14 @@ pub(crate) fn watch_at(lists: &[WatchList], l: Lit, place: usize) -> Watch
     requires slot { slot_of l < length lists.now }
     requires place { place < length (list_at lists.now (slot_of l)) }
     ensures watch { slice_get (list_at lists.now (slot_of l)) place ≡ Some result }
-    ensures number { result.number < 2 ^ 32 }
+    ensures number { result.number < 2 ^ 31 }
 {
     lists[slot(l)].at(place)
 }
 
 pub(crate) fn add_watch(lists: &mut [WatchList], l: Lit, watch: Watch) -> Result<(), Memory>
     requires slot { slot_of l < length lists.old }
-    requires number { watch.number < 2 ^ 32 }
+    requires number { watch.number < 2 ^ 31 }
     requires blocker { slot_of watch.blocker < 2 ^ 32 }
     ensures added { OnOk result (lists.new ≡ slice_set lists.old (slot_of l) (list_at lists.old (slot_of l) ++ watch ∷ [])) }
     ensures size { length lists.new ≡ length lists.old }
@@ -71,7 +71,7 @@ pub(crate) fn drop_watch(lists: &mut [WatchList], l: Lit, place: usize) -> Watch
 pub(crate) fn put_watch(lists: &mut [WatchList], l: Lit, place: usize, watch: Watch)
     requires slot { slot_of l < length lists.old }
     requires place { place < length (list_at lists.old (slot_of l)) }
-    requires number { watch.number < 2 ^ 32 }
+    requires number { watch.number < 2 ^ 31 }
     requires blocker { slot_of watch.blocker < 2 ^ 32 }
     ensures { lists.new ≡ slice_set lists.old (slot_of l) (slice_set (list_at lists.old (slot_of l)) place watch) }
 {

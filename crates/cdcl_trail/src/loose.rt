@@ -8,8 +8,10 @@ ghost use Rattle.cdcl_trail.specs.Values.{AreValues, entries_of};
 ghost use Rattle.cdcl_trail.specs.Watch.{slot_of, list_at, pair_at};
 ghost use Rattle.cdcl_trail.specs.Watching.{IsTrueAt};
 ghost use Rattle.cdcl_trail.specs.Running.{at_level, IsRunning, Runs};
+ghost use Rattle.cdcl_trail.specs.Arena.{AreCopies};
 ghost use Rattle.cdcl_trail.specs.Loose.{IsLookedAt, AreLoose, with_pair};
 
+use crate::arena::Arena;
 use crate::clauses::Clauses;
 use crate::entry::Entry;
 use crate::lists::add_watch;
@@ -33,30 +35,33 @@ pub(crate) enum Look {
     False(usize),
 }
 
-// The clause of this number watches the pair.
+// The clause of this number watches the pair, which is all that it has where it is binary.
 fn watch_pair(
     lists: &mut [WatchList],
     pairs: &mut [PackedPair],
     number: usize,
     pair: Pair,
+    binary: bool,
 ) -> Result<(), Memory>
     requires first { slot_of pair.first < length lists.old }
     requires second { slot_of pair.second < length lists.old }
     requires apart { slot_of pair.first ≢ slot_of pair.second }
     requires number { number < length pairs.old }
-    requires small_number { number < 2 ^ 32 }
+    requires small_number { number < 2 ^ 31 }
     requires small { length lists.old < 2 ^ 32 }
-    ensures lists { OnOk result (lists.new ≡ with_pair lists.old number pair) }
+    ensures lists { OnOk result (lists.new ≡ with_pair lists.old number pair binary) }
     ensures size { OnOk result (length lists.new ≡ length lists.old) }
     ensures pairs { OnOk result (pairs.new ≡ slice_set pairs.old number (Some pair)) }
 {
     let first = Watch {
         number,
         blocker: pair.second,
+        binary,
     };
     let second = Watch {
         number,
         blocker: pair.first,
+        binary,
     };
     add_watch(lists, pair.first, first)?;
     add_watch(lists, pair.second, second)?;
@@ -69,19 +74,21 @@ pub(crate) fn look_at(
     values: &mut Values,
     lists: &mut [WatchList],
     pairs: &mut [PackedPair],
+    arena: &mut Arena,
     clauses: &Clauses,
     level: usize,
     number: usize,
 ) -> Result<Look, Memory>
     requires running { IsRunning clauses.now level values.old lists.old pairs.old }
     requires room { (c : List (Signed ℕ)) → clause_number clauses.now number ≡ Some c → number < length pairs.old }
-    requires number { number < 2 ^ 32 }
+    requires copies { AreCopies clauses.now arena.old pairs.old }
     ensures running { OnOk result (IsRunning clauses.now level values.new lists.new pairs.new) }
     ensures runs { OnOk result (Runs clauses.now level values.old pairs.old values.new pairs.new) }
+    ensures copies { OnOk result (AreCopies clauses.now arena.new pairs.new) }
     ensures looked { IfOk result (IsLookedAt clauses.now number (entries_of values.new) pairs.new) }
     ensures err { OnErr result (values.new ≡ values.old) }
 {
-    let Some(clause) = clauses.packed(number) else {
+    let Some(clause) = clauses.literals(number) else {
         return Ok(Look::Taken);
     };
     if pair_of_clause(pairs, number).is_some() {
@@ -92,7 +99,9 @@ pub(crate) fn look_at(
     };
     match other_open(values, clause, first) {
         Some(second) => {
-            watch_pair(lists, pairs, number, Pair { first, second })?;
+            arena.keep(number, clause)?;
+            let binary = clause.len() == 2;
+            watch_pair(lists, pairs, number, Pair { first, second }, binary)?;
             Ok(Look::Taken)
         }
         None => {
@@ -113,6 +122,7 @@ pub(crate) fn settle_loose(
     values: &mut Values,
     lists: &mut [WatchList],
     pairs: &mut [PackedPair],
+    arena: &mut Arena,
     loose: &mut Vec<u32>,
     passed: &mut u32,
     clauses: &Clauses,
@@ -121,10 +131,12 @@ pub(crate) fn settle_loose(
     requires running { IsRunning clauses.now level values.old lists.old pairs.old }
     requires loose { AreLoose clauses.now (entries_of values.old) pairs.old loose.old.items passed.old }
     requires short { length loose.old.items < 2 ^ 32 }
+    requires copies { AreCopies clauses.now arena.old pairs.old }
     ensures running { OnOk result (IsRunning clauses.now level values.new lists.new pairs.new) }
     ensures runs { OnOk result (Runs clauses.now level values.old pairs.old values.new pairs.new) }
     ensures conflict { IfOk result (λ found. IfSome found (IsConflict clauses.now (entries_of values.new))) }
     ensures loose { OnOk result (AreLoose clauses.now (entries_of values.new) pairs.new loose.new.items passed.new) }
+    ensures copies { OnOk result (AreCopies clauses.now arena.new pairs.new) }
     ensures front { OnOk result (take passed.old loose.new.items ≡ take passed.old loose.old.items) }
     ensures short { length loose.new.items ≤ length loose.old.items }
     ensures on { OnOk result (passed.old ≤ passed.new) }
@@ -134,7 +146,7 @@ pub(crate) fn settle_loose(
 {
     while (*passed as usize) < loose.len() {
         let number = loose[*passed as usize] as usize;
-        match look_at(values, lists, pairs, clauses, level, number)? {
+        match look_at(values, lists, pairs, arena, clauses, level, number)? {
             Look::Passed => *passed += 1,
             Look::Taken => {
                 loose.swap_remove(*passed as usize);

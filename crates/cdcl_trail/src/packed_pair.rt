@@ -1,4 +1,6 @@
-// The pairs that clauses watch, packed: 8 bytes a clause. A literal is packed as the place of its watch list.
+// The pairs that clauses watch, packed: 12 bytes a clause. A literal is packed as the place of its watch list. Beside them stands
+// where the last look for an open literal of the clause ended: the next one goes on from there, and round (Gent, Optimal
+// Implementation of Watched Literals and More General Techniques, 2013).
 ghost use Rattle.std.specs.Prelude.{◌≡◌, ◌+◌, ◌<◌, ◌^◌, Some, None};
 ghost use Rattle.cdcl_trail.specs.Watch.{slot_of};
 
@@ -14,6 +16,7 @@ const NONE: u32 = 0xffff_ffff;
 pub struct PackedPair {
     first: u32,
     second: u32,
+    from: u32,
 }
 
 impl Model for PackedPair {
@@ -27,7 +30,15 @@ impl Model for PackedPair {
     ghost view = { λ p. pair_at_slots p.first p.second };
 }
 
-const _: () = prove!(size_of::<PackedPair>() == 8);
+const _: () = prove!(size_of::<PackedPair>() == 12);
+
+// The place, or 0 where it is none of a u32.
+fn low_place(place: usize) -> u32 {
+    match u32::try_from(place) {
+        Ok(place) => place,
+        Err(_) => 0,
+    }
+}
 
 impl PackedPair {
     pub(crate) fn none() -> PackedPair
@@ -36,6 +47,7 @@ impl PackedPair {
         PackedPair {
             first: NONE,
             second: NONE,
+            from: 0,
         }
     }
 
@@ -44,10 +56,26 @@ impl PackedPair {
         requires second { slot_of pair.second < 2 ^ 32 }
         ensures { result ≡ Some pair }
     {
+        PackedPair::with_place(pair, 0)
+    }
+
+    // The pair, with the place at which the last look ended.
+    pub(crate) fn with_place(pair: Pair, place: usize) -> PackedPair
+        requires first { slot_of pair.first + 1 < 2 ^ 32 }
+        requires second { slot_of pair.second < 2 ^ 32 }
+        ensures { result ≡ Some pair }
+    {
         PackedPair {
             first: slot(pair.first) as u32,
             second: slot(pair.second) as u32,
+            from: low_place(place),
         }
+    }
+
+    // The place at which the last look ended, or 0. Any place will do: it decides where the next look begins, and not what
+    // comes of it.
+    pub(crate) fn from(&self) -> usize {
+        self.from as usize
     }
 
     pub(crate) fn get(&self) -> Option<Pair>

@@ -5,8 +5,10 @@ ghost use Rattle.cdcl_trail.specs.Propagation.{IsConflict, IsStable, Propagates}
 ghost use Rattle.cdcl_trail.specs.Values.{AreValues, entries_of};
 ghost use Rattle.cdcl_trail.specs.Watching.{IsSettled};
 ghost use Rattle.cdcl_trail.specs.Running.{at_level, IsRunning, Runs};
+ghost use Rattle.cdcl_trail.specs.Arena.{AreCopies};
 ghost use Rattle.cdcl_trail.specs.Loose.{AreLoose};
 
+use crate::arena::Arena;
 use crate::clauses::Clauses;
 use crate::loose::settle_loose;
 use crate::packed_pair::PackedPair;
@@ -21,6 +23,7 @@ pub(crate) fn saturate(
     values: &mut Values,
     lists: &mut [WatchList],
     pairs: &mut [PackedPair],
+    arena: &mut Arena,
     loose: &mut Vec<u32>,
     head: &mut Head,
     clauses: &Clauses,
@@ -31,9 +34,11 @@ pub(crate) fn saturate(
     requires short { length loose.old.items < 2 ^ 32 }
     requires head { head.old.place ≤ length (entries_of values.old) }
     requires settled { IsSettled clauses.now pairs.old (entries_of values.old) head.old.place }
+    requires copies { AreCopies clauses.now arena.old pairs.old }
     ensures running { OnOk result (IsRunning clauses.now level values.new lists.new pairs.new) }
     ensures runs { OnOk result (Runs clauses.now level values.old pairs.old values.new pairs.new) }
     ensures loose { OnOk result (AreLoose clauses.now (entries_of values.new) pairs.new loose.new.items head.new.passed) }
+    ensures copies { OnOk result (AreCopies clauses.now arena.new pairs.new) }
     ensures front { OnOk result (take head.old.passed loose.new.items ≡ take head.old.passed loose.old.items) }
     ensures short { length loose.new.items ≤ length loose.old.items }
     ensures on { OnOk result (head.old.passed ≤ head.new.passed) }
@@ -48,6 +53,7 @@ pub(crate) fn saturate(
         values,
         lists,
         pairs,
+        arena,
         loose,
         &mut head.passed,
         clauses,
@@ -55,6 +61,6 @@ pub(crate) fn saturate(
     )? {
         return Ok(Some(number));
     }
-    let found = visit_trail(values, lists, pairs, clauses, level, &mut head.place)?;
+    let found = visit_trail(values, lists, pairs, arena, level, &mut head.place)?;
     Ok(found)
 }

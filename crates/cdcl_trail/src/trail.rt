@@ -11,10 +11,12 @@ ghost use Rattle.cdcl_trail.specs.Propagation.{Propagates, IsConflict, IsStable}
 ghost use Rattle.cdcl_trail.specs.Values.{AreValues, entries_of};
 ghost use Rattle.cdcl_trail.specs.Trail.{IsTrail, IsUnset, IsPlaceOf, value_of, level_of, reason_of, literals_of, with_atom, with_decision, with_implied, back_at};
 
+use crate::arena::Arena;
 use crate::clauses::Clauses;
 use crate::detach::{forget_loose, unpass_all, unwatch};
 use crate::entry::Entry;
 use crate::packed_pair::PackedPair;
+use crate::packed_watch::MOST_NUMBER;
 use crate::propagation::saturate;
 use crate::values::Values;
 use crate::watch::Head;
@@ -34,6 +36,7 @@ pub struct Trail {
     spent: bool,
     lists: Vec<WatchList>,
     pairs: Vec<PackedPair>,
+    arena: Arena,
     loose: Vec<u32>,
     head: Head,
     heads: Vec<Head>,
@@ -50,7 +53,7 @@ impl Model for Trail {
 
     ghost view = { λ t. record {
       trail = record { atoms = length t.values.entries.items; level = t.level; entries = entries_of t.values; spent = t.spent };
-      watching = record { lists = t.lists.items; pairs = t.pairs.items; loose = t.loose.items; head = t.head; heads = t.heads.items };
+      watching = record { lists = t.lists.items; pairs = t.pairs.items; copies = t.arena; loose = t.loose.items; head = t.head; heads = t.heads.items };
     } };
 
     ghost invariant = { λ t. AreValues t.values × IsTrail (record { atoms = length t.values.entries.items; level = t.level; entries = entries_of t.values; spent = t.spent }) × (length t.lists.items ≡ length t.values.entries.items + length t.values.entries.items) × (length t.heads.items ≡ t.level) × (length t.values.entries.items ≤ vec_capacity t.heads) × (length t.loose.items < 2 ^ 32) };
@@ -111,7 +114,7 @@ fn lengthen(pairs: &mut Vec<PackedPair>, n: usize) -> Result<(), Memory>
     Ok(())
 }
 
-// Ends the loose clauses with this one, where its number and how many they are fit into a u32.
+// Ends the loose clauses with this one, where a watch holds its number, and a u32 how many they are.
 fn add_loose(pairs: &mut Vec<PackedPair>, loose: &mut Vec<u32>, n: usize) -> Result<(), Memory>
     requires short { length loose.old.items < 2 ^ 32 }
     ensures short { length loose.new.items < 2 ^ 32 }
@@ -120,8 +123,7 @@ fn add_loose(pairs: &mut Vec<PackedPair>, loose: &mut Vec<u32>, n: usize) -> Res
     ensures size { length pairs.old.items ≤ length pairs.new.items }
     ensures loose { OnOk result (loose.new.items ≡ loose.old.items ++ n ∷ []) }
 {
-    let most = u32::MAX as usize;
-    if n > most || loose.len() == most {
+    if n > MOST_NUMBER || loose.len() == u32::MAX as usize {
         return Err(Memory);
     }
     lengthen(pairs, n)?;
@@ -142,6 +144,7 @@ impl Trail {
             spent: false,
             lists: Vec::new(alloc),
             pairs: Vec::new(alloc),
+            arena: Arena::new(alloc),
             loose: Vec::new(alloc),
             head: Head {
                 place: 0,
@@ -283,8 +286,8 @@ impl Trail {
     }
 
     /// Attaches the clause of this number: `propagate` looks at it from now on. It watches nothing before that first look, so
-    /// it may have any literals, true and false ones among them. There is room for numbers below 2^32, and for 2^32 - 1
-    /// clauses that watch nothing. After want of memory the values are those from before, nothing is promised of the attached
+    /// it may have any literals, true and false ones among them. There is room for numbers below 2^31, for 2^32 - 1 clauses
+    /// that watch nothing, and for 2^32 - 1 literals of those that watch, which `propagate` copies when they begin to. After want of memory the values are those from before, nothing is promised of the attached
     /// clauses, and every later call that can want memory wants it.
     pub fn attach(&mut self, clauses: &Clauses, n: usize) -> Result<(), Memory>
         ensures trail { OnOk result ((self.old.trail.spent ≡ false) × (self.new.trail ≡ self.old.trail)) }
@@ -312,6 +315,7 @@ impl Trail {
     {
         let atoms = self.values.atoms();
         unwatch(&mut self.lists, &mut self.pairs, atoms, n);
+        self.arena.remove(n);
         forget_loose(&mut self.loose, n);
         unpass_all(&mut self.heads);
         self.head.passed = 0;
@@ -341,6 +345,7 @@ impl Trail {
             &mut self.values,
             &mut self.lists,
             &mut self.pairs,
+            &mut self.arena,
             &mut self.loose,
             &mut self.head,
             clauses,

@@ -7,7 +7,7 @@ ghost use Rattle.cdcl_trail.specs.Watch.{slot_of};
 ghost use Rattle.cdcl_trail.specs.Watching.{IsTrueAt};
 ghost use Rattle.cdcl_trail.specs.Running.{at_level, numbers_at, IsRunning, Runs};
 
-use crate::clauses::Clauses;
+use crate::arena::Arena;
 use crate::lists::count_at;
 use crate::packed_pair::PackedPair;
 use crate::values::Values;
@@ -21,7 +21,7 @@ pub(crate) fn visit_list(
     values: &mut Values,
     lists: &mut [WatchList],
     pairs: &mut [PackedPair],
-    clauses: &Clauses,
+    clauses: &Arena,
     level: usize,
     l: Lit,
 ) -> Result<Option<usize>, Memory>

@@ -6,7 +6,7 @@ ghost use Rattle.cdcl_trail.specs.Values.{AreValues, entries_of};
 ghost use Rattle.cdcl_trail.specs.Watching.{IsSettled};
 ghost use Rattle.cdcl_trail.specs.Running.{at_level, IsRunning, Runs};
 
-use crate::clauses::Clauses;
+use crate::arena::Arena;
 use crate::packed_pair::PackedPair;
 use crate::values::Values;
 use crate::visit_list::visit_list;
@@ -20,7 +20,7 @@ pub(crate) fn visit_trail(
     values: &mut Values,
     lists: &mut [WatchList],
     pairs: &mut [PackedPair],
-    clauses: &Clauses,
+    clauses: &Arena,
     level: usize,
     head: &mut u32,
 ) -> Result<Option<usize>, Memory>

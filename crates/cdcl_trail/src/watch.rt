@@ -3,11 +3,13 @@
 use prop_logic::Lit;
 
 /// A clause that watches the literal of its list, and another literal of it: where that one is true, the clause need not be
-/// looked at.
+/// looked at. Nor need it be read at all where it is known to have two literals, which are then these (Chu, Harwood and
+/// Stuckey, Cache Conscious Data Structures for Boolean Satisfiability Solvers, 2009).
 #[derive(Clone, Copy, Debug, PartialEq, Eq)]
 pub struct Watch {
     pub number: usize,
     pub blocker: Lit,
+    pub binary: bool,
 }
 
 /// The two literals that a clause watches.

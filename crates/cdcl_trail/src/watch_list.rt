@@ -5,15 +5,15 @@ ghost use Rattle.cdcl_trail.specs.Watch.{slot_of};
 
 use crate::packed_watch::PackedWatch;
 use crate::watch::Watch;
-use compact_lists::ShortList;
 use inst_logic::Memory;
 use std::alloc::Global;
 use std::marker::Model;
 
-// The clauses that watch a literal, in no order: most often one or none.
+// The clauses that watch a literal, in no order. It is a plain vector, as in MiniSat: a list that keeps one watch in place and
+// more behind a pointer takes one read of memory more for each list that has more.
 #[derive(Drop)]
 pub struct WatchList {
-    items: ShortList<PackedWatch>,
+    items: Vec<PackedWatch>,
 }
 
 impl Model for WatchList {
@@ -22,7 +22,7 @@ impl Model for WatchList {
 
     ghost Value = { List Watch };
 
-    ghost view = { λ l. l.items };
+    ghost view = { λ l. l.items.items };
 }
 
 impl WatchList {
@@ -30,7 +30,7 @@ impl WatchList {
         ensures { result ≡ [] }
     {
         WatchList {
-            items: ShortList::new(alloc),
+            items: Vec::new(alloc),
         }
     }
 
@@ -43,17 +43,18 @@ impl WatchList {
     pub(crate) fn at(&self, place: usize) -> Watch
         requires { place < length self.now }
         ensures watch { slice_get self.now place ≡ Some result }
-        ensures number { result.number < 2 ^ 32 }
+        ensures number { result.number < 2 ^ 31 }
     {
-        self.items.at(place).get()
+        self.items[place].get()
     }
 
     pub(crate) fn push(&mut self, watch: Watch) -> Result<(), Memory>
-        requires number { watch.number < 2 ^ 32 }
+        requires number { watch.number < 2 ^ 31 }
         requires blocker { slot_of watch.blocker < 2 ^ 32 }
         ensures { OnOk result (self.new ≡ self.old ++ watch ∷ []) }
     {
-        self.items.push(PackedWatch::of(watch))
+        self.items.push(PackedWatch::of(watch))?;
+        Ok(())
     }
 
     // Takes the watch away, and puts the last one in its place.
@@ -67,10 +68,10 @@ impl WatchList {
 
     pub(crate) fn put(&mut self, place: usize, watch: Watch)
         requires place { place < length self.old }
-        requires number { watch.number < 2 ^ 32 }
+        requires number { watch.number < 2 ^ 31 }
         requires blocker { slot_of watch.blocker < 2 ^ 32 }
         ensures { self.new ≡ slice_set self.old place watch }
     {
-        self.items.put(place, PackedWatch::of(watch));
+        self.items[place] = PackedWatch::of(watch);
     }
 }

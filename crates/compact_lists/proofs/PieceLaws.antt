@@ -1,7 +1,7 @@
 -- Pieces of a list.
-use Rattle.std.proofs.Common.{◌≡◌, ◌≤◌, ◌<◌, ◌+◌, ◌-◌, ℕ, zero, suc, List, [], ◌∷◌, ◌++◌, length, drop, get_or, refl, ap, arith, Some}
+use Rattle.std.proofs.Common.{◌≡◌, ◌≤◌, ◌<◌, ◌+◌, ◌-◌, ◌∙◌, ℕ, zero, suc, List, [], ◌∷◌, ◌++◌, length, drop, take, get_or, refl, sym, ap, subst, arith, Some}
 use Rattle.std.specs.Prelude.{slice_range, slice_get}
-use Rattle.std.proofs.lemmas.List.{length-append, drop-append-le, take-append-le, length-drop}
+use Rattle.std.proofs.lemmas.List.{length-append, drop-append-le, take-append-le, take-append-drop, length-take-le, length-drop}
 use Rattle.std.proofs.Math.Seq.{drop-append_seam, take-length}
 use Rattle.compact_lists.specs.Pieces.{AreEnds, start_at, cuts}
 
@@ -54,3 +54,40 @@ ends_after xs c ys ends es m e y s a = rw (s, y, length-append xs c, ← e) (end
 
 pub cuts_after : {X : Type 0} (xs c ys : List X) (ends es : List ℕ) (m : ℕ) → m ≡ length xs + length c → ys ≡ xs ++ c → es ≡ ends ++ m ∷ [] → AreEnds 0 ends (length xs) → cuts ys 0 es ≡ cuts xs 0 ends ++ c ∷ []
 cuts_after xs c ys ends es m e y s a = rw (s, y) (cuts_more xs c 0 ends m e a)
+
+-- the first pieces alone
+ends_kept : (from : ℕ) (ends : List ℕ) (n count : ℕ) → count ≤ length ends → AreEnds from ends n → AreEnds from (take count ends) (start_at from ends count)
+ends_kept from ends n zero h a = refl
+ends_kept from [] n (suc count) h a = absurd (omega arith)
+ends_kept from (end ∷ ends) n (suc zero) h a = (a.0, refl)
+ends_kept from (end ∷ ends) n (suc (suc count)) h a = (a.0, ends_kept end ends n (suc count) (omega arith) a.1)
+
+start_within : (from : ℕ) (ends : List ℕ) (n count : ℕ) → count ≤ length ends → AreEnds from ends n → start_at from ends count ≤ n
+start_within from ends n zero h a = from_within from ends n a
+start_within from ends n (suc count) h a = end_within from ends n count a (omega arith)
+
+take_cuts : {X : Type 0} (xs : List X) (from : ℕ) (ends : List ℕ) (count : ℕ) → cuts xs from (take count ends) ≡ take count (cuts xs from ends)
+take_cuts xs from ends zero = refl
+take_cuts xs from [] (suc count) = refl
+take_cuts xs from (end ∷ ends) (suc count) = ap (λ p. slice_range xs from end ∷ p) (take_cuts xs end ends count)
+
+cuts_within : {X : Type 0} (xs c : List X) (from : ℕ) (ends : List ℕ) → AreEnds from ends (length xs) → cuts (xs ++ c) from ends ≡ cuts xs from ends
+cuts_within xs c from [] a = refl
+cuts_within xs c from (end ∷ ends) a = rw (other_cut xs c from end a.0 (from_within end ends (length xs) a.1), cuts_within xs c end ends a.1)
+
+kept_ends : {X : Type 0} (xs : List X) (ends : List ℕ) (count : ℕ) → count ≤ length ends → AreEnds 0 ends (length xs) → AreEnds 0 (take count ends) (length (take (start_at 0 ends count) xs))
+kept_ends xs ends count h a =
+    let end = start_at 0 ends count in
+    let size : length (take end xs) ≡ end = length-take-le end xs (start_within 0 ends (length xs) count h a) in
+    subst (AreEnds 0 (take count ends)) (sym size) (ends_kept 0 ends (length xs) count h a)
+
+kept_cuts : {X : Type 0} (xs : List X) (ends : List ℕ) (count : ℕ) → count ≤ length ends → AreEnds 0 ends (length xs) → cuts (take (start_at 0 ends count) xs) 0 (take count ends) ≡ take count (cuts xs 0 ends)
+kept_cuts xs ends count h a =
+    let end = start_at 0 ends count in
+    sym (cuts_within (take end xs) (drop end xs) 0 (take count ends) (kept_ends xs ends count h a)) ∙ ap (λ ys. cuts ys 0 (take count ends)) (take-append-drop end xs) ∙ take_cuts xs 0 ends count
+
+pub ends_after_cut : {X : Type 0} (xs ys : List X) (ends es : List ℕ) (end count : ℕ) → count ≤ length ends → end ≡ start_at 0 ends count → ys ≡ take end xs → es ≡ take count ends → AreEnds 0 ends (length xs) → AreEnds 0 es (length ys)
+ends_after_cut xs ys ends es end count h at y s a = rw (s, y, at) (kept_ends xs ends count h a)
+
+pub cuts_after_cut : {X : Type 0} (xs ys : List X) (ends es : List ℕ) (end count : ℕ) → count ≤ length ends → end ≡ start_at 0 ends count → ys ≡ take end xs → es ≡ take count ends → AreEnds 0 ends (length xs) → cuts ys 0 es ≡ take count (cuts xs 0 ends)
+cuts_after_cut xs ys ends es end count h at y s a = rw (s, y, at) (kept_cuts xs ends count h a)

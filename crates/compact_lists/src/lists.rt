@@ -1,7 +1,7 @@
 // Lists in one flat list.
-ghost use Rattle.std.specs.Prelude.{◌≡◌, ◌↔◌, ◌++◌, ◌∷◌, [], length, slice_get, option_copied, IsTrue, OnOk, OnErr};
+ghost use Rattle.std.specs.Prelude.{◌≡◌, ◌↔◌, ◌++◌, ◌∷◌, [], length, take, slice_get, option_copied, IsTrue, OnOk, OnErr};
 
-use crate::pieces::{piece, push_piece};
+use crate::pieces::{keep_pieces, piece, push_piece};
 use inst_logic::Memory;
 use std::alloc::Global;
 use std::marker::Model;
@@ -65,6 +65,13 @@ impl<T: Copy + Drop> FlatLists<T> {
     {
         push_piece(&mut self.items, &mut self.ends, list)
     }
+
+    /// Keeps the first `count` lists, or all where there are no more.
+    pub fn truncate(&mut self, count: usize)
+        ensures { self.new ≡ take count self.old }
+    {
+        keep_pieces(&mut self.items, &mut self.ends, count);
+    }
 }
 
 #[cfg(test)]
@@ -80,6 +87,10 @@ mod tests {
         assert!(rt; lists.get(0) == Some(&[3, 5][..]));
         assert!(rt; lists.get(1) == Some(&[7][..]));
         assert!(rt; lists.get(2).is_none());
+        lists.truncate(1);
+        lists.push(&[9])?;
+        assert!(rt; lists.get(0) == Some(&[3, 5][..]));
+        assert!(rt; lists.get(1) == Some(&[9][..]));
         Ok(())
     }
 }

@@ -1,5 +1,5 @@
 // A list that is cut into pieces, each of which ends where the next begins.
-ghost use Rattle.std.specs.Prelude.{◌≡◌, ◌++◌, ◌∷◌, [], ◌+◌, ◌<◌, ◌≤◌, length, slice_get, option_copied, vec_len, vec_capacity, IfOk, OnOk, OnErr};
+ghost use Rattle.std.specs.Prelude.{◌≡◌, ◌++◌, ◌∷◌, [], ◌+◌, ◌<◌, ◌≤◌, length, take, slice_get, option_copied, vec_len, vec_capacity, IfOk, OnOk, OnErr};
 ghost use Rattle.compact_lists.specs.Pieces.{AreEnds, start_at, cuts};
 
 use inst_logic::Memory;
@@ -71,4 +71,18 @@ pub(crate) fn push_piece<T: Copy + Drop>(
     items.extend_from_slice(piece)?;
     ends.push_reserved(end);
     Ok(())
+}
+
+// The first `count` pieces alone, or all where there are no more.
+pub(crate) fn keep_pieces<T: Drop>(items: &mut Vec<T>, ends: &mut Vec<u32>, count: usize)
+    requires { AreEnds 0 ends.old.items (length items.old.items) }
+    ensures ends { AreEnds 0 ends.new.items (length items.new.items) }
+    ensures kept { cuts items.new.items 0 ends.new.items ≡ take count (cuts items.old.items 0 ends.old.items) }
+{
+    if ends.len() <= count {
+        return;
+    }
+    let end = start_of(ends.as_slice(), count);
+    items.truncate(end);
+    ends.truncate(count);
 }

@@ -1,12 +1,14 @@
-use Rattle.std.proofs.Common.{◌≡◌, ◌<◌, ◌++◌, [], ◌∷◌, length, get_or, refl, sym, ◌∙◌, subst, arith}
+use Rattle.std.proofs.Common.{◌≡◌, ◌<◌, ◌++◌, [], ◌∷◌, Some, length, get_or, refl, sym, ◌∙◌, subst, arith}
+use Rattle.std.specs.Prelude.{slice_get}
 use Rattle.std.proofs.lemmas.List.{length_push}
+use Rattle.std.proofs.lemmas.Option.{slice_get-get_or}
 use Rattle.std.proofs.lemmas.List.Elements.{All-get_or}
 use Rattle.cdcl_core.specs.Cut.{AreNeeded, AreNumbers, IsCopy}
 use Rattle.cdcl_core.proofs.CutLaws.{keeps_more, keeps_all}
 use Rattle.cdcl_core.proofs.cut.cut.Goals as goal
 
-pub step_at-step-requires : goal.step_at-step-requires
-step_at-step-requires c =
+pub copy-requires : goal.copy-requires
+copy-requires c =
     let steps = c.args.steps.now in
     let all = steps ++ c.args.last.now ∷ [] in
     let places = c.as_slice-place-items.result.now in
@@ -19,13 +21,16 @@ loop-place-preserved c =
     let all = c.args.steps.now ++ c.args.last.now ∷ [] in
     let places = c.as_slice-place-items.result.now in
     let i = c.loop-place.place-index in
-    let s = c.step_at-step.result.now in
     let needed = subst (AreNeeded all) (sym c.as_slice-place-items.ensures.value) c.in_ok-places.ensures in
+    let low = All-get_or (λ k. k < length all) places i 0 c.loop-place-test.true needed.within in
+    let p = get_or places i 0 in
+    let s = get_or all p c.args.last.now in
+    let at : slice_get all p ≡ Some s = slice_get-get_or all p c.args.last.now low in
     let numbers = c.in_ok-numbers.numbers.items in
     let numbered = subst (λ ps. AreNumbers ps numbers) (c.deref.ensures.value ∙ sym c.as_slice-place-items.ensures.value) c.in_ok-numbers.ensures in
-    let copy = subst (λ ns. IsCopy ns s c.in_ok-copy.field-0) c.deref-in-loop-place.ensures.value c.in_ok-copy.ensures in
-    keeps_more all places numbers i (get_or places i 0) s c.in_ok-copy.field-0 c.loop-place.kept c.push.new.self needed numbered c.loop-place-test.true refl
-    c.step_at-step.ensures copy c.in_ok-push.ensures.ok c.loop-place.invariant
+    let copy = subst (λ ns. IsCopy ns s c.in_ok-copy.field-0) c.deref-in-loop-place.ensures.value (c.in_ok-copy.ensures s at) in
+    keeps_more all places numbers i p s c.in_ok-copy.field-0 c.loop-place.kept c.push.new.self needed numbered c.loop-place-test.true refl
+    at copy c.in_ok-push.ensures.ok c.loop-place.invariant
 
 pub returns : goal.returns
 returns c =

@@ -1,9 +1,7 @@
-use Rattle.std.proofs.Common.{take, subst}
+use Rattle.std.proofs.Common.{take, ◌∙◌, subst}
 use Rattle.std.specs.Prelude.{All}
 use Rattle.std.proofs.lemmas.List.{take_all}
 use Rattle.std.proofs.lemmas.List.Elements.{All-more}
-use Rattle.prop_logic.specs.declared.literal.Hint.{Hint}
-use Rattle.prop_logic.specs.declared.literal.Hint.TheVariants.{Added}
 use Rattle.cdcl_core.specs.Cut.{CitesOnly, IsMarked}
 use Rattle.cdcl_core.proofs.NeedLaws.{all_cite_weaker}
 use Rattle.cdcl_core.proofs.cut.mark_all.Goals as goal
@@ -15,9 +13,9 @@ loop-hint-preserved c =
     let New = IsMarked c.mark_cited.new.needed in
     let limit = c.args.limit in
     let i = c.loop-hint.hint-index in
-    let d : Hint = Added 0 in
+    let d = c.hint-item.result in
     record {
-      cited = All-more (CitesOnly New limit) c.args.hints.now i d c.loop-hint-test.true (all_cite_weaker Old New limit (take i c.args.hints.now) f.kept c.loop-hint.invariant.cited) f.cited;
+      cited = All-more (CitesOnly New limit) c.args.hints.now i d c.loop-hint-test.true (all_cite_weaker Old New limit (take i c.args.hints.now) f.kept c.loop-hint.invariant.cited) (subst (CitesOnly New limit) (c.hint.ensures ∙ c.hint-item.is) f.cited);
       kept = λ k m. f.kept k (c.loop-hint.invariant.kept k m);
       above = λ k past m. c.loop-hint.invariant.above k past (f.above k past m);
     }

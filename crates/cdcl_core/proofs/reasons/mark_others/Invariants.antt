@@ -1,5 +1,5 @@
 use Rattle.std.proofs.Common.{◌≡◌, length}
 use Rattle.cdcl_core.proofs.reasons.mark_others.Given as goal
 
-abbrev pub invariant-loop-i : goal.invariant-loop-i
-invariant-loop-i l = length l.marks ≡ length l.initial.marks
+abbrev pub invariant-loop-packed : goal.invariant-loop-packed
+invariant-loop-packed l = length l.marks ≡ length l.initial.marks

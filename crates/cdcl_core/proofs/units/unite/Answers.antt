@@ -22,7 +22,8 @@ push_unit-requires c =
     let f = entry_at t.entries c.args.place (record { positive = false; atom = 0 }) (omega (arith, c.if-assigned-place.false, ap length c.assigned.ensures.literals, length-map t.entries (λ e. e.lit))) in
     let shown : ClosesAll (f.0.lit ∷ []) (map (cited log.added log.steps) c.in-Some-2.hints.items) =
     subst (λ o. IfSome o (λ hints. (e : Entry) → slice_get t.entries c.args.place ≡ Some e → ClosesAll (e.lit ∷ []) (map (cited log.added log.steps) hints.items))) c.in-Some-2.is c.in_ok-unit_hints-in-Some.ensures f.0 f.1 in
-    subst (λ l. ClosesAll (l ∷ []) (map (cited log.added log.steps) c.in-Some-2.hints.items)) (sym (c.literal_at-lit.ensures.literal f.0 f.1)) shown
+    subst (λ hs. ClosesAll (c.literal_at-lit.result ∷ []) (map (cited log.added log.steps) hs)) (sym c.as_slice.ensures.value)
+    (subst (λ l. ClosesAll (l ∷ []) (map (cited log.added log.steps) c.in-Some-2.hints.items)) (sym (c.literal_at-lit.ensures.literal f.0 f.1)) shown)
 
 pub returns-in-Some-2-clause-more : goal.returns-in-Some-2-clause-more
 returns-in-Some-2-clause-more c =

@@ -1,6 +1,8 @@
-use Rattle.std.proofs.Common.{◌≡◌, ◌<◌, ◌⊎◌, length, set, Some, None, sym, ap, ◌∙◌, subst, false, arith}
+use Rattle.std.proofs.Common.{◌≡◌, ◌≢◌, true, ◌<◌, ◌⊎◌, length, set, Some, None, sym, ap, ◌∙◌, subst, false, arith}
 use Rattle.std.proofs.lemmas.Option.{none-some, same_Some}
-use Rattle.std.specs.Prelude.{All, Contains}
+use Rattle.std.specs.Prelude.{All, Contains, ◌==◌}
+use Rattle.std.proofs.lemmas.Bool.{eqb-true}
+use Rattle.cdcl_trail.specs.Arena.{AreCopies}
 use Rattle.cdcl_trail.specs.Clauses.{clause_number}
 use Rattle.cdcl_trail.specs.Propagation.{IsFalseIn}
 use Rattle.cdcl_trail.specs.Running.{Runs}
@@ -10,7 +12,8 @@ use Rattle.cdcl_trail.specs.declared.watch.Pair.{Pair}
 use Rattle.cdcl_trail.proofs.ScanLaws.{decided_false}
 use Rattle.cdcl_trail.proofs.VisitLaws.{runs_none, neither, atom_below, lists_small, slot_below, slot_injective}
 use Rattle.cdcl_trail.proofs.WatchLaws.{pair_at_set}
-use Rattle.cdcl_trail.proofs.LooseLaws.{paired_watched, paired_runs, unit_running, unit_runs, last_true, none_at}
+use Rattle.cdcl_trail.proofs.CopyLaws.{copied}
+use Rattle.cdcl_trail.proofs.LooseLaws.{two_of, paired_watched, paired_runs, unit_running, unit_runs, last_true, none_at}
 use Rattle.cdcl_trail.proofs.ValuesLaws.{level_small}
 use Rattle.cdcl_trail.proofs.loose.look_at.Goals as goal
 
@@ -45,7 +48,10 @@ returns-in_ok-watch_pair-in-Some-other_open-clause-running c =
     let in_a = subst (λ m. slot_of a < m) (sym r.slots) (slot_below a atoms (atom_below clauses n atoms c.in-Some.clause.now a r.below at has_a)) in
     let in_b = subst (λ m. slot_of b < m) (sym r.slots) (slot_below b atoms (atom_below clauses n atoms c.in-Some.clause.now b r.below at has_b)) in
     let e = c.in_ok-watch_pair-in-Some-other_open.ensures in
-    let w = paired_watched clauses c.args.lists.now c.args.pairs.now n (record { first = a; second = b }) c.in-Some.clause.now r.watched none at has_a has_b (λ s. c.in-Some-other_open.ensures.some.1 (sym (slot_injective a b s))) in_a in_b room in
+    let apart : a ≢ b = λ s. c.in-Some-other_open.ensures.some.1 (sym s) in
+    let count = length c.in-Some.clause.now in
+    let two = λ (t : (count == 2) ≡ true). two_of c.in-Some.clause.now a b (eqb-true count 2 t) has_a has_b apart in
+    let w = paired_watched clauses c.args.lists.now c.args.pairs.now n (record { first = a; second = b }) (count == 2) c.in-Some.clause.now r.watched none at has_a has_b two (λ s. apart (slot_injective a b s)) in_a in_b room in
     record {
       values = r.values;
       trail = r.trail;
@@ -92,3 +98,11 @@ returns-then-not-is_true-clause-looked c d at =
 
 pub returns-else-not-is_true-clause-runs : goal.returns-else-not-is_true-clause-runs
 returns-else-not-is_true-clause-runs c = runs_none c.args.clauses.now c.args.level c.args.values.now c.args.pairs.now
+
+pub returns-in_ok-watch_pair-in-Some-other_open-clause-copies : goal.returns-in_ok-watch_pair-in-Some-other_open-clause-copies
+returns-in_ok-watch_pair-in-Some-other_open-clause-copies c =
+    let n = c.args.number in
+    let p : Pair = record { first = c.in-Some-first_open.first; second = c.in-Some-other_open.second } in
+    let kept = c.in_ok-keep-in-Some-other_open.ensures in
+    subst (AreCopies c.args.clauses.now c.keep.new.self) (sym c.in_ok-watch_pair-in-Some-other_open.ensures.pairs)
+    (copied c.args.clauses.now c.args.arena.now c.keep.new.self c.args.pairs.now n p c.in-Some.clause.now c.requires.copies (sym c.in-Some.ensures) kept.here kept.others)

@@ -13,7 +13,10 @@ use Rattle.cdcl_trail.proofs.LooseLaws.{loose_begins, loose_passed, loose_taken,
 use Rattle.cdcl_trail.proofs.loose.settle_loose.Goals as goal
 
 pub loop-passed-init : goal.loop-passed-init
-loop-passed-init c = loose_begins c.args.clauses.now c.args.level c.args.values.now c.args.lists.now c.args.pairs.now c.args.loose.now.items c.args.passed.now c.requires.running c.requires.loose
+loop-passed-init c = record {
+  run = loose_begins c.args.clauses.now c.args.level c.args.values.now c.args.lists.now c.args.pairs.now c.args.loose.now.items c.args.passed.now c.requires.running c.requires.loose;
+  copies = c.requires.copies;
+}
 
 pub loop-passed-preserved-in-Passed : goal.loop-passed-preserved-in-Passed
 loop-passed-preserved-in-Passed c =
@@ -23,8 +26,9 @@ loop-passed-preserved-in-Passed c =
     let here : slice_get l.loose.items l.passed ≡ Some n = slice_get-get_or l.loose.items l.passed n inside ∙ ap Some (sym c.index.ensures) in
     let e = c.in_ok-look_at.ensures in
     let true_now : IsTrueAt c.args.clauses.now (entries_of c.look_at.new.values) n = subst (IsLookedAt c.args.clauses.now n (entries_of c.look_at.new.values) c.look_at.new.pairs) c.in-Passed.is e.looked in
-    loose_passed c.args.clauses.now c.args.level c.args.values.now l.values c.look_at.new.values c.look_at.new.lists l.lists c.args.pairs.now l.pairs c.look_at.new.pairs c.args.loose.now.items l.loose.items c.args.passed.now l.passed n
-    l.invariant here e.running e.runs true_now
+    let run = loose_passed c.args.clauses.now c.args.level c.args.values.now l.values c.look_at.new.values c.look_at.new.lists l.lists c.args.pairs.now l.pairs c.look_at.new.pairs c.args.loose.now.items l.loose.items c.args.passed.now l.passed n
+    l.invariant.run here e.running e.runs true_now in
+    record { run = run; copies = e.copies }
 
 pub loop-passed-preserved : goal.loop-passed-preserved
 loop-passed-preserved c =
@@ -36,22 +40,23 @@ loop-passed-preserved c =
     let e = c.in_ok-look_at.ensures in
     let taken : (d : List (Signed ℕ)) → clause_number c.args.clauses.now n ≡ Some d → pair_at c.look_at.new.pairs n ≢ None =
     subst (IsLookedAt c.args.clauses.now n (entries_of c.look_at.new.values) c.look_at.new.pairs) c.in-Taken.is e.looked in
-    subst (λ ns. IsLooseRun c.args.clauses.now c.args.level c.args.values.now c.args.pairs.now c.args.loose.now.items c.args.passed.now c.look_at.new.values c.look_at.new.lists c.look_at.new.pairs ns l.passed)
+    let run = subst (λ ns. IsLooseRun c.args.clauses.now c.args.level c.args.values.now c.args.pairs.now c.args.loose.now.items c.args.passed.now c.look_at.new.values c.look_at.new.lists c.look_at.new.pairs ns l.passed)
     (sym (c.swap_remove.ensures.items ∙ ap (swap_remove l.loose.items l.passed) same))
     (loose_taken c.args.clauses.now c.args.level c.args.values.now l.values c.look_at.new.values c.look_at.new.lists l.lists c.args.pairs.now l.pairs c.look_at.new.pairs c.args.loose.now.items l.loose.items c.args.passed.now l.passed n
-    l.invariant here e.running e.runs taken)
+    l.invariant.run here e.running e.runs taken) in
+    record { run = run; copies = e.copies }
 
 pub returns-in-False-clause-runs : goal.returns-in-False-clause-runs
 returns-in-False-clause-runs c =
     let l = c.loop-passed in
-    runs_on c.args.clauses.now c.args.level c.args.values.now l.values c.look_at.new.values c.args.pairs.now l.pairs c.look_at.new.pairs l.invariant.runs c.in_ok-look_at.ensures.runs
+    runs_on c.args.clauses.now c.args.level c.args.values.now l.values c.look_at.new.values c.args.pairs.now l.pairs c.look_at.new.pairs l.invariant.run.runs c.in_ok-look_at.ensures.runs
 
 pub returns-in-False-clause-loose : goal.returns-in-False-clause-loose
 returns-in-False-clause-loose c =
     let l = c.loop-passed in
-    loose_on c.args.clauses.now c.args.level l.values c.look_at.new.values l.pairs c.look_at.new.pairs l.loose.items l.passed c.in_ok-look_at.ensures.runs l.invariant.are_loose
+    loose_on c.args.clauses.now c.args.level l.values c.look_at.new.values l.pairs c.look_at.new.pairs l.loose.items l.passed c.in_ok-look_at.ensures.runs l.invariant.run.are_loose
 
 pub returns-in-False-clause-added : goal.returns-in-False-clause-added
 returns-in-False-clause-added c =
     let l = c.loop-passed in
-    (runs_on c.args.clauses.now c.args.level c.args.values.now l.values c.look_at.new.values c.args.pairs.now l.pairs c.look_at.new.pairs l.invariant.runs c.in_ok-look_at.ensures.runs).added
+    (runs_on c.args.clauses.now c.args.level c.args.values.now l.values c.look_at.new.values c.args.pairs.now l.pairs c.look_at.new.pairs l.invariant.run.runs c.in_ok-look_at.ensures.runs).added

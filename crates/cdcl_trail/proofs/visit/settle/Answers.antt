@@ -1,12 +1,12 @@
-use Rattle.std.proofs.Common.{◌≡◌, set, ◌++◌, ◌∷◌, [], ◌⊎◌, Some, sym, ap, ◌∙◌, false, arith}
+use Rattle.std.proofs.Common.{◌≡◌, ◌<◌, set, length, subst, ◌++◌, ◌∷◌, [], ◌⊎◌, Some, sym, ap, ◌∙◌, false, arith}
 use Rattle.std.proofs.lemmas.Option.{slice_get_within, none-some}
 use Rattle.std.specs.Prelude.{All, Contains}
 use Rattle.cdcl_trail.specs.Clauses.{clause_number}
 use Rattle.cdcl_trail.specs.Propagation.{IsFalseIn}
 use Rattle.cdcl_trail.specs.Values.{entries_of}
 use Rattle.cdcl_trail.specs.Watch.{slot_of, list_at, pair_at, pair_of}
-use Rattle.cdcl_trail.proofs.ScanLaws.{decided_true, decided_false}
-use Rattle.cdcl_trail.proofs.VisitLaws.{of_pair, lists_small, other_below, other_slot, neither, visits_false, visits_moved, visits_implied, move_of}
+use Rattle.cdcl_trail.proofs.ScanLaws.{decided_true, decided_false, open_is}
+use Rattle.cdcl_trail.proofs.VisitLaws.{atom_below, slot_below, slot_injective, of_pair, lists_small, other_below, other_slot, neither, visits_false, visits_moved, visits_implied, move_of}
 use Rattle.cdcl_trail.proofs.WatchLaws.{pair_within}
 use Rattle.cdcl_trail.proofs.ValuesLaws.{level_small}
 use Rattle.cdcl_trail.proofs.visit.settle.Goals as goal
@@ -72,17 +72,31 @@ returns-else-is_false-clause-visits c =
     (neither es o c.requires.not_true (decided_false _ _ _ c.is_false.ensures c.if-is_false.false))
     c.put.ensures.values (c.put.ensures.entries ∙ ap (λ n. es ++ (record { lit = o; level = c.args.level; reason = Some n }) ∷ []) (sym w.2)) c.put.ensures.atoms
 
-pub returns-in_ok-move_watch-in-Some-other_open-clause-visits : goal.returns-in_ok-move_watch-in-Some-other_open-clause-visits
-returns-in_ok-move_watch-in-Some-other_open-clause-visits c =
+pub returns-in_ok-move_watch-in-Some-next_open-clause-visits : goal.returns-in_ok-move_watch-in-Some-next_open-clause-visits
+returns-in_ok-move_watch-in-Some-next_open-clause-visits c =
     let p = c.requires.pair in
     let w = c.requires.watch in
     let o = c.args.other in
-    let next = c.in-Some-other_open.next in
+    let next = c.lit-next.result in
     let at : clause_number c.args.clauses.now w.0.number ≡ Some c.in-Some.clause.now = ap (clause_number c.args.clauses.now) w.2 ∙ sym c.in-Some.ensures in
     let pair : pair_at c.args.pairs.now w.0.number ≡ Some p.0 = ap (pair_at c.args.pairs.now) w.2 ∙ p.1 in
-    let some = c.in-Some-other_open.ensures.some in
+    let some = open_is (entries_of c.args.values.now) c.in-Some.clause.now o c.in-Some-next_open.from next c.index-clause-from.result c.in-Some-next_open.ensures.some c.lit-next.ensures c.index-clause-from.is in
     let has : Contains c.in-Some.clause.now next = some.0 in
-    let e = c.in_ok-move_watch-in-Some-other_open.ensures in
+    let e = c.in_ok-move_watch-in-Some-next_open.ensures in
     let move = move_of c.args.clauses.now c.args.level c.args.l c.args.place c.args.values.now c.args.lists.now c.args.pairs.now w.0 p.0 o next c.in-Some.clause.now c.requires.running w.1 pair p.2 at has some.1 c.requires.is_false some.2 in
     visits_moved c.args.clauses.now c.args.level c.args.l c.args.place c.args.values.now c.args.lists.now c.move_watch.new.lists c.args.pairs.now c.move_watch.new.pairs w.0 p.0 o next c.requires.running
     w.1 pair p.2 some.2 (e.watched c.args.clauses.now w.0 p.0 c.in-Some.clause.now w.2 move) (e.lists w.0 w.1) e.size (e.pairs ∙ ap (λ n. set c.args.pairs.now n (Some (pair_of o next))) (sym w.2))
+
+pub move_watch-requires-clause-apart : goal.move_watch-requires-clause-apart
+move_watch-requires-clause-apart c e =
+    let next = c.lit-next.result in
+    let some = open_is (entries_of c.args.values.now) c.in-Some.clause.now c.args.other c.in-Some-next_open.from next c.index-clause-from.result c.in-Some-next_open.ensures.some c.lit-next.ensures c.index-clause-from.is in
+    some.2 (subst (IsFalseIn (entries_of c.args.values.now)) (sym (slot_injective next c.args.l e)) c.requires.is_false)
+
+pub move_watch-requires-clause-next : goal.move_watch-requires-clause-next
+move_watch-requires-clause-next c =
+    let r = c.requires.running in
+    let next = c.lit-next.result in
+    let atoms = length c.args.values.now.entries.items in
+    let some = open_is (entries_of c.args.values.now) c.in-Some.clause.now c.args.other c.in-Some-next_open.from next c.index-clause-from.result c.in-Some-next_open.ensures.some c.lit-next.ensures c.index-clause-from.is in
+    subst (λ m. slot_of next < m) (sym r.slots) (slot_below next atoms (atom_below c.args.clauses.now c.args.number atoms c.in-Some.clause.now next r.below (sym c.in-Some.ensures) some.0))

@@ -1,4 +1,4 @@
-use Rattle.std.proofs.Common.{◌≡◌, Some, refl, sym, ap, ◌∙◌, arith}
+use Rattle.std.proofs.Common.{false, ◌≡◌, Some, refl, sym, ap, ◌∙◌, arith}
 use Rattle.std.proofs.lemmas.Option.{slice_get_within, none-some}
 use Rattle.cdcl_trail.specs.Clauses.{clause_number}
 use Rattle.cdcl_trail.specs.Watch.{slot_of, list_at, pair_at}
@@ -44,8 +44,8 @@ returns-then-is_true-clause-visits c =
     let o = c.other_of-other.result in
     let at : pair_at c.args.pairs.now c.args.number ≡ Some p = sym c.in-Some.ensures in
     let both = c.other_of-other.ensures (watches_of c.args.clauses.now c.args.lists.now c.args.pairs.now c.args.l c.args.place c.args.number w.0 p c.requires.running.watched w.1 w.2 at) in
-    visits_blocked c.args.clauses.now c.args.level c.args.l c.args.place c.args.values.now c.args.lists.now c.put_watch.new.lists c.args.pairs.now w.0 (record { number = c.args.number; blocker = o }) o c.requires.running
-    (slot_within c.args.lists.now (slot_of c.args.l) c.args.place w.0 w.1) w.1 (sym w.2) refl
+    visits_blocked c.args.clauses.now c.args.level c.args.l c.args.place c.args.values.now c.args.lists.now c.put_watch.new.lists c.args.pairs.now w.0 (record { number = c.args.number; blocker = o; binary = false }) o c.requires.running
+    (slot_within c.args.lists.now (slot_of c.args.l) c.args.place w.0 w.1) w.1 (sym w.2) refl refl
     (λ d here. (of_pair c.args.clauses.now c.args.lists.now c.args.pairs.now c.args.number p c.args.l o d c.requires.running.watched at both (ap (clause_number c.args.clauses.now) (sym w.2) ∙ here)).1)
     (decided_true _ _ _ c.is_true.ensures c.if-is_true.true) c.put_watch.ensures
 

@@ -13,7 +13,7 @@ detach-requires c =
     let n = c.args.number in
     let f = found_clause c.get.result s.clauses n c.if-is_none.ensures c.get.ensures in
     let named = c.requires.kept.log.named n f.0 f.1 in
-    let is = c.cited.ensures.clause f.0 (ap (cited s.log.added s.log.steps) (c.hint_of-hint.ensures named.0 named.1) ∙ named.2) in
+    let is = c.packed.ensures ∙ c.cited.ensures.clause f.0 (ap (cited s.log.added s.log.steps) (c.hint_of-hint.ensures named.0 named.1) ∙ named.2) in
     record { reason = no_reason s.trail.trail s.clauses f.0 n c.requires.trail c.requires.kept.given f.1 (subst (λ xs. All (λ l. reason_of s.trail.trail.entries l.atom ≢ Some n) xs) is (c.if-is_reason.ensures refl)) }
 
 pub returns : goal.returns
@@ -22,12 +22,12 @@ returns c =
     let n = c.args.number in
     let f = found_clause c.get.result s.clauses n c.if-is_none.ensures c.get.ensures in
     let named = c.requires.kept.log.named n f.0 f.1 in
-    let is = c.cited.ensures.clause f.0 (ap (cited s.log.added s.log.steps) (c.hint_of-hint.ensures named.0 named.1) ∙ named.2) in
+    let is = c.packed.ensures ∙ c.cited.ensures.clause f.0 (ap (cited s.log.added s.log.steps) (c.hint_of-hint.ensures named.0 named.1) ∙ named.2) in
     let free = no_reason s.trail.trail s.clauses f.0 n c.requires.trail c.requires.kept.given f.1 (subst (λ xs. All (λ l. reason_of s.trail.trail.entries l.atom ≢ Some n) xs) is (c.if-is_reason.ensures refl)) in
     let new : Search = record s { clauses = c.forget.new.self; trail = c.detach.new.self } in
     record {
       same = record {
-        kept = forgot s new n c.forget.ensures (λ i e. c.is_step.ensures c.if-not-is_step.false i (c.hint_of-hint.ensures (Added i) e)) free c.detach.ensures.trail c.detach.ensures.attached refl refl refl c.requires.kept;
+        kept = forgot s new n c.forget.ensures (λ i e. c.is_step.ensures c.if-not-is_step.false i (c.hint.ensures ∙ c.hint_of-hint.ensures (Added i) e)) free c.detach.ensures.trail c.detach.ensures.attached refl refl refl c.requires.kept;
         trail = c.detach.ensures.trail;
         log = refl;
         assumed = refl;

@@ -22,20 +22,22 @@ highest_level-level-requires c =
 pub push_step-requires-clause-atoms : goal.push_step-requires-clause-atoms
 push_step-requires-clause-atoms c =
     let t = c.args.self.now.trail.trail in
-    subst (AtomsBelow t.atoms) (sym c.from.ensures) (learned_below t c.args.analysis.clause.items c.requires.trail c.requires.analysis.learned)
+    subst (AtomsBelow t.atoms) (sym c.deref-2.ensures.value) (learned_below t c.args.analysis.clause.items c.requires.trail c.requires.analysis.learned)
 
 pub unite_all-requires : goal.unite_all-requires
 unite_all-requires c =
     let s = c.use_last_step.new.self in
-    let last : Step = record { clause = c.from.result; hints = c.args.analysis.hints.items } in
-    let k = c.in_ok-key.ensures.kept c.args.self.now.log.steps last c.in_ok-push_step.ensures.steps in
+    let last : Step = record { clause = c.deref-2.result.now; hints = c.deref-3.result.now } in
+    let same = c.deref-2.ensures.value ∙ sym c.deref-4.ensures.value in
+    let k = c.in_ok-key.ensures.kept c.args.self.now.log.steps last c.in_ok-push_step.ensures.steps same in
     (s.clauses, k.0.log, k.0.given)
 
 pub back_to-requires-clause-kept : goal.back_to-requires-clause-kept
 back_to-requires-clause-kept c =
     let s = c.use_last_step.new.self in
-    let last : Step = record { clause = c.from.result; hints = c.args.analysis.hints.items } in
-    let k = c.in_ok-key.ensures.kept c.args.self.now.log.steps last c.in_ok-push_step.ensures.steps in
+    let last : Step = record { clause = c.deref-2.result.now; hints = c.deref-3.result.now } in
+    let same = c.deref-2.ensures.value ∙ sym c.deref-4.ensures.value in
+    let k = c.in_ok-key.ensures.kept c.args.self.now.log.steps last c.in_ok-push_step.ensures.steps same in
     more_kept s c.unite_all.new.log c.in_ok-unite_all.ensures.more k.0
 
 pub back_to-requires-clause-level : goal.back_to-requires-clause-level
@@ -74,8 +76,9 @@ returns-clause-learned c = λ first assumptions from s.
     let pushed = c.in_ok-push_step.ensures in
     let used = c.in_ok-key.ensures in
     let backed = c.back_to.ensures in
-    let last : Step = record { clause = c.from.result; hints = c.args.analysis.hints.items } in
-    let k = used.kept old.log.steps last pushed.steps in
+    let last : Step = record { clause = c.deref-2.result.now; hints = c.deref-3.result.now } in
+    let same = c.deref-2.ensures.value ∙ sym c.deref-4.ensures.value in
+    let k = used.kept old.log.steps last pushed.steps same in
     let same_trail = used.trail ∙ ap (λ x. x.trail) pushed.trail in
     let atoms : new.trail.trail.atoms ≡ back.trail.trail.atoms = ap (λ x. x.atoms) c.imply.ensures.trail in
     let given = subst (λ x. AreGiven x t.entries) (sym backed.clauses) (subst (λ x. AreGiven c.use_last_step.new.self.clauses x.entries) same_trail k.0.given) in
@@ -83,7 +86,7 @@ returns-clause-learned c = λ first assumptions from s.
     let went = learned_search assumptions old new clause l level key c.requires.trail u
     shape
     (subst (λ n. IsLog n back.clauses back.log) (sym atoms) backed.kept.log) given
-    (ap (λ x. clause_number x key) backed.clauses ∙ k.1 ∙ ap Some c.from.ensures)
+    (ap (λ x. clause_number x key) backed.clauses ∙ k.1 ∙ ap Some c.deref-2.ensures.value)
     (backed.kept.marks ∙ sym atoms) (phases_push back.trail.trail new.trail.trail back.phases (record { lit = l; level = back.trail.trail.level; reason = Some key }) atoms (ap (λ x. x.entries) c.imply.ensures.trail) backed.kept.phases) (c.imply.ensures.attached back.clauses backed.kept.attached)
     (ap (λ x. x.added) backed.log ∙ c.in_ok-unite_all.ensures.added ∙ used.added ∙ pushed.added) (backed.assumed ∙ ap (λ n. min n level) (used.assumed ∙ pushed.assumed)) backed.checked s in
     (went.0, advances_from first old new l level key from shape u.within went.1.same.added)

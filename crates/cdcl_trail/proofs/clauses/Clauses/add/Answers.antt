@@ -10,6 +10,6 @@ returns-clause-number c =
     let key = c.in_ok-insert.field-0 in
     let e = c.in_ok-insert.ensures in
     let number : key + 1 ≡ c.vacant_key-key.result + 1 = ap (λ n. n + 1) (e.key ∙ sym c.vacant_key-key.ensures.value) in
-    let stored : get_or new key None ≡ Some c.args.c.now = e.updates.changed ∙ ap Some c.in_ok-copy.ensures in
+    let stored : get_or new key None ≡ Some c.args.c.now = e.updates.changed ∙ ap Some (c.from-copy.ensures ∙ c.in_ok-from_slice.ensures.items) in
     subst (λ s. AddsClause s new c.args.c.now (c.vacant_key-key.result + 1)) c.self.view_is
     (subst (AddsClause old new c.args.c.now) number (adds old new c.args.c.now key e.was_vacant stored e.updates.others (λ none. e.key ∙ c.self.invariant none)))

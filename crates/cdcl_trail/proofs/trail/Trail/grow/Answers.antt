@@ -49,12 +49,12 @@ returns-in-Ok-clause-attached c clauses a =
     let s = c.self.inside in
     let e = c.in-Ok.ensures in
     let t : Trail = trail_of (length s.values.entries.items) s.level (entries_of s.values) s.spent in
-    let w : Watching = record { lists = s.lists.items; pairs = s.pairs.items; loose = s.loose.items; head = s.head; heads = s.heads.items } in
+    let w : Watching = record { lists = s.lists.items; pairs = s.pairs.items; copies = s.arena; loose = s.loose.items; head = s.head; heads = s.heads.items } in
     let old : AreAttached (record { trail = t; watching = w }) clauses = subst (λ x. AreAttached x clauses) (sym c.self.view_is) a in
     attached_as (with_atom t) (trail_of (length c.grow_all.new.values.entries.items) s.level (entries_of c.grow_all.new.values) s.spent)
-    (record { lists = (s.lists.items ++ [] ∷ []) ++ [] ∷ []; pairs = s.pairs.items; loose = s.loose.items; head = s.head; heads = s.heads.items })
-    (record { lists = c.grow_all.new.lists.items; pairs = s.pairs.items; loose = s.loose.items; head = s.head; heads = c.grow_all.new.heads.items }) clauses
+    (record { lists = (s.lists.items ++ [] ∷ []) ++ [] ∷ []; pairs = s.pairs.items; copies = s.arena; loose = s.loose.items; head = s.head; heads = s.heads.items })
+    (record { lists = c.grow_all.new.lists.items; pairs = s.pairs.items; copies = s.arena; loose = s.loose.items; head = s.head; heads = c.grow_all.new.heads.items }) clauses
     (trail_as (length c.grow_all.new.values.entries.items) s.level (entries_of c.grow_all.new.values) s.spent (with_atom t) e.atoms refl e.entries refl)
-    (ap (λ x. record { lists = x; pairs = s.pairs.items; loose = s.loose.items; head = s.head; heads = c.grow_all.new.heads.items }) e.lists
-    ∙ ap (λ x. record { lists = (s.lists.items ++ [] ∷ []) ++ [] ∷ []; pairs = s.pairs.items; loose = s.loose.items; head = s.head; heads = x }) e.heads)
+    (ap (λ x. record { lists = x; pairs = s.pairs.items; copies = s.arena; loose = s.loose.items; head = s.head; heads = c.grow_all.new.heads.items }) e.lists
+    ∙ ap (λ x. record { lists = (s.lists.items ++ [] ∷ []) ++ [] ∷ []; pairs = s.pairs.items; copies = s.arena; loose = s.loose.items; head = s.head; heads = x }) e.heads)
     (attached_grown t w clauses old)

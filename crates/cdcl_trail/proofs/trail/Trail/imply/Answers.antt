@@ -38,7 +38,7 @@ returns-clause-attached c clauses a =
     let t : Trail = trail_of (length s.values.entries.items) s.level (entries_of s.values) s.spent in
     let low : l.atom < t.atoms = subst (λ (x : WatchedTrail). l.atom < x.trail.atoms) (sym c.self.view_is) c.requires.atom in
     let unset : IsUnset t.entries l.atom = subst (λ (x : WatchedTrail). IsUnset x.trail.entries l.atom) (sym c.self.view_is) c.requires.unset in
-    let w : Watching = record { lists = s.lists.items; pairs = s.pairs.items; loose = s.loose.items; head = s.head; heads = s.heads.items } in
+    let w : Watching = record { lists = s.lists.items; pairs = s.pairs.items; copies = s.arena; loose = s.loose.items; head = s.head; heads = s.heads.items } in
     let old : AreAttached (record { trail = t; watching = w }) clauses = subst (λ x. AreAttached x clauses) (sym c.self.view_is) a in
     let new = attached_implied t w l c.args.reason clauses c.self.invariant.1 (implied t l c.args.reason c.self.invariant.1 low unset) c.self.invariant.3 old in
     attached_as (with_implied t l c.args.reason) (trail_of (length c.put.new.self.entries.items) s.level (entries_of c.put.new.self) s.spent) w w clauses

@@ -7,6 +7,7 @@ use Rattle.cdcl_trail.specs.Trail.{Trail, IsTrail}
 use Rattle.cdcl_trail.specs.Values.{entries_of, entry_at}
 use Rattle.cdcl_trail.proofs.TrailLaws.{trail_of}
 use Rattle.cdcl_trail.proofs.AttachedLaws.{attached_propagated, attached_as, trail_as, settled_present, spent_trail}
+use Rattle.cdcl_trail.specs.Arena.{AreCopies}
 use Rattle.cdcl_trail.specs.Loose.{AreLoose}
 use Rattle.cdcl_trail.specs.Watching.{IsSettled}
 use Rattle.cdcl_trail.proofs.trail.Trail.propagate.Goals as goal
@@ -15,7 +16,7 @@ pub saturate-found-requires-clause-loose : goal.saturate-found-requires-clause-l
 saturate-found-requires-clause-loose c =
     let s = c.self.inside in
     let t : Trail = trail_of (length s.values.entries.items) s.level (entries_of s.values) s.spent in
-    let w : Watching = record { lists = s.lists.items; pairs = s.pairs.items; loose = s.loose.items; head = s.head; heads = s.heads.items } in
+    let w : Watching = record { lists = s.lists.items; pairs = s.pairs.items; copies = s.arena; loose = s.loose.items; head = s.head; heads = s.heads.items } in
     let old : AreAttached (record { trail = t; watching = w }) c.args.clauses.now = subst (λ x. AreAttached x c.args.clauses.now) (sym c.self.view_is) c.requires.attached in
     let now = settled_present t w c.args.clauses.now c.self.invariant.1 c.self.invariant.3 old in
     subst (λ ps. AreLoose c.args.clauses.now (entries_of s.values) ps s.loose.items s.head.passed) (sym c.deref_mut-2.ensures.value)
@@ -25,16 +26,24 @@ pub saturate-found-requires-clause-head : goal.saturate-found-requires-clause-he
 saturate-found-requires-clause-head c =
     let s = c.self.inside in
     let t : Trail = trail_of (length s.values.entries.items) s.level (entries_of s.values) s.spent in
-    let w : Watching = record { lists = s.lists.items; pairs = s.pairs.items; loose = s.loose.items; head = s.head; heads = s.heads.items } in
+    let w : Watching = record { lists = s.lists.items; pairs = s.pairs.items; copies = s.arena; loose = s.loose.items; head = s.head; heads = s.heads.items } in
     let old : AreAttached (record { trail = t; watching = w }) c.args.clauses.now = subst (λ x. AreAttached x c.args.clauses.now) (sym c.self.view_is) c.requires.attached in
     let now = settled_present t w c.args.clauses.now c.self.invariant.1 c.self.invariant.3 old in
     now.place
+
+pub saturate-found-requires-clause-copies : goal.saturate-found-requires-clause-copies
+saturate-found-requires-clause-copies c =
+    let s = c.self.inside in
+    let t : Trail = trail_of (length s.values.entries.items) s.level (entries_of s.values) s.spent in
+    let w : Watching = record { lists = s.lists.items; pairs = s.pairs.items; copies = s.arena; loose = s.loose.items; head = s.head; heads = s.heads.items } in
+    let old : AreAttached (record { trail = t; watching = w }) c.args.clauses.now = subst (λ x. AreAttached x c.args.clauses.now) (sym c.self.view_is) c.requires.attached in
+    subst (AreCopies c.args.clauses.now s.arena) (sym c.deref_mut-2.ensures.value) old.copies
 
 pub saturate-found-requires-clause-settled : goal.saturate-found-requires-clause-settled
 saturate-found-requires-clause-settled c =
     let s = c.self.inside in
     let t : Trail = trail_of (length s.values.entries.items) s.level (entries_of s.values) s.spent in
-    let w : Watching = record { lists = s.lists.items; pairs = s.pairs.items; loose = s.loose.items; head = s.head; heads = s.heads.items } in
+    let w : Watching = record { lists = s.lists.items; pairs = s.pairs.items; copies = s.arena; loose = s.loose.items; head = s.head; heads = s.heads.items } in
     let old : AreAttached (record { trail = t; watching = w }) c.args.clauses.now = subst (λ x. AreAttached x c.args.clauses.now) (sym c.self.view_is) c.requires.attached in
     let now = settled_present t w c.args.clauses.now c.self.invariant.1 c.self.invariant.3 old in
     subst (λ ps. IsSettled c.args.clauses.now ps (entries_of s.values) s.head.place) (sym c.deref_mut-2.ensures.value) now.settled
@@ -43,7 +52,7 @@ pub returns-in-Ok-clause-attached : goal.returns-in-Ok-clause-attached
 returns-in-Ok-clause-attached c =
     let s = c.self.inside in
     let t : Trail = trail_of (length s.values.entries.items) s.level (entries_of s.values) s.spent in
-    let w : Watching = record { lists = s.lists.items; pairs = s.pairs.items; loose = s.loose.items; head = s.head; heads = s.heads.items } in
+    let w : Watching = record { lists = s.lists.items; pairs = s.pairs.items; copies = s.arena; loose = s.loose.items; head = s.head; heads = s.heads.items } in
     let old : AreAttached (record { trail = t; watching = w }) c.args.clauses.now = subst (λ x. AreAttached x c.args.clauses.now) (sym c.self.view_is) c.requires.attached in
     let now = settled_present t w c.args.clauses.now c.self.invariant.1 c.self.invariant.3 old in
     let e = c.in-Ok.ensures in
@@ -55,15 +64,15 @@ returns-in-Ok-clause-attached c =
     let same : at_level s.level s.values ≡ t = trail_as (length s.values.entries.items) s.level (entries_of s.values) false t refl refl refl (sym c.if-self.false) in
     let before : AreAttached (record { trail = at_level s.level s.values; watching = w }) c.args.clauses.now = attached_as t (at_level s.level s.values) w w c.args.clauses.now same refl old in
     let runs = subst (λ x. Runs c.args.clauses.now s.level s.values x v' c.saturate-found.new.pairs) c.deref_mut-2.ensures.value e.runs in
-    let new = attached_propagated s.values v' s.level s.lists.items c.saturate-found.new.lists s.pairs.items c.saturate-found.new.pairs s.loose.items c.saturate-found.new.loose.items s.head c.saturate-found.new.head s.heads.items c.args.clauses.now
-    c.self.invariant.3 before e.running runs e.loose e.front e.on e.head e.settled in
+    let new = attached_propagated s.values v' s.level s.lists.items c.saturate-found.new.lists s.pairs.items c.saturate-found.new.pairs s.arena c.saturate-found.new.arena s.loose.items c.saturate-found.new.loose.items s.head c.saturate-found.new.head s.heads.items c.args.clauses.now
+    c.self.invariant.3 before e.running runs e.loose e.front e.on e.head e.settled e.copies in
     attached_as (at_level s.level v') (trail_of (length v'.entries.items) s.level (entries_of v') s.spent)
-    (record { lists = c.saturate-found.new.lists; pairs = c.saturate-found.new.pairs; loose = c.saturate-found.new.loose.items; head = c.saturate-found.new.head; heads = s.heads.items })
-    (record { lists = (with_items s.lists c.saturate-found.new.lists).items; pairs = (with_items s.pairs c.saturate-found.new.pairs).items; loose = c.saturate-found.new.loose.items; head = c.saturate-found.new.head; heads = s.heads.items })
+    (record { lists = c.saturate-found.new.lists; pairs = c.saturate-found.new.pairs; copies = c.saturate-found.new.arena; loose = c.saturate-found.new.loose.items; head = c.saturate-found.new.head; heads = s.heads.items })
+    (record { lists = (with_items s.lists c.saturate-found.new.lists).items; pairs = (with_items s.pairs c.saturate-found.new.pairs).items; copies = c.saturate-found.new.arena; loose = c.saturate-found.new.loose.items; head = c.saturate-found.new.head; heads = s.heads.items })
     c.args.clauses.now
     (trail_as (length v'.entries.items) s.level (entries_of v') s.spent (at_level s.level v') refl refl refl c.if-self.false)
-    (ap (λ x. record { lists = x; pairs = (with_items s.pairs c.saturate-found.new.pairs).items; loose = c.saturate-found.new.loose.items; head = c.saturate-found.new.head; heads = s.heads.items }) ls
-    ∙ ap (λ x. record { lists = c.saturate-found.new.lists; pairs = x; loose = c.saturate-found.new.loose.items; head = c.saturate-found.new.head; heads = s.heads.items }) ps) new
+    (ap (λ x. record { lists = x; pairs = (with_items s.pairs c.saturate-found.new.pairs).items; copies = c.saturate-found.new.arena; loose = c.saturate-found.new.loose.items; head = c.saturate-found.new.head; heads = s.heads.items }) ls
+    ∙ ap (λ x. record { lists = c.saturate-found.new.lists; pairs = x; copies = c.saturate-found.new.arena; loose = c.saturate-found.new.loose.items; head = c.saturate-found.new.head; heads = s.heads.items }) ps) new
 
 pub invariant_of-self-in-Err : goal.invariant_of-self-in-Err
 invariant_of-self-in-Err c =
