@@ -31,9 +31,7 @@ use Rattle.saturation_cert.specs.Truths.{IsSelectedLiteral}
 use Rattle.saturation_cert.specs.Values.{base_of, saturation_of, entry_of}
 use Rattle.saturation_cert.specs.Wholes.{IsWholeSaturation, HasPlaces, KeepsSaturation}
 use Rattle.cert_format.specs.Validity.{IsValidBase}
-use Rattle.inst_calculus.proofs.Choice.{swapped, swapped_general}
 use Rattle.cert_check.specs.Closings.{IsGeneralOn, IsSideCovered, IsSideClosed, IsProperOn, IsProperSomewhere, IsPairClosed}
-use Rattle.cert_check.specs.Origins.{IsMade}
 use Rattle.cert_check.specs.Grounds.{AreCanonicalMembers}
 use Rattle.cert_check.proofs.Bases.{member_canonical}
 use Rattle.cert_check.proofs.CoverLaws.{clause_of}

@@ -1,6 +1,6 @@
 -- The check that the members stand for the inputs and axioms.
 use Rattle.std.proofs.Common.{◌≡◌, ◌⊎◌, ◌↔◌, inl, inr, ℕ, zero, suc, ◌+◌, ◌<◌, ◌≤◌, List, [], ◌∷◌, ◌++◌, length, map, get_or, Option, None, Some, refl, ap, ap₂, sym, ◌∙◌, subst, arith}
-use Rattle.std.specs.Prelude.{slice_get, option_map, Any, All, Bool, IsTrue}
+use Rattle.std.specs.Prelude.{slice_get, option_map, Any, All}
 use Rattle.std.proofs.lemmas.List.{map-append, length-append}
 use Rattle.std.proofs.lemmas.Option.{slice_get-map, slice_get_within, same_Some}
 use Rattle.inst_logic.specs.declared.signed.Signed.{Signed}
@@ -13,7 +13,7 @@ use Rattle.inst_calculus.specs.Axioms.{equality_axioms, with_axioms}
 use Rattle.inst_calculus.specs.Entries.{Entry}
 use Rattle.inst_calculus.proofs.Membership.{◌∈◌, any_in, in_any, all_in, in_map, from_map, in_either, equal_in}
 use Rattle.inst_calculus.proofs.Clauses.{literal_var, within_part}
-use Rattle.term_bank.specs.Forest.{Forest, clause_at, IsClauseOf}
+use Rattle.term_bank.specs.Forest.{clause_at, IsClauseOf}
 use Rattle.cert_format.specs.Validity.{IsRightInput}
 use Rattle.cert_format.specs.declared.complaint.Complaint.TheVariants.{Axiom}
 use Rattle.saturation_cert.specs.declared.member.Member.{Member}

@@ -1,10 +1,8 @@
 -- What a member whose origin is two members with their selected literals covers.
-use Rattle.std.proofs.Common.{◌≡◌, ◌≢◌, inl, inr, ◌⊎◌, ℕ, zero, suc, ◌<◌, Bool, List, true, false, cond, length, get_or, nat_eq, refl, ap, sym, ◌∙◌, map, subst, Some}
-use Rattle.std.specs.Prelude.{Any, slice_get, option_map}
-use Rattle.std.proofs.lemmas.Bool.Decides.{Decides-eqb}
+use Rattle.std.proofs.Common.{◌≡◌, ◌≢◌, ℕ, zero, suc, ◌<◌, List, true, length, get_or, refl, ap, sym, ◌∙◌, map, subst, Some}
+use Rattle.std.specs.Prelude.{slice_get, option_map}
 use Rattle.std.proofs.lemmas.Option.{slice_get-map, slice_get-get_or, slice_get_within, same_Some}
 use Rattle.inst_logic.specs.declared.signed.Signed.{Signed}
-use Rattle.inst_logic.specs.EqualLaws.{and_left, and_right}
 use Rattle.inst_logic.specs.Clauses.{TreeClause, AreVariants, canonical_form, instance}
 use Rattle.inst_logic.specs.Derivations.{at_number}
 use Rattle.inst_logic.specs.Tree.{Tree}
@@ -12,10 +10,8 @@ use Rattle.inst_logic.specs.Unifiers.{Sided, IsMostGeneral, IsProper}
 use Rattle.inst_calculus.specs.Conclusions.{IsConclusion}
 use Rattle.inst_calculus.specs.Entries.{Entry}
 use Rattle.inst_calculus.specs.Models.{Member as Selected}
-use Rattle.inst_calculus.specs.Saturation.{variant}
 use Rattle.inst_calculus.proofs.CanonicalForms.{canonical_of_canonical}
 use Rattle.inst_calculus.proofs.Choice.{instance_of_choice, proper_of_choice, swapped, swapped_general}
-use Rattle.inst_calculus.proofs.Membership.{contains_in, in_contains, in_map}
 use Rattle.cert_format.specs.TermLists.{HoldsBy}
 use Rattle.cert_format.specs.Validity.{Gives, IsValidBase, SelectsAt}
 use Rattle.cert_format.specs.declared.complaint.Complaint.TheVariants.{Member as Derived}
@@ -36,10 +32,6 @@ use Rattle.unify_core.specs.declared.side.Side.TheVariants.{Left, Right}
 use Rattle.cert_check.specs.Closings.{IsGeneralOn}
 use Rattle.cert_check.specs.Compared.{IsMadeCover, IsNamedOf}
 use Rattle.cert_check.specs.declared.due_side.DueSide.{DueSide}
-use Rattle.cert_check.specs.declared.conclusion.Premises.{Premises}
-use Rattle.cert_check.specs.Origins.{IsMade, premises_eq}
-use Rattle.cert_check.proofs.Closings.{selected_cover}
-use Rattle.cert_check.proofs.CoverLaws.{clause_of}
 
 module _ (c : Saturation) (base : IsValidBase (base_of c.base)) (placed : HasPlaces (saturation_of c)) (i j place other : ℕ) (here : slice_get c.places i ≡ Some place) (there : slice_get c.places j ≡ Some other) where
   -- what the origin gives is the conclusion

@@ -1,18 +1,11 @@
 -- Members that are made from two members by their origins.
-use Rattle.std.specs.Prelude.{◌≡◌, ℕ, Any, Bool, ◌&&◌, List, Some, nat_eq, true}
-use Rattle.std.specs.List.{list_any}
-use Rattle.inst_logic.specs.Clauses.{instance}
+use Rattle.std.specs.Prelude.{◌≡◌, ℕ, List, Some}
 use Rattle.inst_logic.specs.Derivations.{at_number}
-use Rattle.inst_logic.specs.Unifiers.{Sided, IsMostGeneral}
-use Rattle.inst_calculus.specs.Models.{Member as Selected, member_clauses}
-use Rattle.inst_calculus.specs.Saturation.{IsCovered}
-use Rattle.cert_format.specs.Certificate.{selected_members}
-use Rattle.cert_format.specs.Validity.{IsFirstOrigin, SelectsAt}
-use Rattle.saturation_cert.specs.declared.certificate.Saturation.{Saturation}
+use Rattle.cert_format.specs.Validity.{IsFirstOrigin}
 use Rattle.saturation_cert.specs.declared.member.Member.{Member}
 use Rattle.saturation_cert.specs.declared.member.Origin.{Origin}
 use Rattle.saturation_cert.specs.declared.member.Origin.TheVariants.{Inst}
-use Rattle.saturation_cert.specs.Values.{origin_of, saturation_of}
+use Rattle.saturation_cert.specs.Values.{origin_of}
 use Rattle.cert_check.specs.declared.conclusion.Premises.{Premises}
 
 abbrev pub origin_from : Premises → Origin
