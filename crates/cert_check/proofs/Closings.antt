@@ -31,9 +31,7 @@ use Rattle.saturation_cert.specs.Truths.{IsSelectedLiteral}
 use Rattle.saturation_cert.specs.Values.{base_of, saturation_of, entry_of}
 use Rattle.saturation_cert.specs.Wholes.{IsWholeSaturation, HasPlaces, KeepsSaturation}
 use Rattle.cert_format.specs.Validity.{IsValidBase}
-use Rattle.inst_calculus.proofs.Choice.{swapped, swapped_general}
 use Rattle.cert_check.specs.Closings.{IsGeneralOn, IsSideCovered, IsSideClosed, IsProperOn, IsProperSomewhere, IsPairClosed}
-use Rattle.cert_check.specs.Origins.{IsMade}
 use Rattle.cert_check.specs.Grounds.{AreCanonicalMembers}
 use Rattle.cert_check.proofs.Bases.{member_canonical}
 use Rattle.cert_check.proofs.CoverLaws.{clause_of}
@@ -159,10 +157,6 @@ module _ (c : Saturation) (es : List Binding) where
     (λ t p. (h s resolved m at_m).0 t),
     (λ k. (h s resolved m at_m).1 (k (proper_there c.base.bank es x proper m.selected.atom n.selected.atom s resolved g))),
   )
-
-  pub side_made : (x : Side) (i j : ℕ) → IsMade c i j → IsSideClosed c es x i j true
-  side_made Left i j made s resolved m n at_m at_n g = ((λ t p. made m n at_m at_n s g), (λ h. refl))
-  side_made Right i j made s resolved m n at_m at_n g = ((λ t p. made m n at_m at_n (swapped s) (swapped_general s n.selected.atom m.selected.atom g)), (λ h. refl))
 
   pub open_left : (i j : ℕ) (r : Bool) → r ≡ false → IsSideClosed c es Left i j r → IsPairClosed c es i j false
   open_left i j r e h s resolved m n p q g = (

@@ -1,6 +1,6 @@
 -- The check that the members stand for the inputs and axioms.
 use Rattle.std.proofs.Common.{◌≡◌, ◌⊎◌, ◌↔◌, inl, inr, ℕ, zero, suc, ◌+◌, ◌<◌, ◌≤◌, List, [], ◌∷◌, ◌++◌, length, map, get_or, Option, None, Some, refl, ap, ap₂, sym, ◌∙◌, subst, arith}
-use Rattle.std.specs.Prelude.{slice_get, option_map, Any, All, Bool, IsTrue}
+use Rattle.std.specs.Prelude.{slice_get, option_map, Any, All}
 use Rattle.std.proofs.lemmas.List.{map-append, length-append}
 use Rattle.std.proofs.lemmas.Option.{slice_get-map, slice_get_within, same_Some}
 use Rattle.inst_logic.specs.declared.signed.Signed.{Signed}
@@ -13,7 +13,7 @@ use Rattle.inst_calculus.specs.Axioms.{equality_axioms, with_axioms}
 use Rattle.inst_calculus.specs.Entries.{Entry}
 use Rattle.inst_calculus.proofs.Membership.{◌∈◌, any_in, in_any, all_in, in_map, from_map, in_either, equal_in}
 use Rattle.inst_calculus.proofs.Clauses.{literal_var, within_part}
-use Rattle.term_bank.specs.Forest.{Forest, clause_at, IsClauseOf}
+use Rattle.term_bank.specs.Forest.{clause_at, IsClauseOf}
 use Rattle.cert_format.specs.Validity.{IsRightInput}
 use Rattle.cert_format.specs.declared.complaint.Complaint.TheVariants.{Axiom}
 use Rattle.saturation_cert.specs.declared.member.Member.{Member}
@@ -25,12 +25,6 @@ use Rattle.cert_check.specs.Firsts.{IsFirstWrong}
 
 pub subsumes_itself : (d : TreeClause) → Subsumes d d
 subsumes_itself d = (var, within_part var d d (λ l j. equal_in l (subst_literal var l) d (sym (literal_var l)) j))
-
--- a clause that is a member is subsumed by one
-pub member_subsumes : (f : Forest) (ms : List Member) (c : List (Signed ℕ)) → Any (λ (m : Member). m.clause ≡ c) ms → Any (λ (m : Member). Subsumes (clause_at f m.clause) (clause_at f c)) ms
-member_subsumes f ms c any =
-    let (m, i, same) = any_in (λ (m : Member). m.clause ≡ c) ms any in
-    in_any (λ (m : Member). Subsumes (clause_at f m.clause) (clause_at f c)) m ms i (subst (λ (d : List (Signed ℕ)). Subsumes (clause_at f m.clause) (clause_at f d)) same (subsumes_itself (clause_at f m.clause)))
 
 -- lists with equal items at each place
 same_items : {A : Type 0} (xs ys : List A) → ((k : ℕ) → slice_get xs k ≡ slice_get ys k) → xs ≡ ys
@@ -62,11 +56,6 @@ module _ (c : Saturation) (valid : IsValidBase (base_of c.base)) where
       in_any (λ (m : Member). Subsumes (clause_at c.base.bank m.clause) d) m c.base.members j (subst (λ (x : Entry). Subsumes x.clause d) (sym same) s)
 
   module _ (k : ℕ) where
-    pub no_input : at_number (c.base.inputs ++ c.base.axioms) k ≡ None → IsRightInput (saturation_of c) k
-    no_input none d at =
-        let e : None ≡ Some d = sym (stated_at k ∙ ap (option_map (clause_at c.base.bank)) none) ∙ at in
-        absurd cc
-
     pub right_input : (d : List (Signed ℕ)) → at_number (c.base.inputs ++ c.base.axioms) k ≡ Some d
         → (IsTautology (clause_at c.base.bank d) ⊎ Any (λ (m : Member). Subsumes (clause_at c.base.bank m.clause) (clause_at c.base.bank d)) c.base.members) ↔ IsRightInput (saturation_of c) k
     right_input d here = (forward, back)
@@ -128,7 +117,3 @@ stated_ids c whole k d at = (stated_whole c whole k d at).ids
 -- none of the items was found
 pub none_any : {A : Type 0} (P : A → Type 0) (xs : List A) (n : ℕ) → ((k : ℕ) → k < n → (d : A) → ¬ P (get_or xs k d)) → length xs ≤ n → ¬ Any P xs
 none_any P xs n none past (k, x, l, e, p) = none k (omega arith) x (subst P (sym e) p)
-
--- what is no tautology has to be subsumed
-pub met_or : {A B : Type 0} {b : Bool} → ¬ A → IsTrue b ↔ B → IsTrue b ↔ (A ⊎ B)
-met_or none h = ((λ t. inr (h.0 t)), (λ s. elim s [ inl a ↦ absurd (none a) | inr y ↦ h.1 y ]))

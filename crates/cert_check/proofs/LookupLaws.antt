@@ -139,7 +139,6 @@ lookup_later f g grown ms whole l h = record {
   heads = h.heads;
   marked = λ k m within. marked_later f g grown (get_or ms k m).clause (whole k m within).ids (head_at h.heads k) (fingerprint_at l.fingerprints.items k) (h.marked k m within);
   groups = h.groups;
-  made = h.made;
 }
 
 pub lookup_kept : (old new : Saturation) → IsWholeSaturation old → KeepsSaturation old new → (l : Lookup) → IsLookup old.base.bank old.base.members l → IsLookup new.base.bank new.base.members l

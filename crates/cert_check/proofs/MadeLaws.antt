@@ -1,10 +1,8 @@
 -- What a member whose origin is two members with their selected literals covers.
-use Rattle.std.proofs.Common.{◌≡◌, ◌≢◌, inl, inr, ◌⊎◌, ℕ, zero, suc, ◌<◌, Bool, List, true, false, cond, length, get_or, nat_eq, refl, ap, sym, ◌∙◌, map, subst, Some}
-use Rattle.std.specs.Prelude.{Any, slice_get, option_map}
-use Rattle.std.proofs.lemmas.Bool.Decides.{Decides-eqb}
+use Rattle.std.proofs.Common.{◌≡◌, ◌≢◌, ℕ, zero, suc, ◌<◌, List, true, length, get_or, refl, ap, sym, ◌∙◌, map, subst, Some}
+use Rattle.std.specs.Prelude.{slice_get, option_map}
 use Rattle.std.proofs.lemmas.Option.{slice_get-map, slice_get-get_or, slice_get_within, same_Some}
 use Rattle.inst_logic.specs.declared.signed.Signed.{Signed}
-use Rattle.inst_logic.specs.EqualLaws.{and_left, and_right}
 use Rattle.inst_logic.specs.Clauses.{TreeClause, AreVariants, canonical_form, instance}
 use Rattle.inst_logic.specs.Derivations.{at_number}
 use Rattle.inst_logic.specs.Tree.{Tree}
@@ -12,10 +10,8 @@ use Rattle.inst_logic.specs.Unifiers.{Sided, IsMostGeneral, IsProper}
 use Rattle.inst_calculus.specs.Conclusions.{IsConclusion}
 use Rattle.inst_calculus.specs.Entries.{Entry}
 use Rattle.inst_calculus.specs.Models.{Member as Selected}
-use Rattle.inst_calculus.specs.Saturation.{variant}
 use Rattle.inst_calculus.proofs.CanonicalForms.{canonical_of_canonical}
 use Rattle.inst_calculus.proofs.Choice.{instance_of_choice, proper_of_choice, swapped, swapped_general}
-use Rattle.inst_calculus.proofs.Membership.{contains_in, in_contains, in_map}
 use Rattle.cert_format.specs.TermLists.{HoldsBy}
 use Rattle.cert_format.specs.Validity.{Gives, IsValidBase, SelectsAt}
 use Rattle.cert_format.specs.declared.complaint.Complaint.TheVariants.{Member as Derived}
@@ -36,28 +32,6 @@ use Rattle.unify_core.specs.declared.side.Side.TheVariants.{Left, Right}
 use Rattle.cert_check.specs.Closings.{IsGeneralOn}
 use Rattle.cert_check.specs.Compared.{IsMadeCover, IsNamedOf}
 use Rattle.cert_check.specs.declared.due_side.DueSide.{DueSide}
-use Rattle.cert_check.specs.declared.conclusion.Premises.{Premises}
-use Rattle.cert_check.specs.Origins.{IsMade, premises_eq}
-use Rattle.cert_check.proofs.Closings.{selected_cover}
-use Rattle.cert_check.proofs.CoverLaws.{clause_of}
-
--- one more origin among those noted
-pub premises_same : (p q : Premises) → premises_eq p q ≡ true → p ≡ q
-premises_same p q e =
-    let from = (Decides-eqb p.from q.from).0 (and_left (nat_eq p.from q.from) _ e) in
-    let rest = and_right (nat_eq p.from q.from) _ e in
-    let place = (Decides-eqb p.place q.place).0 (and_left (nat_eq p.place q.place) _ rest) in
-    let last = and_right (nat_eq p.place q.place) _ rest in
-    let partner = (Decides-eqb p.partner q.partner).0 (and_left (nat_eq p.partner q.partner) _ last) in
-    let other = (Decides-eqb p.other q.other).0 (and_right (nat_eq p.partner q.partner) _ last) in
-    λ z. record { from = from z; place = place z; partner = partner z; other = other z }
-
-pub noted_before : (p q : Premises) (old new : Bool) → new ≡ cond (premises_eq p q) true old → new ≡ true → (old ≡ true) ⊎ (p ≡ q)
-noted_before p q old new is known = by (premises_eq p q) refl
-  where
-    by : (b : Bool) → premises_eq p q ≡ b → (old ≡ true) ⊎ (p ≡ q)
-    by true e = inr (premises_same p q e)
-    by false e = inl (sym (is ∙ ap (λ b. cond b true old) e) ∙ known)
 
 module _ (c : Saturation) (base : IsValidBase (base_of c.base)) (placed : HasPlaces (saturation_of c)) (i j place other : ℕ) (here : slice_get c.places i ≡ Some place) (there : slice_get c.places j ≡ Some other) where
   -- what the origin gives is the conclusion
@@ -116,15 +90,6 @@ module _ (c : Saturation) (base : IsValidBase (base_of c.base)) (placed : HasPla
           (instance_of_choice h.literal.atom h.other_literal.atom s h.unifier general_there h.most_general h.entry.clause).0 in
           sym (ap (λ (x : TreeClause). canonical_form (instance s.left x)) clause) ∙ same
           ∙ sym (ap canonical_form h.conclusion ∙ canonical_of_canonical (instance h.unifier.left h.entry.clause))
-
-  pub made_covers : (first second : ℕ) → first ≡ suc i → second ≡ suc j → Any (λ (x : Member). x.origin ≡ Inst first place second other) c.base.members → IsMade c (suc i) (suc j)
-  made_covers first second left right any m n at_m at_n s general =
-      let (k, x, within, is, made) = any in
-      let origin : x.origin ≡ Inst (suc i) place (suc j) other = made ∙ (λ z. Inst (left z) place (right z) other) in
-      let d = clause_at c.base.bank x.clause in
-      let v : AreVariants (instance s.left m.clause) d = variants m n at_m at_n d (conclusion_at k x within (sym is) origin) s general in
-      let found = in_contains d (map (clause_of c.base.bank) c.base.members) (in_map (clause_of c.base.bank) x c.base.members (contains_in x c.base.members (k, within, is))) in
-      (selected_cover c placed m.clause (instance s.left m.clause)).0 (variant d found v)
 
   -- the clause of a member that was made so is the instance on the side
   made_left : (k : ℕ) (x : Member) → k < length c.base.members → x ≡ get_or c.base.members k x → x.origin ≡ Inst (suc i) place (suc j) other

@@ -19,7 +19,6 @@ use Rattle.cert_check.specs.declared.covers.Sought.{Sought}
 use Rattle.cert_check.specs.declared.fingerprint.Fingerprint.{Fingerprint}
 use Rattle.cert_check.specs.Fingerprints.{HasFingerprint, fingerprint_at}
 use Rattle.cert_check.specs.Lengths.{AreGrouped, heads_by, rank_at}
-use Rattle.cert_check.specs.Origins.{ArePremises}
 use Rattle.cert_check.specs.Places.{IsPlaceOf}
 use Rattle.cert_check.specs.Partners.{Head, IsHeadAt, head_at}
 use Rattle.cert_check.specs.declared.lengths.Ranked.{Ranked}
@@ -44,7 +43,6 @@ pub record IsLookup (f : Forest) (ms : List Member) (l : Lookup) : Type 0 where
   pub heads : List Head
   pub marked : (k : ℕ) (m : Member) → k < length ms → HasMarked f (slice_index_or ms k m).clause (head_at heads k) (fingerprint_at l.fingerprints.items k)
   pub groups : AreGrouped ms heads l.lengths
-  pub made : ArePremises ms l.made.keys
 
 -- what the check of the pairs stands on: the certificate has passed all that comes before, and the look-ups are its own
 pub record IsReady (c : Saturation) (l : Lookup) : Type 0 where

@@ -6,7 +6,7 @@ ghost use Rattle.unify_core.specs.Chains.{AreBindings};
 ghost use Rattle.unify_core.specs.Terms.{AreTerms};
 ghost use Rattle.saturation_cert.specs.Values.{covered_of, saturation_of};
 ghost use Rattle.saturation_cert.specs.Wholes.{IsWholeCovered, IsWholeSaturation, KeepsSaturation};
-ghost use Rattle.cert_check.specs.Closings.{IsPairClosed, IsSideClosed, IsSideCovered};
+ghost use Rattle.cert_check.specs.Closings.{IsPairClosed, IsProperSomewhere, IsSideClosed, IsSideCovered};
 ghost use Rattle.cert_check.specs.DueSteps.{AreNamed, GivesMeeting, GivesPair, GivesRow, GivesSide, GrowsCovers};
 ghost use Rattle.cert_check.specs.Sides.{left_number, right_number};
 ghost use Rattle.cert_check.specs.FirstPairs.{IsFirstWrongPairOf};
@@ -19,13 +19,24 @@ use crate::due_side::DueSide;
 use crate::instance::Instance;
 use crate::lookup::Lookup;
 use crate::naming::{Named, named_instance};
-use crate::pairs::is_proper;
 use crate::rooms::{PairRoom, RowRoom};
 use clause_form::Workspace;
 use inst_logic::Memory;
 use saturation_cert::{Cover, CoverList, Covered, Member, Saturation, selected};
 use std::alloc::Global;
+use term_bank::Bank;
 use unify_core::{Bindings, Side};
+
+// Whether the unifier that the bindings stand for makes a variable on some side a term that is no variable.
+fn is_proper(bank: &Bank, bindings: &Bindings) -> bool
+    requires { AreBindings bank.now bindings.now.entries }
+    ensures { IsProperSomewhere bank.now bindings.now.entries result }
+{
+    if bindings.proper(bank, Side::Left) {
+        return true;
+    }
+    bindings.proper(bank, Side::Right)
+}
 
 // The instance of the side's member under the bindings, and what covers it.
 fn named_side(

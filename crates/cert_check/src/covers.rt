@@ -1,30 +1,21 @@
 // Covered instances. A variant is one look-up, and a unit clause of a literal as it stands one for each literal. Other covers are
 // shorter members, and of these only those are tried whose selected literal has the head of a literal of the instance, and a
 // fingerprint that allows it, since it has to go onto one; trying all members would cost their number at each pair.
-ghost use Rattle.std.specs.Prelude.{◌≡◌, ◌↔◌, ◌<◌, ◌∷◌, ℕ, List, [], map, length, All, Any, IfNone, IfOk, IfSome, IsTrue, true, false};
+ghost use Rattle.std.specs.Prelude.{◌≡◌, ◌<◌, ◌∷◌, ℕ, List, [], length, All, Any, IfNone, IfOk, IfSome, true, false};
 ghost use Rattle.std.specs.Cmp.Lexicographic.{pointwise};
 ghost use Rattle.std.specs.List.{HoldsAt};
 ghost use Rattle.indexmap.specs.IndexMap.{get};
 ghost use Rattle.clause_form.specs.Literals.{id_eq};
-ghost use Rattle.inst_logic.specs.Clauses.{IsCanonical, instance};
-ghost use Rattle.inst_logic.specs.Unifiers.{Sided};
 ghost use Rattle.inst_logic.specs.declared.signed.Signed.{Signed};
-ghost use Rattle.inst_calculus.specs.Saturation.{IsCovered};
-ghost use Rattle.term_bank.specs.Forest.{AreFormed, Extends, IsClauseOf, clause_at, tree_at};
-ghost use Rattle.unify_core.specs.Chains.{AreBindings};
-ghost use Rattle.unify_core.specs.Sides.{IsResolvedBy, of_side};
-ghost use Rattle.unify_core.specs.Terms.{AreTerms};
-ghost use Rattle.saturation_cert.specs.Wholes.{IsWholeClause};
-ghost use Rattle.cert_check.specs.Covers.{IsCoveredIn, IsUnitOf, ShorterOf};
-ghost use Rattle.cert_check.specs.Grounds.{AreCanonicalMembers};
+ghost use Rattle.term_bank.specs.Forest.{IsClauseOf, tree_at};
+ghost use Rattle.cert_check.specs.Covers.{IsUnitOf, ShorterOf};
 ghost use Rattle.cert_check.specs.Fingerprints.{HasFingerprint};
 ghost use Rattle.cert_check.specs.Lookups.{AreClausesOf, AreUnsoughtBy, IsLookup, IsSearch, IsSought, IsUnsoughtAt};
 ghost use Rattle.cert_check.specs.Places.{IsPlaceOf};
 
 use crate::fingerprint::{Fingerprint, fingerprint_of};
-use crate::instance::Instance;
 use crate::lookup::Lookup;
-use clause_form::{Workspace, long_tautology, subsumes};
+use clause_form::subsumes;
 use inst_logic::Memory;
 use saturation_cert::Member;
 use std::alloc::Global;
@@ -158,54 +149,4 @@ pub fn shorter_place(
         clause: c,
     };
     shorter_by_heads(alloc, &sought)
-}
-
-// Whether the clause, an instance of one with this many literals, is covered by the members. A variant is looked up.
-fn has_cover(
-    alloc: Global,
-    bank: &Bank,
-    members: &[Member],
-    lookup: &Lookup,
-    len: usize,
-    c: &IdClause,
-) -> Result<bool, Memory>
-    requires members { All (λ m. IsClauseOf bank.now m.clause) members.now }
-    requires members_canonical { AreCanonicalMembers bank.now members.now }
-    requires lookup { IsLookup bank.now members.now lookup.now }
-    requires clause { IsClauseOf bank.now c.now }
-    requires canonical { IsCanonical (clause_at bank.now c.now) }
-    ensures { IfOk result (λ r. IsTrue r ↔ IsCoveredIn bank.now members.now len c.now) }
-{
-    bank.distinct();
-    if long_tautology(alloc, c)? {
-        return Ok(true);
-    }
-    if lookup.place_of(c).is_some() {
-        return Ok(true);
-    }
-    let place = shorter_place(alloc, bank, members, lookup, len, c)?;
-    Ok(place.is_some())
-}
-
-// Whether the instance is covered by the members.
-pub fn is_covered(
-    workspace: &mut Workspace,
-    bank: &mut Bank,
-    members: &[Member],
-    lookup: &Lookup,
-    of: &Instance<'_>,
-) -> Result<bool, Memory>
-    requires members { All (λ m. IsWholeClause bank.old m.clause) members.now }
-    requires members_canonical { AreCanonicalMembers bank.old members.now }
-    requires lookup { IsLookup bank.old members.now lookup.now }
-    requires clause { IsWholeClause bank.old of.now.clause.now }
-    requires canonical { IsCanonical (clause_at bank.old of.now.clause.now) }
-    requires bindings { AreBindings bank.old of.now.bindings.now.entries }
-    ensures extends { Extends bank.old bank.new }
-    ensures formed { AreFormed bank.old → AreTerms bank.old of.now.bindings.now.entries → AreFormed bank.new }
-    ensures covered { IfOk result (λ r. (s : Sided) → IsResolvedBy bank.old of.now.bindings.now.entries s → IsTrue r ↔ IsCovered (map (λ m. clause_at bank.old m.clause) members.now) (clause_at bank.old of.now.clause.now) (instance (of_side s of.now.side) (clause_at bank.old of.now.clause.now))) }
-{
-    let conclusion = workspace.conclude_clause(bank, of.bindings, of.side, of.clause)?;
-    let alloc = workspace.alloc();
-    has_cover(alloc, bank, members, lookup, of.clause.len(), &conclusion)
 }

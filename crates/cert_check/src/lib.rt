@@ -28,7 +28,6 @@ mod meetings;
 mod naming;
 mod narrow;
 mod origin;
-mod pairs;
 mod part;
 mod partners;
 mod places;

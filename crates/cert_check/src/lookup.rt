@@ -1,35 +1,31 @@
 // Look-ups of members, made once for the check of inputs and pairs. The clauses are copies, since the certificate's bank grows
 // while they are looked up.
-ghost use Rattle.std.specs.Prelude.{◌≡◌, ◌⊎◌, IfOk, OnOk, true};
+ghost use Rattle.std.specs.Prelude.{◌≡◌, IfOk};
 ghost use Rattle.std.specs.Cmp.Lexicographic.{pointwise};
 ghost use Rattle.indexmap.specs.IndexMap.{get};
 ghost use Rattle.clause_form.specs.Literals.{id_eq};
 ghost use Rattle.saturation_cert.specs.Values.{base_of, saturation_of};
 ghost use Rattle.saturation_cert.specs.Wholes.{HasPlaces, IsWholeSaturation};
 ghost use Rattle.cert_format.specs.Validity.{IsValidBase};
-ghost use Rattle.cert_check.specs.declared.conclusion.Premises as format;
 ghost use Rattle.cert_check.specs.Lookups.{AreClausesOf, IsReady};
-ghost use Rattle.cert_check.specs.Origins.{ArePremises, has_premises, origin_from};
 
-use crate::conclusion::Premises;
 use crate::fingerprint::{Fingerprint, find_fingerprints};
 use crate::lengths::{Lengths, find_lengths};
 use crate::meetings::{Meetings, find_meetings};
 use crate::partners::find_heads;
-use indexmap::{IndexMap, IndexSet};
+use indexmap::IndexMap;
 use inst_logic::Memory;
-use saturation_cert::{Member, Origin, Saturation};
+use saturation_cert::{Member, Saturation};
 use std::alloc::Global;
 use term_bank::IdClause;
 
-/// The places of the members' clauses, the premises of those that are instances, the chains through the members whose selected
-/// literals have one head, from the shortest on, the fingerprints of the selected atoms, and which members may meet.
+/// The places of the members' clauses, the chains through the members whose selected literals have one head, from the shortest on,
+/// the fingerprints of the selected atoms, and which members may meet.
 #[derive(Drop)]
 pub struct Lookup {
     pub(crate) lengths: Lengths,
     pub(crate) meetings: Meetings,
     pub(crate) fingerprints: Vec<Fingerprint>,
-    made: IndexSet<Premises>,
     clauses: IndexMap<IdClause, usize>,
 }
 
@@ -51,42 +47,6 @@ fn clauses_of(alloc: Global, members: &[Member]) -> Result<IndexMap<IdClause, us
     Ok(clauses)
 }
 
-// Adds the premises of an instance.
-fn note_origin(made: &mut IndexSet<Premises>, origin: &Origin) -> Result<(), Memory>
-    ensures { OnOk result ((p : format.Premises) → has_premises made.new.keys p ≡ true → (has_premises made.old.keys p ≡ true) ⊎ (origin.now ≡ origin_from p)) }
-{
-    match origin {
-        Origin::Input(_) => Ok(()),
-        Origin::Inst {
-            from,
-            place,
-            partner,
-            other,
-        } => {
-            made.insert(Premises {
-                from: *from,
-                place: *place,
-                partner: *partner,
-                other: *other,
-            })?;
-            Ok(())
-        }
-        // A lemma may be shorter than the instance
-        Origin::Lemma { .. } => Ok(()),
-    }
-}
-
-// The premises of the members that are instances.
-fn premises_of(alloc: Global, members: &[Member]) -> Result<IndexSet<Premises>, Memory>
-    ensures { IfOk result (λ s. ArePremises members.now s.keys) }
-{
-    let mut made: IndexSet<Premises> = IndexSet::new(alloc);
-    for member in members {
-        note_origin(&mut made, &member.origin)?;
-    }
-    Ok(made)
-}
-
 // The look-ups of a certificate whose members are valid and have a literal at each place.
 pub fn find_lookup(alloc: Global, cert: &Saturation) -> Result<Lookup, Memory>
     requires whole { IsWholeSaturation cert.now }
@@ -99,13 +59,11 @@ pub fn find_lookup(alloc: Global, cert: &Saturation) -> Result<Lookup, Memory>
     let meetings = find_meetings(alloc, &heads, &fingerprints)?;
     let members = cert.base.members.as_slice();
     let lengths = find_lengths(alloc, members, &heads)?;
-    let made = premises_of(alloc, members)?;
     let clauses = clauses_of(alloc, members)?;
     Ok(Lookup {
         lengths,
         meetings,
         fingerprints,
-        made,
         clauses,
     })
 }
@@ -116,12 +74,5 @@ impl Lookup {
         ensures { result ≡ get (pointwise id_eq) self.now.clauses c.now }
     {
         self.clauses.get(c).copied()
-    }
-
-    /// Whether some member was made from these premises.
-    pub fn has_made(&self, premises: &Premises) -> bool
-        ensures { result ≡ has_premises self.now.made.keys premises.now }
-    {
-        self.made.contains(premises)
     }
 }

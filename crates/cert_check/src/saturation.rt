@@ -6,23 +6,18 @@ ghost use Rattle.inst_calculus.specs.Axioms.{with_axioms};
 ghost use Rattle.inst_calculus.specs.Models.{Makes};
 ghost use Rattle.inst_calculus.specs.Saturation.{IsSaturated};
 ghost use Rattle.cert_format.specs.Certificate.{selected_members};
-ghost use Rattle.cert_format.specs.Validity.{IsValidBase, IsValidSaturation, SaturationPasses};
+ghost use Rattle.cert_format.specs.Validity.{IsValidSaturation, SaturationPasses};
 ghost use Rattle.term_bank.specs.Forest.{IsAt};
-ghost use Rattle.saturation_cert.specs.Values.{base_of, saturation_of};
-ghost use Rattle.saturation_cert.specs.Wholes.{HasPlaces, IsWholeSaturation, KeepsSaturation};
+ghost use Rattle.saturation_cert.specs.Values.{saturation_of};
+ghost use Rattle.saturation_cert.specs.Wholes.{IsWholeSaturation, KeepsSaturation};
 ghost use Rattle.cert_check.specs.Answers.{IsCheckCause};
-ghost use Rattle.cert_check.specs.Lookups.{IsReady};
 
-use crate::base::check_base;
+use crate::covered::cover;
 use crate::error::CheckError;
-use crate::inputs::wrong_input;
-use crate::lookup::{Lookup, find_lookup};
-use crate::pairs::wrong_pair;
-use crate::places::wrong_place;
-use cert_format::Complaint;
+use cert_format::covers::named_is_valid;
 use cert_format::laws::valid_saturations_are_models;
 use inst_logic::{Literal, Memory};
-use saturation_cert::Saturation;
+use saturation_cert::{Covered, Saturation};
 use std::alloc::Global;
 use std::marker::Model;
 use term_bank::TermId;
@@ -74,56 +69,10 @@ impl CheckedSaturation {
     }
 }
 
-// The first complaint about the inputs and then about the pairs, if there is one.
-fn check_with(alloc: Global, cert: &mut Saturation, lookup: &Lookup) -> Result<(), CheckError>
-    requires ready { IsReady cert.old lookup.now }
-    ensures kept { KeepsSaturation cert.old cert.new }
-    ensures whole { OnOk result (IsWholeSaturation cert.new) }
-    ensures valid { OnOk result (IsValidSaturation (saturation_of cert.old)) }
-    ensures complaint { IfErr result (IsCheckCause (SaturationPasses (saturation_of cert.old))) }
-{
-    if let Some(k) = wrong_input(alloc, cert, lookup)? {
-        return Err(CheckError::Complaint(Complaint::Input { k }));
-    }
-    if let Some((left, right)) = wrong_pair(alloc, cert, lookup)? {
-        return Err(CheckError::Complaint(Complaint::Pair { left, right }));
-    }
-    Ok(())
-}
-
-// Checks both with look-ups that serve both.
-fn check_selection(alloc: Global, cert: &mut Saturation) -> Result<(), CheckError>
-    requires whole { IsWholeSaturation cert.old }
-    requires base { IsValidBase (base_of cert.old.base) }
-    requires placed { HasPlaces (saturation_of cert.old) }
-    ensures kept { KeepsSaturation cert.old cert.new }
-    ensures whole { OnOk result (IsWholeSaturation cert.new) }
-    ensures valid { OnOk result (IsValidSaturation (saturation_of cert.old)) }
-    ensures complaint { IfErr result (IsCheckCause (SaturationPasses (saturation_of cert.old))) }
-{
-    let lookup = find_lookup(alloc, cert)?;
-    check_with(alloc, cert, &lookup)
-}
-
-// The first complaint, if there is one.
-fn check(alloc: Global, cert: &mut Saturation) -> Result<(), CheckError>
-    requires { IsWholeSaturation cert.old }
-    ensures kept { KeepsSaturation cert.old cert.new }
-    ensures whole { OnOk result (IsWholeSaturation cert.new) }
-    ensures valid { OnOk result (IsValidSaturation (saturation_of cert.old)) }
-    ensures complaint { IfErr result (IsCheckCause (SaturationPasses (saturation_of cert.old))) }
-{
-    check_base(alloc, &mut cert.base)?;
-    if let Some(n) = wrong_place(cert) {
-        return Err(CheckError::Complaint(Complaint::Place { n }));
-    }
-    check_selection(alloc, cert)
-}
-
-/// Checks the certificate and owns it from then on. After a refusal it is dropped. Time: a few look-ups for each member; a
-/// comparison for any two fingerprints of opposite signs that agree in the symbols at the tops of the arguments; a unification
-/// where the whole fingerprints of two members allow it; and where they unify, look-ups of the instances, and tests of subsumption
-/// by shorter members where these do not suffice.
+/// Checks the certificate and owns it from then on. After a refusal it is dropped. What covers each clause is found as `cover` does,
+/// and let go. Time: a few look-ups for each member; a comparison for any two fingerprints of opposite signs that agree in the
+/// symbols at the tops of the arguments; a unification where the whole fingerprints of two members allow it; and where they unify,
+/// look-ups of the instances, and tests of subsumption by shorter members where these do not suffice.
 pub fn check_saturation(alloc: Global, cert: Saturation) -> Result<CheckedSaturation, CheckError>
     requires { IsWholeSaturation cert }
     ensures kept { IfOk result (KeepsSaturation cert) }
@@ -133,8 +82,8 @@ pub fn check_saturation(alloc: Global, cert: Saturation) -> Result<CheckedSatura
     ensures makes { IfOk result (λ _. All (Makes (selected_members (saturation_of cert))) (with_axioms (saturation_of cert).base.inputs)) }
     ensures complaint { IfErr result (IsCheckCause (SaturationPasses (saturation_of cert))) }
 {
-    let mut cert = cert;
-    check(alloc, &mut cert)?;
+    let Covered { cert, .. } = cover(alloc, cert)?;
+    named_is_valid();
     valid_saturations_are_models();
     Ok(CheckedSaturation { cert })
 }

@@ -3,16 +3,11 @@
 ghost use Rattle.std.specs.Prelude.{IfOk, option_copied, None};
 ghost use Rattle.std.specs.Option.{ForSome};
 ghost use Rattle.inst_logic.specs.WellFormed.{AreFormedClauses};
-ghost use Rattle.saturation_cert.specs.Wholes.{IsWholeCovered, IsWholeFirst, IsWholeRefutation, IsWholeSaturation};
 ghost use Rattle.cert_front.specs.Judgements.{IsChecked};
-ghost use Rattle.cert_front.specs.Kinds.{covered_value, first_value, refutation_value, saturation_value};
 
 use crate::kind::Kind;
-use cert_check::{
-    CheckError, CheckedCovered, CheckedFirst, CheckedRefutation, CheckedSaturation, Complaint,
-};
+use cert_check::{CheckError, Complaint};
 use inst_logic::{Memory, Problem};
-use saturation_cert::{Covered, FirstRefutation, Refutation, Saturation};
 use std::alloc::Global;
 
 /// What a certificate is found to be. Numbers count from 1.
@@ -54,56 +49,4 @@ pub(crate) fn judge<C: Kind>(
         Ok(Some(n)) => Ok(Err(Judgement::Problem { n })),
         Err(Memory) => Err(Memory),
     }
-}
-
-/// Checks the refutation of the first format, and that it is of the problem, where one is given.
-pub fn judge_first(
-    alloc: Global,
-    cert: FirstRefutation,
-    problem: Option<&Problem>,
-) -> Result<Result<CheckedFirst, Judgement>, Memory>
-    requires whole { IsWholeFirst cert }
-    requires problem { ForSome problem (λ p. AreFormedClauses p.now.clauses) }
-    ensures { IfOk result (IsChecked first_value (option_copied problem.entry) (first_value cert)) }
-{
-    judge(alloc, cert, problem)
-}
-
-/// Checks the refutation whose ground clauses name their inputs, and that it is of the problem, where one is given.
-pub fn judge_refutation(
-    alloc: Global,
-    cert: Refutation,
-    problem: Option<&Problem>,
-) -> Result<Result<CheckedRefutation, Judgement>, Memory>
-    requires whole { IsWholeRefutation cert }
-    requires problem { ForSome problem (λ p. AreFormedClauses p.now.clauses) }
-    ensures { IfOk result (IsChecked refutation_value (option_copied problem.entry) (refutation_value cert)) }
-{
-    judge(alloc, cert, problem)
-}
-
-/// Checks the saturation, and that it is of the problem, where one is given.
-pub fn judge_saturation(
-    alloc: Global,
-    cert: Saturation,
-    problem: Option<&Problem>,
-) -> Result<Result<CheckedSaturation, Judgement>, Memory>
-    requires whole { IsWholeSaturation cert }
-    requires problem { ForSome problem (λ p. AreFormedClauses p.now.clauses) }
-    ensures { IfOk result (IsChecked saturation_value (option_copied problem.entry) (saturation_value cert)) }
-{
-    judge(alloc, cert, problem)
-}
-
-/// Checks the saturation that names its covers, and that it is of the problem, where one is given.
-pub fn judge_covered(
-    alloc: Global,
-    cert: Covered,
-    problem: Option<&Problem>,
-) -> Result<Result<CheckedCovered, Judgement>, Memory>
-    requires whole { IsWholeCovered cert }
-    requires problem { ForSome problem (λ p. AreFormedClauses p.now.clauses) }
-    ensures { IfOk result (IsChecked covered_value (option_copied problem.entry) (covered_value cert)) }
-{
-    judge(alloc, cert, problem)
 }

@@ -5,8 +5,8 @@ ghost use Rattle.inst_logic.specs.WellFormed.{IsAtom};
 ghost use Rattle.inst_calculus.specs.Models.{IsTrueBy};
 ghost use Rattle.cert_format.specs.Validity.{IsValid};
 ghost use Rattle.term_bank.specs.Forest.{is_ground};
-ghost use Rattle.saturation_cert.specs.Wholes.{AreLight, IsWholeCovered, IsWholeSaturation};
-ghost use Rattle.cert_front.specs.Kinds.{covered_value, saturation_value, selected_of};
+ghost use Rattle.saturation_cert.specs.Wholes.{AreLight};
+ghost use Rattle.cert_front.specs.Kinds.{selected_of};
 ghost use Rattle.cert_front.specs.Replies.{IsReply};
 
 use crate::kind::Kind;
@@ -101,56 +101,4 @@ pub(crate) fn ask<C: Truthful>(alloc: Global, cert: C, atom: &Literal) -> Result
         Err(CheckError::Complaint(complaint)) => Ok(Reply::Invalid(complaint)),
         Err(CheckError::Memory) => Err(Memory),
     }
-}
-
-/// What the checked saturation says of the ground atom, for who has checked it; the literal's sign is not asked for. The value
-/// is dropped.
-pub fn reply_of_saturation(
-    alloc: Global,
-    checked: CheckedSaturation,
-    atom: &Literal,
-) -> Result<Reply, Memory>
-    requires light { AreLight (selected_of (saturation_value checked)) }
-    requires atom { IsAtom (literal atom.now).atom }
-    requires variable_free { is_ground (literal atom.now).atom ≡ true }
-    ensures { IfOk result (IsReply (saturation_value checked) (literal atom.now).atom) }
-{
-    reply_of::<Saturation>(alloc, checked, atom)
-}
-
-/// What the checked saturation with its covers says of the ground atom, for who has checked it; the literal's sign is not asked
-/// for. The value is dropped.
-pub fn reply_of_covered(
-    alloc: Global,
-    checked: CheckedCovered,
-    atom: &Literal,
-) -> Result<Reply, Memory>
-    requires light { AreLight (selected_of (covered_value checked)) }
-    requires atom { IsAtom (literal atom.now).atom }
-    requires variable_free { is_ground (literal atom.now).atom ≡ true }
-    ensures { IfOk result (IsReply (covered_value checked) (literal atom.now).atom) }
-{
-    reply_of::<Covered>(alloc, checked, atom)
-}
-
-/// What the saturation says of the ground atom, once it is checked.
-pub fn ask_saturation(alloc: Global, cert: Saturation, atom: &Literal) -> Result<Reply, Memory>
-    requires whole { IsWholeSaturation cert }
-    requires light { AreLight (selected_of (saturation_value cert)) }
-    requires atom { IsAtom (literal atom.now).atom }
-    requires variable_free { is_ground (literal atom.now).atom ≡ true }
-    ensures { IfOk result (IsReply (saturation_value cert) (literal atom.now).atom) }
-{
-    ask(alloc, cert, atom)
-}
-
-/// What the saturation with its covers says of the ground atom, once it is checked.
-pub fn ask_covered(alloc: Global, cert: Covered, atom: &Literal) -> Result<Reply, Memory>
-    requires whole { IsWholeCovered cert }
-    requires light { AreLight (selected_of (covered_value cert)) }
-    requires atom { IsAtom (literal atom.now).atom }
-    requires variable_free { is_ground (literal atom.now).atom ≡ true }
-    ensures { IfOk result (IsReply (covered_value cert) (literal atom.now).atom) }
-{
-    ask(alloc, cert, atom)
 }

@@ -9,7 +9,6 @@ use Rattle.cert_check.specs.declared.fingerprint.Fingerprint.{Fingerprint}
 use Rattle.cert_check.specs.Fingerprints.{TellApart, fingerprint_at}
 use Rattle.cert_check.specs.Lengths.{AreGrouped}
 use Rattle.cert_check.specs.Lookups.{AreClausesOf}
-use Rattle.cert_check.specs.Origins.{ArePremises}
 use Rattle.cert_check.specs.Partners.{AreApart, Head, head_at}
 use Rattle.cert_check.proofs.LookupLaws.{member_marked}
 use Rattle.cert_check.proofs.lookup.find_lookup.Goals as goal
@@ -41,7 +40,6 @@ returns c =
         marked = λ k m within. member_marked cert k (head_at hs k) (fingerprint_at ps k) (c.in_ok-heads.ensures.heads k (omega (arith, places, within))) (c.in_ok-fingerprints.ensures.each k (omega (arith, count, within))) m within;
         groups = subst (λ (ms : List Member). AreGrouped ms hs c.in_ok-lengths.lengths) c.as_slice-members.ensures
             (subst (λ (xs : List Head). AreGrouped c.as_slice-members.result.now xs c.in_ok-lengths.lengths) c.deref-3.ensures.value c.in_ok-lengths.ensures);
-        made = subst (λ (ms : List Member). ArePremises ms c.in_ok-made.made.keys) c.as_slice-members.ensures c.in_ok-made.ensures;
       };
       meetings = c.in_ok-meetings.ensures (saturation_of cert) (ap (λ (xs : List Head). length xs) same ∙ places ∙ sym (length-map cert.base.members (entry_of cert.base.bank)))
           (subst (AreApart (saturation_of cert)) (sym same) c.in_ok-heads.ensures.apart) (subst (TellApart (saturation_of cert)) (sym c.deref-2.ensures.value) c.in_ok-fingerprints.ensures.apart);

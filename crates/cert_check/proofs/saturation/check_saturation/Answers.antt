@@ -1,19 +1,19 @@
-use Rattle.std.proofs.Common.{sym, subst}
+use Rattle.std.proofs.Common.{subst}
 use Rattle.cert_format.specs.Validity.{IsValidSaturation}
-use Rattle.saturation_cert.specs.Values.{saturation_of}
-use Rattle.cert_check.proofs.Saturations.{saturation_same, members_formed}
+use Rattle.saturation_cert.specs.Values.{covered_of, saturation_of}
+use Rattle.cert_check.proofs.Saturations.{members_formed}
 use Rattle.cert_check.proofs.saturation.check_saturation.Goals as goal
 
 pub invariant_of-result : goal.invariant_of-result
 invariant_of-result c =
-    let same = saturation_same c.args.cert c.check.new.cert c.requires c.check.ensures.kept in
-    (c.in_ok-check.ensures.whole, subst IsValidSaturation (sym same) c.in_ok-check.ensures.valid)
+    (c.in_ok-cert.ensures.whole.cert, c.named_is_valid.ensures.valid (covered_of c.in_ok-cert.field-0) c.in_ok-cert.ensures.named)
 
-pub returns-clause-same : goal.returns-clause-same
-returns-clause-same c = saturation_same c.args.cert c.check.new.cert c.requires c.check.ensures.kept
+pub returns-clause-valid : goal.returns-clause-valid
+returns-clause-valid c =
+    subst IsValidSaturation c.in_ok-cert.ensures.same (c.named_is_valid.ensures.valid (covered_of c.in_ok-cert.field-0) c.in_ok-cert.ensures.named)
 
 pub returns-clause-saturated : goal.returns-clause-saturated
-returns-clause-saturated c = c.valid_saturations_are_models.ensures.saturated (saturation_of c.args.cert) c.in_ok-check.ensures.valid
+returns-clause-saturated c = c.valid_saturations_are_models.ensures.saturated (saturation_of c.args.cert) (returns-clause-valid c)
 
 pub returns-clause-makes : goal.returns-clause-makes
-returns-clause-makes c = c.valid_saturations_are_models.ensures.makes (saturation_of c.args.cert) (members_formed c.args.cert c.requires) c.in_ok-check.ensures.valid
+returns-clause-makes c = c.valid_saturations_are_models.ensures.makes (saturation_of c.args.cert) (members_formed c.args.cert c.requires) (returns-clause-valid c)

@@ -1,7 +1,6 @@
 use Rattle.std.proofs.Common.{◌≡◌, ◌∙◌, List, ℕ, [], Option, None, ap, sym}
 use Rattle.std.specs.Prelude.{option_copied, slice_get, unwrap_or}
 use Rattle.std.proofs.lemmas.Option.{unwrap_or-slice_get}
-use Rattle.cert_check.specs.Chains.{list_at}
 use Rattle.cert_check.proofs.meetings.Meetings.opposites_of.Goals as goal
 
 pub returns-in-None : goal.returns-in-None

@@ -1,5 +1,5 @@
 use Rattle.cert_check.proofs.Closings.{proper_first, proper_second}
-use Rattle.cert_check.proofs.pairs.is_proper.Goals as goal
+use Rattle.cert_check.proofs.covering.is_proper.Goals as goal
 
 pub returns-then-proper : goal.returns-then-proper
 returns-then-proper c = proper_first c.args.bank.now c.args.bindings.now.entries (c.proper.ensures.yes c.if-proper.true)

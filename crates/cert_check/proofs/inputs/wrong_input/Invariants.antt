@@ -1,7 +1,0 @@
-use Rattle.std.proofs.Common.{ℕ, suc, ◌<◌}
-use Rattle.cert_format.specs.Validity.{IsRightInput}
-use Rattle.saturation_cert.specs.Values.{saturation_of}
-use Rattle.cert_check.proofs.inputs.wrong_input.Given as goal
-
-abbrev pub invariant-loop-i : goal.invariant-loop-i
-invariant-loop-i l = (k : ℕ) → k < l.i → IsRightInput (saturation_of l.cert) (suc k)

@@ -1,8 +1,0 @@
-use Rattle.std.proofs.Common.{List, ℕ, suc, sym, subst}
-use Rattle.saturation_cert.specs.Values.{saturation_of}
-use Rattle.cert_check.specs.Meetings.{LeadsOn}
-use Rattle.cert_check.proofs.pairs.wrong_partner.Goals as goal
-
-pub wrong_among-requires-clause-partners : goal.wrong_among-requires-clause-partners
-wrong_among-requires-clause-partners c =
-    subst (λ (js : List ℕ). LeadsOn (saturation_of c.args.cert.now) c.args.i (suc c.args.i) js) (sym c.as_slice.ensures.value) c.in_ok-later_partners.ensures
