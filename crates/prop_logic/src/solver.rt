@@ -75,8 +75,7 @@ pub trait Solver: Drop {
         ensures atoms { atoms self.new ≡ atoms self.old }
         ensures added { added self.new ≡ added self.old }
         ensures spent { spent self.new ≡ spent self.old }
-    {
-    }
+    {}
 }
 
 /// Makes so many atoms.
