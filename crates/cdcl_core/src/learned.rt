@@ -3,8 +3,8 @@
 // a tenth after a hundred conflicts, after half as many more, and so on: where it rises each time that some are forgotten,
 // nearly all of them are kept in a long search, and propagation pays for each.
 
+use crate::clause_activity::ClauseActivity;
 use crate::packed_hint::PackedHint;
-use crate::uses::Uses;
 use cdcl_trail::Clauses;
 use inst_logic::Memory;
 use prop_logic::Answer;
@@ -55,7 +55,7 @@ const NO_RANK: Rank = Rank {
 pub(crate) struct Learned {
     ranks: Vec<Rank>,
     passed: Vec<Rank>,
-    uses: Uses,
+    activity: ClauseActivity,
     limit: usize,
     pub(crate) conflicts: u64,
     due: u64,
@@ -68,7 +68,7 @@ impl Learned {
         Learned {
             ranks: Vec::new(alloc),
             passed: Vec::new(alloc),
-            uses: Uses::new(alloc),
+            activity: ClauseActivity::new(alloc),
             limit: FIRST,
             conflicts: 0,
             due: CONFLICTS,
@@ -104,7 +104,7 @@ impl Learned {
         literals: usize,
         hints: &[PackedHint],
     ) -> Result<(), Memory> {
-        self.uses.see(step, hints);
+        self.activity.see(step, hints);
         self.count();
         if literals <= SHORT {
             return Ok(());
@@ -150,7 +150,7 @@ impl Learned {
         for place in 0..self.ranks.len() {
             if place < self.ranks.len() {
                 let rank = self.ranks[place];
-                let unused = u64::MAX - self.uses.count(rank.step as usize);
+                let unused = u64::MAX - self.activity.count(rank.step as usize);
                 self.ranks[place] = Rank { unused, ..rank };
             }
         }

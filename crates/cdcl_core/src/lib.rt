@@ -5,24 +5,24 @@
 
 mod analysis;
 mod cdcl;
+mod clause_activity;
 mod cut;
+mod fresh_start;
 mod learned;
 mod log;
 mod marks;
 mod memo;
 mod names;
 mod order;
-mod pace;
 mod packed_hint;
 mod phases;
 mod places;
 mod probing;
 mod reasons;
 mod redundancy;
-mod renewal;
+mod restart;
 mod search;
 mod steps;
 mod units;
-mod uses;
 
 pub use cdcl::Cdcl;

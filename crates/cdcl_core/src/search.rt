@@ -19,14 +19,14 @@ ghost use Rattle.cdcl_core.specs.Search.{IsKept, IsTrueUpTo, IsSearch, IsCoreIn,
 
 use crate::analysis::{Analysis, analyze, analyze_given, literal_at};
 use crate::cut::{LastStep, cut};
+use crate::fresh_start::renew_where_due;
 use crate::learned::Learned;
 use crate::log::Log;
 use crate::marks::Marks;
-use crate::pace::Pace;
 use crate::packed_hint::PackedHint;
 use crate::phases::Phases;
 use crate::reasons::mark_reasons;
-use crate::renewal::renew_where_due;
+use crate::restart::Restarts;
 use crate::units::unite_all;
 use cdcl_trail::{Clauses, Trail};
 use compact_lists::Literals;
@@ -687,10 +687,10 @@ impl Search {
         if let Some(answer) = self.probe_where_due(assumptions)? {
             return Ok(answer);
         }
-        let mut pace = Pace::new();
+        let mut restarts = Restarts::new();
         loop {
-            if pace.is_due() {
-                pace.restart();
+            if restarts.is_due() {
+                restarts.restart();
                 self.restart();
                 continue;
             }
@@ -699,7 +699,7 @@ impl Search {
                 self.learned.see_answer(&answer);
                 return Ok(answer);
             }
-            pace.see(level, self.trail.level());
+            restarts.see(level, self.trail.level());
         }
     }
 }

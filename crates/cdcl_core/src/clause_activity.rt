@@ -1,4 +1,5 @@
-// How often conflicts met the clause of each step. What a later conflict meets counts more. Nothing is proved of the counts.
+// The activity of learned clauses (Eén and Sörensson, An extensible SAT-solver, 2003): how often conflicts met the clause of each
+// step, where a later conflict counts more. Nothing is proved of the counts.
 
 use crate::packed_hint::PackedHint;
 use prop_logic::Hint;
@@ -8,14 +9,14 @@ const HIGHEST: u64 = 1 << 60;
 
 // The counts by the numbers of steps, and what the next conflict counts.
 #[derive(Drop)]
-pub(crate) struct Uses {
+pub(crate) struct ClauseActivity {
     counts: Vec<u64>,
     weight: u64,
 }
 
-impl Uses {
-    pub(crate) fn new(alloc: Global) -> Uses {
-        Uses {
+impl ClauseActivity {
+    pub(crate) fn new(alloc: Global) -> ClauseActivity {
+        ClauseActivity {
             counts: Vec::new(alloc),
             weight: 1 << 20,
         }

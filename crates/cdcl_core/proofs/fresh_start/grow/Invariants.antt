@@ -1,6 +1,6 @@
 use Rattle.std.proofs.Common.{◌≡◌, ◌+◌}
 use Rattle.cdcl_core.specs.Search.{IsKept}
-use Rattle.cdcl_core.proofs.renewal.grow.Given as goal
+use Rattle.cdcl_core.proofs.fresh_start.grow.Given as goal
 
 abbrev pub invariant-loop : goal.invariant-loop
 invariant-loop l = record {

@@ -1,6 +1,6 @@
 use Rattle.std.proofs.Common.{◌≡◌, take}
 use Rattle.cdcl_core.specs.Search.{IsKept}
-use Rattle.cdcl_core.proofs.renewal.add_all.Given as goal
+use Rattle.cdcl_core.proofs.fresh_start.add_all.Given as goal
 
 abbrev pub invariant-loop-place : goal.invariant-loop-place
 invariant-loop-place l = record {

@@ -2,7 +2,7 @@ use Rattle.std.proofs.Common.{◌≡◌, [], ◌∷◌, ◌++◌, get_or, sym, �
 use Rattle.std.specs.Prelude.{slice_get}
 use Rattle.std.proofs.lemmas.List.{take_more}
 use Rattle.std.proofs.lemmas.Option.{get_or_from_slice_get}
-use Rattle.cdcl_core.proofs.renewal.add_next.Goals as goal
+use Rattle.cdcl_core.proofs.fresh_start.add_next.Goals as goal
 
 pub returns-clause-added : goal.returns-clause-added
 returns-clause-added c =
