@@ -505,7 +505,7 @@ WantsDecision (Err e) exit = exit ≡ end.Refused
 abbrev pub Reader : Type 0 → Type 0
 Reader A = List ℕ → Result A DimacsError
 
--- the file's text is refused for this, which is not want of memory
+-- the file's text is refused for this, and memory did not run out
 abbrev pub IsRefusedBy : {A : Type 0} → Reader A → List NamedFile → List ℕ → DimacsError → Type 0
 IsRefusedBy reads files file fault.Memory = ⊥
 IsRefusedBy reads files file e = (bytes : List ℕ) × IsHeld (Some files) file bytes × (reads bytes ≡ Err e)
@@ -596,7 +596,7 @@ abbrev pub IsWanted : Situation → Exit → Type 0
 IsWanted (asks question found) exit = Wants question found exit
 IsWanted unread exit = exit ≡ end.Usage
 
--- the exit is that of a fault that has its cause, or of want of memory
+-- the exit is that of a fault that has its cause, or of being out of memory
 abbrev pub Yields : Reading → Writing → Exit → Type 0
 Yields read write exit =
     ((exit ≡ end.ReadFault) × Rose read.old.faults read.new.faults) ⊎ ((exit ≡ end.WriteFault) × Rose write.old.faults write.new.faults) ⊎ (exit ≡ end.Memory)
