@@ -12,7 +12,7 @@ import tempfile
 
 PROGRAM = pathlib.Path(__file__).resolve().parent / 'program'
 USAGE, REFUSED, UNREAD = 3, 2, 4  # exit statuses, as the program has them
-UNBUILT, INTERRUPTED = 70, 130
+UNWRITTEN, UNBUILT, INTERRUPTED = 5, 70, 130
 SATURATION = '% SZS status Satisfiable for '  # what a certificate begins with
 REFUTATION = '% SZS status Unsatisfiable for '
 ENDS = '% SZS output end '
@@ -63,7 +63,7 @@ def run_script(words, main):
         status = failure.status
     except OSError as error:
         print(f'{script}: {error.filename or "standard output"}: {error.strerror}', file=sys.stderr)
-        status = UNREAD
+        status = UNREAD if error.filename else UNWRITTEN
     except KeyboardInterrupt:
         status = INTERRUPTED
     sys.exit(status)
