@@ -47,6 +47,8 @@ def beginning(text, kinds=(), limit=10, build=built, add=lambda parser: None):
     parser.add_argument("--program", metavar="FILE", help="a program that is built already")
     add(parser)
     given = parser.parse_args()
+    if given.program and not shutil.which(given.program):
+        parser.error(f"there is no program {given.program}")
     if kinds:
         unknown = [it for it in given.kinds if it not in kinds]
         if unknown:

@@ -12,7 +12,7 @@ import tempfile
 
 PROGRAM = pathlib.Path(__file__).resolve().parent / 'program'
 USAGE, REFUSED, UNREAD = 3, 2, 4  # exit statuses, as the program has them
-UNBUILT, INTERRUPTED = 70, 130
+UNWRITTEN, UNBUILT, INTERRUPTED = 5, 70, 130
 SATURATION = '% SZS status Satisfiable for '  # what a certificate begins with
 REFUTATION = '% SZS status Unsatisfiable for '
 ENDS = '% SZS output end '
@@ -63,7 +63,7 @@ def run_script(words, main):
         status = failure.status
     except OSError as error:
         print(f'{script}: {error.filename or "standard output"}: {error.strerror}', file=sys.stderr)
-        status = UNREAD
+        status = UNREAD if error.filename else UNWRITTEN
     except KeyboardInterrupt:
         status = INTERRUPTED
     sys.exit(status)
@@ -112,10 +112,15 @@ def answer_parts(answer):
 
 def first_certificate(path):
     """the first certificate of an answer, without a line like `s TRUE` or `% core of ..` before it"""
-    _, certificates = answer_parts(text_of(path))
+    head, certificates = answer_parts(text_of(path))
     if not certificates:
-        raise Failure(f'{path}: there is no certificate in it; it is what `instgen prove FILE >CERT` writes')
+        raise Failure(f'{path}: there is no certificate in it' + (said_instead(head) or '; it is what `instgen prove FILE >CERT` writes'))
     return certificates[0]
+
+
+def said_instead(head):
+    """what the program says in the place of an answer, behind a colon; nothing where it says no such thing"""
+    return f': {" ".join(line.strip() for line in rows(head)[:2])}' if head.startswith('% SZS status ') else ''
 
 
 def core_places(head):

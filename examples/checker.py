@@ -469,7 +469,7 @@ def wanted_clauses(head, name, root):
         return flattened(clauses, int(size)) if size else clauses
     try:
         return formula_clauses(text)
-    except (Misread, ValueError):
+    except (Misread, ValueError, IndexError):
         return refuse('SyntaxError', f'% syntax: {name}')
 def read_words(arguments):
     parser = argparse.ArgumentParser(description=__doc__, formatter_class=argparse.RawDescriptionHelpFormatter, allow_abbrev=False)
@@ -496,5 +496,11 @@ def answer(arguments):
 
 if __name__ == '__main__':
     printed, code = answer(sys.argv[1:])
-    sys.stdout.buffer.write(printed.encode('latin-1'))
+    try:
+        with open(1, 'wb', buffering=0, closefd=False) as output:
+            output.write(printed.encode('latin-1'))
+    except OSError:
+        code = 5
+    if code == 3:
+        print('usage: checker.py CERT [--problem FILE] [--root DIR]', file=sys.stderr)
     sys.exit(code)
