@@ -1,7 +1,7 @@
 // Failed literals, before a search: where a literal alone leads to a conflict by propagation, a clause of one literal is learned
 // from the conflict (Freeman, Improvements to propositional satisfiability search algorithms, 1995; Le Berre, Exploiting the real
 // power of unit propagation lookahead, 2001; Lynce and Marques-Silva, Probing-based preprocessing techniques for propositional
-// satisfiability, 2003). This goes on until no literal fails, or for too long without one that does. Only literals that make some
+// satisfiability, 2003). This goes on until no literal fails, for too long without one that does, or for too long in all. Only literals that make some
 // added clause unit are probed: propagation finds nothing from the others.
 ghost use Rattle.std.specs.Prelude.{◌≡◌, ◌<◌, [], None, IfOk, IfSome};
 ghost use Rattle.prop_logic.specs.Literal.{AtomsBelow, AllAtomsBelow};
@@ -19,6 +19,9 @@ use std::alloc::Global;
 // Between two that fail, so many literals are propagated at most for each atom and each added clause.
 const PATIENCE: usize = 5;
 
+// And so many at most in all, also where some fail.
+const MOST: usize = 10_000_000;
+
 // A literal is probed at most so many times, in the mean of all.
 const TURNS: usize = 100;
 
@@ -35,7 +38,7 @@ struct Probed {
 
 // The literals by their numbers, 2 a for the negative and 2 a + 1 for the positive one of atom a. In rounds each is probed that is a
 // candidate; those of this round were found where there were `facts` facts, and the next one is looked for from `number` on. So
-// many literals as `left` says may still be propagated, and as `patience` says after one fails.
+// many literals as `left` says may still be propagated, as `patience` says after one fails, and never more than `most`.
 #[derive(Drop)]
 pub(crate) struct Probing {
     literals: Vec<Probed>,
@@ -43,6 +46,7 @@ pub(crate) struct Probing {
     facts: usize,
     patience: usize,
     left: usize,
+    most: usize,
 }
 
 fn number_of(lit: Lit) -> usize {
@@ -83,7 +87,8 @@ impl Probing {
             number: 0,
             facts: NEVER,
             patience,
-            left: patience,
+            left: patience.min(MOST),
+            most: MOST,
         })
     }
 
@@ -173,7 +178,14 @@ impl Probing {
 
     // Counts what was propagated.
     fn spend(&mut self, literals: usize) {
+        self.most = self.most.saturating_sub(literals);
         self.left = self.left.saturating_sub(literals);
+    }
+
+    // Counts what was propagated to a conflict, from which on there is patience again.
+    fn renew(&mut self, literals: usize) {
+        self.most = self.most.saturating_sub(literals);
+        self.left = self.patience.min(self.most);
     }
 }
 
@@ -205,7 +217,7 @@ impl Search {
         let count = self.trail.assigned().len();
         match conflict {
             Some(number) => {
-                probing.left = probing.patience;
+                probing.renew(count.saturating_sub(facts));
                 self.resolve(number)
             }
             None => {
