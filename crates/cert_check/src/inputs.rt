@@ -1,5 +1,4 @@
-// The check that the members stand for the inputs and axioms. One look-up sees an input that is a member, also where an earlier
-// input is the same; for the others the member that names the input as its origin is tried before all.
+// Which member subsumes an input or an axiom. The member that names the input as its origin is tried before all.
 ghost use Rattle.std.specs.Prelude.{◌≡◌, ◌+◌, length, All, Any, IfNone, IfOk, IfSome};
 ghost use Rattle.inst_logic.specs.Clauses.{Subsumes};
 ghost use Rattle.term_bank.specs.Forest.{IsClauseOf, clause_at};
