@@ -1,4 +1,4 @@
--- Marks and counts, and one entry further back.
+-- The atoms that are seen (their marks) and counts, and one entry further back.
 use Rattle.std.proofs.Common.{◌≡◌, ◌≢◌, ℕ, suc, zero, ◌+◌, ◌-◌, ◌^◌, ◌<◌, ◌≤◌, min, Bool, true, false, cond, ◌⊎◌, inl, inr, List, [], ◌∷◌, ◌++◌, length, map, take, set, get_or, replicate, Option, Some, None, IsPermutation, refl, sym, ap, ◌∙◌, subst, arith}
 use Rattle.std.specs.Prelude.{All, AllPairs, Contains, slice_get, unwrap_or, ◌==◌, ◌&&◌}
 use Rattle.std.proofs.lemmas.List.{get_or-set_same, get_or-set_other}
@@ -111,7 +111,7 @@ counted_present t i a marks was is v room more c =
     let size = take_short t.entries i in
     omega (arith, one_more, short, size, more, c)
 
--- and at another one
+-- a new mark at another level
 pub counted_other : (t : Trail) (i a : ℕ) (marks : List Bool) (n : ℕ) → IsTrail t → (unwrap_or (level_of t.entries a) 0 ≡ t.level → ⊥) → AreCounted t i marks n → AreCounted t i (set marks a true) n
 counted_other t i a marks n v other c =
     let kept = count_same t.level marks a (take i t.entries) (λ e k s here. other (level_is t e a v (Contains-take t.entries i e k) s ∙ here)) in

@@ -13,10 +13,11 @@ use Rattle.cdcl_trail.specs.Propagation.{IsFalseIn, IsConflict}
 use Rattle.cdcl_trail.proofs.LevelLaws.{up_to_up_to}
 use Rattle.cdcl_trail.proofs.TrailLaws.{level_within}
 use Rattle.prop_logic.specs.declared.solver.Answer.{Answer}
+use Rattle.cdcl_core.specs.declared.activity.Activity.{Activity}
 use Rattle.cdcl_core.specs.declared.search.Search.{Search}
 use Rattle.cdcl_core.specs.Search.{IsKept, IsTrueUpTo, IsSearch, IsBackFrom, weight, Advances, Ends}
 use Rattle.cdcl_core.proofs.EntryLaws.{entry_at, pair_at, before_or_here, of_false, to_false, level_found, reason_found}
-use Rattle.cdcl_core.proofs.GoLaws.{marks_search, none_of}
+use Rattle.cdcl_core.proofs.GoLaws.{seen_search, none_of}
 use Rattle.cdcl_core.proofs.KeptLaws.{ends_from}
 use Rattle.cdcl_core.proofs.Measure.{weight_below, weight_backjump}
 use Rattle.cdcl_core.proofs.RoomLaws.{room}
@@ -61,14 +62,14 @@ back_from old new level v low trail kept assumed checked log = record {
   search = λ assumptions s. back_search assumptions old new level low trail kept assumed checked s;
 }
 
-pub back_marks : (first s : Search) (m : List Bool) → length m ≡ length s.marks → IsBackFrom first s → IsBackFrom first (record s { marks = m })
-back_marks first s m same b = record {
+pub back_seen : (first s : Search) (m : List Bool) (a : Activity) → length m ≡ length s.seen → IsBackFrom first s → IsBackFrom first (record s { seen = m; activity = a })
+back_seen first s m a same b = record {
   trail = b.trail;
   level = b.level;
   within = b.within;
   back = b.back;
   added = b.added;
-  search = λ assumptions x. marks_search assumptions s m same (b.search assumptions x);
+  search = λ assumptions x. seen_search assumptions s m a same (b.search assumptions x);
 }
 
 -- the clause is false at the highest level of its literals

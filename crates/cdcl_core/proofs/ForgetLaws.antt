@@ -55,14 +55,14 @@ no_reason t clauses c n v g here all = All-from_contained (λ e. e.reason ≢ So
 
 pub forgot : (old new : Search) (n : ℕ) → RemovesClause old.clauses new.clauses n → ((i : ℕ) → slice_get old.log.names n ≡ Some (Added i) → ⊥) → All (λ e. e.reason ≢ Some n) old.trail.trail.entries
     → new.trail.trail ≡ old.trail.trail → ((before after : List (Option (List (Signed ℕ)))) → RemovesClause before after n → AreAttached old.trail before → AreAttached new.trail after)
-    → new.log ≡ old.log → new.marks ≡ old.marks → new.phases ≡ old.phases → IsKept old → IsKept new
+    → new.log ≡ old.log → new.seen ≡ old.seen → new.phases ≡ old.phases → IsKept old → IsKept new
 forgot old new n r step free trail attached log marks phases k =
     let atoms : new.trail.trail.atoms ≡ old.trail.trail.atoms = ap (λ x. x.atoms) trail in
     record {
       log = subst (λ m. IsLog m new.clauses new.log) (sym atoms) (subst (IsLog old.trail.trail.atoms new.clauses) (sym log) (log_forgot old.trail.trail.atoms old.clauses new.clauses n old.log r step k.log));
       given = subst (AreGiven new.clauses) (sym (ap (λ x. x.entries) trail)) (given_forgot old.clauses new.clauses n old.trail.trail.entries r free k.given);
       attached = attached old.clauses new.clauses r k.attached;
-      marks = ap length marks ∙ k.marks ∙ sym atoms;
+      seen = ap length marks ∙ k.seen ∙ sym atoms;
       phases = phases_same old.trail.trail new.trail.trail old.phases new.phases trail phases k.phases;
     }
 
@@ -73,7 +73,7 @@ found_clause (Some b) clauses n some e = (b.now, sym e)
 -- nothing rests on the list of the learned clauses
 pub same_learned : (s : Search) (learned : Learned) → IsKept s → IsSameButClauses s (record s { learned = learned })
 same_learned s learned k = record {
-  kept = record { log = k.log; given = k.given; attached = k.attached; marks = k.marks; phases = k.phases };
+  kept = record { log = k.log; given = k.given; attached = k.attached; seen = k.seen; phases = k.phases };
   trail = refl;
   log = refl;
   assumed = refl;

@@ -18,6 +18,7 @@ use Rattle.prop_logic.specs.Cut.{IsCutOf}
 use Rattle.prop_logic.proofs.SearchLaws.{ends_with_push, good_push, sub_contains}
 use Rattle.cdcl_trail.specs.declared.entry.Entry.{Entry}
 use Rattle.cdcl_trail.specs.Trail.{Trail, IsTrail, IsDecision, reason_of, literals_of}
+use Rattle.cdcl_core.specs.declared.activity.Activity.{Activity}
 use Rattle.cdcl_core.specs.declared.search.Search.{Search}
 use Rattle.cdcl_core.specs.Analysis.{ShowsGiven, IsMarked}
 use Rattle.cdcl_core.specs.Search.{IsKept, IsTrueUpTo, IsSearch, Ends, IsInCore, IsCoreIn}
@@ -25,10 +26,10 @@ use Rattle.cdcl_core.proofs.EntryLaws.{of_literals, reason_found}
 use Rattle.cdcl_core.proofs.KeptLaws.{kept_same, closes_shown, closes_hinted}
 use Rattle.cdcl_core.proofs.EndLaws.{answer_refutes, core_free, core_has, clash_answer}
 
--- other marks
-pub marks_search : (assumptions : List (Signed ℕ)) (s : Search) (m : List Bool) → length m ≡ length s.marks → IsSearch assumptions s → IsSearch assumptions (record s { marks = m })
-marks_search assumptions s m same k = record {
-  kept = kept_same s (record s { marks = m }) refl refl refl same (λ p. p) k.kept;
+-- other atoms are seen, with another activity
+pub seen_search : (assumptions : List (Signed ℕ)) (s : Search) (m : List Bool) (a : Activity) → length m ≡ length s.seen → IsSearch assumptions s → IsSearch assumptions (record s { seen = m; activity = a })
+seen_search assumptions s m a same k = record {
+  kept = kept_same s (record s { seen = m; activity = a }) refl refl refl same (λ p. p) k.kept;
   low = k.low;
   decisions = k.decisions;
   all_true = k.all_true;
@@ -86,8 +87,8 @@ pub none_of : {X : Type 0} (o : Option X) → is_some o ≡ false → o ≡ None
 none_of None e = refl
 none_of (Some x) e = absurd (true≢false e)
 
-pub marks_ends : (assumptions : List (Signed ℕ)) (s new : Search) (m : List Bool) (a : Answer) → Ends assumptions (record s { marks = m }) new a → Ends assumptions s new a
-marks_ends assumptions s new m a c = record { kept = c.kept; same = record { atoms = c.same.atoms; added = c.same.added }; answered = c.answered }
+pub seen_ends : (assumptions : List (Signed ℕ)) (s new : Search) (m : List Bool) (a : Answer) → Ends assumptions (record s { seen = m }) new a → Ends assumptions s new a
+seen_ends assumptions s new m a c = record { kept = c.kept; same = record { atoms = c.same.atoms; added = c.same.added }; answered = c.answered }
 
 one_mark : (n a : ℕ) (m : List Bool) → m ≡ set (replicate n false) a true → a < n → (length m ≡ n) × IsMarked m a
 one_mark n a m e h = (
@@ -96,17 +97,17 @@ one_mark n a m e h = (
 )
 
 -- an assumption and its complement
-pub clash_ends : (assumptions core : List (Signed ℕ)) (s : Search) (m : List Bool) (l : Signed ℕ) (derivation : List Step) → m ≡ set (replicate (length s.marks) false) l.atom true → IsKept s → AtomsBelow s.trail.trail.atoms assumptions → IsCoreIn s.trail.trail.entries m l assumptions core → Contains assumptions l → Contains assumptions (complement l)
-    → (e : Entry) × Contains s.trail.trail.entries e × (e.lit ≡ complement l) × IsDecision e → derivation ≡ (record { clause = map complement core; hints = [] }) ∷ [] → Ends assumptions s (record s { marks = m }) (Unsat core derivation)
-clash_ends assumptions core s m l derivation marks k low c here there e is =
-    let n = length s.marks in
-    let inside : l.atom < n = let a = All-contains (λ x. x.atom < s.trail.trail.atoms) assumptions l low here in omega (arith, a, k.marks) in
+pub clash_ends : (assumptions core : List (Signed ℕ)) (s : Search) (m : List Bool) (a : Activity) (l : Signed ℕ) (derivation : List Step) → m ≡ set (replicate (length s.seen) false) l.atom true → IsKept s → AtomsBelow s.trail.trail.atoms assumptions → IsCoreIn s.trail.trail.entries m l assumptions core → Contains assumptions l → Contains assumptions (complement l)
+    → (e : Entry) × Contains s.trail.trail.entries e × (e.lit ≡ complement l) × IsDecision e → derivation ≡ (record { clause = map complement core; hints = [] }) ∷ [] → Ends assumptions s (record s { seen = m; activity = a }) (Unsat core derivation)
+clash_ends assumptions core s m a l derivation marks k low c here there e is =
+    let n = length s.seen in
+    let inside : l.atom < n = omega (arith, All-contains (λ x. x.atom < s.trail.trail.atoms) assumptions l low here, k.seen) in
     let one = one_mark n l.atom m marks inside in
     let marked : IsMarked m e.0.lit.atom = subst (λ x. IsMarked m x.atom) (sym e.2) one.1 in
     let first = All-contains (λ x. IsInCore s.trail.trail.entries m l x → Contains core x) assumptions l c.whole here (inl refl) in
     let second = All-contains (λ x. IsInCore s.trail.trail.entries m l x → Contains core x) assumptions (complement l) c.whole there (inr (e.0, e.1, e.2, e.3, marked)) in
     record {
-      kept = kept_same s (record s { marks = m }) refl refl refl one.0 (λ p. p) k;
+      kept = kept_same s (record s { seen = m; activity = a }) refl refl refl one.0 (λ p. p) k;
       same = record { atoms = refl; added = refl };
       answered = subst (λ d. IsAnswer s.trail.trail.atoms s.log.added assumptions (Unsat core d)) (sym is) (clash_answer s.trail.trail.atoms s.log.added assumptions core l c.within (core_atoms s.trail.trail.atoms assumptions core low c.within) first second);
     }

@@ -1,5 +1,5 @@
 -- What is kept from one question to the next.
-use Rattle.std.proofs.Common.{◌≡◌, ℕ, suc, zero, ◌+◌, ◌-◌, ◌^◌, ◌<◌, false, List, [], ◌∷◌, ◌++◌, length, map, take, Option, Some, None, refl, sym, ap, ◌∙◌, subst, arith}
+use Rattle.std.proofs.Common.{◌≡◌, ℕ, suc, zero, ◌+◌, ◌-◌, ◌^◌, ◌<◌, Bool, false, List, [], ◌∷◌, ◌++◌, length, map, take, Option, Some, None, refl, sym, ap, ◌∙◌, subst, arith}
 use Rattle.std.specs.Prelude.{All, Contains, slice_get}
 use Rattle.std.proofs.lemmas.List.{length_push}
 use Rattle.std.proofs.lemmas.List.Elements.{All-nil, All-contains, All-weaker}
@@ -37,7 +37,7 @@ none_at : (n : ℕ) → clause_number [] n ≡ None
 none_at zero = refl
 none_at (suc n) = refl
 
-pub new_kept : (s : Search) → s.log.added ≡ [] → s.log.steps ≡ [] → s.clauses ≡ [] → s.trail.trail.entries ≡ [] → s.trail.trail.atoms ≡ 0 → s.marks ≡ [] → s.phases.values ≡ [] → s.phases.saved ≡ 0 → ((clauses : List (Option (List (Signed ℕ)))) → ((n : ℕ) → clause_number clauses n ≡ None) → AreAttached s.trail clauses) → IsKept s
+pub new_kept : (s : Search) → s.log.added ≡ [] → s.log.steps ≡ [] → s.clauses ≡ [] → s.trail.trail.entries ≡ [] → s.trail.trail.atoms ≡ 0 → s.seen ≡ [] → s.phases.values ≡ [] → s.phases.saved ≡ 0 → ((clauses : List (Option (List (Signed ℕ)))) → ((n : ℕ) → clause_number clauses n ≡ None) → AreAttached s.trail clauses) → IsKept s
 new_kept s added steps clauses entries atoms marks values saved attached = record {
   attached = attached s.clauses (λ n. subst (λ x. clause_number x n ≡ None) (sym clauses) (none_at n));
   log = record {
@@ -47,15 +47,15 @@ new_kept s added steps clauses entries atoms marks values saved attached = recor
     good = subst (λ x. AreGood s.log.added s.trail.trail.atoms x) (sym steps) (good_none s.log.added s.trail.trail.atoms);
   };
   given = λ k n e at reason. absurd (none-some e (ap (λ x. slice_get x k) (sym entries) ∙ at));
-  marks = ap length marks ∙ sym atoms;
+  seen = ap length marks ∙ sym atoms;
   phases = no_phases s.trail.trail s.phases values saved atoms;
 }
 
 attached_same : (old new : Search) → new.trail ≡ old.trail → new.clauses ≡ old.clauses → AreAttached old.trail old.clauses → AreAttached new.trail new.clauses
 attached_same old new trail clauses a = subst (λ t. AreAttached t new.clauses) (sym trail) (subst (AreAttached old.trail) (sym clauses) a)
 
--- the same state with other marks, phases and places to look at
-pub kept_same : (old new : Search) → new.log ≡ old.log → new.clauses ≡ old.clauses → new.trail ≡ old.trail → length new.marks ≡ length old.marks → (ArePhases old.trail.trail old.phases → ArePhases new.trail.trail new.phases) → IsKept old → IsKept new
+-- other atoms are seen, with other phases and places to look at
+pub kept_same : (old new : Search) → new.log ≡ old.log → new.clauses ≡ old.clauses → new.trail ≡ old.trail → length new.seen ≡ length old.seen → (ArePhases old.trail.trail old.phases → ArePhases new.trail.trail new.phases) → IsKept old → IsKept new
 kept_same old new log clauses watched marks phases k =
     let trail = ap (λ x. x.trail) watched in
     let atoms = ap (λ x. x.atoms) trail in
@@ -63,41 +63,41 @@ kept_same old new log clauses watched marks phases k =
       attached = attached_same old new watched clauses k.attached;
       log = subst (λ n. IsLog n new.clauses new.log) (sym atoms) (subst (λ x. IsLog old.trail.trail.atoms x new.log) (sym clauses) (subst (IsLog old.trail.trail.atoms old.clauses) (sym log) k.log));
       given = subst (λ x. AreGiven x new.trail.trail.entries) (sym clauses) (subst (AreGiven old.clauses) (sym (ap (λ x. x.entries) trail)) k.given);
-      marks = marks ∙ k.marks ∙ sym atoms;
+      seen = marks ∙ k.seen ∙ sym atoms;
       phases = phases k.phases;
     }
 
-pub atom_kept : (old new : Search) → new.trail.trail ≡ with_atom old.trail.trail → ((clauses : List (Option (List (Signed ℕ)))) → AreAttached old.trail clauses → AreAttached new.trail clauses) → new.clauses ≡ old.clauses → new.log ≡ old.log → new.marks ≡ old.marks ++ false ∷ [] → new.phases.values ≡ old.phases.values ++ false ∷ [] → new.phases.saved ≡ old.phases.saved → IsKept old → IsKept new
-atom_kept old new trail attached clauses log marks values saved k =
+pub atom_kept : (old new : Search) (first : Bool) → new.trail.trail ≡ with_atom old.trail.trail → ((clauses : List (Option (List (Signed ℕ)))) → AreAttached old.trail clauses → AreAttached new.trail clauses) → new.clauses ≡ old.clauses → new.log ≡ old.log → new.seen ≡ old.seen ++ false ∷ [] → new.phases.values ≡ old.phases.values ++ first ∷ [] → new.phases.saved ≡ old.phases.saved → IsKept old → IsKept new
+atom_kept old new first trail attached clauses log marks values saved k =
     let atoms : new.trail.trail.atoms ≡ old.trail.trail.atoms + 1 = ap (λ x. x.atoms) trail in
     record {
       attached = subst (AreAttached new.trail) (sym clauses) (attached old.clauses k.attached);
       log = subst (λ n. IsLog n new.clauses new.log) (sym atoms) (subst (λ x. IsLog (old.trail.trail.atoms + 1) x new.log) (sym clauses) (subst (IsLog (old.trail.trail.atoms + 1) old.clauses) (sym log) (log_atom old.trail.trail.atoms old.clauses old.log k.log)));
       given = subst (λ x. AreGiven x new.trail.trail.entries) (sym clauses) (subst (AreGiven old.clauses) (sym (ap (λ x. x.entries) trail)) k.given);
-      marks = omega (arith, ap length marks, length_push old.marks false, k.marks, atoms);
-      phases = phases_atom old.trail.trail new.trail.trail old.phases new.phases trail values saved k.phases;
+      seen = omega (arith, ap length marks, length_push old.seen false, k.seen, atoms);
+      phases = phases_atom old.trail.trail new.trail.trail old.phases new.phases first trail values saved k.phases;
     }
 
 pub added_kept : (old new : Search) (clause : List (Signed ℕ)) (key : ℕ) → AtomsBelow old.trail.trail.atoms clause → AddsClause old.clauses new.clauses clause key → new.log.added ≡ old.log.added ++ clause ∷ [] → new.log.steps ≡ old.log.steps → PutsName old.log.names new.log.names key (Added (length new.log.added))
-    → new.trail.trail ≡ old.trail.trail → ((before after : List (Option (List (Signed ℕ)))) (c : List (Signed ℕ)) → AddsClause before after c key → AreAttached old.trail before → AreAttached new.trail after) → new.marks ≡ old.marks → new.phases ≡ old.phases → IsKept old → IsKept new
+    → new.trail.trail ≡ old.trail.trail → ((before after : List (Option (List (Signed ℕ)))) (c : List (Signed ℕ)) → AddsClause before after c key → AreAttached old.trail before → AreAttached new.trail after) → new.seen ≡ old.seen → new.phases ≡ old.phases → IsKept old → IsKept new
 added_kept old new clause key low a grown same p trail attached marks phases k =
     let atoms = ap (λ x. x.atoms) trail in
     record {
       attached = attached old.clauses new.clauses clause a k.attached;
       log = subst (λ n. IsLog n new.clauses new.log) (sym atoms) (log_added old.trail.trail.atoms old.clauses new.clauses clause key old.log new.log k.log low a grown same p);
       given = subst (AreGiven new.clauses) (sym (ap (λ x. x.entries) trail)) (given_clauses old.clauses new.clauses clause key old.trail.trail.entries a k.given);
-      marks = ap length marks ∙ k.marks ∙ sym atoms;
+      seen = ap length marks ∙ k.seen ∙ sym atoms;
       phases = phases_same old.trail.trail new.trail.trail old.phases new.phases trail phases k.phases;
     }
 
-pub back_kept : (old new : Search) (level : ℕ) → IsTrail old.trail.trail → new.trail.trail ≡ back_at old.trail.trail level → ((clauses : List (Option (List (Signed ℕ)))) → AreAttached old.trail clauses → AreAttached new.trail clauses) → new.clauses ≡ old.clauses → new.log ≡ old.log → new.marks ≡ old.marks → ArePhases new.trail.trail new.phases → IsKept old → IsKept new
+pub back_kept : (old new : Search) (level : ℕ) → IsTrail old.trail.trail → new.trail.trail ≡ back_at old.trail.trail level → ((clauses : List (Option (List (Signed ℕ)))) → AreAttached old.trail clauses → AreAttached new.trail clauses) → new.clauses ≡ old.clauses → new.log ≡ old.log → new.seen ≡ old.seen → ArePhases new.trail.trail new.phases → IsKept old → IsKept new
 back_kept old new level v trail attached clauses log marks phases k =
     let atoms : new.trail.trail.atoms ≡ old.trail.trail.atoms = ap (λ x. x.atoms) trail in
     record {
       attached = subst (AreAttached new.trail) (sym clauses) (attached old.clauses k.attached);
       log = subst (λ n. IsLog n new.clauses new.log) (sym atoms) (subst (λ x. IsLog old.trail.trail.atoms x new.log) (sym clauses) (subst (IsLog old.trail.trail.atoms old.clauses) (sym log) k.log));
       given = subst (λ x. AreGiven x new.trail.trail.entries) (sym clauses) (subst (AreGiven old.clauses) (sym (ap (λ x. x.entries) trail)) (given_up_to old.clauses old.trail.trail level v k.given));
-      marks = ap length marks ∙ k.marks ∙ sym atoms;
+      seen = ap length marks ∙ k.seen ∙ sym atoms;
       phases = phases;
     }
 
@@ -110,7 +110,7 @@ closes_hinted added steps F [] c e = c
 closes_hinted added steps F (h ∷ hints) c e = cc
 
 pub step_kept : (old new : Search) (clause : List (Signed ℕ)) (hints : List Hint) → AtomsBelow old.trail.trail.atoms clause → ClosesAll clause (map (cited old.log.added old.log.steps) hints) → new.log.added ≡ old.log.added → new.log.steps ≡ old.log.steps ++ (record { clause = clause; hints = hints }) ∷ [] → new.log.names ≡ old.log.names
-    → new.trail ≡ old.trail → new.clauses ≡ old.clauses → new.marks ≡ old.marks → new.phases ≡ old.phases → IsKept old → IsKept new
+    → new.trail ≡ old.trail → new.clauses ≡ old.clauses → new.seen ≡ old.seen → new.phases ≡ old.phases → IsKept old → IsKept new
 step_kept old new clause hints low closes added steps names watched clauses marks phases k =
     let trail = ap (λ x. x.trail) watched in
     let s : Step = record { clause = clause; hints = hints } in
@@ -120,19 +120,19 @@ step_kept old new clause hints low closes added steps names watched clauses mark
       log = subst (λ n. IsLog n new.clauses new.log) (sym atoms) (subst (λ x. IsLog old.trail.trail.atoms x new.log) (sym clauses)
           (log_step old.trail.trail.atoms old.clauses s old.log new.log k.log (closes_shown clause (map (cited old.log.added old.log.steps) hints) closes) (closes_hinted old.log.added old.log.steps clause hints closes) low added steps names));
       given = subst (λ x. AreGiven x new.trail.trail.entries) (sym clauses) (subst (AreGiven old.clauses) (sym (ap (λ x. x.entries) trail)) k.given);
-      marks = ap length marks ∙ k.marks ∙ sym atoms;
+      seen = ap length marks ∙ k.seen ∙ sym atoms;
       phases = phases_same old.trail.trail new.trail.trail old.phases new.phases trail phases k.phases;
     }
 
 pub use_kept : (old new : Search) (key : ℕ) (before : List Step) (s : Step) → old.log.steps ≡ before ++ s ∷ [] → AddsClause old.clauses new.clauses s.clause key → new.log.added ≡ old.log.added → new.log.steps ≡ old.log.steps → PutsName old.log.names new.log.names key (Earlier (length new.log.steps))
-    → new.trail.trail ≡ old.trail.trail → ((before after : List (Option (List (Signed ℕ)))) (c : List (Signed ℕ)) → AddsClause before after c key → AreAttached old.trail before → AreAttached new.trail after) → new.marks ≡ old.marks → new.phases ≡ old.phases → IsKept old → IsKept new
+    → new.trail.trail ≡ old.trail.trail → ((before after : List (Option (List (Signed ℕ)))) (c : List (Signed ℕ)) → AddsClause before after c key → AreAttached old.trail before → AreAttached new.trail after) → new.seen ≡ old.seen → new.phases ≡ old.phases → IsKept old → IsKept new
 use_kept old new key before s ends a added steps p trail attached marks phases k =
     let atoms = ap (λ x. x.atoms) trail in
     record {
       attached = attached old.clauses new.clauses s.clause a k.attached;
       log = subst (λ n. IsLog n new.clauses new.log) (sym atoms) (log_learned old.trail.trail.atoms old.clauses new.clauses key s before old.log new.log k.log ends a added steps p);
       given = subst (AreGiven new.clauses) (sym (ap (λ x. x.entries) trail)) (given_clauses old.clauses new.clauses s.clause key old.trail.trail.entries a k.given);
-      marks = ap length marks ∙ k.marks ∙ sym atoms;
+      seen = ap length marks ∙ k.seen ∙ sym atoms;
       phases = phases_same old.trail.trail new.trail.trail old.phases new.phases trail phases k.phases;
     }
 
@@ -142,7 +142,7 @@ propagated_kept old t p attached k = record {
   attached = attached;
   log = subst (λ n. IsLog n old.clauses old.log) (sym p.atoms) k.log;
   given = given_propagated old.clauses old.trail.trail t.trail p k.given;
-  marks = k.marks ∙ sym p.atoms;
+  seen = k.seen ∙ sym p.atoms;
   phases = phases_kept old.trail.trail t.trail old.phases p.atoms p.kept k.phases;
 }
 

@@ -1,5 +1,5 @@
 -- The values that atoms had last, as the trail changes.
-use Rattle.std.proofs.Common.{◌≡◌, ◌≢◌, ℕ, ◌+◌, ◌<◌, ◌≤◌, Bool, false, List, [], ◌∷◌, ◌++◌, length, take, set, length-set, Some, sym, ap, ◌∙◌, subst, arith}
+use Rattle.std.proofs.Common.{◌≡◌, ◌≢◌, ℕ, ◌+◌, ◌<◌, ◌≤◌, Bool, List, [], ◌∷◌, ◌++◌, length, take, set, length-set, Some, sym, ap, ◌∙◌, subst, arith}
 use Rattle.std.specs.Prelude.{All, Contains, slice_get}
 use Rattle.std.proofs.lemmas.List.{length_push, length-take, take_all}
 use Rattle.std.proofs.lemmas.List.Elements.{All-nil, All-contains, All-push}
@@ -48,7 +48,7 @@ phases_back old new p level atoms entries size whole within = record {
       All-contains (IsSaved p.values) old.entries e whole f.0);
 }
 
--- the same where nothing more is saved first
+-- levels are taken back, and nothing more is saved before
 pub phases_cut : (old new : Trail) (p q : Phases) (level : ℕ) → IsTrail old → new.atoms ≡ old.atoms → new.entries ≡ entries_up_to old.entries level → q.values ≡ p.values → q.saved ≤ p.saved → q.saved ≤ length new.entries → ArePhases old p → ArePhases new q
 phases_cut old new p q level v atoms entries values fewer within h =
     let n = length (entries_up_to old.entries level) in
@@ -63,13 +63,13 @@ phases_cut old new p q level v atoms entries values fewer within h =
           All-contains (IsSaved p.values) (take p.saved old.entries) e h.saved (Contains-take (take p.saved old.entries) q.saved e c))));
     }
 
-pub phases_atom : (old new : Trail) (p q : Phases) → new ≡ with_atom old → q.values ≡ p.values ++ false ∷ [] → q.saved ≡ p.saved → ArePhases old p → ArePhases new q
-phases_atom old new p q t values saved h = record {
-  size = omega (arith, ap length values, length_push p.values false, h.size, ap (λ x. x.atoms) t);
+pub phases_atom : (old new : Trail) (p q : Phases) (first : Bool) → new ≡ with_atom old → q.values ≡ p.values ++ first ∷ [] → q.saved ≡ p.saved → ArePhases old p → ArePhases new q
+phases_atom old new p q first t values saved h = record {
+  size = omega (arith, ap length values, length_push p.values first, h.size, ap (λ x. x.atoms) t);
   within = omega (arith, saved, h.within, ap (λ x. length x.entries) t);
   saved = subst (λ n. All (IsSaved q.values) (take n new.entries)) (sym saved) (subst (λ es. All (IsSaved q.values) (take p.saved es)) (sym (ap (λ x. x.entries) t))
       (All-from_contained (IsSaved q.values) (take p.saved old.entries) (λ e c.
-      ap (λ xs. slice_get xs e.lit.atom) values ∙ slice_get_append p.values (false ∷ []) e.lit.atom e.lit.positive (All-contains (IsSaved p.values) (take p.saved old.entries) e h.saved c))));
+      ap (λ xs. slice_get xs e.lit.atom) values ∙ slice_get_append p.values (first ∷ []) e.lit.atom e.lit.positive (All-contains (IsSaved p.values) (take p.saved old.entries) e h.saved c))));
 }
 
 -- another value for an atom that has none on the trail

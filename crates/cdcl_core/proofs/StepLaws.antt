@@ -92,7 +92,7 @@ learned_unit t l ls level v h reached least =
 
 -- the search after a clause is learned
 pub learned_search : (assumptions : List (Signed ℕ)) (old new : Search) (clause : List (Signed ℕ)) (l : Signed ℕ) (level key : ℕ) → IsTrail old.trail.trail → IsUnitAt old.trail.trail clause l level
-    → new.trail.trail ≡ with_implied (back_at old.trail.trail level) l key → IsLog new.trail.trail.atoms new.clauses new.log → AreGiven new.clauses old.trail.trail.entries → clause_number new.clauses key ≡ Some clause → length new.marks ≡ new.trail.trail.atoms → ArePhases new.trail.trail new.phases → AreAttached new.trail new.clauses
+    → new.trail.trail ≡ with_implied (back_at old.trail.trail level) l key → IsLog new.trail.trail.atoms new.clauses new.log → AreGiven new.clauses old.trail.trail.entries → clause_number new.clauses key ≡ Some clause → length new.seen ≡ new.trail.trail.atoms → ArePhases new.trail.trail new.phases → AreAttached new.trail new.clauses
     → new.log.added ≡ old.log.added → new.assumed ≡ min old.assumed level → new.checked ≡ 0 → IsSearch assumptions old → IsSearch assumptions new × Advances old new
 learned_search assumptions old new clause l level key v u trail log given named marks phases attached added assumed checked s =
     let t = old.trail.trail in
@@ -110,7 +110,7 @@ learned_search assumptions old new clause l level key v u trail log given named 
           attached = attached;
           log = log;
           given = subst (AreGiven new.clauses) (sym entries) (given_push new.clauses up d (given_up_to new.clauses t level v given) (λ n e. (clause, ap (clause_number new.clauses) (sym (same_Some key n e)) ∙ named, u.unit)));
-          marks = marks;
+          seen = marks;
           phases = phases;
         };
         low = omega (arith, assumed, levels);
@@ -133,7 +133,7 @@ learned_search assumptions old new clause l level key v u trail log given named 
     take_zero P (x ∷ xs) = All-nil P
 
 -- a decision
-pub decided_kept : (old new : Search) (l : Signed ℕ) → new.trail.trail ≡ with_decision old.trail.trail l → ((clauses : List (Option (List (Signed ℕ)))) → AreAttached old.trail clauses → AreAttached new.trail clauses) → new.clauses ≡ old.clauses → new.log ≡ old.log → new.marks ≡ old.marks → new.phases ≡ old.phases → IsKept old → IsKept new
+pub decided_kept : (old new : Search) (l : Signed ℕ) → new.trail.trail ≡ with_decision old.trail.trail l → ((clauses : List (Option (List (Signed ℕ)))) → AreAttached old.trail clauses → AreAttached new.trail clauses) → new.clauses ≡ old.clauses → new.log ≡ old.log → new.seen ≡ old.seen → new.phases ≡ old.phases → IsKept old → IsKept new
 decided_kept old new l trail attached clauses log marks phases k =
     let d : Entry = record { lit = l; level = old.trail.trail.level + 1; reason = None } in
     let entries : new.trail.trail.entries ≡ old.trail.trail.entries ++ d ∷ [] = ap (λ x. x.entries) trail in
@@ -142,7 +142,7 @@ decided_kept old new l trail attached clauses log marks phases k =
       attached = subst (AreAttached new.trail) (sym clauses) (attached old.clauses k.attached);
       log = subst (λ n. IsLog n new.clauses new.log) (sym atoms) (subst (λ x. IsLog old.trail.trail.atoms x new.log) (sym clauses) (subst (IsLog old.trail.trail.atoms old.clauses) (sym log) k.log));
       given = subst (λ x. AreGiven x new.trail.trail.entries) (sym clauses) (subst (AreGiven old.clauses) (sym entries) (given_push old.clauses old.trail.trail.entries d k.given (λ n e. absurd (none-some n e))));
-      marks = ap length marks ∙ k.marks ∙ sym atoms;
+      seen = ap length marks ∙ k.seen ∙ sym atoms;
       phases = subst (ArePhases new.trail.trail) (sym phases) (phases_push old.trail.trail new.trail.trail old.phases d atoms entries k.phases);
     }
 

@@ -56,7 +56,7 @@ leads_more log t l part hints e h v inside other named x = λ rest k F free has.
     let all_more = All-push (Contains more) part m (All-weaker (Contains G) (Contains more) (λ y c. Contains-append_left G (m ∷ []) y c) part all) (Contains-push G m) in
     subst (λ o. ClosesAll G (o ∷ map f rest)) (sym named) (unit_step G (e.lit ∷ []) e.lit (map f rest) one (k more free_more (Contains-append_left G (m ∷ []) l here) all_more))) F free has)
 
--- and the clause at last
+-- the hints lead to the clause, which the last one cites
 pub leads_done : (log : Log) (entries : List Entry) (l : Signed ℕ) (clause : List (Signed ℕ)) (hints : List Hint) (last : Hint) → cited log.added log.steps last ≡ Some clause → Leads log entries l clause hints → ClosesAll (l ∷ []) (map (cited log.added log.steps) (hints ++ last ∷ []))
 leads_done log entries l clause hints last named x =
     x (last ∷ []) (λ G free has all. named_closes G clause (cited log.added log.steps last) named all) (l ∷ []) (λ e c n k. elim (Contains-push_cases [] l e.lit k) [
@@ -91,4 +91,4 @@ pub more_of : (t : Trail) (old new : Log) → IsLogMore t.atoms old new → IsLo
 more_of t old new m v = (v.0, m.log v.0 v.1, v.2)
 
 pub more_kept : (s : Search) (log : Log) → IsLogMore s.trail.trail.atoms s.log log → IsKept s → IsKept (record s { log = log })
-more_kept s log m k = record { log = m.log s.clauses k.log; given = k.given; attached = k.attached; marks = k.marks; phases = k.phases }
+more_kept s log m k = record { log = m.log s.clauses k.log; given = k.given; attached = k.attached; seen = k.seen; phases = k.phases }

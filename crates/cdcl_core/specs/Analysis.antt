@@ -123,7 +123,7 @@ HasDecisions entries marks F = (e : Entry) → Contains entries e → IsDecision
 abbrev pub HasDecisionsAnd : Signed ℕ → List Entry → List Bool → List (Signed ℕ) → Type 0
 HasDecisionsAnd l entries marks F = Contains F l × HasDecisions entries marks F
 
--- the same where exactly the decisions stay, from the place of the entry of l back
+-- the analysis when exactly the decisions stay, and it has met the entries from i on, from the place of the entry of l back
 abbrev pub IsMetDecided : Log → Trail → ℕ → ℕ → Signed ℕ → List Bool → Analysis → Type 0
 IsMetDecided log t start i l marks a = ClosesFrom log (take start t.entries) (take i t.entries) marks (HasDecisionsAnd l (take start t.entries) marks) (reverse a.hints.items)
 

@@ -32,7 +32,7 @@ pub record IsKept (s : Search) : Type 0 where
   pub log : IsLog s.trail.trail.atoms s.clauses s.log
   pub given : AreGiven s.clauses s.trail.trail.entries
   pub attached : AreAttached s.trail s.clauses
-  pub marks : length s.marks ≡ s.trail.trail.atoms
+  pub seen : length s.seen ≡ s.trail.trail.atoms
   pub phases : ArePhases s.trail.trail s.phases
 
 -- between questions
@@ -72,7 +72,7 @@ pub record IsSameProblem (old new : Search) : Type 0 where
   pub atoms : new.trail.trail.atoms ≡ old.trail.trail.atoms
   pub added : new.log.added ≡ old.log.added
 
--- the same state with the levels above one taken back
+-- the levels above one were taken back, and nothing else changed
 pub record IsBackFrom (old new : Search) : Type 0 where
   pub trail : IsTrail old.trail.trail
   pub level : ℕ
@@ -81,7 +81,7 @@ pub record IsBackFrom (old new : Search) : Type 0 where
   pub added : new.log.added ≡ old.log.added
   pub search : (assumptions : List (Signed ℕ)) → IsSearch assumptions old → IsSearch assumptions new
 
--- the same state with other clauses for the trail
+-- the trail may look at other clauses, and nothing else changed
 pub record IsSameButClauses (old new : Search) : Type 0 where
   pub kept : IsKept new
   pub trail : new.trail.trail ≡ old.trail.trail

@@ -14,10 +14,10 @@ ghost use Rattle.cdcl_core.specs.Log.{IsNamed};
 ghost use Rattle.cdcl_core.specs.Analysis.{IsMarked, AreCounted, AreWaiting, MarksToo, IsReady, IsBegun, Resolves, NamesFalse, IsMet, IsMetDecided, IsAnalysis, ShowsGiven};
 
 use crate::log::Log;
-use crate::marks::Marks;
 use crate::packed_hint::PackedHint;
 use crate::places::Places;
 use crate::redundancy::all_follow;
+use crate::seen::Seen;
 use cdcl_trail::Trail;
 use compact_lists::PackedLit;
 use inst_logic::Memory;
@@ -80,40 +80,40 @@ fn push_place(trail: &Trail, places: &mut Places, atom: usize) -> Result<(), Mem
     }
 }
 
-fn mark(trail: &Trail, marks: &mut Marks, waiting: &mut Waiting, lit: Lit) -> Result<(), Memory>
+fn mark(trail: &Trail, seen: &mut Seen, waiting: &mut Waiting, lit: Lit) -> Result<(), Memory>
     requires trail { IsTrail trail.now.trail }
     requires room { length trail.now.trail.entries ≤ usize.MAX }
-    requires size { length marks.old ≡ trail.now.trail.atoms }
+    requires size { length seen.old ≡ trail.now.trail.atoms }
     requires atom { lit.atom < trail.now.trail.atoms }
-    ensures size { OnOk result (length marks.new ≡ length marks.old) }
-    ensures marked { OnOk result (MarksToo trail.now.trail (lit ∷ []) marks.old marks.new waiting.old waiting.new) }
+    ensures size { OnOk result (length seen.new ≡ length seen.old) }
+    ensures marked { OnOk result (MarksToo trail.now.trail (lit ∷ []) seen.old seen.new waiting.old waiting.new) }
 {
-    if marks.contains(lit.atom) {
+    if seen.contains(lit.atom) {
         return Ok(());
     }
     push_place(trail, &mut waiting.places, lit.atom)?;
     count_marked(trail, &mut waiting.present, lit.atom);
-    marks.insert(lit.atom);
-    marks.see_level(trail.level_of(lit.atom).unwrap_or(0));
+    seen.insert(lit.atom);
+    seen.see_level(trail.level_of(lit.atom).unwrap_or(0));
     Ok(())
 }
 
 // Marks the atoms of the clause.
 fn mark_all(
     trail: &Trail,
-    marks: &mut Marks,
+    seen: &mut Seen,
     waiting: &mut Waiting,
     clause: &[PackedLit],
 ) -> Result<(), Memory>
     requires trail { IsTrail trail.now.trail }
     requires room { length trail.now.trail.entries ≤ usize.MAX }
-    requires size { length marks.old ≡ trail.now.trail.atoms }
+    requires size { length seen.old ≡ trail.now.trail.atoms }
     requires atoms { AtomsBelow trail.now.trail.atoms clause.now }
-    ensures size { OnOk result (length marks.new ≡ length marks.old) }
-    ensures marked { OnOk result (MarksToo trail.now.trail clause.now marks.old marks.new waiting.old waiting.new) }
+    ensures size { OnOk result (length seen.new ≡ length seen.old) }
+    ensures marked { OnOk result (MarksToo trail.now.trail clause.now seen.old seen.new waiting.old waiting.new) }
 {
     for packed in clause {
-        mark(trail, marks, waiting, packed.lit())?;
+        mark(trail, seen, waiting, packed.lit())?;
     }
     Ok(())
 }
@@ -124,14 +124,14 @@ fn mark_all(
 fn stays(
     log: &Log,
     trail: &Trail,
-    marks: &mut Marks,
+    seen: &mut Seen,
     analysis: &Analysis,
     level: usize,
     number: usize,
 ) -> bool
     requires ready { IsReady log.now trail.now.trail }
-    requires size { length marks.old ≡ trail.now.trail.atoms }
-    ensures same { marks.new ≡ marks.old }
+    requires size { length seen.old ≡ trail.now.trail.atoms }
+    ensures same { seen.new ≡ seen.old }
     ensures stays { IsTrue result → (0 < level) × (analysis.now.clause.items ≡ [] → (level ≡ trail.now.trail.level) × (analysis.now.waiting.present ≤ 1)) }
 {
     if level == 0 {
@@ -140,7 +140,7 @@ fn stays(
     if analysis.clause.is_empty() {
         return level == trail.level() && analysis.waiting.present <= 1;
     }
-    !all_follow(log, trail, marks, number, DEPTH)
+    !all_follow(log, trail, seen, number, DEPTH)
 }
 
 // Counts a literal as met.
@@ -156,19 +156,19 @@ fn count_met(trail: &Trail, present: &mut usize, level: usize)
 fn take(
     log: &Log,
     trail: &Trail,
-    marks: &mut Marks,
+    seen: &mut Seen,
     analysis: &mut Analysis,
     hint: PackedHint,
 ) -> Result<(), Memory>
     requires ready { IsReady log.now trail.now.trail }
-    requires size { length marks.old ≡ trail.now.trail.atoms }
-    ensures size { OnOk result (length marks.new ≡ length marks.old) }
+    requires size { length seen.old ≡ trail.now.trail.atoms }
+    ensures size { OnOk result (length seen.new ≡ length seen.old) }
     ensures clause { OnOk result (analysis.new.clause ≡ analysis.old.clause) }
     ensures hints { OnOk result (analysis.new.hints.items ≡ analysis.old.hints.items ++ hint ∷ []) }
-    ensures marked { OnOk result ((c : List (Signed ℕ)) → cited log.now.added log.now.steps hint ≡ Some c → MarksToo trail.now.trail c marks.old marks.new analysis.old.waiting analysis.new.waiting) }
+    ensures marked { OnOk result ((c : List (Signed ℕ)) → cited log.now.added log.now.steps hint ≡ Some c → MarksToo trail.now.trail c seen.old seen.new analysis.old.waiting analysis.new.waiting) }
 {
     analysis.hints.push(hint)?;
-    mark_all(trail, marks, &mut analysis.waiting, log.cited(hint))
+    mark_all(trail, seen, &mut analysis.waiting, log.cited(hint))
 }
 
 // Lists the place of a fact of level 0 whose clause has other literals.
@@ -192,42 +192,42 @@ fn list_fact(
 fn resolve_fact(
     log: &Log,
     trail: &Trail,
-    marks: &mut Marks,
+    seen: &mut Seen,
     analysis: &mut Analysis,
     place: usize,
     number: usize,
 ) -> Result<(), Memory>
     requires ready { IsReady log.now trail.now.trail }
-    requires size { length marks.old ≡ trail.now.trail.atoms }
+    requires size { length seen.old ≡ trail.now.trail.atoms }
     requires place { place < length trail.now.trail.entries }
-    ensures size { OnOk result (length marks.new ≡ length marks.old) }
-    ensures resolved { OnOk result ((e : Entry) → slice_get trail.now.trail.entries place ≡ Some e → e.reason ≡ Some number → Resolves log.now trail.now.trail place e.lit marks.old marks.new analysis.old analysis.new) }
+    ensures size { OnOk result (length seen.new ≡ length seen.old) }
+    ensures resolved { OnOk result ((e : Entry) → slice_get trail.now.trail.entries place ≡ Some e → e.reason ≡ Some number → Resolves log.now trail.now.trail place e.lit seen.old seen.new analysis.old analysis.new) }
 {
     let hint = log.given_by(literal_at(trail, place), number);
     list_fact(log, analysis, place, hint)?;
-    take(log, trail, marks, analysis, hint)
+    take(log, trail, seen, analysis, hint)
 }
 
 // Puts what gave the literal at the place in its stead.
 fn resolve(
     log: &Log,
     trail: &Trail,
-    marks: &mut Marks,
+    seen: &mut Seen,
     analysis: &mut Analysis,
     place: usize,
     number: usize,
 ) -> Result<(), Memory>
     requires ready { IsReady log.now trail.now.trail }
-    requires size { length marks.old ≡ trail.now.trail.atoms }
+    requires size { length seen.old ≡ trail.now.trail.atoms }
     requires place { place < length trail.now.trail.entries }
-    ensures size { OnOk result (length marks.new ≡ length marks.old) }
-    ensures resolved { OnOk result ((e : Entry) → slice_get trail.now.trail.entries place ≡ Some e → e.reason ≡ Some number → Resolves log.now trail.now.trail place e.lit marks.old marks.new analysis.old analysis.new) }
+    ensures size { OnOk result (length seen.new ≡ length seen.old) }
+    ensures resolved { OnOk result ((e : Entry) → slice_get trail.now.trail.entries place ≡ Some e → e.reason ≡ Some number → Resolves log.now trail.now.trail place e.lit seen.old seen.new analysis.old analysis.new) }
 {
     let lit = literal_at(trail, place);
     if trail.level_of(lit.atom) == Some(0) {
-        return resolve_fact(log, trail, marks, analysis, place, number);
+        return resolve_fact(log, trail, seen, analysis, place, number);
     }
-    take(log, trail, marks, analysis, log.hint_of(number))
+    take(log, trail, seen, analysis, log.hint_of(number))
 }
 
 fn keep(analysis: &mut Analysis, lit: Lit) -> Result<(), Memory>
@@ -243,18 +243,18 @@ fn keep(analysis: &mut Analysis, lit: Lit) -> Result<(), Memory>
 fn meet(
     log: &Log,
     trail: &Trail,
-    marks: &mut Marks,
+    seen: &mut Seen,
     analysis: &mut Analysis,
     place: usize,
 ) -> Result<(), Memory>
     requires ready { IsReady log.now trail.now.trail }
-    requires size { length marks.old ≡ trail.now.trail.atoms }
+    requires size { length seen.old ≡ trail.now.trail.atoms }
     requires place { place < length trail.now.trail.entries }
-    requires marked { (e : Entry) → slice_get trail.now.trail.entries place ≡ Some e → IsMarked marks.old e.lit.atom }
-    requires met { IsMet log.now trail.now.trail (place + 1) marks.old analysis.old }
-    ensures size { OnOk result (length marks.new ≡ length marks.old) }
-    ensures waiting { OnOk result (AreWaiting trail.now.trail place marks.old analysis.old.waiting.places → AreWaiting trail.now.trail place marks.new analysis.new.waiting.places) }
-    ensures met { OnOk result (IsMet log.now trail.now.trail place marks.new analysis.new) }
+    requires marked { (e : Entry) → slice_get trail.now.trail.entries place ≡ Some e → IsMarked seen.old e.lit.atom }
+    requires met { IsMet log.now trail.now.trail (place + 1) seen.old analysis.old }
+    ensures size { OnOk result (length seen.new ≡ length seen.old) }
+    ensures waiting { OnOk result (AreWaiting trail.now.trail place seen.old analysis.old.waiting.places → AreWaiting trail.now.trail place seen.new analysis.new.waiting.places) }
+    ensures met { OnOk result (IsMet log.now trail.now.trail place seen.new analysis.new) }
 {
     let lit = literal_at(trail, place);
     let level = trail.level_of(lit.atom).unwrap_or(0);
@@ -264,36 +264,36 @@ fn meet(
             keep(analysis, lit)
         }
         Some(number) => {
-            let remains = stays(log, trail, marks, analysis, level, number);
+            let remains = stays(log, trail, seen, analysis, level, number);
             count_met(trail, &mut analysis.waiting.present, level);
             if remains {
                 return keep(analysis, lit);
             }
-            resolve(log, trail, marks, analysis, place, number)
+            resolve(log, trail, seen, analysis, place, number)
         }
     }
 }
 
-// The same where exactly the decisions stay.
+// Meets the marked literal at the place, where exactly the decisions stay.
 fn meet_decided(
     log: &Log,
     trail: &Trail,
-    marks: &mut Marks,
+    seen: &mut Seen,
     analysis: &mut Analysis,
     place: usize,
 ) -> Result<(), Memory>
     requires ready { IsReady log.now trail.now.trail }
-    requires size { length marks.old ≡ trail.now.trail.atoms }
+    requires size { length seen.old ≡ trail.now.trail.atoms }
     requires place { place < length trail.now.trail.entries }
-    requires marked { (e : Entry) → slice_get trail.now.trail.entries place ≡ Some e → IsMarked marks.old e.lit.atom }
-    ensures size { OnOk result (length marks.new ≡ length marks.old) }
-    ensures waiting { OnOk result (AreWaiting trail.now.trail place marks.old analysis.old.waiting.places → AreWaiting trail.now.trail place marks.new analysis.new.waiting.places) }
-    ensures met { OnOk result ((start : ℕ) (l : Signed ℕ) → place < start → IsMetDecided log.now trail.now.trail start (place + 1) l marks.old analysis.old → IsMetDecided log.now trail.now.trail start place l marks.new analysis.new) }
+    requires marked { (e : Entry) → slice_get trail.now.trail.entries place ≡ Some e → IsMarked seen.old e.lit.atom }
+    ensures size { OnOk result (length seen.new ≡ length seen.old) }
+    ensures waiting { OnOk result (AreWaiting trail.now.trail place seen.old analysis.old.waiting.places → AreWaiting trail.now.trail place seen.new analysis.new.waiting.places) }
+    ensures met { OnOk result ((start : ℕ) (l : Signed ℕ) → place < start → IsMetDecided log.now trail.now.trail start (place + 1) l seen.old analysis.old → IsMetDecided log.now trail.now.trail start place l seen.new analysis.new) }
 {
     let lit = literal_at(trail, place);
     match trail.reason(lit.atom) {
         None => Ok(()),
-        Some(number) => resolve(log, trail, marks, analysis, place, number),
+        Some(number) => resolve(log, trail, seen, analysis, place, number),
     }
 }
 
@@ -319,17 +319,17 @@ fn begin(
     alloc: Global,
     log: &Log,
     trail: &Trail,
-    marks: &mut Marks,
+    seen: &mut Seen,
     number: usize,
 ) -> Result<Analysis, Memory>
     requires ready { IsReady log.now trail.now.trail }
-    requires size { length marks.old ≡ trail.now.trail.atoms }
-    ensures size { OnOk result (length marks.new ≡ length marks.old) }
-    ensures begun { IfOk result (λ a. (c : List (Signed ℕ)) → IsNamed log.now number c → IsBegun log.now trail.now.trail number c marks.new a) }
+    requires size { length seen.old ≡ trail.now.trail.atoms }
+    ensures size { OnOk result (length seen.new ≡ length seen.old) }
+    ensures begun { IfOk result (λ a. (c : List (Signed ℕ)) → IsNamed log.now number c → IsBegun log.now trail.now.trail number c seen.new a) }
 {
     let mut analysis = no_analysis(alloc);
-    marks.clear();
-    take(log, trail, marks, &mut analysis, log.hint_of(number))?;
+    seen.clear();
+    take(log, trail, seen, &mut analysis, log.hint_of(number))?;
     Ok(analysis)
 }
 
@@ -339,22 +339,22 @@ pub(crate) fn analyze(
     alloc: Global,
     log: &Log,
     trail: &Trail,
-    marks: &mut Marks,
+    seen: &mut Seen,
     number: usize,
     count: usize,
 ) -> Result<Analysis, Memory>
     requires ready { IsReady log.now trail.now.trail }
-    requires size { length marks.old ≡ trail.now.trail.atoms }
+    requires size { length seen.old ≡ trail.now.trail.atoms }
     requires count { count ≡ length trail.now.trail.entries }
     requires conflict { NamesFalse log.now trail.now.trail.entries number }
-    ensures size { OnOk result (length marks.new ≡ length marks.old) }
+    ensures size { OnOk result (length seen.new ≡ length seen.old) }
     ensures analysis { IfOk result (IsAnalysis log.now trail.now.trail.entries) }
 {
-    let mut analysis = begin(alloc, log, trail, marks, number)?;
+    let mut analysis = begin(alloc, log, trail, seen, number)?;
     let mut place = count;
     while let Some(next) = analysis.waiting.places.take_below(place) {
         place = next;
-        meet(log, trail, marks, &mut analysis, place)?;
+        meet(log, trail, seen, &mut analysis, place)?;
     }
     analysis.hints.reverse();
     Ok(analysis)
@@ -374,21 +374,21 @@ pub(crate) fn analyze_given(
     alloc: Global,
     log: &Log,
     trail: &Trail,
-    marks: &mut Marks,
+    seen: &mut Seen,
     lit: Lit,
     number: usize,
 ) -> Result<Vec<PackedHint>, Memory>
     requires ready { IsReady log.now trail.now.trail }
-    requires size { length marks.old ≡ trail.now.trail.atoms }
+    requires size { length seen.old ≡ trail.now.trail.atoms }
     requires given { (e : Entry) × Contains trail.now.trail.entries e × (e.lit ≡ lit) × (e.reason ≡ Some number) }
-    ensures size { OnOk result (length marks.new ≡ length marks.old) }
-    ensures hints { IfOk result (λ hints. ShowsGiven log.now trail.now.trail.entries lit marks.new hints.items) }
+    ensures size { OnOk result (length seen.new ≡ length seen.old) }
+    ensures hints { IfOk result (λ hints. ShowsGiven log.now trail.now.trail.entries lit seen.new hints.items) }
 {
-    let mut analysis = begin(alloc, log, trail, marks, number)?;
+    let mut analysis = begin(alloc, log, trail, seen, number)?;
     let mut place = place_of(trail, lit);
     while let Some(next) = analysis.waiting.places.take_below(place) {
         place = next;
-        meet_decided(log, trail, marks, &mut analysis, place)?;
+        meet_decided(log, trail, seen, &mut analysis, place)?;
     }
     analysis.hints.reverse();
     Ok(analysis.hints)

@@ -1,8 +1,10 @@
-// The solver as its callers see it: the search, the number of atoms, and whether memory was refused. Once it was, the search
-// is never entered again, so nothing needs to be known of what a refused call left there.
-ghost use Rattle.std.specs.Prelude.{◌≡◌, [], false};
+// The solver as its callers see it: the search, the restarts of the last question, the number of atoms, and whether memory was
+// refused. Once it was, the search is never entered again, so nothing needs to be known of what a refused call left there.
+ghost use Rattle.std.specs.Prelude.{◌≡◌, ◌≤◌, [], false};
 
+use crate::restart::Restarts;
 use crate::search::Search;
+use crate::settings::Settings;
 use inst_logic::Memory;
 use prop_logic::{Answer, Lit, Solver};
 use std::alloc::Global;
@@ -16,45 +18,92 @@ use std::marker::Model;
 #[derive(Drop)]
 pub struct Cdcl {
     search: Search,
+    restarts: Restarts,
     atoms: usize,
     spent: bool,
 }
 
 impl Model for Cdcl {
-    ghost use Rattle.std.specs.Prelude.{◌≡◌, false};
-    ghost use Rattle.prop_logic.specs.Plain.{State};
+    ghost use Rattle.std.specs.Prelude.{◌≡◌, ◌-◌, false};
+    ghost use Rattle.cdcl_core.specs.Solver.{State};
 
     ghost Value = { State };
 
     ghost use Rattle.cdcl_core.specs.Search.{IsIdle};
 
-    ghost view = { λ s. record { atoms = s.atoms; added = s.search.log.added; spent = s.spent } };
+    ghost view = { λ s. record { atoms = s.atoms; added = s.search.log.added; spent = s.spent; restarts = 4096 - s.restarts.left } };
 
     ghost invariant = { λ s. s.spent ≡ false → IsIdle s.atoms s.search };
+}
+
+// A solver of these settings, without atoms and clauses.
+fn with_settings(alloc: Global, settings: Settings) -> Cdcl
+    ensures { result ≡ (record { atoms = 0; added = []; spent = false; restarts = 0 }) }
+{
+    Cdcl {
+        search: Search::new(alloc, settings),
+        restarts: Restarts::new(),
+        atoms: 0,
+        spent: false,
+    }
 }
 
 impl Cdcl {
     /// A solver without atoms and clauses.
     pub fn new(alloc: Global) -> Self
-        ensures { result ≡ (record { atoms = 0; added = []; spent = false }) }
+        ensures { result ≡ (record { atoms = 0; added = []; spent = false; restarts = 0 }) }
     {
-        Cdcl {
-            search: Search::new(alloc, false),
-            atoms: 0,
-            spent: false,
-        }
+        with_settings(alloc, Settings::usual())
     }
 
-    /// The same for one question without assumptions that may take long: it first looks for literals that lead to a conflict by
+    /// A solver for one question without assumptions that may take long: it first looks for literals that lead to a conflict by
     /// propagation alone, and learns that they are false.
     pub fn for_one_question(alloc: Global) -> Self
-        ensures { result ≡ (record { atoms = 0; added = []; spent = false }) }
+        ensures { result ≡ (record { atoms = 0; added = []; spent = false; restarts = 0 }) }
     {
-        Cdcl {
-            search: Search::new(alloc, true),
-            atoms: 0,
-            spent: false,
-        }
+        with_settings(
+            alloc,
+            Settings {
+                probes: true,
+                ..Settings::usual()
+            },
+        )
+    }
+
+    /// A solver that tries a new atom true first, where `new` tries it false; `prefer` tells it otherwise.
+    pub fn true_first(alloc: Global) -> Self
+        ensures { result ≡ (record { atoms = 0; added = []; spent = false; restarts = 0 }) }
+    {
+        with_settings(
+            alloc,
+            Settings {
+                first_value: true,
+                ..Settings::usual()
+            },
+        )
+    }
+
+    /// A solver that forgets all that it learned once answers have copied so many steps, before the next question under
+    /// assumptions. `new` does so after 50,000, and 4 for each added clause.
+    pub fn forgetting_after(alloc: Global, steps: usize) -> Self
+        ensures { result ≡ (record { atoms = 0; added = []; spent = false; restarts = 0 }) }
+    {
+        with_settings(
+            alloc,
+            Settings {
+                copied: steps,
+                copied_each: 0,
+                ..Settings::usual()
+            },
+        )
+    }
+
+    /// How often the search for the last answer began again from its assumptions.
+    pub fn restarts(&self) -> u64
+        ensures made { result ≡ self.now.restarts }
+        ensures bounded { result ≤ 4096 }
+    {
+        self.restarts.made()
     }
 }
 
@@ -98,7 +147,7 @@ impl Solver for Cdcl {
         if self.spent {
             return Err(Memory);
         }
-        match self.search.answer(assumptions) {
+        match self.search.answer(&mut self.restarts, assumptions) {
             Ok(answer) => Ok(answer),
             Err(error) => {
                 self.spent = true;

@@ -1,4 +1,5 @@
-// Derivations without the steps that their last step does not need. The log keeps the steps of all questions, and an answer
+// Derivations without the steps that their last step does not need, which are found from the last one back (Goldberg and Novikov,
+// Verification of proofs of unsatisfiability for CNF formulas, 2003). The log keeps the steps of all questions, and an answer
 // needs few of them. Even so a mark and a number for each step of the log cost less than ordered sets of the steps that are kept.
 ghost use Rattle.std.specs.Prelude.{◌≡◌, ◌<◌, ◌≤◌, ◌+◌, ◌++◌, ◌∷◌, [], ℕ, length, Some, All, slice_get, IfOk};
 ghost use Rattle.std.specs.List.{AllZip};

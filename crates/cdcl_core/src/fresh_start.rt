@@ -1,16 +1,18 @@
-// A search that begins anew over the same clauses. The derivation of an answer has all steps that its last one rests on, and these
-// are more from question to question, since what is learned rests on what was learned before. So once answers have copied many
-// steps, all that was learned is forgotten, and the search goes on with the added clauses, the last values and their order.
+// A search that begins anew over the same clauses. Solvers that keep no derivations need none; here the derivation of an answer has
+// all steps that its last one rests on, and these are more from question to question, since what is learned rests on what was
+// learned before. Once answers have copied many steps, all that was learned is forgotten, and the search goes on with the added
+// clauses, the last values and their order.
 ghost use Rattle.std.specs.Prelude.{◌≡◌, ◌+◌, ◌<◌, [], length, take, IfOk, OnOk};
 ghost use Rattle.prop_logic.specs.Literal.{AllAtomsBelow};
 ghost use Rattle.cdcl_core.specs.Search.{IsKept, IsSameProblem};
 
-use crate::marks::Marks;
+use crate::activity::Activity;
 use crate::search::Search;
+use crate::settings::Settings;
 use crate::steps::unpacked;
 use compact_lists::FlatClauses;
 use inst_logic::Memory;
-use prop_logic::Lit;
+use prop_logic::{Answer, Lit};
 use std::alloc::Global;
 
 // Makes so many atoms more.
@@ -67,24 +69,27 @@ fn add_all(alloc: Global, search: &mut Search, added: &FlatClauses) -> Result<()
 }
 
 // The search over so many atoms and these clauses, of which nothing is learned.
-fn fresh(alloc: Global, atoms: usize, added: &FlatClauses) -> Result<Search, Memory>
+fn fresh(
+    alloc: Global,
+    settings: Settings,
+    atoms: usize,
+    added: &FlatClauses,
+) -> Result<Search, Memory>
     requires below { AllAtomsBelow atoms added.now }
     ensures kept { IfOk result IsKept }
     ensures atoms { IfOk result (λ s. s.trail.trail.atoms ≡ atoms) }
     ensures added { IfOk result (λ s. s.log.added ≡ added.now) }
 {
-    let mut search = Search::new(alloc, false);
+    let mut search = Search::new(alloc, settings);
     grow(&mut search, atoms)?;
     add_all(alloc, &mut search, added)?;
     Ok(search)
 }
 
 // Puts all atoms into the order.
-fn put_all(marks: &mut Marks, atoms: usize)
-    ensures { marks.new ≡ marks.old }
-{
+fn put_all(activity: &mut Activity, atoms: usize) {
     for atom in 0..atoms {
-        marks.put_back(atom);
+        activity.insert(atom);
     }
 }
 
@@ -104,7 +109,7 @@ fn take_over(search: &mut Search, other: Search)
     } = other;
     search.phases.save(&search.trail);
     search.phases.saved = 0;
-    put_all(&mut search.marks, search.phases.values.len());
+    put_all(&mut search.activity, search.phases.values.len());
     search.learned = search.learned.begun_anew(search.alloc);
     search.log = log;
     search.clauses = clauses;
@@ -114,27 +119,48 @@ fn take_over(search: &mut Search, other: Search)
     search.checked = 0;
 }
 
-// Forgets all that was learned.
-fn renew(search: &mut Search) -> Result<(), Memory>
+// Forgets all that was learned. The new search is made beside the old one, which goes on where there is no memory for that; then
+// it is tried again once answers have copied as many steps.
+fn renew(search: &mut Search)
     requires { IsKept search.old }
-    ensures kept { OnOk result (IsKept search.new) }
-    ensures same { OnOk result (IsSameProblem search.old search.new) }
-    ensures added { search.new.log.added ≡ search.old.log.added }
+    ensures kept { IsKept search.new }
+    ensures same { IsSameProblem search.old search.new }
 {
-    let other = fresh(search.alloc, search.atoms(), &search.log.added)?;
-    take_over(search, other);
-    Ok(())
+    search.copied = 0;
+    let made = fresh(
+        search.alloc,
+        search.settings,
+        search.atoms(),
+        &search.log.added,
+    );
+    if let Ok(other) = made {
+        take_over(search, other);
+    }
 }
 
-// Does so before a question under assumptions, where answers have copied many steps.
-pub(crate) fn renew_where_due(search: &mut Search, assumptions: &[Lit]) -> Result<(), Memory>
+// Whether answers have copied more steps than it is worth to keep what was learned.
+fn is_due(search: &Search) -> bool {
+    let each = search.settings.copied_each;
+    let more = search.log.added.len().saturating_mul(each);
+    search.settings.copied.saturating_add(more) < search.copied
+}
+
+// Before a question under assumptions, forgets all that was learned where answers have copied many steps.
+pub(crate) fn renew_where_due(search: &mut Search, assumptions: &[Lit])
     requires { IsKept search.old }
-    ensures kept { OnOk result (IsKept search.new) }
-    ensures same { OnOk result (IsSameProblem search.old search.new) }
-    ensures added { search.new.log.added ≡ search.old.log.added }
+    ensures kept { IsKept search.new }
+    ensures same { IsSameProblem search.old search.new }
 {
-    if assumptions.is_empty() || !search.learned.is_worn(search.log.added.len()) {
-        return Ok(());
+    if assumptions.is_empty() || !is_due(search) {
+        return;
     }
-    renew(search)
+    renew(search);
+}
+
+// How many steps the answer copied.
+pub(crate) fn copied_steps(answer: &Answer) -> usize {
+    match answer {
+        Answer::Sat(_) => 0,
+        Answer::Unsat { derivation, .. } => derivation.len(),
+    }
 }

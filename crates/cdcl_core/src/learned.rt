@@ -7,7 +7,6 @@ use crate::clause_activity::ClauseActivity;
 use crate::packed_hint::PackedHint;
 use cdcl_trail::Clauses;
 use inst_logic::Memory;
-use prop_logic::Answer;
 use std::alloc::Global;
 
 // Clauses of so few literals are not listed, and so kept.
@@ -20,11 +19,6 @@ const ADDED: usize = 3;
 
 // At first the limit rises after so many conflicts.
 const CONFLICTS: u64 = 100;
-
-// What was learned is worn once answers have copied so many steps, and so many more for each added clause.
-const COPIED: usize = 50_000;
-
-const COPIED_EACH: usize = 4;
 
 // A learned clause, by the number of its step and the trail's number of it. Those that are to be kept come first.
 #[derive(Clone, Copy, Debug, PartialEq, Eq, PartialOrd, Ord)]
@@ -50,7 +44,7 @@ const NO_RANK: Rank = Rank {
 
 // The ranks of the clauses, and how many there may be before some are forgotten. Those in `passed` were to be forgotten, but
 // were reasons; they come back to the others when these are sorted next. `conflicts` were counted; after `due` more the limit
-// rises, and then after `span` of them. Answers have copied `copied` steps.
+// rises, and then after `span` of them.
 #[derive(Drop)]
 pub(crate) struct Learned {
     ranks: Vec<Rank>,
@@ -60,7 +54,6 @@ pub(crate) struct Learned {
     pub(crate) conflicts: u64,
     due: u64,
     span: u64,
-    copied: usize,
 }
 
 impl Learned {
@@ -73,7 +66,6 @@ impl Learned {
             conflicts: 0,
             due: CONFLICTS,
             span: CONFLICTS,
-            copied: 0,
         }
     }
 
@@ -82,18 +74,6 @@ impl Learned {
         let mut learned = Learned::new(alloc);
         learned.conflicts = self.conflicts;
         learned
-    }
-
-    // Counts the steps that the answer copied.
-    pub(crate) fn see_answer(&mut self, answer: &Answer) {
-        if let Answer::Unsat { derivation, .. } = answer {
-            self.copied = self.copied.saturating_add(derivation.len());
-        }
-    }
-
-    // Whether answers copied more steps than it is worth to keep what was learned, where so many clauses were added.
-    pub(crate) fn is_worn(&self, added: usize) -> bool {
-        COPIED.saturating_add(added.saturating_mul(COPIED_EACH)) < self.copied
     }
 
     // Counts the conflict that a step of these hints answered, and lists the step's clause if it may be forgotten.

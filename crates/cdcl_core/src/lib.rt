@@ -3,6 +3,7 @@
 //! SAT-solver, 2003).
 #![tactic(auto)]
 
+mod activity;
 mod analysis;
 mod cdcl;
 mod clause_activity;
@@ -10,10 +11,8 @@ mod cut;
 mod fresh_start;
 mod learned;
 mod log;
-mod marks;
 mod memo;
 mod names;
-mod order;
 mod packed_hint;
 mod phases;
 mod places;
@@ -22,6 +21,8 @@ mod reasons;
 mod redundancy;
 mod restart;
 mod search;
+mod seen;
+mod settings;
 mod steps;
 mod units;
 

@@ -1,5 +1,6 @@
-// What an analysis finds beside its marks: which levels have a marked literal, and which atoms without a mark follow from marked
-// ones. It is emptied by one addition. Nothing is proved of it, since it only decides which literals a clause loses.
+// What minimising a learned clause finds: which levels have a seen atom, and which atoms that are not seen follow from those that are
+// (Sörensson and Biere, Minimizing learned clauses, 2009). It is emptied by one addition. Nothing is proved of it, since it only
+// decides which literals a clause loses.
 
 use inst_logic::Memory;
 use std::alloc::Global;
@@ -16,7 +17,7 @@ const NO_FINDING: Finding = Finding {
     follows: false,
 };
 
-// A level has a marked literal, and a finding counts, where its stamp is the present one.
+// A level has a seen atom, and a finding counts, where its stamp is the present one.
 #[derive(Drop)]
 pub(crate) struct Memo {
     present: u32,
@@ -51,19 +52,19 @@ impl Memo {
         }
     }
 
-    // A literal of the level is marked.
+    // An atom of the level is seen.
     pub(crate) fn see_level(&mut self, level: usize) {
         if level < self.levels.len() {
             self.levels[level] = self.present;
         }
     }
 
-    // Whether a literal of the level is marked.
+    // Whether an atom of the level is seen.
     pub(crate) fn has_level(&self, level: usize) -> bool {
         self.levels.get(level).copied() == Some(self.present)
     }
 
-    // Notes whether the atom follows from marked ones.
+    // Notes whether the atom follows from seen ones.
     pub(crate) fn find(&mut self, atom: usize, follows: bool) {
         if atom < self.findings.len() {
             self.findings[atom] = Finding {
@@ -73,7 +74,7 @@ impl Memo {
         }
     }
 
-    // Whether the atom follows from marked ones, where that is known.
+    // Whether the atom follows from seen ones, where that is known.
     pub(crate) fn found(&self, atom: usize) -> Option<bool> {
         let finding = self.findings.get(atom).copied().unwrap_or(NO_FINDING);
         (finding.stamp == self.present).then_some(finding.follows)

@@ -1,4 +1,4 @@
-// Hints by number.
+// What the trail's numbers of clauses cite: hints by number.
 ghost use Rattle.std.specs.Prelude.{◌≡◌, [], ◌<◌, ℕ, Some, length, slice_get, IfOk, OnOk};
 ghost use Rattle.prop_logic.specs.declared.literal.Hint.{Hint};
 ghost use Rattle.cdcl_core.specs.Log.{PutsName};

@@ -1,4 +1,4 @@
-// Hints in four bytes each: twice the number, and one more for a step.
+// Hints in four bytes each, as literals are packed in MiniSat: twice the number, and one more for a step.
 ghost use Rattle.std.specs.Prelude.{◌≡◌, ◌+◌, ◌*◌, ◌<◌, IfOk};
 ghost use Rattle.prop_logic.specs.declared.literal.Hint.TheVariants.{Added};
 

@@ -1,5 +1,6 @@
-// The values that atoms had last, packed, so that an answer copies them by words.
-ghost use Rattle.std.specs.Prelude.{◌≡◌, ◌++◌, ◌∷◌, [], ◌≤◌, false, length, All, OnOk};
+// Phase saving: an atom is decided with the value that it had last (Pipatsrisawat and Darwiche, A lightweight component caching
+// scheme for satisfiability solvers, 2007). The values are packed, so that an answer copies them by words.
+ghost use Rattle.std.specs.Prelude.{◌≡◌, ◌++◌, ◌∷◌, [], ◌≤◌, length, All, OnOk};
 ghost use Rattle.cdcl_trail.specs.Trail.{IsTrail};
 ghost use Rattle.cdcl_core.specs.Phases.{IsSaved, ArePhases};
 
@@ -9,7 +10,7 @@ use inst_logic::Memory;
 use prop_logic::Valuation;
 use std::alloc::Global;
 
-// Each atom's value, false before it had one. The first `saved` literals of the trail have theirs.
+// Each atom's value; before it had one, the value that is tried first. The first `saved` literals of the trail have theirs.
 #[derive(Drop)]
 pub(crate) struct Phases {
     pub(crate) values: Valuation,
@@ -27,12 +28,12 @@ impl Phases {
         }
     }
 
-    // Takes the room of one more atom.
-    pub(crate) fn grow(&mut self) -> Result<(), Memory>
-        ensures values { OnOk result (self.new.values ≡ self.old.values ++ false ∷ []) }
+    // Takes the room of one more atom, which is tried with this value first.
+    pub(crate) fn grow(&mut self, first: bool) -> Result<(), Memory>
+        ensures values { OnOk result (self.new.values ≡ self.old.values ++ first ∷ []) }
         ensures saved { self.new.saved ≡ self.old.saved }
     {
-        self.values.push(false)
+        self.values.push(first)
     }
 
     // Saves the values of the trail that aren't.

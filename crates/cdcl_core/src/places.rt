@@ -1,5 +1,5 @@
-// Places of the trail that wait, of which the last is taken first. The walk goes from one to the next, and looks at none of the
-// places between them.
+// Places of the trail that an analysis has still to meet, of which the last is taken first. MiniSat looks at each place down the
+// trail; here the walk goes by a heap from one of these places to the next, and looks at none between them.
 ghost use Rattle.std.specs.Prelude.{◌≡◌, ◌∷◌, [], ◌<◌, ℕ, IfSome, IfNone, OnOk, Contains};
 ghost use Rattle.std.specs.BinaryHeap.{heap_items, IsHeap};
 ghost use Rattle.std.specs.List.Sorted.{IsPermutation};

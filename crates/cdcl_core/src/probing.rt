@@ -1,8 +1,8 @@
 // Failed literals, before a search: where a literal alone leads to a conflict by propagation, a clause of one literal is learned
 // from the conflict (Freeman, Improvements to propositional satisfiability search algorithms, 1995; Le Berre, Exploiting the real
 // power of unit propagation lookahead, 2001; Lynce and Marques-Silva, Probing-based preprocessing techniques for propositional
-// satisfiability, 2003). This goes on until no literal fails, for too long without one that does, or for too long in all. Only literals that make some
-// added clause unit are probed: propagation finds nothing from the others.
+// satisfiability, 2003). This goes on until no literal fails, for too long without one that does, or for too long in all. Only
+// literals that make some added clause unit are probed: propagation finds nothing from the others.
 ghost use Rattle.std.specs.Prelude.{◌≡◌, ◌<◌, [], None, IfOk, IfSome};
 ghost use Rattle.prop_logic.specs.Literal.{AtomsBelow, AllAtomsBelow};
 ghost use Rattle.cdcl_trail.specs.Trail.{IsTrail, level_of};
@@ -19,7 +19,7 @@ use std::alloc::Global;
 // Between two that fail, so many literals are propagated at most for each atom and each added clause.
 const PATIENCE: usize = 5;
 
-// And so many at most in all, also where some fail.
+// In all, so many literals are propagated at most, also where some fail.
 const MOST: usize = 10_000_000;
 
 // A literal is probed at most so many times, in the mean of all.
@@ -100,7 +100,7 @@ impl Probing {
         }
     }
 
-    // Those that make the clause unit are candidates.
+    // The literals that make the clause unit are candidates.
     fn see_clause(&mut self, trail: &Trail, clause: &[PackedLit])
         requires { AtomsBelow trail.now.trail.atoms clause.now }
     {
@@ -112,7 +112,7 @@ impl Probing {
         }
     }
 
-    // The same of all clauses.
+    // The literals that make some clause unit are candidates.
     fn see_clauses(&mut self, trail: &Trail, added: &FlatClauses)
         requires { AllAtomsBelow trail.now.trail.atoms added.now }
     {
@@ -229,7 +229,7 @@ impl Search {
         }
     }
 
-    // The same for the next literal. Where there is none, another round begins.
+    // Learns from the next literal, if it fails. Where there is none, another round begins.
     fn probe_next(&mut self, probing: &mut Probing) -> Result<Option<Answer>, Memory>
         requires search { IsSearch [] self.old }
         ensures probed { IfOk result (IsProbed [] self.old self.new) }
@@ -246,7 +246,7 @@ impl Search {
         }
     }
 
-    // The same after all that is known was propagated.
+    // Propagates all that is known, and then probes the next literal.
     fn probe_stable(&mut self, probing: &mut Probing) -> Result<Option<Answer>, Memory>
         requires search { IsSearch [] self.old }
         ensures probed { IfOk result (IsProbed [] self.old self.new) }
@@ -266,7 +266,6 @@ impl Search {
         ensures probed { IfOk result (IsProbed [] self.old self.new) }
         ensures added { self.new.log.added ≡ self.old.log.added }
     {
-        self.restart();
         let clauses = self.log.added.len();
         let mut probing = Probing::new(self.alloc, self.phases.values.len(), clauses)?;
         for _ in 0..probing.turns() {
@@ -280,13 +279,13 @@ impl Search {
         Ok(None)
     }
 
-    // Does so where the search is one that probes, and nothing is assumed.
+    // Learns from all literals that fail, where the search is one that probes, and nothing is assumed.
     pub(crate) fn probe_where_due(&mut self, assumptions: &[Lit]) -> Result<Option<Answer>, Memory>
         requires search { IsSearch assumptions.now self.old }
         ensures probed { IfOk result (IsProbed assumptions.now self.old self.new) }
         ensures added { self.new.log.added ≡ self.old.log.added }
     {
-        if !self.probes || !assumptions.is_empty() {
+        if !self.settings.probes || !assumptions.is_empty() {
             return Ok(None);
         }
         self.probe_all()

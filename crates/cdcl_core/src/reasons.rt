@@ -6,34 +6,34 @@ ghost use Rattle.prop_logic.specs.Literal.{AtomsBelow};
 ghost use Rattle.cdcl_core.specs.Analysis.{IsReady};
 
 use crate::log::Log;
-use crate::marks::Marks;
+use crate::seen::Seen;
 use cdcl_trail::Trail;
 use compact_lists::PackedLit;
 use prop_logic::Lit;
 
 // Marks the atoms of the clause that aren't, which raises them.
-fn mark_others(marks: &mut Marks, clause: &[PackedLit])
-    requires { AtomsBelow (length marks.old) clause.now }
-    ensures { length marks.new ≡ length marks.old }
+fn mark_others(seen: &mut Seen, clause: &[PackedLit])
+    requires { AtomsBelow (length seen.old) clause.now }
+    ensures { length seen.new ≡ length seen.old }
 {
     for packed in clause {
         let lit = packed.lit();
-        if !marks.contains(lit.atom) {
-            marks.insert(lit.atom);
+        if !seen.contains(lit.atom) {
+            seen.insert(lit.atom);
         }
     }
 }
 
 // Marks the atoms of the clauses that gave the atoms of this clause their values.
-pub(crate) fn mark_reasons(log: &Log, trail: &Trail, marks: &mut Marks, clause: &[Lit])
+pub(crate) fn mark_reasons(log: &Log, trail: &Trail, seen: &mut Seen, clause: &[Lit])
     requires ready { IsReady log.now trail.now.trail }
-    requires size { length marks.old ≡ trail.now.trail.atoms }
+    requires size { length seen.old ≡ trail.now.trail.atoms }
     requires atoms { AtomsBelow trail.now.trail.atoms clause.now }
-    ensures { length marks.new ≡ length marks.old }
+    ensures { length seen.new ≡ length seen.old }
 {
     for lit in clause {
         if let Some(number) = trail.reason(lit.atom) {
-            mark_others(marks, log.cited(log.hint_of(number)));
+            mark_others(seen, log.cited(log.hint_of(number)));
         }
     }
 }

@@ -4,37 +4,37 @@ ghost use Rattle.std.specs.Prelude.{◌≡◌, ◌<◌, length};
 ghost use Rattle.cdcl_core.specs.Analysis.{IsReady};
 
 use crate::log::Log;
-use crate::marks::Marks;
+use crate::seen::Seen;
 use cdcl_trail::Trail;
 
 // Whether the atom follows from the marked ones, where no clause is needed to know: those of level 0 do, and those of a level
 // without marks do not.
-fn known(trail: &Trail, marks: &Marks, atom: usize) -> Option<bool>
-    requires size { length marks.now ≡ trail.now.trail.atoms }
+fn known(trail: &Trail, seen: &Seen, atom: usize) -> Option<bool>
+    requires size { length seen.now ≡ trail.now.trail.atoms }
     requires atom { atom < trail.now.trail.atoms }
 {
-    if marks.contains(atom) {
+    if seen.contains(atom) {
         return Some(true);
     }
     let level = trail.level_of(atom).unwrap_or(0);
     if level == 0 {
         return Some(true);
     }
-    if !marks.has_level(level) {
+    if !seen.has_level(level) {
         return Some(false);
     }
-    marks.found(atom)
+    seen.found(atom)
 }
 
 // Whether the atom follows from the marked ones by clauses of which at most so many are used one after the other.
 #[cycle(redundancy)]
-fn follows(log: &Log, trail: &Trail, marks: &mut Marks, atom: usize, depth: usize) -> bool
+fn follows(log: &Log, trail: &Trail, seen: &mut Seen, atom: usize, depth: usize) -> bool
     requires ready { IsReady log.now trail.now.trail }
-    requires size { length marks.old ≡ trail.now.trail.atoms }
+    requires size { length seen.old ≡ trail.now.trail.atoms }
     requires atom { atom < trail.now.trail.atoms }
-    ensures { marks.new ≡ marks.old }
+    ensures { seen.new ≡ seen.old }
 {
-    if let Some(found) = known(trail, marks, atom) {
+    if let Some(found) = known(trail, seen, atom) {
         return found;
     }
     if depth == 0 {
@@ -44,9 +44,9 @@ fn follows(log: &Log, trail: &Trail, marks: &mut Marks, atom: usize, depth: usiz
         None => false,
         Some(number) => {
             // It is an atom of this clause itself.
-            marks.find(atom, true);
-            let found = all_follow(log, trail, marks, number, depth - 1);
-            marks.find(atom, found);
+            seen.find(atom, true);
+            let found = all_follow(log, trail, seen, number, depth - 1);
+            seen.find(atom, found);
             found
         }
     }
@@ -57,16 +57,16 @@ fn follows(log: &Log, trail: &Trail, marks: &mut Marks, atom: usize, depth: usiz
 pub(crate) fn all_follow(
     log: &Log,
     trail: &Trail,
-    marks: &mut Marks,
+    seen: &mut Seen,
     number: usize,
     depth: usize,
 ) -> bool
     requires ready { IsReady log.now trail.now.trail }
-    requires size { length marks.old ≡ trail.now.trail.atoms }
-    ensures { marks.new ≡ marks.old }
+    requires size { length seen.old ≡ trail.now.trail.atoms }
+    ensures { seen.new ≡ seen.old }
 {
     for packed in log.cited(log.hint_of(number)) {
-        if !follows(log, trail, marks, packed.lit().atom, depth) {
+        if !follows(log, trail, seen, packed.lit().atom, depth) {
             return false;
         }
     }

@@ -1,6 +1,7 @@
-// The search: a loop over the trail. Each turn propagates, and then decides a literal or answers a conflict by a learned
-// clause, which gives a literal at a lower level. A restart takes back all levels but those of assumptions. Learned clauses
-// are forgotten before any turn at which there are too many, since restarts may be far apart.
+// The search that learns (MiniSat's `search`: Eén and Sörensson, An extensible SAT-solver, 2003): a loop over the trail. Each turn
+// propagates, and then decides a literal or answers a conflict by a learned clause, which gives a literal at a lower level. A
+// restart takes back all levels but those of assumptions. Learned clauses are forgotten before any turn at which there are too
+// many, since restarts may be far apart.
 ghost use Rattle.std.specs.Prelude.{◌≡◌, ◌≢◌, IsTrue, IsFalse, ℕ, ◌+◌, ◌-◌, ◌++◌, ◌∷◌, [], ◌<◌, ◌≤◌, ◌⊎◌, List, true, false, Some, None, All, Contains, MatchBool, length, map, min, take, slice_get, unwrap_or, IfOk, IfSome, IfNone, OnOk};
 ghost use Rattle.inst_logic.specs.declared.signed.Signed.{Signed};
 ghost use Rattle.inst_logic.specs.Signed.{complement};
@@ -17,16 +18,18 @@ ghost use Rattle.cdcl_core.specs.Analysis.{IsAnalysis};
 ghost use Rattle.cdcl_core.specs.declared.search.Search.{Search};
 ghost use Rattle.cdcl_core.specs.Search.{IsKept, IsTrueUpTo, IsSearch, IsCoreIn, IsInCore, IsSameProblem, IsBackFrom, IsSameButClauses, Advances, Ends, Continues};
 
+use crate::activity::Activity;
 use crate::analysis::{Analysis, analyze, analyze_given, literal_at};
 use crate::cut::{LastStep, cut};
-use crate::fresh_start::renew_where_due;
+use crate::fresh_start::{copied_steps, renew_where_due};
 use crate::learned::Learned;
 use crate::log::Log;
-use crate::marks::Marks;
 use crate::packed_hint::PackedHint;
 use crate::phases::Phases;
 use crate::reasons::mark_reasons;
 use crate::restart::Restarts;
+use crate::seen::Seen;
+use crate::settings::Settings;
 use crate::units::unite_all;
 use cdcl_trail::{Clauses, Trail};
 use compact_lists::Literals;
@@ -36,7 +39,7 @@ use std::alloc::Global;
 
 // The levels up to `assumed` were opened by assumptions, of which the first `checked` are true. The decisions take atoms by
 // their activity, each with the value that it had last. Where the order has no atom left, which it may for want of memory, one
-// is looked for from `next` on. Where `probes` holds, literals that fail are looked for before a question without assumptions.
+// is looked for from `next` on. Answers have copied `copied` steps since the search began.
 #[derive(Drop)]
 pub(crate) struct Search {
     pub(crate) alloc: Global,
@@ -44,12 +47,14 @@ pub(crate) struct Search {
     pub(crate) clauses: Clauses,
     pub(crate) trail: Trail,
     pub(crate) learned: Learned,
-    pub(crate) marks: Marks,
+    pub(crate) seen: Seen,
+    pub(crate) activity: Activity,
     pub(crate) phases: Phases,
     pub(crate) next: usize,
     pub(crate) assumed: usize,
     pub(crate) checked: usize,
-    pub(crate) probes: bool,
+    pub(crate) copied: usize,
+    pub(crate) settings: Settings,
 }
 
 // The first atom from `from` on that has no value.
@@ -79,18 +84,16 @@ fn open_atom(trail: &Trail, next: usize, atoms: usize) -> Option<usize>
     }
 }
 
-// The same, in the order of activity.
-fn active_atom(trail: &Trail, marks: &mut Marks, next: usize, atoms: usize) -> Option<usize>
-    requires atoms { atoms ≡ trail.now.trail.atoms }
-    requires marks { length marks.old ≡ trail.now.trail.atoms }
-    ensures marks { marks.new ≡ marks.old }
+// An atom that has no value, the most active one if the order has one.
+fn active_atom(trail: &Trail, activity: &mut Activity, next: usize, atoms: usize) -> Option<usize>
+    requires { atoms ≡ trail.now.trail.atoms }
     ensures some { IfSome result (λ atom. (atom < atoms) × (level_of trail.now.trail.entries atom ≡ None)) }
     ensures none { IfNone result ((k : ℕ) → k < atoms → level_of trail.now.trail.entries k ≡ None → ⊥) }
 {
     if trail.is_whole() {
         return None;
     }
-    match marks.pick(trail) {
+    match activity.pick(trail, atoms) {
         Some(atom) => Some(atom),
         None => open_atom(trail, next, atoms),
     }
@@ -199,16 +202,16 @@ fn shared_level(trail: &Trail, assumptions: &[Lit], count: usize) -> usize
 }
 
 // Whether the assumption is the false one, or a marked decision.
-fn is_in_core(trail: &Trail, marks: &Marks, refuted: Lit, lit: Lit) -> bool
+fn is_in_core(trail: &Trail, seen: &Seen, refuted: Lit, lit: Lit) -> bool
     requires trail { IsTrail trail.now.trail }
-    requires size { length marks.now ≡ trail.now.trail.atoms }
+    requires size { length seen.now ≡ trail.now.trail.atoms }
     requires atom { lit.atom < trail.now.trail.atoms }
-    ensures { MatchBool result ((lit ≡ refuted) ⊎ Contains (literals_of trail.now.trail.entries) lit) (¬ IsInCore trail.now.trail.entries marks.now refuted lit) }
+    ensures { MatchBool result ((lit ≡ refuted) ⊎ Contains (literals_of trail.now.trail.entries) lit) (¬ IsInCore trail.now.trail.entries seen.now refuted lit) }
 {
     if lit == refuted {
         return true;
     }
-    if !marks.contains(lit.atom) {
+    if !seen.contains(lit.atom) {
         return false;
     }
     if trail.reason(lit.atom).is_some() {
@@ -221,18 +224,18 @@ fn is_in_core(trail: &Trail, marks: &Marks, refuted: Lit, lit: Lit) -> bool
 fn core_of(
     alloc: Global,
     trail: &Trail,
-    marks: &Marks,
+    seen: &Seen,
     refuted: Lit,
     assumptions: &[Lit],
 ) -> Result<LitList, Memory>
     requires trail { IsTrail trail.now.trail }
-    requires size { length marks.now ≡ trail.now.trail.atoms }
+    requires size { length seen.now ≡ trail.now.trail.atoms }
     requires atoms { AtomsBelow trail.now.trail.atoms assumptions.now }
-    ensures { IfOk result (IsCoreIn trail.now.trail.entries marks.now refuted assumptions.now) }
+    ensures { IfOk result (IsCoreIn trail.now.trail.entries seen.now refuted assumptions.now) }
 {
     let mut core = LitList::new(alloc);
     for lit in assumptions {
-        if !is_in_core(trail, marks, refuted, *lit) {
+        if !is_in_core(trail, seen, refuted, *lit) {
             continue;
         }
         core.push(*lit)?;
@@ -241,9 +244,7 @@ fn core_of(
 }
 
 // Puts the atoms above the level back into the order, and answers the first of them to look at.
-fn put_back(trail: &Trail, marks: &mut Marks, next: usize, level: usize) -> usize
-    ensures { marks.new ≡ marks.old }
-{
+fn put_back(trail: &Trail, activity: &mut Activity, next: usize, level: usize) -> usize {
     let mut first = next;
     let mut place = trail.assigned().len();
     while 0 < place {
@@ -252,14 +253,14 @@ fn put_back(trail: &Trail, marks: &mut Marks, next: usize, level: usize) -> usiz
         if trail.level_of(lit.atom).unwrap_or(0) <= level {
             return first;
         }
-        marks.put_back(lit.atom);
+        activity.insert(lit.atom);
         first = first.min(lit.atom);
     }
     first
 }
 
 impl Search {
-    pub(crate) fn new(alloc: Global, probes: bool) -> Search
+    pub(crate) fn new(alloc: Global, settings: Settings) -> Search
         ensures kept { IsKept result }
         ensures atoms { result.trail.trail.atoms ≡ 0 }
         ensures added { result.log.added ≡ [] }
@@ -270,12 +271,14 @@ impl Search {
             clauses: Clauses::new(alloc),
             trail: Trail::new(alloc),
             learned: Learned::new(alloc),
-            marks: Marks::new(alloc),
+            seen: Seen::new(alloc),
+            activity: Activity::new(alloc),
             phases: Phases::new(alloc),
             next: 0,
             assumed: 0,
             checked: 0,
-            probes,
+            copied: 0,
+            settings,
         }
     }
 
@@ -286,8 +289,9 @@ impl Search {
         ensures atoms { OnOk result (self.new.trail.trail.atoms ≡ self.old.trail.trail.atoms + 1) }
         ensures added { OnOk result (self.new.log.added ≡ self.old.log.added) }
     {
-        self.marks.grow()?;
-        self.phases.grow()?;
+        self.activity.grow()?;
+        self.seen.grow()?;
+        self.phases.grow(self.settings.first_value)?;
         self.trail.grow()
     }
 
@@ -339,7 +343,7 @@ impl Search {
         ensures checked { self.new.checked ≡ 0 }
     {
         self.phases.save(&self.trail);
-        self.next = put_back(&self.trail, &mut self.marks, self.next, level);
+        self.next = put_back(&self.trail, &mut self.activity, self.next, level);
         self.trail.back_to(level);
         self.phases.cut(&self.trail);
         self.assumed = self.assumed.min(level);
@@ -480,7 +484,7 @@ impl Search {
             self.alloc,
             &self.log,
             &self.trail,
-            &mut self.marks,
+            &mut self.seen,
             number,
             count,
         )?;
@@ -488,7 +492,8 @@ impl Search {
             let core = LitList::new(self.alloc);
             return Ok(Some(self.refuted(core, analysis.hints)?));
         }
-        mark_reasons(&self.log, &self.trail, &mut self.marks, &analysis.clause);
+        mark_reasons(&self.log, &self.trail, &mut self.seen, &analysis.clause);
+        self.activity.see_conflict(self.seen.atoms());
         self.learn(analysis)?;
         Ok(None)
     }
@@ -504,9 +509,10 @@ impl Search {
         ensures ends { IfOk result (Ends assumptions.now self.old self.new) }
         ensures added { self.new.log.added ≡ self.old.log.added }
     {
-        self.marks.clear();
-        self.marks.insert(lit.atom);
-        let core = core_of(self.alloc, &self.trail, &self.marks, lit, assumptions)?;
+        self.seen.clear();
+        self.seen.insert(lit.atom);
+        self.activity.see_conflict(self.seen.atoms());
+        let core = core_of(self.alloc, &self.trail, &self.seen, lit, assumptions)?;
         let clause = complements(self.alloc, core.as_slice())?;
         let mut derivation = Derivation::new(self.alloc);
         derivation.push(Step {
@@ -535,11 +541,12 @@ impl Search {
                     self.alloc,
                     &self.log,
                     &self.trail,
-                    &mut self.marks,
+                    &mut self.seen,
                     complement(lit),
                     number,
                 )?;
-                let core = core_of(self.alloc, &self.trail, &self.marks, lit, assumptions)?;
+                self.activity.see_conflict(self.seen.atoms());
+                let core = core_of(self.alloc, &self.trail, &self.seen, lit, assumptions)?;
                 self.refuted(core, hints)
             }
         }
@@ -554,7 +561,7 @@ impl Search {
         ensures added { self.new.log.added ≡ self.old.log.added }
     {
         let atoms = self.phases.values.len();
-        match active_atom(&self.trail, &mut self.marks, self.next, atoms) {
+        match active_atom(&self.trail, &mut self.activity, self.next, atoms) {
             Some(atom) => {
                 let positive = self.phases.values.value(atom);
                 self.trail.decide(Lit { positive, atom });
@@ -634,7 +641,8 @@ impl Search {
         }
     }
 
-    // The same, where some learned clauses are forgotten first if there are too many.
+    // One turn of the search: some learned clauses are forgotten if there are too many, and then it is one decision or one
+    // conflict on.
     fn turn(&mut self, assumptions: &[Lit]) -> Result<Option<Answer>, Memory>
         requires search { IsSearch assumptions.now self.old }
         requires atoms { AtomsBelow self.old.trail.trail.atoms assumptions.now }
@@ -647,7 +655,8 @@ impl Search {
         self.advance(assumptions)
     }
 
-    // Keeps all levels where nothing is assumed, else those whose decisions are assumed again.
+    // Keeps all levels where nothing is assumed, else those whose decisions are assumed again. Where literals are to be probed
+    // none stays.
     fn keep_levels(&mut self, assumptions: &[Lit])
         requires kept { IsKept self.old }
         ensures search { IsSearch assumptions.now self.new }
@@ -655,7 +664,7 @@ impl Search {
     {
         let count = self.trail.assigned().len();
         self.checked = 0;
-        if assumptions.is_empty() {
+        if assumptions.is_empty() && !self.settings.probes {
             self.assumed = 0;
             return;
         }
@@ -664,17 +673,45 @@ impl Search {
         self.assumed = level;
     }
 
-    // Takes back the levels that no assumption opened.
-    pub(crate) fn restart(&mut self)
+    // Takes back the levels that no assumption opened, which is a restart of this question.
+    fn restart(&mut self, restarts: &mut Restarts)
         requires kept { IsKept self.old }
+        requires left { 0 < restarts.old.left }
         ensures back { IsBackFrom self.old self.new }
+        ensures counted { restarts.new.left + 1 ≡ restarts.old.left }
     {
+        restarts.count();
         let level = self.assumed.min(self.trail.level());
         self.back_to(level);
     }
 
-    // Whether the clauses and the assumptions can be true together.
-    pub(crate) fn answer(&mut self, assumptions: &[Lit]) -> Result<Answer, Memory>
+    // Turns and restarts until the question is answered. Between restarts the weight of the trail rises, so the count of the
+    // restarts is what bounds the search.
+    fn run(&mut self, restarts: &mut Restarts, assumptions: &[Lit]) -> Result<Answer, Memory>
+        requires search { IsSearch assumptions.now self.old }
+        requires atoms { AtomsBelow self.old.trail.trail.atoms assumptions.now }
+        ensures ends { IfOk result (Ends assumptions.now self.old self.new) }
+        ensures added { self.new.log.added ≡ self.old.log.added }
+    {
+        loop {
+            if restarts.is_due() {
+                self.restart(restarts);
+                continue;
+            }
+            let level = self.trail.level();
+            if let Some(answer) = self.turn(assumptions)? {
+                return Ok(answer);
+            }
+            restarts.see(level, self.trail.level());
+        }
+    }
+
+    // Whether the clauses and the assumptions can be true together. The restarts are those of this question.
+    pub(crate) fn answer(
+        &mut self,
+        restarts: &mut Restarts,
+        assumptions: &[Lit],
+    ) -> Result<Answer, Memory>
         requires kept { IsKept self.old }
         requires atoms { AtomsBelow self.old.trail.trail.atoms assumptions.now }
         ensures kept { OnOk result (IsKept self.new) }
@@ -682,24 +719,14 @@ impl Search {
         ensures added { self.new.log.added ≡ self.old.log.added }
         ensures answer { IfOk result (IsAnswer self.old.trail.trail.atoms self.old.log.added assumptions.now) }
     {
-        renew_where_due(self, assumptions)?;
+        restarts.begin();
+        renew_where_due(self, assumptions);
         self.keep_levels(assumptions);
         if let Some(answer) = self.probe_where_due(assumptions)? {
             return Ok(answer);
         }
-        let mut restarts = Restarts::new();
-        loop {
-            if restarts.is_due() {
-                restarts.restart();
-                self.restart();
-                continue;
-            }
-            let level = self.trail.level();
-            if let Some(answer) = self.turn(assumptions)? {
-                self.learned.see_answer(&answer);
-                return Ok(answer);
-            }
-            restarts.see(level, self.trail.level());
-        }
+        let answer = self.run(restarts, assumptions)?;
+        self.copied = self.copied.saturating_add(copied_steps(&answer));
+        Ok(answer)
     }
 }

@@ -1,4 +1,5 @@
-// The steps of a log. Their clauses lie one after the other in one list, and so do their hints, each literal and each hint in
+// The steps of a log, each a clause with the hints that show it, as in LRAT (Cruz-Filipe and others, Efficient certified RAT
+// verification, 2017). Their clauses lie one after the other in one list, and so do their hints, each literal and each hint in
 // four bytes: a search keeps all its steps, and a derivation, whose steps own lists of sixteen bytes an item, takes four times as
 // much and more.
 ghost use Rattle.std.specs.Prelude.{◌≡◌, ◌++◌, ◌∷◌, [], length, map, slice_get, option_copied, IfOk, OnOk, OnErr};

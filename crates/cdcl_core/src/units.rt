@@ -1,4 +1,5 @@
-// Facts of level 0 as steps of their own. A fact that a longer clause gave is cited by that clause and by all facts that this
+// Facts of level 0 as steps of their own, as CaDiCaL logs them (Pollitt, Fleury and Biere, Faster LRAT checking than solving with
+// CaDiCaL, 2023). A fact that a longer clause gave is cited by that clause and by all facts that this
 // one rests on; so once an analysis has met it, its literal alone becomes a step, and what is learned later cites that alone.
 ghost use Rattle.std.specs.Prelude.{◌≡◌, ◌∷◌, [], ◌<◌, ℕ, List, Some, map, length, slice_get, IfOk, IfSome, OnOk};
 ghost use Rattle.prop_logic.specs.Literal.{cited};
@@ -88,7 +89,7 @@ fn unite(alloc: Global, log: &mut Log, trail: &Trail, place: usize) -> Result<()
     }
 }
 
-// The same for all these places, of which the last is the first on the trail.
+// Makes the facts at all these places steps, of which the last is the first on the trail.
 pub(crate) fn unite_all(
     alloc: Global,
     log: &mut Log,

@@ -30,7 +30,7 @@ use Rattle.cdcl_trail.proofs.TrailRunLaws.{settled_more}
 use Rattle.cdcl_trail.proofs.TrailLaws.{trail_of}
 use Rattle.cdcl_trail.proofs.ValuesLaws.{up_to_all, up_to_less}
 
--- the same settled up to more entries
+-- what is settled stays so where there are more entries
 pub settled_to_more : (clauses : List (Option (List (Signed ℕ)))) (w : Watching) (es more : List Entry) (h : Head) → take (length es) more ≡ es → IsSettledTo clauses w es h → IsSettledTo clauses w more h
 settled_to_more clauses w es more h kept s = record {
   settled = settled_more clauses w.pairs es more h.place kept s.place s.settled;

@@ -324,7 +324,7 @@ slot_within lists j place w at = elim (within j) [ inl h ↦ h | inr h ↦ absur
     past (x ∷ xs) zero h = absurd (omega (arith, h))
     past (x ∷ xs) (suc k) h = past xs k (omega (arith, h))
 
--- the same of the pair at the watch's number
+-- the pair at the watch's number watches the literal
 pub watches_of : (clauses : List (Option (List (Signed ℕ)))) (lists : List (List Watch)) (pairs : List (Option Pair)) (l : Signed ℕ) (i n : ℕ) (w : Watch) (p : Pair) → AreWatched clauses lists pairs → slice_get (list_at lists (slot_of l)) i ≡ Some w
     → w.number ≡ n → pair_at pairs n ≡ Some p → Watches p l
 watches_of clauses lists pairs l i n w p h at same here =

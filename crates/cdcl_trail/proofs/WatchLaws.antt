@@ -242,7 +242,7 @@ moved_watched clauses lists pairs f o next place w p c m = record {
       | inr other ↦ m.watched.of_clauses n q (sym (pair_at_other pairs w.number n (Some (pair_of o next)) other) ∙ e)
     ]
 
--- the same by the two steps of the move
+-- a clause goes over to another literal, by the two steps of the move
 pub moved_by : (clauses : List (Option (List (Signed ℕ)))) (lists mid new : List (List Watch)) (pairs : List (Option Pair)) (f o next : Signed ℕ) (place number : ℕ) (r w : Watch) (p : Pair) (c : List (Signed ℕ))
     → mid ≡ set lists (slot_of next) (list_at lists (slot_of next) ++ (record { number = number; blocker = o; binary = false }) ∷ [])
     → slice_get (list_at mid (slot_of f)) place ≡ Some r → new ≡ set mid (slot_of f) (swap_remove (list_at mid (slot_of f)) place r) → w.number ≡ number

@@ -13,7 +13,7 @@ pub record IsUnwatched (n j : ℕ) (old new : List (List Watch)) : Type 0 where
   pub apart : (k : ℕ) → k ≢ j → list_at new k ≡ list_at old k
   pub size : length new ≡ length old
 
--- the same while the list is walked: the clause is in none of its places before this one
+-- while the list is walked: the clause is in none of its places before this one, and all else is as it was
 pub record IsUnwatchedTo (n j place : ℕ) (old new : List (List Watch)) : Type 0 where
   pub gone : times n (take place (list_at new j)) ≡ 0
   pub others : (m : ℕ) → m ≢ n → times m (list_at new j) ≡ times m (list_at old j)

@@ -22,6 +22,6 @@ HasTwoUnset entries clause = (l m : Signed ℕ) × Contains clause l × Contains
 abbrev pub HasRest : List Entry → List (Signed ℕ) → Type 0
 HasRest entries clause = HasTrue entries clause ⊎ HasTwoUnset entries clause
 
--- the same of the clause of this number, where there is one
+-- the clause of this number, where there is one, has a true literal or two without values
 abbrev pub RestsAt : List (Option (List (Signed ℕ))) → List Entry → ℕ → Type 0
 RestsAt clauses entries n = (c : List (Signed ℕ)) → clause_number clauses n ≡ Some c → HasRest entries c

@@ -199,7 +199,7 @@ impl Arena {
         }
     }
 
-    // The same clauses without gaps.
+    // A copy of the clauses without gaps.
     fn closed_up(&self) -> Result<Arena, Memory>
         ensures { IfOk result (λ a. a ≡ self.now) }
     {

@@ -1,5 +1,6 @@
-// Unit propagation: first the clauses that watch nothing, then the watch lists. A clause without watches that was passed has
-// a true literal, so it needs no second look before the level of that literal is taken back.
+// Unit propagation by watched literals (Moskewicz and others, Chaff, 2001): first the clauses that watch nothing, then the watch
+// lists. A clause without watches that was passed has a true literal, so it needs no second look before the level of that literal
+// is taken back.
 ghost use Rattle.std.specs.Prelude.{◌≡◌, ◌<◌, ◌≤◌, ◌^◌, length, take, IfOk, IfSome, IfNone, OnOk};
 ghost use Rattle.cdcl_trail.specs.Propagation.{IsConflict, IsStable, Propagates};
 ghost use Rattle.cdcl_trail.specs.Values.{AreValues, entries_of};

@@ -10,12 +10,12 @@ loop-next-init c =
     record {
       within = omega (arith, c.requires.count);
       size = c.in_ok-analysis.ensures.size ∙ c.requires.size;
-      met = met_first c.args.log.now c.args.trail.now.trail c.args.count c.args.number c.begin.new.marks c.in_ok-analysis.analysis c.requires.count c.requires.conflict begun;
+      met = met_first c.args.log.now c.args.trail.now.trail c.args.count c.args.number c.begin.new.seen c.in_ok-analysis.analysis c.requires.count c.requires.conflict begun;
       waiting = begun.waiting c.args.count;
     }
 
 pub meet-requires-clause-met : goal.meet-requires-clause-met
-meet-requires-clause-met c = met_taken c.args.log.now c.args.trail.now.trail c.loop-next.place c.in-Some.next c.loop-next.marks c.take_below.new.self c.loop-next.analysis c.in-Some.ensures.some c.loop-next.invariant.waiting c.loop-next.invariant.met
+meet-requires-clause-met c = met_taken c.args.log.now c.args.trail.now.trail c.loop-next.place c.in-Some.next c.loop-next.seen c.take_below.new.self c.loop-next.analysis c.in-Some.ensures.some c.loop-next.invariant.waiting c.loop-next.invariant.met
 
 pub loop-next-preserved : goal.loop-next-preserved
 loop-next-preserved c =
@@ -25,7 +25,7 @@ loop-next-preserved c =
       within = omega (arith, x.within, c.in-Some.ensures.some.below);
       size = c.in_ok-meet.ensures.size ∙ x.size;
       met = c.in_ok-meet.ensures.met;
-      waiting = c.in_ok-meet.ensures.waiting (waiting_taken t c.loop-next.place c.in-Some.next c.loop-next.marks c.loop-next.analysis.waiting.places c.take_below.new.self c.in-Some.ensures.some x.waiting);
+      waiting = c.in_ok-meet.ensures.waiting (waiting_taken t c.loop-next.place c.in-Some.next c.loop-next.seen c.loop-next.analysis.waiting.places c.take_below.new.self c.in-Some.ensures.some x.waiting);
     }
 
 pub returns-clause-analysis : goal.returns-clause-analysis
@@ -33,5 +33,5 @@ returns-clause-analysis c =
     let t = c.args.trail.now.trail in
     let a = c.loop-next.analysis in
     let b : Analysis = record a { hints = c.reverse.new.self; waiting = record { present = a.waiting.present; places = c.take_below.new.self } } in
-    analysis_done c.args.log.now t c.loop-next.place c.loop-next.marks a b c.requires.ready.trail
-    (λ F. covers_none t c.loop-next.place c.loop-next.marks a.waiting.places F c.in_default.ensures.none c.loop-next.invariant.waiting) refl c.reverse.ensures.items c.loop-next.invariant.met
+    analysis_done c.args.log.now t c.loop-next.place c.loop-next.seen a b c.requires.ready.trail
+    (λ F. covers_none t c.loop-next.place c.loop-next.seen a.waiting.places F c.in_default.ensures.none c.loop-next.invariant.waiting) refl c.reverse.ensures.items c.loop-next.invariant.met

@@ -5,9 +5,9 @@ use Rattle.cdcl_core.proofs.analysis.analyze.Given as goal
 abbrev pub invariant-loop-next : goal.invariant-loop-next
 invariant-loop-next l = record {
   within : l.place ≤ length l.trail.trail.entries;
-  size : length l.marks ≡ l.trail.trail.atoms;
-  met : IsMet l.log l.trail.trail l.place l.marks l.analysis;
-  waiting : AreWaiting l.trail.trail l.place l.marks l.analysis.waiting.places;
+  size : length l.seen ≡ l.trail.trail.atoms;
+  met : IsMet l.log l.trail.trail l.place l.seen l.analysis;
+  waiting : AreWaiting l.trail.trail l.place l.seen l.analysis.waiting.places;
 }
 
 abbrev pub decreases-loop-next : goal.decreases-loop-next

@@ -15,8 +15,8 @@ loop-next-init c =
     record {
       within = omega arith;
       size = c.in_ok-analysis.ensures.size ∙ c.requires.size;
-      met = subst (λ l. IsMetDecided c.args.log.now t start start l c.begin.new.marks c.in_ok-analysis.analysis) g.2
-          (met_decided_first c.args.log.now t start c.args.number g.0 c.begin.new.marks c.in_ok-analysis.analysis c.requires.ready at g.3 c.in_ok-analysis.ensures.begun);
+      met = subst (λ l. IsMetDecided c.args.log.now t start start l c.begin.new.seen c.in_ok-analysis.analysis) g.2
+          (met_decided_first c.args.log.now t start c.args.number g.0 c.begin.new.seen c.in_ok-analysis.analysis c.requires.ready at g.3 c.in_ok-analysis.ensures.begun);
       waiting = (c.in_ok-analysis.ensures.begun why.0 why.1).waiting start;
     }
 
@@ -40,8 +40,8 @@ loop-next-preserved c =
     record {
       within = omega (arith, low);
       size = c.in_ok-meet_decided.ensures.size ∙ x.size;
-      met = c.in_ok-meet_decided.ensures.met start c.args.lit low (met_decided_taken c.args.log.now t start limit next c.args.lit c.loop-next.marks new c.loop-next.analysis n x.waiting x.met);
-      waiting = c.in_ok-meet_decided.ensures.waiting (waiting_taken t limit next c.loop-next.marks c.loop-next.analysis.waiting.places new n x.waiting);
+      met = c.in_ok-meet_decided.ensures.met start c.args.lit low (met_decided_taken c.args.log.now t start limit next c.args.lit c.loop-next.seen new c.loop-next.analysis n x.waiting x.met);
+      waiting = c.in_ok-meet_decided.ensures.waiting (waiting_taken t limit next c.loop-next.seen c.loop-next.analysis.waiting.places new n x.waiting);
     }
 
 pub returns-clause-hints : goal.returns-clause-hints
@@ -50,7 +50,7 @@ returns-clause-hints c =
     let g = c.requires.given in
     let start = c.place_of-place.result in
     let a = c.loop-next.analysis in
-    let marks = c.loop-next.marks in
+    let marks = c.loop-next.seen in
     let limit = c.loop-next.place in
     let met = subst (λ l. IsMetDecided c.args.log.now t start limit l marks a) (sym g.2) c.loop-next.invariant.met in
     let shows = given_done c.args.log.now t start limit g.0 marks a c.reverse.new.self.items c.requires.ready.trail (c.place_of-place.ensures g.0 g.1 g.2)

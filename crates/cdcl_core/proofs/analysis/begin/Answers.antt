@@ -12,7 +12,7 @@ returns-clause-begun c = λ d named.
     let is = c.hint_of.ensures named.0 named.1 in
     let too = f.marked d (ap (cited c.args.log.now.added c.args.log.now.steps) is ∙ named.2) in
     let o = c.no_analysis-analysis.result.waiting in
-    let n = length c.args.marks.now in
+    let n = length c.args.seen.now in
     record {
       clause = ap (λ v. v.items) f.clause ∙ c.no_analysis-analysis.ensures.clause;
       hints = λ h e. f.hints ∙ ap (λ xs. xs ++ c.hint_of.result ∷ []) c.no_analysis-analysis.ensures.hints ∙ ap (λ x. x ∷ []) (c.hint_of.ensures h e);

@@ -8,7 +8,7 @@ pub returns-clause-marked : goal.returns-clause-marked
 returns-clause-marked c =
     let t = c.args.trail.now.trail in
     let l = c.args.lit in
-    let marks = c.args.marks.now in
+    let marks = c.args.seen.now in
     let is : Waiting = record { present = c.count_marked.new.present; places = c.push_place.new.places } in
     let inside : l.atom < length marks = omega (arith, c.requires.atom, c.requires.size) in
     subst (λ m. MarksToo t (l ∷ []) marks m c.args.waiting.now is) (sym (c.see_level.ensures ∙ c.insert.ensures))

@@ -16,6 +16,6 @@ loop-packed-preserved c =
     let part = take_more clause i c.packed-item.result c.loop-packed-test.true ∙ ap (λ x. take i clause ++ x ∷ []) (sym (c.lit.ensures ∙ c.packed-item.is)) in
     record {
       size = c.in_ok-mark.ensures.size ∙ c.loop-packed.invariant.size;
-      marked = subst (λ xs. MarksToo t xs c.args.marks.now c.mark.new.marks c.args.waiting.now c.mark.new.waiting) (sym part)
-          (marks_more t (take i clause) l c.args.marks.now c.loop-packed.marks c.mark.new.marks c.args.waiting.now c.loop-packed.waiting c.mark.new.waiting c.loop-packed.invariant.marked c.in_ok-mark.ensures.marked);
+      marked = subst (λ xs. MarksToo t xs c.args.seen.now c.mark.new.seen c.args.waiting.now c.mark.new.waiting) (sym part)
+          (marks_more t (take i clause) l c.args.seen.now c.loop-packed.seen c.mark.new.seen c.args.waiting.now c.loop-packed.waiting c.mark.new.waiting c.loop-packed.invariant.marked c.in_ok-mark.ensures.marked);
     }

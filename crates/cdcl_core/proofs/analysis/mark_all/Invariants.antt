@@ -4,6 +4,6 @@ use Rattle.cdcl_core.proofs.analysis.mark_all.Given as goal
 
 abbrev pub invariant-loop-packed : goal.invariant-loop-packed
 invariant-loop-packed l = record {
-  size : length l.marks ≡ l.trail.trail.atoms;
-  marked : MarksToo l.trail.trail (take l.packed-index l.clause) l.initial.marks l.marks l.initial.waiting l.waiting;
+  size : length l.seen ≡ l.trail.trail.atoms;
+  marked : MarksToo l.trail.trail (take l.packed-index l.clause) l.initial.seen l.seen l.initial.waiting l.waiting;
 }

@@ -18,7 +18,7 @@ returns-in-None-clause-met c =
     let v = c.requires.ready.trail in
     let a = c.args.analysis.now in
     let i = c.args.place in
-    let marks = c.args.marks.now in
+    let marks = c.args.seen.now in
     let f = entry_at t.entries i (record { positive = false; atom = 0 }) c.requires.place in
     let e = f.0 in
     let inside = Contains-slice_get t.entries i e f.1 in
@@ -41,7 +41,7 @@ returns-then-remains-clause-met c =
     let v = c.requires.ready.trail in
     let a = c.args.analysis.now in
     let i = c.args.place in
-    let marks = c.stays-remains.new.marks in
+    let marks = c.stays-remains.new.seen in
     let back = sym c.stays-remains.ensures.same in
     let met = subst (λ m. IsMet c.args.log.now t (i + 1) m a) back c.requires.met in
     let f = entry_at t.entries i (record { positive = false; atom = 0 }) c.requires.place in
@@ -68,7 +68,7 @@ returns-else-remains-clause-met c =
     let v = c.requires.ready.trail in
     let a = c.args.analysis.now in
     let i = c.args.place in
-    let marks = c.stays-remains.new.marks in
+    let marks = c.stays-remains.new.seen in
     let back = sym c.stays-remains.ensures.same in
     let met = subst (λ m. IsMet c.args.log.now t (i + 1) m a) back c.requires.met in
     let f = entry_at t.entries i (record { positive = false; atom = 0 }) c.requires.place in
@@ -82,7 +82,7 @@ returns-else-remains-clause-met c =
     let counted = c.count_met-in-Some.ensures i e marks f.1 mark level met.counted in
     let reason = reason_read t e c.literal_at-lit.result c.reason.result v inside is c.reason.ensures ∙ c.in-Some.is in
     let was : Analysis = record a { waiting = record { present = c.count_met-in-Some.new.present; places = a.waiting.places } } in
-    let new = c.resolve.new.marks in
+    let new = c.resolve.new.seen in
     let b = c.resolve.new.analysis in
     on_ok c.resolve.result ((d : Entry) → slice_get t.entries i ≡ Some d → d.reason ≡ Some k → Resolves log t i d.lit marks new was b) (IsMet log t i new b)
     (λ resolved. met_resolved log t i e marks new a was b c.requires.ready f.1 mark counted refl refl (resolved e f.1 reason) met) c.resolve.ensures.resolved
@@ -93,7 +93,7 @@ returns-else-remains-clause-waiting c =
     let log = c.args.log.now in
     let a = c.args.analysis.now in
     let i = c.args.place in
-    let marks = c.stays-remains.new.marks in
+    let marks = c.stays-remains.new.seen in
     let back = sym c.stays-remains.ensures.same in
     let f = entry_at t.entries i (record { positive = false; atom = 0 }) c.requires.place in
     let e = f.0 in
@@ -101,8 +101,8 @@ returns-else-remains-clause-waiting c =
     let k = c.in-Some.number in
     let reason = reason_read t e c.literal_at-lit.result c.reason.result c.requires.ready.trail (Contains-slice_get t.entries i e f.1) is c.reason.ensures ∙ c.in-Some.is in
     let was : Analysis = record a { waiting = record { present = c.count_met-in-Some.new.present; places = a.waiting.places } } in
-    let new = c.resolve.new.marks in
+    let new = c.resolve.new.seen in
     let b = c.resolve.new.analysis in
     on_ok c.resolve.result ((d : Entry) → slice_get t.entries i ≡ Some d → d.reason ≡ Some k → Resolves log t i d.lit marks new was b)
-    (AreWaiting t i c.args.marks.now a.waiting.places → AreWaiting t i new b.waiting.places)
+    (AreWaiting t i c.args.seen.now a.waiting.places → AreWaiting t i new b.waiting.places)
     (λ resolved w. (resolved e f.1 reason).marked.waiting i (subst (λ m. AreWaiting t i m a.waiting.places) back w)) c.resolve.ensures.resolved

@@ -16,7 +16,7 @@ returns-in-None-clause-met c = λ start l low m.
     let inside = Contains-slice_get t.entries c.args.place e f.1 in
     let is = c.literal_at-lit.ensures.literal e f.1 in
     let chosen = reason_read t e c.literal_at-lit.result c.reason.result c.requires.ready.trail inside is c.reason.ensures ∙ c.in-None.is in
-    met_decided_kept c.args.log.now t start c.args.place l e c.args.marks.now c.args.analysis.now low f.1 (c.requires.marked e f.1) chosen m
+    met_decided_kept c.args.log.now t start c.args.place l e c.args.seen.now c.args.analysis.now low f.1 (c.requires.marked e f.1) chosen m
 
 pub returns-in-Some-clause-met : goal.returns-in-Some-clause-met
 returns-in-Some-clause-met c =
@@ -25,8 +25,8 @@ returns-in-Some-clause-met c =
     let a = c.args.analysis.now in
     let b = c.resolve.new.analysis in
     let n = c.in-Some.number in
-    let marks = c.args.marks.now in
-    let new = c.resolve.new.marks in
+    let marks = c.args.seen.now in
+    let new = c.resolve.new.seen in
     let i = c.args.place in
     let f = entry_at t.entries i (record { positive = false; atom = 0 }) c.requires.place in
     let e = f.0 in
@@ -43,8 +43,8 @@ returns-in-Some-clause-waiting c =
     let a = c.args.analysis.now in
     let b = c.resolve.new.analysis in
     let n = c.in-Some.number in
-    let marks = c.args.marks.now in
-    let new = c.resolve.new.marks in
+    let marks = c.args.seen.now in
+    let new = c.resolve.new.seen in
     let i = c.args.place in
     let f = entry_at t.entries i (record { positive = false; atom = 0 }) c.requires.place in
     let e = f.0 in

@@ -15,8 +15,8 @@ returns-clause-resolved c =
     let hint = c.hint_of.result in
     let a = c.args.analysis.now in
     let b = c.take.new.analysis in
-    let marks = c.args.marks.now in
-    let new = c.take.new.marks in
+    let marks = c.args.seen.now in
+    let new = c.take.new.seen in
     on_ok_three c.take.result (b.clause ≡ a.clause) (b.hints.items ≡ a.hints.items ++ hint ∷ []) ((d : List (Signed ℕ)) → cited log.added log.steps hint ≡ Some d → MarksToo t d marks new a.waiting b.waiting)
     ((e : Entry) → slice_get t.entries i ≡ Some e → e.reason ≡ Some c.args.number → Resolves log t i e.lit marks new a b)
     (λ clause hints marked e at reason.

@@ -18,8 +18,8 @@ returns-clause-resolved c =
     let a = c.args.analysis.now in
     let mid = c.list_fact.new.analysis in
     let b = c.take.new.analysis in
-    let marks = c.args.marks.now in
-    let new = c.take.new.marks in
+    let marks = c.args.seen.now in
+    let new = c.take.new.seen in
     let same = c.in_ok-list_fact.ensures in
     on_ok_three c.take.result (b.clause ≡ mid.clause) (b.hints.items ≡ mid.hints.items ++ hint ∷ []) ((d : List (Signed ℕ)) → cited log.added log.steps hint ≡ Some d → MarksToo t d marks new mid.waiting b.waiting)
     ((e : Entry) → slice_get t.entries i ≡ Some e → e.reason ≡ Some c.args.number → Resolves log t i e.lit marks new a b)

@@ -2,4 +2,4 @@ use Rattle.std.proofs.Common.{◌≡◌, length}
 use Rattle.cdcl_core.proofs.reasons.mark_others.Given as goal
 
 abbrev pub invariant-loop-packed : goal.invariant-loop-packed
-invariant-loop-packed l = length l.marks ≡ length l.initial.marks
+invariant-loop-packed l = length l.seen ≡ length l.initial.seen

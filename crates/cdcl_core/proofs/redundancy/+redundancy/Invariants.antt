@@ -8,4 +8,4 @@ abbrev pub decreases-all_follow : goal.decreases-all_follow
 decreases-all_follow l = 2 * l.depth + 1
 
 abbrev pub invariant-all_follow-loop-packed : goal.invariant-all_follow-loop-packed
-invariant-all_follow-loop-packed l = l.marks ≡ l.initial.marks
+invariant-all_follow-loop-packed l = l.seen ≡ l.initial.seen

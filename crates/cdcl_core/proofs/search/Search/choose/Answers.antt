@@ -13,8 +13,8 @@ decide-requires-clause-unset c = unset_of c.args.self.now.trail.trail.entries c.
 pub returns-in-Some-clause-goes : goal.returns-in-Some-clause-goes
 returns-in-Some-clause-goes c = λ assumptions s all.
     let old = c.args.self.now in
-    let new : Search = record old { trail = c.decide.new.self; next = c.in-Some.atom; marks = c.active_atom.new.marks } in
-    let kept = decided_kept old new _ c.decide.ensures.trail c.decide.ensures.attached refl refl c.active_atom.ensures.marks refl c.requires.kept in
+    let new : Search = record old { trail = c.decide.new.self; next = c.in-Some.atom; activity = c.active_atom.new.activity } in
+    let kept = decided_kept old new _ c.decide.ensures.trail c.decide.ensures.attached refl refl refl refl c.requires.kept in
     (chosen_search assumptions old new _ c.decide.ensures.trail kept refl refl s all, decided_advances old new _ c.requires.trail c.decide.ensures.trail refl)
 
 pub returns-in_ok-valuation-in-None-clause-goes : goal.returns-in_ok-valuation-in-None-clause-goes
@@ -23,7 +23,7 @@ returns-in_ok-valuation-in-None-clause-goes c = λ assumptions s all.
     let valuation = c.in_ok-valuation-in-None.valuation in
     let saved = c.save.ensures in
     record {
-      kept = kept_same old (record old { marks = c.active_atom.new.marks; phases = c.save.new.self }) refl refl refl (ap length c.active_atom.ensures.marks) (λ p. saved.phases) c.requires.kept;
+      kept = kept_same old (record old { activity = c.active_atom.new.activity; phases = c.save.new.self }) refl refl refl refl (λ p. saved.phases) c.requires.kept;
       same = record { atoms = refl; added = refl };
       answered = record {
         within = omega (arith, ap length c.in_ok-valuation-in-None.ensures, saved.phases.size);

@@ -87,6 +87,6 @@ returns-clause-learned c = λ first assumptions from s.
     shape
     (subst (λ n. IsLog n back.clauses back.log) (sym atoms) backed.kept.log) given
     (ap (λ x. clause_number x key) backed.clauses ∙ k.1 ∙ ap Some c.deref-2.ensures.value)
-    (backed.kept.marks ∙ sym atoms) (phases_push back.trail.trail new.trail.trail back.phases (record { lit = l; level = back.trail.trail.level; reason = Some key }) atoms (ap (λ x. x.entries) c.imply.ensures.trail) backed.kept.phases) (c.imply.ensures.attached back.clauses backed.kept.attached)
+    (backed.kept.seen ∙ sym atoms) (phases_push back.trail.trail new.trail.trail back.phases (record { lit = l; level = back.trail.trail.level; reason = Some key }) atoms (ap (λ x. x.entries) c.imply.ensures.trail) backed.kept.phases) (c.imply.ensures.attached back.clauses backed.kept.attached)
     (ap (λ x. x.added) backed.log ∙ c.in_ok-unite_all.ensures.added ∙ used.added ∙ pushed.added) (backed.assumed ∙ ap (λ n. min n level) (used.assumed ∙ pushed.assumed)) backed.checked s in
     (went.0, advances_from first old new l level key from shape u.within went.1.same.added)

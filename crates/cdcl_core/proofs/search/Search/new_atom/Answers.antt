@@ -11,6 +11,6 @@ use Rattle.cdcl_core.proofs.search.Search.new_atom.Goals as goal
 pub returns-clause-kept : goal.returns-clause-kept
 returns-clause-kept c =
     let old = c.args.self.now in
-    let new : Search = record old { trail = c.grow-3.new.self; marks = c.grow.new.self; phases = c.grow-2.new.self } in
-    both_ok c.grow-3.result ((old.trail.trail.spent ≡ false) × (c.grow-3.new.self.trail ≡ with_atom old.trail.trail)) ((clauses : List (Option (List (Signed ℕ)))) → AreAttached old.trail clauses → AreAttached c.grow-3.new.self clauses) (IsKept new)
-    (λ e a. atom_kept old new e.1 a refl refl c.in_ok-grow.ensures c.in_ok-grow-2.ensures.values c.grow-2.ensures.saved c.requires.kept) c.grow-3.ensures.ok c.grow-3.ensures.attached
+    let new : Search = record old { trail = c.grow-4.new.self; activity = c.grow.new.self; seen = c.grow-2.new.self; phases = c.grow-3.new.self } in
+    both_ok c.grow-4.result ((old.trail.trail.spent ≡ false) × (c.grow-4.new.self.trail ≡ with_atom old.trail.trail)) ((clauses : List (Option (List (Signed ℕ)))) → AreAttached old.trail clauses → AreAttached c.grow-4.new.self clauses) (IsKept new)
+    (λ e a. atom_kept old new c.args.self.now.settings.first_value e.1 a refl refl c.in_ok-grow-2.ensures c.in_ok-grow-3.ensures.values c.grow-3.ensures.saved c.requires.kept) c.grow-4.ensures.ok c.grow-4.ensures.attached

@@ -32,6 +32,6 @@ refuted-requires-clause-atoms c = core_atoms c.args.self.now.trail.trail.atoms c
 pub refuted-requires-clause-closes : goal.refuted-requires-clause-closes
 refuted-requires-clause-closes c =
     let s = c.args.self.now in
-    let marks = c.analyze_given.new.marks in
+    let marks = c.analyze_given.new.seen in
     core_closes s marks c.args.assumptions.now c.in_ok-core-in-Some.core c.args.lit c.in_ok-hints-in-Some.hints.items c.requires.trail c.requires.level c.requires.search c.requires.assumption c.in_ok-core-in-Some.ensures
     (subst (λ l. ShowsGiven s.log s.trail.trail.entries l marks c.in_ok-hints-in-Some.hints.items) c.complement.ensures c.in_ok-hints-in-Some.ensures.hints)

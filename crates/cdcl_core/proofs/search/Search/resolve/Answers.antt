@@ -4,8 +4,8 @@ use Rattle.prop_logic.specs.Solving.{IsSubList}
 use Rattle.cdcl_core.specs.declared.search.Search.{Search}
 use Rattle.cdcl_core.proofs.SearchLaws.{ready_of}
 use Rattle.cdcl_core.proofs.StepLaws.{learned_below}
-use Rattle.cdcl_core.proofs.BackLaws.{back_marks, back_ends}
-use Rattle.cdcl_core.proofs.GoLaws.{marks_search, marks_ends}
+use Rattle.cdcl_core.proofs.BackLaws.{back_seen, back_ends}
+use Rattle.cdcl_core.proofs.GoLaws.{seen_search, seen_ends}
 use Rattle.cdcl_core.proofs.search.Search.resolve.Goals as goal
 
 pub analyze-requires-clause-ready : goal.analyze-requires-clause-ready
@@ -22,15 +22,16 @@ mark_reasons-requires-clause-atoms c =
 pub returns-then-is_empty-clause-goes : goal.returns-then-is_empty-clause-goes
 returns-then-is_empty-clause-goes c = λ assumptions s.
     let mid = c.back_to_conflict-count.new.self in
-    let new : Search = record mid { marks = c.analyze.new.marks } in
+    let new : Search = record mid { seen = c.analyze.new.seen } in
     back_ends assumptions c.args.self.now mid new c.in_ok-refuted.field-0 c.back_to_conflict-count.ensures.back
-    (marks_ends assumptions mid new c.analyze.new.marks c.in_ok-refuted.field-0 (c.in_ok-refuted.ensures assumptions (subst (λ x. IsSubList x assumptions) (sym c.new-core.ensures) tt)))
+    (seen_ends assumptions mid new c.analyze.new.seen c.in_ok-refuted.field-0 (c.in_ok-refuted.ensures assumptions (subst (λ x. IsSubList x assumptions) (sym c.new-core.ensures) tt)))
 
 pub returns-clause-goes : goal.returns-clause-goes
 returns-clause-goes c = λ assumptions s.
     let old = c.args.self.now in
     let mid = c.back_to_conflict-count.new.self in
     let back = c.back_to_conflict-count.ensures.back in
-    let m = c.mark_reasons.new.marks in
+    let m = c.mark_reasons.new.seen in
     let same = c.mark_reasons.ensures ∙ c.in_ok-analysis.ensures.size in
-    c.in_ok-learn.ensures.learned old assumptions (back_marks old mid m same back) (marks_search assumptions mid m same (back.search assumptions s))
+    let a = c.see_conflict.new.self in
+    c.in_ok-learn.ensures.learned old assumptions (back_seen old mid m a same back) (seen_search assumptions mid m a same (back.search assumptions s))

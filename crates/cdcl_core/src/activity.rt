@@ -1,6 +1,6 @@
-// The order in which atoms are decided: those that were in recent conflicts first (Moskewicz and others, Chaff, 2001; Eén
-// and Sörensson, 2003). Nothing is proved of the order: who asks tests what it gives, and looks elsewhere where it has
-// nothing more.
+// The activity of atoms, by which they are decided: those that were in recent conflicts first (VSIDS: Moskewicz and others, Chaff,
+// 2001; with a heap and a weight that grows: Eén and Sörensson, An extensible SAT-solver, 2003). Nothing is proved of the order:
+// who asks tests what it gives, and looks elsewhere where it has nothing more.
 ghost use Rattle.std.specs.Prelude.{◌≡◌, ◌<◌, ◌/◌, length, None, IfSome};
 ghost use Rattle.cdcl_trail.specs.Trail.{level_of};
 
@@ -16,7 +16,7 @@ const DECAY: u64 = 30;
 // A heap of atoms by activity, with the place of each atom in it. What moves in it leaves a hole, which others move into, and is
 // written once. An atom that is no `u32` is not put in.
 #[derive(Drop)]
-pub(crate) struct Order {
+pub(crate) struct Activity {
     heap: Vec<u32>,
     places: Vec<u32>,
     activities: Vec<u64>,
@@ -28,9 +28,9 @@ fn narrow(number: usize) -> u32 {
     u32::try_from(number).unwrap_or(u32::MAX)
 }
 
-impl Order {
-    pub(crate) fn new(alloc: Global) -> Order {
-        Order {
+impl Activity {
+    pub(crate) fn new(alloc: Global) -> Activity {
+        Activity {
             heap: Vec::new(alloc),
             places: Vec::new(alloc),
             activities: Vec::new(alloc),
@@ -125,7 +125,7 @@ impl Order {
     }
 
     // Takes the most active atom out.
-    pub(crate) fn pop(&mut self) -> Option<usize>
+    fn pop(&mut self) -> Option<usize>
         ensures some { IfSome result (λ atom. length self.new.heap.items < length self.old.heap.items) }
     {
         let last = self.heap.pop()?;
@@ -190,7 +190,7 @@ impl Order {
     }
 
     // The atom was in a conflict.
-    pub(crate) fn raise(&mut self, atom: usize) {
+    fn raise(&mut self, atom: usize) {
         if atom >= self.activities.len() {
             return;
         }
@@ -204,8 +204,11 @@ impl Order {
         }
     }
 
-    // A conflict is over: what is raised from now on counts more.
-    pub(crate) fn decay(&mut self) {
+    // A conflict met these atoms, in this order. It counts more than those before it.
+    pub(crate) fn see_conflict(&mut self, atoms: &[usize]) {
         self.step = self.step.saturating_add(self.step / DECAY);
+        for atom in atoms {
+            self.raise(*atom);
+        }
     }
 }

@@ -1,5 +1,5 @@
 use Rattle.std.proofs.Common.{◌≡◌, length}
-use Rattle.cdcl_core.proofs.order.Order.rise.Given as goal
+use Rattle.cdcl_core.proofs.activity.Activity.rise.Given as goal
 
 abbrev pub invariant-loop-hole : goal.invariant-loop-hole
 invariant-loop-hole l = length l.self.heap.items ≡ length l.fn.self.heap.items

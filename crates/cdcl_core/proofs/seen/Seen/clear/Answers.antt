@@ -1,7 +1,7 @@
 use Rattle.std.proofs.Common.{◌≡◌, length, arith, ap, sym, ◌∙◌, vec_len}
 use Rattle.std.proofs.lemmas.List.{length-map}
 use Rattle.proof_log.proofs.Stamps.{none_stamped, none_stamped_filled}
-use Rattle.cdcl_core.proofs.marks.Marks.clear.Goals as goal
+use Rattle.cdcl_core.proofs.seen.Seen.clear.Goals as goal
 
 pub returns-then-self-lt4294967295 : goal.returns-then-self-lt4294967295
 returns-then-self-lt4294967295 c =

@@ -1,7 +1,7 @@
 use Rattle.std.proofs.Common.{map, set, true, refl, ap, ◌∙◌, eq-eqb}
 use Rattle.std.specs.Prelude.{◌==◌}
 use Rattle.std.proofs.lemmas.List.{map-set}
-use Rattle.cdcl_core.proofs.marks.Marks.insert.Goals as goal
+use Rattle.cdcl_core.proofs.seen.Seen.insert.Goals as goal
 
 pub returns : goal.returns
 returns c =
