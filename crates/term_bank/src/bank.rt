@@ -26,8 +26,8 @@ use std::marker::Model;
 
 /// Terms and atoms, each tree once. Contracts see the list of its trees by their ids.
 ///
-/// A bank has room for 4,294,967,296 trees, and for variables and symbols whose numbers are below 4,294,967,296. After want of
-/// memory or room the trees are those from before, and each call that can want memory wants it.
+/// A bank has room for 4,294,967,296 trees and as many symbols, and for each variable that has a number. After want of memory or
+/// room the trees are those from before, and each call that can want memory wants it.
 #[derive(Drop)]
 pub struct Bank {
     pub(crate) alloc: Global,

@@ -10,11 +10,11 @@ use crate::id::TermId;
 use std::hash::{Hash, Hasher};
 
 // A variable by its number, or the number of a symbol with the ids of its arguments. Up to two of them stand in the node
-// itself: most trees take no list, and are compared without one. Numbers have four bytes each, and a longer list stands
-// behind one pointer: so no node takes more than one of two arguments.
+// itself: most trees take no list, and are compared without one. Symbols and ids have four bytes each, a variable eight, and
+// a longer list stands behind one pointer: so no node takes more than one of two arguments.
 #[derive(Debug, Drop, PartialEq, Eq)]
 pub enum Node {
-    Var(u32),
+    Var(usize),
     Constant(u32),
     Unary(u32, [TermId; 1]),
     Binary(u32, [TermId; 2]),
@@ -67,7 +67,7 @@ impl Node {
         ensures { AreParts self.now result }
     {
         match self {
-            Node::Var(v) => Parts::Var(*v as usize),
+            Node::Var(v) => Parts::Var(*v),
             Node::Constant(number) => Parts::App(*number as usize, &[]),
             Node::Unary(number, args) => Parts::App(*number as usize, args),
             Node::Binary(number, args) => Parts::App(*number as usize, args),

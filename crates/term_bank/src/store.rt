@@ -174,14 +174,13 @@ pub fn application_number(
     }
 }
 
-// The number of the variable, and whether it is new. It refuses a variable whose number needs more than four bytes.
+// The number of the variable, and whether it is new.
 pub fn variable_number(nodes: &mut IndexSet<Node>, v: usize) -> Result<(TermId, bool), Memory>
     requires { length nodes.old.keys < 2 ^ 32 }
     ensures numbered { IfOk result (λ r. IsNumbered nodes.old.keys nodes.new.keys (Var v) r.0 r.1) }
     ensures held { OnErr result (nodes.new.keys ≡ nodes.old.keys) }
 {
-    let number = in_four_bytes(v)?;
-    node_number(nodes, Node::Var(number))
+    node_number(nodes, Node::Var(v))
 }
 
 // What is stored beside the node.
