@@ -1,16 +1,18 @@
 // Files in memory, and where a reader of them stands: what both libraries in memory have in common.
 ghost use Rattle.std.specs.Prelude.{◌≡◌, ◌≤◌, ◌<◌, ◌-◌, length, take, drop, min, Some, [], position, false};
+ghost use Rattle.outside_io.specs.Causes.{one_more};
 ghost use Rattle.outside_io.specs.Files.{Begins, bytes_at, is_named};
 
 use crate::library::{FileList, NamedFile};
 use std::marker::Model;
 
-// The file at `place` is begun, and none where that is past the last; `done` bytes of it were read.
+// The file at `place` is begun, and none where that is past the last; `done` bytes of it were read. So many `reads` there were.
 #[derive(Drop)]
 pub struct FileReader {
     files: FileList,
     place: usize,
     done: usize,
+    reads: usize,
 }
 
 impl Model for FileReader {
@@ -20,7 +22,7 @@ impl Model for FileReader {
 
     ghost Value = { Reading };
 
-    ghost view = { λ a. record { files = a.files; rest = drop a.done (bytes_at a.files a.place) } };
+    ghost view = { λ a. record { files = a.files; rest = drop a.done (bytes_at a.files a.place); reads = a.reads } };
 
     ghost invariant = { λ a. a.done ≤ length (bytes_at a.files a.place) };
 }
@@ -57,12 +59,14 @@ impl FileReader {
     pub fn new(files: FileList) -> FileReader
         ensures files { result.files ≡ files }
         ensures rest { result.rest ≡ [] }
+        ensures reads { result.reads ≡ 0 }
     {
         let place = files.len();
         FileReader {
             files,
             place,
             done: 0,
+            reads: 0,
         }
     }
 
@@ -71,6 +75,7 @@ impl FileReader {
         ensures files { self.new.files ≡ self.old.files }
         ensures begun { Begins (Some self.old.files) name.now (Some self.new.rest) result }
         ensures not_begun { result ≡ false → self.new.rest ≡ [] }
+        ensures reads { self.new.reads ≡ self.old.reads }
     {
         match place_of(self.files.as_slice(), name.as_bytes()) {
             Some(place) => {
@@ -89,9 +94,19 @@ impl FileReader {
     pub fn finish(&mut self)
         ensures files { self.new.files ≡ self.old.files }
         ensures rest { self.new.rest ≡ [] }
+        ensures reads { self.new.reads ≡ self.old.reads }
     {
         self.done = 0;
         self.place = self.files.len();
+    }
+
+    // Counts a read, of which nothing comes.
+    pub fn count_read(&mut self)
+        ensures files { self.new.files ≡ self.old.files }
+        ensures rest { self.new.rest ≡ self.old.rest }
+        ensures reads { self.new.reads ≡ one_more self.old.reads }
+    {
+        self.reads = self.reads.saturating_add(1);
     }
 
     // Puts the next bytes, at most `most`, at the front of `buf`, and answers how many.
@@ -100,7 +115,9 @@ impl FileReader {
         ensures count { result ≡ min (min (length self.old.rest) most) (length buf.new) }
         ensures bytes { take result buf.new ≡ take result self.old.rest }
         ensures rest { self.new.rest ≡ drop result self.old.rest }
+        ensures reads { self.new.reads ≡ one_more self.old.reads }
     {
+        self.count_read();
         let bytes = bytes_of(self.files.as_slice(), self.place);
         let count = put_front(&bytes[self.done..], most, buf);
         self.done += count;

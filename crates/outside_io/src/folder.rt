@@ -49,6 +49,8 @@ impl<'a, R: Files> FolderLibrary<'a, R> {
 impl<R: Files> Library for FolderLibrary<'_, R> {
     ghost told = { real_told };
 
+    ghost reads = { λ files. None };
+
     fn begin(&mut self, name: &str) -> Result<bool, Trouble>
         ensures untold { IfOk result (Begins None name.now None) }
         ensures begun { IsTrue self.new.begun ↔ (result ≡ Ok true) }

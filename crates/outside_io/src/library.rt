@@ -1,9 +1,9 @@
 // Where files are read from: one at a time, in pieces. A call that gave a whole file would have no place for a read that
 // fails in mid-stream, and would take memory of a size that its caller does not know.
-ghost use Rattle.std.specs.Prelude.{◌≡◌, ◌≢◌, true, IfOk, OnErr};
+ghost use Rattle.std.specs.Prelude.{ℕ, Option, ◌≡◌, ◌≢◌, true, IfOk, OnErr};
 ghost use Rattle.std.specs.Io.{ReadsAtMost};
 ghost use Rattle.std.specs.Io.KnownBytes.{ReadConsumes, IsAtEnd};
-ghost use Rattle.outside_io.specs.Causes.{Rose};
+ghost use Rattle.outside_io.specs.Causes.{Rose, RisesByOne};
 ghost use Rattle.outside_io.specs.Files.{Begins};
 ghost use Rattle.outside_io.specs.Told.{Told, Follows};
 
@@ -34,15 +34,18 @@ pub type FileList = ListOf<NamedFile>;
 ///
 /// What a library has `told` is what its files hold and what is left of the one that was begun, where these are told, and the
 /// number of calls that failed. Nothing is left where no file is begun. The number never falls, and one that stands at u64::MAX
-/// need not rise.
+/// need not rise. How many `reads` there were is told by some, up to u64::MAX.
 pub trait Library {
     ghost told: { Self → Told };
+
+    ghost reads: { Self → Option ℕ };
 
     /// Finishes a file that was begun before, and begins the one of this name. `Ok(false)`: there is none.
     fn begin(&mut self, name: &str) -> Result<bool, Trouble>
         ensures follows { Follows (told self.old) (told self.new) }
         ensures begun { IfOk result (Begins (told self.old).files name.now (told self.new).rest) }
         ensures not_begun { result ≢ Ok true → IsAtEnd (told self.new).rest }
+        ensures reads { reads self.new ≡ reads self.old }
         ensures failed { result ≡ Err Trouble.Failed → Rose (told self.old).faults (told self.new).faults };
 
     /// Puts the next bytes at the front of `buf`, and answers how many. `Ok(0)` with room: the end of the file, or no
@@ -51,10 +54,12 @@ pub trait Library {
         ensures follows { Follows (told self.old) (told self.new) }
         ensures bound { ReadsAtMost result buf.new }
         ensures bytes { ReadConsumes (told self.old).rest (told self.new).rest result buf.new }
+        ensures reads { RisesByOne (reads self.old) (reads self.new) }
         ensures failed { OnErr result (Rose (told self.old).faults (told self.new).faults) };
 
     /// Leaves no file begun.
     fn finish(&mut self)
         ensures follows { Follows (told self.old) (told self.new) }
+        ensures reads { reads self.new ≡ reads self.old }
         ensures not_begun { IsAtEnd (told self.new).rest };
 }

@@ -2,6 +2,7 @@
 ghost use Rattle.std.specs.Prelude.{◌≡◌, ◌≢◌, IsOk, IfOk, [], Some, true, length, min};
 ghost use Rattle.std.specs.Io.{ReadsAtMost};
 ghost use Rattle.std.specs.Io.KnownBytes.{ReadConsumes, WriteAppends};
+ghost use Rattle.outside_io.specs.Causes.{one_more};
 ghost use Rattle.outside_io.specs.Files.{Begins};
 
 use crate::file_reader::FileReader;
@@ -29,6 +30,7 @@ impl SureLibrary {
     pub fn new(_alloc: Global, files: FileList) -> SureLibrary
         ensures files { result.files ≡ files }
         ensures rest { result.rest ≡ [] }
+        ensures reads { result.reads ≡ 0 }
     {
         SureLibrary {
             reader: FileReader::new(files),
@@ -39,11 +41,14 @@ impl SureLibrary {
 impl Library for SureLibrary {
     ghost told = { λ s. record { files = Some s.files; rest = Some s.rest; faults = 0 } };
 
+    ghost reads = { λ s. Some s.reads };
+
     fn begin(&mut self, name: &str) -> Result<bool, Trouble>
         ensures files { self.new.files ≡ self.old.files }
         ensures ok { IsOk result }
         ensures begun { IfOk result (Begins (Some self.old.files) name.now (Some self.new.rest)) }
         ensures not_begun { result ≢ Ok true → self.new.rest ≡ [] }
+        ensures reads { self.new.reads ≡ self.old.reads }
     {
         Ok(self.reader.begin(name))
     }
@@ -54,6 +59,7 @@ impl Library for SureLibrary {
         ensures bound { ReadsAtMost result buf.new }
         ensures count { IfOk result (λ n. n ≡ min (length self.old.rest) (length buf.new)) }
         ensures bytes { ReadConsumes (Some self.old.rest) (Some self.new.rest) result buf.new }
+        ensures reads { self.new.reads ≡ one_more self.old.reads }
     {
         Ok(self.reader.read(usize::MAX, buf))
     }

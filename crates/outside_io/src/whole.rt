@@ -1,6 +1,7 @@
 // A file, read whole, in blocks. A short read is not its end; only a read of nothing is.
-ghost use Rattle.std.specs.Prelude.{IfOk, IfErr};
+ghost use Rattle.std.specs.Prelude.{◌+◌, IfOk, IfErr, length};
 ghost use Rattle.std.specs.Io.KnownBytes.{IsAtEnd};
+ghost use Rattle.outside_io.specs.Causes.{RisesAtMost};
 ghost use Rattle.outside_io.specs.Told.{Follows};
 ghost use Rattle.outside_io.specs.WholeFiles.{IsCutOff, IsHeld, IsUnread, IsWhole};
 
@@ -26,6 +27,8 @@ const ROOM: usize = 65_536;
 // Reads the rest of the file that was begun.
 fn read_rest<L: Library>(alloc: Global, files: &mut L, limit: usize) -> Result<Vec<u8>, FileError>
     ensures follows { Follows (L.told files.old) (L.told files.new) }
+    ensures reads { RisesAtMost (limit + 1) (L.reads files.old) (L.reads files.new) }
+    ensures one_a_byte { IfOk result (λ bytes. RisesAtMost (length bytes.items + 1) (L.reads files.old) (L.reads files.new)) }
     ensures ok { IfOk result (λ bytes. IsWhole limit (L.told files.old).rest bytes.items) }
     ensures err { IfErr result (IsCutOff limit (L.told files.old) (L.told files.new)) }
 {
@@ -47,7 +50,7 @@ fn read_rest<L: Library>(alloc: Global, files: &mut L, limit: usize) -> Result<V
     }
 }
 
-/// All bytes of the file of this name, of which there are at most `limit`.
+/// All bytes of the file of this name, of which there are at most `limit`. Each read but the last takes a byte at least.
 pub fn read_whole<L: Library>(
     alloc: Global,
     files: &mut L,
@@ -56,6 +59,8 @@ pub fn read_whole<L: Library>(
 ) -> Result<Vec<u8>, FileError>
     ensures follows { Follows (L.told files.old) (L.told files.new) }
     ensures finished { IsAtEnd (L.told files.new).rest }
+    ensures reads { RisesAtMost (limit + 1) (L.reads files.old) (L.reads files.new) }
+    ensures one_a_byte { IfOk result (λ bytes. RisesAtMost (length bytes.items + 1) (L.reads files.old) (L.reads files.new)) }
     ensures ok { IfOk result (λ bytes. IsHeld limit (L.told files.old).files name.now bytes.items) }
     ensures err { IfErr result (IsUnread limit (L.told files.old) (L.told files.new) name.now) }
 {
