@@ -15,4 +15,6 @@ pub use measure::measure_of;
 pub use quant::Quant;
 pub use scopes::{Scope, Scopes, scopes_of};
 pub use shape::{measure_is_size, translation_is_flat, translation_is_readable};
-pub use translation::{false_where_refuted, instances_of_true, true_where_made};
+pub use translation::{
+    false_where_refuted, instances_of_true, strategy_where_made, true_where_made,
+};
