@@ -104,3 +104,6 @@ refusal_of text (Err Memory) i = tt
 
 pub never_twice_of : (text : List ℕ) (r : Result Cnf DimacsError) → IsRead (reading text) r → (line : ℕ) → r ≢ Err (Twice line)
 never_twice_of text r i line e = never_twice text line (read_is_refusal text (Twice line) (subst (IsRead (reading text)) e i))
+
+pub one_cnf : (text : List ℕ) (c d : Cnf) → IsDimacs text c → IsDimacs text d → c ≡ d
+one_cnf text c d h k = let p = dimacs_is_read text c h in let q = dimacs_is_read text d k in cc

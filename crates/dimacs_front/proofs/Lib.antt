@@ -1,3 +1,4 @@
+pub mod AnsweredTexts
 pub mod Passing
 pub mod WordLaws
 pub mod Models

@@ -156,3 +156,6 @@ clauses_alone text cnf d small =
       clauses = d.clauses;
       within = record { few = omega arith; small = small };
     }
+
+pub one_formula : (text : List ℕ) (p q : Qbf) → IsQdimacs text p → IsQdimacs text q → p ≡ q
+one_formula text p q h k = let a = qdimacs_is_read text p h in let b = qdimacs_is_read text q k in cc

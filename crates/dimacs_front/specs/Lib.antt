@@ -7,6 +7,7 @@ pub mod QuantifierLines
 pub mod Header
 pub mod Texts
 pub mod Answers
+pub mod Checked
 pub mod Files
 pub mod Dimacs
 pub mod Refusals

@@ -40,6 +40,12 @@ pub fn formula_or_refused()
     ensures one { (text : List ℕ) (d e : DimacsError) → IsFormulaRefusal text d → IsFormulaRefusal text e → d ≡ e }
 {}
 
+/// A text spells one list of clauses at most, and one formula at most.
+pub fn one_spelling()
+    ensures clauses { (text : List ℕ) (c d : Cnf) → IsDimacs text c → IsDimacs text d → c ≡ d }
+    ensures formulas { (text : List ℕ) (p q : Qbf) → IsQdimacs text p → IsQdimacs text q → p ≡ q }
+{}
+
 /// Clauses are a formula without quantifiers, where their measure is within the limit.
 pub fn clauses_alone()
     ensures { (text : List ℕ) (cnf : Cnf) → IsDimacs text cnf → measure [] cnf.clauses ≤ 10000000 → IsQdimacs text (record { prefix = []; matrix = cnf }) }
