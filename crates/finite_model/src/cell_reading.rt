@@ -1,5 +1,5 @@
 // The cells of one table, read by a truth test.
-ghost use Rattle.std.specs.Prelude.{◌≡◌, ◌↔◌, ◌+◌, ◌<◌, ◌^◌, ◌++◌, ◌∷◌, [], ℕ, List, IsTrue, IfOk, length, map};
+ghost use Rattle.std.specs.Prelude.{◌≡◌, ◌↔◌, ◌+◌, ◌^◌, ◌++◌, ◌∷◌, [], ℕ, List, IsTrue, IfOk, length, map};
 ghost use Rattle.inst_logic.specs.LiteralView.{literal};
 ghost use Rattle.inst_logic.specs.Substitution.{tree_vars};
 ghost use Rattle.inst_logic.specs.WellFormed.{IsAtom};
@@ -133,7 +133,6 @@ pub(crate) fn function_cells<T: TruthTest>(
     n: usize,
     k: usize,
 ) -> Result<PlaceList, Memory>
-    requires some { 0 < k }
     requires relation { IsRelation sym.now (n + 1) }
     requires values { HasValues (T.members test.old) k n sym.now }
     requires ready { T.ready test.old }
@@ -159,7 +158,6 @@ pub(crate) fn predicate_cells<T: TruthTest>(
     n: usize,
     k: usize,
 ) -> Result<PlaceList, Memory>
-    requires some { 0 < k }
     requires relation { IsRelation sym.now n }
     requires ready { T.ready test.old }
     ensures cells { IfOk result (λ cells. AreFilled k n (IsTruthAt (T.members test.old) sym.now) (k ^ n) cells) }

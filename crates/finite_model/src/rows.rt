@@ -18,7 +18,6 @@ pub(crate) fn row_count(k: usize, n: usize) -> Result<usize, Memory>
 
 /// The list of `n` elements whose cell has this place: its digits to the base `k`, each one more.
 pub fn row_at(alloc: Global, k: usize, n: usize, row: usize) -> Result<Vec<usize>, Memory>
-    requires some { 0 < k }
     requires within { row < k ^ n }
     ensures { IfOk result (λ es. IsRow k n row es.items) }
 {

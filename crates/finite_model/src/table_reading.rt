@@ -20,7 +20,6 @@ fn function_table<T: TruthTest>(
     f: &Sym,
     k: usize,
 ) -> Result<Table, Memory>
-    requires some { 0 < k }
     requires values { HasValues (T.members test.old) k f.now.arity (function_predicate numbering.now f.now) }
     requires ready { T.ready test.old }
     ensures read { IfOk result (λ t. IsReadFunction (T.members test.old) k numbering.now t) }
@@ -43,7 +42,6 @@ fn predicate_table<T: TruthTest>(
     p: &Sym,
     k: usize,
 ) -> Result<Table, Memory>
-    requires some { 0 < k }
     requires ready { T.ready test.old }
     ensures read { IfOk result (λ t. IsReadPredicate (T.members test.old) k numbering.now t) }
     ensures symbol { IfOk result (λ t. t.sym ≡ p.now) }
@@ -66,7 +64,6 @@ fn function_table_at<T: TruthTest>(
     i: usize,
     k: usize,
 ) -> Result<Table, Memory>
-    requires some { 0 < k }
     requires within { i < length numbering.now.functions }
     requires values { HasValues (T.members test.old) k (slice_index_or numbering.now.functions i identity).arity (function_predicate numbering.now (slice_index_or numbering.now.functions i identity)) }
     requires ready { T.ready test.old }
@@ -87,7 +84,6 @@ fn function_tables<T: TruthTest>(
     test: &mut T,
     k: usize,
 ) -> Result<TableList, Memory>
-    requires some { 0 < k }
     requires values { (f : Sym) → Contains numbering.now.functions f → HasValues (T.members test.old) k f.arity (function_predicate numbering.now f) }
     requires ready { T.ready test.old }
     ensures symbols { IfOk result (λ ts. map (λ t. t.sym) ts ≡ numbering.now.functions) }
@@ -111,7 +107,6 @@ fn predicate_table_at<T: TruthTest>(
     i: usize,
     k: usize,
 ) -> Result<Table, Memory>
-    requires some { 0 < k }
     requires within { i < length numbering.now.predicates }
     requires ready { T.ready test.old }
     ensures read { IfOk result (λ t. IsReadPredicate (T.members test.old) k numbering.now t) }
@@ -131,7 +126,6 @@ fn predicate_tables<T: TruthTest>(
     test: &mut T,
     k: usize,
 ) -> Result<TableList, Memory>
-    requires some { 0 < k }
     requires ready { T.ready test.old }
     ensures symbols { IfOk result (λ ts. map (λ t. t.sym) ts ≡ numbering.now.predicates) }
     ensures read { IfOk result (λ ts. All (IsReadPredicate (T.members test.old) k numbering.now) ts) }
@@ -153,7 +147,6 @@ fn tables_by<T: TruthTest>(
     test: &mut T,
     k: usize,
 ) -> Result<Tables, Memory>
-    requires some { 0 < k }
     requires values { (f : Sym) → Contains numbering.now.functions f → HasValues (T.members test.old) k f.arity (function_predicate numbering.now f) }
     requires ready { T.ready test.old }
     ensures read { IfOk result (AreReadBy (T.members test.old) k numbering.now) }
@@ -181,7 +174,6 @@ pub fn read_tables<T: TruthTest>(
     test: &mut T,
     k: usize,
 ) -> Result<Tables, Memory>
-    requires some { 0 < k }
     requires formed { AreFormedClauses p.now.clauses }
     requires makes { All (Makes (T.members test.old)) (flattened k p.now.clauses) }
     requires ready { T.ready test.old }
