@@ -234,13 +234,15 @@ module _ (clauses : List TreeClause) (names : List (List ℕ)) (r : RefutedRun) 
     pub carried : IsDerived r lines
     carried = is_derived r lines constant members once lines_in h.fits h.same h.used h.refutes abstraction_there
 
-  -- No valuation makes the lines true
+  -- No valuation makes the abstractions of the entries true, and none the lines
+
+  pub abstractions_refuted : IsRefuted (map (abstraction constant) (entry_clauses h.state.entries))
+  abstractions_refuted =
+      transport (λ ds. IsRefuted (map (abstraction constant) ds)) (sym (ap entry_clauses h.members ∙ same_clauses bank entries))
+      (abstractions_are_refuted constant (atoms_in bank r.abstraction.ids) r.literals members h.same h.refutes.none)
 
   refuted : All (IsGrounded given) items × IsRefuted (map (ground_clause given) items)
-  refuted =
-      refuted_when_records constant given events h.state k.made h.replays told
-      (transport (λ ds. IsRefuted (map (abstraction constant) ds)) (sym (ap entry_clauses h.members ∙ same_clauses bank entries))
-      (abstractions_are_refuted constant (atoms_in bank r.abstraction.ids) r.literals members h.same h.refutes.none))
+  refuted = refuted_when_records constant given events h.state k.made h.replays told abstractions_refuted
 
   pub lines_grounded : All (IsGrounded given) items
   lines_grounded = refuted.0

@@ -55,7 +55,7 @@ use Rattle.instgen_loop.specs.Running.{event_in}
 use Rattle.instgen_loop.proofs.FirstEntries.{whole_at}
 use Rattle.instgen_loop.proofs.PrintedEntries as entries
 use Rattle.instgen_loop.proofs.Refuting.{whole_items}
-use Rattle.instgen_loop.proofs.DerivedLaws.{told, line_trees, lines_grounded}
+use Rattle.instgen_loop.proofs.DerivedLaws.{told, line_trees, lines_grounded, abstractions_refuted}
 use Rattle.instgen_loop.proofs.TreeSteps.{name, ground_trees, ground_whole, line_step, step_trees, step_below, step_hinted, ends, shown_from_lines}
 
 -- The run as its abstractions were refuted, its ground lines, and a derivation over these.
@@ -262,6 +262,7 @@ module _ (clauses : List TreeClause) (names : List (List ℕ)) (r now : RefutedR
         replays = record { constant = h.bot; replays = h.replays };
         members = sym members_same;
       };
+      refuted = abstractions_refuted clauses names r journal h lines k;
       whole = is_whole;
       made = k.made;
       records = records;

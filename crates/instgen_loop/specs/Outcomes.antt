@@ -2,7 +2,10 @@
 use Rattle.std.specs.Prelude.{◌≡◌, ℕ, zero, suc, List, [], ◌∷◌, length, map}
 use Rattle.inst_logic.specs.declared.symbol.Sym.{Sym}
 use Rattle.inst_logic.specs.Clauses.{TreeClause}
+use Rattle.inst_logic.specs.Truth.{IsRefuted}
+use Rattle.inst_calculus.specs.Abstraction.{abstraction}
 use Rattle.inst_calculus.specs.Axioms.{equality_axioms, with_axioms}
+use Rattle.inst_calculus.specs.Entries.{entry_clauses}
 use Rattle.cert_format.specs.Certificate.{selected_members}
 use Rattle.cert_format.specs.Validity.{IsValidByLines, IsValidSaturation}
 use Rattle.cert_format.specs.Printable.{IsPrintableByLines, IsPrintableSaturation}
@@ -38,11 +41,12 @@ pub record IsSelectedRun (clauses : List TreeClause) (names : List (List ℕ)) (
   pub selection : IsSelection bot t (selected_members (saturation_of cert))
   pub whole : IsWholeSaturation cert
 
--- A valid refutation that can be printed. Its ground lines are those of the unrolled lists of its members, with the constant for
--- every variable, one list after the other, each line once.
+-- A valid refutation that can be printed, of a run in which no valuation makes the abstraction of each entry true. Its ground lines
+-- are those of the unrolled lists of its members, with the constant for every variable, one list after the other, each line once.
 pub record IsRefutedRun (clauses : List TreeClause) (names : List (List ℕ)) (cert : Refutation) (journal : List Event) : Type 0 where
   pub state : State
   pub run : IsRunOf clauses names cert.base cert.bot journal state
+  pub refuted : IsRefuted (map (abstraction cert.bot) (entry_clauses state.entries))
   pub whole : IsWholeRefutation cert
   pub made : List Made
   pub records : AreRecords cert.bot state.entries made
