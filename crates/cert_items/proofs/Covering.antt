@@ -1,35 +1,23 @@
 -- Terms in brackets, what covers a clause, and sides of members: one text, one reading.
-use Rattle.std.proofs.Common.{◌≡◌, ◌≢◌, ℕ, ◌^◌, ◌<◌, true, List, [], ◌∷◌, ◌++◌, length, map, refl, sym, ap, ◌∙◌}
-use Rattle.std.specs.Prelude.{decimal, codes, nat_eq, All}
+use Rattle.std.proofs.Common.{◌≡◌, ◌≢◌, ℕ, ◌^◌, ◌<◌, List, [], ◌∷◌, ◌++◌, length, map, refl, sym, ◌∙◌}
+use Rattle.std.specs.Prelude.{decimal, codes, All}
 use Rattle.std.specs.List.{list_all}
-use Rattle.std.proofs.lemmas.Bool.{and_parts, and_from}
+use Rattle.std.proofs.lemmas.Bool.{and_parts}
 use Rattle.std.proofs.lemmas.List.Elements.{All-nil, All-cons, All-head, All-tail}
 use Rattle.inst_logic.specs.Tree.{Tree}
 use Rattle.term_bank.specs.Forest.{Forest, tree_at, AreIds}
-use Rattle.cert_format.specs.Certificate.{by_tautology, by_variant, by_part, Side, left_side, right_side}
-use Rattle.cert_format.specs.LineMachine.{is_number}
-use Rattle.cert_format.specs.LineTexts.{by_text, by_is_printable}
+use Rattle.cert_format.specs.Certificate.{Side}
 use Rattle.cert_format.specs.Lines.{side_word}
 use Rattle.cert_format.specs.LineTexts as texts
-use Rattle.cert_format.specs.Runs.{begins}
 use Rattle.cert_format.specs.Spelling.{is_printable}
-use Rattle.cert_format.proofs.LineNotes.{behind_front, below, terms_once, side_once}
+use Rattle.cert_format.proofs.LineNotes.{behind_front, terms_once, side_once}
 use Rattle.cert_format.proofs.Marked.{marked_once}
-use Rattle.cert_format.proofs.Spelling.{small_number}
 use Rattle.saturation_cert.specs.Wholes.{IsWholeTerm}
-use Rattle.cert_items.specs.Reading.{ArePrintable, NoTerms, listed}
-use Rattle.cert_items.specs.Notes.{NoBy, members_text, side_text}
+use Rattle.cert_items.specs.Reading.{ArePrintable}
+use Rattle.cert_items.specs.Notes.{members_text, side_text}
 use Rattle.cert_items.proofs.Formed.{tree_formed}
 
 -- ---- terms
-
-pub listed_is : (ts : List Tree) (rest : List ℕ) → listed 93 ts rest ≡ texts.terms ts rest
-listed_is [] rest = refl
-listed_is (t ∷ ts) rest = refl
-
-pub no_terms : (bytes : List ℕ) → ((x : List ℕ) → bytes ≢ 93 ∷ x) → NoTerms bytes 93 → (ts : List Tree) (rest : List ℕ) → ArePrintable ts → bytes ≢ texts.terms ts rest
-no_terms bytes bad none [] rest p e = bad rest e
-no_terms bytes bad none (t ∷ ts) rest p e = none t ts rest p e
 
 pub whole_terms : (f : Forest) (ids : List ℕ) → AreIds f ids → ArePrintable (map (tree_at f) ids) → All (IsWholeTerm f) ids
 whole_terms f [] h p = All-nil (IsWholeTerm f)
@@ -61,34 +49,9 @@ module _ (bytes after : List ℕ) (m : ℕ) (is : bytes ≡ decimal m ++ 44 ∷ 
   no_parenthesis inner behind us at in_is good bad n ts rest h p e =
       bad rest (terms_once us ts behind (41 ∷ rest) good p (sym in_is ∙ behind_front (91 ∷ []) _ _ (sym at ∙ behind_number n ts rest h e))).1
 
-  pub numbered_is : (inner behind rest : List ℕ) (us : List Tree) → after ≡ 91 ∷ inner → inner ≡ texts.terms us behind → behind ≡ 41 ∷ rest → bytes ≡ numbered m us rest
-  numbered_is inner behind rest us at in_is end = is ∙ ap (λ (xs : List ℕ). decimal m ++ 44 ∷ xs) (at ∙ ap (λ (xs : List ℕ). 91 ∷ xs) (in_is ∙ ap (texts.terms us) end))
-
 -- ---- what covers a clause
 
-pub no_variant : (after : List ℕ) → ((n : ℕ) (rest : List ℕ) → n < 2 ^ 64 → after ≢ decimal n ++ 41 ∷ rest) → NoBy (codes "variant(m" ++ after)
-no_variant after bad by_tautology rest h e = let q = ap (begins (λ (z : ℕ). nat_eq z 116)) e in cc
-no_variant after bad (by_variant k) rest h e = bad k rest (below k h) (behind_front (codes "variant(m") _ _ e)
-no_variant after bad (by_part k ts) rest h e = let q = ap (begins (λ (z : ℕ). nat_eq z 112)) e in cc
-
-pub no_part : (after : List ℕ) → NoNumbered after → NoBy (codes "part(m" ++ after)
-no_part after bad by_tautology rest h e = let q = ap (begins (λ (z : ℕ). nat_eq z 116)) e in cc
-no_part after bad (by_variant k) rest h e = let q = ap (begins (λ (z : ℕ). nat_eq z 118)) e in cc
-no_part after bad (by_part k ts) rest h e = let a = and_parts (is_number k) (list_all is_printable ts) h in bad k ts rest (below k a.0) a.1 (behind_front (codes "part(m") _ _ e)
-
-pub none_of_three : (bytes : List ℕ) → ((x : List ℕ) → bytes ≢ codes "tautology" ++ x) → ((x : List ℕ) → bytes ≢ codes "variant(m" ++ x) → ((x : List ℕ) → bytes ≢ codes "part(m" ++ x) → NoBy bytes
-none_of_three bytes i j k by_tautology rest h e = i _ e
-none_of_three bytes i j k (by_variant n) rest h e = j _ e
-none_of_three bytes i j k (by_part n ts) rest h e = k _ e
-
-pub part_printable : (n : ℕ) (ts : List Tree) → n < 2 ^ 64 → ArePrintable ts → by_is_printable (by_part n ts) ≡ true
-part_printable n ts h p = and_from (is_number n) (list_all is_printable ts) (small_number n h) p
-
 -- ---- sides
-
-pub no_side : (bytes : List ℕ) → ((x : List ℕ) → bytes ≢ codes "left" ++ x) → ((x : List ℕ) → bytes ≢ codes "right" ++ x) → (s : Side) (rest : List ℕ) → bytes ≢ side_word s ++ rest
-no_side bytes l r left_side rest e = l rest e
-no_side bytes l r right_side rest e = r rest e
 
 -- no members of a cover are at the front, and none with a side
 abbrev pub NoMembers : List ℕ → Type 0
@@ -122,9 +85,6 @@ module _ (bytes after : List ℕ) (l r : ℕ) (is : bytes ≡ members_text l r a
 
   pub no_list : (d : Side) (behind : List ℕ) → after ≡ side_word d ++ behind → ((x : List ℕ) → behind ≢ codes "),[" ++ x) → NoSides bytes
   no_list d behind at bad m n s rest h k e = bad rest (side_once d s behind _ (sym at ∙ members_once l r m n after _ left right h k (sym is ∙ e))).1
-
-  pub sides_are : (d : Side) (behind rest : List ℕ) → after ≡ side_word d ++ behind → behind ≡ codes "),[" ++ rest → bytes ≡ side_text l r d rest
-  sides_are d behind rest at two = is ∙ ap (members_text l r) (at ∙ ap (λ (xs : List ℕ). side_word d ++ xs) two)
 
 -- behind the side stands what covers the clause
 pub behind_sides : (bytes after : List ℕ) (l r : ℕ) (d : Side) → bytes ≡ side_text l r d after → l < 2 ^ 64 → r < 2 ^ 64 → (m n : ℕ) (s : Side) (rest : List ℕ) → m < 2 ^ 64 → n < 2 ^ 64 → bytes ≡ side_text m n s rest → after ≡ rest

@@ -20,7 +20,7 @@ use Rattle.cert_items.specs.declared.shape.Shape.{Shape}
 use Rattle.cert_items.specs.Reading.{ArePrintable}
 use Rattle.cert_items.specs.Notes.{NoOrigin, NoBy, side_text}
 use Rattle.cert_items.specs.Items.{group_of, rank_of, shape_of, HasForm, IsNote, IsNoteAt, NoNote, NoLastNote}
-use Rattle.cert_items.proofs.Covering.{numbered, part_printable, behind_sides}
+use Rattle.cert_items.proofs.Covering.{numbered, behind_sides}
 
 -- ---- forms
 
@@ -60,17 +60,6 @@ no_member_note s n bytes t bad (member o) rest i e = bad o rest i.printable (and
 no_member_note s n bytes t bad (selected o p) rest i e = no_form s.refutation t (and_parts (not s.refutation) (fits_origin s.format o) (i.form (header s) refl)).0
 no_member_note s n bytes t bad _ rest i e = let q = i.group_is in cc
 
-pub selected_note : (s : Shape) (n : ℕ) (o : Origin) (p : ℕ) (bytes rest : List ℕ) → s.refutation ≡ false → bytes ≡ origin_text o (codes ",[selected(" ++ (decimal p ++ 41 ∷ 93 ∷ rest)) → origin_is_printable o ≡ true → p < 2 ^ 64 → fits_origin s.format o ≡ true
-    → IsNoteAt s groups.Member n (selected o p) bytes rest
-selected_note s n o p bytes rest t is g h k = (
-  record {
-    printable = and_from (origin_is_printable o) (is_number p) g (small_number p h);
-    form = λ h e. and_from (not h.refutation) (fits_origin h.format o) (ap not (form_of h s e ∙ t)) (ap (λ (v : ℕ). fits_origin v o) (format_of h s e) ∙ k);
-    group_is = refl;
-  },
-  is,
-)
-
 pub no_selected_note : (s : Shape) (n : ℕ) (bytes : List ℕ) → s.refutation ≡ false
     → ((o : Origin) (p : ℕ) (rest : List ℕ) → origin_is_printable o ≡ true → fits_origin s.format o ≡ true → p < 2 ^ 64 → bytes ≢ origin_text o (codes ",[selected(" ++ (decimal p ++ 41 ∷ 93 ∷ rest))) → NoNote s groups.Member n bytes
 no_selected_note s n bytes t bad (selected o p) rest i e =
@@ -83,13 +72,6 @@ no_selected_note s n bytes t bad _ rest i e = let q = i.group_is in cc
 
 is_first : (v : ℕ) → v ≡ 1 → nat_eq v 1 ≡ true
 is_first v e = equal_numbers v 1 e
-
-not_first : (v : ℕ) → v ≢ 1 → nat_eq v 1 ≡ false
-not_first v bad = by (nat_eq v 1) refl
-  where
-    by : (b : Bool) → nat_eq v 1 ≡ b → nat_eq v 1 ≡ false
-    by true e = absurd (bad (number_is v 1 e))
-    by false e = e
 
 pub ground_note : (s : Shape) (n k : ℕ) (bytes rest : List ℕ) → s.refutation ≡ true → s.format ≡ 1 → k ≡ n → bytes ≡ codes "ground(m" ++ (decimal k ++ 41 ∷ rest) → IsNoteAt s groups.Ground n ground_of bytes rest
 ground_note s n k bytes rest t v same is = (
@@ -111,16 +93,6 @@ pub other_ground : (s : Shape) (n k : ℕ) (bytes after : List ℕ) → s.format
 other_ground s n k bytes after v small fits differ is =
     no_first_ground s n bytes v (λ rest e. differ (marked_once k n 41 after rest fits small refl (behind_front (codes "ground(m") _ _ (sym is ∙ e))).0)
 
-pub line_note : (s : Shape) (n k : ℕ) (ts : List Tree) (bytes after rest : List ℕ) → s.refutation ≡ true → s.format ≢ 1 → bytes ≡ codes "ground(" ++ after → after ≡ numbered k ts rest → k < 2 ^ 64 → ArePrintable ts → IsNoteAt s groups.Ground n (ground_by k ts) bytes rest
-line_note s n k ts bytes after rest t v is at fits good = (
-  record {
-    printable = part_printable k ts fits good;
-    form = λ h e. and_from h.refutation (not (nat_eq h.format 1)) (form_of h s e ∙ t) (ap not (ap (λ (w : ℕ). nat_eq w 1) (format_of h s e) ∙ not_first s.format v));
-    group_is = refl;
-  },
-  is ∙ ap (λ (xs : List ℕ). codes "ground(" ++ xs) at,
-)
-
 pub no_line_note : (s : Shape) (n : ℕ) (bytes : List ℕ) → s.format ≢ 1 → ((k : ℕ) (ts : List Tree) (rest : List ℕ) → k < 2 ^ 64 → ArePrintable ts → bytes ≢ codes "ground(" ++ numbered k ts rest) → NoNote s groups.Ground n bytes
 no_line_note s n bytes v bad ground_of rest i e = v (number_is s.format 1 (and_parts s.refutation (nat_eq s.format 1) (i.form (header s) refl)).1)
 no_line_note s n bytes v bad (ground_by k ts) rest i e = let a = and_parts (is_number k) (list_all is_printable ts) i.printable in bad k ts rest (below k a.0) a.1 e
@@ -137,10 +109,6 @@ shown_note s n by bytes rest t is p = (record { printable = p; form = λ h e. na
 pub no_shown_form : (s : Shape) (n : ℕ) (bytes : List ℕ) → (not s.refutation && nat_eq s.format 3) ≡ false → NoNote s groups.Shown n bytes
 no_shown_form s n bytes t (input_by by) rest i e = let q = i.form (header s) refl in cc
 no_shown_form s n bytes t _ rest i e = let q = i.group_is in cc
-
-pub no_shown : (s : Shape) (n : ℕ) (bytes : List ℕ) → NoBy bytes → NoNote s groups.Shown n bytes
-no_shown s n bytes bad (input_by by) rest i e = bad by rest i.printable e
-no_shown s n bytes bad _ rest i e = let q = i.group_is in cc
 
 pub cover_note : (s : Shape) (n l r : ℕ) (d : Side) (by : By) (bytes after behind rest : List ℕ) → (not s.refutation && nat_eq s.format 3) ≡ true → bytes ≡ side_text l r d after → l < 2 ^ 64 → r < 2 ^ 64 → after ≡ by_text by behind → by_is_printable by ≡ true
     → behind ≡ 93 ∷ rest → IsNoteAt s groups.Cover n (side_by l r d by) bytes rest
@@ -206,9 +174,6 @@ pub one_note : (s : Shape) (g : Group) (n : ℕ) (a b : Note) (x y : List ℕ) �
 one_note s g n a b x y i j e =
     let same = rank_group a ∙ ap rank_of (i.group_is ∙ sym j.group_is) ∙ sym (rank_group b) in
     note_once (header s) n a b x y same (form_in s a i.form) (form_in s b j.form) i.printable j.printable e
-
-pub no_last_note : (s : Shape) (g : Group) (n : ℕ) (bytes : List ℕ) → NoNote s g n bytes → NoLastNote s g n bytes
-no_last_note s g n bytes bad note rest i e = bad note (41 ∷ 46 ∷ 10 ∷ rest) i e
 
 pub no_end : (s : Shape) (g : Group) (n : ℕ) (a : Note) (bytes after : List ℕ) → IsNoteAt s g n a bytes after → ((rest : List ℕ) → after ≢ 41 ∷ 46 ∷ 10 ∷ rest) → NoLastNote s g n bytes
 no_end s g n a bytes after at bad note rest i e = bad rest (one_note s g n a note after (41 ∷ 46 ∷ 10 ∷ rest) at.0 i (sym at.1 ∙ e)).1

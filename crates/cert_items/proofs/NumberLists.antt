@@ -1,5 +1,5 @@
 -- Numbers are read one by one.
-use Rattle.std.proofs.Common.{◌≡◌, ◌≢◌, ℕ, ◌^◌, ◌<◌, Bool, true, false, length, List, [], ◌∷◌, ◌++◌, refl, sym, ap, ◌∙◌, length-append, arith}
+use Rattle.std.proofs.Common.{◌≡◌, ◌≢◌, ℕ, ◌^◌, ◌<◌, Bool, true, false, List, [], ◌∷◌, ◌++◌, refl, sym, ap, ◌∙◌}
 use Rattle.std.specs.Prelude.{nat_eq, decimal}
 use Rattle.std.specs.List.{list_all}
 use Rattle.std.specs.Char.{is_ascii_digit}
@@ -72,11 +72,3 @@ no_numbers mark list bytes rest r bad n ns after p e = let a = and_parts (is_num
 pub not_closed : (mark bytes : List ℕ) → ((x : List ℕ) → bytes ≢ 93 ∷ x) → NoSomeNumbers mark bytes → NoNumbers mark bytes
 not_closed mark bytes bad none [] rest h e = bad rest e
 not_closed mark bytes bad none (n ∷ ns) rest h e = none n ns rest h e
-
--- a number is longer than what follows it
-pub number_longer : (mark digits after x bytes : List ℕ) (e : Bool) → bytes ≡ mark ++ digits → length after < length digits → after ≡ number_end e x → length x < length bytes
-number_longer mark digits after x bytes e is h at = by e at
-  where
-    by : (b : Bool) → after ≡ number_end b x → length x < length bytes
-    by true f = let k = ap length f in let l = ap length is in let m = length-append mark digits in omega arith
-    by false f = let k = ap length f in let l = ap length is in let m = length-append mark digits in omega arith

@@ -3,12 +3,11 @@ use Rattle.std.proofs.Common.{◌≡◌, ◌≢◌, ℕ, ◌^◌, ◌<◌, true,
 use Rattle.std.specs.Prelude.{decimal, codes, nat_eq}
 use Rattle.std.specs.Char.{is_ascii_digit}
 use Rattle.std.specs.List.{list_all}
-use Rattle.std.proofs.lemmas.Bool.{and_parts, and_from}
+use Rattle.std.proofs.lemmas.Bool.{and_parts}
 use Rattle.inst_calculus.specs.Entries.{input, inst, lemma}
 use Rattle.cert_format.specs.LineMachine.{is_number, fits_origin}
 use Rattle.cert_format.specs.LineTexts.{numbers, origin_is_printable}
 use Rattle.cert_format.proofs.LineNotes.{behind_front, below, at_two, number_lists_once}
-use Rattle.cert_format.proofs.Spelling.{small_number}
 use Rattle.cert_items.specs.declared.origin.Instance.{Instance}
 use Rattle.cert_items.specs.Notes.{NoOrigin, instance_text, InstanceFits, lists_text, ListsFit}
 use Rattle.cert_items.specs.NumberTexts.{HasNumbers, NoNumbers}
@@ -36,9 +35,6 @@ no_other a p b bytes after second is h k at bad i rest g e =
 
 -- ---- the two lists of a part
 
-pub no_keep : (bytes first : List ℕ) → bytes ≡ 91 ∷ first → NoNumbers [] first → (keep premises rest : List ℕ) → ListsFit keep premises → bytes ≢ lists_text keep premises rest
-no_keep bytes first is bad keep premises rest g e = bad keep _ g.keep (behind_front (91 ∷ []) _ _ (sym is ∙ e))
-
 keep_once : (bytes first ks between : List ℕ) → bytes ≡ 91 ∷ first → HasNumbers [] ks true first between → (keep premises rest : List ℕ) → ListsFit keep premises → bytes ≡ lists_text keep premises rest
     → between ≡ 44 ∷ 91 ∷ numbers (109 ∷ []) premises (41 ∷ rest)
 keep_once bytes first ks between is h keep premises rest g e = (number_lists_once [] refl ks keep between _ h.fit g.keep (sym h.is ∙ behind_front (91 ∷ []) _ _ (sym is ∙ e))).1
@@ -54,10 +50,6 @@ pub no_close : (bytes first ks between second ps behind : List ℕ) → bytes �
     → (keep premises rest : List ℕ) → ListsFit keep premises → bytes ≢ lists_text keep premises rest
 no_close bytes first ks between second ps behind is h at k bad keep premises rest g e =
     bad rest (number_lists_once (109 ∷ []) refl ps premises behind (41 ∷ rest) k.fit g.premises (sym k.is ∙ behind_front (44 ∷ 91 ∷ []) _ _ (sym at ∙ keep_once bytes first ks between is h keep premises rest g e))).1
-
-pub lists_are : (bytes first ks between second ps behind rest : List ℕ) → bytes ≡ 91 ∷ first → HasNumbers [] ks true first between → between ≡ 44 ∷ 91 ∷ second → HasNumbers (109 ∷ []) ps true second behind → behind ≡ 41 ∷ rest → bytes ≡ lists_text ks ps rest
-lists_are bytes first ks between second ps behind rest is h at k end =
-    is ∙ ap (λ (xs : List ℕ). 91 ∷ xs) (h.is ∙ ap (numbers [] ks) (at ∙ ap (λ (xs : List ℕ). 44 ∷ 91 ∷ xs) (k.is ∙ ap (numbers (109 ∷ []) ps) end)))
 
 -- ---- the three kinds
 
@@ -78,23 +70,6 @@ lemma_fits a p b q ks ds h =
     let v = and_parts (list_all is_number ks) (list_all is_number ds) w.1 in
     (record { from = below a x.0; place = below p y.0; partner = below b z.0; other = below q w.0 }, record { keep = v.0; premises = v.1 })
 
-pub instance_printable : (i : Instance) → InstanceFits i → origin_is_printable (inst i.from i.place i.partner i.other) ≡ true
-instance_printable i h =
-    and_from (is_number i.from) _ (small_number i.from h.from)
-    (and_from (is_number i.place) _ (small_number i.place h.place) (and_from (is_number i.partner) (is_number i.other) (small_number i.partner h.partner) (small_number i.other h.other)))
-
-pub lemma_printable : (i : Instance) (ks ds : List ℕ) → InstanceFits i → ListsFit ks ds → origin_is_printable (lemma i.from i.place i.partner i.other ks ds) ≡ true
-lemma_printable i ks ds h g =
-    and_from (is_number i.from) _ (small_number i.from h.from)
-    (and_from (is_number i.place) _ (small_number i.place h.place)
-    (and_from (is_number i.partner) _ (small_number i.partner h.partner)
-    (and_from (is_number i.other) _ (small_number i.other h.other) (and_from (list_all is_number ks) (list_all is_number ds) g.keep g.premises))))
-
-pub no_input : (format : ℕ) (after : List ℕ) → ((n : ℕ) (rest : List ℕ) → n < 2 ^ 64 → after ≢ decimal n ++ 41 ∷ rest) → NoOrigin format (codes "input(" ++ after)
-no_input format after bad (input k) rest h f e = bad k rest (below k h) (behind_front (codes "input(") _ _ e)
-no_input format after bad (inst a p b q) rest h f e = let k = ap (λ (xs : List ℕ). nat_eq (at_two xs) 112) e in cc
-no_input format after bad (lemma a p b q ks ds) rest h f e = let k = ap (λ (xs : List ℕ). nat_eq (at_two xs) 112) e in cc
-
 pub no_inst : (format : ℕ) (after : List ℕ) → ((i : Instance) (rest : List ℕ) → InstanceFits i → after ≢ instance_text i (41 ∷ rest)) → NoOrigin format (codes "inst(m" ++ after)
 no_inst format after bad (input k) rest h f e = let k = ap (λ (xs : List ℕ). nat_eq (at_two xs) 112) e in cc
 no_inst format after bad (inst a p b q) rest h f e = bad (instance_by a p b q) rest (instance_fits a p b q h) (behind_front (codes "inst(m") _ _ e)
@@ -104,8 +79,3 @@ pub no_lemma : (format : ℕ) (after : List ℕ) → ((i : Instance) (ks ds rest
 no_lemma format after bad (input k) rest h f e = let k = ap (λ (xs : List ℕ). nat_eq (at_two xs) 109) e in cc
 no_lemma format after bad (inst a p b q) rest h f e = let k = ap (λ (xs : List ℕ). nat_eq (at_two xs) 109) e in cc
 no_lemma format after bad (lemma a p b q ks ds) rest h f e = let g = lemma_fits a p b q ks ds h in bad (instance_by a p b q) ks ds rest g.0 g.1 f (behind_front (codes "lemma(m") _ _ e)
-
-pub none_of_three : (format : ℕ) (bytes : List ℕ) → ((x : List ℕ) → bytes ≢ codes "input(" ++ x) → ((x : List ℕ) → bytes ≢ codes "inst(m" ++ x) → ((x : List ℕ) → bytes ≢ codes "lemma(m" ++ x) → NoOrigin format bytes
-none_of_three format bytes i j k (input n) rest h f e = i _ e
-none_of_three format bytes i j k (inst a p b q) rest h f e = j _ e
-none_of_three format bytes i j k (lemma a p b q ks ds) rest h f e = k _ e

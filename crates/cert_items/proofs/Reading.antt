@@ -442,6 +442,11 @@ some_weaker (Some x) P Q f h = f x h
 pub not_at : (c : ℕ) (rest : List ℕ) → begins (nat_eq c) rest ≡ false → (x : List ℕ) → rest ≢ c ∷ x
 not_at c rest h x e = let k : begins (nat_eq c) (c ∷ x) ≡ false = subst (λ (xs : List ℕ). begins (nat_eq c) xs ≡ false) e h in let m = equal_numbers c c refl in cc
 
+-- what is shown where nothing is found
+pub none_if : {A : Type 0} (r : Option A) (P : Type 0) → P → IfNone r P
+none_if None P p = p
+none_if (Some x) P p = tt
+
 pub is_none : {A : Type 0} (r : Option A) (P : Type 0) → r ≡ None → IfNone r P → P
 is_none {A} r P e h = subst (λ (x : Option A). IfNone x P) e h
 

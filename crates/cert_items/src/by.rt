@@ -1,5 +1,6 @@
-// What covers a clause.
-ghost use Rattle.std.specs.Prelude.{◌≡◌, ◌≢◌, ◌++◌, ℕ, List, IfOk, IfSome, IfNone, IsTrue, codes};
+// What covers a clause, as a line names it: nothing but the clause itself, which is a tautology; a member that it is a variant
+// of; or a member with terms for its variables.
+ghost use Rattle.std.specs.Prelude.{◌≡◌, ◌++◌, IfOk, IfSome, IfNone, IsTrue, codes};
 ghost use Rattle.term_bank.specs.Forest.{Forest, Grows};
 ghost use Rattle.cert_format.specs.LineTexts.{by_text, by_is_printable};
 ghost use Rattle.saturation_cert.specs.Values.{by_of};
@@ -7,7 +8,7 @@ ghost use Rattle.saturation_cert.specs.Wholes.{IsWholeBy};
 ghost use Rattle.cert_items.specs.Notes.{NoBy};
 
 use crate::mark::{mark, word};
-use crate::number::marked;
+use crate::number::number_before;
 use crate::term_list::number_and_terms;
 use crate::text_bank::TextBank;
 use inst_logic::Memory;
@@ -22,13 +23,9 @@ fn variant(bytes: &[u8]) -> Option<(By, &[u8])>
     ensures whole { (f : Forest) → IfSome result (λ p. IsWholeBy f p.0) }
     ensures none { IfNone result (NoBy (codes "variant(" ++ bytes.now)) }
 {
-    match mark(bytes, b'm') {
-        None => None,
-        Some(digits) => match marked(digits, b')') {
-            None => None,
-            Some((k, rest)) => Some((By::Variant(k), rest)),
-        },
-    }
+    let digits = mark(bytes, b'm')?;
+    let (k, rest) = number_before(digits, b')')?;
+    Some((By::Variant(k), rest))
 }
 
 // The number of a member with its terms, and what follows the parenthesis behind them.
@@ -44,10 +41,9 @@ fn part<'a>(
     ensures none { IfOk result (λ r. IfNone r (NoBy (codes "part(m" ++ bytes.now))) }
     ensures grows { Grows bank.old bank.new }
 {
-    match number_and_terms(alloc, bank, ids, bytes) {
-        Err(e) => Err(e),
-        Ok(None) => Ok(None),
-        Ok(Some((member, terms, rest))) => Ok(Some((By::Part { member, terms }, rest))),
+    match number_and_terms(alloc, bank, ids, bytes)? {
+        None => Ok(None),
+        Some((member, terms, rest)) => Ok(Some((By::Part { member, terms }, rest))),
     }
 }
 
@@ -65,14 +61,14 @@ pub fn read_by<'a>(
     ensures none { IfOk result (λ r. IfNone r (NoBy bytes.now)) }
     ensures grows { Grows bank.old bank.new }
 {
-    match word(bytes, b"variant(") {
-        Some(after) => Ok(variant(after)),
-        None => match word(bytes, b"part(m") {
-            Some(after) => part(alloc, bank, ids, after),
-            None => match word(bytes, b"tautology") {
-                Some(rest) => Ok(Some((By::Tautology, rest))),
-                None => Ok(None),
-            },
-        },
+    if let Some(after) = word(bytes, b"variant(") {
+        return Ok(variant(after));
+    }
+    if let Some(after) = word(bytes, b"part(m") {
+        return part(alloc, bank, ids, after);
+    }
+    match word(bytes, b"tautology") {
+        None => Ok(None),
+        Some(rest) => Ok(Some((By::Tautology, rest))),
     }
 }

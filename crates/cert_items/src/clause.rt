@@ -24,19 +24,11 @@ fn go_on(rest: &[u8]) -> Option<Rest<'_>>
     ensures some { IfSome result (λ r. rest.now ≡ ended_by r.ended r.rest.now) }
     ensures none { IfNone result ((e : Bool) (x : List ℕ) → rest.now ≢ ended_by e x) }
 {
-    match mark(rest, b',') {
-        Some(after) => Some(Rest {
-            ended: true,
-            rest: after,
-        }),
-        None => match word(rest, b" | ") {
-            Some(after) => Some(Rest {
-                ended: false,
-                rest: after,
-            }),
-            None => None,
-        },
+    if let Some(rest) = mark(rest, b',') {
+        return Some(Rest { ended: true, rest });
     }
+    let rest = word(rest, b" | ")?;
+    Some(Rest { ended: false, rest })
 }
 
 // The literal at the front and the mark behind it.

@@ -5,7 +5,7 @@ ghost use Rattle.cert_items.specs.Items.{head_text, letter_of, role_of};
 ghost use Rattle.inst_logic.specs.Codes as byte;
 
 use crate::mark::word;
-use crate::number::marked;
+use crate::number::number_before;
 
 /// The groups of items, in their order in a text: an item of `Shown` says what shows an input or axiom, and one of `Cover` what
 /// covers an instance.
@@ -58,13 +58,9 @@ fn numbered(bytes: &[u8]) -> Option<(Group, usize, &[u8])>
     ensures some { IfSome result (λ r. (bytes.now ≡ letter_of r.0 ∷ (decimal r.1 ++ byte.comma ∷ r.2.now)) × (r.1 < 2 ^ 64)) }
     ensures none { IfNone result ((g : Group) (n : ℕ) (rest : List ℕ) → n < 2 ^ 64 → bytes.now ≢ letter_of g ∷ (decimal n ++ byte.comma ∷ rest)) }
 {
-    match letter(bytes) {
-        None => None,
-        Some((group, digits)) => match marked(digits, b',') {
-            None => None,
-            Some((n, rest)) => Some((group, n, rest)),
-        },
-    }
+    let (group, digits) = letter(bytes)?;
+    let (n, rest) = number_before(digits, b',')?;
+    Some((group, n, rest))
 }
 
 /// The group and the number of the item at the front, and what follows the comma behind its role.
@@ -72,14 +68,8 @@ pub fn head(bytes: &[u8]) -> Option<(Group, usize, &[u8])>
     ensures some { IfSome result (λ r. (bytes.now ≡ head_text r.0 r.1 r.2.now) × (r.1 < 2 ^ 64)) }
     ensures none { IfNone result ((g : Group) (n : ℕ) (rest : List ℕ) → n < 2 ^ 64 → bytes.now ≢ head_text g n rest) }
 {
-    match word(bytes, b"cnf(") {
-        None => None,
-        Some(after) => match numbered(after) {
-            None => None,
-            Some((group, n, behind)) => match role(group, behind) {
-                None => None,
-                Some(rest) => Some((group, n, rest)),
-            },
-        },
-    }
+    let after = word(bytes, b"cnf(")?;
+    let (group, n, behind) = numbered(after)?;
+    let rest = role(group, behind)?;
+    Some((group, n, rest))
 }

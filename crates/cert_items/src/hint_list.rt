@@ -1,4 +1,4 @@
-// The hints of a step.
+// The hints of a step: numbers of ground clauses, `g1`, and of earlier steps, `r1`, up to the marks that end the list.
 ghost use Rattle.std.specs.Prelude.{◌≡◌, ◌≢◌, ◌++◌, ◌∷◌, ◌<◌, ℕ, List, [], Bool, length, IfOk, IfSome, IfNone, IsTrue, true};
 ghost use Rattle.std.specs.Char.{is_ascii_digit};
 ghost use Rattle.inst_calculus.specs.Steps.{Cited};
@@ -25,19 +25,13 @@ fn read_one(bytes: &[u8]) -> Option<(GroundHint, &[u8])>
     ensures some { IfSome result (λ r. (bytes.now ≡ hint (hint_of r.0) r.1.now) × IsTrue (hint_is_printable (hint_of r.0)) × Ends is_ascii_digit r.1.now) }
     ensures none { IfNone result ((h : Cited) (rest : List ℕ) → IsTrue (hint_is_printable h) → Ends is_ascii_digit rest → bytes.now ≢ hint h rest) }
 {
-    match mark(bytes, b'g') {
-        Some(after) => match number(after) {
-            None => None,
-            Some((k, rest)) => Some((GroundHint::Ground(k), rest)),
-        },
-        None => match mark(bytes, b'r') {
-            None => None,
-            Some(after) => match number(after) {
-                None => None,
-                Some((k, rest)) => Some((GroundHint::Step(k), rest)),
-            },
-        },
+    if let Some(after) = mark(bytes, b'g') {
+        let (k, rest) = number(after)?;
+        return Some((GroundHint::Ground(k), rest));
     }
+    let after = mark(bytes, b'r')?;
+    let (k, rest) = number(after)?;
+    Some((GroundHint::Step(k), rest))
 }
 
 // Goes on behind a hint: to the next one, or past the marks that end the list.
@@ -45,19 +39,11 @@ fn go_on(rest: &[u8]) -> Option<Behind<'_>>
     ensures some { IfSome result (λ r. rest.now ≡ hint_end r.ended r.rest.now) }
     ensures none { IfNone result ((e : Bool) (x : List ℕ) → rest.now ≢ hint_end e x) }
 {
-    match mark(rest, b',') {
-        Some(after) => Some(Behind {
-            ended: false,
-            rest: after,
-        }),
-        None => match word(rest, b"])") {
-            Some(after) => Some(Behind {
-                ended: true,
-                rest: after,
-            }),
-            None => None,
-        },
+    if let Some(rest) = mark(rest, b',') {
+        return Some(Behind { ended: false, rest });
     }
+    let rest = word(rest, b"])")?;
+    Some(Behind { ended: true, rest })
 }
 
 // The hint at the front and the marks behind it.
@@ -66,16 +52,14 @@ fn item<'a>(list: &mut GroundHintList, rest: &'a [u8]) -> Result<Option<Behind<'
     ensures shorter { IfOk result (λ r. IfSome r (λ next. length next.rest.now < length rest.now)) }
     ensures none { IfOk result (λ r. IfNone r (NoHintHead rest.now)) }
 {
-    match read_one(rest) {
-        None => Ok(None),
-        Some((h, after)) => match go_on(after) {
-            None => Ok(None),
-            Some(next) => {
-                list.push(h)?;
-                Ok(Some(next))
-            }
-        },
-    }
+    let Some((h, after)) = read_one(rest) else {
+        return Ok(None);
+    };
+    let Some(next) = go_on(after) else {
+        return Ok(None);
+    };
+    list.push(h)?;
+    Ok(Some(next))
 }
 
 /// The hints at the front, and what follows the marks that end them.

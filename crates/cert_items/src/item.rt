@@ -1,7 +1,5 @@
-// A whole line of an item.
-ghost use Rattle.std.specs.Prelude.{◌≡◌, ◌≤◌, ◌++◌, ◌∷◌, ℕ, List, [], length, IfOk, IfSome, IfNone};
-ghost use Rattle.inst_logic.specs.Printing.{clause_text};
-ghost use Rattle.inst_logic.specs.Codes as byte;
+// A line of an item: its group and number, its clause, and the note of where the clause comes from.
+ghost use Rattle.std.specs.Prelude.{◌≡◌, [], IfOk, IfSome, IfNone};
 ghost use Rattle.term_bank.specs.Forest.{clause_at, Grows};
 ghost use Rattle.cert_format.specs.LineMachine.{item};
 ghost use Rattle.cert_format.specs.LineTexts.{line};
@@ -18,23 +16,13 @@ use saturation_cert::GroundHintList;
 use std::alloc::Global;
 use term_bank::{IdClause, TermId};
 
-/// An item but for its clause and its hints, how its clause stands in the text, with the comma behind it, and what follows its line.
+/// An item but for its clause and its hints, and what follows its line.
 #[derive(Drop)]
 pub struct Item<'a> {
     pub group: Group,
     pub number: usize,
-    pub clause: &'a [u8],
     pub note: Note,
     pub rest: &'a [u8],
-}
-
-// What stands before the rest of the text.
-fn before<'a>(bytes: &'a [u8], rest: &[u8]) -> &'a [u8]
-    requires { length rest.now ≤ length bytes.now }
-    ensures { (text : List ℕ) → bytes.now ≡ text ++ rest.now → result.now ≡ text }
-{
-    let (text, _) = bytes.split_at(bytes.len() - rest.len());
-    text
 }
 
 /// The item whose line is at the front of the text, in a text of the shape. Its clause and its hints are put
@@ -53,7 +41,6 @@ pub fn read_item<'a>(
     ensures some { IfOk result (λ r. IfSome r (λ i. IsItem shape i.number (clause_at bank.new literals.new) (note_of bank.new i.note hints.new))) }
     ensures text { IfOk result (λ r. IfSome r (λ i. bytes.now ≡ line (item i.number (clause_at bank.new literals.new) (note_of bank.new i.note hints.new)) i.rest.now)) }
     ensures group { IfOk result (λ r. IfSome r (λ i. group_of (note_of bank.new i.note hints.new) ≡ i.group)) }
-    ensures clause { IfOk result (λ r. IfSome r (λ i. i.clause.now ≡ clause_text (clause_at bank.new literals.new) ++ byte.comma ∷ [])) }
     ensures whole { IfOk result (λ r. IfSome r (λ _. IsWholeClause bank.new literals.new)) }
     ensures terms { IfOk result (λ r. IfSome r (λ i. IsWholeNote bank.new i.note)) }
     ensures none { IfOk result (λ r. IfNone r (NoItem shape bytes.now)) }
@@ -72,7 +59,6 @@ pub fn read_item<'a>(
                     Ok(Some((note, rest))) => Ok(Some(Item {
                         group,
                         number,
-                        clause: before(after, behind),
                         note,
                         rest,
                     })),

@@ -2,7 +2,7 @@
 //! front of the text exactly where something printable is there in its one spelling, in one pass and without recursion.
 #![tactic(auto)]
 
-pub mod by;
+mod by;
 mod canonical;
 mod clause;
 pub mod group;
@@ -12,13 +12,13 @@ mod literals;
 pub mod mark;
 pub mod name;
 pub mod note;
-pub mod notes;
+mod notes;
 pub mod number;
 mod number_list;
 mod order;
 mod origin;
 mod place;
-pub mod printable;
+mod printable;
 mod recent;
 pub mod shape;
 pub mod symbol;
@@ -26,11 +26,8 @@ mod term_list;
 mod terms;
 pub mod text_bank;
 
-pub use by::read_by;
 pub use group::Group;
 pub use item::{Item, read_item};
 pub use note::Note;
-pub use notes::sides;
-pub use printable::printable_clause;
 pub use shape::Shape;
 pub use text_bank::TextBank;

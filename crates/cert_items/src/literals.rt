@@ -1,4 +1,5 @@
-// Literals and clauses of a text, read into a bank.
+// Literals of a text, read into a bank: a predicate with or without `~` before it, or two terms with a sign of equality between
+// them. A literal that stands in the text before is taken by its text, and nothing of it is read.
 ghost use Rattle.std.specs.Prelude.{◌≡◌, ◌≢◌, ◌++◌, ◌<◌, ◌≤◌, ◌∷◌, ℕ, List, length, false, true, map, IsTrue, IfOk, IfSome, IfNone, None};
 ghost use Rattle.inst_logic.specs.declared.symbol.Kind.{Kind};
 ghost use Rattle.inst_logic.specs.declared.symbol.Kind.TheVariants.{Predicate, Equality, Function};
@@ -40,26 +41,24 @@ fn head<'a>(
     ensures none { IfOk result (λ r. IfNone r (NoTerm bytes.now)) }
 {
     ids.clear();
-    match mark(bytes, b'X') {
-        Some(digits) => match number(digits) {
-            None => Ok(None),
-            Some((n, rest)) => {
-                if goes_on(rest) {
-                    return Ok(None);
-                }
-                Ok(Some((Root::Variable(n), rest)))
-            }
-        },
-        None => match name(bytes) {
-            None => Ok(None),
-            Some((name, after)) => match mark(after, b'(') {
-                None => Ok(Some((Root::Application(name), after))),
-                Some(inner) => match terms(alloc, bank, ids, inner, b')')? {
-                    None => Ok(None),
-                    Some(rest) => Ok(Some((Root::Application(name), rest))),
-                },
-            },
-        },
+    if let Some(digits) = mark(bytes, b'X') {
+        let Some((n, rest)) = number(digits) else {
+            return Ok(None);
+        };
+        if goes_on(rest) {
+            return Ok(None);
+        }
+        return Ok(Some((Root::Variable(n), rest)));
+    }
+    let Some((name, after)) = name(bytes) else {
+        return Ok(None);
+    };
+    let Some(inner) = mark(after, b'(') else {
+        return Ok(Some((Root::Application(name), after)));
+    };
+    match terms(alloc, bank, ids, inner, b')')? {
+        None => Ok(None),
+        Some(rest) => Ok(Some((Root::Application(name), rest))),
     }
 }
 
@@ -91,13 +90,11 @@ fn term<'a>(
     ensures some { IfOk result (λ r. IfSome r (λ p. IsTermAt bank.new p.0 bytes.now p.1.now)) }
     ensures none { IfOk result (λ r. IfNone r (NoTerm bytes.now)) }
 {
-    match head(alloc, bank, ids, bytes)? {
-        None => Ok(None),
-        Some((root, rest)) => {
-            let id = whole(alloc, bank, &root, ids.as_slice())?;
-            Ok(Some((id, rest)))
-        }
-    }
+    let Some((root, rest)) = head(alloc, bank, ids, bytes)? else {
+        return Ok(None);
+    };
+    let id = whole(alloc, bank, &root, ids.as_slice())?;
+    Ok(Some((id, rest)))
 }
 
 // The sign of equality, positive or negative, and what follows it.
@@ -105,13 +102,11 @@ fn equality_sign(bytes: &[u8]) -> Option<(bool, &[u8])>
     ensures some { IfSome result (λ p. bytes.now ≡ equality_sign p.0 ++ p.1.now) }
     ensures none { IfNone result (¬ IsEqualitySign bytes.now) }
 {
-    match word(bytes, b" = ") {
-        Some(rest) => Some((true, rest)),
-        None => match word(bytes, b" != ") {
-            Some(rest) => Some((false, rest)),
-            None => None,
-        },
+    if let Some(rest) = word(bytes, b" = ") {
+        return Some((true, rest));
     }
+    let rest = word(bytes, b" != ")?;
+    Some((false, rest))
 }
 
 // The literal of this predicate, whose text is at the front of `bytes` behind the sign.
@@ -268,38 +263,19 @@ fn is_behind(rest: &[u8]) -> bool
 
 // The literal at the front that was read before, and what follows it.
 fn known_literal<'a>(
-    bank: &mut TextBank,
+    bank: &TextBank,
     candidate: Candidate,
     bytes: &'a [u8],
 ) -> Option<(IdLiteral, &'a [u8])>
     requires { candidate.len ≤ length bytes.now }
-    ensures same { bank.new ≡ bank.old }
-    ensures some { IfSome result (λ p. IsLiteralAt bank.old p.0 bytes.now p.1.now) }
+    ensures { IfSome result (λ p. IsLiteralAt bank.now p.0 bytes.now p.1.now) }
 {
     let (text, rest) = bytes.split_at(candidate.len);
     if !is_behind(rest) {
         return None;
     }
-    match bank.spelled(text, candidate.code) {
-        None => None,
-        Some(l) => Some((l, rest)),
-    }
-}
-
-// The literal at the front that came behind the last one before, or last where that one was expected, and what follows it.
-fn expected_literal<'a>(bank: &mut TextBank, bytes: &'a [u8]) -> Option<(IdLiteral, &'a [u8])>
-    ensures same { bank.new ≡ bank.old }
-    ensures some { IfSome result (λ p. IsLiteralAt bank.old p.0 bytes.now p.1.now) }
-{
-    match bank.expected(bytes) {
-        None => None,
-        Some((l, rest)) => {
-            if !is_behind(rest) {
-                return None;
-            }
-            Some((l, rest))
-        }
-    }
+    let l = bank.literal_of(text, candidate.code)?;
+    Some((l, rest))
 }
 
 // Remembers the literal at the front, where it is the candidate.
@@ -345,8 +321,8 @@ fn new_literal<'a>(
     }
 }
 
-// The literal at the front, which was not expected there, and what follows it.
-fn other_literal<'a>(
+/// The literal at the front, and what follows it.
+pub fn literal<'a>(
     alloc: Global,
     bank: &mut TextBank,
     ids: &mut Vec<TermId>,
@@ -360,22 +336,5 @@ fn other_literal<'a>(
     match known_literal(bank, candidate, bytes) {
         Some((l, rest)) => Ok(Some((l, rest))),
         None => new_literal(alloc, bank, ids, candidate, bytes),
-    }
-}
-
-/// The literal at the front, and what follows it.
-pub fn literal<'a>(
-    alloc: Global,
-    bank: &mut TextBank,
-    ids: &mut Vec<TermId>,
-    bytes: &'a [u8],
-) -> Result<Option<(IdLiteral, &'a [u8])>, Memory>
-    ensures grows { Grows bank.old bank.new }
-    ensures some { IfOk result (λ r. IfSome r (λ p. IsLiteralAt bank.new p.0 bytes.now p.1.now)) }
-    ensures none { IfOk result (λ r. IfNone r (NoForm bytes.now)) }
-{
-    match expected_literal(bank, bytes) {
-        Some((l, rest)) => Ok(Some((l, rest))),
-        None => other_literal(alloc, bank, ids, bytes),
     }
 }

@@ -1,4 +1,4 @@
-// What stands behind the clause of an item's line.
+// The note of an item, which stands behind its clause and says where the clause comes from.
 ghost use Rattle.std.specs.Prelude.{◌≡◌, ◌≢◌, ◌∷◌, ℕ, List, [], IfOk, IfSome, IfNone, IsTrue};
 ghost use Rattle.term_bank.specs.Forest.{Forest, Grows};
 ghost use Rattle.saturation_cert.specs.declared.certificate.GroundHint.{GroundHint};
@@ -10,9 +10,9 @@ use crate::by::read_by;
 use crate::group::Group;
 use crate::hint_list::read_hints;
 use crate::mark::{mark, word};
-use crate::notes::{grounded, named, sides};
+use crate::notes::{ground_member, sides, statement_name};
 use crate::origin::read_origin;
-use crate::place::selected;
+use crate::place::origin_and_place;
 use crate::shape::Shape;
 use crate::symbol::name_of;
 use crate::term_list::number_and_terms;
@@ -49,13 +49,11 @@ fn input_note(alloc: Global, bytes: &[u8]) -> Result<Option<(Note, &[u8])>, Memo
     ensures whole { (f : Forest) → IfOk result (λ r. IfSome r (λ p. IsWholeNote f p.0)) }
     ensures none { (shape : Shape) (n : ℕ) → IfOk result (λ r. IfNone r (NoNote shape InInputs n bytes.now)) }
 {
-    match named(bytes) {
-        None => Ok(None),
-        Some((text, rest)) => {
-            let name = name_of(alloc, text)?;
-            Ok(Some((Note::Named(name), rest)))
-        }
-    }
+    let Some((text, rest)) = statement_name(bytes) else {
+        return Ok(None);
+    };
+    let name = name_of(alloc, text)?;
+    Ok(Some((Note::Named(name), rest)))
 }
 
 fn axiom_note(bytes: &[u8]) -> Option<(Note, &[u8])>
@@ -63,10 +61,8 @@ fn axiom_note(bytes: &[u8]) -> Option<(Note, &[u8])>
     ensures whole { (f : Forest) → IfSome result (λ p. IsWholeNote f p.0) }
     ensures none { (shape : Shape) (n : ℕ) → IfNone result (NoNote shape InAxioms n bytes.now) }
 {
-    match word(bytes, b"equality") {
-        None => None,
-        Some(rest) => Some((Note::Equality, rest)),
-    }
+    let rest = word(bytes, b"equality")?;
+    Some((Note::Equality, rest))
 }
 
 fn member_note(alloc: Global, shape: Shape, bytes: &[u8]) -> Result<Option<(Note, &[u8])>, Memory>
@@ -75,16 +71,14 @@ fn member_note(alloc: Global, shape: Shape, bytes: &[u8]) -> Result<Option<(Note
     ensures none { (n : ℕ) → IfOk result (λ r. IfNone r (NoNote shape InMembers n bytes.now)) }
 {
     if shape.refutation {
-        match read_origin(alloc, shape.format, bytes) {
-            Err(e) => Err(e),
-            Ok(None) => Ok(None),
-            Ok(Some((o, rest))) => Ok(Some((Note::Member(o), rest))),
+        match read_origin(alloc, shape.format, bytes)? {
+            None => Ok(None),
+            Some((o, rest)) => Ok(Some((Note::Member(o), rest))),
         }
     } else {
-        match selected(alloc, shape.format, bytes) {
-            Err(e) => Err(e),
-            Ok(None) => Ok(None),
-            Ok(Some((o, p, rest))) => Ok(Some((Note::Selected(o, p), rest))),
+        match origin_and_place(alloc, shape.format, bytes)? {
+            None => Ok(None),
+            Some((o, p, rest)) => Ok(Some((Note::Selected(o, p), rest))),
         }
     }
 }
@@ -97,15 +91,11 @@ fn first_ground(shape: Shape, n: usize, bytes: &[u8]) -> Option<(Note, &[u8])>
     ensures whole { (f : Forest) → IfSome result (λ p. IsWholeNote f p.0) }
     ensures none { IfNone result (NoNote shape InGrounds n bytes.now) }
 {
-    match grounded(bytes) {
-        None => None,
-        Some((k, rest)) => {
-            if k != n {
-                return None;
-            }
-            Some((Note::Ground, rest))
-        }
+    let (k, rest) = ground_member(bytes)?;
+    if k != n {
+        return None;
     }
+    Some((Note::Ground, rest))
 }
 
 // The note of a ground clause that names its input and terms.
@@ -123,13 +113,12 @@ fn ground_by<'a>(
     ensures none { (n : ℕ) → IfOk result (λ r. IfNone r (NoNote shape InGrounds n bytes.now)) }
     ensures grows { Grows bank.old bank.new }
 {
-    match word(bytes, b"ground(") {
+    let Some(after) = word(bytes, b"ground(") else {
+        return Ok(None);
+    };
+    match number_and_terms(alloc, bank, ids, after)? {
         None => Ok(None),
-        Some(after) => match number_and_terms(alloc, bank, ids, after) {
-            Err(e) => Err(e),
-            Ok(None) => Ok(None),
-            Ok(Some((input, terms, rest))) => Ok(Some((Note::GroundBy(input, terms), rest))),
-        },
+        Some((input, terms, rest)) => Ok(Some((Note::GroundBy(input, terms), rest))),
     }
 }
 
@@ -169,12 +158,12 @@ fn step_note<'a>(
     if !shape.refutation {
         return Ok(None);
     }
-    match word(bytes, b"rup([") {
+    let Some(after) = word(bytes, b"rup([") else {
+        return Ok(None);
+    };
+    match read_hints(hints, after)? {
         None => Ok(None),
-        Some(after) => match read_hints(hints, after)? {
-            None => Ok(None),
-            Some(rest) => Ok(Some((Note::Hinted, rest))),
-        },
+        Some(rest) => Ok(Some((Note::Hinted, rest))),
     }
 }
 
@@ -193,10 +182,9 @@ fn shown_note<'a>(
     if !shape.names_covers() {
         return Ok(None);
     }
-    match read_by(alloc, bank, ids, bytes) {
-        Err(e) => Err(e),
-        Ok(None) => Ok(None),
-        Ok(Some((by, rest))) => Ok(Some((Note::InputBy(by), rest))),
+    match read_by(alloc, bank, ids, bytes)? {
+        None => Ok(None),
+        Some((by, rest)) => Ok(Some((Note::InputBy(by), rest))),
     }
 }
 
@@ -215,25 +203,22 @@ fn cover_note<'a>(
     if !shape.names_covers() {
         return Ok(None);
     }
-    match sides(bytes) {
-        None => Ok(None),
-        Some((left, right, side, after)) => match read_by(alloc, bank, ids, after) {
-            Err(e) => Err(e),
-            Ok(None) => Ok(None),
-            Ok(Some((by, behind))) => match mark(behind, b']') {
-                None => Ok(None),
-                Some(rest) => Ok(Some((
-                    Note::SideBy {
-                        left,
-                        right,
-                        side,
-                        by,
-                    },
-                    rest,
-                ))),
-            },
-        },
-    }
+    let Some((left, right, side, after)) = sides(bytes) else {
+        return Ok(None);
+    };
+    let Some((by, behind)) = read_by(alloc, bank, ids, after)? else {
+        return Ok(None);
+    };
+    let Some(rest) = mark(behind, b']') else {
+        return Ok(None);
+    };
+    let note = Note::SideBy {
+        left,
+        right,
+        side,
+        by,
+    };
+    Ok(Some((note, rest)))
 }
 
 // The note of the group at the front, and what follows it.
@@ -281,12 +266,11 @@ pub fn last_note<'a>(
     ensures none { IfOk result (λ r. IfNone r (NoLastNote shape group n bytes.now)) }
     ensures grows { Grows bank.old bank.new }
 {
-    match read_note(alloc, bank, ids, hints, shape, group, n, bytes) {
-        Err(e) => Err(e),
-        Ok(None) => Ok(None),
-        Ok(Some((note, behind))) => match word(behind, b").\n") {
-            None => Ok(None),
-            Some(rest) => Ok(Some((note, rest))),
-        },
+    let Some((note, behind)) = read_note(alloc, bank, ids, hints, shape, group, n, bytes)? else {
+        return Ok(None);
+    };
+    match word(behind, b").\n") {
+        None => Ok(None),
+        Some(rest) => Ok(Some((note, rest))),
     }
 }

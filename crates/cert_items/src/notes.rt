@@ -10,11 +10,11 @@ ghost use Rattle.inst_logic.specs.Codes as byte;
 
 use crate::mark::{mark, word};
 use crate::name::name;
-use crate::number::marked;
+use crate::number::number_before;
 use unify_core::Side;
 
 /// The name of a statement as it is printed, and what follows the parenthesis behind it.
-pub fn named(bytes: &[u8]) -> Option<(&[u8], &[u8])>
+pub fn statement_name(bytes: &[u8]) -> Option<(&[u8], &[u8])>
     ensures some { IfSome result (λ r. (bytes.now ≡ codes "named(" ++ (r.0.now ++ byte.closing_parenthesis ∷ r.1.now)) × IsNameText r.0.now) }
     ensures none { IfNone result ((w rest : List ℕ) → IsTrue (is_readable_name w) → bytes.now ≢ codes "named(" ++ (name_text w ++ byte.closing_parenthesis ∷ rest)) }
 {
@@ -31,14 +31,14 @@ pub fn named(bytes: &[u8]) -> Option<(&[u8], &[u8])>
 }
 
 /// The member that a ground clause comes from, and what follows the parenthesis behind it.
-pub fn grounded(bytes: &[u8]) -> Option<(usize, &[u8])>
+pub fn ground_member(bytes: &[u8]) -> Option<(usize, &[u8])>
     ensures some { IfSome result (λ r. bytes.now ≡ codes "ground(m" ++ (decimal r.0 ++ byte.closing_parenthesis ∷ r.1.now)) }
     ensures fits { IfSome result (λ r. r.0 < 2 ^ 64) }
     ensures none { IfNone result ((n : ℕ) (rest : List ℕ) → n < 2 ^ 64 → bytes.now ≢ codes "ground(m" ++ (decimal n ++ byte.closing_parenthesis ∷ rest)) }
 {
     match word(bytes, b"ground(m") {
         None => None,
-        Some(after) => marked(after, b')'),
+        Some(after) => number_before(after, b')'),
     }
 }
 
@@ -48,19 +48,11 @@ fn members(bytes: &[u8]) -> Option<(usize, usize, &[u8])>
     ensures fits { IfSome result (λ r. (r.0 < 2 ^ 64) × (r.1 < 2 ^ 64)) }
     ensures none { IfNone result ((m n : ℕ) (rest : List ℕ) → m < 2 ^ 64 → n < 2 ^ 64 → bytes.now ≢ members_text m n rest) }
 {
-    match word(bytes, b"cover(m") {
-        None => None,
-        Some(after) => match marked(after, b',') {
-            None => None,
-            Some((left, behind)) => match mark(behind, b'm') {
-                None => None,
-                Some(second) => match marked(second, b',') {
-                    None => None,
-                    Some((right, rest)) => Some((left, right, rest)),
-                },
-            },
-        },
-    }
+    let first = word(bytes, b"cover(m")?;
+    let (left, behind) = number_before(first, b',')?;
+    let second = mark(behind, b'm')?;
+    let (right, rest) = number_before(second, b',')?;
+    Some((left, right, rest))
 }
 
 // The word of a side, and what follows it.
@@ -68,13 +60,11 @@ fn side(bytes: &[u8]) -> Option<(Side, &[u8])>
     ensures some { IfSome result (λ r. bytes.now ≡ side_word (side_of r.0) ++ r.1.now) }
     ensures none { IfNone result ((s : format.Side) (rest : List ℕ) → bytes.now ≢ side_word s ++ rest) }
 {
-    match word(bytes, b"left") {
-        Some(rest) => Some((Side::Left, rest)),
-        None => match word(bytes, b"right") {
-            Some(rest) => Some((Side::Right, rest)),
-            None => None,
-        },
+    if let Some(rest) = word(bytes, b"left") {
+        return Some((Side::Left, rest));
     }
+    let rest = word(bytes, b"right")?;
+    Some((Side::Right, rest))
 }
 
 /// The two members of a cover and the side, and what follows the bracket behind them. Inlined, each byte that is compared would set
@@ -85,14 +75,8 @@ pub fn sides(bytes: &[u8]) -> Option<(usize, usize, Side, &[u8])>
     ensures fits { IfSome result (λ r. (r.0 < 2 ^ 64) × (r.1 < 2 ^ 64)) }
     ensures none { IfNone result ((m n : ℕ) (s : format.Side) (rest : List ℕ) → m < 2 ^ 64 → n < 2 ^ 64 → bytes.now ≢ side_text m n s rest) }
 {
-    match members(bytes) {
-        None => None,
-        Some((left, right, after)) => match side(after) {
-            None => None,
-            Some((side, behind)) => match word(behind, b"),[") {
-                None => None,
-                Some(rest) => Some((left, right, side, rest)),
-            },
-        },
-    }
+    let (left, right, after) = members(bytes)?;
+    let (side, behind) = side(after)?;
+    let rest = word(behind, b"),[")?;
+    Some((left, right, side, rest))
 }

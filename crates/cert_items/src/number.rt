@@ -113,24 +113,18 @@ pub fn number(bytes: &[u8]) -> Option<(usize, &[u8])>
     if len < SAFE_DIGITS {
         return split_number(bytes, n, len);
     }
-    match digits_value(bytes) {
-        None => None,
-        Some((n, len)) => split_number(bytes, n, len),
-    }
+    let (n, len) = digits_value(bytes)?;
+    split_number(bytes, n, len)
 }
 
 /// The number at the front and the mark behind it, and what follows.
-pub fn marked(bytes: &[u8], byte: u8) -> Option<(usize, &[u8])>
+pub fn number_before(bytes: &[u8], byte: u8) -> Option<(usize, &[u8])>
     requires { is_ascii_digit byte ≡ false }
     ensures some { IfSome result (λ r. bytes.now ≡ decimal r.0 ++ byte ∷ r.1.now) }
     ensures fits { IfSome result (λ r. r.0 < 2 ^ 64) }
     ensures none { IfNone result ((n : ℕ) (rest : List ℕ) → n < 2 ^ 64 → bytes.now ≢ decimal n ++ byte ∷ rest) }
 {
-    match number(bytes) {
-        None => None,
-        Some((n, after)) => match mark(after, byte) {
-            None => None,
-            Some(rest) => Some((n, rest)),
-        },
-    }
+    let (n, after) = number(bytes)?;
+    let rest = mark(after, byte)?;
+    Some((n, rest))
 }

@@ -14,19 +14,11 @@ fn go_on(rest: &[u8]) -> Option<Behind<'_>>
     ensures some { IfSome result (λ r. rest.now ≡ number_end r.ended r.rest.now) }
     ensures none { IfNone result ((e : Bool) (x : List ℕ) → rest.now ≢ number_end e x) }
 {
-    match mark(rest, b',') {
-        Some(after) => Some(Behind {
-            ended: false,
-            rest: after,
-        }),
-        None => match mark(rest, b']') {
-            Some(after) => Some(Behind {
-                ended: true,
-                rest: after,
-            }),
-            None => None,
-        },
+    if let Some(rest) = mark(rest, b',') {
+        return Some(Behind { ended: false, rest });
     }
+    let rest = mark(rest, b']')?;
+    Some(Behind { ended: true, rest })
 }
 
 // The number behind the mark at the front, and what ends it.
@@ -39,19 +31,17 @@ fn item<'a>(
     ensures shorter { IfOk result (λ r. IfSome r (λ next. length next.rest.now < length rest.now)) }
     ensures none { IfOk result (λ r. IfNone r (NoNumberHead letter.now rest.now)) }
 {
-    match word(rest, letter) {
-        None => Ok(None),
-        Some(digits) => match number(digits) {
-            None => Ok(None),
-            Some((n, after)) => match go_on(after) {
-                None => Ok(None),
-                Some(next) => {
-                    list.push(n)?;
-                    Ok(Some(next))
-                }
-            },
-        },
-    }
+    let Some(digits) = word(rest, letter) else {
+        return Ok(None);
+    };
+    let Some((n, after)) = number(digits) else {
+        return Ok(None);
+    };
+    let Some(next) = go_on(after) else {
+        return Ok(None);
+    };
+    list.push(n)?;
+    Ok(Some(next))
 }
 
 // The numbers at the front, of which there is one, and what follows the bracket that ends them.
@@ -88,12 +78,11 @@ pub fn number_list<'a>(
     ensures none { IfOk result (λ r. IfNone r (NoNumbers letter.now bytes.now)) }
 {
     let mut list = NumberList::new(alloc);
-    match mark(bytes, b']') {
+    if let Some(rest) = mark(bytes, b']') {
+        return Ok(Some((list, rest)));
+    }
+    match read_numbers(&mut list, letter, bytes)? {
+        None => Ok(None),
         Some(rest) => Ok(Some((list, rest))),
-        None => match read_numbers(&mut list, letter, bytes) {
-            Err(e) => Err(e),
-            Ok(None) => Ok(None),
-            Ok(Some(rest)) => Ok(Some((list, rest))),
-        },
     }
 }

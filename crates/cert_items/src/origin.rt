@@ -1,5 +1,6 @@
-// Origins of members.
-ghost use Rattle.std.specs.Prelude.{◌≡◌, ◌≢◌, ◌++◌, ◌∷◌, ◌<◌, ◌^◌, ℕ, List, [], IfOk, IfSome, IfNone, IsTrue, decimal, false, codes};
+// Origins of members: the number of an input or axiom; the premises of an instance, each with the place of a literal; or those
+// of an instance and which of its literals are kept.
+ghost use Rattle.std.specs.Prelude.{◌≡◌, ◌≢◌, ◌++◌, ◌∷◌, ◌<◌, ◌^◌, ℕ, List, IfOk, IfSome, IfNone, IsTrue, decimal, false, codes};
 ghost use Rattle.std.specs.Char.{is_ascii_digit};
 ghost use Rattle.cert_format.specs.LineMachine.{fits_origin};
 ghost use Rattle.cert_format.specs.LineTexts.{numbers, origin_text, origin_is_printable};
@@ -8,7 +9,7 @@ ghost use Rattle.cert_items.specs.Notes.{NoOrigin, instance_text, InstanceFits, 
 ghost use Rattle.inst_logic.specs.Codes as character;
 
 use crate::mark::{mark, word};
-use crate::number::marked;
+use crate::number::number_before;
 use crate::number_list::number_list;
 use inst_logic::{Memory, NumberList, PlaceList};
 use saturation_cert::Origin;
@@ -30,13 +31,9 @@ fn pair(bytes: &[u8], byte: u8) -> Option<(usize, usize, &[u8])>
     ensures fits { IfSome result (λ r. (r.0 < 2 ^ 64) × (r.1 < 2 ^ 64)) }
     ensures none { IfNone result ((m n : ℕ) (rest : List ℕ) → m < 2 ^ 64 → n < 2 ^ 64 → bytes.now ≢ decimal m ++ character.comma ∷ (decimal n ++ byte ∷ rest)) }
 {
-    match marked(bytes, b',') {
-        None => None,
-        Some((m, after)) => match marked(after, byte) {
-            None => None,
-            Some((n, rest)) => Some((m, n, rest)),
-        },
-    }
+    let (m, after) = number_before(bytes, b',')?;
+    let (n, rest) = number_before(after, byte)?;
+    Some((m, n, rest))
 }
 
 // The four numbers of an instance, and what follows the mark behind them.
@@ -46,24 +43,16 @@ fn read_instance(bytes: &[u8], byte: u8) -> Option<(Instance, &[u8])>
     ensures fits { IfSome result (λ r. InstanceFits r.0) }
     ensures none { IfNone result ((i : Instance) (rest : List ℕ) → InstanceFits i → bytes.now ≢ instance_text i (byte ∷ rest)) }
 {
-    match pair(bytes, b',') {
-        None => None,
-        Some((from, place, after)) => match mark(after, b'm') {
-            None => None,
-            Some(second) => match pair(second, byte) {
-                None => None,
-                Some((partner, other, rest)) => Some((
-                    Instance {
-                        from,
-                        place,
-                        partner,
-                        other,
-                    },
-                    rest,
-                )),
-            },
-        },
-    }
+    let (from, place, after) = pair(bytes, b',')?;
+    let second = mark(after, b'm')?;
+    let (partner, other, rest) = pair(second, byte)?;
+    let instance = Instance {
+        from,
+        place,
+        partner,
+        other,
+    };
+    Some((instance, rest))
 }
 
 // The number of an input or axiom, and what follows the parenthesis behind it.
@@ -73,10 +62,8 @@ fn input(bytes: &[u8]) -> Option<(Origin, &[u8])>
     ensures fits { (format : ℕ) → IfSome result (λ r. IsTrue (fits_origin format (origin_of r.0))) }
     ensures none { (format : ℕ) → IfNone result (NoOrigin format (codes "input(" ++ bytes.now)) }
 {
-    match marked(bytes, b')') {
-        None => None,
-        Some((k, rest)) => Some((Origin::Input(k), rest)),
-    }
+    let (k, rest) = number_before(bytes, b')')?;
+    Some((Origin::Input(k), rest))
 }
 
 // The numbers of an instance, and what follows the parenthesis behind them.
@@ -86,18 +73,14 @@ fn inst(bytes: &[u8]) -> Option<(Origin, &[u8])>
     ensures fits { (format : ℕ) → IfSome result (λ r. IsTrue (fits_origin format (origin_of r.0))) }
     ensures none { (format : ℕ) → IfNone result (NoOrigin format (codes "inst(m" ++ bytes.now)) }
 {
-    match read_instance(bytes, b')') {
-        None => None,
-        Some((i, rest)) => Some((
-            Origin::Inst {
-                from: i.from,
-                place: i.place,
-                partner: i.partner,
-                other: i.other,
-            },
-            rest,
-        )),
-    }
+    let (i, rest) = read_instance(bytes, b')')?;
+    let origin = Origin::Inst {
+        from: i.from,
+        place: i.place,
+        partner: i.partner,
+        other: i.other,
+    };
+    Some((origin, rest))
 }
 
 // The places and the premises of a part, each list in brackets, and what follows the parenthesis behind them.
@@ -106,23 +89,21 @@ fn lists(alloc: Global, bytes: &[u8]) -> Result<Option<(PlaceList, NumberList, &
     ensures fit { IfOk result (λ r. IfSome r (λ p. ListsFit p.0 p.1)) }
     ensures none { IfOk result (λ r. IfNone r ((keep premises rest : List ℕ) → ListsFit keep premises → bytes.now ≢ lists_text keep premises rest)) }
 {
-    match mark(bytes, b'[') {
+    let Some(first) = mark(bytes, b'[') else {
+        return Ok(None);
+    };
+    let Some((keep, between)) = number_list(alloc, b"", first)? else {
+        return Ok(None);
+    };
+    let Some(second) = word(between, b",[") else {
+        return Ok(None);
+    };
+    let Some((premises, behind)) = number_list(alloc, b"m", second)? else {
+        return Ok(None);
+    };
+    match mark(behind, b')') {
         None => Ok(None),
-        Some(first) => match number_list(alloc, b"", first) {
-            Err(e) => Err(e),
-            Ok(None) => Ok(None),
-            Ok(Some((keep, between))) => match word(between, b",[") {
-                None => Ok(None),
-                Some(second) => match number_list(alloc, b"m", second) {
-                    Err(e) => Err(e),
-                    Ok(None) => Ok(None),
-                    Ok(Some((premises, behind))) => match mark(behind, b')') {
-                        None => Ok(None),
-                        Some(rest) => Ok(Some((keep, premises, rest))),
-                    },
-                },
-            },
-        },
+        Some(rest) => Ok(Some((keep, premises, rest))),
     }
 }
 
@@ -136,24 +117,21 @@ fn lemma(alloc: Global, format: u64, bytes: &[u8]) -> Result<Option<(Origin, &[u
     if format == 1 {
         return Ok(None);
     }
-    match read_instance(bytes, b',') {
-        None => Ok(None),
-        Some((i, after)) => match lists(alloc, after) {
-            Err(e) => Err(e),
-            Ok(None) => Ok(None),
-            Ok(Some((keep, premises, rest))) => Ok(Some((
-                Origin::Lemma {
-                    from: i.from,
-                    place: i.place,
-                    partner: i.partner,
-                    other: i.other,
-                    keep,
-                    premises,
-                },
-                rest,
-            ))),
-        },
-    }
+    let Some((i, after)) = read_instance(bytes, b',') else {
+        return Ok(None);
+    };
+    let Some((keep, premises, rest)) = lists(alloc, after)? else {
+        return Ok(None);
+    };
+    let origin = Origin::Lemma {
+        from: i.from,
+        place: i.place,
+        partner: i.partner,
+        other: i.other,
+        keep,
+        premises,
+    };
+    Ok(Some((origin, rest)))
 }
 
 /// The origin at the front, of a text in the format, and what follows it.
@@ -167,14 +145,14 @@ pub fn read_origin(
     ensures fits { IfOk result (λ r. IfSome r (λ p. IsTrue (fits_origin format (origin_of p.0)))) }
     ensures none { IfOk result (λ r. IfNone r (NoOrigin format bytes.now)) }
 {
-    match word(bytes, b"input(") {
-        Some(after) => Ok(input(after)),
-        None => match word(bytes, b"inst(m") {
-            Some(after) => Ok(inst(after)),
-            None => match word(bytes, b"lemma(m") {
-                Some(after) => lemma(alloc, format, after),
-                None => Ok(None),
-            },
-        },
+    if let Some(after) = word(bytes, b"input(") {
+        return Ok(input(after));
+    }
+    if let Some(after) = word(bytes, b"inst(m") {
+        return Ok(inst(after));
+    }
+    match word(bytes, b"lemma(m") {
+        None => Ok(None),
+        Some(after) => lemma(alloc, format, after),
     }
 }

@@ -1,4 +1,4 @@
-// Origins with the places of selected literals.
+// The origin of a member of a saturation, with the place of its selected literal.
 ghost use Rattle.std.specs.Prelude.{◌≡◌, ◌≢◌, ◌++◌, ◌∷◌, ◌<◌, ◌^◌, ℕ, List, IfOk, IfSome, IfNone, IsTrue, decimal, codes};
 ghost use Rattle.inst_calculus.specs.Entries as entries;
 ghost use Rattle.cert_format.specs.LineMachine.{fits_origin};
@@ -7,7 +7,7 @@ ghost use Rattle.saturation_cert.specs.Values.{origin_of};
 ghost use Rattle.inst_logic.specs.Codes as byte;
 
 use crate::mark::{mark, word};
-use crate::number::marked;
+use crate::number::number_before;
 use crate::origin::read_origin;
 use inst_logic::Memory;
 use saturation_cert::Origin;
@@ -21,7 +21,7 @@ fn place(bytes: &[u8]) -> Option<(usize, &[u8])>
 {
     match word(bytes, b",[selected(") {
         None => None,
-        Some(after) => match marked(after, b')') {
+        Some(after) => match number_before(after, b')') {
             None => None,
             Some((p, behind)) => match mark(behind, b']') {
                 None => None,
@@ -32,7 +32,7 @@ fn place(bytes: &[u8]) -> Option<(usize, &[u8])>
 }
 
 /// The origin, of a text in the format, and the place at the front, and what follows them.
-pub fn selected(
+pub fn origin_and_place(
     alloc: Global,
     format: u64,
     bytes: &[u8],
@@ -42,12 +42,11 @@ pub fn selected(
     ensures fits { IfOk result (λ r. IfSome r (λ p. IsTrue (fits_origin format (origin_of p.0)))) }
     ensures none { IfOk result (λ r. IfNone r ((o : entries.Origin) (p : ℕ) (rest : List ℕ) → IsTrue (origin_is_printable o) → IsTrue (fits_origin format o) → p < 2 ^ 64 → bytes.now ≢ origin_text o (codes ",[selected(" ++ (decimal p ++ byte.closing_parenthesis ∷ byte.closing_bracket ∷ rest)))) }
 {
-    match read_origin(alloc, format, bytes) {
-        Err(e) => Err(e),
-        Ok(None) => Ok(None),
-        Ok(Some((o, after))) => match place(after) {
-            None => Ok(None),
-            Some((p, rest)) => Ok(Some((o, p, rest))),
-        },
+    let Some((o, after)) = read_origin(alloc, format, bytes)? else {
+        return Ok(None);
+    };
+    match place(after) {
+        None => Ok(None),
+        Some((p, rest)) => Ok(Some((o, p, rest))),
     }
 }

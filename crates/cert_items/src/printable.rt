@@ -29,14 +29,12 @@ pub fn printable_clause<'a>(
     ensures none { IfOk result (λ r. IfNone r ((c : TreeClause) (rest : List ℕ) → IsTrue (clause_is_printable c) → bytes.now ≢ clause_text c ++ byte.comma ∷ rest)) }
     ensures grows { Grows bank.old bank.new }
 {
-    match clause(alloc, bank, ids, literals, bytes)? {
-        None => Ok(None),
-        Some(rest) => {
-            if is_canonical(alloc, bank, ids, literals)? {
-                Ok(Some(rest))
-            } else {
-                Ok(None)
-            }
-        }
+    let Some(rest) = clause(alloc, bank, ids, literals, bytes)? else {
+        return Ok(None);
+    };
+    if is_canonical(alloc, bank, ids, literals)? {
+        Ok(Some(rest))
+    } else {
+        Ok(None)
     }
 }

@@ -1,13 +1,10 @@
-// Literals that were read, by their texts. Most literals of a text stand in it before, and are then found without their terms
-// being read. The place where one is sought is only a hint, since its text is compared. Two are tried first, which need no code.
-// One is the literal that came behind the last one: the literals of a clause that stands in the text once more come in the same
-// order. The other is the one that came last where that was expected: instances of one clause differ in few literals, and mostly
-// follow each other in the same order too. Of the two the one that was right last comes first.
-ghost use Rattle.std.specs.Prelude.{◌≡◌, ◌≤◌, ◌++◌, [], List, ℕ, length, IfSome, IsTrue};
+// A hash table of the literals that were read, by their texts. Most literals of a text stand in it before, and are then found
+// without their terms being read. A code, the hash of a text, says only where to look: the text itself is compared. Each code has
+// two places, and of a place nothing is proved.
+ghost use Rattle.std.specs.Prelude.{◌≡◌, ◌≤◌, [], length, IfSome, IsTrue};
 ghost use Rattle.term_bank.specs.Forest.{Forest};
 ghost use Rattle.cert_items.specs.Spelled.{AreSpelled, IsSpelled};
 
-use crate::mark::word;
 use inst_logic::Memory;
 use std::alloc::Global;
 use term_bank::IdLiteral;
@@ -38,28 +35,10 @@ pub struct Spelled {
     literal: IdLiteral,
 }
 
-// For a literal, the places of the one that came behind it last, and of the one that came last where it was expected. Of the two
-// that may come behind it, whether the one that came where `next` was expected was the last that was right.
-#[derive(Clone, Copy)]
-struct Links {
-    next: usize,
-    instead: usize,
-    prefers_instead: bool,
-}
-
-const UNLINKED: Links = Links {
-    next: NOWHERE,
-    instead: NOWHERE,
-    prefers_instead: false,
-};
-
-/// Literals that were read, with their links, and the place of the last one. For the low bits of a code the place of a literal that
-/// has it.
+/// Literals that were read, and for the low bits of a code the place of a literal that has it.
 #[derive(Drop)]
 pub struct Recent {
     pub(crate) literals: Vec<Spelled>,
-    links: Vec<Links>,
-    last: usize,
     places: Vec<usize>,
 }
 
@@ -150,143 +129,31 @@ impl Recent {
     {
         Recent {
             literals: Vec::new(alloc),
-            links: Vec::new(alloc),
-            last: NOWHERE,
             places: Vec::new(alloc),
         }
     }
 
-    // The literal of the text that is remembered for this place of a code, and its own place.
-    fn find_at(&self, at: usize, text: &[u8], code: usize) -> Option<(IdLiteral, usize)>
-        ensures { (f : Forest) → AreSpelled f self.now.literals.items → IfSome result (λ p. IsSpelled f text.now p.0) }
+    // The literal of the text that is remembered for this place of a code.
+    fn find_at(&self, at: usize, text: &[u8], code: usize) -> Option<IdLiteral>
+        ensures { (f : Forest) → AreSpelled f self.now.literals.items → IfSome result (IsSpelled f text.now) }
     {
-        match self.places.get(at) {
-            None => None,
-            Some(place) => match self.literals.get(*place) {
-                None => None,
-                Some(spelled) => {
-                    if spelled.code == code && is_text(text, &spelled.text) {
-                        Some((spelled.literal, *place))
-                    } else {
-                        None
-                    }
-                }
-            },
+        let place = self.places.get(at)?;
+        let spelled = self.literals.get(*place)?;
+        if spelled.code == code && is_text(text, &spelled.text) {
+            Some(spelled.literal)
+        } else {
+            None
         }
     }
 
-    // The literal whose text, which has this code, this is, where it is remembered, and its own place.
-    fn find_place(&self, text: &[u8], code: usize) -> Option<(IdLiteral, usize)>
-        ensures { (f : Forest) → AreSpelled f self.now.literals.items → IfSome result (λ p. IsSpelled f text.now p.0) }
+    /// The literal whose text, which has this code, this is, where it is remembered.
+    pub fn find(&self, text: &[u8], code: usize) -> Option<IdLiteral>
+        ensures { (f : Forest) → AreSpelled f self.now.literals.items → IfSome result (IsSpelled f text.now) }
     {
         let at = place_of(self.places.len(), code);
         match self.find_at(at, text, code) {
             Some(found) => Some(found),
             None => self.find_at(at ^ 1, text, code),
-        }
-    }
-
-    // Notes that the literal at the place comes behind the last one, and is the last one now.
-    fn follow(&mut self, place: usize)
-        ensures { self.new.literals ≡ self.old.literals }
-    {
-        if let Some(links) = self.links.get_mut(self.last) {
-            links.next = place;
-        }
-        self.last = place;
-    }
-
-    // Notes that of the two expected places the one that was tried second was right.
-    fn swap_preference(&mut self)
-        ensures { self.new.literals ≡ self.old.literals }
-    {
-        if let Some(links) = self.links.get_mut(self.last) {
-            links.prefers_instead = !links.prefers_instead;
-        }
-    }
-
-    // As `follow`, for a literal that was not expected; notes also that it came where another one was.
-    fn follow_instead(&mut self, place: usize)
-        ensures { self.new.literals ≡ self.old.literals }
-    {
-        let before = self.last_links().next;
-        if let Some(links) = self.links.get_mut(before) {
-            links.instead = place;
-        }
-        self.follow(place);
-    }
-
-    /// The literal whose text, which has this code, this is, where it is remembered.
-    pub fn find(&mut self, text: &[u8], code: usize) -> Option<IdLiteral>
-        ensures same { self.new.literals ≡ self.old.literals }
-        ensures spelled { (f : Forest) → AreSpelled f self.old.literals.items → IfSome result (IsSpelled f text.now) }
-    {
-        match self.find_place(text, code) {
-            None => None,
-            Some((l, place)) => {
-                self.follow_instead(place);
-                Some(l)
-            }
-        }
-    }
-
-    // The links of the last literal.
-    fn last_links(&self) -> Links {
-        match self.links.get(self.last) {
-            None => UNLINKED,
-            Some(links) => *links,
-        }
-    }
-
-    // The place of the literal that came last where the one at the place was expected.
-    fn instead_of(&self, place: usize) -> usize {
-        match self.links.get(place) {
-            None => NOWHERE,
-            Some(links) => links.instead,
-        }
-    }
-
-    // The places of the two literals that may come behind the last one. What was right last of the two comes first.
-    fn expected_places(&self) -> (usize, usize) {
-        let links = self.last_links();
-        let other = self.instead_of(links.next);
-        if links.prefers_instead {
-            (other, links.next)
-        } else {
-            (links.next, other)
-        }
-    }
-
-    // The literal at the place, where its text is at the front, and what follows that.
-    fn at_front<'a>(&self, place: usize, bytes: &'a [u8]) -> Option<(IdLiteral, &'a [u8])>
-        ensures { (f : Forest) → AreSpelled f self.now.literals.items → IfSome result (λ p. (text : List ℕ) × IsSpelled f text p.0 × (bytes.now ≡ text ++ p.1.now)) }
-    {
-        match self.literals.get(place) {
-            None => None,
-            Some(spelled) => match word(bytes, &spelled.text) {
-                None => None,
-                Some(rest) => Some((spelled.literal, rest)),
-            },
-        }
-    }
-
-    /// One of the two literals that may come behind the last one, where its text is at the front, and what follows.
-    pub fn expected<'a>(&mut self, bytes: &'a [u8]) -> Option<(IdLiteral, &'a [u8])>
-        ensures same { self.new.literals ≡ self.old.literals }
-        ensures spelled { (f : Forest) → AreSpelled f self.old.literals.items → IfSome result (λ p. (text : List ℕ) × IsSpelled f text p.0 × (bytes.now ≡ text ++ p.1.now)) }
-    {
-        let (first, second) = self.expected_places();
-        if let Some(found) = self.at_front(first, bytes) {
-            self.follow(first);
-            return Some(found);
-        }
-        match self.at_front(second, bytes) {
-            None => None,
-            Some(found) => {
-                self.swap_preference();
-                self.follow(second);
-                Some(found)
-            }
         }
     }
 
@@ -300,8 +167,6 @@ impl Recent {
         }
         if count >= MOST_ROOM {
             self.literals.clear();
-            self.links.clear();
-            self.last = NOWHERE;
             self.places = places_of(alloc, count, &self.literals)?;
             return Ok(());
         }
@@ -327,9 +192,7 @@ impl Recent {
             code,
             literal: *literal,
         })?;
-        self.links.push(UNLINKED)?;
         put(&mut self.places, code, place);
-        self.follow_instead(place);
         Ok(())
     }
 }

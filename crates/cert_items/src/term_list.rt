@@ -8,7 +8,7 @@ ghost use Rattle.cert_items.specs.Reading.{ArePrintable};
 ghost use Rattle.inst_logic.specs.Codes as byte;
 
 use crate::mark::{mark, word};
-use crate::number::marked;
+use crate::number::number_before;
 use crate::terms::terms;
 use crate::text_bank::TextBank;
 use inst_logic::Memory;
@@ -37,17 +37,14 @@ pub fn term_list<'a>(
     ensures grows { Grows bank.old bank.new }
 {
     ids.clear();
-    match mark(bytes, b']') {
-        Some(rest) => Ok(Some((TermIdList::new(alloc), rest))),
-        None => match terms(alloc, bank, ids, bytes, b']') {
-            Err(e) => Err(e),
-            Ok(None) => Ok(None),
-            Ok(Some(rest)) => {
-                let list = list_of(alloc, ids.as_slice())?;
-                Ok(Some((list, rest)))
-            }
-        },
+    if let Some(rest) = mark(bytes, b']') {
+        return Ok(Some((TermIdList::new(alloc), rest)));
     }
+    let Some(rest) = terms(alloc, bank, ids, bytes, b']')? else {
+        return Ok(None);
+    };
+    let list = list_of(alloc, ids.as_slice())?;
+    Ok(Some((list, rest)))
 }
 
 /// A number with terms in brackets behind it, and what follows the parenthesis behind them. Where there are none, both brackets are seen at once.
@@ -66,23 +63,20 @@ pub fn number_and_terms<'a>(
     ensures none { IfOk result (λ r. IfNone r ((n : ℕ) (ts : List Tree) (rest : List ℕ) → n < 2 ^ 64 → ArePrintable ts → bytes.now ≢ decimal n ++ byte.comma ∷ byte.opening_bracket ∷ texts.terms ts (byte.closing_parenthesis ∷ rest))) }
     ensures grows { Grows bank.old bank.new }
 {
-    match marked(bytes, b',') {
+    let Some((n, after)) = number_before(bytes, b',') else {
+        return Ok(None);
+    };
+    if let Some(rest) = word(after, b"[])") {
+        return Ok(Some((n, TermIdList::new(alloc), rest)));
+    }
+    let Some(inner) = mark(after, b'[') else {
+        return Ok(None);
+    };
+    let Some((list, behind)) = term_list(alloc, bank, ids, inner)? else {
+        return Ok(None);
+    };
+    match mark(behind, b')') {
         None => Ok(None),
-        Some((n, after)) => {
-            if let Some(rest) = word(after, b"[])") {
-                return Ok(Some((n, TermIdList::new(alloc), rest)));
-            }
-            match mark(after, b'[') {
-                None => Ok(None),
-                Some(inner) => match term_list(alloc, bank, ids, inner) {
-                    Err(e) => Err(e),
-                    Ok(None) => Ok(None),
-                    Ok(Some((list, behind))) => match mark(behind, b')') {
-                        None => Ok(None),
-                        Some(rest) => Ok(Some((n, list, rest))),
-                    },
-                },
-            }
-        }
+        Some(rest) => Ok(Some((n, list, rest))),
     }
 }

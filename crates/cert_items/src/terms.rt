@@ -52,17 +52,15 @@ fn begin_variable<'a>(
     ensures shorter { IfOk result (λ r. IfSome r (λ left. length left.rest.now ≤ length digits.now)) }
     ensures none { IfOk result (λ r. IfNone r (NoTerm (88 ∷ digits.now))) }
 {
-    match number(digits) {
-        None => Ok(None),
-        Some((n, rest)) => {
-            if goes_on(rest) {
-                return Ok(None);
-            }
-            let id = bank.var(n)?;
-            ids.push(id)?;
-            Ok(Some(Left { due: false, rest }))
-        }
+    let Some((n, rest)) = number(digits) else {
+        return Ok(None);
+    };
+    if goes_on(rest) {
+        return Ok(None);
     }
+    let id = bank.var(n)?;
+    ids.push(id)?;
+    Ok(Some(Left { due: false, rest }))
 }
 
 // Opens the application of this name, or makes the constant.
@@ -135,16 +133,14 @@ fn close<'a>(
     ensures rest { IfOk result (λ r. IfSome r (λ left. left.rest.now ≡ rest.now)) }
     ensures none { IfOk result (λ r. IfNone r (opens.old.items ≡ [])) }
 {
-    match opens.pop() {
-        None => Ok(None),
-        Some(open) => {
-            let (_, args) = ids.as_slice().split_at(open.start);
-            let id = apply(alloc, bank, Kind::Function, open.name, args)?;
-            ids.truncate(open.start);
-            ids.push(id)?;
-            Ok(Some(Left { due: false, rest }))
-        }
-    }
+    let Some(open) = opens.pop() else {
+        return Ok(None);
+    };
+    let (_, args) = ids.as_slice().split_at(open.start);
+    let id = apply(alloc, bank, Kind::Function, open.name, args)?;
+    ids.truncate(open.start);
+    ids.push(id)?;
+    Ok(Some(Left { due: false, rest }))
 }
 
 fn begins(bytes: &[u8], byte: u8) -> bool

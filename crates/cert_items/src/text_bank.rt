@@ -1,7 +1,7 @@
 // A bank with what is remembered of the names that were read into it: for each name as it is printed an application of a symbol
 // of that name. Nearly every name of a text has been read before, and then neither a name nor a symbol is made of it, and a
 // constant is found by one look-up. The first variables and the literals that were read are remembered too.
-ghost use Rattle.std.specs.Prelude.{◌≡◌, ◌++◌, ℕ, List, [], ◌<◌, length, false, map, None, IsTrue, ◌↔◌, IfOk, IfSome};
+ghost use Rattle.std.specs.Prelude.{◌≡◌, ℕ, List, [], ◌<◌, length, false, map, None, IsTrue, ◌↔◌, IfOk, IfSome};
 ghost use Rattle.inst_logic.specs.declared.signed.Signed.{Signed};
 ghost use Rattle.inst_logic.specs.Clauses.{IsCanonical};
 ghost use Rattle.inst_logic.specs.Tree.{var, app, of_list};
@@ -223,19 +223,10 @@ impl TextBank {
     }
 
     // The literal whose text, which has this code, this is, where it is remembered.
-    pub(crate) fn spelled(&mut self, text: &[u8], code: usize) -> Option<IdLiteral>
-        ensures same { self.new ≡ self.old }
-        ensures spelled { IfSome result (IsSpelled self.old text.now) }
+    pub(crate) fn literal_of(&self, text: &[u8], code: usize) -> Option<IdLiteral>
+        ensures { IfSome result (IsSpelled self.now text.now) }
     {
         self.recent.find(text, code)
-    }
-
-    // One of the two literals that may come behind the last one, where its text is at the front, and what follows.
-    pub(crate) fn expected<'a>(&mut self, bytes: &'a [u8]) -> Option<(IdLiteral, &'a [u8])>
-        ensures same { self.new ≡ self.old }
-        ensures spelled { IfSome result (λ p. (text : List ℕ) × IsSpelled self.old text p.0 × (bytes.now ≡ text ++ p.1.now)) }
-    {
-        self.recent.expected(bytes)
     }
 
     // Remembers the literal by its text, which has this code.

@@ -6,8 +6,6 @@ mod Layers
 mod Pushes
 mod Turns
 mod NextItems
-mod NotedTexts
-mod KnownItems
 mod Progress
 mod Values
 mod Causes

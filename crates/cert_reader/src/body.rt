@@ -1,5 +1,5 @@
-// The items of a text, up to its end.
-ghost use Rattle.std.specs.Prelude.{◌≡◌, ◌+◌, ◌<◌, ◌^◌, List, ℕ, [], length, IfOk};
+// The lines of a text behind its header: one item after another, up to the last line.
+ghost use Rattle.std.specs.Prelude.{◌≡◌, ◌+◌, ◌<◌, ◌^◌, List, ℕ, length, IfOk};
 ghost use Rattle.cert_format.specs.LineMachine.{Header};
 ghost use Rattle.cert_items.specs.Items.{shape_of};
 ghost use Rattle.cert_reader.specs.Bodies.{HasRead, EndsSo, EndsAt, ending_behind};
@@ -8,7 +8,6 @@ ghost use Rattle.cert_reader.specs.Groups.{AreGroups, items_of};
 use crate::groups::Groups;
 use crate::lines::closing;
 use crate::next::next_item;
-use crate::texts::Texts;
 use cert_items::{Shape, TextBank};
 use inst_logic::Memory;
 use std::alloc::Global;
@@ -46,8 +45,7 @@ fn end_of(groups: &Groups, shape: Shape, line: usize, rest: &[u8]) -> Ending
     }
 }
 
-/// Reads the items and the last line of a text of the shape under this name, of which so many lines have been read, into groups
-/// that were empty.
+/// Reads the items and the last line of a text of the shape under this name, of which so many lines have been read, into the groups.
 pub fn read_items(
     alloc: Global,
     bank: &mut TextBank,
@@ -58,28 +56,22 @@ pub fn read_items(
     bytes: &[u8],
 ) -> Result<Ending, Memory>
     requires groups { AreGroups shape bank.old groups.old }
-    requires inputs { groups.old.inputs ≡ [] }
-    requires axioms { groups.old.axioms ≡ [] }
-    requires members { groups.old.members ≡ [] }
     requires counted { lines + length bytes.now < 2 ^ 63 }
     ensures groups { IfOk result (λ e. e ≡ Ending.Complete → AreGroups shape bank.new groups.new) }
     ensures ends { (text : List ℕ) (h : Header) → shape_of h ≡ shape → h.name ≡ name.now → HasRead text h (items_of shape bank.old groups.old) lines bytes.now
         → IfOk result (EndsSo text h (items_of shape bank.new groups.new)) }
 {
     let mut ids = Vec::new(alloc);
-    let mut texts = Texts::new(alloc);
-    let mut len = 0;
     let mut lines = lines;
     let mut rest = bytes;
     loop {
         match closing(shape.refutation, name, rest) {
             Some(behind) => return Ok(end_of(groups, shape, lines + 1, behind)),
-            None => match next_item(alloc, bank, &mut ids, groups, &mut texts, shape, len, rest) {
+            None => match next_item(alloc, bank, &mut ids, groups, shape, rest) {
                 Err(e) => return Err(e),
                 Ok(None) => return Ok(Ending::BadLine(lines + 1)),
                 Ok(Some(after)) => {
                     lines += 1;
-                    len = rest.len() - after.len();
                     rest = after;
                 }
             },

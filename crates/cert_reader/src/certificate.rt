@@ -1,4 +1,4 @@
-// What is read.
+// The certificate that a text gives, with its name and format.
 use inst_logic::Name;
 use saturation_cert::{Covered, FirstRefutation, Refutation, Saturation};
 

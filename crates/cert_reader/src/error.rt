@@ -1,4 +1,4 @@
-// Why a text is not read.
+// Why a text gives no certificate: its first bad line, a format that is not read, or want of memory.
 ghost use Rattle.std.specs.Prelude.{◌≡◌};
 ghost use Rattle.cert_reader.specs.declared.error.CertError.TheVariants as errors;
 

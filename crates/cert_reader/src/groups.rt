@@ -1,4 +1,4 @@
-// The lists into which items are read, and which of them may come next.
+// The lists of a certificate into which items are read, and which item may come next.
 ghost use Rattle.std.specs.Prelude.{◌≡◌, ◌↔◌, ◌<◌, ◌≤◌, ◌^◌, ◌++◌, [], suc, length, IsTrue, OnOk, slice_get, option_copied};
 ghost use Rattle.cert_items.specs.declared.group.Group.TheVariants.{Input as FirstGroup};
 ghost use Rattle.cert_items.specs.Items.{rank_of};
@@ -87,8 +87,8 @@ impl Groups {
         }
     }
 
-    /// Whether every input and axiom is shown.
-    pub fn is_all_shown(&self) -> bool
+    // Whether every input and axiom is shown.
+    fn is_all_shown(&self) -> bool
         ensures { IsTrue result ↔ IsAllShown self.now }
     {
         self.inputs.len().checked_add(self.axioms.len()) == Some(self.shown.len())
@@ -146,19 +146,15 @@ impl Groups {
         !shape.names_covers() || self.is_all_shown()
     }
 
-    /// Whether an item of the group may have this number and come next: its group is not over, and the numbers of a group count from 1.
-    pub fn is_due(&self, group: Group, number: usize) -> bool
-        ensures { IsTrue result ↔ ((rank_of self.now.last ≤ rank_of group) × (number ≡ suc (count_of group self.now))) }
-    {
-        rank(self.last) <= rank(group) && number != 0 && self.has(group, number - 1)
-    }
-
     /// Whether an item of the group may come next in a text of the shape, under this number and with this clause: its group is not
     /// over, the numbers of a group count from 1, and it is in turn.
     pub fn may_take(&self, shape: Shape, group: Group, number: usize, clause: &IdClause) -> bool
         ensures { IsTrue result ↔ ((rank_of self.now.last ≤ rank_of group) × (number ≡ suc (count_of group self.now)) × TakesTurn shape group self.now clause.now) }
     {
-        self.is_due(group, number) && (!shape.names_covers() || self.is_in_turn(group, clause))
+        rank(self.last) <= rank(group)
+            && number != 0
+            && self.has(group, number - 1)
+            && (!shape.names_covers() || self.is_in_turn(group, clause))
     }
 
     /// Puts the item behind the others of its group.

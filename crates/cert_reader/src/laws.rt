@@ -1,4 +1,4 @@
-// What a text is read as is one thing, whoever reads it.
+// Laws of reading: a text is read as one thing, whoever reads it.
 ghost use Rattle.std.specs.Prelude.{◌≡◌, ℕ, List};
 ghost use Rattle.cert_format.specs.ValueLines.{IsCertificateText};
 ghost use Rattle.cert_reader.specs.Reads.{IsVersion};

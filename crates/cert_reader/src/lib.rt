@@ -7,14 +7,11 @@ mod body;
 pub mod certificate;
 pub mod error;
 mod groups;
-mod known;
 pub mod laws;
 mod lines;
-mod naming;
 mod next;
 mod read;
 mod start;
-mod texts;
 
 pub use certificate::{Certificate, ReadCert};
 pub use error::CertError;

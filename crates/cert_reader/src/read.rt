@@ -1,4 +1,4 @@
-// Whole texts.
+// A whole text: its first lines, its items and its end, and the certificate that they give.
 ghost use Rattle.std.specs.Prelude.{◌≡◌, ◌+◌, ◌<◌, ◌^◌, List, ℕ, [], length, IfOk, IfErr, IsTrue};
 ghost use Rattle.std.specs.Result.{IsErrOf};
 ghost use Rattle.inst_logic.specs.Printing.{is_readable_name, name_text};

@@ -2,10 +2,10 @@ use Rattle.saturation_cert.specs.Values.{hint_of}
 use Rattle.cert_items.proofs.Hints.{no_item, no_end}
 use Rattle.cert_items.proofs.hint_list.item.Goals as goal
 
-pub returns-in-None-clause-none : goal.returns-in-None-clause-none
-returns-in-None-clause-none c = no_item c.args.rest.now c.in-None.ensures.none
+pub returns-in_default-clause-none : goal.returns-in_default-clause-none
+returns-in_default-clause-none c = no_item c.args.rest.now c.in_default.ensures.none
 
-pub returns-in-None-go_on-clause-none : goal.returns-in-None-go_on-clause-none
-returns-in-None-go_on-clause-none c =
+pub returns-in_default-go_on-clause-none : goal.returns-in_default-go_on-clause-none
+returns-in_default-go_on-clause-none c =
     let s = c.in-Some.ensures.some in
-    no_end c.args.rest.now c.in-Some.after.now (hint_of c.in-Some.h) s.0 s.1 s.2 c.in-None-go_on.ensures.none
+    no_end c.args.rest.now c.in-Some.after.now (hint_of c.in-Some.h) s.0 s.1 s.2 c.in_default-go_on.ensures.none

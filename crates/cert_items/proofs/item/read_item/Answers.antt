@@ -1,4 +1,4 @@
-use Rattle.std.proofs.Common.{◌≡◌, ◌≢◌, ◌∷◌, ◌++◌, ◌∙◌, [], Bor, List, ℕ, sym, ap, subst, append_assoc}
+use Rattle.std.proofs.Common.{◌≡◌, ◌≢◌, ◌∷◌, ◌++◌, Bor, List, ℕ, sym, subst}
 use Rattle.std.specs.Prelude.{IsTrue}
 use Rattle.inst_logic.specs.Clauses.{TreeClause}
 use Rattle.inst_logic.specs.Printing.{clause_text}
@@ -73,18 +73,6 @@ returns-in-Ok-Some-clause-group c =
     let n = c.in-Ok-Some in
     let a = is_some n.field-0 (n.note, n.rest) (λ p. IsNoteAt c.args.shape s.group s.number (note_of c.last_note.new.bank p.0 c.last_note.new.hints) c.in-Some-2.behind.now (41 ∷ 46 ∷ 10 ∷ p.1.now)) n.field-0-is n.ensures.some in
     a.0.group_is
-
-pub returns-in-Ok-Some-clause-clause : goal.returns-in-Ok-Some-clause-clause
-returns-in-Ok-Some-clause-clause c =
-    let s = c.in-Some in
-    let k = c.in_ok-printable_clause-in-Some in
-    let f = c.printable_clause.new.bank in
-    let w = c.printable_clause.new.literals in
-    let d = clause_at f w in
-    let text = is_some k.field-0 c.in-Some-2.behind (λ (x : Bor (List ℕ)). s.after.now ≡ clause_text d ++ 44 ∷ x.now) c.in-Some-2.is k.ensures.some in
-    let whole = is_some k.field-0 c.in-Some-2.behind (λ (x : Bor (List ℕ)). IsWholeClause f w) c.in-Some-2.is k.ensures.whole in
-    c.before-in-Ok-Some.ensures (clause_text d ++ 44 ∷ []) (text ∙ sym (append_assoc (clause_text d) (44 ∷ []) c.in-Some-2.behind.now))
-    ∙ ap (λ (x : TreeClause). clause_text x ++ 44 ∷ []) (sym (clause_extends f c.last_note.new.bank c.last_note.ensures.grows.0 w whole.ids))
 
 pub returns-in-Ok-Some-clause-whole : goal.returns-in-Ok-Some-clause-whole
 returns-in-Ok-Some-clause-whole c =

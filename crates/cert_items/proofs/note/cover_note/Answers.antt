@@ -10,17 +10,18 @@ use Rattle.cert_items.proofs.note.cover_note.Goals as goal
 pub returns-then-not-names_covers-clause-none : goal.returns-then-not-names_covers-clause-none
 returns-then-not-names_covers-clause-none c n = no_cover_form c.args.shape n c.args.bytes.now (sym c.names_covers.ensures ∙ c.if-not-names_covers.true)
 
-pub returns-in-Ok-None-clause-none : goal.returns-in-Ok-None-clause-none
-returns-in-Ok-None-clause-none c n =
+pub returns-in_default-2-clause-none : goal.returns-in_default-2-clause-none
+returns-in_default-2-clause-none c n =
     let s = c.in-Some in
-    let k = c.in-Ok-None in
-    no_cover_by c.args.shape n s.left s.right (side_of s.side) c.args.bytes.now s.after.now s.ensures.some s.ensures.fits.0 s.ensures.fits.1 (is_none k.field-0 (NoBy s.after.now) k.field-0-is k.ensures.none)
+    let k = c.in_ok-by in
+    no_cover_by c.args.shape n s.left s.right (side_of s.side) c.args.bytes.now s.after.now s.ensures.some s.ensures.fits.0 s.ensures.fits.1 (is_none k.field-0 (NoBy s.after.now) c.in_default-2.is k.ensures.none)
 
-pub returns-in-None-mark-clause-none : goal.returns-in-None-mark-clause-none
-returns-in-None-mark-clause-none c n =
+pub returns-in_default-mark-clause-none : goal.returns-in_default-mark-clause-none
+returns-in_default-mark-clause-none c n =
     let s = c.in-Some in
-    let k = c.in-Ok-Some in
+    let k = c.in-Some-2 in
+    let r = c.in_ok-by in
     let f = c.read_by.new.bank in
-    let text = is_some k.field-0 (k.by, k.behind) (λ p. s.after.now ≡ by_text (by_of f p.0) p.1.now) k.field-0-is k.ensures.some in
-    let good = is_some k.field-0 (k.by, k.behind) (λ p. IsTrue (by_is_printable (by_of f p.0))) k.field-0-is k.ensures.printable in
-    no_cover_end c.args.shape n s.left s.right (side_of s.side) (by_of f k.by) c.args.bytes.now s.after.now k.behind.now s.ensures.some s.ensures.fits.0 s.ensures.fits.1 text good c.in-None-mark.ensures.none
+    let text = is_some r.field-0 (k.by, k.behind) (λ p. s.after.now ≡ by_text (by_of f p.0) p.1.now) k.is r.ensures.some in
+    let good = is_some r.field-0 (k.by, k.behind) (λ p. IsTrue (by_is_printable (by_of f p.0))) k.is r.ensures.printable in
+    no_cover_end c.args.shape n s.left s.right (side_of s.side) (by_of f k.by) c.args.bytes.now s.after.now k.behind.now s.ensures.some s.ensures.fits.0 s.ensures.fits.1 text good c.in_default-mark.ensures.none

@@ -3,7 +3,7 @@ use Rattle.cert_items.proofs.Reading.{is_none}
 use Rattle.cert_items.proofs.NumberLists.{not_closed}
 use Rattle.cert_items.proofs.number_list.number_list.Goals as goal
 
-pub returns-in-Ok-None-clause-none : goal.returns-in-Ok-None-clause-none
-returns-in-Ok-None-clause-none c =
-    let k = c.in-Ok-None in
-    not_closed c.args.letter.now c.args.bytes.now c.in-None.ensures.none (is_none k.field-0 (NoSomeNumbers c.args.letter.now c.args.bytes.now) k.field-0-is k.ensures.none)
+pub returns-in-None-clause-none : goal.returns-in-None-clause-none
+returns-in-None-clause-none c =
+    let k = c.in_ok-read_numbers in
+    not_closed c.args.letter.now c.args.bytes.now c.in_default.ensures.none (is_none k.field-0 (NoSomeNumbers c.args.letter.now c.args.bytes.now) c.in-None.is k.ensures.none)

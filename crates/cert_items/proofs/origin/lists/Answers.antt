@@ -4,28 +4,27 @@ use Rattle.cert_items.proofs.Reading.{is_none, is_some}
 use Rattle.cert_items.proofs.Origins.{no_between, no_premises, no_close}
 use Rattle.cert_items.proofs.origin.lists.Goals as goal
 
-pub returns-in-None-word-clause-none : goal.returns-in-None-word-clause-none
-returns-in-None-word-clause-none c =
+pub returns-in_default-word-clause-none : goal.returns-in_default-word-clause-none
+returns-in_default-word-clause-none c =
     let s = c.in-Some in
-    let k = c.in-Ok-Some in
-    let first = is_some k.field-0 (k.keep, k.between) (λ p. HasNumbers [] p.0 true s.first.now p.1.now) k.field-0-is k.ensures.some in
-    no_between c.args.bytes.now s.first.now k.keep k.between.now s.ensures.some first c.in-None-word.ensures.none
+    let k = c.in-Some-2 in
+    let first = is_some c.in_ok-keep.field-0 (k.keep, k.between) (λ p. HasNumbers [] p.0 true s.first.now p.1.now) k.is c.in_ok-keep.ensures.some in
+    no_between c.args.bytes.now s.first.now k.keep k.between.now s.ensures.some first c.in_default-word.ensures.none
 
-pub returns-in-Ok-None-number_list-clause-none : goal.returns-in-Ok-None-number_list-clause-none
-returns-in-Ok-None-number_list-clause-none c =
+pub returns-in_default-3-clause-none : goal.returns-in_default-3-clause-none
+returns-in_default-3-clause-none c =
     let s = c.in-Some in
-    let k = c.in-Ok-Some in
+    let k = c.in-Some-2 in
     let w = c.in-Some-word in
-    let none = c.in-Ok-None-number_list in
-    let first = is_some k.field-0 (k.keep, k.between) (λ p. HasNumbers [] p.0 true s.first.now p.1.now) k.field-0-is k.ensures.some in
-    no_premises c.args.bytes.now s.first.now k.keep k.between.now w.second.now s.ensures.some first w.ensures.some (is_none none.field-0 (NoNumbers (109 ∷ []) w.second.now) none.field-0-is none.ensures.none)
+    let first = is_some c.in_ok-keep.field-0 (k.keep, k.between) (λ p. HasNumbers [] p.0 true s.first.now p.1.now) k.is c.in_ok-keep.ensures.some in
+    no_premises c.args.bytes.now s.first.now k.keep k.between.now w.second.now s.ensures.some first w.ensures.some (is_none c.in_ok-premises.field-0 (NoNumbers (109 ∷ []) w.second.now) c.in_default-3.is c.in_ok-premises.ensures.none)
 
-pub returns-in-None-mark-clause-none : goal.returns-in-None-mark-clause-none
-returns-in-None-mark-clause-none c =
+pub returns-in-None-clause-none : goal.returns-in-None-clause-none
+returns-in-None-clause-none c =
     let s = c.in-Some in
-    let k = c.in-Ok-Some in
+    let k = c.in-Some-2 in
     let w = c.in-Some-word in
-    let l = c.in-Ok-Some-number_list in
-    let first = is_some k.field-0 (k.keep, k.between) (λ p. HasNumbers [] p.0 true s.first.now p.1.now) k.field-0-is k.ensures.some in
-    let second = is_some l.field-0 (l.premises, l.behind) (λ p. HasNumbers (109 ∷ []) p.0 true w.second.now p.1.now) l.field-0-is l.ensures.some in
-    no_close c.args.bytes.now s.first.now k.keep k.between.now w.second.now l.premises l.behind.now s.ensures.some first w.ensures.some second c.in-None-mark.ensures.none
+    let l = c.in-Some-3 in
+    let first = is_some c.in_ok-keep.field-0 (k.keep, k.between) (λ p. HasNumbers [] p.0 true s.first.now p.1.now) k.is c.in_ok-keep.ensures.some in
+    let second = is_some c.in_ok-premises.field-0 (l.premises, l.behind) (λ p. HasNumbers (109 ∷ []) p.0 true w.second.now p.1.now) l.is c.in_ok-premises.ensures.some in
+    no_close c.args.bytes.now s.first.now k.keep k.between.now w.second.now l.premises l.behind.now s.ensures.some first w.ensures.some second c.in-None.ensures.none

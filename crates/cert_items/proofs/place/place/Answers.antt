@@ -9,6 +9,6 @@ returns-in-None-clause-none c p rest h e = c.in-None.ensures.none (decimal p ++ 
 
 pub returns-in-None-mark-clause-none : goal.returns-in-None-mark-clause-none
 returns-in-None-mark-clause-none c p rest h e =
-    let s = c.in-Some-marked in
+    let s = c.in-Some-number_before in
     let q = behind_front (codes ",[selected(") _ _ (sym c.in-Some.ensures.some ∙ e) in
     c.in-None-mark.ensures.none rest (marked_once s.p p 41 s.behind.now (93 ∷ rest) s.ensures.fits h refl (sym s.ensures.some ∙ q)).1

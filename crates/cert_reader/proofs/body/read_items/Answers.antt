@@ -1,9 +1,7 @@
 use Rattle.std.proofs.Common.{◌<◌, Bor, List, ℕ, length, arith}
 use Rattle.cert_reader.specs.Bodies.{IsNextItem, NoNextItem}
 use Rattle.cert_reader.specs.Groups.{AreGroups, items_of}
-use Rattle.cert_reader.specs.Texts.{AreNoted}
 use Rattle.cert_items.proofs.Reading.{is_none, is_some}
-use Rattle.cert_reader.proofs.NotedTexts.{no_texts}
 use Rattle.cert_reader.proofs.Progress.{progress, ended_so, refused_so, closing_longer}
 use Rattle.cert_reader.proofs.body.read_items.Goals as goal
 
@@ -29,11 +27,9 @@ loop-behind-preserved c =
     let s = c.in-Ok-Some in
     let next = is_some s.field-0 s.after (λ (x : Bor (List ℕ)). IsNextItem c.args.shape (items_of c.args.shape l.bank l.groups) (items_of c.args.shape c.next_item.new.bank c.next_item.new.groups) l.rest.now x.now) s.field-0-is s.ensures.some in
     let whole = is_some s.field-0 s.after (λ (x : Bor (List ℕ)). AreGroups c.args.shape c.next_item.new.bank c.next_item.new.groups) s.field-0-is s.ensures.groups in
-    let texts = is_some s.field-0 s.after (λ (x : Bor (List ℕ)). AreNoted c.args.shape c.next_item.new.bank c.next_item.new.groups c.next_item.new.texts) s.field-0-is s.ensures.texts in
     let shorter = is_some s.field-0 s.after (λ (x : Bor (List ℕ)). length x.now < length l.rest.now) s.field-0-is s.ensures.shorter in
     record {
       groups = whole;
-      texts = texts;
       counted = omega (arith, l.invariant.counted, shorter);
       read = λ text h form p. progress text h c.args.shape (items_of c.args.shape l.bank l.groups) (items_of c.args.shape c.next_item.new.bank c.next_item.new.groups) l.lines l.rest.now s.after.now form (l.invariant.read text h form p) next;
     }
@@ -43,11 +39,3 @@ returns-in-Some-clause-groups c e = c.loop-behind.invariant.groups
 
 pub returns-in-Ok-None-clause-groups : goal.returns-in-Ok-None-clause-groups
 returns-in-Ok-None-clause-groups c e = absurd cc
-
-pub loop-behind-init : goal.loop-behind-init
-loop-behind-init c = record {
-  groups = c.requires.groups;
-  texts = no_texts c.args.shape c.args.bank.now c.args.groups.now c.requires.inputs c.requires.axioms c.requires.members c.new-texts.result c.new-texts.ensures.inputs c.new-texts.ensures.axioms c.new-texts.ensures.members;
-  counted = omega arith;
-  read = λ text h e p. p;
-}

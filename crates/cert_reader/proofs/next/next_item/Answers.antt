@@ -1,49 +1,72 @@
-use Rattle.std.proofs.Common.{◌≡◌, Bor, List, ℕ, sym, ap, ◌∙◌, subst}
-use Rattle.std.specs.Prelude.{IfOk, IfSome, IfNone}
-use Rattle.cert_format.specs.LineMachine.{Item}
-use Rattle.cert_items.proofs.Reading.{is_none}
-use Rattle.cert_reader.specs.declared.groups.Groups.{Groups}
+use Rattle.std.proofs.Common.{◌≡◌, true, sym, subst}
+use Rattle.term_bank.specs.Forest.{clause_at}
+use Rattle.cert_format.specs.LineMachine.{item}
+use Rattle.cert_format.specs.LineTexts.{line}
+use Rattle.saturation_cert.specs.Wholes.{IsWholeClause}
+use Rattle.cert_items.specs.Items.{IsItem, IsWholeNote, NoItem, group_of, note_of}
+use Rattle.cert_items.proofs.Reading.{is_none, is_some}
 use Rattle.cert_reader.specs.Bodies.{IsNextItem, NoNextItem}
 use Rattle.cert_reader.specs.Groups.{AreGroups, items_of}
-use Rattle.cert_reader.specs.Texts.{AreNoted}
-use Rattle.cert_reader.proofs.NotedTexts.{grown_noted}
+use Rattle.cert_reader.proofs.NextItems.{no_item_next, wrong_next, next_groups, next_item, line_longer}
 use Rattle.cert_reader.proofs.Pushes.{grown_items, grown_groups}
 use Rattle.cert_reader.proofs.next.next_item.Goals as goal
 
-pub next_read-requires-clause-groups : goal.next_read-requires-clause-groups
-next_read-requires-clause-groups c =
-    let g = c.args.groups.now in
-    let h = c.next_named.new.bank in
-    let p = c.requires.groups in
-    let grows = c.next_named.ensures.grows in
-    let same = is_none c.in_ok-rest.field-0 (c.next_named.new.groups ≡ g) c.in-None.is c.in_ok-rest.ensures.none in
-    subst (λ (k : Groups). AreGroups c.args.shape h k) (sym same) (grown_groups c.args.bank.now h grows.0 c.args.shape g (grows.1 p.bank) p)
+pub returns-in_default-clause-none : goal.returns-in_default-clause-none
+returns-in_default-clause-none c =
+    no_item_next c.args.shape (items_of c.args.shape c.args.bank.now c.args.groups.now) c.args.bytes.now
+    (is_none c.in_ok-item.field-0 (NoItem c.args.shape c.args.bytes.now) c.in_default.is c.in_ok-item.ensures.none)
 
-pub next_read-requires-clause-texts : goal.next_read-requires-clause-texts
-next_read-requires-clause-texts c =
-    let g = c.args.groups.now in
-    let h = c.next_named.new.bank in
-    let t = c.args.texts.now in
-    let same = is_none c.in_ok-rest.field-0 (c.next_named.new.groups ≡ g) c.in-None.is c.in_ok-rest.ensures.none in
-    subst (λ (k : Groups). AreNoted c.args.shape h k t) (sym same) (grown_noted c.args.bank.now h c.next_named.ensures.grows.0 c.args.shape g t c.requires.groups c.requires.texts)
-
-pub returns-in-None-clause-some : goal.returns-in-None-clause-some
-returns-in-None-clause-some c =
-    let s = c.args.shape in
+pub returns-then-not-may_take-clause-none : goal.returns-then-not-may_take-clause-none
+returns-then-not-may_take-clause-none c =
+    let s = c.in_ok-item in
+    let x = c.in-Some.item in
     let f = c.args.bank.now in
-    let g = c.args.groups.now in
-    let h = c.next_named.new.bank in
-    let same = is_none c.in_ok-rest.field-0 (c.next_named.new.groups ≡ g) c.in-None.is c.in_ok-rest.ensures.none in
-    let items : items_of s h c.next_named.new.groups ≡ items_of s f g = ap (items_of s h) same ∙ grown_items f h c.next_named.ensures.grows.0 s g c.requires.groups in
-    let js = items_of s c.next_read.new.bank c.next_read.new.groups in
-    subst (λ (is : List Item). IfOk c.next_read.result (λ r. IfSome r (λ (rest : Bor (List ℕ)). IsNextItem s is js c.args.bytes.now rest.now))) items c.next_read.ensures.some
+    let h = c.read_item.new.bank in
+    let w = c.read_item.new.literals in
+    let d = clause_at h w in
+    let i = is_some s.field-0 x (λ i. IsItem c.args.shape i.number d (note_of h i.note c.read_item.new.hints)) c.in-Some.is s.ensures.some in
+    let text = is_some s.field-0 x (λ i. c.args.bytes.now ≡ line (item i.number d (note_of h i.note c.read_item.new.hints)) i.rest.now) c.in-Some.is s.ensures.text in
+    let group = is_some s.field-0 x (λ i. group_of (note_of h i.note c.read_item.new.hints) ≡ i.group) c.in-Some.is s.ensures.group in
+    let whole = is_some s.field-0 x (λ i. IsWholeClause h w) c.in-Some.is s.ensures.whole in
+    let p = grown_groups f h c.read_item.ensures.grows.0 c.args.shape c.args.groups.now (c.read_item.ensures.grows.1 c.requires.bank) c.requires in
+    subst (λ is. NoNextItem c.args.shape is c.args.bytes.now) (grown_items f h c.read_item.ensures.grows.0 c.args.shape c.args.groups.now c.requires)
+    (wrong_next c.args.shape h c.args.groups.now x.group x.number w (note_of h x.note c.read_item.new.hints) c.args.bytes.now x.rest.now p c.distinct.ensures whole i text group (λ q. (let t = c.may_take.ensures.1 q in cc)))
 
-pub returns-in-None-clause-none : goal.returns-in-None-clause-none
-returns-in-None-clause-none c =
-    let s = c.args.shape in
+pub returns-clause-groups : goal.returns-clause-groups
+returns-clause-groups c =
+    let s = c.in_ok-item in
+    let x = c.in-Some.item in
+    let h = c.read_item.new.bank in
+    let d = clause_at h c.read_item.new.literals in
+    let i = is_some s.field-0 x (λ i. IsItem c.args.shape i.number d (note_of h i.note c.read_item.new.hints)) c.in-Some.is s.ensures.some in
+    let group = is_some s.field-0 x (λ i. group_of (note_of h i.note c.read_item.new.hints) ≡ i.group) c.in-Some.is s.ensures.group in
+    let whole = is_some s.field-0 x (λ i. IsWholeClause h c.read_item.new.literals) c.in-Some.is s.ensures.whole in
+    let terms = is_some s.field-0 x (λ i. IsWholeNote h i.note) c.in-Some.is s.ensures.terms in
+    let t : c.may_take.result ≡ true = cc in
+    let q = c.may_take.ensures.0 t in
+    subst (λ g. AreGroups c.args.shape h g) (sym c.in_ok-push.ensures)
+    (next_groups c.args.shape c.args.bank.now h c.args.groups.now x.group x.number x.note c.read_item.new.literals c.read_item.new.hints c.read_item.ensures.grows.0 (c.read_item.ensures.grows.1 c.requires.bank) c.requires i group q whole terms)
+
+pub returns-clause-some : goal.returns-clause-some
+returns-clause-some c =
+    let s = c.in_ok-item in
+    let x = c.in-Some.item in
     let f = c.args.bank.now in
-    let g = c.args.groups.now in
-    let h = c.next_named.new.bank in
-    let same = is_none c.in_ok-rest.field-0 (c.next_named.new.groups ≡ g) c.in-None.is c.in_ok-rest.ensures.none in
-    let items : items_of s h c.next_named.new.groups ≡ items_of s f g = ap (items_of s h) same ∙ grown_items f h c.next_named.ensures.grows.0 s g c.requires.groups in
-    subst (λ (is : List Item). IfOk c.next_read.result (λ r. IfNone r (NoNextItem s is c.args.bytes.now))) items c.next_read.ensures.none
+    let h = c.read_item.new.bank in
+    let d = clause_at h c.read_item.new.literals in
+    let i = is_some s.field-0 x (λ i. IsItem c.args.shape i.number d (note_of h i.note c.read_item.new.hints)) c.in-Some.is s.ensures.some in
+    let text = is_some s.field-0 x (λ i. c.args.bytes.now ≡ line (item i.number d (note_of h i.note c.read_item.new.hints)) i.rest.now) c.in-Some.is s.ensures.text in
+    let group = is_some s.field-0 x (λ i. group_of (note_of h i.note c.read_item.new.hints) ≡ i.group) c.in-Some.is s.ensures.group in
+    let t : c.may_take.result ≡ true = cc in
+    let q = c.may_take.ensures.0 t in
+    subst (λ g. IsNextItem c.args.shape (items_of c.args.shape f c.args.groups.now) (items_of c.args.shape h g) c.args.bytes.now x.rest.now) (sym c.in_ok-push.ensures)
+    (next_item c.args.shape f h c.args.groups.now x.group x.number x.note c.read_item.new.literals c.read_item.new.hints c.read_item.ensures.grows.0 (c.read_item.ensures.grows.1 c.requires.bank) c.requires i group q c.args.bytes.now x.rest.now text)
+
+pub returns-clause-shorter : goal.returns-clause-shorter
+returns-clause-shorter c =
+    let s = c.in_ok-item in
+    let x = c.in-Some.item in
+    let h = c.read_item.new.bank in
+    let d = clause_at h c.read_item.new.literals in
+    let text = is_some s.field-0 x (λ i. c.args.bytes.now ≡ line (item i.number d (note_of h i.note c.read_item.new.hints)) i.rest.now) c.in-Some.is s.ensures.text in
+    line_longer x.number d (note_of h x.note c.read_item.new.hints) c.args.bytes.now x.rest.now text

@@ -3,7 +3,7 @@ use Rattle.std.specs.Prelude.{codes}
 use Rattle.inst_logic.specs.Printing.{name_text}
 use Rattle.cert_format.proofs.LineNotes.{behind_front}
 use Rattle.cert_format.proofs.Names.{names_once}
-use Rattle.cert_items.proofs.notes.named.Goals as goal
+use Rattle.cert_items.proofs.notes.statement_name.Goals as goal
 
 pub returns-in-None-clause-none : goal.returns-in-None-clause-none
 returns-in-None-clause-none c w rest h e = c.in-None.ensures.none (name_text w ++ 41 ∷ rest) e
