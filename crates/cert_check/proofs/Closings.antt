@@ -2,18 +2,16 @@
 use Rattle.std.proofs.Common.{◌≡◌, ◌↔◌, ◌||◌, inl, inr, ℕ, suc, ◌<◌, List, length, map, get_or, refl, ap, sym, ◌∙◌, subst, arith, true, false, Some}
 use Rattle.std.specs.Prelude.{Bool, IsTrue, slice_get}
 use Rattle.std.proofs.lemmas.Option.{slice_get-get_or, slice_get_within, same_Some}
-use Rattle.inst_logic.specs.declared.signed.Signed.{Signed}
 use Rattle.inst_logic.specs.Tree.{Tree}
 use Rattle.inst_logic.specs.Clauses.{TreeClause, instance, IsCanonical}
 use Rattle.inst_logic.specs.Unifiers.{Sided, IsMostGeneral, IsProper}
-use Rattle.inst_logic.specs.WellFormed.{atom_is_formed, clause_is_formed, IsAtom}
 use Rattle.inst_logic.proofs.ShownLaws.{at_number_contains}
-use Rattle.inst_calculus.specs.Entries.{Entry, entry_clauses}
+use Rattle.inst_calculus.specs.Entries.{Entry}
 use Rattle.inst_calculus.specs.Models.{Member as Selected, member_clauses}
 use Rattle.inst_calculus.specs.Saturation.{IsCovered}
 use Rattle.inst_calculus.proofs.CoveredInstances.{covered_when_grown}
-use Rattle.inst_calculus.proofs.Membership.{◌∈◌, in_all, in_map, from_map, contains_in, in_contains, equal_in, passes}
-use Rattle.term_bank.specs.Forest.{Forest, clause_at, tree_at}
+use Rattle.inst_calculus.proofs.Membership.{◌∈◌, in_all, in_map, from_map, contains_in, in_contains, equal_in}
+use Rattle.term_bank.specs.Forest.{Forest, clause_at}
 use Rattle.cert_format.specs.Certificate as format
 use Rattle.cert_format.specs.Certificate.{selected_members}
 use Rattle.cert_format.specs.Validity.{SelectsAt}
@@ -27,7 +25,6 @@ use Rattle.unify_core.specs.declared.side.Side.TheVariants.{Left, Right}
 use Rattle.clause_form.proofs.Leaves.{resolved_later}
 use Rattle.saturation_cert.specs.declared.member.Member.{Member}
 use Rattle.saturation_cert.specs.declared.certificate.Saturation.{Saturation}
-use Rattle.saturation_cert.specs.Truths.{IsSelectedLiteral}
 use Rattle.saturation_cert.specs.Values.{base_of, saturation_of, entry_of}
 use Rattle.saturation_cert.specs.Wholes.{IsWholeSaturation, HasPlaces, KeepsSaturation}
 use Rattle.cert_format.specs.Validity.{IsValidBase}
@@ -35,22 +32,13 @@ use Rattle.cert_check.specs.Closings.{IsGeneralOn, IsSideCovered, IsSideClosed, 
 use Rattle.cert_check.specs.Grounds.{AreCanonicalMembers}
 use Rattle.cert_check.proofs.Bases.{member_canonical}
 use Rattle.cert_check.proofs.CoverLaws.{clause_of}
-use Rattle.cert_check.proofs.Saturations.{saturation_same, members_formed}
+use Rattle.cert_check.proofs.Saturations.{saturation_same}
 
 module _ (c : Saturation) where
   pub canonical_members : IsValidBase (base_of c.base) → AreCanonicalMembers c.base.bank c.base.members
   canonical_members valid = in_all (λ (m : Member). IsCanonical (clause_at c.base.bank m.clause)) c.base.members (λ m i.
       let (k, at) = in_slice_get (entry_of c.base.bank m) (map (entry_of c.base.bank) c.base.members) (in_map (entry_of c.base.bank) m c.base.members i) in
       member_canonical (base_of c.base) (suc k) (valid (Derived (suc k))) (entry_of c.base.bank m) at)
-
-  -- the selected literal's atom is an atom
-  pub selected_atom : IsWholeSaturation c → (n : ℕ) (l : Signed ℕ) → IsSelectedLiteral c n l → IsAtom (tree_at c.base.bank l.atom)
-  selected_atom whole n l h =
-      let e = h.is.entry in
-      let i = contains_in e (saturation_of c).base.members (at_number_contains (saturation_of c).base.members n e h.is.entry_at) in
-      let formed : clause_is_formed e.clause ≡ true = passes clause_is_formed (entry_clauses (saturation_of c).base.members) (members_formed c whole) e.clause (in_map (λ (x : Entry). x.clause) e (saturation_of c).base.members i) in
-      let j = contains_in h.member.selected e.clause (at_number_contains e.clause h.is.place h.member.selected h.is.selected) in
-      ap (λ (k : Signed Tree). atom_is_formed k.atom) (sym h.literal) ∙ passes (λ (k : Signed Tree). atom_is_formed k.atom) e.clause formed h.member.selected j
 
   -- the clauses with a selected literal are the members'
   module _ (placed : HasPlaces (saturation_of c)) where

@@ -13,7 +13,7 @@ use Rattle.cert_format.specs.Certificate as format
 use Rattle.cert_format.specs.TermLists.{HoldsBy}
 use Rattle.cert_format.specs.Validity.{CoversAt, SelectsAt}
 use Rattle.cert_format.proofs.Numbers.{slice_get_of_map}
-use Rattle.term_bank.specs.Forest.{Forest, Extends, IsClauseAt, IsClauseOf, clause_at, literal_tree}
+use Rattle.term_bank.specs.Forest.{Forest, Extends, IsClauseOf, clause_at, literal_tree}
 use Rattle.term_bank.proofs.Clauses.{clause_extends, clause_of_extends}
 use Rattle.saturation_cert.specs.declared.certificate.By.{By}
 use Rattle.saturation_cert.specs.declared.certificate.Cover.{Cover}
@@ -29,7 +29,8 @@ use Rattle.unify_core.specs.Sides.{Binding, IsResolvedBy, of_side}
 use Rattle.unify_core.specs.declared.side.Side.{Side}
 use Rattle.unify_core.specs.declared.side.Side.TheVariants.{Left, Right}
 use Rattle.cert_check.specs.declared.due_side.DueSide.{DueSide}
-use Rattle.cert_check.specs.Compared.{IsCoverRight, IsInstanceOf, IsNamedOf, IsNamedRight}
+use Rattle.cert_check.specs.Compared.{IsCoverRight, IsNamedOf, IsNamedRight}
+use Rattle.cert_inference.specs.Instances.{IsInstanceOf}
 use Rattle.cert_check.specs.DueSteps.{due_of}
 use Rattle.cert_check.specs.Sides.{left_number, right_number}
 use Rattle.cert_check.proofs.CoverLaws.{clause_of}
@@ -79,20 +80,6 @@ module _ (c : Saturation) (g : Forest) (grown : Extends c.base.bank g) (whole : 
         (λ t. ((member_is true made s resolved n sel).0 refl, here.0 t)),
         (λ h. here.1 h.1),
       )
-
--- the clause was seen to be the instance
-pub instance_seen : (f : Forest) (es : List Binding) (x : Side) (c d : List (Signed ℕ)) → ((s : Sided) → IsResolvedBy f es s → IsClauseAt f d (canonical_form (instance (of_side s x) (clause_at f c)))) → IsInstanceOf f es x c d true
-instance_seen f es x c d made s resolved = ((λ t. (made s resolved).1), (λ h. refl))
-
--- the instance was built
-pub instance_built : (f g : Forest) → Extends f g → (es : List Binding) (x : Side) (c d e : List (Signed ℕ)) → IsClauseOf f d → ((s : Sided) → IsResolvedBy f es s → IsClauseAt g e (canonical_form (instance (of_side s x) (clause_at f c))))
-    → (r : Bool) → IsTrue r ↔ (clause_at g e ≡ clause_at g d) → IsInstanceOf f es x c d r
-instance_built f g grown es x c d e ids made r same s resolved =
-    let there : clause_at g d ≡ clause_at f d = clause_extends f g grown d ids in
-    let is = (made s resolved).1 in (
-      (λ t. sym there ∙ sym (same.0 t) ∙ is),
-      (λ h. same.1 (is ∙ sym h ∙ sym there)),
-    )
 
 -- an instance is canonical
 pub instance_canonical : (f g : Forest) → Extends f g → (es : List Binding) (x : Side) (c d : List (Signed ℕ)) → IsClauseOf f d → AreBindings f es → IsInstanceOf f es x c d true → IsCanonical (clause_at g d)

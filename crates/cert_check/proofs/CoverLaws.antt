@@ -15,7 +15,8 @@ use Rattle.term_bank.specs.Forest.{literal_tree, Forest, AreDistinct, Extends, I
 use Rattle.term_bank.proofs.Clauses.{clause_extends}
 use Rattle.saturation_cert.specs.declared.member.Member.{Member}
 use Rattle.saturation_cert.specs.Wholes.{IsWholeClause}
-use Rattle.cert_check.specs.Covers.{Covers, CoversOf, ShorterOf, IsCoveredIn}
+use Rattle.cert_check.specs.Covers.{Covers, CoversOf, IsCoveredIn}
+use Rattle.cert_index.specs.Shorter.{ShorterOf}
 use Rattle.cert_check.specs.Grounds.{AreCanonicalMembers}
 use Rattle.saturation_cert.proofs.Grown.{members_grown}
 

@@ -19,7 +19,7 @@ use Rattle.cert_format.proofs.DueLists.{dues_once}
 use Rattle.cert_check.specs.Closings.{IsGeneralOn}
 use Rattle.cert_check.specs.DueSteps.{AreCompared, AreNamed, AreSeen, GivesMeeting, GivesPair, GivesRow, GivesSide, due_of}
 use Rattle.cert_check.specs.Firsts.{IsFirstWrong}
-use Rattle.cert_check.specs.Meetings.{IsApart}
+use Rattle.cert_index.specs.Meetings.{IsApart}
 use Rattle.cert_check.specs.declared.compare.Progress.{Progress}
 
 -- nothing is due of pairs that are apart

@@ -1,7 +1,7 @@
 -- Members of the first format: those that are right and no lemmas.
 use Rattle.std.proofs.Common.{◌≡◌, ℕ, zero, suc, ◌+◌, ◌<◌, ◌≤◌, ap, sym, ◌∙◌, subst, arith, ◌⊎◌, inl, inr, length, get_or, List}
-use Rattle.std.specs.Prelude.{Option, None, Some, min, option_map, slice_get}
-use Rattle.std.proofs.lemmas.Option.{slice_get-get_or, slice_get_past}
+use Rattle.std.specs.Prelude.{Option, None, Some, min, option_map}
+use Rattle.std.proofs.lemmas.Option.{slice_get-get_or}
 use Rattle.inst_logic.specs.Derivations.{at_number}
 use Rattle.inst_calculus.specs.Entries.{Entry}
 use Rattle.inst_calculus.proofs.ProperParts.{item_behind}
@@ -33,13 +33,6 @@ module _ (P Q R : ℕ → Type 0) (join : (n : ℕ) → P n → Q n → R n) (le
 -- the item at a place
 pub item_there : {A : Type 0} (ms : List A) (i : ℕ) (x : A) → i < length ms → x ≡ get_or ms i x → at_number ms (i + 1) ≡ Some x
 item_there ms i x within is = (let e : i + 1 ≡ suc i = omega arith in ap (at_number ms) e) ∙ slice_get-get_or ms i x within ∙ ap Some (sym is)
-
-pub no_member_past : (ms : List Member) (n : ℕ) → length ms ≤ n → ((m : ℕ) → m < n + 1 → IsNoLemmaAt ms m) → (m : ℕ) → IsNoLemmaAt ms m
-no_member_past ms n h f m = elim (lt_or_le m (n + 1)) [ inl l ↦ f m l | inr g ↦ beyond m g ]
-  where
-    beyond : (k : ℕ) → n + 1 ≤ k → IsNoLemmaAt ms k
-    beyond zero g e at = absurd (omega arith)
-    beyond (suc k) g e at = let none : slice_get ms k ≡ None = slice_get_past ms k (omega arith) in absurd (cc)
 
 module _ (b : Base) where
   first_member : (n : ℕ) → IsNoLemmaAt b.members n → IsRightMember (base_of b) n → IsRightFirstMember (base_of b) n

@@ -1,7 +1,4 @@
 pub mod Bases
-pub mod ConcludedLaws
-pub mod Conclusions
-pub mod BoundTerms
 pub mod Closings
 pub mod CoverLaws
 pub mod Differences
@@ -23,13 +20,7 @@ pub mod SourceLaws
 pub mod Sources
 pub mod MemberOrigins
 pub mod SymbolWalk
-pub mod HeadLaws
-pub mod NarrowLaws
-pub mod FingerprintLaws
-pub mod LengthLaws
 pub mod MadeLaws
-pub mod LookupLaws
-pub mod ShorterLaws
 pub mod RowScans
 pub mod DueLaws
 pub mod NameLaws
@@ -38,8 +29,7 @@ pub mod CoveredStages
 pub mod ShownLaws
 pub mod CoverGrowth
 pub mod NamedStages
-pub mod BucketLaws
-pub mod LinkLaws
-pub mod MeetingLaws
 pub mod ShownSteps
 pub mod MadePairs
+pub mod ReadyLaws
+pub mod SourceTerms

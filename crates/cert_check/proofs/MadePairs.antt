@@ -1,20 +1,16 @@
 -- Pairs of members whose covers the origins tell.
-use Rattle.std.proofs.Common.{◌≡◌, inl, inr, ℕ, suc, ◌+◌, ◌<◌, ◌≤◌, List, [], ◌∷◌, ◌++◌, length, refl, ap, sym, ◌∙◌, subst, arith, append_assoc, false, Some}
+use Rattle.std.proofs.Common.{◌≡◌, inl, inr, ℕ, suc, ◌+◌, ◌<◌, ◌≤◌, List, [], ◌∷◌, ◌++◌, length, refl, ap, sym, subst, arith, append_assoc, false, Some}
 use Rattle.std.specs.Prelude.{Contains, slice_get}
 use Rattle.std.proofs.lemmas.List.{length-map}
 use Rattle.std.proofs.lemmas.Option.{slice_get_within}
-use Rattle.inst_logic.specs.declared.signed.Signed.{Signed}
 use Rattle.inst_logic.specs.Substitution.{Substitution, tree_vars}
 use Rattle.inst_logic.specs.Tree.{Tree}
 use Rattle.inst_logic.specs.Unifiers.{Sided, IsProper}
 use Rattle.inst_calculus.specs.Models.{Member}
-use Rattle.term_bank.specs.Forest.{tree_at}
 use Rattle.cert_format.specs.Dues.{meeting}
 use Rattle.cert_format.specs.Validity.{CoversAt, IsProperPair, IsValidBase, SelectsAt}
-use Rattle.cert_format.proofs.SelectedMembers.{selected_once}
 use Rattle.saturation_cert.specs.declared.certificate.Covered.{Covered}
 use Rattle.saturation_cert.specs.declared.certificate.Saturation.{Saturation}
-use Rattle.saturation_cert.specs.Truths.{IsSelectedLiteral}
 use Rattle.saturation_cert.specs.Values.{base_of, covered_of, entry_of, saturation_of, side_of}
 use Rattle.saturation_cert.specs.Wholes.{HasPlaces}
 use Rattle.unify_core.specs.declared.side.Side.TheVariants.{Left, Right}
@@ -26,10 +22,6 @@ use Rattle.cert_check.specs.Made.{AreMade, on_left, on_both, on_right, HasGround
 use Rattle.cert_check.proofs.CompareLaws.{cover_there}
 use Rattle.cert_check.proofs.DueLaws.{more_right}
 use Rattle.cert_check.proofs.MadeLaws.{made_meets, made_proper, made_right}
-
-pub ground_at : (c : Saturation) (n : ℕ) (l : Signed ℕ) → IsSelectedLiteral c n l → tree_vars (tree_at c.base.bank l.atom) ≡ [] → HasGroundAtom c n
-ground_at c n l h none m s =
-    ap (λ (x : Member). tree_vars x.selected.atom) (selected_once (saturation_of c).base.members (saturation_of c).places n m h.member s h.is) ∙ ap (λ (k : Signed Tree). tree_vars k.atom) h.literal ∙ none
 
 -- no substitution is proper for a tree without variables
 never_proper : (s : Substitution) (t : Tree) → tree_vars t ≡ [] → ¬ IsProper s t

@@ -1,9 +1,7 @@
 -- What an origin from two members gives.
 use Rattle.std.proofs.Common.{◌≡◌, ℕ, ◌+◌, ◌<◌, List, sym, map, subst, arith, length, get_or}
-use Rattle.std.specs.Prelude.{◌↔◌, All, Bool, false, IfOk, IsTrue, Result, Ok, Err}
-use Rattle.inst_logic.specs.Clauses.{TreeClause}
+use Rattle.std.specs.Prelude.{◌↔◌, All}
 use Rattle.inst_calculus.specs.Conclusions.{IsPartOfConclusion}
-use Rattle.inst_calculus.specs.Entries.{Entry}
 use Rattle.inst_calculus.specs.Parts.{AreWithin}
 use Rattle.term_bank.specs.Forest.{clause_at}
 use Rattle.cert_format.specs.Validity.{Gives, IsConclusion, IsRightMember}
@@ -12,12 +10,8 @@ use Rattle.saturation_cert.specs.declared.member.Origin.{Origin}
 use Rattle.saturation_cert.specs.declared.member.Origin.TheVariants.{Inst, Lemma}
 use Rattle.saturation_cert.specs.declared.certificate.Base.{Base}
 use Rattle.saturation_cert.specs.Values.{base_of, entry_of, origin_of}
-use Rattle.cert_check.specs.Conclusions.{MembersGive, IsPartGiven}
+use Rattle.cert_check.specs.Parts.{IsPartGiven}
 use Rattle.cert_check.proofs.Rightness.{right_by}
-
--- where the members conclude nothing, they do not conclude the clause
-pub nothing_given : (es : List Entry) (from place partner other : ℕ) (c : TreeClause) → ¬ IsConclusion es from place partner other c → IsTrue false ↔ IsConclusion es from place partner other c
-nothing_given es from place partner other c h = ((λ t. absurd (cc)), (λ k. absurd (h k)))
 
 -- a member from two others is right exactly where they come before it and conclude it
 pub right_inst : (b : Base) (i : ℕ) (m : Member) (from place partner other : ℕ) → i < length b.members → m ≡ get_or b.members i m → m.origin ≡ Inst from place partner other
@@ -28,11 +22,6 @@ right_inst b i m from place partner other within is origin =
       (λ g. by.0 (subst P (sym origin) g)),
       (λ r. subst P origin (by.1 r)),
     )
-
-pub and_conclusion : {E : Type 0} (es : List Entry) (n from place partner other : ℕ) (c : TreeClause) → from < n → partner < n → (r : Result Bool E) → IfOk r (λ b. IsTrue b ↔ IsConclusion es from place partner other c)
-    → IfOk r (λ b. IsTrue b ↔ MembersGive es n from place partner other c)
-and_conclusion es n from place partner other c a b (Ok x) h = ((λ t. (a, b, h.0 t)), (λ k. h.1 k.2))
-and_conclusion es n from place partner other c a b (Err e) h = h
 
 -- a member that is part of what two others conclude is right exactly where they and its premises come before it and it is this part
 module _ (b : Base) (i : ℕ) (m : Member) (from place partner other : ℕ) (keep premises : List ℕ) (within : i < length b.members) (is : m ≡ get_or b.members i m) (origin : m.origin ≡ Lemma from place partner other keep premises) where

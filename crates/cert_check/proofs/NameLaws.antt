@@ -1,6 +1,6 @@
 -- What is named for a clause covers it, or shows it.
-use Rattle.std.proofs.Common.{◌≡◌, ◌↔◌, Bool, inl, inr, ℕ, zero, suc, ◌+◌, ◌<◌, List, [], ◌∷◌, ◌++◌, true, false, length, map, get_or, Option, None, Some, refl, ap, sym, ◌∙◌, subst, arith}
-use Rattle.std.specs.Prelude.{All, Any, IfNone, IfSome, IsTrue, is_some, option_map}
+use Rattle.std.proofs.Common.{◌≡◌, inl, inr, ℕ, zero, suc, ◌+◌, ◌<◌, List, [], ◌∷◌, ◌++◌, true, false, length, map, get_or, Option, None, Some, refl, ap, sym, ◌∙◌, subst, arith}
+use Rattle.std.specs.Prelude.{All, Any, IfNone, IfSome, option_map}
 use Rattle.std.specs.List.{AllZip}
 use Rattle.std.proofs.lemmas.List.{get_or_default, length-map, map-append}
 use Rattle.std.proofs.lemmas.List.Elements.{All-push}
@@ -35,13 +35,14 @@ use Rattle.saturation_cert.proofs.Grown.{bys_grown, clause_grown, covers_grown, 
 use Rattle.saturation_cert.proofs.Kept.{saturation_same}
 use Rattle.unify_core.specs.Sides.{Binding, IsResolvedBy, of_side}
 use Rattle.unify_core.specs.declared.side.Side.{Side}
-use Rattle.cert_check.specs.Covers.{IsCoveredIn, ShorterOf}
+use Rattle.cert_check.specs.Covers.{IsCoveredIn}
+use Rattle.cert_index.specs.Shorter.{ShorterOf}
 use Rattle.cert_check.specs.Grounds.{AreCanonicalMembers}
 use Rattle.cert_check.specs.declared.naming.Named.{Named}
 use Rattle.cert_check.specs.DueSteps.{AreNamed, due_of}
 use Rattle.cert_check.specs.Names.{IsCoverBy, IsPartOf, IsShownBy, NamesInstance, NamesSide}
 use Rattle.cert_check.specs.Sides.{left_number, right_number}
-use Rattle.cert_check.specs.Places.{IsPlaceOf}
+use Rattle.cert_index.specs.Places.{IsPlaceOf}
 use Rattle.cert_check.proofs.CoverLaws.{clause_of, covered_in, known_covers, shorter_covers}
 use Rattle.cert_check.proofs.DueLaws.{one_named}
 use Rattle.cert_check.proofs.InputScans.{subsumes_itself}
@@ -121,28 +122,9 @@ module _ (f g : Forest) (ms : List Member) (c : List (Signed ℕ)) where
 pub member_ids : (f : Forest) (ms : List Member) → All (λ m. IsWholeClause f m.clause) ms → All (λ m. IsClauseOf f m.clause) ms
 member_ids f ms whole k d less = (whole k d less).ids
 
-pub place_decides : (P : Member → Type 0) (ms : List Member) (o : Option ℕ) → IfSome o (IsPlaceOf P ms) → IfNone o (¬ Any P ms) → (r : Bool) → r ≡ is_some o → IsTrue r ↔ Any P ms
-place_decides P ms None some none r is = ((λ t. absurd (let e : false ≡ true = sym is ∙ t in cc)), (λ any. absurd (none any)))
-place_decides P ms (Some k) some none r is = ((λ t. any_of_place P ms k some), (λ any. is))
-
-pub some_place : {A : Type 0} (o : Option A) → is_some o ≡ true → (a : A) × (o ≡ Some a)
-some_place None e = absurd cc
-some_place (Some a) e = (a, refl)
-
-pub none_place : {A : Type 0} (o : Option A) → is_some o ≡ false → o ≡ None
-none_place None e = refl
-none_place (Some a) e = absurd cc
-
 pub if_none_then : {A : Type 0} {P Q : Type 0} (o : Option A) → IfNone o P → (P → Q) → IfNone o Q
 if_none_then None h f = f h
 if_none_then (Some a) h f = tt
-
-pub no_place : {A : Type 0} (o : Option A) → ((a : A) → o ≡ Some a → ⊥) → o ≡ None
-no_place None none = refl
-no_place (Some a) none = absurd (none a refl)
-
-pub place_some : (P : Member → Type 0) (ms : List Member) (o : Option ℕ) (k : ℕ) → IfSome o (IsPlaceOf P ms) → o ≡ Some k → IsPlaceOf P ms k
-place_some P ms o k h is = subst (λ x. IfSome x (IsPlaceOf P ms)) is h
 
 pub place_subsumes : (f : Forest) (n : ℕ) (c : List (Signed ℕ)) (ms : List Member) (k : ℕ) → IsPlaceOf (ShorterOf f n c) ms k → IsPlaceOf (λ m. Subsumes (clause_at f m.clause) (clause_at f c)) ms k
 place_subsumes f n c ms k h = record { within = h.within; holds = λ m. (h.holds m).1 }

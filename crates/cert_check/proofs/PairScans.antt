@@ -1,12 +1,11 @@
 -- The scan over pairs of members.
 use Rattle.std.proofs.Common.{◌≡◌, ◌≢◌, ◌↔◌, ◌⊎◌, inl, inr, ℕ, zero, suc, ◌<◌, ◌≤◌, length, refl, ap, sym, ◌∙◌, subst, arith}
-use Rattle.std.specs.Prelude.{Bool, IsTrue, true, false}
-use Rattle.std.specs.Bool.{beq}
+use Rattle.std.specs.Prelude.{Bool, IsTrue}
 use Rattle.std.proofs.lemmas.Bool.{cases_lt}
 use Rattle.std.proofs.lemmas.Option.{slice_get_within}
 use Rattle.inst_logic.specs.declared.signed.Signed.{Signed}
 use Rattle.inst_logic.specs.Tree.{Tree}
-use Rattle.inst_logic.specs.Unifiers.{Sided, IsUnifier, IsMostGeneral, IsProper}
+use Rattle.inst_logic.specs.Unifiers.{Sided, IsMostGeneral, IsProper}
 use Rattle.inst_calculus.specs.Models.{Member}
 use Rattle.inst_calculus.specs.Saturation.{IsClosed}
 use Rattle.inst_calculus.proofs.Choice.{closed_of_choice, proper_of_choice}
@@ -14,13 +13,13 @@ use Rattle.term_bank.specs.Forest.{Forest, Extends, tree_at}
 use Rattle.cert_format.specs.Certificate as format
 use Rattle.cert_format.specs.Certificate.{selected_members}
 use Rattle.cert_format.specs.Validity.{IsProperPair, IsRightPair, SelectsAt}
-use Rattle.cert_format.proofs.SelectedMembers.{selected_once}
 use Rattle.saturation_cert.specs.declared.certificate.Saturation.{Saturation}
 use Rattle.saturation_cert.specs.Truths.{IsSelectedLiteral}
 use Rattle.saturation_cert.specs.Values.{base_of, saturation_of}
 use Rattle.saturation_cert.specs.Wholes.{IsWholeSaturation, HasPlaces, KeepsSaturation}
 use Rattle.cert_format.specs.Validity.{IsValidBase}
-use Rattle.cert_check.specs.Meetings.{IsApart}
+use Rattle.cert_index.specs.Meetings.{IsApart}
+use Rattle.cert_index.proofs.ApartLaws as apart
 use Rattle.cert_check.specs.Firsts.{IsFirstWrong}
 use Rattle.cert_check.specs.FirstPairs.{IsFirstWrongPair}
 use Rattle.cert_check.proofs.Saturations.{saturation_same}
@@ -96,41 +95,19 @@ module _ (c : format.Saturation) (P : ℕ → ℕ → Type 0) (of : IsOfPairs c 
     all_pairs past zero r = of.apart zero r (no_left c r)
     all_pairs past (suc k) r = elim (cases_lt k i) [ inl less ↦ before k less r | inr more ↦ of.apart (suc k) r (past_left c k r (omega arith)) ]
 
-pub signs_same : (p q : Bool) → beq p q ≡ true → p ≡ q
-signs_same true true e = refl
-signs_same true false e = absurd (cc)
-signs_same false true e = absurd (cc)
-signs_same false false e = refl
-
-pub signs_differ : (p q : Bool) → beq p q ≡ false → ¬ (p ≡ q)
-signs_differ true true e same = absurd (cc)
-signs_differ true false e same = absurd (cc)
-signs_differ false true e same = absurd (cc)
-signs_differ false false e same = absurd (cc)
-
 -- one pair
 module _ (c : Saturation) (i j : ℕ) (less : i < j) (l r : Signed ℕ) (left : IsSelectedLiteral c (suc i) l) (right : IsSelectedLiteral c (suc j) r) where
   same_left : (m : Member) → SelectsAt (saturation_of c) (suc i) m → m ≡ left.member
-  same_left m s = selected_once (saturation_of c).base.members (saturation_of c).places (suc i) m left.member s left.is
+  same_left = apart.same_left c i j less l r left right
 
   same_right : (m : Member) → SelectsAt (saturation_of c) (suc j) m → m ≡ right.member
-  same_right m s = selected_once (saturation_of c).base.members (saturation_of c).places (suc j) m right.member s right.is
-
-  pub same_sign : l.positive ≡ r.positive → IsApart (saturation_of c) (suc i) (suc j)
-  same_sign same m n s t signs =
-      absurd (signs (ap (λ (x : Member). x.selected.positive) (same_left m s) ∙ ap (λ (k : Signed Tree). k.positive) left.literal ∙ same
-      ∙ sym (ap (λ (k : Signed Tree). k.positive) right.literal) ∙ sym (ap (λ (x : Member). x.selected.positive) (same_right n t))))
+  same_right = apart.same_right c i j less l r left right
 
   left_atom : (m : Member) → SelectsAt (saturation_of c) (suc i) m → m.selected.atom ≡ tree_at c.base.bank l.atom
-  left_atom m s = ap (λ (x : Member). x.selected.atom) (same_left m s) ∙ ap (λ (k : Signed Tree). k.atom) left.literal
+  left_atom = apart.left_atom c i j less l r left right
 
   right_atom : (m : Member) → SelectsAt (saturation_of c) (suc j) m → m.selected.atom ≡ tree_at c.base.bank r.atom
-  right_atom m s = ap (λ (x : Member). x.selected.atom) (same_right m s) ∙ ap (λ (k : Signed Tree). k.atom) right.literal
-
-  pub no_unifier : ((u : Sided) → ¬ IsUnifier u (tree_at c.base.bank l.atom) (tree_at c.base.bank r.atom)) → IsApart (saturation_of c) (suc i) (suc j)
-  no_unifier none m n s t signs u h =
-      let k : IsUnifier u (tree_at c.base.bank l.atom) n.selected.atom = subst (λ (x : Tree). IsUnifier u x n.selected.atom) (left_atom m s) h in
-      absurd (none u (subst (λ (x : Tree). IsUnifier u (tree_at c.base.bank l.atom) x) (right_atom n t) k))
+  right_atom = apart.right_atom c i j less l r left right
 
   pub general_here : (s : Sided) → IsMostGeneral s (tree_at c.base.bank l.atom) (tree_at c.base.bank r.atom) → IsMostGeneral s left.member.selected.atom right.member.selected.atom
   general_here s g =

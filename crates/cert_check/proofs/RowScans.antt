@@ -6,7 +6,7 @@ use Rattle.cert_format.specs.Certificate.{Saturation}
 use Rattle.cert_format.specs.Dues.{Due, row, pairs, AreDueOfPair, apart, AreDueOf, AreDue}
 use Rattle.cert_check.specs.DueSteps.{AreSeen, AreSeenTo, GivesPair, GivesRow, IsAmong, IsDueAmong}
 use Rattle.cert_check.specs.Firsts.{IsFirstWrong}
-use Rattle.cert_check.specs.Meetings.{IsApart, LeadsOn}
+use Rattle.cert_index.specs.Meetings.{IsApart, LeadsOn}
 use Rattle.cert_check.proofs.PairScans.{IsOfPairs, first_partner, all_partners}
 
 pub item_is : (js : List ℕ) (index : ℕ) → index < length js → get_or js index 0 ≡ get_or js index (get_or js index 0)
@@ -42,9 +42,6 @@ module _ (c : Saturation) (i : ℕ) where
     before_begins : (k : ℕ) → k < suc i → P (suc i) (suc k)
     before_begins k less = of.unordered (suc i) (suc k) (λ l. omega (arith, l, less))
 
-    pub among_begins : i < length c.base.members → (js : List ℕ) → LeadsOn c i (suc i) js → IsAmong c i js 0 P
-    among_begins inside js h = record { from = suc i; later = omega arith; within = omega (arith, inside); ahead = h; before = before_begins }
-
     pub due_begins : i < length c.base.members → (js : List ℕ) → LeadsOn c i (suc i) js → (Start : List Due → Type 0) → IsDueAmong c i js 0 P Start Start
     due_begins inside js h Start = record {
       among = record { from = suc i; later = omega arith; within = omega (arith, inside); ahead = h; before = before_begins };
@@ -68,9 +65,6 @@ module _ (c : Saturation) (i : ℕ) where
 
         up_to : P (suc i) (suc j) → (k : ℕ) → k < suc j → P (suc i) (suc k)
         up_to p k less = elim (cases_lt k j) [ inl early ↦ passed k early | inr late ↦ let e : j ≡ k = omega (arith, late, less) in subst (λ x. P (suc i) (suc x)) e p ]
-
-        pub among_more : P (suc i) (suc j) → IsAmong c i js (index + 1) P
-        among_more p = record { from = suc j; later = (let l = item_later in omega (arith, l)); within = (let w = item_within in omega (arith, w)); ahead = here.3; before = up_to p }
 
         pub among_wrong : ¬ P (suc i) (suc j) → IsFirstWrong (P (suc i)) (suc j)
         among_wrong wrong = first_partner c P of i j passed wrong

@@ -1,21 +1,15 @@
 -- The stages of the check of a saturation.
-use Rattle.std.proofs.Common.{◌≡◌, ℕ, ◌<◌, List, refl, ap, sym, ◌∙◌, subst, arith, ◌⊎◌, inl, inr}
-use Rattle.std.specs.Prelude.{Option, None, Some, true}
-use Rattle.inst_logic.specs.declared.signed.Signed.{Signed}
-use Rattle.inst_logic.specs.Tree.{Tree}
-use Rattle.inst_logic.specs.WellFormed.{atom_is_formed, clause_is_formed, AreFormedClauses, IsAtom}
-use Rattle.inst_calculus.specs.Entries.{Entry, entry_clauses}
-use Rattle.inst_calculus.proofs.Membership.{all_in, from_map, all_pass}
-use Rattle.term_bank.specs.Forest.{literal_tree, Forest, AreFormed, Extends, clause_at, tree_at}
+use Rattle.std.proofs.Common.{◌≡◌, ℕ, ◌<◌, refl, ap, sym, ◌∙◌, subst, arith, ◌⊎◌, inl, inr}
+use Rattle.std.specs.Prelude.{Option, None, Some}
+use Rattle.term_bank.specs.Forest.{Forest, AreFormed, Extends}
 use Rattle.cert_format.specs.Certificate as format
 use Rattle.cert_format.specs.Validity.{IsRightPlace, IsRightInput, IsRightPair, SaturationPasses, IsFirstComplaint, IsValidSaturation, Precedes}
 use Rattle.cert_format.specs.declared.complaint.Complaint.{Complaint}
 use Rattle.cert_format.specs.declared.complaint.Complaint.TheVariants.{Axiom, Member as Derived, Bot, Ground, Step as Shown, NotEmpty, Place, Input, Pair, Cover as Named}
-use Rattle.saturation_cert.specs.declared.member.Member.{Member}
 use Rattle.saturation_cert.specs.declared.certificate.Base.{Base}
 use Rattle.saturation_cert.specs.declared.certificate.Saturation.{Saturation}
-use Rattle.saturation_cert.specs.Values.{saturation_of, entry_of}
-use Rattle.saturation_cert.specs.Wholes.{IsWholeClause, IsWholeBase, IsWholeSaturation, KeepsBase, KeepsSaturation}
+use Rattle.saturation_cert.specs.Values.{saturation_of}
+use Rattle.saturation_cert.specs.Wholes.{IsWholeBase, IsWholeSaturation, KeepsBase, KeepsSaturation}
 use Rattle.cert_format.specs.Validity.{IsValidBase}
 use Rattle.cert_check.specs.Firsts.{IsFirstWrong}
 use Rattle.cert_check.specs.FirstPairs.{IsFirstWrongPair, IsFirstWrongPairOf}
@@ -108,15 +102,3 @@ some_pair P r l m h is = subst (IsFirstWrongPairOf P) is h
 pub none_pair : (P : ℕ → ℕ → Type 0) (r : Option (ℕ × ℕ)) → IsFirstWrongPairOf P r → ((p : ℕ × ℕ) → r ≡ Some p → ⊥) → (l m : ℕ) → P l m
 none_pair P None h other = h
 none_pair P (Some p) h other = absurd (other p refl)
-
--- whole clauses are formed
-clause_formed : (f : Forest) (c : List (Signed ℕ)) → IsWholeClause f c → clause_is_formed (clause_at f c) ≡ true
-clause_formed f c h = all_pass (λ (k : Signed Tree). atom_is_formed k.atom) (clause_at f c) (λ x i.
-    let (l, j, same) = from_map (literal_tree f) x c i in
-    ap (λ (k : Signed Tree). atom_is_formed k.atom) (sym same) ∙ all_in (λ (k : Signed ℕ). IsAtom (tree_at f k.atom)) c h.atoms l j)
-
-pub members_formed : (s : Saturation) → IsWholeSaturation s → AreFormedClauses (entry_clauses (saturation_of s).base.members)
-members_formed s whole = all_pass clause_is_formed (entry_clauses (saturation_of s).base.members) (λ d i.
-    let (e, j, same) = from_map (λ (x : Entry). x.clause) d (saturation_of s).base.members i in
-    let (m, k, is) = from_map (entry_of s.base.bank) e s.base.members j in
-    ap clause_is_formed (sym same ∙ ap (λ (x : Entry). x.clause) (sym is)) ∙ clause_formed s.base.bank m.clause (all_in (λ (n : Member). IsWholeClause s.base.bank n.clause) s.base.members whole.members m k))

@@ -156,13 +156,6 @@ module _ (b : Base) (right : AreFirstMembers (base_of b)) (g : Forest) where
 
 -- ---- ground lines
 
-pub no_lines : (f : Forest) (b : format.Base) (bot : Sym) → AreGroundLines f b bot [] []
-no_lines f b bot = record { clauses = refl; terms = λ i d l. absurd (omega arith); origins = none_there }
-  where
-    none_there : (n : ℕ) (l : GroundLine) → at_number {X = GroundLine} [] n ≡ Some l → GivesTerms b bot n l.input (map (tree_at f) l.terms)
-    none_there zero l at = absurd cc
-    none_there (suc n) l at = absurd cc
-
 clauses_pushed : (ls : List GroundLine) (l : GroundLine) → map (λ (x : GroundLine). x.clause) (ls ++ l ∷ []) ≡ map (λ (x : GroundLine). x.clause) ls ++ l.clause ∷ []
 clauses_pushed [] l = refl
 clauses_pushed (x ∷ ls) l = ap (λ (cs : List (List (Signed ℕ))). x.clause ∷ cs) (clauses_pushed ls l)

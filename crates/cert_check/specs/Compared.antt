@@ -1,6 +1,5 @@
 -- Covers that are compared with what is due.
 use Rattle.std.specs.Prelude.{◌≡◌, ◌↔◌, ℕ, suc, Bool, IsTrue, List, Some, slice_get}
-use Rattle.inst_logic.specs.declared.signed.Signed.{Signed}
 use Rattle.inst_logic.specs.Clauses.{canonical_form, instance}
 use Rattle.inst_logic.specs.Derivations.{at_number}
 use Rattle.inst_logic.specs.Unifiers.{Sided}
@@ -15,7 +14,7 @@ use Rattle.saturation_cert.specs.declared.member.Member.{Member as Made}
 use Rattle.saturation_cert.specs.declared.member.Origin.TheVariants.{Inst}
 use Rattle.saturation_cert.specs.Values.{base_of, by_of, covered_of, saturation_of}
 use Rattle.saturation_cert.specs.Wholes.{HasPlaces, IsWholeCovered}
-use Rattle.term_bank.specs.Forest.{Forest, clause_at}
+use Rattle.term_bank.specs.Forest.{clause_at}
 use Rattle.unify_core.specs.Sides.{Binding, IsResolvedBy, of_side}
 use Rattle.unify_core.specs.declared.side.Side.{Side}
 use Rattle.cert_check.specs.Closings.{IsGeneralOn}
@@ -27,10 +26,6 @@ pub record IsComparable (c : Covered) : Type 0 where
   pub whole : IsWholeCovered c
   pub base : IsValidBase (base_of c.cert.base)
   pub placed : HasPlaces (saturation_of c.cert)
-
--- the answer is whether the second clause is the instance of the first on the side
-abbrev pub IsInstanceOf : Forest → List Binding → Side → List (Signed ℕ) → List (Signed ℕ) → Bool → Type 0
-IsInstanceOf f es x c d r = (s : Sided) → IsResolvedBy f es s → IsTrue r ↔ (clause_at f d ≡ canonical_form (instance (of_side s x) (clause_at f c)))
 
 -- the answer is whether the cover's clause is the instance of member n on the side, and what it names covers it
 abbrev pub IsNamedRight : Saturation → List Binding → Side → ℕ → Cover → Bool → Type 0

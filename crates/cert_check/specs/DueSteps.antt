@@ -14,7 +14,7 @@ use Rattle.saturation_cert.specs.Values.{side_of}
 use Rattle.saturation_cert.specs.declared.certificate.Covered.{Covered as Values}
 use Rattle.saturation_cert.specs.Wholes.{KeepsSaturation}
 use Rattle.cert_check.specs.Closings.{IsGeneralOn}
-use Rattle.cert_check.specs.Meetings.{LeadsOn}
+use Rattle.cert_index.specs.Meetings.{LeadsOn}
 use Rattle.cert_check.specs.Sides.{left_number, right_number}
 use Rattle.cert_check.specs.declared.compare.Progress.{Progress}
 

@@ -6,7 +6,7 @@ use Rattle.saturation_cert.specs.declared.member.Member.{Member}
 use Rattle.saturation_cert.specs.declared.member.Origin.{Origin}
 use Rattle.saturation_cert.specs.declared.member.Origin.TheVariants.{Inst}
 use Rattle.saturation_cert.specs.Values.{origin_of}
-use Rattle.cert_check.specs.declared.conclusion.Premises.{Premises}
+use Rattle.cert_inference.specs.declared.inference.Premises.{Premises}
 
 abbrev pub origin_from : Premises → Origin
 origin_from p = Inst p.from p.place p.partner p.other

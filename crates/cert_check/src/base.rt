@@ -9,14 +9,13 @@ ghost use Rattle.saturation_cert.specs.Values.{base_of};
 ghost use Rattle.saturation_cert.specs.Wholes.{IsWholeBase, KeepsBase};
 
 use crate::axioms::interned;
-use crate::conclusion::{Claim, Premises, members_give};
 use crate::difference::difference;
 use crate::error::CheckError;
 use crate::origin::input_gives;
 use crate::part::{PartClaim, are_within, members_give_part};
-use crate::rooms::PairRoom;
 use crate::walk::symbols_in;
 use cert_format::Complaint;
+use cert_inference::{Claim, PairRoom, Premises, members_give};
 use equality_axioms::axioms_from;
 use inst_logic::Memory;
 use saturation_cert::{Base, Origin};

@@ -8,20 +8,19 @@ ghost use Rattle.unify_core.specs.Chains.{AreBindings};
 ghost use Rattle.unify_core.specs.Terms.{AreTerms};
 ghost use Rattle.saturation_cert.specs.Values.{base_of, covered_of, saturation_of};
 ghost use Rattle.saturation_cert.specs.Wholes.{IsWholeCover, IsWholeCovered, IsWholeSaturation, KeepsCovered, KeepsSaturation};
-ghost use Rattle.cert_check.specs.Chains.{AreMeetings};
+ghost use Rattle.cert_index.specs.Chains.{AreMeetings};
 ghost use Rattle.cert_check.specs.Closings.{IsProperOn, IsProperSomewhere};
 ghost use Rattle.cert_check.specs.DueSteps.{AreCompared, GivesMeeting, GivesPair, GivesRow, GivesSide};
 ghost use Rattle.cert_check.specs.FirstPairs.{IsFirstWrongPairOf};
 ghost use Rattle.cert_check.specs.Firsts.{IsFirstWrongOf};
 ghost use Rattle.cert_check.specs.Compared.{IsComparable, IsCoverRight, IsNamedRight};
-ghost use Rattle.cert_check.specs.Meetings.{LeadsOn};
+ghost use Rattle.cert_index.specs.Meetings.{LeadsOn};
 
-use crate::concluded::is_instance;
 use crate::due_side::{DueSide, number_at};
-use crate::instance::Instance;
 use crate::made::{is_made, is_of, pass_made};
-use crate::meetings::Meetings;
-use crate::rooms::{PairRoom, RowRoom};
+use crate::rooms::RowRoom;
+use cert_index::Meetings;
+use cert_inference::{Instance, PairRoom, is_instance};
 use cert_names::holds_by;
 use inst_logic::Memory;
 use saturation_cert::{Cover, Covered, Saturation, selected};
@@ -63,7 +62,7 @@ fn is_named(
     };
     let bank = &mut cert.base.bank;
     let workspace = &mut rooms.workspace;
-    if !is_instance(workspace, bank, &mut rooms.walk, &of, &cover.clause)? {
+    if !is_instance(workspace, bank, &mut rooms.comparison, &of, &cover.clause)? {
         return Ok(false);
     }
     holds_by(

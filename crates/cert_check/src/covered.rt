@@ -12,21 +12,20 @@ ghost use Rattle.term_bank.specs.Forest.{IsAt};
 ghost use Rattle.saturation_cert.specs.Values.{base_of, covered_of, saturation_of};
 ghost use Rattle.saturation_cert.specs.Wholes.{HasPlaces, IsWholeCovered, IsWholeSaturation, KeepsCovered, KeepsSaturation};
 ghost use Rattle.cert_check.specs.Answers.{IsCheckCause};
-ghost use Rattle.cert_check.specs.Chains.{AreMeetings};
+ghost use Rattle.cert_index.specs.Chains.{AreMeetings};
 ghost use Rattle.cert_check.specs.Compared.{IsComparable};
-ghost use Rattle.cert_check.specs.Lookups.{IsReady};
+ghost use Rattle.cert_index.specs.Lookups.{IsReady};
 
 use crate::base::check_base;
 use crate::compare::{Progress, compare_pairs, wrong_cover};
 use crate::covering::cover_pairs;
 use crate::error::CheckError;
-use crate::lookup::{Lookup, find_lookup};
-use crate::meetings::{Meetings, meetings_of};
 use crate::places::wrong_place;
 use crate::shown::{show_inputs, wrong_shown};
 use cert_format::Complaint;
 use cert_format::covers::named_is_valid;
 use cert_format::laws::valid_saturations_are_models;
+use cert_index::{Lookup, Meetings, find_lookup, meetings_of};
 use inst_logic::{Literal, Memory};
 use saturation_cert::{ByList, CoverList, Covered, Saturation};
 use std::alloc::Global;
@@ -99,7 +98,7 @@ fn name_with(alloc: Global, cert: &mut Covered, lookup: &Lookup) -> Result<(), C
     Ok(())
 }
 
-// Does so with look-ups that serve both.
+// Finds what shows the inputs and what covers what is due, with one index for both.
 fn name_selection(alloc: Global, cert: &mut Covered) -> Result<(), CheckError>
     requires whole { IsWholeCovered cert.old }
     requires base { IsValidBase (base_of cert.old.cert.base) }

@@ -11,15 +11,15 @@ ghost use Rattle.cert_check.specs.DueSteps.{AreNamed, GivesMeeting, GivesPair, G
 ghost use Rattle.cert_check.specs.Sides.{left_number, right_number};
 ghost use Rattle.cert_check.specs.FirstPairs.{IsFirstWrongPairOf};
 ghost use Rattle.cert_check.specs.Firsts.{IsFirstWrongOf};
-ghost use Rattle.cert_check.specs.Lookups.{IsReady};
-ghost use Rattle.cert_check.specs.Meetings.{LeadsOn};
+ghost use Rattle.cert_index.specs.Lookups.{IsReady};
+ghost use Rattle.cert_index.specs.Meetings.{LeadsOn};
 ghost use Rattle.cert_check.specs.Names.{NamesSide};
 
 use crate::due_side::DueSide;
-use crate::instance::Instance;
-use crate::lookup::Lookup;
 use crate::naming::{Named, named_instance};
-use crate::rooms::{PairRoom, RowRoom};
+use crate::rooms::RowRoom;
+use cert_index::Lookup;
+use cert_inference::{Instance, PairRoom};
 use clause_form::Workspace;
 use inst_logic::Memory;
 use saturation_cert::{Cover, CoverList, Covered, Member, Saturation, selected};

@@ -4,24 +4,8 @@ ghost use Rattle.inst_logic.specs.Derivations.{at_number};
 ghost use Rattle.term_bank.specs.Forest.{IsClauseOf, clause_at};
 ghost use Rattle.cert_check.specs.Firsts.{IsFirstWrongOf};
 
+use cert_inference::same_clause;
 use term_bank::{Bank, IdClause, IdClauseList};
-
-// Whether the clauses have the same literals in the same order.
-pub fn same_clause(c: &IdClause, d: &IdClause) -> bool
-    ensures { IsTrue result ↔ (c.now ≡ d.now) }
-{
-    c == d
-}
-
-// Whether the clauses stand for the same trees: equal trees have equal ids.
-pub fn same_trees(bank: &Bank, c: &IdClause, d: &IdClause) -> bool
-    requires left { IsClauseOf bank.now c.now }
-    requires right { IsClauseOf bank.now d.now }
-    ensures { IsTrue result ↔ (clause_at bank.now c.now ≡ clause_at bank.now d.now) }
-{
-    bank.distinct();
-    same_clause(c, d)
-}
 
 // Whether both lists have equal clauses there, or both have none.
 fn same_at(xs: &[IdClause], ys: &[IdClause], i: usize) -> bool
@@ -46,7 +30,7 @@ fn different_ids(xs: &[IdClause], ys: &[IdClause]) -> Option<usize>
     None
 }
 
-// Whether this holds for the clauses of trees that they stand for.
+// The number of the first clause that the lists do not both have, as clauses of trees.
 pub fn difference(bank: &Bank, xs: &IdClauseList, ys: &IdClauseList) -> Option<usize>
     requires left { All (IsClauseOf bank.now) xs.now }
     requires right { All (IsClauseOf bank.now) ys.now }

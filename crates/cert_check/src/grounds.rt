@@ -11,7 +11,7 @@ ghost use Rattle.term_bank.specs.Forest.{AreFormed, Extends, IsClauseAt, IsClaus
 ghost use Rattle.cert_check.specs.Firsts.{IsFirstWrongOf};
 ghost use Rattle.cert_check.specs.Grounds.{AreCanonicalMembers, IsGroundAt};
 
-use crate::difference::same_trees;
+use cert_inference::same_trees;
 use clause_form::{greatest_variable, under};
 use inst_logic::{Kind, Memory, Sym};
 use saturation_cert::MemberList;

@@ -2,7 +2,7 @@
 ghost use Rattle.std.specs.Prelude.{◌≡◌, ◌+◌, length, All, Any, IfNone, IfOk, IfSome};
 ghost use Rattle.inst_logic.specs.Clauses.{Subsumes};
 ghost use Rattle.term_bank.specs.Forest.{IsClauseOf, clause_at};
-ghost use Rattle.cert_check.specs.Places.{IsPlaceOf};
+ghost use Rattle.cert_index.specs.Places.{IsPlaceOf};
 
 use clause_form::subsumes;
 use indexmap::IndexMap;

@@ -9,9 +9,8 @@ ghost use Rattle.cert_check.specs.Origins.{origin_from};
 ghost use Rattle.cert_check.specs.Sides.{left_number, right_number};
 
 use crate::compare::Progress;
-use crate::conclusion::{Premises, numbered_item};
-use crate::difference::same_clause;
 use crate::due_side::DueSide;
+use cert_inference::{Premises, numbered_item, same_clause};
 use saturation_cert::{By, Cover, Covered, Member, Origin, Saturation, selected};
 use unify_core::Side;
 

@@ -12,13 +12,12 @@ ghost use Rattle.saturation_cert.specs.declared.certificate.By.TheVariants.{Vari
 ghost use Rattle.saturation_cert.specs.Wholes.{IsWholeClause};
 ghost use Rattle.cert_check.specs.Covers.{IsCoveredIn};
 ghost use Rattle.cert_check.specs.Grounds.{AreCanonicalMembers};
-ghost use Rattle.cert_check.specs.Lookups.{IsLookup};
+ghost use Rattle.cert_index.specs.Lookups.{IsLookup};
 ghost use Rattle.cert_check.specs.Names.{IsCoverBy, IsPartOf, NamesInstance};
-ghost use Rattle.cert_check.specs.Places.{IsPlaceOf};
+ghost use Rattle.cert_index.specs.Places.{IsPlaceOf};
 
-use crate::covers::shorter_place;
-use crate::instance::Instance;
-use crate::lookup::Lookup;
+use cert_index::{Lookup, shorter_place};
+use cert_inference::Instance;
 use cert_names::part_terms;
 use clause_form::{Workspace, long_tautology};
 use inst_logic::Memory;

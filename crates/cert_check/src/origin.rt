@@ -6,7 +6,7 @@ ghost use Rattle.inst_logic.specs.Derivations.{at_number};
 ghost use Rattle.term_bank.specs.Forest.{AreFormed, Extends, IsClauseOf, clause_at};
 ghost use Rattle.cert_check.specs.Inputs.{GivesInput};
 
-use crate::difference::same_clause;
+use cert_inference::same_clause;
 use clause_form::{canonical, greatest_variable};
 use inst_logic::Memory;
 use std::alloc::Global;

@@ -7,11 +7,10 @@ ghost use Rattle.inst_calculus.specs.Parts.{AreWithin, IsProperPart, chosen};
 ghost use Rattle.term_bank.specs.Forest.{AreFormed, Extends, IsClauseOf, clause_at};
 ghost use Rattle.saturation_cert.specs.Values.{entry_of};
 ghost use Rattle.saturation_cert.specs.Wholes.{IsWholeClause};
-ghost use Rattle.cert_check.specs.Conclusions.{IsPartGiven};
+ghost use Rattle.cert_check.specs.Parts.{IsPartGiven};
 
-use crate::conclusion::{Premises, conclusion, numbered_item};
 use crate::origin::is_canonical_form;
-use crate::rooms::PairRoom;
+use cert_inference::{PairRoom, Premises, conclusion, numbered_item};
 use inst_logic::Memory;
 use saturation_cert::Member;
 use std::alloc::Global;

@@ -11,13 +11,13 @@ ghost use Rattle.cert_check.specs.Compared.{IsComparable};
 ghost use Rattle.cert_check.specs.DueSteps.{GrowsShown};
 ghost use Rattle.cert_check.specs.Firsts.{IsFirstWrongOf};
 ghost use Rattle.cert_check.specs.Grounds.{AreCanonicalMembers};
-ghost use Rattle.cert_check.specs.Lookups.{IsLookup, IsReady};
+ghost use Rattle.cert_index.specs.Lookups.{IsLookup, IsReady};
 ghost use Rattle.cert_check.specs.Names.{IsShownBy, IsUnshown, ShowsInput};
 
 use crate::inputs::{sources, stated_count, subsuming_place_from};
-use crate::lookup::Lookup;
 use crate::naming::part_of;
 use crate::origin::numbered;
+use cert_index::Lookup;
 use cert_names::shows;
 use clause_form::long_tautology;
 use inst_logic::Memory;

@@ -6,12 +6,12 @@ ghost use Rattle.term_bank.specs.Forest.{AreFormed, Extends, IsClauseOf, clause_
 ghost use Rattle.clause_form.specs.Conclusions.{AreVariables};
 ghost use Rattle.saturation_cert.specs.Values.{base_of, entry_of};
 ghost use Rattle.saturation_cert.specs.Wholes.{IsWholeBase, IsWholeClause, IsWholeTerm, KeepsBase};
-ghost use Rattle.cert_check.specs.Conclusions.{IsAtomOf};
+ghost use Rattle.cert_inference.specs.Conclusions.{IsAtomOf};
 ghost use Rattle.inst_logic.specs.Substitution.{subst};
 ghost use Rattle.clause_form.specs.Walks.{listed};
 ghost use Rattle.cert_check.specs.Sources.{AreConclusionTerms, AreFirstMembers, AreSources, AreUnifiedTerms, Conclude, IsSource, Unify};
 
-use crate::conclusion::{Premises, literal_at, numbered_item};
+use cert_inference::{Premises, literal_at, numbered_item};
 use clause_form::{conclude, greatest_variable, terms_under};
 use inst_logic::Memory;
 use saturation_cert::{Base, Member, Origin};

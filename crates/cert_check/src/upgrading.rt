@@ -12,9 +12,9 @@ ghost use Rattle.cert_check.specs.Sources.{AreFirstMembers, AreGroundLines, AreS
 
 use crate::first::CheckedFirst;
 use crate::grounds::repeated;
-use crate::lookup::copied;
 use crate::source::{Source, source_under, sources_of};
 use cert_format::valid_can_be_upgraded;
+use cert_index::copied;
 use inst_logic::{Memory, Sym};
 use saturation_cert::{Base, FirstRefutation, GroundLine, GroundLineList, Refutation};
 use std::alloc::Global;

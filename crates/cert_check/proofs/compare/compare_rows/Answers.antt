@@ -4,13 +4,13 @@ use Rattle.cert_format.specs.Certificate as format
 use Rattle.cert_format.specs.Validity.{IsProperPair}
 use Rattle.saturation_cert.specs.Values.{covered_of, saturation_of, entry_of}
 use Rattle.saturation_cert.proofs.Kept.{covered_same}
-use Rattle.cert_check.specs.Chains.{AreMeetings}
+use Rattle.cert_index.specs.Chains.{AreMeetings}
 use Rattle.cert_check.specs.DueSteps.{AreCompared, GivesRow}
 use Rattle.cert_check.specs.Firsts.{IsFirstWrong}
 use Rattle.cert_check.proofs.Bases.{none_wrong, some_wrong}
 use Rattle.cert_check.proofs.CoverGrowth.{comparable_kept, covered_itself, covered_trans}
 use Rattle.cert_check.proofs.DueLaws.{all_seen, none_compared, none_seen, row_more}
-use Rattle.cert_check.proofs.NameLaws.{no_place}
+use Rattle.cert_index.proofs.PlaceLaws.{no_place}
 use Rattle.cert_check.proofs.PairScans.{first_pair, all_pairs, of_proper}
 use Rattle.cert_check.proofs.compare.compare_rows.Goals as goal
 

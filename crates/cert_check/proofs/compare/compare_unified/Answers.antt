@@ -3,10 +3,12 @@ use Rattle.std.proofs.lemmas.Result.{IfOk-weaker}
 use Rattle.term_bank.specs.Forest.{tree_at}
 use Rattle.saturation_cert.specs.Values.{covered_of, saturation_of}
 use Rattle.cert_check.specs.DueSteps.{AreCompared}
-use Rattle.cert_check.proofs.BoundTerms.{bound_terms}
-use Rattle.cert_check.proofs.Closings.{selected_atom}
+use Rattle.cert_inference.proofs.BoundTerms.{bound_terms}
+use Rattle.cert_index.proofs.SelectedAtoms.{selected_atom}
 use Rattle.cert_check.proofs.DueLaws.{apart_gives}
-use Rattle.cert_check.proofs.PairScans.{apart_is_proper, general_here, no_unifier, opposite_members, proper_pair, same_sign, signs_differ, signs_same}
+use Rattle.cert_check.proofs.PairScans.{apart_is_proper, general_here, opposite_members, proper_pair}
+use Rattle.cert_index.proofs.ApartLaws.{no_unifier, same_sign}
+use Rattle.cert_inference.proofs.Signs.{signs_differ, signs_same}
 use Rattle.cert_check.proofs.compare.compare_unified.Goals as goal
 
 pub returns-then-l-m-clause-proper : goal.returns-then-l-m-clause-proper

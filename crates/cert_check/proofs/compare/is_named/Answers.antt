@@ -4,7 +4,7 @@ use Rattle.term_bank.proofs.Growth.{extends_trans}
 use Rattle.saturation_cert.specs.declared.member.Member.{Member}
 use Rattle.saturation_cert.specs.Wholes.{IsWholeClause}
 use Rattle.saturation_cert.proofs.Grown.{clause_grown}
-use Rattle.cert_check.specs.Compared.{IsInstanceOf}
+use Rattle.cert_inference.specs.Instances.{IsInstanceOf}
 use Rattle.cert_check.proofs.Closings.{canonical_members}
 use Rattle.cert_check.proofs.CompareLaws.{by_later, instance_canonical, named_right, named_wrong}
 use Rattle.cert_check.proofs.CoverLaws.{members_later, canonical_later}

@@ -5,7 +5,7 @@ use Rattle.std.proofs.lemmas.Option.{slice_get_within}
 use Rattle.saturation_cert.proofs.Kept.{covered_whole}
 use Rattle.cert_check.proofs.CompareLaws.{cover_none, cover_other, cover_same, whole_cover_at}
 use Rattle.cert_check.proofs.MadeLaws.{made_named}
-use Rattle.cert_check.proofs.NameLaws.{no_place}
+use Rattle.cert_index.proofs.PlaceLaws.{no_place}
 use Rattle.cert_check.proofs.compare.is_right_cover.Goals as goal
 
 pub returns-in_default-clause-right : goal.returns-in_default-clause-right

@@ -5,7 +5,7 @@ use Rattle.saturation_cert.specs.declared.certificate.Covered.{Covered}
 use Rattle.saturation_cert.specs.Values.{cover_of, covered_of}
 use Rattle.cert_check.proofs.Bases.{none_wrong, some_wrong}
 use Rattle.cert_check.proofs.CoveredStages.{all_right, cover_first, pair_first}
-use Rattle.cert_check.proofs.NameLaws.{no_place}
+use Rattle.cert_index.proofs.PlaceLaws.{no_place}
 use Rattle.cert_check.proofs.Saturations.{none_pair, some_pair}
 use Rattle.cert_check.proofs.covered.compare_covers.Goals as goal
 

@@ -6,8 +6,8 @@ use Rattle.saturation_cert.specs.declared.certificate.Covered.{Covered}
 use Rattle.saturation_cert.specs.Values.{saturation_of}
 use Rattle.cert_check.specs.FirstPairs.{IsFirstWrongPair}
 use Rattle.cert_check.proofs.Bases.{none_wrong, some_wrong}
-use Rattle.cert_check.proofs.LookupLaws.{ready_kept}
-use Rattle.cert_check.proofs.NameLaws.{no_place}
+use Rattle.cert_check.proofs.ReadyLaws.{ready_kept}
+use Rattle.cert_index.proofs.PlaceLaws.{no_place}
 use Rattle.cert_check.proofs.NamedStages.{named_by, shown_stays}
 use Rattle.cert_check.proofs.PairScans.{placed_kept, valid_kept}
 use Rattle.cert_check.proofs.Saturations.{input_first, keeps_saturation_trans, none_pair, pair_first, saturation_same, some_pair}

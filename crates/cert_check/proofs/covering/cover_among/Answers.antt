@@ -5,7 +5,7 @@ use Rattle.cert_format.specs.Validity.{IsRightPair}
 use Rattle.saturation_cert.specs.Values.{covered_of, saturation_of, entry_of}
 use Rattle.cert_check.specs.DueSteps.{AreNamed, GivesPair}
 use Rattle.cert_check.proofs.CoverGrowth.{grows_itself, grows_trans}
-use Rattle.cert_check.proofs.LookupLaws.{ready_kept}
+use Rattle.cert_check.proofs.ReadyLaws.{ready_kept}
 use Rattle.cert_check.proofs.Saturations.{saturation_same}
 use Rattle.cert_check.proofs.PairScans.{of_right}
 use Rattle.cert_check.proofs.RowScans.{among_all, among_wrong, due_begins, due_ends, due_more, item_is, item_later, item_within}

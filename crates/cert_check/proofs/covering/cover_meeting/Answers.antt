@@ -6,7 +6,7 @@ use Rattle.clause_form.proofs.Concluded.{terms_later}
 use Rattle.clause_form.proofs.Leaves.{resolved_later}
 use Rattle.saturation_cert.specs.Values.{covered_of, saturation_of}
 use Rattle.cert_check.specs.DueSteps.{AreNamed}
-use Rattle.cert_check.proofs.LookupLaws.{ready_kept}
+use Rattle.cert_check.proofs.ReadyLaws.{ready_kept}
 use Rattle.cert_check.proofs.Closings.{open_left, both_sides, side_before}
 use Rattle.cert_check.proofs.DueLaws.{meeting_gives, side_of_same}
 use Rattle.cert_check.proofs.Saturations.{saturation_same}

@@ -3,10 +3,12 @@ use Rattle.std.proofs.lemmas.Result.{IfOk-weaker}
 use Rattle.term_bank.specs.Forest.{tree_at}
 use Rattle.saturation_cert.specs.Values.{covered_of, saturation_of}
 use Rattle.cert_check.specs.DueSteps.{AreNamed}
-use Rattle.cert_check.proofs.BoundTerms.{bound_terms}
-use Rattle.cert_check.proofs.Closings.{selected_atom}
+use Rattle.cert_inference.proofs.BoundTerms.{bound_terms}
+use Rattle.cert_index.proofs.SelectedAtoms.{selected_atom}
 use Rattle.cert_check.proofs.DueLaws.{apart_gives}
-use Rattle.cert_check.proofs.PairScans.{general_here, closed_is_right, no_unifier, same_sign, signs_differ, signs_same, opposite_members}
+use Rattle.cert_check.proofs.PairScans.{general_here, closed_is_right, opposite_members}
+use Rattle.cert_index.proofs.ApartLaws.{no_unifier, same_sign}
+use Rattle.cert_inference.proofs.Signs.{signs_differ, signs_same}
 use Rattle.cert_check.proofs.covering.cover_pair.Goals as goal
 
 pub returns-then-l-m-clause-gives : goal.returns-then-l-m-clause-gives

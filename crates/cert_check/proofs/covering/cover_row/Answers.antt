@@ -1,6 +1,6 @@
 use Rattle.std.proofs.Common.{List, ℕ, suc, sym, subst}
 use Rattle.saturation_cert.specs.Values.{saturation_of}
-use Rattle.cert_check.specs.Meetings.{LeadsOn}
+use Rattle.cert_index.specs.Meetings.{LeadsOn}
 use Rattle.cert_check.proofs.covering.cover_row.Goals as goal
 
 pub cover_among-requires-clause-partners : goal.cover_among-requires-clause-partners

@@ -8,8 +8,8 @@ use Rattle.cert_check.specs.Firsts.{IsFirstWrong}
 use Rattle.cert_check.proofs.Bases.{none_wrong, some_wrong}
 use Rattle.cert_check.proofs.CoverGrowth.{grows_itself, grows_trans, none_named}
 use Rattle.cert_check.proofs.DueLaws.{all_seen, none_seen, row_more}
-use Rattle.cert_check.proofs.LookupLaws.{ready_kept}
-use Rattle.cert_check.proofs.NameLaws.{no_place}
+use Rattle.cert_check.proofs.ReadyLaws.{ready_kept}
+use Rattle.cert_index.proofs.PlaceLaws.{no_place}
 use Rattle.cert_check.proofs.PairScans.{first_pair, all_pairs, of_right}
 use Rattle.cert_check.proofs.Saturations.{saturation_same}
 use Rattle.cert_check.proofs.covering.cover_rows.Goals as goal

@@ -6,7 +6,7 @@ use Rattle.inst_logic.specs.Clauses.{IsCanonical}
 use Rattle.saturation_cert.specs.declared.member.Member.{Member}
 use Rattle.saturation_cert.specs.Wholes.{IsWholeClause}
 use Rattle.cert_check.specs.Grounds.{AreCanonicalMembers}
-use Rattle.cert_check.specs.Lookups.{IsLookup}
+use Rattle.cert_index.specs.Lookups.{IsLookup}
 use Rattle.cert_check.specs.Names.{NamesInstance}
 use Rattle.cert_check.proofs.Closings.{canonical_members, covered_here}
 use Rattle.cert_check.proofs.NameLaws.{side_named, if_none_then}

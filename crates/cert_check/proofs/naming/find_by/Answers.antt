@@ -3,9 +3,10 @@ use Rattle.std.specs.Prelude.{Any, IfNone}
 use Rattle.inst_logic.specs.Signed.{IsTautology}
 use Rattle.saturation_cert.specs.declared.member.Member.{Member}
 use Rattle.term_bank.specs.Forest.{clause_at}
-use Rattle.cert_check.specs.Covers.{ShorterOf}
+use Rattle.cert_index.specs.Shorter.{ShorterOf}
 use Rattle.cert_check.specs.Names.{IsCoverBy}
-use Rattle.cert_check.proofs.NameLaws.{tautology_covers, variant_covers, part_covers, none_covers, member_ids, no_place, place_some, place_subsumes}
+use Rattle.cert_check.proofs.NameLaws.{tautology_covers, variant_covers, part_covers, none_covers, member_ids, place_subsumes}
+use Rattle.cert_index.proofs.PlaceLaws.{no_place, place_some}
 use Rattle.cert_check.proofs.naming.find_by.Goals as goal
 
 pub returns-then-branch-clause-some : goal.returns-then-branch-clause-some

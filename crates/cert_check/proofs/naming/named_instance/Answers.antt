@@ -1,6 +1,6 @@
 use Rattle.cert_check.proofs.CoverLaws.{members_later, canonical_later}
 use Rattle.cert_check.proofs.Interning.{whole_formed}
-use Rattle.cert_check.proofs.LookupLaws.{lookup_later}
+use Rattle.cert_index.proofs.LookupLaws.{lookup_later}
 use Rattle.cert_check.proofs.NameLaws.{formed_whole, instance_covered, instance_named, instance_open, by_some, by_none}
 use Rattle.cert_check.proofs.naming.named_instance.Goals as goal
 

@@ -7,7 +7,7 @@ use Rattle.inst_calculus.specs.Parts.{chosen, IsProperPart}
 use Rattle.saturation_cert.specs.Values.{entry_of}
 use Rattle.term_bank.specs.Forest.{clause_at}
 use Rattle.term_bank.proofs.Clauses.{clause_extends, clause_of_extends}
-use Rattle.cert_check.specs.Conclusions.{MembersConclude}
+use Rattle.cert_inference.specs.Conclusions.{MembersConclude}
 use Rattle.cert_check.proofs.PartLaws.{no_part, part_by}
 use Rattle.cert_check.proofs.part.is_part.Goals as goal
 

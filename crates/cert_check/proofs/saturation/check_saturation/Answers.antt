@@ -1,7 +1,7 @@
 use Rattle.std.proofs.Common.{subst}
 use Rattle.cert_format.specs.Validity.{IsValidSaturation}
 use Rattle.saturation_cert.specs.Values.{covered_of, saturation_of}
-use Rattle.cert_check.proofs.Saturations.{members_formed}
+use Rattle.cert_index.proofs.SelectedAtoms.{members_formed}
 use Rattle.cert_check.proofs.saturation.check_saturation.Goals as goal
 
 pub invariant_of-result : goal.invariant_of-result

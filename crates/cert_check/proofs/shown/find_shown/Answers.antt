@@ -3,7 +3,8 @@ use Rattle.std.specs.Prelude.{Any, IfNone}
 use Rattle.inst_logic.specs.Clauses.{Subsumes}
 use Rattle.saturation_cert.specs.declared.member.Member.{Member}
 use Rattle.term_bank.specs.Forest.{clause_at}
-use Rattle.cert_check.proofs.NameLaws.{member_ids, part_shows, place_same, place_some, tautology_shows}
+use Rattle.cert_check.proofs.NameLaws.{member_ids, part_shows, place_same, tautology_shows}
+use Rattle.cert_index.proofs.PlaceLaws.{place_some}
 use Rattle.cert_check.proofs.shown.find_shown.Goals as goal
 
 pub part_of-requires-clause-place : goal.part_of-requires-clause-place

@@ -7,7 +7,7 @@ use Rattle.saturation_cert.specs.declared.certificate.By.{By}
 use Rattle.saturation_cert.specs.Values.{saturation_of}
 use Rattle.cert_check.specs.Names.{ShowsInput}
 use Rattle.cert_check.proofs.InputScans.{all_inputs, first_input}
-use Rattle.cert_check.proofs.LookupLaws.{ready_kept}
+use Rattle.cert_check.proofs.ReadyLaws.{ready_kept}
 use Rattle.cert_check.proofs.ShownSteps.{pushed_shown, shows_all, shows_more, shows_none, wrong_here}
 use Rattle.cert_check.proofs.shown.show_inputs.Goals as goal
 

@@ -5,7 +5,7 @@ use Rattle.std.proofs.lemmas.Result.{IfOk-weaker}
 use Rattle.saturation_cert.specs.declared.member.Member.{Member}
 use Rattle.saturation_cert.specs.Wholes.{IsWholeClause}
 use Rattle.cert_check.specs.Grounds.{AreCanonicalMembers}
-use Rattle.cert_check.specs.Lookups.{IsLookup}
+use Rattle.cert_index.specs.Lookups.{IsLookup}
 use Rattle.cert_check.specs.Names.{IsShownBy, IsUnshown}
 use Rattle.cert_check.proofs.Closings.{canonical_members}
 use Rattle.cert_check.proofs.InputScans.{stated_whole}

@@ -7,8 +7,9 @@ use Rattle.inst_logic.proofs.ShownLaws.{at_number_contains}
 use Rattle.inst_calculus.proofs.Membership.{all_in, contains_in}
 use Rattle.term_bank.specs.Forest.{clause_at}
 use Rattle.saturation_cert.specs.declared.member.Member.{Member}
-use Rattle.cert_check.specs.Conclusions.{literal_of}
-use Rattle.cert_check.proofs.Conclusions.{member_whole, literal_atom, unify_named, terms_concluded}
+use Rattle.cert_inference.specs.Conclusions.{literal_of}
+use Rattle.cert_inference.proofs.Conclusions.{member_whole, literal_atom}
+use Rattle.cert_check.proofs.SourceTerms.{unify_named, terms_concluded}
 use Rattle.cert_check.proofs.source.conclusion_terms.Goals as goal
 
 pub unified_terms-requires-clause-clause : goal.unified_terms-requires-clause-clause

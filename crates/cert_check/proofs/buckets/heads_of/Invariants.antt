@@ -1,6 +1,0 @@
-use Rattle.std.proofs.Common.{◌≡◌, map, take}
-use Rattle.cert_check.specs.declared.buckets.Bucket.{Bucket}
-use Rattle.cert_check.proofs.buckets.heads_of.Given as goal
-
-abbrev pub invariant-loop-bucket : goal.invariant-loop-bucket
-invariant-loop-bucket l = l.heads.items ≡ map (λ (b : Bucket). b.head) (take l.bucket-index l.buckets)

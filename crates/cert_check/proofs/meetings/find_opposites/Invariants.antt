@@ -1,5 +1,0 @@
-use Rattle.cert_check.specs.Chains.{AreOpposites}
-use Rattle.cert_check.proofs.meetings.find_opposites.Given as goal
-
-abbrev pub invariant-loop-p : goal.invariant-loop-p
-invariant-loop-p l = AreOpposites l.classes.heads.items l.fingerprints l.p l.opposites

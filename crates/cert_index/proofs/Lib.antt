@@ -1,0 +1,12 @@
+pub mod ApartLaws
+pub mod BucketLaws
+pub mod FingerprintLaws
+pub mod HeadLaws
+pub mod LengthLaws
+pub mod LinkLaws
+pub mod LookupLaws
+pub mod MeetingLaws
+pub mod NarrowLaws
+pub mod PlaceLaws
+pub mod SelectedAtoms
+pub mod ShorterLaws

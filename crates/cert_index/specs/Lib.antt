@@ -1,0 +1,11 @@
+pub mod Buckets
+pub mod Chains
+pub mod Fingerprints
+pub mod Lengths
+pub mod Links
+pub mod Lookups
+pub mod Meetings
+pub mod Narrow
+pub mod Partners
+pub mod Places
+pub mod Shorter
