@@ -29,16 +29,19 @@ use Rattle.cert_front.specs.declared.fault.CertFault.{CertFault}
 use Rattle.command_words.specs.Asked.{Asked, prove, sat, check, rewrite, ask, stress, qbf, fmodel, core, IsAsked, IsUnread, name_of}
 use Rattle.dimacs_front.specs.Files.{IsHeld, IsOutcome, IsRefused}
 use Rattle.dimacs_front.specs.Notices.{fault_reason as line_of_text, fault_status as status_of_text, refusal_reason, refusal_status}
-use Rattle.dimacs_front.specs.Quantified.{formula_in}
+use Rattle.dimacs_front.specs.Answers.{IsAnswerFor}
+use Rattle.dimacs_front.specs.Dimacs.{IsDimacs}
+use Rattle.dimacs_front.specs.Qdimacs.{IsQdimacs}
 use Rattle.dimacs_front.specs.declared.answers.SatAnswer.{SatAnswer}
 use Rattle.dimacs_front.specs.declared.answers.SatAnswer.TheVariants.{Satisfiable, Unsatisfiable}
+use Rattle.dimacs_front.specs.declared.cnf.Cnf.{Cnf}
 use Rattle.dimacs_front.specs.declared.cnf.Qbf.{Qbf as Formula}
 use Rattle.dimacs_front.specs.declared.error.DimacsError.{DimacsError}
 use Rattle.dimacs_front.specs.declared.file.SatError.{SatError}
 use Rattle.szs_prove.specs.Sizes.{IsRefutedIn}
 use Rattle.szs_prove.specs.SizeWords.{size_lines}
 use Rattle.szs_prove.specs.Answers.{IsOutOfBudget, IsProof, IsRefusal, IsVerdict, Reading}
-use Rattle.szs_prove.specs.Answered.{Answered, AsksAtom, AsksChain, AsksCheck, AsksCore, AsksFormula, AsksModel, AsksProof, AsksRewriting, EndsChain, IsAnswer, IsCoreOutcome, IsFinding, IsInterrupted, IsMeasured, IsModelOutcome, IsNamed, IsReplyOf, IsRewritingOf, OfCertificate, TellsValue, WantsMemory, WritesCertificate, WritesComplaint, WritesCore, WritesFormula, WritesJudgement, WritesModel, WritesNumbers, WritesReply, WritesRewriting, WritesSize, Writing, ask_exit, ask_text, check_exit, check_text, core_exit, core_reason, core_status, core_text, exit_for, fmodel_exit, fmodel_text, judgement_exit, model_reason, model_status, prove_exit, prove_text, qbf_exit, qbf_text, reply_exit, rewriting_exit, rewriting_text, sat_exit, sat_text, stress_exit, stress_text, text_for, unjudged_reason, unjudged_status, value_exit, value_text, TookCertificate}
+use Rattle.szs_prove.specs.Answered.{Answered, AsksAtom, AsksChain, AsksCheck, AsksClauses, AsksCore, AsksFormula, AsksModel, AsksProof, AsksRewriting, EndsChain, IsAnswer, IsCoreOutcome, IsFinding, IsInterrupted, IsMeasured, IsModelOutcome, IsNamed, IsReplyOf, IsRewritingOf, OfCertificate, TellsValue, WantsMemory, WritesCertificate, WritesComplaint, WritesCore, WritesFormula, WritesJudgement, WritesModel, WritesNumbers, WritesReply, WritesRewriting, WritesSize, WritesSolved, Writing, ask_exit, ask_text, check_exit, check_text, core_exit, core_reason, core_status, core_text, exit_for, fmodel_exit, fmodel_text, judgement_exit, model_reason, model_status, prove_exit, prove_text, qbf_exit, qbf_text, reply_exit, rewriting_exit, rewriting_text, sat_exit, sat_text, solved_exit, solved_text, stress_exit, stress_text, text_for, unjudged_reason, unjudged_status, value_exit, value_text, TookCertificate}
 use Rattle.szs_prove.specs.Texts.{exit_of, load_reason, load_status, refusal_text, text_reason, text_status, want_text, reason_of, status_of}
 use Rattle.szs_prove.specs.CoreAnswers.{HasCoreAnswer, IsCoreRefusal}
 use Rattle.szs_prove.specs.Formulas.{IsFormulaAnswer, IsFormulaOutcome, IsFormulaRefused}
@@ -134,6 +137,19 @@ record SaysSize (words : List (List ℕ)) (text : List ℕ) : Type 0 where
   refuted : IsRefutedIn number size
   is : text ≡ size_lines size
 
+-- the text tells truth values for clauses, or that there are none, with the exit that goes with it
+record SaysSolved (words : List (List ℕ)) (read : Reading) (text : List ℕ) (e : Exit) : Type 0 where
+  file : List ℕ
+  asked : IsAsked words (sat file)
+  bytes : List ℕ
+  held : IsHeld read.old.files file bytes
+  clauses : Cnf
+  spelled : IsDimacs bytes clauses
+  answer : SatAnswer
+  shown : IsAnswerFor clauses.vars clauses.clauses answer
+  ends : e ≡ solved_exit answer
+  is : text ≡ solved_text answer
+
 -- the text tells the value of a formula, with the exit that goes with it
 record SaysFormula (words : List (List ℕ)) (read : Reading) (text : List ℕ) (e : Exit) : Type 0 where
   file : List ℕ
@@ -141,7 +157,7 @@ record SaysFormula (words : List (List ℕ)) (read : Reading) (text : List ℕ) 
   bytes : List ℕ
   held : IsHeld read.old.files file bytes
   formula : Formula
-  reads : formula_in bytes ≡ Ok formula
+  spelled : IsQdimacs bytes formula
   answer : FormulaAnswer
   shown : IsFormulaAnswer file formula answer
   ends : e ≡ value_exit answer
@@ -184,7 +200,7 @@ SaysDecided words read text = (a : Asked) × IsAsked words a × DecidedOf words 
 
 -- what the value is that a question found
 abbrev ValueOf : List (List ℕ) → Reading → List ℕ → Exit → Asked → Type 0
-ValueOf words read text e (sat file) = ⊤
+ValueOf words read text e (sat file) = SaysSolved words read text e
 ValueOf words read text e (qbf file) = SaysFormula words read text e
 ValueOf words read text e a = ⊥
 
@@ -366,9 +382,23 @@ module _ (words : List (List ℕ)) (read : Reading) where
       (prove file root budget, asked, record { file = file; root = root; budget = budget; asked = asked; certificate = h.0; is_verdict = h.1; is = h.2 })
   prove_tells file root budget asked (Err why) h = refusal_tells file root budget asked why h
 
+  solved_says : (file : List ℕ) → IsAsked words (sat file) → (a : SatAnswer) → IsOutcome read.old read.new file (Ok a) → SaysSolved words read (solved_text a) (solved_exit a)
+  solved_says file asked a h = record {
+    file = file;
+    asked = asked;
+    bytes = h.0;
+    held = h.2;
+    clauses = h.1;
+    spelled = h.3;
+    answer = a;
+    shown = h.4;
+    ends = refl;
+    is = refl;
+  }
+
   sat_tells : (file : List ℕ) → IsAsked words (sat file) → (o : Result SatAnswer SatError) → IsOutcome read.old read.new file o → Tells (sat_text file o) (sat_exit o)
-  sat_tells file asked (Ok (Satisfiable text)) h = (sat file, asked, tt)
-  sat_tells file asked (Ok (Unsatisfiable text)) h = (sat file, asked, tt)
+  sat_tells file asked (Ok (Satisfiable text)) h = (sat file, asked, solved_says file asked (Satisfiable text) h)
+  sat_tells file asked (Ok (Unsatisfiable text)) h = (sat file, asked, solved_says file asked (Unsatisfiable text) h)
   sat_tells file asked (Err e) h = notice_tells file (refusal_reason file e) (named_by (sat file) asked) (refusal_status e) (sat_caused file e h)
 
   judgement_says : (c : List ℕ) (problem root : Option (List ℕ)) → IsAsked words (check c problem root) → (form : Form) (j : Judgement) → IsJudged read.old.files c problem root (form, j)
@@ -428,7 +458,7 @@ module _ (words : List (List ℕ)) (read : Reading) where
     bytes = h.0;
     held = h.2;
     formula = h.1;
-    reads = h.3;
+    spelled = h.3;
     answer = a;
     shown = h.4;
     ends = refl;
@@ -603,6 +633,27 @@ module _ (words : List (List ℕ)) (read : Reading) (write : Writing) (e : Exit)
         let s = d.0 in
         record { file = s.file; root = s.root; asked = s.asked; text = said; shown = s.shown; written = d.1 }
 
+    writes_solved : (x : Exit) → SaysSolved words read said x → Appends write.old.taken write.new.taken said → WritesSolved words read.old.files write.old.taken write.new.taken x
+    writes_solved x s w = record {
+      file = s.file;
+      asked = s.asked;
+      bytes = s.bytes;
+      held = s.held;
+      clauses = s.clauses;
+      read = s.spelled;
+      answer = s.answer;
+      shown = s.shown;
+      ends = s.ends;
+      written = subst (Appends write.old.taken write.new.taken) s.is w;
+    }
+
+    solves : (x : Exit) → SaysValue words read said x × Appends write.old.taken write.new.taken said → AsksClauses words → WritesSolved words read.old.files write.old.taken write.new.taken x
+    solves x v asks = writes_solved x (subst (ValueOf words read said x) (once words v.0.0 (sat asks.0) v.0.1 asks.1) v.0.2) v.1
+
+    pub solved : AsksClauses words → TellsValue e → WritesSolved words read.old.files write.old.taken write.new.taken e
+    solved asks (inl is) = subst (WritesSolved words read.old.files write.old.taken write.new.taken) (sym is) (solves exit.Sat (whole exit.Sat is (λ x. cc) (λ x. cc)) asks)
+    solved asks (inr is) = subst (WritesSolved words read.old.files write.old.taken write.new.taken) (sym is) (solves exit.Unsat (whole exit.Unsat is (λ x. cc) (λ x. cc)) asks)
+
     writes_formula : (x : Exit) → SaysFormula words read said x → Appends write.old.taken write.new.taken said → WritesFormula words read.old.files write.old.taken write.new.taken x
     writes_formula x s w = record {
       file = s.file;
@@ -610,7 +661,7 @@ module _ (words : List (List ℕ)) (read : Reading) (write : Writing) (e : Exit)
       bytes = s.bytes;
       held = s.held;
       formula = s.formula;
-      read = s.reads;
+      read = s.spelled;
       answer = s.answer;
       shown = s.shown;
       ends = s.ends;

@@ -1,3 +1,4 @@
+pub mod AnsweredFormulas
 pub mod AskedAtoms
 pub mod ChainClauses
 pub mod ChainModels

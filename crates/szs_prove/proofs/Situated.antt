@@ -32,10 +32,12 @@ use Rattle.cert_front.specs.declared.fault.CertFault.{CertFault}
 use Rattle.cert_front.specs.declared.fault.CertFault.TheVariants as bad
 use Rattle.command_words.specs.Asked.{Asked, prove, sat, check, rewrite, ask, stress, qbf, fmodel, core, IsAsked}
 use Rattle.dimacs_front.specs.Files.{IsHeld, IsOutcome, IsRefused, limit}
-use Rattle.dimacs_front.specs.Form.{reading as clauses_of}
+use Rattle.dimacs_front.specs.Dimacs.{IsDimacs}
+use Rattle.dimacs_front.specs.FormulaRefusals.{IsFormulaRefusal}
+use Rattle.dimacs_front.specs.Qdimacs.{IsQdimacs}
+use Rattle.dimacs_front.specs.Refusals.{IsRefusal as IsTextRefusal}
 use Rattle.dimacs_front.specs.declared.answers.SatAnswer.{SatAnswer}
 use Rattle.dimacs_front.specs.declared.answers.SatAnswer.TheVariants.{Satisfiable, Unsatisfiable}
-use Rattle.dimacs_front.specs.Quantified.{formula_in}
 use Rattle.dimacs_front.specs.declared.cnf.Cnf.{Cnf}
 use Rattle.dimacs_front.specs.declared.cnf.Qbf.{Qbf as Formula}
 use Rattle.dimacs_front.specs.declared.error.DimacsError.{DimacsError}
@@ -43,7 +45,7 @@ use Rattle.dimacs_front.specs.declared.error.DimacsError.TheVariants as fault
 use Rattle.dimacs_front.specs.declared.file.SatError.{SatError}
 use Rattle.dimacs_front.specs.declared.file.SatError.TheVariants as bar
 use Rattle.szs_prove.specs.Answers.{HasVerdict, IsOutOfBudget, IsProblemOf, IsProof, IsRefusal, Reading}
-use Rattle.szs_prove.specs.Answered.{Answered, Finding, Finds, IsAnswer, IsBarred, IsCoreOutcome, IsExact, IsFinding, IsFlat, IsLoaded, IsModelOutcome, IsRead, IsRefusedBy, IsReplyOf, IsRewritingOf, IsTabled, IsWanted, Reader, Situation, Stands, Wants, Writing, Yields, ask_exit, asks, check_exit, core_exit, exit_for, fmodel_exit, judgement_exit, prove_exit, qbf_exit, reply_exit, rewriting_exit, sat_exit, stress_exit, unjudged_status, unread}
+use Rattle.szs_prove.specs.Answered.{Answered, Finding, Finds, IsAnswer, IsBarred, IsCoreOutcome, IsExact, IsFinding, IsFlat, IsLoaded, IsModelOutcome, IsRead, IsRefusedBy, IsReplyOf, IsRewritingOf, IsTabled, IsWanted, Situation, Stands, TextRelation, Wants, Writing, Yields, ask_exit, asks, check_exit, core_exit, exit_for, fmodel_exit, judgement_exit, prove_exit, qbf_exit, reply_exit, rewriting_exit, sat_exit, stress_exit, unjudged_status, unread}
 use Rattle.szs_prove.specs.Texts.{exit_of, load_status, text_status}
 use Rattle.szs_prove.specs.Applications.{IsFirstWithFunctions}
 use Rattle.szs_prove.specs.CoreAnswers.{HasCoreAnswer}
@@ -74,21 +76,27 @@ some_bytes files file a b p q = cc
 not_none : (files : List NamedFile) (file a : List ℕ) → bytes_named files file ≡ Some a → bytes_named files file ≡ None → ⊥
 not_none files file a p q = cc
 
-module _ (A : Type 0) (reads : Reader A) where
-  read_both : (a b : List ℕ) (c d : A) → a ≡ b → reads a ≡ Ok c → reads b ≡ Ok d → c ≡ d
-  read_both a b c d same p q = cc
+-- that a text spells one thing, or is refused for one reason
+pub record SpellsOne (A : Type 0) (spells : TextRelation A) (refuses : TextRelation DimacsError) : Type 0 where
+  pub spellings : (text : List ℕ) (c d : A) → spells text c → spells text d → c ≡ d
+  pub refusals : (text : List ℕ) (d e : DimacsError) → refuses text d → refuses text e → d ≡ e
+  pub apart : (text : List ℕ) (c : A) (e : DimacsError) → spells text c → refuses text e → ⊥
 
-  read_or_not : (a b : List ℕ) (c : A) (e : DimacsError) → a ≡ b → reads a ≡ Ok c → reads b ≡ Err e → ⊥
-  read_or_not a b c e same p q = cc
+module _ (A : Type 0) (spells : TextRelation A) (refuses : TextRelation DimacsError) (one : SpellsOne A spells refuses) where
+  read_both : (a b : List ℕ) (c d : A) → a ≡ b → spells a c → spells b d → c ≡ d
+  read_both a b c d same p q = one.spellings b c d (subst (λ x. spells x c) same p) q
 
-  refused_both : (a b : List ℕ) (d e : DimacsError) → a ≡ b → reads a ≡ Err d → reads b ≡ Err e → d ≡ e
-  refused_both a b d e same p q = cc
+  read_or_not : (a b : List ℕ) (c : A) (e : DimacsError) → a ≡ b → spells a c → refuses b e → ⊥
+  read_or_not a b c e same p q = one.apart b c e (subst (λ x. spells x c) same p) q
+
+  refused_both : (a b : List ℕ) (d e : DimacsError) → a ≡ b → refuses a d → refuses b e → d ≡ e
+  refused_both a b d e same p q = one.refusals b d e (subst (λ x. refuses x d) same p) q
 
   -- the bytes of the file are refused for this
   abbrev RefusesBytes : List NamedFile → List ℕ → DimacsError → Type 0
-  RefusesBytes files file e = (b : List ℕ) × IsHeld (Some files) file b × (reads b ≡ Err e)
+  RefusesBytes files file e = (b : List ℕ) × IsHeld (Some files) file b × refuses b e
 
-  refused_bytes : (files : List NamedFile) (file : List ℕ) (e : DimacsError) → IsRefusedBy reads files file e → RefusesBytes files file e
+  refused_bytes : (files : List NamedFile) (file : List ℕ) (e : DimacsError) → IsRefusedBy refuses files file e → RefusesBytes files file e
   refused_bytes files file (fault.Syntax line) h = h
   refused_bytes files file (fault.Range line) h = h
   refused_bytes files file (fault.Count found) h = h
@@ -97,10 +105,10 @@ module _ (A : Type 0) (reads : Reader A) where
   refused_bytes files file fault.Memory h = absurd h
 
   module _ (files : List NamedFile) (file : List ℕ) where
-    one_form : (c d : A) → IsRead reads files file (Ok c) → IsRead reads files file (Ok d) → c ≡ d
+    one_form : (c d : A) → IsRead spells refuses files file (Ok c) → IsRead spells refuses files file (Ok d) → c ≡ d
     one_form c d h k = read_both h.0 k.0 c d (some_bytes files file h.0 k.0 h.1.1 k.1.1) h.2 k.2
 
-    not_refused : (c : A) (e : DimacsError) → IsRead reads files file (Ok c) → RefusesBytes files file e → ⊥
+    not_refused : (c : A) (e : DimacsError) → IsRead spells refuses files file (Ok c) → RefusesBytes files file e → ⊥
     not_refused c e h k = read_or_not h.0 k.0 c e (some_bytes files file h.0 k.0 h.1.1 k.1.1) h.2 k.2
 
     too_many : (a b : List ℕ) → IsHeld (Some files) file a → bytes_named files file ≡ Some b → limit < length b → ⊥
@@ -110,14 +118,14 @@ module _ (A : Type 0) (reads : Reader A) where
         let few : length a ≤ limit = h.0 in
         omega (arith, more, few)
 
-    not_barred : (c : A) (e : SatError) → IsRead reads files file (Ok c) → IsBarred reads files file e → ⊥
+    not_barred : (c : A) (e : SatError) → IsRead spells refuses files file (Ok c) → IsBarred refuses files file e → ⊥
     not_barred c bar.Absent h k = not_none files file h.0 h.1.1 k
     not_barred c bar.TooLong h k = too_many h.0 k.0 h.1 k.1 k.2
     not_barred c (bar.Text e) h k = not_refused c e h (refused_bytes files file e k)
     not_barred c bar.ReadFault h k = k
     not_barred c bar.Memory h k = k
 
-    one_bar : (d e : SatError) → IsBarred reads files file d → IsBarred reads files file e → d ≡ e
+    one_bar : (d e : SatError) → IsBarred refuses files file d → IsBarred refuses files file e → d ≡ e
     one_bar bar.Absent bar.Absent h k = refl
     one_bar bar.Absent bar.TooLong h k = absurd (not_none files file k.0 k.1 h)
     one_bar bar.Absent (bar.Text e) h k = let r = refused_bytes files file e k in absurd (not_none files file r.0 r.1.1 h)
@@ -135,7 +143,7 @@ module _ (A : Type 0) (reads : Reader A) where
     one_bar d bar.ReadFault h k = absurd k
     one_bar d bar.Memory h k = absurd k
 
-    one_read : (s t : Result A SatError) → IsRead reads files file s → IsRead reads files file t → s ≡ t
+    one_read : (s t : Result A SatError) → IsRead spells refuses files file s → IsRead spells refuses files file t → s ≡ t
     one_read (Ok c) (Ok d) h k = ap Ok (one_form c d h k)
     one_read (Ok c) (Err e) h k = absurd (not_barred c e h k)
     one_read (Err e) (Ok d) h k = absurd (not_barred d e k h)
@@ -198,17 +206,22 @@ module _ (one : LoadsOne) (files : List NamedFile) (file : List ℕ) (root : Opt
   one_flat (Err no_core.Memory) t h k = absurd h
   one_flat s (Err no_core.Memory) h k = absurd k
 
+-- that a text is of one form in one way
+pub record FormsOne : Type 0 where
+  pub dimacs : SpellsOne Cnf IsDimacs IsTextRefusal
+  pub qdimacs : SpellsOne Formula IsQdimacs IsFormulaRefusal
+
 -- what a question finds, by the law of its command
-one_found : LoadsOne → FindsOne → (files : List NamedFile) (a : Asked) (x y : Finding a) → Finds files a x → Finds files a y → x ≡ y
-one_found loads found files (prove file root budget) x y h k = one_loaded loads files file root x y h k
-one_found loads found files (sat file) x y h k = one_read Cnf clauses_of files file x y h k
-one_found loads found files (check cert problem root) x y h k = found.0 files cert problem root x y h k
-one_found loads found files (rewrite cert problem root) x y h k = found.0 files cert problem root x y h k
-one_found loads found files (ask cert atom) x y h k = found.1 files cert atom.atom x y h k
-one_found loads found files (stress number) x y h k = refl
-one_found loads found files (qbf file) x y h k = one_read Formula formula_in files file x y h k
-one_found loads found files (fmodel elements file root) x y h k = one_tabled loads files elements file root x y h k
-one_found loads found files (core file root) x y h k = one_flat loads files file root x y h k
+one_found : LoadsOne → FindsOne → FormsOne → (files : List NamedFile) (a : Asked) (x y : Finding a) → Finds files a x → Finds files a y → x ≡ y
+one_found loads found forms files (prove file root budget) x y h k = one_loaded loads files file root x y h k
+one_found loads found forms files (sat file) x y h k = one_read Cnf IsDimacs IsTextRefusal forms.dimacs files file x y h k
+one_found loads found forms files (check cert problem root) x y h k = found.0 files cert problem root x y h k
+one_found loads found forms files (rewrite cert problem root) x y h k = found.0 files cert problem root x y h k
+one_found loads found forms files (ask cert atom) x y h k = found.1 files cert atom.atom x y h k
+one_found loads found forms files (stress number) x y h k = refl
+one_found loads found forms files (qbf file) x y h k = one_read Formula IsQdimacs IsFormulaRefusal forms.qdimacs files file x y h k
+one_found loads found forms files (fmodel elements file root) x y h k = one_tabled loads files elements file root x y h k
+one_found loads found forms files (core file root) x y h k = one_flat loads files file root x y h k
 
 -- ---- the exit of each answer
 
@@ -292,16 +305,16 @@ module _ (words : List (List ℕ)) (files : List NamedFile) (read : Reading) (wr
   core_due file root asked (Err no_core.Memory) h = want_due
 
   -- why a text is refused, where that makes the exit due
-  lines_due : (A : Type 0) (reads : Reader A) (file : List ℕ) → ((e : SatError) → IsBarred reads files file e → IsDue exit.Refused)
-      → (e : DimacsError) → IsRefusedBy reads files file e → IsDue (exit_of (status_of_text e))
-  lines_due A reads file refused (fault.Syntax line) h = refused (bar.Text (fault.Syntax line)) h
-  lines_due A reads file refused (fault.Range line) h = refused (bar.Text (fault.Range line)) h
-  lines_due A reads file refused (fault.Count found) h = refused (bar.Text (fault.Count found)) h
-  lines_due A reads file refused fault.Limit h = refused (bar.Text fault.Limit) h
-  lines_due A reads file refused (fault.Twice line) h = refused (bar.Text (fault.Twice line)) h
-  lines_due A reads file refused fault.Memory h = absurd h
+  lines_due : (refuses : TextRelation DimacsError) (file : List ℕ) → ((e : SatError) → IsBarred refuses files file e → IsDue exit.Refused)
+      → (e : DimacsError) → IsRefusedBy refuses files file e → IsDue (exit_of (status_of_text e))
+  lines_due refuses file refused (fault.Syntax line) h = refused (bar.Text (fault.Syntax line)) h
+  lines_due refuses file refused (fault.Range line) h = refused (bar.Text (fault.Range line)) h
+  lines_due refuses file refused (fault.Count found) h = refused (bar.Text (fault.Count found)) h
+  lines_due refuses file refused fault.Limit h = refused (bar.Text fault.Limit) h
+  lines_due refuses file refused (fault.Twice line) h = refused (bar.Text (fault.Twice line)) h
+  lines_due refuses file refused fault.Memory h = absurd h
 
-  refused_clauses : (file : List ℕ) (e : DimacsError) → IsRefused (Some files) file e → IsRefusedBy clauses_of files file e
+  refused_clauses : (file : List ℕ) (e : DimacsError) → IsRefused (Some files) file e → IsRefusedBy IsTextRefusal files file e
   refused_clauses file (fault.Syntax line) h = h
   refused_clauses file (fault.Range line) h = h
   refused_clauses file (fault.Count found) h = h
@@ -309,7 +322,7 @@ module _ (words : List (List ℕ)) (files : List NamedFile) (read : Reading) (wr
   refused_clauses file (fault.Twice line) h = h
   refused_clauses file fault.Memory h = h
 
-  refused_formula : (file : List ℕ) (e : DimacsError) → IsFormulaRefused (Some files) file e → IsRefusedBy formula_in files file e
+  refused_formula : (file : List ℕ) (e : DimacsError) → IsFormulaRefused (Some files) file e → IsRefusedBy IsFormulaRefusal files file e
   refused_formula file (fault.Syntax line) h = h
   refused_formula file (fault.Range line) h = h
   refused_formula file (fault.Count found) h = h
@@ -321,7 +334,7 @@ module _ (words : List (List ℕ)) (files : List NamedFile) (read : Reading) (wr
   abbrev here : Told
   here = record { files = Some files; rest = read.old.rest; faults = read.old.faults }
 
-  barred_due : (file : List ℕ) → IsAsked words (sat file) → (e : SatError) → IsBarred clauses_of files file e → IsDue exit.Refused
+  barred_due : (file : List ℕ) → IsAsked words (sat file) → (e : SatError) → IsBarred IsTextRefusal files file e → IsDue exit.Refused
   barred_due file asked e h = due (sat file) (Err e) exit.Refused asked h refl
 
   sat_due : (file : List ℕ) → IsAsked words (sat file) → (o : Result SatAnswer SatError) → IsOutcome here read.new file o → IsDue (sat_exit o)
@@ -329,11 +342,11 @@ module _ (words : List (List ℕ)) (files : List NamedFile) (read : Reading) (wr
   sat_due file asked (Ok (Unsatisfiable text)) h = due (sat file) (Ok h.1) exit.Unsat asked (h.0, h.2, h.3) (inr (refl, h.4.none))
   sat_due file asked (Err bar.Absent) h = barred_due file asked bar.Absent h
   sat_due file asked (Err bar.TooLong) h = barred_due file asked bar.TooLong h
-  sat_due file asked (Err (bar.Text e)) h = lines_due Cnf clauses_of file (barred_due file asked) e (refused_clauses file e h)
+  sat_due file asked (Err (bar.Text e)) h = lines_due IsTextRefusal file (barred_due file asked) e (refused_clauses file e h)
   sat_due file asked (Err bar.ReadFault) h = fault_due h
   sat_due file asked (Err bar.Memory) h = want_due
 
-  formula_due : (file : List ℕ) → IsAsked words (qbf file) → (e : SatError) → IsBarred formula_in files file e → IsDue exit.Refused
+  formula_due : (file : List ℕ) → IsAsked words (qbf file) → (e : SatError) → IsBarred IsFormulaRefusal files file e → IsDue exit.Refused
   formula_due file asked e h = due (qbf file) (Err e) exit.Refused asked h refl
 
   qbf_due : (file : List ℕ) → IsAsked words (qbf file) → (o : Result FormulaAnswer SatError) → IsFormulaOutcome here read.new file o → IsDue (qbf_exit o)
@@ -341,7 +354,7 @@ module _ (words : List (List ℕ)) (files : List NamedFile) (read : Reading) (wr
   qbf_due file asked (Ok (False text)) h = due (qbf file) (Ok h.1) exit.Unsat asked (h.0, h.2, h.3) (inr (refl, h.4.0))
   qbf_due file asked (Err bar.Absent) h = formula_due file asked bar.Absent h
   qbf_due file asked (Err bar.TooLong) h = formula_due file asked bar.TooLong h
-  qbf_due file asked (Err (bar.Text e)) h = lines_due Formula formula_in file (formula_due file asked) e (refused_formula file e h)
+  qbf_due file asked (Err (bar.Text e)) h = lines_due IsFormulaRefusal file (formula_due file asked) e (refused_formula file e h)
   qbf_due file asked (Err bar.ReadFault) h = fault_due h
   qbf_due file asked (Err bar.Memory) h = want_due
 
@@ -437,26 +450,26 @@ module _ (words : List (List ℕ)) (files : List NamedFile) (read : Reading) (wr
   ]
 
   -- what is wanted in one situation that stands is wanted in each
-  wanted_too : LoadsOne → FindsOne → AsksOne → (e : Exit) (s t : Situation) → Stands words files s → IsWanted s e → Stands words files t → IsWanted t e
-  wanted_too loads found once e (asks a x) (asks b y) h wants k =
-      let at_one : (z : Finding a) → Finds files a z → Wants a z e = λ z finds. subst (λ (w : Finding a). Wants a w e) (one_found loads found files a x z h.1 finds) wants in
+  wanted_too : LoadsOne → FindsOne → FormsOne → AsksOne → (e : Exit) (s t : Situation) → Stands words files s → IsWanted s e → Stands words files t → IsWanted t e
+  wanted_too loads found forms once e (asks a x) (asks b y) h wants k =
+      let at_one : (z : Finding a) → Finds files a z → Wants a z e = λ z finds. subst (λ (w : Finding a). Wants a w e) (one_found loads found forms files a x z h.1 finds) wants in
       let moved : (z : Finding b) → Finds files b z → Wants b z e = subst (λ (q : Asked). (z : Finding q) → Finds files q z → Wants q z e) (once words a b h.0 k.0) at_one in
       moved y k.1
-  wanted_too loads found once e (asks a x) unread h wants k = absurd (k a h.0)
-  wanted_too loads found once e unread (asks b y) h wants k = absurd (h b k.0)
-  wanted_too loads found once e unread unread h wants k = wants
+  wanted_too loads found forms once e (asks a x) unread h wants k = absurd (k a h.0)
+  wanted_too loads found forms once e unread (asks b y) h wants k = absurd (h b k.0)
+  wanted_too loads found forms once e unread unread h wants k = wants
 
-  is_exact : LoadsOne → FindsOne → AsksOne → (e : Exit) → Answered words read write e → IsExact words files read write e
-  is_exact loads found once e a = record { cause = exit_due e a; each = λ s h. by s h (exit_due e a) }
+  is_exact : LoadsOne → FindsOne → FormsOne → AsksOne → (e : Exit) → Answered words read write e → IsExact words files read write e
+  is_exact loads found forms once e a = record { cause = exit_due e a; each = λ s h. by s h (exit_due e a) }
     where
       by : (s : Situation) → Stands words files s → IsDue e → IsWanted s e ⊎ Yields read write e
-      by s h (inl d) = inl (wanted_too loads found once e d.0 s d.1 d.2 h)
+      by s h (inl d) = inl (wanted_too loads found forms once e d.0 s d.1 d.2 h)
       by s h (inr y) = inr y
 
-pub exact : LoadsOne → FindsOne → AsksOne → (words : List (List ℕ)) (read : Reading) (write : Writing) (e : Exit) → Answered words read write e
+pub exact : LoadsOne → FindsOne → FormsOne → AsksOne → (words : List (List ℕ)) (read : Reading) (write : Writing) (e : Exit) → Answered words read write e
     → IfSome read.old.files (λ files. IsExact words files read write e)
-exact loads found once words read write e a = by read.old.files refl
+exact loads found forms once words read write e a = by read.old.files refl
   where
     by : (o : Option (List NamedFile)) → read.old.files ≡ o → IfSome o (λ files. IsExact words files read write e)
     by None told = tt
-    by (Some files) told = is_exact words files read write told loads found once e a
+    by (Some files) told = is_exact words files read write told loads found forms once e a

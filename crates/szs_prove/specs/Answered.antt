@@ -32,7 +32,8 @@ use Rattle.inst_logic.specs.declared.signed.Signed.{Signed}
 use Rattle.cert_front.specs.Checks.{IsCheckFault, IsFound, IsJudged}
 use Rattle.cert_front.specs.Queries.{IsAskFault, IsFoundReply, IsReplied}
 use Rattle.cert_front.specs.Rewritings.{IsRewritten}
-use Rattle.command_words.specs.Asked.{Asked, IsAsked, IsUnread, ask, check, core, fmodel, name_of, prove, qbf, rewrite, sat, stress}
+use Rattle.command_words.specs.declared.request.Request.{Request}
+use Rattle.command_words.specs.Asked.{Asked, IsAsked, IsUnread, ask, asked as question_of, check, core, fmodel, name_of, prove, qbf, rewrite, sat, stress}
 use Rattle.dimacs_front.specs.Files.{IsHeld, IsOutcome, limit}
 use Rattle.szs_prove.specs.Answers.{IsOutOfBudget, IsProof, IsUntouched, IsVerdict, Reading}
 use Rattle.szs_prove.specs.CoreAnswers.{HasCoreAnswer, IsCoreRefusal}
@@ -45,7 +46,10 @@ use Rattle.outside_io.specs.declared.library.NamedFile.{NamedFile}
 use Rattle.cert_format.specs.Certificate.{Certificate}
 use Rattle.cert_format.specs.Text.{written_text}
 use Rattle.cert_format.specs.ValueLines.{IsCertificateText}
-use Rattle.dimacs_front.specs.Quantified.{formula_in}
+use Rattle.dimacs_front.specs.Dimacs.{IsDimacs}
+use Rattle.dimacs_front.specs.FormulaRefusals.{IsFormulaRefusal}
+use Rattle.dimacs_front.specs.Qdimacs.{IsQdimacs}
+use Rattle.dimacs_front.specs.Refusals.{IsRefusal}
 use Rattle.dimacs_front.specs.declared.cnf.Qbf.{Qbf as Quantified}
 use Rattle.szs_prove.specs.Written.{IsWritten}
 use Rattle.outside_io.specs.Causes.{Rose}
@@ -54,8 +58,7 @@ use Rattle.finite_model.specs.Tables.{IsTooWide}
 use Rattle.inst_logic.specs.Measure.{is_function_free}
 use Rattle.inst_logic.specs.declared.clause.Problem.{Problem}
 use Rattle.tptp_load.specs.Problems.{Loads, Refuses}
-use Rattle.dimacs_front.specs.Answers.{IsModel}
-use Rattle.dimacs_front.specs.Form.{reading as clauses_of}
+use Rattle.dimacs_front.specs.Answers.{IsAnswerFor, IsModel}
 use Rattle.dimacs_front.specs.declared.cnf.Cnf.{Cnf}
 use Rattle.dimacs_front.specs.declared.error.DimacsError.{DimacsError}
 use Rattle.szs_prove.specs.Applications.{IsFirstWithFunctions}
@@ -107,14 +110,21 @@ abbrev pub prove_exit : Result (List ℕ) Refusal → Exit
 prove_exit (Ok text) = end.Decided
 prove_exit (Err refusal) = exit_of (status_of refusal)
 
+-- truth values, or a derivation that there are none
+abbrev pub solved_text : SatAnswer → List ℕ
+solved_text (solved.Satisfiable text) = text
+solved_text (solved.Unsatisfiable text) = text
+
+abbrev pub solved_exit : SatAnswer → Exit
+solved_exit (solved.Satisfiable text) = end.Sat
+solved_exit (solved.Unsatisfiable text) = end.Unsat
+
 abbrev pub sat_text : List ℕ → Result SatAnswer SatError → List ℕ
-sat_text name (Ok (solved.Satisfiable text)) = text
-sat_text name (Ok (solved.Unsatisfiable text)) = text
+sat_text name (Ok found) = solved_text found
 sat_text name (Err error) = notice_text (refusal_status error) name (refusal_reason name error)
 
 abbrev pub sat_exit : Result SatAnswer SatError → Exit
-sat_exit (Ok (solved.Satisfiable text)) = end.Sat
-sat_exit (Ok (solved.Unsatisfiable text)) = end.Unsat
+sat_exit (Ok found) = solved_exit found
 sat_exit (Err error) = exit_of (refusal_status error)
 
 -- why a certificate is not judged, under its own name also where the problem is refused
@@ -297,6 +307,15 @@ pub record Answered (words : List (List ℕ)) (read : Reading) (write : Writing)
   pub cause : IsAnswer words read name answer
   pub written : IsWritten write.old write.new (text_for name answer) (exit_for answer) exit
 
+-- the name of an answer to words that were read: that of what they ask, or the program's, where they ask nothing
+abbrev pub name_for : Option Request → List ℕ
+name_for (Some request) = name_of (question_of request)
+name_for None = codes "instgen"
+
+-- the answer is under this name
+abbrev pub AnsweredUnder : List ℕ → List (List ℕ) → Reading → Writing → Exit → Type 0
+AnsweredUnder name words read write exit = (a : Answered words read write exit) × (a.name ≡ name)
+
 -- ---- what the words ask
 
 abbrev pub AsksProof : List (List ℕ) → Type 0
@@ -313,6 +332,9 @@ AsksAtom words = (cert : List ℕ) × (atom : Signed Tree) × IsAsked words (ask
 
 abbrev pub AsksChain : List (List ℕ) → Type 0
 AsksChain words = (number : ℕ) × IsAsked words (stress number)
+
+abbrev pub AsksClauses : List (List ℕ) → Type 0
+AsksClauses words = (file : List ℕ) × IsAsked words (sat file)
 
 abbrev pub AsksFormula : List (List ℕ) → Type 0
 AsksFormula words = (file : List ℕ) × IsAsked words (qbf file)
@@ -394,6 +416,20 @@ pub record WritesSize (words : List (List ℕ)) (old new : Option (List ℕ)) : 
 abbrev pub TellsValue : Exit → Type 0
 TellsValue exit = (exit ≡ end.Sat) ⊎ (exit ≡ end.Unsat)
 
+-- Truth values that make the clauses of the file true, or a derivation that there are none, were written, whole, and the program ends
+-- as it should with that.
+pub record WritesSolved (words : List (List ℕ)) (files : Option (List NamedFile)) (old new : Option (List ℕ)) (exit : Exit) : Type 0 where
+  pub file : List ℕ
+  pub asked : IsAsked words (sat file)
+  pub bytes : List ℕ
+  pub held : IsHeld files file bytes
+  pub clauses : Cnf
+  pub read : IsDimacs bytes clauses
+  pub answer : SatAnswer
+  pub shown : IsAnswerFor clauses.vars clauses.clauses answer
+  pub ends : exit ≡ solved_exit answer
+  pub written : Appends old new (solved_text answer)
+
 -- The value of the formula of the file that the words name was written, whole, with the certificate that shows it, and the program
 -- ends as it should with that.
 pub record WritesFormula (words : List (List ℕ)) (files : Option (List NamedFile)) (old new : Option (List ℕ)) (exit : Exit) : Type 0 where
@@ -402,7 +438,7 @@ pub record WritesFormula (words : List (List ℕ)) (files : Option (List NamedFi
   pub bytes : List ℕ
   pub held : IsHeld files file bytes
   pub formula : Quantified
-  pub read : formula_in bytes ≡ Ok formula
+  pub read : IsQdimacs bytes formula
   pub answer : FormulaAnswer
   pub shown : IsFormulaAnswer file formula answer
   pub ends : exit ≡ value_exit answer
@@ -501,27 +537,27 @@ WantsDecision (Err e) exit = exit ≡ end.Refused
 
 -- ---- what is found of clauses in the DIMACS form, and of formulas
 
--- a reader of these forms
-abbrev pub Reader : Type 0 → Type 0
-Reader A = List ℕ → Result A DimacsError
+-- a relation between texts and what they give
+abbrev pub TextRelation : Type 0 → Type 1
+TextRelation A = List ℕ → A → Type 0
 
 -- the file's text is refused for this, and memory did not run out
-abbrev pub IsRefusedBy : {A : Type 0} → Reader A → List NamedFile → List ℕ → DimacsError → Type 0
-IsRefusedBy reads files file fault.Memory = ⊥
-IsRefusedBy reads files file e = (bytes : List ℕ) × IsHeld (Some files) file bytes × (reads bytes ≡ Err e)
+abbrev pub IsRefusedBy : TextRelation DimacsError → List NamedFile → List ℕ → DimacsError → Type 0
+IsRefusedBy refuses files file fault.Memory = ⊥
+IsRefusedBy refuses files file e = (bytes : List ℕ) × IsHeld (Some files) file bytes × refuses bytes e
 
 -- the file is absent or too long, or its text is refused
-abbrev pub IsBarred : {A : Type 0} → Reader A → List NamedFile → List ℕ → SatError → Type 0
-IsBarred reads files file bar.Absent = bytes_named files file ≡ None
-IsBarred reads files file bar.TooLong = (bytes : List ℕ) × (bytes_named files file ≡ Some bytes) × (limit < length bytes)
-IsBarred reads files file (bar.Text e) = IsRefusedBy reads files file e
-IsBarred reads files file bar.ReadFault = ⊥
-IsBarred reads files file bar.Memory = ⊥
+abbrev pub IsBarred : TextRelation DimacsError → List NamedFile → List ℕ → SatError → Type 0
+IsBarred refuses files file bar.Absent = bytes_named files file ≡ None
+IsBarred refuses files file bar.TooLong = (bytes : List ℕ) × (bytes_named files file ≡ Some bytes) × (limit < length bytes)
+IsBarred refuses files file (bar.Text e) = IsRefusedBy refuses files file e
+IsBarred refuses files file bar.ReadFault = ⊥
+IsBarred refuses files file bar.Memory = ⊥
 
--- what is read of the file, or why nothing is
-abbrev pub IsRead : {A : Type 0} → Reader A → List NamedFile → List ℕ → Result A SatError → Type 0
-IsRead reads files file (Ok found) = (bytes : List ℕ) × IsHeld (Some files) file bytes × (reads bytes ≡ Ok found)
-IsRead reads files file (Err e) = IsBarred reads files file e
+-- what the file's text spells, or why it spells nothing
+abbrev pub IsRead : {A : Type 0} → TextRelation A → TextRelation DimacsError → List NamedFile → List ℕ → Result A SatError → Type 0
+IsRead spells refuses files file (Ok found) = (bytes : List ℕ) × IsHeld (Some files) file bytes × spells bytes found
+IsRead spells refuses files file (Err e) = IsBarred refuses files file e
 
 -- some truth values make the clauses true, or none do
 abbrev pub WantsOfClauses : Result Cnf SatError → Exit → Type 0
@@ -562,12 +598,12 @@ Finding (core file root) = Result Problem CoreRefusal
 -- it finds this in the files
 abbrev pub Finds : List NamedFile → (question : Asked) → Finding question → Type 0
 Finds files (prove file root budget) found = IsLoaded files file root found
-Finds files (sat file) found = IsRead clauses_of files file found
+Finds files (sat file) found = IsRead IsDimacs IsRefusal files file found
 Finds files (check cert problem root) found = IsFound files cert problem root found
 Finds files (rewrite cert problem root) found = IsFound files cert problem root found
 Finds files (ask cert atom) found = IsFoundReply files cert atom.atom found
 Finds files (stress number) found = ⊤
-Finds files (qbf file) found = IsRead formula_in files file found
+Finds files (qbf file) found = IsRead IsQdimacs IsFormulaRefusal files file found
 Finds files (fmodel elements file root) found = IsTabled files elements file root found
 Finds files (core file root) found = IsFlat files file root found
 

@@ -9,7 +9,8 @@ use Rattle.cert_format.specs.Text.{written_text}
 use Rattle.qbf_logic.specs.Formulas.{Values, value}
 use Rattle.qbf_logic.specs.Translation.{translation, translation_names}
 use Rattle.dimacs_front.specs.Files.{IsHeld, IsUnread}
-use Rattle.dimacs_front.specs.Quantified.{formula_in}
+use Rattle.dimacs_front.specs.FormulaRefusals.{IsFormulaRefusal}
+use Rattle.dimacs_front.specs.Qdimacs.{IsQdimacs}
 use Rattle.dimacs_front.specs.declared.cnf.Qbf.{Qbf}
 use Rattle.dimacs_front.specs.declared.error.DimacsError.{DimacsError}
 use Rattle.dimacs_front.specs.declared.error.DimacsError.TheVariants as fault
@@ -43,21 +44,21 @@ IsFormulaAnswer file q (False text) = IsFalseFormula q × IsFormulaText file (co
 
 -- the text is read, and the answer is one for its formula; or the text is refused, or memory was wanted
 abbrev pub IsAnsweredFormula : List ℕ → List ℕ → Result FormulaAnswer SatError → Type 0
-IsAnsweredFormula file text (Ok a) = (q : Qbf) × (formula_in text ≡ Ok q) × IsFormulaAnswer file q a
+IsAnsweredFormula file text (Ok a) = (q : Qbf) × IsQdimacs text q × IsFormulaAnswer file q a
 IsAnsweredFormula file text (Err Absent) = ⊥
 IsAnsweredFormula file text (Err TooLong) = ⊥
 IsAnsweredFormula file text (Err ReadFault) = ⊥
 IsAnsweredFormula file text (Err (Text fault.Memory)) = ⊥
-IsAnsweredFormula file text (Err (Text e)) = formula_in text ≡ Err e
+IsAnsweredFormula file text (Err (Text e)) = IsFormulaRefusal text e
 IsAnsweredFormula file text (Err Memory) = ⊤
 
 -- the file's text is refused as a formula for this, which is not want of memory
 abbrev pub IsFormulaRefused : Option (List NamedFile) → List ℕ → DimacsError → Type 0
 IsFormulaRefused files name fault.Memory = ⊥
-IsFormulaRefused files name e = (bytes : List ℕ) × IsHeld files name bytes × (formula_in bytes ≡ Err e)
+IsFormulaRefused files name e = (bytes : List ℕ) × IsHeld files name bytes × IsFormulaRefusal bytes e
 
 -- The file's text is read, and the answer is one for its formula; or there is a cause why there is no answer.
 abbrev pub IsFormulaOutcome : Told → Told → List ℕ → Result FormulaAnswer SatError → Type 0
-IsFormulaOutcome old new name (Ok a) = (bytes : List ℕ) × (q : Qbf) × IsHeld old.files name bytes × (formula_in bytes ≡ Ok q) × IsFormulaAnswer name q a
+IsFormulaOutcome old new name (Ok a) = (bytes : List ℕ) × (q : Qbf) × IsHeld old.files name bytes × IsQdimacs bytes q × IsFormulaAnswer name q a
 IsFormulaOutcome old new name (Err (Text e)) = IsFormulaRefused old.files name e
 IsFormulaOutcome old new name (Err e) = IsUnread old new name e

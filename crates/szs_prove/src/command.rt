@@ -3,7 +3,7 @@ ghost use Rattle.std.specs.Prelude.{◌≡◌, IfNone, IfSome, map, string_bytes
 ghost use Rattle.outside_io.specs.Causes.{Rose};
 ghost use Rattle.outside_io.specs.Told.{Follows};
 ghost use Rattle.command_words.specs.Asked.{IsAsked, IsUnread, asked, check, name_of};
-ghost use Rattle.szs_prove.specs.Answered.{Answered, AsksAtom, AsksChain, AsksCheck, AsksCore, AsksFormula, AsksModel, AsksProof, AsksRewriting, EndsChain, IsAnswer, IsExact, IsInterrupted, TellsValue, TookCertificate, WantsMemory, WritesCertificate, WritesComplaint, WritesCore, WritesFormula, WritesJudgement, WritesModel, WritesNumbers, WritesReply, WritesRewriting, WritesSize, writing};
+ghost use Rattle.szs_prove.specs.Answered.{Answered, AnsweredUnder, AsksAtom, AsksChain, AsksCheck, AsksClauses, AsksCore, AsksFormula, AsksModel, AsksProof, AsksRewriting, EndsChain, IsAnswer, IsExact, IsInterrupted, TellsValue, TookCertificate, WantsMemory, WritesCertificate, WritesComplaint, WritesCore, WritesFormula, WritesJudgement, WritesModel, WritesNumbers, WritesReply, WritesRewriting, WritesSize, WritesSolved, name_for, writing};
 ghost use Rattle.szs_prove.specs.Answers.{reading};
 
 use crate::answer::{Answer, tell};
@@ -17,6 +17,7 @@ use cert_front::{ask_file, atoms_are_variable_free, check_file, findings_are_one
 use command_words::laws::asked_once;
 use command_words::{Request, read_words};
 use dimacs_front::answer_file;
+use dimacs_front::laws::{formula_or_refused, one_spelling, read_or_refused};
 use inst_logic::Memory;
 use outside_io::{Library, Sink};
 use std::alloc::Global;
@@ -79,7 +80,7 @@ fn answer<L: Library>(
     }
 }
 
-// Answers what the words ask, or tells that they ask nothing.
+// Answers what the words ask, or tells that they ask nothing. An answer to a request is under its name, also where memory is wanted.
 fn answer_request<L: Library, K: Sink>(
     alloc: Global,
     request: Option<Request<'_>>,
@@ -90,7 +91,7 @@ fn answer_request<L: Library, K: Sink>(
     requires asked { IfSome request (λ q. IsAsked (map string_bytes words.now) (asked q)) }
     requires unread { IfNone request (IsUnread (map string_bytes words.now)) }
     ensures follows { Follows (L.told files.old) (L.told files.new) }
-    ensures answered { Answered (map string_bytes words.now) (reading (L.told files.old) (L.told files.new)) (writing (K.seen out.old) (K.seen out.new)) result }
+    ensures answered { AnsweredUnder (name_for request.entry) (map string_bytes words.now) (reading (L.told files.old) (L.told files.new)) (writing (K.seen out.old) (K.seen out.new)) result }
 {
     match request {
         Some(request) => {
@@ -148,6 +149,8 @@ pub fn run<L: Library, K: Sink>(alloc: Global, words: &[String], files: &mut L, 
     ensures stressed { AsksChain (map string_bytes words.now) → result ≡ Exit.Decided → WritesSize (map string_bytes words.now) (K.seen out.old).taken (K.seen out.new).taken }
     // A chain ends so whatever the library tells.
     ensures chain { AsksChain (map string_bytes words.now) → EndsChain result }
+    // Of clauses in the DIMACS form truth values are told that make them true, or a derivation that there are none.
+    ensures solved { AsksClauses (map string_bytes words.now) → TellsValue result → WritesSolved (map string_bytes words.now) (L.told files.old).files (K.seen out.old).taken (K.seen out.new).taken result }
     // Of a formula its value is told, with the certificate that shows it.
     ensures formula { AsksFormula (map string_bytes words.now) → TellsValue result → WritesFormula (map string_bytes words.now) (L.told files.old).files (K.seen out.old).taken (K.seen out.new).taken result }
     // Of models with so many elements one is written, or the refutation that shows that there are none.
@@ -166,5 +169,8 @@ pub fn run<L: Library, K: Sink>(alloc: Global, words: &[String], files: &mut L, 
     one_loading();
     asked_once();
     findings_are_one();
+    one_spelling();
+    read_or_refused();
+    formula_or_refused();
     answer_words(alloc, words, files, out)
 }

@@ -68,7 +68,6 @@ fn tables_told(
     p: &Problem,
     cert: &mut CheckedCovered,
 ) -> Result<ByteList, Memory>
-    requires some { 0 < k }
     requires good { IsGoodProblem p.now }
     requires shown { IsShownBy (flattened_problem k p.now) (covered_value cert.old) }
     ensures { IfOk result (IsTablesText k file.now p.now) }
@@ -85,7 +84,6 @@ fn satisfied(
     p: &Problem,
     cert: CheckedCovered,
 ) -> Result<ByteList, Memory>
-    requires some { 0 < k }
     requires good { IsGoodProblem p.now }
     requires shown { IsShownBy (flattened_problem k p.now) (covered_value cert) }
     ensures { IfOk result (IsTablesText k file.now p.now) }

@@ -12,6 +12,7 @@ ghost use Rattle.saturation_cert.specs.Values.{covered_of, saturation_of};
 ghost use Rattle.saturation_cert.specs.Wholes.{HasPlaces, IsWholeSaturation};
 ghost use Rattle.finite_model.specs.Tables.{IsModel};
 ghost use Rattle.finite_model.specs.Flattening.{flattened};
+ghost use Rattle.finite_model.specs.Reading.{AreRead};
 ghost use Rattle.szs_prove.specs.SaturationTests.{IsReady};
 
 use cert_check::CheckedCovered;
@@ -84,12 +85,12 @@ fn fill(cert: &CheckedCovered, positive: &mut Tree, negative: &mut Tree) -> Resu
 }
 
 fn tables_by(test: &mut SaturationTest<'_>, p: &Problem, k: usize) -> Result<Tables, Memory>
-    requires some { 0 < k }
     requires formed { AreFormedClauses p.now.clauses }
     requires inputs { (covered_of test.old.cert.now).saturation.base.inputs ≡ flattened k p.now.clauses }
     requires positive { pairs_of test.old.positive.now.nodes ≡ [] }
     requires negative { pairs_of test.old.negative.now.nodes ≡ [] }
-    ensures { IfOk result (IsModel k p.now.clauses) }
+    ensures model { IfOk result (IsModel k p.now.clauses) }
+    ensures read { IfOk result (AreRead k p.now.clauses (selected_members (saturation_of test.old.cert.now.cert))) }
 {
     flattened_form();
     fill(test.cert, test.positive, test.negative)?;
@@ -104,10 +105,10 @@ pub fn tables_of(
     p: &Problem,
     k: usize,
 ) -> Result<Tables, Memory>
-    requires some { 0 < k }
     requires formed { AreFormedClauses p.now.clauses }
     requires inputs { (covered_of cert.old).saturation.base.inputs ≡ flattened k p.now.clauses }
-    ensures { IfOk result (IsModel k p.now.clauses) }
+    ensures model { IfOk result (IsModel k p.now.clauses) }
+    ensures read { IfOk result (AreRead k p.now.clauses (selected_members (covered_of cert.old).saturation)) }
 {
     let mut positive = Tree::new(alloc);
     let mut negative = Tree::new(alloc);

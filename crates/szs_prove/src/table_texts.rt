@@ -1,5 +1,5 @@
 // Tables as text: a line that names what they are, and one for each cell, written as the cells are walked.
-ghost use Rattle.std.specs.Prelude.{◌≡◌, ◌++◌, ◌<◌, ◌^◌, All, IfOk, OnOk, codes, decimal, length};
+ghost use Rattle.std.specs.Prelude.{◌≡◌, ◌++◌, ◌^◌, All, IfOk, OnOk, codes, decimal, length};
 ghost use Rattle.std.specs.List.{flat_map};
 ghost use Rattle.szs_prove.specs.TableTexts.{cell_line, elements_text, more_elements, no_tables_line, table_lines, tables_line, tables_text, truth_line, value_line};
 
@@ -64,7 +64,6 @@ fn push_cell(text: &mut Vec<u8>, sym: &Sym, es: &[usize], cell: usize) -> Result
 
 // The lines of a table.
 fn push_table(alloc: Global, text: &mut Vec<u8>, k: usize, table: &Table) -> Result<(), Memory>
-    requires some { 0 < k }
     requires full { length table.now.cells ≡ k ^ table.now.sym.arity }
     ensures { OnOk result (text.new.items ≡ text.old.items ++ table_lines k table.now) }
 {
@@ -84,7 +83,6 @@ fn push_tables(
     k: usize,
     tables: &TableList,
 ) -> Result<(), Memory>
-    requires some { 0 < k }
     requires full { All (λ t. length t.cells ≡ k ^ t.sym.arity) tables.now }
     ensures { OnOk result (text.new.items ≡ text.old.items ++ flat_map (table_lines k) tables.now) }
 {
@@ -113,7 +111,6 @@ pub fn tables_text(
     file: &[u8],
     tables: &Tables,
 ) -> Result<ByteList, Memory>
-    requires some { 0 < k }
     requires functions { All (λ t. length t.cells ≡ k ^ t.sym.arity) tables.now.functions }
     requires predicates { All (λ t. length t.cells ≡ k ^ t.sym.arity) tables.now.predicates }
     ensures { IfOk result (λ text. text ≡ tables_text k file.now tables.now) }

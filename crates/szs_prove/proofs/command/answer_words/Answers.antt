@@ -10,3 +10,6 @@ answer_request-requires-clause-unread g c = c.in-Ok.ensures.unread
 
 pub returns-in-Err-clause-answered : goal.returns-in-Err-clause-answered
 returns-in-Err-clause-answered g c = record { name = codes "instgen"; answer = NoWords; cause = (refl, refl); written = c.tell.ensures }
+
+pub returns-in-Ok-clause-answered : goal.returns-in-Ok-clause-answered
+returns-in-Ok-clause-answered g c = c.answer_request.ensures.answered.0

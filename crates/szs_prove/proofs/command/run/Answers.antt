@@ -1,15 +1,19 @@
-use Rattle.szs_prove.proofs.Endings.{asked_atom, chain, check_failed, checked, decided, formula_value, has_core, interrupted, memory, modelled, read_fault, resource_out, rewritten, stressed, took_verdict, usage_unread, write_fault}
-use Rattle.szs_prove.proofs.Situated.{LoadsOne, exact}
+use Rattle.szs_prove.proofs.Endings.{asked_atom, chain, check_failed, checked, decided, formula_value, has_core, interrupted, memory, modelled, read_fault, resource_out, rewritten, solved, stressed, took_verdict, usage_unread, write_fault}
+use Rattle.szs_prove.proofs.Situated.{FormsOne, LoadsOne, exact}
 use Rattle.szs_prove.proofs.command.run.Goals as goal
 
 pub returns : goal.returns
 returns g c =
     let a = c.answer_words.ensures.answered in
     let loads : LoadsOne = record { problems = c.one_loading.ensures.problems; refusals = c.one_loading.ensures.refusals; apart = c.one_loading.ensures.apart } in
+    let forms : FormsOne = record {
+      dimacs = record { spellings = c.one_spelling.ensures.clauses; refusals = c.read_or_refused.ensures.one; apart = c.read_or_refused.ensures.not_both };
+      qdimacs = record { spellings = c.one_spelling.ensures.formulas; refusals = c.formula_or_refused.ensures.one; apart = c.formula_or_refused.ensures.not_both };
+    } in
     record {
       follows = c.answer_words.ensures.follows;
       answered = a;
-      exact = exact loads (c.findings_are_one.ensures.checks, c.findings_are_one.ensures.replies) c.asked_once.ensures.once _ _ _ _ a;
+      exact = exact loads (c.findings_are_one.ensures.checks, c.findings_are_one.ensures.replies) forms c.asked_once.ensures.once _ _ _ _ a;
       decided = decided _ _ _ _ a c.asked_once.ensures.once;
       checked = checked _ _ _ _ a c.asked_once.ensures.once;
       rewritten = rewritten _ _ _ _ a c.asked_once.ensures.once;
@@ -17,6 +21,7 @@ returns g c =
       check_failed = check_failed _ _ _ _ a;
       stressed = stressed _ _ _ _ a c.asked_once.ensures.once;
       chain = chain _ _ _ _ a c.asked_once.ensures.once;
+      solved = solved _ _ _ _ a c.asked_once.ensures.once;
       formula = formula_value _ _ _ _ a c.asked_once.ensures.once;
       model = modelled _ _ _ _ a c.asked_once.ensures.once;
       core = has_core _ _ _ _ a c.asked_once.ensures.once;
