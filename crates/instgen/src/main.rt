@@ -2,18 +2,25 @@
 // `szs_prove` says what comes of each.
 #![tactic(auto)]
 
+ghost use Rattle.std.specs.Prelude.{◌≡◌};
+ghost use Rattle.std.specs.Process.{exit_status};
+ghost use Rattle.szs_prove.specs.Texts.{code_of};
+
 mod words;
 
 use outside_io::{FolderLibrary, OutSink};
 use std::process::ExitCode;
 use szs_prove::{Exit, run};
 
-// Where the words cannot be had, nothing is written, and the status tells.
-fn status(exit: Exit) -> ExitCode {
+// The exit's number as the status of the process.
+fn status(exit: Exit) -> ExitCode
+    ensures { exit_status result ≡ code_of exit }
+{
     ExitCode::from(exit.code())
 }
 
 fn main(rt: HostRuntime) -> ExitCode {
+    // Where the words cannot be had, nothing is written, and the status tells.
     let words = match words::words(&rt, rt.alloc()) {
         Ok(words) => words,
         Err(exit) => return status(exit),

@@ -1,4 +1,6 @@
 // The words of the command line behind the program's name. The name is not looked at, so it need not be text.
+ghost use Rattle.std.specs.Prelude.{◌≡◌, ◌⊎◌, IfErr};
+
 use std::alloc::Global;
 use std::env;
 use std::env::{Env, FillError};
@@ -27,7 +29,9 @@ impl<E: Env> Env for BehindName<'_, E> {
 }
 
 /// The words behind the program's name. Where one of them is no text the exit is that of words that are not read.
-pub fn words<E: Env>(env: &E, alloc: Global) -> Result<Vec<String>, Exit> {
+pub fn words<E: Env>(env: &E, alloc: Global) -> Result<Vec<String>, Exit>
+    ensures { IfErr result (λ e. (e ≡ Exit.Usage) ⊎ (e ≡ Exit.Memory)) }
+{
     match env::args(&(BehindName(env), alloc)) {
         Ok(words) => collected(words, alloc),
         Err(error) if error.kind() == ErrorKind::OutOfMemory => Err(Exit::Memory),
@@ -35,7 +39,9 @@ pub fn words<E: Env>(env: &E, alloc: Global) -> Result<Vec<String>, Exit> {
     }
 }
 
-fn collected(words: env::Args, alloc: Global) -> Result<Vec<String>, Exit> {
+fn collected(words: env::Args, alloc: Global) -> Result<Vec<String>, Exit>
+    ensures { IfErr result (λ e. e ≡ Exit.Memory) }
+{
     let mut all = Vec::new(alloc);
     for word in words {
         if all.push(word).is_err() {
@@ -47,18 +53,21 @@ fn collected(words: env::Args, alloc: Global) -> Result<Vec<String>, Exit> {
 
 #[cfg(test)]
 mod tests {
-    use super::words;
+    use super::{Exit, words};
     use std::env::{Env, FillError};
     use std::test::Fail;
 
     // Three arguments, of which the first is no text.
-    struct Arguments;
+    #[derive(Drop)]
+    struct Arguments {
+        second: &'static [u8],
+    }
 
     impl Env for Arguments {
         fn arg(&self, i: usize, buf: &mut [u8]) -> Result<usize, FillError> {
             let text: &[u8] = match i {
                 0 => b"inst\xffgen",
-                1 => b"prove",
+                1 => self.second,
                 2 => b"r.p",
                 _ => return Err(FillError::NotPresent),
             };
@@ -80,7 +89,7 @@ mod tests {
 
     #[test]
     fn a_name_that_is_no_text(rt: HostRuntime) -> Result<(), Fail> {
-        match words(&Arguments, rt.alloc()) {
+        match words(&Arguments { second: b"prove" }, rt.alloc()) {
             Ok(all) => {
                 assert_eq!(rt; all.len(), 2);
                 assert_eq!(rt; all[0].as_str(), "prove");
@@ -88,6 +97,16 @@ mod tests {
             }
             Err(_) => assert!(rt; false),
         }
+        Ok(())
+    }
+
+    #[test]
+    fn a_word_that_is_no_text(rt: HostRuntime) -> Result<(), Fail> {
+        let arguments = Arguments {
+            second: b"pro\xffve",
+        };
+        let found = words(&arguments, rt.alloc());
+        assert!(rt; matches!(&found, Err(Exit::Usage)));
         Ok(())
     }
 }

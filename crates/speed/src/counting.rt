@@ -7,6 +7,7 @@ use std::fmt::{Display, Error, Formatter, Write};
 #[derive(Clone, Copy, Drop)]
 pub struct Counts {
     status: &'static str,
+    code: u8,
     members: usize,
     steps: usize,
     solves: usize,
@@ -31,10 +32,26 @@ fn solves_in(journal: &Journal) -> usize {
         .count()
 }
 
-fn counted(status: &'static str, base: &Base, steps: usize, journal: &Journal) -> Counts {
+impl Counts {
+    /// The status of the process: 20 where the problem is refuted, 10 where it is saturated, 1 where the budget ran out.
+    pub fn code(&self) -> u8 {
+        self.code
+    }
+}
+
+fn code_of(outcome: &Outcome) -> u8 {
+    match outcome {
+        Outcome::Refuted { .. } => 20,
+        Outcome::Saturated { .. } => 10,
+        Outcome::OutOfBudget { .. } => 1,
+    }
+}
+
+fn counted(status: &'static str, code: u8, base: &Base, steps: usize, journal: &Journal) -> Counts {
     let solves = solves_in(journal);
     Counts {
         status,
+        code,
         members: base.members.len(),
         steps,
         solves,
@@ -44,11 +61,14 @@ fn counted(status: &'static str, base: &Base, steps: usize, journal: &Journal) -
 
 /// The counts of a run that ended so.
 pub fn counts_of(outcome: &Outcome) -> Counts {
+    let code = code_of(outcome);
     match outcome {
         Outcome::Refuted { cert, journal } => {
-            counted("refuted", &cert.base, cert.steps.len(), journal)
+            counted("refuted", code, &cert.base, cert.steps.len(), journal)
         }
-        Outcome::Saturated { cert, journal } => counted("saturated", &cert.base, 0, journal),
-        Outcome::OutOfBudget { state, journal, .. } => counted("open", &state.base, 0, journal),
+        Outcome::Saturated { cert, journal } => counted("saturated", code, &cert.base, 0, journal),
+        Outcome::OutOfBudget { state, journal, .. } => {
+            counted("open", code, &state.base, 0, journal)
+        }
     }
 }

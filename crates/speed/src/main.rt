@@ -2,7 +2,8 @@
 //
 // `speed index KIND CONSTANTS STORED ROUNDS` builds the atoms of the kind over so many constants, stores the first ones in a tree,
 // asks each query of the kind in so many rounds, and writes how many entries were given. `speed engine FILE BUDGET` runs the engine
-// on a file, and writes how the run ended, and how many members, steps, solves and appended entries it had.
+// on a file, and writes how the run ended, and how many members, steps, solves and appended entries it had. Its status is then 20 for
+// refuted, 10 for saturated and 1 for a budget that ran out.
 #![tactic(auto)]
 
 mod asking;
@@ -35,6 +36,14 @@ impl Display for Told {
     }
 }
 
+// The status of the process once that is written.
+fn status(told: &Told) -> u8 {
+    match told {
+        Told::Given(_) => 0,
+        Told::Run(counts) => counts.code(),
+    }
+}
+
 fn run(rt: &HostRuntime) -> Option<Told> {
     let words = words(rt, rt.alloc())?;
     match task_of(words.as_slice())? {
@@ -50,7 +59,7 @@ fn main(rt: HostRuntime) -> ExitCode {
     match run(&rt) {
         None => ExitCode::from(2),
         Some(told) => match println!(rt; "{told}") {
-            Ok(()) => ExitCode::from(0),
+            Ok(()) => ExitCode::from(status(&told)),
             Err(_) => ExitCode::from(2),
         },
     }
