@@ -14,7 +14,7 @@ fn calls_have_these_answers(rt: HostRuntime) -> Result<(), Fail> {
         [true; 2]
     );
     assert_eq!(rt; devices::are_memories_right(alloc)?, [true; 6]);
-    assert_eq!(rt; devices::are_real_ones_right(&rt, alloc)?, [true; 3]);
+    assert_eq!(rt; devices::are_real_ones_right(&rt, alloc)?, [true; 4]);
     assert_eq!(rt; loading::first_wrong_in_folder(&rt, alloc)?, None);
     Ok(())
 }

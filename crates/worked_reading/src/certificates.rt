@@ -86,6 +86,9 @@ pub const MIDDLES: &str = "\
 #% instgen certificate 1\ncnf(i01,axiom,p,named(a)).\n@syntax 4\
 #% instgen certificate 1\ncnf(i1,axiom,p,named(a)).\r\n@syntax 4\
 #% instgen certificate 1\ncnf(i1,axiom,p(X1),named(a)).\n@syntax 4\
+#% instgen certificate 1\ncnf(i1,axiom,p(X4294967295),named(a)).\n@syntax 4\
+#% instgen certificate 1\ncnf(i1,axiom,p(X4294967296),named(a)).\n@syntax 4\
+#% instgen certificate 1\ncnf(i1,axiom,p(X18446744073709551615),named(a)).\n@syntax 4\
 #% instgen certificate 1\ncnf(i1,axiom,p,named('a')).\n@syntax 4\
 #% instgen certificate 1\ncnf(e1,axiom,X0 = X0,equality).\n@saturation 1 of a b\
 #% instgen certificate 1\ncnf(e1,axiom,X0 = X0,equality).\ncnf(i1,axiom,p,named(a)).\n@syntax 5\
@@ -144,6 +147,7 @@ pub const MIDDLES: &str = "\
 #% instgen certificate 3\ncnf(i1,axiom,p(X0),named(a)).\ncnf(m1,plain,p(X0),input(1),[selected(1)]).\ncnf(q1,plain,p(X0),part(m1,[X0])).\n@covered 3 of a b\
 #% instgen certificate 3\ncnf(i1,axiom,p(X0),named(a)).\ncnf(m1,plain,p(X0),input(1),[selected(1)]).\ncnf(q1,plain,p(X0),part(m9,[])).\n@covered 3 of a b\
 #% instgen certificate 3\ncnf(i1,axiom,p(X0),named(a)).\ncnf(m1,plain,p(X0),input(1),[selected(1)]).\ncnf(q1,plain,p(X0),part(m0,[X7,f(X0,'A'),X0,X7,X1])).\n@covered 3 of a b\
+#% instgen certificate 3\ncnf(i1,axiom,p(X0),named(a)).\ncnf(m1,plain,p(X0),input(1),[selected(1)]).\ncnf(q1,plain,p(X0),part(m1,[X4294967296,X18446744073709551615])).\n@covered 3 of a b\
 #% instgen certificate 3\ncnf(i1,axiom,p(X0),named(a)).\ncnf(m1,plain,p(X0),input(1),[selected(1)]).\ncnf(q1,plain,p(X0),part(m1,[X07])).\n@syntax 6\
 #% instgen certificate 3\ncnf(i1,axiom,p(X0),named(a)).\ncnf(m1,plain,p(X0),input(1),[selected(1)]).\ncnf(q1,plain,p(X0),part(m1,[X0, X1])).\n@syntax 6\
 #% instgen certificate 3\ncnf(i1,axiom,p(X0),named(a)).\ncnf(m1,plain,p(X0),input(1),[selected(1)]).\ncnf(q1,plain,p(X0),part(m1,[Y])).\n@syntax 6\
@@ -188,6 +192,7 @@ pub const REFUTATIONS: &str = "\
 #% instgen certificate 1\n% ground constant k\ncnf(g1,plain,p(k),ground(1,[k])).\n@syntax 5\
 #% instgen certificate 2\n% ground constant k\ncnf(g1,plain,p(k),ground(1,[k])).\n@refutation 2 of a b\
 #% instgen certificate 3\n% ground constant k\ncnf(g1,plain,p(k),ground(1,[k])).\n@refutation 3 of a b\
+#% instgen certificate 3\n% ground constant k\ncnf(g1,plain,p(k),ground(1,[X4294967296])).\n@refutation 3 of a b\
 #% instgen certificate 3\n% ground constant k\ncnf(g1,plain,p(k),ground(0,[])).\n@refutation 3 of a b\
 #% instgen certificate 3\n% ground constant k\ncnf(g1,plain,p(k),ground(9,[k,k])).\n@refutation 3 of a b\
 #% instgen certificate 3\n% ground constant k\ncnf(g1,plain,p(k),ground(18446744073709551615,[f(X0),X3])).\n@refutation 3 of a b\

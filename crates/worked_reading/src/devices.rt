@@ -2,13 +2,14 @@
 // that borrows it, and compared once.
 use inst_logic::{ByteList, Memory, Name};
 use outside_io::{
-    CallList, Failed, FileList, FolderLibrary, Library, MemLibrary, MemSink, NamedFile, OutSink,
-    Sink, SureLibrary, SureSink, Trouble, write_all,
+    CallList, Failed, FileError, FileList, FolderLibrary, Library, MemLibrary, MemSink, NamedFile,
+    OutSink, Sink, SureLibrary, SureSink, Trouble, read_whole, write_all,
 };
 use std::alloc::Global;
 use std::fs::Files;
 use std::io::Print;
 use std::{fs, io};
+use tptp_write::{push_bytes, push_number};
 
 fn named(alloc: Global, name: &[u8], bytes: &[u8]) -> Result<NamedFile, Memory> {
     Ok(NamedFile {
@@ -195,6 +196,44 @@ fn no_files<R: Files>(
     no_files_by(&mut folder)
 }
 
+// More bytes than are asked for at once, in no order that repeats.
+fn push_numbers(text: &mut Vec<u8>) -> Result<(), Memory> {
+    for number in 0..30_000 {
+        push_number(text, number)?;
+        push_bytes(text, b" ")?;
+    }
+    Ok(())
+}
+
+// Whether a real file of these bytes is read whole by as many, and not by one fewer.
+fn is_read_whole<R: Files>(
+    rt: &R,
+    alloc: Global,
+    folder: &mut FolderLibrary<'_, R>,
+    text: &[u8],
+) -> io::Result<bool> {
+    fs::write(rt, "outside_io_long.txt", text)?;
+    let found = read_whole(alloc, folder, "outside_io_long.txt", text.len());
+    let cut = read_whole(
+        alloc,
+        folder,
+        "outside_io_long.txt",
+        text.len().saturating_sub(1),
+    );
+    fs::remove_file(rt, "outside_io_long.txt")?;
+    let whole = found.is_ok_and(|bytes| bytes.as_slice() == text);
+    Ok(whole && cut.err() == Some(FileError::TooLong))
+}
+
+fn long_file<R: Files>(rt: &R, alloc: Global) -> io::Result<bool> {
+    let mut text = Vec::new(alloc);
+    if push_numbers(&mut text).is_err() {
+        return Ok(false);
+    }
+    let mut folder = FolderLibrary::new(rt, alloc);
+    is_read_whole(rt, alloc, &mut folder, text.as_slice())
+}
+
 /// Whether the devices in memory answer so: the first file of a name is read, and nothing before a file is begun, at its end, and
 /// after `finish`; a call fails in mid-stream, and a `begin`, and the next one does not; a piece is written whole; and a write
 /// fails.
@@ -219,12 +258,17 @@ pub fn are_memories_right(alloc: Global) -> Result<[bool; 6], Memory> {
     ])
 }
 
-/// Whether the real ones do: a file is read, whose second read changes the front of the buffer alone; what is no file fails; and
-/// standard output takes a piece.
-pub fn are_real_ones_right<R: Files + Print>(rt: &R, alloc: Global) -> io::Result<[bool; 3]> {
+/// Whether the real ones do: a file is read, whose second read changes the front of the buffer alone; a file of more than 64 KiB is
+/// read whole; what is no file fails; and standard output takes a piece.
+pub fn are_real_ones_right<R: Files + Print>(rt: &R, alloc: Global) -> io::Result<[bool; 4]> {
     let mut out = OutSink::new(rt);
     let is_read = real_file(rt, alloc)?
         == ((Ok(true), [Ok(3), Ok(2), Ok(0), Ok(0)], *b").a"), Ok(false));
     let fails = no_files(rt, alloc) == [(Ok(true), Err(Failed)), (Err(Trouble::Failed), Ok(0))];
-    Ok([is_read, fails, write_all(&mut out, b"% written\n").is_ok()])
+    Ok([
+        is_read,
+        long_file(rt, alloc)?,
+        fails,
+        write_all(&mut out, b"% written\n").is_ok(),
+    ])
 }

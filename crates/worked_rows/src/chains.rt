@@ -79,18 +79,19 @@ fn is_told(alloc: Global, words: &str, number: usize, clauses: usize) -> Result<
     Ok(answer == wanted)
 }
 
-fn are_told(alloc: Global) -> Result<[bool; 4], Memory> {
+fn are_told(alloc: Global) -> Result<[bool; 5], Memory> {
     Ok([
         is_told(alloc, "|stress|2", 2, 4)?,
         is_told(alloc, "|stress|3", 3, 5)?,
         is_told(alloc, "|stress|17", 17, 19)?,
         is_told(alloc, "|stress|300", 300, 302)?,
+        is_told(alloc, "|stress|1000", 1000, 1002)?,
     ])
 }
 
 #[test]
 fn chains_are_refuted(rt: HostRuntime) -> Result<(), Fail> {
-    assert_eq!(rt; are_told(rt.alloc())?, [true; 4]);
+    assert_eq!(rt; are_told(rt.alloc())?, [true; 5]);
     Ok(())
 }
 

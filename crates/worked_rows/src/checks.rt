@@ -128,6 +128,19 @@ pub const ROWS: &str = "\
 #an input shown by a variant@|check|c@7 invalid: input 1\n@NAMED+M1+M2+M3+M4+cnf(q1,plain,p(X0,a) | q(X0),variant(m1)).\n+Q2+C1+C2+TIE_END\
 #an input shown by no member@|check|c@7 invalid: input 1\n@NAMED+M1+M2+M3+M4+cnf(q1,plain,p(X0,a) | q(X0),part(m9,[X0])).\n+Q2+C1+C2+TIE_END\
 #an input shown with too few terms@|check|c@7 invalid: input 1\n@NAMED+M1+M2+M3+M4+cnf(q1,plain,p(X0,a) | q(X0),part(m1,[])).\n+Q2+C1+C2+TIE_END\
+#variables with the largest numbers of four bytes, and with larger ones@|check|c@7 invalid: input 1\n@NAMED+M1+M2+M3+M4+cnf(q1,plain,p(X0,a) | q(X0),part(m1,[X4294967295])).\n+Q2+C1+C2+TIE_END\
+#@|check|c@7 invalid: input 1\n@NAMED+M1+M2+M3+M4+cnf(q1,plain,p(X0,a) | q(X0),part(m1,[X4294967296])).\n+Q2+C1+C2+TIE_END\
+#@|check|c@7 invalid: input 1\n@NAMED+M1+M2+M3+M4+cnf(q1,plain,p(X0,a) | q(X0),part(m1,[X18446744073709551615])).\n+Q2+C1+C2+TIE_END\
+#@|check|c|--rewrite@7 invalid: input 1\n@NAMED+M1+M2+M3+M4+cnf(q1,plain,p(X0,a) | q(X0),part(m1,[X4294967296])).\n+Q2+C1+C2+TIE_END\
+#@|ask|c|p(c,a)@7 invalid: input 1\n@NAMED+M1+M2+M3+M4+cnf(q1,plain,p(X0,a) | q(X0),part(m1,[X4294967296])).\n+Q2+C1+C2+TIE_END\
+#@|check|c@7 invalid: ground 1\n@START+SECOND+MEMBERS+cnf(g1,plain,p(bot_0),ground(1,[X4294967295])).\n+cnf(g2,plain,~p(c),ground(2,[])).\n+cnf(g3,plain,p(c),ground(1,[c])).\n+STEP+END\
+#@|check|c@7 invalid: ground 1\n@START+SECOND+MEMBERS+cnf(g1,plain,p(bot_0),ground(1,[X4294967296])).\n+cnf(g2,plain,~p(c),ground(2,[])).\n+cnf(g3,plain,p(c),ground(1,[c])).\n+STEP+END\
+#@|check|c|--rewrite@7 invalid: ground 1\n@START+SECOND+MEMBERS+cnf(g1,plain,p(bot_0),ground(1,[X4294967296])).\n+cnf(g2,plain,~p(c),ground(2,[])).\n+cnf(g3,plain,p(c),ground(1,[c])).\n+STEP+END\
+#@|ask|c|p(c)@2 % SZS status InputError for c\n% no saturation: c\n@START+SECOND+MEMBERS+cnf(g1,plain,p(bot_0),ground(1,[X4294967296])).\n+cnf(g2,plain,~p(c),ground(2,[])).\n+cnf(g3,plain,p(c),ground(1,[c])).\n+STEP+END\
+#@|check|c@2 % SZS status SyntaxError for c\n% syntax: line 4 of c\n@% SZS status Satisfiable for t\n% SZS output start Saturation for t\n% instgen certificate 3\ncnf(i1,axiom,p(X4294967295),named(a)).\n% SZS output end Saturation for t\n\
+#@|check|c@2 % SZS status SyntaxError for c\n% syntax: line 4 of c\n@% SZS status Satisfiable for t\n% SZS output start Saturation for t\n% instgen certificate 3\ncnf(i1,axiom,p(X4294967296),named(a)).\n% SZS output end Saturation for t\n\
+#@|check|c|--rewrite@2 % SZS status SyntaxError for c\n% syntax: line 4 of c\n@% SZS status Satisfiable for t\n% SZS output start Saturation for t\n% instgen certificate 3\ncnf(i1,axiom,p(X4294967296),named(a)).\n% SZS output end Saturation for t\n\
+#@|ask|c|p(c,a)@2 % SZS status SyntaxError for c\n% syntax: line 4 of c\n@% SZS status Satisfiable for t\n% SZS output start Saturation for t\n% instgen certificate 3\ncnf(i1,axiom,p(X4294967296),named(a)).\n% SZS output end Saturation for t\n\
 #a cover of another clause@|check|c@7 invalid: cover 1\n@NAMED+M1+M2+M3+M4+Q1+Q2+cnf(c1,plain,p(b,a) | q(a),cover(m1,m2,left),[variant(m3)]).\n+C2+TIE_END\
 #a cover by as many literals@|check|c@7 invalid: cover 1\n@NAMED+M1+M2+M3+M4+Q1+Q2+cnf(c1,plain,p(b,a) | q(b),cover(m1,m2,left),[part(m3,[])]).\n+C2+TIE_END\
 #a cover by a tautology that is none@|check|c@7 invalid: cover 1\n@NAMED+M1+M2+M3+M4+Q1+Q2+cnf(c1,plain,p(b,a) | q(b),cover(m1,m2,left),[tautology]).\n+C2+TIE_END\

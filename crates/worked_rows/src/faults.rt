@@ -8,12 +8,13 @@ use std::alloc::Global;
 use std::test::Fail;
 use szs_prove::run;
 
-// Problems, one of them with an include, clauses in the DIMACS form, and a certificate without members, which is valid.
+// Problems, one of them with an include, clauses in the DIMACS form, a formula, and a certificate without members, which is valid.
 const FILES: &str = "\
 r.p@cnf(one,axiom,p(X)). cnf(two,axiom,~p(c)).@\
 m.p@include('ax.p',[b]). cnf(g,negated_conjecture,~p(c)).@\
 ax.p@cnf(a,axiom,q(c)). cnf(b,axiom,p(X)).@\
 d.cnf@p cnf 1 1\n1 0\n@\
+q.cnf@p cnf 1 1\ne 1 0\n1 0\n@\
 c@% SZS status Satisfiable for r.p
 % SZS output start Saturation for r.p
 % instgen certificate 1
@@ -25,6 +26,8 @@ const NO_PROBLEM: &str = "4 % SZS status OSError for r.p\n% read fault\n";
 const NO_INCLUDES: &str = "4 % SZS status OSError for m.p\n% read fault\n";
 
 const NO_CLAUSES: &str = "4 % SZS status OSError for d.cnf\n% read fault\n";
+
+const NO_FORMULA: &str = "4 % SZS status OSError for q.cnf\n% read fault\n";
 
 const NO_CERTIFICATE: &str = "4 % SZS status OSError for c\n% read fault\n";
 
@@ -85,11 +88,14 @@ fn all_fail(
 
 // A file is begun, and some reads give its bytes, of which the last finds the end; each file that another includes or that a check
 // names beside its certificate has as many calls more.
-fn all_reads_fail(alloc: Global) -> Result<[bool; 6], Memory> {
+fn all_reads_fail(alloc: Global) -> Result<[bool; 9], Memory> {
     Ok([
         all_fail(alloc, "|prove|r.p", 24, 4, NO_PROBLEM)?,
         all_fail(alloc, "|prove|m.p", 64, 6, NO_INCLUDES)?,
+        all_fail(alloc, "|fmodel|1|m.p", 64, 6, NO_INCLUDES)?,
+        all_fail(alloc, "|core|m.p", 64, 6, NO_INCLUDES)?,
         all_fail(alloc, "|sat|d.cnf", 7, 4, NO_CLAUSES)?,
+        all_fail(alloc, "|qbf|q.cnf", 10, 4, NO_FORMULA)?,
         all_fail(alloc, "|check|c", 64, 5, NO_CERTIFICATE)?,
         all_fail(alloc, "|ask|c|p", 64, 5, NO_CERTIFICATE)?,
         all_fail(alloc, "|check|c|--problem|r.p", 64, 8, NO_CERTIFICATE)?,
@@ -98,7 +104,7 @@ fn all_reads_fail(alloc: Global) -> Result<[bool; 6], Memory> {
 
 #[test]
 fn reads_that_fail(rt: HostRuntime) -> Result<(), Fail> {
-    assert_eq!(rt; all_reads_fail(rt.alloc())?, [true; 6]);
+    assert_eq!(rt; all_reads_fail(rt.alloc())?, [true; 9]);
     Ok(())
 }
 
@@ -162,10 +168,13 @@ fn all_writes_stop(
     }
 }
 
-fn all_answers_stop(alloc: Global) -> Result<[bool; 6], Memory> {
+fn all_answers_stop(alloc: Global) -> Result<[bool; 9], Memory> {
     Ok([
         all_writes_stop(alloc, "|prove|r.p", "0 ", None)?,
+        all_writes_stop(alloc, "|fmodel|1|r.p", "0 ", None)?,
+        all_writes_stop(alloc, "|core|r.p", "0 ", None)?,
         all_writes_stop(alloc, "|sat|d.cnf", "10 ", None)?,
+        all_writes_stop(alloc, "|qbf|q.cnf", "10 ", None)?,
         all_writes_stop(alloc, "|check|c", "0 ", Some(3))?,
         all_writes_stop(alloc, "|ask|c|p", "0 ", Some(2))?,
         all_writes_stop(alloc, "|check|d", "2 ", Some(8))?,
@@ -175,6 +184,6 @@ fn all_answers_stop(alloc: Global) -> Result<[bool; 6], Memory> {
 
 #[test]
 fn writes_that_fail(rt: HostRuntime) -> Result<(), Fail> {
-    assert_eq!(rt; all_answers_stop(rt.alloc())?, [true; 6]);
+    assert_eq!(rt; all_answers_stop(rt.alloc())?, [true; 9]);
     Ok(())
 }

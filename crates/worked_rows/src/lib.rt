@@ -27,4 +27,6 @@ mod rows;
 #[cfg(test)]
 mod runs;
 #[cfg(test)]
+mod scarce;
+#[cfg(test)]
 mod tables;

@@ -1,4 +1,4 @@
-// Texts at the limits of a statement, and one past them.
+// Texts at the limits of a statement and of a file, and one past them; and texts that are long by what they say.
 use crate::runs::{answer_of, file_of};
 use inst_logic::Memory;
 use std::alloc::Global;
@@ -21,6 +21,10 @@ enum Shape {
     Blank,
     // No clauses in the DIMACS form, and blanks up to so many bytes.
     NoClauses,
+    // Two clauses whose unifier doubles a term so many times.
+    Doubling,
+    // A certificate with one member, `p(f(..f(c)..))` with so many f.
+    Certified,
 }
 
 fn push_times(text: &mut Vec<u8>, bytes: &[u8], count: usize) -> Result<(), Memory> {
@@ -30,11 +34,63 @@ fn push_times(text: &mut Vec<u8>, bytes: &[u8], count: usize) -> Result<(), Memo
     Ok(())
 }
 
-fn push_nested(text: &mut Vec<u8>, depth: usize) -> Result<(), Memory> {
-    push_bytes(text, b"cnf(a,axiom,p(")?;
+fn push_deep(text: &mut Vec<u8>, depth: usize) -> Result<(), Memory> {
+    push_bytes(text, b"p(")?;
     push_times(text, b"f(", depth)?;
     push_bytes(text, b"c")?;
     push_times(text, b")", depth)?;
+    push_bytes(text, b")")
+}
+
+fn push_nested(text: &mut Vec<u8>, depth: usize) -> Result<(), Memory> {
+    push_bytes(text, b"cnf(a,axiom,")?;
+    push_deep(text, depth)?;
+    push_bytes(text, b").")
+}
+
+fn push_certified(text: &mut Vec<u8>, depth: usize) -> Result<(), Memory> {
+    push_bytes(
+        text,
+        b"% SZS status Satisfiable for d.p\n% SZS output start Saturation for d.p\n% instgen certificate 1\ncnf(i1,axiom,",
+    )?;
+    push_deep(text, depth)?;
+    push_bytes(text, b",named(a)).\ncnf(m1,plain,")?;
+    push_deep(text, depth)?;
+    push_bytes(
+        text,
+        b",input(1),[selected(1)]).\n% SZS output end Saturation for d.p\n",
+    )
+}
+
+// `X1,X1,X2,X2,..` of so many variables.
+fn push_pairs(text: &mut Vec<u8>, count: usize) -> Result<(), Memory> {
+    for i in 1..=count {
+        push_bytes(text, if i > 1 { b",X" } else { b"X" })?;
+        push_number(text, i)?;
+        push_bytes(text, b",X")?;
+        push_number(text, i)?;
+    }
+    Ok(())
+}
+
+// `f(Y0,Y0),Y1,f(Y1,Y1),Y2,..` of so many applications.
+fn push_doubles(text: &mut Vec<u8>, count: usize) -> Result<(), Memory> {
+    for i in 0..count {
+        push_bytes(text, if i > 0 { b",f(Y" } else { b"f(Y" })?;
+        push_number(text, i)?;
+        push_bytes(text, b",Y")?;
+        push_number(text, i)?;
+        push_bytes(text, b"),Y")?;
+        push_number(text, i.saturating_add(1))?;
+    }
+    Ok(())
+}
+
+fn push_doubling(text: &mut Vec<u8>, count: usize) -> Result<(), Memory> {
+    push_bytes(text, b"cnf(a,axiom,p(")?;
+    push_pairs(text, count)?;
+    push_bytes(text, b")). cnf(b,axiom,~p(")?;
+    push_doubles(text, count)?;
     push_bytes(text, b")).")
 }
 
@@ -83,34 +139,31 @@ fn push_text(text: &mut Vec<u8>, shape: Shape, count: usize) -> Result<(), Memor
         Shape::Variables => push_variables(text, if count > 0 { b"q(Y)" } else { b"q(X0)" }),
         Shape::Blank => push_times(text, b" ", count),
         Shape::NoClauses => push_no_clauses(text, count),
-    }
-}
-
-fn words_of(shape: Shape) -> &'static str {
-    match shape {
-        Shape::NoClauses => "|sat|n.p",
-        Shape::Nested | Shape::Wide | Shape::Variables | Shape::Blank => "|prove|n.p",
+        Shape::Doubling => push_doubling(text, count),
+        Shape::Certified => push_certified(text, count),
     }
 }
 
 fn begins_by(
     alloc: Global,
     text: &mut Vec<u8>,
-    shape: Shape,
-    count: usize,
+    words: &str,
+    (shape, count): (Shape, usize),
     start: &str,
 ) -> Result<bool, Memory> {
     push_text(text, shape, count)?;
     let files = file_of(alloc, "n.p", text.as_slice())?;
-    let answer = answer_of(alloc, words_of(shape), files)?;
+    let answer = answer_of(alloc, words, files)?;
     Ok(answer.starts_with(start.as_bytes()))
 }
 
-// Whether the answer to the text begins so.
-fn begins(alloc: Global, shape: Shape, count: usize, start: &str) -> Result<bool, Memory> {
-    let mut text = Vec::new(alloc);
-    begins_by(alloc, &mut text, shape, count, start)
+// Whether the answer to the words begins so, where the file has this text.
+fn begins(alloc: Global, words: &str, text: (Shape, usize), start: &str) -> Result<bool, Memory> {
+    let mut bytes = Vec::new(alloc);
+    begins_by(alloc, &mut bytes, words, text, start)
 }
+
+const PROVE: &str = "|prove|n.p";
 
 const SATISFIABLE: &str = "0 % SZS status Satisfiable for n.p\n";
 
@@ -123,34 +176,53 @@ const VARIABLES: &str =
 
 const BYTES: &str = "2 % SZS status InputError for n.p\n% limit bytes\n";
 
-fn limits_are_kept(alloc: Global) -> Result<[bool; 8], Memory> {
+// Both sides of the unifier are proper, and the last term has 65 different nodes, and a size above u64::MAX.
+const TOO_LARGE: &str =
+    "1 % SZS status ResourceOut for n.p\n% budget 10000000, left 10000000, least conclusion 18446744073709551615\n";
+
+fn limits_are_kept(alloc: Global) -> Result<[bool; 12], Memory> {
     Ok([
-        begins(alloc, Shape::Nested, 254, SATISFIABLE)?,
-        begins(alloc, Shape::Nested, 255, NESTING)?,
-        begins(alloc, Shape::Wide, 1023, SATISFIABLE)?,
-        begins(alloc, Shape::Wide, 1024, ARITY)?,
-        begins(alloc, Shape::Variables, 0, SATISFIABLE)?,
-        begins(alloc, Shape::Variables, 1, VARIABLES)?,
-        begins(alloc, Shape::Blank, LIMIT, SATISFIABLE)?,
-        begins(alloc, Shape::Blank, LIMIT + 1, BYTES)?,
+        begins(alloc, PROVE, (Shape::Nested, 254), SATISFIABLE)?,
+        begins(alloc, PROVE, (Shape::Nested, 255), NESTING)?,
+        begins(alloc, PROVE, (Shape::Wide, 1023), SATISFIABLE)?,
+        begins(alloc, PROVE, (Shape::Wide, 1024), ARITY)?,
+        begins(alloc, PROVE, (Shape::Variables, 0), SATISFIABLE)?,
+        begins(alloc, PROVE, (Shape::Variables, 1), VARIABLES)?,
+        begins(alloc, PROVE, (Shape::Blank, LIMIT), SATISFIABLE)?,
+        begins(alloc, PROVE, (Shape::Blank, LIMIT + 1), BYTES)?,
+        begins(alloc, "|fmodel|2|n.p", (Shape::Blank, LIMIT + 1), BYTES)?,
+        begins(alloc, "|core|n.p", (Shape::Blank, LIMIT + 1), BYTES)?,
+        begins(alloc, PROVE, (Shape::Doubling, 64), TOO_LARGE)?,
+        begins(
+            alloc,
+            "|check|n.p",
+            (Shape::Certified, 100_000),
+            "0 valid Saturation\n",
+        )?,
     ])
 }
 
-fn clauses_are_limited(alloc: Global) -> Result<[bool; 2], Memory> {
+fn clauses_are_limited(alloc: Global) -> Result<[bool; 3], Memory> {
     Ok([
-        begins(alloc, Shape::NoClauses, LIMIT, "10 s SATISFIABLE\nv 0\n")?,
-        begins(alloc, Shape::NoClauses, LIMIT + 1, BYTES)?,
+        begins(
+            alloc,
+            "|sat|n.p",
+            (Shape::NoClauses, LIMIT),
+            "10 s SATISFIABLE\nv 0\n",
+        )?,
+        begins(alloc, "|sat|n.p", (Shape::NoClauses, LIMIT + 1), BYTES)?,
+        begins(alloc, "|qbf|n.p", (Shape::NoClauses, LIMIT + 1), BYTES)?,
     ])
 }
 
 #[test]
 fn limits(rt: HostRuntime) -> Result<(), Fail> {
-    assert_eq!(rt; limits_are_kept(rt.alloc())?, [true; 8]);
+    assert_eq!(rt; limits_are_kept(rt.alloc())?, [true; 12]);
     Ok(())
 }
 
 #[test]
 fn limit_of_clauses(rt: HostRuntime) -> Result<(), Fail> {
-    assert_eq!(rt; clauses_are_limited(rt.alloc())?, [true; 2]);
+    assert_eq!(rt; clauses_are_limited(rt.alloc())?, [true; 3]);
     Ok(())
 }

@@ -40,7 +40,7 @@ fn first_wrong(alloc: Global, kind: Kind, table: &str) -> Result<Option<usize>, 
 }
 
 // The place of the first wrong row of each table. In a table a row begins with `#`, and `@` stands between its parts.
-fn wrong_rows(alloc: Global) -> Result<[Option<usize>; 10], Memory> {
+fn wrong_rows(alloc: Global) -> Result<[Option<usize>; 9], Memory> {
     Ok([
         first_wrong(alloc, Kind::Answers, rows::ROWS)?,
         first_wrong(alloc, Kind::Answers, rows::DIMACS)?,
@@ -49,14 +49,13 @@ fn wrong_rows(alloc: Global) -> Result<[Option<usize>; 10], Memory> {
         first_wrong(alloc, Kind::Refutations, refutations::ROWS)?,
         first_wrong(alloc, Kind::Refusals, refused_texts::ROWS)?,
         first_wrong(alloc, Kind::Checks, checks::ROWS)?,
-        first_wrong(alloc, Kind::Beginnings, further_rows::FORMULAS)?,
-        first_wrong(alloc, Kind::Beginnings, further_rows::MODELS)?,
-        first_wrong(alloc, Kind::Beginnings, further_rows::CORES)?,
+        first_wrong(alloc, Kind::Answers, further_rows::WHOLE)?,
+        first_wrong(alloc, Kind::Beginnings, further_rows::BEGINNINGS)?,
     ])
 }
 
 #[test]
 fn words_have_these_answers(rt: HostRuntime) -> Result<(), Fail> {
-    assert_eq!(rt; wrong_rows(rt.alloc())?, [None; 10]);
+    assert_eq!(rt; wrong_rows(rt.alloc())?, [None; 9]);
     Ok(())
 }

@@ -639,3 +639,67 @@ pub fn questions_that_are_refuted_again_leave_no_steps(alloc: Global) -> Result<
     let found = conflicts_of(Cdcl::new(alloc))?;
     Ok(found.0 == found.1)
 }
+
+// What refutes atom 0, where the five atoms after it are refuted by search, and the conflicts that have steps then.
+fn conflicts_under_by<S: Solver>(solver: &mut S) -> Result<(Option<usize>, u64), Memory>
+    requires { 6 ≤ S.atoms solver.old }
+    ensures { OnOk result (S.atoms solver.new ≡ S.atoms solver.old) }
+{
+    let found = refutation_of(solver, &[lit(0, true)])?;
+    Ok((found.map(|r| r.core), solver.conflicts()))
+}
+
+// Both, after each of two questions, where all that was learned may be forgotten between them.
+fn conflicts_twice_by<S: Solver>(solver: &mut S) -> Result<[(Option<usize>, u64); 2], Memory>
+    requires { S.atoms solver.old ≡ 0 }
+{
+    make_atoms(solver, 6)?;
+    add_signs_after(solver, 0)?;
+    let first = conflicts_under_by(solver)?;
+    let second = conflicts_under_by(solver)?;
+    Ok([first, second])
+}
+
+fn conflicts_twice<S: Solver>(mut solver: S) -> Result<[(Option<usize>, u64); 2], Memory>
+    requires { S.atoms solver ≡ 0 }
+{
+    conflicts_twice_by(&mut solver)
+}
+
+pub fn what_was_forgotten_is_learned_again(alloc: Global) -> Result<bool, Memory> {
+    let [first, second] = conflicts_twice(Cdcl::new(alloc))?;
+    let [one, more] = conflicts_twice(Cdcl::forgetting_after(alloc, 0))?;
+    let cores = [first.0, second.0, one.0, more.0] == [Some(1); 4];
+    Ok(cores && first.1 == second.1 && one.1 == first.1 && one.1 < more.1)
+}
+
+pub fn new_atoms_are_tried_false_or_true_first(alloc: Global) -> Result<bool, Memory> {
+    Ok(
+        [
+            values_of_atoms(Cdcl::new(alloc), 2)?,
+            values_of_atoms(Cdcl::true_first(alloc), 2)?,
+        ] == [Some((false, false)), Some((true, true))],
+    )
+}
+
+// The restarts of the question whether so many pigeons and one more have holes.
+fn restarts_of_pigeons(solver: &mut Cdcl, holes: usize) -> Result<u64, Memory>
+    requires atoms { solver.old.atoms ≡ 0 }
+    requires few { holes < 8 }
+{
+    steps_of_pigeons_by(solver, holes)?;
+    Ok(solver.restarts())
+}
+
+fn restarts_of(mut solver: Cdcl, holes: usize) -> Result<u64, Memory>
+    requires atoms { solver.atoms ≡ 0 }
+    requires few { holes < 8 }
+{
+    restarts_of_pigeons(&mut solver, holes)
+}
+
+pub fn long_questions_restart(alloc: Global) -> Result<bool, Memory> {
+    let few = restarts_of(Cdcl::new(alloc), 2)?;
+    let more = restarts_of(Cdcl::new(alloc), 6)?;
+    Ok(few == 0 && 0 < more)
+}

@@ -18,7 +18,7 @@ fn of_derivations(alloc: Global) -> Result<[bool; 2], Memory> {
     ])
 }
 
-fn of_questions(alloc: Global) -> Result<[bool; 12], Memory> {
+fn of_questions(alloc: Global) -> Result<[bool; 15], Memory> {
     Ok([
         questions::the_row_is_answered(alloc)?,
         questions::the_plain_solver_answers_the_row(alloc)?,
@@ -32,6 +32,9 @@ fn of_questions(alloc: Global) -> Result<[bool; 12], Memory> {
         questions::a_core_has_three_of_four_assumptions(alloc)?,
         questions::a_clause_comes_between_two_questions(alloc)?,
         questions::questions_that_are_refuted_again_leave_no_steps(alloc)?,
+        questions::what_was_forgotten_is_learned_again(alloc)?,
+        questions::new_atoms_are_tried_false_or_true_first(alloc)?,
+        questions::long_questions_restart(alloc)?,
     ])
 }
 
@@ -55,7 +58,7 @@ fn answers_are_as_wanted(rt: HostRuntime) -> Result<(), Fail> {
     let alloc = rt.alloc();
     assert_eq!(rt; of_choices(alloc)?, [true; 2]);
     assert_eq!(rt; of_derivations(alloc)?, [true; 2]);
-    assert_eq!(rt; of_questions(alloc)?, [true; 12]);
+    assert_eq!(rt; of_questions(alloc)?, [true; 15]);
     assert_eq!(rt; of_trails(alloc)?, [true; 3]);
     assert_eq!(rt; of_valuations(alloc)?, [true; 2]);
     Ok(())
