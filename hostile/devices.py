@@ -39,7 +39,6 @@ class Table:
             if process.stdout:
                 text = process.stdout.read(most)
                 process.stdout.close()
-            process.wait()
         return runs.Ended(process.returncode, text)
 
 

@@ -118,7 +118,6 @@ def refused(program, words, folder, shim, number, onward):
             os.close(mark)
             out = run.stdout.read()
             run.stdout.close()
-            run.wait()
         return run.returncode, out, pipe.read().decode()
 
 

@@ -32,6 +32,7 @@ SPARE = 'cnf(a,axiom,p(c)). cnf(b,axiom,q(c)). cnf(d,axiom,~p(X) | r(X)). cnf(e,
 
 def words_of(description):
     """The words of the command line: --program, and what the caller adds."""
+    signal.signal(signal.SIGTERM, lambda number, _: sys.exit(128 + number))  # a script that is ended ends what it began
     parser = argparse.ArgumentParser(description=description)
     parser.add_argument('--program', default=os.path.join(TOP, 'out', 'instgen'), help='the built program; ./instgen builds it')
     return parser
@@ -56,21 +57,23 @@ def write(folder, name, text):
 
 @contextlib.contextmanager
 def begun(words, limit=120, **how):
-    """A process in a group of its own, which is killed with all that it began when its seconds are over, or whoever asked for it is done."""
+    """A process in a group of its own. The group is killed when its seconds are over, when the process has ended, and where whoever asked
+    for it fails. Until then the process is not waited for, so that its number stays that of its group."""
     process = subprocess.Popen(words, start_new_session=True, **how)
 
     def end():
-        if process.poll() is None:
-            with contextlib.suppress(ProcessLookupError):
-                os.killpg(process.pid, signal.SIGKILL)
+        with contextlib.suppress(ProcessLookupError):
+            os.killpg(process.pid, signal.SIGKILL)
 
     timer = threading.Timer(limit, end)
     timer.daemon = True
     timer.start()
     try:
         yield process
+        os.waitid(os.P_PID, process.pid, os.WEXITED | os.WNOWAIT)
     finally:
         timer.cancel()
+        timer.join()
         end()
         process.wait()
 

@@ -146,7 +146,7 @@ ROOTS = [
     ('text', [('cert_format', 'Text', 'certificate_text')]),
     ('decided', [('szs_prove', 'Answered', 'WritesCertificate')]),
     ('verdict', [('szs_prove', 'Answered', 'IsLoaded'), ('szs_prove', 'Answered', 'WantsOfProblem'), ('szs_prove', 'Answered', 'Yields')]),
-    ('solved', [('dimacs_front', 'Files', 'IsOutcome'), ('szs_prove', 'Written', 'IsWritten')]),
+    ('solved', [('szs_prove', 'Answered', 'WritesSolved'), ('szs_prove', 'Written', 'IsWritten')]),
     ('formula', [('szs_prove', 'Answered', 'WritesFormula')]),
     ('model', [('szs_prove', 'Answered', 'WritesModel')]),
     ('core', [('szs_prove', 'Answered', 'WritesCore')]),
@@ -199,9 +199,9 @@ The headline's last sentence is the clause `exact`, read for `prove`. Where the 
 
 The last part of this page has `IsExact` itself, which says this of every command.
 
-## `sat`: clauses in the DIMACS form
+## `sat`: the clause `solved`
 
-The clause `answered` says it: what is written is an answer with its cause, and for `sat` the cause is `IsOutcome`. `s SATISFIABLE` comes with a value for each variable, and these make every clause true. `s UNSATISFIABLE` comes only where no values do, and with a derivation whose steps each follow from the clauses and steps that they cite, and whose last step is empty. `IsWritten` says what the output has then: the whole answer, or a proper prefix of it where writing failed or the output ran out of memory.
+The clauses are those that the file's text spells, `IsDimacs`. `s SATISFIABLE` comes with a value for each variable, and these make every clause true. `s UNSATISFIABLE` comes only where no values do, and with a derivation whose steps each follow from the clauses and steps that they cite, and whose last step is empty. `IsWritten`, of the clause `answered`, says what the output has for any answer: the whole of it, or a proper prefix of it where writing failed or the output ran out of memory.
 
 {solved table}
 
