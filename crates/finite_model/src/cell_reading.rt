@@ -20,6 +20,9 @@ pub trait TruthTest {
     /// What the test needs to answer.
     ghost ready: { Self → Type 0 };
 
+    /// What stays as it was, in a test and what became of it by questions.
+    ghost keeps: { Self → Self → Type 0 };
+
     /// Whether the atom of the literal, which has no variables, is true; its sign doesn't count.
     fn is_true(&mut self, l: &Literal) -> Result<bool, Memory>
         requires formed { IsAtom (literal l.now).atom }
@@ -27,7 +30,14 @@ pub trait TruthTest {
         requires ready { ready self.old }
         ensures truth { IfOk result (λ b. IsTrue b ↔ IsTrueBy (members self.old) (literal l.now).atom) }
         ensures same { members self.new ≡ members self.old }
-        ensures ready { ready self.new };
+        ensures ready { ready self.new }
+        ensures keeps { keeps self.old self.new };
+
+    /// A test of which nothing was asked keeps all.
+    ghost keeps_itself: { (t : Self) → keeps t t };
+
+    /// What two questions keep one by one they keep together.
+    ghost keeps_on: { (a b c : Self) → keeps a b → keeps b c → keeps a c };
 }
 
 // The constants for the elements.
@@ -78,6 +88,7 @@ fn is_value<T: TruthTest>(
     ensures truth { IfOk result (λ b. IsTrue b ↔ IsTrueBy (T.members test.old) (applied sym.now (map element es.now ++ element e ∷ []))) }
     ensures same { T.members test.new ≡ T.members test.old }
     ensures ready { T.ready test.new }
+    ensures keeps { T.keeps test.old test.new }
 {
     let atom = value_atom(alloc, sym, es, e)?;
     test.is_true(&atom)
@@ -97,6 +108,7 @@ fn value_at<T: TruthTest>(
     ensures value { IfOk result (λ e. IsValueAt (T.members test.old) k sym.now es.now e) }
     ensures same { T.members test.new ≡ T.members test.old }
     ensures ready { T.ready test.new }
+    ensures keeps { T.keeps test.old test.new }
 {
     for i in 0..k {
         let found = is_value(alloc, test, sym, es, i + 1)?;
@@ -119,6 +131,7 @@ fn truth_at<T: TruthTest>(
     ensures truth { IfOk result (λ n. IsTruthAt (T.members test.old) sym.now es.now n) }
     ensures same { T.members test.new ≡ T.members test.old }
     ensures ready { T.ready test.new }
+    ensures keeps { T.keeps test.old test.new }
 {
     let atom = relation_atom(alloc, sym, es)?;
     let holds = test.is_true(&atom)?;
@@ -139,6 +152,7 @@ pub(crate) fn function_cells<T: TruthTest>(
     ensures cells { IfOk result (λ cells. AreFilled k n (IsValueAt (T.members test.old) k sym.now) (k ^ n) cells) }
     ensures same { T.members test.new ≡ T.members test.old }
     ensures ready { T.ready test.new }
+    ensures keeps { T.keeps test.old test.new }
 {
     let count = row_count(k, n)?;
     let mut cells = PlaceList::new(alloc);
@@ -163,6 +177,7 @@ pub(crate) fn predicate_cells<T: TruthTest>(
     ensures cells { IfOk result (λ cells. AreFilled k n (IsTruthAt (T.members test.old) sym.now) (k ^ n) cells) }
     ensures same { T.members test.new ≡ T.members test.old }
     ensures ready { T.ready test.new }
+    ensures keeps { T.keeps test.old test.new }
 {
     let count = row_count(k, n)?;
     let mut cells = PlaceList::new(alloc);

@@ -26,6 +26,7 @@ fn function_table<T: TruthTest>(
     ensures symbol { IfOk result (λ t. t.sym ≡ f.now) }
     ensures same { T.members test.new ≡ T.members test.old }
     ensures ready { T.ready test.new }
+    ensures keeps { T.keeps test.old test.new }
 {
     let sym = numbering.of_function(alloc, f)?;
     let cells = function_cells(alloc, test, &sym, f.arity, k)?;
@@ -47,6 +48,7 @@ fn predicate_table<T: TruthTest>(
     ensures symbol { IfOk result (λ t. t.sym ≡ p.now) }
     ensures same { T.members test.new ≡ T.members test.old }
     ensures ready { T.ready test.new }
+    ensures keeps { T.keeps test.old test.new }
 {
     let sym = numbering.of_predicate(alloc, p)?;
     let cells = predicate_cells(alloc, test, &sym, p.arity, k)?;
@@ -71,6 +73,7 @@ fn function_table_at<T: TruthTest>(
     ensures symbol { IfOk result (λ t. t.sym ≡ slice_index_or numbering.now.functions i identity) }
     ensures same { T.members test.new ≡ T.members test.old }
     ensures ready { T.ready test.new }
+    ensures keeps { T.keeps test.old test.new }
 {
     match numbering.functions.get_index(i) {
         Some(f) => function_table(alloc, numbering, test, f, k),
@@ -90,6 +93,7 @@ fn function_tables<T: TruthTest>(
     ensures read { IfOk result (λ ts. All (IsReadFunction (T.members test.old) k numbering.now) ts) }
     ensures same { T.members test.new ≡ T.members test.old }
     ensures ready { T.ready test.new }
+    ensures keeps { T.keeps test.old test.new }
 {
     let mut tables = TableList::new(alloc);
     for i in 0..numbering.functions.len() {
@@ -113,6 +117,7 @@ fn predicate_table_at<T: TruthTest>(
     ensures symbol { IfOk result (λ t. t.sym ≡ slice_index_or numbering.now.predicates i identity) }
     ensures same { T.members test.new ≡ T.members test.old }
     ensures ready { T.ready test.new }
+    ensures keeps { T.keeps test.old test.new }
 {
     match numbering.predicates.get_index(i) {
         Some(p) => predicate_table(alloc, numbering, test, p, k),
@@ -131,6 +136,7 @@ fn predicate_tables<T: TruthTest>(
     ensures read { IfOk result (λ ts. All (IsReadPredicate (T.members test.old) k numbering.now) ts) }
     ensures same { T.members test.new ≡ T.members test.old }
     ensures ready { T.ready test.new }
+    ensures keeps { T.keeps test.old test.new }
 {
     let mut tables = TableList::new(alloc);
     for i in 0..numbering.predicates.len() {
@@ -152,6 +158,7 @@ fn tables_by<T: TruthTest>(
     ensures read { IfOk result (AreReadBy (T.members test.old) k numbering.now) }
     ensures same { T.members test.new ≡ T.members test.old }
     ensures ready { T.ready test.new }
+    ensures keeps { T.keeps test.old test.new }
 {
     let functions = function_tables(alloc, numbering, test, k)?;
     match predicate_tables(alloc, numbering, test, k) {
@@ -181,6 +188,7 @@ pub fn read_tables<T: TruthTest>(
     ensures read { IfOk result (λ ts. AreRead k p.now.clauses (T.members test.old) ts) }
     ensures same { T.members test.new ≡ T.members test.old }
     ensures ready { T.ready test.new }
+    ensures keeps { T.keeps test.old test.new }
 {
     let numbering = Numbering::of(alloc, &p.clauses)?;
     let tables = tables_by(alloc, &numbering, test, k);

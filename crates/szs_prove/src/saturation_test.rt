@@ -1,5 +1,5 @@
 // Tables read off a checked saturation of the flattened form, by its truth test over trees of the selected literals.
-ghost use Rattle.std.specs.Prelude.{◌≡◌, ◌+◌, ◌<◌, ◌≤◌, ◌^◌, [], ℕ, length, All, IfOk, OnOk, IsTrue};
+ghost use Rattle.std.specs.Prelude.{◌≡◌, ◌+◌, ◌<◌, ◌≤◌, ◌^◌, ◌∙◌, [], ℕ, length, refl, All, IfOk, OnOk, IsTrue};
 ghost use Rattle.inst_logic.specs.Measure.{is_function_free};
 ghost use Rattle.inst_logic.specs.WellFormed.{AreFormedClauses};
 ghost use Rattle.inst_calculus.specs.Axioms.{with_axioms};
@@ -9,11 +9,11 @@ ghost use Rattle.cert_format.specs.Validity.{SelectsAt};
 ghost use Rattle.term_bank.specs.Forest.{arguments_of};
 ghost use Rattle.term_index.specs.State.{pairs_of};
 ghost use Rattle.saturation_cert.specs.Values.{covered_of, saturation_of};
-ghost use Rattle.saturation_cert.specs.Wholes.{HasPlaces, IsWholeSaturation};
+ghost use Rattle.saturation_cert.specs.Wholes.{HasPlaces, IsWholeSaturation, KeepsCovered};
 ghost use Rattle.finite_model.specs.Tables.{IsModel};
 ghost use Rattle.finite_model.specs.Flattening.{flattened};
 ghost use Rattle.finite_model.specs.Reading.{AreRead};
-ghost use Rattle.szs_prove.specs.SaturationTests.{IsReady};
+ghost use Rattle.szs_prove.specs.SaturationTests.{IsReady, StaysCovered, stays_itself, stays_on};
 
 use cert_check::CheckedCovered;
 use cert_format::covers::named_is_valid;
@@ -38,12 +38,18 @@ impl TruthTest for SaturationTest<'_> {
 
     ghost ready = { λ t. IsReady t.cert.now t.positive.now t.negative.now };
 
+    ghost keeps = { λ s t. (t.cert.ghost_name ≡ s.cert.ghost_name) × StaysCovered s.cert.now t.cert.now };
+
     fn is_true(&mut self, l: &Literal) -> Result<bool, Memory> {
         let id = self.cert.atom(l);
         let cert = &self.cert.cert().cert;
         cert.base.bank.distinct();
         truth_in(self.alloc, cert, self.positive, self.negative, id?)
     }
+
+    ghost keeps_itself = { λ t. (refl, stays_itself t.cert.now) };
+
+    ghost keeps_on = { λ a b c h k. (k.0 ∙ h.0, stays_on a.cert.now b.cert.now c.cert.now h.1 k.1) };
 }
 
 // The selected literal of member `i`, counted from 0, has no more arguments than memory holds.
@@ -91,6 +97,8 @@ fn tables_by(test: &mut SaturationTest<'_>, p: &Problem, k: usize) -> Result<Tab
     requires negative { pairs_of test.old.negative.now.nodes ≡ [] }
     ensures model { IfOk result (IsModel k p.now.clauses) }
     ensures read { IfOk result (AreRead k p.now.clauses (selected_members (saturation_of test.old.cert.now.cert))) }
+    ensures same_reference { test.new.cert.ghost_name ≡ test.old.cert.ghost_name }
+    ensures stays { StaysCovered test.old.cert.now test.new.cert.now }
 {
     flattened_form();
     fill(test.cert, test.positive, test.negative)?;
@@ -98,7 +106,7 @@ fn tables_by(test: &mut SaturationTest<'_>, p: &Problem, k: usize) -> Result<Tab
 }
 
 /// The tables over `k` elements that are read off the saturation's truth test. They make the problem's clauses true. The
-/// certificate's inputs are the clauses of the problem's flattened form.
+/// certificate's inputs are the clauses of the problem's flattened form. Its bank may grow, by the atoms that are asked.
 pub fn tables_of(
     alloc: Global,
     cert: &mut CheckedCovered,
@@ -109,6 +117,8 @@ pub fn tables_of(
     requires inputs { (covered_of cert.old).saturation.base.inputs ≡ flattened k p.now.clauses }
     ensures model { IfOk result (IsModel k p.now.clauses) }
     ensures read { IfOk result (AreRead k p.now.clauses (selected_members (covered_of cert.old).saturation)) }
+    ensures kept { KeepsCovered cert.old cert.new }
+    ensures same { covered_of cert.new ≡ covered_of cert.old }
 {
     let mut positive = Tree::new(alloc);
     let mut negative = Tree::new(alloc);

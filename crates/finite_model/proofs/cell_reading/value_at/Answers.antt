@@ -9,6 +9,7 @@ pub loop-i-preserved : goal.loop-i-preserved
 loop-i-preserved g c = record {
   same = c.in_ok-found.ensures.same ∙ c.loop-i.invariant.same;
   ready = c.in_ok-found.ensures.ready;
+  keeps = g.met.T.TruthTest.keeps_on _ _ _ c.loop-i.invariant.keeps c.in_ok-found.ensures.keeps;
   none_before = λ d h t. elim (last_or_before d (c.loop-i.i + 1) (omega (arith, h.within))) [
     | inl before ↦ c.loop-i.invariant.none_before d (record { above = h.above; within = omega (arith, before) }) t
     | inr last ↦
