@@ -28,7 +28,7 @@ pub(crate) fn graph_of(alloc: Global, numbering: &Numbering, f: &Sym) -> Result<
     })
 }
 
-// So many variables, from 0.
+// The first `count` variables, from 0.
 fn variables(alloc: Global, count: usize) -> Result<TermList, Memory>
     ensures { IfOk result (λ ts. ts ≡ map var (range_with_len 0 count)) }
 {
@@ -51,7 +51,7 @@ fn value_literal(alloc: Global, graph: &Graph, positive: bool, e: usize) -> Resu
     })
 }
 
-/// That one of the `k` elements is the value.
+/// The clause that one of the `k` elements is the value.
 pub(crate) fn total_clause(alloc: Global, graph: &Graph, k: usize) -> Result<Clause, Memory>
     ensures { IfOk result (λ c. c ≡ total_clause k graph.now.sym graph.now.arguments) }
 {
@@ -62,7 +62,7 @@ pub(crate) fn total_clause(alloc: Global, graph: &Graph, k: usize) -> Result<Cla
     Ok(c)
 }
 
-/// That not both elements are the value.
+/// The clause that not both elements are the value.
 pub(crate) fn unique_clause(
     alloc: Global,
     graph: &Graph,

@@ -22,7 +22,7 @@ fn add(alloc: Global, all: &mut Problem, name: &Name, c: &Clause) -> Result<(), 
     Ok(())
 }
 
-// That the elements are the same, or that they aren't.
+// The clause that the elements are the same, or that they aren't.
 fn identity_clause(alloc: Global, i: usize, j: usize) -> Result<Clause, Memory>
     ensures { IfOk result (λ c. c ≡ identity_clause i j) }
 {

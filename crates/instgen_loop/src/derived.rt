@@ -81,7 +81,7 @@ fn ask_lines<S: Solver>(
     ensures distinct { OnOk result (AreDistinct run.new.remains.bank.trees) }
 {
     add_lines(&mut run.remains.bank, ground, lines)?;
-    // So clauses of equal trees are equal.
+    // The bank has each tree once, so clauses of equal trees are equal.
     run.remains.bank.distinct();
     run.derivation = refutation(&mut ground.solver)?;
     swap(&mut run.abstraction, &mut ground.abstraction);

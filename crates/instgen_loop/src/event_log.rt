@@ -106,7 +106,7 @@ impl EventLog {
             flipped: small(self.flips.len() + added.len())?,
             appended: small(self.appended.len())?,
         };
-        // So the mark of flips that are there is not refused.
+        // The room is made first: behind it the mark of flips that are there can't be refused.
         self.solves.reserve(1)?;
         self.flips.extend_from_slice(added)?;
         self.solves.push(mark)?;

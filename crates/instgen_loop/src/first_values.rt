@@ -86,7 +86,7 @@ fn add_clause<S: Solver>(
     Ok(reached)
 }
 
-// The same for each of the clauses.
+// Each of the clauses, with its atoms replaced by their predicates, is added to the solver.
 fn add_clauses<S: Solver>(
     bank: &Bank,
     solver: &mut S,

@@ -126,7 +126,7 @@ pub fn conclusion_size<S: Solver, I: PartnerIndex>(
     }
 }
 
-// The same where a budget applies, and no work where none does.
+// The size of the conclusion where a budget applies; without one nothing is measured.
 fn budgeted_size<S: Solver, I: PartnerIndex>(
     run: &mut Run<S, I>,
     side: Side,

@@ -46,7 +46,7 @@ impl Model for PackedOrigin {
 const _: () = prove!(size_of::<PackedOrigin>() == 24);
 
 impl PackedOrigin {
-    /// That of input clause `k`. It lacks memory where the number needs more than four bytes.
+    /// The origin of input clause `k`. It lacks memory where the number needs more than four bytes.
     pub fn input(k: usize) -> Result<PackedOrigin, Memory>
         ensures { IfOk result (λ o. o ≡ Input k) }
     {
@@ -55,7 +55,7 @@ impl PackedOrigin {
         })
     }
 
-    /// That of a conclusion. It lacks memory where a number needs more than four bytes.
+    /// The origin of a conclusion. It lacks memory where a number needs more than four bytes.
     pub fn inst(at: Held) -> Result<PackedOrigin, Memory>
         ensures { IfOk result (λ o. o ≡ Inst at.from at.place at.partner at.other) }
     {
@@ -69,7 +69,7 @@ impl PackedOrigin {
         })
     }
 
-    /// That of a part of a conclusion.
+    /// The origin of a part of a conclusion.
     pub fn lemma(alloc: Global, at: Held, lemma: Lemma) -> Result<PackedOrigin, Memory>
         ensures { IfOk result (λ o. o ≡ origins.Lemma at.from at.place at.partner at.other lemma.keep lemma.premises) }
     {

@@ -151,7 +151,7 @@ impl Selection {
         add_user(&mut self.users, chosen.atom, n)
     }
 
-    /// The same for the next entry, which has no place yet.
+    /// Selects the literal for the next entry, which has no place yet.
     pub fn select_next(&mut self, chosen: Chosen) -> Result<(), Memory>
         requires atom { chosen.atom < length self.old.users }
         ensures { OnOk result (self.new ≡ record { places = self.old.places ++ chosen.place ∷ []; users = slice_set self.old.users chosen.atom (slice_index_or self.old.users chosen.atom [] ++ suc (length self.old.places) ∷ []) }) }

@@ -174,7 +174,7 @@ fn start_entry<S: Solver, I: PartnerIndex>(
 
     ensures started { OnOk result ((cs : List TreeClause) → k ≡ length cs + 1 → IsStarted S.atoms S.added run.old cs → IsStarted S.atoms S.added run.new (cs ++ clause_at run.old.entries.bank clause ∷ [])) }
 {
-    // So a variant has an equal key.
+    // The bank has each tree once, so a variant has an equal key.
     run.entries.bank.distinct();
     if long_tautology(alloc, &clause)? {
         return Ok(());
@@ -187,7 +187,7 @@ fn start_entry<S: Solver, I: PartnerIndex>(
     Ok(())
 }
 
-// The clauses, of which `before` others were taken, become entries so.
+// The clauses, of which `before` others were taken, become entries.
 fn start_entries<S: Solver, I: PartnerIndex>(
     alloc: Global,
     run: &mut Run<S, I>,

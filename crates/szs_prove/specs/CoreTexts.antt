@@ -15,7 +15,7 @@ pub record IsRefutationText (p : Problem) (file text : List ℕ) : Type 0 where
   pub shown : IsShownBy p (refutation certificate)
   pub is : text ≡ written_text file (refutation certificate)
 
--- the same of a saturation
+-- the text is that of a saturation of the problem under the file's name, and the saturation comes from a run
 pub record IsSaturationText (p : Problem) (file text : List ℕ) : Type 0 where
   pub certificate : Covered
   pub shown : IsShownBy p (covered certificate)

@@ -37,7 +37,7 @@ pub record IsModelText (k : ℕ) (file : List ℕ) (p : Problem) (text : List �
   pub narrow : ¬ IsTooWide k p.clauses
   pub said : IsTablesText k file p text ⊎ IsNoTablesText k file p text
 
--- that of the problem of the file
+-- the answer for the problem of the file
 abbrev pub HasModelAnswer : Option (List NamedFile) → ℕ → List ℕ → Option (List ℕ) → List ℕ → Type 0
 HasModelAnswer files k file root text = (p : Problem) × IsProblemOf files file root p × IsModelText k file p text
 

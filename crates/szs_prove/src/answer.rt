@@ -32,7 +32,7 @@ pub enum Answer {
     Prove(Result<ByteList, Refusal>),
     Sat(Result<SatAnswer, SatError>),
     Check(Result<(Form, Judgement), CheckFault>),
-    /// That of `check` with the flag that asks for the certificate in the newest format.
+    /// The answer of `check` with the flag that asks for the certificate in the newest format.
     Rewrite(Result<Rewriting, CheckFault>),
     Ask(Result<Reply, CertFault>),
     Stress(Result<Size, Memory>),

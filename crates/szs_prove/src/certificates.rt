@@ -1,7 +1,6 @@
 // What comes of a run on a problem that is always decided: the text of its certificate, the certificate itself where it is known
 // of which kind it is, or which clauses its refutation cites.
-ghost use Rattle.std.specs.Prelude.{◌≡◌, IfOk};
-ghost use Rattle.cert_format.specs.Text.{written_text};
+ghost use Rattle.std.specs.Prelude.{IfOk};
 ghost use Rattle.cert_front.specs.Kinds.{covered_value, refutation_value};
 ghost use Rattle.core_min.specs.Cores.{HasRefutation, HasSelection};
 ghost use Rattle.szs_prove.specs.Decisions.{IsDecision, IsShownBy, IsVerdict};
@@ -15,18 +14,6 @@ use cert_text::{covered_text, refutation_text};
 use inst_logic::{ByteList, ListOf, Memory, Problem};
 use std::alloc::Global;
 
-fn refuted(alloc: Global, file: &str, cert: &CheckedRefutation) -> Result<ByteList, Memory>
-    ensures { IfOk result (λ text. text ≡ written_text file.now (refutation_value cert.now)) }
-{
-    refutation_text(alloc, file.as_bytes(), cert)
-}
-
-fn satisfied(alloc: Global, file: &str, cert: &CheckedCovered) -> Result<ByteList, Memory>
-    ensures { IfOk result (λ text. text ≡ written_text file.now (covered_value cert.now)) }
-{
-    covered_text(alloc, file.as_bytes(), cert)
-}
-
 // The text of what was decided.
 fn text_of(alloc: Global, file: &str, _p: &Problem, decision: &Decision) -> Result<ByteList, Memory>
     requires decision { IsDecision _p.now 0 decision.now }
@@ -34,8 +21,8 @@ fn text_of(alloc: Global, file: &str, _p: &Problem, decision: &Decision) -> Resu
     ensures { IfOk result (HasCertificate _p.now file.now) }
 {
     match decision {
-        Decision::Unsatisfiable(cert) => refuted(alloc, file, cert),
-        Decision::Satisfiable(cert) => satisfied(alloc, file, cert),
+        Decision::Unsatisfiable(cert) => refutation_text(alloc, file.as_bytes(), cert),
+        Decision::Satisfiable(cert) => covered_text(alloc, file.as_bytes(), cert),
         Decision::OutOfBudget { .. } => unreachable!(),
     }
 }

@@ -77,7 +77,7 @@ fn core_at(alloc: Global, lists: &SubLists<'_>, places: Vec<usize>) -> Result<Co
     }
 }
 
-// That there is none.
+// The answer where no core is there: the saturation of the clauses.
 fn without_core(lists: &SubLists<'_>) -> Result<CoreAnswer, Memory>
     requires { HasSelection lists.now.clauses }
     ensures { IfOk result (IsCertifiedCore lists.now) }

@@ -79,7 +79,7 @@ fn text_of(alloc: Global, file: &str, p: &Problem) -> Result<ByteList, Memory>
     }
 }
 
-// That of a problem that was loaded, or why no core is searched for.
+// The answer to a problem that was loaded, or why no core is searched for.
 fn answer(alloc: Global, file: &str, p: &Problem) -> Result<ByteList, CoreRefusal>
     requires { IsGoodProblem p.now }
     ensures ok { IfOk result (λ text. IsTrue (is_function_free p.now.clauses) × (IsCoreText p.now file.now text ⊎ IsNoCoreText p.now file.now text)) }

@@ -12,7 +12,7 @@ ghost use Rattle.szs_prove.specs.Decisions.{IsDecision, IsVerdict};
 ghost use Rattle.szs_prove.specs.Formulas.{IsAnsweredFormula, IsFormulaAnswer, IsFormulaOutcome};
 
 use crate::decision::{Decision, decide};
-use crate::prove::{refuted, satisfied};
+use crate::verdict_texts::{refutation_text_of, saturation_text_of};
 use cert_check::{CheckedCovered, CheckedRefutation};
 use dimacs_front::{DimacsError, Qbf, SatError, read_qdimacs};
 use inst_logic::{ByteList, Memory, Problem};
@@ -44,7 +44,7 @@ fn behind_line(alloc: Global, line: &[u8], text: &ByteList) -> Result<ByteList, 
 fn true_text(alloc: Global, file: &str, cert: CheckedCovered) -> Result<ByteList, Memory>
     ensures { IfOk result (λ text. text ≡ codes "s TRUE\n" ++ written_text file.now (covered_value cert)) }
 {
-    let saturation = satisfied(alloc, file, cert)?;
+    let saturation = saturation_text_of(alloc, file, cert)?;
     let text = behind_line(alloc, b"s TRUE\n", &saturation)?;
     Ok(text)
 }
@@ -52,7 +52,7 @@ fn true_text(alloc: Global, file: &str, cert: CheckedCovered) -> Result<ByteList
 fn false_text(alloc: Global, file: &str, cert: CheckedRefutation) -> Result<ByteList, Memory>
     ensures { IfOk result (λ text. text ≡ codes "s FALSE\n" ++ written_text file.now (refutation_value cert)) }
 {
-    let refutation = refuted(alloc, file, cert)?;
+    let refutation = refutation_text_of(alloc, file, cert)?;
     let text = behind_line(alloc, b"s FALSE\n", &refutation)?;
     Ok(text)
 }

@@ -29,6 +29,7 @@ pub mod sizes;
 mod sub_lists;
 mod sub_problem;
 mod table_texts;
+mod verdict_texts;
 
 pub use command::run;
 pub use core_certificates::{CheckedCoveredList, CoreAnswer, core_of};

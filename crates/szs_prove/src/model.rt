@@ -5,7 +5,6 @@ ghost use Rattle.outside_io.specs.Told.{Follows};
 ghost use Rattle.tptp_load.specs.Problems.{IsGoodProblem};
 ghost use Rattle.tptp_load.specs.Includes.{path_of};
 ghost use Rattle.cert_format.specs.Printable.{IsTextName};
-ghost use Rattle.cert_format.specs.Text.{written_text};
 ghost use Rattle.cert_front.specs.Kinds.{covered_value, refutation_value};
 ghost use Rattle.finite_model.specs.Tables.{IsTooWide};
 ghost use Rattle.szs_prove.specs.Answers.{IsProblemOf, reading};
@@ -16,8 +15,8 @@ ghost use Rattle.szs_prove.specs.declared.model.ModelRefusal.TheVariants as why;
 use crate::decision::{Decision, decide};
 use crate::saturation_test::tables_of;
 use crate::table_texts::{no_tables_text, tables_text};
+use crate::verdict_texts::refutation_text_of;
 use cert_check::{CheckedCovered, CheckedRefutation};
-use cert_text::refutation_text;
 use finite_model::{flatten, is_too_wide};
 use inst_logic::{ByteList, Memory, Problem};
 use outside_io::Library;
@@ -61,7 +60,7 @@ fn problem_of<L: Library>(
 }
 
 // The text of the tables that the saturation gives.
-fn tables_told(
+fn tables_text_of(
     alloc: Global,
     k: usize,
     file: &str,
@@ -77,7 +76,7 @@ fn tables_told(
 }
 
 // The saturation is let go where its tables are told.
-fn satisfied(
+fn satisfiable_text(
     alloc: Global,
     k: usize,
     file: &str,
@@ -89,20 +88,11 @@ fn satisfied(
     ensures { IfOk result (IsTablesText k file.now p.now) }
 {
     let mut cert = cert;
-    tables_told(alloc, k, file, p, &mut cert)
-}
-
-// The refutation is let go where its text is made.
-fn written(alloc: Global, file: &str, cert: CheckedRefutation) -> Result<ByteList, Memory>
-    ensures { IfOk result (λ text. text ≡ written_text file.now (refutation_value cert)) }
-{
-    let text = refutation_text(alloc, file.as_bytes(), &cert);
-    drop(cert);
-    text
+    tables_text_of(alloc, k, file, p, &mut cert)
 }
 
 // The text that tells that there are no tables.
-fn refuted(
+fn unsatisfiable_text(
     alloc: Global,
     k: usize,
     file: &str,
@@ -116,7 +106,7 @@ fn refuted(
     requires shown { IsShownBy (flattened_problem k _p.now) (refutation_value cert) }
     ensures { IfOk result (IsNoTablesText k file.now _p.now) }
 {
-    let refutation = written(alloc, file, cert)?;
+    let refutation = refutation_text_of(alloc, file, cert)?;
     no_tables_text(alloc, k, file.as_bytes(), &refutation)
 }
 
@@ -137,8 +127,8 @@ fn text_of(
     ensures { IfOk result (IsModelText k file.now p.now) }
 {
     match decision {
-        Decision::Unsatisfiable(cert) => refuted(alloc, k, file, p, cert),
-        Decision::Satisfiable(cert) => satisfied(alloc, k, file, p, cert),
+        Decision::Unsatisfiable(cert) => unsatisfiable_text(alloc, k, file, p, cert),
+        Decision::Satisfiable(cert) => satisfiable_text(alloc, k, file, p, cert),
         Decision::OutOfBudget { .. } => unreachable!(),
     }
 }

@@ -1,9 +1,7 @@
 // The verdict on the problem of a file: it is loaded, decided, and the text of its certificate is made whole before anything
 // is written, so that where memory is refused there is no verdict that breaks off.
-ghost use Rattle.std.specs.Prelude.{◌≡◌, ◌≤◌, ℕ, IfOk, IfErr};
+ghost use Rattle.std.specs.Prelude.{◌≤◌, ℕ, IfOk, IfErr};
 ghost use Rattle.cert_format.specs.Printable.{IsTextName};
-ghost use Rattle.cert_format.specs.Text.{written_text};
-ghost use Rattle.cert_front.specs.Kinds.{covered_value, refutation_value};
 ghost use Rattle.outside_io.specs.Told.{Follows};
 ghost use Rattle.tptp_load.specs.Problems.{IsGoodProblem};
 ghost use Rattle.tptp_load.specs.Includes.{path_of};
@@ -14,8 +12,7 @@ ghost use Rattle.szs_prove.specs.Proving.{HasCertificate, IsUndecided};
 use crate::decision::{Decision, decide};
 use crate::decision_laws::loaded_problems_are_printable;
 use crate::refusal::Refusal;
-use cert_check::{CheckedCovered, CheckedRefutation};
-use cert_text::{covered_text, refutation_text};
+use crate::verdict_texts::{refutation_text_of, saturation_text_of};
 use inst_logic::{ByteList, Memory, Problem};
 use outside_io::Library;
 use std::alloc::Global;
@@ -39,25 +36,6 @@ fn load<L: Library>(
     }
 }
 
-/// The text of a refutation under the file's name. The certificate is let go where its text is made, so that one function owns it, and
-/// by a call: where its scope ends, the proof takes long.
-pub fn refuted(alloc: Global, file: &str, cert: CheckedRefutation) -> Result<ByteList, Memory>
-    ensures { IfOk result (λ text. text ≡ written_text file.now (refutation_value cert)) }
-{
-    let text = refutation_text(alloc, file.as_bytes(), &cert);
-    drop(cert);
-    text
-}
-
-/// That of a saturation.
-pub fn satisfied(alloc: Global, file: &str, cert: CheckedCovered) -> Result<ByteList, Memory>
-    ensures { IfOk result (λ text. text ≡ written_text file.now (covered_value cert)) }
-{
-    let text = covered_text(alloc, file.as_bytes(), &cert);
-    drop(cert);
-    text
-}
-
 // The text of what was decided of the problem in this budget.
 fn text_of(
     alloc: Global,
@@ -72,11 +50,11 @@ fn text_of(
 {
     match decision {
         Decision::Unsatisfiable(cert) => {
-            let refutation = refuted(alloc, file, cert)?;
+            let refutation = refutation_text_of(alloc, file, cert)?;
             Ok(refutation)
         }
         Decision::Satisfiable(cert) => {
-            let saturation = satisfied(alloc, file, cert)?;
+            let saturation = saturation_text_of(alloc, file, cert)?;
             Ok(saturation)
         }
         Decision::OutOfBudget { left, wanted } => Err(Refusal::OutOfBudget {

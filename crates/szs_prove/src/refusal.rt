@@ -88,7 +88,7 @@ fn statement_line<'a>(lead: &'a [u8], word: &'a [u8], statement: usize, file: &'
     ]
 }
 
-// The same of a word of the text.
+// A line that names a word of the text, and where its statement stands.
 fn said_line<'a>(lead: &'a [u8], word: &'a Name, statement: usize, file: &'a [u8]) -> Line<'a>
     ensures { text_of result ≡ statement_line lead.now word.now statement file.now }
 {

@@ -1,7 +1,7 @@
 use Rattle.std.proofs.Common.{◌≡◌, ◌++◌, ℕ, List, IfOk, subst}
 use Rattle.szs_prove.specs.TableTexts.{no_tables_line}
 use Rattle.szs_prove.proofs.ModelTexts.{told_none}
-use Rattle.szs_prove.proofs.model.refuted.Goals as goal
+use Rattle.szs_prove.proofs.model.unsatisfiable_text.Goals as goal
 
 pub returns : goal.returns
 returns c =

@@ -2,7 +2,7 @@ use Rattle.std.proofs.Common.{◌≡◌, ◌<◌, ℕ, List, IfOk, subst}
 use Rattle.finite_model.specs.Tables.{IsElement}
 use Rattle.szs_prove.specs.TableTexts.{tables_text}
 use Rattle.szs_prove.proofs.ModelTexts.{tables_full, told_tables}
-use Rattle.szs_prove.proofs.model.tables_told.Goals as goal
+use Rattle.szs_prove.proofs.model.tables_text_of.Goals as goal
 
 pub tables_of-requires-clause-inputs : goal.tables_of-requires-clause-inputs
 tables_of-requires-clause-inputs c = c.requires.shown.certifies.of_problem.inputs

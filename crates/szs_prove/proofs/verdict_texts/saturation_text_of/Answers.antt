@@ -1,7 +1,7 @@
 use Rattle.std.proofs.Common.{◌≡◌, ℕ, List, IfOk, subst}
 use Rattle.cert_format.specs.Text.{written_text}
 use Rattle.cert_front.specs.Kinds.{covered_value}
-use Rattle.szs_prove.proofs.prove.satisfied.Goals as goal
+use Rattle.szs_prove.proofs.verdict_texts.saturation_text_of.Goals as goal
 
 pub returns : goal.returns
 returns c = subst (λ (n : List ℕ). IfOk c.covered_text-text.result (λ text. text ≡ written_text n (covered_value c.args.cert))) c.as_bytes.ensures.value c.covered_text-text.ensures.text

@@ -1,7 +1,0 @@
-use Rattle.std.proofs.Common.{◌≡◌, ℕ, List, IfOk, subst}
-use Rattle.cert_format.specs.Text.{written_text}
-use Rattle.cert_front.specs.Kinds.{covered_value}
-use Rattle.szs_prove.proofs.certificates.satisfied.Goals as goal
-
-pub returns : goal.returns
-returns c = subst (λ (n : List ℕ). IfOk c.covered_text.result (λ text. text ≡ written_text n (covered_value c.args.cert.now))) c.as_bytes.ensures.value c.covered_text.ensures.text
