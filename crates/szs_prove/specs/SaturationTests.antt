@@ -1,5 +1,6 @@
 -- What the truth test of a saturation needs.
-use Rattle.std.specs.Prelude.{◌≡◌, ◌∙◌, refl, true, false}
+use Rattle.std.specs.Prelude.{◌≡◌, refl, true, false}
+use Rattle.std.proofs.Common.{◌∙◌}
 use Rattle.cert_format.specs.Certificate.{selected_members}
 use Rattle.term_index.specs.State.{State, pairs_of, Fits}
 use Rattle.saturation_cert.specs.declared.certificate.Covered.{Covered}

@@ -1,5 +1,6 @@
 // Tables read off a checked saturation of the flattened form, by its truth test over trees of the selected literals.
-ghost use Rattle.std.specs.Prelude.{◌≡◌, ◌+◌, ◌<◌, ◌≤◌, ◌^◌, ◌∙◌, [], ℕ, length, refl, All, IfOk, OnOk, IsTrue};
+ghost use Rattle.std.proofs.Common.{◌∙◌};
+ghost use Rattle.std.specs.Prelude.{◌≡◌, ◌+◌, ◌<◌, ◌≤◌, ◌^◌, [], ℕ, length, refl, All, IfOk, OnOk, IsTrue};
 ghost use Rattle.inst_logic.specs.Measure.{is_function_free};
 ghost use Rattle.inst_logic.specs.WellFormed.{AreFormedClauses};
 ghost use Rattle.inst_calculus.specs.Axioms.{with_axioms};
@@ -9,7 +10,7 @@ ghost use Rattle.cert_format.specs.Validity.{SelectsAt};
 ghost use Rattle.term_bank.specs.Forest.{arguments_of};
 ghost use Rattle.term_index.specs.State.{pairs_of};
 ghost use Rattle.saturation_cert.specs.Values.{covered_of, saturation_of};
-ghost use Rattle.saturation_cert.specs.Wholes.{HasPlaces, IsWholeSaturation, KeepsCovered};
+ghost use Rattle.saturation_cert.specs.Wholes.{HasPlaces, IsWholeSaturation};
 ghost use Rattle.finite_model.specs.Tables.{IsModel};
 ghost use Rattle.finite_model.specs.Flattening.{flattened};
 ghost use Rattle.finite_model.specs.Reading.{AreRead};
@@ -117,8 +118,7 @@ pub fn tables_of(
     requires inputs { (covered_of cert.old).saturation.base.inputs ≡ flattened k p.now.clauses }
     ensures model { IfOk result (IsModel k p.now.clauses) }
     ensures read { IfOk result (AreRead k p.now.clauses (selected_members (covered_of cert.old).saturation)) }
-    ensures kept { KeepsCovered cert.old cert.new }
-    ensures same { covered_of cert.new ≡ covered_of cert.old }
+    ensures stays { StaysCovered cert.old cert.new }
 {
     let mut positive = Tree::new(alloc);
     let mut negative = Tree::new(alloc);
