@@ -37,6 +37,7 @@ pub mod small;
 pub mod start;
 pub mod state;
 pub mod steps;
+pub mod tested;
 pub mod work;
 
 pub use choices::Choices;
