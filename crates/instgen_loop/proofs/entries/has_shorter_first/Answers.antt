@@ -10,7 +10,7 @@ loop-l-preserved g c =
     let same = c.as_slice-l-items.ensures in
     record {
       past = all_more (IsPast e.bank (g.I.PartnerIndex.pairs e.first) e.clauses.entries c.args.d.now c.args.len) c.args.d.now c.loop-l.l-index c.l-item.result (omega (arith, ap length same)) c.loop-l.invariant.past
-      (subst (IsPast e.bank (g.I.PartnerIndex.pairs e.first) e.clauses.entries c.args.d.now c.args.len) (c.l-item.is ∙ ap (λ (xs : List _). get_or xs c.loop-l.l-index c.l-item.result) same) (c.in_ok-has_shorter_at.ensures.no (search rules)));
+          (subst (IsPast e.bank (g.I.PartnerIndex.pairs e.first) e.clauses.entries c.args.d.now c.args.len) (c.l-item.is ∙ ap (λ (xs : List _). get_or xs c.loop-l.l-index c.l-item.result) same) (c.in_ok-has_shorter_at.ensures.no (search rules)));
       tested = c.in_ok-has_shorter_at.ensures.tested (search rules);
     }
 
