@@ -1,4 +1,4 @@
-use Rattle.std.proofs.Common.{◌≡◌, arith, sym, subst, List, ℕ, vec_len}
+use Rattle.std.proofs.Common.{arith, sym, subst, List, ℕ}
 use Rattle.std.specs.Prelude.{map, ◌==◌}
 use Rattle.instgen_loop.specs.Tested.{IsTested}
 use Rattle.instgen_loop.proofs.TestedLaws.{none_is_tested, no_zero_is_tested}
