@@ -45,6 +45,15 @@ def constants(count, denied):
     return clauses
 
 
+def congruence(arguments, refuted):
+    """A fact of so many arguments and the denial of one with others, so that the congruence axiom is as wide; and each argument is
+    equal to the other, or one equation tells of two more constants."""
+    def fact(sign, name):
+        return [sign("p", *(f"{name}{n}" for n in range(arguments)))]
+    equal = [(f"b{n}", f"a{n}") for n in range(arguments)] if refuted else [("c", "d")]
+    return [fact(yes, "a"), fact(no, "b")] + [[yes("=", a, b)] for a, b in equal]
+
+
 def quasigroup(size, lawless):
     """An idempotent quasigroup as a relation; with the law (xy)(yx) = x there is none of 5 to 7 elements."""
     names = [f"e{n}" for n in range(size)]
@@ -61,6 +70,7 @@ KINDS = {
     "classes": (classes, [(100_000, True, 3), (100_000, False, 10)]),
     "wide": (wide, [(100_000, False, 1), (100_000, True, None)]),
     "constants": (constants, [(1024, True, 2)]),
+    "congruence": (congruence, [(1024, True, 1), (256, True, None), (256, False, 1)]),
     "counter": (counter, [(14, False, 0.082), (16, False, 0.33)]),
     "chain": (chain, [(100_000, False, 1.5)]),
     "quasigroup": (quasigroup, [(7, True, 0.5)]),

@@ -1,5 +1,6 @@
 pub mod Asked
 pub mod Covers
+pub mod TestedLaws
 pub mod Firsts
 pub mod Links
 pub mod Grown

@@ -1,4 +1,5 @@
 pub mod Clauses
+pub mod Tested
 pub mod Grounds
 pub mod Selections
 pub mod Flips

@@ -4,11 +4,12 @@ ghost use Rattle.inst_logic.specs.declared.signed.Signed.{Signed};
 ghost use Rattle.inst_logic.specs.Clauses.{TreeClause, IsCanonical};
 ghost use Rattle.inst_calculus.specs.Saturation.{IsCovered};
 ghost use Rattle.term_bank.specs.Forest.{clause_at, IsClauseOf};
-ghost use Rattle.instgen_loop.specs.Clauses.{AreEntries, AreFirsts, IsEntry, IsUnit, IsNoUnit, IsPast, IsShorterPart, HasShorterPart, Item, clauses_in};
+ghost use Rattle.instgen_loop.specs.Clauses.{AreEntries, AreFirsts, IsEntry, IsUnit, IsNoUnit, IsPast, IsShorterPart, HasShorterPart, AreNoParts, Item, clauses_in};
 ghost use Rattle.saturation_cert.specs.declared.member.Origin.{Origin};
 
 use crate::origin::PackedOrigin;
 use crate::scratch::Scratch;
+use crate::tested::Tested;
 use clause_form::{long_tautology, subsumes};
 use indexmap::IndexMap;
 use inst_logic::Memory;
@@ -154,6 +155,31 @@ fn is_shorter_part<I: PartnerIndex>(
     }
 }
 
+// Whether the entry is such a part, where those that were tested before are none: they are not tested again.
+fn is_untested_part<I: PartnerIndex>(
+    alloc: Global,
+    entries: &Entries<I>,
+    k: usize,
+    d: &IdClause,
+    len: usize,
+    tested: &mut Tested,
+) -> Result<bool, Memory>
+    requires entries { AreEntries entries.now.bank entries.now.clauses.entries }
+    requires clause { IsClauseOf entries.now.bank d.now }
+    requires tested { AreNoParts entries.now.bank entries.now.clauses.entries d.now len tested.old }
+    ensures answer { IfOk result (λ r. IsTrue r ↔ IsShorterPart entries.now.bank entries.now.clauses.entries d.now len k) }
+    ensures tested { IfOk result (λ r. r ≡ false → AreNoParts entries.now.bank entries.now.clauses.entries d.now len tested.new) }
+{
+    if tested.contains(k) {
+        return Ok(false);
+    }
+    if is_shorter_part(alloc, entries, k, d, len)? {
+        return Ok(true);
+    }
+    tested.insert(k)?;
+    Ok(false)
+}
+
 // Whether some entry of the index whose first atom is more general than the literal's is so.
 fn has_shorter_at<I: PartnerIndex>(
     alloc: Global,
@@ -161,13 +187,16 @@ fn has_shorter_at<I: PartnerIndex>(
     l: IdLiteral,
     d: &IdClause,
     len: usize,
+    tested: &mut Tested,
 ) -> Result<bool, Memory>
     requires entries { AreEntries entries.now.bank entries.now.clauses.entries }
     requires clause { IsClauseOf entries.now.bank d.now }
     requires atom { l.atom < length entries.now.bank.trees }
     requires fits { I.fits entries.now.bank entries.now.first }
+    requires tested { AreNoParts entries.now.bank entries.now.clauses.entries d.now len tested.old }
     ensures yes { IfOk result (λ r. r ≡ true → HasShorterPart entries.now.bank entries.now.clauses.entries d.now len) }
     ensures no { IfOk result (λ r. r ≡ false → IsPast entries.now.bank (I.pairs entries.now.first) entries.now.clauses.entries d.now len l) }
+    ensures tested { IfOk result (λ r. r ≡ false → AreNoParts entries.now.bank entries.now.clauses.entries d.now len tested.new) }
 {
     let mut cursor = entries
         .first
@@ -176,7 +205,7 @@ fn has_shorter_at<I: PartnerIndex>(
         match entries.first.next(&mut cursor)? {
             None => return Ok(false),
             Some(k) => {
-                if is_shorter_part(alloc, entries, k, d, len)? {
+                if is_untested_part(alloc, entries, k, d, len, tested)? {
                     return Ok(true);
                 }
             }
@@ -184,12 +213,14 @@ fn has_shorter_at<I: PartnerIndex>(
     }
 }
 
-// Whether some entry of the index is so.
+// Whether some entry of the index is so. The first literals of many entries are more general than several literals of a wide
+// clause: each entry is tested once.
 fn has_shorter_first<I: PartnerIndex>(
     alloc: Global,
     entries: &Entries<I>,
     d: &IdClause,
     len: usize,
+    tested: &mut Tested,
 ) -> Result<bool, Memory>
     requires entries { AreEntries entries.now.bank entries.now.clauses.entries }
     requires clause { IsClauseOf entries.now.bank d.now }
@@ -197,8 +228,9 @@ fn has_shorter_first<I: PartnerIndex>(
     ensures yes { IfOk result (λ r. r ≡ true → HasShorterPart entries.now.bank entries.now.clauses.entries d.now len) }
     ensures no { IfOk result (λ r. r ≡ false → All (IsPast entries.now.bank (I.pairs entries.now.first) entries.now.clauses.entries d.now len) d.now) }
 {
+    tested.clear();
     for l in d.as_slice() {
-        if has_shorter_at(alloc, entries, *l, d, len)? {
+        if has_shorter_at(alloc, entries, *l, d, len, tested)? {
             return Ok(true);
         }
     }
@@ -264,7 +296,7 @@ fn has_shorter<I: PartnerIndex>(
     if has_unit(entries, d, scratch)? {
         return Ok(true);
     }
-    has_shorter_first(alloc, entries, d, len)
+    has_shorter_first(alloc, entries, d, len, scratch.tested())
 }
 
 /// Whether the entries cover the clause in canonical form, as an instance of a clause with so many literals: it is a tautology or

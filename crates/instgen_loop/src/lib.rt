@@ -37,6 +37,7 @@ mod small;
 mod start;
 mod state;
 mod steps;
+mod tested;
 mod work;
 
 pub use choices::Choices;

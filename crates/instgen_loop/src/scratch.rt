@@ -8,6 +8,7 @@ ghost use Rattle.unify_core.specs.Chains.{AreBindings};
 ghost use Rattle.unify_core.specs.Sides.{IsResolvedBy, of_side};
 ghost use Rattle.unify_core.specs.Terms.{AreTerms};
 
+use crate::tested::Tested;
 use clause_form::Workspace;
 use inst_logic::Memory;
 use std::alloc::Global;
@@ -22,6 +23,7 @@ pub struct Scratch {
     alloc: Global,
     key: IdClause,
     workspace: Workspace,
+    tested: Tested,
 }
 
 impl Model for Scratch {
@@ -37,6 +39,7 @@ impl Scratch {
             alloc,
             key: IdClause::new(alloc),
             workspace: Workspace::new(alloc),
+            tested: Tested::new(alloc),
         }
     }
 
@@ -70,5 +73,10 @@ impl Scratch {
         literals.push(l)?;
         self.key = IdClause::from(literals);
         Ok(&self.key)
+    }
+
+    /// The set of the entries that were tested against a conclusion, as the last conclusion left it.
+    pub fn tested(&mut self) -> &mut Tested {
+        &mut self.tested
     }
 }
