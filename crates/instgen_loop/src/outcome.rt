@@ -1,5 +1,5 @@
 // What the engine answers.
-ghost use Rattle.std.specs.Prelude.{◌≡◌, ◌≤◌, [], suc, length, true, false, Some, None, All, IsTrue, IsFalse, IsSome, IfOk, IfSome};
+ghost use Rattle.std.specs.Prelude.{◌≡◌, ◌≤◌, [], suc, length, true, false, Some, None, All, IsTrue, IsFalse, IsSome, IfOk, IfSome, OnOk};
 ghost use Rattle.inst_logic.specs.Measure.{is_function_free};
 ghost use Rattle.inst_logic.specs.Printing.{is_readable_name};
 ghost use Rattle.cert_format.specs.Printable.{IsPrintableClause};
@@ -68,7 +68,7 @@ fn drive<S: Solver, I: PartnerIndex>(
     requires named { length p.now.names ≡ length p.now.clauses }
     requires readable { All (λ n. IsTrue (is_readable_name n)) p.now.names }
     ensures ending { IfOk result (λ o. IfSome o (λ e. IsEnding p.now.clauses p.now.names budget e run.new.journal)) }
-    ensures appended { IfOk result (λ o. IfSome o (λ e. IsFalse (is_function_free p.now.clauses) → appended_count run.new.journal ≤ suc budget)) }
+    ensures appended { OnOk result (IsFalse (is_function_free p.now.clauses) → appended_count run.new.journal ≤ suc budget) }
     ensures unbounded { choices.most_entries ≡ None → IfOk result IsSome }
 {
     let Choices {

@@ -236,8 +236,8 @@ fn decided_by_turns(alloc: Global, p: &Problem, budget: u64) -> Result<Decision,
 /// Runs the engine with clause learning and discrimination trees, and has the checker judge what it answers. The budget
 /// counts as the engine's does: the symbols and variables of the instances that it appends, and only where the problem has
 /// function symbols with arguments. On such problems what a run decides it mostly decides soon: so the usual run is given up
-/// where it has many entries, then one with new atoms true first is, and the usual one is made anew to its end. Only that one
-/// answers for want of budget.
+/// where it has many entries, then one with new atoms true first is, and the usual one is made anew to its end. Each has the
+/// whole budget, and only the last answers for want of it.
 pub fn decide(alloc: Global, p: &Problem, budget: u64) -> Result<Decision, Memory>
     requires problem { IsPrintableProblem p.now }
     requires budget { budget ≤ 1000000000000 }
