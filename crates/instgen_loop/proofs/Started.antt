@@ -1,6 +1,6 @@
 -- A run that begins, and what stays of what it was given.
-use Rattle.std.proofs.Common.{◌≡◌, inl, ℕ, suc, ◌<◌, List, [], ◌++◌, sym, ap₂, subst as transport, map, length, arith, Bool, true, false, All, Contains}
-use Rattle.std.specs.Prelude.{IfOk, Result, Ok, Err, IsTrue, IsFalse}
+use Rattle.std.proofs.Common.{◌≡◌, inl, ℕ, suc, ◌<◌, List, [], ◌++◌, sym, ap₂, subst as transport, map, length, arith, Bool, true, false, All, Contains, Option, Some, None}
+use Rattle.std.specs.Prelude.{IfOk, IfSome, IsSome, Result, Ok, Err, IsTrue, IsFalse}
 use Rattle.inst_logic.specs.Clauses.{TreeClause}
 use Rattle.inst_logic.specs.Measure.{is_function_free}
 use Rattle.inst_logic.specs.WellFormed.{clause_is_formed, AreFormedClauses}
@@ -47,6 +47,17 @@ decided (OutOfBudget left wanted cert journal) clauses names budget h free = let
     opposite true t f = cc
     opposite false t f = cc
 
-pub always_decided : {E : Type 0} (r : Result Outcome E) (clauses : List TreeClause) (names : List (List ℕ)) (budget : ℕ) → IfOk r (IsOutcome clauses names budget) → IfOk r (λ o. IsTrue (is_function_free clauses) → IsDecided o)
-always_decided (Ok o) clauses names budget h = decided o clauses names budget h
-always_decided (Err e) clauses names budget h = tt
+-- what follows for each outcome follows for one that may be there
+pub where_ended : {E : Type 0} (r : Result (Option Outcome) E) (P Q : Outcome → Type 0) → ((o : Outcome) → P o → Q o) → IfOk r (λ o. IfSome o P) → IfOk r (λ o. IfSome o Q)
+where_ended (Ok (Some o)) P Q f h = f o h
+where_ended (Ok None) P Q f h = tt
+where_ended (Err e) P Q f h = tt
+
+pub always_decided : {E : Type 0} (r : Result (Option Outcome) E) (clauses : List TreeClause) (names : List (List ℕ)) (budget : ℕ) → IfOk r (λ o. IfSome o (IsOutcome clauses names budget))
+    → IfOk r (λ o. IfSome o (λ it. IsTrue (is_function_free clauses) → IsDecided it))
+always_decided r clauses names budget h = where_ended r (IsOutcome clauses names budget) (λ it. IsTrue (is_function_free clauses) → IsDecided it) (λ o k. decided o clauses names budget k) h
+
+-- nothing is not something
+pub not_nothing : {T : Type 0} (o : Option T) → IsSome o → o ≡ None → ⊥
+not_nothing (Some x) some is = cc
+not_nothing None some is = cc

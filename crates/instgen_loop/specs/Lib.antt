@@ -19,6 +19,7 @@ pub mod Lines
 pub mod LineNumbers
 pub mod Derived
 pub mod Deciding
+pub mod Stops
 pub mod Ending
 pub mod Endings
 pub mod Marks

@@ -1,5 +1,5 @@
 // The outer loop: solve, and work on entries that wait until enough were picked and one was appended.
-ghost use Rattle.std.specs.Prelude.{◌≡◌, [], length, IfOk, OnOk, IfNone, IfSome};
+ghost use Rattle.std.specs.Prelude.{◌≡◌, [], None, false, length, IfOk, OnOk};
 ghost use Rattle.inst_logic.specs.declared.symbol.Sym.{Sym};
 ghost use Rattle.term_bank.specs.Forest.{Extends};
 ghost use Rattle.inst_logic.specs.WellFormed.{AreFormedClauses};
@@ -8,6 +8,7 @@ ghost use Rattle.prop_logic.specs.Solving.{Refutes};
 ghost use Rattle.instgen_loop.specs.Loops.{IsSafe, items, ArePartners};
 ghost use Rattle.instgen_loop.specs.Selections.{AreUsers};
 ghost use Rattle.instgen_loop.specs.Tended.{AreTended};
+ghost use Rattle.instgen_loop.specs.Stops.{IfFinished, IfRefuted, IsNotGivenUp};
 ghost use Rattle.instgen_loop.specs.Running.{IsRunningFor, IsRunningWith, IsSolvedFor};
 
 use crate::queue::{Partners, work_queue};
@@ -28,15 +29,37 @@ fn picks_after(conflicts: u64, appended: usize) -> u64 {
         .saturating_add(1)
 }
 
+/// How a run ends.
+#[derive(Drop)]
+pub enum Stop {
+    /// The abstractions are refuted.
+    Refuted(Derivation),
+    /// Nothing waits any more, and each entry has a true literal selected.
+    Finished,
+    /// There are more entries than the run may have.
+    GivenUp,
+}
+
+// Whether so many entries are more than the run may have.
+fn is_beyond(entries: usize, most_entries: Option<usize>) -> bool
+    ensures { most_entries ≡ None → result ≡ false }
+{
+    match most_entries {
+        Some(most) => entries > most,
+        None => false,
+    }
+}
+
 /// Solves and works by turns until the abstractions are refuted, or nothing waits any more and each entry has a true literal
-/// selected.
+/// selected, or there are more than `most_entries` after a solve.
 pub fn cycle<S: Solver, I: PartnerIndex>(
     alloc: Global,
     run: &mut Run<S, I>,
     partners: &mut Partners<I>,
     _p: &Problem,
     _budget: u64,
-) -> Result<Option<Derivation>, Memory>
+    most_entries: Option<usize>,
+) -> Result<Stop, Memory>
     requires safe { IsSafe S.atoms I.pairs I.fits run.old }
     requires partners { ArePartners I.pairs I.fits run.old partners.old }
     requires tended { AreTended I.pairs run.old partners.old }
@@ -50,8 +73,9 @@ pub fn cycle<S: Solver, I: PartnerIndex>(
     ensures running { OnOk result (IsRunningFor S.atoms S.added run.new (with_axioms _p.now.clauses) _budget) }
     ensures bank { OnOk result (Extends run.old.entries.bank run.new.entries.bank) }
     ensures kept { OnOk result ((bot : Sym) → IsRunningWith S.atoms S.added run.old bot (with_axioms _p.now.clauses) _budget → IsRunningWith S.atoms S.added run.new bot (with_axioms _p.now.clauses) _budget) }
-    ensures rests { IfOk result (λ r. IfNone r ((run.new.queue.items ≡ []) × (length run.new.selection.places ≡ length (items run.new)) × IsSolvedFor S.atoms S.added run.new (with_axioms _p.now.clauses) _budget)) }
-    ensures refuted { IfOk result (λ r. IfSome r (λ d. Refutes (S.atoms run.new.ground.solver) (S.added run.new.ground.solver) [] [] d)) }
+    ensures rests { IfOk result (λ s. IfFinished s ((run.new.queue.items ≡ []) × (length run.new.selection.places ≡ length (items run.new)) × IsSolvedFor S.atoms S.added run.new (with_axioms _p.now.clauses) _budget)) }
+    ensures refuted { IfOk result (λ s. IfRefuted s (λ d. Refutes (S.atoms run.new.ground.solver) (S.added run.new.ground.solver) [] [] d)) }
+    ensures unbounded { most_entries ≡ None → IfOk result IsNotGivenUp }
 {
     loop {
         let appended = run
@@ -61,11 +85,14 @@ pub fn cycle<S: Solver, I: PartnerIndex>(
             .saturating_sub(run.selection.len());
         let before = run.ground.solver.conflicts();
         match settle(alloc, run, partners)? {
-            Some(derivation) => return Ok(Some(derivation)),
+            Some(derivation) => return Ok(Stop::Refuted(derivation)),
             None => {
+                if is_beyond(run.entries.clauses.len(), most_entries) {
+                    return Ok(Stop::GivenUp);
+                }
                 let conflicts = run.ground.solver.conflicts().saturating_sub(before);
                 if !work_queue(alloc, run, partners, picks_after(conflicts, appended))? {
-                    return Ok(None);
+                    return Ok(Stop::Finished);
                 }
             }
         }

@@ -1,5 +1,5 @@
 // What the engine answers.
-ghost use Rattle.std.specs.Prelude.{◌≡◌, ◌≤◌, [], suc, length, true, false, Some, None, All, IsTrue, IsFalse, IfOk, OnOk};
+ghost use Rattle.std.specs.Prelude.{◌≡◌, ◌≤◌, [], suc, length, true, false, Some, None, All, IsTrue, IsFalse, IsSome, IfOk, IfSome, OnOk};
 ghost use Rattle.inst_logic.specs.Measure.{is_function_free};
 ghost use Rattle.inst_logic.specs.Printing.{is_readable_name};
 ghost use Rattle.cert_format.specs.Printable.{IsPrintableClause};
@@ -10,7 +10,7 @@ ghost use Rattle.instgen_loop.specs.Starting.{IsFresh, IsAllowed};
 ghost use Rattle.instgen_loop.specs.Outcomes.{IsOutcome, IsDecided, appended_count, journal_of};
 
 use crate::choices::Choices;
-use crate::cycle::cycle;
+use crate::cycle::{Stop, cycle};
 use crate::ending::{Ending, outcome_of};
 use crate::event::Journal;
 use crate::event_log::EventLog;
@@ -48,15 +48,15 @@ pub enum Outcome {
     },
 }
 
-// Starts a run, lets it work, and ends it. The run keeps its journal.
+// Starts a run, lets it work, and ends it. The run keeps its journal. Nothing comes where it was given up.
 fn drive<S: Solver, I: PartnerIndex>(
     alloc: Global,
     p: &Problem,
     run: &mut Run<S, I>,
     mut partners: Partners<I>,
-    first_values: Option<S>,
+    choices: Choices<S>,
     budget: u64,
-) -> Result<Ending, Memory>
+) -> Result<Option<Ending>, Memory>
     requires fresh { IsFresh S.atoms S.added I.pairs run.old }
     requires allowed { IsAllowed run.old p.now.clauses budget }
     requires bot { IsBot p.now.clauses run.old.ground.abstraction.bot }
@@ -67,13 +67,25 @@ fn drive<S: Solver, I: PartnerIndex>(
     requires clauses { All IsPrintableClause p.now.clauses }
     requires named { length p.now.names ≡ length p.now.clauses }
     requires readable { All (λ n. IsTrue (is_readable_name n)) p.now.names }
-    ensures ending { IfOk result (λ e. IsEnding p.now.clauses p.now.names budget e run.new.journal) }
+    ensures ending { IfOk result (λ o. IfSome o (λ e. IsEnding p.now.clauses p.now.names budget e run.new.journal)) }
     ensures appended { OnOk result (IsFalse (is_function_free p.now.clauses) → appended_count run.new.journal ≤ suc budget) }
+    ensures unbounded { choices.most_entries ≡ None → IfOk result IsSome }
 {
+    let Choices {
+        first_values,
+        most_entries,
+    } = choices;
     let given = start(alloc, p, run, first_values, budget)?;
-    match cycle(alloc, run, &mut partners, p, budget)? {
-        Some(derivation) => refuted(alloc, p, run, given, derivation, budget),
-        None => finish(alloc, p, run, &partners, given, budget),
+    match cycle(alloc, run, &mut partners, p, budget, most_entries)? {
+        Stop::Refuted(derivation) => {
+            let ending = refuted(alloc, p, run, given, derivation, budget)?;
+            Ok(Some(ending))
+        }
+        Stop::Finished => {
+            let ending = finish(alloc, p, run, &partners, given, budget)?;
+            Ok(Some(ending))
+        }
+        Stop::GivenUp => Ok(None),
     }
 }
 
@@ -85,14 +97,37 @@ fn allowed(p: &Problem, budget: u64) -> Option<u64>
     if function_free(p) { None } else { Some(budget) }
 }
 
-/// Solvers without atoms: one for the abstractions, one for the clauses of the entries, one for ground lines at the end, and perhaps
-/// one for first values.
+/// Solvers without atoms: one for the abstractions, one for the clauses of the entries, one for ground lines at the end.
 #[derive(Drop)]
 struct Solvers<S: Solver> {
     abstractions: S,
     known: S,
     last: S,
-    first_values: Option<S>,
+}
+
+// The outcome of a run that ends so after these events, or nothing where it was given up. What is not needed is let go here.
+fn outcome_where_ended<S: Solver>(
+    alloc: Global,
+    p: &Problem,
+    ending: Option<Ending>,
+    last: S,
+    log: &EventLog,
+    budget: u64,
+) -> Result<Option<Outcome>, Memory>
+    requires ending { IfSome ending (λ e. IsEnding p.now.clauses p.now.names budget e log.now) }
+    requires atoms { S.atoms last ≡ 0 }
+    requires added { S.added last ≡ [] }
+    ensures outcome { IfOk result (λ o. IfSome o (IsOutcome p.now.clauses p.now.names budget)) }
+    ensures journal { IfOk result (λ o. IfSome o (λ it. journal_of it ≡ log.now)) }
+    ensures ended { IsSome ending → IfOk result IsSome }
+{
+    match ending {
+        Some(ending) => {
+            let outcome = outcome_of(alloc, p, ending, last, log, budget)?;
+            Ok(Some(outcome))
+        }
+        None => Ok(None),
+    }
 }
 
 // Makes the run, which is gone when the certificate and the journal are made, as are its indexes. It stands in a box: a function
@@ -105,7 +140,8 @@ fn run_over<S: Solver, I: PartnerIndex>(
     partners: Partners<I>,
     first: I,
     budget: u64,
-) -> Result<Outcome, Memory>
+    choices: Choices<S>,
+) -> Result<Option<Outcome>, Memory>
     requires bot { IsBot p.now.clauses bot }
     requires constant { IsTrue (is_constant bot) }
     requires bot_name { IsTrue (is_readable_name bot.name) }
@@ -118,23 +154,23 @@ fn run_over<S: Solver, I: PartnerIndex>(
     requires named { length p.now.names ≡ length p.now.clauses }
     requires readable { All (λ n. IsTrue (is_readable_name n)) p.now.names }
     requires budget { budget ≤ 1000000000000 }
-    ensures outcome { IfOk result (IsOutcome p.now.clauses p.now.names budget) }
-    ensures appended { IfOk result (λ o. IsFalse (is_function_free p.now.clauses) → appended_count (journal_of o) ≤ suc budget) }
+    ensures outcome { IfOk result (λ o. IfSome o (IsOutcome p.now.clauses p.now.names budget)) }
+    ensures appended { IfOk result (λ o. IfSome o (λ it. IsFalse (is_function_free p.now.clauses) → appended_count (journal_of it) ≤ suc budget)) }
+    ensures unbounded { choices.most_entries ≡ None → IfOk result IsSome }
 {
     let Solvers {
         abstractions,
         known,
         last,
-        first_values,
     } = solvers;
     let mut run = Box::new(
         alloc,
         new_run(alloc, abstractions, known, first, bot, allowed(p, budget)),
     )?;
-    let ending = drive(alloc, p, &mut run, partners, first_values, budget)?;
+    let ending = drive(alloc, p, &mut run, partners, choices, budget)?;
     let log = replace(&mut run.journal, EventLog::new(alloc));
     drop(run);
-    outcome_of(alloc, p, ending, last, &log, budget)
+    outcome_where_ended(alloc, p, ending, last, &log, budget)
 }
 
 /// Runs the engine on the problem's clauses and their axioms of equality. The solver `known` has the clauses of the entries, and a
@@ -172,7 +208,7 @@ pub fn run<S: Solver, I: PartnerIndex>(
     ensures function_free { IfOk result (λ o. IsTrue (is_function_free p.now.clauses) → IsDecided o) }
     ensures appended { IfOk result (λ o. IsFalse (is_function_free p.now.clauses) → appended_count (journal_of o) ≤ suc budget) }
 {
-    run_with(
+    match run_with(
         alloc,
         p,
         solver,
@@ -183,10 +219,14 @@ pub fn run<S: Solver, I: PartnerIndex>(
         first,
         budget,
         Choices::plain(),
-    )
+    )? {
+        Some(outcome) => Ok(outcome),
+        None => unreachable!(),
+    }
 }
 
-/// What `run` does, with these choices: what it asks for and what it answers are the same, clause for clause.
+/// What `run` does, with these choices: what it asks for is the same, and so is what it answers, clause for clause, where it is not
+/// given up. Nothing comes where it is.
 pub fn run_with<S: Solver, I: PartnerIndex>(
     alloc: Global,
     p: &Problem,
@@ -198,7 +238,7 @@ pub fn run_with<S: Solver, I: PartnerIndex>(
     first: I,
     budget: u64,
     choices: Choices<S>,
-) -> Result<Outcome, Memory>
+) -> Result<Option<Outcome>, Memory>
     requires atoms { S.atoms solver ≡ 0 }
     requires added { S.added solver ≡ [] }
     requires known_atoms { S.atoms known ≡ 0 }
@@ -212,17 +252,17 @@ pub fn run_with<S: Solver, I: PartnerIndex>(
     requires named { length p.now.names ≡ length p.now.clauses }
     requires readable { All (λ n. IsTrue (is_readable_name n)) p.now.names }
     requires budget { budget ≤ 1000000000000 }
-    ensures outcome { IfOk result (IsOutcome p.now.clauses p.now.names budget) }
-    ensures function_free { IfOk result (λ o. IsTrue (is_function_free p.now.clauses) → IsDecided o) }
-    ensures appended { IfOk result (λ o. IsFalse (is_function_free p.now.clauses) → appended_count (journal_of o) ≤ suc budget) }
+    ensures outcome { IfOk result (λ o. IfSome o (IsOutcome p.now.clauses p.now.names budget)) }
+    ensures function_free { IfOk result (λ o. IfSome o (λ it. IsTrue (is_function_free p.now.clauses) → IsDecided it)) }
+    ensures appended { IfOk result (λ o. IfSome o (λ it. IsFalse (is_function_free p.now.clauses) → appended_count (journal_of it) ≤ suc budget)) }
+    ensures unbounded { choices.most_entries ≡ None → IfOk result IsSome }
 {
     let bot = bot_of(alloc, p)?;
     let solvers = Solvers {
         abstractions: solver,
         known,
         last,
-        first_values: choices.first_values,
     };
     let partners = Partners { positive, negative };
-    run_over(alloc, p, bot, solvers, partners, first, budget)
+    run_over(alloc, p, bot, solvers, partners, first, budget, choices)
 }

@@ -17,8 +17,9 @@ fn outcome(alloc: Global, p: &Problem, budget: u32) -> Result<Outcome, Memory>
 {
     let choices = Choices {
         first_values: Some(Cdcl::new(alloc)),
+        most_entries: None,
     };
-    run_with(
+    match run_with(
         alloc,
         p,
         Cdcl::new(alloc),
@@ -29,7 +30,10 @@ fn outcome(alloc: Global, p: &Problem, budget: u32) -> Result<Outcome, Memory>
         Tree::new(alloc),
         u64::from(budget),
         choices,
-    )
+    )? {
+        Some(outcome) => Ok(outcome),
+        None => unreachable!(),
+    }
 }
 
 /// What a run on the file had. Nothing comes where there is no such problem or the memory does not do.

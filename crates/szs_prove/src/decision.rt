@@ -1,5 +1,6 @@
 // What is decided of a problem.
-ghost use Rattle.std.specs.Prelude.{◌≡◌, ◌≤◌, ℕ, IsTrue, IfOk};
+ghost use Rattle.std.specs.Prelude.{◌≡◌, ◌≤◌, ℕ, [], IsSome, IsTrue, None, IfOk, IfSome};
+ghost use Rattle.inst_logic.specs.declared.clause.Problem.{Problem};
 ghost use Rattle.inst_logic.specs.Measure.{is_function_free};
 ghost use Rattle.cert_front.specs.Kinds.{covered_value, refutation_value};
 ghost use Rattle.instgen_loop.specs.Outcomes.{IsOutcome, IsRefutedRun, IsSaturatedRun};
@@ -12,11 +13,17 @@ use cert_check::{CheckedCovered, CheckedRefutation};
 use cert_format::covers::names_are_printable;
 use cert_format::laws::valid_certificates_certify;
 use cert_front::{accept_refutation, accept_saturation};
-use inst_logic::{Memory, Problem};
+use inst_logic::{Memory, Problem, function_free};
 use instgen_loop::{Choices, Journal, Outcome, run_with};
 use saturation_cert::{Refutation, Saturation, refutation_numbers, saturation_numbers};
 use std::alloc::Global;
 use term_index::Tree;
+
+// How many entries runs may have that are to decide soon or not at all, beside two for each clause of the problem: the usual one,
+// and the one with new atoms true first.
+const FEW_USUAL: usize = 4_000;
+
+const FEW_TRUE_FIRST: usize = 8_000;
 
 /// A certificate that the checker accepted, or what the budget left open.
 #[derive(Drop)]
@@ -121,22 +128,26 @@ fn judged(alloc: Global, p: &Problem, _budget: u64, outcome: Outcome) -> Result<
     }
 }
 
-/// Runs the engine with clause learning and discrimination trees, and has the checker judge what it answers. The budget
-/// counts as the engine's does: the symbols and variables of the instances that it appends, and only where the problem has
-/// function symbols with arguments.
-pub fn decide(alloc: Global, p: &Problem, budget: u64) -> Result<Decision, Memory>
+// Makes one run, whose first solver has no atoms, with these choices, and has the checker judge what it answers. Nothing comes where
+// it was given up.
+fn decision_of_run(
+    alloc: Global,
+    p: &Problem,
+    budget: u64,
+    solver: Cdcl,
+    choices: Choices<Cdcl>,
+) -> Result<Option<Decision>, Memory>
     requires problem { IsPrintableProblem p.now }
     requires budget { budget ≤ 1000000000000 }
-    ensures decision { IfOk result (IsDecision p.now budget) }
-    ensures function_free { IfOk result (λ d. IsTrue (is_function_free p.now.clauses) → IsVerdict d) }
+    requires atoms { solver.atoms ≡ 0 }
+    requires added { solver.added ≡ [] }
+    ensures decision { IfOk result (λ d. IfSome d (IsDecision p.now budget)) }
+    ensures unbounded { choices.most_entries ≡ None → IfOk result IsSome }
 {
-    let choices = Choices {
-        first_values: Some(Cdcl::new(alloc)),
-    };
-    let outcome = run_with(
+    match run_with(
         alloc,
         p,
-        Cdcl::new(alloc),
+        solver,
         Cdcl::new(alloc),
         Cdcl::new(alloc),
         Tree::new(alloc),
@@ -144,6 +155,98 @@ pub fn decide(alloc: Global, p: &Problem, budget: u64) -> Result<Decision, Memor
         Tree::new(alloc),
         budget,
         choices,
-    )?;
-    judged(alloc, p, budget, outcome)
+    )? {
+        Some(outcome) => {
+            let decision = judged(alloc, p, budget, outcome)?;
+            Ok(Some(decision))
+        }
+        None => Ok(None),
+    }
+}
+
+// The order that is made to its end: new atoms are false first, but where their first value is known.
+fn usual_choices(alloc: Global, most_entries: Option<usize>) -> Choices<Cdcl>
+    ensures { result.most_entries ≡ most_entries }
+{
+    Choices {
+        first_values: Some(Cdcl::new(alloc)),
+        most_entries,
+    }
+}
+
+// Makes the usual run to its end.
+fn decided_at_last(alloc: Global, p: &Problem, budget: u64) -> Result<Decision, Memory>
+    requires problem { IsPrintableProblem p.now }
+    requires budget { budget ≤ 1000000000000 }
+    ensures { IfOk result (IsDecision p.now budget) }
+{
+    let choices = usual_choices(alloc, None);
+    match decision_of_run(alloc, p, budget, Cdcl::new(alloc), choices)? {
+        Some(decision) => Ok(decision),
+        None => unreachable!(),
+    }
+}
+
+// A verdict, or nothing where the budget left it open: that is for the last run to say.
+fn verdict(decision: Option<Decision>) -> Option<Decision>
+    ensures { (p : Problem) (budget : ℕ) → IfSome decision (IsDecision p budget) → IfSome result (IsDecision p budget) }
+{
+    match decision {
+        Some(Decision::OutOfBudget { .. }) => None,
+        other => other,
+    }
+}
+
+// So many entries, and two for each clause of the problem.
+fn entries_beside(p: &Problem, few: usize) -> usize {
+    p.clauses.len().saturating_mul(2).saturating_add(few)
+}
+
+// A run in which new atoms are true first, and the usual one where that is given up.
+fn decided_true_first(alloc: Global, p: &Problem, budget: u64) -> Result<Decision, Memory>
+    requires problem { IsPrintableProblem p.now }
+    requires budget { budget ≤ 1000000000000 }
+    ensures { IfOk result (IsDecision p.now budget) }
+{
+    let choices = Choices {
+        first_values: None,
+        most_entries: Some(entries_beside(p, FEW_TRUE_FIRST)),
+    };
+    let decision = decision_of_run(alloc, p, budget, Cdcl::true_first(alloc), choices)?;
+    match verdict(decision) {
+        Some(decision) => Ok(decision),
+        None => decided_at_last(alloc, p, budget),
+    }
+}
+
+// The usual run, and others where that is given up.
+fn decided_by_turns(alloc: Global, p: &Problem, budget: u64) -> Result<Decision, Memory>
+    requires problem { IsPrintableProblem p.now }
+    requires budget { budget ≤ 1000000000000 }
+    ensures { IfOk result (IsDecision p.now budget) }
+{
+    let choices = usual_choices(alloc, Some(entries_beside(p, FEW_USUAL)));
+    let decision = decision_of_run(alloc, p, budget, Cdcl::new(alloc), choices)?;
+    match verdict(decision) {
+        Some(decision) => Ok(decision),
+        None => decided_true_first(alloc, p, budget),
+    }
+}
+
+/// Runs the engine with clause learning and discrimination trees, and has the checker judge what it answers. The budget
+/// counts as the engine's does: the symbols and variables of the instances that it appends, and only where the problem has
+/// function symbols with arguments. On such problems what a run decides it mostly decides soon: so the usual run is given up
+/// where it has many entries, then one with new atoms true first is, and the usual one is made anew to its end. Each has the
+/// whole budget, and only the last answers for want of it.
+pub fn decide(alloc: Global, p: &Problem, budget: u64) -> Result<Decision, Memory>
+    requires problem { IsPrintableProblem p.now }
+    requires budget { budget ≤ 1000000000000 }
+    ensures decision { IfOk result (IsDecision p.now budget) }
+    ensures function_free { IfOk result (λ d. IsTrue (is_function_free p.now.clauses) → IsVerdict d) }
+{
+    if function_free(p) {
+        decided_at_last(alloc, p, budget)
+    } else {
+        decided_by_turns(alloc, p, budget)
+    }
 }

@@ -2,7 +2,7 @@
 ghost use Rattle.std.specs.Prelude.{◌≡◌, []};
 ghost use Rattle.tptp_load.specs.Problems.{IsGoodProblem};
 
-use crate::outcomes::{Row, Told, tell};
+use crate::outcomes::{Row, Told, tell, tell_or_given_up};
 use crate::problems::problem_of;
 use cdcl_core::Cdcl;
 use inst_logic::Problem;
@@ -56,8 +56,8 @@ fn told_by<S: Solver, I: PartnerIndex>(
 pub enum Engine {
     PlainRows,
     CdclTree,
-    // The same, where another such solver is asked for first values.
-    FirstValues,
+    // The same, where another such solver is asked for first values, and the run is given up above so many entries.
+    FirstValues { most_entries: Option<usize> },
     // Walks over the indexes of selected literals refuse to begin, or those over that of first literals do.
     Refusing { partners: bool, first: bool },
 }
@@ -95,11 +95,17 @@ fn with_cdcl(alloc: Global, p: &Problem, row: &Row) -> Result<Told, Fail>
 }
 
 #[tactic(auto, using(std::proofs::lemmas::Grind::common_steps, crate::proofs::Printable::printable_clauses, crate::proofs::Printable::readable_names))]
-fn with_first_values(alloc: Global, p: &Problem, row: &Row) -> Result<Told, Fail>
+fn with_first_values(
+    alloc: Global,
+    p: &Problem,
+    row: &Row,
+    most_entries: Option<usize>,
+) -> Result<Told, Fail>
     requires { IsGoodProblem p.now }
 {
     let choices = Choices {
         first_values: Some(Cdcl::new(alloc)),
+        most_entries,
     };
     let answer = run_with(
         alloc,
@@ -113,7 +119,7 @@ fn with_first_values(alloc: Global, p: &Problem, row: &Row) -> Result<Told, Fail
         u64::from(row.budget),
         choices,
     );
-    tell(alloc, answer, row)
+    tell_or_given_up(alloc, answer, row)
 }
 
 fn with_refusing(
@@ -144,7 +150,7 @@ fn told_with(alloc: Global, p: &Problem, row: &Row, engine: Engine) -> Result<To
     match engine {
         Engine::PlainRows => with_plain(alloc, p, row),
         Engine::CdclTree => with_cdcl(alloc, p, row),
-        Engine::FirstValues => with_first_values(alloc, p, row),
+        Engine::FirstValues { most_entries } => with_first_values(alloc, p, row, most_entries),
         Engine::Refusing { partners, first } => with_refusing(alloc, p, row, partners, first),
     }
 }

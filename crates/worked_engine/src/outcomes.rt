@@ -13,6 +13,7 @@ pub enum Ending {
     Refuted,
     Saturated,
     OutOfBudget { left: u64, wanted: u64 },
+    GivenUp,
     Memory,
 }
 
@@ -165,6 +166,16 @@ fn tell_saturation(
     of_saturation(alloc, &mut cert, row, ending)
 }
 
+// What is told of a run that has no certificate.
+fn without_certificate(ending: Ending) -> Told {
+    Told {
+        ending,
+        members: true,
+        grounds: true,
+        places: true,
+    }
+}
+
 // What the answer of a run says of the row.
 pub fn tell(alloc: Global, answer: Result<Outcome, Memory>, row: &Row) -> Result<Told, Fail> {
     match answer {
@@ -183,11 +194,19 @@ pub fn tell(alloc: Global, answer: Result<Outcome, Memory>, row: &Row) -> Result
             let ending = Ending::OutOfBudget { left, wanted };
             tell_saturation(alloc, state, journal, row, ending)
         }
-        Err(Memory) => Ok(Told {
-            ending: Ending::Memory,
-            members: true,
-            grounds: true,
-            places: true,
-        }),
+        Err(Memory) => Ok(without_certificate(Ending::Memory)),
+    }
+}
+
+/// The same of a run that may be given up.
+pub fn tell_or_given_up(
+    alloc: Global,
+    answer: Result<Option<Outcome>, Memory>,
+    row: &Row,
+) -> Result<Told, Fail> {
+    match answer {
+        Ok(Some(outcome)) => tell(alloc, Ok(outcome), row),
+        Ok(None) => Ok(without_certificate(Ending::GivenUp)),
+        Err(Memory) => tell(alloc, Err(Memory), row),
     }
 }

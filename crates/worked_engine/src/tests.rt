@@ -252,8 +252,22 @@ fn first_values_are_tried(rt: HostRuntime) -> Result<(), Fail> {
         saturated("cnf(a,axiom,r|q). cnf(b,axiom,~q).", Some(2), "", &[1, 1]),
     ];
     for row in &rows {
-        let told = row_told(rt.alloc(), row, Engine::FirstValues)?;
+        let engine = Engine::FirstValues { most_entries: None };
+        let told = row_told(rt.alloc(), row, engine)?;
         assert_eq!(rt; told, as_wanted(row.ending), "of {}", row.text);
+    }
+    Ok(())
+}
+
+// A run that has two entries is given up where it may have one. Where it may have two it goes on, and its third refutes it.
+#[test]
+fn runs_are_given_up(rt: HostRuntime) -> Result<(), Fail> {
+    let row = refuted(INSTANCE, 0, Some(3), "", ("", None));
+    for (most, ending) in [(1, Ending::GivenUp), (2, Ending::Refuted)] {
+        let engine = Engine::FirstValues {
+            most_entries: Some(most),
+        };
+        assert_eq!(rt; row_told(rt.alloc(), &row, engine)?, as_wanted(ending));
     }
     Ok(())
 }

@@ -1,5 +1,4 @@
 use Rattle.std.proofs.Common.{◌≤◌, suc, sym, subst, List}
-use Rattle.std.proofs.lemmas.Result.{on_ok_weaker}
 use Rattle.inst_calculus.specs.Axioms.{with_axioms}
 use Rattle.inst_calculus.proofs.EqualityAxioms.{with_axioms_formed}
 use Rattle.instgen_loop.specs.declared.event.Event.{Event}
@@ -32,16 +31,17 @@ finish-requires-clause-problem g c =
     problem_later old new c.in_ok-given.given clauses d.bank
     (same_constant g.S.Solver.atoms g.S.Solver.added new old.ground.abstraction.bot (with_axioms clauses) c.args.budget (d.kept old.ground.abstraction.bot c.in_ok-given.ensures.running)) c.in_ok-given.ensures.problem
 
-pub returns-in-Some-clause-appended : goal.returns-in-Some-clause-appended
-returns-in-Some-clause-appended g c =
+pub returns-in-Refuted-clause-appended : goal.returns-in-Refuted-clause-appended
+returns-in-Refuted-clause-appended g c = λ f.
     let run = c.cycle.new.run in
     let clauses = c.args.p.now.clauses in
-    on_ok_weaker c.refuted.result
-    (λ e f. subst (λ (js : List Event). appended_count js ≤ suc c.args.budget) (sym e) (appended_within g.S.Solver.atoms g.S.Solver.added run clauses c.args.budget c.in_ok-derivation.ensures.running f)) c.refuted.ensures.journal
+    subst (λ (js : List Event). appended_count js ≤ suc c.args.budget) (sym c.in_ok-ending-in-Refuted.ensures.journal) (appended_within g.S.Solver.atoms g.S.Solver.added run clauses c.args.budget c.in_ok-derivation.ensures.running f)
+
+pub returns-in-Finished-clause-appended : goal.returns-in-Finished-clause-appended
+returns-in-Finished-clause-appended g c = λ f.
+    let run = c.cycle.new.run in
+    let clauses = c.args.p.now.clauses in
+    subst (λ (js : List Event). appended_count js ≤ suc c.args.budget) (sym c.in_ok-ending-in-Finished.ensures.journal) (appended_within g.S.Solver.atoms g.S.Solver.added run clauses c.args.budget c.in_ok-derivation.ensures.running f)
 
 pub returns-clause-appended : goal.returns-clause-appended
-returns-clause-appended g c =
-    let run = c.cycle.new.run in
-    let clauses = c.args.p.now.clauses in
-    on_ok_weaker c.finish.result
-    (λ e f. subst (λ (js : List Event). appended_count js ≤ suc c.args.budget) (sym e) (appended_within g.S.Solver.atoms g.S.Solver.added run clauses c.args.budget c.in_ok-derivation.ensures.running f)) c.finish.ensures.journal
+returns-clause-appended g c = appended_within g.S.Solver.atoms g.S.Solver.added c.cycle.new.run c.args.p.now.clauses c.args.budget c.in_ok-derivation.ensures.running
