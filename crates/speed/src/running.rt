@@ -12,14 +12,14 @@ use term_index::Tree;
 use tptp_load::load;
 
 #[tactic(auto, using(std::proofs::lemmas::Grind::common_steps, worked_engine::proofs::Printable::printable_clauses, worked_engine::proofs::Printable::readable_names))]
-fn outcome(alloc: Global, p: &Problem, budget: u32) -> Result<Outcome, Memory>
+fn outcome(alloc: Global, p: &Problem, budget: u32) -> Result<Option<Outcome>, Memory>
     requires { IsGoodProblem p.now }
 {
     let choices = Choices {
         first_values: Some(Cdcl::new(alloc)),
         most_entries: None,
     };
-    match run_with(
+    run_with(
         alloc,
         p,
         Cdcl::new(alloc),
@@ -30,10 +30,7 @@ fn outcome(alloc: Global, p: &Problem, budget: u32) -> Result<Outcome, Memory>
         Tree::new(alloc),
         u64::from(budget),
         choices,
-    )? {
-        Some(outcome) => Ok(outcome),
-        None => unreachable!(),
-    }
+    )
 }
 
 /// What a run on the file had. Nothing comes where there is no such problem or the memory does not do.
@@ -44,6 +41,7 @@ pub fn counts_on<L: Library>(
     budget: u32,
 ) -> Option<Counts> {
     let p = load(alloc, files, name, None).ok()?;
-    let outcome = outcome(alloc, &p, budget).ok()?;
+    let answer = outcome(alloc, &p, budget).ok()?;
+    let outcome = answer?;
     Some(counts_of(&outcome))
 }

@@ -12,4 +12,4 @@ returns-in-Unsatisfiable c =
 pub returns-in-Satisfiable : goal.returns-in-Satisfiable
 returns-in-Satisfiable c =
     satisfied_texts c.args._p.now c.args.decision.now c.requires.decision c.args.file.now _ c.in-Satisfiable.is c.covered_text.result
-    (subst (λ (n : List ℕ). IfOk c.covered_text.result (λ text. text ≡ written_text n (covered_value c.in-Satisfiable.cert))) c.as_bytes.ensures.value c.covered_text.ensures.text)
+    (subst (λ (n : List ℕ). IfOk c.covered_text.result (λ text. text ≡ written_text n (covered_value c.in-Satisfiable.cert))) c.as_bytes-in-Satisfiable.ensures.value c.covered_text.ensures.text)

@@ -1,5 +1,8 @@
 use Rattle.szs_prove.proofs.CheckedDecisions.{always_decided}
 use Rattle.szs_prove.proofs.decision.decide.Goals as goal
 
-pub returns-clause-function_free : goal.returns-clause-function_free
-returns-clause-function_free c = always_decided c.judged.result c.args.p.now c.args.budget c.judged.ensures
+pub returns-then-function_free-clause-function_free : goal.returns-then-function_free-clause-function_free
+returns-then-function_free-clause-function_free c = always_decided c.decided_at_last.result c.args.p.now c.args.budget c.decided_at_last.ensures
+
+pub returns-else-function_free-clause-function_free : goal.returns-else-function_free-clause-function_free
+returns-else-function_free-clause-function_free c = always_decided c.decided_by_turns.result c.args.p.now c.args.budget c.decided_by_turns.ensures
