@@ -5,7 +5,7 @@ ghost use Rattle.inst_logic.specs.Measure.{is_function_free};
 ghost use Rattle.cert_front.specs.Kinds.{covered_value, refutation_value};
 ghost use Rattle.instgen_loop.specs.Outcomes.{IsOutcome, IsRefutedRun, IsSaturatedRun};
 ghost use Rattle.cert_format.specs.Printable.{IsPrintableProblem};
-ghost use Rattle.szs_prove.specs.Decisions.{IsDecision, IsShownBy, IsVerdict};
+ghost use Rattle.szs_prove.specs.Decisions.{IsDecision, IsShownBy, IsStopped, IsVerdict};
 ghost use Rattle.szs_prove.specs.declared.decision.Decision.TheVariants as decision;
 
 use cdcl_core::Cdcl;
@@ -71,7 +71,7 @@ fn checked_saturation(
 }
 
 // The decision of a run that ended with a refutation.
-fn refuted(
+fn refutation_decision(
     alloc: Global,
     p: &Problem,
     cert: Refutation,
@@ -85,8 +85,8 @@ fn refuted(
     Ok(Decision::Unsatisfiable(checked))
 }
 
-// That of one that ended with a saturation.
-fn satisfied(
+// The decision of a run that ended with a saturation.
+fn saturation_decision(
     alloc: Global,
     p: &Problem,
     cert: Saturation,
@@ -100,8 +100,8 @@ fn satisfied(
     Ok(Decision::Satisfiable(checked))
 }
 
-// That of one that ended for want of budget. Where the run stopped is let go here.
-fn stopped(left: u64, wanted: u64, state: Saturation, journal: Journal) -> Decision
+// The decision of a run that ended for want of budget. Where the run stopped is let go here.
+fn open_decision(left: u64, wanted: u64, state: Saturation, journal: Journal) -> Decision
     ensures { result ≡ decision.OutOfBudget left wanted }
 {
     drop(state);
@@ -111,20 +111,25 @@ fn stopped(left: u64, wanted: u64, state: Saturation, journal: Journal) -> Decis
 
 // Has the checker judge what the engine answered in this budget. Each arm gives all that it owns to one call: a function that held a
 // part of an outcome at a second way out would take long to prove.
-fn judged(alloc: Global, p: &Problem, _budget: u64, outcome: Outcome) -> Result<Decision, Memory>
+fn decision_of(
+    alloc: Global,
+    p: &Problem,
+    _budget: u64,
+    outcome: Outcome,
+) -> Result<Decision, Memory>
     requires problem { IsPrintableProblem p.now }
     requires outcome { IsOutcome p.now.clauses p.now.names _budget outcome }
     ensures { IfOk result (IsDecision p.now _budget) }
 {
     match outcome {
-        Outcome::Refuted { cert, journal } => refuted(alloc, p, cert, journal),
-        Outcome::Saturated { cert, journal } => satisfied(alloc, p, cert, journal),
+        Outcome::Refuted { cert, journal } => refutation_decision(alloc, p, cert, journal),
+        Outcome::Saturated { cert, journal } => saturation_decision(alloc, p, cert, journal),
         Outcome::OutOfBudget {
             left,
             wanted,
             state,
             journal,
-        } => Ok(stopped(left, wanted, state, journal)),
+        } => Ok(open_decision(left, wanted, state, journal)),
     }
 }
 
@@ -157,7 +162,7 @@ fn decision_of_run(
         choices,
     )? {
         Some(outcome) => {
-            let decision = judged(alloc, p, budget, outcome)?;
+            let decision = decision_of(alloc, p, budget, outcome)?;
             Ok(Some(decision))
         }
         None => Ok(None),
@@ -175,7 +180,7 @@ fn usual_choices(alloc: Global, most_entries: Option<usize>) -> Choices<Cdcl>
 }
 
 // Makes the usual run to its end.
-fn decided_at_last(alloc: Global, p: &Problem, budget: u64) -> Result<Decision, Memory>
+fn last_decision(alloc: Global, p: &Problem, budget: u64) -> Result<Decision, Memory>
     requires problem { IsPrintableProblem p.now }
     requires budget { budget ≤ 1000000000000 }
     ensures { IfOk result (IsDecision p.now budget) }
@@ -187,7 +192,7 @@ fn decided_at_last(alloc: Global, p: &Problem, budget: u64) -> Result<Decision, 
     }
 }
 
-// A verdict, or nothing where the budget left it open: that is for the last run to say.
+// A verdict, or nothing where the budget left it open.
 fn verdict(decision: Option<Decision>) -> Option<Decision>
     ensures { (p : Problem) (budget : ℕ) → IfSome decision (IsDecision p budget) → IfSome result (IsDecision p budget) }
 {
@@ -197,15 +202,22 @@ fn verdict(decision: Option<Decision>) -> Option<Decision>
     }
 }
 
-// So many entries, and two for each clause of the problem.
+// The number `few`, and two for each clause of the problem.
 fn entries_beside(p: &Problem, few: usize) -> usize {
     p.clauses.len().saturating_mul(2).saturating_add(few)
 }
 
-// A run in which new atoms are true first, and the usual one where that is given up.
-fn decided_true_first(alloc: Global, p: &Problem, budget: u64) -> Result<Decision, Memory>
+// A run in which new atoms are true first. Where it gives no verdict the usual run says what is left: by the numbers with which it
+// ended for want of budget, or made anew to its end, since it was given up.
+fn decision_true_first(
+    alloc: Global,
+    p: &Problem,
+    budget: u64,
+    left_open: Option<(u64, u64)>,
+) -> Result<Decision, Memory>
     requires problem { IsPrintableProblem p.now }
     requires budget { budget ≤ 1000000000000 }
+    requires left_open { IfSome left_open (λ o. IsStopped p.now budget o.0 o.1) }
     ensures { IfOk result (IsDecision p.now budget) }
 {
     let choices = Choices {
@@ -215,29 +227,35 @@ fn decided_true_first(alloc: Global, p: &Problem, budget: u64) -> Result<Decisio
     let decision = decision_of_run(alloc, p, budget, Cdcl::true_first(alloc), choices)?;
     match verdict(decision) {
         Some(decision) => Ok(decision),
-        None => decided_at_last(alloc, p, budget),
+        None => match left_open {
+            Some((left, wanted)) => Ok(Decision::OutOfBudget { left, wanted }),
+            None => last_decision(alloc, p, budget),
+        },
     }
 }
 
-// The usual run, and others where that is given up.
-fn decided_by_turns(alloc: Global, p: &Problem, budget: u64) -> Result<Decision, Memory>
+// The usual run, and others where that gives no verdict.
+fn decision_by_turns(alloc: Global, p: &Problem, budget: u64) -> Result<Decision, Memory>
     requires problem { IsPrintableProblem p.now }
     requires budget { budget ≤ 1000000000000 }
     ensures { IfOk result (IsDecision p.now budget) }
 {
     let choices = usual_choices(alloc, Some(entries_beside(p, FEW_USUAL)));
-    let decision = decision_of_run(alloc, p, budget, Cdcl::new(alloc), choices)?;
-    match verdict(decision) {
+    match decision_of_run(alloc, p, budget, Cdcl::new(alloc), choices)? {
+        Some(Decision::OutOfBudget { left, wanted }) => {
+            decision_true_first(alloc, p, budget, Some((left, wanted)))
+        }
         Some(decision) => Ok(decision),
-        None => decided_true_first(alloc, p, budget),
+        None => decision_true_first(alloc, p, budget, None),
     }
 }
 
 /// Runs the engine with clause learning and discrimination trees, and has the checker judge what it answers. The budget
 /// counts as the engine's does: the symbols and variables of the instances that it appends, and only where the problem has
 /// function symbols with arguments. On such problems what a run decides it mostly decides soon: so the usual run is given up
-/// where it has many entries, then one with new atoms true first is, and the usual one is made anew to its end. Each has the
-/// whole budget, and only the last answers for want of it.
+/// where it has many entries. Where it gives no verdict, one is made with new atoms true first, which is given up likewise, and
+/// behind that the usual one anew, to its end, unless it came to its end before. Each has the whole budget, and the numbers of
+/// an answer for want of it are those of the usual run.
 pub fn decide(alloc: Global, p: &Problem, budget: u64) -> Result<Decision, Memory>
     requires problem { IsPrintableProblem p.now }
     requires budget { budget ≤ 1000000000000 }
@@ -245,8 +263,8 @@ pub fn decide(alloc: Global, p: &Problem, budget: u64) -> Result<Decision, Memor
     ensures function_free { IfOk result (λ d. IsTrue (is_function_free p.now.clauses) → IsVerdict d) }
 {
     if function_free(p) {
-        decided_at_last(alloc, p, budget)
+        last_decision(alloc, p, budget)
     } else {
-        decided_by_turns(alloc, p, budget)
+        decision_by_turns(alloc, p, budget)
     }
 }
