@@ -1,6 +1,5 @@
 // What is decided of a problem.
 ghost use Rattle.std.specs.Prelude.{◌≡◌, ◌≤◌, ℕ, [], IsSome, IsTrue, None, IfOk, IfSome};
-ghost use Rattle.inst_logic.specs.declared.clause.Problem.{Problem};
 ghost use Rattle.inst_logic.specs.Measure.{is_function_free};
 ghost use Rattle.cert_front.specs.Kinds.{covered_value, refutation_value};
 ghost use Rattle.instgen_loop.specs.Outcomes.{IsOutcome, IsRefutedRun, IsSaturatedRun};
@@ -192,23 +191,31 @@ fn last_decision(alloc: Global, p: &Problem, budget: u64) -> Result<Decision, Me
     }
 }
 
-// A verdict, or nothing where the budget left it open.
-fn verdict(decision: Option<Decision>) -> Option<Decision>
-    ensures { (p : Problem) (budget : ℕ) → IfSome decision (IsDecision p budget) → IfSome result (IsDecision p budget) }
-{
-    match decision {
-        Some(Decision::OutOfBudget { .. }) => None,
-        other => other,
-    }
-}
-
 // The number `few`, and two for each clause of the problem.
 fn entries_beside(p: &Problem, few: usize) -> usize {
     p.clauses.len().saturating_mul(2).saturating_add(few)
 }
 
-// A run in which new atoms are true first. Where it gives no verdict the usual run says what is left: by the numbers with which it
-// ended for want of budget, or made anew to its end, since it was given up.
+// What the usual run says where no run gives a verdict: the numbers with which it ended for want of budget; or it is made anew to
+// its end, since it was given up.
+fn decision_of_usual_run(
+    alloc: Global,
+    p: &Problem,
+    budget: u64,
+    left_open: Option<(u64, u64)>,
+) -> Result<Decision, Memory>
+    requires problem { IsPrintableProblem p.now }
+    requires budget { budget ≤ 1000000000000 }
+    requires left_open { IfSome left_open (λ o. IsStopped p.now budget o.0 o.1) }
+    ensures { IfOk result (IsDecision p.now budget) }
+{
+    match left_open {
+        Some((left, wanted)) => Ok(Decision::OutOfBudget { left, wanted }),
+        None => last_decision(alloc, p, budget),
+    }
+}
+
+// A run in which new atoms are true first, and what the usual run says where that gives no verdict.
 fn decision_true_first(
     alloc: Global,
     p: &Problem,
@@ -224,13 +231,11 @@ fn decision_true_first(
         first_values: None,
         most_entries: Some(entries_beside(p, FEW_TRUE_FIRST)),
     };
-    let decision = decision_of_run(alloc, p, budget, Cdcl::true_first(alloc), choices)?;
-    match verdict(decision) {
+    match decision_of_run(alloc, p, budget, Cdcl::true_first(alloc), choices)? {
+        None | Some(Decision::OutOfBudget { .. }) => {
+            decision_of_usual_run(alloc, p, budget, left_open)
+        }
         Some(decision) => Ok(decision),
-        None => match left_open {
-            Some((left, wanted)) => Ok(Decision::OutOfBudget { left, wanted }),
-            None => last_decision(alloc, p, budget),
-        },
     }
 }
 
