@@ -168,7 +168,7 @@ fn take(
     ensures marked { OnOk result ((c : List (Signed ℕ)) → cited log.now.added log.now.steps hint ≡ Some c → MarksToo trail.now.trail c seen.old seen.new analysis.old.waiting analysis.new.waiting) }
 {
     analysis.hints.push(hint)?;
-    mark_all(trail, seen, &mut analysis.waiting, log.cited(hint))
+    mark_all(trail, seen, &mut analysis.waiting, log.cited_clause(hint))
 }
 
 // Lists the place of a fact of level 0 whose clause has other literals.
@@ -182,7 +182,7 @@ fn list_fact(
     ensures hints { OnOk result (analysis.new.hints ≡ analysis.old.hints) }
     ensures waiting { OnOk result (analysis.new.waiting ≡ analysis.old.waiting) }
 {
-    if 1 < log.cited(hint).len() {
+    if 1 < log.cited_clause(hint).len() {
         analysis.facts.push(place)?;
     }
     Ok(())

@@ -103,7 +103,7 @@ impl Cdcl {
         ensures made { result ≡ self.now.restarts }
         ensures bounded { result ≤ 4096 }
     {
-        self.restarts.made()
+        self.restarts.restart_count()
     }
 }
 

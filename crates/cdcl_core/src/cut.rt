@@ -8,7 +8,7 @@ ghost use Rattle.prop_logic.specs.Cut.{IsCutOf};
 ghost use Rattle.cdcl_core.specs.Cut.{CitesOnly, Rises, IsMarked, AreNeeded, AreNumbers, IsRenamed, IsCopy};
 
 use crate::packed_hint::PackedHint;
-use crate::steps::{Steps, unpacked};
+use crate::steps::{Steps, unpack};
 use inst_logic::Memory;
 use prop_logic::{Derivation, Hint, HintList, LitList, Step};
 use std::alloc::Global;
@@ -72,7 +72,7 @@ fn clause_at(alloc: Global, steps: &Steps, last: &LastStep, place: usize) -> Res
     ensures { IfOk result (λ clause. (s : Step) → slice_get (steps.now ++ last.now ∷ []) place ≡ Some s → clause ≡ s.clause) }
 {
     match steps.clause(place) {
-        Some(clause) => Ok(LitList::from(unpacked(alloc, clause)?)),
+        Some(clause) => Ok(LitList::from(unpack(alloc, clause)?)),
         None => Ok(LitList::from(Vec::from_slice(alloc, last.clause.as_slice())?)),
     }
 }
@@ -157,7 +157,11 @@ fn copy(
 }
 
 // The steps that the last one needs, in their order, and a copy of it behind them.
-pub(crate) fn cut(alloc: Global, steps: &Steps, last: &LastStep) -> Result<Derivation, Memory>
+pub(crate) fn needed_steps(
+    alloc: Global,
+    steps: &Steps,
+    last: &LastStep,
+) -> Result<Derivation, Memory>
     ensures { IfOk result (IsCutOf (steps.now ++ last.now ∷ [])) }
 {
     let count = steps.len().checked_add(1).ok_or(Memory)?;

@@ -9,7 +9,7 @@ ghost use Rattle.cdcl_core.specs.Search.{IsKept, IsSameProblem};
 use crate::activity::Activity;
 use crate::search::Search;
 use crate::settings::Settings;
-use crate::steps::unpacked;
+use crate::steps::unpack;
 use compact_lists::FlatClauses;
 use inst_logic::Memory;
 use prop_logic::{Answer, Lit};
@@ -46,7 +46,7 @@ fn add_next(
     match added.get(place) {
         None => unreachable!(),
         Some(clause) => {
-            let literals = unpacked(alloc, clause)?;
+            let literals = unpack(alloc, clause)?;
             search.add(&literals)?;
             Ok(())
         }

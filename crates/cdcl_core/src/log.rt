@@ -68,7 +68,7 @@ impl Log {
     }
 
     // The clause that the hint cites, if it cites one.
-    fn found(&self, hint: PackedHint) -> Option<&[PackedLit]>
+    fn find(&self, hint: PackedHint) -> Option<&[PackedLit]>
         ensures { option_copied result ≡ cited self.now.added self.now.steps hint }
     {
         match hint.hint() {
@@ -78,12 +78,12 @@ impl Log {
     }
 
     // The clause that the hint cites, or no literals where it cites none.
-    pub(crate) fn cited(&self, hint: PackedHint) -> &[PackedLit]
+    pub(crate) fn cited_clause(&self, hint: PackedHint) -> &[PackedLit]
         ensures below { (n : ℕ) → AllAtomsBelow n self.now.added → StepsBelow n self.now.steps → AtomsBelow n result.now }
         ensures clause { (c : List (Signed ℕ)) → cited self.now.added self.now.steps hint ≡ Some c → result.now ≡ c }
         ensures some { 0 < length result.now → cited self.now.added self.now.steps hint ≡ Some result.now }
     {
-        match self.found(hint) {
+        match self.find(hint) {
             Some(clause) => clause,
             None => &[],
         }
@@ -93,7 +93,7 @@ impl Log {
     pub(crate) fn is_unit(&self, hint: PackedHint, lit: Lit) -> bool
         ensures { IsTrue result → cited self.now.added self.now.steps hint ≡ Some (lit ∷ []) }
     {
-        let clause = self.cited(hint);
+        let clause = self.cited_clause(hint);
         clause.len() == 1 && clause[0].lit() == lit
     }
 

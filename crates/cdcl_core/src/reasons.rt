@@ -33,7 +33,7 @@ pub(crate) fn mark_reasons(log: &Log, trail: &Trail, seen: &mut Seen, clause: &[
 {
     for lit in clause {
         if let Some(number) = trail.reason(lit.atom) {
-            mark_others(seen, log.cited(log.hint_of(number)));
+            mark_others(seen, log.cited_clause(log.hint_of(number)));
         }
     }
 }

@@ -9,7 +9,7 @@ use cdcl_trail::Trail;
 
 // Whether the atom follows from the marked ones, where no clause is needed to know: those of level 0 do, and those of a level
 // without marks do not.
-fn known(trail: &Trail, seen: &Seen, atom: usize) -> Option<bool>
+fn follows_without_clause(trail: &Trail, seen: &Seen, atom: usize) -> Option<bool>
     requires size { length seen.now ≡ trail.now.trail.atoms }
     requires atom { atom < trail.now.trail.atoms }
 {
@@ -23,7 +23,7 @@ fn known(trail: &Trail, seen: &Seen, atom: usize) -> Option<bool>
     if !seen.has_level(level) {
         return Some(false);
     }
-    seen.found(atom)
+    seen.known_to_follow(atom)
 }
 
 // Whether the atom follows from the marked ones by clauses of which at most so many are used one after the other.
@@ -34,7 +34,7 @@ fn follows(log: &Log, trail: &Trail, seen: &mut Seen, atom: usize, depth: usize)
     requires atom { atom < trail.now.trail.atoms }
     ensures { seen.new ≡ seen.old }
 {
-    if let Some(found) = known(trail, seen, atom) {
+    if let Some(found) = follows_without_clause(trail, seen, atom) {
         return found;
     }
     if depth == 0 {
@@ -65,7 +65,7 @@ pub(crate) fn all_follow(
     requires size { length seen.old ≡ trail.now.trail.atoms }
     ensures { seen.new ≡ seen.old }
 {
-    for packed in log.cited(log.hint_of(number)) {
+    for packed in log.cited_clause(log.hint_of(number)) {
         if !follows(log, trail, seen, packed.lit().atom, depth) {
             return false;
         }

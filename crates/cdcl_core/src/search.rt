@@ -20,7 +20,7 @@ ghost use Rattle.cdcl_core.specs.Search.{IsKept, IsTrueUpTo, IsSearch, IsCoreIn,
 
 use crate::activity::Activity;
 use crate::analysis::{Analysis, analyze, analyze_given, literal_at};
-use crate::cut::{LastStep, cut};
+use crate::cut::{LastStep, needed_steps};
 use crate::fresh_start::{copied_steps, renew_where_due};
 use crate::learned::Learned;
 use crate::log::Log;
@@ -360,7 +360,11 @@ impl Search {
         if !is_step(hint.hint()) || self.clauses.get(number).is_none() {
             return;
         }
-        if is_reason(&self.trail, &Literals::packed(self.log.cited(hint)), number) {
+        if is_reason(
+            &self.trail,
+            &Literals::of_packed(self.log.cited_clause(hint)),
+            number,
+        ) {
             return;
         }
         self.trail.detach(&self.clauses, number);
@@ -434,7 +438,7 @@ impl Search {
     }
 
     // The answer where the core can't be true, whose complements the hints show. Nothing of it stays in the log.
-    fn refuted(&self, core: LitList, hints: Vec<PackedHint>) -> Result<Answer, Memory>
+    fn refutation_answer(&self, core: LitList, hints: Vec<PackedHint>) -> Result<Answer, Memory>
         requires kept { IsKept self.now }
         requires atoms { AtomsBelow self.now.trail.trail.atoms core }
         requires closes { ClosesAll (map complement core) (map (cited self.now.log.added self.now.log.steps) hints.items) }
@@ -444,7 +448,7 @@ impl Search {
             clause: complements(self.alloc, core.as_slice())?,
             hints,
         };
-        let derivation = cut(self.alloc, &self.log.steps, &last)?;
+        let derivation = needed_steps(self.alloc, &self.log.steps, &last)?;
         Ok(Answer::Unsat { core, derivation })
     }
 
@@ -464,7 +468,7 @@ impl Search {
     {
         let highest = highest_level(
             &self.trail,
-            &Literals::packed(self.log.cited(self.log.hint_of(number))),
+            &Literals::of_packed(self.log.cited_clause(self.log.hint_of(number))),
         );
         let level = highest.min(self.trail.level());
         self.back_to(level);
@@ -490,7 +494,7 @@ impl Search {
         )?;
         if analysis.clause.is_empty() {
             let core = LitList::new(self.alloc);
-            return Ok(Some(self.refuted(core, analysis.hints)?));
+            return Ok(Some(self.refutation_answer(core, analysis.hints)?));
         }
         mark_reasons(&self.log, &self.trail, &mut self.seen, &analysis.clause);
         self.activity.see_conflict(self.seen.atoms());
@@ -547,7 +551,7 @@ impl Search {
                 )?;
                 self.activity.see_conflict(self.seen.atoms());
                 let core = core_of(self.alloc, &self.trail, &self.seen, lit, assumptions)?;
-                self.refuted(core, hints)
+                self.refutation_answer(core, hints)
             }
         }
     }

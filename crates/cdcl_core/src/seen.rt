@@ -106,7 +106,7 @@ impl Seen {
     }
 
     // Whether the atom follows from those that are seen, where that was noted.
-    pub(crate) fn found(&self, atom: usize) -> Option<bool> {
-        self.memo.found(atom)
+    pub(crate) fn known_to_follow(&self, atom: usize) -> Option<bool> {
+        self.memo.known_to_follow(atom)
     }
 }

@@ -12,7 +12,7 @@ use std::alloc::Global;
 use std::marker::Model;
 
 // The literals in a list of their own.
-pub(crate) fn unpacked(alloc: Global, clause: &[PackedLit]) -> Result<Vec<Lit>, Memory>
+pub(crate) fn unpack(alloc: Global, clause: &[PackedLit]) -> Result<Vec<Lit>, Memory>
     ensures { IfOk result (λ literals. literals.items ≡ clause.now) }
 {
     let mut literals = Vec::with_capacity(alloc, clause.len())?;

@@ -17,7 +17,7 @@ use prop_logic::{Hint, Lit, complement};
 use std::alloc::Global;
 
 // What cites the literal alone, if a clause gave it and it is known.
-fn known(log: &Log, trail: &Trail, lit: Lit) -> Option<PackedHint>
+fn unit_hint(log: &Log, trail: &Trail, lit: Lit) -> Option<PackedHint>
     requires { lit.atom < trail.now.trail.atoms }
     ensures { IfSome result (λ hint. cited log.now.added log.now.steps hint ≡ Some (lit ∷ [])) }
 {
@@ -43,14 +43,14 @@ fn unit_hints(
 {
     let lit = literal_at(trail, place);
     let last = log.hint_of(number);
-    let clause = log.cited(last);
+    let clause = log.cited_clause(last);
     let mut hints = Vec::new(alloc);
     for packed in clause {
         let other = packed.lit();
         if other == lit {
             continue;
         }
-        match known(log, trail, complement(other)) {
+        match unit_hint(log, trail, complement(other)) {
             None => return Ok(None),
             Some(hint) => hints.push(hint)?,
         }

@@ -64,7 +64,7 @@ fn unset() -> Slot
     }
 }
 
-fn packed(entry: Entry, place: usize) -> Slot
+fn slot_of(entry: Entry, place: usize) -> Slot
     requires atom { entry.lit.atom < 2 ^ 32 }
     requires level { entry.level < 2 ^ 32 }
     requires place { place < 2 ^ 32 }
@@ -85,7 +85,7 @@ fn packed(entry: Entry, place: usize) -> Slot
     }
 }
 
-fn unpacked(slot: Slot) -> Option<Entry>
+fn entry_of(slot: Slot) -> Option<Entry>
     ensures { result ≡ entry_in slot }
 {
     let reason = match slot.state {
@@ -146,7 +146,7 @@ impl EntryTable {
         requires { atom < length self.now.items }
         ensures { slice_get self.now.items atom ≡ Some result }
     {
-        unpacked(self.slots[atom])
+        entry_of(self.slots[atom])
     }
 
     // The sign of the atom's literal, or `None` where it has no value.
@@ -175,7 +175,7 @@ impl EntryTable {
         ensures items { self.new.items ≡ slice_set self.old.items entry.lit.atom (Some entry) }
         ensures places { self.new.places ≡ slice_set self.old.places entry.lit.atom place }
     {
-        self.slots[entry.lit.atom] = packed(entry, place);
+        self.slots[entry.lit.atom] = slot_of(entry, place);
     }
 
     // Takes the value of the atom back.

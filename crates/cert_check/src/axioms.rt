@@ -8,7 +8,7 @@ use std::alloc::Global;
 use term_bank::{Bank, IdClauseList};
 
 // The clauses with the id of each atom in its place.
-pub fn interned(
+pub fn clauses_by_id(
     alloc: Global,
     bank: &mut Bank,
     clauses: &ClauseList,

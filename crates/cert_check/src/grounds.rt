@@ -28,7 +28,7 @@ pub fn is_constant(s: &Sym) -> bool
 }
 
 // The id once for each variable of the clause.
-pub fn repeated(
+pub fn id_for_each_variable(
     alloc: Global,
     bank: &Bank,
     term: TermId,
@@ -64,7 +64,7 @@ fn built_under(
     ensures extends { Extends bank.old bank.new }
     ensures formed { AreFormed bank.old → AreFormed bank.new }
 {
-    let terms = repeated(alloc, bank, term, c)?;
+    let terms = id_for_each_variable(alloc, bank, term, c)?;
     under(alloc, bank, c, &terms)
 }
 

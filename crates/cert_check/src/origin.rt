@@ -13,7 +13,7 @@ use std::alloc::Global;
 use term_bank::{Bank, IdClause, IdClauseList};
 
 // Clause `k` of the inputs and then the axioms, counted from 1.
-pub fn numbered<'a>(
+pub fn clause_by_number<'a>(
     inputs: &'a IdClauseList,
     axioms: &'a IdClauseList,
     k: usize,
@@ -110,7 +110,7 @@ pub fn input_gives(
     ensures formed { AreFormed bank.old → AreFormed bank.new }
     ensures gives { IfOk result (λ r. IsTrue r ↔ GivesInput (map (clause_at bank.old) (inputs.now ++ axioms.now)) k (clause_at bank.old clause.now)) }
 {
-    match numbered(inputs, axioms, k) {
+    match clause_by_number(inputs, axioms, k) {
         None => Ok(false),
         Some(from) => is_canonical_form(alloc, bank, from, clause),
     }

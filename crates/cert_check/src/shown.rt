@@ -16,7 +16,7 @@ ghost use Rattle.cert_check.specs.Names.{IsShownBy, IsUnshown, ShowsInput};
 
 use crate::inputs::{sources, stated_count, subsuming_place_from};
 use crate::naming::part_of;
-use crate::origin::numbered;
+use crate::origin::clause_by_number;
 use cert_index::Lookup;
 use cert_names::shows;
 use clause_form::long_tautology;
@@ -76,7 +76,7 @@ fn shown_input(
     ensures none { IfOk result (λ o. IfNone o (at_number (with_axioms (saturation_of cert.old).base.inputs) k ≢ None → ¬ (IsRightInput (saturation_of cert.old) k))) }
 {
     let base = &mut cert.base;
-    match numbered(&base.inputs, &base.axioms, k) {
+    match clause_by_number(&base.inputs, &base.axioms, k) {
         None => Ok(None),
         Some(c) => find_shown(
             alloc,
@@ -131,7 +131,7 @@ fn is_shown(alloc: Global, cert: &mut Covered, k: usize) -> Result<bool, Memory>
     ensures shown { IfOk result (λ r. IsTrue r ↔ IsShownInput (covered_of cert.old) k) }
 {
     let base = &mut cert.cert.base;
-    match numbered(&base.inputs, &base.axioms, k) {
+    match clause_by_number(&base.inputs, &base.axioms, k) {
         None => Ok(is_past(&cert.shown, k)),
         Some(c) => match cert.shown.get(k - 1) {
             None => Ok(false),

@@ -11,10 +11,10 @@ ghost use Rattle.saturation_cert.specs.Wholes.{IsWholeBase, IsWholeRefutation, I
 ghost use Rattle.cert_check.specs.Sources.{AreFirstMembers, AreGroundLines, AreSources, IsSource};
 
 use crate::first::CheckedFirst;
-use crate::grounds::repeated;
+use crate::grounds::id_for_each_variable;
 use crate::source::{Source, source_under, sources_of};
 use cert_format::valid_can_be_upgraded;
-use cert_index::copied;
+use cert_index::clause_copy;
 use inst_logic::{Memory, Sym};
 use saturation_cert::{Base, FirstRefutation, GroundLine, GroundLineList, Refutation};
 use std::alloc::Global;
@@ -39,7 +39,7 @@ fn ground_source(
     ensures given { IfOk result (λ s. (bot : format.Sym) → IsAt base.old.bank constant (app bot none) → GivesTerms (base_of base.old) bot (i + 1) s.input (map (tree_at base.new.bank) s.terms)) }
 {
     let member = &base.members.as_slice()[i];
-    let constants = repeated(alloc, &base.bank, constant, &member.clause)?;
+    let constants = id_for_each_variable(alloc, &base.bank, constant, &member.clause)?;
     source_under(alloc, &mut base.bank, source, &constants)
 }
 
@@ -63,7 +63,7 @@ fn ground_lines(
     let mut lines = GroundLineList::new(alloc);
     for i in 0..grounds.len() {
         let source = ground_source(alloc, base, constant, &sources[i], i)?;
-        let clause = copied(alloc, &grounds.as_slice()[i])?;
+        let clause = clause_copy(alloc, &grounds.as_slice()[i])?;
         lines.push(GroundLine {
             clause,
             input: source.input,

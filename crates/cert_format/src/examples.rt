@@ -127,7 +127,7 @@ pub fn changed_saturations()
 {}
 
 /// A refutation whose ground clauses name their inputs and terms, and a saturation that names its covers, with what is due in it.
-pub fn named()
+pub fn certificates_with_names()
     ensures lines { IsValidByLines lined_refutation }
     ensures due { AreDue tie_saturation tie_dues }
     ensures covers { IsNamed (tie_named tie_covers) }
@@ -140,7 +140,7 @@ pub fn changed_covers()
 {}
 
 /// The ground clauses of the refutation of `p(X0)` and `~p(c)`, with their inputs and terms.
-pub fn upgraded()
+pub fn refutation_with_inputs()
     ensures { IsUpgrade (instance_refutation (one_step 2 3)) lined_refutation }
 {}
 

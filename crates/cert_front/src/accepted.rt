@@ -14,7 +14,7 @@ use saturation_cert::{Covered, Refutation, Saturation, covered_numbers};
 use std::alloc::Global;
 
 // What the checker says, where it has no complaint.
-fn accepted<T: Drop>(checked: Result<T, CheckError>) -> Result<T, Memory>
+fn accepted_value<T: Drop>(checked: Result<T, CheckError>) -> Result<T, Memory>
     requires { IfErr checked (λ e. e ≡ errors.Memory) }
     ensures { MatchResult checked (λ t. IfOk result (λ u. u ≡ t)) (λ _. IsErr result) }
 {
@@ -31,7 +31,7 @@ pub fn accept_refutation(alloc: Global, cert: Refutation) -> Result<CheckedRefut
     requires valid { IsValidByLines (refutation_of cert) }
     ensures { IfOk result (λ c. refutation_of c ≡ refutation_of cert) }
 {
-    accepted(check_refutation(alloc, cert))
+    accepted_value(check_refutation(alloc, cert))
 }
 
 /// A saturation with right covers, checked.
@@ -40,7 +40,7 @@ pub fn accept_covered(alloc: Global, cert: Covered) -> Result<CheckedCovered, Me
     requires named { IsNamed (covered_of cert) }
     ensures { IfOk result (λ c. covered_of c ≡ covered_of cert) }
 {
-    accepted(check_covered(alloc, cert))
+    accepted_value(check_covered(alloc, cert))
 }
 
 // What covers the clauses of a valid saturation.
@@ -51,7 +51,7 @@ fn covers_of(alloc: Global, cert: Saturation) -> Result<Covered, Memory>
     ensures named { IfOk result (λ c. IsNamed (covered_of c)) }
     ensures same { IfOk result (λ c. (covered_of c).saturation ≡ saturation_of cert) }
 {
-    accepted(cover(alloc, cert))
+    accepted_value(cover(alloc, cert))
 }
 
 /// A valid saturation, checked with its covers, which are found here.

@@ -123,7 +123,7 @@ fn judge_against<L: Library, C: Kind>(
     Ok((form, judgement))
 }
 
-// So of a certificate of any kind.
+// The judgement of a certificate of any kind.
 fn judge_for<L: Library>(
     alloc: Global,
     files: &mut L,
@@ -144,7 +144,7 @@ fn judge_for<L: Library>(
     }
 }
 
-// So of the certificate of the file of this name.
+// The judgement of the certificate of the file of this name.
 fn judge_file<L: Library>(
     alloc: Global,
     files: &mut L,

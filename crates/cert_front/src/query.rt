@@ -60,7 +60,7 @@ fn reply_of(alloc: Global, certificate: Certificate, atom: &Literal) -> Result<R
     }
 }
 
-// So of the certificate of the file of this name.
+// The reply of the certificate of the file of this name.
 fn reply_of_file<L: Library>(
     alloc: Global,
     files: &mut L,

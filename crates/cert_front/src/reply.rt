@@ -73,7 +73,7 @@ fn reply_by<C: Truthful>(
     }
 }
 
-// So of one that is dropped.
+// The reply of a certificate that is dropped then.
 fn reply_of<C: Truthful>(
     alloc: Global,
     checked: C::Checked,

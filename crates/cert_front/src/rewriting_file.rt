@@ -36,7 +36,7 @@ fn rewrite_against<L: Library, C: Rewritable>(
     Ok(rewriting)
 }
 
-// So of a certificate of any kind, under the name that was read with it.
+// The certificate of any kind in another form, under the name that was read with it.
 fn rewrite_for<L: Library>(
     alloc: Global,
     files: &mut L,
@@ -62,7 +62,7 @@ fn rewrite_for<L: Library>(
     }
 }
 
-// So of the certificate of the file of this name.
+// The certificate of the file of this name in another form.
 fn rewrite_named<L: Library>(
     alloc: Global,
     files: &mut L,

@@ -26,7 +26,7 @@ pub struct Marks {
 }
 
 // Two marks as one number.
-fn joined(m: u32, n: u32) -> u64
+fn pair_key(m: u32, n: u32) -> u64
     ensures { result ≡ joined m n }
 {
     m as u64 + (n as u64) * 4294967296
@@ -39,8 +39,8 @@ impl Hash for Marks {
     ghost respects_eq = { Prim.search (hashing, rules) };
 
     fn hash<H: Hasher>(&self, state: &mut H) {
-        state.write_u64(joined(self.first, self.second));
-        state.write_u64(joined(self.third, self.fourth));
+        state.write_u64(pair_key(self.first, self.second));
+        state.write_u64(pair_key(self.third, self.fourth));
     }
 }
 

@@ -7,7 +7,7 @@ ghost use Rattle.clause_form.specs.Literals.{id_eq};
 ghost use Rattle.cert_index.specs.Lengths.{AreGrouped, AreRanked, IsBelow, IsRankOf, heads_by};
 ghost use Rattle.cert_index.specs.Partners.{Head, IsHeadAt};
 
-use crate::partners::{HeadId, Partners, chained, head_of, place_of};
+use crate::partners::{HeadId, Partners, head_of, place_of, through_heads};
 use indexmap::IndexMap;
 use inst_logic::Memory;
 use saturation_cert::Member;
@@ -86,7 +86,7 @@ pub fn find_lengths(alloc: Global, members: &[Member], heads: &[HeadId]) -> Resu
 {
     let ranked = by_length(alloc, members)?;
     let ordered = ordered_heads(alloc, &ranked, heads)?;
-    let partners = chained(alloc, ordered)?;
+    let partners = through_heads(alloc, ordered)?;
     Ok(lengths_of(ranked, partners))
 }
 

@@ -14,5 +14,5 @@ mod narrow;
 mod partners;
 
 pub use covers::shorter_place;
-pub use lookup::{Lookup, copied, find_lookup};
+pub use lookup::{Lookup, clause_copy, find_lookup};
 pub use meetings::{Meetings, meetings_of};

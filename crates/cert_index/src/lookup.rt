@@ -29,7 +29,7 @@ pub struct Lookup {
     clauses: IndexMap<IdClause, usize>,
 }
 
-pub fn copied(alloc: Global, c: &IdClause) -> Result<IdClause, Memory>
+pub fn clause_copy(alloc: Global, c: &IdClause) -> Result<IdClause, Memory>
     ensures { IfOk result (λ d. d ≡ c.now) }
 {
     Ok(IdClause::from(Vec::from_slice(alloc, c.as_slice())?))
@@ -41,7 +41,7 @@ fn clauses_of(alloc: Global, members: &[Member]) -> Result<IndexMap<IdClause, us
 {
     let mut clauses: IndexMap<IdClause, usize> = IndexMap::new(alloc);
     for i in 0..members.len() {
-        let clause = copied(alloc, &members[i].clause)?;
+        let clause = clause_copy(alloc, &members[i].clause)?;
         clauses.insert(clause, i)?;
     }
     Ok(clauses)

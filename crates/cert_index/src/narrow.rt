@@ -10,7 +10,7 @@ ghost use Rattle.cert_index.specs.Narrow.{AreNarrow, AreUnmarked, IsNarrow, clas
 ghost use Rattle.cert_index.specs.Partners.{AreChained, Head, IsNext};
 
 use crate::fingerprint::Fingerprint;
-use crate::partners::{HeadId, Partners, chained};
+use crate::partners::{HeadId, Partners, through_heads};
 use indexmap::IndexSet;
 use inst_logic::{Memory, Signed};
 use std::alloc::Global;
@@ -132,5 +132,5 @@ pub fn find_classes(
 {
     let unmarked = unmarked_symbols(alloc, heads, fingerprints)?;
     let narrow = narrow_heads(alloc, &unmarked, heads, fingerprints)?;
-    chained(alloc, narrow)
+    through_heads(alloc, narrow)
 }

@@ -76,7 +76,7 @@ pub fn place_of(first: &IndexMap<HeadId, usize>, head: HeadId, count: usize) -> 
 }
 
 // The chains through these heads.
-pub fn chained(alloc: Global, heads: Vec<HeadId>) -> Result<Partners, Memory>
+pub fn through_heads(alloc: Global, heads: Vec<HeadId>) -> Result<Partners, Memory>
     ensures { IfOk result (λ p. (p.heads.items ≡ heads.items) × AreChained p.heads.items p.same.items 0 × ((h : Head) → IsNext p.heads.items h 0 (unwrap_or (get id_eq p.first h) (length p.heads.items)))) }
 {
     let count = heads.len();

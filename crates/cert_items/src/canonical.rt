@@ -14,7 +14,7 @@ use inst_logic::Memory;
 use std::alloc::Global;
 use term_bank::{Bank, IdClause, IdLiteral, TermId};
 
-// So many literals at most are compared with each other.
+// At most this many literals are compared with each other.
 const FEW: usize = 8;
 
 // Whether no literal stands twice. Its time is quadratic in the number of literals.

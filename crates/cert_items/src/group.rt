@@ -54,7 +54,7 @@ fn role(group: Group, bytes: &[u8]) -> Option<&[u8]>
 }
 
 // The group and the number behind `cnf(`, and what follows the comma.
-fn numbered(bytes: &[u8]) -> Option<(Group, usize, &[u8])>
+fn group_and_number(bytes: &[u8]) -> Option<(Group, usize, &[u8])>
     ensures some { IfSome result (λ r. (bytes.now ≡ letter_of r.0 ∷ (decimal r.1 ++ byte.comma ∷ r.2.now)) × (r.1 < 2 ^ 64)) }
     ensures none { IfNone result ((g : Group) (n : ℕ) (rest : List ℕ) → n < 2 ^ 64 → bytes.now ≢ letter_of g ∷ (decimal n ++ byte.comma ∷ rest)) }
 {
@@ -69,7 +69,7 @@ pub fn head(bytes: &[u8]) -> Option<(Group, usize, &[u8])>
     ensures none { IfNone result ((g : Group) (n : ℕ) (rest : List ℕ) → n < 2 ^ 64 → bytes.now ≢ head_text g n rest) }
 {
     let after = word(bytes, b"cnf(")?;
-    let (group, n, behind) = numbered(after)?;
+    let (group, n, behind) = group_and_number(after)?;
     let rest = role(group, behind)?;
     Some((group, n, rest))
 }

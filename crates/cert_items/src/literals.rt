@@ -177,7 +177,7 @@ fn equal<'a>(
 }
 
 // A literal without a `~`, by the root of its first term.
-fn unsigned<'a>(
+fn literal_by_root<'a>(
     alloc: Global,
     bank: &mut TextBank,
     ids: &mut Vec<TermId>,
@@ -206,7 +206,7 @@ fn unsigned<'a>(
 }
 
 // The literal behind a `~`.
-fn negated<'a>(
+fn negative_literal<'a>(
     alloc: Global,
     bank: &mut TextBank,
     ids: &mut Vec<TermId>,
@@ -243,8 +243,8 @@ fn read_literal<'a>(
     ensures none { IfOk result (λ r. IfNone r (NoForm bytes.now)) }
 {
     match mark(bytes, b'~') {
-        Some(after) => negated(alloc, bank, ids, after),
-        None => unsigned(alloc, bank, ids, bytes),
+        Some(after) => negative_literal(alloc, bank, ids, after),
+        None => literal_by_root(alloc, bank, ids, bytes),
     }
 }
 

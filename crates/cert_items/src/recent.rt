@@ -107,7 +107,7 @@ fn put(places: &mut Vec<usize>, code: usize, place: usize) {
     }
 }
 
-// So many places, with those of the literals.
+// How many places there are, with those of the literals.
 fn places_of(alloc: Global, count: usize, literals: &[Spelled]) -> Result<Vec<usize>, Memory> {
     let mut places = vec![in alloc; NOWHERE; count]?;
     for place in 0..literals.len() {

@@ -126,7 +126,7 @@ fn apply_again(
 }
 
 // The application of the symbol of this kind whose name is printed so.
-fn applied(
+fn symbol_application(
     alloc: Global,
     bank: &mut Bank,
     known: &mut IndexMap<Vec<u8>, Known>,
@@ -276,7 +276,7 @@ pub fn apply(
     ensures extends { Extends bank.old bank.new }
     ensures formed { AreFormed bank.old → ((n : List ℕ) → IsFormed (app (record { kind = kind; name = n; arity = length args.now }) (of_list (map (tree_at bank.old) args.now)))) → AreFormed bank.new }
 {
-    applied(alloc, &mut bank.bank, &mut bank.known, kind, text, args)
+    symbol_application(alloc, &mut bank.bank, &mut bank.known, kind, text, args)
 }
 
 // Whether the clause has its variables 0, 1, 2 by first occurrence, and no repeats. `ids` is room to work in.

@@ -16,7 +16,7 @@ use std::alloc::Global;
 use term_bank::{Bank, IdClause, IdClauseList, TermIdList};
 
 // Clause `k` of the inputs and then the axioms, counted from 1.
-fn numbered<'a>(
+fn clause_by_number<'a>(
     inputs: &'a IdClauseList,
     axioms: &'a IdClauseList,
     k: usize,
@@ -110,7 +110,7 @@ pub fn is_ground_line(
     ensures is { IfOk result (λ r. IsTrue r ↔ IsGroundLineOf (map (clause_at bank.old) (inputs.now ++ axioms.now)) (line_of bank.old line.now)) }
     ensures grows { Grows bank.old bank.new }
 {
-    match numbered(inputs, axioms, line.input) {
+    match clause_by_number(inputs, axioms, line.input) {
         None => Ok(false),
         Some(c) => {
             if are_ground(bank, &line.terms) {

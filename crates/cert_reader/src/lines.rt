@@ -51,7 +51,7 @@ fn text_name(bytes: &[u8]) -> Option<(&[u8], &[u8])>
 }
 
 // The name behind the words, up to the end of the line, and what follows the line.
-fn named<'a>(words: &[u8], bytes: &'a [u8]) -> Option<(&'a [u8], &'a [u8])>
+fn name_behind<'a>(words: &[u8], bytes: &'a [u8]) -> Option<(&'a [u8], &'a [u8])>
     ensures some { IfSome result (λ r. (bytes.now ≡ words.now ++ (r.0.now ++ byte.line_feed ∷ r.1.now)) × IsTrue (is_text_name r.0.now)) }
     ensures none { IfNone result ((n rest : List ℕ) → IsTrue (is_text_name n) → bytes.now ≢ words.now ++ (n ++ byte.line_feed ∷ rest)) }
 {
@@ -66,9 +66,9 @@ pub fn status(bytes: &[u8]) -> Option<(bool, &[u8], &[u8])>
     ensures some { IfSome result (λ r. (bytes.now ≡ line (lines.status r.0 r.1.now) r.2.now) × IsTrue (is_text_name r.1.now)) }
     ensures none { IfNone result ((r : Bool) (n rest : List ℕ) → IsTrue (is_text_name n) → bytes.now ≢ line (lines.status r n) rest) }
 {
-    match named(b"% SZS status Unsatisfiable for ", bytes) {
+    match name_behind(b"% SZS status Unsatisfiable for ", bytes) {
         Some((name, rest)) => Some((true, name, rest)),
-        None => match named(b"% SZS status Satisfiable for ", bytes) {
+        None => match name_behind(b"% SZS status Satisfiable for ", bytes) {
             Some((name, rest)) => Some((false, name, rest)),
             None => None,
         },

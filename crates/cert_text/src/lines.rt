@@ -226,7 +226,7 @@ fn push_place(pen: &mut Pen, place: usize) -> Result<(), Memory>
     Ok(())
 }
 
-// The same with the place of its selected literal.
+// A member's line that ends with the place of its selected literal.
 pub fn push_selected(
     pen: &mut Pen,
     bank: &Bank,

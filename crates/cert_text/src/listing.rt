@@ -53,7 +53,7 @@ pub fn push_members(pen: &mut Pen, bank: &Bank, members: &[Member]) -> Result<()
     Ok(())
 }
 
-// The same with the places of their selected literals.
+// The members with their origins and the places of their selected literals.
 pub fn push_selected_members(
     pen: &mut Pen,
     bank: &Bank,

@@ -8,7 +8,7 @@ use std::alloc::Global;
 use std::marker::Model;
 use unify_core::Variable;
 
-// So many variables at most are looked at one by one: for them a set would cost more than it saves. Most clauses have fewer.
+// At most this many variables are looked at one by one: for them a set would cost more than it saves. Most clauses have fewer.
 const FEW: usize = 8;
 
 // Variables in the order in which they were met, each once: the first few in a list, those after them in a set. Contracts see

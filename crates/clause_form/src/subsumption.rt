@@ -222,7 +222,8 @@ pub(crate) fn by_rank(alloc: Global, bank: &Bank, f: &[IdLiteral]) -> Result<Vec
     literals_of(alloc, &all)
 }
 
-// The same where the literals of the first are in the order in which they are placed, and the bindings are empty.
+// Whether the first clause subsumes the second, where its literals are in the order in which they are placed, and the bindings
+// are empty.
 pub(crate) fn place_all(
     alloc: Global,
     bank: &Bank,

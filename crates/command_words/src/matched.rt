@@ -8,7 +8,7 @@ use clap::{ArgMatches, Command};
 use inst_logic::Memory;
 
 // What the words give under the command's names, or `None` where `clap` refuses them.
-pub(crate) fn matched<'a>(
+pub(crate) fn matches_of<'a>(
     command: Command<'a>,
     words: &'a [String],
 ) -> Result<Option<ArgMatches<'a>>, Memory>

@@ -5,7 +5,7 @@ ghost use Rattle.command_words.specs.Asked.{Asked, GivesFile, IsAsked, IsUnread,
 
 use crate::commands::{make_of_file, make_of_problem, with_flag, with_option, with_word};
 use crate::judges::{atom_in, budget_in, file_in, is_set, number_in, other_in};
-use crate::matched::matched;
+use crate::matched::matches_of;
 use clap::{ArgMatches, Command};
 use inst_logic::{Literal, Memory};
 use std::alloc::Global;
@@ -80,7 +80,7 @@ fn read_prove<'a>(alloc: Global, words: &'a [String]) -> Result<Option<Request<'
     ensures unread { IfOk result (λ r. IfNone r (IsUnread (map string_bytes words.now))) }
 {
     let command = make_prove(alloc)?;
-    match matched(command, words)? {
+    match matches_of(command, words)? {
         Some(matches) => Ok(prove_request(&matches)),
         None => Ok(None),
     }
@@ -98,7 +98,7 @@ fn file_given<'a>(
         (λ f. GivesFile word.now (map string_bytes words.now) f.now)) }
 {
     let command = make_of_file(alloc, word)?;
-    match matched(command, words)? {
+    match matches_of(command, words)? {
         Some(matches) => Ok(file_in(matches.get_str("file"))),
         None => Ok(None),
     }
@@ -165,7 +165,7 @@ fn read_check<'a>(alloc: Global, words: &'a [String]) -> Result<Option<Request<'
     ensures unread { IfOk result (λ r. IfNone r (IsUnread (map string_bytes words.now))) }
 {
     let command = make_check(alloc)?;
-    match matched(command, words)? {
+    match matches_of(command, words)? {
         Some(matches) => Ok(check_request(&matches)),
         None => Ok(None),
     }
@@ -214,7 +214,7 @@ fn read_ask<'a>(alloc: Global, words: &'a [String]) -> Result<Option<Request<'a>
     ensures unread { IfOk result (λ r. IfNone r (IsUnread (map string_bytes words.now))) }
 {
     let command = make_ask(alloc)?;
-    match matched(command, words)? {
+    match matches_of(command, words)? {
         Some(matches) => ask_request(alloc, &matches),
         None => Ok(None),
     }
@@ -243,7 +243,7 @@ fn read_stress<'a>(alloc: Global, words: &'a [String]) -> Result<Option<Request<
     ensures unread { IfOk result (λ r. IfNone r (IsUnread (map string_bytes words.now))) }
 {
     let command = make_stress(alloc)?;
-    match matched(command, words)? {
+    match matches_of(command, words)? {
         Some(matches) => Ok(stress_request(&matches)),
         None => Ok(None),
     }
@@ -280,7 +280,7 @@ fn read_fmodel<'a>(alloc: Global, words: &'a [String]) -> Result<Option<Request<
     ensures unread { IfOk result (λ r. IfNone r (IsUnread (map string_bytes words.now))) }
 {
     let command = make_fmodel(alloc)?;
-    match matched(command, words)? {
+    match matches_of(command, words)? {
         Some(matches) => Ok(fmodel_request(&matches)),
         None => Ok(None),
     }
@@ -303,7 +303,7 @@ fn read_core<'a>(alloc: Global, words: &'a [String]) -> Result<Option<Request<'a
     ensures unread { IfOk result (λ r. IfNone r (IsUnread (map string_bytes words.now))) }
 {
     let command = make_of_problem(alloc, "core")?;
-    match matched(command, words)? {
+    match matches_of(command, words)? {
         Some(matches) => Ok(core_request(&matches)),
         None => Ok(None),
     }

@@ -3,7 +3,7 @@ ghost use Rattle.std.specs.Prelude.{◌≡◌, ◌↔◌, ◌++◌, ◌∷◌, [
 ghost use Rattle.compact_lists.specs.Pieces.{AreEnds, cuts};
 
 use crate::lists::FlatLists;
-use crate::packed::{PackedLit, is_packable, packed};
+use crate::packed::{PackedLit, is_packable, pack};
 use crate::pieces::reserve_piece;
 use inst_logic::Memory;
 use prop_logic::Lit;
@@ -44,7 +44,7 @@ fn push_packed(items: &mut Vec<PackedLit>, clause: &[Lit])
     ensures { items.new.items ≡ items.old.items ++ clause.now }
 {
     for lit in clause {
-        items.push_reserved(packed(*lit));
+        items.push_reserved(pack(*lit));
     }
 }
 
@@ -170,7 +170,7 @@ mod tests {
     fn reads_literals_packed_or_not(rt: HostRuntime) -> Result<(), Memory> {
         let mut clauses = FlatClauses::new(rt.alloc());
         clauses.push(&[YES, NO])?;
-        let packed = Literals::packed(clauses.get(0).unwrap_or(&[]));
+        let packed = Literals::of_packed(clauses.get(0).unwrap_or(&[]));
         assert_eq!(rt; packed.len(), 2);
         let clause = [YES, NO];
         let plain = Literals::plain(&clause);

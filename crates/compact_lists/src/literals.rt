@@ -44,8 +44,8 @@ impl<'a> Model for Literals<'a> {
 }
 
 impl<'a> Literals<'a> {
-    /// Those of a clause that is kept packed.
-    pub fn packed(literals: &'a [PackedLit]) -> Self
+    /// The literals of a clause that is kept packed.
+    pub fn of_packed(literals: &'a [PackedLit]) -> Self
         ensures { result ≡ literals.now }
     {
         Literals {
@@ -53,7 +53,7 @@ impl<'a> Literals<'a> {
         }
     }
 
-    /// Those of a clause that is kept as literals.
+    /// The literals of a clause that is kept as literals.
     pub fn plain(literals: &'a [Lit]) -> Self
         ensures { result ≡ literals.now }
     {

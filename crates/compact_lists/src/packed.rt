@@ -42,7 +42,7 @@ pub(crate) fn is_packable(lit: Lit) -> bool
 }
 
 // The literal in four bytes.
-pub(crate) fn packed(lit: Lit) -> PackedLit
+pub(crate) fn pack(lit: Lit) -> PackedLit
     requires { lit.atom < 2 ^ 31 }
     ensures { result ≡ lit }
 {
@@ -58,7 +58,7 @@ impl PackedLit {
         ensures { IfOk result (λ l. l ≡ lit) }
     {
         if is_packable(lit) {
-            Ok(packed(lit))
+            Ok(pack(lit))
         } else {
             Err(Memory)
         }

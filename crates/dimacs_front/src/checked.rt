@@ -33,7 +33,7 @@ impl<'a> Model for CheckedDerivation<'a> {
 
 impl<'a> CheckedDerivation<'a> {
     /// The number of the clauses.
-    pub(crate) fn given(&self) -> usize
+    pub(crate) fn given_count(&self) -> usize
         ensures { result ≡ length self.now.clauses }
     {
         self.cnf.clauses.len()
@@ -60,7 +60,7 @@ fn is_accepted(alloc: Global, cnf: &Cnf, derivation: &Derivation) -> Result<bool
 }
 
 /// The derivation where the checker accepts it, and else none.
-pub(crate) fn checked<'a>(
+pub(crate) fn checked_derivation<'a>(
     alloc: Global,
     cnf: &'a Cnf,
     derivation: Derivation,

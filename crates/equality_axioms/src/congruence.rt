@@ -46,7 +46,7 @@ fn premises(alloc: Global, count: usize) -> Result<Clause, Memory>
     Ok(c)
 }
 
-// So many variables: the first one, and then every second.
+// A list of variables, as many as are wanted: the first one, and then every second.
 #[tactic(auto, using(std::proofs::lemmas::Grind::common_steps, crate::proofs::Pairs::variables_more, crate::proofs::Pairs::variables_are))]
 fn arguments(alloc: Global, first: usize, count: usize) -> Result<TermList, Memory>
     ensures { IfOk result (λ ts. of_list ts ≡ every_second first count) }

@@ -31,7 +31,7 @@ pub struct Task {
     pub terms: TermIdList,
 }
 
-fn copied(alloc: Global, terms: &TermIdList) -> Result<TermIdList, Memory>
+fn term_list_copy(alloc: Global, terms: &TermIdList) -> Result<TermIdList, Memory>
     ensures { IfOk result (λ copy. copy ≡ terms.now) }
 {
     let copy = Vec::from_slice(alloc, terms.as_slice())?;
@@ -64,8 +64,13 @@ fn count_of(bank: &Bank, c: &IdClause) -> Result<usize, Memory>
     }
 }
 
-// So many terms: those of the list, and past its end the constant.
-fn fitted(alloc: Global, terms: &[TermId], bot: TermId, count: usize) -> Result<TermIdList, Memory>
+// A list of `count` terms: those of the list, and past its end the constant.
+fn terms_to_length(
+    alloc: Global,
+    terms: &[TermId],
+    bot: TermId,
+    count: usize,
+) -> Result<TermIdList, Memory>
     ensures count { IfOk result (λ list. length list ≡ count) }
     ensures terms { IfOk result (λ list. (v : ℕ) → v < count → slice_index_or list v bot ≡ slice_index_or terms.now v bot) }
     ensures ids { IfOk result (λ list. (f : Forest) → AreIds f terms.now → bot < length f.trees → AreIds f list) }
@@ -99,7 +104,7 @@ fn task_of(
         → list_of b (entries_at bank.now made.now) (waiting_at bank.now t) ≡ unrolled b (entries_at bank.now made.now) n (under_terms b (map (tree_at bank.now) terms.now))) }
 {
     let count = count_of(bank, &entry_at(made, n).clause)?;
-    let list = fitted(alloc, terms, bot, count)?;
+    let list = terms_to_length(alloc, terms, bot, count)?;
     Ok(Task {
         entry: n,
         terms: list,
@@ -204,7 +209,7 @@ fn add_item(
 ) -> Result<(), Memory>
     ensures added { OnOk result (items.new.keys ≡ insert_key item_eq items.old.keys (record { input = input; terms = terms.now })) }
 {
-    let terms = copied(alloc, terms)?;
+    let terms = term_list_copy(alloc, terms)?;
     items.insert(Grounded { input, terms })?;
     Ok(())
 }
@@ -214,7 +219,7 @@ fn see(alloc: Global, seen: &mut IndexSet<Task>, task: &Task) -> Result<bool, Me
     ensures new { IfOk result (λ new. new ≡ true → seen.new.keys ≡ seen.old.keys ++ task.now ∷ []) }
     ensures old { IfOk result (λ new. new ≡ false → Contains seen.old.keys task.now × (seen.new.keys ≡ seen.old.keys)) }
 {
-    let terms = copied(alloc, &task.terms)?;
+    let terms = term_list_copy(alloc, &task.terms)?;
     let new = seen.insert(Task {
         entry: task.entry,
         terms,
@@ -293,7 +298,7 @@ fn list_items(alloc: Global, items: &IndexSet<Grounded>) -> Result<GroundedList,
 {
     let mut list = GroundedList::new(alloc);
     for item in items.iter() {
-        let terms = copied(alloc, &item.terms)?;
+        let terms = term_list_copy(alloc, &item.terms)?;
         list.push(Grounded {
             input: item.input,
             terms,

@@ -33,13 +33,13 @@ pub fn words<E: Env>(env: &E, alloc: Global) -> Result<Vec<String>, Exit>
     ensures { IfErr result (λ e. (e ≡ Exit.Usage) ⊎ (e ≡ Exit.Memory)) }
 {
     match env::args(&(BehindName(env), alloc)) {
-        Ok(words) => collected(words, alloc),
+        Ok(words) => words_of(words, alloc),
         Err(error) if error.kind() == ErrorKind::OutOfMemory => Err(Exit::Memory),
         Err(_) => Err(Exit::Usage),
     }
 }
 
-fn collected(words: env::Args, alloc: Global) -> Result<Vec<String>, Exit>
+fn words_of(words: env::Args, alloc: Global) -> Result<Vec<String>, Exit>
     ensures { IfErr result (λ e. e ≡ Exit.Memory) }
 {
     let mut all = Vec::new(alloc);

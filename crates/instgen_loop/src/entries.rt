@@ -288,7 +288,7 @@ fn has_shorter<I: PartnerIndex>(
     ensures yes { IfOk result (λ r. r ≡ true → HasShorterPart entries.now.bank entries.now.clauses.entries d.now len) }
     ensures no { IfOk result (λ r. r ≡ false → entries.now.has_empty ≡ false → ¬ HasShorterPart entries.now.bank entries.now.clauses.entries d.now len) }
 {
-    // So a literal that a unit becomes has the unit's id.
+    // A literal that a unit becomes then has the unit's id.
     entries.bank.distinct();
     if len <= 1 {
         return Ok(false);
@@ -296,7 +296,7 @@ fn has_shorter<I: PartnerIndex>(
     if has_unit(entries, d, scratch)? {
         return Ok(true);
     }
-    has_shorter_first(alloc, entries, d, len, scratch.tested())
+    has_shorter_first(alloc, entries, d, len, scratch.tested_entries())
 }
 
 /// Whether the entries cover the clause in canonical form, as an instance of a clause with so many literals: it is a tautology or
@@ -318,7 +318,7 @@ pub fn is_covered<I: PartnerIndex>(
     ensures new { IfOk result (λ r. r ≡ false → (e : Item) → Contains entries.now.clauses.entries e → ¬ (e.0 ≡ d.now)) }
     ensures covered { IfOk result (λ r. (c : TreeClause) → length c ≡ len → IsTrue r ↔ IsCovered (clauses_in entries.now.bank entries.now.clauses.entries) c (clause_at entries.now.bank d.now)) }
 {
-    // So a variant, whose canonical form is equal, has an equal key.
+    // A variant, whose canonical form is equal, then has an equal key.
     entries.bank.distinct();
     if entries.has_empty {
         return Ok(true);

@@ -44,7 +44,11 @@ pub fn saturation_of(alloc: Global, p: &Problem, run: SettledRun) -> Result<Satu
 }
 
 // Takes of the run what a saturation is made of.
-fn taken<S: Solver, I: PartnerIndex>(alloc: Global, run: &mut Run<S, I>, given: Given) -> SettledRun
+fn settled_run<S: Solver, I: PartnerIndex>(
+    alloc: Global,
+    run: &mut Run<S, I>,
+    given: Given,
+) -> SettledRun
     ensures taken { result ≡ settled_from run.old given }
     ensures journal { run.new.journal ≡ run.old.journal }
 {
@@ -54,7 +58,7 @@ fn taken<S: Solver, I: PartnerIndex>(alloc: Global, run: &mut Run<S, I>, given: 
 }
 
 // What the saturation is made of that a run gives of which nothing that was held back is open.
-fn saturated<S: Solver, I: PartnerIndex>(
+fn saturated_ending<S: Solver, I: PartnerIndex>(
     alloc: Global,
     _p: &Problem,
     run: &mut Run<S, I>,
@@ -72,7 +76,7 @@ fn saturated<S: Solver, I: PartnerIndex>(
     ensures ending { IsEnding _p.now.clauses _p.now.names _budget result run.new.journal }
     ensures journal { run.new.journal ≡ run.old.journal }
 {
-    Ending::Saturated(taken(alloc, run, given))
+    Ending::Saturated(settled_run(alloc, run, given))
 }
 
 // What is left of a budget that is not enough.
@@ -87,7 +91,7 @@ fn left_of<S: Solver, I: PartnerIndex>(run: &Run<S, I>) -> u64
 }
 
 // What the budget left open, of which the least has this size.
-fn stopped<S: Solver, I: PartnerIndex>(
+fn stopped_ending<S: Solver, I: PartnerIndex>(
     alloc: Global,
     _p: &Problem,
     run: &mut Run<S, I>,
@@ -107,7 +111,7 @@ fn stopped<S: Solver, I: PartnerIndex>(
     Ending::OutOfBudget {
         left,
         wanted,
-        state: taken(alloc, run, given),
+        state: settled_run(alloc, run, given),
     }
 }
 
@@ -134,7 +138,7 @@ pub fn finish<S: Solver, I: PartnerIndex>(
     ensures journal { OnOk result (run.new.journal ≡ run.old.journal) }
 {
     match decide(alloc, run)? {
-        None => Ok(saturated(alloc, p, run, partners, given, budget)),
-        Some(wanted) => Ok(stopped(alloc, p, run, partners, given, budget, wanted)),
+        None => Ok(saturated_ending(alloc, p, run, partners, given, budget)),
+        Some(wanted) => Ok(stopped_ending(alloc, p, run, partners, given, budget, wanted)),
     }
 }

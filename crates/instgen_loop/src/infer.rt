@@ -67,7 +67,7 @@ fn fits(left: Option<u64>, size: u64) -> bool
 }
 
 // What is left after a conclusion of this size.
-fn taken(left: Option<u64>, size: u64) -> Option<u64>
+fn budget_after(left: Option<u64>, size: u64) -> Option<u64>
     requires { IfSome left (λ k. size ≤ k) }
     ensures { result ≡ option_map (λ k. k - size) left }
 {
@@ -254,7 +254,7 @@ fn append_whole<S: Solver, I: PartnerIndex>(
     ensures linked { OnOk result (KeepsLink S.atoms S.added run.old run.new) }
 {
     let origin = PackedOrigin::inst(at)?;
-    run.left = taken(run.left, size);
+    run.left = budget_after(run.left, size);
     append(run, conclusion, origin)
 }
 

@@ -65,7 +65,7 @@ fn numbers_in(
 {
     let mut numbers = Vec::with_capacity(alloc, clauses.len())?;
     for i in 0..clauses.len() {
-        let literals = Literals::packed(clause_after(clauses, i));
+        let literals = Literals::of_packed(clause_after(clauses, i));
         let number = number_of(alloc, abstraction, &literals, index)?;
         numbers.push(number)?;
     }

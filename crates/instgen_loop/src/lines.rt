@@ -54,7 +54,7 @@ fn line_of(
     })
 }
 
-// Those of the items, in their order.
+// The lines of the items, in their order.
 fn lines_of(
     alloc: Global,
     bank: &mut Bank,

@@ -16,7 +16,7 @@ use crate::event::Journal;
 use crate::event_log::EventLog;
 use crate::finish::finish;
 use crate::queue::Partners;
-use crate::refuted::refuted;
+use crate::refuted::refuted_by;
 use crate::start::{new_run, start};
 use crate::state::Run;
 use ground_abs::bot_of;
@@ -78,7 +78,7 @@ fn drive<S: Solver, I: PartnerIndex>(
     let given = start(alloc, p, run, first_values, budget)?;
     match cycle(alloc, run, &mut partners, p, budget, most_entries)? {
         Stop::Refuted(derivation) => {
-            let ending = refuted(alloc, p, run, given, derivation, budget)?;
+            let ending = refuted_by(alloc, p, run, given, derivation, budget)?;
             Ok(Some(ending))
         }
         Stop::Finished => {
@@ -90,7 +90,7 @@ fn drive<S: Solver, I: PartnerIndex>(
 }
 
 // What is left of the budget at first.
-fn allowed(p: &Problem, budget: u64) -> Option<u64>
+fn budget_at_first(p: &Problem, budget: u64) -> Option<u64>
     ensures free { is_function_free p.now.clauses ≡ true → result ≡ None }
     ensures budgeted { is_function_free p.now.clauses ≡ false → result ≡ Some budget }
 {
@@ -165,7 +165,14 @@ fn run_over<S: Solver, I: PartnerIndex>(
     } = solvers;
     let mut run = Box::new(
         alloc,
-        new_run(alloc, abstractions, known, first, bot, allowed(p, budget)),
+        new_run(
+            alloc,
+            abstractions,
+            known,
+            first,
+            bot,
+            budget_at_first(p, budget),
+        ),
     )?;
     let ending = drive(alloc, p, &mut run, partners, choices, budget)?;
     let log = replace(&mut run.journal, EventLog::new(alloc));

@@ -80,7 +80,7 @@ fn bound_terms(
     Ok(terms)
 }
 
-// Those of all variables of the conclusion, of which the literals at these places are kept.
+// The terms of all variables of the conclusion, of which the literals at these places are kept.
 fn terms_with(
     alloc: Global,
     bank: &mut Bank,

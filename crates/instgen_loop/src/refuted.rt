@@ -133,7 +133,7 @@ pub fn refutation_of<S: Solver>(
 }
 
 // Takes of the run what a refutation is made of.
-fn taken<S: Solver, I: PartnerIndex>(
+fn refuted_run<S: Solver, I: PartnerIndex>(
     alloc: Global,
     run: &mut Run<S, I>,
     given: Given,
@@ -156,7 +156,7 @@ fn taken<S: Solver, I: PartnerIndex>(
 
 /// What the refutation is made of that the derivation gives. It takes the bank, the entries and their abstractions of the run, of
 /// which only the journal serves for anything after.
-pub fn refuted<S: Solver, I: PartnerIndex>(
+pub fn refuted_by<S: Solver, I: PartnerIndex>(
     alloc: Global,
     _p: &Problem,
     run: &mut Run<S, I>,
@@ -174,6 +174,6 @@ pub fn refuted<S: Solver, I: PartnerIndex>(
     ensures ending { IfOk result (λ e. IsEnding _p.now.clauses _p.now.names _budget e run.new.journal) }
     ensures journal { OnOk result (run.new.journal ≡ run.old.journal) }
 {
-    let refuted = taken(alloc, run, given, derivation)?;
+    let refuted = refuted_run(alloc, run, given, derivation)?;
     Ok(Ending::Refuted(refuted))
 }

@@ -76,7 +76,7 @@ impl Scratch {
     }
 
     /// The set of the entries that were tested against a conclusion, as the last conclusion left it.
-    pub fn tested(&mut self) -> &mut Tested {
+    pub fn tested_entries(&mut self) -> &mut Tested {
         &mut self.tested
     }
 }

@@ -59,7 +59,7 @@ fn add_user(users: &mut Vec<Users>, atom: usize, n: usize) -> Result<(), Memory>
 }
 
 // The places in a list as certificates have it.
-fn listed(alloc: Global, places: &[u32]) -> Result<PlaceList, Memory>
+fn list_of_places(alloc: Global, places: &[u32]) -> Result<PlaceList, Memory>
     ensures { IfOk result (λ list. list ≡ places.now) }
 {
     let mut list = Vec::with_capacity(alloc, places.len())?;
@@ -164,6 +164,6 @@ impl Selection {
     pub fn place_list(&self, alloc: Global) -> Result<PlaceList, Memory>
         ensures { IfOk result (λ list. list ≡ self.now.places) }
     {
-        listed(alloc, &self.places)
+        list_of_places(alloc, &self.places)
     }
 }

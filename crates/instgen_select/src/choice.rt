@@ -54,7 +54,7 @@ pub fn choose_among(old: Option<usize>, literals: &[PackedLit], v: &Valuation) -
     requires place { IfSome old (λ p. (0 < p) × (p ≤ length literals.now)) }
     ensures chosen { IsChosen old literals.now v.now result }
 {
-    choose_in(old, &Literals::packed(literals), v)
+    choose_in(old, &Literals::of_packed(literals), v)
 }
 
 /// As `choose_among`, for a clause in a list of its own.

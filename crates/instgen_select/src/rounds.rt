@@ -15,7 +15,7 @@ pub(crate) enum Order {
 // The picks by `Newest` in the first round, and those by `Least`.
 const SHORT: u64 = 100;
 
-// So many times as many are by `Latest`.
+// How many times as many are by `Latest`.
 const LATEST_SHARE: u64 = 9;
 
 // A round is longer by this part of it than the one before.

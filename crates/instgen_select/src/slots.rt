@@ -7,7 +7,7 @@ ghost use Rattle.instgen_select.specs.Slots.{IsAt, IsTakenAt, AreGapsBefore, Are
 use std::cmp::Reverse;
 use std::collections::BinaryHeap;
 
-// So many slots are kept for what is put next, where nothing waits.
+// How many slots are kept for what is put next, where nothing waits.
 pub(crate) const FEW: usize = 64;
 
 // An entry's number and its size.

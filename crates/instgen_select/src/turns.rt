@@ -46,25 +46,25 @@ pub(crate) struct Heaps {
 }
 
 // The number in four bytes, or the greatest one where it is larger.
-fn capped(n: u64) -> u32 {
+fn saturating_u32(n: u64) -> u32 {
     u32::try_from(n).unwrap_or(u32::MAX)
 }
 
 // The keys of an entry in the order.
-fn placed(order: Order, arrival: &Arrival, place: u32) -> Placed
+fn keys_at(order: Order, arrival: &Arrival, place: u32) -> Placed
     ensures { result.0.3 ≡ place }
 {
-    let number = capped(arrival.number as u64);
+    let number = saturating_u32(arrival.number as u64);
     let newest = u32::MAX - number;
     match order {
         Order::Latest => Reverse((
             u32::MAX - arrival.generation,
-            capped(arrival.variables as u64),
+            saturating_u32(arrival.variables as u64),
             newest,
             place,
         )),
         Order::Newest => Reverse((newest, 0, 0, place)),
-        Order::Least => Reverse((capped(arrival.size), number, 0, place)),
+        Order::Least => Reverse((saturating_u32(arrival.size), number, 0, place)),
     }
 }
 
@@ -82,9 +82,9 @@ fn push_all(heaps: &mut Heaps, arrival: &Arrival, place: u32) -> Result<(), Memo
     ensures kept { (k : ℕ) → AreNamed heaps.old k → AreNamed heaps.new k }
     ensures named { OnOk result (AreNamed heaps.new place) }
 {
-    push_placed(&mut heaps.latest, placed(Order::Latest, arrival, place))?;
-    push_placed(&mut heaps.newest, placed(Order::Newest, arrival, place))?;
-    push_placed(&mut heaps.least, placed(Order::Least, arrival, place))?;
+    push_placed(&mut heaps.latest, keys_at(Order::Latest, arrival, place))?;
+    push_placed(&mut heaps.newest, keys_at(Order::Newest, arrival, place))?;
+    push_placed(&mut heaps.least, keys_at(Order::Least, arrival, place))?;
     Ok(())
 }
 
@@ -201,8 +201,8 @@ impl Turns {
         Ok(())
     }
 
-    // The same entries in the same turn, without gaps.
-    fn renewed(&self) -> Result<Turns, Memory>
+    // A copy with these entries in this turn, without gaps.
+    fn copy_without_gaps(&self) -> Result<Turns, Memory>
         ensures { IfOk result (λ turns. turns ≡ self.now) }
     {
         let mut turns = Turns::new(self.alloc);
@@ -220,7 +220,7 @@ impl Turns {
             return Ok(());
         }
         if self.slots.len() / SPARSE > self.waiting {
-            *self = self.renewed()?;
+            *self = self.copy_without_gaps()?;
         }
         Ok(())
     }
@@ -287,7 +287,7 @@ fn no_heaps(alloc: Global) -> Heaps
 
 fn rank_of(arrival: &Arrival) -> Rank {
     Rank {
-        variables: capped(arrival.variables as u64),
+        variables: saturating_u32(arrival.variables as u64),
         generation: arrival.generation,
     }
 }

@@ -14,7 +14,7 @@ pub mod valuation;
 
 pub use differences::changes;
 pub use literal::{
-    Derivation, Hint, HintList, Lit, LitList, LitLists, Step, cited, complement, complements,
+    Derivation, Hint, HintList, Lit, LitList, LitLists, Step, cited_clause, complement, complements,
 };
 pub use plain::Plain;
 pub use solver::{Answer, Solver, make_atoms};

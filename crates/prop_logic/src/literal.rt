@@ -39,7 +39,7 @@ pub struct Step {
 /// hints from 1.
 pub type Derivation = ListOf<Step>;
 
-/// The same atom with the other sign.
+/// The literal of this atom with the other sign.
 pub fn complement(lit: Lit) -> Lit
     ensures { result ≡ complement lit }
 {
@@ -61,7 +61,7 @@ pub fn complements(alloc: Global, literals: &[Lit]) -> Result<LitList, Memory>
 }
 
 /// The clause that the hint cites, or an empty slice where it cites none: who asks knows that it cites one.
-pub fn cited<'a>(clauses: &'a [LitList], steps: &'a [Step], hint: Hint) -> &'a [Lit]
+pub fn cited_clause<'a>(clauses: &'a [LitList], steps: &'a [Step], hint: Hint) -> &'a [Lit]
     ensures { (c : List (Signed ℕ)) → cited clauses.now steps.now hint ≡ Some c → result.now ≡ c }
 {
     match hint {

@@ -11,7 +11,7 @@ ghost use Rattle.prop_logic.specs.Search.{AreConsistent, IsFalseIn, HasRest, IsC
 
 use crate::core_of::{assumed_value, core_of, find_clash};
 use crate::literal::{
-    Derivation, Hint, HintList, Lit, LitList, Step, cited, complement, complements, contains,
+    Derivation, Hint, HintList, Lit, LitList, Step, cited_clause, complement, complements, contains,
 };
 use crate::resolution::resolvent;
 use crate::solver::Answer;
@@ -97,8 +97,8 @@ impl Search {
         ensures atoms { self.new.atoms ≡ self.old.atoms }
     {
         let steps = self.steps.as_slice();
-        let first = cited(clauses, steps, reason);
-        let second = cited(clauses, steps, conflict);
+        let first = cited_clause(clauses, steps, reason);
+        let second = cited_clause(clauses, steps, conflict);
         let clause = resolvent(alloc, first, second, self.entries.len())?;
         let hints = HintList::from(vec![in alloc; reason, conflict]?);
         self.steps.push(Step { clause, hints })?;
@@ -150,7 +150,7 @@ impl Search {
             atom: place,
         };
         self.entries.truncate(place);
-        if !contains(cited(clauses, self.steps.as_slice(), conflict), lit) {
+        if !contains(cited_clause(clauses, self.steps.as_slice(), conflict), lit) {
             return Ok(Some(conflict));
         }
         match entry.reason {
@@ -206,7 +206,7 @@ impl Search {
         let core = core_of(
             alloc,
             assumptions,
-            cited(clauses, self.steps.as_slice(), conflict),
+            cited_clause(clauses, self.steps.as_slice(), conflict),
         )?;
         let clause = complements(alloc, core.as_slice())?;
         let hints = HintList::from(vec![in alloc; conflict]?);

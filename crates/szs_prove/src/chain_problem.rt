@@ -44,7 +44,7 @@ fn edge(alloc: Global, positive: bool, from: Term, to: Term) -> Result<Literal, 
     })
 }
 
-fn reached(alloc: Global, positive: bool, t: Term) -> Result<Literal, Memory>
+fn reach_literal(alloc: Global, positive: bool, t: Term) -> Result<Literal, Memory>
     ensures { IfOk result (λ l. literal l ≡ record { positive = positive; atom = reached (tree t) }) }
 {
     let mut args = TermList::new(alloc);
@@ -82,7 +82,7 @@ fn first_clause(alloc: Global) -> Result<Clause, Memory>
     ensures { IfOk result (λ c. c ≡ first_clause) }
 {
     let t = constant(alloc, 1)?;
-    let l = reached(alloc, true, t)?;
+    let l = reach_literal(alloc, true, t)?;
     unit(alloc, l)
 }
 
@@ -90,9 +90,9 @@ fn rule_clause(alloc: Global) -> Result<Clause, Memory>
     ensures { IfOk result (λ c. c ≡ rule_clause) }
 {
     let mut c = Clause::new(alloc);
-    c.push(reached(alloc, false, Term::Var(0))?)?;
+    c.push(reach_literal(alloc, false, Term::Var(0))?)?;
     c.push(edge(alloc, false, Term::Var(0), Term::Var(1))?)?;
-    c.push(reached(alloc, true, Term::Var(1))?)?;
+    c.push(reach_literal(alloc, true, Term::Var(1))?)?;
     Ok(c)
 }
 
@@ -100,7 +100,7 @@ fn last_clause(alloc: Global, n: usize) -> Result<Clause, Memory>
     ensures { IfOk result (λ c. c ≡ last_clause n) }
 {
     let t = constant(alloc, n)?;
-    let l = reached(alloc, false, t)?;
+    let l = reach_literal(alloc, false, t)?;
     unit(alloc, l)
 }
 

@@ -15,7 +15,7 @@ fn push_marked(some: &mut Vec<usize>, place: usize, marked: bool) -> Result<(), 
     Ok(())
 }
 
-/// Those of the places that are marked, in their order.
+/// The places that are marked, in their order.
 pub fn marked_places(alloc: Global, places: &[usize], marks: &[bool]) -> Result<Vec<usize>, Memory>
     requires rising { IsStrictlyIncreasing places.now }
     requires each { length marks.now ≡ length places.now }

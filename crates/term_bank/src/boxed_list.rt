@@ -37,7 +37,7 @@ impl<T: Copy + Drop> BoxedList<T> {
     }
 
     // A list of these values, with no room for more.
-    pub fn copied(alloc: Global, values: &[T]) -> Result<Self, Memory>
+    pub fn of_slice(alloc: Global, values: &[T]) -> Result<Self, Memory>
         ensures { IfOk result (λ list. list ≡ values.now) }
     {
         let items = Box::new(alloc, Vec::from_slice(alloc, values)?)?;

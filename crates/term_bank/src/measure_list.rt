@@ -69,7 +69,7 @@ fn greatest_of(code: u32) -> Option<usize>
 }
 
 // The entry of measures that have room in it.
-fn packed(measures: Measures) -> Option<ShortMeasures>
+fn short_measures(measures: Measures) -> Option<ShortMeasures>
     ensures measures { IfSome result (λ s. (long : List Measures) → measures_of long s ≡ measures) }
     ensures within { IfSome result (λ s. (count : ℕ) → IsWithin count s) }
 {
@@ -114,14 +114,14 @@ fn entry_of(long: &mut Vec<Measures>, measures: Measures) -> ShortMeasures
     ensures measures { measures_of long.new.items result ≡ measures }
     ensures within { IsWithin (length long.new.items) result }
 {
-    match packed(measures) {
+    match short_measures(measures) {
         Some(entry) => entry,
         None => put_long(long, measures),
     }
 }
 
 // The measures of the entry.
-fn unpacked(long: &Vec<Measures>, entry: ShortMeasures) -> Measures
+fn measures_at_entry(long: &Vec<Measures>, entry: ShortMeasures) -> Measures
     requires { IsWithin (length long.now.items) entry }
     ensures { result ≡ measures_of long.now.items entry }
 {
@@ -151,7 +151,7 @@ impl MeasureList {
         requires { number < length self.now.items }
         ensures { result ≡ measures_in self.now.items number }
     {
-        unpacked(&self.long, self.short[number])
+        measures_at_entry(&self.long, self.short[number])
     }
 
     // Makes room for the measures of one more node, whatever they are.

@@ -25,7 +25,7 @@ pub enum Node {
 const _: () = prove!(size_of::<Node>() == 16);
 
 // A symbol's number and an argument as one number.
-fn joined(number: u32, arg: TermId) -> u64
+fn unary_key(number: u32, arg: TermId) -> u64
     ensures { result ≡ joined number arg }
 {
     number as u64 + (arg.0 as u64) * 4294967296
@@ -41,9 +41,9 @@ impl Hash for Node {
         match self {
             Node::Var(v) => state.write_u64(*v as u64),
             Node::Constant(number) => state.write_u32(*number),
-            Node::Unary(number, args) => state.write_u64(joined(*number, args[0])),
+            Node::Unary(number, args) => state.write_u64(unary_key(*number, args[0])),
             Node::Binary(number, args) => {
-                state.write_u64(joined(*number, args[0]));
+                state.write_u64(unary_key(*number, args[0]));
                 args[1].hash(state);
             }
             Node::Many(number, args) => {

@@ -101,7 +101,7 @@ fn room_of(node: Node) -> Option<BoxedList<TermId>> {
 }
 
 // These ids in the list of the room, or in a new one where there is none.
-fn filled(
+fn list_of(
     alloc: Global,
     args: &[TermId],
     room: &mut Option<BoxedList<TermId>>,
@@ -128,7 +128,7 @@ fn found_many(
     requires { length nodes.now.keys < 2 ^ 32 }
     ensures { IfOk result (λ found. IfSome found (λ i. (i < length nodes.now.keys) × (node_in nodes.now.keys i ≡ Many number args.now))) }
 {
-    let node = Node::Many(number, filled(alloc, args, room)?);
+    let node = Node::Many(number, list_of(alloc, args, room)?);
     let found = found_number(nodes, &node);
     *room = room_of(node);
     Ok(found)
@@ -148,7 +148,7 @@ fn many_number(
 {
     match found_many(alloc, nodes, number, args, room)? {
         Some(id) => Ok((id, false)),
-        None => node_number(nodes, Node::Many(number, BoxedList::copied(alloc, args)?)),
+        None => node_number(nodes, Node::Many(number, BoxedList::of_slice(alloc, args)?)),
     }
 }
 

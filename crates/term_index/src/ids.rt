@@ -9,7 +9,7 @@ use std::alloc::Global;
 use std::marker::Model;
 use term_bank::TermId;
 
-// So many ids at most are looked at one by one, and take no memory besides: for them a set would cost more than it saves. Most
+// At most this many ids are looked at one by one, and take no memory besides: for them a set would cost more than it saves. Most
 // queries have fewer nodes, so the lists of a walk begin with room for as many.
 pub const FEW: usize = 8;
 

@@ -162,7 +162,7 @@ fn unlink(edges: &IndexSet<Edge>, places: &mut Places, nodes: &mut Vec<Node>, sp
     renumber(edges, places, nodes, span.begin, place);
 }
 
-// The same where its end is bare.
+// Takes the edge away where its end is bare.
 fn unlink_bare(edges: &IndexSet<Edge>, places: &mut Places, nodes: &mut Vec<Node>, span: Span)
     requires arena { IsArena edges.now.keys places.old nodes.old.items }
     requires begin { span.begin < length nodes.old.items }

@@ -86,7 +86,7 @@ impl Model for Node {
 }
 
 // A vector of the items.
-fn copied<T: Copy + Drop>(alloc: Global, items: &[T]) -> Result<Vec<T>, Memory>
+fn vec_of<T: Copy + Drop>(alloc: Global, items: &[T]) -> Result<Vec<T>, Memory>
     ensures { IfOk result (λ v. v.items ≡ items.now) }
 {
     let mut all = Vec::new(alloc);
@@ -100,7 +100,7 @@ fn copied<T: Copy + Drop>(alloc: Global, items: &[T]) -> Result<Vec<T>, Memory>
 fn longer<T: Copy + Drop>(alloc: Global, items: &[T], last: T) -> Result<Box<Vec<T>>, Memory>
     ensures { IfOk result (λ b. b.value.items ≡ items.now ++ last ∷ []) }
 {
-    let mut all = copied(alloc, items)?;
+    let mut all = vec_of(alloc, items)?;
     all.push(last)?;
     Ok(Box::new(alloc, all)?)
 }
@@ -110,8 +110,8 @@ fn lists_of(alloc: Global, exits: &[u32], pairs: &[(TermId, u32)]) -> Result<Box
     ensures exits { IfOk result (λ b. b.value.exits.items ≡ exits.now) }
     ensures pairs { IfOk result (λ b. b.value.pairs.items ≡ pairs.now) }
 {
-    let exits = copied(alloc, exits)?;
-    let pairs = copied(alloc, pairs)?;
+    let exits = vec_of(alloc, exits)?;
+    let pairs = vec_of(alloc, pairs)?;
     Ok(Box::new(alloc, Lists { exits, pairs })?)
 }
 

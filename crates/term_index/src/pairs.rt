@@ -11,7 +11,7 @@ use indexmap::IndexMap;
 use inst_logic::Memory;
 use term_bank::TermId;
 
-// So many places of a node are searched one by one. Most nodes have no more pairs, and these take no room in the map.
+// How many places of a node are searched one by one. Most nodes have no more pairs, and these take no room in the map.
 const FEW: u32 = 8;
 
 // How many pairs the node has.

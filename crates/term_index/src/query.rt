@@ -45,7 +45,7 @@ fn copy_args(ids: &mut Ids, numbers: &mut Vec<usize>, args: &[TermId]) -> Result
 }
 
 // The nodes of the query, each once: the first is its root, which is also the first argument.
-fn copied(alloc: Global, bank: &Bank, query: TermId) -> Result<Query, Memory>
+fn query_copy(alloc: Global, bank: &Bank, query: TermId) -> Result<Query, Memory>
     requires { query < length bank.now.trees }
     ensures { IfOk result (IsCopyOf bank.now query) }
 {
@@ -82,5 +82,5 @@ pub fn query_of(
             args: Vec::new(alloc),
         });
     }
-    copied(alloc, bank, query)
+    query_copy(alloc, bank, query)
 }

@@ -96,7 +96,7 @@ impl Tree {
 }
 
 // A root, where there is none.
-fn rooted(alloc: Global, nodes: &mut Vec<Node>) -> Result<(), Memory>
+fn make_root(alloc: Global, nodes: &mut Vec<Node>) -> Result<(), Memory>
     ensures root { OnOk result (0 < length nodes.new.items) }
     ensures arena { (es : List Edge) (ps : PlaceLists) → IsArena es ps nodes.old.items → IsArena es ps nodes.new.items }
     ensures pairs { KeepsPairs nodes.old.items nodes.new.items }
@@ -132,7 +132,7 @@ fn stored_by(
     ensures added { OnOk result (Adds (atom, entry) (pairs_of nodes.old.items) (pairs_of nodes.new.items)) }
     ensures held { OnErr result (pairs_of nodes.new.items ≡ pairs_of nodes.old.items) }
 {
-    rooted(alloc, nodes)?;
+    make_root(alloc, nodes)?;
     let node = grown_leaf(alloc, edges, nodes, bank, atom, descent)?;
     link_all(edges, places, nodes, descent.closed.as_slice())?;
     put_pair(found, nodes, node, atom, entry)?;
@@ -140,7 +140,7 @@ fn stored_by(
 }
 
 // Stores the pair.
-fn stored(
+fn store_pair(
     alloc: Global,
     edges: &mut IndexSet<Edge>,
     places: &mut Places,
@@ -206,7 +206,7 @@ fn taken_by(
 }
 
 // Takes the pair, where it is there.
-fn taken(
+fn remove_pair(
     edges: &IndexSet<Edge>,
     places: &mut Places,
     nodes: &mut Vec<Node>,
@@ -238,7 +238,7 @@ fn taken(
 }
 
 // A walk that has not begun: it has one frame at the root, if any pair is stored.
-fn begun(alloc: Global, nodes: &[Node]) -> Result<Walk, Memory>
+fn walk_from_root(alloc: Global, nodes: &[Node]) -> Result<Walk, Memory>
     ensures { IfOk result (λ w. IsBegun nodes.now w.cells.items w.stack.items w.leaf w.place) }
 {
     let place = pairs_at(nodes, 0).len();
@@ -290,7 +290,7 @@ impl PartnerIndex for Tree {
         if self.spent {
             return Err(Memory);
         }
-        let result = stored(
+        let result = store_pair(
             self.alloc,
             &mut self.edges,
             &mut self.places,
@@ -308,7 +308,7 @@ impl PartnerIndex for Tree {
         if self.spent {
             return Err(Memory);
         }
-        let result = taken(
+        let result = remove_pair(
             &self.edges,
             &mut self.places,
             &mut self.nodes,
@@ -334,7 +334,7 @@ impl PartnerIndex for Tree {
         if self.spent {
             return Err(Memory);
         }
-        let walk = begun(self.alloc, self.nodes.as_slice())?;
+        let walk = walk_from_root(self.alloc, self.nodes.as_slice())?;
         let query = query_of(self.alloc, bank, query, &walk.stack)?;
         Ok(TreeCursor {
             view,

@@ -58,8 +58,8 @@ pub fn bends_query(view: View) -> bool
     }
 }
 
-// The same list, beginning with an argument where it is not empty.
-fn settled(cells: &[Cell], frame: Frame) -> Frame
+// The frame of the list, beginning with an argument where it is not empty.
+fn frame_at_argument(cells: &[Cell], frame: Frame) -> Frame
     requires order { frame.at ≤ frame.end }
     requires rest { frame.rest ≤ length cells.now }
     ensures same { (g : Graph) → AreCells g cells.now → spot g cells.now result ≡ spot g cells.now frame }
@@ -221,7 +221,7 @@ fn argument(query: &Query, at: usize) -> usize
 }
 
 // The number of the frame's list.
-fn saved(query: &Query, cells: &mut Vec<Cell>, frame: Frame) -> Result<usize, Memory>
+fn save_list(query: &Query, cells: &mut Vec<Cell>, frame: Frame) -> Result<usize, Memory>
     requires cells { AreCells query.now cells.old.items }
     requires order { frame.at ≤ frame.end }
     requires end { frame.end ≤ length query.now.args }
@@ -243,7 +243,12 @@ fn saved(query: &Query, cells: &mut Vec<Cell>, frame: Frame) -> Result<usize, Me
 }
 
 // The frame with the arguments of the query's node before its own list.
-fn entered(query: &Query, cells: &mut Vec<Cell>, node: usize, frame: Frame) -> Result<Frame, Memory>
+fn frame_inside(
+    query: &Query,
+    cells: &mut Vec<Cell>,
+    node: usize,
+    frame: Frame,
+) -> Result<Frame, Memory>
     requires query { AreQuery query.now }
     requires node { node < length query.now.nodes }
     requires cells { AreCells query.now cells.old.items }
@@ -256,7 +261,7 @@ fn entered(query: &Query, cells: &mut Vec<Cell>, node: usize, frame: Frame) -> R
     ensures frame { IfOk result (λ f. (f.at ≤ f.end) × (f.end ≤ length query.now.args) × (f.rest ≤ length cells.new.items)) }
 {
     let entry = query.nodes[node];
-    let rest = saved(query, cells, frame)?;
+    let rest = save_list(query, cells, frame)?;
     Ok(Frame {
         at: entry.first,
         end: entry.first + entry.label.arity(),
@@ -288,7 +293,7 @@ fn push_symbol(
     ensures adds { OnOk result (AddsInner query.now edges.now.keys nodes.now cells.old.items cells.new.items node label frame stack.old.items stack.new.items) }
 {
     if let Some(next) = live_child(edges, nodes, frame.node, label)? {
-        let inner = entered(query, cells, node, frame)?;
+        let inner = frame_inside(query, cells, node, frame)?;
         stack.push(Frame {
             node: next,
             cells: cells.len(),
@@ -399,7 +404,7 @@ fn go_on(
     ensures { OnOk result (GoesOn view query.now edges.now.keys nodes.now walk.old.cells.items (walk.old.stack.items ++ frame ∷ []) walk.old.leaf walk.old.place walk.new.cells.items walk.new.stack.items walk.new.leaf walk.new.place) }
 {
     walk.cells.truncate(frame.cells);
-    let first = settled(walk.cells.as_slice(), frame);
+    let first = frame_at_argument(walk.cells.as_slice(), frame);
     if is_done(first) {
         walk.leaf = first.node;
         walk.place = 0;

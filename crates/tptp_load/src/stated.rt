@@ -78,7 +78,7 @@ fn is_in(set: &IndexSet<Name>, stated: &StatedClause) -> bool
 }
 
 // The clauses whose names are in the set, in order.
-fn kept(
+fn clauses_named_in(
     alloc: Global,
     set: &IndexSet<Name>,
     part: Vec<StatedClause>,
@@ -138,7 +138,7 @@ fn chosen_of(
 {
     match set_of(alloc, names) {
         Ok(wanted) => {
-            let chosen = kept(alloc, &wanted, part);
+            let chosen = clauses_named_in(alloc, &wanted, part);
             drop(wanted);
             chosen
         }

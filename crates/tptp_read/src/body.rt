@@ -29,7 +29,7 @@ pub(crate) struct Body<'a> {
 }
 
 // The clause in no more memory than it takes: a list that was pushed to has room for more.
-fn trimmed(clause: Clause) -> Clause
+fn tight_clause(clause: Clause) -> Clause
     ensures { result ≡ clause }
 {
     let mut literals: Vec<Literal> = Vec::from(clause);
@@ -55,7 +55,7 @@ fn disjunction<'a>(
     let depth = tokens.len();
     let after = item(alloc, vars, depth, depth, tokens, at, &mut literals)?;
     let after = items(alloc, vars, depth, depth, tokens, after, &mut literals)?;
-    literals.clause = trimmed(literals.clause);
+    literals.clause = tight_clause(literals.clause);
     Ok((literals, after))
 }
 

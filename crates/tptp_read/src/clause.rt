@@ -14,7 +14,7 @@ ghost use Rattle.inst_logic.specs.Codes as byte;
 use crate::lexeme::Lexeme;
 use crate::literals::{Atomic, literal};
 use crate::stop::Stop;
-use crate::terms::trimmed;
+use crate::terms::tight_list;
 use crate::words::{is_feature, stands_at};
 use indexmap::IndexSet;
 use inst_logic::{Clause, Kind, Literal, Memory, Name, Sym, Term, TermList};
@@ -81,7 +81,7 @@ fn push_equation(
     clause.push(Literal {
         positive,
         sym,
-        args: trimmed(args),
+        args: tight_list(args),
     })
 }
 

@@ -125,7 +125,7 @@ fn nesting_behind(mut opened: usize, tokens: &[Lexeme]) -> usize
     deepest
 }
 
-// So many brackets may be open at once.
+// How many brackets may be open at once.
 pub(crate) const MOST_NESTING: usize = 256;
 
 // The most brackets that are open at a token.

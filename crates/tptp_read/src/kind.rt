@@ -12,7 +12,7 @@ pub enum TokenKind {
     /// One or more printable bytes of ASCII between two `'`. Within, `\` stands before each `'` and `\`, and before nothing
     /// else.
     QuotedWord,
-    /// The same between two `"`, and there may be nothing between them.
+    /// Printable bytes of ASCII between two `"`, or none. Within, `\` stands before each `"` and `\`, and before nothing else.
     DistinctObject,
     /// Digits, behind `+`, `-` or neither.
     Integer,

@@ -113,7 +113,7 @@ fn negated_atomic(
 
 // What stands behind `~`.
 #[tactic(auto, using(crate::proofs::Reading::behind_toks), unfolding(crate::specs::ParseClause::negated_at, crate::specs::ParseClause::negated_with))]
-fn negated(
+fn negative_literal(
     alloc: Global,
     vars: &IndexSet<&[u8]>,
     nesting: usize,
@@ -130,7 +130,7 @@ fn negated(
     if nesting == 0 {
         return Err(Stop::Wrong);
     }
-    let (inner, after) = negated(alloc, vars, nesting - 1, depth, tokens, at + 1)?;
+    let (inner, after) = negative_literal(alloc, vars, nesting - 1, depth, tokens, at + 1)?;
     if !stands_at(tokens, after, b')') {
         return Err(Stop::Wrong);
     }
@@ -195,7 +195,7 @@ pub(crate) fn literal(
     ensures within { IfOk result (λ x. (at < x.1) × (x.1 ≤ length tokens.now)) }
 {
     if stands_at(tokens, at, b'~') {
-        return negated(alloc, vars, depth, depth, tokens, at + 1);
+        return negative_literal(alloc, vars, depth, depth, tokens, at + 1);
     }
     simple_atomic(alloc, vars, depth, tokens, at)
 }

@@ -42,7 +42,7 @@ impl<'a> From<Stop> for Refusal<'a> {
 }
 
 // The refusal of the statement with this number.
-pub(crate) fn numbered(alloc: Global, why: Refusal, statement: usize) -> ReadError
+pub(crate) fn refusal_of_statement(alloc: Global, why: Refusal, statement: usize) -> ReadError
     ensures { IsSaid why.entry statement result }
 {
     match why {

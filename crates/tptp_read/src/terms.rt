@@ -56,7 +56,7 @@ pub(crate) fn term(
         if depth == 0 {
             return Err(Stop::Wrong);
         }
-        applied(alloc, vars, depth - 1, first, tokens, at + 2)
+        application(alloc, vars, depth - 1, first, tokens, at + 2)
     } else if is_plain(first.kind) {
         let t = single_of(alloc, vars, first)?;
         Ok((t, at + 1))
@@ -68,7 +68,7 @@ pub(crate) fn term(
 // What stands behind a word and its parenthesis.
 #[cycle(term)]
 #[tactic(auto, unfolding(crate::specs::Parse::applied_at))]
-fn applied(
+fn application(
     alloc: Global,
     vars: &IndexSet<&[u8]>,
     depth: usize,
@@ -95,7 +95,7 @@ fn applied(
 }
 
 // The list in no more memory than it takes: a list that was pushed to has room for more.
-pub(crate) fn trimmed(args: TermList) -> TermList
+pub(crate) fn tight_list(args: TermList) -> TermList
     ensures { result ≡ args }
 {
     let mut items: Vec<Term> = Vec::from(args);
@@ -124,5 +124,5 @@ fn arguments(
         args.push(t)?;
         next = after;
     }
-    Ok((trimmed(args), next))
+    Ok((tight_list(args), next))
 }

@@ -9,7 +9,7 @@ ghost use Rattle.tptp_read.specs.Text.{Readable, IsCause, IsFormedStatement};
 ghost use Rattle.tptp_read.specs.Atoms.{ReadsAtom, IsAtomCause};
 
 use crate::laws::readable_is_good;
-use crate::refusal::numbered;
+use crate::refusal::refusal_of_statement;
 use crate::statement::{StatementList, Which};
 use crate::step::step;
 use crate::whole_atom::atom_in;
@@ -74,7 +74,7 @@ pub fn read_text(alloc: Global, text: &[u8]) -> Result<StatementList, ReadError>
                 list.push(statement)?;
                 rest = behind(rest, end);
             }
-            Err(refusal) => return Err(numbered(alloc, refusal, list.len() + 1)),
+            Err(refusal) => return Err(refusal_of_statement(alloc, refusal, list.len() + 1)),
         }
     }
 }

@@ -56,7 +56,7 @@ fn told_by<S: Solver, I: PartnerIndex>(
 pub enum Engine {
     PlainRows,
     CdclTree,
-    // The same, where another such solver is asked for first values, and the run is given up above so many entries.
+    // The learning solver, where another such solver is asked for first values, and the run is given up above so many entries.
     FirstValues { most_entries: Option<usize> },
     // Walks over the indexes of selected literals refuse to begin, or those over that of first literals do.
     Refusing { partners: bool, first: bool },

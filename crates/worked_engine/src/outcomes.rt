@@ -198,7 +198,7 @@ pub fn tell(alloc: Global, answer: Result<Outcome, Memory>, row: &Row) -> Result
     }
 }
 
-/// The same of a run that may be given up.
+/// What is told of a run that may be given up.
 pub fn tell_or_given_up(
     alloc: Global,
     answer: Result<Option<Outcome>, Memory>,

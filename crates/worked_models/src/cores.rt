@@ -6,7 +6,7 @@ use inst_logic::{Memory, NumberList};
 use std::alloc::Global;
 use std::test::Fail;
 
-// So many empty clauses.
+// A list of empty clauses, as many as are wanted.
 #[derive(Drop)]
 struct EmptyClauses {
     alloc: Global,

@@ -162,7 +162,7 @@ fn read_real_file<L: Library>(library: &mut L) -> RealFile {
     (begun, [first, second, third, after], buf)
 }
 
-// The same of a file that is made and removed, with what `begin` answers when it is gone.
+// What a real file gives that is made and removed, with what `begin` answers when it is gone.
 fn real_file_by<R: Files>(
     rt: &R,
     folder: &mut FolderLibrary<'_, R>,

@@ -160,7 +160,7 @@ fn first_wrong<R: Files>(rt: &R, alloc: Global, rows: &str) -> io::Result<Option
     Ok(None)
 }
 
-/// The same, where the folder is made and removed.
+/// The place of the first row that is not loaded as it says, in a folder that is made and removed.
 pub fn first_wrong_in_folder<R: Files>(rt: &R, alloc: Global) -> io::Result<Option<usize>> {
     fs::create_dir_all(rt, "reading_rows/lib")?;
     let wrong = first_wrong(rt, alloc, ROWS)?;

@@ -138,7 +138,7 @@ cnf(q1,plain,q,part(m1,[])).
 @m.p@include('ax.p').@ax.p@cnf(a,axiom,p). fof(b,axiom,p).\
 ";
 
-// The same of files in the DIMACS form.
+// Rows of files in the DIMACS form.
 pub const DIMACS: &str = "\
 #@|sat|d.cnf@10 s SATISFIABLE\nv -1 2 0\n@d.cnf@p cnf 2 2\n1 2 0\n-1 0\n\
 #@|sat|d.cnf@20 s UNSATISFIABLE\nr 3 0 1 2 0\n@d.cnf@p cnf 1 2\n1 0\n-1 0\n\

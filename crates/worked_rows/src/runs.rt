@@ -87,7 +87,7 @@ pub fn told<L: Library>(
     told_of(alloc, exit, out.bytes())
 }
 
-/// The same for the words of the text, where there are these files.
+/// What is told of the run with the words of the text, where there are these files.
 pub fn answer_of(alloc: Global, words: &str, files: FileList) -> Result<Vec<u8>, Memory> {
     let words = words_of(alloc, words)?;
     let mut library = SureLibrary::new(alloc, files);

@@ -70,7 +70,8 @@ fn each_ends(alloc: Global, words: &str, text: &[u8], writes: usize) -> Result<b
     Ok(whole.0 == 0)
 }
 
-// The same of an answer that has this status, which is written by so many writes, or by as many as take a text that is whole.
+// Whether writing ends with the first refusal for an answer that has this status, which is written by so many writes, or by as
+// many as take a text that is whole.
 fn all_end(
     alloc: Global,
     words: &str,

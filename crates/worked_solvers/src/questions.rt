@@ -307,7 +307,7 @@ fn checked_of<S: Solver>(
     checked(alloc, solver, given)
 }
 
-// The same of the eight clauses of three atoms.
+// What the checker says of the eight clauses of three atoms.
 fn checked_signs<S: Solver>(alloc: Global, solver: &mut S) -> Result<Option<(usize, bool)>, Memory>
     requires { S.atoms solver.old ≡ 0 }
 {
@@ -343,7 +343,7 @@ fn add_facts<S: Solver>(solver: &mut S, count: usize) -> Result<(), Memory>
     Ok(())
 }
 
-// The same after the complement of the last atom.
+// Adds the chain of implications after the complement of its last atom.
 fn add_chain<S: Solver>(solver: &mut S, count: usize) -> Result<(), Memory>
     requires atoms { count + 1 ≤ S.atoms solver.old }
     requires few { count < 1000000 }

@@ -185,7 +185,7 @@ fn matched_by(
     Ok(Some(bindings.match_onto(bank, a, b)?))
 }
 
-/// The same with bindings of its own.
+/// Whether the last atom of the first clause matches that of the second, with bindings of its own.
 pub fn matched(alloc: Global, bank: &Bank, clauses: &IdClauseList) -> Result<Option<bool>, Memory>
     requires { All (IsClauseOf bank.now) clauses.now }
 {
@@ -231,7 +231,7 @@ fn bound_by(
     Ok(is_bound(bank, bindings, left, right))
 }
 
-/// The same with bindings of its own.
+/// What unifying the last atoms binds, with bindings of its own.
 pub fn bound(alloc: Global, bank: &Bank, clauses: &IdClauseList) -> Result<Option<bool>, Memory>
     requires { All (IsClauseOf bank.now) clauses.now }
 {

@@ -18,7 +18,7 @@ pub loop-packed-preserved-then-eq : goal.loop-packed-preserved-then-eq
 loop-packed-preserved-then-eq c =
     let log = c.args.log.now in
     let entries = c.args.trail.now.trail.entries in
-    let clause = c.cited-clause.result.now in
+    let clause = c.cited_clause-clause.result.now in
     let i = c.loop-packed.packed-index in
     let l = c.literal_at-lit.result in
     let hints = c.loop-packed.hints.items in
@@ -30,7 +30,7 @@ pub loop-packed-preserved : goal.loop-packed-preserved
 loop-packed-preserved c =
     let log = c.args.log.now in
     let t = c.args.trail.now.trail in
-    let clause = c.cited-clause.result.now in
+    let clause = c.cited_clause-clause.result.now in
     let i = c.loop-packed.packed-index in
     let d : Signed ℕ = record { positive = false; atom = 0 } in
     let l = c.literal_at-lit.result in
@@ -39,7 +39,7 @@ loop-packed-preserved c =
     let at = f.1 in
     let is = c.literal_at-lit.ensures.literal f.0 f.1 in
     let why = implied_of t.atoms c.requires.log.0 log t.entries c.requires.log.1 c.requires.log.2 c.args.place c.args.number f.0 f.1 (c.requires.given f.0 f.1) in
-    let same = c.cited-clause.ensures.clause why.0 (ap (cited log.added log.steps) (c.hint_of-last.ensures why.1.0 why.1.1) ∙ why.1.2) in
+    let same = c.cited_clause-clause.ensures.clause why.0 (ap (cited log.added log.steps) (c.hint_of-last.ensures why.1.0 why.1.1) ∙ why.1.2) in
     let unit = subst (λ xs. GivesUnit (take c.args.place t.entries) xs f.0.lit) (sym same) why.2 in
     let inside = Contains-slice_get clause i m (slice_get-get_or clause i c.packed-item.result c.loop-packed-test.true ∙ ap Some (sym (c.lit-other.ensures ∙ c.packed-item.is))) in
     let e = false_other t c.args.place f.0 clause m c.requires.trail f.1 unit inside (λ q. literals_differ m l c.if-eq.ensures (q ∙ sym is)) in
@@ -52,11 +52,11 @@ pub returns : goal.returns
 returns c = λ e at.
     let log = c.args.log.now in
     let t = c.args.trail.now.trail in
-    let clause = c.cited-clause.result.now in
+    let clause = c.cited_clause-clause.result.now in
     let l = c.literal_at-lit.result in
     let why = implied_of t.atoms c.requires.log.0 log t.entries c.requires.log.1 c.requires.log.2 c.args.place c.args.number e at (c.requires.given e at) in
     let cites = ap (cited log.added log.steps) (c.hint_of-last.ensures why.1.0 why.1.1) ∙ why.1.2 in
-    let same = c.cited-clause.ensures.clause why.0 cites in
+    let same = c.cited_clause-clause.ensures.clause why.0 cites in
     let whole : take c.loop-packed.packed-index clause ≡ clause = take_all c.loop-packed.packed-index clause (omega arith) in
     let leads = subst (λ xs. Leads log t.entries l xs c.loop-packed.hints.items) whole c.loop-packed.invariant in
     let done = leads_done log t.entries l clause c.loop-packed.hints.items c.hint_of-last.result (cites ∙ ap Some (sym same)) leads in

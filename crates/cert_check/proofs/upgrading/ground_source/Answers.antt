@@ -16,15 +16,15 @@ both_ok : {A E : Type 0} (r : Result A E) (P Q R : A → Type 0) → ((x : A) �
 both_ok (Ok x) P Q R h p q = h x p q
 both_ok (Err e) P Q R h p q = p
 
-pub repeated-requires-clause-clause : goal.repeated-requires-clause-clause
-repeated-requires-clause-clause c =
+pub id_for_each_variable-requires-clause-clause : goal.id_for_each_variable-requires-clause-clause
+id_for_each_variable-requires-clause-clause c =
     let b = c.args.base.now in
     let m = c.index-as_slice-i.result in
     let is : m ≡ get_or b.members c.args.i m = c.index-as_slice-i.is ∙ ap (λ (xs : List Member). get_or xs c.args.i m) c.as_slice.ensures in
     member_ids b.bank b.members c.args.i m c.requires.whole.members c.requires.within is
 
-pub repeated-requires-clause-canonical : goal.repeated-requires-clause-canonical
-repeated-requires-clause-canonical c =
+pub id_for_each_variable-requires-clause-canonical : goal.id_for_each_variable-requires-clause-canonical
+id_for_each_variable-requires-clause-canonical c =
     let b = c.args.base.now in
     let m = c.index-as_slice-i.result in
     let is : m ≡ get_or b.members c.args.i m = c.index-as_slice-i.is ∙ ap (λ (xs : List Member). get_or xs c.args.i m) c.as_slice.ensures in

@@ -6,26 +6,26 @@ use Rattle.instgen_loop.proofs.finish.finish.Goals as goal
 pub decide-requires-clause-held : goal.decide-requires-clause-held
 decide-requires-clause-held g c = held_conclude g.S.Solver.atoms g.S.Solver.added c.args.run.now (with_axioms c.args.p.now.clauses) c.args.budget c.requires.running
 
-pub saturated-requires-clause-rest : goal.saturated-requires-clause-rest
-saturated-requires-clause-rest g c = rest_read c.args.run.now c.decide.new.run c.in_ok-decide.ensures.reads g.S.Solver.atoms g.I.PartnerIndex.pairs g.I.PartnerIndex.fits c.args.partners.now c.requires.safe c.in_ok-decide.ensures.safe c.requires.tended c.requires.rests c.requires.whole
+pub saturated_ending-requires-clause-rest : goal.saturated_ending-requires-clause-rest
+saturated_ending-requires-clause-rest g c = rest_read c.args.run.now c.decide.new.run c.in_ok-decide.ensures.reads g.S.Solver.atoms g.I.PartnerIndex.pairs g.I.PartnerIndex.fits c.args.partners.now c.requires.safe c.in_ok-decide.ensures.safe c.requires.tended c.requires.rests c.requires.whole
 
-pub saturated-requires-clause-running : goal.saturated-requires-clause-running
-saturated-requires-clause-running g c = solved_read c.args.run.now c.decide.new.run c.in_ok-decide.ensures.reads g.S.Solver.atoms g.S.Solver.added g.I.PartnerIndex.pairs g.I.PartnerIndex.fits (with_axioms c.args.p.now.clauses) c.args.budget c.requires.safe c.requires.running
+pub saturated_ending-requires-clause-running : goal.saturated_ending-requires-clause-running
+saturated_ending-requires-clause-running g c = solved_read c.args.run.now c.decide.new.run c.in_ok-decide.ensures.reads g.S.Solver.atoms g.S.Solver.added g.I.PartnerIndex.pairs g.I.PartnerIndex.fits (with_axioms c.args.p.now.clauses) c.args.budget c.requires.safe c.requires.running
 
-pub saturated-requires-clause-problem : goal.saturated-requires-clause-problem
-saturated-requires-clause-problem g c = problem_read c.args.run.now c.decide.new.run c.in_ok-decide.ensures.reads c.args.given c.args.p.now.clauses c.requires.problem
+pub saturated_ending-requires-clause-problem : goal.saturated_ending-requires-clause-problem
+saturated_ending-requires-clause-problem g c = problem_read c.args.run.now c.decide.new.run c.in_ok-decide.ensures.reads c.args.given c.args.p.now.clauses c.requires.problem
 
-pub stopped-requires-clause-rest : goal.stopped-requires-clause-rest
-stopped-requires-clause-rest g c = rest_read c.args.run.now c.decide.new.run c.in_ok-decide.ensures.reads g.S.Solver.atoms g.I.PartnerIndex.pairs g.I.PartnerIndex.fits c.args.partners.now c.requires.safe c.in_ok-decide.ensures.safe c.requires.tended c.requires.rests c.requires.whole
+pub stopped_ending-requires-clause-rest : goal.stopped_ending-requires-clause-rest
+stopped_ending-requires-clause-rest g c = rest_read c.args.run.now c.decide.new.run c.in_ok-decide.ensures.reads g.S.Solver.atoms g.I.PartnerIndex.pairs g.I.PartnerIndex.fits c.args.partners.now c.requires.safe c.in_ok-decide.ensures.safe c.requires.tended c.requires.rests c.requires.whole
 
-pub stopped-requires-clause-running : goal.stopped-requires-clause-running
-stopped-requires-clause-running g c = solved_read c.args.run.now c.decide.new.run c.in_ok-decide.ensures.reads g.S.Solver.atoms g.S.Solver.added g.I.PartnerIndex.pairs g.I.PartnerIndex.fits (with_axioms c.args.p.now.clauses) c.args.budget c.requires.safe c.requires.running
+pub stopped_ending-requires-clause-running : goal.stopped_ending-requires-clause-running
+stopped_ending-requires-clause-running g c = solved_read c.args.run.now c.decide.new.run c.in_ok-decide.ensures.reads g.S.Solver.atoms g.S.Solver.added g.I.PartnerIndex.pairs g.I.PartnerIndex.fits (with_axioms c.args.p.now.clauses) c.args.budget c.requires.safe c.requires.running
 
-pub stopped-requires-clause-problem : goal.stopped-requires-clause-problem
-stopped-requires-clause-problem g c = problem_read c.args.run.now c.decide.new.run c.in_ok-decide.ensures.reads c.args.given c.args.p.now.clauses c.requires.problem
+pub stopped_ending-requires-clause-problem : goal.stopped_ending-requires-clause-problem
+stopped_ending-requires-clause-problem g c = problem_read c.args.run.now c.decide.new.run c.in_ok-decide.ensures.reads c.args.given c.args.p.now.clauses c.requires.problem
 
 pub returns-in-None-clause-journal : goal.returns-in-None-clause-journal
-returns-in-None-clause-journal g c = c.saturated.ensures.journal ∙ journal_read c.args.run.now c.decide.new.run c.in_ok-decide.ensures.reads
+returns-in-None-clause-journal g c = c.saturated_ending.ensures.journal ∙ journal_read c.args.run.now c.decide.new.run c.in_ok-decide.ensures.reads
 
 pub returns-in-Some-clause-journal : goal.returns-in-Some-clause-journal
-returns-in-Some-clause-journal g c = c.stopped.ensures.journal ∙ journal_read c.args.run.now c.decide.new.run c.in_ok-decide.ensures.reads
+returns-in-Some-clause-journal g c = c.stopped_ending.ensures.journal ∙ journal_read c.args.run.now c.decide.new.run c.in_ok-decide.ensures.reads

@@ -13,25 +13,25 @@ use Rattle.term_index.proofs.StoreLaws.{ChangesAt, pairs_kept, stored_kept, put_
 use Rattle.term_index.proofs.tree.stored_by.Goals as goal
 use Rattle.term_index.proofs.tree.stored_by.Goals.{In_ok-put_pair}
 
-pub returns-in_err-rooted-clause-held : goal.returns-in_err-rooted-clause-held
-returns-in_err-rooted-clause-held c =
-    on_err (pairs_of c.rooted.new.nodes.items ≡ pairs_of c.args.nodes.now.items) c.from_residual.result (pairs_kept c.args.nodes.now.items c.rooted.new.nodes.items c.rooted.ensures.pairs)
+pub returns-in_err-make_root-clause-held : goal.returns-in_err-make_root-clause-held
+returns-in_err-make_root-clause-held c =
+    on_err (pairs_of c.make_root.new.nodes.items ≡ pairs_of c.args.nodes.now.items) c.from_residual.result (pairs_kept c.args.nodes.now.items c.make_root.new.nodes.items c.make_root.ensures.pairs)
 
 pub returns-in_err-node-clause-held : goal.returns-in_err-node-clause-held
 returns-in_err-node-clause-held c =
     on_err (pairs_of c.grown_leaf.new.nodes.items ≡ pairs_of c.args.nodes.now.items) c.from_residual-in_err-node.result
-    (pairs_kept c.args.nodes.now.items c.grown_leaf.new.nodes.items (λ n. c.grown_leaf.ensures.pairs n ∙ c.rooted.ensures.pairs n))
+    (pairs_kept c.args.nodes.now.items c.grown_leaf.new.nodes.items (λ n. c.grown_leaf.ensures.pairs n ∙ c.make_root.ensures.pairs n))
 
 pub returns-in_err-link_all-clause-held : goal.returns-in_err-link_all-clause-held
 returns-in_err-link_all-clause-held c =
     on_err (pairs_of c.link_all.new.nodes.items ≡ pairs_of c.args.nodes.now.items) c.from_residual-in_err-link_all.result
-    (pairs_kept c.args.nodes.now.items c.link_all.new.nodes.items (λ n. c.link_all.ensures.pairs n ∙ c.grown_leaf.ensures.pairs n ∙ c.rooted.ensures.pairs n))
+    (pairs_kept c.args.nodes.now.items c.link_all.new.nodes.items (λ n. c.link_all.ensures.pairs n ∙ c.grown_leaf.ensures.pairs n ∙ c.make_root.ensures.pairs n))
 
 pub returns-in_err-put_pair-clause-held : goal.returns-in_err-put_pair-clause-held
 returns-in_err-put_pair-clause-held c =
     on_err (pairs_of c.put_pair.new.nodes.items ≡ pairs_of c.args.nodes.now.items) c.from_residual-in_err-put_pair.result
     (pairs_kept c.args.nodes.now.items c.put_pair.new.nodes.items
-    (λ n. held_pairs c.in_ok-node.node c.link_all.new.nodes.items c.put_pair.new.nodes.items c.put_pair.ensures.others c.in_err-put_pair.ensures.held n ∙ c.link_all.ensures.pairs n ∙ c.grown_leaf.ensures.pairs n ∙ c.rooted.ensures.pairs n))
+    (λ n. held_pairs c.in_ok-node.node c.link_all.new.nodes.items c.put_pair.new.nodes.items c.put_pair.ensures.others c.in_err-put_pair.ensures.held n ∙ c.link_all.ensures.pairs n ∙ c.grown_leaf.ensures.pairs n ∙ c.make_root.ensures.pairs n))
 
 pub link_all-requires-clause-within : goal.link_all-requires-clause-within
 link_all-requires-clause-within c =
@@ -43,7 +43,7 @@ changes : (c : In_ok-put_pair) → ChangesAt c.in_ok-node.node c.link_all.new.no
 changes c = record { len = c.put_pair.ensures.len; others = c.put_pair.ensures.others; exits = c.put_pair.ensures.exits }
 
 kept : (c : In_ok-put_pair) → KeepsPairs c.args.nodes.now.items c.link_all.new.nodes.items
-kept c n = c.link_all.ensures.pairs n ∙ c.grown_leaf.ensures.pairs n ∙ c.rooted.ensures.pairs n
+kept c n = c.link_all.ensures.pairs n ∙ c.grown_leaf.ensures.pairs n ∙ c.make_root.ensures.pairs n
 
 same : (c : In_ok-put_pair) → pairs_of c.link_all.new.nodes.items ≡ pairs_of c.args.nodes.now.items
 same c = pairs_kept c.args.nodes.now.items c.link_all.new.nodes.items (kept c)
@@ -53,8 +53,8 @@ gone c h = c.requires.absent (subst (λ ps. Contains ps (c.args.atom, c.args.ent
 
 grown : (c : In_ok-put_pair) → IsArena c.grown_leaf.new.edges.keys c.args.places.now c.grown_leaf.new.nodes.items
 grown c =
-    grown_arena c.args.edges.now.keys c.grown_leaf.new.edges.keys c.args.places.now c.rooted.new.nodes.items c.grown_leaf.new.nodes.items c.in_ok-rooted.ensures.root c.in_ok-node.ensures.grown
-    (c.rooted.ensures.arena c.args.edges.now.keys c.args.places.now c.requires.arena)
+    grown_arena c.args.edges.now.keys c.grown_leaf.new.edges.keys c.args.places.now c.make_root.new.nodes.items c.grown_leaf.new.nodes.items c.in_ok-make_root.ensures.root c.in_ok-node.ensures.grown
+    (c.make_root.ensures.arena c.args.edges.now.keys c.args.places.now c.requires.arena)
 
 listed : (c : In_ok-put_pair) → IsArena c.grown_leaf.new.edges.keys c.link_all.new.places c.link_all.new.nodes.items
 listed c =
@@ -77,7 +77,7 @@ returns-clause-stored c =
     put_stored c.in_ok-node.node c.link_all.new.nodes.items c.put_pair.new.nodes.items (changes c) (c.args.atom, c.args.entry) c.in_ok-put_pair.ensures.pairs (gone c) c.args.bank.now c.grown_leaf.new.edges.keys
     c.requires.within c.in_ok-node.ensures.way.leads c.in_ok-node.ensures.numbered
     (stored_kept c.args.bank.now c.args.edges.now.keys c.grown_leaf.new.edges.keys c.args.nodes.now.items c.link_all.new.nodes.items
-    (grown_keeps c.args.edges.now.keys c.grown_leaf.new.edges.keys c.rooted.new.nodes.items c.grown_leaf.new.nodes.items c.in_ok-node.ensures.grown) (kept c) c.requires.stored)
+    (grown_keeps c.args.edges.now.keys c.grown_leaf.new.edges.keys c.make_root.new.nodes.items c.grown_leaf.new.nodes.items c.in_ok-node.ensures.grown) (kept c) c.requires.stored)
 
 pub returns-clause-added : goal.returns-clause-added
 returns-clause-added c =
@@ -86,17 +86,17 @@ returns-clause-added c =
 
 pub put_pair-requires-clause-absent : goal.put_pair-requires-clause-absent
 put_pair-requires-clause-absent c = λ n h. c.requires.absent (subst (λ ps. Contains ps (c.args.atom, c.args.entry))
-    (pairs_kept c.args.nodes.now.items c.link_all.new.nodes.items (λ k. c.link_all.ensures.pairs k ∙ c.grown_leaf.ensures.pairs k ∙ c.rooted.ensures.pairs k)) (held_stored c.link_all.new.nodes.items n (c.args.atom, c.args.entry) h))
+    (pairs_kept c.args.nodes.now.items c.link_all.new.nodes.items (λ k. c.link_all.ensures.pairs k ∙ c.grown_leaf.ensures.pairs k ∙ c.make_root.ensures.pairs k)) (held_stored c.link_all.new.nodes.items n (c.args.atom, c.args.entry) h))
 
 pub put_pair-requires-clause-found : goal.put_pair-requires-clause-found
 put_pair-requires-clause-found c =
     found_kept c.args.found.now.entries c.args.nodes.now.items c.link_all.new.nodes.items
-    (λ n. c.link_all.ensures.pairs n ∙ c.grown_leaf.ensures.pairs n ∙ c.rooted.ensures.pairs n) c.requires.found
+    (λ n. c.link_all.ensures.pairs n ∙ c.grown_leaf.ensures.pairs n ∙ c.make_root.ensures.pairs n) c.requires.found
 
 pub grown_leaf-requires-clause-count : goal.grown_leaf-requires-clause-count
-grown_leaf-requires-clause-count c = (c.rooted.ensures.arena c.args.edges.now.keys c.args.places.now c.requires.arena).count c.in_ok-rooted.ensures.root
+grown_leaf-requires-clause-count c = (c.make_root.ensures.arena c.args.edges.now.keys c.args.places.now c.requires.arena).count c.in_ok-make_root.ensures.root
 
 pub link_all-requires-clause-listed : goal.link_all-requires-clause-listed
 link_all-requires-clause-listed c =
-    (grown_arena c.args.edges.now.keys c.grown_leaf.new.edges.keys c.args.places.now c.rooted.new.nodes.items c.grown_leaf.new.nodes.items c.in_ok-rooted.ensures.root c.in_ok-node.ensures.grown
-    (c.rooted.ensures.arena c.args.edges.now.keys c.args.places.now c.requires.arena)).listed
+    (grown_arena c.args.edges.now.keys c.grown_leaf.new.edges.keys c.args.places.now c.make_root.new.nodes.items c.grown_leaf.new.nodes.items c.in_ok-make_root.ensures.root c.in_ok-node.ensures.grown
+    (c.make_root.ensures.arena c.args.edges.now.keys c.args.places.now c.requires.arena)).listed

@@ -42,7 +42,7 @@ term-returns-else-depth-eq0-clause-is t c =
     let two : at + 1 + 1 ≡ at + 2 = omega arith in
     let after = behind_toks (at + 1) ls ∙ ap (λ i. toks (drop i ls)) two in
     let whole = ap (term_at c.args.depth) e ∙ calls ∙ ap (λ us. applied_at (term_at (c.args.depth - 1)) (tok (get_or ls at other)) us) after in
-    subst (λ r. Gives (λ x. (tree x.0, toks (drop x.1 c.args.tokens.now))) c.applied.result (in_trees (texts c.args.vars.now.keys) r)) (sym whole) c.applied.ensures.is
+    subst (λ r. Gives (λ x. (tree x.0, toks (drop x.1 c.args.tokens.now))) c.application.result (in_trees (texts c.args.vars.now.keys) r)) (sym whole) c.applied.ensures.is
 
 pub term-returns-in_ok-t-clause-is : goal.term-returns-in_ok-t-clause-is
 term-returns-in_ok-t-clause-is t c =
@@ -68,8 +68,8 @@ term-returns-else-is_plain-clause-is t c =
     let none = term_nothing c.args.depth (tok (get_or ls at other)) (toks (drop (at + 1) ls)) no_call (sym c.is_plain.ensures ∙ c.if-is_plain.false) in
     ap (λ r. in_trees (texts c.args.vars.now.keys) r) (ap (term_at c.args.depth) e ∙ none)
 
-pub applied-returns-clause-is : goal.applied-returns-clause-is
-applied-returns-clause-is t c =
+pub application-returns-clause-is : goal.application-returns-clause-is
+application-returns-clause-is t c =
     let e = behind_toks c.in_ok-args.after c.args.tokens.now in
     let closed : begins_with 41 (toks (drop c.in_ok-args.after c.args.tokens.now)) ≡ true = sym c.stands_at.ensures.is ∙ c.if-not-stands_at.false in
     let whole = applied_done (texts c.args.vars.now.keys) c.args.depth (tok c.args.head.now) (toks (drop c.args.at c.args.tokens.now)) (toks (drop c.in_ok-first.after c.args.tokens.now)) (toks (drop c.in_ok-args.after c.args.tokens.now)) (tree c.in_ok-first.first) c.in_ok-args.args c.len-arity.result c.in_ok-first.ensures.is c.in_ok-args.ensures.is closed c.len-arity.ensures in

@@ -7,8 +7,8 @@ use Rattle.tptp_read.proofs.terms.+term.Given as goal
 abbrev pub decreases-term : goal.decreases-term
 decreases-term l = 3 * l.depth
 
-abbrev pub decreases-applied : goal.decreases-applied
-decreases-applied l = 3 * l.depth + 2
+abbrev pub decreases-application : goal.decreases-application
+decreases-application l = 3 * l.depth + 2
 
 abbrev pub decreases-arguments : goal.decreases-arguments
 decreases-arguments l = 3 * l.depth + 1

@@ -34,4 +34,4 @@ loop-list-smaller c =
     omega (arith, less, ap length c.behind-rest.ensures)
 
 pub returns-in-Err-clause-refused : goal.returns-in-Err-clause-refused
-returns-in-Err-clause-refused c = cause c.args.text.now c.loop-list.rest.now c.loop-list.list _ c.in-Err.refusal c.numbered.result (ap (λ (n : ℕ). n + 1) c.len.ensures) c.loop-list.invariant c.in-Err.ensures c.numbered.ensures
+returns-in-Err-clause-refused c = cause c.args.text.now c.loop-list.rest.now c.loop-list.list _ c.in-Err.refusal c.refusal_of_statement.result (ap (λ (n : ℕ). n + 1) c.len.ensures) c.loop-list.invariant c.in-Err.ensures c.refusal_of_statement.ensures

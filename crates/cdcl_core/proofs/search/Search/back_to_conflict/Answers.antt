@@ -14,8 +14,8 @@ returns-clause-conflict c =
     let s = c.args.self.now in
     let f = c.requires.conflict in
     let named = c.requires.kept.log.named c.args.number f.0 f.1 in
-    let is = c.packed.ensures ∙ c.cited.ensures.clause f.0 (ap (cited s.log.added s.log.steps) (c.hint_of.ensures named.0 named.1) ∙ named.2) in
-    let back = conflict_back s.trail.trail s.clauses c.args.number c.highest_level-highest.result c.min-level.result c.packed.result c.requires.trail f is c.highest_level-highest.ensures.reached
+    let is = c.of_packed.ensures ∙ c.cited_clause.ensures.clause f.0 (ap (cited s.log.added s.log.steps) (c.hint_of.ensures named.0 named.1) ∙ named.2) in
+    let back = conflict_back s.trail.trail s.clauses c.args.number c.highest_level-highest.result c.min-level.result c.of_packed.result c.requires.trail f is c.highest_level-highest.ensures.reached
     (c.min-level.ensures ∙ ap (min c.highest_level-highest.result) c.level.ensures) in
     subst (λ x. IsConflict x c.back_to.new.self.trail.trail.entries c.args.number) (sym c.back_to.ensures.clauses)
     (subst (λ es. IsConflict s.clauses es c.args.number) (sym (ap (λ t. t.entries) c.back_to.ensures.trail)) back)

@@ -13,7 +13,7 @@ detach-requires c =
     let n = c.args.number in
     let f = found_clause c.get.result s.clauses n c.if-is_none.ensures c.get.ensures in
     let named = c.requires.kept.log.named n f.0 f.1 in
-    let is = c.packed.ensures ∙ c.cited.ensures.clause f.0 (ap (cited s.log.added s.log.steps) (c.hint_of-hint.ensures named.0 named.1) ∙ named.2) in
+    let is = c.of_packed.ensures ∙ c.cited_clause.ensures.clause f.0 (ap (cited s.log.added s.log.steps) (c.hint_of-hint.ensures named.0 named.1) ∙ named.2) in
     record { reason = no_reason s.trail.trail s.clauses f.0 n c.requires.trail c.requires.kept.given f.1 (subst (λ xs. All (λ l. reason_of s.trail.trail.entries l.atom ≢ Some n) xs) is (c.if-is_reason.ensures refl)) }
 
 pub returns : goal.returns
@@ -22,7 +22,7 @@ returns c =
     let n = c.args.number in
     let f = found_clause c.get.result s.clauses n c.if-is_none.ensures c.get.ensures in
     let named = c.requires.kept.log.named n f.0 f.1 in
-    let is = c.packed.ensures ∙ c.cited.ensures.clause f.0 (ap (cited s.log.added s.log.steps) (c.hint_of-hint.ensures named.0 named.1) ∙ named.2) in
+    let is = c.of_packed.ensures ∙ c.cited_clause.ensures.clause f.0 (ap (cited s.log.added s.log.steps) (c.hint_of-hint.ensures named.0 named.1) ∙ named.2) in
     let free = no_reason s.trail.trail s.clauses f.0 n c.requires.trail c.requires.kept.given f.1 (subst (λ xs. All (λ l. reason_of s.trail.trail.entries l.atom ≢ Some n) xs) is (c.if-is_reason.ensures refl)) in
     let new : Search = record s { clauses = c.forget.new.self; trail = c.detach.new.self } in
     record {

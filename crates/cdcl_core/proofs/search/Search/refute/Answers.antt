@@ -26,11 +26,11 @@ analyze_given-requires-clause-given c =
     let f = false_entry s.trail.trail c.args.lit c.reason.result c.requires.trail c.requires.refuted c.reason.ensures in
     (f.0, f.1, f.2 ∙ sym c.complement.ensures, f.3 ∙ c.in-Some.is)
 
-pub refuted-requires-clause-atoms : goal.refuted-requires-clause-atoms
-refuted-requires-clause-atoms c = core_atoms c.args.self.now.trail.trail.atoms c.args.assumptions.now c.in_ok-core-in-Some.core c.requires.atoms c.in_ok-core-in-Some.ensures.within
+pub refutation_answer-requires-clause-atoms : goal.refutation_answer-requires-clause-atoms
+refutation_answer-requires-clause-atoms c = core_atoms c.args.self.now.trail.trail.atoms c.args.assumptions.now c.in_ok-core-in-Some.core c.requires.atoms c.in_ok-core-in-Some.ensures.within
 
-pub refuted-requires-clause-closes : goal.refuted-requires-clause-closes
-refuted-requires-clause-closes c =
+pub refutation_answer-requires-clause-closes : goal.refutation_answer-requires-clause-closes
+refutation_answer-requires-clause-closes c =
     let s = c.args.self.now in
     let marks = c.analyze_given.new.seen in
     core_closes s marks c.args.assumptions.now c.in_ok-core-in-Some.core c.args.lit c.in_ok-hints-in-Some.hints.items c.requires.trail c.requires.level c.requires.search c.requires.assumption c.in_ok-core-in-Some.ensures

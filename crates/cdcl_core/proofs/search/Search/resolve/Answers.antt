@@ -23,8 +23,8 @@ pub returns-then-is_empty-clause-goes : goal.returns-then-is_empty-clause-goes
 returns-then-is_empty-clause-goes c = λ assumptions s.
     let mid = c.back_to_conflict-count.new.self in
     let new : Search = record mid { seen = c.analyze.new.seen } in
-    back_ends assumptions c.args.self.now mid new c.in_ok-refuted.field-0 c.back_to_conflict-count.ensures.back
-    (seen_ends assumptions mid new c.analyze.new.seen c.in_ok-refuted.field-0 (c.in_ok-refuted.ensures assumptions (subst (λ x. IsSubList x assumptions) (sym c.new-core.ensures) tt)))
+    back_ends assumptions c.args.self.now mid new c.in_ok-refutation_answer.field-0 c.back_to_conflict-count.ensures.back
+    (seen_ends assumptions mid new c.analyze.new.seen c.in_ok-refutation_answer.field-0 (c.in_ok-refutation_answer.ensures assumptions (subst (λ x. IsSubList x assumptions) (sym c.new-core.ensures) tt)))
 
 pub returns-clause-goes : goal.returns-clause-goes
 returns-clause-goes c = λ assumptions s.

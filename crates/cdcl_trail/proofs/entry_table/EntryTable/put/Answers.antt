@@ -9,10 +9,10 @@ pub returns-clause-items : goal.returns-clause-items
 returns-clause-items c =
     let slots = c.self.inside.slots.items in
     let e = c.args.entry in
-    map-set entry_in slots e.lit.atom c.packed.result ∙ ap (set (map entry_in slots) e.lit.atom) c.packed.ensures.entry ∙ ap (λ (t : EntriesByAtom). set t.items e.lit.atom (Some e)) c.self.view_is
+    map-set entry_in slots e.lit.atom c.slot_of.result ∙ ap (set (map entry_in slots) e.lit.atom) c.slot_of.ensures.entry ∙ ap (λ (t : EntriesByAtom). set t.items e.lit.atom (Some e)) c.self.view_is
 
 pub returns-clause-places : goal.returns-clause-places
 returns-clause-places c =
     let slots = c.self.inside.slots.items in
     let a = c.args.entry.lit.atom in
-    map-set (λ (s : Slot). s.place) slots a c.packed.result ∙ ap (set (map (λ (s : Slot). s.place) slots) a) c.packed.ensures.place ∙ ap (λ (t : EntriesByAtom). set t.places a c.args.place) c.self.view_is
+    map-set (λ (s : Slot). s.place) slots a c.slot_of.result ∙ ap (set (map (λ (s : Slot). s.place) slots) a) c.slot_of.ensures.place ∙ ap (λ (t : EntriesByAtom). set t.places a c.args.place) c.self.view_is

@@ -29,7 +29,7 @@ returns-then-not-contains-clause-search c =
       steps = refl;
       entries = c.truncate.ensures.items;
     } in
-    let read = c.cited.ensures conflict.0 (ap (λ ss. cited c.args.clauses.now ss c.args.conflict) c.as_slice.ensures ∙ conflict.1) in
+    let read = c.cited_clause.ensures conflict.0 (ap (λ ss. cited c.args.clauses.now ss c.args.conflict) c.as_slice.ensures ∙ conflict.1) in
     top_search c.args.clauses.now c.args.assumptions.now s m p e c.args.conflict conflict.0 t
 
 pub returns-then-not-contains-clause-undone : goal.returns-then-not-contains-clause-undone
@@ -53,7 +53,7 @@ returns-then-not-contains-clause-undone c =
       steps = refl;
       entries = c.truncate.ensures.items;
     } in
-    let read = c.cited.ensures conflict.0 (ap (λ ss. cited c.args.clauses.now ss c.args.conflict) c.as_slice.ensures ∙ conflict.1) in
+    let read = c.cited_clause.ensures conflict.0 (ap (λ ss. cited c.args.clauses.now ss c.args.conflict) c.as_slice.ensures ∙ conflict.1) in
     skip_undoes c.args.clauses.now c.args.assumptions.now s m p e c.args.conflict conflict.0 t (subst (All (λ l. l ≢ literal_of p (not e.value))) read c.if-not-contains.ensures)
 
 pub returns-in_ok-learn-in-Some-clause-search : goal.returns-in_ok-learn-in-Some-clause-search
@@ -77,7 +77,7 @@ returns-in_ok-learn-in-Some-clause-search c =
       steps = refl;
       entries = c.truncate.ensures.items;
     } in
-    let read = c.cited.ensures conflict.0 (ap (λ ss. cited c.args.clauses.now ss c.args.conflict) c.as_slice.ensures ∙ conflict.1) in
+    let read = c.cited_clause.ensures conflict.0 (ap (λ ss. cited c.args.clauses.now ss c.args.conflict) c.as_slice.ensures ∙ conflict.1) in
     let f = c.in_ok-learn-in-Some.ensures in
     let l : IsLearned c.args.clauses.now m c.learn.new.self p c.in-Some.reason c.args.conflict = record { steps = f.steps; entries = ap (λ v. v.items) f.entries; atoms = f.atoms } in
     let both = learn_both c.args.clauses.now c.args.assumptions.now s m c.learn.new.self p e c.in-Some.reason c.args.conflict conflict.0 t c.in-Some.is l in
@@ -104,7 +104,7 @@ returns-in_ok-learn-in-Some-clause-undone c =
       steps = refl;
       entries = c.truncate.ensures.items;
     } in
-    let read = c.cited.ensures conflict.0 (ap (λ ss. cited c.args.clauses.now ss c.args.conflict) c.as_slice.ensures ∙ conflict.1) in
+    let read = c.cited_clause.ensures conflict.0 (ap (λ ss. cited c.args.clauses.now ss c.args.conflict) c.as_slice.ensures ∙ conflict.1) in
     let f = c.in_ok-learn-in-Some.ensures in
     let l : IsLearned c.args.clauses.now m c.learn.new.self p c.in-Some.reason c.args.conflict = record { steps = f.steps; entries = ap (λ v. v.items) f.entries; atoms = f.atoms } in
     let both = learn_both c.args.clauses.now c.args.assumptions.now s m c.learn.new.self p e c.in-Some.reason c.args.conflict conflict.0 t c.in-Some.is l in
@@ -131,7 +131,7 @@ returns-in-None-clause-search c =
       steps = refl;
       entries = c.truncate.ensures.items;
     } in
-    let read = c.cited.ensures conflict.0 (ap (λ ss. cited c.args.clauses.now ss c.args.conflict) c.as_slice.ensures ∙ conflict.1) in
+    let read = c.cited_clause.ensures conflict.0 (ap (λ ss. cited c.args.clauses.now ss c.args.conflict) c.as_slice.ensures ∙ conflict.1) in
     let u = c.turn.new.self in
     let here = subst (λ xs. Contains xs (literal_of p (not e.value))) read c.if-not-contains.ensures in
     let both = both_ok c.turn.result _ _ (λ found. IsSearch c.args.clauses.now c.args.assumptions.now u × Undoes c.args.clauses.now c.args.assumptions.now s u found) (λ found stays turned. turn_both c.args.clauses.now c.args.assumptions.now s m u p e c.args.conflict conflict.0 found t c.in-None.is here c.turn.ensures.atoms c.turn.ensures.steps stays turned) c.turn.ensures.stays c.turn.ensures.turned in
@@ -158,7 +158,7 @@ returns-in-None-clause-undone c =
       steps = refl;
       entries = c.truncate.ensures.items;
     } in
-    let read = c.cited.ensures conflict.0 (ap (λ ss. cited c.args.clauses.now ss c.args.conflict) c.as_slice.ensures ∙ conflict.1) in
+    let read = c.cited_clause.ensures conflict.0 (ap (λ ss. cited c.args.clauses.now ss c.args.conflict) c.as_slice.ensures ∙ conflict.1) in
     let u = c.turn.new.self in
     let here = subst (λ xs. Contains xs (literal_of p (not e.value))) read c.if-not-contains.ensures in
     let both = both_ok c.turn.result _ _ (λ found. IsSearch c.args.clauses.now c.args.assumptions.now u × Undoes c.args.clauses.now c.args.assumptions.now s u found) (λ found stays turned. turn_both c.args.clauses.now c.args.assumptions.now s m u p e c.args.conflict conflict.0 found t c.in-None.is here c.turn.ensures.atoms c.turn.ensures.steps stays turned) c.turn.ensures.stays c.turn.ensures.turned in

@@ -6,8 +6,8 @@ use Rattle.term_index.specs.State.{State, pairs_of, IsStored}
 use Rattle.term_index.proofs.StoreLaws.{on_ok_at}
 use Rattle.term_index.proofs.tree.TreePartnerIndex.insert.Goals as goal
 
-pub stored-result-requires-clause-stored : goal.stored-result-requires-clause-stored
-stored-result-requires-clause-stored c =
+pub store_pair-result-requires-clause-stored : goal.store_pair-result-requires-clause-stored
+store_pair-result-requires-clause-stored c =
     let e = ap (λ (t : State). t.edges) c.self.view_is in
     let n = ap (λ (t : State). t.nodes) c.self.view_is in
     let p = ap (λ (t : State). t.spent) c.self.view_is in
@@ -17,8 +17,8 @@ stored-result-requires-clause-stored c =
 pub returns-clause-added : goal.returns-clause-added
 returns-clause-added c =
     let n = ap (λ (t : State). t.nodes) c.self.view_is in
-    subst (λ (xs : List Content). Rattle.std.specs.Result.OnOk c.stored-result.result (Adds (c.args.atom, c.args.entry) (pairs_of xs) (pairs_of c.stored-result.new.nodes.items))) n c.stored-result.ensures.added
+    subst (λ (xs : List Content). Rattle.std.specs.Result.OnOk c.store_pair-result.result (Adds (c.args.atom, c.args.entry) (pairs_of xs) (pairs_of c.store_pair-result.new.nodes.items))) n c.store_pair-result.ensures.added
 
 pub returns-clause-fits : goal.returns-clause-fits
 returns-clause-fits c =
-    λ e. on_ok_at (IsStored c.args.bank.now c.stored-result.new.edges.keys c.stored-result.new.nodes.items) c.stored-result.result (sym c.is_err-self-inside.ensures.value ∙ e) c.stored-result.ensures.stored
+    λ e. on_ok_at (IsStored c.args.bank.now c.store_pair-result.new.edges.keys c.store_pair-result.new.nodes.items) c.store_pair-result.result (sym c.is_err-self-inside.ensures.value ∙ e) c.store_pair-result.ensures.stored

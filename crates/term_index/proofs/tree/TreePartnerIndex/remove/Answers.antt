@@ -5,8 +5,8 @@ use Rattle.term_index.specs.Nodes.{Content}
 use Rattle.term_index.specs.State.{State, pairs_of, IsStored}
 use Rattle.term_index.proofs.tree.TreePartnerIndex.remove.Goals as goal
 
-pub taken-result-requires-clause-stored : goal.taken-result-requires-clause-stored
-taken-result-requires-clause-stored c =
+pub remove_pair-result-requires-clause-stored : goal.remove_pair-result-requires-clause-stored
+remove_pair-result-requires-clause-stored c =
     let e = ap (λ (t : State). t.edges) c.self.view_is in
     let n = ap (λ (t : State). t.nodes) c.self.view_is in
     let p = ap (λ (t : State). t.spent) c.self.view_is in
@@ -16,4 +16,4 @@ taken-result-requires-clause-stored c =
 pub returns-clause-there : goal.returns-clause-there
 returns-clause-there c =
     let n = ap (λ (t : State). t.nodes) c.self.view_is in
-    subst (λ (xs : List Content). Rattle.std.specs.Result.IfOk c.taken-result.result (λ r. r ≡ true → Removes (c.args.atom, c.args.entry) (pairs_of xs) (pairs_of c.taken-result.new.nodes.items))) n c.taken-result.ensures.there
+    subst (λ (xs : List Content). Rattle.std.specs.Result.IfOk c.remove_pair-result.result (λ r. r ≡ true → Removes (c.args.atom, c.args.entry) (pairs_of xs) (pairs_of c.remove_pair-result.new.nodes.items))) n c.remove_pair-result.ensures.there

@@ -1,0 +1,16 @@
+use Rattle.std.proofs.Common.{ap}
+use Rattle.instgen_loop.specs.Ending.{saturation_from}
+use Rattle.instgen_loop.proofs.Stopped.{has_left, stopped_outcome}
+use Rattle.instgen_loop.proofs.finish.stopped_ending.Goals as goal
+
+pub left_of-left-requires : goal.left_of-left-requires
+left_of-left-requires g c =
+    has_left g.S.Solver.atoms g.S.Solver.added g.I.PartnerIndex.pairs g.I.PartnerIndex.fits c.args.run.now c.args._partners.now c.args.given c.args._p.now.clauses c.args._p.now.names c.args._budget c.args.wanted
+    c.requires.rest c.requires.problem c.requires.open c.requires.running
+
+pub returns-clause-ending : goal.returns-clause-ending
+returns-clause-ending g c =
+    let S = g.S.Solver in
+    let I = g.I.PartnerIndex in
+    stopped_outcome S.atoms S.added I.pairs I.fits c.args.run.now c.args._partners.now c.args.given c.args._p.now.clauses c.args._p.now.names c.args._budget c.args.wanted c.requires.rest c.requires.problem c.requires.open
+    c.requires.running c.left_of-left.result c.left_of-left.ensures (saturation_from c.args._p.now.names c.settled_run.result) c.settled_run.new.run.journal (ap (saturation_from c.args._p.now.names) c.settled_run.ensures.taken) c.settled_run.ensures.journal
