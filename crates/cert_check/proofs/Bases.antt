@@ -11,7 +11,7 @@ use Rattle.cert_format.specs.declared.complaint.Complaint.{Complaint}
 use Rattle.cert_format.specs.declared.complaint.Complaint.TheVariants.{Axiom, Member as Derived, Bot, Ground, Step as Shown, NotEmpty, Place, Input, Pair, Cover as Named}
 use Rattle.cert_format.specs.Validity.{BasePasses, IsValidBase}
 use Rattle.cert_check.specs.Firsts.{IsFirstWrong, IsFirstWrongOf}
-pub use Rattle.saturation_cert.proofs.Kept.{base_same}
+pub use Rattle.cert_values.proofs.Kept.{base_same}
 
 -- a right member is canonical
 gives_canonical : (b : format.Base) (n : ℕ) (o : Origin) (c : TreeClause) → Gives b n o c → IsCanonical c

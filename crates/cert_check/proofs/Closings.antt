@@ -23,10 +23,10 @@ use Rattle.unify_core.specs.Sides.{Binding, IsResolvedBy, of_pair, of_side}
 use Rattle.unify_core.specs.declared.side.Side.{Side}
 use Rattle.unify_core.specs.declared.side.Side.TheVariants.{Left, Right}
 use Rattle.clause_form.proofs.Leaves.{resolved_later}
-use Rattle.saturation_cert.specs.declared.member.Member.{Member}
-use Rattle.saturation_cert.specs.declared.certificate.Saturation.{Saturation}
-use Rattle.saturation_cert.specs.Values.{base_of, saturation_of, entry_of}
-use Rattle.saturation_cert.specs.Wholes.{IsWholeSaturation, HasPlaces, KeepsSaturation}
+use Rattle.cert_values.specs.declared.member.Member.{Member}
+use Rattle.cert_values.specs.declared.certificate.Saturation.{Saturation}
+use Rattle.cert_values.specs.Values.{base_of, saturation_of, entry_of}
+use Rattle.cert_values.specs.Wholes.{IsWholeSaturation, HasPlaces, KeepsSaturation}
 use Rattle.cert_format.specs.Validity.{IsValidBase}
 use Rattle.cert_check.specs.Closings.{IsGeneralOn, IsSideCovered, IsSideClosed, IsProperOn, IsProperSomewhere, IsPairClosed}
 use Rattle.cert_check.specs.Grounds.{AreCanonicalMembers}

@@ -15,14 +15,14 @@ use Rattle.cert_format.specs.Validity.{CoversAt, SelectsAt}
 use Rattle.cert_format.proofs.Numbers.{slice_get_of_map}
 use Rattle.term_bank.specs.Forest.{Forest, Extends, IsClauseOf, clause_at, literal_tree}
 use Rattle.term_bank.proofs.Clauses.{clause_extends, clause_of_extends}
-use Rattle.saturation_cert.specs.declared.certificate.By.{By}
-use Rattle.saturation_cert.specs.declared.certificate.Cover.{Cover}
-use Rattle.saturation_cert.specs.declared.certificate.Covered.{Covered}
-use Rattle.saturation_cert.specs.declared.certificate.Saturation.{Saturation}
-use Rattle.saturation_cert.specs.declared.member.Member.{Member}
-use Rattle.saturation_cert.specs.Values.{by_of, cover_of, covered_of, entry_of, saturation_of, side_of}
-use Rattle.saturation_cert.specs.Wholes.{IsWholeBy, IsWholeCover, IsWholeCovered, IsWholeSaturation}
-use Rattle.saturation_cert.proofs.Grown.{bys_grown, bys_same, members_same}
+use Rattle.cert_values.specs.declared.certificate.By.{By}
+use Rattle.cert_values.specs.declared.certificate.Cover.{Cover}
+use Rattle.cert_values.specs.declared.certificate.Covered.{Covered}
+use Rattle.cert_values.specs.declared.certificate.Saturation.{Saturation}
+use Rattle.cert_values.specs.declared.member.Member.{Member}
+use Rattle.cert_values.specs.Values.{by_of, cover_of, covered_of, entry_of, saturation_of, side_of}
+use Rattle.cert_values.specs.Wholes.{IsWholeBy, IsWholeCover, IsWholeCovered, IsWholeSaturation}
+use Rattle.cert_values.proofs.Grown.{bys_grown, bys_same, members_same}
 use Rattle.clause_form.proofs.Concluded.{clause_in}
 use Rattle.unify_core.specs.Chains.{AreBindings}
 use Rattle.unify_core.specs.Sides.{Binding, IsResolvedBy, of_side}

@@ -2,10 +2,10 @@
 use Rattle.std.proofs.Common.{◌≡◌, ℕ, ◌≤◌, length, List, [], ◌∙◌, ap, refl, sym, subst, map}
 use Rattle.std.specs.List.{AllZip}
 use Rattle.cert_format.specs.Validity.{IsCoverOf}
-use Rattle.saturation_cert.specs.declared.certificate.Cover.{Cover}
-use Rattle.saturation_cert.specs.declared.certificate.Covered.{Covered}
-use Rattle.saturation_cert.specs.Values.{cover_of, covered_of, saturation_of}
-use Rattle.saturation_cert.specs.Wholes.{IsWholeCovered, KeepsCovered}
+use Rattle.cert_values.specs.declared.certificate.Cover.{Cover}
+use Rattle.cert_values.specs.declared.certificate.Covered.{Covered}
+use Rattle.cert_values.specs.Values.{cover_of, covered_of, saturation_of}
+use Rattle.cert_values.specs.Wholes.{IsWholeCovered, KeepsCovered}
 use Rattle.cert_check.specs.Compared.{IsComparable}
 use Rattle.cert_check.specs.DueSteps.{AreNamed, GrowsCovers, GrowsShown}
 use Rattle.cert_check.proofs.PairScans.{keeps_itself, placed_kept, valid_kept}

@@ -13,12 +13,12 @@ use Rattle.clause_form.specs.Conclusions.{AreCanonicalIn}
 use Rattle.clause_form.proofs.Ids.{variants_equal}
 use Rattle.term_bank.specs.Forest.{literal_tree, Forest, AreDistinct, Extends, IsClauseOf, clause_at}
 use Rattle.term_bank.proofs.Clauses.{clause_extends}
-use Rattle.saturation_cert.specs.declared.member.Member.{Member}
-use Rattle.saturation_cert.specs.Wholes.{IsWholeClause}
+use Rattle.cert_values.specs.declared.member.Member.{Member}
+use Rattle.cert_values.specs.Wholes.{IsWholeClause}
 use Rattle.cert_check.specs.Covers.{Covers, CoversOf, IsCoveredIn}
 use Rattle.cert_index.specs.Shorter.{ShorterOf}
 use Rattle.cert_check.specs.Grounds.{AreCanonicalMembers}
-use Rattle.saturation_cert.proofs.Grown.{members_grown}
+use Rattle.cert_values.proofs.Grown.{members_grown}
 
 abbrev pub clause_of : Forest → Member → TreeClause
 clause_of f m = clause_at f m.clause

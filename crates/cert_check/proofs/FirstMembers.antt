@@ -7,9 +7,9 @@ use Rattle.inst_calculus.specs.Entries.{Entry}
 use Rattle.inst_calculus.proofs.ProperParts.{item_behind}
 use Rattle.inst_calculus.proofs.StepLaws.{at_number_map}
 use Rattle.cert_format.specs.Validity.{IsFirstOrigin, IsRightMember, IsRightFirstMember}
-use Rattle.saturation_cert.specs.declared.certificate.Base.{Base}
-use Rattle.saturation_cert.specs.declared.member.Member.{Member}
-use Rattle.saturation_cert.specs.Values.{base_of, entry_of}
+use Rattle.cert_values.specs.declared.certificate.Base.{Base}
+use Rattle.cert_values.specs.declared.member.Member.{Member}
+use Rattle.cert_values.specs.Values.{base_of, entry_of}
 use Rattle.cert_check.specs.Firsts.{IsFirstWrongOf, first_of_both}
 use Rattle.cert_check.specs.Origins.{IsNoLemmaAt}
 

@@ -21,9 +21,9 @@ use Rattle.term_bank.specs.Forest.{Forest, Extends, IsAt, IsClauseOf, clause_at,
 use Rattle.term_bank.proofs.Clauses.{clause_extends, clause_of_extends, clauses_extend}
 use Rattle.clause_form.specs.Conclusions.{by_terms}
 use Rattle.cert_format.specs.Validity.{IsRightMember}
-use Rattle.saturation_cert.specs.declared.certificate.Base.{Base}
-use Rattle.saturation_cert.specs.declared.member.Member.{Member}
-use Rattle.saturation_cert.specs.Values.{base_of, entry_of}
+use Rattle.cert_values.specs.declared.certificate.Base.{Base}
+use Rattle.cert_values.specs.declared.member.Member.{Member}
+use Rattle.cert_values.specs.Values.{base_of, entry_of}
 use Rattle.cert_check.specs.Grounds.{AreCanonicalMembers, IsGroundAt}
 use Rattle.cert_check.proofs.Bases.{member_canonical}
 

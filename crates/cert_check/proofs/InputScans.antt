@@ -16,10 +16,10 @@ use Rattle.inst_calculus.proofs.Clauses.{literal_var, within_part}
 use Rattle.term_bank.specs.Forest.{clause_at, IsClauseOf}
 use Rattle.cert_format.specs.Validity.{IsRightInput}
 use Rattle.cert_format.specs.declared.complaint.Complaint.TheVariants.{Axiom}
-use Rattle.saturation_cert.specs.declared.member.Member.{Member}
-use Rattle.saturation_cert.specs.declared.certificate.Saturation.{Saturation}
-use Rattle.saturation_cert.specs.Values.{base_of, saturation_of, entry_of}
-use Rattle.saturation_cert.specs.Wholes.{IsWholeClause, IsWholeSaturation}
+use Rattle.cert_values.specs.declared.member.Member.{Member}
+use Rattle.cert_values.specs.declared.certificate.Saturation.{Saturation}
+use Rattle.cert_values.specs.Values.{base_of, saturation_of, entry_of}
+use Rattle.cert_values.specs.Wholes.{IsWholeClause, IsWholeSaturation}
 use Rattle.cert_format.specs.Validity.{IsValidBase}
 use Rattle.cert_check.specs.Firsts.{IsFirstWrong}
 

@@ -12,7 +12,7 @@ use Rattle.inst_calculus.specs.Axioms.{equality_axioms, with_axioms}
 use Rattle.inst_calculus.proofs.Membership.{◌∈◌, all_in, in_all, in_either, all_pass, from_map}
 use Rattle.term_bank.specs.Forest.{Forest, Extends, IsClauseOf, clause_at, tree_at}
 use Rattle.term_bank.proofs.Clauses.{clause_of_extends, clauses_extend}
-use Rattle.saturation_cert.specs.Wholes.{IsWholeClause}
+use Rattle.cert_values.specs.Wholes.{IsWholeClause}
 
 -- one more clause
 pub one_more_at : (f g : Forest) → Extends f g → (cs : List (List (Signed ℕ))) (c : List (Signed ℕ)) (trees : List TreeClause) (i : ℕ) (d : TreeClause) → All (IsClauseOf f) cs

@@ -17,15 +17,15 @@ use Rattle.cert_format.specs.Validity.{Gives, IsValidBase, SelectsAt}
 use Rattle.cert_format.specs.declared.complaint.Complaint.TheVariants.{Member as Derived}
 use Rattle.cert_format.proofs.Numbers.{same_item}
 use Rattle.term_bank.specs.Forest.{clause_at}
-use Rattle.saturation_cert.specs.declared.certificate.By.{By}
-use Rattle.saturation_cert.specs.declared.certificate.By.TheVariants.{Variant}
-use Rattle.saturation_cert.specs.declared.certificate.Cover.{Cover}
-use Rattle.saturation_cert.specs.declared.certificate.Saturation.{Saturation}
-use Rattle.saturation_cert.specs.declared.member.Member.{Member}
-use Rattle.saturation_cert.specs.declared.member.Origin.{Origin}
-use Rattle.saturation_cert.specs.declared.member.Origin.TheVariants.{Inst}
-use Rattle.saturation_cert.specs.Values.{base_of, by_of, entry_of, origin_of, saturation_of}
-use Rattle.saturation_cert.specs.Wholes.{HasPlaces}
+use Rattle.cert_values.specs.declared.certificate.By.{By}
+use Rattle.cert_values.specs.declared.certificate.By.TheVariants.{Variant}
+use Rattle.cert_values.specs.declared.certificate.Cover.{Cover}
+use Rattle.cert_values.specs.declared.certificate.Saturation.{Saturation}
+use Rattle.cert_values.specs.declared.member.Member.{Member}
+use Rattle.cert_values.specs.declared.member.Origin.{Origin}
+use Rattle.cert_values.specs.declared.member.Origin.TheVariants.{Inst}
+use Rattle.cert_values.specs.Values.{base_of, by_of, entry_of, origin_of, saturation_of}
+use Rattle.cert_values.specs.Wholes.{HasPlaces}
 use Rattle.unify_core.specs.Sides.{Binding, of_side}
 use Rattle.unify_core.specs.declared.side.Side.{Side}
 use Rattle.unify_core.specs.declared.side.Side.TheVariants.{Left, Right}

@@ -9,10 +9,10 @@ use Rattle.inst_logic.specs.Unifiers.{Sided, IsProper}
 use Rattle.inst_calculus.specs.Models.{Member}
 use Rattle.cert_format.specs.Dues.{meeting}
 use Rattle.cert_format.specs.Validity.{CoversAt, IsProperPair, IsValidBase, SelectsAt}
-use Rattle.saturation_cert.specs.declared.certificate.Covered.{Covered}
-use Rattle.saturation_cert.specs.declared.certificate.Saturation.{Saturation}
-use Rattle.saturation_cert.specs.Values.{base_of, covered_of, entry_of, saturation_of, side_of}
-use Rattle.saturation_cert.specs.Wholes.{HasPlaces}
+use Rattle.cert_values.specs.declared.certificate.Covered.{Covered}
+use Rattle.cert_values.specs.declared.certificate.Saturation.{Saturation}
+use Rattle.cert_values.specs.Values.{base_of, covered_of, entry_of, saturation_of, side_of}
+use Rattle.cert_values.specs.Wholes.{HasPlaces}
 use Rattle.unify_core.specs.declared.side.Side.TheVariants.{Left, Right}
 use Rattle.cert_check.specs.declared.compare.Progress.{Progress}
 use Rattle.cert_check.specs.declared.due_side.DueSide.{DueSide}

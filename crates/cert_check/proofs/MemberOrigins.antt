@@ -5,11 +5,11 @@ use Rattle.inst_calculus.specs.Conclusions.{IsPartOfConclusion}
 use Rattle.inst_calculus.specs.Parts.{AreWithin}
 use Rattle.term_bank.specs.Forest.{clause_at}
 use Rattle.cert_format.specs.Validity.{Gives, IsConclusion, IsRightMember}
-use Rattle.saturation_cert.specs.declared.member.Member.{Member}
-use Rattle.saturation_cert.specs.declared.member.Origin.{Origin}
-use Rattle.saturation_cert.specs.declared.member.Origin.TheVariants.{Inst, Lemma}
-use Rattle.saturation_cert.specs.declared.certificate.Base.{Base}
-use Rattle.saturation_cert.specs.Values.{base_of, entry_of, origin_of}
+use Rattle.cert_values.specs.declared.member.Member.{Member}
+use Rattle.cert_values.specs.declared.member.Origin.{Origin}
+use Rattle.cert_values.specs.declared.member.Origin.TheVariants.{Inst, Lemma}
+use Rattle.cert_values.specs.declared.certificate.Base.{Base}
+use Rattle.cert_values.specs.Values.{base_of, entry_of, origin_of}
 use Rattle.cert_check.specs.Parts.{IsPartGiven}
 use Rattle.cert_check.proofs.Rightness.{right_by}
 

@@ -23,16 +23,16 @@ use Rattle.cert_format.specs.Validity.{IsCoverOf, SelectsAt}
 use Rattle.cert_format.proofs.Numbers.{slice_get_of_map}
 use Rattle.term_bank.proofs.Clauses.{clause_extends}
 use Rattle.term_bank.specs.Forest.{Forest, AreDistinct, Extends, IsClauseOf, clause_at, literal_tree, tree_at}
-use Rattle.saturation_cert.specs.declared.certificate.By.{By}
-use Rattle.saturation_cert.specs.declared.certificate.By.TheVariants.{Tautology, Variant, Part}
-use Rattle.saturation_cert.specs.declared.member.Member.{Member}
-use Rattle.saturation_cert.specs.declared.certificate.Cover.{Cover}
-use Rattle.saturation_cert.specs.declared.certificate.Covered.{Covered}
-use Rattle.saturation_cert.specs.declared.certificate.Saturation.{Saturation}
-use Rattle.saturation_cert.specs.Values.{by_of, cover_of, covered_of, entry_of, saturation_of}
-use Rattle.saturation_cert.specs.Wholes.{IsWholeBy, IsWholeClause, IsWholeCover, IsWholeCovered, IsWholeSaturation, IsWholeTerm, KeepsSaturation}
-use Rattle.saturation_cert.proofs.Grown.{bys_grown, clause_grown, covers_grown, covers_same, members_same}
-use Rattle.saturation_cert.proofs.Kept.{saturation_same}
+use Rattle.cert_values.specs.declared.certificate.By.{By}
+use Rattle.cert_values.specs.declared.certificate.By.TheVariants.{Tautology, Variant, Part}
+use Rattle.cert_values.specs.declared.member.Member.{Member}
+use Rattle.cert_values.specs.declared.certificate.Cover.{Cover}
+use Rattle.cert_values.specs.declared.certificate.Covered.{Covered}
+use Rattle.cert_values.specs.declared.certificate.Saturation.{Saturation}
+use Rattle.cert_values.specs.Values.{by_of, cover_of, covered_of, entry_of, saturation_of}
+use Rattle.cert_values.specs.Wholes.{IsWholeBy, IsWholeClause, IsWholeCover, IsWholeCovered, IsWholeSaturation, IsWholeTerm, KeepsSaturation}
+use Rattle.cert_values.proofs.Grown.{bys_grown, clause_grown, covers_grown, covers_same, members_same}
+use Rattle.cert_values.proofs.Kept.{saturation_same}
 use Rattle.unify_core.specs.Sides.{Binding, IsResolvedBy, of_side}
 use Rattle.unify_core.specs.declared.side.Side.{Side}
 use Rattle.cert_check.specs.Covers.{IsCoveredIn}

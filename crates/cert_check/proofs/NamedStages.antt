@@ -7,14 +7,14 @@ use Rattle.inst_calculus.specs.Axioms.{with_axioms}
 use Rattle.cert_format.specs.Certificate as format
 use Rattle.cert_format.specs.Dues.{Due, AreDue}
 use Rattle.cert_format.specs.Validity.{IsNamed, IsRightPair, IsShownInput, IsValidBase, ShowsAt}
-use Rattle.saturation_cert.specs.declared.certificate.By.{By}
-use Rattle.saturation_cert.specs.declared.certificate.Cover.{Cover}
-use Rattle.saturation_cert.specs.declared.certificate.Covered.{Covered}
-use Rattle.saturation_cert.specs.declared.certificate.Saturation.{Saturation}
-use Rattle.saturation_cert.specs.Values.{base_of, by_of, covered_of, saturation_of}
-use Rattle.saturation_cert.specs.Wholes.{HasPlaces, IsWholeBy, IsWholeCover, IsWholeCovered, IsWholeSaturation}
-use Rattle.saturation_cert.proofs.Grown.{bys_same}
-use Rattle.saturation_cert.proofs.Kept.{saturation_same}
+use Rattle.cert_values.specs.declared.certificate.By.{By}
+use Rattle.cert_values.specs.declared.certificate.Cover.{Cover}
+use Rattle.cert_values.specs.declared.certificate.Covered.{Covered}
+use Rattle.cert_values.specs.declared.certificate.Saturation.{Saturation}
+use Rattle.cert_values.specs.Values.{base_of, by_of, covered_of, saturation_of}
+use Rattle.cert_values.specs.Wholes.{HasPlaces, IsWholeBy, IsWholeCover, IsWholeCovered, IsWholeSaturation}
+use Rattle.cert_values.proofs.Grown.{bys_same}
+use Rattle.cert_values.proofs.Kept.{saturation_same}
 use Rattle.cert_check.specs.DueSteps.{AreNamed, GrowsCovers}
 use Rattle.cert_check.proofs.CoveredStages.{all_right}
 use Rattle.cert_check.proofs.DueLaws.{all_named}

@@ -13,10 +13,10 @@ use Rattle.term_bank.specs.Forest.{Forest, Extends, tree_at}
 use Rattle.cert_format.specs.Certificate as format
 use Rattle.cert_format.specs.Certificate.{selected_members}
 use Rattle.cert_format.specs.Validity.{IsProperPair, IsRightPair, SelectsAt}
-use Rattle.saturation_cert.specs.declared.certificate.Saturation.{Saturation}
-use Rattle.saturation_cert.specs.Truths.{IsSelectedLiteral}
-use Rattle.saturation_cert.specs.Values.{base_of, saturation_of}
-use Rattle.saturation_cert.specs.Wholes.{IsWholeSaturation, HasPlaces, KeepsSaturation}
+use Rattle.cert_values.specs.declared.certificate.Saturation.{Saturation}
+use Rattle.cert_values.specs.SelectedLiteral.{IsSelectedLiteral}
+use Rattle.cert_values.specs.Values.{base_of, saturation_of}
+use Rattle.cert_values.specs.Wholes.{IsWholeSaturation, HasPlaces, KeepsSaturation}
 use Rattle.cert_format.specs.Validity.{IsValidBase}
 use Rattle.cert_index.specs.Meetings.{IsApart}
 use Rattle.cert_index.proofs.ApartLaws as apart

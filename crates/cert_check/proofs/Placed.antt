@@ -11,9 +11,9 @@ use Rattle.term_bank.specs.Forest.{literal_tree, Forest, clause_at}
 use Rattle.cert_format.specs.Validity.{IsRightPlace}
 use Rattle.cert_format.proofs.Selected.{is_placed}
 use Rattle.cert_format.proofs.Numbers.{same_item}
-use Rattle.saturation_cert.specs.declared.member.Member.{Member}
-use Rattle.saturation_cert.specs.declared.certificate.Saturation.{Saturation}
-use Rattle.saturation_cert.specs.Values.{saturation_of, entry_of}
+use Rattle.cert_values.specs.declared.member.Member.{Member}
+use Rattle.cert_values.specs.declared.certificate.Saturation.{Saturation}
+use Rattle.cert_values.specs.Values.{saturation_of, entry_of}
 use Rattle.cert_check.specs.Firsts.{IsFirstWrong}
 
 module _ (c : Saturation) (i : ℕ) where

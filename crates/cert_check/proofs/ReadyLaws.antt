@@ -1,8 +1,8 @@
 -- Look-ups stay ready while the bank grows.
 use Rattle.std.proofs.Common.{sym, subst}
 use Rattle.cert_format.specs.Certificate as format
-use Rattle.saturation_cert.specs.declared.certificate.Saturation.{Saturation}
-use Rattle.saturation_cert.specs.Wholes.{IsWholeSaturation, KeepsSaturation}
+use Rattle.cert_values.specs.declared.certificate.Saturation.{Saturation}
+use Rattle.cert_values.specs.Wholes.{IsWholeSaturation, KeepsSaturation}
 use Rattle.cert_index.specs.Chains.{AreMeetings}
 use Rattle.cert_index.specs.declared.lookup.Lookup.{Lookup}
 use Rattle.cert_index.specs.Lookups.{IsReady}

@@ -16,18 +16,18 @@ use Rattle.cert_format.specs.Validity.{IsRightAxiom, IsRightGroundLine, Refutati
 use Rattle.cert_format.specs.TermLists.{IsGroundLineOf}
 use Rattle.cert_format.specs.declared.complaint.Complaint.{Complaint}
 use Rattle.cert_format.specs.declared.complaint.Complaint.TheVariants.{Axiom, Member as Derived, Bot, Ground, Step as Shown, NotEmpty, Place, Input, Pair, Cover as Named}
-use Rattle.saturation_cert.specs.declared.certificate.Base.{Base}
-use Rattle.saturation_cert.specs.declared.certificate.FirstRefutation.{FirstRefutation}
-use Rattle.saturation_cert.specs.declared.certificate.GroundStep.{GroundStep}
-use Rattle.saturation_cert.specs.declared.certificate.GroundLine.{GroundLine}
-use Rattle.saturation_cert.specs.declared.certificate.Refutation.{Refutation}
-use Rattle.saturation_cert.specs.Values.{step_of, line_of, refutation_of}
-use Rattle.saturation_cert.specs.Wholes.{IsWholeClause, IsWholeBase, IsWholeFirst, KeepsBase}
+use Rattle.cert_values.specs.declared.certificate.Base.{Base}
+use Rattle.cert_values.specs.declared.certificate.FirstRefutation.{FirstRefutation}
+use Rattle.cert_values.specs.declared.certificate.GroundStep.{GroundStep}
+use Rattle.cert_values.specs.declared.certificate.GroundLine.{GroundLine}
+use Rattle.cert_values.specs.declared.certificate.Refutation.{Refutation}
+use Rattle.cert_values.specs.Values.{step_of, line_of, refutation_of}
+use Rattle.cert_values.specs.Wholes.{IsWholeClause, IsWholeBase, IsWholeFirst, KeepsBase}
 use Rattle.cert_names.specs.Under.{IsFirstWrongLine}
 use Rattle.cert_check.specs.Firsts.{IsFirstWrong, IsFirstWrongOf}
 use Rattle.cert_check.proofs.Rightness.{all_inputs}
 use Rattle.cert_check.proofs.Bases.{at_most, smaller}
-use Rattle.saturation_cert.proofs.Grown.{clause_grown, clauses_grown, members_grown, steps_grown}
+use Rattle.cert_values.proofs.Grown.{clause_grown, clauses_grown, members_grown, steps_grown}
 
 pub whole_base : (b : Base) (g : Forest) → IsWholeBase b → Extends b.bank g → AreFormed g → IsWholeBase (record b { bank = g })
 whole_base b g h grown formed = record {

@@ -11,14 +11,14 @@ use Rattle.inst_calculus.specs.Entries.{Entry}
 use Rattle.std.specs.Prelude.{All}
 use Rattle.std.proofs.lemmas.List.Elements.{All-get_or}
 use Rattle.inst_calculus.proofs.Membership.{all_in, in_all}
-use Rattle.saturation_cert.specs.Wholes.{IsWholeClause}
+use Rattle.cert_values.specs.Wholes.{IsWholeClause}
 use Rattle.term_bank.specs.Forest.{Forest, IsClauseOf, clause_at}
 use Rattle.cert_format.specs.Validity.{Gives, IsRightAxiom, IsRightMember}
-use Rattle.saturation_cert.specs.declared.member.Member.{Member}
-use Rattle.saturation_cert.specs.declared.member.Origin.{Origin}
-use Rattle.saturation_cert.specs.declared.member.Origin.TheVariants.{Input}
-use Rattle.saturation_cert.specs.declared.certificate.Base.{Base}
-use Rattle.saturation_cert.specs.Values.{base_of, entry_of, origin_of}
+use Rattle.cert_values.specs.declared.member.Member.{Member}
+use Rattle.cert_values.specs.declared.member.Origin.{Origin}
+use Rattle.cert_values.specs.declared.member.Origin.TheVariants.{Input}
+use Rattle.cert_values.specs.declared.certificate.Base.{Base}
+use Rattle.cert_values.specs.Values.{base_of, entry_of, origin_of}
 use Rattle.cert_check.specs.Inputs.{GivesInput}
 use Rattle.inst_logic.proofs.Items.{lists_equal}
 

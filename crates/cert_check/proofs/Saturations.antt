@@ -6,15 +6,15 @@ use Rattle.cert_format.specs.Certificate as format
 use Rattle.cert_format.specs.Validity.{IsRightPlace, IsRightInput, IsRightPair, SaturationPasses, IsFirstComplaint, IsValidSaturation, Precedes}
 use Rattle.cert_format.specs.declared.complaint.Complaint.{Complaint}
 use Rattle.cert_format.specs.declared.complaint.Complaint.TheVariants.{Axiom, Member as Derived, Bot, Ground, Step as Shown, NotEmpty, Place, Input, Pair, Cover as Named}
-use Rattle.saturation_cert.specs.declared.certificate.Base.{Base}
-use Rattle.saturation_cert.specs.declared.certificate.Saturation.{Saturation}
-use Rattle.saturation_cert.specs.Values.{saturation_of}
-use Rattle.saturation_cert.specs.Wholes.{IsWholeBase, IsWholeSaturation, KeepsBase, KeepsSaturation}
+use Rattle.cert_values.specs.declared.certificate.Base.{Base}
+use Rattle.cert_values.specs.declared.certificate.Saturation.{Saturation}
+use Rattle.cert_values.specs.Values.{saturation_of}
+use Rattle.cert_values.specs.Wholes.{IsWholeBase, IsWholeSaturation, KeepsBase, KeepsSaturation}
 use Rattle.cert_format.specs.Validity.{IsValidBase}
 use Rattle.cert_check.specs.Firsts.{IsFirstWrong}
 use Rattle.cert_check.specs.FirstPairs.{IsFirstWrongPair, IsFirstWrongPairOf}
 use Rattle.cert_check.proofs.Bases.{base_same, at_most, smaller}
-use Rattle.saturation_cert.proofs.Grown.{clauses_grown, members_grown}
+use Rattle.cert_values.proofs.Grown.{clauses_grown, members_grown}
 use Rattle.cert_check.proofs.Refutations.{keeps_trans}
 
 pub saturation_same : (old new : Saturation) → IsWholeSaturation old → KeepsSaturation old new → saturation_of new ≡ saturation_of old

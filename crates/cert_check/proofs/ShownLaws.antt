@@ -13,12 +13,12 @@ use Rattle.cert_format.specs.Certificate as format
 use Rattle.cert_format.specs.TermLists.{Shows}
 use Rattle.cert_format.specs.Validity.{IsRightInput, IsShownInput, IsValidBase, ShowsAt}
 use Rattle.term_bank.specs.Forest.{clause_at}
-use Rattle.saturation_cert.specs.declared.certificate.By.{By}
-use Rattle.saturation_cert.specs.declared.certificate.Covered.{Covered}
-use Rattle.saturation_cert.specs.declared.certificate.Saturation.{Saturation}
-use Rattle.saturation_cert.specs.Values.{base_of, by_of, covered_of, saturation_of}
-use Rattle.saturation_cert.specs.Wholes.{IsWholeBy, IsWholeCovered, KeepsSaturation}
-use Rattle.saturation_cert.proofs.Grown.{bys_same}
+use Rattle.cert_values.specs.declared.certificate.By.{By}
+use Rattle.cert_values.specs.declared.certificate.Covered.{Covered}
+use Rattle.cert_values.specs.declared.certificate.Saturation.{Saturation}
+use Rattle.cert_values.specs.Values.{base_of, by_of, covered_of, saturation_of}
+use Rattle.cert_values.specs.Wholes.{IsWholeBy, IsWholeCovered, KeepsSaturation}
+use Rattle.cert_values.proofs.Grown.{bys_same}
 use Rattle.cert_check.specs.Names.{IsShownBy, IsUnshown, ShowsInput}
 use Rattle.cert_check.proofs.DueLaws.{slice_left, slice_end, slice_past}
 use Rattle.cert_check.proofs.InputScans.{all_stated, right_input, stated_at}

@@ -7,14 +7,14 @@ use Rattle.inst_logic.specs.Derivations.{at_number}
 use Rattle.inst_calculus.specs.Axioms.{with_axioms}
 use Rattle.cert_format.specs.Certificate as format
 use Rattle.cert_format.specs.Validity.{IsRightInput, IsShownInput, IsValidBase, ShowsAt}
-use Rattle.saturation_cert.specs.declared.certificate.Base.{Base}
-use Rattle.saturation_cert.specs.declared.certificate.By.{By}
-use Rattle.saturation_cert.specs.declared.certificate.Covered.{Covered}
-use Rattle.saturation_cert.specs.declared.certificate.Saturation.{Saturation}
-use Rattle.saturation_cert.specs.Values.{base_of, by_of, covered_of, saturation_of}
-use Rattle.saturation_cert.specs.Wholes.{IsWholeBy, IsWholeCovered, IsWholeSaturation, KeepsSaturation}
-use Rattle.saturation_cert.proofs.Grown.{bys_grown, covers_grown}
-use Rattle.saturation_cert.proofs.Kept.{saturation_same}
+use Rattle.cert_values.specs.declared.certificate.Base.{Base}
+use Rattle.cert_values.specs.declared.certificate.By.{By}
+use Rattle.cert_values.specs.declared.certificate.Covered.{Covered}
+use Rattle.cert_values.specs.declared.certificate.Saturation.{Saturation}
+use Rattle.cert_values.specs.Values.{base_of, by_of, covered_of, saturation_of}
+use Rattle.cert_values.specs.Wholes.{IsWholeBy, IsWholeCovered, IsWholeSaturation, KeepsSaturation}
+use Rattle.cert_values.proofs.Grown.{bys_grown, covers_grown}
+use Rattle.cert_values.proofs.Kept.{saturation_same}
 use Rattle.cert_check.specs.DueSteps.{GrowsShown}
 use Rattle.cert_check.specs.Names.{ShowsInput}
 use Rattle.cert_check.proofs.CoverGrowth.{shown_itself, shown_trans}

@@ -12,13 +12,13 @@ use Rattle.term_bank.specs.Forest.{Forest, AreDistinct, clause_at, tree_at}
 use Rattle.term_bank.proofs.Growth.{none_left}
 use Rattle.prop_logic.specs.Literal.{cited, AllAtomsBelow, AtomsBelow, StepsBelow, IsShownStep}
 use Rattle.prop_logic.specs.declared.literal.Step.{Step}
-use Rattle.saturation_cert.specs.declared.certificate.GroundHint.{GroundHint}
-use Rattle.saturation_cert.specs.declared.certificate.GroundHint.TheVariants.{Ground, Step as Before}
-use Rattle.saturation_cert.specs.declared.certificate.GroundStep.{GroundStep}
+use Rattle.cert_values.specs.declared.certificate.GroundHint.{GroundHint}
+use Rattle.cert_values.specs.declared.certificate.GroundHint.TheVariants.{Ground, Step as Before}
+use Rattle.cert_values.specs.declared.certificate.GroundStep.{GroundStep}
 use Rattle.cert_format.specs.Certificate.{line_clauses}
-use Rattle.saturation_cert.specs.declared.certificate.GroundLine.{GroundLine}
-use Rattle.saturation_cert.specs.Values.{step_of, hint_of, line_of}
-use Rattle.saturation_cert.specs.Wholes.{IsWholeClause, IsWholeLine}
+use Rattle.cert_values.specs.declared.certificate.GroundLine.{GroundLine}
+use Rattle.cert_values.specs.Values.{step_of, hint_of, line_of}
+use Rattle.cert_values.specs.Wholes.{IsWholeClause, IsWholeLine}
 use Rattle.cert_format.specs.Validity.{IsRightStep}
 use Rattle.cert_check.specs.Numbered.{IsRightNumber, numbered_hint, numbered_step}
 use Rattle.cert_check.specs.Stages.{IsRightStepNumber}

@@ -24,7 +24,7 @@ use Rattle.cert_format.specs.Upgrades.{LeadsTo, behind_numbers}
 use Rattle.cert_format.specs.Validity.{IsRightFirstMember}
 use Rattle.cert_format.proofs.Upgrades.{leads_instance}
 use Rattle.term_bank.specs.Forest.{Forest, AreIds, tree_at}
-use Rattle.saturation_cert.specs.Wholes.{IsWholeTerm}
+use Rattle.cert_values.specs.Wholes.{IsWholeTerm}
 use Rattle.clause_form.specs.Conclusions.{AreVariables, AreTermsOf}
 use Rattle.clause_form.specs.Walks.{listed, tree_or}
 use Rattle.clause_form.proofs.Variables.{order_of_instance, vars_under}

@@ -7,8 +7,8 @@ use Rattle.inst_logic.specs.Clauses.{TreeClause}
 use Rattle.inst_logic.specs.Derivations.{at_number}
 use Rattle.inst_logic.specs.Substitution.{subst as apply}
 use Rattle.inst_calculus.specs.Conclusions.{IsConclusion}
-use Rattle.saturation_cert.specs.declared.member.Member.{Member}
-use Rattle.saturation_cert.specs.Values.{entry_of}
+use Rattle.cert_values.specs.declared.member.Member.{Member}
+use Rattle.cert_values.specs.Values.{entry_of}
 use Rattle.term_bank.specs.Forest.{literal_tree, Forest, tree_at}
 use Rattle.cert_inference.specs.Conclusions.{literal_of}
 use Rattle.cert_inference.proofs.Conclusions.{entry_there, literal_named, literal_there, member_of_literal}

@@ -23,13 +23,13 @@ use Rattle.cert_format.proofs.Upgrades.{leads_followed}
 use Rattle.term_bank.specs.Forest.{Forest, Extends, IsAt, clause_at, tree_at}
 use Rattle.clause_form.specs.Conclusions.{AreVariables}
 use Rattle.clause_form.specs.Walks.{listed}
-use Rattle.saturation_cert.specs.declared.certificate.Base.{Base}
-use Rattle.saturation_cert.specs.declared.certificate.FirstRefutation.{FirstRefutation}
-use Rattle.saturation_cert.specs.declared.certificate.GroundLine.{GroundLine}
-use Rattle.saturation_cert.specs.Values.{base_of, first_of, line_of, refutation_of}
-use Rattle.saturation_cert.specs.Wholes.{IsWholeBase, IsWholeClause, IsWholeFirst, IsWholeLine, IsWholeRefutation, IsWholeTerm, KeepsBase}
-use Rattle.saturation_cert.proofs.Grown.{clause_grown, clauses_same, steps_grown, steps_same, terms_grown, terms_same}
-use Rattle.saturation_cert.proofs.Kept.{base_same}
+use Rattle.cert_values.specs.declared.certificate.Base.{Base}
+use Rattle.cert_values.specs.declared.certificate.FirstRefutation.{FirstRefutation}
+use Rattle.cert_values.specs.declared.certificate.GroundLine.{GroundLine}
+use Rattle.cert_values.specs.Values.{base_of, first_of, line_of, refutation_of}
+use Rattle.cert_values.specs.Wholes.{IsWholeBase, IsWholeClause, IsWholeFirst, IsWholeLine, IsWholeRefutation, IsWholeTerm, KeepsBase}
+use Rattle.cert_values.proofs.Grown.{clause_grown, clauses_same, steps_grown, steps_same, terms_grown, terms_same}
+use Rattle.cert_values.proofs.Kept.{base_same}
 use Rattle.cert_check.specs.declared.source.Source.{Source}
 use Rattle.cert_check.specs.Sources.{AreConclusionTerms, AreFirstMembers, AreGroundLines, AreSources, Conclude, IsSource}
 use Rattle.cert_check.proofs.Bases.{member_canonical}

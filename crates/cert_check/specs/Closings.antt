@@ -11,8 +11,8 @@ use Rattle.cert_format.specs.Validity.{SelectsAt}
 use Rattle.unify_core.specs.Sides.{Binding, IsResolvedBy, of_side}
 use Rattle.unify_core.specs.declared.side.Side.{Side}
 use Rattle.unify_core.specs.declared.side.Side.TheVariants.{Left, Right}
-use Rattle.saturation_cert.specs.declared.certificate.Saturation.{Saturation}
-use Rattle.saturation_cert.specs.Values.{saturation_of}
+use Rattle.cert_values.specs.declared.certificate.Saturation.{Saturation}
+use Rattle.cert_values.specs.Values.{saturation_of}
 
 -- the instance of the member on the side is covered
 abbrev pub HasCoveredSide : Saturation → Sided → Side → Member → Type 0

@@ -6,14 +6,14 @@ use Rattle.inst_logic.specs.Unifiers.{Sided}
 use Rattle.inst_calculus.specs.Models.{Member}
 use Rattle.cert_format.specs.TermLists.{HoldsBy}
 use Rattle.cert_format.specs.Validity.{CoversAt, IsValidBase, SelectsAt}
-use Rattle.saturation_cert.specs.declared.certificate.By.TheVariants.{Variant}
-use Rattle.saturation_cert.specs.declared.certificate.Cover.{Cover}
-use Rattle.saturation_cert.specs.declared.certificate.Covered.{Covered}
-use Rattle.saturation_cert.specs.declared.certificate.Saturation.{Saturation}
-use Rattle.saturation_cert.specs.declared.member.Member.{Member as Made}
-use Rattle.saturation_cert.specs.declared.member.Origin.TheVariants.{Inst}
-use Rattle.saturation_cert.specs.Values.{base_of, by_of, covered_of, saturation_of}
-use Rattle.saturation_cert.specs.Wholes.{HasPlaces, IsWholeCovered}
+use Rattle.cert_values.specs.declared.certificate.By.TheVariants.{Variant}
+use Rattle.cert_values.specs.declared.certificate.Cover.{Cover}
+use Rattle.cert_values.specs.declared.certificate.Covered.{Covered}
+use Rattle.cert_values.specs.declared.certificate.Saturation.{Saturation}
+use Rattle.cert_values.specs.declared.member.Member.{Member as Made}
+use Rattle.cert_values.specs.declared.member.Origin.TheVariants.{Inst}
+use Rattle.cert_values.specs.Values.{base_of, by_of, covered_of, saturation_of}
+use Rattle.cert_values.specs.Wholes.{HasPlaces, IsWholeCovered}
 use Rattle.term_bank.specs.Forest.{clause_at}
 use Rattle.unify_core.specs.Sides.{Binding, IsResolvedBy, of_side}
 use Rattle.unify_core.specs.declared.side.Side.{Side}

@@ -4,7 +4,7 @@ use Rattle.inst_logic.specs.declared.signed.Signed.{Signed}
 use Rattle.inst_logic.specs.Signed.{IsTautology}
 use Rattle.inst_logic.specs.Clauses.{TreeClause, AreVariants}
 use Rattle.term_bank.specs.Forest.{Forest, clause_at}
-use Rattle.saturation_cert.specs.declared.member.Member.{Member}
+use Rattle.cert_values.specs.declared.member.Member.{Member}
 use Rattle.cert_index.specs.Shorter.{IsShorter}
 
 -- e is a variant of d, or is shorter and subsumes it

@@ -10,9 +10,9 @@ use Rattle.unify_core.specs.declared.side.Side.{Side}
 use Rattle.cert_format.specs.Certificate.{Saturation, Covered}
 use Rattle.cert_format.specs.Dues.{Due, row, pairs, AreDueOfSide, AreDueOfPair, AreDueOf, AreDue}
 use Rattle.cert_format.specs.Validity.{CoversAt, IsCoverOf, SelectsAt}
-use Rattle.saturation_cert.specs.Values.{side_of}
-use Rattle.saturation_cert.specs.declared.certificate.Covered.{Covered as Values}
-use Rattle.saturation_cert.specs.Wholes.{KeepsSaturation}
+use Rattle.cert_values.specs.Values.{side_of}
+use Rattle.cert_values.specs.declared.certificate.Covered.{Covered as Values}
+use Rattle.cert_values.specs.Wholes.{KeepsSaturation}
 use Rattle.cert_check.specs.Closings.{IsGeneralOn}
 use Rattle.cert_index.specs.Meetings.{LeadsOn}
 use Rattle.cert_check.specs.Sides.{left_number, right_number}

@@ -3,7 +3,7 @@ use Rattle.std.specs.Prelude.{◌≡◌, ℕ, List, All, option_map, slice_get}
 use Rattle.inst_logic.specs.declared.signed.Signed.{Signed}
 use Rattle.inst_logic.specs.Clauses.{IsCanonical, instance}
 use Rattle.term_bank.specs.Forest.{Forest, clause_at, tree_at}
-use Rattle.saturation_cert.specs.declared.member.Member.{Member}
+use Rattle.cert_values.specs.declared.member.Member.{Member}
 
 abbrev pub AreCanonicalMembers : Forest → List Member → Type 0
 AreCanonicalMembers f ms = All (λ m. IsCanonical (clause_at f m.clause)) ms

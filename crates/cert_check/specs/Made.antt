@@ -3,10 +3,10 @@ use Rattle.std.specs.Prelude.{◌≡◌, ℕ, suc, ◌+◌, ◌≤◌, List, [],
 use Rattle.inst_logic.specs.Substitution.{tree_vars}
 use Rattle.inst_calculus.specs.Models.{Member}
 use Rattle.cert_format.specs.Validity.{IsProperPair, SelectsAt}
-use Rattle.saturation_cert.specs.declared.certificate.Cover.{Cover}
-use Rattle.saturation_cert.specs.declared.certificate.Covered.{Covered}
-use Rattle.saturation_cert.specs.declared.certificate.Saturation.{Saturation}
-use Rattle.saturation_cert.specs.Values.{covered_of, saturation_of}
+use Rattle.cert_values.specs.declared.certificate.Cover.{Cover}
+use Rattle.cert_values.specs.declared.certificate.Covered.{Covered}
+use Rattle.cert_values.specs.declared.certificate.Saturation.{Saturation}
+use Rattle.cert_values.specs.Values.{covered_of, saturation_of}
 use Rattle.unify_core.specs.declared.side.Side.TheVariants.{Left, Right}
 use Rattle.cert_check.specs.Compared.{IsMadeCover}
 use Rattle.cert_check.specs.DueSteps.{AreCompared, GivesPair}

@@ -9,12 +9,12 @@ use Rattle.inst_calculus.specs.Models.{Member as Selected}
 use Rattle.inst_logic.specs.Derivations.{at_number}
 use Rattle.cert_format.specs.TermLists.{HoldsBy, IsPartBy, Shows}
 use Rattle.cert_format.specs.Validity.{SelectsAt}
-use Rattle.saturation_cert.specs.declared.certificate.By.{By}
-use Rattle.saturation_cert.specs.declared.certificate.By.TheVariants.{Part}
-use Rattle.saturation_cert.specs.declared.certificate.Saturation.{Saturation}
-use Rattle.saturation_cert.specs.declared.member.Member.{Member}
-use Rattle.saturation_cert.specs.Values.{by_of, entry_of, saturation_of}
-use Rattle.saturation_cert.specs.Wholes.{IsWholeBy, IsWholeClause, IsWholeTerm}
+use Rattle.cert_values.specs.declared.certificate.By.{By}
+use Rattle.cert_values.specs.declared.certificate.By.TheVariants.{Part}
+use Rattle.cert_values.specs.declared.certificate.Saturation.{Saturation}
+use Rattle.cert_values.specs.declared.member.Member.{Member}
+use Rattle.cert_values.specs.Values.{by_of, entry_of, saturation_of}
+use Rattle.cert_values.specs.Wholes.{IsWholeBy, IsWholeClause, IsWholeTerm}
 use Rattle.term_bank.specs.Forest.{Forest, clause_at, tree_at}
 use Rattle.unify_core.specs.Sides.{Binding, IsResolvedBy, of_side}
 use Rattle.unify_core.specs.declared.side.Side.{Side}

@@ -6,9 +6,9 @@ use Rattle.prop_logic.specs.Literal.{IsShownStep}
 use Rattle.prop_logic.specs.declared.literal.Hint.{Hint}
 use Rattle.prop_logic.specs.declared.literal.Hint.TheVariants.{Added, Step as Earlier}
 use Rattle.prop_logic.specs.declared.literal.Step.{Step}
-use Rattle.saturation_cert.specs.declared.certificate.GroundHint.{GroundHint}
-use Rattle.saturation_cert.specs.declared.certificate.GroundHint.TheVariants.{Ground, Step as Before}
-use Rattle.saturation_cert.specs.declared.certificate.GroundStep.{GroundStep}
+use Rattle.cert_values.specs.declared.certificate.GroundHint.{GroundHint}
+use Rattle.cert_values.specs.declared.certificate.GroundHint.TheVariants.{Ground, Step as Before}
+use Rattle.cert_values.specs.declared.certificate.GroundStep.{GroundStep}
 
 abbrev pub numbered_hint : GroundHint → Hint
 numbered_hint (Ground n) = Added n

@@ -2,10 +2,10 @@
 use Rattle.std.specs.Prelude.{◌≡◌, ℕ, List, Some}
 use Rattle.inst_logic.specs.Derivations.{at_number}
 use Rattle.cert_format.specs.Validity.{IsFirstOrigin}
-use Rattle.saturation_cert.specs.declared.member.Member.{Member}
-use Rattle.saturation_cert.specs.declared.member.Origin.{Origin}
-use Rattle.saturation_cert.specs.declared.member.Origin.TheVariants.{Inst}
-use Rattle.saturation_cert.specs.Values.{origin_of}
+use Rattle.cert_values.specs.declared.member.Member.{Member}
+use Rattle.cert_values.specs.declared.member.Origin.{Origin}
+use Rattle.cert_values.specs.declared.member.Origin.TheVariants.{Inst}
+use Rattle.cert_values.specs.Values.{origin_of}
 use Rattle.cert_inference.specs.declared.inference.Premises.{Premises}
 
 abbrev pub origin_from : Premises → Origin

@@ -15,8 +15,8 @@ use Rattle.cert_format.specs.Upgrades.{LeadsTo, GivesTerms}
 use Rattle.cert_format.specs.Validity.{IsRightFirstMember}
 use Rattle.term_bank.specs.Forest.{Forest, clause_at, tree_at}
 use Rattle.clause_form.specs.Conclusions.{AreTermsOf}
-use Rattle.saturation_cert.specs.declared.certificate.GroundLine.{GroundLine}
-use Rattle.saturation_cert.specs.Wholes.{IsWholeTerm}
+use Rattle.cert_values.specs.declared.certificate.GroundLine.{GroundLine}
+use Rattle.cert_values.specs.Wholes.{IsWholeTerm}
 use Rattle.cert_check.specs.declared.source.Source.{Source}
 
 -- the trees, renamed apart, have a unifier

@@ -5,8 +5,8 @@ ghost use Rattle.cert_format.specs.Validity.{IsRightAxiom, IsRightMember};
 ghost use Rattle.cert_check.specs.Answers.{IsCheckCause};
 ghost use Rattle.cert_format.specs.Validity.{BasePasses, IsValidBase};
 ghost use Rattle.cert_check.specs.Firsts.{IsFirstWrongOf};
-ghost use Rattle.saturation_cert.specs.Values.{base_of};
-ghost use Rattle.saturation_cert.specs.Wholes.{IsWholeBase, KeepsBase};
+ghost use Rattle.cert_values.specs.Values.{base_of};
+ghost use Rattle.cert_values.specs.Wholes.{IsWholeBase, KeepsBase};
 
 use crate::axioms::clauses_by_id;
 use crate::difference::difference;
@@ -16,9 +16,9 @@ use crate::part::{PartClaim, are_within, members_give_part};
 use crate::walk::symbols_in;
 use cert_format::Complaint;
 use cert_inference::{Claim, PairRoom, Premises, members_give};
+use cert_values::{Base, Origin};
 use equality_axioms::axioms_from;
 use inst_logic::Memory;
-use saturation_cert::{Base, Origin};
 use std::alloc::Global;
 
 // The number of the first axiom that is not the one that the inputs have there.

@@ -9,8 +9,8 @@ ghost use Rattle.inst_calculus.specs.Saturation.{IsSaturated};
 ghost use Rattle.cert_format.specs.Certificate.{selected_members};
 ghost use Rattle.cert_format.specs.Validity.{CoversPass, IsNamed, IsShownInput, IsValidBase, SaturationPasses};
 ghost use Rattle.term_bank.specs.Forest.{IsAt};
-ghost use Rattle.saturation_cert.specs.Values.{base_of, covered_of, saturation_of};
-ghost use Rattle.saturation_cert.specs.Wholes.{HasPlaces, IsWholeCovered, IsWholeSaturation, KeepsCovered, KeepsSaturation};
+ghost use Rattle.cert_values.specs.Values.{base_of, covered_of, saturation_of};
+ghost use Rattle.cert_values.specs.Wholes.{HasPlaces, IsWholeCovered, IsWholeSaturation, KeepsCovered, KeepsSaturation};
 ghost use Rattle.cert_check.specs.Answers.{IsCheckCause};
 ghost use Rattle.cert_index.specs.Chains.{AreMeetings};
 ghost use Rattle.cert_check.specs.Compared.{IsComparable};
@@ -26,8 +26,8 @@ use cert_format::Complaint;
 use cert_format::covers::named_is_valid;
 use cert_format::laws::valid_saturations_are_models;
 use cert_index::{Lookup, Meetings, find_lookup, meetings_of};
+use cert_values::{ByList, CoverList, Covered, Saturation};
 use inst_logic::{Literal, Memory};
-use saturation_cert::{ByList, CoverList, Covered, Saturation};
 use std::alloc::Global;
 use std::marker::Model;
 use term_bank::TermId;
@@ -39,11 +39,11 @@ pub struct CheckedCovered {
 }
 
 impl Model for CheckedCovered {
-    ghost use Rattle.saturation_cert.specs.declared.certificate.Covered.{Covered};
-    ghost use Rattle.saturation_cert.specs.Values.{covered_of};
-    ghost use Rattle.saturation_cert.specs.Wholes.{IsWholeCovered};
+    ghost use Rattle.cert_values.specs.declared.certificate.Covered.{Covered};
+    ghost use Rattle.cert_values.specs.Values.{covered_of};
+    ghost use Rattle.cert_values.specs.Wholes.{IsWholeCovered};
     ghost use Rattle.cert_format.specs.Validity.{IsNamed};
-    ghost use Rattle.saturation_cert.specs.contracts.certificate.Covered as value;
+    ghost use Rattle.cert_values.specs.contracts.certificate.Covered as value;
     ghost use Rattle.std.specs.Coded.{codes};
 
     ghost Value = { Covered };

@@ -2,7 +2,7 @@
 ghost use Rattle.std.specs.Prelude.{◌≡◌, ◌<◌, length, suc};
 ghost use Rattle.cert_check.specs.Sides.{left_number, right_number};
 
-use saturation_cert::Member;
+use cert_values::Member;
 use unify_core::Side;
 
 /// The side, the place of its member, and that of the member on the other side, counted from 0.

@@ -5,8 +5,8 @@ ghost use Rattle.inst_logic.specs.Truth.{IsRefuted};
 ghost use Rattle.inst_calculus.specs.Axioms.{with_axioms};
 ghost use Rattle.inst_logic.specs.WellFormed.{is_constant};
 ghost use Rattle.cert_format.specs.Validity.{IsFirstOrigin, IsRightAxiom, IsRightFirstMember, IsRightGround, IsValidRefutation, RefutationPasses};
-ghost use Rattle.saturation_cert.specs.Values.{base_of, first_of, origin_of};
-ghost use Rattle.saturation_cert.specs.Wholes.{IsWholeBase, IsWholeFirst, KeepsBase, KeepsFirst};
+ghost use Rattle.cert_values.specs.Values.{base_of, first_of, origin_of};
+ghost use Rattle.cert_values.specs.Wholes.{IsWholeBase, IsWholeFirst, KeepsBase, KeepsFirst};
 ghost use Rattle.cert_check.specs.Answers.{IsCheckCause};
 ghost use Rattle.cert_check.specs.Firsts.{IsFirstWrongOf, first_of_both};
 ghost use Rattle.cert_check.specs.Origins.{IsNoLemmaAt};
@@ -17,8 +17,8 @@ use crate::error::CheckError;
 use crate::grounds::{first_wrong_ground, is_constant};
 use crate::steps::{ends_empty, numbered_clauses, wrong_step};
 use cert_format::{Complaint, valid_refutations_refute};
+use cert_values::{Base, FirstRefutation, MemberList, Origin};
 use inst_logic::Memory;
-use saturation_cert::{Base, FirstRefutation, MemberList, Origin};
 use std::alloc::Global;
 use std::marker::Model;
 
@@ -29,11 +29,11 @@ pub struct CheckedFirst {
 }
 
 impl Model for CheckedFirst {
-    ghost use Rattle.saturation_cert.specs.declared.certificate.FirstRefutation.{FirstRefutation};
-    ghost use Rattle.saturation_cert.specs.Values.{first_of};
-    ghost use Rattle.saturation_cert.specs.Wholes.{IsWholeFirst};
+    ghost use Rattle.cert_values.specs.declared.certificate.FirstRefutation.{FirstRefutation};
+    ghost use Rattle.cert_values.specs.Values.{first_of};
+    ghost use Rattle.cert_values.specs.Wholes.{IsWholeFirst};
     ghost use Rattle.cert_format.specs.Validity.{IsValidRefutation};
-    ghost use Rattle.saturation_cert.specs.contracts.certificate.FirstRefutation as value;
+    ghost use Rattle.cert_values.specs.contracts.certificate.FirstRefutation as value;
     ghost use Rattle.std.specs.Coded.{codes};
 
     ghost Value = { FirstRefutation };

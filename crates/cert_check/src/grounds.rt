@@ -6,15 +6,15 @@ ghost use Rattle.inst_logic.specs.Derivations.{at_number};
 ghost use Rattle.inst_logic.specs.WellFormed.{IsTerm, is_constant};
 ghost use Rattle.inst_calculus.specs.Abstraction.{abstraction};
 ghost use Rattle.inst_calculus.specs.Entries.{entry_clauses};
-ghost use Rattle.saturation_cert.specs.Values.{entry_of};
+ghost use Rattle.cert_values.specs.Values.{entry_of};
 ghost use Rattle.term_bank.specs.Forest.{AreFormed, Extends, IsClauseAt, IsClauseOf, clause_at, tree_at};
 ghost use Rattle.cert_check.specs.Firsts.{IsFirstWrongOf};
 ghost use Rattle.cert_check.specs.Grounds.{AreCanonicalMembers, IsGroundAt};
 
 use cert_inference::same_trees;
+use cert_values::MemberList;
 use clause_form::{greatest_variable, under};
 use inst_logic::{Kind, Memory, Sym};
-use saturation_cert::MemberList;
 use std::alloc::Global;
 use term_bank::{Bank, IdClause, IdClauseList, TermId, TermIdList};
 

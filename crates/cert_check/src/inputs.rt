@@ -4,10 +4,10 @@ ghost use Rattle.inst_logic.specs.Clauses.{Subsumes};
 ghost use Rattle.term_bank.specs.Forest.{IsClauseOf, clause_at};
 ghost use Rattle.cert_index.specs.Places.{IsPlaceOf};
 
+use cert_values::{Base, Member, Origin};
 use clause_form::subsumes;
 use indexmap::IndexMap;
 use inst_logic::Memory;
-use saturation_cert::{Base, Member, Origin};
 use std::alloc::Global;
 use term_bank::{Bank, IdClause};
 

@@ -1,8 +1,8 @@
 // Covers that are told by the origins of the members that they name. The origins were checked before, so the selected literals
 // of such a member's premises unify, the unifier is proper for the first, and the member's clause is the instance.
 ghost use Rattle.std.specs.Prelude.{◌≡◌, ◌↔◌, ◌<◌, IfSome, IsTrue, false, length, suc, true};
-ghost use Rattle.saturation_cert.specs.Values.{saturation_of};
-ghost use Rattle.saturation_cert.specs.Wholes.{HasPlaces, IsWholeSaturation};
+ghost use Rattle.cert_values.specs.Values.{saturation_of};
+ghost use Rattle.cert_values.specs.Wholes.{HasPlaces, IsWholeSaturation};
 ghost use Rattle.cert_check.specs.Compared.{IsComparable, IsMadeCover};
 ghost use Rattle.cert_check.specs.Made.{AreMade, HasGroundAtom, IsMadeAt, IsPassed};
 ghost use Rattle.cert_check.specs.Origins.{origin_from};
@@ -11,7 +11,7 @@ ghost use Rattle.cert_check.specs.Sides.{left_number, right_number};
 use crate::compare::Progress;
 use crate::due_side::DueSide;
 use cert_inference::{Premises, numbered_item, same_clause};
-use saturation_cert::{By, Cover, Covered, Member, Origin, Saturation, selected};
+use cert_values::{By, Cover, Covered, Member, Origin, Saturation, selected};
 use unify_core::Side;
 
 // Whether the cover has the numbers and the side.

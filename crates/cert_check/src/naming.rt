@@ -8,8 +8,8 @@ ghost use Rattle.term_bank.specs.Forest.{AreFormed, Extends, IsClauseOf, clause_
 ghost use Rattle.unify_core.specs.Chains.{AreBindings};
 ghost use Rattle.unify_core.specs.Sides.{IsResolvedBy, of_side};
 ghost use Rattle.unify_core.specs.Terms.{AreTerms};
-ghost use Rattle.saturation_cert.specs.declared.certificate.By.TheVariants.{Variant};
-ghost use Rattle.saturation_cert.specs.Wholes.{IsWholeClause};
+ghost use Rattle.cert_values.specs.declared.certificate.By.TheVariants.{Variant};
+ghost use Rattle.cert_values.specs.Wholes.{IsWholeClause};
 ghost use Rattle.cert_check.specs.Covers.{IsCoveredIn};
 ghost use Rattle.cert_check.specs.Grounds.{AreCanonicalMembers};
 ghost use Rattle.cert_index.specs.Lookups.{IsLookup};
@@ -19,9 +19,9 @@ ghost use Rattle.cert_index.specs.Places.{IsPlaceOf};
 use cert_index::{Lookup, shorter_place};
 use cert_inference::Instance;
 use cert_names::part_terms;
+use cert_values::{By, Member};
 use clause_form::{Workspace, long_tautology};
 use inst_logic::Memory;
-use saturation_cert::{By, Member};
 use std::alloc::Global;
 use term_bank::{Bank, IdClause};
 

@@ -5,14 +5,14 @@ ghost use Rattle.inst_logic.specs.Clauses.{canonical_form};
 ghost use Rattle.inst_calculus.specs.Conclusions.{IsPartOfConclusion};
 ghost use Rattle.inst_calculus.specs.Parts.{AreWithin, IsProperPart, chosen};
 ghost use Rattle.term_bank.specs.Forest.{AreFormed, Extends, IsClauseOf, clause_at};
-ghost use Rattle.saturation_cert.specs.Values.{entry_of};
-ghost use Rattle.saturation_cert.specs.Wholes.{IsWholeClause};
+ghost use Rattle.cert_values.specs.Values.{entry_of};
+ghost use Rattle.cert_values.specs.Wholes.{IsWholeClause};
 ghost use Rattle.cert_check.specs.Parts.{IsPartGiven};
 
 use crate::origin::is_canonical_form;
 use cert_inference::{PairRoom, Premises, conclusion, numbered_item};
+use cert_values::Member;
 use inst_logic::Memory;
-use saturation_cert::Member;
 use std::alloc::Global;
 use term_bank::{Bank, IdClause};
 

@@ -1,10 +1,10 @@
 // The check of the places of the selected literals. It comes before all that reads a selected literal, and takes no memory.
 ghost use Rattle.cert_check.specs.Firsts.{IsFirstWrongOf};
 ghost use Rattle.cert_format.specs.Validity.{IsRightPlace};
-ghost use Rattle.saturation_cert.specs.Values.{saturation_of};
+ghost use Rattle.cert_values.specs.Values.{saturation_of};
 ghost use Rattle.std.specs.Prelude.{◌≡◌, ◌↔◌, ◌<◌, ◌≤◌, IsTrue, suc, max, length, true, false};
 
-use saturation_cert::Saturation;
+use cert_values::Saturation;
 use term_bank::IdClause;
 
 fn has_literal(c: &IdClause, place: usize) -> bool

@@ -6,8 +6,8 @@ ghost use Rattle.inst_logic.specs.Truth.{IsRefuted};
 ghost use Rattle.inst_calculus.specs.Axioms.{with_axioms};
 ghost use Rattle.cert_format.specs.Certificate.{line_clauses};
 ghost use Rattle.cert_format.specs.Validity.{IsRightAxiom, IsRightGroundLine, IsRightMember, IsValidByLines, LinesPass};
-ghost use Rattle.saturation_cert.specs.Values.{refutation_of};
-ghost use Rattle.saturation_cert.specs.Wholes.{IsWholeRefutation, KeepsRefutation};
+ghost use Rattle.cert_values.specs.Values.{refutation_of};
+ghost use Rattle.cert_values.specs.Wholes.{IsWholeRefutation, KeepsRefutation};
 ghost use Rattle.cert_check.specs.Answers.{IsCheckCause};
 ghost use Rattle.cert_check.specs.Firsts.{IsFirstWrongOf};
 ghost use Rattle.cert_check.specs.Stages.{IsRightStepNumber};
@@ -18,8 +18,8 @@ use crate::grounds::is_constant;
 use crate::steps::{ends_empty, numbered_lines, wrong_step};
 use cert_format::{Complaint, valid_lines_refute};
 use cert_names::first_wrong_line;
+use cert_values::Refutation;
 use inst_logic::Memory;
-use saturation_cert::Refutation;
 use std::alloc::Global;
 use std::marker::Model;
 
@@ -30,11 +30,11 @@ pub struct CheckedRefutation {
 }
 
 impl Model for CheckedRefutation {
-    ghost use Rattle.saturation_cert.specs.declared.certificate.Refutation.{Refutation};
-    ghost use Rattle.saturation_cert.specs.Values.{refutation_of};
-    ghost use Rattle.saturation_cert.specs.Wholes.{IsWholeRefutation};
+    ghost use Rattle.cert_values.specs.declared.certificate.Refutation.{Refutation};
+    ghost use Rattle.cert_values.specs.Values.{refutation_of};
+    ghost use Rattle.cert_values.specs.Wholes.{IsWholeRefutation};
     ghost use Rattle.cert_format.specs.Validity.{IsValidByLines};
-    ghost use Rattle.saturation_cert.specs.contracts.certificate.Refutation as value;
+    ghost use Rattle.cert_values.specs.contracts.certificate.Refutation as value;
     ghost use Rattle.std.specs.Coded.{codes};
 
     ghost Value = { Refutation };

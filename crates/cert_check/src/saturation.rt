@@ -8,16 +8,16 @@ ghost use Rattle.inst_calculus.specs.Saturation.{IsSaturated};
 ghost use Rattle.cert_format.specs.Certificate.{selected_members};
 ghost use Rattle.cert_format.specs.Validity.{IsValidSaturation, SaturationPasses};
 ghost use Rattle.term_bank.specs.Forest.{IsAt};
-ghost use Rattle.saturation_cert.specs.Values.{saturation_of};
-ghost use Rattle.saturation_cert.specs.Wholes.{IsWholeSaturation, KeepsSaturation};
+ghost use Rattle.cert_values.specs.Values.{saturation_of};
+ghost use Rattle.cert_values.specs.Wholes.{IsWholeSaturation, KeepsSaturation};
 ghost use Rattle.cert_check.specs.Answers.{IsCheckCause};
 
 use crate::covered::cover;
 use crate::error::CheckError;
 use cert_format::covers::named_is_valid;
 use cert_format::laws::valid_saturations_are_models;
+use cert_values::{Covered, Saturation};
 use inst_logic::{Literal, Memory};
-use saturation_cert::{Covered, Saturation};
 use std::alloc::Global;
 use std::marker::Model;
 use term_bank::TermId;
@@ -29,11 +29,11 @@ pub struct CheckedSaturation {
 }
 
 impl Model for CheckedSaturation {
-    ghost use Rattle.saturation_cert.specs.declared.certificate.Saturation.{Saturation};
-    ghost use Rattle.saturation_cert.specs.Values.{saturation_of};
-    ghost use Rattle.saturation_cert.specs.Wholes.{IsWholeSaturation};
+    ghost use Rattle.cert_values.specs.declared.certificate.Saturation.{Saturation};
+    ghost use Rattle.cert_values.specs.Values.{saturation_of};
+    ghost use Rattle.cert_values.specs.Wholes.{IsWholeSaturation};
     ghost use Rattle.cert_format.specs.Validity.{IsValidSaturation};
-    ghost use Rattle.saturation_cert.specs.contracts.certificate.Saturation as value;
+    ghost use Rattle.cert_values.specs.contracts.certificate.Saturation as value;
     ghost use Rattle.std.specs.Coded.{codes};
 
     ghost Value = { Saturation };

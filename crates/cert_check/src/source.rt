@@ -4,17 +4,17 @@ ghost use Rattle.std.specs.Prelude.{◌≡◌, ◌+◌, ◌<◌, All, IfOk, OnOk
 ghost use Rattle.inst_logic.specs.Clauses.{IsCanonical, order_of};
 ghost use Rattle.term_bank.specs.Forest.{AreFormed, Extends, IsClauseOf, clause_at, tree_at};
 ghost use Rattle.clause_form.specs.Conclusions.{AreVariables};
-ghost use Rattle.saturation_cert.specs.Values.{base_of, entry_of};
-ghost use Rattle.saturation_cert.specs.Wholes.{IsWholeBase, IsWholeClause, IsWholeTerm, KeepsBase};
+ghost use Rattle.cert_values.specs.Values.{base_of, entry_of};
+ghost use Rattle.cert_values.specs.Wholes.{IsWholeBase, IsWholeClause, IsWholeTerm, KeepsBase};
 ghost use Rattle.cert_inference.specs.Conclusions.{IsAtomOf};
 ghost use Rattle.inst_logic.specs.Substitution.{subst};
 ghost use Rattle.clause_form.specs.Walks.{listed};
 ghost use Rattle.cert_check.specs.Sources.{AreConclusionTerms, AreFirstMembers, AreSources, AreUnifiedTerms, Conclude, IsSource, Unify};
 
 use cert_inference::{Premises, literal_at, numbered_item};
+use cert_values::{Base, Member, Origin};
 use clause_form::{conclude, greatest_variable, terms_under};
 use inst_logic::Memory;
-use saturation_cert::{Base, Member, Origin};
 use std::alloc::Global;
 use term_bank::{Bank, IdClause, IdLiteral, TermIdList};
 use unify_core::{Bindings, Side};

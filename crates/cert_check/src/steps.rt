@@ -3,17 +3,17 @@
 ghost use Rattle.std.specs.Prelude.{◌≡◌, ◌↔◌, All, IfOk, IsTrue, ◌+◌, ◌<◌, length, map};
 ghost use Rattle.inst_calculus.specs.Steps.{EndsEmpty};
 ghost use Rattle.term_bank.specs.Forest.{Forest, clause_at};
-ghost use Rattle.saturation_cert.specs.Values.{step_of};
-ghost use Rattle.saturation_cert.specs.Wholes.{IsWholeClause};
+ghost use Rattle.cert_values.specs.Values.{step_of};
+ghost use Rattle.cert_values.specs.Wholes.{IsWholeClause};
 ghost use Rattle.prop_logic.specs.Literal.{AllAtomsBelow, StepsBelow};
 ghost use Rattle.cert_check.specs.Firsts.{IsFirstWrongOf};
 ghost use Rattle.cert_check.specs.Numbered.{IsRightNumber, numbered_hint, numbered_step};
 ghost use Rattle.cert_check.specs.Stages.{IsRightStepNumber};
 
+use cert_values::{GroundHint, GroundHintList, GroundLineList, GroundStepList};
 use inst_logic::{Memory, Signed};
 use proof_log::Checker;
 use prop_logic::{Derivation, Hint, HintList, LitList, LitLists, Step};
-use saturation_cert::{GroundHint, GroundHintList, GroundLineList, GroundStepList};
 use std::alloc::Global;
 use term_bank::{Bank, IdClause, IdClauseList};
 

@@ -6,8 +6,8 @@ ghost use Rattle.inst_logic.specs.WellFormed.{is_constant};
 ghost use Rattle.cert_format.specs.Upgrades.{GivesTerms, IsUpgrade};
 ghost use Rattle.cert_format.specs.Validity.{IsValidByLines};
 ghost use Rattle.term_bank.specs.Forest.{IsAt, tree_at};
-ghost use Rattle.saturation_cert.specs.Values.{base_of, first_of, refutation_of};
-ghost use Rattle.saturation_cert.specs.Wholes.{IsWholeBase, IsWholeRefutation, IsWholeTerm, KeepsBase};
+ghost use Rattle.cert_values.specs.Values.{base_of, first_of, refutation_of};
+ghost use Rattle.cert_values.specs.Wholes.{IsWholeBase, IsWholeRefutation, IsWholeTerm, KeepsBase};
 ghost use Rattle.cert_check.specs.Sources.{AreFirstMembers, AreGroundLines, AreSources, IsSource};
 
 use crate::first::CheckedFirst;
@@ -15,8 +15,8 @@ use crate::grounds::id_for_each_variable;
 use crate::source::{Source, source_under, sources_of};
 use cert_format::valid_can_be_upgraded;
 use cert_index::clause_copy;
+use cert_values::{Base, FirstRefutation, GroundLine, GroundLineList, Refutation};
 use inst_logic::{Memory, Sym};
-use saturation_cert::{Base, FirstRefutation, GroundLine, GroundLineList, Refutation};
 use std::alloc::Global;
 use term_bank::{IdClauseList, TermId};
 

@@ -13,7 +13,7 @@ use Rattle.inst_calculus.proofs.Membership.{all_in, in_all, contains_in}
 use Rattle.term_bank.specs.Forest.{Forest, Extends, AreDistinct, IsClauseAt, IsClauseOf, clause_at}
 use Rattle.term_bank.proofs.Clauses.{clause_extends, clause_of_extends, formed_at}
 use Rattle.cert_format.specs.Certificate as format
-use Rattle.saturation_cert.specs.Wholes.{IsWholeClause}
+use Rattle.cert_values.specs.Wholes.{IsWholeClause}
 use Rattle.cert_check.specs.Firsts.{IsFirstWrong, IsFirstWrongOf}
 use Rattle.cert_check.proofs.Differences.{same_ids, first_difference, no_difference}
 use Rattle.cert_front.specs.Judgements.{IsDifference}

@@ -6,15 +6,15 @@ use Rattle.inst_logic.specs.declared.memory.Memory.{Memory}
 use Rattle.inst_logic.specs.declared.clause.Problem.{Problem}
 use Rattle.cert_format.specs.Certificate as format
 use Rattle.cert_format.specs.Certificate.{Certificate, base_of}
-use Rattle.saturation_cert.specs.declared.certificate.Base.{Base}
-use Rattle.saturation_cert.specs.declared.certificate.FirstRefutation.{FirstRefutation}
-use Rattle.saturation_cert.specs.declared.certificate.Refutation.{Refutation}
-use Rattle.saturation_cert.specs.declared.certificate.Saturation.{Saturation}
-use Rattle.saturation_cert.specs.declared.certificate.Covered.{Covered}
-use Rattle.saturation_cert.specs.Wholes.{IsWholeBase, IsWholeCovered, IsWholeFirst, IsWholeRefutation, IsWholeSaturation, KeepsBase}
+use Rattle.cert_values.specs.declared.certificate.Base.{Base}
+use Rattle.cert_values.specs.declared.certificate.FirstRefutation.{FirstRefutation}
+use Rattle.cert_values.specs.declared.certificate.Refutation.{Refutation}
+use Rattle.cert_values.specs.declared.certificate.Saturation.{Saturation}
+use Rattle.cert_values.specs.declared.certificate.Covered.{Covered}
+use Rattle.cert_values.specs.Wholes.{IsWholeBase, IsWholeCovered, IsWholeFirst, IsWholeRefutation, IsWholeSaturation, KeepsBase}
 use Rattle.term_bank.specs.Forest.{AreFormed, Extends, Forest}
-use Rattle.saturation_cert.proofs.Grown.{clauses_grown, members_grown, steps_grown}
-use Rattle.saturation_cert.proofs.Kept.{covered_same, covered_whole, first_same, refutation_same, saturation_same}
+use Rattle.cert_values.proofs.Grown.{clauses_grown, members_grown, steps_grown}
+use Rattle.cert_values.proofs.Kept.{covered_same, covered_whole, first_same, refutation_same, saturation_same}
 use Rattle.cert_front.specs.Judgements.{HasInputsOf, IsChecked, IsJudgement}
 use Rattle.cert_front.specs.Kinds.{covered_value, first_value, refutation_value, saturation_value}
 use Rattle.cert_front.specs.declared.judgement.Judgement.{Judgement}

@@ -7,7 +7,7 @@ use Rattle.outside_io.specs.WholeFiles.{IsHeld}
 use Rattle.cert_format.specs.Certificate.{Certificate}
 use Rattle.cert_format.specs.Text.{certificate_text}
 use Rattle.cert_format.specs.ValueLines.{is_refutation}
-use Rattle.saturation_cert.specs.Wholes.{AreLight}
+use Rattle.cert_values.specs.Wholes.{AreLight}
 use Rattle.cert_front.specs.Kinds.{selected_of}
 use Rattle.cert_front.specs.Replies.{IsReply}
 use Rattle.cert_front.specs.declared.reply.Reply.{Reply}

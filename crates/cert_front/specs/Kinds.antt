@@ -2,11 +2,11 @@
 use Rattle.std.specs.Prelude.{List, []}
 use Rattle.inst_calculus.specs.Models.{Member}
 use Rattle.cert_format.specs.Certificate.{Certificate, first_refutation, refutation, saturation, covered, selected_members}
-use Rattle.saturation_cert.specs.declared.certificate.FirstRefutation.{FirstRefutation}
-use Rattle.saturation_cert.specs.declared.certificate.Refutation.{Refutation}
-use Rattle.saturation_cert.specs.declared.certificate.Saturation.{Saturation}
-use Rattle.saturation_cert.specs.declared.certificate.Covered.{Covered}
-use Rattle.saturation_cert.specs.Values.{first_of, refutation_of, saturation_of, covered_of}
+use Rattle.cert_values.specs.declared.certificate.FirstRefutation.{FirstRefutation}
+use Rattle.cert_values.specs.declared.certificate.Refutation.{Refutation}
+use Rattle.cert_values.specs.declared.certificate.Saturation.{Saturation}
+use Rattle.cert_values.specs.declared.certificate.Covered.{Covered}
+use Rattle.cert_values.specs.Values.{first_of, refutation_of, saturation_of, covered_of}
 
 abbrev pub first_value : FirstRefutation → Certificate
 first_value r = first_refutation (first_of r)

@@ -3,14 +3,14 @@ ghost use Rattle.std.specs.Prelude.{◌≡◌, IfErr, IfOk, IsErr, MatchResult};
 ghost use Rattle.cert_format.specs.Printable.{CoveredFits};
 ghost use Rattle.cert_format.specs.Validity.{IsNamed, IsValidByLines, IsValidSaturation};
 ghost use Rattle.cert_check.specs.declared.error.CheckError.TheVariants as errors;
-ghost use Rattle.saturation_cert.specs.Values.{covered_of, refutation_of, saturation_of};
-ghost use Rattle.saturation_cert.specs.Wholes.{IsWholeCovered, IsWholeRefutation, IsWholeSaturation};
+ghost use Rattle.cert_values.specs.Values.{covered_of, refutation_of, saturation_of};
+ghost use Rattle.cert_values.specs.Wholes.{IsWholeCovered, IsWholeRefutation, IsWholeSaturation};
 
 use cert_check::{
     CheckError, CheckedCovered, CheckedRefutation, check_covered, check_refutation, cover,
 };
+use cert_values::{Covered, Refutation, Saturation, covered_numbers};
 use inst_logic::Memory;
-use saturation_cert::{Covered, Refutation, Saturation, covered_numbers};
 use std::alloc::Global;
 
 // What the checker says, where it has no complaint.

@@ -5,14 +5,14 @@ ghost use Rattle.std.specs.Option.{ForSome};
 ghost use Rattle.inst_logic.specs.Derivations.{at_number};
 ghost use Rattle.inst_logic.specs.WellFormed.{AreFormedClauses, IsFormedClause};
 ghost use Rattle.term_bank.specs.Forest.{AreFormed, Extends, IsClauseOf, clause_at};
-ghost use Rattle.saturation_cert.specs.Values.{base_of};
-ghost use Rattle.saturation_cert.specs.Wholes.{IsWholeBase, KeepsBase};
+ghost use Rattle.cert_values.specs.Values.{base_of};
+ghost use Rattle.cert_values.specs.Wholes.{IsWholeBase, KeepsBase};
 ghost use Rattle.cert_check.specs.Firsts.{IsFirstWrongOf};
 ghost use Rattle.cert_front.specs.Judgements.{IsDifference};
 
 use cert_check::same_clause;
+use cert_values::Base;
 use inst_logic::{Clause, ClauseList, Memory, Problem};
-use saturation_cert::Base;
 use term_bank::{Bank, IdClause, IdClauseList};
 
 // Whether the clause of ids stands for the clause.

@@ -6,7 +6,7 @@ ghost use Rattle.inst_logic.specs.WellFormed.{AreFormedClauses};
 ghost use Rattle.cert_check.specs.Answers.{IsCheckCause};
 ghost use Rattle.cert_format.specs.Certificate.{Certificate, base_of};
 ghost use Rattle.cert_format.specs.Validity.{IsValid};
-ghost use Rattle.saturation_cert.specs.Wholes.{IsWholeCovered, IsWholeFirst, IsWholeRefutation, IsWholeSaturation};
+ghost use Rattle.cert_values.specs.Wholes.{IsWholeCovered, IsWholeFirst, IsWholeRefutation, IsWholeSaturation};
 ghost use Rattle.cert_front.specs.Checks.{form_of};
 ghost use Rattle.cert_front.specs.Judgements.{IsDifference, Passes};
 ghost use Rattle.cert_front.specs.Kinds.{covered_value, first_value, refutation_value, saturation_value, uncovered_value};
@@ -18,8 +18,8 @@ use cert_check::{
     check_first, check_refutation, check_saturation, cover,
 };
 use cert_format::covers::named_is_valid;
+use cert_values::{Covered, FirstRefutation, Refutation, Saturation};
 use inst_logic::{Memory, Problem};
-use saturation_cert::{Covered, FirstRefutation, Refutation, Saturation};
 use std::alloc::Global;
 
 /// A certificate of one kind, which nobody has checked.

@@ -6,7 +6,7 @@ ghost use Rattle.cert_format.specs.Certificate.{Certificate};
 ghost use Rattle.cert_format.specs.Formats.{written_format};
 ghost use Rattle.cert_format.specs.Text.{certificate_text};
 ghost use Rattle.cert_reader.specs.Reads.{IsTextOf};
-ghost use Rattle.saturation_cert.specs.Wholes.{AreLight};
+ghost use Rattle.cert_values.specs.Wholes.{AreLight};
 ghost use Rattle.cert_front.specs.Judgements.{IsJudgement};
 ghost use Rattle.cert_front.specs.Kinds.{selected_of};
 ghost use Rattle.cert_front.specs.Replies.{IsReply};

@@ -6,7 +6,7 @@ ghost use Rattle.inst_logic.specs.WellFormed.{IsAtom};
 ghost use Rattle.term_bank.specs.Forest.{is_ground};
 ghost use Rattle.cert_format.specs.ValueLines.{is_refutation};
 ghost use Rattle.cert_reader.specs.Reads.{IsWholeCertificate, value_of};
-ghost use Rattle.saturation_cert.specs.Wholes.{AreLight};
+ghost use Rattle.cert_values.specs.Wholes.{AreLight};
 ghost use Rattle.cert_front.specs.Kinds.{selected_of};
 ghost use Rattle.cert_front.specs.Replies.{IsReply};
 ghost use Rattle.cert_front.specs.Queries.{IsAskFault, IsExactReply, IsReplied, IsUnasked};

@@ -5,14 +5,15 @@ ghost use Rattle.inst_logic.specs.WellFormed.{IsAtom};
 ghost use Rattle.inst_calculus.specs.Models.{IsTrueBy};
 ghost use Rattle.cert_format.specs.Validity.{IsValid};
 ghost use Rattle.term_bank.specs.Forest.{is_ground};
-ghost use Rattle.saturation_cert.specs.Wholes.{AreLight};
+ghost use Rattle.cert_values.specs.Wholes.{AreLight};
 ghost use Rattle.cert_front.specs.Kinds.{selected_of};
 ghost use Rattle.cert_front.specs.Replies.{IsReply};
 
 use crate::kind::Kind;
 use cert_check::{CheckError, CheckedCovered, CheckedSaturation, Complaint};
+use cert_values::{Covered, Saturation};
 use inst_logic::{Literal, Memory};
-use saturation_cert::{Covered, Saturation, truth};
+use saturation_cert::truth;
 use std::alloc::Global;
 
 /// What a saturation says of a ground atom.

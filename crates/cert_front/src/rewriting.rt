@@ -7,8 +7,8 @@ ghost use Rattle.cert_format.specs.Printable.{IsPrintable};
 ghost use Rattle.cert_format.specs.Text.{written_text};
 ghost use Rattle.cert_format.specs.Validity.{IsValid, IsValidByLines};
 ghost use Rattle.cert_reader.specs.Reads.{IsWholeCertificate, value_of};
-ghost use Rattle.saturation_cert.specs.Values.{refutation_of};
-ghost use Rattle.saturation_cert.specs.Wholes.{IsWholeRefutation};
+ghost use Rattle.cert_values.specs.Values.{refutation_of};
+ghost use Rattle.cert_values.specs.Wholes.{IsWholeRefutation};
 ghost use Rattle.cert_front.specs.Kinds.{refutation_value};
 ghost use Rattle.cert_front.specs.Rewritings.{IsNewText, IsRewriting};
 
@@ -20,10 +20,10 @@ use cert_check::{CheckedCovered, CheckedFirst, CheckedRefutation, upgrade};
 use cert_format::covers::names_are_printable;
 use cert_reader::Certificate;
 use cert_text::{covered_text, refutation_text};
-use inst_logic::{ByteList, Memory, Problem};
-use saturation_cert::{
+use cert_values::{
     Covered, FirstRefutation, Refutation, Saturation, covered_numbers, refutation_numbers,
 };
+use inst_logic::{ByteList, Memory, Problem};
 use std::alloc::Global;
 
 /// What comes of the rewriting of a certificate.

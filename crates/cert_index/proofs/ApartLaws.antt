@@ -7,9 +7,9 @@ use Rattle.inst_calculus.specs.Models.{Member}
 use Rattle.term_bank.specs.Forest.{tree_at}
 use Rattle.cert_format.specs.Validity.{SelectsAt}
 use Rattle.cert_format.proofs.SelectedMembers.{selected_once}
-use Rattle.saturation_cert.specs.declared.certificate.Saturation.{Saturation}
-use Rattle.saturation_cert.specs.Truths.{IsSelectedLiteral}
-use Rattle.saturation_cert.specs.Values.{saturation_of}
+use Rattle.cert_values.specs.declared.certificate.Saturation.{Saturation}
+use Rattle.cert_values.specs.SelectedLiteral.{IsSelectedLiteral}
+use Rattle.cert_values.specs.Values.{saturation_of}
 use Rattle.cert_index.specs.Meetings.{IsApart}
 
 module _ (c : Saturation) (i j : ℕ) (less : i < j) (l r : Signed ℕ) (left : IsSelectedLiteral c (suc i) l) (right : IsSelectedLiteral c (suc j) r) where

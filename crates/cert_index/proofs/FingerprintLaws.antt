@@ -11,8 +11,8 @@ use Rattle.inst_logic.specs.Substitution.{subst as apply, substs, Substitution}
 use Rattle.inst_logic.specs.Unifiers.{Sided, IsUnifier}
 use Rattle.inst_logic.proofs.Substitutions.{subst_var}
 use Rattle.term_bank.specs.Forest.{Extends, Forest, arguments_of, number_of, symbol_of, tree_at}
-use Rattle.saturation_cert.specs.declared.certificate.Saturation.{Saturation}
-use Rattle.saturation_cert.specs.Values.{entry_of, saturation_of}
+use Rattle.cert_values.specs.declared.certificate.Saturation.{Saturation}
+use Rattle.cert_values.specs.Values.{entry_of, saturation_of}
 use Rattle.cert_index.specs.declared.fingerprint.Fingerprint.{Fingerprint}
 use Rattle.cert_index.specs.declared.fingerprint.Marks.{Marks}
 use Rattle.cert_index.specs.Fingerprints.{AreDifferent, Differ, DifferInMarks, HasFingerprint, HasMarks, IsFingerprintOf, IsMark, TellApart, argument_of, fingerprint_at, mark_of, top_of}

@@ -14,8 +14,8 @@ use Rattle.inst_logic.specs.Unifiers.{Sided, IsUnifier}
 use Rattle.inst_logic.specs.WellFormed.{IsAtom}
 use Rattle.inst_logic.specs.Equal.{sym_eq}
 use Rattle.term_bank.specs.Forest.{Forest, Extends, KeepsPlaces, no_symbol, number_of, symbol_at, symbol_of, tree_at}
-use Rattle.saturation_cert.specs.declared.certificate.Saturation.{Saturation}
-use Rattle.saturation_cert.specs.Values.{saturation_of}
+use Rattle.cert_values.specs.declared.certificate.Saturation.{Saturation}
+use Rattle.cert_values.specs.Values.{saturation_of}
 use Rattle.clause_form.specs.Literals.{id_eq}
 use Rattle.indexmap.specs.IndexMap.{IndexMap, get}
 use Rattle.std.specs.Map.{lookup}

@@ -8,7 +8,7 @@ use Rattle.std.proofs.lemmas.List.Sorted.{Contains-permutation}
 use Rattle.indexmap.specs.IndexMap.{get}
 use Rattle.inst_logic.proofs.Membership.{any_in, in_any, in_left, contains_in, in_contains}
 use Rattle.clause_form.specs.Literals.{id_eq}
-use Rattle.saturation_cert.specs.declared.member.Member.{Member}
+use Rattle.cert_values.specs.declared.member.Member.{Member}
 use Rattle.cert_index.specs.declared.lengths.Lengths.{Lengths}
 use Rattle.cert_index.specs.declared.lengths.Ranked.{Ranked}
 use Rattle.cert_index.specs.Lengths.{AreGrouped, AreRanked, heads_by}

@@ -9,11 +9,11 @@ use Rattle.std.proofs.lemmas.Slice.Eq.{slice_eq-Decides}
 use Rattle.inst_logic.specs.declared.signed.Signed.{Signed}
 use Rattle.clause_form.specs.Literals.{id_eq}
 use Rattle.clause_form.proofs.Assembly.{id_eq_decides}
-use Rattle.saturation_cert.specs.declared.member.Member.{Member}
-use Rattle.saturation_cert.specs.declared.certificate.Base.{Base}
-use Rattle.saturation_cert.specs.declared.certificate.Saturation.{Saturation}
-use Rattle.saturation_cert.specs.Values.{entry_of, saturation_of}
-use Rattle.saturation_cert.specs.Wholes.{IsWholeClause, IsWholeSaturation, KeepsSaturation}
+use Rattle.cert_values.specs.declared.member.Member.{Member}
+use Rattle.cert_values.specs.declared.certificate.Base.{Base}
+use Rattle.cert_values.specs.declared.certificate.Saturation.{Saturation}
+use Rattle.cert_values.specs.Values.{entry_of, saturation_of}
+use Rattle.cert_values.specs.Wholes.{IsWholeClause, IsWholeSaturation, KeepsSaturation}
 use Rattle.inst_logic.specs.Derivations.{at_number}
 use Rattle.inst_logic.specs.Tree.{Tree}
 use Rattle.inst_calculus.specs.Entries.{Entry}

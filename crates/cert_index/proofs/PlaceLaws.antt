@@ -1,7 +1,7 @@
 -- Places that a look-up gives, or none.
 use Rattle.std.proofs.Common.{◌≡◌, ℕ, List, refl, subst, Option, None, Some}
 use Rattle.std.specs.Prelude.{IfSome}
-use Rattle.saturation_cert.specs.declared.member.Member.{Member}
+use Rattle.cert_values.specs.declared.member.Member.{Member}
 use Rattle.cert_index.specs.Places.{IsPlaceOf}
 
 pub no_place : {A : Type 0} (o : Option A) → ((a : A) → o ≡ Some a → ⊥) → o ≡ None

@@ -8,11 +8,11 @@ use Rattle.inst_logic.proofs.ShownLaws.{at_number_contains}
 use Rattle.inst_calculus.specs.Entries.{Entry, entry_clauses}
 use Rattle.inst_calculus.proofs.Membership.{all_in, all_pass, contains_in, from_map, in_map, passes}
 use Rattle.term_bank.specs.Forest.{literal_tree, Forest, clause_at, tree_at}
-use Rattle.saturation_cert.specs.declared.member.Member.{Member}
-use Rattle.saturation_cert.specs.declared.certificate.Saturation.{Saturation}
-use Rattle.saturation_cert.specs.Truths.{IsSelectedLiteral}
-use Rattle.saturation_cert.specs.Values.{saturation_of, entry_of}
-use Rattle.saturation_cert.specs.Wholes.{IsWholeClause, IsWholeSaturation}
+use Rattle.cert_values.specs.declared.member.Member.{Member}
+use Rattle.cert_values.specs.declared.certificate.Saturation.{Saturation}
+use Rattle.cert_values.specs.SelectedLiteral.{IsSelectedLiteral}
+use Rattle.cert_values.specs.Values.{saturation_of, entry_of}
+use Rattle.cert_values.specs.Wholes.{IsWholeClause, IsWholeSaturation}
 
 -- whole clauses are formed
 clause_formed : (f : Forest) (c : List (Signed ℕ)) → IsWholeClause f c → clause_is_formed (clause_at f c) ≡ true

@@ -12,7 +12,7 @@ use Rattle.inst_calculus.proofs.Membership.{any_in, equal_in, in_map}
 use Rattle.clause_form.specs.Placements.{Goes, literal_at}
 use Rattle.clause_form.proofs.Placing.{placed_subsumes}
 use Rattle.term_bank.specs.Forest.{Forest, clause_at, literal_tree, number_of, symbol_of, tree_at}
-use Rattle.saturation_cert.specs.declared.member.Member.{Member}
+use Rattle.cert_values.specs.declared.member.Member.{Member}
 use Rattle.cert_index.specs.Shorter.{IsShorter, IsUnitOf, ShorterOf}
 use Rattle.cert_index.specs.declared.fingerprint.Fingerprint.{Fingerprint}
 use Rattle.cert_index.specs.Fingerprints.{fingerprint_at}

@@ -3,8 +3,8 @@ use Rattle.std.specs.Prelude.{◌≡◌, ◌≢◌, ◌⊎◌, ◌+◌, ◌-◌,
 use Rattle.inst_logic.specs.declared.symbol.Sym.{Sym}
 use Rattle.inst_logic.specs.Tree.{Tree}
 use Rattle.cert_format.specs.Certificate as format
-use Rattle.saturation_cert.specs.declared.certificate.Saturation.{Saturation}
-use Rattle.saturation_cert.specs.Truths.{IsSelectedLiteral}
+use Rattle.cert_values.specs.declared.certificate.Saturation.{Saturation}
+use Rattle.cert_values.specs.SelectedLiteral.{IsSelectedLiteral}
 use Rattle.term_bank.specs.Forest.{Forest, arguments_of, number_of, symbol_of, tree_at}
 use Rattle.inst_logic.specs.declared.signed.Signed.{Signed}
 use Rattle.cert_index.specs.Meetings.{IsApart}

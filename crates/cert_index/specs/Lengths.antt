@@ -3,7 +3,7 @@ use Rattle.std.specs.Prelude.{◌≡◌, ℕ, suc, ◌<◌, All, Any, List, leng
 use Rattle.std.specs.List.Sorted.{IsNonDecreasingBy}
 use Rattle.indexmap.specs.IndexMap.{get}
 use Rattle.clause_form.specs.Literals.{id_eq}
-use Rattle.saturation_cert.specs.declared.member.Member.{Member}
+use Rattle.cert_values.specs.declared.member.Member.{Member}
 use Rattle.cert_index.specs.declared.lengths.Lengths.{Lengths}
 use Rattle.cert_index.specs.declared.lengths.Ranked.{Ranked}
 use Rattle.cert_index.specs.Partners.{Head, IsNext, head_at}

@@ -8,10 +8,10 @@ use Rattle.inst_logic.specs.Tree.{Tree}
 use Rattle.inst_logic.specs.Substitution.{Substitution, subst as apply}
 use Rattle.clause_form.specs.Placements.{literal_at}
 use Rattle.term_bank.specs.Forest.{Forest, IsClauseOf, tree_at}
-use Rattle.saturation_cert.specs.declared.certificate.Saturation.{Saturation}
-use Rattle.saturation_cert.specs.declared.member.Member.{Member}
-use Rattle.saturation_cert.specs.Values.{base_of, saturation_of}
-use Rattle.saturation_cert.specs.Wholes.{HasPlaces, IsWholeSaturation}
+use Rattle.cert_values.specs.declared.certificate.Saturation.{Saturation}
+use Rattle.cert_values.specs.declared.member.Member.{Member}
+use Rattle.cert_values.specs.Values.{base_of, saturation_of}
+use Rattle.cert_values.specs.Wholes.{HasPlaces, IsWholeSaturation}
 use Rattle.cert_format.specs.Validity.{IsValidBase}
 use Rattle.cert_index.specs.Chains.{AreMeetings}
 use Rattle.cert_index.specs.Shorter.{ShorterOf}

@@ -6,8 +6,8 @@ use Rattle.inst_logic.specs.Signed.{complement}
 use Rattle.clause_form.specs.Literals.{id_eq}
 use Rattle.term_bank.specs.Forest.{Forest, number_of, symbol_of, tree_at}
 use Rattle.cert_format.specs.Certificate as format
-use Rattle.saturation_cert.specs.declared.certificate.Saturation.{Saturation}
-use Rattle.saturation_cert.specs.Truths.{IsSelectedLiteral}
+use Rattle.cert_values.specs.declared.certificate.Saturation.{Saturation}
+use Rattle.cert_values.specs.SelectedLiteral.{IsSelectedLiteral}
 use Rattle.cert_index.specs.declared.partners.Partners.{Partners}
 use Rattle.cert_index.specs.Meetings.{IsApart}
 

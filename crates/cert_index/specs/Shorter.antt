@@ -3,7 +3,7 @@ use Rattle.std.specs.Prelude.{◌≡◌, ℕ, ◌<◌, List, [], ◌∷◌, leng
 use Rattle.inst_logic.specs.declared.signed.Signed.{Signed}
 use Rattle.inst_logic.specs.Clauses.{TreeClause, Subsumes}
 use Rattle.term_bank.specs.Forest.{Forest, clause_at}
-use Rattle.saturation_cert.specs.declared.member.Member.{Member}
+use Rattle.cert_values.specs.declared.member.Member.{Member}
 
 -- e has fewer literals, and an instance whose literals are all in d
 abbrev pub IsShorter : ℕ → TreeClause → TreeClause → Type 0

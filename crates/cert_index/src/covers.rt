@@ -15,9 +15,9 @@ ghost use Rattle.cert_index.specs.Places.{IsPlaceOf};
 
 use crate::fingerprint::{Fingerprint, fingerprint_of};
 use crate::lookup::Lookup;
+use cert_values::Member;
 use clause_form::subsumes;
 use inst_logic::Memory;
-use saturation_cert::Member;
 use std::alloc::Global;
 use term_bank::{Bank, IdClause, IdLiteral};
 

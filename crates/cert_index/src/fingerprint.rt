@@ -5,13 +5,13 @@ ghost use Rattle.std.proofs.Common.{rules};
 ghost use Rattle.std.specs.Cmp.Rules.{hashing};
 ghost use Rattle.std.specs.Hash as fed;
 ghost use Rattle.std.specs.Prelude.{◌≡◌, ◌<◌, ◌++◌, ℕ, length, map, true, IfOk, IfSome, Some, option_map};
-ghost use Rattle.saturation_cert.specs.Values.{saturation_of};
-ghost use Rattle.saturation_cert.specs.Wholes.{HasPlaces, IsWholeSaturation};
+ghost use Rattle.cert_values.specs.Values.{saturation_of};
+ghost use Rattle.cert_values.specs.Wholes.{HasPlaces, IsWholeSaturation};
 ghost use Rattle.term_bank.specs.Forest.{tree_at};
 ghost use Rattle.cert_index.specs.Fingerprints.{AreDifferent, Differ, DifferInMarks, HasFingerprint, HasMarks, IsFingerprintOf, IsMark, TellApart, argument_of, fingerprint_at, joined, mark_of, top_marks};
 
+use cert_values::{Saturation, selected};
 use inst_logic::Memory;
-use saturation_cert::{Saturation, selected};
 use std::alloc::Global;
 use std::hash::{Hash, Hasher};
 use term_bank::{Bank, TermId};

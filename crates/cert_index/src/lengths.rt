@@ -8,9 +8,9 @@ ghost use Rattle.cert_index.specs.Lengths.{AreGrouped, AreRanked, IsBelow, IsRan
 ghost use Rattle.cert_index.specs.Partners.{Head, IsHeadAt};
 
 use crate::partners::{HeadId, Partners, head_of, place_of, through_heads};
+use cert_values::Member;
 use indexmap::IndexMap;
 use inst_logic::Memory;
-use saturation_cert::Member;
 use std::alloc::Global;
 use term_bank::{Bank, IdLiteral};
 

@@ -4,8 +4,8 @@ ghost use Rattle.std.specs.Prelude.{◌≡◌, IfOk};
 ghost use Rattle.std.specs.Cmp.Lexicographic.{pointwise};
 ghost use Rattle.indexmap.specs.IndexMap.{get};
 ghost use Rattle.clause_form.specs.Literals.{id_eq};
-ghost use Rattle.saturation_cert.specs.Values.{base_of, saturation_of};
-ghost use Rattle.saturation_cert.specs.Wholes.{HasPlaces, IsWholeSaturation};
+ghost use Rattle.cert_values.specs.Values.{base_of, saturation_of};
+ghost use Rattle.cert_values.specs.Wholes.{HasPlaces, IsWholeSaturation};
 ghost use Rattle.cert_format.specs.Validity.{IsValidBase};
 ghost use Rattle.cert_index.specs.Lookups.{AreClausesOf, IsReady};
 
@@ -13,9 +13,9 @@ use crate::fingerprint::{Fingerprint, find_fingerprints};
 use crate::lengths::{Lengths, find_lengths};
 use crate::meetings::{Meetings, find_meetings};
 use crate::partners::find_heads;
+use cert_values::{Member, Saturation};
 use indexmap::IndexMap;
 use inst_logic::Memory;
-use saturation_cert::{Member, Saturation};
 use std::alloc::Global;
 use term_bank::IdClause;
 

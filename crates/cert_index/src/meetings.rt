@@ -4,8 +4,8 @@
 ghost use Rattle.std.specs.Prelude.{◌≡◌, ◌<◌, ℕ, suc, List, length, IfOk, OnOk};
 ghost use Rattle.std.specs.List.{Contains};
 ghost use Rattle.cert_format.specs.Certificate as format;
-ghost use Rattle.saturation_cert.specs.Values.{saturation_of};
-ghost use Rattle.saturation_cert.specs.Wholes.{HasPlaces, IsWholeSaturation};
+ghost use Rattle.cert_values.specs.Values.{saturation_of};
+ghost use Rattle.cert_values.specs.Wholes.{HasPlaces, IsWholeSaturation};
 ghost use Rattle.cert_index.specs.declared.fingerprint.Fingerprint as declared;
 ghost use Rattle.cert_index.specs.Buckets.{AreInBuckets, AreKnown};
 ghost use Rattle.cert_index.specs.Chains.{AreAlike, AreGrouped, AreMeetings, AreOpposite, AreOpposites, HaveOpposite, IsAddedAlike, MayMeet, TellsApart, list_at};
@@ -18,10 +18,10 @@ use crate::fingerprint::{Fingerprint, find_fingerprints, tops_of};
 use crate::links::{Links, find_links};
 use crate::narrow::find_classes;
 use crate::partners::{HeadId, Partners, find_heads, place_of};
+use cert_values::Saturation;
 use compact_lists::FlatLists;
 use inst_logic::Memory;
 use prop_logic::complement;
-use saturation_cert::Saturation;
 use std::alloc::Global;
 
 /// The items of each bucket, and for each bucket, counted from 0, the buckets that it may meet, in no order.

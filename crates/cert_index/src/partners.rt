@@ -3,13 +3,13 @@ ghost use Rattle.std.specs.Prelude.{◌≡◌, ◌<◌, ℕ, length, IfOk, IfSom
 ghost use Rattle.indexmap.specs.IndexMap.{get};
 ghost use Rattle.clause_form.specs.Literals.{id_eq};
 ghost use Rattle.term_bank.specs.Forest.{symbol_at, symbol_of, tree_at};
-ghost use Rattle.saturation_cert.specs.Values.{saturation_of};
-ghost use Rattle.saturation_cert.specs.Wholes.{HasPlaces, IsWholeSaturation};
+ghost use Rattle.cert_values.specs.Values.{saturation_of};
+ghost use Rattle.cert_values.specs.Wholes.{HasPlaces, IsWholeSaturation};
 ghost use Rattle.cert_index.specs.Partners.{AreApart, AreChained, Head, IsHeadAt, IsHeadOf, IsNext, head_at};
 
+use cert_values::{Saturation, selected};
 use indexmap::IndexMap;
 use inst_logic::{Memory, Signed};
-use saturation_cert::{Saturation, selected};
 use std::alloc::Global;
 use term_bank::{Bank, IdLiteral};
 

@@ -13,9 +13,9 @@ use Rattle.inst_calculus.specs.Conclusions.{IsConclusion}
 use Rattle.inst_calculus.specs.Entries.{Entry}
 use Rattle.inst_calculus.proofs.Choice.{instance_of_choice}
 use Rattle.inst_calculus.proofs.Membership.{all_in, contains_in}
-use Rattle.saturation_cert.specs.declared.member.Member.{Member}
-use Rattle.saturation_cert.specs.Values.{entry_of}
-use Rattle.saturation_cert.specs.Wholes.{IsWholeClause}
+use Rattle.cert_values.specs.declared.member.Member.{Member}
+use Rattle.cert_values.specs.Values.{entry_of}
+use Rattle.cert_values.specs.Wholes.{IsWholeClause}
 use Rattle.term_bank.specs.Forest.{Forest, IsClauseOf, clause_at, tree_at}
 use Rattle.unify_core.specs.Sides.{Binding}
 use Rattle.unify_core.specs.Terms.{AreTerms}

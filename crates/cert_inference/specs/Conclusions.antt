@@ -8,7 +8,7 @@ use Rattle.inst_logic.specs.Clauses.{TreeClause, instance, canonical_form}
 use Rattle.inst_logic.specs.WellFormed.{IsAtom}
 use Rattle.inst_calculus.specs.Entries.{Entry}
 use Rattle.cert_format.specs.Validity.{IsConclusion}
-use Rattle.saturation_cert.specs.declared.member.Member.{Member}
+use Rattle.cert_values.specs.declared.member.Member.{Member}
 use Rattle.term_bank.specs.Forest.{Forest, IsClauseOf, clause_at, tree_at}
 use Rattle.unify_core.specs.Chains.{AreBindings}
 use Rattle.unify_core.specs.Sides.{Binding, IsResolvedBy}

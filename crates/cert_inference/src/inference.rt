@@ -4,15 +4,15 @@ ghost use Rattle.std.specs.Prelude.{◌≡◌, ◌+◌, ◌<◌, ◌↔◌, All,
 ghost use Rattle.inst_logic.specs.Derivations.{at_number};
 ghost use Rattle.cert_format.specs.Validity.{IsConclusion};
 ghost use Rattle.term_bank.specs.Forest.{AreFormed, Extends, IsClauseOf, clause_at, tree_at};
-ghost use Rattle.saturation_cert.specs.Values.{entry_of};
-ghost use Rattle.saturation_cert.specs.Wholes.{IsWholeClause};
+ghost use Rattle.cert_values.specs.Values.{entry_of};
+ghost use Rattle.cert_values.specs.Wholes.{IsWholeClause};
 ghost use Rattle.cert_inference.specs.Conclusions.{Concludes, HasNoProper, IsAtomOf, IsConcluded, IsProperlyUnified, MembersConclude, MembersGive, literal_of};
 
 use crate::comparison::is_instance;
 use crate::instance::Instance;
 use crate::rooms::PairRoom;
+use cert_values::Member;
 use inst_logic::Memory;
-use saturation_cert::Member;
 use term_bank::{Bank, IdClause, IdLiteral, TermId};
 use unify_core::{Bindings, Side};
 

@@ -12,7 +12,7 @@ use Rattle.cert_format.specs.LineTexts as texts
 use Rattle.cert_format.specs.Spelling.{is_printable}
 use Rattle.cert_format.proofs.LineNotes.{behind_front, terms_once, side_once}
 use Rattle.cert_format.proofs.Marked.{marked_once}
-use Rattle.saturation_cert.specs.Wholes.{IsWholeTerm}
+use Rattle.cert_values.specs.Wholes.{IsWholeTerm}
 use Rattle.cert_items.specs.Reading.{ArePrintable}
 use Rattle.cert_items.specs.Notes.{members_text, side_text}
 use Rattle.cert_items.proofs.Formed.{tree_formed}

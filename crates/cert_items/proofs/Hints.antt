@@ -9,8 +9,8 @@ use Rattle.inst_calculus.specs.Steps.{Cited}
 use Rattle.cert_format.specs.Runs.{begins, Ends}
 use Rattle.cert_format.specs.LineTexts.{hint, more_hints, hints, hint_is_printable}
 use Rattle.cert_items.specs.HintTexts.{hint_end, before_hints, read_hints, HasHints, NoHintHead, NoHints}
-use Rattle.saturation_cert.specs.declared.certificate.GroundHint.{GroundHint}
-use Rattle.saturation_cert.specs.Values.{hint_of}
+use Rattle.cert_values.specs.declared.certificate.GroundHint.{GroundHint}
+use Rattle.cert_values.specs.Values.{hint_of}
 use Rattle.std.proofs.lemmas.Bool.{and_parts, and_from}
 use Rattle.cert_format.proofs.LineNotes.{behind_front, hint_once, more_ends}
 

@@ -13,7 +13,7 @@ use Rattle.cert_format.specs.Forms.{form_atom}
 use Rattle.cert_format.proofs.Clauses.{one_clause}
 use Rattle.cert_format.proofs.ClauseForms.{forms_printable, clause_text_is, text_of_forms}
 use Rattle.cert_format.proofs.Formats.{test_forms, test_yes, test_is}
-use Rattle.saturation_cert.specs.Wholes.{IsWholeClause}
+use Rattle.cert_values.specs.Wholes.{IsWholeClause}
 use Rattle.cert_items.specs.ClauseTexts.{IsClauseText, NoClause}
 use Rattle.cert_items.proofs.Clauses.{grown_clause}
 

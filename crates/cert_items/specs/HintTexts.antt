@@ -3,8 +3,8 @@ use Rattle.std.specs.Prelude.{◌≡◌, ◌≢◌, ℕ, List, [], ◌∷◌, ma
 use Rattle.std.specs.List.{list_all}
 use Rattle.inst_calculus.specs.Steps.{Cited}
 use Rattle.cert_format.specs.LineTexts.{hint, more_hints, hints, hint_is_printable, hints_are_printable}
-use Rattle.saturation_cert.specs.declared.certificate.GroundHint.{GroundHint}
-use Rattle.saturation_cert.specs.Values.{hint_of}
+use Rattle.cert_values.specs.declared.certificate.GroundHint.{GroundHint}
+use Rattle.cert_values.specs.Values.{hint_of}
 use Rattle.inst_logic.specs.Codes as byte
 
 -- a hint that ends the list, or has another one behind it

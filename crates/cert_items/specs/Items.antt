@@ -5,9 +5,9 @@ use Rattle.term_bank.specs.Forest.{Forest, tree_at}
 use Rattle.cert_format.specs.LineMachine.{is_number, Note, named, equality, member, selected, ground_of, ground_by, shown_by, input_by, side_by, Header, fits, item}
 use Rattle.cert_format.specs.LineTexts.{letter_q, letter_c, line, note_text, note_is_printable}
 use Rattle.cert_format.specs.Formats.{clause_is_printable}
-use Rattle.saturation_cert.specs.Values.{origin_of, hint_of, by_of, side_of}
-use Rattle.saturation_cert.specs.Wholes.{IsWholeTerm, IsWholeBy}
-use Rattle.saturation_cert.specs.declared.certificate.GroundHint.{GroundHint}
+use Rattle.cert_values.specs.Values.{origin_of, hint_of, by_of, side_of}
+use Rattle.cert_values.specs.Wholes.{IsWholeTerm, IsWholeBy}
+use Rattle.cert_values.specs.declared.certificate.GroundHint.{GroundHint}
 use Rattle.cert_items.specs.declared.group.Group.{Group}
 use Rattle.cert_items.specs.declared.group.Group.TheVariants as groups
 use Rattle.cert_items.specs.declared.note.Note as read

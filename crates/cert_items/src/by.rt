@@ -3,16 +3,16 @@
 ghost use Rattle.std.specs.Prelude.{◌≡◌, ◌++◌, IfOk, IfSome, IfNone, IsTrue, codes};
 ghost use Rattle.term_bank.specs.Forest.{Forest, Grows};
 ghost use Rattle.cert_format.specs.LineTexts.{by_text, by_is_printable};
-ghost use Rattle.saturation_cert.specs.Values.{by_of};
-ghost use Rattle.saturation_cert.specs.Wholes.{IsWholeBy};
+ghost use Rattle.cert_values.specs.Values.{by_of};
+ghost use Rattle.cert_values.specs.Wholes.{IsWholeBy};
 ghost use Rattle.cert_items.specs.Notes.{NoBy};
 
 use crate::mark::{mark, word};
 use crate::number::number_before;
 use crate::term_list::number_and_terms;
 use crate::text_bank::TextBank;
+use cert_values::By;
 use inst_logic::Memory;
-use saturation_cert::By;
 use std::alloc::Global;
 use term_bank::TermId;
 

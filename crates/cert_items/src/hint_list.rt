@@ -4,14 +4,14 @@ ghost use Rattle.std.specs.Char.{is_ascii_digit};
 ghost use Rattle.inst_calculus.specs.Steps.{Cited};
 ghost use Rattle.cert_format.specs.Runs.{Ends};
 ghost use Rattle.cert_format.specs.LineTexts.{hint, hint_is_printable};
-ghost use Rattle.saturation_cert.specs.declared.certificate.GroundHint.{GroundHint};
-ghost use Rattle.saturation_cert.specs.Values.{hint_of};
+ghost use Rattle.cert_values.specs.declared.certificate.GroundHint.{GroundHint};
+ghost use Rattle.cert_values.specs.Values.{hint_of};
 ghost use Rattle.cert_items.specs.HintTexts.{hint_end, HasHints, NoHints, NoHintHead};
 
 use crate::mark::{mark, word};
 use crate::number::number;
+use cert_values::{GroundHint, GroundHintList};
 use inst_logic::Memory;
-use saturation_cert::{GroundHint, GroundHintList};
 
 // What is left of the text, and whether the hints have ended.
 #[derive(Clone, Copy)]

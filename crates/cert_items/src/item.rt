@@ -3,7 +3,7 @@ ghost use Rattle.std.specs.Prelude.{◌≡◌, [], IfOk, IfSome, IfNone};
 ghost use Rattle.term_bank.specs.Forest.{clause_at, Grows};
 ghost use Rattle.cert_format.specs.LineMachine.{item};
 ghost use Rattle.cert_format.specs.LineTexts.{line};
-ghost use Rattle.saturation_cert.specs.Wholes.{IsWholeClause};
+ghost use Rattle.cert_values.specs.Wholes.{IsWholeClause};
 ghost use Rattle.cert_items.specs.Items.{IsItem, IsWholeNote, NoItem, group_of, note_of};
 
 use crate::group::{Group, head};
@@ -11,8 +11,8 @@ use crate::note::{Note, last_note};
 use crate::printable::printable_clause;
 use crate::shape::Shape;
 use crate::text_bank::TextBank;
+use cert_values::GroundHintList;
 use inst_logic::Memory;
-use saturation_cert::GroundHintList;
 use std::alloc::Global;
 use term_bank::{IdClause, TermId};
 

@@ -1,7 +1,7 @@
 // The note of an item, which stands behind its clause and says where the clause comes from.
 ghost use Rattle.std.specs.Prelude.{◌≡◌, ◌≢◌, ◌∷◌, ℕ, List, [], IfOk, IfSome, IfNone, IsTrue};
 ghost use Rattle.term_bank.specs.Forest.{Forest, Grows};
-ghost use Rattle.saturation_cert.specs.declared.certificate.GroundHint.{GroundHint};
+ghost use Rattle.cert_values.specs.declared.certificate.GroundHint.{GroundHint};
 ghost use Rattle.cert_items.specs.declared.group.Group.TheVariants.{Input as InInputs, Axiom as InAxioms, Member as InMembers, Ground as InGrounds, Step as InSteps, Shown as InShown, Cover as InCovers};
 ghost use Rattle.cert_items.specs.Items.{IsNoteAt, IsWholeNote, NoNote, NoLastNote, note_of};
 ghost use Rattle.inst_logic.specs.Codes as byte;
@@ -17,8 +17,8 @@ use crate::shape::Shape;
 use crate::symbol::name_of;
 use crate::term_list::number_and_terms;
 use crate::text_bank::TextBank;
+use cert_values::{By, GroundHintList, Origin};
 use inst_logic::{Memory, Name};
-use saturation_cert::{By, GroundHintList, Origin};
 use std::alloc::Global;
 use term_bank::{TermId, TermIdList};
 use unify_core::Side;

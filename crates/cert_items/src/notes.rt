@@ -4,7 +4,7 @@ ghost use Rattle.inst_logic.specs.Printing.{is_readable_name, name_text};
 ghost use Rattle.cert_format.specs.Certificate as format;
 ghost use Rattle.cert_format.specs.Lines.{side_word};
 ghost use Rattle.cert_format.specs.Names.{IsNameText};
-ghost use Rattle.saturation_cert.specs.Values.{side_of};
+ghost use Rattle.cert_values.specs.Values.{side_of};
 ghost use Rattle.cert_items.specs.Notes.{members_text, side_text};
 ghost use Rattle.inst_logic.specs.Codes as byte;
 

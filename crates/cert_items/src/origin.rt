@@ -4,15 +4,15 @@ ghost use Rattle.std.specs.Prelude.{◌≡◌, ◌≢◌, ◌++◌, ◌∷◌, �
 ghost use Rattle.std.specs.Char.{is_ascii_digit};
 ghost use Rattle.cert_format.specs.LineMachine.{fits_origin};
 ghost use Rattle.cert_format.specs.LineTexts.{numbers, origin_text, origin_is_printable};
-ghost use Rattle.saturation_cert.specs.Values.{origin_of};
+ghost use Rattle.cert_values.specs.Values.{origin_of};
 ghost use Rattle.cert_items.specs.Notes.{NoOrigin, instance_text, InstanceFits, lists_text, ListsFit};
 ghost use Rattle.inst_logic.specs.Codes as character;
 
 use crate::mark::{mark, word};
 use crate::number::number_before;
 use crate::number_list::number_list;
+use cert_values::Origin;
 use inst_logic::{Memory, NumberList, PlaceList};
-use saturation_cert::Origin;
 use std::alloc::Global;
 
 // The numbers of an instance.

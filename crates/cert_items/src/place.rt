@@ -3,14 +3,14 @@ ghost use Rattle.std.specs.Prelude.{◌≡◌, ◌≢◌, ◌++◌, ◌∷◌, �
 ghost use Rattle.inst_calculus.specs.Entries as entries;
 ghost use Rattle.cert_format.specs.LineMachine.{fits_origin};
 ghost use Rattle.cert_format.specs.LineTexts.{origin_text, origin_is_printable};
-ghost use Rattle.saturation_cert.specs.Values.{origin_of};
+ghost use Rattle.cert_values.specs.Values.{origin_of};
 ghost use Rattle.inst_logic.specs.Codes as byte;
 
 use crate::mark::{mark, word};
 use crate::number::number_before;
 use crate::origin::read_origin;
+use cert_values::Origin;
 use inst_logic::Memory;
-use saturation_cert::Origin;
 use std::alloc::Global;
 
 // The place behind an origin, and what follows it.

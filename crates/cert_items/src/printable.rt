@@ -4,7 +4,7 @@ ghost use Rattle.inst_logic.specs.Clauses.{TreeClause};
 ghost use Rattle.inst_logic.specs.Printing.{clause_text};
 ghost use Rattle.term_bank.specs.Forest.{clause_at, Grows};
 ghost use Rattle.cert_format.specs.Formats.{clause_is_printable};
-ghost use Rattle.saturation_cert.specs.Wholes.{IsWholeClause};
+ghost use Rattle.cert_values.specs.Wholes.{IsWholeClause};
 ghost use Rattle.inst_logic.specs.Codes as byte;
 
 use crate::clause::clause;

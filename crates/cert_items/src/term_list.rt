@@ -3,7 +3,7 @@ ghost use Rattle.std.specs.Prelude.{◌≡◌, ◌≢◌, ◌++◌, ◌∷◌, �
 ghost use Rattle.inst_logic.specs.Tree.{Tree};
 ghost use Rattle.term_bank.specs.Forest.{tree_at, Grows};
 ghost use Rattle.cert_format.specs.LineTexts as texts;
-ghost use Rattle.saturation_cert.specs.Wholes.{IsWholeTerm};
+ghost use Rattle.cert_values.specs.Wholes.{IsWholeTerm};
 ghost use Rattle.cert_items.specs.Reading.{ArePrintable};
 ghost use Rattle.inst_logic.specs.Codes as byte;
 

@@ -16,8 +16,8 @@ use Rattle.clause_form.proofs.Variables.{variable_occurs}
 use Rattle.cert_format.specs.TermLists.{IsPartBy}
 use Rattle.term_bank.specs.Forest.{Forest, Extends, clause_at, literal_tree, tree_at}
 use Rattle.term_bank.proofs.Clauses.{clause_extends}
-use Rattle.saturation_cert.specs.Wholes.{IsWholeClause, IsWholeTerm}
-use Rattle.saturation_cert.proofs.Grown.{clause_grown}
+use Rattle.cert_values.specs.Wholes.{IsWholeClause, IsWholeTerm}
+use Rattle.cert_values.proofs.Grown.{clause_grown}
 use Rattle.cert_names.proofs.Places.{under_by_place}
 
 mutual

@@ -5,7 +5,7 @@ ghost use Rattle.inst_logic.specs.Clauses.{IsCanonical, IsPart};
 ghost use Rattle.clause_form.specs.Conclusions.{AreVariables};
 ghost use Rattle.clause_form.specs.Literals.{id_eq};
 ghost use Rattle.cert_format.specs.TermLists.{AreTermsFor, IsPartBy};
-ghost use Rattle.saturation_cert.specs.Wholes.{IsWholeTerm};
+ghost use Rattle.cert_values.specs.Wholes.{IsWholeTerm};
 ghost use Rattle.term_bank.specs.Forest.{IsClauseOf, clause_at, tree_at, Grows};
 
 use clause_form::{greatest_variable, under, variant};

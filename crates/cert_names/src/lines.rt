@@ -3,15 +3,15 @@ ghost use Rattle.std.specs.Prelude.{◌≡◌, ◌↔◌, ◌++◌, All, IfOk, I
 ghost use Rattle.inst_logic.specs.Clauses.{IsCanonical};
 ghost use Rattle.inst_logic.specs.Derivations.{at_number};
 ghost use Rattle.cert_format.specs.TermLists.{IsGroundLineOf};
-ghost use Rattle.saturation_cert.specs.Values.{line_of};
-ghost use Rattle.saturation_cert.specs.Wholes.{IsWholeLine, IsWholeTerm};
+ghost use Rattle.cert_values.specs.Values.{line_of};
+ghost use Rattle.cert_values.specs.Wholes.{IsWholeLine, IsWholeTerm};
 ghost use Rattle.term_bank.specs.Forest.{IsClauseOf, clause_at, Grows};
 ghost use Rattle.cert_names.specs.Under.{AreGround, IsFirstWrongLine, IsUnder};
 
 use crate::instances::are_terms_for;
+use cert_values::{GroundLine, GroundLineList};
 use clause_form::{canonical, under, variant};
 use inst_logic::Memory;
-use saturation_cert::{GroundLine, GroundLineList};
 use std::alloc::Global;
 use term_bank::{Bank, IdClause, IdClauseList, TermIdList};
 

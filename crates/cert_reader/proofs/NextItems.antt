@@ -14,8 +14,8 @@ use Rattle.cert_format.proofs.Exits as exits
 use Rattle.cert_format.proofs.Exits.{item_line_once}
 use Rattle.cert_format.proofs.Formats.{next_of}
 use Rattle.cert_format.proofs.LineNotes.{line_more}
-use Rattle.saturation_cert.specs.declared.certificate.GroundHint.{GroundHint}
-use Rattle.saturation_cert.specs.Wholes.{IsWholeClause}
+use Rattle.cert_values.specs.declared.certificate.GroundHint.{GroundHint}
+use Rattle.cert_values.specs.Wholes.{IsWholeClause}
 use Rattle.cert_items.specs.declared.shape.Shape.{Shape}
 use Rattle.cert_items.specs.Items.{shape_of, IsItem, IsWholeNote, NoItem, group_of, note_of, rank_of}
 use Rattle.cert_items.specs.declared.group.Group.{Group}

@@ -17,12 +17,12 @@ use Rattle.cert_format.specs.LineMachine.{named, equality, member, selected, gro
 use Rattle.cert_format.specs.ValueLines.{input_items, axiom_items, member_items, selected_items, ground_items, line_items, step_items, shown_items, cover_items}
 use Rattle.cert_format.proofs.LineTexts.{input_ranks, axiom_ranks, member_ranks, selected_ranks, ground_ranks, line_ranks, step_ranks, shown_ranks, cover_ranks}
 use Rattle.cert_format.proofs.GroupItems.{last_push, all_append, axioms_length, members_length, grounds_length, steps_length}
-use Rattle.saturation_cert.specs.declared.certificate.By as bys
-use Rattle.saturation_cert.specs.declared.certificate.GroundHint.{GroundHint}
-use Rattle.saturation_cert.specs.declared.certificate.GroundStep.{GroundStep}
-use Rattle.saturation_cert.specs.declared.member.Member.{Member}
-use Rattle.saturation_cert.specs.Values.{origin_of, hint_of, entry_of, step_of, line_of, by_of, side_of, cover_of}
-use Rattle.saturation_cert.specs.Wholes.{IsWholeClause, IsWholeLine, IsWholeBy, IsWholeCover}
+use Rattle.cert_values.specs.declared.certificate.By as bys
+use Rattle.cert_values.specs.declared.certificate.GroundHint.{GroundHint}
+use Rattle.cert_values.specs.declared.certificate.GroundStep.{GroundStep}
+use Rattle.cert_values.specs.declared.member.Member.{Member}
+use Rattle.cert_values.specs.Values.{origin_of, hint_of, entry_of, step_of, line_of, by_of, side_of, cover_of}
+use Rattle.cert_values.specs.Wholes.{IsWholeClause, IsWholeLine, IsWholeBy, IsWholeCover}
 use Rattle.cert_items.specs.Items.{note_of, rank_of, IsWholeNote}
 use Rattle.cert_items.specs.declared.group.Group.{Group}
 use Rattle.cert_items.specs.declared.group.Group.TheVariants as kinds
@@ -34,7 +34,7 @@ use Rattle.cert_reader.specs.Bodies.{header}
 use Rattle.cert_reader.specs.Groups.{base_count, count_of, IsNextOf, pushed, members_by, items_of, HasForm, AreGroups}
 use Rattle.cert_format.proofs.ItemGroups.{IsGroup}
 use Rattle.cert_reader.proofs.Layers.{push_0, push_1, push_2, push_3, push_4, push_5, push_6, none_shown, count_0, count_1, count_2, count_3, count_4, count_5, count_6}
-use Rattle.saturation_cert.proofs.Grown.{clauses_grown, members_grown, steps_grown, clauses_same, members_same, steps_same, lines_grown, lines_same, bys_grown, bys_same, covers_grown, covers_same}
+use Rattle.cert_values.proofs.Grown.{clauses_grown, members_grown, steps_grown, clauses_same, members_same, steps_same, lines_grown, lines_same, bys_grown, bys_same, covers_grown, covers_same}
 
 -- ---- each group with one item more, and how many there are
 

@@ -16,8 +16,8 @@ use Rattle.cert_format.proofs.LineTexts.{ground_ranks, line_ranks, step_ranks, s
 use Rattle.cert_format.proofs.Spelling.{small_number}
 use Rattle.cert_format.proofs.ItemGroups.{base_other}
 use Rattle.cert_format.proofs.ValueRuns.{base_append, base_inputs, base_axioms}
-use Rattle.saturation_cert.specs.Values.{entry_of, line_of, step_of, by_of, cover_of}
-use Rattle.saturation_cert.specs.Wholes.{IsWholeClause}
+use Rattle.cert_values.specs.Values.{entry_of, line_of, step_of, by_of, cover_of}
+use Rattle.cert_values.specs.Wholes.{IsWholeClause}
 use Rattle.cert_items.specs.Items.{shape_of, group_of}
 use Rattle.cert_items.specs.declared.group.Group.{Group}
 use Rattle.cert_items.specs.declared.group.Group.TheVariants as kinds

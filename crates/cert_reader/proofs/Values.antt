@@ -31,12 +31,12 @@ use Rattle.cert_format.proofs.LineNotes.{below}
 use Rattle.cert_format.proofs.PrintableGroups.{terms_printable, by_printable, first_kind}
 use Rattle.cert_format.proofs.LineTexts.{text_is}
 use Rattle.cert_format.proofs.Writables.{IsWritableBase, IsWritableEntry, IsWritableLine, IsWritableStep, IsWritableBy, IsWritableCover, IsWritableSaturation, IsWritable, printable}
-use Rattle.saturation_cert.specs.declared.certificate.GroundLine.{GroundLine}
-use Rattle.saturation_cert.specs.declared.certificate.GroundStep.{GroundStep}
-use Rattle.saturation_cert.specs.declared.certificate.By as own
-use Rattle.saturation_cert.specs.declared.certificate.Cover as covering
-use Rattle.saturation_cert.specs.Values.{base_of, entry_of, line_of, step_of, by_of, cover_of, first_of, refutation_of, saturation_of, covered_of}
-use Rattle.saturation_cert.specs.Wholes.{IsWholeBase}
+use Rattle.cert_values.specs.declared.certificate.GroundLine.{GroundLine}
+use Rattle.cert_values.specs.declared.certificate.GroundStep.{GroundStep}
+use Rattle.cert_values.specs.declared.certificate.By as own
+use Rattle.cert_values.specs.declared.certificate.Cover as covering
+use Rattle.cert_values.specs.Values.{base_of, entry_of, line_of, step_of, by_of, cover_of, first_of, refutation_of, saturation_of, covered_of}
+use Rattle.cert_values.specs.Wholes.{IsWholeBase}
 use Rattle.cert_items.specs.Items.{rank_of}
 use Rattle.cert_items.specs.declared.group.Group.{Group}
 use Rattle.cert_items.specs.declared.group.Group.TheVariants as kinds

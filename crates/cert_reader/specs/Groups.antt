@@ -6,14 +6,14 @@ use Rattle.inst_logic.specs.declared.symbol.Sym.{Sym}
 use Rattle.term_bank.specs.Forest.{Forest, AreFormed, clause_at}
 use Rattle.cert_format.specs.LineMachine.{Item, last_rank}
 use Rattle.cert_format.specs.ValueLines.{input_items, axiom_items, member_items, selected_items, ground_items, line_items, step_items, shown_items, cover_items}
-use Rattle.saturation_cert.specs.declared.certificate.Base.{Base}
-use Rattle.saturation_cert.specs.declared.certificate.GroundHint.{GroundHint}
-use Rattle.saturation_cert.specs.declared.certificate.FirstRefutation.{FirstRefutation}
-use Rattle.saturation_cert.specs.declared.certificate.Refutation.{Refutation}
-use Rattle.saturation_cert.specs.declared.certificate.Saturation.{Saturation}
-use Rattle.saturation_cert.specs.declared.certificate.Covered.{Covered}
-use Rattle.saturation_cert.specs.Values.{entry_of, line_of, step_of, by_of, cover_of}
-use Rattle.saturation_cert.specs.Wholes.{IsWholeClause, IsWholeLine, IsWholeBy, IsWholeCover}
+use Rattle.cert_values.specs.declared.certificate.Base.{Base}
+use Rattle.cert_values.specs.declared.certificate.GroundHint.{GroundHint}
+use Rattle.cert_values.specs.declared.certificate.FirstRefutation.{FirstRefutation}
+use Rattle.cert_values.specs.declared.certificate.Refutation.{Refutation}
+use Rattle.cert_values.specs.declared.certificate.Saturation.{Saturation}
+use Rattle.cert_values.specs.declared.certificate.Covered.{Covered}
+use Rattle.cert_values.specs.Values.{entry_of, line_of, step_of, by_of, cover_of}
+use Rattle.cert_values.specs.Wholes.{IsWholeClause, IsWholeLine, IsWholeBy, IsWholeCover}
 use Rattle.cert_items.specs.Items.{rank_of}
 use Rattle.cert_items.specs.declared.shape.Shape.{Shape}
 use Rattle.cert_items.specs.declared.group.Group.{Group}

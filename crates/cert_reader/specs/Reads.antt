@@ -8,8 +8,8 @@ use Rattle.cert_format.specs.Fronts.{IsFront, IsBadLine}
 use Rattle.cert_format.specs.Printable.{IsPrintable, IsTextName}
 use Rattle.cert_format.specs.Text.{certificate_text}
 use Rattle.cert_format.specs.ValueLines.{IsCertificateText}
-use Rattle.saturation_cert.specs.Values.{first_of, refutation_of, saturation_of, covered_of}
-use Rattle.saturation_cert.specs.Wholes.{IsWholeFirst, IsWholeRefutation, IsWholeSaturation, IsWholeCovered}
+use Rattle.cert_values.specs.Values.{first_of, refutation_of, saturation_of, covered_of}
+use Rattle.cert_values.specs.Wholes.{IsWholeFirst, IsWholeRefutation, IsWholeSaturation, IsWholeCovered}
 use Rattle.cert_reader.specs.declared.certificate.Certificate.{Certificate}
 use Rattle.cert_reader.specs.declared.certificate.Certificate.TheVariants as forms
 use Rattle.cert_reader.specs.declared.error.CertError.{CertError}

@@ -1,6 +1,6 @@
 // The certificate that a text gives, with its name and format.
+use cert_values::{Covered, FirstRefutation, Refutation, Saturation};
 use inst_logic::Name;
-use saturation_cert::{Covered, FirstRefutation, Refutation, Saturation};
 
 /// A certificate of any kind, as it was read; nobody has checked it.
 #[derive(Drop)]

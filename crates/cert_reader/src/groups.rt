@@ -5,11 +5,11 @@ ghost use Rattle.cert_items.specs.Items.{rank_of};
 ghost use Rattle.cert_reader.specs.Groups.{base_count, count_of, names_in, IsInTurn, TakesTurn, IsAllShown, IsNextOf, pushed};
 
 use cert_items::{Group, Note, Shape};
-use inst_logic::{Memory, NameList, PlaceList};
-use saturation_cert::{
+use cert_values::{
     ByList, Cover, CoverList, GroundHintList, GroundLine, GroundLineList, GroundStep,
     GroundStepList, Member, MemberList,
 };
+use inst_logic::{Memory, NameList, PlaceList};
 use std::alloc::Global;
 use term_bank::{IdClause, IdClauseList};
 

@@ -5,8 +5,8 @@ ghost use Rattle.cert_reader.specs.Groups.{AreGroups, items_of};
 
 use crate::groups::Groups;
 use cert_items::{Shape, TextBank, read_item};
+use cert_values::GroundHintList;
 use inst_logic::Memory;
-use saturation_cert::GroundHintList;
 use std::alloc::Global;
 use term_bank::{IdClause, TermId};
 

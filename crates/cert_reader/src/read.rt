@@ -22,8 +22,8 @@ use crate::lines::constant;
 use crate::start::{Start, begin};
 use cert_items::symbol::name_of;
 use cert_items::{Shape, TextBank};
+use cert_values::{Base, Covered, FirstRefutation, Refutation, Saturation};
 use inst_logic::{Kind, Memory, Name, Sym};
-use saturation_cert::{Base, Covered, FirstRefutation, Refutation, Saturation};
 use std::alloc::Global;
 use term_bank::Bank;
 

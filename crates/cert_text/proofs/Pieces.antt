@@ -6,7 +6,7 @@ use Rattle.std.proofs.lemmas.List.{drop_all, map-id}
 use Rattle.std.proofs.lemmas.List.Elements.{All-weaker}
 use Rattle.std.specs.Prelude.{All, ◌⊎◌}
 use Rattle.term_bank.specs.Forest.{Forest, AreIds}
-use Rattle.saturation_cert.specs.Wholes.{IsWholeTerm}
+use Rattle.cert_values.specs.Wholes.{IsWholeTerm}
 use Rattle.tptp_write.proofs.Walks.{split_first}
 use Rattle.inst_logic.specs.Printing.{joined}
 use Rattle.cert_format.specs.Lines.{listed, text_line}

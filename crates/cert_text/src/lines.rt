@@ -4,15 +4,15 @@ ghost use Rattle.std.specs.Prelude.{◌≡◌, ◌++◌, [], ◌∷◌, OnOk, Al
 ghost use Rattle.inst_logic.specs.Printing.{joined, name_text, tree_text};
 ghost use Rattle.term_bank.specs.Forest.{clause_at, tree_at, IsClauseOf};
 ghost use Rattle.cert_format.specs.Lines.{text_line, status_line, start_line, end_line, format_line, input_line, axiom_line, listed, origin_text, member_line, selected_line, ground_line_by, by_text, side_word, shown_line, cover_line, hint_text, step_line};
-ghost use Rattle.saturation_cert.specs.Values.{by_of, cover_of, entry_of, line_of, origin_of, hint_of, side_of, step_of};
-ghost use Rattle.saturation_cert.specs.Wholes.{IsWholeBy, IsWholeCover, IsWholeLine, IsWholeTerm};
+ghost use Rattle.cert_values.specs.Values.{by_of, cover_of, entry_of, line_of, origin_of, hint_of, side_of, step_of};
+ghost use Rattle.cert_values.specs.Wholes.{IsWholeBy, IsWholeCover, IsWholeLine, IsWholeTerm};
 ghost use Rattle.cert_text.specs.Pieces.{line_front};
 
 use crate::clauses::push_clause;
 use crate::lists::{push_numbers, push_terms};
 use crate::pen::Pen;
+use cert_values::{By, Cover, GroundHint, GroundLine, GroundStep, Member, Origin};
 use inst_logic::{Memory, NumberList, PlaceList};
-use saturation_cert::{By, Cover, GroundHint, GroundLine, GroundStep, Member, Origin};
 use term_bank::{Bank, IdClause, TermIdList};
 use unify_core::Side;
 

@@ -3,16 +3,16 @@ ghost use Rattle.std.specs.Prelude.{◌≡◌, ◌+◌, ◌++◌, OnOk, map, dro
 ghost use Rattle.term_bank.specs.Forest.{clause_at};
 ghost use Rattle.cert_format.specs.Lines.{input_line, axiom_line, member_line, selected_line, ground_line_by, shown_line, cover_line, step_line};
 ghost use Rattle.cert_format.specs.Text.{numbered_lines, paired_lines};
-ghost use Rattle.saturation_cert.specs.Values.{by_of, cover_of, entry_of, line_of, step_of};
-ghost use Rattle.saturation_cert.specs.Wholes.{IsWholeBy, IsWholeClause, IsWholeCover, IsWholeLine};
+ghost use Rattle.cert_values.specs.Values.{by_of, cover_of, entry_of, line_of, step_of};
+ghost use Rattle.cert_values.specs.Wholes.{IsWholeBy, IsWholeClause, IsWholeCover, IsWholeLine};
 
 use crate::lines::{
     push_axiom, push_cover, push_ground, push_input, push_member, push_selected, push_shown,
     push_step,
 };
 use crate::pen::Pen;
+use cert_values::{By, Cover, GroundLine, GroundStep, Member};
 use inst_logic::{Memory, Name};
-use saturation_cert::{By, Cover, GroundLine, GroundStep, Member};
 use term_bank::{Bank, IdClause};
 
 // The input clauses with the names of their statements.

@@ -5,13 +5,13 @@ ghost use Rattle.cert_format.specs.Certificate.{covered, refutation};
 ghost use Rattle.cert_format.specs.Printable.{HasPrintableParts, IsTextName};
 ghost use Rattle.cert_format.specs.Text.{written_text};
 ghost use Rattle.cert_format.specs.ValueLines.{IsCertificateText};
-ghost use Rattle.saturation_cert.specs.Values.{covered_of, refutation_of};
+ghost use Rattle.cert_values.specs.Values.{covered_of, refutation_of};
 
 use crate::pen::Pen;
 use crate::whole::{push_covered, push_refutation};
 use cert_check::{CheckedCovered, CheckedRefutation};
+use cert_values::{covered_numbers, refutation_numbers};
 use inst_logic::{ByteList, Memory};
-use saturation_cert::{covered_numbers, refutation_numbers};
 use std::alloc::Global;
 
 /// The text of the refutation under this name, in the format in which certificates are written.

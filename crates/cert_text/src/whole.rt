@@ -4,8 +4,8 @@ ghost use Rattle.cert_format.specs.Certificate.{covered, refutation};
 ghost use Rattle.cert_format.specs.Formats.{written_format};
 ghost use Rattle.cert_format.specs.Lines.{format_line, selected_line, shown_line};
 ghost use Rattle.cert_format.specs.Text.{axiom_lines, head_lines, input_lines, paired_lines, written_text};
-ghost use Rattle.saturation_cert.specs.Values.{base_of, covered_of, refutation_of, saturation_of};
-ghost use Rattle.saturation_cert.specs.Wholes.{IsWholeBase, IsWholeCovered, IsWholeRefutation, IsWholeSaturation};
+ghost use Rattle.cert_values.specs.Values.{base_of, covered_of, refutation_of, saturation_of};
+ghost use Rattle.cert_values.specs.Wholes.{IsWholeBase, IsWholeCovered, IsWholeRefutation, IsWholeSaturation};
 
 use crate::lines::{push_constant, push_end, push_format, push_start, push_status};
 use crate::listing::{
@@ -13,8 +13,8 @@ use crate::listing::{
     push_shown_clauses, push_steps,
 };
 use crate::pen::Pen;
+use cert_values::{Base, Covered, Refutation, Saturation};
 use inst_logic::Memory;
-use saturation_cert::{Base, Covered, Refutation, Saturation};
 
 // The number of the format in which certificates are written.
 const WRITTEN_FORMAT: usize = 3;

@@ -15,7 +15,7 @@ use Rattle.engine_laws.specs.Places.{IsPlaced}
 use Rattle.engine_laws.specs.Pairs.{Held, IsWorked}
 use Rattle.engine_laws.proofs.WorkedPairs.{placed_once, pair_stays_worked, worked_by_one, worked_same_sign}
 use Rattle.term_bank.specs.Forest.{clause_at, tree_at}
-use Rattle.saturation_cert.specs.Values.{origin_of}
+use Rattle.cert_values.specs.Values.{origin_of}
 use Rattle.instgen_loop.specs.declared.state.Run.{Run}
 use Rattle.instgen_loop.specs.declared.state.Held as code
 use Rattle.instgen_loop.specs.Clauses.{Item, AreEntries, entries_in}

@@ -10,7 +10,7 @@ use Rattle.inst_machine.specs.Replay.{inferred_origins}
 use Rattle.inst_machine.proofs.EntryBound.{entries_are_bounded}
 use Rattle.inst_machine.proofs.Origins.{origins_in_order}
 use Rattle.term_bank.specs.Forest.{Forest, clause_at}
-use Rattle.saturation_cert.specs.Values.{origin_of}
+use Rattle.cert_values.specs.Values.{origin_of}
 use Rattle.instgen_loop.specs.declared.event.Event.{Event}
 use Rattle.instgen_loop.specs.declared.event.Event.TheVariants.{Solved, Inferred}
 use Rattle.instgen_loop.specs.declared.state.Run.{Run}

@@ -24,7 +24,7 @@ use Rattle.clause_form.proofs.Ids.{head_id, same_ids}
 use Rattle.clause_form.proofs.Readings.{ground_stays}
 use Rattle.term_index.specs.Pairs.{Pair, Gives}
 use Rattle.inst_calculus.proofs.Items.{same_item}
-use Rattle.saturation_cert.specs.declared.member.Origin.{Origin}
+use Rattle.cert_values.specs.declared.member.Origin.{Origin}
 use Rattle.instgen_loop.specs.declared.entries.Entries.{Entries}
 use Rattle.instgen_loop.specs.Clauses.{Item, AreEntries, AreFirsts, IsEntry, IsNoUnit, IsPast, IsShorterPart, IsUnit, HasShorterPart, clauses_in}
 

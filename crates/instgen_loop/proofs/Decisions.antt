@@ -20,7 +20,7 @@ use Rattle.inst_calculus.proofs.CoveredInstances.{covered_when_renamed}
 use Rattle.engine_laws.specs.Pairs.{Held, IsStillSelected, IsCoveredNow, IsDecided}
 use Rattle.term_bank.specs.Forest.{Forest, IsClauseOf, clause_at, tree_at}
 use Rattle.term_bank.proofs.Growth.{extends_trans}
-use Rattle.saturation_cert.specs.Values.{origin_of}
+use Rattle.cert_values.specs.Values.{origin_of}
 use Rattle.unify_core.specs.Sides.{IsResolvedBy}
 use Rattle.unify_core.specs.declared.side.Side.TheVariants.{Left}
 use Rattle.instgen_loop.specs.declared.state.Run.{Run}

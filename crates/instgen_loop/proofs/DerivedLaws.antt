@@ -44,11 +44,11 @@ use Rattle.term_bank.specs.Forest.{Forest, AreDistinct, Extends, IsClauseOf, cla
 use Rattle.term_bank.proofs.Clauses.{clause_extends, clause_of_extends}
 use Rattle.clause_form.proofs.Ids.{same_ids}
 use Rattle.ground_abs.specs.Abstracts.{atoms_in, AreAtomsIn}
-use Rattle.saturation_cert.specs.declared.certificate.GroundLine.{GroundLine}
-use Rattle.saturation_cert.specs.declared.member.Origin.{Origin}
-use Rattle.saturation_cert.specs.declared.member.Origin.TheVariants.{Input, Inst, Lemma}
-use Rattle.saturation_cert.specs.Values.{line_of, origin_of}
-use Rattle.saturation_cert.specs.Wholes.{IsWholeClause}
+use Rattle.cert_values.specs.declared.certificate.GroundLine.{GroundLine}
+use Rattle.cert_values.specs.declared.member.Origin.{Origin}
+use Rattle.cert_values.specs.declared.member.Origin.TheVariants.{Input, Inst, Lemma}
+use Rattle.cert_values.specs.Values.{line_of, origin_of}
+use Rattle.cert_values.specs.Wholes.{IsWholeClause}
 use Rattle.instgen_loop.specs.declared.event.Event.{Event}
 use Rattle.instgen_loop.specs.declared.refuted.RefutedRun.{RefutedRun}
 use Rattle.instgen_loop.specs.Clauses.{Item, clauses_in, entries_in}

@@ -24,9 +24,9 @@ use Rattle.inst_machine.proofs.Prolonged.{first_passed_over, first_taken}
 use Rattle.term_bank.specs.Forest.{Forest, AreDistinct, Extends, IsClauseOf, IsClauseAt, clause_at, tree_at}
 use Rattle.term_bank.proofs.Clauses.{clause_extends, clauses_extend}
 use Rattle.clause_form.proofs.Ids.{same_ids}
-use Rattle.saturation_cert.specs.declared.member.Origin.TheVariants.{Input}
-use Rattle.saturation_cert.specs.Values.{origin_of}
-use Rattle.saturation_cert.specs.Wholes.{IsWholeClause}
+use Rattle.cert_values.specs.declared.member.Origin.TheVariants.{Input}
+use Rattle.cert_values.specs.Values.{origin_of}
+use Rattle.cert_values.specs.Wholes.{IsWholeClause}
 use Rattle.instgen_loop.specs.declared.state.Run.{Run}
 use Rattle.instgen_loop.specs.Clauses.{Item, AreEntries, entries_in, clauses_in}
 use Rattle.instgen_loop.specs.Grounds.{IsLinked}

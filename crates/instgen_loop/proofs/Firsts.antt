@@ -9,7 +9,7 @@ use Rattle.inst_calculus.proofs.Membership.{◌∈◌, contains_in, all_in}
 use Rattle.engine_laws.proofs.Lists.{slice_get_last}
 use Rattle.inst_calculus.proofs.Items.{same_item}
 use Rattle.term_index.specs.Pairs.{Pair, Adds}
-use Rattle.saturation_cert.specs.declared.member.Origin.{Origin}
+use Rattle.cert_values.specs.declared.member.Origin.{Origin}
 use Rattle.term_bank.specs.Forest.{Forest, Extends, IsClauseOf, is_ground, tree_at}
 use Rattle.clause_form.proofs.Ids.{head_id}
 use Rattle.instgen_loop.specs.declared.entries.Entries.{Entries}

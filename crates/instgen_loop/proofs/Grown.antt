@@ -9,9 +9,9 @@ use Rattle.inst_calculus.specs.Entries.{Entry}
 use Rattle.inst_calculus.proofs.Membership.{◌∈◌, in_all, all_in}
 use Rattle.inst_calculus.proofs.Distinct.{map_append}
 use Rattle.term_bank.specs.Forest.{Forest, AreFormed, IsClauseOf, Extends, clause_at, tree_at}
-use Rattle.saturation_cert.specs.Wholes.{IsWholeClause}
-use Rattle.saturation_cert.specs.Values.{origin_of}
-use Rattle.saturation_cert.specs.declared.member.Origin.{Origin}
+use Rattle.cert_values.specs.Wholes.{IsWholeClause}
+use Rattle.cert_values.specs.Values.{origin_of}
+use Rattle.cert_values.specs.declared.member.Origin.{Origin}
 use Rattle.instgen_loop.specs.Clauses.{Item, AreEntries, entries_in, clauses_in}
 use Rattle.instgen_loop.specs.Loops.{IsLiteralPlace}
 use Rattle.term_bank.proofs.Clauses.{clause_of_extends, atoms_extend, clause_extends}

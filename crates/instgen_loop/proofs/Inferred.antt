@@ -26,9 +26,9 @@ use Rattle.unify_core.specs.declared.side.Side.{Side}
 use Rattle.unify_core.specs.declared.side.Side.TheVariants.{Left, Right}
 use Rattle.unify_core.proofs.Stays.{bindings_stay, substitutions_stay}
 use Rattle.clause_form.proofs.Concluded.{terms_later}
-use Rattle.saturation_cert.specs.Wholes.{IsWholeClause}
-use Rattle.saturation_cert.specs.Values.{origin_of}
-use Rattle.saturation_cert.specs.declared.member.Origin.{Origin}
+use Rattle.cert_values.specs.Wholes.{IsWholeClause}
+use Rattle.cert_values.specs.Values.{origin_of}
+use Rattle.cert_values.specs.declared.member.Origin.{Origin}
 use Rattle.inst_calculus.proofs.Distinct.{length_map}
 use Rattle.engine_laws.specs.Places.{IsPlaced}
 use Rattle.inst_calculus.specs.Abstraction.{AreGroundAtoms}

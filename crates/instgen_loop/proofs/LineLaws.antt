@@ -30,8 +30,8 @@ use Rattle.global_subs.specs.declared.made.Grounded.{Grounded}
 use Rattle.global_subs.specs.declared.made.Made.{Made}
 use Rattle.global_subs.specs.Unrolls.{AreEntriesOf, entries_at, grounded_at, made_at, terms_of}
 use Rattle.global_subs.proofs.TaskLaws.{entries_same}
-use Rattle.saturation_cert.specs.declared.certificate.GroundLine.{GroundLine}
-use Rattle.saturation_cert.specs.Values.{line_of}
+use Rattle.cert_values.specs.declared.certificate.GroundLine.{GroundLine}
+use Rattle.cert_values.specs.Values.{line_of}
 use Rattle.instgen_loop.specs.declared.start.Given.{Given}
 use Rattle.instgen_loop.specs.Lines.{given_of, given_trees, HasClauses, IsLineIn, IsLineOf}
 

@@ -13,7 +13,7 @@ use Rattle.inst_calculus.proofs.Distinct.{length_map, map_append}
 use Rattle.inst_calculus.proofs.Membership.{◌∈◌, contains_in, in_contains, in_either}
 use Rattle.engine_laws.proofs.Lists.{slice_get_last}
 use Rattle.indexmap.specs.IndexMap.{insert_entry}
-use Rattle.saturation_cert.specs.declared.certificate.GroundLine.{GroundLine}
+use Rattle.cert_values.specs.declared.certificate.GroundLine.{GroundLine}
 use Rattle.instgen_loop.specs.LineNumbers.{clauses_of, AreIndexed}
 
 abbrev Entry : Type 0

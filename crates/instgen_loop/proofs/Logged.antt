@@ -2,7 +2,7 @@
 use Rattle.std.proofs.Common.{◌≡◌, ℕ, ◌+◌, ◌≤◌, ◌-◌, List, [], ◌∷◌, ◌++◌, length, take, drop, slice_range, sym, ap, ap₂, ◌∙◌, subst as transport, arith, length-append}
 use Rattle.std.proofs.Math.Seq.{drop-append_seam}
 use Rattle.std.proofs.lemmas.List.{take-append-le, take_all, drop-append-le, drop_all, length-drop, map-append, append_assoc}
-use Rattle.saturation_cert.specs.declared.member.Origin.{Origin}
+use Rattle.cert_values.specs.declared.member.Origin.{Origin}
 use Rattle.instgen_loop.specs.declared.event.Event.{Event}
 use Rattle.instgen_loop.specs.declared.event.Event.TheVariants.{Solved, Inferred}
 use Rattle.instgen_loop.specs.declared.event_log.Mark.{Mark}

@@ -21,8 +21,8 @@ use Rattle.inst_calculus.proofs.StepLaws.{at_number_map}
 use Rattle.term_bank.specs.Forest.{Forest, Extends, IsClauseOf, IsClauseAt, clause_at, literal_tree, tree_at}
 use Rattle.term_bank.proofs.Clauses.{clause_extends}
 use Rattle.term_bank.proofs.Growth.{extends_trans}
-use Rattle.saturation_cert.specs.declared.member.Origin.{Origin}
-use Rattle.saturation_cert.specs.Wholes.{IsWholeClause}
+use Rattle.cert_values.specs.declared.member.Origin.{Origin}
+use Rattle.cert_values.specs.Wholes.{IsWholeClause}
 use Rattle.instgen_loop.specs.declared.state.Run.{Run}
 use Rattle.instgen_loop.specs.Clauses.{Item, AreEntries, clauses_in}
 use Rattle.instgen_loop.specs.Loops.{Appends}

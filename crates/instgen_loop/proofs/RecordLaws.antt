@@ -36,9 +36,9 @@ use Rattle.global_subs.specs.declared.made.How.TheVariants as made
 use Rattle.global_subs.specs.declared.made.How.TheVariants.{Given, From}
 use Rattle.global_subs.specs.declared.made.Made.{Made}
 use Rattle.global_subs.specs.Unrolls.{how_at, made_at, entries_at, terms_of, HasAllTerms, AreEntriesOf}
-use Rattle.saturation_cert.specs.declared.member.Origin.{Origin}
-use Rattle.saturation_cert.specs.declared.member.Origin.TheVariants.{Inst, Lemma}
-use Rattle.saturation_cert.specs.Values.{origin_of}
+use Rattle.cert_values.specs.declared.member.Origin.{Origin}
+use Rattle.cert_values.specs.declared.member.Origin.TheVariants.{Inst, Lemma}
+use Rattle.cert_values.specs.Values.{origin_of}
 use Rattle.instgen_loop.specs.Clauses.{Item, AreEntries, entries_in}
 use Rattle.instgen_loop.specs.Records.{IsConcluded, AreConcluded, IsRecord, AreRecordsOf}
 use Rattle.instgen_loop.proofs.Decisions.{take_next}

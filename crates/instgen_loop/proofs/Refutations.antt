@@ -38,11 +38,11 @@ use Rattle.prop_logic.specs.declared.literal.Step.{Step as NumberedStep}
 use Rattle.prop_logic.specs.Literal.{AtomsBelow}
 use Rattle.term_bank.specs.Forest.{Forest, AreDistinct, clause_at, literal_tree, tree_at}
 use Rattle.ground_abs.specs.Abstracts.{atoms_in}
-use Rattle.saturation_cert.specs.declared.certificate.GroundLine.{GroundLine}
-use Rattle.saturation_cert.specs.declared.certificate.GroundStep.{GroundStep}
-use Rattle.saturation_cert.specs.declared.certificate.Refutation.{Refutation}
-use Rattle.saturation_cert.specs.Values.{entry_of, line_of, step_of, refutation_of}
-use Rattle.saturation_cert.specs.Wholes.{IsWholeClause, IsWholeTerm, IsWholeLine, IsWholeRefutation}
+use Rattle.cert_values.specs.declared.certificate.GroundLine.{GroundLine}
+use Rattle.cert_values.specs.declared.certificate.GroundStep.{GroundStep}
+use Rattle.cert_values.specs.declared.certificate.Refutation.{Refutation}
+use Rattle.cert_values.specs.Values.{entry_of, line_of, step_of, refutation_of}
+use Rattle.cert_values.specs.Wholes.{IsWholeClause, IsWholeTerm, IsWholeLine, IsWholeRefutation}
 use Rattle.instgen_loop.specs.declared.event.Event.{Event}
 use Rattle.instgen_loop.specs.declared.refuted.RefutedRun.{RefutedRun}
 use Rattle.instgen_loop.specs.Endings.{IsRefuted}

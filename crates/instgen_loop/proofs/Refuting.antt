@@ -34,12 +34,12 @@ use Rattle.ground_abs.proofs.Atoms.{atoms_stay}
 use Rattle.term_bank.proofs.Growth.{map_extends}
 use Rattle.global_subs.specs.declared.made.Made.{Made}
 use Rattle.global_subs.specs.Unrolls.{AreEntriesOf, entries_at, made_at, terms_of}
-use Rattle.saturation_cert.specs.declared.certificate.GroundLine.{GroundLine}
-use Rattle.saturation_cert.specs.declared.member.Member.{Member}
-use Rattle.saturation_cert.specs.declared.member.Origin.{Origin}
-use Rattle.saturation_cert.specs.declared.member.Origin.TheVariants.{Input, Inst, Lemma}
-use Rattle.saturation_cert.specs.Values.{line_of, origin_of}
-use Rattle.saturation_cert.specs.Wholes.{IsWholeClause}
+use Rattle.cert_values.specs.declared.certificate.GroundLine.{GroundLine}
+use Rattle.cert_values.specs.declared.member.Member.{Member}
+use Rattle.cert_values.specs.declared.member.Origin.{Origin}
+use Rattle.cert_values.specs.declared.member.Origin.TheVariants.{Input, Inst, Lemma}
+use Rattle.cert_values.specs.Values.{line_of, origin_of}
+use Rattle.cert_values.specs.Wholes.{IsWholeClause}
 use Rattle.instgen_loop.specs.declared.event.Event.{Event}
 use Rattle.instgen_loop.specs.declared.refuted.RefutedRun.{RefutedRun}
 use Rattle.instgen_loop.specs.declared.start.Given.{Given}

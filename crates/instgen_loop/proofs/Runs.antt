@@ -35,9 +35,9 @@ use Rattle.inst_machine.proofs.Prolonged.{replay_goes_on, left_after}
 use Rattle.engine_laws.proofs.ConclusionSteps.{concludes as concludes_at, step, part_step}
 use Rattle.term_bank.specs.Forest.{Forest, Extends, IsClauseOf, clause_at, tree_at}
 use Rattle.ground_abs.specs.Abstracts.{atoms_in}
-use Rattle.saturation_cert.specs.Values.{origin_of}
-use Rattle.saturation_cert.specs.declared.member.Origin.{Origin}
-use Rattle.saturation_cert.specs.declared.member.Origin.TheVariants.{Inst, Lemma}
+use Rattle.cert_values.specs.Values.{origin_of}
+use Rattle.cert_values.specs.declared.member.Origin.{Origin}
+use Rattle.cert_values.specs.declared.member.Origin.TheVariants.{Inst, Lemma}
 use Rattle.unify_core.specs.Sides.{Binding, IsResolvedBy, of_side}
 use Rattle.unify_core.specs.Chains.{AreBindings}
 use Rattle.unify_core.specs.declared.side.Side.{Side}

@@ -15,7 +15,7 @@ use Rattle.engine_laws.proofs.ValidRuns.{valid_when_closed}
 use Rattle.term_bank.specs.Forest.{clause_at}
 use Rattle.term_index.specs.Pairs.{Pair}
 use Rattle.instgen_select.specs.Queues.{Waiting, numbers}
-use Rattle.saturation_cert.specs.Values.{origin_of}
+use Rattle.cert_values.specs.Values.{origin_of}
 use Rattle.instgen_loop.specs.declared.state.Run.{Run}
 use Rattle.instgen_loop.specs.declared.queue.Partners.{Partners}
 use Rattle.instgen_loop.specs.Clauses.{Item}

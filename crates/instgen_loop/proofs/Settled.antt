@@ -16,7 +16,7 @@ use Rattle.engine_laws.specs.Valuations.{AreFlips}
 use Rattle.ground_abs.specs.Abstracts.{atoms_in}
 use Rattle.instgen_loop.specs.declared.event.Event.TheVariants.{Solved}
 use Rattle.term_index.specs.Pairs.{Pair}
-use Rattle.saturation_cert.specs.Values.{origin_of}
+use Rattle.cert_values.specs.Values.{origin_of}
 use Rattle.instgen_loop.specs.declared.event.Event.{Event}
 use Rattle.instgen_loop.specs.declared.state.Run.{Run}
 use Rattle.instgen_loop.specs.declared.queue.Partners.{Partners}

@@ -33,7 +33,7 @@ use Rattle.engine_laws.specs.Pairs.{IsHeldBack}
 use Rattle.instgen_loop.specs.Grounds.{IsUsed}
 use Rattle.instgen_loop.specs.Loops.{held_in}
 use Rattle.instgen_loop.specs.declared.entries.Entries.{Entries}
-use Rattle.saturation_cert.specs.Values.{origin_of}
+use Rattle.cert_values.specs.Values.{origin_of}
 use Rattle.instgen_loop.specs.declared.event.Event.TheVariants.{Solved}
 use Rattle.instgen_loop.specs.declared.state.Run.{Run}
 use Rattle.instgen_loop.specs.Clauses.{Item, entries_in, clauses_in}

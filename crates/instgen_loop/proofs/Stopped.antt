@@ -21,7 +21,7 @@ use Rattle.engine_laws.specs.Pairs.{Held, IsDecided, IsHeldBack}
 use Rattle.engine_laws.proofs.SelectedEntries.{open_is_among, still_is_open}
 use Rattle.term_bank.specs.Forest.{Forest}
 use Rattle.term_index.specs.Pairs.{Pair}
-use Rattle.saturation_cert.specs.declared.certificate.Saturation.{Saturation}
+use Rattle.cert_values.specs.declared.certificate.Saturation.{Saturation}
 use Rattle.instgen_loop.specs.declared.event.Event.{Event}
 use Rattle.instgen_loop.specs.declared.start.Given.{Given}
 use Rattle.instgen_loop.specs.declared.state.Run.{Run}

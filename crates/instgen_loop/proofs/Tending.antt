@@ -15,7 +15,7 @@ use Rattle.term_bank.specs.Forest.{Forest, tree_at, clause_at}
 use Rattle.term_index.specs.Pairs.{Pair, Adds}
 use Rattle.instgen_select.specs.Passives.{Passive_list}
 use Rattle.instgen_select.specs.Queues.{numbers}
-use Rattle.saturation_cert.specs.Values.{origin_of}
+use Rattle.cert_values.specs.Values.{origin_of}
 use Rattle.instgen_loop.specs.declared.state.Run.{Run}
 use Rattle.instgen_loop.specs.declared.queue.Partners.{Partners}
 use Rattle.instgen_loop.specs.Clauses.{Item, AreEntries}

@@ -37,8 +37,8 @@ use Rattle.term_bank.proofs.Growth.{none_left}
 use Rattle.ground_abs.specs.Abstracts.{atoms_in, AreAtomsIn}
 use Rattle.ground_abs.specs.Numbers.{named}
 use Rattle.ground_abs.proofs.Numbered.{named_trees}
-use Rattle.saturation_cert.specs.Values.{hint_of, step_of}
-use Rattle.saturation_cert.specs.Wholes.{IsWholeClause}
+use Rattle.cert_values.specs.Values.{hint_of, step_of}
+use Rattle.cert_values.specs.Wholes.{IsWholeClause}
 use Rattle.instgen_loop.specs.Refuting.{ground_clause, ground_hint, ground_step, IsHintWithin, AreHintsWithin}
 
 -- Hints and steps as those of the calculus

@@ -13,7 +13,7 @@ use Rattle.prop_logic.proofs.ListLaws.{slice_get_set, slice_get_set_other}
 use Rattle.engine_laws.specs.Pairs.{IsWorked, AreWorked}
 use Rattle.engine_laws.proofs.WorkedPairs.{pair_stays_worked}
 use Rattle.term_bank.specs.Forest.{Forest, clause_at}
-use Rattle.saturation_cert.specs.Values.{origin_of}
+use Rattle.cert_values.specs.Values.{origin_of}
 use Rattle.inst_calculus.proofs.Distinct.{length_map}
 use Rattle.term_index.specs.Pairs.{Pair, Removes}
 use Rattle.instgen_select.specs.Passives.{Passive_list}

@@ -28,7 +28,7 @@ use Rattle.instgen_loop.specs.declared.state.Held as code
 use Rattle.instgen_loop.specs.Clauses.{Item, AreEntries, entries_in}
 use Rattle.instgen_loop.specs.Loops.{items, IsSelectedAtom, IsSelectedTree, IsSideWorkedIn, IsSideWorked, IsPairWorked, IsStored, Goes, held_in, held_of, after}
 use Rattle.term_bank.proofs.Growth.{extends_trans}
-use Rattle.saturation_cert.specs.Values.{origin_of}
+use Rattle.cert_values.specs.Values.{origin_of}
 use Rattle.unify_core.specs.Bindings.{Bound_list}
 use Rattle.instgen_select.specs.Queues.{numbers}
 use Rattle.instgen_loop.proofs.Grown.{entries_stay}

@@ -2,7 +2,7 @@
 use Rattle.std.specs.Prelude.{◌≡◌, ℕ, List, [], length}
 use Rattle.term_bank.specs.Forest.{Forest}
 use Rattle.term_index.specs.Pairs.{Pair}
-use Rattle.saturation_cert.specs.declared.certificate.Saturation.{Saturation}
+use Rattle.cert_values.specs.declared.certificate.Saturation.{Saturation}
 use Rattle.instgen_loop.specs.declared.start.Given.{Given}
 use Rattle.instgen_loop.specs.declared.state.Run.{Run}
 use Rattle.instgen_loop.specs.declared.finish.SettledRun.{SettledRun}

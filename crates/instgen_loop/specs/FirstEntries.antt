@@ -6,7 +6,7 @@ use Rattle.inst_machine.specs.Machine.{IsFirst}
 use Rattle.term_bank.specs.Forest.{Extends}
 use Rattle.ground_abs.specs.Abstracts.{Grows}
 use Rattle.instgen_select.specs.Queues.{numbers}
-use Rattle.saturation_cert.specs.declared.member.Origin.{Origin}
+use Rattle.cert_values.specs.declared.member.Origin.{Origin}
 use Rattle.instgen_loop.specs.declared.state.Run.{Run}
 use Rattle.instgen_loop.specs.Clauses.{clauses_in}
 use Rattle.instgen_loop.specs.Grounds.{IsLinked}

@@ -2,7 +2,7 @@
 use Rattle.std.specs.Prelude.{◌≡◌, ℕ, List, length, map, All, Contains, Some, slice_get}
 use Rattle.inst_logic.specs.declared.signed.Signed.{Signed}
 use Rattle.inst_logic.specs.Derivations.{at_number}
-use Rattle.saturation_cert.specs.declared.certificate.GroundLine.{GroundLine}
+use Rattle.cert_values.specs.declared.certificate.GroundLine.{GroundLine}
 use Rattle.instgen_loop.specs.Refuting.{ground_clause}
 
 abbrev pub clauses_of : List GroundLine → List (List (Signed ℕ))

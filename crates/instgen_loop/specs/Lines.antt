@@ -9,8 +9,8 @@ use Rattle.term_bank.specs.Forest.{Forest, AreIds, IsClauseOf, clause_at}
 use Rattle.engine_laws.specs.GroundLines.{ground_line, ground_lines}
 use Rattle.global_subs.specs.declared.made.Grounded.{Grounded}
 use Rattle.global_subs.specs.Unrolls.{grounded_at}
-use Rattle.saturation_cert.specs.declared.certificate.GroundLine.{GroundLine}
-use Rattle.saturation_cert.specs.Values.{line_of}
+use Rattle.cert_values.specs.declared.certificate.GroundLine.{GroundLine}
+use Rattle.cert_values.specs.Values.{line_of}
 use Rattle.instgen_loop.specs.declared.refuted.RefutedRun.{RefutedRun}
 use Rattle.instgen_loop.specs.declared.start.Given.{Given}
 use Rattle.instgen_loop.specs.Clauses.{entries_in}

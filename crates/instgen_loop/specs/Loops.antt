@@ -21,7 +21,7 @@ use Rattle.term_bank.specs.Forest.{Forest, Extends, tree_at, clause_at}
 use Rattle.term_index.specs.Pairs.{Pair}
 use Rattle.ground_abs.specs.Abstracts.{AreAtomsIn, AreNotesIn, Grows}
 use Rattle.instgen_select.specs.Queues.{numbers}
-use Rattle.saturation_cert.specs.declared.member.Origin.{Origin}
+use Rattle.cert_values.specs.declared.member.Origin.{Origin}
 use Rattle.instgen_loop.specs.declared.event.Event.TheVariants.{Inferred}
 use Rattle.instgen_loop.specs.declared.state.Run.{Run}
 use Rattle.instgen_loop.specs.declared.queue.Partners.{Partners}

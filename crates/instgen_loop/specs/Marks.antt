@@ -1,6 +1,6 @@
 -- What the marks of solves tell of the events.
 use Rattle.std.specs.Prelude.{◌≡◌, ℕ, ◌≤◌, List, [], ◌∷◌, ◌++◌, map, drop, slice_range}
-use Rattle.saturation_cert.specs.declared.member.Origin.{Origin}
+use Rattle.cert_values.specs.declared.member.Origin.{Origin}
 use Rattle.instgen_loop.specs.declared.event.Event.{Event}
 use Rattle.instgen_loop.specs.declared.event.Event.TheVariants.{Solved, Inferred}
 use Rattle.instgen_loop.specs.declared.event_log.Mark.{Mark}

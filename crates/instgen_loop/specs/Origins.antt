@@ -1,6 +1,6 @@
 -- Origins in few bytes each.
-use Rattle.saturation_cert.specs.declared.member.Origin.{Origin}
-use Rattle.saturation_cert.specs.declared.member.Origin.TheVariants as plain
+use Rattle.cert_values.specs.declared.member.Origin.{Origin}
+use Rattle.cert_values.specs.declared.member.Origin.TheVariants as plain
 use Rattle.instgen_loop.specs.declared.origin.Packed.{Packed}
 use Rattle.instgen_loop.specs.declared.origin.Packed.TheVariants.{Input, Inst, Shared}
 

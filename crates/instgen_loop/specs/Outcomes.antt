@@ -14,11 +14,11 @@ use Rattle.engine_laws.specs.GroundLines.{ground_lines}
 use Rattle.inst_machine.specs.Machine.{State, IsSettled}
 use Rattle.inst_machine.specs.Replay.{ReplaysFrom, IsSelection}
 use Rattle.inst_machine.specs.Budget.{RunsOut}
-use Rattle.saturation_cert.specs.declared.certificate.Base.{Base}
-use Rattle.saturation_cert.specs.declared.certificate.Refutation.{Refutation}
-use Rattle.saturation_cert.specs.declared.certificate.Saturation.{Saturation}
-use Rattle.saturation_cert.specs.Values.{base_of, refutation_of, saturation_of}
-use Rattle.saturation_cert.specs.Wholes.{IsWholeRefutation, IsWholeSaturation}
+use Rattle.cert_values.specs.declared.certificate.Base.{Base}
+use Rattle.cert_values.specs.declared.certificate.Refutation.{Refutation}
+use Rattle.cert_values.specs.declared.certificate.Saturation.{Saturation}
+use Rattle.cert_values.specs.Values.{base_of, refutation_of, saturation_of}
+use Rattle.cert_values.specs.Wholes.{IsWholeRefutation, IsWholeSaturation}
 use Rattle.instgen_loop.specs.declared.event.Event.{Event}
 use Rattle.instgen_loop.specs.declared.event.Event.TheVariants.{Solved, Inferred}
 use Rattle.instgen_loop.specs.Running.{event_in}

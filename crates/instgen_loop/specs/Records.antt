@@ -10,9 +10,9 @@ use Rattle.term_bank.specs.Forest.{Forest, AreIds, clause_at}
 use Rattle.clause_form.specs.Conclusions.{AreTermIds}
 use Rattle.global_subs.specs.declared.made.Made.{Made}
 use Rattle.global_subs.specs.Unrolls.{how_at, terms_of}
-use Rattle.saturation_cert.specs.declared.member.Origin.{Origin}
-use Rattle.saturation_cert.specs.declared.member.Origin.TheVariants.{Input, Inst, Lemma}
-use Rattle.saturation_cert.specs.Values.{origin_of}
+use Rattle.cert_values.specs.declared.member.Origin.{Origin}
+use Rattle.cert_values.specs.declared.member.Origin.TheVariants.{Input, Inst, Lemma}
+use Rattle.cert_values.specs.Values.{origin_of}
 use Rattle.instgen_loop.specs.Clauses.{Item, entries_in}
 
 -- an origin that names two entries names a conclusion of them, or a part of one, which is the clause

@@ -7,11 +7,11 @@ use Rattle.prop_logic.specs.declared.literal.Hint.{Hint}
 use Rattle.prop_logic.specs.declared.literal.Hint.TheVariants.{Added, Step as Before}
 use Rattle.prop_logic.specs.declared.literal.Step.{Step}
 use Rattle.ground_abs.specs.Numbers.{named}
-use Rattle.saturation_cert.specs.declared.member.Member.{Member}
-use Rattle.saturation_cert.specs.declared.certificate.Base.{Base}
-use Rattle.saturation_cert.specs.declared.certificate.GroundHint.{GroundHint}
-use Rattle.saturation_cert.specs.declared.certificate.GroundHint.TheVariants.{Ground, Step as Earlier}
-use Rattle.saturation_cert.specs.declared.certificate.GroundStep.{GroundStep}
+use Rattle.cert_values.specs.declared.member.Member.{Member}
+use Rattle.cert_values.specs.declared.certificate.Base.{Base}
+use Rattle.cert_values.specs.declared.certificate.GroundHint.{GroundHint}
+use Rattle.cert_values.specs.declared.certificate.GroundHint.TheVariants.{Ground, Step as Earlier}
+use Rattle.cert_values.specs.declared.certificate.GroundStep.{GroundStep}
 use Rattle.instgen_loop.specs.declared.start.Given.{Given}
 use Rattle.instgen_loop.specs.declared.state.Run.{Run}
 use Rattle.instgen_loop.specs.declared.hand_over.Remains.{Remains}

@@ -25,9 +25,9 @@ use Rattle.unify_core.specs.Sides.{IsResolvedBy}
 use Rattle.unify_core.specs.declared.side.Side.{Side}
 use Rattle.unify_core.specs.declared.side.Side.TheVariants.{Left, Right}
 use Rattle.ground_abs.specs.Abstracts.{atoms_in}
-use Rattle.saturation_cert.specs.Values.{origin_of}
-use Rattle.saturation_cert.specs.declared.member.Origin.TheVariants as origins
-use Rattle.saturation_cert.specs.declared.member.Origin.TheVariants.{Inst}
+use Rattle.cert_values.specs.Values.{origin_of}
+use Rattle.cert_values.specs.declared.member.Origin.TheVariants as origins
+use Rattle.cert_values.specs.declared.member.Origin.TheVariants.{Inst}
 use Rattle.global_subs.specs.declared.lemma.Lemma.{Lemma}
 use Rattle.global_subs.specs.Reductions.{IsReduction}
 use Rattle.instgen_loop.specs.declared.event.Event.{Event}

@@ -9,7 +9,7 @@ use Rattle.inst_calculus.specs.Abstraction.{IsBot}
 use Rattle.inst_calculus.specs.Axioms.{equality_axioms}
 use Rattle.term_bank.specs.Forest.{Forest, AreFormed, clause_at}
 use Rattle.term_index.specs.Pairs.{Pair}
-use Rattle.saturation_cert.specs.Wholes.{IsWholeClause}
+use Rattle.cert_values.specs.Wholes.{IsWholeClause}
 use Rattle.instgen_loop.specs.declared.start.Given.{Given}
 use Rattle.instgen_loop.specs.declared.state.Run.{Run}
 use Rattle.instgen_loop.specs.Loops.{items}

@@ -2,7 +2,7 @@
 // abstractions refutes the lines. Else a solver of its own is asked for it.
 ghost use Rattle.std.specs.Prelude.{◌≡◌, [], List, Bool, map, All, IfOk, OnOk, false};
 ghost use Rattle.prop_logic.specs.Solving.{MakesTrue, Refutes};
-ghost use Rattle.saturation_cert.specs.Wholes.{IsWholeClause};
+ghost use Rattle.cert_values.specs.Wholes.{IsWholeClause};
 ghost use Rattle.term_bank.specs.Forest.{AreDistinct, AreFormed, Extends, clause_at};
 ghost use Rattle.instgen_loop.specs.Clauses.{Item};
 ghost use Rattle.instgen_loop.specs.Derived.{AreRefutedLines, IsDerived, IsEmptyGround, IsNoPart};
@@ -12,11 +12,11 @@ ghost use Rattle.instgen_loop.specs.LineNumbers.{clauses_of};
 use crate::ground::{Ground, add_entry};
 use crate::records::{Origins, origin_of};
 use crate::refuted::RefutedRun;
+use cert_values::GroundLineList;
 use compact_lists::FlatClauses;
 use ground_abs::Abstraction;
 use inst_logic::Memory;
 use prop_logic::{Answer, Derivation, Solver, Valuation};
-use saturation_cert::GroundLineList;
 use std::alloc::Global;
 use std::mem::swap;
 use term_bank::Bank;

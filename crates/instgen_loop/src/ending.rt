@@ -8,9 +8,9 @@ use crate::event_log::EventLog;
 use crate::finish::{SettledRun, saturation_of};
 use crate::outcome::Outcome;
 use crate::refuted::{RefutedRun, refutation_of};
+use cert_values::{Refutation, Saturation};
 use inst_logic::{Memory, Problem};
 use prop_logic::Solver;
-use saturation_cert::{Refutation, Saturation};
 use std::alloc::Global;
 
 /// What an outcome is made of, beside its journal.

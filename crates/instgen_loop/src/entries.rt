@@ -5,7 +5,7 @@ ghost use Rattle.inst_logic.specs.Clauses.{TreeClause, IsCanonical};
 ghost use Rattle.inst_calculus.specs.Saturation.{IsCovered};
 ghost use Rattle.term_bank.specs.Forest.{clause_at, IsClauseOf};
 ghost use Rattle.instgen_loop.specs.Clauses.{AreEntries, AreFirsts, IsEntry, IsUnit, IsNoUnit, IsPast, IsShorterPart, HasShorterPart, AreNoParts, Item, clauses_in};
-ghost use Rattle.saturation_cert.specs.declared.member.Origin.{Origin};
+ghost use Rattle.cert_values.specs.declared.member.Origin.{Origin};
 
 use crate::origin::PackedOrigin;
 use crate::scratch::Scratch;

@@ -1,7 +1,7 @@
 // The events of a run while it lasts, in few bytes each. A list of events takes more than twice as much, and each solve in it a
 // piece of memory of its own, so one is made only at the end.
 ghost use Rattle.std.specs.Prelude.{◌≡◌, ◌++◌, ◌∷◌, [], length, IfOk, OnOk};
-ghost use Rattle.saturation_cert.specs.declared.member.Origin.{Origin};
+ghost use Rattle.cert_values.specs.declared.member.Origin.{Origin};
 ghost use Rattle.instgen_loop.specs.declared.event.Event.TheVariants.{Solved, Inferred};
 ghost use Rattle.instgen_loop.specs.Marks.{inferred, events_from, AreInOrder};
 

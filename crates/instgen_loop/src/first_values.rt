@@ -3,7 +3,7 @@
 // each other, so nothing is inferred. Nothing is proved of these values, since no answer hangs on them.
 ghost use Rattle.std.specs.Prelude.{◌≤◌, All, IfOk, OnOk};
 ghost use Rattle.prop_logic.specs.Literal.{AtomsBelow};
-ghost use Rattle.saturation_cert.specs.Wholes.{IsWholeClause};
+ghost use Rattle.cert_values.specs.Wholes.{IsWholeClause};
 ghost use Rattle.term_bank.specs.Forest.{IsClauseOf};
 
 use crate::start::{Given, IdClauses, greater, literals_after, next_number};

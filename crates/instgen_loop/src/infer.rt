@@ -11,7 +11,7 @@ ghost use Rattle.global_subs.specs.Reductions.{IsReduction};
 ghost use Rattle.term_bank.specs.Forest.{IsClauseOf, clause_at};
 ghost use Rattle.unify_core.specs.Sides.{IsResolvedBy, of_side};
 ghost use Rattle.unify_core.specs.Sizes.{IsSizeUnder};
-ghost use Rattle.saturation_cert.specs.Wholes.{IsWholeClause};
+ghost use Rattle.cert_values.specs.Wholes.{IsWholeClause};
 ghost use Rattle.instgen_loop.specs.Clauses.{Item, clauses_in};
 ghost use Rattle.instgen_loop.specs.Loops.{IsSafe, Goes, items, IsUnified, IsSideWorked, IsConclusionFor, KeepsLink};
 ghost use Rattle.instgen_loop.specs.Running.{Reads, Holds, AppendsWhole, AppendsPart, AppendsUncovered, MayInfer, KeepsRunning};

@@ -8,11 +8,11 @@ ghost use Rattle.instgen_loop.specs.Refuting.{ground_clause};
 use crate::ground::clause_after;
 use crate::start::copied_clause;
 use crate::steps::ground_clause;
+use cert_values::GroundLineList;
 use compact_lists::{FlatClauses, Literals};
 use ground_abs::Abstraction;
 use indexmap::IndexMap;
 use inst_logic::{Memory, NumberList};
-use saturation_cert::GroundLineList;
 use std::alloc::Global;
 use term_bank::IdClause;
 

@@ -6,15 +6,15 @@ ghost use Rattle.inst_calculus.specs.Unrolling.{AreMade, IsGrounded, all_unrolle
 ghost use Rattle.clause_form.specs.Conclusions.{AreTermIds};
 ghost use Rattle.engine_laws.specs.GroundLines.{ground_line, ground_lines};
 ghost use Rattle.global_subs.specs.Unrolls.{AreEntriesOf, entries_at, grounded_at, terms_of};
-ghost use Rattle.saturation_cert.specs.Values.{line_of};
+ghost use Rattle.cert_values.specs.Values.{line_of};
 ghost use Rattle.term_bank.specs.Forest.{AreFormed, AreIds, Extends};
 ghost use Rattle.instgen_loop.specs.Lines.{HasClauses, IsLineIn, IsLineOf, given_of, given_trees};
 
 use crate::start::{Given, copied_clause, literals_after};
+use cert_values::{GroundLine, GroundLineList};
 use clause_form::under;
 use global_subs::{Grounded, GroundedList, MadeList, unroll_all};
 use inst_logic::{Memory, Sym};
-use saturation_cert::{GroundLine, GroundLineList};
 use std::alloc::Global;
 use term_bank::{Bank, IdLiteral};
 

@@ -1,14 +1,14 @@
 // Origins of entries in few bytes.
 ghost use Rattle.std.specs.Prelude.{◌≡◌, false, IfOk};
-ghost use Rattle.saturation_cert.specs.declared.member.Origin.TheVariants.{Input, Inst};
-ghost use Rattle.saturation_cert.specs.declared.member.Origin.TheVariants as origins;
+ghost use Rattle.cert_values.specs.declared.member.Origin.TheVariants.{Input, Inst};
+ghost use Rattle.cert_values.specs.declared.member.Origin.TheVariants as origins;
 ghost use Rattle.instgen_loop.specs.Derived.{IsNoPart};
 
 use crate::small::small;
 use crate::state::Held;
+use cert_values::Origin;
 use global_subs::Lemma;
 use inst_logic::Memory;
-use saturation_cert::Origin;
 use std::alloc::{AllocError, Global};
 use std::marker::Model;
 use std::rc::Rc;
@@ -34,7 +34,7 @@ pub struct PackedOrigin {
 }
 
 impl Model for PackedOrigin {
-    ghost use Rattle.saturation_cert.specs.declared.member.Origin.{Origin};
+    ghost use Rattle.cert_values.specs.declared.member.Origin.{Origin};
 
     ghost Value = { Origin };
 

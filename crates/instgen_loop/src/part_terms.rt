@@ -7,7 +7,7 @@ ghost use Rattle.inst_logic.specs.Clauses.{IsCanonical, order_of};
 ghost use Rattle.inst_calculus.specs.Parts.{IsProperPart, chosen};
 ghost use Rattle.inst_calculus.specs.Unrolling.{part_terms};
 ghost use Rattle.clause_form.specs.Conclusions.{AreTermIds};
-ghost use Rattle.saturation_cert.specs.Wholes.{IsWholeClause};
+ghost use Rattle.cert_values.specs.Wholes.{IsWholeClause};
 ghost use Rattle.term_bank.specs.Forest.{AreFormed, AreIds, Extends, IsClauseOf, IsTermIn, clause_at, tree_at};
 ghost use Rattle.instgen_loop.specs.PartTerms.{AreBound, AreBoundTerms, IsBoundTerm, IsRenumbered};
 

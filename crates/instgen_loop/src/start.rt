@@ -7,7 +7,7 @@ ghost use Rattle.inst_logic.specs.Printing.{is_readable_name};
 ghost use Rattle.inst_calculus.specs.Abstraction.{IsBot};
 ghost use Rattle.inst_calculus.specs.Axioms.{equality_axioms, with_axioms};
 ghost use Rattle.term_bank.specs.Forest.{AreFormed, Extends, clause_at};
-ghost use Rattle.saturation_cert.specs.Wholes.{IsWholeClause};
+ghost use Rattle.cert_values.specs.Wholes.{IsWholeClause};
 ghost use Rattle.cert_format.specs.Printable.{IsPrintableClause};
 ghost use Rattle.instgen_select.specs.Queues.{numbers};
 ghost use Rattle.instgen_loop.specs.Loops.{IsSafe, items, after};

@@ -3,7 +3,7 @@ ghost use Rattle.std.specs.Prelude.{◌≡◌, ◌≤◌, ◌++◌, ◌∷◌, [
 ghost use Rattle.inst_logic.specs.declared.symbol.Sym.{Sym};
 ghost use Rattle.inst_logic.specs.Clauses.{TreeClause, IsCanonical};
 ghost use Rattle.term_bank.specs.Forest.{clause_at, IsClauseOf};
-ghost use Rattle.saturation_cert.specs.Wholes.{IsWholeClause};
+ghost use Rattle.cert_values.specs.Wholes.{IsWholeClause};
 ghost use Rattle.instgen_loop.specs.Clauses.{Item};
 ghost use Rattle.instgen_loop.specs.Loops.{IsSafe, Appends, KeepsLink};
 ghost use Rattle.instgen_loop.specs.FirstEntries.{MakesEntry};

@@ -5,12 +5,12 @@ ghost use Rattle.prop_logic.specs.Literal.{AtomsBelow, StepsBelow};
 ghost use Rattle.ground_abs.specs.Numbers.{named};
 ghost use Rattle.instgen_loop.specs.Refuting.{AreHintsWithin, IsHintWithin, ground_clause, ground_hint, ground_step};
 
+use cert_values::{GroundHint, GroundHintList, GroundStep, GroundStepList};
 use compact_lists::Literals;
 use ground_abs::{Abstraction, add_literal};
 use indexmap::IndexSet;
 use inst_logic::{Memory, NumberList};
 use prop_logic::{Derivation, Hint, HintList, Lit, Step};
-use saturation_cert::{GroundHint, GroundHintList, GroundStep, GroundStepList};
 use std::alloc::Global;
 use term_bank::{IdClause, IdLiteral};
 

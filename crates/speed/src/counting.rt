@@ -1,6 +1,6 @@
 // What is told of a run.
+use cert_values::Base;
 use instgen_loop::{Event, Journal, Outcome};
-use saturation_cert::Base;
 use std::fmt::{Display, Error, Formatter, Write};
 
 /// How a run ended, and how many members, steps, solves and appended entries it had.

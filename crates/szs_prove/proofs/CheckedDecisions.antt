@@ -10,10 +10,10 @@ use Rattle.cert_format.specs.Certifies.{IsOf, HasConstantOf, Certifies}
 use Rattle.cert_format.specs.Formats.{written_format}
 use Rattle.cert_format.specs.Printable.{CoveredFits, IsPrintable, IsPrintableProblem, NumbersFit}
 use Rattle.cert_format.specs.Validity.{IsNamed, IsValid}
-use Rattle.saturation_cert.specs.declared.certificate.Refutation.{Refutation}
-use Rattle.saturation_cert.specs.declared.certificate.Saturation.{Saturation}
-use Rattle.saturation_cert.specs.declared.certificate.Covered.{Covered}
-use Rattle.saturation_cert.specs.Values.{covered_of, refutation_of, saturation_of}
+use Rattle.cert_values.specs.declared.certificate.Refutation.{Refutation}
+use Rattle.cert_values.specs.declared.certificate.Saturation.{Saturation}
+use Rattle.cert_values.specs.declared.certificate.Covered.{Covered}
+use Rattle.cert_values.specs.Values.{covered_of, refutation_of, saturation_of}
 use Rattle.cert_front.specs.Kinds.{covered_value, refutation_value, saturation_value}
 use Rattle.instgen_loop.specs.declared.event.Event.{Event}
 use Rattle.instgen_loop.specs.declared.outcome.Outcome.{Outcome}

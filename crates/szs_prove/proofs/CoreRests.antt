@@ -2,7 +2,7 @@
 use Rattle.std.proofs.Common.{◌≡◌, ℕ, ◌+◌, List, [], ◌∷◌, ◌++◌, sym, subst as transport, add-one}
 use Rattle.std.specs.Prelude.{remove}
 use Rattle.inst_logic.specs.declared.clause.Problem.{Problem}
-use Rattle.saturation_cert.specs.declared.certificate.Covered.{Covered}
+use Rattle.cert_values.specs.declared.certificate.Covered.{Covered}
 use Rattle.cert_front.specs.Kinds.{covered_value}
 use Rattle.core_min.specs.Cores.{HasSelection}
 use Rattle.core_min.proofs.SubLists.{not_both}

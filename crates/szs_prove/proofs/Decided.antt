@@ -6,8 +6,8 @@ use Rattle.inst_logic.specs.Clauses.{TreeClause}
 use Rattle.inst_logic.specs.Measure.{is_function_free}
 use Rattle.inst_logic.specs.Printing.{is_readable_name}
 use Rattle.cert_format.specs.Printable.{IsPrintableClause, IsPrintableProblem}
-use Rattle.saturation_cert.specs.declared.certificate.Refutation.{Refutation}
-use Rattle.saturation_cert.specs.Values.{refutation_of}
+use Rattle.cert_values.specs.declared.certificate.Refutation.{Refutation}
+use Rattle.cert_values.specs.Values.{refutation_of}
 use Rattle.szs_prove.specs.declared.decision.Decision.{Decision}
 use Rattle.szs_prove.specs.declared.decision.Decision.TheVariants.{Unsatisfiable}
 use Rattle.szs_prove.specs.Decisions.{IsDecision}

@@ -16,13 +16,14 @@ use Rattle.cert_format.specs.Certificate as format
 use Rattle.cert_format.specs.Certificate.{selected_members}
 use Rattle.cert_format.specs.Validity.{IsNamed, IsRightMember, SelectsAt}
 use Rattle.cert_format.specs.declared.complaint.Complaint.TheVariants.{Member as Derived, Place}
-use Rattle.saturation_cert.specs.declared.certificate.Covered.{Covered}
-use Rattle.saturation_cert.specs.declared.certificate.Saturation.{Saturation}
-use Rattle.saturation_cert.specs.Truths.{AreSelected, IsSelectedLiteral}
-use Rattle.saturation_cert.specs.Values.{saturation_of, covered_of}
-use Rattle.saturation_cert.specs.Wholes.{AreLight, HasPlaces, IsGroundAtom, IsWholeCovered, IsWholeSaturation, KeepsCovered, KeepsSaturation}
-use Rattle.saturation_cert.proofs.Chosen.{literal_of_member, number_within}
-use Rattle.saturation_cert.proofs.Kept.{saturation_same}
+use Rattle.cert_values.specs.declared.certificate.Covered.{Covered}
+use Rattle.cert_values.specs.declared.certificate.Saturation.{Saturation}
+use Rattle.saturation_cert.specs.Truths.{AreSelected}
+use Rattle.cert_values.specs.SelectedLiteral.{IsSelectedLiteral}
+use Rattle.cert_values.specs.Values.{saturation_of, covered_of}
+use Rattle.cert_values.specs.Wholes.{AreLight, HasPlaces, IsGroundAtom, IsWholeCovered, IsWholeSaturation, KeepsCovered, KeepsSaturation}
+use Rattle.cert_values.proofs.Chosen.{literal_of_member, number_within}
+use Rattle.cert_values.proofs.Kept.{saturation_same}
 use Rattle.saturation_cert.proofs.Stores.{same_tree}
 use Rattle.szs_prove.specs.SaturationTests.{IsReady}
 use Rattle.szs_prove.proofs.LightMembers.{Numbered, members_are_light}

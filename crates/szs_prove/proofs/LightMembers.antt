@@ -30,8 +30,8 @@ use Rattle.cert_format.specs.Certificate.{Base, Saturation, selected_at, selecte
 use Rattle.cert_format.specs.Selected.{IsSelected}
 use Rattle.cert_format.specs.Validity.{Gives, IsRightMember, SelectsAt}
 use Rattle.cert_format.proofs.Members.{HoldsBefore, member_has}
-use Rattle.saturation_cert.specs.declared.certificate.Saturation.{Saturation as Cert}
-use Rattle.saturation_cert.specs.Values.{entry_of, saturation_of}
+use Rattle.cert_values.specs.declared.certificate.Saturation.{Saturation as Cert}
+use Rattle.cert_values.specs.Values.{entry_of, saturation_of}
 
 -- ---- the weight of a flat atom
 

@@ -13,9 +13,9 @@ use Rattle.tptp_load.specs.Problems.{IsGoodProblem}
 use Rattle.cert_format.specs.Certificate.{line_clauses}
 use Rattle.cert_format.specs.Printable.{IsPrintableClause, IsPrintableProblem}
 use Rattle.cert_format.specs.Text.{written_text}
-use Rattle.saturation_cert.specs.declared.certificate.Refutation.{Refutation}
-use Rattle.saturation_cert.specs.declared.certificate.Covered.{Covered}
-use Rattle.saturation_cert.specs.Values.{refutation_of}
+use Rattle.cert_values.specs.declared.certificate.Refutation.{Refutation}
+use Rattle.cert_values.specs.declared.certificate.Covered.{Covered}
+use Rattle.cert_values.specs.Values.{refutation_of}
 use Rattle.cert_front.specs.Kinds.{covered_value, refutation_value}
 use Rattle.finite_model.specs.declared.tables.Table.{Table}
 use Rattle.finite_model.specs.declared.tables.Tables.{Tables}

@@ -5,8 +5,8 @@ use Rattle.inst_logic.specs.declared.clause.Problem.{Problem}
 use Rattle.outside_io.specs.declared.library.NamedFile.{NamedFile}
 use Rattle.cert_format.specs.Printable.{IsTextName}
 use Rattle.cert_format.specs.Text.{written_text}
-use Rattle.saturation_cert.specs.declared.certificate.Refutation.{Refutation}
-use Rattle.saturation_cert.specs.declared.certificate.Covered.{Covered}
+use Rattle.cert_values.specs.declared.certificate.Refutation.{Refutation}
+use Rattle.cert_values.specs.declared.certificate.Covered.{Covered}
 use Rattle.cert_front.specs.Kinds.{covered_value, refutation_value}
 use Rattle.szs_prove.specs.Decisions.{IsDecision}
 use Rattle.szs_prove.specs.declared.decision.Decision.{Decision}

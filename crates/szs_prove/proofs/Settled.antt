@@ -4,9 +4,9 @@ use Rattle.std.specs.Prelude.{IfOk, Result, Ok, Err}
 use Rattle.inst_logic.specs.declared.clause.Problem.{Problem}
 use Rattle.cert_format.specs.Certificate.{line_clauses, selected_members}
 use Rattle.cert_format.specs.Text.{written_text}
-use Rattle.saturation_cert.specs.declared.certificate.Refutation.{Refutation}
-use Rattle.saturation_cert.specs.declared.certificate.Covered.{Covered}
-use Rattle.saturation_cert.specs.Values.{covered_of, refutation_of}
+use Rattle.cert_values.specs.declared.certificate.Refutation.{Refutation}
+use Rattle.cert_values.specs.declared.certificate.Covered.{Covered}
+use Rattle.cert_values.specs.Values.{covered_of, refutation_of}
 use Rattle.cert_front.specs.Kinds.{covered_value, refutation_value}
 use Rattle.core_min.specs.Cores.{HasRefutation, HasSelection}
 use Rattle.szs_prove.specs.Decisions.{IsDecision, IsShownBy}

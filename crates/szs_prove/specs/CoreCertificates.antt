@@ -2,8 +2,8 @@
 use Rattle.std.specs.Prelude.{◌≡◌, ℕ, zero, suc, List, [], ◌∷◌, ◌++◌, length, remove}
 use Rattle.inst_logic.specs.declared.clause.Problem.{Problem}
 use Rattle.core_min.specs.Cores.{HasRefutation, HasSelection, IsCore}
-use Rattle.saturation_cert.specs.declared.certificate.Covered.{Covered}
-use Rattle.saturation_cert.specs.declared.certificate.Refutation.{Refutation}
+use Rattle.cert_values.specs.declared.certificate.Covered.{Covered}
+use Rattle.cert_values.specs.declared.certificate.Refutation.{Refutation}
 use Rattle.cert_front.specs.Kinds.{covered_value, refutation_value}
 use Rattle.szs_prove.specs.Decisions.{IsShownBy}
 use Rattle.szs_prove.specs.SubProblems.{problem_at}

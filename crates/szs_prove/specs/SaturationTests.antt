@@ -3,10 +3,10 @@ use Rattle.std.specs.Prelude.{◌≡◌, refl, true, false}
 use Rattle.std.proofs.Common.{◌∙◌}
 use Rattle.cert_format.specs.Certificate.{selected_members}
 use Rattle.term_index.specs.State.{State, pairs_of, Fits}
-use Rattle.saturation_cert.specs.declared.certificate.Covered.{Covered}
+use Rattle.cert_values.specs.declared.certificate.Covered.{Covered}
 use Rattle.saturation_cert.specs.Truths.{AreSelected}
-use Rattle.saturation_cert.specs.Values.{covered_of, saturation_of}
-use Rattle.saturation_cert.specs.Wholes.{AreLight, HasPlaces, IsWholeCovered, KeepsCovered}
+use Rattle.cert_values.specs.Values.{covered_of, saturation_of}
+use Rattle.cert_values.specs.Wholes.{AreLight, HasPlaces, IsWholeCovered, KeepsCovered}
 use Rattle.cert_check.proofs.CoverGrowth.{covered_itself, covered_trans}
 
 -- the trees have the selected literals, one the positive ones and the other the negative

@@ -1,8 +1,8 @@
 // Which of its input clauses a refutation cites.
 ghost use Rattle.std.specs.Prelude.{◌≡◌, length, IfOk};
 
+use cert_values::{GroundHint, GroundLine, Refutation};
 use inst_logic::{ListOf, Memory};
-use saturation_cert::{GroundHint, GroundLine, Refutation};
 use std::alloc::Global;
 
 fn mark(marks: &mut [bool], number: usize)

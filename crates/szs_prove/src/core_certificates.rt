@@ -1,6 +1,6 @@
 // A core as a value, with the certificates that show it.
 ghost use Rattle.std.specs.Prelude.{◌≡◌, ◌<◌, ◌++◌, ◌∷◌, [], length, remove, IfOk, OnOk};
-ghost use Rattle.saturation_cert.specs.declared.certificate.Covered.{Covered};
+ghost use Rattle.cert_values.specs.declared.certificate.Covered.{Covered};
 ghost use Rattle.cert_front.specs.Kinds.{covered_value};
 ghost use Rattle.core_min.specs.Cores.{HasSelection, IsCore};
 ghost use Rattle.szs_prove.specs.CoreCertificates.{AreRests, IsCertifiedCore};

@@ -12,9 +12,9 @@ use cert_check::{CheckedCovered, CheckedRefutation};
 use cert_format::covers::names_are_printable;
 use cert_format::laws::valid_certificates_certify;
 use cert_front::{accept_refutation, accept_saturation};
+use cert_values::{Refutation, Saturation, refutation_numbers, saturation_numbers};
 use inst_logic::{Memory, Problem, function_free};
 use instgen_loop::{Choices, Journal, Outcome, run_with};
-use saturation_cert::{Refutation, Saturation, refutation_numbers, saturation_numbers};
 use std::alloc::Global;
 use term_index::Tree;
 

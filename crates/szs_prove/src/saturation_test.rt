@@ -9,8 +9,8 @@ ghost use Rattle.cert_format.specs.Certificate.{selected_members};
 ghost use Rattle.cert_format.specs.Validity.{SelectsAt};
 ghost use Rattle.term_bank.specs.Forest.{arguments_of};
 ghost use Rattle.term_index.specs.State.{pairs_of};
-ghost use Rattle.saturation_cert.specs.Values.{covered_of, saturation_of};
-ghost use Rattle.saturation_cert.specs.Wholes.{HasPlaces, IsWholeSaturation};
+ghost use Rattle.cert_values.specs.Values.{covered_of, saturation_of};
+ghost use Rattle.cert_values.specs.Wholes.{HasPlaces, IsWholeSaturation};
 ghost use Rattle.finite_model.specs.Tables.{IsModel};
 ghost use Rattle.finite_model.specs.Flattening.{flattened};
 ghost use Rattle.finite_model.specs.Reading.{AreRead};
@@ -19,9 +19,10 @@ ghost use Rattle.szs_prove.specs.SaturationTests.{IsReady, StaysCovered, stays_i
 use cert_check::CheckedCovered;
 use cert_format::covers::named_is_valid;
 use cert_format::laws::selected_by_number;
+use cert_values::{Saturation, selected};
 use finite_model::{Tables, TruthTest, flattened_form, read_tables};
 use inst_logic::{Literal, Memory, Problem};
-use saturation_cert::{Saturation, selected, store_selected, truth_in};
+use saturation_cert::{store_selected, truth_in};
 use std::alloc::Global;
 use term_index::Tree;
 

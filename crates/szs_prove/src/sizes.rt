@@ -1,12 +1,12 @@
 // How large a refutation is.
 ghost use Rattle.std.specs.Prelude.{◌≡◌};
 ghost use Rattle.outside_io.specs.Pieces.{text_of};
-ghost use Rattle.saturation_cert.specs.Values.{refutation_of};
+ghost use Rattle.cert_values.specs.Values.{refutation_of};
 ghost use Rattle.szs_prove.specs.SizeWords.{size_lines};
 ghost use Rattle.szs_prove.specs.Sizes.{size_of};
 
+use cert_values::Refutation;
 use outside_io::{Line, Piece};
-use saturation_cert::Refutation;
 
 /// How many input clauses, members and derivation steps a refutation has.
 #[derive(Clone, Copy, Debug, PartialEq, Eq)]

@@ -8,7 +8,7 @@ use Rattle.inst_logic.specs.Tree.{Tree, app, none, more}
 use Rattle.inst_logic.specs.WellFormed.{IsTerm, IsAtom, tree_is_formed, atom_is_formed}
 use Rattle.inst_calculus.proofs.Membership.{in_all}
 use Rattle.term_bank.specs.Forest.{Forest, IsFormed, tree_at}
-use Rattle.saturation_cert.specs.Wholes.{IsWholeClause}
+use Rattle.cert_values.specs.Wholes.{IsWholeClause}
 use Rattle.worked_clauses.specs.Shared.{IsAtomOf}
 use Rattle.inst_logic.proofs.Booleans.{or_right}
 

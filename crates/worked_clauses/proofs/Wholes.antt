@@ -6,10 +6,10 @@ use Rattle.inst_logic.specs.declared.signed.Signed.{Signed}
 use Rattle.inst_logic.specs.WellFormed.{IsAtom, IsFormedClause, atom_is_formed, clause_is_formed}
 use Rattle.inst_calculus.proofs.Membership.{◌∈◌, all_in, in_all, in_either, in_map, passes}
 use Rattle.term_bank.specs.Forest.{Forest, Extends, IsClauseAt, clause_at, tree_at}
-use Rattle.saturation_cert.specs.Wholes.{IsWholeClause}
-use Rattle.saturation_cert.specs.declared.certificate.GroundStep.{GroundStep}
-use Rattle.saturation_cert.specs.declared.member.Member.{Member}
-use Rattle.saturation_cert.proofs.Grown.{clause_grown}
+use Rattle.cert_values.specs.Wholes.{IsWholeClause}
+use Rattle.cert_values.specs.declared.certificate.GroundStep.{GroundStep}
+use Rattle.cert_values.specs.declared.member.Member.{Member}
+use Rattle.cert_values.proofs.Grown.{clause_grown}
 
 -- the ids of a well-formed clause are whole
 pub whole_at : (f : Forest) (c : List (Signed ℕ)) (trees : List (Signed Tree)) → IsClauseAt f c trees → IsFormedClause trees → IsWholeClause f c

@@ -2,15 +2,14 @@
 // has few ways out from then on, since a proof pays at each of them for what is owned.
 ghost use Rattle.std.specs.Prelude.{◌≡◌, []};
 ghost use Rattle.cert_format.specs.Certificate.{selected_members};
-ghost use Rattle.saturation_cert.specs.Values.{saturation_of};
-ghost use Rattle.saturation_cert.specs.Wholes.{AreLight, HasPlaces, IsGroundAtom, IsWholeFirst, IsWholeSaturation};
+ghost use Rattle.cert_values.specs.Values.{saturation_of};
+ghost use Rattle.cert_values.specs.Wholes.{AreLight, HasPlaces, IsGroundAtom, IsWholeFirst, IsWholeSaturation};
 
 use crate::building::{Worked, base_lists, refutation_lists};
 use cert_check::{CheckError, CheckedSaturation, Complaint, check_first, check_saturation};
+use cert_values::{Base, FirstRefutation, Saturation};
 use inst_logic::{Kind, Memory, Name, NameList, PlaceList, Sym};
-use saturation_cert::{
-    Base, FirstRefutation, Saturation, is_light, store_selected, truth, truth_in,
-};
+use saturation_cert::{is_light, store_selected, truth, truth_in};
 use std::alloc::Global;
 use std::test::Fail;
 use term_bank::{Bank, TermId};

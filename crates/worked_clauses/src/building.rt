@@ -2,12 +2,12 @@
 ghost use Rattle.std.specs.Prelude.{All, IfOk, OnOk};
 ghost use Rattle.term_bank.specs.Forest.{AreFormed, Extends};
 ghost use Rattle.tptp_read.specs.Text.{IsFormedStatement};
-ghost use Rattle.saturation_cert.specs.Wholes.{IsWholeClause};
+ghost use Rattle.cert_values.specs.Wholes.{IsWholeClause};
 
-use inst_logic::{Memory, NumberList, PlaceList};
-use saturation_cert::{
+use cert_values::{
     GroundHint, GroundHintList, GroundStep, GroundStepList, Member, MemberList, Origin,
 };
+use inst_logic::{Memory, NumberList, PlaceList};
 use std::alloc::Global;
 use std::test::Fail;
 use term_bank::{Bank, IdClauseList};

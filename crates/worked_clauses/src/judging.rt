@@ -1,7 +1,7 @@
 // What the checker says of the certificate of a text, and of what it makes of it: a refutation of the first format is upgraded,
 // and a saturation of the second is covered.
 ghost use Rattle.std.specs.Prelude.{◌≡◌};
-ghost use Rattle.saturation_cert.specs.Wholes.{IsWholeCovered, IsWholeFirst, IsWholeRefutation, IsWholeSaturation};
+ghost use Rattle.cert_values.specs.Wholes.{IsWholeCovered, IsWholeFirst, IsWholeRefutation, IsWholeSaturation};
 ghost use Rattle.cert_reader.specs.Reads.{IsWholeCertificate};
 
 use cert_check::{
@@ -9,10 +9,10 @@ use cert_check::{
     check_saturation, cover, upgrade,
 };
 use cert_reader::{Certificate, ReadCert, read_certificate};
-use inst_logic::Memory;
-use saturation_cert::{
+use cert_values::{
     By, ByList, Cover, CoverList, Covered, FirstRefutation, GroundLineList, Refutation, Saturation,
 };
+use inst_logic::Memory;
 use std::alloc::Global;
 use term_bank::IdClauseList;
 use tptp_write::{push_bytes, push_number};

@@ -2,13 +2,13 @@
 ghost use Rattle.std.specs.Prelude.{◌≡◌, All, IfOk};
 ghost use Rattle.inst_logic.specs.declared.symbol.Kind.TheVariants.{Function};
 ghost use Rattle.term_bank.specs.Forest.{AreFormed, IsTermIn};
-ghost use Rattle.saturation_cert.specs.Wholes.{IsWholeClause};
+ghost use Rattle.cert_values.specs.Wholes.{IsWholeClause};
 ghost use Rattle.worked_clauses.specs.Shared.{IsAtomOf};
 
 use crate::answers::complaint_of;
 use cert_check::Complaint;
+use cert_values::{Base, MemberList, Saturation};
 use inst_logic::{Kind, Memory, Name, NameList, PlaceList, Signed, Sym};
-use saturation_cert::{Base, MemberList, Saturation};
 use std::alloc::Global;
 use std::test::Fail;
 use term_bank::{Bank, IdClause, IdClauseList, TermId};

@@ -2,7 +2,7 @@
 use crate::answers::{refutation_complaint, saturation_complaint, truths};
 use crate::building::{Conclusion, Source, Worked};
 use cert_check::Complaint;
-use saturation_cert::GroundHint;
+use cert_values::GroundHint;
 use std::test::Fail;
 
 const INPUTS: &str = "cnf(one,axiom,p(X,a)|q(X)). cnf(two,axiom,~p(b,X)|s(X)).";

@@ -1,8 +1,8 @@
 // What an outcome says: how the run ended, and whether its certificate has the clauses that are wanted.
 use crate::problems::problem_of;
+use cert_values::{Base, GroundLineList, MemberList, Refutation, Saturation};
 use inst_logic::{ClauseList, Memory};
 use instgen_loop::{Journal, Outcome};
-use saturation_cert::{Base, GroundLineList, MemberList, Refutation, Saturation};
 use std::alloc::Global;
 use std::test::Fail;
 use term_bank::{Bank, IdClause};

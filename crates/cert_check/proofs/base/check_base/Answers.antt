@@ -1,5 +1,5 @@
 use Rattle.std.proofs.Common.{sym, subst, ℕ}
-use Rattle.saturation_cert.specs.Values.{base_of}
+use Rattle.cert_values.specs.Values.{base_of}
 use Rattle.cert_format.specs.Certificate as format
 use Rattle.cert_format.specs.Validity.{IsRightAxiom, IsRightMember}
 use Rattle.cert_check.specs.Firsts.{IsFirstWrong}

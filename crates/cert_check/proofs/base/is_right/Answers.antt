@@ -2,12 +2,12 @@ use Rattle.std.proofs.Common.{◌≡◌, ℕ, List, All, refl, sym, subst, ap, �
 use Rattle.inst_calculus.specs.Parts.{AreWithin}
 use Rattle.std.proofs.lemmas.Result.{IfOk-weaker}
 use Rattle.term_bank.specs.Forest.{clause_at}
-use Rattle.saturation_cert.specs.Wholes.{IsWholeClause}
-use Rattle.saturation_cert.specs.Values.{entry_of}
+use Rattle.cert_values.specs.Wholes.{IsWholeClause}
+use Rattle.cert_values.specs.Values.{entry_of}
 use Rattle.cert_inference.specs.declared.inference.Premises.{Premises}
 use Rattle.cert_inference.specs.Conclusions.{MembersGive}
 use Rattle.cert_check.specs.Parts.{IsPartGiven}
-use Rattle.saturation_cert.specs.declared.member.Member.{Member}
+use Rattle.cert_values.specs.declared.member.Member.{Member}
 use Rattle.cert_check.proofs.MemberOrigins.{right_inst, right_part, premises_before}
 use Rattle.cert_check.proofs.Rightness.{right_input, ids_of, member_ids}
 use Rattle.cert_check.proofs.Refutations.{whole_base, not_true}

@@ -6,7 +6,7 @@ use Rattle.inst_calculus.specs.Axioms.{axioms_for, equality_axioms}
 use Rattle.inst_calculus.proofs.EqualityAxioms.{with_axioms_formed}
 use Rattle.term_bank.specs.Forest.{clause_at}
 use Rattle.cert_check.specs.Firsts.{IsFirstWrongOf}
-use Rattle.saturation_cert.proofs.Grown.{clauses_same}
+use Rattle.cert_values.proofs.Grown.{clauses_same}
 use Rattle.cert_check.proofs.Refutations.{whole_base, whole_ids}
 use Rattle.cert_check.proofs.Interning.{axioms_part, wholes_formed}
 use Rattle.cert_check.proofs.Rightness.{ids_of}

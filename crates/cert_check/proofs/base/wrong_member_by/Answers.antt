@@ -1,7 +1,7 @@
 use Rattle.std.proofs.Common.{ℕ, ◌+◌, arith, refl, sym, subst}
 use Rattle.cert_format.specs.Certificate as format
 use Rattle.cert_format.specs.Validity.{IsRightAxiom, IsRightMember}
-use Rattle.saturation_cert.specs.Values.{base_of}
+use Rattle.cert_values.specs.Values.{base_of}
 use Rattle.cert_check.proofs.Bases.{base_same}
 use Rattle.cert_check.proofs.Passing.{all_right, one_more_right, first_wrong}
 use Rattle.cert_check.proofs.Refutations.{keeps_trans, not_true}

@@ -1,7 +1,7 @@
 use Rattle.std.proofs.Common.{ℕ, ◌+◌, ◌<◌}
 use Rattle.cert_format.specs.Validity.{IsRightMember}
-use Rattle.saturation_cert.specs.Values.{base_of}
-use Rattle.saturation_cert.specs.Wholes.{IsWholeBase, KeepsBase}
+use Rattle.cert_values.specs.Values.{base_of}
+use Rattle.cert_values.specs.Wholes.{IsWholeBase, KeepsBase}
 use Rattle.cert_check.proofs.base.wrong_member_by.Given as goal
 
 abbrev pub invariant-loop-i : goal.invariant-loop-i

@@ -2,9 +2,9 @@ use Rattle.std.proofs.Common.{◌≡◌, ◌∙◌, ◌<◌, length, get_or, tru
 use Rattle.std.proofs.lemmas.List.{length-map}
 use Rattle.cert_format.specs.Certificate as format
 use Rattle.cert_format.specs.Validity.{IsProperPair}
-use Rattle.saturation_cert.specs.Values.{covered_of, saturation_of, entry_of}
-use Rattle.saturation_cert.specs.declared.member.Member.{Member}
-use Rattle.saturation_cert.proofs.Kept.{covered_same}
+use Rattle.cert_values.specs.Values.{covered_of, saturation_of, entry_of}
+use Rattle.cert_values.specs.declared.member.Member.{Member}
+use Rattle.cert_values.proofs.Kept.{covered_same}
 use Rattle.cert_check.specs.Firsts.{IsFirstWrong}
 use Rattle.cert_check.specs.DueSteps.{AreCompared, GivesPair}
 use Rattle.cert_check.proofs.CoverGrowth.{comparable_kept, covered_itself, covered_trans}

@@ -1,7 +1,7 @@
 use Rattle.std.proofs.Common.{◌≤◌, length}
 use Rattle.cert_format.specs.Validity.{IsProperPair}
-use Rattle.saturation_cert.specs.Values.{covered_of, saturation_of}
-use Rattle.saturation_cert.specs.Wholes.{IsWholeCovered, KeepsCovered}
+use Rattle.cert_values.specs.Values.{covered_of, saturation_of}
+use Rattle.cert_values.specs.Wholes.{IsWholeCovered, KeepsCovered}
 use Rattle.cert_check.specs.DueSteps.{AreCompared, IsDueAmong}
 use Rattle.cert_check.proofs.compare.compare_among.Given as goal
 

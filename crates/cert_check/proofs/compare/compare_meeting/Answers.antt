@@ -7,8 +7,8 @@ use Rattle.unify_core.proofs.Stays.{bindings_stay}
 use Rattle.clause_form.proofs.Concluded.{terms_later}
 use Rattle.clause_form.proofs.Leaves.{resolved_later}
 use Rattle.cert_format.specs.Certificate as format
-use Rattle.saturation_cert.specs.Values.{covered_of, saturation_of}
-use Rattle.saturation_cert.proofs.Kept.{covered_same}
+use Rattle.cert_values.specs.Values.{covered_of, saturation_of}
+use Rattle.cert_values.proofs.Kept.{covered_same}
 use Rattle.cert_check.specs.Closings.{IsProperOn, IsProperSomewhere}
 use Rattle.cert_check.specs.DueSteps.{AreCompared, GivesMeeting, GivesSide}
 use Rattle.cert_check.proofs.CoverGrowth.{comparable_kept}

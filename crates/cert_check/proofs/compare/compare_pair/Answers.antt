@@ -1,6 +1,6 @@
 use Rattle.std.proofs.Common.{◌≡◌, ◌≤◌, length, refl, sym, subst, suc, true}
 use Rattle.std.specs.Prelude.{IfOk}
-use Rattle.saturation_cert.specs.Values.{covered_of, saturation_of}
+use Rattle.cert_values.specs.Values.{covered_of, saturation_of}
 use Rattle.cert_check.specs.DueSteps.{AreCompared, GivesPair}
 use Rattle.cert_check.specs.declared.compare.Progress.{Progress}
 use Rattle.cert_check.proofs.compare.compare_pair.Goals as goal

@@ -1,5 +1,5 @@
 use Rattle.std.proofs.Common.{List, ℕ, suc, sym, subst}
-use Rattle.saturation_cert.specs.Values.{saturation_of}
+use Rattle.cert_values.specs.Values.{saturation_of}
 use Rattle.cert_index.specs.Meetings.{LeadsOn}
 use Rattle.cert_check.proofs.compare.compare_row.Goals as goal
 

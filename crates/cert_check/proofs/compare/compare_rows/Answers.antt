@@ -2,8 +2,8 @@ use Rattle.std.proofs.Common.{ℕ, suc, [], sym, subst, add-one, arith, below_mo
 use Rattle.std.proofs.lemmas.List.{length-map}
 use Rattle.cert_format.specs.Certificate as format
 use Rattle.cert_format.specs.Validity.{IsProperPair}
-use Rattle.saturation_cert.specs.Values.{covered_of, saturation_of, entry_of}
-use Rattle.saturation_cert.proofs.Kept.{covered_same}
+use Rattle.cert_values.specs.Values.{covered_of, saturation_of, entry_of}
+use Rattle.cert_values.proofs.Kept.{covered_same}
 use Rattle.cert_index.specs.Chains.{AreMeetings}
 use Rattle.cert_check.specs.DueSteps.{AreCompared, GivesRow}
 use Rattle.cert_check.specs.Firsts.{IsFirstWrong}

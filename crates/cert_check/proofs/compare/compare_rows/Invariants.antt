@@ -1,8 +1,8 @@
 use Rattle.std.proofs.Common.{ℕ, suc, ◌<◌, ◌≤◌, List, length}
 use Rattle.cert_format.specs.Dues.{Due}
 use Rattle.cert_format.specs.Validity.{IsProperPair}
-use Rattle.saturation_cert.specs.Values.{covered_of, saturation_of}
-use Rattle.saturation_cert.specs.Wholes.{IsWholeCovered, KeepsCovered}
+use Rattle.cert_values.specs.Values.{covered_of, saturation_of}
+use Rattle.cert_values.specs.Wholes.{IsWholeCovered, KeepsCovered}
 use Rattle.cert_check.specs.DueSteps.{AreCompared, AreSeen}
 use Rattle.cert_check.proofs.compare.compare_rows.Given as goal
 

@@ -1,7 +1,7 @@
 use Rattle.std.proofs.Common.{◌∙◌, ◌<◌, ◌≤◌, length, sym, ap, subst, List, [], ◌∷◌}
-use Rattle.saturation_cert.specs.declared.certificate.Cover.{Cover}
-use Rattle.saturation_cert.specs.declared.certificate.Covered.{Covered}
-use Rattle.saturation_cert.specs.Values.{covered_of, saturation_of}
+use Rattle.cert_values.specs.declared.certificate.Cover.{Cover}
+use Rattle.cert_values.specs.declared.certificate.Covered.{Covered}
+use Rattle.cert_values.specs.Values.{covered_of, saturation_of}
 use Rattle.cert_check.specs.DueSteps.{AreCompared, due_of}
 use Rattle.cert_check.proofs.Closings.{proper_there, not_proper_there, proper_on, not_proper_on}
 use Rattle.cert_check.proofs.CoverGrowth.{counted_kept}

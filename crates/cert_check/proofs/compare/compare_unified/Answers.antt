@@ -1,7 +1,7 @@
 use Rattle.std.proofs.Common.{suc, refl}
 use Rattle.std.proofs.lemmas.Result.{IfOk-weaker}
 use Rattle.term_bank.specs.Forest.{tree_at}
-use Rattle.saturation_cert.specs.Values.{covered_of, saturation_of}
+use Rattle.cert_values.specs.Values.{covered_of, saturation_of}
 use Rattle.cert_check.specs.DueSteps.{AreCompared}
 use Rattle.cert_inference.proofs.BoundTerms.{bound_terms}
 use Rattle.cert_index.proofs.SelectedAtoms.{selected_atom}

@@ -1,9 +1,9 @@
 use Rattle.std.proofs.Common.{◌∙◌, sym, ap, subst, get_or, List}
 use Rattle.std.proofs.lemmas.Result.{IfOk-weaker}
 use Rattle.term_bank.proofs.Growth.{extends_trans}
-use Rattle.saturation_cert.specs.declared.member.Member.{Member}
-use Rattle.saturation_cert.specs.Wholes.{IsWholeClause}
-use Rattle.saturation_cert.proofs.Grown.{clause_grown}
+use Rattle.cert_values.specs.declared.member.Member.{Member}
+use Rattle.cert_values.specs.Wholes.{IsWholeClause}
+use Rattle.cert_values.proofs.Grown.{clause_grown}
 use Rattle.cert_inference.specs.Instances.{IsInstanceOf}
 use Rattle.cert_check.proofs.Closings.{canonical_members}
 use Rattle.cert_check.proofs.CompareLaws.{by_later, instance_canonical, named_right, named_wrong}

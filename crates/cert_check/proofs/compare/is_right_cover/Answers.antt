@@ -2,7 +2,7 @@ use Rattle.std.proofs.Common.{◌≡◌, ◌∙◌, sym, ap, true, false}
 use Rattle.std.proofs.lemmas.Result.{IfOk-weaker, on_ok_weaker}
 use Rattle.std.specs.Prelude.{option_copied}
 use Rattle.std.proofs.lemmas.Option.{slice_get_within}
-use Rattle.saturation_cert.proofs.Kept.{covered_whole}
+use Rattle.cert_values.proofs.Kept.{covered_whole}
 use Rattle.cert_check.proofs.CompareLaws.{cover_none, cover_other, cover_same, whole_cover_at}
 use Rattle.cert_check.proofs.MadeLaws.{made_named}
 use Rattle.cert_index.proofs.PlaceLaws.{no_place}

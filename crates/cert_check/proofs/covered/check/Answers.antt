@@ -2,8 +2,8 @@ use Rattle.std.proofs.Common.{refl, subst}
 use Rattle.std.specs.Prelude.{IfErr, OnOk}
 use Rattle.cert_format.specs.Certificate as format
 use Rattle.cert_format.specs.Validity.{CoversPass, IsNamed, IsRightPlace}
-use Rattle.saturation_cert.specs.Values.{covered_of}
-use Rattle.saturation_cert.proofs.Kept.{covered_same, covered_whole}
+use Rattle.cert_values.specs.Values.{covered_of}
+use Rattle.cert_values.proofs.Kept.{covered_same, covered_whole}
 use Rattle.cert_check.specs.Answers.{IsCheckCause}
 use Rattle.cert_check.specs.Firsts.{IsFirstWrong}
 use Rattle.cert_check.proofs.Bases.{none_wrong}

@@ -1,7 +1,7 @@
 use Rattle.std.proofs.Common.{sym, subst}
 use Rattle.cert_format.specs.Validity.{IsNamed}
-use Rattle.saturation_cert.specs.Values.{covered_of, saturation_of}
-use Rattle.saturation_cert.proofs.Kept.{covered_same}
+use Rattle.cert_values.specs.Values.{covered_of, saturation_of}
+use Rattle.cert_values.proofs.Kept.{covered_same}
 use Rattle.cert_index.proofs.SelectedAtoms.{members_formed}
 use Rattle.cert_check.proofs.covered.check_covered.Goals as goal
 

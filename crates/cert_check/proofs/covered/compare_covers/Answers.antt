@@ -1,8 +1,8 @@
 use Rattle.std.proofs.Common.{◌≡◌, ◌≤◌, ◌∙◌, ap, sym, subst, length, List}
 use Rattle.std.proofs.lemmas.List.{length-map}
-use Rattle.saturation_cert.specs.declared.certificate.Cover.{Cover}
-use Rattle.saturation_cert.specs.declared.certificate.Covered.{Covered}
-use Rattle.saturation_cert.specs.Values.{cover_of, covered_of}
+use Rattle.cert_values.specs.declared.certificate.Cover.{Cover}
+use Rattle.cert_values.specs.declared.certificate.Covered.{Covered}
+use Rattle.cert_values.specs.Values.{cover_of, covered_of}
 use Rattle.cert_check.proofs.Bases.{none_wrong, some_wrong}
 use Rattle.cert_check.proofs.CoveredStages.{all_right, cover_first, pair_first}
 use Rattle.cert_index.proofs.PlaceLaws.{no_place}

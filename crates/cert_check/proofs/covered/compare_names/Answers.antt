@@ -2,8 +2,8 @@ use Rattle.std.proofs.Common.{ℕ, subst, sym}
 use Rattle.std.specs.Prelude.{IfErr, OnOk}
 use Rattle.cert_format.specs.Certificate as format
 use Rattle.cert_format.specs.Validity.{CoversPass, IsNamed, IsShownInput}
-use Rattle.saturation_cert.specs.Values.{covered_of}
-use Rattle.saturation_cert.proofs.Kept.{covered_same}
+use Rattle.cert_values.specs.Values.{covered_of}
+use Rattle.cert_values.proofs.Kept.{covered_same}
 use Rattle.cert_check.specs.Answers.{IsCheckCause}
 use Rattle.cert_check.proofs.Bases.{none_wrong, some_wrong}
 use Rattle.cert_check.proofs.CoverGrowth.{comparable_kept, covered_trans}

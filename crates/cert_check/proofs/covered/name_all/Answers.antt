@@ -2,8 +2,8 @@ use Rattle.std.proofs.Common.{subst}
 use Rattle.cert_format.specs.Certificate as format
 use Rattle.std.specs.Prelude.{IfErr}
 use Rattle.cert_format.specs.Validity.{IsRightPlace, SaturationPasses}
-use Rattle.saturation_cert.specs.Values.{saturation_of}
-use Rattle.saturation_cert.proofs.Kept.{covered_whole}
+use Rattle.cert_values.specs.Values.{saturation_of}
+use Rattle.cert_values.proofs.Kept.{covered_whole}
 use Rattle.cert_check.specs.Answers.{IsCheckCause}
 use Rattle.cert_check.specs.Firsts.{IsFirstWrong}
 use Rattle.cert_check.proofs.Saturations.{saturation_same, keeps_saturation, keeps_saturation_trans, place_first}

@@ -2,7 +2,7 @@ use Rattle.std.proofs.Common.{◌≡◌, ◌∙◌, ◌<◌, length, get_or, tru
 use Rattle.std.proofs.lemmas.List.{length-map}
 use Rattle.cert_format.specs.Certificate as format
 use Rattle.cert_format.specs.Validity.{IsRightPair}
-use Rattle.saturation_cert.specs.Values.{covered_of, saturation_of, entry_of}
+use Rattle.cert_values.specs.Values.{covered_of, saturation_of, entry_of}
 use Rattle.cert_check.specs.DueSteps.{AreNamed, GivesPair}
 use Rattle.cert_check.proofs.CoverGrowth.{grows_itself, grows_trans}
 use Rattle.cert_check.proofs.ReadyLaws.{ready_kept}

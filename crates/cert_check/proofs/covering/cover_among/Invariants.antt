@@ -1,6 +1,6 @@
 use Rattle.cert_format.specs.Validity.{IsRightPair}
-use Rattle.saturation_cert.specs.Values.{covered_of, saturation_of}
-use Rattle.saturation_cert.specs.Wholes.{IsWholeCovered}
+use Rattle.cert_values.specs.Values.{covered_of, saturation_of}
+use Rattle.cert_values.specs.Wholes.{IsWholeCovered}
 use Rattle.cert_check.specs.DueSteps.{AreNamed, GrowsCovers, IsDueAmong}
 use Rattle.cert_check.proofs.covering.cover_among.Given as goal
 

@@ -4,7 +4,7 @@ use Rattle.unify_core.specs.declared.side.Side.TheVariants.{Right}
 use Rattle.unify_core.proofs.Stays.{bindings_stay}
 use Rattle.clause_form.proofs.Concluded.{terms_later}
 use Rattle.clause_form.proofs.Leaves.{resolved_later}
-use Rattle.saturation_cert.specs.Values.{covered_of, saturation_of}
+use Rattle.cert_values.specs.Values.{covered_of, saturation_of}
 use Rattle.cert_check.specs.DueSteps.{AreNamed}
 use Rattle.cert_check.proofs.ReadyLaws.{ready_kept}
 use Rattle.cert_check.proofs.Closings.{open_left, both_sides, side_before}

@@ -2,7 +2,7 @@ use Rattle.std.proofs.Common.{ℕ, suc, [], subst, add-one, arith, below_more}
 use Rattle.std.proofs.lemmas.List.{length-map}
 use Rattle.cert_format.specs.Certificate as format
 use Rattle.cert_format.specs.Validity.{IsRightPair}
-use Rattle.saturation_cert.specs.Values.{covered_of, saturation_of, entry_of}
+use Rattle.cert_values.specs.Values.{covered_of, saturation_of, entry_of}
 use Rattle.cert_check.specs.DueSteps.{AreNamed, GivesRow}
 use Rattle.cert_check.specs.Firsts.{IsFirstWrong}
 use Rattle.cert_check.proofs.Bases.{none_wrong, some_wrong}

@@ -1,8 +1,8 @@
 use Rattle.std.proofs.Common.{ℕ, suc, ◌<◌, List}
 use Rattle.cert_format.specs.Dues.{Due}
 use Rattle.cert_format.specs.Validity.{IsRightPair}
-use Rattle.saturation_cert.specs.Values.{covered_of, saturation_of}
-use Rattle.saturation_cert.specs.Wholes.{IsWholeCovered}
+use Rattle.cert_values.specs.Values.{covered_of, saturation_of}
+use Rattle.cert_values.specs.Wholes.{IsWholeCovered}
 use Rattle.cert_check.specs.DueSteps.{AreNamed, AreSeen, GrowsCovers}
 use Rattle.cert_check.proofs.covering.cover_rows.Given as goal
 

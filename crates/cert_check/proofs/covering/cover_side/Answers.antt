@@ -1,6 +1,6 @@
 use Rattle.std.proofs.Common.{◌++◌, ◌∷◌, [], suc, subst, true, false, Option}
 use Rattle.std.specs.Prelude.{IfNone, IfSome}
-use Rattle.saturation_cert.specs.Values.{covered_of, saturation_of}
+use Rattle.cert_values.specs.Values.{covered_of, saturation_of}
 use Rattle.cert_check.specs.Closings.{IsSideCovered}
 use Rattle.cert_check.specs.DueSteps.{AreNamed, due_of}
 use Rattle.cert_check.specs.Names.{NamesSide}

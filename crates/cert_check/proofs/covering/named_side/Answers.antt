@@ -3,8 +3,8 @@ use Rattle.std.proofs.lemmas.Option.{IfSome_then}
 use Rattle.std.proofs.lemmas.Result.{IfOk-weaker}
 use Rattle.term_bank.specs.Forest.{clause_at}
 use Rattle.inst_logic.specs.Clauses.{IsCanonical}
-use Rattle.saturation_cert.specs.declared.member.Member.{Member}
-use Rattle.saturation_cert.specs.Wholes.{IsWholeClause}
+use Rattle.cert_values.specs.declared.member.Member.{Member}
+use Rattle.cert_values.specs.Wholes.{IsWholeClause}
 use Rattle.cert_check.specs.Grounds.{AreCanonicalMembers}
 use Rattle.cert_index.specs.Lookups.{IsLookup}
 use Rattle.cert_check.specs.Names.{NamesInstance}

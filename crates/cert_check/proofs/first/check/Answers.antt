@@ -3,8 +3,8 @@ use Rattle.inst_logic.specs.WellFormed.{is_constant}
 use Rattle.inst_calculus.specs.Steps.{EndsEmpty}
 use Rattle.cert_format.specs.Certificate as format
 use Rattle.cert_format.specs.Validity.{IsRightFirstMember, IsRightGround, RefutationPasses}
-use Rattle.saturation_cert.specs.Values.{first_of}
-use Rattle.saturation_cert.proofs.Kept.{first_same}
+use Rattle.cert_values.specs.Values.{first_of}
+use Rattle.cert_values.proofs.Kept.{first_same}
 use Rattle.cert_check.specs.Firsts.{IsFirstWrong}
 use Rattle.cert_check.specs.Stages.{IsRightStepNumber}
 use Rattle.cert_check.proofs.Bases.{none_wrong, some_wrong}

@@ -1,7 +1,7 @@
 use Rattle.std.proofs.Common.{sym, subst}
 use Rattle.cert_format.specs.Validity.{IsValidRefutation}
-use Rattle.saturation_cert.specs.Values.{first_of}
-use Rattle.saturation_cert.proofs.Kept.{first_same}
+use Rattle.cert_values.specs.Values.{first_of}
+use Rattle.cert_values.proofs.Kept.{first_same}
 use Rattle.cert_check.proofs.first.check_first.Goals as goal
 
 pub invariant_of-result : goal.invariant_of-result

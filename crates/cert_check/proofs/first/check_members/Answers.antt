@@ -1,8 +1,8 @@
 use Rattle.std.proofs.Common.{ℕ, sym, subst}
 use Rattle.cert_format.specs.Certificate as format
 use Rattle.cert_format.specs.Validity.{IsRightAxiom, IsRightFirstMember, RefutationPasses}
-use Rattle.saturation_cert.specs.Values.{base_of, first_of}
-use Rattle.saturation_cert.proofs.Kept.{base_same}
+use Rattle.cert_values.specs.Values.{base_of, first_of}
+use Rattle.cert_values.proofs.Kept.{base_same}
 use Rattle.cert_check.specs.Firsts.{IsFirstWrong}
 use Rattle.cert_check.proofs.Bases.{none_wrong, some_wrong}
 use Rattle.cert_check.proofs.Refutations.{first_whole, first_others, axiom_first, derived_first, keeps_trans}

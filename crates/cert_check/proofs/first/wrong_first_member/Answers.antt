@@ -1,7 +1,7 @@
 use Rattle.std.proofs.Common.{ℕ, sym, subst}
 use Rattle.std.specs.Prelude.{Option}
 use Rattle.cert_format.specs.Validity.{IsRightFirstMember}
-use Rattle.saturation_cert.specs.Values.{base_of}
+use Rattle.cert_values.specs.Values.{base_of}
 use Rattle.cert_check.specs.Firsts.{IsFirstWrongOf}
 use Rattle.cert_check.proofs.FirstMembers.{first_members}
 use Rattle.cert_check.proofs.first.wrong_first_member.Goals as goal

@@ -3,7 +3,7 @@ use Rattle.std.proofs.lemmas.Result.{IfOk-weaker}
 use Rattle.inst_logic.specs.declared.signed.Signed.{Signed}
 use Rattle.prop_logic.specs.Literal.{AllAtomsBelow}
 use Rattle.term_bank.specs.Forest.{clause_at}
-use Rattle.saturation_cert.specs.Values.{step_of}
+use Rattle.cert_values.specs.Values.{step_of}
 use Rattle.cert_check.specs.Firsts.{IsFirstWrongOf}
 use Rattle.cert_check.specs.Stages.{IsRightStepNumber}
 use Rattle.cert_check.proofs.ShownTrees.{given_below}

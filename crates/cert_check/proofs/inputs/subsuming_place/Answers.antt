@@ -3,7 +3,7 @@ use Rattle.std.specs.List.{HoldsAt}
 use Rattle.std.proofs.lemmas.List.{get_or_default}
 use Rattle.inst_logic.specs.Clauses.{Subsumes}
 use Rattle.term_bank.specs.Forest.{clause_at}
-use Rattle.saturation_cert.specs.declared.member.Member.{Member}
+use Rattle.cert_values.specs.declared.member.Member.{Member}
 use Rattle.cert_check.proofs.InputScans.{none_any}
 use Rattle.cert_check.proofs.inputs.subsuming_place.Goals as goal
 

@@ -2,7 +2,7 @@ use Rattle.std.proofs.Common.{ℕ, ◌<◌}
 use Rattle.std.specs.List.{HoldsAt}
 use Rattle.inst_logic.specs.Clauses.{Subsumes}
 use Rattle.term_bank.specs.Forest.{clause_at}
-use Rattle.saturation_cert.specs.declared.member.Member.{Member}
+use Rattle.cert_values.specs.declared.member.Member.{Member}
 use Rattle.cert_check.proofs.inputs.subsuming_place.Given as goal
 
 abbrev pub invariant-loop-i : goal.invariant-loop-i

@@ -2,7 +2,7 @@ use Rattle.std.proofs.Common.{◌<◌, length, subst, arith}
 use Rattle.std.proofs.lemmas.List.{get_or_default}
 use Rattle.inst_logic.specs.Clauses.{Subsumes}
 use Rattle.term_bank.specs.Forest.{clause_at}
-use Rattle.saturation_cert.specs.declared.member.Member.{Member}
+use Rattle.cert_values.specs.declared.member.Member.{Member}
 use Rattle.cert_check.proofs.inputs.subsuming_place_from.Goals as goal
 
 pub returns-then-branch-clause-some : goal.returns-then-branch-clause-some

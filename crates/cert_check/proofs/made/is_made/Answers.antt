@@ -1,8 +1,8 @@
 use Rattle.std.proofs.Common.{◌≡◌, ◌∙◌, ◌+◌, List, suc, ap, arith, sym}
 use Rattle.std.specs.Prelude.{option_copied}
 use Rattle.inst_logic.specs.Derivations.{at_number}
-use Rattle.saturation_cert.specs.declared.member.Member.{Member}
-use Rattle.saturation_cert.specs.declared.member.Origin.TheVariants.{Inst}
+use Rattle.cert_values.specs.declared.member.Member.{Member}
+use Rattle.cert_values.specs.declared.member.Origin.TheVariants.{Inst}
 use Rattle.cert_check.specs.Origins.{origin_from}
 use Rattle.cert_check.proofs.made.is_made.Goals as goal
 

@@ -1,5 +1,5 @@
 use Rattle.std.proofs.Common.{List, subst}
-use Rattle.saturation_cert.specs.declared.certificate.Cover.{Cover}
+use Rattle.cert_values.specs.declared.certificate.Cover.{Cover}
 use Rattle.cert_check.specs.Made.{AreMade}
 use Rattle.cert_check.proofs.MadePairs.{made_passes}
 use Rattle.cert_check.proofs.made.pass_made.Goals as goal

@@ -1,7 +1,7 @@
 use Rattle.std.proofs.Common.{◌≡◌, ◌∙◌, sym, false, true, subst, Option, ℕ}
 use Rattle.std.specs.Prelude.{Any, IfNone}
 use Rattle.inst_logic.specs.Signed.{IsTautology}
-use Rattle.saturation_cert.specs.declared.member.Member.{Member}
+use Rattle.cert_values.specs.declared.member.Member.{Member}
 use Rattle.term_bank.specs.Forest.{clause_at}
 use Rattle.cert_index.specs.Shorter.{ShorterOf}
 use Rattle.cert_check.specs.Names.{IsCoverBy}

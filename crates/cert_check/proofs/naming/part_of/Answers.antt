@@ -2,7 +2,7 @@ use Rattle.std.proofs.Common.{List, Option, ℕ, map, subst}
 use Rattle.std.specs.Prelude.{All, IfNone, IfSome}
 use Rattle.inst_logic.specs.Clauses.{Subsumes}
 use Rattle.cert_format.specs.TermLists.{IsPartBy}
-use Rattle.saturation_cert.specs.Wholes.{IsWholeTerm}
+use Rattle.cert_values.specs.Wholes.{IsWholeTerm}
 use Rattle.term_bank.specs.Forest.{clause_at, tree_at}
 use Rattle.std.proofs.Common.{get_or}
 use Rattle.cert_check.proofs.NameLaws.{part_is}

@@ -4,7 +4,7 @@ use Rattle.std.proofs.lemmas.Result.{IfOk-weaker}
 use Rattle.inst_logic.specs.declared.signed.Signed.{Signed}
 use Rattle.inst_logic.specs.Clauses.{TreeClause, canonical_form}
 use Rattle.inst_calculus.specs.Parts.{chosen, IsProperPart}
-use Rattle.saturation_cert.specs.Values.{entry_of}
+use Rattle.cert_values.specs.Values.{entry_of}
 use Rattle.term_bank.specs.Forest.{clause_at}
 use Rattle.term_bank.proofs.Clauses.{clause_extends, clause_of_extends}
 use Rattle.cert_inference.specs.Conclusions.{MembersConclude}

@@ -1,6 +1,6 @@
 use Rattle.std.proofs.Common.{◌<◌, ◌≤◌, max, length, suc, add-one, arith, below_more}
 use Rattle.cert_format.specs.Validity.{IsRightPlace}
-use Rattle.saturation_cert.specs.Values.{saturation_of}
+use Rattle.cert_values.specs.Values.{saturation_of}
 use Rattle.cert_check.proofs.Placed.{first_place, all_placed}
 use Rattle.cert_check.proofs.places.wrong_place.Goals as goal
 

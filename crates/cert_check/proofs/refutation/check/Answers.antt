@@ -4,8 +4,8 @@ use Rattle.inst_calculus.specs.Steps.{EndsEmpty}
 use Rattle.cert_format.specs.Certificate as format
 use Rattle.cert_format.specs.Certificate.{line_clauses}
 use Rattle.cert_format.specs.Validity.{IsRightAxiom, IsRightGroundLine, LinesPass}
-use Rattle.saturation_cert.specs.Values.{refutation_of}
-use Rattle.saturation_cert.proofs.Kept.{refutation_same}
+use Rattle.cert_values.specs.Values.{refutation_of}
+use Rattle.cert_values.proofs.Kept.{refutation_same}
 use Rattle.cert_check.specs.Firsts.{IsFirstWrong}
 use Rattle.cert_check.specs.Stages.{IsRightStepNumber}
 use Rattle.cert_check.proofs.Bases.{none_wrong, some_wrong}

@@ -1,8 +1,8 @@
 use Rattle.std.proofs.Common.{ℕ, sym, subst}
 use Rattle.cert_format.specs.Certificate as format
 use Rattle.cert_format.specs.Validity.{IsRightAxiom, IsRightMember, LinesPass}
-use Rattle.saturation_cert.specs.Values.{base_of, refutation_of}
-use Rattle.saturation_cert.proofs.Kept.{base_same, refutation_whole}
+use Rattle.cert_values.specs.Values.{base_of, refutation_of}
+use Rattle.cert_values.proofs.Kept.{base_same, refutation_whole}
 use Rattle.cert_check.specs.Firsts.{IsFirstWrong}
 use Rattle.cert_check.proofs.Bases.{none_wrong, some_wrong}
 use Rattle.cert_check.proofs.Refutations.{line_others, axiom_first, derived_first, keeps_trans}

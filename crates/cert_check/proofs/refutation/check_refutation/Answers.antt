@@ -1,7 +1,7 @@
 use Rattle.std.proofs.Common.{sym, subst}
 use Rattle.cert_format.specs.Validity.{IsValidByLines}
-use Rattle.saturation_cert.specs.Values.{refutation_of}
-use Rattle.saturation_cert.proofs.Kept.{refutation_same}
+use Rattle.cert_values.specs.Values.{refutation_of}
+use Rattle.cert_values.proofs.Kept.{refutation_same}
 use Rattle.cert_check.proofs.refutation.check_refutation.Goals as goal
 
 pub invariant_of-result : goal.invariant_of-result

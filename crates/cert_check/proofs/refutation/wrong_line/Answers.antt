@@ -1,6 +1,6 @@
 use Rattle.std.proofs.Common.{refl}
 use Rattle.std.proofs.lemmas.Result.{IfOk-weaker}
-use Rattle.saturation_cert.proofs.Kept.{refutation_whole}
+use Rattle.cert_values.proofs.Kept.{refutation_whole}
 use Rattle.cert_check.proofs.Refutations.{whole_base, right_lines}
 use Rattle.cert_check.proofs.Rightness.{ids_of}
 use Rattle.cert_check.proofs.refutation.wrong_line.Goals as goal

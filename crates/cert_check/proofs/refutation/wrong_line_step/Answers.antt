@@ -4,7 +4,7 @@ use Rattle.inst_logic.specs.declared.signed.Signed.{Signed}
 use Rattle.inst_logic.specs.Clauses.{TreeClause}
 use Rattle.prop_logic.specs.Literal.{AllAtomsBelow}
 use Rattle.term_bank.specs.Forest.{clause_at}
-use Rattle.saturation_cert.specs.Values.{step_of}
+use Rattle.cert_values.specs.Values.{step_of}
 use Rattle.cert_check.specs.Firsts.{IsFirstWrongOf}
 use Rattle.cert_check.specs.Stages.{IsRightStepNumber}
 use Rattle.cert_check.proofs.ShownTrees.{lines_below, line_trees}

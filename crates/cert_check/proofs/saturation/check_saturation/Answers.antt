@@ -1,6 +1,6 @@
 use Rattle.std.proofs.Common.{subst}
 use Rattle.cert_format.specs.Validity.{IsValidSaturation}
-use Rattle.saturation_cert.specs.Values.{covered_of, saturation_of}
+use Rattle.cert_values.specs.Values.{covered_of, saturation_of}
 use Rattle.cert_index.proofs.SelectedAtoms.{members_formed}
 use Rattle.cert_check.proofs.saturation.check_saturation.Goals as goal
 

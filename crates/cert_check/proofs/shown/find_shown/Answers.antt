@@ -1,7 +1,7 @@
 use Rattle.std.proofs.Common.{◌≡◌, ◌∙◌, inl, inr, sym, false, true, subst, Option, ℕ}
 use Rattle.std.specs.Prelude.{Any, IfNone}
 use Rattle.inst_logic.specs.Clauses.{Subsumes}
-use Rattle.saturation_cert.specs.declared.member.Member.{Member}
+use Rattle.cert_values.specs.declared.member.Member.{Member}
 use Rattle.term_bank.specs.Forest.{clause_at}
 use Rattle.cert_check.proofs.NameLaws.{member_ids, part_shows, place_same, tautology_shows}
 use Rattle.cert_index.proofs.PlaceLaws.{place_some}

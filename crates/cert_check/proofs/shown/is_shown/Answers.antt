@@ -3,8 +3,8 @@ use Rattle.std.specs.Prelude.{option_copied}
 use Rattle.std.proofs.lemmas.List.{length-map}
 use Rattle.std.proofs.lemmas.Result.{IfOk-weaker}
 use Rattle.term_bank.specs.Forest.{clause_at}
-use Rattle.saturation_cert.proofs.Kept.{covered_whole}
-use Rattle.saturation_cert.specs.Values.{by_of, covered_of, saturation_of}
+use Rattle.cert_values.proofs.Kept.{covered_whole}
+use Rattle.cert_values.specs.Values.{by_of, covered_of, saturation_of}
 use Rattle.cert_check.proofs.Closings.{canonical_members}
 use Rattle.cert_check.proofs.InputScans.{member_ids, stated_ids}
 use Rattle.cert_check.proofs.Refutations.{whole_base}

@@ -3,8 +3,8 @@ use Rattle.std.specs.Prelude.{IfNone, IfSome}
 use Rattle.inst_logic.specs.Derivations.{at_number}
 use Rattle.inst_calculus.specs.Axioms.{with_axioms}
 use Rattle.cert_format.specs.Validity.{IsRightInput}
-use Rattle.saturation_cert.specs.declared.certificate.By.{By}
-use Rattle.saturation_cert.specs.Values.{saturation_of}
+use Rattle.cert_values.specs.declared.certificate.By.{By}
+use Rattle.cert_values.specs.Values.{saturation_of}
 use Rattle.cert_check.specs.Names.{ShowsInput}
 use Rattle.cert_check.proofs.InputScans.{all_inputs, first_input}
 use Rattle.cert_check.proofs.ReadyLaws.{ready_kept}

@@ -1,8 +1,8 @@
 use Rattle.std.proofs.Common.{◌≡◌, ◌∙◌, ◌+◌, suc, sym, subst, add-one, arith, below_more, true, false}
 use Rattle.cert_format.specs.Certificate as format
 use Rattle.cert_format.specs.Validity.{IsShownInput}
-use Rattle.saturation_cert.specs.Values.{covered_of}
-use Rattle.saturation_cert.proofs.Kept.{covered_same}
+use Rattle.cert_values.specs.Values.{covered_of}
+use Rattle.cert_values.proofs.Kept.{covered_same}
 use Rattle.cert_check.proofs.CoverGrowth.{comparable_kept, covered_itself, covered_trans}
 use Rattle.cert_check.proofs.ShownLaws.{first_unshown, none_unshown}
 use Rattle.cert_check.proofs.shown.wrong_shown.Goals as goal

@@ -1,7 +1,7 @@
 use Rattle.std.proofs.Common.{ℕ, suc, ◌<◌}
 use Rattle.cert_format.specs.Validity.{IsShownInput}
-use Rattle.saturation_cert.specs.Values.{covered_of}
-use Rattle.saturation_cert.specs.Wholes.{IsWholeCovered, KeepsCovered}
+use Rattle.cert_values.specs.Values.{covered_of}
+use Rattle.cert_values.specs.Wholes.{IsWholeCovered, KeepsCovered}
 use Rattle.cert_check.proofs.shown.wrong_shown.Given as goal
 
 abbrev pub invariant-loop-i : goal.invariant-loop-i

@@ -6,7 +6,7 @@ use Rattle.inst_logic.specs.Derivations.{at_number}
 use Rattle.inst_logic.proofs.ShownLaws.{at_number_contains}
 use Rattle.inst_calculus.proofs.Membership.{all_in, contains_in}
 use Rattle.term_bank.specs.Forest.{clause_at}
-use Rattle.saturation_cert.specs.declared.member.Member.{Member}
+use Rattle.cert_values.specs.declared.member.Member.{Member}
 use Rattle.cert_inference.specs.Conclusions.{literal_of}
 use Rattle.cert_inference.proofs.Conclusions.{member_whole, literal_atom}
 use Rattle.cert_check.proofs.SourceTerms.{unify_named, terms_concluded}

@@ -6,10 +6,10 @@ use Rattle.inst_logic.specs.Derivations.{at_number}
 use Rattle.inst_calculus.specs.Entries.{inst}
 use Rattle.term_bank.specs.Forest.{clause_at}
 use Rattle.term_bank.proofs.Growth.{extends_trans}
-use Rattle.saturation_cert.specs.declared.member.Member.{Member}
-use Rattle.saturation_cert.specs.Values.{base_of, entry_of, origin_of}
-use Rattle.saturation_cert.specs.Wholes.{IsWholeClause}
-use Rattle.saturation_cert.proofs.Grown.{terms_grown}
+use Rattle.cert_values.specs.declared.member.Member.{Member}
+use Rattle.cert_values.specs.Values.{base_of, entry_of, origin_of}
+use Rattle.cert_values.specs.Wholes.{IsWholeClause}
+use Rattle.cert_values.proofs.Grown.{terms_grown}
 use Rattle.cert_check.specs.Sources.{AreConclusionTerms, Conclude}
 use Rattle.cert_check.proofs.FirstMembers.{entry_there}
 use Rattle.cert_check.proofs.GroundMembers.{canonical_members}

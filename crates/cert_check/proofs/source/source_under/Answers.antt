@@ -3,7 +3,7 @@ use Rattle.std.specs.Prelude.{All}
 use Rattle.inst_logic.specs.Substitution.{subst as apply}
 use Rattle.term_bank.specs.Forest.{tree_at}
 use Rattle.clause_form.specs.Walks.{listed}
-use Rattle.saturation_cert.specs.Wholes.{IsWholeTerm}
+use Rattle.cert_values.specs.Wholes.{IsWholeTerm}
 use Rattle.cert_check.proofs.SourceLaws.{terms_whole}
 use Rattle.cert_check.proofs.source.source_under.Goals as goal
 

@@ -1,8 +1,8 @@
 use Rattle.std.proofs.Common.{◌≡◌, ℕ, ◌+◌, List, ap, sym, subst, length, arith}
 use Rattle.cert_format.specs.Certificate as format
-use Rattle.saturation_cert.specs.declared.certificate.Base.{Base}
-use Rattle.saturation_cert.specs.Values.{base_of}
-use Rattle.saturation_cert.proofs.Kept.{base_same}
+use Rattle.cert_values.specs.declared.certificate.Base.{Base}
+use Rattle.cert_values.specs.Values.{base_of}
+use Rattle.cert_values.proofs.Kept.{base_same}
 use Rattle.cert_check.specs.declared.source.Source.{Source}
 use Rattle.cert_check.specs.Sources.{AreFirstMembers, AreSources, IsSource}
 use Rattle.cert_check.proofs.Refutations.{keeps_trans, keeps_itself}

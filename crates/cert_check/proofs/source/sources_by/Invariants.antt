@@ -1,5 +1,5 @@
-use Rattle.saturation_cert.specs.Values.{base_of}
-use Rattle.saturation_cert.specs.Wholes.{IsWholeBase, KeepsBase}
+use Rattle.cert_values.specs.Values.{base_of}
+use Rattle.cert_values.specs.Wholes.{IsWholeBase, KeepsBase}
 use Rattle.cert_check.specs.Sources.{AreSources}
 use Rattle.cert_check.proofs.source.sources_by.Given as goal
 

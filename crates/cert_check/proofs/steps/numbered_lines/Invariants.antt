@@ -1,5 +1,5 @@
 use Rattle.std.proofs.Common.{◌≡◌, map, take}
-use Rattle.saturation_cert.specs.declared.certificate.GroundLine.{GroundLine}
+use Rattle.cert_values.specs.declared.certificate.GroundLine.{GroundLine}
 use Rattle.cert_check.proofs.steps.numbered_lines.Given as goal
 
 abbrev pub invariant-loop-line : goal.invariant-loop-line

@@ -2,7 +2,7 @@ use Rattle.std.proofs.Common.{ℕ, List, length, sym, ◌∙◌, subst, map}
 use Rattle.prop_logic.specs.Literal.{AllAtomsBelow, StepsBelow}
 use Rattle.prop_logic.specs.declared.literal.Step.{Step}
 use Rattle.term_bank.specs.Forest.{clause_at}
-use Rattle.saturation_cert.specs.Values.{step_of}
+use Rattle.cert_values.specs.Values.{step_of}
 use Rattle.cert_check.specs.Firsts.{IsFirstWrongOf}
 use Rattle.cert_check.specs.Numbered.{IsRightNumber, numbered_step}
 use Rattle.cert_check.specs.Stages.{IsRightStepNumber}

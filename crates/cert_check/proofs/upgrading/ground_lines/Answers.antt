@@ -5,9 +5,9 @@ use Rattle.inst_logic.specs.Tree.{app, none}
 use Rattle.cert_format.specs.Certificate as format
 use Rattle.cert_format.specs.Upgrades.{GivesTerms}
 use Rattle.term_bank.specs.Forest.{tree_at}
-use Rattle.saturation_cert.specs.declared.certificate.GroundLine.{GroundLine}
-use Rattle.saturation_cert.specs.Values.{base_of}
-use Rattle.saturation_cert.proofs.Kept.{base_same}
+use Rattle.cert_values.specs.declared.certificate.GroundLine.{GroundLine}
+use Rattle.cert_values.specs.Values.{base_of}
+use Rattle.cert_values.proofs.Kept.{base_same}
 use Rattle.cert_check.specs.Sources.{AreFirstMembers, AreGroundLines, IsSource}
 use Rattle.cert_check.proofs.FirstMembers.{item_there}
 use Rattle.cert_check.proofs.GroundMembers.{at_grown}

@@ -2,8 +2,8 @@ use Rattle.std.proofs.Common.{take}
 use Rattle.inst_logic.specs.declared.symbol.Sym.{Sym}
 use Rattle.inst_logic.specs.Tree.{app, none}
 use Rattle.term_bank.specs.Forest.{IsAt}
-use Rattle.saturation_cert.specs.Values.{base_of}
-use Rattle.saturation_cert.specs.Wholes.{IsWholeBase, KeepsBase}
+use Rattle.cert_values.specs.Values.{base_of}
+use Rattle.cert_values.specs.Wholes.{IsWholeBase, KeepsBase}
 use Rattle.cert_check.specs.Sources.{AreGroundLines}
 use Rattle.cert_check.proofs.upgrading.ground_lines.Given as goal
 

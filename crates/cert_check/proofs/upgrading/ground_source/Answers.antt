@@ -3,8 +3,8 @@ use Rattle.std.specs.Prelude.{IfOk, Result, Ok, Err}
 use Rattle.std.proofs.lemmas.Result.{IfOk-weaker}
 use Rattle.inst_logic.specs.Clauses.{IsCanonical}
 use Rattle.term_bank.specs.Forest.{clause_at}
-use Rattle.saturation_cert.specs.declared.member.Member.{Member}
-use Rattle.saturation_cert.specs.Values.{entry_of}
+use Rattle.cert_values.specs.declared.member.Member.{Member}
+use Rattle.cert_values.specs.Values.{entry_of}
 use Rattle.cert_check.proofs.FirstMembers.{entry_there}
 use Rattle.cert_check.proofs.GroundMembers.{canonical_members}
 use Rattle.cert_check.proofs.Refutations.{whole_base}

@@ -2,10 +2,10 @@ use Rattle.std.proofs.Common.{◌≡◌, ℕ, List, ap, sym, refl, rules, subst,
 use Rattle.std.proofs.lemmas.Result.{IfOk-weaker}
 use Rattle.cert_format.specs.Certificate as format
 use Rattle.term_bank.specs.Forest.{Forest, Extends}
-use Rattle.saturation_cert.specs.declared.certificate.Base.{Base}
-use Rattle.saturation_cert.specs.Values.{base_of}
-use Rattle.saturation_cert.specs.Wholes.{IsWholeBase, KeepsBase}
-use Rattle.saturation_cert.proofs.Kept.{base_same}
+use Rattle.cert_values.specs.declared.certificate.Base.{Base}
+use Rattle.cert_values.specs.Values.{base_of}
+use Rattle.cert_values.specs.Wholes.{IsWholeBase, KeepsBase}
+use Rattle.cert_values.proofs.Kept.{base_same}
 use Rattle.cert_check.specs.declared.source.Source.{Source}
 use Rattle.cert_check.specs.Sources.{AreFirstMembers, AreGroundLines, AreSources}
 use Rattle.cert_check.proofs.Refutations.{keeps_trans, whole_base}

@@ -5,8 +5,8 @@ use Rattle.inst_logic.proofs.Items.{lists_equal}
 use Rattle.cert_format.specs.Upgrades.{IsUpgrade}
 use Rattle.cert_format.specs.declared.complaint.Complaint.TheVariants.{Member as Derived, Bot, Ground}
 use Rattle.term_bank.specs.Forest.{clause_at}
-use Rattle.saturation_cert.specs.declared.certificate.FirstRefutation.{FirstRefutation}
-use Rattle.saturation_cert.specs.Values.{first_of, refutation_of}
+use Rattle.cert_values.specs.declared.certificate.FirstRefutation.{FirstRefutation}
+use Rattle.cert_values.specs.Values.{first_of, refutation_of}
 use Rattle.cert_check.proofs.GroundMembers.{abstractions, count_same}
 use Rattle.cert_check.proofs.Sources.{upgraded, upgraded_whole}
 use Rattle.cert_check.proofs.upgrading.upgrade.Goals as goal

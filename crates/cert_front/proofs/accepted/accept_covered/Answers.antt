@@ -1,8 +1,8 @@
 use Rattle.std.proofs.Common.{◌≡◌}
 use Rattle.std.proofs.lemmas.Result.{IfErr-weaker}
 use Rattle.cert_format.specs.Validity.{CoversPass}
-use Rattle.saturation_cert.specs.declared.certificate.Covered.{Covered}
-use Rattle.saturation_cert.specs.Values.{covered_of}
+use Rattle.cert_values.specs.declared.certificate.Covered.{Covered}
+use Rattle.cert_values.specs.Values.{covered_of}
 use Rattle.cert_front.proofs.NoComplaint.{accepted_too, only_memory}
 use Rattle.cert_front.proofs.accepted.accept_covered.Goals as goal
 

@@ -1,9 +1,9 @@
 use Rattle.std.proofs.Common.{◌≡◌}
 use Rattle.std.proofs.lemmas.Result.{IfErr-weaker}
 use Rattle.cert_format.specs.Validity.{IsNamed, SaturationPasses}
-use Rattle.saturation_cert.specs.declared.certificate.Covered.{Covered}
-use Rattle.saturation_cert.specs.Values.{covered_of, saturation_of}
-use Rattle.saturation_cert.specs.Wholes.{IsWholeCovered}
+use Rattle.cert_values.specs.declared.certificate.Covered.{Covered}
+use Rattle.cert_values.specs.Values.{covered_of, saturation_of}
+use Rattle.cert_values.specs.Wholes.{IsWholeCovered}
 use Rattle.cert_front.proofs.NoComplaint.{accepted_too, only_memory}
 use Rattle.cert_front.proofs.accepted.covers_of.Goals as goal
 

@@ -3,7 +3,7 @@ use Rattle.std.specs.Prelude.{Option, IfOk, option_copied}
 use Rattle.std.proofs.lemmas.Result.{IfOk-weaker}
 use Rattle.inst_logic.specs.declared.clause.Problem.{Problem}
 use Rattle.term_bank.proofs.Growth.{extends_itself}
-use Rattle.saturation_cert.specs.Values.{base_of}
+use Rattle.cert_values.specs.Values.{base_of}
 use Rattle.cert_front.specs.Judgements.{IsDifference}
 use Rattle.cert_front.proofs.Differing.{whole_ids, difference_of}
 use Rattle.cert_front.proofs.Grown.{base_whole, keeps_grown}

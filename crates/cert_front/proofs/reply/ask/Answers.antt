@@ -1,7 +1,7 @@
 use Rattle.std.proofs.Common.{IfOk, sym, subst}
 use Rattle.inst_logic.specs.LiteralView.{literal}
 use Rattle.cert_format.specs.Certificate.{Certificate}
-use Rattle.saturation_cert.specs.Wholes.{AreLight}
+use Rattle.cert_values.specs.Wholes.{AreLight}
 use Rattle.cert_front.specs.Kinds.{selected_of}
 use Rattle.cert_front.specs.Replies.{IsReply}
 use Rattle.cert_front.proofs.reply.ask.Goals as goal

@@ -2,7 +2,7 @@ use Rattle.std.proofs.Common.{◌≡◌, ◌<◌, ◌∙◌, length, get_or, sym
 use Rattle.std.proofs.lemmas.List.{get_or_default, length-map}
 use Rattle.std.proofs.lemmas.Result.{IfOk-weaker}
 use Rattle.inst_logic.specs.Clauses.{Subsumes}
-use Rattle.saturation_cert.specs.declared.member.Member.{Member}
+use Rattle.cert_values.specs.declared.member.Member.{Member}
 use Rattle.term_bank.specs.Forest.{clause_at, literal_tree, tree_at}
 use Rattle.cert_index.specs.declared.fingerprint.Fingerprint.{Fingerprint}
 use Rattle.cert_index.specs.Fingerprints.{Differ, fingerprint_at}

@@ -2,7 +2,7 @@ use Rattle.std.proofs.Common.{◌≡◌, ℕ, ◌<◌, ◌∙◌, List, [], ◌�
 use Rattle.std.specs.Prelude.{Any}
 use Rattle.std.proofs.lemmas.List.{get_or_default}
 use Rattle.inst_logic.specs.declared.signed.Signed.{Signed}
-use Rattle.saturation_cert.specs.declared.member.Member.{Member}
+use Rattle.cert_values.specs.declared.member.Member.{Member}
 use Rattle.cert_index.specs.Places.{IsPlaceOf}
 use Rattle.cert_index.proofs.PlaceLaws.{no_place}
 use Rattle.cert_index.proofs.ShorterLaws.{unit_at}

@@ -2,7 +2,7 @@ use Rattle.std.proofs.Common.{◌≡◌, ◌<◌, ◌∙◌, length, arith, ap, 
 use Rattle.std.specs.Prelude.{All, Any}
 use Rattle.std.proofs.lemmas.List.{get_or_default}
 use Rattle.std.proofs.lemmas.List.Elements.{All-push}
-use Rattle.saturation_cert.specs.declared.member.Member.{Member}
+use Rattle.cert_values.specs.declared.member.Member.{Member}
 use Rattle.cert_index.specs.declared.lengths.Ranked.{Ranked}
 use Rattle.cert_index.specs.Lengths.{IsRankOf}
 use Rattle.cert_index.proofs.LengthLaws.{one_more_rank}

@@ -3,7 +3,7 @@ use Rattle.std.specs.Cmp.Lexicographic.{pointwise}
 use Rattle.indexmap.specs.IndexMap.{get}
 use Rattle.inst_logic.specs.declared.signed.Signed.{Signed}
 use Rattle.clause_form.specs.Literals.{id_eq}
-use Rattle.saturation_cert.specs.declared.member.Member.{Member}
+use Rattle.cert_values.specs.declared.member.Member.{Member}
 use Rattle.cert_index.specs.Places.{IsPlaceOf}
 use Rattle.cert_index.proofs.lookup.clauses_of.Given as goal
 

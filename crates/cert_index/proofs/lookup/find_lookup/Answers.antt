@@ -3,8 +3,8 @@ use Rattle.std.proofs.lemmas.List.{length-map}
 use Rattle.std.specs.Cmp.Lexicographic.{pointwise}
 use Rattle.indexmap.specs.IndexMap.{get}
 use Rattle.clause_form.specs.Literals.{id_eq}
-use Rattle.saturation_cert.specs.declared.member.Member.{Member}
-use Rattle.saturation_cert.specs.Values.{entry_of, saturation_of}
+use Rattle.cert_values.specs.declared.member.Member.{Member}
+use Rattle.cert_values.specs.Values.{entry_of, saturation_of}
 use Rattle.cert_index.specs.declared.fingerprint.Fingerprint.{Fingerprint}
 use Rattle.cert_index.specs.Fingerprints.{TellApart, fingerprint_at}
 use Rattle.cert_index.specs.Lengths.{AreGrouped}

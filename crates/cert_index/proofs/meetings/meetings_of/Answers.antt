@@ -1,6 +1,6 @@
 use Rattle.std.proofs.Common.{◌∙◌, List, length, ap, sym, subst}
 use Rattle.std.proofs.lemmas.List.{length-map}
-use Rattle.saturation_cert.specs.Values.{entry_of, saturation_of}
+use Rattle.cert_values.specs.Values.{entry_of, saturation_of}
 use Rattle.cert_index.specs.declared.fingerprint.Fingerprint.{Fingerprint}
 use Rattle.cert_index.specs.Fingerprints.{TellApart}
 use Rattle.cert_index.specs.Partners.{AreApart, Head}

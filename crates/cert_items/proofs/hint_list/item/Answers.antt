@@ -1,4 +1,4 @@
-use Rattle.saturation_cert.specs.Values.{hint_of}
+use Rattle.cert_values.specs.Values.{hint_of}
 use Rattle.cert_items.proofs.Hints.{no_item, no_end}
 use Rattle.cert_items.proofs.hint_list.item.Goals as goal
 

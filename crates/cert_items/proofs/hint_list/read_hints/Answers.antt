@@ -1,8 +1,8 @@
 use Rattle.std.proofs.Common.{◌≡◌, ◌∷◌, ◌++◌, [], Bool, List, IsTrue, sym, subst}
 use Rattle.cert_format.specs.LineTexts.{hint, hint_is_printable}
 use Rattle.cert_items.specs.HintTexts.{hint_end, HasHints, NoHintHead}
-use Rattle.saturation_cert.specs.declared.certificate.GroundHint.{GroundHint}
-use Rattle.saturation_cert.specs.Values.{hint_of}
+use Rattle.cert_values.specs.declared.certificate.GroundHint.{GroundHint}
+use Rattle.cert_values.specs.Values.{hint_of}
 use Rattle.cert_items.proofs.Reading.{is_none, is_some}
 use Rattle.cert_items.proofs.Hints.{no_hints, read_hint}
 use Rattle.cert_items.proofs.hint_list.read_hints.Goals as goal

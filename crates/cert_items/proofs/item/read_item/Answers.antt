@@ -8,8 +8,8 @@ use Rattle.term_bank.proofs.Growth.{grows_trans}
 use Rattle.cert_format.specs.LineMachine.{item}
 use Rattle.cert_format.specs.LineTexts.{line}
 use Rattle.cert_format.specs.Formats.{clause_is_printable}
-use Rattle.saturation_cert.specs.Wholes.{IsWholeClause}
-use Rattle.saturation_cert.proofs.Grown.{clause_grown}
+use Rattle.cert_values.specs.Wholes.{IsWholeClause}
+use Rattle.cert_values.proofs.Grown.{clause_grown}
 use Rattle.cert_items.specs.Items.{IsItem, IsNoteAt, NoLastNote, note_of}
 use Rattle.cert_items.proofs.Reading.{is_none, is_some}
 use Rattle.cert_items.proofs.Items.{no_item_head, no_item_clause, no_item_note, whole_line, whole_item}

@@ -1,7 +1,7 @@
 use Rattle.std.proofs.Common.{◌≡◌, ◌∙◌, sym}
 use Rattle.std.specs.Prelude.{IsTrue}
 use Rattle.cert_format.specs.LineTexts.{by_text, by_is_printable}
-use Rattle.saturation_cert.specs.Values.{by_of, side_of}
+use Rattle.cert_values.specs.Values.{by_of, side_of}
 use Rattle.cert_items.specs.Notes.{NoBy}
 use Rattle.cert_items.proofs.Reading.{is_none, is_some}
 use Rattle.cert_items.proofs.GroupNotes.{no_cover_form, no_cover_by, no_cover_end}

@@ -1,5 +1,5 @@
 use Rattle.std.proofs.Common.{Bor, List, ℕ, map, true, refl}
-use Rattle.saturation_cert.specs.Values.{hint_of}
+use Rattle.cert_values.specs.Values.{hint_of}
 use Rattle.cert_items.specs.HintTexts.{HasHints}
 use Rattle.cert_items.proofs.Reading.{is_some}
 use Rattle.cert_items.proofs.GroupNotes.{no_step_form, step_note, no_map}

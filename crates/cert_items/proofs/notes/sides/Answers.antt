@@ -1,4 +1,4 @@
-use Rattle.saturation_cert.specs.Values.{side_of}
+use Rattle.cert_values.specs.Values.{side_of}
 use Rattle.cert_items.proofs.Reading.{none_if}
 use Rattle.cert_items.proofs.Covering.{no_word, no_list}
 use Rattle.cert_items.proofs.notes.sides.Goals as goal

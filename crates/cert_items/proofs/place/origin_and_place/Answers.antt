@@ -1,7 +1,7 @@
 use Rattle.std.proofs.Common.{◌≡◌, ◌∙◌, sym}
 use Rattle.std.specs.Prelude.{IsTrue}
 use Rattle.cert_format.specs.LineTexts.{origin_text, origin_is_printable}
-use Rattle.saturation_cert.specs.Values.{origin_of}
+use Rattle.cert_values.specs.Values.{origin_of}
 use Rattle.cert_format.proofs.LineNotes.{origin_once}
 use Rattle.cert_items.proofs.Reading.{is_some}
 use Rattle.cert_items.proofs.place.origin_and_place.Goals as goal

@@ -1,6 +1,6 @@
 use Rattle.std.proofs.Common.{Bor, List, ℕ, sym, subst, ◌∙◌}
 use Rattle.std.specs.Prelude.{All}
-use Rattle.saturation_cert.specs.Wholes.{IsWholeTerm}
+use Rattle.cert_values.specs.Wholes.{IsWholeTerm}
 use Rattle.cert_items.specs.Reading.{AreTerms}
 use Rattle.cert_items.proofs.Reading.{is_some}
 use Rattle.cert_items.proofs.Covering.{whole_terms}

@@ -2,7 +2,7 @@ use Rattle.std.proofs.Common.{◌≡◌, true, sym, subst}
 use Rattle.term_bank.specs.Forest.{clause_at}
 use Rattle.cert_format.specs.LineMachine.{item}
 use Rattle.cert_format.specs.LineTexts.{line}
-use Rattle.saturation_cert.specs.Wholes.{IsWholeClause}
+use Rattle.cert_values.specs.Wholes.{IsWholeClause}
 use Rattle.cert_items.specs.Items.{IsItem, IsWholeNote, NoItem, group_of, note_of}
 use Rattle.cert_items.proofs.Reading.{is_none, is_some}
 use Rattle.cert_reader.specs.Bodies.{IsNextItem, NoNextItem}

@@ -1,7 +1,7 @@
 use Rattle.std.proofs.Common.{◌++◌, codes, decimal}
 use Rattle.term_bank.specs.Forest.{clause_at}
 use Rattle.cert_format.specs.Lines.{by_text, side_word}
-use Rattle.saturation_cert.specs.Values.{by_of, side_of}
+use Rattle.cert_values.specs.Values.{by_of, side_of}
 use Rattle.cert_text.specs.Pieces.{line_front}
 use Rattle.cert_text.proofs.Pieces.{line_written}
 use Rattle.cert_text.proofs.lines.push_cover.Goals as goal

@@ -1,6 +1,6 @@
 use Rattle.std.proofs.Common.{◌++◌, codes, decimal}
 use Rattle.cert_format.specs.Lines.{by_text, side_word}
-use Rattle.saturation_cert.specs.Values.{by_of, side_of}
+use Rattle.cert_values.specs.Values.{by_of, side_of}
 use Rattle.cert_text.proofs.Pieces.{more}
 use Rattle.cert_text.proofs.lines.push_cover_note.Goals as goal
 

@@ -1,6 +1,6 @@
 use Rattle.std.proofs.Common.{◌++◌, codes, decimal}
 use Rattle.cert_format.specs.Lines.{side_word}
-use Rattle.saturation_cert.specs.Values.{side_of}
+use Rattle.cert_values.specs.Values.{side_of}
 use Rattle.cert_text.proofs.Pieces.{four_more}
 use Rattle.cert_text.proofs.lines.push_due.Goals as goal
 

@@ -1,7 +1,7 @@
 use Rattle.std.proofs.Common.{◌≡◌, ◌++◌, [], ◌∷◌, drop, map, codes}
 use Rattle.inst_logic.specs.Printing.{joined}
 use Rattle.cert_format.specs.Lines.{hint_text}
-use Rattle.saturation_cert.specs.Values.{hint_of}
+use Rattle.cert_values.specs.Values.{hint_of}
 use Rattle.cert_text.proofs.lines.push_following_hints.Given as goal
 
 abbrev pub invariant-loop-hint : goal.invariant-loop-hint

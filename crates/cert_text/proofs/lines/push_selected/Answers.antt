@@ -1,6 +1,6 @@
 use Rattle.std.proofs.Common.{◌≡◌, ◌++◌, ◌∙◌, List, ℕ, ap, sym, append_assoc, codes, decimal}
 use Rattle.cert_format.specs.Lines.{origin_text}
-use Rattle.saturation_cert.specs.Values.{origin_of}
+use Rattle.cert_values.specs.Values.{origin_of}
 use Rattle.term_bank.specs.Forest.{clause_at}
 use Rattle.cert_text.specs.Pieces.{line_front}
 use Rattle.cert_text.proofs.Pieces.{line_written, more}

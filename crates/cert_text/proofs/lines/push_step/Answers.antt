@@ -1,7 +1,7 @@
 use Rattle.std.proofs.Common.{◌++◌, codes, map}
 use Rattle.inst_logic.specs.Printing.{joined}
 use Rattle.cert_format.specs.Lines.{hint_text}
-use Rattle.saturation_cert.specs.Values.{hint_of}
+use Rattle.cert_values.specs.Values.{hint_of}
 use Rattle.term_bank.specs.Forest.{clause_at}
 use Rattle.cert_text.specs.Pieces.{line_front}
 use Rattle.cert_text.proofs.Pieces.{line_written}

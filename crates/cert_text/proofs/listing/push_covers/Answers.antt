@@ -1,6 +1,6 @@
 use Rattle.std.proofs.Common.{refl, arith}
-use Rattle.saturation_cert.specs.Wholes.{IsWholeCover}
-use Rattle.saturation_cert.proofs.EachItem.{each_item}
+use Rattle.cert_values.specs.Wholes.{IsWholeCover}
+use Rattle.cert_values.proofs.EachItem.{each_item}
 use Rattle.cert_text.proofs.listing.push_covers.Goals as goal
 
 pub push_cover-requires : goal.push_cover-requires

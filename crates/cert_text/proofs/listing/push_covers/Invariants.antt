@@ -1,5 +1,5 @@
 use Rattle.std.proofs.Common.{◌≡◌, ◌+◌, ◌++◌, drop, map}
-use Rattle.saturation_cert.specs.Values.{cover_of}
+use Rattle.cert_values.specs.Values.{cover_of}
 use Rattle.cert_format.specs.Lines.{cover_line}
 use Rattle.cert_format.specs.Text.{numbered_lines}
 use Rattle.cert_text.proofs.listing.push_covers.Given as goal

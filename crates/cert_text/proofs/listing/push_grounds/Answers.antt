@@ -1,6 +1,6 @@
 use Rattle.std.proofs.Common.{refl, arith}
-use Rattle.saturation_cert.specs.Wholes.{IsWholeLine}
-use Rattle.saturation_cert.proofs.EachItem.{each_item}
+use Rattle.cert_values.specs.Wholes.{IsWholeLine}
+use Rattle.cert_values.proofs.EachItem.{each_item}
 use Rattle.cert_text.proofs.listing.push_grounds.Goals as goal
 
 pub push_ground-requires : goal.push_ground-requires

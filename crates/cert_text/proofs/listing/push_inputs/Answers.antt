@@ -2,8 +2,8 @@ use Rattle.std.proofs.Common.{◌+◌, ◌++◌, ◌∙◌, refl, sym, ap, arith
 use Rattle.std.proofs.lemmas.List.{append-nil}
 use Rattle.cert_format.specs.Lines.{input_line}
 use Rattle.term_bank.specs.Forest.{clause_at}
-use Rattle.saturation_cert.specs.Wholes.{IsWholeClause}
-use Rattle.saturation_cert.proofs.EachItem.{each_item}
+use Rattle.cert_values.specs.Wholes.{IsWholeClause}
+use Rattle.cert_values.proofs.EachItem.{each_item}
 use Rattle.cert_text.proofs.Pieces.{paired_end}
 use Rattle.cert_text.proofs.listing.push_inputs.Goals as goal
 

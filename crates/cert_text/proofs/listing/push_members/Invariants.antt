@@ -1,5 +1,5 @@
 use Rattle.std.proofs.Common.{◌≡◌, ◌+◌, ◌++◌, drop, map}
-use Rattle.saturation_cert.specs.Values.{entry_of}
+use Rattle.cert_values.specs.Values.{entry_of}
 use Rattle.cert_format.specs.Lines.{member_line}
 use Rattle.cert_format.specs.Text.{numbered_lines}
 use Rattle.cert_text.proofs.listing.push_members.Given as goal

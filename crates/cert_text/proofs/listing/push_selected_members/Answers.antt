@@ -1,10 +1,10 @@
 use Rattle.std.proofs.Common.{◌+◌, ◌++◌, ◌∙◌, refl, sym, ap, arith}
 use Rattle.std.proofs.lemmas.List.{append-nil}
 use Rattle.cert_format.specs.Lines.{selected_line}
-use Rattle.saturation_cert.specs.Values.{entry_of}
-use Rattle.saturation_cert.specs.Wholes.{IsWholeClause}
-use Rattle.saturation_cert.specs.declared.member.Member.{Member}
-use Rattle.saturation_cert.proofs.EachItem.{each_item}
+use Rattle.cert_values.specs.Values.{entry_of}
+use Rattle.cert_values.specs.Wholes.{IsWholeClause}
+use Rattle.cert_values.specs.declared.member.Member.{Member}
+use Rattle.cert_values.proofs.EachItem.{each_item}
 use Rattle.cert_text.proofs.Pieces.{paired_end}
 use Rattle.cert_text.proofs.listing.push_selected_members.Goals as goal
 

@@ -3,9 +3,9 @@ use Rattle.std.proofs.lemmas.List.{append-nil}
 use Rattle.cert_format.specs.Lines.{shown_line}
 use Rattle.cert_format.specs.Text.{paired_lines}
 use Rattle.term_bank.specs.Forest.{clause_at}
-use Rattle.saturation_cert.specs.Values.{by_of}
-use Rattle.saturation_cert.specs.Wholes.{IsWholeBy, IsWholeClause}
-use Rattle.saturation_cert.proofs.EachItem.{each_item}
+use Rattle.cert_values.specs.Values.{by_of}
+use Rattle.cert_values.specs.Wholes.{IsWholeBy, IsWholeClause}
+use Rattle.cert_values.proofs.EachItem.{each_item}
 use Rattle.cert_text.proofs.Pieces.{paired_more, paired_over}
 use Rattle.cert_text.proofs.listing.push_shown_clauses.Goals as goal
 

@@ -1,6 +1,6 @@
 use Rattle.std.proofs.Common.{◌≡◌, ◌+◌, ◌++◌, drop, map}
 use Rattle.term_bank.specs.Forest.{clause_at}
-use Rattle.saturation_cert.specs.Values.{by_of}
+use Rattle.cert_values.specs.Values.{by_of}
 use Rattle.cert_format.specs.Lines.{shown_line}
 use Rattle.cert_format.specs.Text.{paired_lines}
 use Rattle.cert_text.proofs.listing.push_shown_clauses.Given as goal

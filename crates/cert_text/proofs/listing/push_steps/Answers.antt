@@ -1,7 +1,7 @@
 use Rattle.std.proofs.Common.{refl, arith}
-use Rattle.saturation_cert.specs.Wholes.{IsWholeClause}
-use Rattle.saturation_cert.specs.declared.certificate.GroundStep.{GroundStep}
-use Rattle.saturation_cert.proofs.EachItem.{each_item}
+use Rattle.cert_values.specs.Wholes.{IsWholeClause}
+use Rattle.cert_values.specs.declared.certificate.GroundStep.{GroundStep}
+use Rattle.cert_values.proofs.EachItem.{each_item}
 use Rattle.cert_text.proofs.listing.push_steps.Goals as goal
 
 pub push_step-requires : goal.push_step-requires

@@ -1,5 +1,5 @@
 use Rattle.std.proofs.Common.{◌≡◌, ◌+◌, ◌++◌, drop, map}
-use Rattle.saturation_cert.specs.Values.{step_of}
+use Rattle.cert_values.specs.Values.{step_of}
 use Rattle.cert_format.specs.Lines.{step_line}
 use Rattle.cert_format.specs.Text.{numbered_lines}
 use Rattle.cert_text.proofs.listing.push_steps.Given as goal

@@ -3,9 +3,9 @@ use Rattle.cert_format.specs.Certificate.{covered}
 use Rattle.cert_format.specs.Formats.{written_format}
 use Rattle.cert_format.specs.Printable.{NumbersFit}
 use Rattle.cert_format.specs.Text.{written_text}
-use Rattle.saturation_cert.specs.declared.certificate.Covered.{Covered}
-use Rattle.saturation_cert.specs.Values.{covered_of}
-use Rattle.saturation_cert.specs.Wholes.{IsWholeCovered}
+use Rattle.cert_values.specs.declared.certificate.Covered.{Covered}
+use Rattle.cert_values.specs.Values.{covered_of}
+use Rattle.cert_values.specs.Wholes.{IsWholeCovered}
 use Rattle.cert_text.proofs.text.covered_text.Goals as goal
 
 -- the text that was written into nothing, of the certificate that was passed

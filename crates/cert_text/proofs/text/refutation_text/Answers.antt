@@ -3,9 +3,9 @@ use Rattle.cert_format.specs.Certificate.{refutation}
 use Rattle.cert_format.specs.Formats.{written_format}
 use Rattle.cert_format.specs.Printable.{NumbersFit}
 use Rattle.cert_format.specs.Text.{written_text}
-use Rattle.saturation_cert.specs.declared.certificate.Refutation.{Refutation}
-use Rattle.saturation_cert.specs.Values.{refutation_of}
-use Rattle.saturation_cert.specs.Wholes.{IsWholeRefutation}
+use Rattle.cert_values.specs.declared.certificate.Refutation.{Refutation}
+use Rattle.cert_values.specs.Values.{refutation_of}
+use Rattle.cert_values.specs.Wholes.{IsWholeRefutation}
 use Rattle.cert_text.proofs.text.refutation_text.Goals as goal
 
 -- the text that was written into nothing, of the certificate that was passed

@@ -1,5 +1,5 @@
 use Rattle.cert_format.specs.Text.{axiom_lines, input_lines}
-use Rattle.saturation_cert.specs.Values.{base_of}
+use Rattle.cert_values.specs.Values.{base_of}
 use Rattle.cert_text.proofs.Pieces.{more}
 use Rattle.cert_text.proofs.whole.push_base.Goals as goal
 

@@ -2,7 +2,7 @@ use Rattle.std.proofs.Common.{◌++◌, codes}
 use Rattle.cert_format.specs.Formats.{written_format}
 use Rattle.cert_format.specs.Lines.{cover_line, end_line, format_line, selected_line, shown_line}
 use Rattle.cert_format.specs.Text.{axiom_lines, head_lines, input_lines, numbered_lines, paired_lines}
-use Rattle.saturation_cert.specs.Values.{covered_of}
+use Rattle.cert_values.specs.Values.{covered_of}
 use Rattle.cert_text.proofs.Pieces.{more, more_thrice}
 use Rattle.cert_text.proofs.whole.push_covered.Goals as goal
 

@@ -2,7 +2,7 @@ use Rattle.std.proofs.Common.{◌++◌, codes}
 use Rattle.cert_format.specs.Formats.{written_format}
 use Rattle.cert_format.specs.Lines.{constant_line, end_line, format_line, ground_line_by, member_line, step_line}
 use Rattle.cert_format.specs.Text.{axiom_lines, head_lines, input_lines, numbered_lines}
-use Rattle.saturation_cert.specs.Values.{refutation_of}
+use Rattle.cert_values.specs.Values.{refutation_of}
 use Rattle.cert_text.proofs.Pieces.{more, more_twice}
 use Rattle.cert_text.proofs.whole.push_refutation.Goals as goal
 

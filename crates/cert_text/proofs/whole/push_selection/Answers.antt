@@ -1,7 +1,7 @@
 use Rattle.std.proofs.Common.{◌++◌}
 use Rattle.cert_format.specs.Lines.{selected_line}
 use Rattle.cert_format.specs.Text.{axiom_lines, input_lines, paired_lines}
-use Rattle.saturation_cert.specs.Values.{saturation_of}
+use Rattle.cert_values.specs.Values.{saturation_of}
 use Rattle.cert_text.proofs.Pieces.{more}
 use Rattle.cert_text.proofs.whole.push_selection.Goals as goal
 

@@ -1,6 +1,6 @@
 use Rattle.cert_format.specs.Lines.{shown_line}
 use Rattle.term_bank.specs.Forest.{clause_at}
-use Rattle.saturation_cert.specs.Values.{by_of}
+use Rattle.cert_values.specs.Values.{by_of}
 use Rattle.cert_text.proofs.Pieces.{paired_twice}
 use Rattle.cert_text.proofs.whole.push_shown_base.Goals as goal
 

@@ -3,8 +3,8 @@ use Rattle.std.proofs.lemmas.List.{take_more}
 use Rattle.inst_logic.specs.Clauses.{TreeClause}
 use Rattle.term_bank.specs.Forest.{clause_at}
 use Rattle.term_bank.proofs.Growth.{extends_trans}
-use Rattle.saturation_cert.specs.declared.certificate.GroundLine.{GroundLine}
-use Rattle.saturation_cert.specs.Wholes.{IsWholeClause}
+use Rattle.cert_values.specs.declared.certificate.GroundLine.{GroundLine}
+use Rattle.cert_values.specs.Wholes.{IsWholeClause}
 use Rattle.instgen_loop.specs.Grounds.{IsLinked}
 use Rattle.instgen_loop.specs.LineNumbers.{clauses_of}
 use Rattle.instgen_loop.proofs.Grown.{whole_kept}

@@ -4,7 +4,7 @@ use Rattle.inst_logic.specs.declared.signed.Signed.{Signed}
 use Rattle.inst_logic.specs.Clauses.{canonical_form, IsCanonical}
 use Rattle.inst_calculus.specs.Parts.{chosen}
 use Rattle.term_bank.specs.Forest.{IsClauseAt, IsClauseOf, clause_at}
-use Rattle.saturation_cert.specs.Wholes.{IsWholeClause}
+use Rattle.cert_values.specs.Wholes.{IsWholeClause}
 use Rattle.instgen_loop.proofs.Inferred.{safe_grown}
 use Rattle.instgen_loop.proofs.Parted.{kept_whole, part_is, part_canonical, part_whole}
 use Rattle.instgen_loop.proofs.infer.part_of.Goals as goal

@@ -3,7 +3,7 @@ use Rattle.std.specs.Prelude.{slice_get}
 use Rattle.std.proofs.lemmas.List.{length-take}
 use Rattle.std.proofs.lemmas.Option.{slice_get_read}
 use Rattle.inst_logic.specs.declared.signed.Signed.{Signed}
-use Rattle.saturation_cert.specs.declared.certificate.GroundLine.{GroundLine}
+use Rattle.cert_values.specs.declared.certificate.GroundLine.{GroundLine}
 use Rattle.indexmap.specs.IndexMap.{insert_entry}
 use Rattle.instgen_loop.specs.LineNumbers.{AreIndexed}
 use Rattle.instgen_loop.proofs.Decisions.{take_next}

@@ -1,8 +1,8 @@
 use Rattle.std.proofs.Common.{◌≡◌, [], ◌∷◌, List, length, sym, ap, ◌∙◌, subst, arith, map, All, rules}
 use Rattle.std.specs.Vec.Iter.{into_iter_items}
 use Rattle.term_bank.proofs.Growth.{extends_trans}
-use Rattle.saturation_cert.specs.declared.certificate.GroundLine.{GroundLine}
-use Rattle.saturation_cert.specs.Values.{line_of}
+use Rattle.cert_values.specs.declared.certificate.GroundLine.{GroundLine}
+use Rattle.cert_values.specs.Values.{line_of}
 use Rattle.instgen_loop.specs.Lines.{IsLineIn}
 use Rattle.instgen_loop.proofs.LineLaws.{IsLineWalk, all_lines, no_lines, next_given, next_grounded, next_ids, nothing_left, one_more_line}
 use Rattle.instgen_loop.proofs.lines.lines_of.Goals as goal

@@ -2,7 +2,7 @@ use Rattle.std.proofs.Common.{◌≡◌, ◌∙◌, ap, sym, subst}
 use Rattle.inst_logic.specs.Derivations.{at_number}
 use Rattle.inst_calculus.proofs.Items.{same_item}
 use Rattle.term_bank.specs.Forest.{clause_at}
-use Rattle.saturation_cert.specs.declared.member.Origin.{Origin}
+use Rattle.cert_values.specs.declared.member.Origin.{Origin}
 use Rattle.instgen_loop.specs.Clauses.{Item, entries_in}
 use Rattle.instgen_loop.specs.Records.{IsConcluded}
 use Rattle.instgen_loop.proofs.RecordLaws.{record_made}

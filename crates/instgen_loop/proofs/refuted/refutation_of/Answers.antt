@@ -1,7 +1,7 @@
 use Rattle.std.proofs.Common.{◌∙◌, sym, ap, subst}
 use Rattle.std.proofs.lemmas.Result.{IfOk-weaker}
 use Rattle.term_bank.specs.Forest.{AreDistinct}
-use Rattle.saturation_cert.specs.declared.certificate.Refutation.{Refutation}
+use Rattle.cert_values.specs.declared.certificate.Refutation.{Refutation}
 use Rattle.instgen_loop.specs.declared.hand_over.Remains.{Remains}
 use Rattle.instgen_loop.specs.Derived.{IsDerived}
 use Rattle.instgen_loop.specs.Outcomes.{IsRefutedRun}

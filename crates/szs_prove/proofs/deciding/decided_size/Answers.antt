@@ -1,5 +1,5 @@
 use Rattle.std.proofs.Common.{◌∙◌, ap}
-use Rattle.saturation_cert.specs.Values.{refutation_of}
+use Rattle.cert_values.specs.Values.{refutation_of}
 use Rattle.szs_prove.specs.Sizes.{size_of}
 use Rattle.szs_prove.proofs.Decided.{refuted_in}
 use Rattle.szs_prove.proofs.deciding.decided_size.Goals as goal

@@ -1,6 +1,6 @@
 use Rattle.std.proofs.Common.{subst}
 use Rattle.cert_front.specs.Kinds.{covered_value, refutation_value}
-use Rattle.saturation_cert.specs.Values.{covered_of}
+use Rattle.cert_values.specs.Values.{covered_of}
 use Rattle.szs_prove.specs.Decisions.{IsDecision}
 use Rattle.szs_prove.proofs.formula.answer_of.Goals as goal
 

@@ -2,7 +2,7 @@ use Rattle.std.proofs.Common.{ℕ, ◌<◌, ◌≤◌, ◌^◌, length}
 use Rattle.inst_calculus.specs.Models.{Member}
 use Rattle.term_bank.specs.Forest.{arguments_of}
 use Rattle.cert_format.specs.Validity.{SelectsAt}
-use Rattle.saturation_cert.specs.Values.{saturation_of}
+use Rattle.cert_values.specs.Values.{saturation_of}
 use Rattle.szs_prove.proofs.saturation_test.are_short.Given as goal
 
 abbrev pub invariant-loop-i : goal.invariant-loop-i

@@ -6,7 +6,7 @@ use Rattle.inst_logic.specs.WellFormed.{AreFormedClauses}
 use Rattle.inst_calculus.specs.Axioms.{with_axioms}
 use Rattle.inst_calculus.specs.Models.{Makes}
 use Rattle.cert_format.specs.Certificate.{selected_members}
-use Rattle.saturation_cert.specs.Values.{saturation_of}
+use Rattle.cert_values.specs.Values.{saturation_of}
 use Rattle.szs_prove.proofs.saturation_test.tables_by.Goals as goal
 
 pub fill-requires-clause-formed : goal.fill-requires-clause-formed

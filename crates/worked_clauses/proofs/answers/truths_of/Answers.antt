@@ -1,8 +1,8 @@
 use Rattle.std.proofs.Common.{subst, sym}
 use Rattle.cert_format.specs.declared.complaint.Complaint.TheVariants.{Place}
-use Rattle.saturation_cert.specs.declared.certificate.Saturation.{Saturation}
-use Rattle.saturation_cert.specs.Values.{saturation_of}
-use Rattle.saturation_cert.specs.Wholes.{HasPlaces}
+use Rattle.cert_values.specs.declared.certificate.Saturation.{Saturation}
+use Rattle.cert_values.specs.Values.{saturation_of}
+use Rattle.cert_values.specs.Wholes.{HasPlaces}
 use Rattle.worked_clauses.proofs.answers.truths_of.Goals as goal
 
 pub is_light-requires-clause-placed : goal.is_light-requires-clause-placed

@@ -1,7 +1,7 @@
 use Rattle.std.proofs.Common.{sym, subst}
 use Rattle.std.specs.Prelude.{All}
 use Rattle.tptp_read.specs.Text.{IsFormedStatement}
-use Rattle.saturation_cert.specs.Wholes.{IsWholeClause}
+use Rattle.cert_values.specs.Wholes.{IsWholeClause}
 use Rattle.worked_clauses.proofs.Wholes.{one_more, whole_at}
 use Rattle.worked_clauses.proofs.building.add_clause.Goals as goal
 

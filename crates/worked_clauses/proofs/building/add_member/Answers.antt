@@ -1,8 +1,8 @@
 use Rattle.std.proofs.Common.{sym, subst}
 use Rattle.std.specs.Prelude.{All}
 use Rattle.tptp_read.specs.Text.{IsFormedStatement}
-use Rattle.saturation_cert.specs.declared.member.Member.{Member}
-use Rattle.saturation_cert.specs.Wholes.{IsWholeClause}
+use Rattle.cert_values.specs.declared.member.Member.{Member}
+use Rattle.cert_values.specs.Wholes.{IsWholeClause}
 use Rattle.worked_clauses.proofs.Wholes.{one_member_more, whole_at}
 use Rattle.worked_clauses.proofs.building.add_member.Goals as goal
 

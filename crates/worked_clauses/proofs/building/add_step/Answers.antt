@@ -1,8 +1,8 @@
 use Rattle.std.proofs.Common.{sym, subst}
 use Rattle.std.specs.Prelude.{All}
 use Rattle.tptp_read.specs.Text.{IsFormedStatement}
-use Rattle.saturation_cert.specs.declared.certificate.GroundStep.{GroundStep}
-use Rattle.saturation_cert.specs.Wholes.{IsWholeClause}
+use Rattle.cert_values.specs.declared.certificate.GroundStep.{GroundStep}
+use Rattle.cert_values.specs.Wholes.{IsWholeClause}
 use Rattle.worked_clauses.proofs.Wholes.{one_step_more, whole_at}
 use Rattle.worked_clauses.proofs.building.add_step.Goals as goal
 

@@ -1,5 +1,5 @@
 use Rattle.term_bank.proofs.Growth.{extends_trans}
-use Rattle.saturation_cert.proofs.Grown.{clauses_grown}
+use Rattle.cert_values.proofs.Grown.{clauses_grown}
 use Rattle.worked_clauses.proofs.building.base_lists.Goals as goal
 
 pub returns : goal.returns

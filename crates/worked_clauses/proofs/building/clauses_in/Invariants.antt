@@ -1,7 +1,7 @@
 use Rattle.std.specs.Prelude.{All, List, ℕ}
 use Rattle.inst_logic.specs.declared.signed.Signed.{Signed}
 use Rattle.term_bank.specs.Forest.{AreFormed, Extends, Forest}
-use Rattle.saturation_cert.specs.Wholes.{IsWholeClause}
+use Rattle.cert_values.specs.Wholes.{IsWholeClause}
 use Rattle.worked_clauses.proofs.building.clauses_in.Given as goal
 
 pub record Kept (start bank : Forest) (clauses : List (List (Signed ℕ))) : Type 0 where

@@ -1,7 +1,7 @@
 use Rattle.std.specs.Prelude.{All, List}
 use Rattle.term_bank.specs.Forest.{AreFormed, Extends, Forest}
-use Rattle.saturation_cert.specs.declared.member.Member.{Member}
-use Rattle.saturation_cert.specs.Wholes.{IsWholeClause}
+use Rattle.cert_values.specs.declared.member.Member.{Member}
+use Rattle.cert_values.specs.Wholes.{IsWholeClause}
 use Rattle.worked_clauses.proofs.building.members_in.Given as goal
 
 pub record Kept (start bank : Forest) (members : List Member) : Type 0 where

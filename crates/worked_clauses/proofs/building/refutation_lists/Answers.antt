@@ -1,4 +1,4 @@
-use Rattle.saturation_cert.proofs.Grown.{clauses_grown, members_grown}
+use Rattle.cert_values.proofs.Grown.{clauses_grown, members_grown}
 use Rattle.worked_clauses.proofs.building.refutation_lists.Goals as goal
 
 pub returns : goal.returns

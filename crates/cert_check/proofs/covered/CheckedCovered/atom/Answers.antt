@@ -1,7 +1,7 @@
 use Rattle.std.proofs.Common.{refl, ap, sym, subst, ◌∙◌}
 use Rattle.cert_format.specs.Validity.{IsNamed}
-use Rattle.saturation_cert.specs.Values.{covered_of}
-use Rattle.saturation_cert.proofs.Kept.{covered_same, covered_whole}
+use Rattle.cert_values.specs.Values.{covered_of}
+use Rattle.cert_values.proofs.Kept.{covered_same, covered_whole}
 use Rattle.cert_check.proofs.Saturations.{base_grown, keeps_grown, keeps_saturation}
 use Rattle.cert_check.proofs.covered.CheckedCovered.atom.Goals as goal
 

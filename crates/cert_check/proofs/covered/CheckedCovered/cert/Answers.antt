@@ -1,7 +1,7 @@
 use Rattle.std.proofs.Common.{subst}
 use Rattle.cert_format.specs.Validity.{IsNamed}
-use Rattle.saturation_cert.specs.declared.certificate.Covered.{Covered}
-use Rattle.saturation_cert.specs.Values.{covered_of}
+use Rattle.cert_values.specs.declared.certificate.Covered.{Covered}
+use Rattle.cert_values.specs.Values.{covered_of}
 use Rattle.cert_check.proofs.covered.CheckedCovered.cert.Goals as goal
 
 pub returns-clause-named : goal.returns-clause-named

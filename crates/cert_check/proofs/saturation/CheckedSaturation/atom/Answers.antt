@@ -1,6 +1,6 @@
 use Rattle.std.proofs.Common.{ap, sym, subst, ◌∙◌}
 use Rattle.cert_format.specs.Validity.{IsValidSaturation}
-use Rattle.saturation_cert.specs.Values.{saturation_of}
+use Rattle.cert_values.specs.Values.{saturation_of}
 use Rattle.cert_check.proofs.Saturations.{base_grown, bank_same}
 use Rattle.cert_check.proofs.saturation.CheckedSaturation.atom.Goals as goal
 

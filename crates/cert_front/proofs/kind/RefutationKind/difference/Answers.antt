@@ -1,5 +1,5 @@
 use Rattle.std.proofs.lemmas.Result.{on_ok_weaker}
-use Rattle.saturation_cert.proofs.Kept.{refutation_whole}
+use Rattle.cert_values.proofs.Kept.{refutation_whole}
 use Rattle.cert_front.proofs.Grown.{refutation_kept}
 use Rattle.cert_front.proofs.kind.RefutationKind.difference.Goals as goal
 

@@ -3,7 +3,7 @@ use Rattle.std.proofs.lemmas.Result.{IfOk-weaker, IfErr-weaker}
 use Rattle.cert_format.specs.Certificate as format
 use Rattle.cert_format.specs.Certificate.{saturation}
 use Rattle.cert_format.specs.Validity.{CoversPass, IsValidSaturation}
-use Rattle.saturation_cert.specs.Values.{covered_of}
+use Rattle.cert_values.specs.Values.{covered_of}
 use Rattle.cert_front.proofs.NoComplaint.{never_complains}
 use Rattle.cert_front.proofs.kind.UncoveredKind.check.Goals as goal
 

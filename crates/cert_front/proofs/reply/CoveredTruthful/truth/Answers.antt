@@ -7,8 +7,8 @@ use Rattle.cert_format.specs.Certificate as format
 use Rattle.cert_format.specs.Validity.{IsNamed}
 use Rattle.cert_format.specs.declared.complaint.Complaint.TheVariants.{Place}
 use Rattle.term_bank.specs.Forest.{tree_at}
-use Rattle.saturation_cert.specs.declared.certificate.Covered.{Covered}
-use Rattle.saturation_cert.specs.Values.{covered_of}
+use Rattle.cert_values.specs.declared.certificate.Covered.{Covered}
+use Rattle.cert_values.specs.Values.{covered_of}
 use Rattle.cert_front.proofs.reply.CoveredTruthful.truth.Goals as goal
 
 pub truth-requires-clause-placed : goal.truth-requires-clause-placed

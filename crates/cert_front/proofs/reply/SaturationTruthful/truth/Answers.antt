@@ -7,8 +7,8 @@ use Rattle.cert_format.specs.Certificate as format
 use Rattle.cert_format.specs.Validity.{IsValidSaturation}
 use Rattle.cert_format.specs.declared.complaint.Complaint.TheVariants.{Place}
 use Rattle.term_bank.specs.Forest.{tree_at}
-use Rattle.saturation_cert.specs.declared.certificate.Saturation.{Saturation}
-use Rattle.saturation_cert.specs.Values.{saturation_of}
+use Rattle.cert_values.specs.declared.certificate.Saturation.{Saturation}
+use Rattle.cert_values.specs.Values.{saturation_of}
 use Rattle.cert_front.proofs.reply.SaturationTruthful.truth.Goals as goal
 
 pub truth-requires-clause-placed : goal.truth-requires-clause-placed

@@ -1,5 +1,5 @@
 use Rattle.std.proofs.lemmas.Result.{IfOk-weaker}
-use Rattle.saturation_cert.specs.Values.{covered_of}
+use Rattle.cert_values.specs.Values.{covered_of}
 use Rattle.cert_front.proofs.Rewritings.{named_text}
 use Rattle.cert_front.proofs.rewriting.CoveredRewritable.new_text.Goals as goal
 

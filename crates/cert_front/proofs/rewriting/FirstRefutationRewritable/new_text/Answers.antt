@@ -1,5 +1,5 @@
 use Rattle.std.proofs.lemmas.Result.{IfOk-weaker}
-use Rattle.saturation_cert.specs.Values.{first_of, refutation_of}
+use Rattle.cert_values.specs.Values.{first_of, refutation_of}
 use Rattle.cert_front.proofs.Rewritings.{NamesArePrintable, upgraded_text}
 use Rattle.cert_front.proofs.rewriting.FirstRefutationRewritable.new_text.Goals as goal
 

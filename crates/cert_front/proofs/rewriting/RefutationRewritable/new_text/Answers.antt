@@ -1,5 +1,5 @@
 use Rattle.std.proofs.lemmas.Result.{IfOk-weaker}
-use Rattle.saturation_cert.specs.Values.{refutation_of}
+use Rattle.cert_values.specs.Values.{refutation_of}
 use Rattle.cert_front.proofs.Rewritings.{own_text}
 use Rattle.cert_front.proofs.rewriting.RefutationRewritable.new_text.Goals as goal
 

@@ -1,9 +1,9 @@
 use Rattle.std.proofs.Common.{subst}
 use Rattle.std.proofs.lemmas.Result.{IfOk-weaker}
 use Rattle.cert_format.specs.Printable.{CoveredFits}
-use Rattle.saturation_cert.specs.declared.certificate.Covered.{Covered}
-use Rattle.saturation_cert.specs.Values.{covered_of}
-use Rattle.saturation_cert.specs.Wholes.{IsWholeCovered}
+use Rattle.cert_values.specs.declared.certificate.Covered.{Covered}
+use Rattle.cert_values.specs.Values.{covered_of}
+use Rattle.cert_values.specs.Wholes.{IsWholeCovered}
 use Rattle.std.proofs.Common.{sym}
 use Rattle.cert_front.proofs.Rewritings.{NamesArePrintable, covered_text}
 use Rattle.cert_front.proofs.rewriting.UncoveredRewritable.new_text.Goals as goal

@@ -4,7 +4,7 @@ use Rattle.std.proofs.lemmas.List.Filters.{dedup_is, All-dedup}
 use Rattle.std.proofs.lemmas.List.Kept.{AllPairs-from_increasing, Contains-dedup_nat}
 use Rattle.std.proofs.lemmas.List.Sorted.{Contains-permutation, All-permutation}
 use Rattle.std.proofs.lemmas.Map.Keys.{IsStrictlyIncreasing-dedup}
-use Rattle.saturation_cert.specs.Values.{entry_of, saturation_of}
+use Rattle.cert_values.specs.Values.{entry_of, saturation_of}
 use Rattle.cert_index.specs.Meetings.{LeadsOn}
 use Rattle.cert_index.proofs.MeetingLaws.{all_within, leads_meeting}
 use Rattle.cert_index.proofs.meetings.Meetings.later_partners.Goals as goal

@@ -1,0 +1,3 @@
+pub mod SelectedLiteral
+pub mod Values
+pub mod Wholes
