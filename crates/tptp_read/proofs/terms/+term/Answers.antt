@@ -23,7 +23,7 @@ term-returns-then-at-tokens-clause-is t c = ap (λ r. in_trees (texts c.args.var
 
 pub arguments-returns-clause-is : goal.arguments-returns-clause-is
 arguments-returns-clause-is t c = arguments_done (texts c.args.vars.now.keys) c.args.depth (toks (drop c.loop-alloc.next c.args.tokens.now)) c.loop-alloc.args _ (sym c.stands_at.ensures.is ∙ c.loop-alloc-test.false) c.loop-alloc.invariant.total
-    ∙ ap (λ args. Some (args, toks (drop c.loop-alloc.next c.args.tokens.now))) (sym c.trimmed.ensures)
+    ∙ ap (λ args. Some (args, toks (drop c.loop-alloc.next c.args.tokens.now))) (sym c.tight_list.ensures)
 
 pub term-returns-then-depth-eq0-clause-is : goal.term-returns-then-depth-eq0-clause-is
 term-returns-then-depth-eq0-clause-is t c =
@@ -42,7 +42,7 @@ term-returns-else-depth-eq0-clause-is t c =
     let two : at + 1 + 1 ≡ at + 2 = omega arith in
     let after = behind_toks (at + 1) ls ∙ ap (λ i. toks (drop i ls)) two in
     let whole = ap (term_at c.args.depth) e ∙ calls ∙ ap (λ us. applied_at (term_at (c.args.depth - 1)) (tok (get_or ls at other)) us) after in
-    subst (λ r. Gives (λ x. (tree x.0, toks (drop x.1 c.args.tokens.now))) c.application.result (in_trees (texts c.args.vars.now.keys) r)) (sym whole) c.applied.ensures.is
+    subst (λ r. Gives (λ x. (tree x.0, toks (drop x.1 c.args.tokens.now))) c.application.result (in_trees (texts c.args.vars.now.keys) r)) (sym whole) c.application.ensures.is
 
 pub term-returns-in_ok-t-clause-is : goal.term-returns-in_ok-t-clause-is
 term-returns-in_ok-t-clause-is t c =
