@@ -6,6 +6,7 @@ use Rattle.prop_logic.specs.Solving.{MakesTrue}
 use Rattle.prop_logic.specs.Literal.{AllAtomsBelow}
 use Rattle.prop_logic.specs.Valuation.{value_at}
 use Rattle.compact_lists.specs.Codes.{code_of}
+use Rattle.global_subs.specs.declared.witnesses.Witnesses.{Witnesses}
 use Rattle.global_subs.specs.Notes.{IsNotedAt, numbers_at}
 
 -- the literal is true by the values
@@ -39,6 +40,9 @@ pub record AreKept (clauses : List (List (Signed ℕ))) (lists : List (List ℕ)
   pub below : AllAtomsBelow (length values) clauses
   pub room : length values + length values ≤ length lists
   pub each : AreWitnessed clauses lists values loose
+
+abbrev pub AreKeptBy : List (List (Signed ℕ)) → Witnesses → Type 0
+AreKeptBy clauses w = AreKept clauses w.notes w.values w.loose.items
 
 -- what contracts see: the clauses, and how many atoms have values
 pub record Keeping : Type 0 where

@@ -5,10 +5,11 @@ ghost use Rattle.prop_logic.specs.Valuation.{value_at};
 ghost use Rattle.compact_lists.specs.Codes.{code_of};
 ghost use Rattle.ground_abs.specs.Abstracts.{Grows};
 ghost use Rattle.global_subs.specs.Notes.{numbers_at, KeepsNotes};
-ghost use Rattle.global_subs.specs.Keeping.{IsTrueIn, AreKept, IsPlaced, KeepsFalse, HaveRoom};
+ghost use Rattle.global_subs.specs.Keeping.{IsTrueIn, AreKeptBy, IsPlaced, KeepsFalse, HaveRoom};
 
 use crate::notes::Notes;
 use crate::values::{is_true, true_in};
+use crate::witnesses::Witnesses;
 use compact_lists::FlatClauses;
 use inst_logic::Memory;
 use prop_logic::{Lit, Valuation, complement};
@@ -61,71 +62,63 @@ fn place_all(
 }
 
 // Makes a false literal true.
-pub fn force(
-    clauses: &FlatClauses,
-    notes: &mut Notes,
-    values: &mut Valuation,
-    loose: &mut Vec<usize>,
-    l: Lit,
-) -> Result<(), Memory>
-    requires within { l.atom < length values.old }
-    requires untrue { value_at values.old l.atom ≡ not l.positive }
-    requires kept { AreKept clauses.now notes.old values.old loose.old.items }
-    ensures kept { AreKept clauses.now notes.new values.new loose.new.items }
-    ensures width { length values.new ≡ length values.old }
-    ensures len { length notes.new ≡ length notes.old }
-    ensures loose { Grows loose.old.items loose.new.items }
-    ensures holds { OnOk result (IsTrueIn values.new l) }
+pub fn force(clauses: &FlatClauses, witnesses: &mut Witnesses, l: Lit) -> Result<(), Memory>
+    requires within { l.atom < length witnesses.old.values }
+    requires untrue { value_at witnesses.old.values l.atom ≡ not l.positive }
+    requires kept { AreKeptBy clauses.now witnesses.old }
+    ensures kept { AreKeptBy clauses.now witnesses.new }
+    ensures width { length witnesses.new.values ≡ length witnesses.old.values }
+    ensures len { length witnesses.new.notes ≡ length witnesses.old.notes }
+    ensures loose { Grows witnesses.old.loose.items witnesses.new.loose.items }
+    ensures holds { OnOk result (IsTrueIn witnesses.new.values l) }
 {
     let other = complement(l);
-    values.set(l.atom, l.positive);
-    match place_all(clauses, notes, values, loose, other) {
+    witnesses.values.set(l.atom, l.positive);
+    match place_all(
+        clauses,
+        &mut witnesses.notes,
+        &witnesses.values,
+        &mut witnesses.loose,
+        other,
+    ) {
         Ok(()) => {
-            notes.clear(other);
+            witnesses.notes.clear(other);
             Ok(())
         }
         Err(error) => {
-            values.set(l.atom, !l.positive);
+            witnesses.values.set(l.atom, !l.positive);
             Err(error)
         }
     }
 }
 
 // Makes the literal false.
-fn make_false(
-    clauses: &FlatClauses,
-    notes: &mut Notes,
-    values: &mut Valuation,
-    loose: &mut Vec<usize>,
-    l: Lit,
-) -> Result<(), Memory>
-    requires within { l.atom < length values.old }
-    requires kept { AreKept clauses.now notes.old values.old loose.old.items }
-    ensures kept { AreKept clauses.now notes.new values.new loose.new.items }
-    ensures width { length values.new ≡ length values.old }
+fn make_false(clauses: &FlatClauses, witnesses: &mut Witnesses, l: Lit) -> Result<(), Memory>
+    requires within { l.atom < length witnesses.old.values }
+    requires kept { AreKeptBy clauses.now witnesses.old }
+    ensures kept { AreKeptBy clauses.now witnesses.new }
+    ensures width { length witnesses.new.values ≡ length witnesses.old.values }
 {
-    if !is_true(values, l) {
+    if !is_true(&witnesses.values, l) {
         return Ok(());
     }
     let other = complement(l);
-    force(clauses, notes, values, loose, other)
+    force(clauses, witnesses, other)
 }
 
 // Makes the literals false, of which no two are complements.
 pub fn make_all_false(
     clauses: &FlatClauses,
-    notes: &mut Notes,
-    values: &mut Valuation,
-    loose: &mut Vec<usize>,
+    witnesses: &mut Witnesses,
     c: &[Lit],
 ) -> Result<(), Memory>
-    requires within { AtomsBelow (length values.old) c.now }
-    requires kept { AreKept clauses.now notes.old values.old loose.old.items }
-    ensures kept { AreKept clauses.now notes.new values.new loose.new.items }
-    ensures width { length values.new ≡ length values.old }
+    requires within { AtomsBelow (length witnesses.old.values) c.now }
+    requires kept { AreKeptBy clauses.now witnesses.old }
+    ensures kept { AreKeptBy clauses.now witnesses.new }
+    ensures width { length witnesses.new.values ≡ length witnesses.old.values }
 {
     for l in c {
-        make_false(clauses, notes, values, loose, *l)?;
+        make_false(clauses, witnesses, *l)?;
     }
     Ok(())
 }

@@ -4,7 +4,7 @@ ghost use Rattle.prop_logic.specs.Literal.{AtomsBelow, AllAtomsBelow};
 ghost use Rattle.inst_logic.specs.Truth.{IsTrueClause};
 ghost use Rattle.prop_logic.specs.Valuation.{IsHeld};
 ghost use Rattle.global_subs.specs.Notes.{KeepsNotes};
-ghost use Rattle.global_subs.specs.Keeping.{AreKept, IsMoved, AreMoved, HaveRoom, CanBeFalse};
+ghost use Rattle.global_subs.specs.Keeping.{AreKeptBy, IsMoved, AreMoved, HaveRoom, CanBeFalse};
 
 use crate::fixed::Fixed;
 use crate::moves::{clear_changed, move_changed, note_all};
@@ -12,6 +12,7 @@ use crate::notes::Notes;
 use crate::repair::falsify;
 use crate::turn::add_clause;
 use crate::values::take_values;
+use crate::witnesses::Witnesses;
 use compact_lists::FlatClauses;
 use inst_logic::Memory;
 use prop_logic::{Lit, Valuation, changes};
@@ -25,21 +26,19 @@ use std::marker::Model;
 pub struct Kept {
     alloc: Global,
     clauses: FlatClauses,
-    notes: Notes,
-    values: Valuation,
-    loose: Vec<usize>,
+    witnesses: Witnesses,
     fixed: Fixed,
 }
 
 impl Model for Kept {
     ghost use Rattle.std.specs.Prelude.{length};
-    ghost use Rattle.global_subs.specs.Keeping.{AreKept, Keeping};
+    ghost use Rattle.global_subs.specs.Keeping.{AreKeptBy, Keeping};
 
     ghost Value = { Keeping };
 
-    ghost view = { λ k. record { clauses = k.clauses; atoms = length k.values } };
+    ghost view = { λ k. record { clauses = k.clauses; atoms = length k.witnesses.values } };
 
-    ghost invariant = { λ k. AreKept k.clauses k.notes k.values k.loose.items };
+    ghost invariant = { λ k. AreKeptBy k.clauses k.witnesses };
 }
 
 // Notes the clauses at literals that the values make true: those at a literal of these atoms, and the loose ones.
@@ -66,22 +65,20 @@ fn note_again(
 fn adopt_values(
     alloc: Global,
     clauses: &FlatClauses,
-    notes: &mut Notes,
-    values: &mut Valuation,
-    loose: &mut Vec<usize>,
+    witnesses: &mut Witnesses,
     new: &Valuation,
 ) -> Result<(), Memory>
-    requires within { length new.now ≤ length values.old }
+    requires within { length new.now ≤ length witnesses.old.values }
     requires holds { All (IsTrueClause (IsHeld new.now)) clauses.now }
-    requires kept { AreKept clauses.now notes.old values.old loose.old.items }
-    ensures kept { AreKept clauses.now notes.new values.new loose.new.items }
-    ensures width { length values.new ≡ length values.old }
+    requires kept { AreKeptBy clauses.now witnesses.old }
+    ensures kept { AreKeptBy clauses.now witnesses.new }
+    ensures width { length witnesses.new.values ≡ length witnesses.old.values }
 {
-    let atoms = changes(alloc, values, new)?;
-    note_again(clauses, notes, loose, new, &atoms)?;
-    take_values(values, new, &atoms);
-    clear_changed(notes, new, &atoms);
-    loose.truncate(0);
+    let atoms = changes(alloc, &witnesses.values, new)?;
+    note_again(clauses, &mut witnesses.notes, &witnesses.loose, new, &atoms)?;
+    take_values(&mut witnesses.values, new, &atoms);
+    clear_changed(&mut witnesses.notes, new, &atoms);
+    witnesses.loose.truncate(0);
     Ok(())
 }
 
@@ -93,9 +90,7 @@ impl Kept {
         Kept {
             alloc,
             clauses: FlatClauses::new(alloc),
-            notes: Notes::new(alloc),
-            values: Valuation::new(alloc),
-            loose: Vec::new(alloc),
+            witnesses: Witnesses::new(alloc),
             fixed: Fixed::new(alloc),
         }
     }
@@ -116,7 +111,7 @@ impl Kept {
 
     // Whether there is a loose clause.
     pub fn is_loose(&self) -> bool {
-        !self.loose.is_empty()
+        !self.witnesses.loose.is_empty()
     }
 
     // One more atom, which is false.
@@ -124,8 +119,8 @@ impl Kept {
         ensures clauses { self.new.clauses ≡ self.old.clauses }
         ensures atoms { OnOk result (self.new.atoms ≡ self.old.atoms + 1) }
     {
-        self.notes.grow()?;
-        self.values.push(false)?;
+        self.witnesses.notes.grow()?;
+        self.witnesses.values.push(false)?;
         Ok(())
     }
 
@@ -136,13 +131,7 @@ impl Kept {
         ensures added { OnOk result (self.new.clauses ≡ self.old.clauses ++ c.now ∷ []) }
         ensures held { OnErr result (self.new.clauses ≡ self.old.clauses) }
     {
-        add_clause(
-            &mut self.clauses,
-            &mut self.notes,
-            &mut self.values,
-            &mut self.loose,
-            c,
-        )?;
+        add_clause(&mut self.clauses, &mut self.witnesses, c)?;
         Ok(())
     }
 
@@ -152,14 +141,7 @@ impl Kept {
         ensures same { self.new ≡ self.old }
         ensures refuted { IfOk result (λ refuted. refuted ≡ true → CanBeFalse self.old.clauses c.now) }
     {
-        falsify(
-            &self.clauses,
-            &mut self.notes,
-            &mut self.values,
-            &mut self.loose,
-            &mut self.fixed,
-            c,
-        )
+        falsify(&self.clauses, &mut self.witnesses, &mut self.fixed, c)
     }
 
     // Takes other values, which make all clauses true.
@@ -168,13 +150,6 @@ impl Kept {
         requires holds { All (IsTrueClause (IsHeld new.now)) self.old.clauses }
         ensures { self.new ≡ self.old }
     {
-        adopt_values(
-            self.alloc,
-            &self.clauses,
-            &mut self.notes,
-            &mut self.values,
-            &mut self.loose,
-            new,
-        )
+        adopt_values(self.alloc, &self.clauses, &mut self.witnesses, new)
     }
 }

@@ -4,12 +4,13 @@ ghost use Rattle.std.specs.Prelude.{◌≡◌, [], ◌+◌, ◌<◌, ◌≤◌, 
 ghost use Rattle.prop_logic.specs.Literal.{AtomsBelow};
 ghost use Rattle.prop_logic.specs.Valuation.{value_at};
 ghost use Rattle.ground_abs.specs.Abstracts.{Grows};
-ghost use Rattle.global_subs.specs.Keeping.{AreKept, IsTrueIn, IsWitnessedAt, CanBeFalse};
+ghost use Rattle.global_subs.specs.Keeping.{AreKept, AreKeptBy, IsTrueIn, IsWitnessedAt, CanBeFalse};
 
 use crate::fixed::Fixed;
 use crate::force::{force, make_all_false};
 use crate::notes::Notes;
 use crate::values::{is_true, true_in, true_of};
+use crate::witnesses::Witnesses;
 use compact_lists::{FlatClauses, PackedLit};
 use inst_logic::Memory;
 use prop_logic::{Lit, Valuation, complement};
@@ -57,41 +58,39 @@ fn broken_by(
 }
 
 // How many clauses the turn of the literal, which is false, breaks, counted up to `most`; so many where its atom is fixed.
-fn cost(
-    clauses: &FlatClauses,
-    notes: &Notes,
-    values: &Valuation,
-    fixed: &Fixed,
-    l: Lit,
-    most: usize,
-) -> usize
-    requires within { l.atom < length values.now }
-    requires room { length values.now + length values.now ≤ length notes.now }
+fn cost(clauses: &FlatClauses, witnesses: &Witnesses, fixed: &Fixed, l: Lit, most: usize) -> usize
+    requires within { l.atom < length witnesses.now.values }
+    requires room { length witnesses.now.values + length witnesses.now.values ≤ length witnesses.now.notes }
 {
     if most == 0 || fixed.contains(l.atom) {
         return most;
     }
     let other = complement(l);
-    broken_by(clauses, notes.at(other), values, other, most)
+    broken_by(
+        clauses,
+        witnesses.notes.at(other),
+        &witnesses.values,
+        other,
+        most,
+    )
 }
 
 // The literal whose turn breaks fewest clauses, of those whose atom isn't fixed.
 fn cheapest(
     clauses: &FlatClauses,
-    notes: &Notes,
-    values: &Valuation,
+    witnesses: &Witnesses,
     fixed: &Fixed,
     clause: &[PackedLit],
 ) -> Option<Lit>
-    requires within { AtomsBelow (length values.now) clause.now }
-    requires room { length values.now + length values.now ≤ length notes.now }
+    requires within { AtomsBelow (length witnesses.now.values) clause.now }
+    requires room { length witnesses.now.values + length witnesses.now.values ≤ length witnesses.now.notes }
     ensures some { IfSome result (Contains clause.now) }
 {
     let mut found = None;
     let mut least = usize::MAX;
     for packed in clause {
         let l = packed.lit();
-        let count = cost(clauses, notes, values, fixed, l, least);
+        let count = cost(clauses, witnesses, fixed, l, least);
         if count < least {
             least = count;
             found = Some(l);
@@ -103,25 +102,23 @@ fn cheapest(
 // Makes one of the literals, which are all false, true, where one can be turned.
 fn turn_cheapest(
     clauses: &FlatClauses,
-    notes: &mut Notes,
-    values: &mut Valuation,
-    loose: &mut Vec<usize>,
+    witnesses: &mut Witnesses,
     fixed: &mut Fixed,
     clause: &[PackedLit],
 ) -> Result<Option<Lit>, Memory>
-    requires within { AtomsBelow (length values.old) clause.now }
-    requires untrue { All (λ l. value_at values.old l.atom ≡ not l.positive) clause.now }
-    requires kept { AreKept clauses.now notes.old values.old loose.old.items }
-    ensures kept { AreKept clauses.now notes.new values.new loose.new.items }
-    ensures width { length values.new ≡ length values.old }
-    ensures loose { Grows loose.old.items loose.new.items }
-    ensures some { IfOk result (λ o. IfSome o (λ l. Contains clause.now l × IsTrueIn values.new l)) }
+    requires within { AtomsBelow (length witnesses.old.values) clause.now }
+    requires untrue { All (λ l. value_at witnesses.old.values l.atom ≡ not l.positive) clause.now }
+    requires kept { AreKeptBy clauses.now witnesses.old }
+    ensures kept { AreKeptBy clauses.now witnesses.new }
+    ensures width { length witnesses.new.values ≡ length witnesses.old.values }
+    ensures loose { Grows witnesses.old.loose.items witnesses.new.loose.items }
+    ensures some { IfOk result (λ o. IfSome o (λ l. Contains clause.now l × IsTrueIn witnesses.new.values l)) }
 {
-    match cheapest(clauses, notes, values, fixed, clause) {
+    match cheapest(clauses, witnesses, fixed, clause) {
         None => Ok(None),
         Some(l) => {
             fixed.insert(l.atom)?;
-            force(clauses, notes, values, loose, l)?;
+            force(clauses, witnesses, l)?;
             Ok(Some(l))
         }
     }
@@ -130,46 +127,42 @@ fn turn_cheapest(
 // A true literal of the clause, for which one may have been turned.
 fn make_true(
     clauses: &FlatClauses,
-    notes: &mut Notes,
-    values: &mut Valuation,
-    loose: &mut Vec<usize>,
+    witnesses: &mut Witnesses,
     fixed: &mut Fixed,
     clause: &[PackedLit],
 ) -> Result<Option<Lit>, Memory>
-    requires within { AtomsBelow (length values.old) clause.now }
-    requires kept { AreKept clauses.now notes.old values.old loose.old.items }
-    ensures kept { AreKept clauses.now notes.new values.new loose.new.items }
-    ensures width { length values.new ≡ length values.old }
-    ensures loose { Grows loose.old.items loose.new.items }
-    ensures some { IfOk result (λ o. IfSome o (λ l. Contains clause.now l × IsTrueIn values.new l)) }
+    requires within { AtomsBelow (length witnesses.old.values) clause.now }
+    requires kept { AreKeptBy clauses.now witnesses.old }
+    ensures kept { AreKeptBy clauses.now witnesses.new }
+    ensures width { length witnesses.new.values ≡ length witnesses.old.values }
+    ensures loose { Grows witnesses.old.loose.items witnesses.new.loose.items }
+    ensures some { IfOk result (λ o. IfSome o (λ l. Contains clause.now l × IsTrueIn witnesses.new.values l)) }
 {
-    match true_in(clause, values) {
+    match true_in(clause, &witnesses.values) {
         Some(l) => Ok(Some(l)),
-        None => turn_cheapest(clauses, notes, values, loose, fixed, clause),
+        None => turn_cheapest(clauses, witnesses, fixed, clause),
     }
 }
 
 // Notes the clause of this number at a true literal, where it has one or gets one by a turn.
 fn settle(
     clauses: &FlatClauses,
-    notes: &mut Notes,
-    values: &mut Valuation,
-    loose: &mut Vec<usize>,
+    witnesses: &mut Witnesses,
     fixed: &mut Fixed,
     k: usize,
 ) -> Result<bool, Memory>
-    requires kept { AreKept clauses.now notes.old values.old loose.old.items }
-    ensures kept { AreKept clauses.now notes.new values.new loose.new.items }
-    ensures width { length values.new ≡ length values.old }
-    ensures loose { Grows loose.old.items loose.new.items }
-    ensures noted { IfOk result (λ noted. noted ≡ true → IsWitnessedAt clauses.now notes.new values.new k) }
+    requires kept { AreKeptBy clauses.now witnesses.old }
+    ensures kept { AreKeptBy clauses.now witnesses.new }
+    ensures width { length witnesses.new.values ≡ length witnesses.old.values }
+    ensures loose { Grows witnesses.old.loose.items witnesses.new.loose.items }
+    ensures noted { IfOk result (λ noted. noted ≡ true → IsWitnessedAt clauses.now witnesses.new.notes witnesses.new.values k) }
 {
     match clauses.get(k) {
         None => Ok(true),
-        Some(clause) => match make_true(clauses, notes, values, loose, fixed, clause)? {
+        Some(clause) => match make_true(clauses, witnesses, fixed, clause)? {
             None => Ok(false),
             Some(l) => {
-                notes.add(l, k)?;
+                witnesses.notes.add(l, k)?;
                 Ok(true)
             }
         },
@@ -179,41 +172,33 @@ fn settle(
 // Notes the first loose clause so, which is then no longer loose.
 fn settle_first(
     clauses: &FlatClauses,
-    notes: &mut Notes,
-    values: &mut Valuation,
-    loose: &mut Vec<usize>,
+    witnesses: &mut Witnesses,
     fixed: &mut Fixed,
 ) -> Result<bool, Memory>
-    requires some { 0 < length loose.old.items }
-    requires kept { AreKept clauses.now notes.old values.old loose.old.items }
-    ensures kept { AreKept clauses.now notes.new values.new loose.new.items }
-    ensures width { length values.new ≡ length values.old }
+    requires some { 0 < length witnesses.old.loose.items }
+    requires kept { AreKeptBy clauses.now witnesses.old }
+    ensures kept { AreKeptBy clauses.now witnesses.new }
+    ensures width { length witnesses.new.values ≡ length witnesses.old.values }
 {
-    let k = loose[0];
-    if !settle(clauses, notes, values, loose, fixed, k)? {
+    let k = witnesses.loose[0];
+    if !settle(clauses, witnesses, fixed, k)? {
         return Ok(false);
     }
-    loose.swap_remove(0);
+    witnesses.loose.swap_remove(0);
     Ok(true)
 }
 
 // Notes loose clauses so, until none is loose, one has no literal that can be turned, or enough were turned.
-fn repair(
-    clauses: &FlatClauses,
-    notes: &mut Notes,
-    values: &mut Valuation,
-    loose: &mut Vec<usize>,
-    fixed: &mut Fixed,
-) -> Result<(), Memory>
-    requires kept { AreKept clauses.now notes.old values.old loose.old.items }
-    ensures kept { AreKept clauses.now notes.new values.new loose.new.items }
-    ensures width { length values.new ≡ length values.old }
+fn repair(clauses: &FlatClauses, witnesses: &mut Witnesses, fixed: &mut Fixed) -> Result<(), Memory>
+    requires kept { AreKeptBy clauses.now witnesses.old }
+    ensures kept { AreKeptBy clauses.now witnesses.new }
+    ensures width { length witnesses.new.values ≡ length witnesses.old.values }
 {
-    for _ in 0..loose.len().saturating_add(MOST_TURNS) {
-        if loose.is_empty() {
+    for _ in 0..witnesses.loose.len().saturating_add(MOST_TURNS) {
+        if witnesses.loose.is_empty() {
             return Ok(());
         }
-        if !settle_first(clauses, notes, values, loose, fixed)? {
+        if !settle_first(clauses, witnesses, fixed)? {
             return Ok(());
         }
     }
@@ -243,23 +228,21 @@ fn is_refuted(_clauses: &FlatClauses, _notes: &Notes, values: &Valuation, c: &[L
 // Whether values are found that make the clause false and the others true.
 pub fn falsify(
     clauses: &FlatClauses,
-    notes: &mut Notes,
-    values: &mut Valuation,
-    loose: &mut Vec<usize>,
+    witnesses: &mut Witnesses,
     fixed: &mut Fixed,
     c: &[Lit],
 ) -> Result<bool, Memory>
-    requires within { AtomsBelow (length values.old) c.now }
-    requires kept { AreKept clauses.now notes.old values.old loose.old.items }
-    ensures kept { AreKept clauses.now notes.new values.new loose.new.items }
-    ensures width { length values.new ≡ length values.old }
+    requires within { AtomsBelow (length witnesses.old.values) c.now }
+    requires kept { AreKeptBy clauses.now witnesses.old }
+    ensures kept { AreKeptBy clauses.now witnesses.new }
+    ensures width { length witnesses.new.values ≡ length witnesses.old.values }
     ensures refuted { IfOk result (λ refuted. refuted ≡ true → CanBeFalse clauses.now c.now) }
 {
     fix_atoms(fixed, c)?;
-    make_all_false(clauses, notes, values, loose, c)?;
-    repair(clauses, notes, values, loose, fixed)?;
-    if !loose.is_empty() {
+    make_all_false(clauses, witnesses, c)?;
+    repair(clauses, witnesses, fixed)?;
+    if !witnesses.loose.is_empty() {
         return Ok(false);
     }
-    Ok(is_refuted(clauses, notes, values, c))
+    Ok(is_refuted(clauses, &witnesses.notes, &witnesses.values, c))
 }

@@ -3,11 +3,12 @@ ghost use Rattle.std.specs.Prelude.{◌≡◌, ◌+◌, ◌<◌, ◌≤◌, ◌+
 ghost use Rattle.inst_logic.specs.declared.signed.Signed.{Signed};
 ghost use Rattle.prop_logic.specs.Literal.{AtomsBelow, AllAtomsBelow};
 ghost use Rattle.prop_logic.specs.Valuation.{value_at};
-ghost use Rattle.global_subs.specs.Keeping.{IsTrueIn, AreWitnessed, AreKept};
+ghost use Rattle.global_subs.specs.Keeping.{IsTrueIn, AreWitnessed, AreKept, AreKeptBy};
 
 use crate::moves::{are_true, move_notes};
 use crate::notes::Notes;
 use crate::values::true_of;
+use crate::witnesses::Witnesses;
 use compact_lists::FlatClauses;
 use inst_logic::Memory;
 use prop_logic::{Lit, Valuation, complement};
@@ -92,23 +93,17 @@ fn make_one_true(
 }
 
 // Notes one more clause, which is not among them yet, where it is or can be made true, and else puts it to the loose ones.
-fn take_in(
-    clauses: &FlatClauses,
-    notes: &mut Notes,
-    values: &mut Valuation,
-    loose: &mut Vec<usize>,
-    c: &[Lit],
-) -> Result<(), Memory>
-    requires within { AtomsBelow (length values.old) c.now }
-    requires kept { AreKept clauses.now notes.old values.old loose.old.items }
-    ensures kept { AreKept clauses.now notes.new values.new loose.new.items }
-    ensures width { length values.new ≡ length values.old }
-    ensures next { OnOk result (AreKept (clauses.now ++ c.now ∷ []) notes.new values.new loose.new.items) }
+fn take_in(clauses: &FlatClauses, witnesses: &mut Witnesses, c: &[Lit]) -> Result<(), Memory>
+    requires within { AtomsBelow (length witnesses.old.values) c.now }
+    requires kept { AreKeptBy clauses.now witnesses.old }
+    ensures kept { AreKeptBy clauses.now witnesses.new }
+    ensures width { length witnesses.new.values ≡ length witnesses.old.values }
+    ensures next { OnOk result (AreKeptBy (clauses.now ++ c.now ∷ []) witnesses.new) }
 {
     let k = clauses.len();
-    match make_one_true(clauses, notes, values, c)? {
-        Some(l) => notes.add(l, k)?,
-        None => loose.push(k)?,
+    match make_one_true(clauses, &mut witnesses.notes, &mut witnesses.values, c)? {
+        Some(l) => witnesses.notes.add(l, k)?,
+        None => witnesses.loose.push(k)?,
     }
     Ok(())
 }
@@ -116,19 +111,17 @@ fn take_in(
 // Puts one more clause to the others.
 pub fn add_clause(
     clauses: &mut FlatClauses,
-    notes: &mut Notes,
-    values: &mut Valuation,
-    loose: &mut Vec<usize>,
+    witnesses: &mut Witnesses,
     c: &[Lit],
 ) -> Result<(), Memory>
-    requires within { AtomsBelow (length values.old) c.now }
-    requires kept { AreKept clauses.old notes.old values.old loose.old.items }
-    ensures kept { AreKept clauses.new notes.new values.new loose.new.items }
-    ensures width { length values.new ≡ length values.old }
+    requires within { AtomsBelow (length witnesses.old.values) c.now }
+    requires kept { AreKeptBy clauses.old witnesses.old }
+    ensures kept { AreKeptBy clauses.new witnesses.new }
+    ensures width { length witnesses.new.values ≡ length witnesses.old.values }
     ensures added { OnOk result (clauses.new ≡ clauses.old ++ c.now ∷ []) }
     ensures held { OnErr result (clauses.new ≡ clauses.old) }
 {
-    take_in(clauses, notes, values, loose, c)?;
+    take_in(clauses, witnesses, c)?;
     clauses.push(c)?;
     Ok(())
 }

@@ -7,10 +7,10 @@ use Rattle.global_subs.proofs.repair.settle_first.Goals as goal
 pub returns-clause-kept : goal.returns-clause-kept
 returns-clause-kept c =
     let clauses = c.args.clauses.now in
-    let notes = c.settle.new.notes in
-    let values = c.settle.new.values in
-    let before = c.args.loose.now.items in
-    let loose = c.settle.new.loose.items in
+    let notes = c.settle.new.witnesses.notes in
+    let values = c.settle.new.witnesses.values in
+    let before = c.args.witnesses.now.loose.items in
+    let loose = c.settle.new.witnesses.loose.items in
     let front = c.settle.ensures.loose in
     let x = c.swap_remove.result in
     let k = c.index-k.result.now in

@@ -9,8 +9,8 @@ use Rattle.term_bank.specs.Forest.{IsTermIn}
 pub returns-clause-formed : goal.returns-clause-formed
 returns-clause-formed c =
     let f = c.args.bank.now in
-    let made = c.args.made.now in
+    let made = c.args.unrolling.now.made.now in
     on_ok_weaker c.run.result
     (λ formed constant old terms.
     formed constant (subst (HasTerms f made) (sym c.in_ok-push.ensures.items)
-    (one_more_task f made c.new-tasks.result.items c.in_ok-task.task (subst (HasTerms f made) (sym c.new-tasks.ensures.items) (no_tasks f made old c.requires.entries terms)) (c.in_ok-task.ensures.plain f (All-nil (IsTermIn f)) (c.requires.bot, constant))))) c.run.ensures.formed
+    (one_more_task f made c.new-tasks.result.items c.in_ok-task.task (subst (HasTerms f made) (sym c.new-tasks.ensures.items) (no_tasks f made old c.requires.unrolling.entries terms)) (c.in_ok-task.ensures.plain f (All-nil (IsTermIn f)) (c.requires.unrolling.bot, constant))))) c.run.ensures.formed

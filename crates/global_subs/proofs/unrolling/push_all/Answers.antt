@@ -14,7 +14,7 @@ use Rattle.term_bank.specs.Forest.{IsTermIn}
 pub loop-i-init : goal.loop-i-init
 loop-i-init c =
     let f = c.args.bank.now in
-    let made = entries_at f c.args.made.now in
+    let made = entries_at f c.args.unrolling.now.made.now in
     record {
       tasks = subst (λ (ts : List Task). All (IsTask f made) (reverse ts)) (sym c.requires.empty) (All-nil (IsTask f made));
       plain = λ f constant. subst (All (λ (t : Task). All (IsTermIn f) t.terms)) (sym c.requires.empty) (All-nil (λ (t : Task). All (IsTermIn f) t.terms));
@@ -24,7 +24,7 @@ loop-i-init c =
 pub loop-i-preserved : goal.loop-i-preserved
 loop-i-preserved c =
     let f = c.args.bank.now in
-    let made = entries_at f c.args.made.now in
+    let made = entries_at f c.args.unrolling.now.made.now in
     let i : ℕ = c.loop-i.i - 1 in
     let t : Task = c.in_ok-task.task in
     let now : reverse c.push.new.self.items ≡ t ∷ reverse c.loop-i.tasks.items = ap reverse c.in_ok-push.ensures.items ∙ reverse_push c.loop-i.tasks.items t in
@@ -50,7 +50,7 @@ returns-clause-tasks c = c.loop-i.invariant.tasks
 pub returns-clause-lists : goal.returns-clause-lists
 returns-clause-lists c = λ b e.
     let f = c.args.bank.now in
-    let made = entries_at f c.args.made.now in
+    let made = entries_at f c.args.unrolling.now.made.now in
     let none_left : c.loop-i.i ≡ 0 = omega (arith, c.loop-i-test.false) in
     sym (ap (λ n. all_unrolled b made n ++ flat_map (list_of b made) (map (waiting_at f) (reverse c.loop-i.tasks.items))) none_left) ∙ c.loop-i.invariant.lists b e
 

@@ -11,8 +11,8 @@ use Rattle.global_subs.proofs.unrolling.push_all.Given as goal
 
 abbrev pub invariant-loop-i : goal.invariant-loop-i
 invariant-loop-i l = record {
-  tasks : All (IsTask l.bank (entries_at l.bank l.made)) (reverse l.tasks.items);
-  plain : (f : Forest) → IsTermIn f l.bot → All (λ (t : Task). All (IsTermIn f) t.terms) l.tasks.items;
-  lists : (b : Sym) → tree_at l.bank l.bot ≡ app b none
-      → all_unrolled b (entries_at l.bank l.made) l.i ++ flat_map (list_of b (entries_at l.bank l.made)) (map (waiting_at l.bank) (reverse l.tasks.items)) ≡ all_unrolled b (entries_at l.bank l.made) (length l.made);
+  tasks : All (IsTask l.bank (entries_at l.bank l.unrolling.made.now)) (reverse l.tasks.items);
+  plain : (f : Forest) → IsTermIn f l.unrolling.bot → All (λ (t : Task). All (IsTermIn f) t.terms) l.tasks.items;
+  lists : (b : Sym) → tree_at l.bank l.unrolling.bot ≡ app b none
+      → all_unrolled b (entries_at l.bank l.unrolling.made.now) l.i ++ flat_map (list_of b (entries_at l.bank l.unrolling.made.now)) (map (waiting_at l.bank) (reverse l.tasks.items)) ≡ all_unrolled b (entries_at l.bank l.unrolling.made.now) (length l.unrolling.made.now);
 }

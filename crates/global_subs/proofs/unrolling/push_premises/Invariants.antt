@@ -1,4 +1,4 @@
-use Rattle.std.proofs.Common.{◌≡◌, ◌+◌, drop, map, reverse, length}
+use Rattle.std.proofs.Common.{◌≡◌, ℕ, ◌+◌, ◌<◌, drop, map, reverse, length}
 use Rattle.std.specs.Prelude.{All}
 use Rattle.std.specs.List.{flat_map}
 use Rattle.inst_logic.specs.declared.symbol.Sym.{Sym}
@@ -12,7 +12,7 @@ use Rattle.global_subs.proofs.unrolling.push_premises.Given as goal
 abbrev pub invariant-loop-i : goal.invariant-loop-i
 invariant-loop-i l = record {
   few : length l.tasks.items + l.i ≡ length l.initial.tasks.items + length l.premises;
-  plain : (f : Forest) → All (IsTermIn f) l.terms → IsTermIn f l.bot → All (λ (t : Task). All (IsTermIn f) t.terms) l.initial.tasks.items → All (λ (t : Task). All (IsTermIn f) t.terms) l.tasks.items;
-  opened : (b : Sym) → tree_at l.bank l.bot ≡ app b none
-      → AreOpened l.bank b (entries_at l.bank l.made) l.n (flat_map (λ p. unrolled b (entries_at l.bank l.made) p (under_terms b (map (tree_at l.bank) l.terms))) (drop l.i l.premises)) (reverse l.initial.tasks.items) (reverse l.tasks.items);
+  plain : (f : Forest) → All (IsTermIn f) l.terms → IsTermIn f l.unrolling.bot → All (λ (t : Task). All (IsTermIn f) t.terms) l.initial.tasks.items → All (λ (t : Task). All (IsTermIn f) t.terms) l.tasks.items;
+  opened : (n : ℕ) → All (λ p. p < n) l.premises → (b : Sym) → tree_at l.bank l.unrolling.bot ≡ app b none
+      → AreOpened l.bank b (entries_at l.bank l.unrolling.made.now) n (flat_map (λ p. unrolled b (entries_at l.bank l.unrolling.made.now) p (under_terms b (map (tree_at l.bank) l.terms))) (drop l.i l.premises)) (reverse l.initial.tasks.items) (reverse l.tasks.items);
 }

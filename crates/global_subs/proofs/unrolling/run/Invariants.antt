@@ -11,10 +11,10 @@ use Rattle.global_subs.proofs.unrolling.run.Given as goal
 abbrev pub invariant-loop-task : goal.invariant-loop-task
 invariant-loop-task l = record {
   extends : Extends l.fn.bank l.bank;
-  terms : IsTerm (tree_at l.fn.bank l.bot) → HasTerms l.fn.bank l.made l.fn.tasks.items → HasTerms l.bank l.made l.tasks.items;
-  walk : (b : Sym) → tree_at l.fn.bank l.bot ≡ app b none
-      → IsWalk l.bank b (entries_at l.fn.bank l.made) (with_items [] (flat_map (list_of b (entries_at l.fn.bank l.made)) (map (waiting_at l.fn.bank) (reverse l.fn.tasks.items)))) (reverse l.tasks.items) l.seen.keys l.items.keys;
+  terms : IsTerm (tree_at l.fn.bank l.unrolling.bot) → HasTerms l.fn.bank l.unrolling.made.now l.fn.tasks.items → HasTerms l.bank l.unrolling.made.now l.walk.tasks.items;
+  walk : (b : Sym) → tree_at l.fn.bank l.unrolling.bot ≡ app b none
+      → IsWalk l.bank b (entries_at l.fn.bank l.unrolling.made.now) (with_items [] (flat_map (list_of b (entries_at l.fn.bank l.unrolling.made.now)) (map (waiting_at l.fn.bank) (reverse l.fn.tasks.items)))) (reverse l.walk.tasks.items) l.walk.seen.keys l.walk.items.keys;
 }
 
 abbrev pub decreases-loop-task : goal.decreases-loop-task
-decreases-loop-task l = load (breadth l.made) (reverse l.tasks.items)
+decreases-loop-task l = load (breadth l.unrolling.made.now) (reverse l.walk.tasks.items)
