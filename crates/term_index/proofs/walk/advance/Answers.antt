@@ -1,4 +1,4 @@
-use Rattle.std.proofs.Common.{◌≡◌, ◌∙◌, ◌+◌, ◌∷◌, sym, subst, ℕ}
+use Rattle.std.proofs.Common.{◌≡◌, ◌∙◌, ◌+◌, ◌∷◌, sym, subst, arith, ℕ}
 use Rattle.term_index.specs.declared.label.Label.{Label}
 use Rattle.term_index.specs.declared.label.Label.TheVariants.{Variable, Symbol}
 use Rattle.term_index.specs.declared.walk.Frame.{Frame}
@@ -21,7 +21,7 @@ returns-in_ok-push_any-in-Variable-clause-next c =
     subst (λ s. AddsNext c.args.view g t.edges.keys t.nodes.items s f.cells w.cells.items w.stack.items c.push_any.new.stack.items)
     (first_taken g w.cells.items f c.requires.first c.requires.frame.2)
     (subst next c.argument-node.ensures
-    (adds_variable c.args.view g t.edges.keys t.places t.nodes.items c.requires.trie w.cells.items q after w.stack.items c.push_any.new.stack.items (r.0, c.requires.first, r.2, r.3, r.4) here c.in_ok-push_any-in-Variable.ensures.bends c.in_ok-push_any-in-Variable.ensures.stays))
+    (adds_variable c.args.view g t.edges.keys t.places t.nodes.items c.requires.trie w.cells.items q after w.stack.items c.push_any.new.stack.items (r.0, omega (arith, c.requires.first), r.2, r.3, r.4) here c.in_ok-push_any-in-Variable.ensures.bends c.in_ok-push_any-in-Variable.ensures.stays))
 
 pub returns-in_ok-push_symbol-in-Symbol-clause-next : goal.returns-in_ok-push_symbol-in-Symbol-clause-next
 returns-in_ok-push_symbol-in-Symbol-clause-next c =
@@ -40,5 +40,5 @@ returns-in_ok-push_symbol-in-Symbol-clause-next c =
     (first_taken g w.cells.items f c.requires.first c.requires.frame.2)
     (subst next c.argument-node.ensures
     (adds_symbol c.args.view g t.edges.keys t.places t.nodes.items c.requires.trie w.cells.items new.cells.items q c.in-Symbol.field-0 c.in-Symbol.field-1 after
-    w.stack.items c.push_variable.new.stack.items new.stack.items c.requires.cells c.push_symbol.ensures.grows (r.0, c.requires.first, r.2, r.3, r.4) here
+    w.stack.items c.push_variable.new.stack.items new.stack.items c.requires.cells c.push_symbol.ensures.grows (r.0, omega (arith, c.requires.first), r.2, r.3, r.4) here
     c.in_ok-push_variable-in-Symbol.ensures.bends c.in_ok-push_variable-in-Symbol.ensures.stays (subst inner c.in-Symbol.is c.in_ok-push_symbol-in-Symbol.ensures.adds)))
