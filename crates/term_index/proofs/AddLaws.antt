@@ -13,7 +13,7 @@ use Rattle.term_index.specs.declared.walk.Cell.{Cell}
 use Rattle.term_index.specs.declared.walk.Frame.{Frame}
 use Rattle.term_index.specs.Labels.{arity_of}
 use Rattle.term_index.specs.Nodes.{Content}
-use Rattle.term_index.specs.Paths.{PlaceLists, content_at, IsArena}
+use Rattle.term_index.specs.Paths.{PlaceLists, content_at, MakeTrie}
 use Rattle.term_index.specs.Wide.{atom_bends, query_bends}
 use Rattle.term_index.specs.Run.{Graph, Todo, node_at, args_at, step, meet, nothing_left}
 use Rattle.term_index.specs.Spots.{Spot, AreNext}
@@ -58,7 +58,7 @@ some_todo q rest e = let z : length (q ∷ rest) ≡ 0 = ap (λ (t : Todo). leng
 abbrev pub AddsAt : Graph → List Edge → List Content → List Cell → ℕ → Label → Todo → ℕ → ℕ → List Frame → List Frame → Type 0
 AddsAt g es ns cs n l t low high old new = (fs : List Frame) × (new ≡ old ++ fs) × IsOne es ns n l t (map (spot g cs) fs) × AreFrames g (length ns) (length cs) fs × (length fs ≤ 1) × All (λ f. (low ≤ f.cells) × (f.cells ≤ high)) fs
 
-module _ (v : View) (g : Graph) (es : List Edge) (ps : PlaceLists) (ns : List Content) (a : IsArena es ps ns) where
+module _ (v : View) (g : Graph) (es : List Edge) (ps : PlaceLists) (ns : List Content) (a : MakeTrie es ps ns) where
   same_spots : (cs : List Cell) (f : Frame) (exits : List ℕ) → map (spot g cs) (map (exit_frame f) exits) ≡ map (exit_spot v g es ps ns a (rest_of g cs f)) exits
   same_spots cs f [] = refl
   same_spots cs f (r ∷ exits) = ap (λ xs. exit_spot v g es ps ns a (rest_of g cs f) r ∷ xs) (same_spots cs f exits)
@@ -177,7 +177,7 @@ pub rest_grown : (g : Graph) (cs ds : List Cell) (f : Frame) → AreCells g cs �
 rest_grown g cs ds f h (more, e) w = ap (λ xs. Rattle.term_index.specs.Frames.between g.args f.at f.end ++ xs) (ap (λ xs. list_of g.args xs f.rest) e ∙ list_grown g.args cs more (λ k p. (h k p).0) f.rest w)
 
 -- the frames at a node of the query that is a symbol
-pub adds_symbol : (v : View) (g : Graph) (es : List Edge) (ps : PlaceLists) (ns : List Content) (a : IsArena es ps ns) (cs ds : List Cell) (q r m : ℕ) (f : Frame) (old mid new : List Frame)
+pub adds_symbol : (v : View) (g : Graph) (es : List Edge) (ps : PlaceLists) (ns : List Content) (a : MakeTrie es ps ns) (cs ds : List Cell) (q r m : ℕ) (f : Frame) (old mid new : List Frame)
     → AreCells g cs → Grows cs ds → IsFrame g (length ns) (length cs) f → (node_at g q).label ≡ Symbol r m
     → (atom_bends v ≡ true → AddsOne es ns f Variable old mid) → (atom_bends v ≡ false → mid ≡ old) → AddsInner g es ns cs ds q (Symbol r m) f mid new
     → AddsNext v g es ns (record { node = f.node; todo = (0, q ∷ rest_of g cs f) }) f.cells ds old new
@@ -213,3 +213,19 @@ first_taken g cs f h w =
 
 pub step_same : (v : View) (g : Graph) (q : ℕ) (rest : List ℕ) → (node_at g q).label ≡ Variable → step v g Variable (Some (0, q ∷ rest)) ≡ Some (0, rest)
 step_same v g q rest e = ap (λ m. meet v g q rest m Variable) e
+
+-- a variable of the query is met by any term, or by a variable alone
+pub adds_variable : (v : View) (g : Graph) (es : List Edge) (ps : PlaceLists) (ns : List Content) (a : MakeTrie es ps ns) (cs : List Cell) (q : ℕ) (f : Frame) (old new : List Frame)
+    → IsFrame g (length ns) (length cs) f → (node_at g q).label ≡ Variable
+    → (query_bends v ≡ true → new ≡ old ++ map (exit_frame f) (ends_of ns f.node)) → (query_bends v ≡ false → AddsOne es ns f Variable old new)
+    → AddsNext v g es ns (record { node = f.node; todo = (0, q ∷ rest_of g cs f) }) f.cells cs old new
+adds_variable v g es ps ns a cs q f old new w e bends stays = by (query_bends v) refl
+  where
+    rest : List ℕ
+    rest = rest_of g cs f
+
+    by : (b : Bool) → query_bends v ≡ b → AddsNext v g es ns (record { node = f.node; todo = (0, q ∷ rest_of g cs f) }) f.cells cs old new
+    by true b = adds_ends v g es ps ns a cs f q old new w (step_variable v g q rest e b) (bends b)
+    by false b =
+        adds_one v g es ps ns a cs (record { node = f.node; todo = (0, q ∷ rest_of g cs f) }) Variable (0, rest) f.cells f.cells old new (some_todo q rest)
+        (step_same v g q rest e) (step_fixed v g q rest e b) (one_frames v g es ps ns a cs Variable f old new w (stays b))

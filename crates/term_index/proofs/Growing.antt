@@ -11,7 +11,7 @@ use Rattle.term_index.specs.declared.node.Edge.{Edge}
 use Rattle.term_index.specs.Nodes.{Content, no_content}
 use Rattle.term_index.specs.Pairs.{Pair}
 use Rattle.term_index.specs.Left.{IsGrown, IsIndexed}
-use Rattle.term_index.specs.Paths.{PlaceLists, no_edge, edge_at, IsChild, Leads, Spans, Crosses, Holds, Reaches, Exits, content_at, exit_at, place_of, IsArena, AreListed, KeepsEdges, IsShort, AreShort}
+use Rattle.term_index.specs.Paths.{PlaceLists, no_edge, edge_at, IsChild, Leads, Spans, Crosses, Holds, Reaches, Exits, content_at, exit_at, place_of, MakeTrie, AreListed, KeepsEdges, IsShort, AreShort}
 use Rattle.term_index.proofs.PathLaws.{leads_up, leads_kept}
 use Rattle.term_index.proofs.CrossLaws.{crosses_kept, cross_ends}
 use Rattle.term_index.proofs.PlaceLaws.{old_place}
@@ -150,8 +150,8 @@ old_crosses es fs added e o zero c (l, h) w = (l, old_child es fs added e 0 l c 
 old_crosses es fs added e o (suc n) c (ls, l, p) w = (ls, old_leads es fs added e o (suc n) ls c l w, p)
 
 -- the tree with new edges
-pub grown_arena : (es fs : List Edge) (ps : PlaceLists) (ns ms : List Content) → 0 < length ns → IsGrown es ns fs ms → IsArena es ps ns → IsArena fs ps ms
-grown_arena es fs ps ns ms some g a = record {
+pub grown_trie : (es fs : List Edge) (ps : PlaceLists) (ns ms : List Content) → 0 < length ns → IsGrown es ns fs ms → MakeTrie es ps ns → MakeTrie fs ps ms
+grown_trie es fs ps ns ms some g a = record {
   count = λ _. g.count;
   none = λ z. absurd (omega (arith, g.count));
   order = g.order a.order;

@@ -12,7 +12,7 @@ use Rattle.term_index.specs.declared.node.Edge.{Edge}
 use Rattle.term_index.specs.declared.node.Span.{Span}
 use Rattle.term_index.specs.Nodes.{Content}
 use Rattle.term_index.specs.Lists.{IsNoted, KeepsExits, KeepsOthers, ListsAll}
-use Rattle.term_index.specs.Paths.{PlaceLists, Leads, Crosses, Passes, Reaches, Holds, Exits, IsArena, AreListed, IsBare, KeepsPairs, content_at, exit_at, place_of}
+use Rattle.term_index.specs.Paths.{PlaceLists, Leads, Crosses, Passes, Reaches, Holds, Exits, MakeTrie, AreListed, IsBare, KeepsPairs, content_at, exit_at, place_of}
 use Rattle.term_index.proofs.PathLaws.{leads_split, from_root, one_way, leads_append}
 use Rattle.term_index.proofs.TermLaws.{passes_split, first_terms}
 
@@ -208,7 +208,7 @@ module _ (es : List Edge) (ps qs : PlaceLists) (ns ms : List Content) (s : Span)
     ]
 
 -- no pair ends at a bare node or below it
-pub bare_reaches : (es : List Edge) (ps : PlaceLists) (ns : List Content) → IsArena es ps ns → (c : ℕ) → c < length ns → IsBare (content_at ns c) → ¬ (Reaches es ns c)
+pub bare_reaches : (es : List Edge) (ps : PlaceLists) (ns : List Content) → MakeTrie es ps ns → (c : ℕ) → c < length ns → IsBare (content_at ns c) → ¬ (Reaches es ns c)
 bare_reaches es ps ns a c w bare ([], m, p, l, h) = let z : length (content_at ns c).pairs ≡ 0 = ap length bare.0 in let k = subst (λ x. Holds ns x p) (sym l) h in absurd (omega (arith, z, k.1))
 bare_reaches es ps ns a zero w bare (x ∷ ls, m, p, (d, k, l), h) = none_in d (content_at ns 0).exits bare.1 (a.linked 0 d (x, k) (ls, m, p, l, h))
 bare_reaches es ps ns a (suc n) w bare (x ∷ ls, m, p, l, h) =
@@ -228,8 +228,8 @@ bare_reaches es ps ns a (suc n) w bare (x ∷ ls, m, p, l, h) =
         none_in t.0 (content_at ns (suc n)).exits bare.1 e
 
 -- the tree without an exit that leads to a bare node
-pub unlinked_arena : (es : List Edge) (ps qs : PlaceLists) (ns ms : List Content) (s : Span) → IsArena es ps ns → s.end < length ns → IsBare (content_at ns s.end) → AreListed es qs ms → KeepsOthers ns s ms → IsArena es qs ms
-unlinked_arena es ps qs ns ms s a end bare l h = record {
+pub unlinked_trie : (es : List Edge) (ps qs : PlaceLists) (ns ms : List Content) (s : Span) → MakeTrie es ps ns → s.end < length ns → IsBare (content_at ns s.end) → AreListed es qs ms → KeepsOthers ns s ms → MakeTrie es qs ms
+unlinked_trie es ps qs ns ms s a end bare l h = record {
   count = λ v. h.len ∙ a.count (omega (arith, h.len));
   none = λ v. a.none (omega (arith, h.len));
   order = a.order;
@@ -250,9 +250,9 @@ unlinked_arena es ps qs ns ms s a end bare l h = record {
     before c (ls, m, p, l, k) = (ls, m, p, l, held m p k)
 
 -- the tree with more spans listed
-pub listed_arena : (es : List Edge) (ps qs : PlaceLists) (ns ms : List Content) (added : List Span) → IsArena es ps ns → AreListed es qs ms → ListsAll ns added ms → length ms ≡ length ns → KeepsPairs ns ms
-    → ((s : Span) → Contains added s → Crosses es s.begin s.end) → IsArena es qs ms
-listed_arena es ps qs ns ms added a l h len pairs are = record {
+pub listed_trie : (es : List Edge) (ps qs : PlaceLists) (ns ms : List Content) (added : List Span) → MakeTrie es ps ns → AreListed es qs ms → ListsAll ns added ms → length ms ≡ length ns → KeepsPairs ns ms
+    → ((s : Span) → Contains added s → Crosses es s.begin s.end) → MakeTrie es qs ms
+listed_trie es ps qs ns ms added a l h len pairs are = record {
   count = λ v. len ∙ a.count (omega (arith, len));
   none = λ v. a.none (omega (arith, len));
   order = a.order;

@@ -7,7 +7,7 @@ use Rattle.term_index.specs.declared.label.Label.{Label}
 use Rattle.term_index.specs.declared.node.Edge.{Edge}
 use Rattle.term_index.specs.Labels.{arity_of}
 use Rattle.term_index.specs.Pairs.{Pair}
-use Rattle.term_index.specs.Paths.{PlaceLists, IsBare, IsChild, IsArena, Leads, Passes, Spans, Holds, Reaches, edge_at, content_at, exit_at, place_of}
+use Rattle.term_index.specs.Paths.{PlaceLists, IsBare, IsChild, MakeTrie, Leads, Passes, Spans, Holds, Reaches, edge_at, content_at, exit_at, place_of}
 use Rattle.term_index.specs.Run.{Graph, Todo, step, run, nothing_left}
 use Rattle.term_index.specs.Nodes.{Content}
 use Rattle.term_index.specs.Spots.{Spot, Covers, AreApart, AreNext}
@@ -47,7 +47,7 @@ pub record AreChildren (v : View) (g : Graph) (es : List Edge) (ns : List Conten
 abbrev pub IsOne : List Edge → List Content → ℕ → Label → Todo → List Spot → Type 0
 IsOne es ns n l t xs = ((xs ≡ []) × LeadsNowhere es ns n l) ⊎ ((c : ℕ) × IsLive es ns n l c × (xs ≡ record { node = c; todo = t } ∷ []))
 
-module _ (v : View) (g : Graph) (es : List Edge) (ps : PlaceLists) (ns : List Content) (a : IsArena es ps ns) where
+module _ (v : View) (g : Graph) (es : List Edge) (ps : PlaceLists) (ns : List Content) (a : MakeTrie es ps ns) where
   same_child : (n : ℕ) (l m : Label) (c d : ℕ) → l ≡ m → IsChild es n l c → IsChild es n m d → c ≡ d
   same_child n l m c d e h k =
       let r = a.once h.edge k.edge h.within k.within (h.is ∙ ap (λ (x : Label). record { from = n; label = x }) e ∙ sym k.is) in

@@ -11,7 +11,7 @@ use Rattle.term_index.specs.Rows.{Comes as After}
 use Rattle.term_index.proofs.RowLemmas.{comes_next}
 use Rattle.term_index.specs.declared.node.Edge.{Edge}
 use Rattle.term_index.specs.Nodes.{Content}
-use Rattle.term_index.specs.Paths.{PlaceLists, content_at, Holds, IsArena}
+use Rattle.term_index.specs.Paths.{PlaceLists, content_at, Holds, MakeTrie}
 use Rattle.term_index.specs.Run.{Graph, step, run, nothing_left}
 use Rattle.term_index.specs.Spots.{Spot, Covers, AreApart, AreNext, Comes, IsWalk}
 use Rattle.term_index.proofs.RunLaws.{run_none}
@@ -52,7 +52,7 @@ pub only : {A : Type 0} (x y : A) → Contains (x ∷ []) y → y ≡ x
 only x y (zero, h, e) = sym e
 only x y (suc k, h, e) = absurd (omega arith)
 
-module _ (v : View) (g : Graph) (es : List Edge) (ps : PlaceLists) (ns : List Content) (a : IsArena es ps ns) where
+module _ (v : View) (g : Graph) (es : List Edge) (ps : PlaceLists) (ns : List Content) (a : MakeTrie es ps ns) where
   -- a spot with nothing left covers its own node alone
   pub covers_itself : (s : Spot) → s.todo ≡ nothing_left → Covers v g es s s.node
   covers_itself s e = ([], refl, ap Some e)

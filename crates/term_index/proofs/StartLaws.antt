@@ -15,7 +15,7 @@ use Rattle.term_index.specs.Nodes.{Content}
 use Rattle.term_index.specs.Labels.{labels}
 use Rattle.term_index.specs.Wide.{IsWide, meets}
 use Rattle.term_index.specs.Numbered.{IsNumbered}
-use Rattle.term_index.specs.Paths.{PlaceLists, content_at, IsBare, Leads, IsArena}
+use Rattle.term_index.specs.Paths.{PlaceLists, content_at, IsBare, Leads, MakeTrie}
 use Rattle.term_index.specs.Run.{Graph, Todo, run, nothing_left}
 use Rattle.term_index.specs.Spots.{Spot, Covers, AreApart}
 use Rattle.term_index.specs.Frames.{spot, between, list_in, IsFrame, IsBegun, AreQuery}
@@ -50,7 +50,7 @@ no_root : (v : View) (g : Graph) (ls : List Label) → ls ≡ [] → run v g ls 
 no_root v g [] e r = let k : Path (Option Todo) (Some (0, 0 ∷ [])) (Some (0, [])) = r in let t : Path (List ℕ) (0 ∷ []) [] = ap left_of k in absurd (cc)
 no_root v g (l ∷ ls) e r = let t : length (l ∷ ls) ≡ 0 = ap length e in absurd (omega arith)
 
-module _ (f : Forest) (v : View) (query : ℕ) (g : Graph) (es : List Edge) (ps : PlaceLists) (ns : List Content) (a : IsArena es ps ns) (copy : IsCopyOf f query g) where
+module _ (f : Forest) (v : View) (query : ℕ) (g : Graph) (es : List Edge) (ps : PlaceLists) (ns : List Content) (a : MakeTrie es ps ns) (copy : IsCopyOf f query g) where
   root_is : spot g [] root_frame ≡ root_spot
   unfolding list_in
   root_is =
@@ -146,7 +146,7 @@ module _ (f : Forest) (v : View) (query : ℕ) (g : Graph) (es : List Edge) (ps 
     begun_exact cells stack leaf place h p c wide =
         subst (λ cs. WalkComes v g es ns cs stack leaf place p) (sym h.0) (subst (λ l. WalkComes v g es ns [] stack l place p) (sym h.1) (all_come stack place h.3 p c (wide_meets v (tree_at f p.0) (tree_at f query) wide)))
 
-module _ (f : Forest) (v : View) (query : ℕ) (g : Graph) (es : List Edge) (ps : PlaceLists) (ns : List Content) (a : IsArena es ps ns) where
+module _ (f : Forest) (v : View) (query : ℕ) (g : Graph) (es : List Edge) (ps : PlaceLists) (ns : List Content) (a : MakeTrie es ps ns) where
   -- a walk that has no frame
   over_walking : (cells : List Cell) (stack : List Frame) (leaf place : ℕ) → stack ≡ [] → IsBegun ns cells stack leaf place → IsWalking v g es ns cells stack leaf
   over_walking cells stack leaf place e h = subst (λ cs. IsWalking v g es ns cs stack leaf) (sym h.0) (subst (λ st. IsWalking v g es ns [] st leaf) (sym e) (record {
@@ -202,5 +202,5 @@ started_query f query stack g (inl copy) = copy.query
 started_query f query stack g (inr e) = e.1
 
 -- the same tree under another name
-pub arena_of : (es fs : List Edge) (ps qs : PlaceLists) (ns ms : List Content) → es ≡ fs → ps ≡ qs → ns ≡ ms → IsArena es ps ns → IsArena fs qs ms
-arena_of es fs ps qs ns ms e g h a = subst (IsArena fs qs) h (subst (λ xs. IsArena fs xs ns) g (subst (λ xs. IsArena xs ps ns) e a))
+pub trie_of : (es fs : List Edge) (ps qs : PlaceLists) (ns ms : List Content) → es ≡ fs → ps ≡ qs → ns ≡ ms → MakeTrie es ps ns → MakeTrie fs qs ms
+trie_of es fs ps qs ns ms e g h a = subst (MakeTrie fs qs) h (subst (λ xs. MakeTrie fs xs ns) g (subst (λ xs. MakeTrie xs ps ns) e a))

@@ -11,7 +11,7 @@ use Rattle.term_index.specs.Labels.{labels}
 use Rattle.term_index.specs.Numbered.{IsNumbered}
 use Rattle.term_index.specs.declared.label.Label.{Label}
 use Rattle.term_index.specs.Left.{IsIndexed}
-use Rattle.term_index.specs.Paths.{PlaceLists, content_at, Holds, Leads, Spans, Crosses, Exits, IsArena, KeepsPairs, KeepsEdges, IsLinked}
+use Rattle.term_index.specs.Paths.{PlaceLists, content_at, Holds, Leads, Spans, Crosses, Exits, MakeTrie, KeepsPairs, KeepsEdges, IsLinked}
 use Rattle.term_index.specs.State.{pairs_of, IsStored}
 use Rattle.term_index.specs.StateLaws.{held_stored, stored_held}
 use Rattle.term_index.proofs.PathLaws.{leads_kept, leads_once}
@@ -49,9 +49,9 @@ module _ (node : ℕ) (ns ms : List Content) (ch : ChangesAt node ns ms) where
   others_held n p d h = subst (λ (c : Content). Contains c.pairs p) (ch.others n d) h
 
   -- pairs that were there, or one more that was nowhere, at a node to which all exits are listed
-  pub changed_arena : (es : List Edge) (ps : PlaceLists) → IsArena es ps ns → AllPairs ◌≢◌ (content_at ms node).pairs → ((p : Pair) → Holds ms node p → (Holds ns node p) ⊎ ((n : ℕ) → ¬ (Holds ns n p)))
-      → (IsLinked es ns node × Spans es 0 node) ⊎ ((p : Pair) → Holds ms node p → Holds ns node p) → IsArena es ps ms
-  changed_arena es ps a once from way = record {
+  pub changed_trie : (es : List Edge) (ps : PlaceLists) → MakeTrie es ps ns → AllPairs ◌≢◌ (content_at ms node).pairs → ((p : Pair) → Holds ms node p → (Holds ns node p) ⊎ ((n : ℕ) → ¬ (Holds ns n p)))
+      → (IsLinked es ns node × Spans es 0 node) ⊎ ((p : Pair) → Holds ms node p → Holds ns node p) → MakeTrie es ps ms
+  changed_trie es ps a once from way = record {
     count = λ h. ch.len ∙ a.count (omega (arith, ch.len));
     none = λ h. a.none (omega (arith, ch.len));
     order = a.order;
@@ -100,8 +100,8 @@ module _ (node : ℕ) (ns ms : List Content) (ch : ChangesAt node ns ms) (p : Pa
   put_cases : (q : Pair) → Holds ms node q → (Holds ns node q) ⊎ (p ≡ q)
   put_cases q h = Contains-push_cases (content_at ns node).pairs p q (subst (λ xs. Contains xs q) more h)
 
-  pub put_arena : (es : List Edge) (ps : PlaceLists) → IsArena es ps ns → IsLinked es ns node → Spans es 0 node → IsArena es ps ms
-  put_arena es ps a up root = changed_arena node ns ms ch es ps a
+  pub put_trie : (es : List Edge) (ps : PlaceLists) → MakeTrie es ps ns → IsLinked es ns node → Spans es 0 node → MakeTrie es ps ms
+  put_trie es ps a up root = changed_trie node ns ms ch es ps a
       (subst (AllPairs ◌≢◌) (sym more) (all_pairs_push ◌≢◌ (content_at ns node).pairs p (a.pairs_once node)
       (λ k d h e. absent (held_stored ns node p (k, h, Rattle.std.proofs.lemmas.List.get_or_default (content_at ns node).pairs k p d h ∙ e)))))
       (λ q h. elim (put_cases q h) [ inl k ↦ inl k | inr e ↦ inr (λ n j. absent (held_stored ns n p (subst (Holds ns n) (sym e) j))) ])
@@ -137,14 +137,14 @@ module _ (node : ℕ) (ns ms : List Content) (ch : ChangesAt node ns ms) (p : Pa
 
 -- one pair less at a node
 module _ (node : ℕ) (ns ms : List Content) (ch : ChangesAt node ns ms) (p : Pair) (less : Removes p (content_at ns node).pairs (content_at ms node).pairs) where
-  pub take_arena : (es : List Edge) (ps : PlaceLists) → IsArena es ps ns → AllPairs ◌≢◌ (content_at ms node).pairs → IsArena es ps ms
-  take_arena es ps a once = changed_arena node ns ms ch es ps a once (λ q h. inl ((less.1 q).0 h).0) (inr (λ q h. ((less.1 q).0 h).0))
+  pub take_trie : (es : List Edge) (ps : PlaceLists) → MakeTrie es ps ns → AllPairs ◌≢◌ (content_at ms node).pairs → MakeTrie es ps ms
+  take_trie es ps a once = changed_trie node ns ms ch es ps a once (λ q h. inl ((less.1 q).0 h).0) (inr (λ q h. ((less.1 q).0 h).0))
 
   pub take_stored : (f : Forest) (es : List Edge) → IsStored f es ns → IsStored f es ms
   take_stored f es h n q k = elim (same_number n node)
       [ inl e ↦ h n q (subst (λ m. Holds ns m q) (sym e) ((less.1 q).0 (subst (λ m. Holds ms m q) e k)).0) | inr d ↦ h n q (others_held node ns ms ch n q d k) ]
 
-  pub take_removes : (es : List Edge) (ps : PlaceLists) → IsArena es ps ns → Removes p (pairs_of ns) (pairs_of ms)
+  pub take_removes : (es : List Edge) (ps : PlaceLists) → MakeTrie es ps ns → Removes p (pairs_of ns) (pairs_of ms)
   take_removes es ps a = (held_stored ns node p less.0, λ q. (to q, from q))
     where
       to : (q : Pair) → Contains (pairs_of ms) q → Contains (pairs_of ns) q × ¬ (q ≡ p)
@@ -172,8 +172,8 @@ pub absent_nowhere : (f : Forest) (es : List Edge) (ns : List Content) → IsSto
 absent_nowhere f es ns h p nowhere c = let r = stored_held ns p c in nowhere r.0 (h r.0 p r.2).1
 
 -- a root in an empty tree
-pub rooted_arena : (es : List Edge) (ps : PlaceLists) (ns ms : List Content) → length ns ≡ 0 → ms ≡ ns ++ no_content ∷ [] → IsArena es ps ns → IsArena es ps ms
-rooted_arena es ps ns ms z e a = record {
+pub rooted_trie : (es : List Edge) (ps : PlaceLists) (ns ms : List Content) → length ns ≡ 0 → ms ≡ ns ++ no_content ∷ [] → MakeTrie es ps ns → MakeTrie es ps ms
+rooted_trie es ps ns ms z e a = record {
   count = λ h. omega (arith, a.none z, len);
   none = λ h. absurd (omega (arith, len));
   order = a.order;
@@ -213,12 +213,12 @@ module _ (node : ℕ) (ns ms : List Content) (ch : ChangesAt node ns ms) (p : Pa
   same_pairs : r ≡ false → KeepsPairs ns ms
   same_pairs e = held_pairs node ns ms ch.others (absent e).1
 
-  pub taken_arena : (es : List Edge) (ps : PlaceLists) → IsArena es ps ns → AllPairs ◌≢◌ (content_at ms node).pairs → IsArena es ps ms
-  taken_arena es ps a once = by r refl
+  pub taken_trie : (es : List Edge) (ps : PlaceLists) → MakeTrie es ps ns → AllPairs ◌≢◌ (content_at ms node).pairs → MakeTrie es ps ms
+  taken_trie es ps a once = by r refl
     where
-      by : (b : Bool) → r ≡ b → IsArena es ps ms
-      by true e = take_arena node ns ms ch p (there e) es ps a once
-      by false e = changed_arena node ns ms ch es ps a once (λ q h. inl (subst (λ xs. Contains xs q) (absent e).1 h)) (inr (λ q h. subst (λ xs. Contains xs q) (absent e).1 h))
+      by : (b : Bool) → r ≡ b → MakeTrie es ps ms
+      by true e = take_trie node ns ms ch p (there e) es ps a once
+      by false e = changed_trie node ns ms ch es ps a once (λ q h. inl (subst (λ xs. Contains xs q) (absent e).1 h)) (inr (λ q h. subst (λ xs. Contains xs q) (absent e).1 h))
 
   pub taken_stored : (f : Forest) (es : List Edge) → IsStored f es ns → IsStored f es ms
   taken_stored f es h = by r refl
@@ -227,7 +227,7 @@ module _ (node : ℕ) (ns ms : List Content) (ch : ChangesAt node ns ms) (p : Pa
       by true e = take_stored node ns ms ch p (there e) f es h
       by false e = stored_kept f es es ns ms (λ n l c k. k) (same_pairs e) h
 
-  pub taken_removes : (es : List Edge) (ps : PlaceLists) → IsArena es ps ns → r ≡ true → Removes p (pairs_of ns) (pairs_of ms)
+  pub taken_removes : (es : List Edge) (ps : PlaceLists) → MakeTrie es ps ns → r ≡ true → Removes p (pairs_of ns) (pairs_of ms)
   taken_removes es ps a e = take_removes node ns ms ch p (there e) es ps a
 
   pub taken_absent : (f : Forest) (es : List Edge) → IsIndexed es → IsStored f es ns → Leads es 0 (labels f (tree_at f p.0)) node → r ≡ false → (¬ (Contains (pairs_of ns) p)) × (pairs_of ms ≡ pairs_of ns)

@@ -8,7 +8,7 @@ use Rattle.term_index.specs.declared.node.Edge.{Edge}
 use Rattle.term_index.specs.declared.walk.Cell.{Cell}
 use Rattle.term_index.specs.declared.walk.Frame.{Frame}
 use Rattle.term_index.specs.Nodes.{Content}
-use Rattle.term_index.specs.Paths.{PlaceLists, content_at, IsArena}
+use Rattle.term_index.specs.Paths.{PlaceLists, content_at, MakeTrie}
 use Rattle.term_index.specs.Run.{Graph, nothing_left}
 use Rattle.term_index.specs.Spots.{Spot, Comes, IsWalk}
 use Rattle.term_index.specs.Frames.{no_cell, cell_at, spot, list_of, list_in, between, AreCells, AreFrames, AreMarked, IsFrame, fan_of, AddsNext, Grows, IsSettled}
@@ -69,7 +69,7 @@ heavier e w x r s h k =
     let n : (e + 1) * suc w ≡ (e + 1) * w + (e + 1) = Rattle.std.proofs.Common.mul-suc (e + 1) w in
     omega (arith, m, n)
 
-module _ (v : View) (g : Graph) (es : List Edge) (ps : PlaceLists) (ns : List Content) (a : IsArena es ps ns) where
+module _ (v : View) (g : Graph) (es : List Edge) (ps : PlaceLists) (ns : List Content) (a : MakeTrie es ps ns) where
   pub go_leaf : (cs : List Cell) (st : List Frame) (f : Frame) (leaf place : ℕ) → IsWalking v g es ns cs (st ++ f ∷ []) leaf → length (content_at ns leaf).pairs ≤ place
       → (spot g cs f).todo ≡ nothing_left → GoesOn v g es ns cs (st ++ f ∷ []) leaf place cs st f.node 0
   go_leaf cs st f leaf place w over e = record {

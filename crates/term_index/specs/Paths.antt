@@ -91,7 +91,7 @@ AreListed es ps ns = (n i : ℕ) → i < length (content_at ns n).exits → plac
 
 -- the edges, the places and what the nodes hold make a tree; of the exits at least those to nodes at or below which pairs end
 -- are listed where they begin
-pub record IsArena (es : List Edge) (ps : PlaceLists) (ns : List Content) : Type 0 where
+pub record MakeTrie (es : List Edge) (ps : PlaceLists) (ns : List Content) : Type 0 where
   pub count : 0 < length ns → length ns ≡ length es + 1
   pub none : length ns ≡ 0 → length es ≡ 0
   pub order : (k : ℕ) → k < length es → (edge_at es k).from ≤ k

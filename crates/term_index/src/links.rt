@@ -4,7 +4,7 @@ ghost use Rattle.std.specs.Prelude.{◌≡◌, ◌<◌, ◌≤◌, ◌+◌, ◌+
 ghost use Rattle.std.specs.List.{swap_remove};
 ghost use Rattle.term_index.specs.declared.node.Span.{Span};
 ghost use Rattle.term_index.specs.Nodes.{Content};
-ghost use Rattle.term_index.specs.Paths.{IsArena, AreListed, IsBare, Exits, content_at, exit_at, place_of, KeepsPairs};
+ghost use Rattle.term_index.specs.Paths.{MakeTrie, AreListed, IsBare, Exits, content_at, exit_at, place_of, KeepsPairs};
 ghost use Rattle.term_index.specs.Lists.{IsNoted, KeepsExits, KeepsOthers, ListsAll, AreWithin};
 
 use crate::node::{Edge, Node, Span};
@@ -164,10 +164,10 @@ fn unlink(edges: &IndexSet<Edge>, places: &mut Places, nodes: &mut Vec<Node>, sp
 
 // Takes the edge away where its end is bare.
 fn unlink_bare(edges: &IndexSet<Edge>, places: &mut Places, nodes: &mut Vec<Node>, span: Span)
-    requires arena { IsArena edges.now.keys places.old nodes.old.items }
+    requires trie { MakeTrie edges.now.keys places.old nodes.old.items }
     requires begin { span.begin < length nodes.old.items }
     requires end { span.end < length nodes.old.items }
-    ensures arena { IsArena edges.now.keys places.new nodes.new.items }
+    ensures trie { MakeTrie edges.now.keys places.new nodes.new.items }
     ensures len { length nodes.new.items ≡ length nodes.old.items }
     ensures pairs { KeepsPairs nodes.old.items nodes.new.items }
 {
@@ -180,9 +180,9 @@ fn unlink_bare(edges: &IndexSet<Edge>, places: &mut Places, nodes: &mut Vec<Node
 // Takes the spans whose ends are bare from the exits where they begin, the last span first: where this leaves a node bare, the
 // spans to it come later.
 pub fn prune(edges: &IndexSet<Edge>, places: &mut Places, nodes: &mut Vec<Node>, removed: &[Span])
-    requires arena { IsArena edges.now.keys places.old nodes.old.items }
+    requires trie { MakeTrie edges.now.keys places.old nodes.old.items }
     requires within { AreWithin (length nodes.old.items) removed.now }
-    ensures arena { IsArena edges.now.keys places.new nodes.new.items }
+    ensures trie { MakeTrie edges.now.keys places.new nodes.new.items }
     ensures pairs { KeepsPairs nodes.old.items nodes.new.items }
 {
     for i in (0..removed.len()).rev() {

@@ -12,6 +12,7 @@ use crate::descent::{Descent, pass};
 use crate::label::{Label, label_at};
 use crate::node::{Edge, Node};
 use crate::number::short;
+use crate::trie::Trie;
 use indexmap::IndexSet;
 use inst_logic::Memory;
 use std::alloc::Global;
@@ -54,27 +55,22 @@ pub fn push_node(alloc: Global, nodes: &mut Vec<Node>) -> Result<(), Memory>
 }
 
 // Where the label leads from the node, by a new edge where there was none.
-fn grown_child(
-    alloc: Global,
-    edges: &mut IndexSet<Edge>,
-    nodes: &mut Vec<Node>,
-    from: usize,
-    label: Label,
-) -> Result<usize, Memory>
-    requires within { from < length nodes.old.items }
-    requires count { length nodes.old.items ≡ length edges.old.keys + 1 }
+fn grown_child(trie: &mut Trie, from: usize, label: Label) -> Result<usize, Memory>
+    requires within { from < length trie.old.nodes.items }
+    requires count { length trie.old.nodes.items ≡ length trie.old.edges.keys + 1 }
     requires fits { IsShort label }
-    ensures grown { OnOk result (IsGrown edges.old.keys nodes.old.items edges.new.keys nodes.new.items) }
-    ensures child { IfOk result (λ c. IsChild edges.new.keys from label c) }
-    ensures within { IfOk result (λ c. c < length nodes.new.items) }
-    ensures pairs { KeepsPairs nodes.old.items nodes.new.items }
+    ensures grown { OnOk result (IsGrown trie.old.edges.keys trie.old.nodes.items trie.new.edges.keys trie.new.nodes.items) }
+    ensures child { IfOk result (λ c. IsChild trie.new.edges.keys from label c) }
+    ensures within { IfOk result (λ c. c < length trie.new.nodes.items) }
+    ensures pairs { KeepsPairs trie.old.nodes.items trie.new.nodes.items }
+    ensures places { trie.new.places ≡ trie.old.places }
 {
-    match child(edges, from, label)? {
+    match child(&trie.edges, from, label)? {
         Some(c) => Ok(c),
         None => {
-            let number = nodes.len();
-            push_node(alloc, nodes)?;
-            push_edge(edges, from, label)?;
+            let number = trie.nodes.len();
+            push_node(trie.alloc, &mut trie.nodes)?;
+            push_edge(&mut trie.edges, from, label)?;
             Ok(number)
         }
     }
@@ -82,26 +78,25 @@ fn grown_child(
 
 // The node at which the atom ends, by new edges where there were none.
 pub fn grown_leaf(
-    alloc: Global,
-    edges: &mut IndexSet<Edge>,
-    nodes: &mut Vec<Node>,
+    trie: &mut Trie,
     bank: &Bank,
     atom: TermId,
     descent: &mut Descent,
 ) -> Result<usize, Memory>
-    requires root { 0 < length nodes.old.items }
-    requires count { length nodes.old.items ≡ length edges.old.keys + 1 }
+    requires root { 0 < length trie.old.nodes.items }
+    requires count { length trie.old.nodes.items ≡ length trie.old.edges.keys + 1 }
     requires atom { atom < length bank.now.trees }
     requires begins { (descent.old.left.items ≡ atom ∷ []) × (descent.old.opened.items ≡ []) × (descent.old.closed.items ≡ []) }
-    ensures grown { OnOk result (IsGrown edges.old.keys nodes.old.items edges.new.keys nodes.new.items) }
-    ensures way { IfOk result (λ n. IsWay bank.now edges.new.keys atom n descent.new.closed.items) }
-    ensures within { IfOk result (λ n. n < length nodes.new.items) }
+    ensures grown { OnOk result (IsGrown trie.old.edges.keys trie.old.nodes.items trie.new.edges.keys trie.new.nodes.items) }
+    ensures way { IfOk result (λ n. IsWay bank.now trie.new.edges.keys atom n descent.new.closed.items) }
+    ensures within { IfOk result (λ n. n < length trie.new.nodes.items) }
     ensures numbered { OnOk result (IsNumbered bank.now (tree_at bank.now atom)) }
-    ensures pairs { KeepsPairs nodes.old.items nodes.new.items }
+    ensures pairs { KeepsPairs trie.old.nodes.items trie.new.nodes.items }
+    ensures places { trie.new.places ≡ trie.old.places }
 {
     let mut node = 0;
     while let Some(id) = descent.left.pop() {
-        let next = grown_child(alloc, edges, nodes, node, label_at(bank, id)?)?;
+        let next = grown_child(trie, node, label_at(bank, id)?)?;
         pass(descent, bank, id, node, next)?;
         node = next;
     }

@@ -4,11 +4,12 @@ ghost use Rattle.term_bank.specs.Forest.{tree_at};
 ghost use Rattle.term_index.specs.Views.{Stands};
 ghost use Rattle.term_index.specs.Pairs.{Pair, Adds, Removes, IsAsked};
 ghost use Rattle.term_index.specs.Found.{AreFound};
-ghost use Rattle.term_index.specs.Paths.{PlaceLists, IsArena, KeepsPairs};
+ghost use Rattle.term_index.specs.Paths.{PlaceLists, MakeTrie, KeepsPairs};
+ghost use Rattle.term_index.specs.Tries.{IsTrie, AreStored};
 ghost use Rattle.term_index.specs.declared.node.Edge.{Edge};
 ghost use Rattle.term_index.specs.Frames.{IsBegun};
 ghost use Rattle.term_index.specs.Wide.{IsWide};
-ghost use Rattle.term_index.specs.State.{pairs_of, IsStored, Fits, IsWalkOf};
+ghost use Rattle.term_index.specs.State.{pairs_of, Fits, IsWalkOf};
 ghost use Rattle.term_index.specs.Walking.{WalkComes, most_of};
 ghost use Rattle.term_index.specs.StateLaws.{empty_tree, grown_tree};
 
@@ -16,12 +17,13 @@ use crate::descent::{Descent, begin, no_descent};
 use crate::ids::FEW;
 use crate::index::PartnerIndex;
 use crate::links::{link_all, prune};
-use crate::node::{Edge, Node};
+use crate::node::Node;
 use crate::number::short;
 use crate::pairs::{put_pair, take_pair};
 use crate::paths::{grown_leaf, leaf, push_node};
-use crate::places::{Places, no_places};
+use crate::places::no_places;
 use crate::query::{Query, query_of};
+use crate::trie::Trie;
 use crate::view::View;
 use crate::walk::{Frame, Walk, is_dead, next_entry, pairs_at};
 use indexmap::{IndexMap, IndexSet};
@@ -46,10 +48,7 @@ use term_bank::{Bank, TermId};
 /// `insert` and `start` want memory for what is larger, and nothing that is larger is there to be removed.
 #[derive(Drop)]
 pub struct Tree {
-    alloc: Global,
-    edges: IndexSet<Edge>,
-    places: Places,
-    nodes: Vec<Node>,
+    trie: Trie,
     found: IndexMap<(TermId, u32), u32>,
     descent: Descent,
     spent: bool,
@@ -59,13 +58,13 @@ impl Model for Tree {
     ghost use Rattle.std.specs.Prelude.{◌≡◌, false};
     ghost use Rattle.term_index.specs.State.{State};
     ghost use Rattle.term_index.specs.Found.{AreFound};
-    ghost use Rattle.term_index.specs.Paths.{IsArena};
+    ghost use Rattle.term_index.specs.Tries.{IsTrie};
 
     ghost Value = { State };
 
-    ghost view = { λ t. record { edges = t.edges.keys; places = t.places; nodes = t.nodes.items; found = t.found.entries; spent = t.spent } };
+    ghost view = { λ t. record { edges = t.trie.edges.keys; places = t.trie.places; nodes = t.trie.nodes.items; found = t.found.entries; spent = t.spent } };
 
-    ghost invariant = { λ t. t.spent ≡ false → IsArena t.edges.keys t.places t.nodes.items × AreFound t.found.entries t.nodes.items };
+    ghost invariant = { λ t. t.spent ≡ false → IsTrie t.trie × AreFound t.found.entries t.trie.nodes.items };
 }
 
 /// A walk over the tree, with a copy of its query. It holds no more frames than the steps that it has to come back to, and no
@@ -84,10 +83,12 @@ impl Tree {
         ensures { result ≡ record { edges = []; places = record { ends = []; spans = [] }; nodes = []; found = []; spent = false } }
     {
         Tree {
-            alloc,
-            edges: IndexSet::new(alloc),
-            places: no_places(alloc),
-            nodes: Vec::new(alloc),
+            trie: Trie {
+                alloc,
+                edges: IndexSet::new(alloc),
+                places: no_places(alloc),
+                nodes: Vec::new(alloc),
+            },
             found: IndexMap::new(alloc),
             descent: no_descent(alloc),
             spent: false,
@@ -98,7 +99,7 @@ impl Tree {
 // A root, where there is none.
 fn make_root(alloc: Global, nodes: &mut Vec<Node>) -> Result<(), Memory>
     ensures root { OnOk result (0 < length nodes.new.items) }
-    ensures arena { (es : List Edge) (ps : PlaceLists) → IsArena es ps nodes.old.items → IsArena es ps nodes.new.items }
+    ensures trie { (es : List Edge) (ps : PlaceLists) → MakeTrie es ps nodes.old.items → MakeTrie es ps nodes.new.items }
     ensures pairs { KeepsPairs nodes.old.items nodes.new.items }
 {
     if nodes.is_empty() {
@@ -110,96 +111,96 @@ fn make_root(alloc: Global, nodes: &mut Vec<Node>) -> Result<(), Memory>
 
 // Stores the pair, of which the terms are told one by one.
 fn stored_by(
-    alloc: Global,
-    edges: &mut IndexSet<Edge>,
-    places: &mut Places,
-    nodes: &mut Vec<Node>,
+    trie: &mut Trie,
     found: &mut IndexMap<(TermId, u32), u32>,
     bank: &Bank,
-    atom: TermId,
-    entry: u32,
+    pair: (TermId, u32),
     descent: &mut Descent,
 ) -> Result<(), Memory>
-    requires within { atom < length bank.now.trees }
-    requires begins { (descent.old.left.items ≡ atom ∷ []) × (descent.old.opened.items ≡ []) × (descent.old.closed.items ≡ []) }
-    requires arena { IsArena edges.old.keys places.old nodes.old.items }
-    requires found { AreFound found.old.entries nodes.old.items }
-    requires stored { IsStored bank.now edges.old.keys nodes.old.items }
-    requires absent { ¬ Contains (pairs_of nodes.old.items) (atom, entry) }
-    ensures arena { OnOk result (IsArena edges.new.keys places.new nodes.new.items) }
-    ensures found { OnOk result (AreFound found.new.entries nodes.new.items) }
-    ensures stored { OnOk result (IsStored bank.now edges.new.keys nodes.new.items) }
-    ensures added { OnOk result (Adds (atom, entry) (pairs_of nodes.old.items) (pairs_of nodes.new.items)) }
-    ensures held { OnErr result (pairs_of nodes.new.items ≡ pairs_of nodes.old.items) }
+    requires within { pair.0 < length bank.now.trees }
+    requires begins { (descent.old.left.items ≡ pair.0 ∷ []) × (descent.old.opened.items ≡ []) × (descent.old.closed.items ≡ []) }
+    requires trie { IsTrie trie.old }
+    requires found { AreFound found.old.entries trie.old.nodes.items }
+    requires stored { AreStored bank.now trie.old }
+    requires absent { ¬ Contains (pairs_of trie.old.nodes.items) pair }
+    ensures trie { OnOk result (IsTrie trie.new) }
+    ensures found { OnOk result (AreFound found.new.entries trie.new.nodes.items) }
+    ensures stored { OnOk result (AreStored bank.now trie.new) }
+    ensures added { OnOk result (Adds pair (pairs_of trie.old.nodes.items) (pairs_of trie.new.nodes.items)) }
+    ensures held { OnErr result (pairs_of trie.new.nodes.items ≡ pairs_of trie.old.nodes.items) }
 {
-    make_root(alloc, nodes)?;
-    let node = grown_leaf(alloc, edges, nodes, bank, atom, descent)?;
-    link_all(edges, places, nodes, descent.closed.as_slice())?;
-    put_pair(found, nodes, node, atom, entry)?;
+    let (atom, entry) = pair;
+    make_root(trie.alloc, &mut trie.nodes)?;
+    let node = grown_leaf(trie, bank, atom, descent)?;
+    link_all(
+        &trie.edges,
+        &mut trie.places,
+        &mut trie.nodes,
+        descent.closed.as_slice(),
+    )?;
+    put_pair(found, &mut trie.nodes, node, atom, entry)?;
     Ok(())
 }
 
 // Stores the pair.
 fn store_pair(
-    alloc: Global,
-    edges: &mut IndexSet<Edge>,
-    places: &mut Places,
-    nodes: &mut Vec<Node>,
+    trie: &mut Trie,
     found: &mut IndexMap<(TermId, u32), u32>,
     bank: &Bank,
     pair: (TermId, usize),
     descent: &mut Descent,
 ) -> Result<(), Memory>
     requires within { pair.0 < length bank.now.trees }
-    requires arena { IsArena edges.old.keys places.old nodes.old.items }
-    requires found { AreFound found.old.entries nodes.old.items }
-    requires stored { IsStored bank.now edges.old.keys nodes.old.items }
-    requires absent { ¬ Contains (pairs_of nodes.old.items) pair }
-    ensures arena { OnOk result (IsArena edges.new.keys places.new nodes.new.items) }
-    ensures found { OnOk result (AreFound found.new.entries nodes.new.items) }
-    ensures stored { OnOk result (IsStored bank.now edges.new.keys nodes.new.items) }
-    ensures added { OnOk result (Adds pair (pairs_of nodes.old.items) (pairs_of nodes.new.items)) }
-    ensures held { OnErr result (pairs_of nodes.new.items ≡ pairs_of nodes.old.items) }
+    requires trie { IsTrie trie.old }
+    requires found { AreFound found.old.entries trie.old.nodes.items }
+    requires stored { AreStored bank.now trie.old }
+    requires absent { ¬ Contains (pairs_of trie.old.nodes.items) pair }
+    ensures trie { OnOk result (IsTrie trie.new) }
+    ensures found { OnOk result (AreFound found.new.entries trie.new.nodes.items) }
+    ensures stored { OnOk result (AreStored bank.now trie.new) }
+    ensures added { OnOk result (Adds pair (pairs_of trie.old.nodes.items) (pairs_of trie.new.nodes.items)) }
+    ensures held { OnErr result (pairs_of trie.new.nodes.items ≡ pairs_of trie.old.nodes.items) }
 {
     let (atom, entry) = pair;
     let number = short(entry)?;
     begin(descent, atom)?;
-    stored_by(
-        alloc, edges, places, nodes, found, bank, atom, number, descent,
-    )
+    stored_by(trie, found, bank, (atom, number), descent)
 }
 
 // Takes the pair, where it is there.
 fn taken_by(
-    edges: &IndexSet<Edge>,
-    places: &mut Places,
-    nodes: &mut Vec<Node>,
+    trie: &mut Trie,
     found: &mut IndexMap<(TermId, u32), u32>,
     bank: &Bank,
-    atom: TermId,
-    entry: u32,
+    pair: (TermId, u32),
     descent: &mut Descent,
 ) -> Result<bool, Memory>
-    requires within { atom < length bank.now.trees }
-    requires begins { (descent.old.left.items ≡ atom ∷ []) × (descent.old.opened.items ≡ []) × (descent.old.closed.items ≡ []) }
-    requires arena { IsArena edges.now.keys places.old nodes.old.items }
-    requires found { AreFound found.old.entries nodes.old.items }
-    requires stored { IsStored bank.now edges.now.keys nodes.old.items }
-    ensures arena { IsArena edges.now.keys places.new nodes.new.items }
-    ensures found { OnOk result (AreFound found.new.entries nodes.new.items) }
-    ensures stored { IsStored bank.now edges.now.keys nodes.new.items }
-    ensures there { IfOk result (λ r. r ≡ true → Removes (atom, entry) (pairs_of nodes.old.items) (pairs_of nodes.new.items)) }
-    ensures absent { IfOk result (λ r. r ≡ false → (¬ Contains (pairs_of nodes.old.items) (atom, entry)) × (pairs_of nodes.new.items ≡ pairs_of nodes.old.items)) }
-    ensures held { OnErr result (nodes.new.items ≡ nodes.old.items) }
+    requires within { pair.0 < length bank.now.trees }
+    requires begins { (descent.old.left.items ≡ pair.0 ∷ []) × (descent.old.opened.items ≡ []) × (descent.old.closed.items ≡ []) }
+    requires trie { IsTrie trie.old }
+    requires found { AreFound found.old.entries trie.old.nodes.items }
+    requires stored { AreStored bank.now trie.old }
+    ensures trie { IsTrie trie.new }
+    ensures found { OnOk result (AreFound found.new.entries trie.new.nodes.items) }
+    ensures stored { AreStored bank.now trie.new }
+    ensures there { IfOk result (λ r. r ≡ true → Removes pair (pairs_of trie.old.nodes.items) (pairs_of trie.new.nodes.items)) }
+    ensures absent { IfOk result (λ r. r ≡ false → (¬ Contains (pairs_of trie.old.nodes.items) pair) × (pairs_of trie.new.nodes.items ≡ pairs_of trie.old.nodes.items)) }
+    ensures held { OnErr result (trie.new.nodes.items ≡ trie.old.nodes.items) }
 {
-    if nodes.is_empty() {
+    if trie.nodes.is_empty() {
         return Ok(false);
     }
-    match leaf(edges, bank, atom, descent)? {
+    let (atom, entry) = pair;
+    match leaf(&trie.edges, bank, atom, descent)? {
         None => Ok(false),
         Some(node) => {
-            let there = take_pair(found, nodes, node, atom, entry)?;
-            prune(edges, places, nodes, descent.closed.as_slice());
+            let there = take_pair(found, &mut trie.nodes, node, atom, entry)?;
+            prune(
+                &trie.edges,
+                &mut trie.places,
+                &mut trie.nodes,
+                descent.closed.as_slice(),
+            );
             Ok(there)
         }
     }
@@ -207,24 +208,22 @@ fn taken_by(
 
 // Takes the pair, where it is there.
 fn remove_pair(
-    edges: &IndexSet<Edge>,
-    places: &mut Places,
-    nodes: &mut Vec<Node>,
+    trie: &mut Trie,
     found: &mut IndexMap<(TermId, u32), u32>,
     bank: &Bank,
     pair: (TermId, usize),
     descent: &mut Descent,
 ) -> Result<bool, Memory>
     requires within { pair.0 < length bank.now.trees }
-    requires arena { IsArena edges.now.keys places.old nodes.old.items }
-    requires found { AreFound found.old.entries nodes.old.items }
-    requires stored { IsStored bank.now edges.now.keys nodes.old.items }
-    ensures arena { IsArena edges.now.keys places.new nodes.new.items }
-    ensures found { OnOk result (AreFound found.new.entries nodes.new.items) }
-    ensures stored { IsStored bank.now edges.now.keys nodes.new.items }
-    ensures there { IfOk result (λ r. r ≡ true → Removes pair (pairs_of nodes.old.items) (pairs_of nodes.new.items)) }
-    ensures absent { IfOk result (λ r. r ≡ false → (¬ Contains (pairs_of nodes.old.items) pair) × (pairs_of nodes.new.items ≡ pairs_of nodes.old.items)) }
-    ensures held { OnErr result (nodes.new.items ≡ nodes.old.items) }
+    requires trie { IsTrie trie.old }
+    requires found { AreFound found.old.entries trie.old.nodes.items }
+    requires stored { AreStored bank.now trie.old }
+    ensures trie { IsTrie trie.new }
+    ensures found { OnOk result (AreFound found.new.entries trie.new.nodes.items) }
+    ensures stored { AreStored bank.now trie.new }
+    ensures there { IfOk result (λ r. r ≡ true → Removes pair (pairs_of trie.old.nodes.items) (pairs_of trie.new.nodes.items)) }
+    ensures absent { IfOk result (λ r. r ≡ false → (¬ Contains (pairs_of trie.old.nodes.items) pair) × (pairs_of trie.new.nodes.items ≡ pairs_of trie.old.nodes.items)) }
+    ensures held { OnErr result (trie.new.nodes.items ≡ trie.old.nodes.items) }
 {
     let (atom, entry) = pair;
     match short(entry) {
@@ -232,18 +231,19 @@ fn remove_pair(
         Err(_) => Ok(false),
         Ok(number) => {
             begin(descent, atom)?;
-            taken_by(edges, places, nodes, found, bank, atom, number, descent)
+            taken_by(trie, found, bank, (atom, number), descent)
         }
     }
 }
 
 // A walk that has not begun: it has one frame at the root, if any pair is stored.
-fn walk_from_root(alloc: Global, nodes: &[Node]) -> Result<Walk, Memory>
-    ensures { IfOk result (λ w. IsBegun nodes.now w.cells.items w.stack.items w.leaf w.place) }
+fn walk_from_root(trie: &Trie) -> Result<Walk, Memory>
+    ensures { IfOk result (λ w. IsBegun trie.now.nodes.items w.cells.items w.stack.items w.leaf w.place) }
 {
-    let place = pairs_at(nodes, 0).len();
+    let alloc = trie.alloc;
+    let place = pairs_at(&trie.nodes, 0).len();
     let mut stack = Vec::new(alloc);
-    if is_dead(nodes, 0) {
+    if is_dead(&trie.nodes, 0) {
         return Ok(Walk {
             cells: Vec::new(alloc),
             stack,
@@ -291,10 +291,7 @@ impl PartnerIndex for Tree {
             return Err(Memory);
         }
         let result = store_pair(
-            self.alloc,
-            &mut self.edges,
-            &mut self.places,
-            &mut self.nodes,
+            &mut self.trie,
             &mut self.found,
             bank,
             (atom, entry),
@@ -309,9 +306,7 @@ impl PartnerIndex for Tree {
             return Err(Memory);
         }
         let result = remove_pair(
-            &self.edges,
-            &mut self.places,
-            &mut self.nodes,
+            &mut self.trie,
             &mut self.found,
             bank,
             (atom, entry),
@@ -334,8 +329,8 @@ impl PartnerIndex for Tree {
         if self.spent {
             return Err(Memory);
         }
-        let walk = walk_from_root(self.alloc, self.nodes.as_slice())?;
-        let query = query_of(self.alloc, bank, query, &walk.stack)?;
+        let walk = walk_from_root(&self.trie)?;
+        let query = query_of(self.trie.alloc, bank, query, &walk.stack)?;
         Ok(TreeCursor {
             view,
             query,
@@ -348,13 +343,7 @@ impl PartnerIndex for Tree {
         if cursor.broken {
             return Err(Memory);
         }
-        match next_entry(
-            &cursor.query,
-            cursor.view,
-            &self.edges,
-            self.nodes.as_slice(),
-            &mut cursor.walk,
-        ) {
+        match next_entry(&cursor.query, cursor.view, &self.trie, &mut cursor.walk) {
             Ok(found) => Ok(found),
             Err(error) => {
                 cursor.broken = true;

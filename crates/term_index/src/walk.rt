@@ -3,18 +3,18 @@
 ghost use Rattle.std.specs.Prelude.{◌≡◌, ◌↔◌, ◌<◌, ◌≤◌, ◌-◌, ◌++◌, ◌∷◌, [], ℕ, List, true, false, length, IsTrue, IfOk, OnOk, All, map, slice_index_or, MatchOption};
 ghost use Rattle.term_index.specs.Pairs.{Gives, IsOver};
 ghost use Rattle.term_index.specs.Run.{Graph, node_at, args_at};
-ghost use Rattle.term_index.specs.Paths.{PlaceLists, IsArena, IsBare, content_at};
-ghost use Rattle.term_index.specs.Spots.{Spot};
+ghost use Rattle.term_index.specs.Paths.{IsBare, content_at};
+ghost use Rattle.term_index.specs.Tries.{IsTrie, IsWalkOver, StillComes, most_left};
 ghost use Rattle.term_index.specs.Wide.{atom_bends, query_bends};
-ghost use Rattle.term_index.specs.Walking.{IsWalking, GoesOn, WalkComes, most_of};
+ghost use Rattle.term_index.specs.Walking.{IsWalking, GoesOn};
 ghost use Rattle.term_index.specs.Frames.{spot, list_of, IsFrame, AreCells, Grows, AreQuery, rest_of, IsSettled, exit_frame, leaf_at, leaves_before, ends_of, IsLive, LeadsNowhere, AddsOne, AddsInner, AddsNext};
 
 use crate::label::Label;
-use crate::node::{Edge, Node};
+use crate::node::Node;
 use crate::paths::child;
 use crate::query::Query;
+use crate::trie::Trie;
 use crate::view::View;
-use indexmap::IndexSet;
 use inst_logic::Memory;
 use term_bank::TermId;
 
@@ -93,9 +93,9 @@ fn push_all(exits: &[u32], stack: &mut Vec<Frame>, frame: Frame) -> Result<(), M
 }
 
 // The frames at the exits of the frame's node.
-fn push_exits(nodes: &[Node], stack: &mut Vec<Frame>, frame: Frame) -> Result<(), Memory>
-    requires { frame.node < length nodes.now }
-    ensures { OnOk result (stack.new.items ≡ stack.old.items ++ map (exit_frame frame) (content_at nodes.now frame.node).exits) }
+fn push_exits(nodes: &Vec<Node>, stack: &mut Vec<Frame>, frame: Frame) -> Result<(), Memory>
+    requires { frame.node < length nodes.now.items }
+    ensures { OnOk result (stack.new.items ≡ stack.old.items ++ map (exit_frame frame) (content_at nodes.now.items frame.node).exits) }
 {
     let here = &nodes[frame.node];
     push_all(here.exits(), stack, frame)?;
@@ -104,12 +104,12 @@ fn push_exits(nodes: &[Node], stack: &mut Vec<Frame>, frame: Frame) -> Result<()
 
 // The frame at the node, where pairs end there.
 fn push_leaf(
-    nodes: &[Node],
+    nodes: &Vec<Node>,
     stack: &mut Vec<Frame>,
     frame: Frame,
     node: usize,
 ) -> Result<(), Memory>
-    ensures { OnOk result (stack.new.items ≡ stack.old.items ++ map (exit_frame frame) (leaf_at nodes.now node)) }
+    ensures { OnOk result (stack.new.items ≡ stack.old.items ++ map (exit_frame frame) (leaf_at nodes.now.items node)) }
 {
     if pairs_at(nodes, node).is_empty() {
         return Ok(());
@@ -119,8 +119,8 @@ fn push_leaf(
 }
 
 // The frames at the nodes where pairs end.
-fn push_leaves(nodes: &[Node], stack: &mut Vec<Frame>, frame: Frame) -> Result<(), Memory>
-    ensures { OnOk result (stack.new.items ≡ stack.old.items ++ map (exit_frame frame) (leaves_before nodes.now (length nodes.now))) }
+fn push_leaves(nodes: &Vec<Node>, stack: &mut Vec<Frame>, frame: Frame) -> Result<(), Memory>
+    ensures { OnOk result (stack.new.items ≡ stack.old.items ++ map (exit_frame frame) (leaves_before nodes.now.items (length nodes.now.items))) }
 {
     for node in 0..nodes.len() {
         push_leaf(nodes, stack, frame, node)?;
@@ -129,9 +129,9 @@ fn push_leaves(nodes: &[Node], stack: &mut Vec<Frame>, frame: Frame) -> Result<(
 }
 
 // The frames after one term from the frame's node, whatever it is. From the root it is a whole atom.
-fn push_ends(nodes: &[Node], stack: &mut Vec<Frame>, frame: Frame) -> Result<(), Memory>
-    requires { frame.node < length nodes.now }
-    ensures { OnOk result (stack.new.items ≡ stack.old.items ++ map (exit_frame frame) (ends_of nodes.now frame.node)) }
+fn push_ends(nodes: &Vec<Node>, stack: &mut Vec<Frame>, frame: Frame) -> Result<(), Memory>
+    requires { frame.node < length nodes.now.items }
+    ensures { OnOk result (stack.new.items ≡ stack.old.items ++ map (exit_frame frame) (ends_of nodes.now.items frame.node)) }
 {
     if frame.node == 0 {
         push_leaves(nodes, stack, frame)?;
@@ -142,8 +142,8 @@ fn push_ends(nodes: &[Node], stack: &mut Vec<Frame>, frame: Frame) -> Result<(),
 }
 
 // Whether nothing ends at the node and it has no exits.
-pub fn is_dead(nodes: &[Node], node: usize) -> bool
-    ensures { IsTrue result ↔ IsBare (content_at nodes.now node) }
+pub fn is_dead(nodes: &Vec<Node>, node: usize) -> bool
+    ensures { IsTrue result ↔ IsBare (content_at nodes.now.items node) }
 {
     match nodes.get(node) {
         None => true,
@@ -152,18 +152,13 @@ pub fn is_dead(nodes: &[Node], node: usize) -> bool
 }
 
 // Where the label leads from the node, if not to a branch of which the last pair was removed: that one keeps its edges.
-fn live_child(
-    edges: &IndexSet<Edge>,
-    nodes: &[Node],
-    from: usize,
-    label: Label,
-) -> Result<Option<usize>, Memory>
-    ensures { IfOk result (λ r. MatchOption r (LeadsNowhere edges.now.keys nodes.now from label) (IsLive edges.now.keys nodes.now from label)) }
+fn live_child(trie: &Trie, from: usize, label: Label) -> Result<Option<usize>, Memory>
+    ensures { IfOk result (λ r. MatchOption r (LeadsNowhere trie.now.edges.keys trie.now.nodes.items from label) (IsLive trie.now.edges.keys trie.now.nodes.items from label)) }
 {
-    match child(edges, from, label)? {
+    match child(&trie.edges, from, label)? {
         None => Ok(None),
         Some(node) => {
-            if is_dead(nodes, node) {
+            if is_dead(&trie.nodes, node) {
                 return Ok(None);
             }
             Ok(Some(node))
@@ -172,16 +167,10 @@ fn live_child(
 }
 
 // The frame of the live child by this label, where there is one.
-fn push_one(
-    edges: &IndexSet<Edge>,
-    nodes: &[Node],
-    stack: &mut Vec<Frame>,
-    frame: Frame,
-    label: Label,
-) -> Result<(), Memory>
-    ensures { OnOk result (AddsOne edges.now.keys nodes.now frame label stack.old.items stack.new.items) }
+fn push_one(trie: &Trie, stack: &mut Vec<Frame>, frame: Frame, label: Label) -> Result<(), Memory>
+    ensures { OnOk result (AddsOne trie.now.edges.keys trie.now.nodes.items frame label stack.old.items stack.new.items) }
 {
-    if let Some(node) = live_child(edges, nodes, frame.node, label)? {
+    if let Some(node) = live_child(trie, frame.node, label)? {
         stack.push(Frame { node, ..frame })?;
     }
     Ok(())
@@ -190,16 +179,15 @@ fn push_one(
 // The frame of the live child by a variable, where there is one and a variable of the atom may become any term.
 fn push_variable(
     view: View,
-    edges: &IndexSet<Edge>,
-    nodes: &[Node],
+    trie: &Trie,
     stack: &mut Vec<Frame>,
     frame: Frame,
 ) -> Result<(), Memory>
-    ensures bends { atom_bends view ≡ true → OnOk result (AddsOne edges.now.keys nodes.now frame Label.Variable stack.old.items stack.new.items) }
+    ensures bends { atom_bends view ≡ true → OnOk result (AddsOne trie.now.edges.keys trie.now.nodes.items frame Label.Variable stack.old.items stack.new.items) }
     ensures stays { atom_bends view ≡ false → OnOk result (stack.new.items ≡ stack.old.items) }
 {
     if bends_atom(view) {
-        push_one(edges, nodes, stack, frame, Label::Variable)?;
+        push_one(trie, stack, frame, Label::Variable)?;
     }
     Ok(())
 }
@@ -270,106 +258,6 @@ fn frame_inside(
     })
 }
 
-// The frame at the live child by the label of the query's node, with the node's arguments first.
-fn push_symbol(
-    query: &Query,
-    edges: &IndexSet<Edge>,
-    nodes: &[Node],
-    cells: &mut Vec<Cell>,
-    stack: &mut Vec<Frame>,
-    node: usize,
-    label: Label,
-    frame: Frame,
-) -> Result<(), Memory>
-    requires query { AreQuery query.now }
-    requires node { node < length query.now.nodes }
-    requires cells { AreCells query.now cells.old.items }
-    requires order { frame.at ≤ frame.end }
-    requires end { frame.end ≤ length query.now.args }
-    requires rest { frame.rest ≤ length cells.old.items }
-    requires marked { frame.cells ≤ length cells.old.items }
-    ensures cells { OnOk result (AreCells query.now cells.new.items) }
-    ensures grows { Grows cells.old.items cells.new.items }
-    ensures adds { OnOk result (AddsInner query.now edges.now.keys nodes.now cells.old.items cells.new.items node label frame stack.old.items stack.new.items) }
-{
-    if let Some(next) = live_child(edges, nodes, frame.node, label)? {
-        let inner = frame_inside(query, cells, node, frame)?;
-        stack.push(Frame {
-            node: next,
-            cells: cells.len(),
-            ..inner
-        })?;
-        return Ok(());
-    }
-    Ok(())
-}
-
-// The frames after this node of the query.
-fn meet(
-    query: &Query,
-    view: View,
-    edges: &IndexSet<Edge>,
-    nodes: &[Node],
-    cells: &mut Vec<Cell>,
-    stack: &mut Vec<Frame>,
-    node: usize,
-    frame: Frame,
-) -> Result<(), Memory>
-    requires arena { (places : PlaceLists) × IsArena edges.now.keys places nodes.now }
-    requires query { AreQuery query.now }
-    requires node { node < length query.now.nodes }
-    requires cells { AreCells query.now cells.old.items }
-    requires frame { IsFrame query.now (length nodes.now) (length cells.old.items) frame }
-    ensures cells { OnOk result (AreCells query.now cells.new.items) }
-    ensures grows { Grows cells.old.items cells.new.items }
-    ensures next { OnOk result (AddsNext view query.now edges.now.keys nodes.now (record { node = frame.node; todo = (0, node ∷ rest_of query.now cells.old.items frame) }) frame.cells cells.new.items stack.old.items stack.new.items) }
-{
-    let label = query_label(query, node);
-    match label {
-        Label::Variable => {
-            if bends_query(view) {
-                push_ends(nodes, stack, frame)?;
-                return Ok(());
-            }
-            push_one(edges, nodes, stack, frame, Label::Variable)?;
-            Ok(())
-        }
-        Label::Symbol(_, _) => {
-            push_variable(view, edges, nodes, stack, frame)?;
-            push_symbol(query, edges, nodes, cells, stack, node, label, frame)?;
-            Ok(())
-        }
-    }
-}
-
-// The frames after the first node of the query that is to be met.
-fn advance(
-    query: &Query,
-    view: View,
-    edges: &IndexSet<Edge>,
-    nodes: &[Node],
-    cells: &mut Vec<Cell>,
-    stack: &mut Vec<Frame>,
-    frame: Frame,
-) -> Result<(), Memory>
-    requires arena { (places : PlaceLists) × IsArena edges.now.keys places nodes.now }
-    requires query { AreQuery query.now }
-    requires cells { AreCells query.now cells.old.items }
-    requires frame { IsFrame query.now (length nodes.now) (length cells.old.items) frame }
-    requires first { frame.at < frame.end }
-    ensures cells { OnOk result (AreCells query.now cells.new.items) }
-    ensures grows { Grows cells.old.items cells.new.items }
-    ensures next { OnOk result (AddsNext view query.now edges.now.keys nodes.now (spot query.now cells.old.items frame) frame.cells cells.new.items stack.old.items stack.new.items) }
-{
-    let node = argument(query, frame.at);
-    let after = Frame {
-        at: frame.at + 1,
-        ..frame
-    };
-    meet(query, view, edges, nodes, cells, stack, node, after)?;
-    Ok(())
-}
-
 /// Where a walk stands: what it still has to visit, and at which pair of which node it is.
 #[derive(Drop)]
 pub struct Walk {
@@ -377,6 +265,90 @@ pub struct Walk {
     pub stack: Vec<Frame>,
     pub leaf: usize,
     pub place: usize,
+}
+
+// The frame at the live child by the label of the query's node, with the node's arguments first.
+fn push_symbol(
+    query: &Query,
+    trie: &Trie,
+    walk: &mut Walk,
+    node: usize,
+    label: Label,
+    frame: Frame,
+) -> Result<(), Memory>
+    requires query { AreQuery query.now }
+    requires node { node < length query.now.nodes }
+    requires cells { AreCells query.now walk.old.cells.items }
+    requires order { frame.at ≤ frame.end }
+    requires end { frame.end ≤ length query.now.args }
+    requires rest { frame.rest ≤ length walk.old.cells.items }
+    requires marked { frame.cells ≤ length walk.old.cells.items }
+    ensures cells { OnOk result (AreCells query.now walk.new.cells.items) }
+    ensures grows { Grows walk.old.cells.items walk.new.cells.items }
+    ensures adds { OnOk result (AddsInner query.now trie.now.edges.keys trie.now.nodes.items walk.old.cells.items walk.new.cells.items node label frame walk.old.stack.items walk.new.stack.items) }
+    ensures stays { (walk.new.leaf ≡ walk.old.leaf) × (walk.new.place ≡ walk.old.place) }
+{
+    if let Some(next) = live_child(trie, frame.node, label)? {
+        let inner = frame_inside(query, &mut walk.cells, node, frame)?;
+        walk.stack.push(Frame {
+            node: next,
+            cells: walk.cells.len(),
+            ..inner
+        })?;
+        return Ok(());
+    }
+    Ok(())
+}
+
+// The frames after a variable of the query.
+fn push_any(view: View, trie: &Trie, stack: &mut Vec<Frame>, frame: Frame) -> Result<(), Memory>
+    requires { frame.node < length trie.now.nodes.items }
+    ensures bends { query_bends view ≡ true → OnOk result (stack.new.items ≡ stack.old.items ++ map (exit_frame frame) (ends_of trie.now.nodes.items frame.node)) }
+    ensures stays { query_bends view ≡ false → OnOk result (AddsOne trie.now.edges.keys trie.now.nodes.items frame Label.Variable stack.old.items stack.new.items) }
+{
+    if bends_query(view) {
+        push_ends(&trie.nodes, stack, frame)?;
+        return Ok(());
+    }
+    push_one(trie, stack, frame, Label::Variable)?;
+    Ok(())
+}
+
+// The frames after the first node of the query that is to be met.
+fn advance(
+    query: &Query,
+    view: View,
+    trie: &Trie,
+    walk: &mut Walk,
+    frame: Frame,
+) -> Result<(), Memory>
+    requires trie { IsTrie trie.now }
+    requires query { AreQuery query.now }
+    requires cells { AreCells query.now walk.old.cells.items }
+    requires frame { IsFrame query.now (length trie.now.nodes.items) (length walk.old.cells.items) frame }
+    requires first { frame.at < frame.end }
+    ensures cells { OnOk result (AreCells query.now walk.new.cells.items) }
+    ensures grows { Grows walk.old.cells.items walk.new.cells.items }
+    ensures next { OnOk result (AddsNext view query.now trie.now.edges.keys trie.now.nodes.items (spot query.now walk.old.cells.items frame) frame.cells walk.new.cells.items walk.old.stack.items walk.new.stack.items) }
+    ensures stays { (walk.new.leaf ≡ walk.old.leaf) × (walk.new.place ≡ walk.old.place) }
+{
+    let node = argument(query, frame.at);
+    let after = Frame {
+        at: frame.at + 1,
+        ..frame
+    };
+    let label = query_label(query, node);
+    match label {
+        Label::Variable => {
+            push_any(view, trie, &mut walk.stack, after)?;
+            Ok(())
+        }
+        Label::Symbol(_, _) => {
+            push_variable(view, trie, &mut walk.stack, after)?;
+            push_symbol(query, trie, walk, node, label, after)?;
+            Ok(())
+        }
+    }
 }
 
 // Whether nothing is to be met any more.
@@ -392,16 +364,15 @@ fn is_done(frame: Frame) -> bool
 fn go_on(
     query: &Query,
     view: View,
-    edges: &IndexSet<Edge>,
-    nodes: &[Node],
+    trie: &Trie,
     walk: &mut Walk,
     frame: Frame,
 ) -> Result<(), Memory>
-    requires arena { (places : PlaceLists) × IsArena edges.now.keys places nodes.now }
+    requires trie { IsTrie trie.now }
     requires query { AreQuery query.now }
-    requires walking { IsWalking view query.now edges.now.keys nodes.now walk.old.cells.items (walk.old.stack.items ++ frame ∷ []) walk.old.leaf }
-    requires over { length (content_at nodes.now walk.old.leaf).pairs ≤ walk.old.place }
-    ensures { OnOk result (GoesOn view query.now edges.now.keys nodes.now walk.old.cells.items (walk.old.stack.items ++ frame ∷ []) walk.old.leaf walk.old.place walk.new.cells.items walk.new.stack.items walk.new.leaf walk.new.place) }
+    requires walking { IsWalking view query.now trie.now.edges.keys trie.now.nodes.items walk.old.cells.items (walk.old.stack.items ++ frame ∷ []) walk.old.leaf }
+    requires over { length (content_at trie.now.nodes.items walk.old.leaf).pairs ≤ walk.old.place }
+    ensures { OnOk result (GoesOn view query.now trie.now.edges.keys trie.now.nodes.items walk.old.cells.items (walk.old.stack.items ++ frame ∷ []) walk.old.leaf walk.old.place walk.new.cells.items walk.new.stack.items walk.new.leaf walk.new.place) }
 {
     walk.cells.truncate(frame.cells);
     let first = frame_at_argument(walk.cells.as_slice(), frame);
@@ -410,21 +381,13 @@ fn go_on(
         walk.place = 0;
         return Ok(());
     }
-    advance(
-        query,
-        view,
-        edges,
-        nodes,
-        &mut walk.cells,
-        &mut walk.stack,
-        first,
-    )?;
+    advance(query, view, trie, walk, first)?;
     Ok(())
 }
 
 // The pairs of the node.
-pub fn pairs_at(nodes: &[Node], node: usize) -> &[(TermId, u32)]
-    ensures { result.now ≡ (content_at nodes.now node).pairs }
+pub fn pairs_at(nodes: &Vec<Node>, node: usize) -> &[(TermId, u32)]
+    ensures { result.now ≡ (content_at nodes.now.items node).pairs }
 {
     if node >= nodes.len() {
         return &[];
@@ -447,27 +410,25 @@ fn entry_at(pairs: &[(TermId, u32)], place: usize) -> Option<usize>
 pub fn next_entry(
     query: &Query,
     view: View,
-    edges: &IndexSet<Edge>,
-    nodes: &[Node],
+    trie: &Trie,
     walk: &mut Walk,
 ) -> Result<Option<usize>, Memory>
-    requires arena { (places : PlaceLists) × IsArena edges.now.keys places nodes.now }
+    requires trie { IsTrie trie.now }
     requires query { AreQuery query.now }
-    requires walking { IsWalking view query.now edges.now.keys nodes.now walk.old.cells.items walk.old.stack.items walk.old.leaf }
-    ensures walking { OnOk result (IsWalking view query.now edges.now.keys nodes.now walk.new.cells.items walk.new.stack.items walk.new.leaf) }
+    requires walking { IsWalkOver view query.now trie.now walk.old }
+    ensures walking { OnOk result (IsWalkOver view query.now trie.now walk.new) }
     ensures gives { IfOk result (λ r. MatchOption r
-        (IsOver (WalkComes view query.now edges.now.keys nodes.now walk.old.cells.items walk.old.stack.items walk.old.leaf walk.old.place) × IsOver (WalkComes view query.now edges.now.keys nodes.now walk.new.cells.items walk.new.stack.items walk.new.leaf walk.new.place))
-        (λ entry. Gives (WalkComes view query.now edges.now.keys nodes.now walk.old.cells.items walk.old.stack.items walk.old.leaf walk.old.place) entry (WalkComes view query.now edges.now.keys nodes.now walk.new.cells.items walk.new.stack.items walk.new.leaf walk.new.place)
-        × (most_of nodes.now walk.new.stack.items walk.new.leaf walk.new.place < most_of nodes.now walk.old.stack.items walk.old.leaf walk.old.place))) }
+        (IsOver (StillComes view query.now trie.now walk.old) × IsOver (StillComes view query.now trie.now walk.new))
+        (λ entry. Gives (StillComes view query.now trie.now walk.old) entry (StillComes view query.now trie.now walk.new) × (most_left trie.now walk.new < most_left trie.now walk.old))) }
 {
     loop {
-        if let Some(entry) = entry_at(pairs_at(nodes, walk.leaf), walk.place) {
+        if let Some(entry) = entry_at(pairs_at(&trie.nodes, walk.leaf), walk.place) {
             walk.place += 1;
             return Ok(Some(entry));
         }
         match walk.stack.pop() {
             None => return Ok(None),
-            Some(frame) => go_on(query, view, edges, nodes, walk, frame)?,
+            Some(frame) => go_on(query, view, trie, walk, frame)?,
         }
     }
 }
