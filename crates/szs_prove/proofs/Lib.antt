@@ -9,6 +9,8 @@ pub mod Endings
 pub mod FirstFunctions
 pub mod Loaded
 pub mod Proved
+pub mod Refused
+mod Refused
 pub mod Situated
 pub mod VerdictTexts
 pub mod CellLines
