@@ -12,6 +12,7 @@ pub mod Proved
 pub mod Refused
 mod Refused
 pub mod Situated
+pub mod TakenVerdicts
 pub mod VerdictTexts
 pub mod CellLines
 pub mod CoreAnswered
