@@ -198,6 +198,7 @@ tables_split elements = record { apart = apart; once = once }
     apart p (OutOfBudget all left least) small h = absurd h
     apart p TooWide small wide = small wide
     apart p (Functions clause) small h = absurd h
+
     once : (p : Problem) (r s : Reason) → IsUnmodelled elements p r → IsUnmodelled elements p s → r ≡ s
     once p (OutOfBudget all left least) s h k = absurd h
     once p (Functions clause) s h k = absurd h
@@ -212,6 +213,7 @@ cores_split = record { apart = apart; once = once }
     apart p (OutOfBudget all left least) free h = absurd h
     apart p TooWide free h = absurd h
     apart p (Functions clause) free first = not_free p.clauses clause first free
+
     once : (p : Problem) (r s : Reason) → IsUncored p r → IsUncored p s → r ≡ s
     once p (OutOfBudget all left least) s h k = absurd h
     once p TooWide s h k = absurd h

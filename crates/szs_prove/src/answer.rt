@@ -18,8 +18,7 @@ use cert_front::{
 use dimacs_front::{SatAnswer, SatError};
 use inst_logic::{ByteList, Memory};
 use outside_io::{
-    Line, Pieces, Sink, Status, Trouble, notice, one_line, text_line, whole_text,
-    write_pieces,
+    Line, Pieces, Sink, Status, Trouble, notice, one_line, text_line, whole_text, write_pieces,
 };
 
 /// What comes of what the words ask. Each but the last two and `Rewrite` is that of the command of its name.
